@@ -1,0 +1,4 @@
+pub mod formers
+pub mod Lends
+pub mod Number
+pub mod Room

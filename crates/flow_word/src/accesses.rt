@@ -1,0 +1,57 @@
+//! The accesses of one step, which contracts see as a list.
+ghost use Rattle.std.specs.Prelude.{◌≡◌, [], ◌∷◌, ◌++◌, length, OnOk, OnErr};
+
+use crate::access::Access;
+use crate::memory::OutOfMemory;
+use smallvec::SmallVec;
+use std::alloc::Global;
+use std::marker::Model;
+
+/// The accesses of one step, in commit order. One or two of them take no memory beside the step itself.
+#[derive(Debug, Drop)]
+pub struct Accesses {
+    items: SmallVec<Access, 2>,
+}
+
+impl Model for Accesses {
+    ghost use Rattle.std.specs.Prelude.{List};
+    ghost use Rattle.flow_word.specs.declared.access.Access.{Access};
+
+    ghost Value = { List Access };
+
+    ghost view = { λ accesses. accesses.items.items };
+}
+
+impl Accesses {
+    /// No access yet, which takes no memory.
+    pub fn new(alloc: Global) -> Accesses
+        ensures { result ≡ [] }
+    {
+        Accesses {
+            items: SmallVec::new(alloc),
+        }
+    }
+
+    /// How many accesses there are.
+    pub fn len(&self) -> u64
+        ensures { result ≡ length self.now }
+    {
+        self.items.len() as u64
+    }
+
+    /// The accesses, in order.
+    pub fn as_slice(&self) -> &[Access]
+        ensures { result.now ≡ self.now }
+    {
+        self.items.as_slice()
+    }
+
+    /// Adds an access at the end. After want of memory there are those of before.
+    pub fn push(&mut self, access: Access) -> Result<(), OutOfMemory>
+        ensures ok { OnOk result (self.new ≡ self.old ++ access ∷ []) }
+        ensures err { OnErr result (self.new ≡ self.old) }
+    {
+        self.items.push(access)?;
+        Ok(())
+    }
+}

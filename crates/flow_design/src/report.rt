@@ -1,0 +1,46 @@
+//! Reports.
+use flow_word::{Flags, Kind, List, Words};
+
+/// How a simulation ends, with its clock.
+#[derive(Clone, Copy, Debug, PartialEq, Eq)]
+pub enum Verdict {
+    /// All modules are ended: the latency in clocks.
+    Done(u64),
+    /// No module moves, and some are held.
+    Deadlock(u64),
+    /// The cycle limit was reached.
+    Cycles(u64),
+    /// No module moves, and one is spent: it reached the operation limit.
+    Ops(u64),
+}
+
+/// A module that is held by a channel which is full, or else empty.
+#[derive(Clone, Copy, Debug, PartialEq, Eq)]
+pub struct Held {
+    pub module: u32,
+    pub full: bool,
+    pub channel: u32,
+}
+
+/// A FIFO operation that was done, with its clock.
+#[derive(Clone, Copy, Debug, PartialEq, Eq)]
+pub struct EventLine {
+    pub module: u32,
+    pub kind: Kind,
+    pub channel: u32,
+    pub cycle: u64,
+}
+
+/// What a simulation gives.
+#[derive(Debug, Drop, PartialEq)]
+pub struct Report {
+    pub verdict: Verdict,
+    /// The values in each sink in the verdict's clock, one entry per sink, in order.
+    pub outputs: List<Words>,
+    /// The modules that are held in the verdict's clock, in order.
+    pub held: List<Held>,
+    /// The operations done before the verdict's clock, ordered by clock, module and commit order.
+    pub events: List<EventLine>,
+    /// The query outcomes of each module before the verdict's clock, in order.
+    pub answers: List<Flags>,
+}

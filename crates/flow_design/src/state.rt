@@ -1,0 +1,60 @@
+//! States of modules and of the whole machine, which the definitions and the program share.
+use flow_word::{Kind, List, Queue, Words};
+
+/// Where a module stands in its block, in local clocks.
+#[derive(Clone, Copy, Debug, PartialEq, Eq)]
+pub struct Control {
+    pub block: u32,
+    /// The local clock of the block.
+    pub clock: u64,
+    /// The local clock at which the newest iteration started. The others started II apart before it.
+    pub newest: u64,
+    /// Whether a further iteration may start.
+    pub looping: bool,
+}
+
+/// The state of a module.
+#[derive(Debug, Drop)]
+pub struct ModuleState {
+    pub control: Control,
+    pub registers: Words,
+    pub memories: List<Words>,
+    /// The temps of each live iteration, the oldest first.
+    pub temps: List<Words>,
+    /// The operation count.
+    pub count: u64,
+    /// Whether the module is ended.
+    pub ended: bool,
+}
+
+/// The state of all modules and channels at one clock.
+#[derive(Drop)]
+pub struct ClockState {
+    pub modules: List<ModuleState>,
+    /// What each channel holds, the front first.
+    pub contents: List<Queue<u64>>,
+}
+
+/// A due FIFO operation: what a module asks of a channel in a clock.
+#[derive(Clone, Copy, Debug, PartialEq, Eq)]
+pub struct Request {
+    pub kind: Kind,
+    pub channel: u32,
+    /// What a write or a tried write pushes, cut to the channel's width; 0 for the other kinds.
+    pub value: u64,
+}
+
+/// The reply to a request in the clock in which its module moves.
+#[derive(Clone, Copy, Debug, PartialEq, Eq)]
+pub enum Reply {
+    /// A write was done.
+    Done,
+    /// A read popped this value.
+    Value(u64),
+    /// The outcome of a tried write, or of a test for empty or full.
+    Flag(bool),
+    /// A tried read popped this value.
+    Took(u64),
+    /// A tried read found its channel empty.
+    Missed,
+}

@@ -24,3 +24,6 @@ pub use queue::Queue;
 pub use roomy::RoomyList;
 pub use steps::Steps;
 pub use width::{Width, cut};
+
+#[cfg(test)]
+mod tests;

@@ -1,0 +1,51 @@
+//! Writing all of a text.
+ghost use Rattle.std.specs.Prelude.{◌≡◌, ◌<◌, false, length, OnOk, OnErr};
+ghost use Rattle.std.specs.Io.KnownBytes.{Appends};
+ghost use Rattle.sim_io.specs.Causes.{HasCause, AppendsPrefix};
+
+use crate::traits::Sink;
+use thiserror::Error;
+
+/// Why not all was written.
+#[derive(Clone, Copy, Debug, PartialEq, Eq, Error)]
+pub enum PutFault {
+    /// The sink has failed.
+    #[error("the sink has failed")]
+    WriteFault,
+}
+
+/// Writes all of a text. After a fault a front of it is written. An empty text leaves the sink as it was, and any other
+/// leaves it unfinished.
+pub fn write_all_of<K: Sink>(sink: &mut K, text: &[u8]) -> Result<(), PutFault>
+    ensures ok { OnOk result (Appends (K.held sink.old) (K.held sink.new) text.now) }
+    ensures err { OnErr result (AppendsPrefix (K.held sink.old) (K.held sink.new) text.now) }
+    ensures cause { HasCause (K.faults sink.old) (K.faults sink.new) result }
+    ensures unfinished { 0 < length text.now → K.is_finished sink.new ≡ false }
+    ensures nothing { length text.now ≡ 0 → sink.new ≡ sink.old }
+{
+    let mut at = 0;
+    while at < text.len() {
+        match sink.put(&text[at..]) {
+            Ok(count) => at += count,
+            Err(_) => return Err(PutFault::WriteFault),
+        }
+    }
+    Ok(())
+}
+
+#[cfg(test)]
+mod tests {
+    use super::*;
+    use crate::{MemSink, Sink};
+    use std::test::Fail;
+
+    #[test]
+    fn writes_piece_after_piece(rt: HostRuntime) -> Result<(), Fail> {
+        let mut sink = MemSink::new(rt.alloc(), 8, 3, &[])?;
+        assert_eq!(rt; write_all_of(&mut sink, b"a text"), Ok(()));
+        assert_eq!(rt; sink.held(), b"a text".as_slice());
+        assert_eq!(rt; write_all_of(&mut sink, b"..."), Err(PutFault::WriteFault));
+        assert_eq!(rt; sink.held(), b"a text..".as_slice());
+        Ok(())
+    }
+}

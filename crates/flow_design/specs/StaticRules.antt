@@ -15,6 +15,7 @@ use Rattle.flow_design.specs.declared.design.Memory.{Memory}
 use Rattle.flow_design.specs.declared.design.Module.{Module}
 use Rattle.flow_design.specs.declared.plan.Plan.{Plan}
 use Rattle.flow_design.specs.Words.{reach, nodes, depth}
+use Rattle.flow_design.specs.Module.{interval}
 use Rattle.flow_design.specs.Names.{is_name}
 use Rattle.flow_design.specs.Operations.{places_of, expressions_of, memory_of, End, end_of, used_end}
 use Rattle.flow_design.specs.Plans.{no_channel, kind_at}
@@ -68,11 +69,6 @@ pub record IsTimedSound (channels : ℕ) (m : Module) (b : Block) (t : Timed) : 
 
 -- ---- blocks and modules
 
--- the local clocks between the starts of two iterations: II, and LEN for a plain block
-abbrev pub interval_of : BlockKind → ℕ → ℕ
-interval_of Plain len = len
-interval_of (Loop ii again) len = ii
-
 -- II, LEN and the register of a loop over so many registers
 pub record IsLoopSound (registers len ii again : ℕ) : Type 0 where
   pub interval : 1 ≤ ii
@@ -103,7 +99,7 @@ pub record IsBlockSound (channels : ℕ) (m : Module) (b : Block) : Type 0 where
   pub temps : length b.temps ≤ 64
   pub count : length b.ops ≤ 1024
   pub operations : All (IsTimedSound channels m b) b.ops
-  pub apart : AllPairs (λ t u. ¬ Clashes (interval_of b.kind b.len) t u) b.ops
+  pub apart : AllPairs (λ t u. ¬ Clashes (interval b) t u) b.ops
   pub next : IsNextSound (length m.registers) (length m.blocks) b.next
 
 pub record IsMemorySound (memory : Memory) : Type 0 where

@@ -1,7 +1,7 @@
 -- Word values: a number below 2^64, and the value of an expression, one line of the language's table per case.
 use Rattle.std.specs.Prelude.{ℕ, max, ◌+◌, ◌-◌, ◌*◌, ◌/◌, ◌%◌, ◌^◌, ◌==◌, not, List, ◌++◌, slice_index, nat_lt, if◌then◌else◌, bit_and, bit_or, bit_xor, int_lt}
 use Rattle.std.specs.Int.{from_bool, cast_signed, w64}
-use Rattle.flow_design.specs.declared.expr.Expr.{Expr, fold-Expr}
+use Rattle.flow_design.specs.declared.expr.Expr.{Expr, more_of-Expr, Number, Var, Unary', Binary', Sext', Pick', fold-Expr}
 use Rattle.flow_design.specs.declared.expr.Expr.TheOpen.{Expr-F}
 use Rattle.flow_design.specs.declared.expr.UnOp.{UnOp}
 use Rattle.flow_design.specs.declared.expr.UnOp.TheVariants.{Not}
@@ -39,18 +39,15 @@ extended k low = if nat_lt low (2 ^ (k - 1)) then low else low + (2 ^ 64 - 2 ^ k
 abbrev pub variable : List ℕ → List ℕ → ℕ → ℕ
 variable registers temps at = slice_index (registers ++ temps) at
 
--- the value of an expression whose parts have these values
-abbrev pub layer_value : List ℕ → List ℕ → Expr-F ℕ ℕ → ℕ
-layer_value registers temps (Expr-F.Number n) = n
-layer_value registers temps (Expr-F.Var at) = variable registers temps at
-layer_value registers temps (Expr-F.Unary op a) = unary op a
-layer_value registers temps (Expr-F.Binary op a b) = binary op a b
-layer_value registers temps (Expr-F.Sext k a) = extended k (a % 2 ^ k)
-layer_value registers temps (Expr-F.Pick a b c) = if a == 0 then c else b
-
 -- the value of an expression on registers and temps
 unfoldable pub value : List ℕ → List ℕ → Expr ℕ → ℕ
-value registers temps = fold-Expr ℕ ℕ (layer_value registers temps)
+value registers temps (Number n) = n
+value registers temps (Var at) = variable registers temps at
+value registers temps (Unary' op s (more_of-Expr a _)) = unary op (value registers temps a)
+value registers temps (Binary' op s (more_of-Expr a _) t (more_of-Expr b _)) = binary op (value registers temps a) (value registers temps b)
+value registers temps (Sext' k s (more_of-Expr a _)) = extended k (value registers temps a % 2 ^ k)
+value registers temps (Pick' s (more_of-Expr a _) t (more_of-Expr b _) u (more_of-Expr c _)) =
+    if value registers temps a == 0 then value registers temps c else value registers temps b
 
 -- ---- how large an expression is
 

@@ -1,5 +1,5 @@
 //! States of modules and of the whole machine, which the definitions and the program share.
-use flow_word::{Kind, List, Queue, Words};
+use flow_word::{Kind, List, Queue, Step, Words};
 
 /// Where a module stands in its block, in local clocks.
 #[derive(Clone, Copy, Debug, PartialEq, Eq)]
@@ -57,4 +57,42 @@ pub enum Reply {
     Took(u64),
     /// A tried read found its channel empty.
     Missed,
+}
+
+/// A due operation: it belongs to a live iteration, its offset is the iteration's age, and it has no guard or its guard
+/// is not 0.
+#[derive(Clone, Copy, Debug, PartialEq, Eq)]
+pub struct Due {
+    /// The place of its iteration among the live ones, the oldest being 0.
+    pub iteration: u32,
+    /// The number of the operation in its block.
+    pub op: u32,
+}
+
+/// What an operation writes when its local clock commits.
+#[derive(Clone, Copy, Debug, PartialEq, Eq)]
+pub enum Effect {
+    /// A value for a register, or for a temp of this iteration.
+    Variable {
+        iteration: u32,
+        variable: u32,
+        value: u64,
+    },
+    /// A value for the word at this address of a memory.
+    Word {
+        memory: u32,
+        address: u64,
+        value: u64,
+    },
+}
+
+/// A mark of a module's own run.
+#[derive(Debug, Drop)]
+pub enum Advance {
+    /// The next local clock with a due FIFO operation.
+    Step(Step),
+    /// The module ended, so many local clocks after its last step, or after its local clock 0.
+    Ended(u64),
+    /// The module is spent, so many local clocks after its last step, or after its local clock 0.
+    Spent(u64),
 }

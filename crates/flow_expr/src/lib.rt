@@ -9,7 +9,7 @@ use flow_word::{Width, cut};
 
 /// The value of an expression on the registers of a module and the temps of an iteration, a word of 64 bits.
 /// It takes no memory.
-#[tactic(auto, unfolding(flow_design::specs::Words::value, flow_design::specs::Words::reach))]
+#[tactic(auto, using(flow_design::proofs::Values::the_values), unfolding(flow_design::specs::Words::reach))]
 pub fn eval(expr: &Expr<u32>, registers: &[u64], temps: &[u64]) -> u64
     requires { reach expr.now ≤ length registers.now + length temps.now }
     ensures { result ≡ value registers.now temps.now expr.now }

@@ -1,0 +1,263 @@
+-- Small designs whose reports are known: the worked rows.
+use Rattle.std.specs.Prelude.{ℕ, suc, List, [], ◌∷◌, Option, Some, None}
+use Rattle.flow_design.specs.declared.expr.Expr.{Expr, Number, Var, Binary}
+use Rattle.flow_design.specs.declared.expr.BinOp.{BinOp}
+use Rattle.flow_design.specs.declared.expr.BinOp.TheVariants.{Add, Or, Xor, Shl, LtU}
+use Rattle.flow_design.specs.declared.expr.Op.{Op}
+use Rattle.flow_design.specs.declared.expr.Op.TheVariants.{Set, Load, Store, Read, Write, TryRead, TryWrite, Empty, Full}
+use Rattle.flow_design.specs.declared.design.BlockKind.TheVariants.{Plain, Loop}
+use Rattle.flow_design.specs.declared.design.ChannelKind.TheVariants.{Source, Sink, Fifo}
+use Rattle.flow_design.specs.declared.design.Next.{Next}
+use Rattle.flow_design.specs.declared.design.Next.TheVariants.{Goto, Branch, Stop}
+use Rattle.flow_design.specs.declared.design.Timed.{Timed}
+use Rattle.flow_design.specs.declared.design.Block.{Block}
+use Rattle.flow_design.specs.declared.design.Memory.{Memory}
+use Rattle.flow_design.specs.declared.design.Module.{Module}
+use Rattle.flow_design.specs.declared.design.Channel.{Channel}
+use Rattle.flow_design.specs.declared.plan.Plan.{Plan}
+
+-- ---- parts
+
+-- an operation at an offset
+abbrev pub at : ℕ → Op ℕ → Timed
+at offset op = record { offset = offset; guard = None; op = op }
+
+-- an operation at an offset, with a guard
+abbrev pub at_if : ℕ → ℕ → Op ℕ → Timed
+at_if offset guard op = record { offset = offset; guard = Some guard; op = op }
+
+abbrev pub source : ℕ → Channel
+source width = record { name = []; width = width; kind = Source }
+
+abbrev pub sink : ℕ → Channel
+sink width = record { name = []; width = width; kind = Sink }
+
+abbrev pub fifo : ℕ → Channel
+fifo width = record { name = []; width = width; kind = Fifo 2 }
+
+-- `block LEN` and `loop II LEN while R`, which stop at their end
+abbrev pub block : ℕ → List Timed → Block
+block len ops = record { kind = Plain; len = len; temps = []; ops = ops; next = Stop }
+
+abbrev pub loop : ℕ → ℕ → ℕ → List Timed → Block
+loop ii len again ops = record { kind = Loop ii again; len = len; temps = []; ops = ops; next = Stop }
+
+-- a module of one block, with registers of these widths
+abbrev pub one_block : List ℕ → Block → Module
+one_block registers b = record { name = []; registers = registers; memories = []; blocks = b ∷ [] }
+
+-- a plan with the default limits
+abbrev pub plan_of : List Channel → List Module → List (List ℕ) → List ℕ → Plan
+plan_of channels modules inputs depths = record {
+  design = record { channels = channels; modules = modules };
+  inputs = inputs;
+  cycles = 1000000000;
+  ops = 100000;
+  depths = depths;
+}
+
+-- ---- sources and sinks
+
+abbrev pub adder : Module
+adder = one_block (8 ∷ []) (block 3 (at 0 (Read 0 0) ∷ at 2 (Write 1 (Binary Add (Var 0) (Number 1))) ∷ []))
+
+abbrev pub adder_plan : List ℕ → Plan
+adder_plan input = plan_of (source 8 ∷ sink 8 ∷ []) (adder ∷ []) (input ∷ [] ∷ []) (0 ∷ 0 ∷ [])
+
+abbrev pub plain_case : Plan
+plain_case = adder_plan (7 ∷ [])
+
+abbrev pub exhausted_source : Plan
+exhausted_source = adder_plan []
+
+-- the count is 3 after the last clock, and the module is then ended
+abbrev pub exact_operation_limit : Plan
+exact_operation_limit = record plain_case { ops = 3 }
+
+abbrev pub operation_limit_before_the_end : Plan
+operation_limit_before_the_end = record plain_case { ops = 2 }
+
+abbrev pub exact_end : Plan
+exact_end = record plain_case { cycles = 3 }
+
+abbrev pub cycle_limit_before_the_end : Plan
+cycle_limit_before_the_end = record plain_case { cycles = 2 }
+
+abbrev pub commit_order : Plan
+commit_order = plan_of (sink 8 ∷ [])
+    (one_block (8 ∷ []) (block 2 (at 0 (Set 0 (Number 1)) ∷ at 0 (Set 0 (Number 2)) ∷ at 1 (Write 0 (Var 0)) ∷ [])) ∷ [])
+    ([] ∷ []) (0 ∷ [])
+
+abbrev pub empty_design : Plan
+empty_design = plan_of [] [] [] []
+
+-- ---- FIFOs
+
+abbrev pub visibility_one_clock_later : Plan
+visibility_one_clock_later = plan_of (source 8 ∷ fifo 8 ∷ sink 8 ∷ [])
+    (one_block (8 ∷ []) (block 2 (at 0 (Read 0 0) ∷ at 1 (Write 1 (Var 0)) ∷ []))
+    ∷ one_block (8 ∷ []) (block 2 (at 0 (Read 1 0) ∷ at 1 (Write 2 (Var 0)) ∷ []))
+    ∷ [])
+    ((5 ∷ []) ∷ [] ∷ [] ∷ []) (0 ∷ 2 ∷ 0 ∷ [])
+
+-- a loop that pushes its iteration's number, and one that pops, for three iterations
+abbrev pub counting : ℕ → ℕ → Op ℕ → List Timed
+counting i g op = at 0 op ∷ at 0 (Set i (Binary Add (Var i) (Number 1))) ∷ at 0 (Set g (Binary LtU (Var i) (Number 2))) ∷ []
+
+abbrev pub three_values : ℕ → Plan
+three_values depth = plan_of (fifo 8 ∷ [])
+    (one_block (8 ∷ 1 ∷ []) (loop 1 1 1 (counting 0 1 (Write 0 (Var 0))))
+    ∷ one_block (8 ∷ 8 ∷ 1 ∷ []) (loop 1 1 2 (counting 1 2 (Read 0 0)))
+    ∷ [])
+    ([] ∷ []) (depth ∷ [])
+
+abbrev pub three_values_through_depth_two : Plan
+three_values_through_depth_two = three_values 2
+
+abbrev pub three_values_through_depth_one : Plan
+three_values_through_depth_one = three_values 1
+
+-- registers x, o and p
+abbrev pub both_ends_in_one_module : Plan
+both_ends_in_one_module = plan_of (fifo 8 ∷ sink 8 ∷ [])
+    (one_block (8 ∷ 1 ∷ 1 ∷ []) (block 3
+    (at 0 (Write 0 (Number 5))
+    ∷ at 0 (TryRead 0 0 1)
+    ∷ at 1 (TryRead 0 0 2)
+    ∷ at 2 (Write 1 (Binary Or (Binary Shl (Var 2) (Number 1)) (Var 1)))
+    ∷ []))
+    ∷ [])
+    ([] ∷ [] ∷ []) (2 ∷ 0 ∷ [])
+
+-- ---- queries
+
+-- a push in clock 5, and a tried pop in this clock
+abbrev pub tried_pop : ℕ → Plan
+tried_pop clock = plan_of (fifo 8 ∷ sink 8 ∷ [])
+    (one_block [] (block 6 (at 5 (Write 0 (Number 3)) ∷ []))
+    ∷ one_block (8 ∷ 1 ∷ []) (block (suc (suc clock)) (at clock (TryRead 0 0 1) ∷ at (suc clock) (Write 1 (Var 1)) ∷ []))
+    ∷ [])
+    ([] ∷ [] ∷ []) (2 ∷ 0 ∷ [])
+
+abbrev pub tie_in_the_clock : Plan
+tie_in_the_clock = tried_pop 5
+
+abbrev pub one_clock_after_the_push : Plan
+one_clock_after_the_push = tried_pop 6
+
+-- a module that tries to pop one channel, and then pushes the other and tells
+abbrev pub asking : ℕ → ℕ → ℕ → Module
+asking pops pushes tells = one_block (8 ∷ 1 ∷ [])
+    (block 2 (at 0 (TryRead pops 0 1) ∷ at 1 (Write pushes (Number 1)) ∷ at 1 (Write tells (Var 1)) ∷ []))
+
+abbrev pub two_least_queries : Plan
+two_least_queries = plan_of (fifo 8 ∷ fifo 8 ∷ sink 8 ∷ sink 8 ∷ []) (asking 1 0 2 ∷ asking 0 1 3 ∷ [])
+    ([] ∷ [] ∷ [] ∷ [] ∷ []) (2 ∷ 2 ∷ 0 ∷ 0 ∷ [])
+
+-- registers x, e, g and z; channels b, c and y
+abbrev pub tester : Module
+tester = one_block (8 ∷ 1 ∷ 1 ∷ 1 ∷ []) (loop 1 4 2
+    (at 0 (Read 0 0)
+    ∷ at 0 (Set 2 (Binary Xor (Var 2) (Number 1)))
+    ∷ at 2 (Empty 1 1)
+    ∷ at 3 (Write 2 (Var 1))
+    ∷ at_if 3 3 (Read 1 0)
+    ∷ []))
+
+abbrev pub later_stall_delays_earlier_query : Plan
+later_stall_delays_earlier_query = plan_of (fifo 8 ∷ fifo 8 ∷ sink 8 ∷ [])
+    (tester
+    ∷ one_block [] (block 11 (at 0 (Write 0 (Number 1)) ∷ at 9 (Write 0 (Number 2)) ∷ at 10 (Write 1 (Number 1)) ∷ []))
+    ∷ [])
+    ([] ∷ [] ∷ [] ∷ []) (2 ∷ 2 ∷ 0 ∷ [])
+
+-- a try to push into a full FIFO of depth 1, or a free one of depth 2
+abbrev pub tried_push : ℕ → Plan
+tried_push depth = plan_of (fifo 8 ∷ sink 8 ∷ [])
+    (one_block (1 ∷ []) (block 3 (at 0 (Write 0 (Number 1)) ∷ at 1 (TryWrite 0 0 (Number 2)) ∷ at 2 (Write 1 (Var 0)) ∷ []))
+    ∷ one_block (8 ∷ []) (block 10 (at 9 (Read 0 0) ∷ []))
+    ∷ [])
+    ([] ∷ [] ∷ []) (depth ∷ 0 ∷ [])
+
+-- registers x, ok and one
+abbrev pub poller : Module
+poller = one_block (8 ∷ 1 ∷ 1 ∷ []) (loop 1 1 2 (at 0 (TryRead 0 0 1) ∷ at 0 (Set 2 (Number 1)) ∷ []))
+
+abbrev pub polling_loop : Plan
+polling_loop = record {
+  design = record { channels = fifo 8 ∷ []; modules = poller ∷ one_block (1 ∷ []) (block 1 (at_if 0 0 (Write 0 (Number 1)) ∷ [])) ∷ [] };
+  inputs = [] ∷ [];
+  cycles = 1000;
+  ops = 10;
+  depths = 2 ∷ [];
+}
+
+-- ---- deadlock
+
+-- a module that pops one channel, and then pushes the other
+abbrev pub waiting : ℕ → ℕ → Module
+waiting pops pushes = one_block (8 ∷ []) (block 2 (at 0 (Read pops 0) ∷ at 1 (Write pushes (Number 1)) ∷ []))
+
+abbrev pub deadlock_at_once : Plan
+deadlock_at_once = plan_of (fifo 8 ∷ fifo 8 ∷ []) (waiting 1 0 ∷ waiting 0 1 ∷ []) ([] ∷ [] ∷ []) (2 ∷ 2 ∷ [])
+
+-- channels b, c and y
+abbrev pub pushed_too_early : ℕ → Plan
+pushed_too_early depth = plan_of (fifo 8 ∷ fifo 8 ∷ sink 8 ∷ [])
+    (one_block [] (block 4
+    (at 0 (Write 0 (Number 1)) ∷ at 1 (Write 0 (Number 2)) ∷ at 2 (Write 0 (Number 3)) ∷ at 3 (Write 1 (Number 9)) ∷ []))
+    ∷ one_block (8 ∷ []) (block 5
+    (at 0 (Read 1 0) ∷ at 1 (Read 0 0) ∷ at 2 (Read 0 0) ∷ at 3 (Read 0 0) ∷ at 4 (Write 2 (Var 0)) ∷ []))
+    ∷ [])
+    ([] ∷ [] ∷ [] ∷ []) (depth ∷ 2 ∷ 0 ∷ [])
+
+-- ---- loops, temps, memories and terminators
+
+-- II = LEN = 2: the temp of an iteration is 0 at its start, whatever the iteration before left in its own. Registers i and g,
+-- temp t: the temp is told at offset 0 and written at offset 1
+abbrev pub back_to_back : Plan
+back_to_back = plan_of (sink 8 ∷ [])
+    (one_block (8 ∷ 1 ∷ []) (record {
+      kind = Loop 2 1;
+      len = 2;
+      temps = 8 ∷ [];
+      ops = at 0 (Write 0 (Var 2))
+          ∷ at 0 (Set 0 (Binary Add (Var 0) (Number 1)))
+          ∷ at 0 (Set 1 (Binary LtU (Var 0) (Number 2)))
+          ∷ at 1 (Set 2 (Number 9))
+          ∷ [];
+      next = Stop;
+    }) ∷ [])
+    ([] ∷ []) (0 ∷ [])
+
+-- registers i and g, and a memory of 3 words of 4 bits. The first block stores 17 + i at address i + 1, by a temp of a loop of
+-- two live iterations; then a branch to the third block, which tells the words and goes to the fourth, which stops
+abbrev pub parts : Plan
+parts = plan_of (sink 8 ∷ [])
+    (record {
+      name = [];
+      registers = 8 ∷ 1 ∷ [];
+      memories = record { width = 4; len = 3 } ∷ [];
+      blocks = record {
+        kind = Loop 1 1;
+        len = 2;
+        temps = 8 ∷ [];
+        ops = at 0 (Set 2 (Binary Add (Var 0) (Number 17)))
+            ∷ at 0 (Set 0 (Binary Add (Var 0) (Number 1)))
+            ∷ at 0 (Set 1 (Binary LtU (Var 0) (Number 2)))
+            ∷ at 1 (Store 0 (Var 0) (Var 2))
+            ∷ [];
+        next = Branch 0 2 1;
+      }
+          ∷ block 1 []
+          ∷ record {
+            kind = Plain;
+            len = 4;
+            temps = 8 ∷ [];
+            ops = at 0 (Load 2 0 (Number 0)) ∷ at 1 (Write 0 (Var 2)) ∷ at 1 (Load 2 0 (Number 4)) ∷ at 2 (Write 0 (Var 2)) ∷ at 2 (Load 2 0 (Number 2)) ∷ at 3 (Write 0 (Var 2)) ∷ [];
+            next = Goto 3;
+          }
+          ∷ block 1 []
+          ∷ [];
+    } ∷ [])
+    ([] ∷ []) (0 ∷ [])

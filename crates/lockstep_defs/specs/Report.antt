@@ -1,0 +1,65 @@
+-- The report.
+use Rattle.std.specs.Prelude.{ℕ, Bool, true, false, not, ◌==◌, List, map, filter, flat_map, length}
+use Rattle.std.specs.List.{range_with_len}
+use Rattle.flow_design.specs.declared.design.ChannelKind.{ChannelKind}
+use Rattle.flow_design.specs.declared.design.ChannelKind.TheVariants.{Source, Sink, Fifo}
+use Rattle.flow_design.specs.declared.plan.Plan.{Plan}
+use Rattle.flow_design.specs.declared.report.EventLine.{EventLine}
+use Rattle.flow_design.specs.declared.report.Report.{Report}
+use Rattle.flow_design.specs.declared.report.Verdict.{Verdict}
+use Rattle.flow_design.specs.declared.state.ClockState.{ClockState}
+use Rattle.flow_design.specs.Plans.{kind_at}
+use Rattle.lockstep_defs.specs.Machine.{is_yes}
+use Rattle.lockstep_defs.specs.Channels.{HistoryStep, Exchange, is_blocking, contents_of}
+use Rattle.lockstep_defs.specs.Lockstep.{state, history}
+use Rattle.lockstep_defs.specs.Verdict.{verdict, held, clock_of}
+
+-- the steps of one module
+abbrev pub steps_of : ℕ → List HistoryStep → List HistoryStep
+steps_of i steps = filter (λ s. s.«module» == i) steps
+
+-- the queries among these operations
+abbrev pub queries : List Exchange → List Exchange
+queries xs = filter (λ x. not (is_blocking x.request.kind)) xs
+
+-- the outcomes of the queries, in order
+abbrev pub outcomes : List HistoryStep → List Bool
+outcomes steps = flat_map (λ s. map (λ x. is_yes x.reply) (queries s.exchanges)) steps
+
+-- the event of an operation of a step
+abbrev pub event_of : HistoryStep → Exchange → EventLine
+event_of s x = record { «module» = s.«module»; kind = x.request.kind; channel = x.request.channel; cycle = s.clock }
+
+-- one event for each operation
+abbrev pub events_of : List HistoryStep → List EventLine
+events_of steps = flat_map (λ s. map (event_of s) s.exchanges) steps
+
+abbrev pub is_sink : ChannelKind → Bool
+is_sink Source = false
+is_sink Sink = true
+is_sink (Fifo d) = false
+
+-- the numbers of the sinks, in order
+abbrev pub sinks : Plan → List ℕ
+sinks p = filter (λ f. is_sink (kind_at p f)) (range_with_len 0 (length p.design.channels))
+
+-- what each sink holds
+abbrev pub outputs_in : Plan → ClockState → List (List ℕ)
+outputs_in p st = map (contents_of st.contents) (sinks p)
+
+-- the query outcomes of each module
+abbrev pub answers_in : Plan → List HistoryStep → List (List Bool)
+answers_in p steps = map (λ i. outcomes (steps_of i steps)) (range_with_len 0 (length p.design.modules))
+
+-- outputs in the verdict's clock, and what was done before it
+abbrev pub report_with : Plan → Verdict → Report
+report_with p v = record {
+  verdict = v;
+  outputs = outputs_in p (state p (clock_of v));
+  held = held p v;
+  events = events_of (history p (clock_of v));
+  answers = answers_in p (history p (clock_of v));
+}
+
+unfoldable pub report : Plan → Report
+report p = report_with p (verdict p)

@@ -1,0 +1,67 @@
+-- Settled clocks, the verdict, and the held modules.
+use Rattle.std.specs.Prelude.{ℕ, zero, suc, Bool, true, false, not, if◌then◌else◌, Option, Some, None, option_map, List, [], filter_map, find}
+use Rattle.std.specs.List.{list_any, list_all}
+use Rattle.flow_design.specs.declared.plan.Plan.{Plan}
+use Rattle.flow_design.specs.declared.report.Held.{Held}
+use Rattle.flow_design.specs.declared.report.Verdict.{Verdict}
+use Rattle.flow_design.specs.declared.report.Verdict.TheVariants.{Done, Deadlock, Cycles, Ops}
+use Rattle.flow_design.specs.declared.state.ModuleState.{ModuleState}
+use Rattle.flow_design.specs.declared.state.ClockState.{ClockState}
+use Rattle.flow_design.specs.declared.state.Request.{Request}
+use Rattle.lockstep_defs.specs.Machine.{is_spent, is_over}
+use Rattle.lockstep_defs.specs.Channels.{side_of, stalls}
+use Rattle.lockstep_defs.specs.Lockstep.{numbered, requests_of, moves, clock_step, state}
+
+-- ---- the first settled clock
+
+-- no module moves
+unfoldable pub is_settled : Plan → ℕ → ClockState → Bool
+is_settled p clock st = not (list_any (moves p clock st.contents) (numbered st))
+
+-- the first settled clock among so many from this one on, whose state is given
+unfoldable pub first_settled : Plan → ℕ → ℕ → ClockState → Option ℕ
+first_settled p zero clock st = None
+first_settled p (suc n) clock st =
+    elim (is_settled p clock st) [ true ↦ Some clock | false ↦ first_settled p n (suc clock) (clock_step p clock st) ]
+
+-- ---- the verdict
+
+-- in a settled clock: done if all modules are ended, else ops if one is spent, else deadlock
+abbrev pub settled_verdict : Plan → ℕ → ClockState → Verdict
+settled_verdict p clock st =
+    if list_all (λ s. s.ended) st.modules then Done clock
+    else (if list_any (is_spent p.ops) st.modules then Ops clock else Deadlock clock)
+
+abbrev pub verdict_at : Plan → Option ℕ → Verdict
+verdict_at p None = Cycles p.cycles
+verdict_at p (Some clock) = settled_verdict p clock (state p clock)
+
+-- by the first settled clock that is at most the cycle limit
+unfoldable pub verdict : Plan → Verdict
+verdict p = verdict_at p (first_settled p (suc p.cycles) 0 (state p 0))
+
+abbrev pub clock_of : Verdict → ℕ
+clock_of (Done clock) = clock
+clock_of (Deadlock clock) = clock
+clock_of (Cycles clock) = clock
+clock_of (Ops clock) = clock
+
+-- ---- held modules
+
+abbrev pub held_at : ℕ → Request → Held
+held_at i r = record { «module» = i; full = not (side_of r.kind); channel = r.channel }
+
+-- a module that is neither ended nor spent is held by its first request that stalls
+abbrev pub held_by : Plan → ℕ → List (List ℕ) → ℕ × ModuleState → Option Held
+held_by p clock contents m =
+    if is_over p.ops m.1 then None else option_map (held_at m.0) (find (stalls p clock contents) (requests_of p m))
+
+abbrev pub held_in : Plan → ℕ → ClockState → List Held
+held_in p clock st = filter_map (held_by p clock st.contents) (numbered st)
+
+-- there are none where all modules are ended or the cycle limit was reached
+abbrev pub held : Plan → Verdict → List Held
+held p (Done clock) = []
+held p (Deadlock clock) = held_in p clock (state p clock)
+held p (Cycles clock) = []
+held p (Ops clock) = held_in p clock (state p clock)

@@ -1,0 +1,7 @@
+//! The lockstep machine as definitions: what every simulation has to give. Nothing here runs in the program. The functions
+//! have no body; each clause is a theorem on the definitions.
+#![tactic(auto)]
+
+mod rows;
+
+pub use rows::{blocks_and_loops, deadlocks, fifos, limits, own_runs, queries, sources_and_sinks};

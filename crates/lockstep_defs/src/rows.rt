@@ -1,0 +1,101 @@
+//! Small designs, and what the definitions give for them.
+ghost use Rattle.std.specs.Prelude.{◌≡◌, [], ◌∷◌, true, false};
+ghost use Rattle.flow_word.specs.declared.access.Kind.TheVariants as Kind;
+ghost use Rattle.flow_design.specs.declared.report.Verdict.TheVariants.{Done, Deadlock, Cycles, Ops};
+ghost use Rattle.flow_design.specs.declared.state.Advance.TheVariants as Advance;
+ghost use Rattle.flow_design.specs.declared.state.Reply.TheVariants as Reply;
+ghost use Rattle.lockstep_defs.specs.Report.{report};
+ghost use Rattle.lockstep_defs.specs.OwnRun.{marks};
+ghost use Rattle.lockstep_defs.specs.Designs as Designs;
+ghost use Rattle.lockstep_defs.specs.Shows.{Shows, event, held_by_channel, access, step_mark};
+
+/// From a source to a sink.
+pub fn sources_and_sinks()
+    ensures plain_case { Shows Designs.plain_case (Done 3) ((8 ∷ []) ∷ []) [] }
+    ensures plain_events { (report Designs.plain_case).events ≡ event 0 Kind.Read 0 0 ∷ event 0 Kind.Write 1 2 ∷ [] }
+    ensures exhausted_source { Shows Designs.exhausted_source (Deadlock 0) ([] ∷ []) (held_by_channel 0 false 0 ∷ []) }
+    ensures commit_order { Shows Designs.commit_order (Done 2) ((2 ∷ []) ∷ []) [] }
+    ensures empty_design { Shows Designs.empty_design (Done 0) [] [] }
+{}
+
+/// The limits of clocks and operations, met exactly and exceeded.
+pub fn limits()
+    ensures exact_end { Shows Designs.exact_end (Done 3) ((8 ∷ []) ∷ []) [] }
+    ensures cycle_limit_before_the_end { Shows Designs.cycle_limit_before_the_end (Cycles 2) ([] ∷ []) [] }
+    ensures exact_operation_limit { Shows Designs.exact_operation_limit (Done 3) ((8 ∷ []) ∷ []) [] }
+    ensures operation_limit_before_the_end { Shows Designs.operation_limit_before_the_end (Ops 1) ([] ∷ []) [] }
+    ensures polling_loop { Shows Designs.polling_loop (Ops 3) [] [] }
+    ensures polling_answers { (report Designs.polling_loop).answers ≡ (false ∷ false ∷ false ∷ []) ∷ [] ∷ [] }
+{}
+
+/// Blocking reads and writes between modules.
+pub fn fifos()
+    ensures visibility_one_clock_later { Shows Designs.visibility_one_clock_later (Done 4) ((5 ∷ []) ∷ []) [] }
+    ensures visibility_events { (report Designs.visibility_one_clock_later).events
+        ≡ event 0 Kind.Read 0 0 ∷ event 0 Kind.Write 1 1 ∷ event 1 Kind.Read 1 2 ∷ event 1 Kind.Write 2 3 ∷ [] }
+    ensures three_values_through_depth_two { Shows Designs.three_values_through_depth_two (Done 4) [] [] }
+    ensures events_through_depth_two { (report Designs.three_values_through_depth_two).events
+        ≡ event 0 Kind.Write 0 0 ∷ event 0 Kind.Write 0 1 ∷ event 1 Kind.Read 0 1
+        ∷ event 0 Kind.Write 0 2 ∷ event 1 Kind.Read 0 2 ∷ event 1 Kind.Read 0 3 ∷ [] }
+    ensures three_values_through_depth_one { Shows Designs.three_values_through_depth_one (Done 6) [] [] }
+    ensures events_through_depth_one { (report Designs.three_values_through_depth_one).events
+        ≡ event 0 Kind.Write 0 0 ∷ event 1 Kind.Read 0 1 ∷ event 0 Kind.Write 0 2
+        ∷ event 1 Kind.Read 0 3 ∷ event 0 Kind.Write 0 4 ∷ event 1 Kind.Read 0 5 ∷ [] }
+{}
+
+/// Operations that never block, and tests.
+pub fn queries()
+    ensures tie_in_the_clock { Shows Designs.tie_in_the_clock (Done 7) ((0 ∷ []) ∷ []) [] }
+    ensures one_clock_after_the_push { Shows Designs.one_clock_after_the_push (Done 8) ((1 ∷ []) ∷ []) [] }
+    ensures two_least_queries { Shows Designs.two_least_queries (Done 2) ((0 ∷ []) ∷ (0 ∷ []) ∷ []) [] }
+    ensures later_stall_delays_earlier_query { Shows Designs.later_stall_delays_earlier_query (Done 14) ((0 ∷ 0 ∷ []) ∷ []) [] }
+    ensures both_ends_in_one_module { Shows Designs.both_ends_in_one_module (Done 3) ((2 ∷ []) ∷ []) [] }
+    ensures push_tried_into_depth_one { Shows (Designs.tried_push 1) (Done 10) ((0 ∷ []) ∷ []) [] }
+    ensures push_tried_into_depth_two { Shows (Designs.tried_push 2) (Done 10) ((1 ∷ []) ∷ []) [] }
+{}
+
+/// Modules that wait for one another.
+pub fn deadlocks()
+    ensures deadlock_at_once { Shows Designs.deadlock_at_once (Deadlock 0) [] (held_by_channel 0 false 1 ∷ held_by_channel 1 false 0 ∷ []) }
+    ensures deadlock_at_depth_two { Shows (Designs.pushed_too_early 2) (Deadlock 2) ([] ∷ [])
+        (held_by_channel 0 true 0 ∷ held_by_channel 1 false 1 ∷ []) }
+    ensures done_at_depth_three { Shows (Designs.pushed_too_early 3) (Done 9) ((3 ∷ []) ∷ []) [] }
+{}
+
+/// Iterations that follow one another at once, and temps, memories and terminators.
+pub fn blocks_and_loops()
+    ensures back_to_back { Shows Designs.back_to_back (Done 6) ((0 ∷ 0 ∷ 0 ∷ []) ∷ []) [] }
+    ensures parts { Shows Designs.parts (Done 9) ((3 ∷ 1 ∷ 2 ∷ []) ∷ []) [] }
+{}
+
+/// The marks of modules' own runs.
+pub fn own_runs()
+    ensures ended { marks Designs.later_stall_delays_earlier_query 0
+        ((Reply.Value 1 ∷ [])
+        ∷ (Reply.Value 2 ∷ [])
+        ∷ (Reply.Flag false ∷ [])
+        ∷ (Reply.Done ∷ Reply.Flag false ∷ [])
+        ∷ (Reply.Done ∷ [])
+        ∷ [])
+        20
+        ≡ step_mark 0 (access Kind.Read 0 1 0 ∷ []) 0
+        ∷ step_mark 1 (access Kind.Read 0 2 0 ∷ []) 0
+        ∷ step_mark 1 (access Kind.Empty 1 1 0 ∷ []) 0
+        ∷ step_mark 1 (access Kind.Write 2 1 0 ∷ access Kind.Empty 1 1 0 ∷ []) 1
+        ∷ step_mark 1 (access Kind.Write 2 2 0 ∷ []) 2
+        ∷ Advance.Ended 1
+        ∷ [] }
+    ensures waiting { marks Designs.later_stall_delays_earlier_query 0 ((Reply.Value 1 ∷ []) ∷ (Reply.Value 2 ∷ []) ∷ []) 20
+        ≡ step_mark 0 (access Kind.Read 0 1 0 ∷ []) 0
+        ∷ step_mark 1 (access Kind.Read 0 2 0 ∷ []) 0
+        ∷ step_mark 1 (access Kind.Empty 1 1 0 ∷ []) 0
+        ∷ [] }
+    ensures spent { marks Designs.polling_loop 0
+        ((Reply.Missed ∷ []) ∷ (Reply.Missed ∷ []) ∷ (Reply.Missed ∷ []) ∷ [])
+        20
+        ≡ step_mark 0 (access Kind.TryRead 0 1 0 ∷ []) 0
+        ∷ step_mark 1 (access Kind.TryRead 0 1 0 ∷ []) 1
+        ∷ step_mark 1 (access Kind.TryRead 0 1 0 ∷ []) 2
+        ∷ Advance.Spent 1
+        ∷ [] }
+{}

@@ -1,8 +1,7 @@
 -- The value of an expression, case by case.
-use Rattle.std.proofs.Common.{◌≡◌, ℕ, ◌%◌, ◌^◌, ◌==◌, List, refl, cond, ap, ◌∙◌, sym}
-use Rattle.flow_word.specs.declared.boxed.Boxed.{Boxed}
+use Rattle.std.proofs.Common.{◌≡◌, ℕ, ◌%◌, ◌^◌, ◌==◌, List, refl, cond}
 use Rattle.flow_design.specs.declared.expr.Expr.{Expr, Unary, Binary, Sext, Pick, Number, Var}
-use Rattle.flow_design.specs.declared.expr.Expr.TheBlock.{shape-the_row-Expr-0, hidden-the_row-Expr-0}
+use Rattle.flow_design.specs.declared.expr.Expr.TheBlock.{hidden-the_row-Expr-0}
 use Rattle.flow_design.specs.declared.expr.UnOp.{UnOp}
 use Rattle.flow_design.specs.declared.expr.BinOp.{BinOp}
 use Rattle.flow_design.specs.Words.{unary, binary, extended, variable, value}

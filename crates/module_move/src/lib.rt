@@ -1,0 +1,10 @@
+//! One module in plain code: its first state, what it asks of the channels in a clock, and its move on the replies.
+#![tactic(auto)]
+
+mod asking;
+mod moves;
+mod opening;
+
+pub use asking::ask;
+pub use moves::make_move;
+pub use opening::open;

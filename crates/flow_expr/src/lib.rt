@@ -34,8 +34,8 @@ pub fn eval(expr: &Expr<u32>, registers: &[u64], temps: &[u64]) -> u64
     }
 }
 
-/// A register, or a temp behind the registers.
-fn variable(at: u32, registers: &[u64], temps: &[u64]) -> u64
+/// The value of a register, or of a temp: the temps of a body are numbered behind the module's registers. It takes no memory.
+pub fn variable(at: u32, registers: &[u64], temps: &[u64]) -> u64
     requires { at < length registers.now + length temps.now }
     ensures { result ≡ variable registers.now temps.now at }
 {

@@ -4,6 +4,8 @@
 mod asking;
 mod moves;
 mod opening;
+mod pending;
+mod requests;
 
 pub use asking::ask;
 pub use moves::make_move;

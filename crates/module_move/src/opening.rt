@@ -1,11 +1,12 @@
-//! The first state of a module.
-ghost use Rattle.std.specs.Prelude.{◌≡◌, ℕ, IfOk};
+//! The first state of a module, and how a block begins.
+ghost use Rattle.std.specs.Prelude.{◌≡◌, ℕ, ◌<◌, ◌^◌, IfOk, OnOk, length, map, replicate};
 ghost use Rattle.flow_design.specs.StaticRules.{IsModuleSound};
-ghost use Rattle.lockstep_defs.specs.Machine.{opened};
+ghost use Rattle.flow_design.specs.Module.{is_loop};
+ghost use Rattle.lockstep_defs.specs.Machine.{opened, entered};
 ghost use Rattle.module_move.specs.Sound.{IsStateSound};
 
-use flow_design::{Module, ModuleState};
-use flow_word::OutOfMemory;
+use flow_design::{BlockKind, Control, Memory, Module, ModuleState};
+use flow_word::{List, OutOfMemory, Words};
 use std::alloc::Global;
 
 /// Local clock 0 of the module's first block, with all registers and memory words 0.
@@ -13,10 +14,78 @@ pub fn open(alloc: Global, of: &Module) -> Result<ModuleState, OutOfMemory>
     requires { (channels : ℕ) × IsModuleSound channels of.now }
     ensures state { IfOk result (λ state. state ≡ opened of.now) }
     ensures sound { IfOk result (λ state. IsStateSound of.now state) }
-    ensures control { IfOk result (λ state. state.control.clock ≡ 0) }
+    ensures clock { IfOk result (λ state. state.control.clock ≡ 0) }
     ensures count { IfOk result (λ state. state.count ≡ 1) }
 {
-    let _ = alloc;
-    let _ = of;
-    Err(OutOfMemory)
+    let state = first_state(alloc, of)?;
+    Ok(state)
+}
+
+#[tactic(auto, unfolding(lockstep_defs::specs::Machine::opened))]
+fn first_state(alloc: Global, of: &Module) -> Result<ModuleState, OutOfMemory>
+    requires { (channels : ℕ) × IsModuleSound channels of.now }
+    ensures { IfOk result (λ state. state ≡ opened of.now) }
+{
+    let mut state = ModuleState {
+        control: Control {
+            block: 0,
+            clock: 0,
+            newest: 0,
+            looping: false,
+        },
+        registers: Words::zeros(alloc, of.registers.len())?,
+        memories: zero_memories(alloc, of.memories.as_slice())?,
+        temps: List::new(alloc),
+        count: 0,
+        ended: false,
+    };
+    enter(alloc, of, 0, &mut state)?;
+    Ok(state)
+}
+
+/// All words of some memories, each 0.
+fn zero_memories(alloc: Global, memories: &[Memory]) -> Result<List<Words>, OutOfMemory>
+    ensures { IfOk result (λ words. words ≡ map (λ memory. replicate memory.len 0) memories.now) }
+{
+    let mut words = List::with_room(alloc, memories.len() as u64)?;
+    for memory in memories {
+        words.push(Words::zeros(alloc, memory.len)?)?;
+    }
+    Ok(words)
+}
+
+/// The module enters a block, whose first iteration starts. After want of memory the state is as it was.
+#[tactic(auto, unfolding(lockstep_defs::specs::Machine::entered))]
+pub(crate) fn enter(
+    alloc: Global,
+    of: &Module,
+    number: u32,
+    state: &mut ModuleState,
+) -> Result<(), OutOfMemory>
+    requires there { number < length of.now.blocks }
+    requires few { state.old.count < 2 ^ 61 }
+    ensures { OnOk result (state.new ≡ entered of.now number state.old) }
+{
+    let block = &of.blocks.as_slice()[number as usize];
+    let mut temps = List::with_room(alloc, 1)?;
+    temps.push(Words::zeros(alloc, block.temps.len())?)?;
+    state.temps = temps;
+    state.control = Control {
+        block: number,
+        clock: 0,
+        newest: 0,
+        looping: is_loop(block.kind),
+    };
+    state.count += 1;
+    Ok(())
+}
+
+/// Whether a block repeats.
+fn is_loop(kind: BlockKind) -> bool
+    ensures { result ≡ is_loop kind }
+{
+    match kind {
+        BlockKind::Plain => false,
+        BlockKind::Loop { .. } => true,
+    }
 }

@@ -1,0 +1,64 @@
+-- The live iterations, from the oldest on.
+use Rattle.std.proofs.Common.{◌≡◌, refl, sym, ◌∙◌, ap, subst, arith, ℕ, suc, ◌+◌, ◌-◌, ◌*◌, ◌/◌, ◌<◌, ◌≤◌, min, List, [], ◌∷◌, ◌++◌, length, append_assoc, IfSome}
+use Rattle.std.proofs.Math.Nat.{div-mul-le_self, mul-le-mul_right}
+use Rattle.std.specs.List.{All, flat_map, enumerate_from}
+use Rattle.flow_design.specs.declared.design.Module.{Module}
+use Rattle.flow_design.specs.declared.design.Block.{Block}
+use Rattle.flow_design.specs.declared.design.BlockKind.{BlockKind}
+use Rattle.flow_design.specs.declared.design.BlockKind.TheVariants.{Plain, Loop}
+use Rattle.flow_design.specs.declared.design.Timed.{Timed}
+use Rattle.flow_design.specs.declared.state.Control.{Control}
+use Rattle.flow_design.specs.declared.state.ModuleState.{ModuleState}
+use Rattle.flow_design.specs.declared.state.Due.{Due}
+use Rattle.flow_design.specs.Module.{block_of, interval, interval_of, live_count, ages_down, ages, temps_of, due_in, due}
+use Rattle.flow_design.specs.StaticRules.{IsModuleSound, IsBlockSound, IsKindSound, IsTimedSound}
+use Rattle.module_move.specs.Sound.{IsStateSound, IsGuardSound, AreGuardsSound}
+use Rattle.module_move.proofs.Begins.{block_sound, interval_some, live_count_is}
+
+-- ---- bounds
+
+span_from : (registers len : ℕ) (kind : BlockKind) → IsKindSound registers len kind → len ≤ 64 * interval_of kind len
+span_from registers len Plain h = omega arith
+span_from registers len (Loop ii again) h = h.most
+
+pub span : (channels : ℕ) (m : Module) (b : Block) → IsBlockSound channels m b → b.len ≤ 64 * interval b
+span channels m b h = span_from (length m.registers) b.len b.kind h.kind
+
+-- the age of the n-th iteration before the newest is below LEN
+pub older_age : (b : Block) (k : Control) (n : ℕ) → k.clock - k.newest < b.len → n < live_count b k → (k.clock - k.newest) + n * interval b < b.len
+older_age b k n live below =
+    let count = live_count_is b k live in
+    let many : n ≤ (b.len - 1 - (k.clock - k.newest)) / interval b = omega (arith, count) in
+    let product : n * interval b ≤ (b.len - 1 - (k.clock - k.newest)) / interval b * interval b = mul-le-mul_right (interval b) many in
+    let whole : (b.len - 1 - (k.clock - k.newest)) / interval b * interval b ≤ b.len - 1 - (k.clock - k.newest) = div-mul-le_self (b.len - 1 - (k.clock - k.newest)) (interval b) in
+    omega arith
+
+-- the guards of a block's operations, over the temps of a live iteration
+pub guards_sound : (channels : ℕ) (m : Module) (s : ModuleState) (place : ℕ) → IsModuleSound channels m → IsStateSound m s → place < length s.temps
+    → AreGuardsSound (length s.registers + length (temps_of s place)) (block_of m s).ops
+guards_sound channels m s place h sound there =
+    let block = block_sound channels m s.control.block h sound.block in
+    let temps : length (temps_of s place) ≡ length (block_of m s).temps = sound.temps place [] there in
+    λ i d within. rw (sound.registers, temps) (block.operations i d within).guard
+
+-- ---- one iteration after another
+
+pub due_is : (m : Module) (s : ModuleState)
+    → due m s ≡ flat_map (due_in (block_of m s) s)
+        (enumerate_from 0 (ages_down (interval (block_of m s)) (s.control.clock - s.control.newest) (live_count (block_of m s) s.control)))
+unfolding due ages
+due_is m s = refl
+
+ages_next : (ii age left n : ℕ) → left ≡ suc n → ages_down ii age left ≡ (age + n * ii) ∷ ages_down ii age n
+ages_next ii age left n e = rw e refl
+
+-- the due operations of one iteration were added
+pub adding_more : (b : Block) (s : ModuleState) (ii age left n place : ℕ) (pending now goal : List Due) → left ≡ suc n
+    → now ≡ pending ++ due_in b s (place, age + n * ii)
+    → pending ++ flat_map (due_in b s) (enumerate_from place (ages_down ii age left)) ≡ goal
+    → now ++ flat_map (due_in b s) (enumerate_from (place + 1) (ages_down ii age n)) ≡ goal
+adding_more b s ii age left n place pending now goal e added so_far =
+    let next : flat_map (due_in b s) (enumerate_from place (ages_down ii age left))
+            ≡ due_in b s (place, age + n * ii) ++ flat_map (due_in b s) (enumerate_from (place + 1) (ages_down ii age n)) =
+        ap (λ (xs : List ℕ). flat_map (due_in b s) (enumerate_from place xs)) (ages_next ii age left n e) in
+    rw (added, append_assoc, ← next) so_far

@@ -1,0 +1,4 @@
+pub mod Ages
+pub mod Begins
+pub mod Picking
+pub mod Readiness

@@ -1,0 +1,139 @@
+-- In a sound state each due operation finds what it looks up.
+use Rattle.std.proofs.Common.{◌≡◌, refl, sym, ◌∙◌, ap, subst, arith, ℕ, suc, ◌+◌, ◌-◌, ◌*◌, ◌<◌, ◌≤◌, ◌==◌, List, [], ◌∷◌, ◌++◌, map, length, get_or, IfSome, IsTrue, zero-add, zero, length-append, Bool, not}
+use Rattle.std.proofs.lemmas.Grind.{common_steps}
+use Rattle.std.proofs.lemmas.List.{get_or-map, length-map}
+use Rattle.std.proofs.lemmas.List.Filters.{length-filter_both}
+use Rattle.std.proofs.lemmas.List.Elements.{All-map, All-filter, All-append}
+use Rattle.std.proofs.lemmas.List.FromFn.{get_or-enumerate_from, length-enumerate_from}
+use Rattle.std.specs.List.{All, filter, flat_map, enumerate_from}
+use Rattle.flow_design.specs.declared.design.Module.{Module}
+use Rattle.flow_design.specs.declared.design.Block.{Block}
+use Rattle.flow_design.specs.declared.design.Memory.{Memory}
+use Rattle.flow_design.specs.declared.design.Timed.{Timed}
+use Rattle.flow_design.specs.declared.expr.Op.{Op}
+use Rattle.flow_design.specs.declared.expr.Op.TheVariants.{Set, Load, Store, Read, Write, TryRead, TryWrite, Empty, Full}
+use Rattle.flow_design.specs.declared.state.ModuleState.{ModuleState}
+use Rattle.flow_design.specs.declared.state.Due.{Due}
+use Rattle.flow_design.specs.Words.{reach}
+use Rattle.flow_design.specs.Module.{block_of, operation_at, no_operation, interval, live_count, ages_down, ages, temps_of, passes, due_at, due_in, due}
+use Rattle.flow_design.specs.Operations.{expressions_of, memory_of as memory_named, end_of}
+use Rattle.flow_design.specs.StaticRules.{IsModuleSound, IsBlockSound, IsMemorySound, IsTimedSound, IsOperationSound, IsExpressionSound}
+use Rattle.lockstep_defs.specs.Machine.{memory_of}
+use Rattle.module_move.specs.Sound.{IsStateSound, IsDueSound, IsReady, places_in}
+use Rattle.module_move.proofs.Begins.{block_sound, interval_some, live_count_is, few_live}
+use Rattle.module_move.proofs.Ages.{span}
+
+-- ---- which operations are due
+
+numbers_below : {X : Type 0} (xs : List X) → All (λ (t : ℕ × X). t.0 < length xs) (enumerate_from 0 xs)
+numbers_below {X} xs k d within =
+    let inside : k < length xs = rw (length-enumerate_from 0 xs) at within in
+    rw (get_or-enumerate_from 0 xs k d inside, zero-add) inside
+
+due_at_below : (b : Block) (offset : ℕ) → All (λ n. n < length b.ops) (due_at b offset)
+unfolding due_at
+due_at_below b offset =
+    All-map (λ n. n < length b.ops) (λ (t : ℕ × Timed). t.0) (filter (λ (t : ℕ × Timed). (t.1).offset == offset) (enumerate_from 0 b.ops))
+        (All-filter (λ (t : ℕ × Timed). (t.1).offset == offset) (λ (t : ℕ × Timed). t.0 < length b.ops) (enumerate_from 0 b.ops) (numbers_below b.ops))
+
+All-flat_map : {X Y : Type 0} (P : Y → Type 0) (f : X → List Y) (xs : List X) → All (λ x. All P (f x)) xs → All P (flat_map f xs)
+All-flat_map P f [] h = λ k d within. absurd (omega arith)
+All-flat_map {X} {Y} P f (x ∷ xs) h =
+    All-append P (f x) (flat_map f xs) (h 0 x (omega arith)) (All-flat_map P f xs (λ k d within. h (suc k) d (omega (arith, within))))
+
+length-ages_down : (ii age n : ℕ) → length (ages_down ii age n) ≡ n
+length-ages_down ii age zero = refl
+length-ages_down ii age (suc n) = ap suc (length-ages_down ii age n)
+
+due_in_sound : (b : Block) (s : ModuleState) (place age : ℕ)
+    → All (λ (d : Due). (d.iteration ≡ place) × (d.op < length b.ops)) (due_in b s (place, age))
+due_in_sound b s place age =
+    All-map (λ (d : Due). (d.iteration ≡ place) × (d.op < length b.ops)) (λ (n : ℕ). record { iteration = place; op = n })
+        (filter (λ n. passes s.registers (temps_of s place) (operation_at b n).guard) (due_at b age))
+        (λ k d within. (refl, All-filter (λ n. passes s.registers (temps_of s place) (operation_at b n).guard) (λ n. n < length b.ops) (due_at b age) (due_at_below b age) k d within))
+
+-- each due operation of a sound state
+pub due_sound : (m : Module) (s : ModuleState) → IsStateSound m s → All (IsDueSound m s) (due m s)
+unfolding due ages
+due_sound m s sound =
+    All-flat_map (IsDueSound m s) (due_in (block_of m s) s) (enumerate_from 0 (ages (block_of m s) s.control)) each
+  where
+    each : All (λ (it : ℕ × ℕ). All (IsDueSound m s) (due_in (block_of m s) s it)) (enumerate_from 0 (ages (block_of m s) s.control))
+    each k d within =
+        let count : length (enumerate_from 0 (ages_down (interval (block_of m s)) (s.control.clock - s.control.newest) (live_count (block_of m s) s.control))) ≡ length s.temps =
+            length-enumerate_from 0 _ ∙ (length-ages_down _ _ (live_count (block_of m s) s.control) ∙ sym sound.live) in
+        let inside : k < length s.temps = rw count at within in
+        let listed : k < length (ages_down (interval (block_of m s)) (s.control.clock - s.control.newest) (live_count (block_of m s) s.control)) =
+            rw (length-ages_down _ _ (live_count (block_of m s) s.control), ← sound.live) inside in
+        rw (get_or-enumerate_from 0 _ k d listed, zero-add)
+            (λ j e below. let found = due_in_sound (block_of m s) s k _ j e below in record { iteration = rw found.0 inside; op = found.1 })
+
+-- ---- what an operation looks up
+
+abbrev no_memory : Memory
+no_memory = record { width = 1; len = 0 }
+
+memory_some : (m : Module) (s : ModuleState) (n : ℕ) → map length s.memories ≡ map (λ memory. memory.len) m.memories → All IsMemorySound m.memories
+    → n < length m.memories → 0 < length (memory_of s n)
+memory_some m s n same words there =
+    let held : n < length s.memories = rw (← length-map s.memories (length {A = ℕ}), same, length-map) there in
+    let size : length (memory_of s n) ≡ get_or (map length s.memories) n 0 = sym (get_or-map (length {A = ℕ}) s.memories n [] 0 held) in
+    let len : get_or (map (λ (memory : Memory). memory.len) m.memories) n 0 ≡ (get_or m.memories n no_memory).len = get_or-map (λ (memory : Memory). memory.len) m.memories n no_memory 0 there in
+    let some : 1 ≤ (get_or m.memories n no_memory).len = (words n no_memory there).least in
+    rw (size, same, len) (omega (arith, some))
+
+ready_by : (channels : ℕ) (m : Module) (s : ModuleState) (i temps : ℕ) (op : Op ℕ) → IsOperationSound channels m temps op
+    → length s.registers ≡ length m.registers → length (temps_of s i) ≡ temps
+    → ((n : ℕ) → n < length m.memories → 0 < length (memory_of s n)) → IsReady channels s i op
+ready_by channels m s i temps (Set x e) h registers same words = rw (registers, same) (h.expressions 0 e (omega arith)).variables
+ready_by channels m s i temps (Load x n e) h registers same words = (rw (registers, same) (h.expressions 0 e (omega arith)).variables, words n h.memory)
+ready_by channels m s i temps (Store n e a) h registers same words =
+    (rw (registers, same) (h.expressions 0 e (omega arith)).variables, rw (registers, same) (h.expressions 1 a (omega arith)).variables, words n h.memory)
+ready_by channels m s i temps (Read f x) h registers same words = tt
+ready_by channels m s i temps (Write f e) h registers same words = (rw (registers, same) (h.expressions 0 e (omega arith)).variables, h.channel)
+ready_by channels m s i temps (TryRead f x ok) h registers same words = tt
+ready_by channels m s i temps (TryWrite f ok e) h registers same words = (rw (registers, same) (h.expressions 0 e (omega arith)).variables, h.channel)
+ready_by channels m s i temps (Empty f x) h registers same words = tt
+ready_by channels m s i temps (Full f x) h registers same words = tt
+
+pub op_ready : (channels : ℕ) (m : Module) (s : ModuleState) (d : Due) → IsModuleSound channels m → IsStateSound m s → IsDueSound m s d
+    → IsReady channels s d.iteration (operation_at (block_of m s) d.op).op
+op_ready channels m s d h sound there =
+    let block = block_sound channels m s.control.block h sound.block in
+    let timed : IsTimedSound channels m (block_of m s) (operation_at (block_of m s) d.op) = block.operations d.op no_operation there.op in
+    ready_by channels m s d.iteration (length (block_of m s).temps) _ timed.operation sound.registers (sound.temps d.iteration [] there.iteration)
+        (λ n inside. memory_some m s n sound.memories h.words inside)
+
+-- ---- how many operations are due
+
+short_parts : {X Y : Type 0} (most : ℕ) (f : X → List Y) (xs : List X) → ((x : X) → length (f x) ≤ most) → length (flat_map f xs) ≤ length xs * most
+short_parts most f [] short = omega arith
+short_parts most f (x ∷ xs) short =
+    let rest = short_parts most f xs short in
+    let front = short x in
+    omega (arith, length-append (f x) (flat_map f xs))
+
+fewer_pass : {X : Type 0} (p : X → Bool) (xs : List X) → length (filter p xs) ≤ length xs
+fewer_pass p xs = omega (arith, length-filter_both p (λ x. not (p x)) (λ x. refl) xs)
+
+due_at_few : (b : Block) (offset : ℕ) → length (due_at b offset) ≤ length b.ops
+unfolding due_at
+due_at_few b offset = rw length-map (omega (arith, fewer_pass (λ (t : ℕ × Timed). (t.1).offset == offset) (enumerate_from 0 b.ops), length-enumerate_from 0 b.ops))
+
+due_in_few : (b : Block) (s : ModuleState) (it : ℕ × ℕ) → length (due_in b s it) ≤ length b.ops
+due_in_few b s it =
+    rw length-map (omega (arith, fewer_pass (λ n. passes s.registers (temps_of s it.0) (operation_at b n).guard) (due_at b it.1), due_at_few b it.1))
+
+-- at most 64 live iterations of at most 1,024 operations
+pub few_due : (channels : ℕ) (m : Module) (s : ModuleState) → IsModuleSound channels m → IsStateSound m s → length (due m s) ≤ 65536
+unfolding due ages
+few_due channels m s h sound =
+    let b = block_of m s in
+    let block = block_sound channels m s.control.block h sound.block in
+    let age = s.control.clock - s.control.newest in
+    let live : age < b.len = omega (arith, sound.control.started, sound.control.live) in
+    let quotient = few_live b.len (interval b) age (interval_some channels m b block) (span channels m b block) live in
+    let count : live_count b s.control ≤ 64 = omega (arith, live_count_is b s.control live, quotient) in
+    let listed : length (enumerate_from 0 (ages_down (interval b) age (live_count b s.control))) ≡ live_count b s.control = length-enumerate_from 0 _ ∙ length-ages_down _ _ (live_count b s.control) in
+    let each : (it : ℕ × ℕ) → length (due_in b s it) ≤ 1024 = λ it. omega (arith, due_in_few b s it, block.count) in
+    omega (arith, short_parts 1024 (due_in b s) (enumerate_from 0 (ages_down (interval b) age (live_count b s.control))) each, listed)

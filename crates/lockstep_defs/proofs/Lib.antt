@@ -1,1 +1,4 @@
 pub mod Computed
+pub mod Settled
+pub mod Found
+pub mod Exits

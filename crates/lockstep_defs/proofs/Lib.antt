@@ -2,3 +2,6 @@ pub mod Computed
 pub mod Settled
 pub mod Found
 pub mod Exits
+pub mod Due
+pub mod Once
+pub mod Queue

@@ -5,3 +5,6 @@ pub mod Exits
 pub mod Due
 pub mod Once
 pub mod Queue
+pub mod Rules
+pub mod Agrees
+pub mod Live

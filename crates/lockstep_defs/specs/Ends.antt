@@ -1,5 +1,6 @@
 -- The ends of channels, and who stands at them.
-use Rattle.std.specs.Prelude.{ℕ, Bool, ◌&&◌, List, length, filter, position, unwrap_or}
+use Rattle.std.specs.Prelude.{ℕ, Bool, ◌&&◌, List, filter}
+use Rattle.std.specs.List.{position_or_len}
 use Rattle.flow_design.specs.declared.expr.Op.{Op}
 use Rattle.flow_design.specs.declared.plan.Plan.{Plan}
 use Rattle.flow_design.specs.declared.state.Request.{Request}
@@ -13,7 +14,7 @@ takes e op = is_end e (used_end op)
 
 -- the module at an end, the first if there were more; the number of modules where there is none
 unfoldable pub owner : Plan → End → ℕ
-owner p e = unwrap_or (position (uses e) p.design.modules) (length p.design.modules)
+owner p e = position_or_len (uses e) p.design.modules
 
 -- the request pops or pushes at this end, where that is possible
 abbrev pub is_taker : End → Request → Bool

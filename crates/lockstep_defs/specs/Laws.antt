@@ -1,15 +1,15 @@
 -- The laws of the lockstep machine.
-use Rattle.std.specs.Prelude.{ℕ, ◌≡◌, ◌+◌, ◌*◌, ◌-◌, ◌<◌, ◌≤◌, Bool, true, false, IsTrue, List, ◌++◌, map, length, slice_index_or}
+use Rattle.std.specs.Prelude.{ℕ, zero, suc, if◌then◌else◌, ◌≡◌, ◌+◌, ◌*◌, ◌-◌, ◌<◌, ◌≤◌, Bool, true, false, IsTrue, List, ◌++◌, map, length, slice_index_or}
 use Rattle.flow_design.specs.declared.design.Block.{Block}
 use Rattle.flow_design.specs.declared.plan.Plan.{Plan}
 use Rattle.flow_design.specs.declared.state.Control.{Control}
 use Rattle.flow_design.specs.declared.state.Reply.{Reply}
 use Rattle.flow_design.specs.Module.{interval}
 use Rattle.lockstep_defs.specs.Channels.{HistoryStep, Exchange, moved, contents_of}
-use Rattle.lockstep_defs.specs.Lockstep.{state, history, state_at, steps_in}
+use Rattle.lockstep_defs.specs.Lockstep.{moves, state, history, state_at, steps_in}
 use Rattle.lockstep_defs.specs.Verdict.{is_settled}
 use Rattle.lockstep_defs.specs.Report.{steps_of}
-use Rattle.lockstep_defs.specs.OwnRun.{OwnStep, own, paired}
+use Rattle.lockstep_defs.specs.OwnRun.{OwnStep, Own, own, paired}
 
 -- from a settled clock on nothing changes and nothing is done
 abbrev pub SettledStays : Plan → ℕ → Type 0
@@ -40,11 +40,19 @@ replies_in steps = map (λ s. map (λ x. x.reply) s.exchanges) steps
 abbrev pub exchanges_in : List OwnStep → List (List Exchange)
 exchanges_in steps = map (λ s. paired s.requests s.replies) steps
 
--- before clock c module i has made so many local clocks of its own run on the replies of the history: it stands in the same
--- state, and its steps in the history are those of the own run
-pub record IsOwnRun (p : Plan) (i c clocks : ℕ) : Type 0 where
-  pub state_is : (own p i (replies_in (steps_of i (history p c))) clocks).state ≡ state_at p c i
-  pub steps_are : exchanges_in (own p i (replies_in (steps_of i (history p c))) clocks).steps ≡ map (λ s. s.exchanges) (steps_of i (history p c))
+-- how many local clocks module i has made before clock c
+unfoldable pub clocks_made : Plan → ℕ → ℕ → ℕ
+clocks_made p i zero = 0
+clocks_made p i (suc c) = if moves p c (state p c).contents (i, state_at p c i) then suc (clocks_made p i c) else clocks_made p i c
+
+-- module i's own run on the replies of the history before clock c, after as many local clocks as the module has made
+abbrev pub own_at : Plan → ℕ → ℕ → Own
+own_at p i c = own p i (replies_in (steps_of i (history p c))) (clocks_made p i c)
+
+-- it has come to the module's state at clock c, and its steps are the module's steps in the history
+pub record IsOwnRun (p : Plan) (i c : ℕ) : Type 0 where
+  pub state_is : (own_at p i c).state ≡ state_at p c i
+  pub steps_are : exchanges_in (own_at p i c).steps ≡ map (λ s. s.exchanges) (steps_of i (history p c))
 
 -- the iteration that started j intervals before the newest one started at local clock 0 or later, and is younger than LEN
 pub record IsLive (b : Block) (k : Control) (j : ℕ) : Type 0 where

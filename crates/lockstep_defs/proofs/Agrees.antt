@@ -1,6 +1,6 @@
 -- A module's steps in the history are those of its own run on the history's replies.
-use Rattle.std.proofs.Common.{◌≡◌, ◌≢◌, ℕ, zero, suc, ◌+◌, ◌≤◌, ◌<◌, List, [], ◌∷◌, ◌++◌, map, length, get_or, drop, Bool, true, false, ◌||◌, ◌&&◌, ◌==◌, not, cond, refl, sym, ◌∙◌, ap, subst, arith, zero-add, length-append}
-use Rattle.std.specs.List.{list_any, enumerate_from, flat_map, filter}
+use Rattle.std.proofs.Common.{◌≡◌, ◌≢◌, ℕ, zero, suc, ◌+◌, ◌≤◌, ◌<◌, List, [], ◌∷◌, ◌++◌, map, length, get_or, Bool, true, false, ◌&&◌, ◌==◌, not, cond, refl, sym, ◌∙◌, ap, subst, arith, zero-add, length-append}
+use Rattle.std.specs.List.{enumerate_from, flat_map}
 use Rattle.std.proofs.lemmas.List.{append-nil, length-map, get_or-map, map-append}
 use Rattle.std.proofs.lemmas.List.Elements.{filter-append}
 use Rattle.std.proofs.lemmas.List.FromFn.{get_or-enumerate_from, length-enumerate_from}
@@ -17,7 +17,7 @@ use Rattle.lockstep_defs.specs.Lockstep.{no_module, module_at, numbered, request
 use Rattle.lockstep_defs.specs.Report.{steps_of}
 use Rattle.lockstep_defs.specs.OwnRun.{OwnStep, Own, own_after, own_next, own, paired}
 use Rattle.lockstep_defs.specs.Laws.{replies_in, exchanges_in, clocks_made, own_at, IsOwnRun}
-use Rattle.lockstep_defs.proofs.Settled.{state-suc, history-suc, not_true}
+use Rattle.lockstep_defs.proofs.Settled.{state-suc, history-suc}
 
 -- ---- the own run looks at no more replies than it has made steps
 

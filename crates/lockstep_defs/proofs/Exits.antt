@@ -13,8 +13,9 @@ use Rattle.lockstep_defs.specs.Channels.{HistoryStep}
 use Rattle.lockstep_defs.specs.Lockstep.{clock_step, steps_in, opening, moment, state, history}
 use Rattle.lockstep_defs.specs.Verdict.{is_settled, settled_verdict, verdict, clock_of, held}
 use Rattle.lockstep_defs.specs.Report.{steps_of, outcomes, events_of, outputs_in, answers_in, report_with, report_at, report}
-use Rattle.lockstep_defs.proofs.Settled.{state-suc, history-zero, history-suc}
-use Rattle.lockstep_defs.proofs.Found.{NoneBefore, verdict_found, verdict_none}
+use Rattle.lockstep_defs.proofs.Settled.{state-suc, history-suc}
+use Rattle.lockstep_defs.specs.Laws.{NoneBefore}
+use Rattle.lockstep_defs.proofs.Found.{verdict_found, verdict_none}
 
 -- ---- how far a run has come
 

@@ -5,11 +5,8 @@ use Rattle.flow_design.specs.declared.report.Verdict.TheVariants.{Cycles}
 use Rattle.flow_design.specs.declared.state.ClockState.{ClockState}
 use Rattle.lockstep_defs.specs.Lockstep.{clock_step, state}
 use Rattle.lockstep_defs.specs.Verdict.{is_settled, first_settled, settled_verdict, verdict_at, verdict}
+use Rattle.lockstep_defs.specs.Laws.{NoneBefore}
 use Rattle.lockstep_defs.proofs.Settled.{state-suc}
-
--- no clock below this one is settled
-abbrev pub NoneBefore : Plan → ℕ → Type 0
-NoneBefore p c = (b : ℕ) → b < c → is_settled p b (state p b) ≡ false
 
 here : (p : Plan) (n c : ℕ) (st : ClockState) → is_settled p c st ≡ true → first_settled p (suc n) c st ≡ Some c
 unfolding first_settled

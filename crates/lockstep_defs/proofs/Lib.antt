@@ -8,3 +8,5 @@ pub mod Queue
 pub mod Rules
 pub mod Agrees
 pub mod Live
+pub mod Moves
+pub mod Resting

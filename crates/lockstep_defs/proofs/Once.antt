@@ -1,7 +1,6 @@
 -- The static rules: one module at each end of a channel, and at most one pop and one push of a channel in a clock.
-use Rattle.std.proofs.Common.{◌≡◌, ◌≢◌, ℕ, zero, suc, ◌+◌, ◌%◌, ◌≤◌, ◌<◌, List, [], ◌∷◌, ◌++◌, map, length, get_or, Bool, true, false, ◌&&◌, ◌==◌, cond, refl, sym, ◌∙◌, ap, subst, arith, ◌⊎◌, inl, inr, Option, Some, None}
-use Rattle.std.specs.List.{flat_map, filter_map, enumerate_from, AllByRecursion, AllPairs, All, cons_option, count_by, list_any, position}
-use Rattle.flow_word.specs.declared.access.Kind.{Kind}
+use Rattle.std.proofs.Common.{◌≡◌, ℕ, zero, suc, ◌+◌, ◌≤◌, ◌<◌, List, [], ◌∷◌, length, get_or, Bool, true, false, cond, refl, ◌∙◌, ap, arith, ◌⊎◌, inl, inr}
+use Rattle.std.specs.List.{filter_map, AllByRecursion, cons_option, list_any}
 use Rattle.flow_design.specs.declared.expr.Op.{Op}
 use Rattle.flow_design.specs.declared.expr.Op.TheVariants.{Set, Load, Store, Read, Write, TryRead, TryWrite, Empty, Full}
 use Rattle.flow_design.specs.declared.design.Timed.{Timed}
@@ -12,12 +11,10 @@ use Rattle.flow_design.specs.declared.state.Due.{Due}
 use Rattle.flow_design.specs.declared.state.Request.{Request}
 use Rattle.flow_design.specs.declared.state.ModuleState.{ModuleState}
 use Rattle.flow_design.specs.Module.{no_block, block_at, block_of, operation_at, interval, due}
-use Rattle.flow_design.specs.Operations.{End, end_of, used_end}
-use Rattle.flow_design.specs.StaticRules.{same_end, is_end, uses, Clashes, IsBlockSound, IsModuleSound, FitsEngine, users_wanted}
-use Rattle.flow_design.specs.Plans.{kind_at}
+use Rattle.flow_design.specs.Operations.{End, used_end}
+use Rattle.flow_design.specs.StaticRules.{same_end, is_end, uses}
 use Rattle.flow_design.specs.declared.design.Channel.{Channel}
 use Rattle.lockstep_defs.specs.Machine.{request_of, request_for, requests}
-use Rattle.lockstep_defs.specs.Channels.{side_of, is_taking}
 use Rattle.lockstep_defs.specs.Lockstep.{module_at, requests_of}
 use Rattle.lockstep_defs.specs.Ends.{takes, owner, takers}
 use Rattle.lockstep_defs.proofs.Settled.{or_false}

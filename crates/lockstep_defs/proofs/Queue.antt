@@ -1,9 +1,9 @@
 -- A channel is a queue: what went in is what was popped off it, and then what it holds.
-use Rattle.std.proofs.Common.{◌≡◌, ℕ, zero, suc, ◌+◌, ◌≤◌, ◌<◌, List, [], ◌∷◌, ◌++◌, map, length, get_or, drop, Bool, true, false, ◌||◌, ◌&&◌, ◌==◌, not, cond, refl, sym, ◌∙◌, ap, subst, arith, append_assoc, zero-add, ◌⊎◌, inl, inr}
+use Rattle.std.proofs.Common.{◌≡◌, ℕ, zero, suc, ◌+◌, ◌≤◌, ◌<◌, List, [], ◌∷◌, ◌++◌, map, length, get_or, drop, Bool, true, false, ◌&&◌, ◌==◌, not, cond, refl, sym, ◌∙◌, ap, subst, arith, append_assoc, zero-add, ◌⊎◌, inl, inr}
 use Rattle.std.specs.List.{list_any, enumerate_from, flat_map, AllByRecursion}
 use Rattle.std.proofs.lemmas.List.{append-nil, length-map, get_or-map, length-append}
 use Rattle.std.proofs.lemmas.List.Concat.{flat_map-append}
-use Rattle.std.proofs.lemmas.List.FromFn.{get_or-enumerate_from, length-enumerate_from}
+use Rattle.std.proofs.lemmas.List.FromFn.{get_or-enumerate_from, length-enumerate_from, length-map-range_with_len}
 use Rattle.std.proofs.lemmas.Bool.{eqb-true, eq-eqb, cases_Bool}
 use Rattle.std.proofs.Math.Seq.{drop-append_seam}
 use Rattle.std.proofs.Math.ListN.{get_or-append}
@@ -14,11 +14,9 @@ use Rattle.flow_design.specs.declared.state.ClockState.{ClockState}
 use Rattle.flow_design.specs.declared.state.ModuleState.{ModuleState}
 use Rattle.flow_design.specs.declared.state.Request.{Request}
 use Rattle.flow_design.specs.declared.state.Reply.TheVariants.{Took, Missed}
-use Rattle.flow_design.specs.Operations.{End}
-use Rattle.flow_design.specs.StaticRules.{same_end, uses}
-use Rattle.lockstep_defs.specs.Machine.{is_yes}
-use Rattle.lockstep_defs.specs.Channels.{HistoryStep, Exchange, side_of, is_blocking, is_nil, is_full, is_possible, stalls, reply, reply_by, popped_value, moved_value, moved_by, moved, contents_of}
-use Rattle.lockstep_defs.specs.Lockstep.{module_at, numbered, requests_of, moves, next_state, answered, step_with, step_of, steps_in, contents_after, clock_step, moment, state, history}
+use Rattle.flow_design.specs.StaticRules.{uses}
+use Rattle.lockstep_defs.specs.Channels.{HistoryStep, Exchange, side_of, is_blocking, is_nil, is_possible, stalls, reply, reply_by, popped_value, moved_value, moved_by, moved, contents_of}
+use Rattle.lockstep_defs.specs.Lockstep.{module_at, numbered, requests_of, moves, answered, step_with, step_of, steps_in, contents_after, clock_step, inputs_of, opening, moment, state, history}
 use Rattle.lockstep_defs.specs.Ends.{owner, is_taker, takers}
 use Rattle.lockstep_defs.specs.Laws.{all_in, IsConserved, PopsInOrder}
 use Rattle.lockstep_defs.proofs.Settled.{or_false, not_true, state-suc, history-suc}
@@ -264,3 +262,7 @@ contents_are p k f h c = rw (conserved p k f h c) (sym (drop-append_seam (moved 
 pub pops_in_order : (p : Plan) → KeepsEnds p → (f : ℕ) → f < length (state p 0).contents → (c : ℕ) → PopsInOrder p c f
 pops_in_order p k f h c n d below =
     rw (conserved p k f h c) (sym (get_or-append (moved true f (history p c)) (contents_of (state p c).contents f) d n below))
+
+pub channel_count : (p : Plan) → length (state p 0).contents ≡ length p.design.channels
+unfolding moment opening
+channel_count p = length-map-range_with_len (inputs_of p) 0 (length p.design.channels)

@@ -1,6 +1,6 @@
 -- A plan that the engine takes keeps what the laws of channels take of the static rules.
-use Rattle.std.proofs.Common.{◌≡◌, ◌≢◌, ℕ, zero, suc, ◌+◌, ◌%◌, ◌≤◌, ◌<◌, List, [], ◌∷◌, length, get_or, Bool, true, false, cond, refl, sym, ap, subst, arith, nat_lt, ◌⊎◌, inl, inr, Option, Some, None}
-use Rattle.std.specs.List.{filter, AllByRecursion, AllPairs, All, Any, count_by, list_any, position_or_len}
+use Rattle.std.proofs.Common.{◌≡◌, ◌≢◌, ℕ, zero, suc, ◌%◌, ◌≤◌, ◌<◌, List, [], ◌∷◌, length, get_or, Bool, true, false, cond, refl, sym, ap, subst, arith, nat_lt, ◌⊎◌, inl, inr, Option, Some, None}
+use Rattle.std.specs.List.{filter, AllByRecursion, All, Any, list_any, position_or_len}
 use Rattle.std.specs.Prelude.{IfSome}
 use Rattle.std.proofs.lemmas.Bool.{eqb-true, ltb-true, ltb-false}
 use Rattle.std.proofs.lemmas.List.{get_or_past}
@@ -19,7 +19,7 @@ use Rattle.flow_design.specs.declared.plan.Plan.{Plan}
 use Rattle.flow_design.specs.Module.{no_block, no_operation, block_at, interval, interval_of}
 use Rattle.flow_design.specs.Operations.{End, end_of, used_end}
 use Rattle.flow_design.specs.Plans.{kind_at}
-use Rattle.flow_design.specs.StaticRules.{same_end, is_end, uses, users_wanted, Clashes, IsKindSound, IsTimedSound, IsBlockSound, IsModuleSound, IsChannelSound, FitsEngine}
+use Rattle.flow_design.specs.StaticRules.{same_end, is_end, uses, users_wanted, Clashes, IsKindSound, IsTimedSound, IsBlockSound, IsModuleSound, FitsEngine}
 use Rattle.lockstep_defs.specs.Lockstep.{no_module, module_at}
 use Rattle.lockstep_defs.specs.Ends.{takes, owner}
 use Rattle.lockstep_defs.proofs.Due.{AreApart}

@@ -1,11 +1,11 @@
 -- A settled state stays.
-use Rattle.std.proofs.Common.{◌≡◌, ℕ, zero, suc, ◌+◌, List, [], ◌∷◌, ◌++◌, map, length, drop, Bool, true, false, ◌||◌, not, refl, sym, ◌∙◌, ap, subst, zero-add, suc-add}
+use Rattle.std.proofs.Common.{◌≡◌, ℕ, zero, suc, ◌+◌, List, [], ◌∷◌, ◌++◌, map, Bool, true, false, ◌||◌, not, refl, ◌∙◌, ap, zero-add, suc-add}
 use Rattle.std.specs.List.{list_any, enumerate_from, flat_map}
 use Rattle.std.proofs.lemmas.List.{append-nil}
 use Rattle.flow_design.specs.declared.plan.Plan.{Plan}
 use Rattle.flow_design.specs.declared.state.ClockState.{ClockState}
 use Rattle.flow_design.specs.declared.state.ModuleState.{ModuleState}
-use Rattle.lockstep_defs.specs.Channels.{HistoryStep, moved_by, moved}
+use Rattle.lockstep_defs.specs.Channels.{moved}
 use Rattle.lockstep_defs.specs.Lockstep.{numbered, moves, next_state, step_of, steps_in, contents_after, clock_step, moment, state, history}
 use Rattle.lockstep_defs.specs.Verdict.{is_settled}
 

@@ -1,19 +1,25 @@
 -- The laws of the lockstep machine.
-use Rattle.std.specs.Prelude.{ℕ, zero, suc, if◌then◌else◌, ◌≡◌, ◌+◌, ◌*◌, ◌-◌, ◌<◌, ◌≤◌, Bool, true, false, IsTrue, List, ◌++◌, map, length, slice_index_or}
+use Rattle.std.specs.Prelude.{ℕ, zero, suc, if◌then◌else◌, ◌≡◌, ◌+◌, ◌*◌, ◌-◌, ◌<◌, ◌≤◌, Bool, true, false, IsTrue, IsFalse, List, ◌++◌, map, length, slice_index_or}
 use Rattle.flow_design.specs.declared.design.Block.{Block}
 use Rattle.flow_design.specs.declared.plan.Plan.{Plan}
 use Rattle.flow_design.specs.declared.state.Control.{Control}
 use Rattle.flow_design.specs.declared.state.Reply.{Reply}
-use Rattle.flow_design.specs.Module.{interval}
+use Rattle.flow_design.specs.declared.state.ModuleState.{ModuleState}
+use Rattle.flow_design.specs.Module.{interval, live_count, ages}
 use Rattle.lockstep_defs.specs.Channels.{HistoryStep, Exchange, moved, contents_of}
 use Rattle.lockstep_defs.specs.Lockstep.{moves, state, history, state_at, steps_in}
 use Rattle.lockstep_defs.specs.Verdict.{is_settled}
 use Rattle.lockstep_defs.specs.Report.{steps_of}
 use Rattle.lockstep_defs.specs.OwnRun.{OwnStep, Own, own, paired}
+use Rattle.lockstep_defs.specs.Quiet.{rests, skip, quiet}
 
 -- from a settled clock on nothing changes and nothing is done
 abbrev pub SettledStays : Plan → ℕ → Type 0
 SettledStays p c = IsTrue (is_settled p c (state p c)) → (n : ℕ) → (state p (n + c) ≡ state p c) × (history p (n + c) ≡ history p c)
+
+-- no clock before this one is settled
+abbrev pub NoneBefore : Plan → ℕ → Type 0
+NoneBefore p c = (b : ℕ) → b < c → IsFalse (is_settled p b (state p b))
 
 -- in each clock at most one element is popped off a channel, and at most one is pushed on it
 abbrev pub MovesOnce : Plan → ℕ → Type 0
@@ -58,3 +64,13 @@ pub record IsOwnRun (p : Plan) (i c : ℕ) : Type 0 where
 pub record IsLive (b : Block) (k : Control) (j : ℕ) : Type 0 where
   pub has_started : j * interval b ≤ k.newest
   pub is_young : (k.clock - k.newest) + j * interval b < b.len
+
+-- the ages of the live iterations, the oldest first: that of the newest, and so many intervals more
+pub record AreAges (b : Block) (k : Control) : Type 0 where
+  pub count : length (ages b k) ≡ live_count b k
+  pub each : (n d : ℕ) → n < live_count b k → slice_index_or (ages b k) n d ≡ (k.clock - k.newest) + (live_count b k - 1 - n) * interval b
+
+-- after its quiet clocks the own run of module i rests, and not before
+pub record QuietClocksEnd (p : Plan) (i : ℕ) (s : ModuleState) : Type 0 where
+  pub goes_before : (n : ℕ) → n < quiet p i s → IsFalse (rests p i (skip p i n s))
+  pub rests_then : IsTrue (rests p i (skip p i (quiet p i s) s))

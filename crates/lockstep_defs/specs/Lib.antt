@@ -4,6 +4,7 @@ pub mod Lockstep
 pub mod Verdict
 pub mod Report
 pub mod OwnRun
+pub mod Quiet
 pub mod Ends
 pub mod Laws
 pub mod Designs

@@ -10,3 +10,4 @@ pub mod Agrees
 pub mod Live
 pub mod Moves
 pub mod Resting
+pub mod States

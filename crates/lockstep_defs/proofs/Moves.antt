@@ -118,7 +118,7 @@ decided_between m t f =
     (λ d. (omega arith, λ e. inr (inr (refl, tick_less k.looping (interval b) b.len k.clock k.newest f d e))))
 
 -- the rest of a move, after the commits
-abbrev rest_of_move : Module → Block → ModuleState → ModuleState
+abbrev pub rest_of_move : Module → Block → ModuleState → ModuleState
 rest_of_move m b t = finished m b (decided b (ticked b t))
 
 rest_falls : (m : Module) (t : ModuleState) → goes_on t.control (interval (block_of m t)) ≡ true → Falls m t (rest_of_move m (block_of m t) t)
@@ -135,13 +135,13 @@ weaken m s t u e h (inr (inl up)) = let a = up.0 in let b = up.1 in inr (inl (om
 weaken m s t u e h (inr (inr near)) = let a = near.0 in let b = near.1 in inr (inr (omega arith, omega arith))
 
 -- the state after the commits, with the operations counted
-abbrev counted : Module → ModuleState → List Reply → ModuleState
+abbrev pub counted : Module → ModuleState → List Reply → ModuleState
 counted m s replies = record (committed m s replies) { count = s.count + length (due m s) }
 
-same_control : (m : Module) (s : ModuleState) (replies : List Reply) → (counted m s replies).control ≡ s.control
+pub same_control : (m : Module) (s : ModuleState) (replies : List Reply) → (counted m s replies).control ≡ s.control
 same_control m s replies = (commits_keep m s replies).0
 
-same_block : (m : Module) (s : ModuleState) (replies : List Reply) → block_of m (counted m s replies) ≡ block_of m s
+pub same_block : (m : Module) (s : ModuleState) (replies : List Reply) → block_of m (counted m s replies) ≡ block_of m s
 same_block m s replies = ap (λ (k : Control). block_at m k.block) (same_control m s replies)
 
 -- a move ends the module, raises the count, or lowers the local clocks that are left
@@ -163,7 +163,7 @@ HasIntervals m = (b : ℕ) → is_loop (block_at m b).kind ≡ true → 0 < inte
 abbrev pub Goes : Module → ModuleState → Type 0
 Goes m s = goes_on s.control (interval (block_of m s)) ≡ true
 
-first_goes : (l : Bool) (ii : ℕ) → (l ≡ true → 0 < ii) → (not l || (nat_lt 0 ii && nat_lt 0 (0 + ii))) ≡ true
+pub first_goes : (l : Bool) (ii : ℕ) → (l ≡ true → 0 < ii) → (not l || (nat_lt 0 ii && nat_lt 0 (0 + ii))) ≡ true
 first_goes true ii h = let pos = h refl in and_from _ _ (lt-ltb 0 ii pos) (lt-ltb 0 (0 + ii) (omega arith))
 first_goes false ii h = refl
 
@@ -176,7 +176,7 @@ followed_goes m h (Goto n) v g = entered_goes m h n v
 followed_goes m h (Branch r n o) v g = entered_goes m h _ v
 followed_goes m h Stop v g = g
 
-tick_goes : (l : Bool) (i c s : ℕ) → (not l || (nat_lt 0 i && nat_lt c (s + i))) ≡ true → (l && (c + 1 - s == i)) ≡ false
+pub tick_goes : (l : Bool) (i c s : ℕ) → (not l || (nat_lt 0 i && nat_lt c (s + i))) ≡ true → (l && (c + 1 - s == i)) ≡ false
     → (not l || (nat_lt 0 i && nat_lt (c + 1) (s + i))) ≡ true
 tick_goes true i c s f d =
     let parts = and_parts _ _ f in

@@ -5,6 +5,7 @@ pub mod Verdict
 pub mod Report
 pub mod OwnRun
 pub mod Quiet
+pub mod States
 pub mod Ends
 pub mod Laws
 pub mod Designs

@@ -1,1 +1,13 @@
 pub mod Computed
+pub mod Settled
+pub mod Found
+pub mod Exits
+pub mod Due
+pub mod Once
+pub mod Queue
+pub mod Rules
+pub mod Agrees
+pub mod Live
+pub mod Moves
+pub mod Resting
+pub mod States

@@ -1,17 +1,14 @@
 -- Small designs whose reports are known: the worked rows.
-use Rattle.std.specs.Prelude.{ℕ, suc, List, [], ◌∷◌, Option, Some, None}
-use Rattle.flow_design.specs.declared.expr.Expr.{Expr, Number, Var, Binary}
-use Rattle.flow_design.specs.declared.expr.BinOp.{BinOp}
+use Rattle.std.specs.Prelude.{ℕ, suc, List, [], ◌∷◌, Some, None}
+use Rattle.flow_design.specs.declared.expr.Expr.{Number, Var, Binary}
 use Rattle.flow_design.specs.declared.expr.BinOp.TheVariants.{Add, Or, Xor, Shl, LtU}
 use Rattle.flow_design.specs.declared.expr.Op.{Op}
-use Rattle.flow_design.specs.declared.expr.Op.TheVariants.{Set, Load, Store, Read, Write, TryRead, TryWrite, Empty, Full}
+use Rattle.flow_design.specs.declared.expr.Op.TheVariants.{Set, Load, Store, Read, Write, TryRead, TryWrite, Empty}
 use Rattle.flow_design.specs.declared.design.BlockKind.TheVariants.{Plain, Loop}
 use Rattle.flow_design.specs.declared.design.ChannelKind.TheVariants.{Source, Sink, Fifo}
-use Rattle.flow_design.specs.declared.design.Next.{Next}
 use Rattle.flow_design.specs.declared.design.Next.TheVariants.{Goto, Branch, Stop}
 use Rattle.flow_design.specs.declared.design.Timed.{Timed}
 use Rattle.flow_design.specs.declared.design.Block.{Block}
-use Rattle.flow_design.specs.declared.design.Memory.{Memory}
 use Rattle.flow_design.specs.declared.design.Module.{Module}
 use Rattle.flow_design.specs.declared.design.Channel.{Channel}
 use Rattle.flow_design.specs.declared.plan.Plan.{Plan}

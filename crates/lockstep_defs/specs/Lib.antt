@@ -4,5 +4,9 @@ pub mod Lockstep
 pub mod Verdict
 pub mod Report
 pub mod OwnRun
+pub mod Quiet
+pub mod States
+pub mod Ends
+pub mod Laws
 pub mod Designs
 pub mod Shows

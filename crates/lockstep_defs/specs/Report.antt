@@ -51,15 +51,18 @@ outputs_in p st = map (contents_of st.contents) (sinks p)
 abbrev pub answers_in : Plan → List HistoryStep → List (List Bool)
 answers_in p steps = map (λ i. outcomes (steps_of i steps)) (range_with_len 0 (length p.design.modules))
 
--- outputs in the verdict's clock, and what was done before it
-abbrev pub report_with : Plan → Verdict → Report
-report_with p v = record {
+-- a verdict, with what the state in its clock shows and what was done before it
+abbrev pub report_with : Plan → Verdict → ClockState → List HistoryStep → Report
+report_with p v st steps = record {
   verdict = v;
-  outputs = outputs_in p (state p (clock_of v));
-  held = held p v;
-  events = events_of (history p (clock_of v));
-  answers = answers_in p (history p (clock_of v));
+  outputs = outputs_in p st;
+  held = held p v st;
+  events = events_of steps;
+  answers = answers_in p steps;
 }
 
+abbrev pub report_at : Plan → Verdict → Report
+report_at p v = report_with p v (state p (clock_of v)) (history p (clock_of v))
+
 unfoldable pub report : Plan → Report
-report p = report_with p (verdict p)
+report p = report_at p (verdict p)

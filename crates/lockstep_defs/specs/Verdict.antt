@@ -59,9 +59,9 @@ held_by p clock contents m =
 abbrev pub held_in : Plan → ℕ → ClockState → List Held
 held_in p clock st = filter_map (held_by p clock st.contents) (numbered st)
 
--- there are none where all modules are ended or the cycle limit was reached
-abbrev pub held : Plan → Verdict → List Held
-held p (Done clock) = []
-held p (Deadlock clock) = held_in p clock (state p clock)
-held p (Cycles clock) = []
-held p (Ops clock) = held_in p clock (state p clock)
+-- with a verdict in this state; there are none where all modules are ended or the cycle limit was reached
+abbrev pub held : Plan → Verdict → ClockState → List Held
+held p (Done clock) st = []
+held p (Deadlock clock) st = held_in p clock st
+held p (Cycles clock) st = []
+held p (Ops clock) st = held_in p clock st

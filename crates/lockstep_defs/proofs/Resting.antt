@@ -1,0 +1,139 @@
+-- Quiet clocks end.
+use Rattle.std.proofs.Common.{◌≡◌, ℕ, zero, suc, ◌+◌, ◌*◌, ◌-◌, ◌≤◌, ◌<◌, List, [], length, Bool, true, false, ◌||◌, refl, sym, ap, subst, arith, ◌⊎◌, inl, inr, mul-le-mul_right, suc-mul}
+use Rattle.std.proofs.lemmas.Bool.{leb-false, cases_Bool, or_parts}
+use Rattle.flow_design.specs.declared.design.BlockKind.{BlockKind}
+use Rattle.flow_design.specs.declared.design.BlockKind.TheVariants.{Plain, Loop}
+use Rattle.flow_design.specs.declared.design.Block.{Block}
+use Rattle.flow_design.specs.declared.plan.Plan.{Plan}
+use Rattle.flow_design.specs.declared.state.ModuleState.{ModuleState}
+use Rattle.flow_design.specs.declared.state.Reply.{Reply}
+use Rattle.flow_design.specs.StaticRules.{IsBlockSound, IsKindSound, FitsEngine}
+use Rattle.flow_design.specs.Module.{no_block, block_at, is_loop, interval, interval_of}
+use Rattle.lockstep_defs.specs.Machine.{is_spent, is_over, move, opened}
+use Rattle.lockstep_defs.specs.Lockstep.{module_at, requests_of}
+use Rattle.lockstep_defs.specs.Quiet.{is_some_request, rests, skip, quiet_below, span, measure, quiet, fits}
+use Rattle.lockstep_defs.proofs.Moves.{left, Fallen, move_falls, HasIntervals, move_goes, opened_goes}
+use Rattle.lockstep_defs.proofs.Rules.{sound_block}
+
+-- ---- each state that a module comes to fits
+
+loop_interval : (registers len : ℕ) (k : BlockKind) → IsKindSound registers len k → is_loop k ≡ true → 0 < interval_of k len
+loop_interval registers len Plain s l = cc
+loop_interval registers len (Loop ii again) s l = s.interval
+
+pub has_intervals : (p : Plan) → FitsEngine p → (i : ℕ) → HasIntervals (module_at p i)
+has_intervals p h i b l = by_block (sound_block p h i b) l
+  where
+    by_block : IsBlockSound (length p.design.channels) (module_at p i) (block_at (module_at p i) b) ⊎ (block_at (module_at p i) b ≡ no_block)
+        → is_loop (block_at (module_at p i) b).kind ≡ true → 0 < interval (block_at (module_at p i) b)
+    by_block (inl s) l = loop_interval _ _ (block_at (module_at p i) b).kind s.kind l
+    by_block (inr none) l = let no : is_loop no_block.kind ≡ true = subst (λ (c : Block). is_loop c.kind ≡ true) none l in cc
+
+pub fits_opened : (p : Plan) → FitsEngine p → (i : ℕ) → fits p i (opened (module_at p i)) ≡ true
+fits_opened p h i = opened_goes (module_at p i) (has_intervals p h i)
+
+pub fits_move : (p : Plan) → FitsEngine p → (i : ℕ) (s : ModuleState) (replies : List Reply) → fits p i s ≡ true
+    → fits p i (move (module_at p i) s replies) ≡ true
+fits_move p h i s replies f = move_goes (module_at p i) (has_intervals p h i) s replies f
+
+-- ---- the measure falls
+
+lives : (p : Plan) (s : ModuleState) → is_over p.ops s ≡ false → s.count < p.ops
+unfolding is_over
+lives p s h =
+    let parts = or_parts s.ended (is_spent p.ops s) h in
+    leb-false p.ops s.count (rw parts.0 at parts.1)
+
+more_done : (r q w l k : ℕ) → suc q ≤ r → k ≤ l + w → q * (w + 1) + k < r * (w + 1) + l
+more_done r q w l k h n =
+    let a = mul-le-mul_right (w + 1) h in
+    let b = suc-mul q (w + 1) in
+    omega arith
+
+nearer : (r q w l k : ℕ) → q ≤ r → k < l → q * (w + 1) + k < r * (w + 1) + l
+nearer r q w l k h n = let a = mul-le-mul_right (w + 1) h in omega arith
+
+measure_falls : (p : Plan) (i : ℕ) (s : ModuleState) → fits p i s ≡ true → is_over p.ops s ≡ false
+    → ((move (module_at p i) s []).ended ≡ true) ⊎ (measure p i (move (module_at p i) s []) < measure p i s)
+unfolding measure
+measure_falls p i s f h = by_case (move_falls (module_at p i) s [] f) (lives p s h)
+  where
+    by_case : Fallen (module_at p i) s (move (module_at p i) s []) → s.count < p.ops
+        → ((move (module_at p i) s []).ended ≡ true)
+        ⊎ (((p.ops - (move (module_at p i) s []).count) * (span (module_at p i).blocks + 1) + left (module_at p i) (move (module_at p i) s []))
+        < ((p.ops - s.count) * (span (module_at p i).blocks + 1) + left (module_at p i) s))
+    by_case (inl over) below = inl over
+    by_case (inr (inl up)) below =
+        inr (more_done (p.ops - s.count) (p.ops - (move (module_at p i) s []).count) (span (module_at p i).blocks) _ _ (omega (arith, up.0)) up.1)
+    by_case (inr (inr near)) below =
+        inr (nearer (p.ops - s.count) (p.ops - (move (module_at p i) s []).count) (span (module_at p i).blocks) _ _ (omega (arith, near.0)) near.1)
+
+-- ---- the first state in which it rests
+
+skip_front : (p : Plan) (i n : ℕ) (s : ModuleState) → skip p i (suc n) s ≡ skip p i n (move (module_at p i) s [])
+skip_front p i zero s = refl
+skip_front p i (suc n) s = ap (λ (z : ModuleState). move (module_at p i) z []) (skip_front p i n s)
+
+below_zero : (p : Plan) (i : ℕ) (s : ModuleState) → quiet_below p i zero s ≡ 0
+unfolding quiet_below
+below_zero p i s = refl
+
+below_rests : (p : Plan) (i n : ℕ) (s : ModuleState) → rests p i s ≡ true → quiet_below p i (suc n) s ≡ 0
+unfolding quiet_below
+below_rests p i n s h = rw (h, quiet_below) refl
+
+below_goes : (p : Plan) (i n : ℕ) (s : ModuleState) → rests p i s ≡ false
+    → quiet_below p i (suc n) s ≡ suc (quiet_below p i n (move (module_at p i) s []))
+unfolding quiet_below
+below_goes p i n s h = rw (h, quiet_below) refl
+
+idle : (p : Plan) (i n : ℕ) (s : ModuleState) (j : ℕ) → j < quiet_below p i n s → rests p i (skip p i j s) ≡ false
+idle p i zero s j h = let e = below_zero p i s in absurd (omega arith)
+idle p i (suc n) s j h = by_test (idle p i n (move (module_at p i) s [])) (cases_Bool (rests p i s)) j h
+  where
+    by_test : ((j : ℕ) → j < quiet_below p i n (move (module_at p i) s []) → rests p i (skip p i j (move (module_at p i) s [])) ≡ false)
+        → ((rests p i s ≡ true) ⊎ (rests p i s ≡ false)) → (j : ℕ) → j < quiet_below p i (suc n) s → rests p i (skip p i j s) ≡ false
+    by_test rest (inl e) j h = let q = below_rests p i n s e in absurd (omega arith)
+    by_test rest (inr e) zero h = e
+    by_test rest (inr e) (suc j) h =
+        let q = below_goes p i n s e in
+        subst (λ (z : ModuleState). rests p i z ≡ false) (sym (skip_front p i j s)) (rest j (omega arith))
+
+or_one : (a b : Bool) → a ≡ true → (a || b) ≡ true
+or_one true b h = refl
+or_one false b h = cc
+
+over_rests : (p : Plan) (i : ℕ) (s : ModuleState) → s.ended ≡ true → rests p i s ≡ true
+unfolding is_over
+over_rests p i s h = or_one _ _ (or_one s.ended _ h)
+
+reaches : (p : Plan) → FitsEngine p → (i n : ℕ) (s : ModuleState) → fits p i s ≡ true → ((rests p i s ≡ true) ⊎ (measure p i s < n))
+    → rests p i (skip p i (quiet_below p i n s) s) ≡ true
+reaches p r i zero s f (inl e) = rw (below_zero p i s) e
+reaches p r i zero s f (inr h) = absurd (omega arith)
+reaches p r i (suc n) s f h = by_test (reaches p r i n (move (module_at p i) s []) (fits_move p r i s [] f)) (cases_Bool (rests p i s)) h
+  where
+    by_test : (((rests p i (move (module_at p i) s []) ≡ true) ⊎ (measure p i (move (module_at p i) s []) < n))
+        → rests p i (skip p i (quiet_below p i n (move (module_at p i) s [])) (move (module_at p i) s [])) ≡ true)
+        → ((rests p i s ≡ true) ⊎ (rests p i s ≡ false)) → ((rests p i s ≡ true) ⊎ (measure p i s < suc n))
+        → rests p i (skip p i (quiet_below p i (suc n) s) s) ≡ true
+    by_test rest (inl e) h = rw (below_rests p i n s e) e
+    by_test rest (inr e) (inl t) = cc
+    by_test rest (inr e) (inr h) =
+        let q = below_goes p i n s e in
+        let next : (rests p i (move (module_at p i) s []) ≡ true) ⊎ (measure p i (move (module_at p i) s []) < n) =
+        elim (measure_falls p i s f (or_parts (is_over p.ops s) (is_some_request (requests_of p (i, s))) e).0) [
+          | inl over ↦ inl (over_rests p i (move (module_at p i) s []) over)
+          | inr less ↦ inr (omega arith)
+        ] in
+        rw q (subst (λ (z : ModuleState). rests p i z ≡ true) (sym (skip_front p i (quiet_below p i n (move (module_at p i) s [])) s)) (rest next))
+
+-- ---- the quiet clocks
+
+pub quiet_goes : (p : Plan) (i : ℕ) (s : ModuleState) (j : ℕ) → j < quiet p i s → rests p i (skip p i j s) ≡ false
+unfolding quiet
+quiet_goes p i s j h = idle p i (suc (measure p i s)) s j h
+
+pub quiet_rests : (p : Plan) → FitsEngine p → (i : ℕ) (s : ModuleState) → fits p i s ≡ true → rests p i (skip p i (quiet p i s) s) ≡ true
+unfolding quiet
+quiet_rests p r i s f = reaches p r i (suc (measure p i s)) s f (inr (omega arith))

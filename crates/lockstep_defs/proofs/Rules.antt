@@ -1,0 +1,189 @@
+-- A plan that the engine takes keeps what the laws of channels take of the static rules.
+use Rattle.std.proofs.Common.{◌≡◌, ◌≢◌, ℕ, zero, suc, ◌%◌, ◌≤◌, ◌<◌, List, [], ◌∷◌, length, get_or, Bool, true, false, cond, refl, sym, ap, subst, arith, nat_lt, ◌⊎◌, inl, inr, Option, Some, None}
+use Rattle.std.specs.List.{filter, AllByRecursion, All, Any, list_any, position_or_len}
+use Rattle.std.specs.Prelude.{IfSome}
+use Rattle.std.proofs.lemmas.Bool.{eqb-true, ltb-true, ltb-false}
+use Rattle.std.proofs.lemmas.List.{get_or_past}
+use Rattle.std.proofs.lemmas.List.Folds.{Any-from_list_any}
+use Rattle.std.proofs.lemmas.List.Sums.{length-filter}
+use Rattle.flow_design.specs.declared.expr.Op.{Op}
+use Rattle.flow_design.specs.declared.expr.Op.TheVariants.{Set, Load, Store, Read, Write, TryRead, TryWrite, Empty, Full}
+use Rattle.flow_design.specs.declared.design.BlockKind.{BlockKind}
+use Rattle.flow_design.specs.declared.design.BlockKind.TheVariants.{Plain, Loop}
+use Rattle.flow_design.specs.declared.design.ChannelKind.{ChannelKind}
+use Rattle.flow_design.specs.declared.design.ChannelKind.TheVariants.{Source, Sink, Fifo}
+use Rattle.flow_design.specs.declared.design.Timed.{Timed}
+use Rattle.flow_design.specs.declared.design.Block.{Block}
+use Rattle.flow_design.specs.declared.design.Module.{Module}
+use Rattle.flow_design.specs.declared.plan.Plan.{Plan}
+use Rattle.flow_design.specs.Module.{no_block, no_operation, block_at, interval, interval_of}
+use Rattle.flow_design.specs.Operations.{End, end_of, used_end}
+use Rattle.flow_design.specs.Plans.{kind_at}
+use Rattle.flow_design.specs.StaticRules.{same_end, is_end, uses, users_wanted, Clashes, IsKindSound, IsTimedSound, IsBlockSound, IsModuleSound, FitsEngine}
+use Rattle.lockstep_defs.specs.Lockstep.{no_module, module_at}
+use Rattle.lockstep_defs.specs.Ends.{takes, owner}
+use Rattle.lockstep_defs.proofs.Due.{AreApart}
+use Rattle.lockstep_defs.proofs.Once.{KeepsEnds}
+
+-- ---- one module at each end
+
+some_pass : {X : Type 0} (f : X → Bool) (xs : List X) (i : ℕ) (d : X) → i < length xs → f (get_or xs i d) ≡ true → 1 ≤ length (filter f xs)
+some_pass f [] i d l h = absurd (omega arith)
+some_pass f (x ∷ xs) zero d l h = rw h (omega arith)
+some_pass f (x ∷ xs) (suc i) d l h = by_head (f x) (some_pass f xs i d (omega arith) h)
+  where
+    by_head : (b : Bool) → 1 ≤ length (filter f xs) → 1 ≤ length (cond b (x ∷ filter f xs) (filter f xs))
+    by_head true m = omega arith
+    by_head false m = m
+
+-- where at most one element passes the test, it is the first that does
+only_one : {X : Type 0} (f : X → Bool) (xs : List X) (i : ℕ) (d : X) → i < length xs → f (get_or xs i d) ≡ true → length (filter f xs) ≤ 1
+    → position_or_len f xs ≡ i
+only_one f [] i d l h one = absurd (omega arith)
+only_one f (x ∷ xs) zero d l h one = rw h
+only_one f (x ∷ xs) (suc i) d l h one =
+    by_test (f x) refl one (some_pass f xs i d (omega arith) h) (λ fewer. only_one f xs i d (omega arith) h fewer)
+  where
+    by_test : (b : Bool) → f x ≡ b → length (cond b (x ∷ filter f xs) (filter f xs)) ≤ 1 → 1 ≤ length (filter f xs)
+        → (length (filter f xs) ≤ 1 → position_or_len f xs ≡ i) → position_or_len f (x ∷ xs) ≡ suc i
+    by_test true e one more rest = absurd (omega arith)
+    by_test false e one more rest = rw (e, rest one) (omega arith)
+
+-- an operation that pops or pushes at an end stands there
+same_end-sound : (e g : End) → same_end e g ≡ true → g ≡ e
+same_end-sound (true, f) (true, g) h = ap (λ (n : ℕ). (true, n)) (sym (eqb-true f g h))
+same_end-sound (false, f) (false, g) h = ap (λ (n : ℕ). (false, n)) (sym (eqb-true f g h))
+same_end-sound (true, f) (false, g) h = cc
+same_end-sound (false, f) (true, g) h = cc
+
+is_end-sound : (e : End) (o : Option End) → is_end e o ≡ true → o ≡ Some e
+is_end-sound e None h = cc
+is_end-sound e (Some g) h = ap Some (same_end-sound e g h)
+
+used_stands : (op : Op ℕ) (e : End) → used_end op ≡ Some e → end_of op ≡ Some e
+used_stands (Set x a) e h = cc
+used_stands (Load x n a) e h = cc
+used_stands (Store n a b) e h = cc
+used_stands (Read f x) e h = h
+used_stands (Write f a) e h = h
+used_stands (TryRead f x ok) e h = h
+used_stands (TryWrite f ok a) e h = h
+used_stands (Empty f x) e h = cc
+used_stands (Full f x) e h = cc
+
+-- an end that a module uses is one of a channel of the plan
+channel_used : (n : ℕ) (m : Module) (e : End) → All (IsBlockSound n m) m.blocks → uses e m ≡ true → e.1 < n
+channel_used n m e sound h = in_block (Any-from_list_any _ m.blocks h)
+  where
+    in_operation : (b : Block) → IsBlockSound n m b → Any (λ t. is_end e (used_end t.op) ≡ true) b.ops → e.1 < n
+    in_operation b s (k, t, l, at_k, used) =
+        let here : IsTimedSound n m b t = subst (λ (u : Timed). IsTimedSound n m b u) at_k (s.operations k t l) in
+        by_end (end_of t.op) (used_stands t.op e (is_end-sound e (used_end t.op) used)) here.operation.channel
+      where
+        by_end : (o : Option End) → o ≡ Some e → IfSome o (λ g. g.1 < n) → e.1 < n
+        by_end o same s = subst (λ (o : Option End). IfSome o (λ g. g.1 < n)) same s
+
+    in_block : Any (λ b. list_any (λ t. is_end e (used_end t.op)) b.ops ≡ true) m.blocks → e.1 < n
+    in_block (k, b, l, at_k, used) =
+        in_operation b (subst (λ (c : Block). IsBlockSound n m c) at_k (sound k b l)) (Any-from_list_any _ b.ops used)
+
+wanted_once : (k : ChannelKind) (side : Bool) → users_wanted k side ≤ 1
+wanted_once Source true = omega arith
+wanted_once Source false = omega arith
+wanted_once Sink true = omega arith
+wanted_once Sink false = omega arith
+wanted_once (Fifo d) side = omega arith
+
+used_once : (p : Plan) → FitsEngine p → (e : End) → e.1 < length p.design.channels → length (filter (uses e) p.design.modules) ≤ 1
+used_once p h (true, f) l =
+    omega (arith, length-filter (uses (true, f)) p.design.modules, (h.channels f l).popping, wanted_once (kind_at p f) true)
+used_once p h (false, f) l =
+    omega (arith, length-filter (uses (false, f)) p.design.modules, (h.channels f l).pushing, wanted_once (kind_at p f) false)
+
+-- ---- sound modules and blocks
+
+-- a number names a sound module, or none
+pub sound_module : (p : Plan) → FitsEngine p → (i : ℕ)
+    → ((i < length p.design.modules) × IsModuleSound (length p.design.channels) (module_at p i)) ⊎ (module_at p i ≡ no_module)
+sound_module p h i = by_range (nat_lt i (length p.design.modules)) refl
+  where
+    by_range : (b : Bool) → nat_lt i (length p.design.modules) ≡ b
+        → ((i < length p.design.modules) × IsModuleSound (length p.design.channels) (module_at p i)) ⊎ (module_at p i ≡ no_module)
+    by_range true e = let l = ltb-true _ _ e in inl (l, h.modules i no_module l)
+    by_range false e = inr (get_or_past p.design.modules i no_module (ltb-false _ _ e))
+
+-- a number names a sound block, or none
+pub sound_block : (p : Plan) → FitsEngine p → (i b : ℕ)
+    → IsBlockSound (length p.design.channels) (module_at p i) (block_at (module_at p i) b) ⊎ (block_at (module_at p i) b ≡ no_block)
+sound_block p h i b = by_module (sound_module p h i)
+  where
+    by_range : IsModuleSound (length p.design.channels) (module_at p i) → (t : Bool) → nat_lt b (length (module_at p i).blocks) ≡ t
+        → IsBlockSound (length p.design.channels) (module_at p i) (block_at (module_at p i) b) ⊎ (block_at (module_at p i) b ≡ no_block)
+    by_range s true e = inl (s.blocks b no_block (ltb-true _ _ e))
+    by_range s false e = inr (get_or_past (module_at p i).blocks b no_block (ltb-false _ _ e))
+
+    by_module : ((i < length p.design.modules) × IsModuleSound (length p.design.channels) (module_at p i)) ⊎ (module_at p i ≡ no_module)
+        → IsBlockSound (length p.design.channels) (module_at p i) (block_at (module_at p i) b) ⊎ (block_at (module_at p i) b ≡ no_block)
+    by_module (inl s) = by_range s.1 _ refl
+    by_module (inr none) = inr (ap (λ (m : Module). block_at m b) none)
+
+some_interval : (registers len : ℕ) (k : BlockKind) → 1 ≤ len → IsKindSound registers len k → 0 < interval_of k len
+some_interval registers len Plain l s = l
+some_interval registers len (Loop ii again) l s = s.interval
+
+-- ---- pops and pushes that are apart
+
+apart_from : (e : End) (ii : ℕ) (t : Timed) (ts : List Timed) → takes e t.op ≡ true → ((k : ℕ) → k < length ts → ¬ Clashes ii t (get_or ts k no_operation))
+    → AllByRecursion (λ u. (takes e u.op ≡ true) → t.offset % ii ≢ u.offset % ii) ts
+apart_from e ii t [] used h = tt
+apart_from e ii t (u ∷ us) used h = (
+  λ also same. h 0 (omega arith) (record {
+    end = e;
+    first = is_end-sound e (used_end t.op) used;
+    second = is_end-sound e (used_end u.op) also;
+    offsets = same;
+  }),
+  apart_from e ii t us used (λ k l. h (suc k) (omega arith)),
+)
+
+are_apart : (e : End) (ii : ℕ) (ts : List Timed) → ((j k : ℕ) → j < k → k < length ts → ¬ Clashes ii (get_or ts j no_operation) (get_or ts k no_operation))
+    → AreApart (takes e) ii ts
+are_apart e ii [] h = tt
+are_apart e ii (t ∷ ts) h = (
+  λ used. apart_from e ii t ts used (λ k l. h 0 (suc k) (omega arith) (omega arith)),
+  are_apart e ii ts (λ j k l m. h (suc j) (suc k) (omega arith) (omega arith)),
+)
+
+-- ---- the rules
+
+owned_by : (p : Plan) → FitsEngine p → (e : End) (i : ℕ) → uses e (module_at p i) ≡ true → owner p e ≡ i
+unfolding owner
+owned_by p h e i used = by_module (sound_module p h i)
+  where
+    by_module : ((i < length p.design.modules) × IsModuleSound (length p.design.channels) (module_at p i)) ⊎ (module_at p i ≡ no_module)
+        → position_or_len (uses e) p.design.modules ≡ i
+    by_module (inl s) =
+        only_one (uses e) p.design.modules i no_module s.0 used
+        (used_once p h e (channel_used (length p.design.channels) (module_at p i) e (s.1).blocks used))
+    by_module (inr none) = let unused : uses e no_module ≡ true = subst (λ (m : Module). uses e m ≡ true) none used in cc
+
+apart_in : (p : Plan) → FitsEngine p → (e : End) (i b : ℕ)
+    → AreApart (takes e) (interval (block_at (module_at p i) b)) (block_at (module_at p i) b).ops
+apart_in p h e i b = by_block (sound_block p h i b)
+  where
+    by_block : IsBlockSound (length p.design.channels) (module_at p i) (block_at (module_at p i) b) ⊎ (block_at (module_at p i) b ≡ no_block)
+        → AreApart (takes e) (interval (block_at (module_at p i) b)) (block_at (module_at p i) b).ops
+    by_block (inl s) = are_apart e _ (block_at (module_at p i) b).ops (λ j k l m. s.apart j k no_operation l m)
+    by_block (inr none) = subst (λ (c : Block). AreApart (takes e) (interval c) c.ops) (sym none) tt
+
+intervals_in : (p : Plan) → FitsEngine p → (i b : ℕ) → ((block_at (module_at p i) b).ops ≡ []) ⊎ (0 < interval (block_at (module_at p i) b))
+intervals_in p h i b = by_block (sound_block p h i b)
+  where
+    by_block : IsBlockSound (length p.design.channels) (module_at p i) (block_at (module_at p i) b) ⊎ (block_at (module_at p i) b ≡ no_block)
+        → ((block_at (module_at p i) b).ops ≡ []) ⊎ (0 < interval (block_at (module_at p i) b))
+    by_block (inl s) = inr (some_interval _ _ (block_at (module_at p i) b).kind s.least s.kind)
+    by_block (inr none) = inl (ap (λ (c : Block). c.ops) none)
+
+-- each plan that the engine takes keeps the rules
+pub keeps_ends : (p : Plan) → FitsEngine p → KeepsEnds p
+keeps_ends p h = record { owned = owned_by p h; apart = apart_in p h; intervals = intervals_in p h }

@@ -1,0 +1,76 @@
+-- The laws of the lockstep machine.
+use Rattle.std.specs.Prelude.{ℕ, zero, suc, if◌then◌else◌, ◌≡◌, ◌+◌, ◌*◌, ◌-◌, ◌<◌, ◌≤◌, Bool, true, false, IsTrue, IsFalse, List, ◌++◌, map, length, slice_index_or}
+use Rattle.flow_design.specs.declared.design.Block.{Block}
+use Rattle.flow_design.specs.declared.plan.Plan.{Plan}
+use Rattle.flow_design.specs.declared.state.Control.{Control}
+use Rattle.flow_design.specs.declared.state.Reply.{Reply}
+use Rattle.flow_design.specs.declared.state.ModuleState.{ModuleState}
+use Rattle.flow_design.specs.Module.{interval, live_count, ages}
+use Rattle.lockstep_defs.specs.Channels.{HistoryStep, Exchange, moved, contents_of}
+use Rattle.lockstep_defs.specs.Lockstep.{moves, state, history, state_at, steps_in}
+use Rattle.lockstep_defs.specs.Verdict.{is_settled}
+use Rattle.lockstep_defs.specs.Report.{steps_of}
+use Rattle.lockstep_defs.specs.OwnRun.{OwnStep, Own, own, paired}
+use Rattle.lockstep_defs.specs.Quiet.{rests, skip, quiet}
+
+-- from a settled clock on nothing changes and nothing is done
+abbrev pub SettledStays : Plan → ℕ → Type 0
+SettledStays p c = IsTrue (is_settled p c (state p c)) → (n : ℕ) → (state p (n + c) ≡ state p c) × (history p (n + c) ≡ history p c)
+
+-- no clock before this one is settled
+abbrev pub NoneBefore : Plan → ℕ → Type 0
+NoneBefore p c = (b : ℕ) → b < c → IsFalse (is_settled p b (state p b))
+
+-- in each clock at most one element is popped off a channel, and at most one is pushed on it
+abbrev pub MovesOnce : Plan → ℕ → Type 0
+MovesOnce p c = (side : Bool) (f : ℕ) → length (moved side f (steps_in p c (state p c))) ≤ 1
+
+-- what a channel held at clock 0, and then all that was pushed on it before clock c
+abbrev pub all_in : Plan → ℕ → ℕ → List ℕ
+all_in p c f = contents_of (state p 0).contents f ++ moved false f (history p c)
+
+-- what went in is what was popped, and then what the channel holds
+abbrev pub IsConserved : Plan → ℕ → ℕ → Type 0
+IsConserved p c f = all_in p c f ≡ moved true f (history p c) ++ contents_of (state p c).contents f
+
+-- the n-th pop gives the n-th value that went in
+abbrev pub PopsInOrder : Plan → ℕ → ℕ → Type 0
+PopsInOrder p c f = (n d : ℕ) → n < length (moved true f (history p c))
+    → slice_index_or (moved true f (history p c)) n d ≡ slice_index_or (all_in p c f) n d
+
+-- the replies to the steps of a module
+abbrev pub replies_in : List HistoryStep → List (List Reply)
+replies_in steps = map (λ s. map (λ x. x.reply) s.exchanges) steps
+
+-- the steps of an own run as what was done
+abbrev pub exchanges_in : List OwnStep → List (List Exchange)
+exchanges_in steps = map (λ s. paired s.requests s.replies) steps
+
+-- how many local clocks module i has made before clock c
+unfoldable pub clocks_made : Plan → ℕ → ℕ → ℕ
+clocks_made p i zero = 0
+clocks_made p i (suc c) = if moves p c (state p c).contents (i, state_at p c i) then suc (clocks_made p i c) else clocks_made p i c
+
+-- module i's own run on the replies of the history before clock c, after as many local clocks as the module has made
+abbrev pub own_at : Plan → ℕ → ℕ → Own
+own_at p i c = own p i (replies_in (steps_of i (history p c))) (clocks_made p i c)
+
+-- it has come to the module's state at clock c, and its steps are the module's steps in the history
+pub record IsOwnRun (p : Plan) (i c : ℕ) : Type 0 where
+  pub state_is : (own_at p i c).state ≡ state_at p c i
+  pub steps_are : exchanges_in (own_at p i c).steps ≡ map (λ s. s.exchanges) (steps_of i (history p c))
+
+-- the iteration that started j intervals before the newest one started at local clock 0 or later, and is younger than LEN
+pub record IsLive (b : Block) (k : Control) (j : ℕ) : Type 0 where
+  pub has_started : j * interval b ≤ k.newest
+  pub is_young : (k.clock - k.newest) + j * interval b < b.len
+
+-- the ages of the live iterations, the oldest first: that of the newest, and so many intervals more
+pub record AreAges (b : Block) (k : Control) : Type 0 where
+  pub count : length (ages b k) ≡ live_count b k
+  pub each : (n d : ℕ) → n < live_count b k → slice_index_or (ages b k) n d ≡ (k.clock - k.newest) + (live_count b k - 1 - n) * interval b
+
+-- after its quiet clocks the own run of module i rests, and not before
+pub record QuietClocksEnd (p : Plan) (i : ℕ) (s : ModuleState) : Type 0 where
+  pub goes_before : (n : ℕ) → n < quiet p i s → IsFalse (rests p i (skip p i n s))
+  pub rests_then : IsTrue (rests p i (skip p i (quiet p i s) s))

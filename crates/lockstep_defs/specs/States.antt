@@ -1,0 +1,35 @@
+-- What holds of each state that a module comes to.
+use Rattle.std.specs.Prelude.{ℕ, ◌≡◌, ◌+◌, ◌<◌, ◌≤◌, Bool, IsTrue, IsFalse, List, length, map, slice_index}
+use Rattle.flow_design.specs.declared.design.Block.{Block}
+use Rattle.flow_design.specs.declared.design.Module.{Module}
+use Rattle.flow_design.specs.declared.state.Control.{Control}
+use Rattle.flow_design.specs.declared.state.ModuleState.{ModuleState}
+use Rattle.flow_design.specs.Module.{block_of, is_loop, interval, live_count, temps_of}
+use Rattle.lockstep_defs.specs.Machine.{memory_of}
+use Rattle.lockstep_defs.specs.Quiet.{goes_on}
+
+-- the module's registers and memories, and for each of so many iterations the block's temps
+pub record HasPlaces (m : Module) (b : Block) (iterations : ℕ) (s : ModuleState) : Type 0 where
+  pub registers : length s.registers ≡ length m.registers
+  pub memories : length s.memories ≡ length m.memories
+  pub words : (n : ℕ) → length (memory_of s n) ≡ slice_index (map (λ memory. memory.len) m.memories) n
+  pub temps : length s.temps ≡ iterations
+  pub each_temps : (i : ℕ) → i < iterations → length (temps_of s i) ≡ length b.temps
+
+-- the control stands in the block
+pub record IsWithin (b : Block) (k : Control) : Type 0 where
+  -- the newest iteration has started
+  pub has_started : k.newest ≤ k.clock
+  -- only a loop goes on
+  pub is_loop_going : IsTrue k.looping → IsTrue (is_loop b.kind)
+  -- and its newest iteration is younger than II
+  pub goes : IsTrue (goes_on k (interval b))
+
+-- a state of a module
+pub record IsStateOf (m : Module) (s : ModuleState) : Type 0 where
+  pub block : s.control.block < length m.blocks
+  -- the temps are those of the live iterations
+  pub places : HasPlaces m (block_of m s) (live_count (block_of m s) s.control) s
+  pub control : IsWithin (block_of m s) s.control
+  -- the block is not over, unless the module is ended
+  pub young : IsFalse s.ended → s.control.clock < s.control.newest + (block_of m s).len

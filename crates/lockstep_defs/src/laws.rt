@@ -1,0 +1,51 @@
+//! The laws of the lockstep machine.
+ghost use Rattle.std.specs.Prelude.{ℕ, ◌≡◌, ◌+◌, ◌<◌, ◌≤◌, ◌↔◌, length, true, IsTrue};
+ghost use Rattle.flow_design.specs.declared.design.Block.{Block};
+ghost use Rattle.flow_design.specs.declared.plan.Plan.{Plan};
+ghost use Rattle.flow_design.specs.declared.report.Verdict.TheVariants.{Cycles};
+ghost use Rattle.flow_design.specs.declared.state.Control.{Control};
+ghost use Rattle.flow_design.specs.declared.state.ModuleState.{ModuleState};
+ghost use Rattle.flow_design.specs.declared.state.Reply.{Reply};
+ghost use Rattle.std.specs.Prelude.{List as Items};
+ghost use Rattle.flow_design.specs.Module.{interval, live_count};
+ghost use Rattle.flow_design.specs.StaticRules.{FitsEngine};
+ghost use Rattle.lockstep_defs.specs.Machine.{opened, move};
+ghost use Rattle.lockstep_defs.specs.Lockstep.{module_at, state};
+ghost use Rattle.lockstep_defs.specs.Verdict.{is_settled, settled_verdict, verdict};
+ghost use Rattle.lockstep_defs.specs.Quiet.{fits};
+ghost use Rattle.lockstep_defs.specs.Laws.{SettledStays, NoneBefore, MovesOnce, IsConserved, PopsInOrder, IsOwnRun, IsLive, AreAges, QuietClocksEnd};
+
+/// From a settled clock on nothing changes and nothing is done, and the verdict is that of the first settled clock.
+pub fn settled_clocks()
+    ensures stays { (p : Plan) (c : ℕ) → SettledStays p c }
+    ensures first { (p : Plan) (c : ℕ) → c ≤ p.cycles → NoneBefore p c → IsTrue (is_settled p c (state p c))
+        → verdict p ≡ settled_verdict p c (state p c) }
+    ensures none { (p : Plan) → NoneBefore p (p.cycles + 1) → verdict p ≡ Cycles p.cycles }
+{}
+
+/// Each channel of a plan that the engine takes is a queue.
+pub fn channels_are_queues()
+    ensures once { (p : Plan) → FitsEngine p → (c : ℕ) → MovesOnce p c }
+    ensures conserved { (p : Plan) → FitsEngine p → (c f : ℕ) → f < length p.design.channels → IsConserved p c f }
+    ensures in_order { (p : Plan) → FitsEngine p → (c f : ℕ) → f < length p.design.channels → PopsInOrder p c f }
+{}
+
+/// What a module does in the history is its own run on the history's replies.
+pub fn histories_are_own_runs()
+    ensures { (p : Plan) (i c : ℕ) → i < length p.design.modules → IsOwnRun p i c }
+{}
+
+/// The live iterations of a block whose interval is at least 1 started at the newest one's start and at each interval before it,
+/// from local clock 0 on, as far as they are younger than the block's length.
+pub fn live_iterations()
+    ensures live { (b : Block) (k : Control) (j : ℕ) → 0 < interval b → (j < live_count b k) ↔ IsLive b k j }
+    ensures ages { (b : Block) (k : Control) → AreAges b k }
+{}
+
+/// From each state that a module comes to its quiet clocks end.
+pub fn quiet_clocks_end()
+    ensures opened { (p : Plan) → FitsEngine p → (i : ℕ) → IsTrue (fits p i (opened (module_at p i))) }
+    ensures moved { (p : Plan) → FitsEngine p → (i : ℕ) (s : ModuleState) (replies : Items Reply)
+        → IsTrue (fits p i s) → IsTrue (fits p i (move (module_at p i) s replies)) }
+    ensures end { (p : Plan) → FitsEngine p → (i : ℕ) (s : ModuleState) → IsTrue (fits p i s) → QuietClocksEnd p i s }
+{}

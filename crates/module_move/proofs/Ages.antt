@@ -37,9 +37,9 @@ older_age b k n live below =
 pub guards_sound : (channels : ℕ) (m : Module) (s : ModuleState) (place : ℕ) → IsModuleSound channels m → IsStateSound m s → place < length s.temps
     → AreGuardsSound (length s.registers + length (temps_of s place)) (block_of m s).ops
 guards_sound channels m s place h sound there =
-    let block = block_sound channels m s.control.block h sound.block in
-    let temps : length (temps_of s place) ≡ length (block_of m s).temps = sound.temps place [] there in
-    λ i d within. rw (sound.registers, temps) (block.operations i d within).guard
+    let block = block_sound channels m s.control.block h sound.state.block in
+    let temps : length (temps_of s place) ≡ length (block_of m s).temps = sound.state.places.each_temps place (rw sound.state.places.temps at there) in
+    λ i d within. rw (sound.state.places.registers, temps) (block.operations i d within).guard
 
 -- ---- one iteration after another
 

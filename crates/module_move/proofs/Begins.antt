@@ -15,7 +15,7 @@ use Rattle.flow_design.specs.declared.state.ModuleState.{ModuleState}
 use Rattle.flow_design.specs.Module.{no_block, block_at, block_of, interval, interval_of, is_loop, live_count}
 use Rattle.flow_design.specs.StaticRules.{IsModuleSound, IsBlockSound, IsKindSound}
 use Rattle.lockstep_defs.specs.Machine.{entered, opened}
-use Rattle.module_move.specs.Sound.{IsStateSound, IsControlSound}
+
 
 interval_from : (registers len : ℕ) (kind : BlockKind) → IsKindSound registers len kind → 1 ≤ len → 1 ≤ interval_of kind len
 interval_from registers len Plain h some = some
@@ -40,43 +40,6 @@ few_live len interval age some span live =
     let below : len - 1 - age < 64 * interval = omega arith in
     let first : 0 < interval = omega arith in
     (div-lt_iff_lt-mul first).1 below
-
--- one iteration is live at the beginning
-one_live : (b : Block) (n : ℕ) (looping : Bool) → 1 ≤ b.len → 1 ≤ interval b → 1 ≡ live_count b (record { block = n; clock = 0; newest = 0; looping = looping })
-one_live b n looping some interval_is =
-    let first : 0 < interval b = omega arith in
-    let none : 0 / interval b ≡ 0 = div-eq_of_lt first in
-    let live : 0 - 0 < b.len = omega arith in
-    let count = live_count_is b (record { block = n; clock = 0; newest = 0; looping = looping }) live in
-    let least : min (0 / interval b) ((b.len - 1 - (0 - 0)) / interval b) ≡ 0 = rw none (omega arith) in
-    sym (count ∙ ap (λ (x : ℕ). 1 + x) least)
-
-only_one : (size : ℕ) (temps : List ℕ) → length temps ≡ size → All (λ (t : List ℕ). length t ≡ size) (temps ∷ [])
-only_one size temps e k d h = let first : k ≡ 0 = omega arith in rw first e
-
-pub entered_sound : (channels : ℕ) (m : Module) (n : ℕ) (s : ModuleState) → IsModuleSound channels m → n < length m.blocks
-    → length s.registers ≡ length m.registers → map length s.memories ≡ map (λ memory. memory.len) m.memories → IsStateSound m (entered m n s)
-unfolding entered
-entered_sound channels m n s h there registers memories =
-    let b = block_sound channels m n h there in
-    let some = interval_some channels m (block_at m n) b in
-    let least : 1 ≤ (block_at m n).len = b.least in
-    record {
-      registers = registers;
-      memories = memories;
-      block = there;
-      control = record { started = omega arith; live = omega arith; decides = λ _. omega arith; loops = λ e. e };
-      live = one_live (block_at m n) n (is_loop (block_at m n).kind) least some;
-      temps = only_one (length (block_at m n).temps) (replicate (length (block_at m n).temps) 0) (length-replicate _ 0);
-    }
-
-zero_lengths : (memories : List Memory) → map (length {A = ℕ}) (map (λ (memory : Memory). replicate memory.len 0) memories) ≡ map (λ (memory : Memory). memory.len) memories
-zero_lengths [] = refl
-zero_lengths (memory ∷ more) = let rest = zero_lengths more in rw (length-replicate {A = ℕ} memory.len 0, rest) refl
-
-pub opened_sound : (channels : ℕ) (m : Module) → IsModuleSound channels m → IsStateSound m (opened m)
-unfolding opened
-opened_sound channels m h = entered_sound channels m 0 _ h (omega (arith, h.some)) (length-replicate (length m.registers) 0) (zero_lengths m.memories)
 
 pub opened_clock : (m : Module) → (opened m).control.clock ≡ 0
 unfolding opened entered

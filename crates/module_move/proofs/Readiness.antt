@@ -61,10 +61,10 @@ due_sound m s sound =
     each : All (λ (it : ℕ × ℕ). All (IsDueSound m s) (due_in (block_of m s) s it)) (enumerate_from 0 (ages (block_of m s) s.control))
     each k d within =
         let count : length (enumerate_from 0 (ages_down (interval (block_of m s)) (s.control.clock - s.control.newest) (live_count (block_of m s) s.control))) ≡ length s.temps =
-            length-enumerate_from 0 _ ∙ (length-ages_down _ _ (live_count (block_of m s) s.control) ∙ sym sound.live) in
+            length-enumerate_from 0 _ ∙ (length-ages_down _ _ (live_count (block_of m s) s.control) ∙ sym sound.state.places.temps) in
         let inside : k < length s.temps = rw count at within in
         let listed : k < length (ages_down (interval (block_of m s)) (s.control.clock - s.control.newest) (live_count (block_of m s) s.control)) =
-            rw (length-ages_down _ _ (live_count (block_of m s) s.control), ← sound.live) inside in
+            rw (length-ages_down _ _ (live_count (block_of m s) s.control), ← sound.state.places.temps) inside in
         rw (get_or-enumerate_from 0 _ k d listed, zero-add)
             (λ j e below. let found = due_in_sound (block_of m s) s k _ j e below in record { iteration = rw found.0 inside; op = found.1 })
 
@@ -73,14 +73,12 @@ due_sound m s sound =
 abbrev no_memory : Memory
 no_memory = record { width = 1; len = 0 }
 
-memory_some : (m : Module) (s : ModuleState) (n : ℕ) → map length s.memories ≡ map (λ memory. memory.len) m.memories → All IsMemorySound m.memories
+memory_some : (m : Module) (s : ModuleState) (n : ℕ) → length (memory_of s n) ≡ get_or (map (λ (memory : Memory). memory.len) m.memories) n 0 → All IsMemorySound m.memories
     → n < length m.memories → 0 < length (memory_of s n)
-memory_some m s n same words there =
-    let held : n < length s.memories = rw (← length-map s.memories (length {A = ℕ}), same, length-map) there in
-    let size : length (memory_of s n) ≡ get_or (map length s.memories) n 0 = sym (get_or-map (length {A = ℕ}) s.memories n [] 0 held) in
+memory_some m s n size words there =
     let len : get_or (map (λ (memory : Memory). memory.len) m.memories) n 0 ≡ (get_or m.memories n no_memory).len = get_or-map (λ (memory : Memory). memory.len) m.memories n no_memory 0 there in
     let some : 1 ≤ (get_or m.memories n no_memory).len = (words n no_memory there).least in
-    rw (size, same, len) (omega (arith, some))
+    rw (size, len) some
 
 ready_by : (channels : ℕ) (m : Module) (s : ModuleState) (i temps : ℕ) (op : Op ℕ) → IsOperationSound channels m temps op
     → length s.registers ≡ length m.registers → length (temps_of s i) ≡ temps
@@ -99,10 +97,10 @@ ready_by channels m s i temps (Full f x) h registers same words = tt
 pub op_ready : (channels : ℕ) (m : Module) (s : ModuleState) (d : Due) → IsModuleSound channels m → IsStateSound m s → IsDueSound m s d
     → IsReady channels s d.iteration (operation_at (block_of m s) d.op).op
 op_ready channels m s d h sound there =
-    let block = block_sound channels m s.control.block h sound.block in
+    let block = block_sound channels m s.control.block h sound.state.block in
     let timed : IsTimedSound channels m (block_of m s) (operation_at (block_of m s) d.op) = block.operations d.op no_operation there.op in
-    ready_by channels m s d.iteration (length (block_of m s).temps) _ timed.operation sound.registers (sound.temps d.iteration [] there.iteration)
-        (λ n inside. memory_some m s n sound.memories h.words inside)
+    ready_by channels m s d.iteration (length (block_of m s).temps) _ timed.operation sound.state.places.registers (sound.state.places.each_temps d.iteration (rw sound.state.places.temps at there.iteration))
+        (λ n inside. memory_some m s n (sound.state.places.words n) h.words inside)
 
 -- ---- how many operations are due
 
@@ -129,9 +127,9 @@ pub few_due : (channels : ℕ) (m : Module) (s : ModuleState) → IsModuleSound 
 unfolding due ages
 few_due channels m s h sound =
     let b = block_of m s in
-    let block = block_sound channels m s.control.block h sound.block in
+    let block = block_sound channels m s.control.block h sound.state.block in
     let age = s.control.clock - s.control.newest in
-    let live : age < b.len = omega (arith, sound.control.started, sound.control.live) in
+    let live : age < b.len = omega (arith, sound.state.control.has_started, sound.state.young sound.running) in
     let quotient = few_live b.len (interval b) age (interval_some channels m b block) (span channels m b block) live in
     let count : live_count b s.control ≤ 64 = omega (arith, live_count_is b s.control live, quotient) in
     let listed : length (enumerate_from 0 (ages_down (interval b) age (live_count b s.control))) ≡ live_count b s.control = length-enumerate_from 0 _ ∙ length-ages_down _ _ (live_count b s.control) in

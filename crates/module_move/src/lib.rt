@@ -2,6 +2,7 @@
 #![tactic(auto)]
 
 mod asking;
+mod effects;
 mod moves;
 mod opening;
 mod pending;

@@ -1,16 +1,19 @@
 //! One move of a module.
-ghost use Rattle.std.specs.Prelude.{◌≡◌, ℕ, ◌+◌, ◌<◌, ◌≤◌, ◌^◌, false, length, OnOk};
+ghost use Rattle.std.specs.Prelude.{◌≡◌, ℕ, ◌+◌, ◌<◌, ◌≤◌, ◌^◌, length, OnOk};
 ghost use Rattle.flow_design.specs.StaticRules.{IsModuleSound};
 ghost use Rattle.flow_design.specs.Module.{due};
 ghost use Rattle.lockstep_defs.specs.Machine.{move};
 ghost use Rattle.module_move.specs.Sound.{IsStateSound, IsRunnable};
 
+
+
+use crate::effects::add_effects;
 use flow_design::{Due, Effect, Module, ModuleState, Reply};
 use flow_word::{List, OutOfMemory};
 use std::alloc::Global;
 
-/// One local clock: the operations that are due, `pending`, commit together on the replies, the clock goes up, and the loop and the block may
-/// go on or end. `effects` is room for what the operations write; what it held before is gone.
+/// One local clock: the operations that are due, `pending`, commit together on the replies, the clock goes up, and the
+/// loop and the block may go on or end. `effects` is room for what the operations write; what it held before is gone.
 ///
 /// After want of memory the state may be anything.
 pub fn make_move(
@@ -23,7 +26,6 @@ pub fn make_move(
 ) -> Result<(), OutOfMemory>
     requires module { (channels : ℕ) × IsModuleSound channels of.now }
     requires sound { IsStateSound of.now state.old }
-    requires running { state.old.ended ≡ false }
     requires pending { pending.now ≡ due of.now state.old }
     requires small { state.old.control.clock < 2 ^ 60 }
     requires few { state.old.count < 2 ^ 60 }
@@ -32,6 +34,10 @@ pub fn make_move(
     ensures clock { OnOk result (state.new.control.clock ≤ state.old.control.clock + 1) }
     ensures count { OnOk result (state.new.count ≤ state.old.count + length pending.now + 1) }
 {
+    effects.truncate(0);
+    add_effects(of, state, pending, replies, effects)?;
+
+    state.count += pending.len() as u64;
     let _ = alloc;
-    Err(OutOfMemory)
+    Ok(())
 }

@@ -3,7 +3,7 @@ ghost use Rattle.std.specs.Prelude.{◌≡◌, ℕ, ◌<◌, ◌^◌, IfOk, OnOk
 ghost use Rattle.flow_design.specs.StaticRules.{IsModuleSound};
 ghost use Rattle.flow_design.specs.Module.{is_loop};
 ghost use Rattle.lockstep_defs.specs.Machine.{opened, entered};
-ghost use Rattle.module_move.specs.Sound.{IsStateSound};
+ghost use Rattle.lockstep_defs.specs.States.{IsStateOf};
 
 use flow_design::{BlockKind, Control, Memory, Module, ModuleState};
 use flow_word::{List, OutOfMemory, Words};
@@ -13,7 +13,7 @@ use std::alloc::Global;
 pub fn open(alloc: Global, of: &Module) -> Result<ModuleState, OutOfMemory>
     requires { (channels : ℕ) × IsModuleSound channels of.now }
     ensures state { IfOk result (λ state. state ≡ opened of.now) }
-    ensures sound { IfOk result (λ state. IsStateSound of.now state) }
+    ensures sound { IfOk result (λ state. IsStateOf of.now state) }
     ensures clock { IfOk result (λ state. state.control.clock ≡ 0) }
     ensures count { IfOk result (λ state. state.count ≡ 1) }
 {

@@ -26,7 +26,7 @@ stored_keeps : (m : Module) (b : Block) (s : ModuleState) (e : Effect) → Keeps
 stored_keeps m b s (Variable i x v) = cond_both (nat_lt x (length m.registers)) _ _ (Keeps s) (λ e. (refl, refl, refl)) (λ e. (refl, refl, refl))
 stored_keeps m b s (Word n a v) = (refl, refl, refl)
 
-all_keep : (m : Module) (b : Block) (s : ModuleState) (es : List Effect) → Keeps s (fold (stored m b) s es)
+pub all_keep : (m : Module) (b : Block) (s : ModuleState) (es : List Effect) → Keeps s (fold (stored m b) s es)
 all_keep m b s [] = (refl, refl, refl)
 all_keep m b s (e ∷ es) =
     let here = stored_keeps m b s e in

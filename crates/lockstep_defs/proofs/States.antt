@@ -84,7 +84,7 @@ length-set_within (xs ∷ xss) zero (suc n) a v = refl
 length-set_within (xs ∷ xss) (suc k) zero a v = refl
 length-set_within (xs ∷ xss) (suc k) (suc n) a v = length-set_within xss k n a v
 
-stored_places : (m : Module) (b : Block) (n : ℕ) (s : ModuleState) (e : Effect) → HasPlaces m b n s → HasPlaces m b n (stored m b s e)
+pub stored_places : (m : Module) (b : Block) (n : ℕ) (s : ModuleState) (e : Effect) → HasPlaces m b n s → HasPlaces m b n (stored m b s e)
 stored_places m b n s (Variable i x v) h = cond_both (nat_lt x (length m.registers)) _ _ (HasPlaces m b n)
     (λ e. record {
       registers = length-set s.registers x _ ∙ h.registers;

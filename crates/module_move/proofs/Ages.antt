@@ -1,19 +1,18 @@
 -- The live iterations, from the oldest on.
-use Rattle.std.proofs.Common.{◌≡◌, refl, sym, ◌∙◌, ap, subst, arith, ℕ, suc, ◌+◌, ◌-◌, ◌*◌, ◌/◌, ◌<◌, ◌≤◌, min, List, [], ◌∷◌, ◌++◌, length, append_assoc, IfSome}
+use Rattle.std.proofs.Common.{◌≡◌, refl, ap, arith, ℕ, suc, ◌+◌, ◌-◌, ◌*◌, ◌/◌, ◌<◌, ◌≤◌, List, ◌∷◌, ◌++◌, length, append_assoc}
 use Rattle.std.proofs.Math.Nat.{div-mul-le_self, mul-le-mul_right}
-use Rattle.std.specs.List.{All, flat_map, enumerate_from}
+use Rattle.std.specs.List.{flat_map, enumerate_from}
 use Rattle.flow_design.specs.declared.design.Module.{Module}
 use Rattle.flow_design.specs.declared.design.Block.{Block}
 use Rattle.flow_design.specs.declared.design.BlockKind.{BlockKind}
 use Rattle.flow_design.specs.declared.design.BlockKind.TheVariants.{Plain, Loop}
-use Rattle.flow_design.specs.declared.design.Timed.{Timed}
 use Rattle.flow_design.specs.declared.state.Control.{Control}
 use Rattle.flow_design.specs.declared.state.ModuleState.{ModuleState}
 use Rattle.flow_design.specs.declared.state.Due.{Due}
 use Rattle.flow_design.specs.Module.{block_of, interval, interval_of, live_count, ages_down, ages, temps_of, due_in, due}
-use Rattle.flow_design.specs.StaticRules.{IsModuleSound, IsBlockSound, IsKindSound, IsTimedSound}
-use Rattle.module_move.specs.Sound.{IsStateSound, IsGuardSound, AreGuardsSound}
-use Rattle.module_move.proofs.Begins.{block_sound, interval_some, live_count_is}
+use Rattle.flow_design.specs.StaticRules.{IsModuleSound, IsBlockSound, IsKindSound}
+use Rattle.module_move.specs.Sound.{IsStateSound, AreGuardsSound}
+use Rattle.module_move.proofs.Begins.{block_sound, live_count_is}
 
 -- ---- bounds
 
@@ -45,7 +44,7 @@ guards_sound channels m s place h sound there =
 
 pub due_is : (m : Module) (s : ModuleState)
     → due m s ≡ flat_map (due_in (block_of m s) s)
-        (enumerate_from 0 (ages_down (interval (block_of m s)) (s.control.clock - s.control.newest) (live_count (block_of m s) s.control)))
+    (enumerate_from 0 (ages_down (interval (block_of m s)) (s.control.clock - s.control.newest) (live_count (block_of m s) s.control)))
 unfolding due ages
 due_is m s = refl
 
@@ -59,6 +58,6 @@ pub adding_more : (b : Block) (s : ModuleState) (ii age left n place : ℕ) (pen
     → now ++ flat_map (due_in b s) (enumerate_from (place + 1) (ages_down ii age n)) ≡ goal
 adding_more b s ii age left n place pending now goal e added so_far =
     let next : flat_map (due_in b s) (enumerate_from place (ages_down ii age left))
-            ≡ due_in b s (place, age + n * ii) ++ flat_map (due_in b s) (enumerate_from (place + 1) (ages_down ii age n)) =
-        ap (λ (xs : List ℕ). flat_map (due_in b s) (enumerate_from place xs)) (ages_next ii age left n e) in
+    ≡ due_in b s (place, age + n * ii) ++ flat_map (due_in b s) (enumerate_from (place + 1) (ages_down ii age n)) =
+    ap (λ (xs : List ℕ). flat_map (due_in b s) (enumerate_from place xs)) (ages_next ii age left n e) in
     rw (added, append_assoc, ← next) so_far

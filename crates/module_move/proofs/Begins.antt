@@ -1,21 +1,15 @@
 -- A block begins in a sound state.
-use Rattle.std.proofs.Common.{◌≡◌, refl, sym, ◌∙◌, ap, arith, ℕ, ◌+◌, ◌-◌, ◌*◌, ◌/◌, ◌<◌, ◌≤◌, Bool, true, false, List, [], ◌∷◌, length, map, get_or, replicate, min, nat_lt}
-use Rattle.std.proofs.lemmas.Grind.{common_steps}
-use Rattle.std.proofs.lemmas.List.{length-replicate}
+use Rattle.std.proofs.Common.{◌≡◌, refl, arith, ℕ, ◌+◌, ◌-◌, ◌*◌, ◌/◌, ◌<◌, ◌≤◌, true, length, min, nat_lt}
 use Rattle.std.proofs.lemmas.Bool.Decides.{nat_tests}
-use Rattle.std.proofs.Math.Nat.{div-eq_of_lt, div-lt_iff_lt-mul}
-use Rattle.std.specs.List.{All}
-use Rattle.flow_design.specs.declared.design.Memory.{Memory}
+use Rattle.std.proofs.Math.Nat.{div-lt_iff_lt-mul}
 use Rattle.flow_design.specs.declared.design.Module.{Module}
 use Rattle.flow_design.specs.declared.design.Block.{Block}
 use Rattle.flow_design.specs.declared.design.BlockKind.{BlockKind}
 use Rattle.flow_design.specs.declared.design.BlockKind.TheVariants.{Plain, Loop}
 use Rattle.flow_design.specs.declared.state.Control.{Control}
-use Rattle.flow_design.specs.declared.state.ModuleState.{ModuleState}
-use Rattle.flow_design.specs.Module.{no_block, block_at, block_of, interval, interval_of, is_loop, live_count}
+use Rattle.flow_design.specs.Module.{no_block, block_at, interval, interval_of, live_count}
 use Rattle.flow_design.specs.StaticRules.{IsModuleSound, IsBlockSound, IsKindSound}
 use Rattle.lockstep_defs.specs.Machine.{entered, opened}
-
 
 interval_from : (registers len : ℕ) (kind : BlockKind) → IsKindSound registers len kind → 1 ≤ len → 1 ≤ interval_of kind len
 interval_from registers len Plain h some = some

@@ -1,5 +1,5 @@
 -- The due operations of one iteration, one operation after another.
-use Rattle.std.proofs.Common.{◌≡◌, refl, sym, ◌∙◌, ap, arith, ℕ, ◌+◌, ◌<◌, ◌≤◌, ◌==◌, ◌&&◌, Bool, true, false, cond, List, [], ◌∷◌, ◌++◌, map, length, take, get_or, append_assoc, zero-add}
+use Rattle.std.proofs.Common.{◌≡◌, refl, sym, ◌∙◌, ap, arith, ℕ, ◌+◌, ◌<◌, ◌≤◌, ◌==◌, Bool, true, false, cond, List, [], ◌∷◌, ◌++◌, map, length, take, get_or, append_assoc, zero-add}
 use Rattle.std.proofs.lemmas.Grind.{common_steps}
 use Rattle.std.proofs.lemmas.List.{map-append, take_more, get_or_default}
 use Rattle.std.proofs.lemmas.List.FromFn.{get_or-enumerate_from, length-enumerate_from}
@@ -16,7 +16,7 @@ use Rattle.module_move.specs.Sound.{is_due}
 abbrev pub picked : Block → ModuleState → ℕ → ℕ → List (ℕ × Timed) → List Due
 picked b s place age ts =
     map (λ n. record { iteration = place; op = n })
-        (filter (λ n. passes s.registers (temps_of s place) (operation_at b n).guard) (map (λ t. t.0) (filter (λ t. (t.1).offset == age) ts)))
+    (filter (λ n. passes s.registers (temps_of s place) (operation_at b n).guard) (map (λ t. t.0) (filter (λ t. (t.1).offset == age) ts)))
 
 picked-append : (b : Block) (s : ModuleState) (place age : ℕ) (ts us : List (ℕ × Timed)) → picked b s place age (ts ++ us) ≡ picked b s place age ts ++ picked b s place age us
 picked-append b s place age ts us = rw (filter-append, map-append, filter-append, map-append) refl
@@ -42,14 +42,14 @@ numbered_at b n t within read = rw (get_or-enumerate_from 0 b.ops n (n, t) withi
 -- the operations picked so far, and one more
 picked_next : (b : Block) (s : ModuleState) (place age n : ℕ) (t : Timed) → n < length b.ops → t ≡ get_or b.ops n t
     → picked b s place age (take (n + 1) (enumerate_from 0 b.ops))
-        ≡ picked b s place age (take n (enumerate_from 0 b.ops)) ++ cond (is_due s.registers (temps_of s place) age t) (record { iteration = place; op = n } ∷ []) []
+    ≡ picked b s place age (take n (enumerate_from 0 b.ops)) ++ cond (is_due s.registers (temps_of s place) age t) (record { iteration = place; op = n } ∷ []) []
 picked_next b s place age n t within read =
     let inside : n < length (enumerate_from 0 b.ops) = rw (length-enumerate_from 0 b.ops) within in
     let more : take (n + 1) (enumerate_from 0 b.ops) ≡ take n (enumerate_from 0 b.ops) ++ (n, t) ∷ [] =
-        take_more (enumerate_from 0 b.ops) n (n, t) inside ∙ ap (λ (e : ℕ × Timed). take n (enumerate_from 0 b.ops) ++ e ∷ []) (numbered_at b n t within read) in
+    take_more (enumerate_from 0 b.ops) n (n, t) inside ∙ ap (λ (e : ℕ × Timed). take n (enumerate_from 0 b.ops) ++ e ∷ []) (numbered_at b n t within read) in
     ap (picked b s place age) more
-        ∙ (picked-append b s place age (take n (enumerate_from 0 b.ops)) ((n, t) ∷ [])
-        ∙ ap (λ (ds : List Due). picked b s place age (take n (enumerate_from 0 b.ops)) ++ ds) (picked_one b s place age n t (at_place b n t within read)))
+    ∙ (picked-append b s place age (take n (enumerate_from 0 b.ops)) ((n, t) ∷ [])
+    ∙ ap (λ (ds : List Due). picked b s place age (take n (enumerate_from 0 b.ops)) ++ ds) (picked_one b s place age n t (at_place b n t within read)))
 
 -- one operation more, which is due or not
 pub picked_more : (b : Block) (s : ModuleState) (place age n : ℕ) (t : Timed) (due : Bool) (initial before now : List Due)
@@ -59,7 +59,7 @@ pub picked_more : (b : Block) (s : ModuleState) (place age n : ℕ) (t : Timed) 
     → now ≡ initial ++ picked b s place age (take (n + 1) (enumerate_from 0 b.ops))
 picked_more b s place age n t due initial before now within read test added so_far =
     added ∙ (rw (so_far, test) (append_assoc initial (picked b s place age (take n (enumerate_from 0 b.ops))) _)
-        ∙ ap (λ (ds : List Due). initial ++ ds) (sym (picked_next b s place age n t within read)))
+    ∙ ap (λ (ds : List Due). initial ++ ds) (sym (picked_next b s place age n t within read)))
 
 -- all operations of the block
 pub all_picked : (b : Block) (s : ModuleState) (place age n : ℕ) → length b.ops ≤ n → picked b s place age (take n (enumerate_from 0 b.ops)) ≡ due_in b s (place, age)

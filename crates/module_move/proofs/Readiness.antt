@@ -1,6 +1,5 @@
 -- In a sound state each due operation finds what it looks up.
-use Rattle.std.proofs.Common.{◌≡◌, refl, sym, ◌∙◌, ap, subst, arith, ℕ, suc, ◌+◌, ◌-◌, ◌*◌, ◌<◌, ◌≤◌, ◌==◌, List, [], ◌∷◌, ◌++◌, map, length, get_or, IfSome, IsTrue, zero-add, zero, length-append, Bool, not}
-use Rattle.std.proofs.lemmas.Grind.{common_steps}
+use Rattle.std.proofs.Common.{◌≡◌, refl, sym, ◌∙◌, ap, arith, ℕ, suc, ◌-◌, ◌*◌, ◌<◌, ◌≤◌, ◌==◌, List, [], ◌∷◌, map, length, get_or, zero-add, zero, length-append, Bool, not}
 use Rattle.std.proofs.lemmas.List.{get_or-map, length-map}
 use Rattle.std.proofs.lemmas.List.Filters.{length-filter_both}
 use Rattle.std.proofs.lemmas.List.Elements.{All-map, All-filter, All-append}
@@ -14,12 +13,10 @@ use Rattle.flow_design.specs.declared.expr.Op.{Op}
 use Rattle.flow_design.specs.declared.expr.Op.TheVariants.{Set, Load, Store, Read, Write, TryRead, TryWrite, Empty, Full}
 use Rattle.flow_design.specs.declared.state.ModuleState.{ModuleState}
 use Rattle.flow_design.specs.declared.state.Due.{Due}
-use Rattle.flow_design.specs.Words.{reach}
 use Rattle.flow_design.specs.Module.{block_of, operation_at, no_operation, interval, live_count, ages_down, ages, temps_of, passes, due_at, due_in, due}
-use Rattle.flow_design.specs.Operations.{expressions_of, memory_of as memory_named, end_of}
-use Rattle.flow_design.specs.StaticRules.{IsModuleSound, IsBlockSound, IsMemorySound, IsTimedSound, IsOperationSound, IsExpressionSound}
+use Rattle.flow_design.specs.StaticRules.{IsModuleSound, IsMemorySound, IsTimedSound, IsOperationSound}
 use Rattle.lockstep_defs.specs.Machine.{memory_of}
-use Rattle.module_move.specs.Sound.{IsStateSound, IsDueSound, IsReady, places_in}
+use Rattle.module_move.specs.Sound.{IsStateSound, IsDueSound, IsReady}
 use Rattle.module_move.proofs.Begins.{block_sound, interval_some, live_count_is, few_live}
 use Rattle.module_move.proofs.Ages.{span}
 
@@ -34,7 +31,7 @@ due_at_below : (b : Block) (offset : ℕ) → All (λ n. n < length b.ops) (due_
 unfolding due_at
 due_at_below b offset =
     All-map (λ n. n < length b.ops) (λ (t : ℕ × Timed). t.0) (filter (λ (t : ℕ × Timed). (t.1).offset == offset) (enumerate_from 0 b.ops))
-        (All-filter (λ (t : ℕ × Timed). (t.1).offset == offset) (λ (t : ℕ × Timed). t.0 < length b.ops) (enumerate_from 0 b.ops) (numbers_below b.ops))
+    (All-filter (λ (t : ℕ × Timed). (t.1).offset == offset) (λ (t : ℕ × Timed). t.0 < length b.ops) (enumerate_from 0 b.ops) (numbers_below b.ops))
 
 All-flat_map : {X Y : Type 0} (P : Y → Type 0) (f : X → List Y) (xs : List X) → All (λ x. All P (f x)) xs → All P (flat_map f xs)
 All-flat_map P f [] h = λ k d within. absurd (omega arith)
@@ -49,8 +46,8 @@ due_in_sound : (b : Block) (s : ModuleState) (place age : ℕ)
     → All (λ (d : Due). (d.iteration ≡ place) × (d.op < length b.ops)) (due_in b s (place, age))
 due_in_sound b s place age =
     All-map (λ (d : Due). (d.iteration ≡ place) × (d.op < length b.ops)) (λ (n : ℕ). record { iteration = place; op = n })
-        (filter (λ n. passes s.registers (temps_of s place) (operation_at b n).guard) (due_at b age))
-        (λ k d within. (refl, All-filter (λ n. passes s.registers (temps_of s place) (operation_at b n).guard) (λ n. n < length b.ops) (due_at b age) (due_at_below b age) k d within))
+    (filter (λ n. passes s.registers (temps_of s place) (operation_at b n).guard) (due_at b age))
+    (λ k d within. (refl, All-filter (λ n. passes s.registers (temps_of s place) (operation_at b n).guard) (λ n. n < length b.ops) (due_at b age) (due_at_below b age) k d within))
 
 -- each due operation of a sound state
 pub due_sound : (m : Module) (s : ModuleState) → IsStateSound m s → All (IsDueSound m s) (due m s)
@@ -61,12 +58,12 @@ due_sound m s sound =
     each : All (λ (it : ℕ × ℕ). All (IsDueSound m s) (due_in (block_of m s) s it)) (enumerate_from 0 (ages (block_of m s) s.control))
     each k d within =
         let count : length (enumerate_from 0 (ages_down (interval (block_of m s)) (s.control.clock - s.control.newest) (live_count (block_of m s) s.control))) ≡ length s.temps =
-            length-enumerate_from 0 _ ∙ (length-ages_down _ _ (live_count (block_of m s) s.control) ∙ sym sound.state.places.temps) in
+        length-enumerate_from 0 _ ∙ (length-ages_down _ _ (live_count (block_of m s) s.control) ∙ sym sound.state.places.temps) in
         let inside : k < length s.temps = rw count at within in
         let listed : k < length (ages_down (interval (block_of m s)) (s.control.clock - s.control.newest) (live_count (block_of m s) s.control)) =
-            rw (length-ages_down _ _ (live_count (block_of m s) s.control), ← sound.state.places.temps) inside in
+        rw (length-ages_down _ _ (live_count (block_of m s) s.control), ← sound.state.places.temps) inside in
         rw (get_or-enumerate_from 0 _ k d listed, zero-add)
-            (λ j e below. let found = due_in_sound (block_of m s) s k _ j e below in record { iteration = rw found.0 inside; op = found.1 })
+        (λ j e below. let found = due_in_sound (block_of m s) s k _ j e below in record { iteration = rw found.0 inside; op = found.1 })
 
 -- ---- what an operation looks up
 
@@ -100,7 +97,7 @@ op_ready channels m s d h sound there =
     let block = block_sound channels m s.control.block h sound.state.block in
     let timed : IsTimedSound channels m (block_of m s) (operation_at (block_of m s) d.op) = block.operations d.op no_operation there.op in
     ready_by channels m s d.iteration (length (block_of m s).temps) _ timed.operation sound.state.places.registers (sound.state.places.each_temps d.iteration (rw sound.state.places.temps at there.iteration))
-        (λ n inside. memory_some m s n (sound.state.places.words n) h.words inside)
+    (λ n inside. memory_some m s n (sound.state.places.words n) h.words inside)
 
 -- ---- how many operations are due
 

@@ -1,5 +1,5 @@
 -- What the due operations write, one operation after another.
-use Rattle.std.proofs.Common.{◌≡◌, refl, sym, ◌∙◌, ap, arith, ℕ, zero, suc, add-one, ◌+◌, ◌<◌, ◌≤◌, Bool, true, false, cond, List, [], ◌∷◌, ◌++◌, length, drop, get_or, append_assoc}
+use Rattle.std.proofs.Common.{◌≡◌, refl, sym, ◌∙◌, ap, arith, ℕ, zero, suc, add-one, ◌+◌, ◌<◌, ◌≤◌, cond, List, [], ◌∷◌, ◌++◌, length, drop, get_or, append_assoc}
 use Rattle.std.proofs.lemmas.Grind.{common_steps}
 use Rattle.std.proofs.lemmas.List.{drop_more, get_or-drop}
 use Rattle.flow_design.specs.declared.design.Block.{Block}
@@ -36,7 +36,7 @@ writing_more b s pending replies i taken after d e out now goal within read adde
     let front : drop i pending ≡ d ∷ drop (i + 1) pending = drop_more pending i e within ∙ ap (λ (x : Due). x ∷ drop (i + 1) pending) (sym read) in
     let reply : get_or (drop taken replies) 0 Done ≡ get_or replies taken Done = get_or-drop taken replies 0 Done ∙ ap (λ (k : ℕ). get_or replies k Done) (omega arith) in
     let step : effects b s (drop i pending) (drop taken replies) ≡ effects_of s d.iteration op (get_or replies taken Done) ++ effects b s (drop (i + 1) pending) (drop after replies) =
-        ap (λ (ds : List Due). effects b s ds (drop taken replies)) front
-            ∙ (ap (λ (r : Reply). effects_of s d.iteration op r ++ effects b s (drop (i + 1) pending) (cond (is_fifo_operation op) (drop 1 (drop taken replies)) (drop taken replies))) reply
-            ∙ ap (λ (rs : List Reply). effects_of s d.iteration op (get_or replies taken Done) ++ effects b s (drop (i + 1) pending) rs) (sym next)) in
+    ap (λ (ds : List Due). effects b s ds (drop taken replies)) front
+    ∙ (ap (λ (r : Reply). effects_of s d.iteration op r ++ effects b s (drop (i + 1) pending) (cond (is_fifo_operation op) (drop 1 (drop taken replies)) (drop taken replies))) reply
+    ∙ ap (λ (rs : List Reply). effects_of s d.iteration op (get_or replies taken Done) ++ effects b s (drop (i + 1) pending) rs) (sym next)) in
     rw (added, append_assoc, ← step) so_far

@@ -1,17 +1,15 @@
 -- What a module's machine needs to look up and compute its requests and its move.
-use Rattle.std.specs.Prelude.{◌≡◌, ◌==◌, ◌&&◌, IfSome, ℕ, ◌+◌, ◌-◌, ◌<◌, ◌≤◌, Bool, true, false, List, length, map, All}
+use Rattle.std.specs.Prelude.{◌≡◌, ◌==◌, ◌&&◌, IfSome, ℕ, ◌+◌, ◌<◌, ◌≤◌, Bool, false, List, length, All}
 use Rattle.flow_design.specs.declared.design.Module.{Module}
 use Rattle.flow_design.specs.declared.design.Timed.{Timed}
-use Rattle.flow_design.specs.declared.state.Control.{Control}
 use Rattle.flow_design.specs.declared.state.ModuleState.{ModuleState}
-use Rattle.flow_design.specs.declared.design.Block.{Block}
 use Rattle.flow_design.specs.declared.state.Due.{Due}
 use Rattle.flow_design.specs.declared.expr.Op.{Op}
 use Rattle.flow_design.specs.declared.expr.Op.TheVariants.{Set, Load, Store, Read, Write, TryRead, TryWrite, Empty, Full}
 use Rattle.flow_design.specs.Words.{reach}
 use Rattle.lockstep_defs.specs.Machine.{memory_of}
 use Rattle.lockstep_defs.specs.States.{IsStateOf}
-use Rattle.flow_design.specs.Module.{block_of, interval, is_loop, live_count, temps_of, passes}
+use Rattle.flow_design.specs.Module.{block_of, temps_of, passes}
 
 -- a state that the module comes to, in which it is not ended
 pub record IsStateSound (m : Module) (s : ModuleState) : Type 0 where

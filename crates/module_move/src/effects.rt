@@ -104,7 +104,10 @@ fn add_effects_of(
     let (variable, value) = match op {
         Op::Set(place, value) => (*place, value_of(state, iteration, value)),
         Op::Load(place, memory, address) => {
-            (*place, word_at(state, *memory, value_of(state, iteration, address)))
+            (
+                *place,
+                word_at(state, *memory, value_of(state, iteration, address)),
+            )
         }
         Op::Store(memory, address, value) => {
             return out.push(Effect::Word {

@@ -2,6 +2,8 @@
 #![tactic(auto)]
 
 mod asking;
+mod commits;
+mod control;
 mod effects;
 mod moves;
 mod opening;

@@ -5,8 +5,8 @@ ghost use Rattle.flow_design.specs.Module.{due};
 ghost use Rattle.lockstep_defs.specs.Machine.{move};
 ghost use Rattle.module_move.specs.Sound.{IsStateSound, IsRunnable};
 
-
-
+use crate::commits::commit_all;
+use crate::control::go_on;
 use crate::effects::add_effects;
 use flow_design::{Due, Effect, Module, ModuleState, Reply};
 use flow_word::{List, OutOfMemory};
@@ -36,8 +36,9 @@ pub fn make_move(
 {
     effects.truncate(0);
     add_effects(of, state, pending, replies, effects)?;
+    commit_all(of, state, effects.as_slice());
 
     state.count += pending.len() as u64;
-    let _ = alloc;
+    go_on(alloc, of, state)?;
     Ok(())
 }

@@ -34,28 +34,55 @@ pub(crate) fn add_requests(
 }
 
 /// The request of an operation, if it is a FIFO operation.
-fn request_of(channels: &[Channel], state: &ModuleState, iteration: u32, op: &Op<u32>) -> Option<Request>
+fn request_of(
+    channels: &[Channel],
+    state: &ModuleState,
+    iteration: u32,
+    op: &Op<u32>,
+) -> Option<Request>
     requires { IsReady (length channels.now) state.now iteration op.now }
     ensures { result ≡ request_of channels.now state.now iteration op.now }
 {
     let (kind, channel, value) = match op {
         Op::Set(_, _) | Op::Load(_, _, _) | Op::Store(_, _, _) => return None,
         Op::Read(channel, _) => (Kind::Read, *channel, 0),
-        Op::Write(channel, value) => (Kind::Write, *channel, pushed(channels, state, iteration, *channel, value)),
+        Op::Write(channel, value) => (
+            Kind::Write,
+            *channel,
+            pushed(channels, state, iteration, *channel, value),
+        ),
         Op::TryRead(channel, _, _) => (Kind::TryRead, *channel, 0),
-        Op::TryWrite(channel, _, value) => (Kind::TryWrite, *channel, pushed(channels, state, iteration, *channel, value)),
+        Op::TryWrite(channel, _, value) => (
+            Kind::TryWrite,
+            *channel,
+            pushed(channels, state, iteration, *channel, value),
+        ),
         Op::Empty(channel, _) => (Kind::Empty, *channel, 0),
         Op::Full(channel, _) => (Kind::Full, *channel, 0),
     };
-    Some(Request { kind, channel, value })
+    Some(Request {
+        kind,
+        channel,
+        value,
+    })
 }
 
 /// What a write pushes: the value of its expression, cut to the channel's width.
-fn pushed(channels: &[Channel], state: &ModuleState, iteration: u32, channel: u32, value: &Expr<u32>) -> u64
+fn pushed(
+    channels: &[Channel],
+    state: &ModuleState,
+    iteration: u32,
+    channel: u32,
+    value: &Expr<u32>,
+) -> u64
     requires channel { channel < length channels.now }
     requires variables { reach value.now ≤ places_in state.now iteration }
     ensures { result ≡ cut_to (width_of channels.now channel) (value_of state.now iteration value.now) }
 {
-    let word = eval(value, state.registers.as_slice(), temps_of(state, iteration));
+    let word = eval(
+        value,
+        state.registers.as_slice(),
+        temps_of(state, iteration),
+    );
     cut(word, channels[channel as usize].width)
 }

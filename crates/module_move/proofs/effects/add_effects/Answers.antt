@@ -1,6 +1,5 @@
-use Rattle.std.proofs.Common.{length, ◌<◌, refl, ◌≡◌, get_or}
+use Rattle.std.proofs.Common.{refl, get_or}
 use Rattle.flow_design.specs.declared.state.Due.{Due}
-use Rattle.flow_design.specs.Module.{block_of}
 use Rattle.module_move.proofs.Readiness.{op_ready}
 use Rattle.module_move.proofs.Writing.{writing_more}
 use Rattle.module_move.proofs.effects.add_effects.Goals as goal
@@ -16,6 +15,6 @@ add_effects_of-requires c =
 pub loop-due-preserved : goal.loop-due-preserved
 loop-due-preserved c =
     writing_more c.block_of-block.result.now c.args.state.now c.args.pending.now c.args.replies.now c.loop-due.due-index c.loop-due.answered c.answered_after-answered.result
-        (get_or c.args.pending.now c.loop-due.due-index first) first c.loop-due.out c.add_effects_of.new.out _
-        c.loop-due-test.true refl (rw (← c.operation-op.ensures, ← c.reply_at-reply.ensures) c.in_ok-add_effects_of.ensures)
-        (rw (← c.operation-op.ensures) c.answered_after-answered.ensures) c.loop-due.invariant
+    (get_or c.args.pending.now c.loop-due.due-index first) first c.loop-due.out c.add_effects_of.new.out _
+    c.loop-due-test.true refl (rw (← c.operation-op.ensures, ← c.reply_at-reply.ensures) c.in_ok-add_effects_of.ensures)
+    (rw (← c.operation-op.ensures) c.answered_after-answered.ensures) c.loop-due.invariant

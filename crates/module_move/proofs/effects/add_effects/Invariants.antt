@@ -6,4 +6,4 @@ use Rattle.module_move.proofs.effects.add_effects.Given as goal
 abbrev pub invariant-loop-due : goal.invariant-loop-due
 invariant-loop-due l =
     l.out ++ effects l.block l.state (drop l.due-index l.pending) (drop l.answered l.replies)
-        ≡ l.initial.out ++ effects l.block l.state l.pending l.replies
+    ≡ l.initial.out ++ effects l.block l.state l.pending l.replies

@@ -1,7 +1,6 @@
-use Rattle.std.proofs.Common.{◌≡◌, refl, sym, ◌∙◌, ap, arith, ℕ, suc, ◌+◌, ◌-◌, ◌++◌, List, zero-add}
-use Rattle.std.specs.List.{flat_map, enumerate_from}
+use Rattle.std.proofs.Common.{sym, ◌∙◌, ap, arith, ◌-◌, ◌++◌, List, zero-add}
 use Rattle.flow_design.specs.declared.state.Due.{Due}
-use Rattle.flow_design.specs.Module.{ages_down, due_in, due}
+use Rattle.flow_design.specs.Module.{due}
 use Rattle.module_move.proofs.Ages.{due_is, adding_more}
 use Rattle.module_move.proofs.pending.add_due.Goals as goal
 

@@ -1,5 +1,4 @@
-use Rattle.std.proofs.Common.{length, ◌<◌}
-use Rattle.flow_design.specs.Module.{block_of}
+use Rattle.std.proofs.Common.{length}
 use Rattle.module_move.proofs.Readiness.{op_ready}
 use Rattle.module_move.proofs.requests.add_requests.Goals as goal
 

@@ -7,4 +7,4 @@ use Rattle.module_move.proofs.requests.add_requests.Given as goal
 abbrev pub invariant-loop-due : goal.invariant-loop-due
 invariant-loop-due l =
     l.asked ++ filter_map (request_for l.channels l.of l.state) (drop l.due-index l.pending)
-        ≡ l.initial.asked ++ filter_map (request_for l.channels l.of l.state) l.pending
+    ≡ l.initial.asked ++ filter_map (request_for l.channels l.of l.state) l.pending

@@ -1,0 +1,129 @@
+//! How the control of a module goes on after the commits of a local clock.
+ghost use Rattle.std.specs.Prelude.{◌≡◌, ℕ, ◌+◌, ◌-◌, ◌*◌, ◌<◌, ◌≤◌, ◌^◌, length, slice_index, OnOk};
+ghost use Rattle.std.specs.Int.{from_bool};
+ghost use Rattle.flow_design.specs.StaticRules.{IsModuleSound, IsNextSound};
+ghost use Rattle.flow_design.specs.Module.{block_of, interval};
+ghost use Rattle.lockstep_defs.specs.Machine.{again_of, ticked, decided, finished};
+
+use crate::opening::enter;
+use crate::pending::{block_of, interval, live_count};
+use flow_design::{Block, BlockKind, Module, ModuleState, Next};
+use flow_word::{OutOfMemory, Words};
+use std::alloc::Global;
+
+/// The clock goes up, the loop decides, and the block may end. After want of memory the state may be anything.
+#[tactic(auto, using(crate::proofs::Begins::block_sound, crate::proofs::Begins::interval_some, crate::proofs::Ages::span))]
+pub(crate) fn go_on(alloc: Global, of: &Module, state: &mut ModuleState) -> Result<(), OutOfMemory>
+    requires module { (channels : ℕ) × IsModuleSound channels of.now }
+    requires there { state.old.control.block < length of.now.blocks }
+    requires started { state.old.control.newest ≤ state.old.control.clock }
+    requires small { state.old.control.clock < 2 ^ 60 }
+    requires few { state.old.count < 2 ^ 61 - 2 }
+    ensures gone { let b = block_of of.now state.old in OnOk result (state.new ≡ finished of.now b (decided b (ticked b state.old))) }
+    ensures clock { OnOk result (state.new.control.clock ≤ state.old.control.clock + 1) }
+    ensures count { OnOk result (state.new.count ≤ state.old.count + 1) }
+{
+    let block = block_of(of, state);
+    tick(block, state);
+    decide(alloc, block, state)?;
+    finish(alloc, of, block, state)?;
+    Ok(())
+}
+
+/// The local clock goes up by one, and the temps of an iteration that is no longer live go.
+#[tactic(auto, using(crate::proofs::Ticking::turned), unfolding(lockstep_defs::specs::Machine::ticked))]
+fn tick(block: &Block, state: &mut ModuleState)
+    requires some { 1 ≤ interval block.now }
+    requires span { block.now.len ≤ 64 * interval block.now }
+    requires started { state.old.control.newest ≤ state.old.control.clock }
+    requires small { state.old.control.clock < 2 ^ 60 }
+    ensures ticked { state.new ≡ ticked block.now state.old }
+    ensures started { state.new.control.newest ≤ state.new.control.clock }
+    ensures clock { state.new.control.clock ≡ state.old.control.clock + 1 }
+    ensures count { state.new.count ≡ state.old.count }
+{
+    state.control.clock += 1;
+    let live = live_count(block, &state.control);
+    let all = state.temps.len();
+    if live < all {
+        state
+            .temps
+            .as_mut_slice()
+            .rotate_left((all - live) as usize);
+        state.temps.truncate(live);
+    }
+}
+
+/// Where the newest iteration of a loop has been live for II local clocks, its register decides whether the next one starts.
+#[tactic(auto, unfolding(lockstep_defs::specs::Machine::decided))]
+fn decide(alloc: Global, block: &Block, state: &mut ModuleState) -> Result<(), OutOfMemory>
+    requires started { state.old.control.newest ≤ state.old.control.clock }
+    requires few { state.old.count < 2 ^ 61 - 2 }
+    ensures decided { OnOk result (state.new ≡ decided block.now state.old) }
+    ensures started { OnOk result (state.new.control.newest ≤ state.new.control.clock) }
+    ensures clock { OnOk result (state.new.control.clock ≡ state.old.control.clock) }
+    ensures count { OnOk result (state.new.count ≤ state.old.count + from_bool state.new.control.looping) }
+{
+    let age = state.control.clock - state.control.newest;
+    if state.control.looping && age == interval(block) {
+        if again(block, state.registers.as_slice()) == 0 {
+            state.control.looping = false;
+        } else {
+            state.temps.push(Words::zeros(alloc, block.temps.len())?)?;
+            state.control.newest = state.control.clock;
+            state.count += 1;
+        }
+    }
+    Ok(())
+}
+
+/// Where the block is over, its terminator leads on.
+#[tactic(auto, unfolding(lockstep_defs::specs::Machine::finished))]
+fn finish(
+    alloc: Global,
+    of: &Module,
+    block: &Block,
+    state: &mut ModuleState,
+) -> Result<(), OutOfMemory>
+    requires next { IsNextSound (length of.now.registers) (length of.now.blocks) block.now.next }
+    requires started { state.old.control.newest ≤ state.old.control.clock }
+    requires few { state.old.count < 2 ^ 61 }
+    ensures finished { OnOk result (state.new ≡ finished of.now block.now state.old) }
+    ensures clock { OnOk result (state.new.control.clock ≤ state.old.control.clock) }
+    ensures count { OnOk result (state.new.count + from_bool state.old.control.looping ≤ state.old.count + 1) }
+{
+    if state.control.looping || state.control.clock - state.control.newest < block.len {
+        return Ok(());
+    }
+    match block.next {
+        Next::Goto(to) => enter(alloc, of, to, state),
+        Next::Branch(register, to, other) => {
+            let value = word_at(state.registers.as_slice(), register);
+            enter(alloc, of, if value == 0 { other } else { to }, state)
+        }
+        Next::Stop => {
+            state.ended = true;
+            Ok(())
+        }
+    }
+}
+
+/// The value of the register that decides whether a loop goes on.
+fn again(block: &Block, registers: &[u64]) -> u64
+    ensures { result ≡ slice_index registers.now (again_of block.now.kind) }
+{
+    match block.kind {
+        BlockKind::Plain => word_at(registers, 0),
+        BlockKind::Loop { ii: _, again } => word_at(registers, again),
+    }
+}
+
+/// The word at a place, or 0.
+fn word_at(words: &[u64], at: u32) -> u64
+    ensures { result ≡ slice_index words.now at }
+{
+    match words.get(at as usize) {
+        Some(word) => *word,
+        None => 0,
+    }
+}

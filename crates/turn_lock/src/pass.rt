@@ -8,7 +8,7 @@ use crate::view::View;
 use atomic_table::{Seat, Table};
 use std::alloc::Global;
 
-/// A value that one turn at a time may change, and the passes of which take the turns.
+/// A value that passes take in turns: one turn at a time may change it.
 #[derive(Drop)]
 pub struct TurnLock<K: Kept> {
     pub(crate) table: Table<Option<K>, View<K::Entry>, Opening<K>, Law<K>, Global>,

@@ -26,7 +26,7 @@ pub struct View<E> {
     pub seen: LinkedList<E>,
     /// The entries that the pass put, in their order.
     pub own: LinkedList<E>,
-    /// No pass was joined since the last turn, so what was seen came with a turn, or when the pass was made.
+    /// What the pass has seen came with a turn, or with its making, and not from a pass that was joined.
     pub settled: bool,
     /// The passes that were joined into the pass with number 0, in their order.
     pub joined: LinkedList<Joined<E>>,

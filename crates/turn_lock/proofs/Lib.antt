@@ -1,0 +1,10 @@
+pub mod Histories
+pub mod Seats
+pub mod Making
+pub mod Splitting
+pub mod Swapping
+pub mod Adding
+pub mod Freeing
+pub mod Joining
+pub mod Closing
+pub mod Joins

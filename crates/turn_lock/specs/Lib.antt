@@ -1,0 +1,7 @@
+pub mod Entries
+pub mod Views
+pub mod Turns
+pub mod Rule
+pub mod Steps
+pub mod Passes
+pub mod Lending

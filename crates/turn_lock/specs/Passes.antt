@@ -1,0 +1,38 @@
+-- What a clause says of a lock, its passes and its turns.
+use Rattle.std.specs.Prelude.{List}
+pub use Rattle.atomic_table.specs.Seated.{TableId}
+use Rattle.turn_lock.specs.declared.kept.Kept.{Ghosts}
+use Rattle.turn_lock.specs.declared.view.View.{View}
+use Rattle.turn_lock.specs.declared.pass.TurnLock.{TurnLock}
+use Rattle.turn_lock.specs.declared.pass.Pass.{Pass}
+use Rattle.turn_lock.specs.declared.pass.Turn.{Turn}
+use Rattle.turn_lock.specs.declared.pass.Tried.{Tried}
+use Rattle.turn_lock.specs.declared.pass.Tried.TheVariants.{Won, Lost}
+
+-- which lock it is
+abbrev pub lock_id : {K E : Type 0} → TurnLock K E → TableId
+lock_id l = l.table.shared.table_id
+
+module _ {K E : Type 0} {G : Ghosts K E} where
+  -- what a pass knows, and of which lock it is
+  abbrev pub view_of : Pass K E G → View E
+  view_of p = p.seat.me.0
+
+  abbrev pub pass_lock : Pass K E G → TableId
+  pass_lock p = p.seat.table_id
+
+  -- the same of a turn
+  abbrev pub turn_view : Turn K E G → View E
+  turn_view t = t.hold.seat.me.0
+
+  abbrev pub turn_lock_of : Turn K E G → TableId
+  turn_lock_of t = t.hold.seat.table_id
+
+  -- the history with which the turn began
+  abbrev pub begun_at : Turn K E G → List E
+  begun_at t = t.hold.seat.me.0.history
+
+  -- what holds where the try won the turn, and where it lost
+  abbrev pub MatchTried : Tried K E G → (Turn K E G → Type 0) → (Pass K E G → Type 0) → Type 0
+  MatchTried (Won t) won lost = won t
+  MatchTried (Lost p) won lost = lost p

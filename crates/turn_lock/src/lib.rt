@@ -1,0 +1,17 @@
+//! A lock that hands its value out for one turn at a time, and passes that know how far the value's history has come.
+#![tactic(auto)]
+
+mod kept;
+mod law;
+mod lends;
+mod lock;
+mod pass;
+mod plays;
+mod view;
+
+pub use kept::Kept;
+pub use pass::{Pass, Tried, Turn, TurnLock};
+pub use view::{Joined, View};
+
+#[cfg(test)]
+mod tests;

@@ -1,0 +1,46 @@
+//! What each kind of step tells its caller, and how a view is split and two are joined.
+ghost use Rattle.turn_lock.specs.Views.{spent_view, after_split, split_off, after_join};
+ghost use Rattle.turn_lock.specs.Steps.{Swapped, Added, Freed};
+
+use crate::kept::Kept;
+use crate::view::View;
+use atomic_table::{Join, Play, Split};
+
+/// A swap of 1 on the turn word.
+pub(crate) struct Swap;
+
+impl<K: Kept> Play<Option<K>, View<K::Entry>> for Swap {
+    ghost then = { Swapped K.history K.bearer };
+}
+
+/// A fetch_add of 1 on the count word.
+pub(crate) struct Add;
+
+impl<K: Kept> Play<Option<K>, View<K::Entry>> for Add {
+    ghost then = { Added K.history };
+}
+
+/// A store of 0 in the turn word.
+pub(crate) struct Free;
+
+impl<K: Kept> Play<Option<K>, View<K::Entry>> for Free {
+    ghost then = { Freed };
+}
+
+/// The first pass makes another.
+pub(crate) struct Make;
+
+impl<E> Split<View<E>> for Make {
+    ghost left = { after_split };
+
+    ghost right = { split_off };
+}
+
+/// A pass is joined into the first.
+pub(crate) struct TakeIn;
+
+impl<E> Join<View<E>> for TakeIn {
+    ghost both = { after_join };
+
+    ghost spent = { spent_view };
+}

@@ -1,7 +1,7 @@
 -- A module's steps in the history are those of its own run on the history's replies.
 use Rattle.std.proofs.Common.{◌≡◌, ◌≢◌, ℕ, zero, suc, ◌+◌, ◌≤◌, ◌<◌, List, [], ◌∷◌, ◌++◌, map, length, get_or, Bool, true, false, ◌&&◌, ◌==◌, not, cond, refl, sym, ◌∙◌, ap, subst, arith, zero-add, length-append}
 use Rattle.std.specs.List.{enumerate_from, flat_map}
-use Rattle.std.proofs.lemmas.List.{append-nil, length-map, get_or-map, map-append}
+use Rattle.std.proofs.lemmas.List.{append-nil, length-map, get_or-map, get_or_push, map-append}
 use Rattle.std.proofs.lemmas.List.Elements.{filter-append}
 use Rattle.std.proofs.lemmas.List.FromFn.{get_or-enumerate_from, length-enumerate_from}
 use Rattle.std.proofs.lemmas.Bool.{ne_eqb, eq-eqb}
@@ -166,17 +166,13 @@ lengths_agree o s steps h =
     sym (length-map o.steps (λ t. paired t.requests t.replies))
     ∙ (ap length h.steps_are ∙ (length-map steps (λ t. t.exchanges) ∙ sym (length-map steps (λ t. map (λ x. x.reply) t.exchanges))))
 
-get_or-append_seam : (xs : List (List Reply)) (y : List Reply) → get_or (xs ++ y ∷ []) (length xs) [] ≡ y
-get_or-append_seam [] y = refl
-get_or-append_seam (x ∷ xs) y = get_or-append_seam xs y
-
 -- the replies to the step that comes next
 next_replies : (p : Plan) (c i : ℕ) (contents : List (List ℕ)) (o : Own) (s : ModuleState) (steps : List HistoryStep) (r : Request) (rs : List Request)
     → Agrees o s steps
     → get_or (replies_in (steps ++ step_with c i (map (answered p c contents) (r ∷ rs)))) (length o.steps) [] ≡ map (reply p c contents) (r ∷ rs)
 next_replies p c i contents o s steps r rs h =
     rw (map-append, lengths_agree o s steps h)
-    (get_or-append_seam (replies_in steps) _ ∙ replies_of_answered p c contents (r ∷ rs))
+    (get_or_push (replies_in steps) _ [] (length (replies_in steps)) refl ∙ replies_of_answered p c contents (r ∷ rs))
 
 agrees_after : (p : Plan) (c i : ℕ) (contents : List (List ℕ)) (o : Own) (s : ModuleState) (steps : List HistoryStep) (rs : List Request) → Agrees o s steps
     → Agrees (own_after (module_at p i) o rs (get_or (replies_in (steps ++ step_with c i (map (answered p c contents) rs))) (length o.steps) []))

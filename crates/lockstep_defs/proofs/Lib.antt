@@ -11,3 +11,5 @@ pub mod Live
 pub mod Moves
 pub mod Resting
 pub mod States
+pub mod Standing
+pub mod Order

@@ -17,7 +17,7 @@ use Rattle.flow_design.specs.declared.design.Channel.{Channel}
 use Rattle.lockstep_defs.specs.Machine.{request_of, request_for, requests}
 use Rattle.lockstep_defs.specs.Lockstep.{module_at, requests_of}
 use Rattle.lockstep_defs.specs.Ends.{takes, owner, takers}
-use Rattle.lockstep_defs.proofs.Settled.{or_false}
+use Rattle.std.proofs.lemmas.Bool.{or_parts}
 use Rattle.lockstep_defs.proofs.Due.{AreApart, how_many, due_once, none_due}
 
 -- what the laws of channels take of the static rules
@@ -77,13 +77,13 @@ takers_once p h e i s = by_case (h.intervals i s.control.block)
 
 any_false : {X : Type 0} (f : X → Bool) (xs : List X) → list_any f xs ≡ false → AllByRecursion (λ x. f x ≡ false) xs
 any_false f [] h = tt
-any_false f (x ∷ xs) h = let parts = or_false (f x) (list_any f xs) h in (parts.0, any_false f xs parts.1)
+any_false f (x ∷ xs) h = let parts = or_parts (f x) (list_any f xs) h in (parts.0, any_false f xs parts.1)
 
 uses_none : (e : End) (bs : List Block) (n : ℕ) → list_any (λ b. list_any (λ t. is_end e (used_end t.op)) b.ops) bs ≡ false
     → AllByRecursion (λ t. takes e t.op ≡ false) (get_or bs n no_block).ops
 uses_none e [] n h = tt
-uses_none e (b ∷ bs) zero h = any_false (λ t. takes e t.op) b.ops (or_false _ _ h).0
-uses_none e (b ∷ bs) (suc n) h = uses_none e bs n (or_false _ _ h).1
+uses_none e (b ∷ bs) zero h = any_false (λ t. takes e t.op) b.ops (or_parts _ _ h).0
+uses_none e (b ∷ bs) (suc n) h = uses_none e bs n (or_parts _ _ h).1
 
 pub no_takers : (p : Plan) (e : End) (i : ℕ) (s : ModuleState) → uses e (module_at p i) ≡ false → length (takers e (requests_of p (i, s))) ≡ 0
 no_takers p e i s h =

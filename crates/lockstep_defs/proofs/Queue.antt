@@ -4,7 +4,7 @@ use Rattle.std.specs.List.{list_any, enumerate_from, flat_map, AllByRecursion}
 use Rattle.std.proofs.lemmas.List.{append-nil, length-map, get_or-map, length-append}
 use Rattle.std.proofs.lemmas.List.Concat.{flat_map-append}
 use Rattle.std.proofs.lemmas.List.FromFn.{get_or-enumerate_from, length-enumerate_from, length-map-range_with_len}
-use Rattle.std.proofs.lemmas.Bool.{eqb-true, eq-eqb, cases_Bool}
+use Rattle.std.proofs.lemmas.Bool.{eqb-true, eq-eqb, cases_Bool, or_parts, and_parts, not-true}
 use Rattle.std.proofs.Math.Seq.{drop-append_seam}
 use Rattle.std.proofs.Math.ListN.{get_or-append}
 use Rattle.flow_word.specs.declared.access.Kind.{Kind}
@@ -15,11 +15,12 @@ use Rattle.flow_design.specs.declared.state.ModuleState.{ModuleState}
 use Rattle.flow_design.specs.declared.state.Request.{Request}
 use Rattle.flow_design.specs.declared.state.Reply.TheVariants.{Took, Missed}
 use Rattle.flow_design.specs.StaticRules.{uses}
+use Rattle.lockstep_defs.specs.Machine.{is_over}
 use Rattle.lockstep_defs.specs.Channels.{HistoryStep, Exchange, side_of, is_blocking, is_nil, is_possible, stalls, reply, reply_by, popped_value, moved_value, moved_by, moved, contents_of}
 use Rattle.lockstep_defs.specs.Lockstep.{module_at, numbered, requests_of, moves, answered, step_with, step_of, steps_in, contents_after, clock_step, inputs_of, opening, moment, state, history}
 use Rattle.lockstep_defs.specs.Ends.{owner, is_taker, takers}
 use Rattle.lockstep_defs.specs.Laws.{all_in, IsConserved, PopsInOrder}
-use Rattle.lockstep_defs.proofs.Settled.{or_false, not_true, state-suc, history-suc}
+use Rattle.lockstep_defs.proofs.Settled.{state-suc, history-suc}
 use Rattle.lockstep_defs.proofs.Once.{KeepsEnds, takers_once, no_takers}
 
 -- ---- what steps move
@@ -136,13 +137,9 @@ moves_once p h c st side f = (later_moves p h c st.contents side f 0 st.modules)
 abbrev IsFront : List ℕ → ℕ → Type 0
 IsFront held v = (rest : List ℕ) × (held ≡ v ∷ rest)
 
-all-append : {X : Type 0} (P : X → Type 0) (xs ys : List X) → AllByRecursion P xs → AllByRecursion P ys → AllByRecursion P (xs ++ ys)
+pub all-append : {X : Type 0} (P : X → Type 0) (xs ys : List X) → AllByRecursion P xs → AllByRecursion P ys → AllByRecursion P (xs ++ ys)
 all-append P [] ys a b = b
 all-append P (x ∷ xs) ys a b = (a.0, all-append P xs ys a.1 b)
-
-and_right : (a b : Bool) → (a && b) ≡ true → b ≡ true
-and_right true b h = h
-and_right false b h = cc
 
 -- the reply to a request that does not stall pops nothing but the front
 pops_front : (p : Plan) (c : ℕ) (contents : List (List ℕ)) (kind : Kind) (f : ℕ)
@@ -176,14 +173,14 @@ fronts_of : (p : Plan) (c : ℕ) (contents : List (List ℕ)) (f : ℕ) (rs : Li
 unfolding moved_by
 fronts_of p c contents f [] h = tt
 fronts_of p c contents f (r ∷ rs) h =
-    let parts = or_false (stalls p c contents r) (list_any (stalls p c contents) rs) h in
+    let parts = or_parts (stalls p c contents r) (list_any (stalls p c contents) rs) h in
     all-append _ _ _ (front_at p c contents f r (r.channel == f) refl parts.0) (fronts_of p c contents f rs parts.1)
 
 -- a module that moves has no request that stalls
 pub nothing_stalls : (p : Plan) (c : ℕ) (contents : List (List ℕ)) (m : ℕ × ModuleState) → moves p c contents m ≡ true
     → list_any (stalls p c contents) (requests_of p m) ≡ false
 unfolding moves
-nothing_stalls p c contents m h = not_true _ (and_right _ _ h)
+nothing_stalls p c contents m h = not-true _ (and_parts (not (is_over p.ops m.1)) _ h).1
 
 fronts_by : (p : Plan) (c : ℕ) (contents : List (List ℕ)) (f : ℕ) (m : ℕ × ModuleState) (b : Bool) → moves p c contents m ≡ b
     → AllByRecursion (IsFront (contents_of contents f)) (moved true f (cond b (step_with c m.0 (map (answered p c contents) (requests_of p m))) []))

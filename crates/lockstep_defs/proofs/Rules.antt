@@ -27,7 +27,7 @@ use Rattle.lockstep_defs.proofs.Once.{KeepsEnds}
 
 -- ---- one module at each end
 
-some_pass : {X : Type 0} (f : X → Bool) (xs : List X) (i : ℕ) (d : X) → i < length xs → f (get_or xs i d) ≡ true → 1 ≤ length (filter f xs)
+pub some_pass : {X : Type 0} (f : X → Bool) (xs : List X) (i : ℕ) (d : X) → i < length xs → f (get_or xs i d) ≡ true → 1 ≤ length (filter f xs)
 some_pass f [] i d l h = absurd (omega arith)
 some_pass f (x ∷ xs) zero d l h = rw h (omega arith)
 some_pass f (x ∷ xs) (suc i) d l h = by_head (f x) (some_pass f xs i d (omega arith) h)
@@ -156,7 +156,7 @@ are_apart e ii (t ∷ ts) h = (
 
 -- ---- the rules
 
-owned_by : (p : Plan) → FitsEngine p → (e : End) (i : ℕ) → uses e (module_at p i) ≡ true → owner p e ≡ i
+pub owned_by : (p : Plan) → FitsEngine p → (e : End) (i : ℕ) → uses e (module_at p i) ≡ true → owner p e ≡ i
 unfolding owner
 owned_by p h e i used = by_module (sound_module p h i)
   where

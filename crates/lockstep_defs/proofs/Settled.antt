@@ -1,6 +1,7 @@
 -- A settled state stays.
-use Rattle.std.proofs.Common.{◌≡◌, ℕ, zero, suc, ◌+◌, List, [], ◌∷◌, ◌++◌, map, Bool, true, false, ◌||◌, not, refl, ◌∙◌, ap, zero-add, suc-add}
+use Rattle.std.proofs.Common.{◌≡◌, ℕ, zero, suc, ◌+◌, List, [], ◌∷◌, ◌++◌, map, Bool, true, false, not, refl, ◌∙◌, ap, zero-add, suc-add}
 use Rattle.std.specs.List.{list_any, enumerate_from, flat_map}
+use Rattle.std.proofs.lemmas.Bool.{or_parts, not-true}
 use Rattle.std.proofs.lemmas.List.{append-nil}
 use Rattle.flow_design.specs.declared.plan.Plan.{Plan}
 use Rattle.flow_design.specs.declared.state.ClockState.{ClockState}
@@ -35,14 +36,6 @@ settled_at p b c st = ap (λ (f : ℕ × ModuleState → Bool). not (list_any f 
 
 -- ---- where no module moves
 
-pub or_false : (a b : Bool) → (a || b) ≡ false → (a ≡ false) × (b ≡ false)
-or_false true b h = cc
-or_false false b h = (refl, h)
-
-pub not_true : (b : Bool) → not b ≡ true → b ≡ false
-not_true true h = cc
-not_true false h = refl
-
 states_of : {X : Type 0} (n : ℕ) (xs : List X) → map (λ m. m.1) (enumerate_from n xs) ≡ xs
 states_of n [] = refl
 states_of n (x ∷ xs) = ap (λ l. x ∷ l) (states_of (n + 1) xs)
@@ -52,7 +45,7 @@ none_moves : (p : Plan) (c : ℕ) (contents : List (List ℕ)) (ms : List (ℕ �
     → map (next_state p c contents) ms ≡ map (λ m. m.1) ms
 none_moves p c contents [] h = refl
 none_moves p c contents (m ∷ ms) h =
-    let parts = or_false (moves p c contents m) (list_any (moves p c contents) ms) h in
+    let parts = or_parts (moves p c contents m) (list_any (moves p c contents) ms) h in
     let rest = none_moves p c contents ms parts.1 in
     rw (parts.0, rest)
 
@@ -61,7 +54,7 @@ none_done : (p : Plan) (c : ℕ) (contents : List (List ℕ)) (ms : List (ℕ ×
     → flat_map (step_of p c contents) ms ≡ []
 none_done p c contents [] h = refl
 none_done p c contents (m ∷ ms) h =
-    let parts = or_false (moves p c contents m) (list_any (moves p c contents) ms) h in
+    let parts = or_parts (moves p c contents m) (list_any (moves p c contents) ms) h in
     let rest = none_done p c contents ms parts.1 in
     rw (parts.0, rest)
 
@@ -72,7 +65,7 @@ contents_stay n (held ∷ contents) = let rest = contents_stay (n + 1) contents 
 
 settled_none : (p : Plan) (c : ℕ) (st : ClockState) → is_settled p c st ≡ true → list_any (moves p c st.contents) (numbered st) ≡ false
 unfolding is_settled
-settled_none p c st h = not_true _ h
+settled_none p c st h = not-true _ h
 
 nothing_done : (p : Plan) (c : ℕ) (st : ClockState) → is_settled p c st ≡ true → steps_in p c st ≡ []
 unfolding steps_in

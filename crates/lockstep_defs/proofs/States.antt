@@ -1,9 +1,9 @@
 -- The opening is a state of its module, and a move leads to one.
-use Rattle.std.proofs.Common.{◌≡◌, ℕ, zero, suc, ◌+◌, ◌*◌, ◌-◌, ◌≤◌, ◌<◌, List, [], ◌∷◌, ◌++◌, length, get_or, set, drop, replicate, map, Bool, true, false, ◌||◌, ◌&&◌, not, cond, refl, sym, ◌∙◌, ap, subst, arith, ◌==◌, nat_lt, length-append}
-use Rattle.std.specs.Prelude.{nat_le, slice_index, slice_set}
+use Rattle.std.proofs.Common.{◌≡◌, ℕ, zero, suc, ◌+◌, ◌-◌, ◌≤◌, ◌<◌, List, [], ◌∷◌, ◌++◌, length, get_or, set, replicate, map, Bool, true, false, ◌||◌, ◌&&◌, not, cond, refl, sym, ◌∙◌, ap, subst, arith, ◌==◌, nat_lt, length-append}
+use Rattle.std.specs.Prelude.{nat_le, slice_index}
 use Rattle.std.specs.List.{fold}
-use Rattle.std.proofs.lemmas.Bool.{leb-false, ltb-true, ltb-false, lt-ltb, eqb-true, eqb-false, and_from, cond_both, and_parts}
-use Rattle.std.proofs.lemmas.List.{length-set, length-map, length-drop, get_or-drop, length-replicate, get_or_push, get_or-map}
+use Rattle.std.proofs.lemmas.Bool.{leb-false, ltb-true, ltb-false, lt-ltb, eqb-true, and_from, cond_both, and_parts, or_parts}
+use Rattle.std.proofs.lemmas.List.{length-set, length-map, length-drop, get_or-drop, length-replicate, get_or_push}
 use Rattle.std.proofs.Math.Nat.{suc-mul}
 use Rattle.std.proofs.Math.ListN.{get_or-append}
 use Rattle.flow_design.specs.declared.design.BlockKind.{BlockKind}
@@ -19,13 +19,13 @@ use Rattle.flow_design.specs.declared.state.Effect.{Effect}
 use Rattle.flow_design.specs.declared.state.Effect.TheVariants.{Variable, Word}
 use Rattle.flow_design.specs.declared.state.ModuleState.{ModuleState}
 use Rattle.flow_design.specs.declared.state.Reply.{Reply}
-use Rattle.flow_design.specs.Module.{no_block, block_at, block_of, is_loop, interval, interval_of, live_count, temps_of, due}
-use Rattle.flow_design.specs.StaticRules.{IsKindSound, IsNextSound, IsBlockSound, IsModuleSound}
-use Rattle.flow_design.specs.Words.{cut_to}
-use Rattle.lockstep_defs.specs.Machine.{effects, stored, committed, memory_of, entered, ticked, decided, fresh_temps, started, stopped, finished, followed, again_of, is_block_over, move, opened}
-use Rattle.lockstep_defs.specs.Laws.{IsLive}
-use Rattle.lockstep_defs.specs.Quiet.{goes_on}
+use Rattle.flow_design.specs.Module.{no_block, block_at, block_of, is_loop, interval, interval_of, live_count, due}
+use Rattle.flow_design.specs.StaticRules.{IsKindSound, IsNextSound, IsBlockSound, IsModuleSound, FitsEngine}
+use Rattle.lockstep_defs.specs.Machine.{effects, stored, entered, ticked, decided, fresh_temps, started, finished, followed, again_of, is_block_over, move, opened, is_spent, is_over}
+use Rattle.lockstep_defs.specs.Channels.{reply}
+use Rattle.lockstep_defs.specs.Lockstep.{no_module, module_at, requests_of, moves, state, state_at}
 use Rattle.lockstep_defs.specs.States.{HasPlaces, IsWithin, IsStateOf}
+use Rattle.lockstep_defs.proofs.Agrees.{state_at-zero, state_at-suc, is_on}
 use Rattle.lockstep_defs.proofs.Live.{live_iff}
 use Rattle.lockstep_defs.proofs.Moves.{commits_keep, counted, same_control, same_block as kept_block, first_goes, tick_goes, rest_of_move}
 
@@ -66,13 +66,13 @@ live_starts : (b : Block) (k j : Control) → 0 < interval b → 0 < b.len → j
 live_starts b k j pos some clock newest old = one_more (live_count b j) (live_count b k)
     ((live_iff b j 0 pos).1 (record { has_started = omega arith; is_young = omega arith }))
     (λ n h.
-        let live = (live_iff b j (suc n) pos).0 h in
-        let e = suc-mul n (interval b) in
-        (live_iff b k n pos).1 (record { has_started = omega (arith, live.has_started); is_young = omega (arith, live.is_young) }))
+    let live = (live_iff b j (suc n) pos).0 h in
+    let e = suc-mul n (interval b) in
+    (live_iff b k n pos).1 (record { has_started = omega (arith, live.has_started); is_young = omega (arith, live.is_young) }))
     (λ n h.
-        let live = (live_iff b k n pos).0 h in
-        let e = suc-mul n (interval b) in
-        (live_iff b j (suc n) pos).1 (record { has_started = omega (arith, live.has_started); is_young = omega (arith, live.is_young) }))
+    let live = (live_iff b k n pos).0 h in
+    let e = suc-mul n (interval b) in
+    (live_iff b j (suc n) pos).1 (record { has_started = omega (arith, live.has_started); is_young = omega (arith, live.is_young) }))
 
 -- ---- commits keep the places
 
@@ -259,15 +259,15 @@ decided_passed c m t l sound alive h w =
       alive = alive;
     }))
     (λ d.
-        let goes = tick_goes k.looping (interval b) k.clock k.newest w.goes d in
-        record {
-          at_block = l;
-          same_block = refl;
-          places = gone;
-          control = record { has_started = omega (arith, w.has_started); is_loop_going = w.is_loop_going; goes = goes };
-          not_past = still_young k.looping (interval b) (k.clock + 1) k.newest b.len (within_len c m b sound) goes;
-          alive = alive;
-        })
+    let goes = tick_goes k.looping (interval b) k.clock k.newest w.goes d in
+    record {
+      at_block = l;
+      same_block = refl;
+      places = gone;
+      control = record { has_started = omega (arith, w.has_started); is_loop_going = w.is_loop_going; goes = goes };
+      not_past = still_young k.looping (interval b) (k.clock + 1) k.newest b.len (within_len c m b sound) goes;
+      alive = alive;
+    })
 
 -- ---- the end of a move
 
@@ -349,3 +349,21 @@ opened_state c m sound = entered_state c m sound no_block 0 0 _ (record {
     words [] n = refl
     words (memory ∷ ms) zero = length-replicate {A = ℕ} memory.len 0
     words (memory ∷ ms) (suc n) = words ms n
+
+-- ---- the states of the history
+
+not_ended : (limit : ℕ) (s : ModuleState) → is_over limit s ≡ false → s.ended ≡ false
+unfolding is_over
+not_ended limit s h = (or_parts s.ended (is_spent limit s) h).0
+
+-- each module of a plan that the engine takes stands in one of its states in every clock
+pub history_state : (p : Plan) → FitsEngine p → (c i : ℕ) → i < length p.design.modules → IsStateOf (module_at p i) (state_at p c i)
+history_state p h zero i l = rw (state_at-zero p i l) (opened_state (length p.design.channels) (module_at p i) (h.modules i no_module l))
+history_state p h (suc c) i l = rw (state_at-suc p c i l) (by_test (moves p c (state p c).contents (i, state_at p c i)) refl (history_state p h c i l))
+  where
+    by_test : (b : Bool) → moves p c (state p c).contents (i, state_at p c i) ≡ b → IsStateOf (module_at p i) (state_at p c i)
+        → IsStateOf (module_at p i) (cond b (move (module_at p i) (state_at p c i) (map (reply p c (state p c).contents) (requests_of p (i, state_at p c i)))) (state_at p c i))
+    by_test false e now = now
+    by_test true e now =
+        move_state (length p.design.channels) (module_at p i) (h.modules i no_module l) (state_at p c i) _ now
+        (not_ended p.ops (state_at p c i) (is_on p c (state p c).contents (i, state_at p c i) e))

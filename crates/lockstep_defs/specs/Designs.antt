@@ -1,4 +1,4 @@
--- Small designs whose reports are known: the worked rows.
+-- Small designs whose reports are known.
 use Rattle.std.specs.Prelude.{ℕ, suc, List, [], ◌∷◌, Some, None}
 use Rattle.flow_design.specs.declared.expr.Expr.{Number, Var, Binary}
 use Rattle.flow_design.specs.declared.expr.BinOp.TheVariants.{Add, Or, Xor, Shl, LtU}

@@ -1,5 +1,5 @@
 -- The laws of the lockstep machine.
-use Rattle.std.specs.Prelude.{ℕ, zero, suc, if◌then◌else◌, ◌≡◌, ◌+◌, ◌*◌, ◌-◌, ◌<◌, ◌≤◌, Bool, true, false, IsTrue, IsFalse, List, ◌++◌, map, length, slice_index_or}
+use Rattle.std.specs.Prelude.{◌⊎◌, ℕ, zero, suc, if◌then◌else◌, ◌≡◌, ◌+◌, ◌*◌, ◌-◌, ◌<◌, ◌≤◌, Bool, true, false, IsTrue, IsFalse, List, ◌++◌, map, length, slice_index_or}
 use Rattle.flow_design.specs.declared.design.Block.{Block}
 use Rattle.flow_design.specs.declared.plan.Plan.{Plan}
 use Rattle.flow_design.specs.declared.state.Control.{Control}
@@ -59,6 +59,10 @@ own_at p i c = own p i (replies_in (steps_of i (history p c))) (clocks_made p i 
 pub record IsOwnRun (p : Plan) (i c : ℕ) : Type 0 where
   pub state_is : (own_at p i c).state ≡ state_at p c i
   pub steps_are : exchanges_in (own_at p i c).steps ≡ map (λ s. s.exchanges) (steps_of i (history p c))
+
+-- the steps of the history stand in order of clocks, and in one clock in order of modules
+abbrev pub IsBefore : HistoryStep → HistoryStep → Type 0
+IsBefore s t = (s.clock < t.clock) ⊎ ((s.clock ≡ t.clock) × (s.«module» < t.«module»))
 
 -- the iteration that started j intervals before the newest one started at local clock 0 or later, and is younger than LEN
 pub record IsLive (b : Block) (k : Control) (j : ℕ) : Type 0 where

@@ -1,8 +1,9 @@
 -- What holds of each state that a module comes to.
-use Rattle.std.specs.Prelude.{ℕ, ◌≡◌, ◌+◌, ◌<◌, ◌≤◌, Bool, IsTrue, IsFalse, List, length, map, slice_index}
+use Rattle.std.specs.Prelude.{ℕ, ◌≡◌, ◌+◌, ◌<◌, ◌≤◌, IsTrue, IsFalse, length, map, slice_index}
 use Rattle.flow_design.specs.declared.design.Block.{Block}
 use Rattle.flow_design.specs.declared.design.Module.{Module}
 use Rattle.flow_design.specs.declared.state.Control.{Control}
+use Rattle.flow_design.specs.declared.state.Due.{Due}
 use Rattle.flow_design.specs.declared.state.ModuleState.{ModuleState}
 use Rattle.flow_design.specs.Module.{block_of, is_loop, interval, live_count, temps_of}
 use Rattle.lockstep_defs.specs.Machine.{memory_of}
@@ -33,3 +34,8 @@ pub record IsStateOf (m : Module) (s : ModuleState) : Type 0 where
   pub control : IsWithin (block_of m s) s.control
   -- the block is not over, unless the module is ended
   pub young : IsFalse s.ended → s.control.clock < s.control.newest + (block_of m s).len
+
+-- a due operation names a live iteration and an operation of the block
+pub record IsDueIn (b : Block) (iterations : ℕ) (d : Due) : Type 0 where
+  pub iteration : d.iteration < iterations
+  pub op : d.op < length b.ops

@@ -1,19 +1,23 @@
 //! The laws of the lockstep machine.
-ghost use Rattle.std.specs.Prelude.{ℕ, ◌≡◌, ◌+◌, ◌<◌, ◌≤◌, ◌↔◌, length, true, IsTrue};
+ghost use Rattle.std.specs.Prelude.{ℕ, ◌≡◌, ◌+◌, ◌<◌, ◌≤◌, ◌↔◌, length, IsTrue, IsFalse, All, AllPairs};
 ghost use Rattle.flow_design.specs.declared.design.Block.{Block};
+ghost use Rattle.flow_design.specs.declared.design.Module.{Module};
 ghost use Rattle.flow_design.specs.declared.plan.Plan.{Plan};
 ghost use Rattle.flow_design.specs.declared.report.Verdict.TheVariants.{Cycles};
 ghost use Rattle.flow_design.specs.declared.state.Control.{Control};
 ghost use Rattle.flow_design.specs.declared.state.ModuleState.{ModuleState};
 ghost use Rattle.flow_design.specs.declared.state.Reply.{Reply};
 ghost use Rattle.std.specs.Prelude.{List as Items};
-ghost use Rattle.flow_design.specs.Module.{interval, live_count};
-ghost use Rattle.flow_design.specs.StaticRules.{FitsEngine};
+ghost use Rattle.flow_design.specs.Module.{block_of, interval, live_count, due};
+ghost use Rattle.flow_design.specs.Operations.{End};
+ghost use Rattle.flow_design.specs.StaticRules.{IsModuleSound, FitsEngine};
 ghost use Rattle.lockstep_defs.specs.Machine.{opened, move};
-ghost use Rattle.lockstep_defs.specs.Lockstep.{module_at, state};
+ghost use Rattle.lockstep_defs.specs.Lockstep.{module_at, requests_of, state, state_at, history};
 ghost use Rattle.lockstep_defs.specs.Verdict.{is_settled, settled_verdict, verdict};
 ghost use Rattle.lockstep_defs.specs.Quiet.{fits};
-ghost use Rattle.lockstep_defs.specs.Laws.{SettledStays, NoneBefore, MovesOnce, IsConserved, PopsInOrder, IsOwnRun, IsLive, AreAges, QuietClocksEnd};
+ghost use Rattle.lockstep_defs.specs.States.{IsStateOf, IsDueIn};
+ghost use Rattle.lockstep_defs.specs.Ends.{takers, StandsAtEnd};
+ghost use Rattle.lockstep_defs.specs.Laws.{SettledStays, NoneBefore, MovesOnce, IsConserved, PopsInOrder, IsBefore, IsOwnRun, IsLive, AreAges, QuietClocksEnd};
 
 /// From a settled clock on nothing changes and nothing is done, and the verdict is that of the first settled clock.
 pub fn settled_clocks()
@@ -30,9 +34,24 @@ pub fn channels_are_queues()
     ensures in_order { (p : Plan) → FitsEngine p → (c f : ℕ) → f < length p.design.channels → PopsInOrder p c f }
 {}
 
-/// What a module does in the history is its own run on the history's replies.
+/// The history stands in order of clocks, and in one clock in order of modules. What a module does in it is its own run on the
+/// history's replies.
 pub fn histories_are_own_runs()
-    ensures { (p : Plan) (i c : ℕ) → i < length p.design.modules → IsOwnRun p i c }
+    ensures order { (p : Plan) (c : ℕ) → AllPairs IsBefore (history p c) }
+    ensures clocks { (p : Plan) (c : ℕ) → All (λ s. s.clock < c) (history p c) }
+    ensures own { (p : Plan) (i c : ℕ) → i < length p.design.modules → IsOwnRun p i c }
+{}
+
+/// In each clock each module stands in one of its states, and its due operations and requests are those of its design.
+pub fn states_fit_modules()
+    ensures opened { (channels : ℕ) (m : Module) → IsModuleSound channels m → IsStateOf m (opened m) }
+    ensures moved { (channels : ℕ) (m : Module) → IsModuleSound channels m → (s : ModuleState) (replies : Items Reply)
+        → IsStateOf m s → IsFalse s.ended → IsStateOf m (move m s replies) }
+    ensures history { (p : Plan) → FitsEngine p → (c i : ℕ) → i < length p.design.modules → IsStateOf (module_at p i) (state_at p c i) }
+    ensures due { (m : Module) (s : ModuleState) → All (IsDueIn (block_of m s) (live_count (block_of m s) s.control)) (due m s) }
+    ensures requests { (p : Plan) → FitsEngine p → (i : ℕ) → i < length p.design.modules → (s : ModuleState)
+        → All (StandsAtEnd p i) (requests_of p (i, s)) }
+    ensures takers { (p : Plan) → FitsEngine p → (e : End) (i : ℕ) (s : ModuleState) → length (takers e (requests_of p (i, s))) ≤ 1 }
 {}
 
 /// The live iterations of a block whose interval is at least 1 started at the newest one's start and at each interval before it,

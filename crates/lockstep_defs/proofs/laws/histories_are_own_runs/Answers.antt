@@ -1,5 +1,14 @@
+use Rattle.std.proofs.lemmas.List.Elements.{All-from_recursion}
+use Rattle.lockstep_defs.specs.Lockstep.{history}
 use Rattle.lockstep_defs.proofs.Agrees.{is_own_run}
+use Rattle.lockstep_defs.proofs.Order.{in_order, before_clock}
 use Rattle.lockstep_defs.proofs.laws.histories_are_own_runs.Goals as goal
 
-pub returns : goal.returns
-returns c = is_own_run
+pub returns-clause-order : goal.returns-clause-order
+returns-clause-order c = in_order
+
+pub returns-clause-clocks : goal.returns-clause-clocks
+returns-clause-clocks c = λ p b. All-from_recursion _ (history p b) (before_clock p b)
+
+pub returns-clause-own : goal.returns-clause-own
+returns-clause-own c = is_own_run

@@ -1,0 +1,142 @@
+-- What is due in a state of a module of a plan that the engine takes, and where its requests stand.
+use Rattle.std.proofs.Common.{◌≡◌, ℕ, ◌+◌, ◌≤◌, ◌<◌, List, [], ◌∷◌, map, length, Bool, true, false, ◌==◌, refl, sym, subst, arith, ◌⊎◌, inl, inr}
+use Rattle.std.specs.List.{flat_map, filter, filter_map, enumerate_from, cons_option, AllByRecursion, All}
+use Rattle.std.specs.Prelude.{IfSome}
+use Rattle.std.proofs.lemmas.Bool.{cond_both}
+use Rattle.std.proofs.lemmas.List.Elements.{All-from_recursion}
+use Rattle.std.proofs.lemmas.List.Sums.{length-filter}
+use Rattle.flow_design.specs.declared.expr.Op.{Op}
+use Rattle.flow_design.specs.declared.expr.Op.TheVariants.{Set, Load, Store, Read, Write, TryRead, TryWrite, Empty, Full}
+use Rattle.flow_design.specs.declared.design.ChannelKind.{ChannelKind}
+use Rattle.flow_design.specs.declared.design.ChannelKind.TheVariants.{Source, Sink, Fifo}
+use Rattle.flow_design.specs.declared.design.Channel.{Channel}
+use Rattle.flow_design.specs.declared.design.Timed.{Timed}
+use Rattle.flow_design.specs.declared.design.Block.{Block}
+use Rattle.flow_design.specs.declared.design.Module.{Module}
+use Rattle.flow_design.specs.declared.plan.Plan.{Plan}
+use Rattle.flow_design.specs.declared.state.Due.{Due}
+use Rattle.flow_design.specs.declared.state.ModuleState.{ModuleState}
+use Rattle.flow_design.specs.declared.state.Request.{Request}
+use Rattle.flow_design.specs.Module.{no_block, no_operation, block_of, operation_at, live_count, ages, due_at, due_in, due}
+use Rattle.flow_design.specs.Operations.{End, end_of}
+use Rattle.flow_design.specs.Plans.{kind_at}
+use Rattle.flow_design.specs.StaticRules.{uses, users_wanted, IsBlockSound, FitsEngine}
+use Rattle.lockstep_defs.specs.Machine.{request_of, request_for, requests}
+use Rattle.lockstep_defs.specs.Channels.{side_of}
+use Rattle.lockstep_defs.specs.Lockstep.{module_at, requests_of}
+use Rattle.lockstep_defs.specs.Ends.{has_end, StandsAtEnd}
+use Rattle.lockstep_defs.specs.States.{IsDueIn}
+use Rattle.lockstep_defs.proofs.Live.{are_ages}
+use Rattle.lockstep_defs.proofs.Queue.{all-append}
+use Rattle.lockstep_defs.proofs.Rules.{some_pass, sound_block, owned_by}
+
+-- ---- due operations are in range
+
+due_numbers : (b : Block) (a k : ℕ) (ts : List Timed) → k + length ts ≤ length b.ops
+    → AllByRecursion (λ n. n < length b.ops) (map (λ t. t.0) (filter (λ t. (t.1).offset == a) (enumerate_from k ts)))
+due_numbers b a k [] h = tt
+due_numbers b a k (t ∷ ts) h =
+    let rest = due_numbers b a (k + 1) ts (omega arith) in
+    cond_both (t.offset == a) ((k, t) ∷ filter (λ t. (t.1).offset == a) (enumerate_from (k + 1) ts)) (filter (λ t. (t.1).offset == a) (enumerate_from (k + 1) ts))
+    (λ (l : List (ℕ × Timed)). AllByRecursion (λ n. n < length b.ops) (map (λ t. t.0) l))
+    (λ e. (omega arith, rest)) (λ e. rest)
+
+passing_in : (b : Block) (iterations i : ℕ) (test : ℕ → Bool) (ns : List ℕ) → i < iterations → AllByRecursion (λ n. n < length b.ops) ns
+    → AllByRecursion (IsDueIn b iterations) (map (λ n. record { iteration = i; op = n }) (filter test ns))
+passing_in b iterations i test [] l h = tt
+passing_in b iterations i test (n ∷ ns) l h =
+    let rest = passing_in b iterations i test ns l h.1 in
+    cond_both (test n) (n ∷ filter test ns) (filter test ns)
+    (λ (l : List ℕ). AllByRecursion (IsDueIn b iterations) (map (λ n. record { iteration = i; op = n }) l))
+    (λ e. (record { iteration = l; op = h.0 }, rest)) (λ e. rest)
+
+due_in_iteration : (b : Block) (s : ModuleState) (iterations : ℕ) (it : ℕ × ℕ) → it.0 < iterations → AllByRecursion (IsDueIn b iterations) (due_in b s it)
+unfolding due_at
+due_in_iteration b s iterations it l = passing_in b iterations it.0 _ (due_at b it.1) l (due_numbers b it.1 0 b.ops (omega arith))
+
+due_in_iterations : (b : Block) (s : ModuleState) (iterations n : ℕ) (as' : List ℕ) → n + length as' ≤ iterations
+    → AllByRecursion (IsDueIn b iterations) (flat_map (due_in b s) (enumerate_from n as'))
+due_in_iterations b s iterations n [] h = tt
+due_in_iterations b s iterations n (a ∷ as') h =
+    all-append (IsDueIn b iterations) (due_in b s (n, a)) (flat_map (due_in b s) (enumerate_from (n + 1) as'))
+    (due_in_iteration b s iterations (n, a) (omega arith)) (due_in_iterations b s iterations (n + 1) as' (omega arith))
+
+due_by_recursion : (m : Module) (s : ModuleState) → AllByRecursion (IsDueIn (block_of m s) (live_count (block_of m s) s.control)) (due m s)
+unfolding due
+due_by_recursion m s =
+    let b = block_of m s in
+    due_in_iterations b s (live_count b s.control) 0 (ages b s.control) (omega (arith, (are_ages b s.control).count))
+
+-- each due operation is one of the block, in a live iteration
+pub due_in_range : (m : Module) (s : ModuleState) → All (IsDueIn (block_of m s) (live_count (block_of m s) s.control)) (due m s)
+due_in_range m s = All-from_recursion (IsDueIn (block_of m s) (live_count (block_of m s) s.control)) (due m s) (due_by_recursion m s)
+
+-- ---- requests stand at ends of their module
+
+none_wanted : (k : ChannelKind) (side : Bool) → 1 ≤ users_wanted k side → has_end k side ≡ true
+none_wanted Source true h = refl
+none_wanted Source false h = absurd (omega arith)
+none_wanted Sink true h = absurd (omega arith)
+none_wanted Sink false h = refl
+none_wanted (Fifo d) side h = refl
+
+-- an end that a module uses is there
+end_there : (p : Plan) → FitsEngine p → (i : ℕ) (e : End) → i < length p.design.modules → e.1 < length p.design.channels → uses e (module_at p i) ≡ true
+    → has_end (kind_at p e.1) e.0 ≡ true
+end_there p h i (true, f) l in_range used = none_wanted (kind_at p f) true
+    (omega (arith, length-filter (uses (true, f)) p.design.modules, (h.channels f in_range).popping, some_pass (uses (true, f)) p.design.modules i _ l used))
+end_there p h i (false, f) l in_range used = none_wanted (kind_at p f) false
+    (omega (arith, length-filter (uses (false, f)) p.design.modules, (h.channels f in_range).pushing, some_pass (uses (false, f)) p.design.modules i _ l used))
+
+stands : (p : Plan) → FitsEngine p → (i : ℕ) → i < length p.design.modules → (r : Request) → r.channel < length p.design.channels
+    → uses (side_of r.kind, r.channel) (module_at p i) ≡ true → StandsAtEnd p i r
+stands p h i l r in_range used = record {
+  in_range = in_range;
+  is_there = end_there p h i (side_of r.kind, r.channel) l in_range used;
+  owned = owned_by p h (side_of r.kind, r.channel) i used;
+}
+
+-- an operation of a module makes a request that stands at an end, or none
+operation_stands : (p : Plan) → FitsEngine p → (i : ℕ) → i < length p.design.modules → (channels : List Channel) (s : ModuleState) (n : ℕ) (op : Op ℕ)
+    → IfSome (end_of op) (λ e. e.1 < length p.design.channels) → IfSome (end_of op) (λ e. uses e (module_at p i) ≡ true)
+    → (rs : List Request) → AllByRecursion (StandsAtEnd p i) rs → AllByRecursion (StandsAtEnd p i) (cons_option (request_of channels s n op) rs)
+operation_stands p h i l channels s n (Set x a) c u rs rest = rest
+operation_stands p h i l channels s n (Load x k a) c u rs rest = rest
+operation_stands p h i l channels s n (Store k a b) c u rs rest = rest
+operation_stands p h i l channels s n (Read f x) c u rs rest = (stands p h i l _ c u, rest)
+operation_stands p h i l channels s n (Write f a) c u rs rest = (stands p h i l _ c u, rest)
+operation_stands p h i l channels s n (TryRead f x ok) c u rs rest = (stands p h i l _ c u, rest)
+operation_stands p h i l channels s n (TryWrite f ok a) c u rs rest = (stands p h i l _ c u, rest)
+operation_stands p h i l channels s n (Empty f x) c u rs rest = (stands p h i l _ c u, rest)
+operation_stands p h i l channels s n (Full f x) c u rs rest = (stands p h i l _ c u, rest)
+
+all_stand : (p : Plan) → FitsEngine p → (i : ℕ) → i < length p.design.modules → (channels : List Channel) (s : ModuleState)
+    → IsBlockSound (length p.design.channels) (module_at p i) (block_of (module_at p i) s) → (n : ℕ) (ds : List Due)
+    → AllByRecursion (IsDueIn (block_of (module_at p i) s) n) ds → AllByRecursion (StandsAtEnd p i) (filter_map (request_for channels (module_at p i) s) ds)
+all_stand p h i l channels s sound n [] d = tt
+all_stand p h i l channels s sound n (x ∷ ds) d =
+    let here = (sound.operations x.op no_operation (d.0).op).operation in
+    operation_stands p h i l channels s x.iteration (operation_at (block_of (module_at p i) s) x.op).op here.channel here.side
+    (filter_map (request_for channels (module_at p i) s) ds) (all_stand p h i l channels s sound n ds d.1)
+
+nothing_due : (m : Module) (s : ModuleState) → block_of m s ≡ no_block → AllByRecursion (IsDueIn (block_of m s) (live_count (block_of m s) s.control)) (due m s) → due m s ≡ []
+nothing_due m s e h = none (due m s) (subst (λ (b : Block). AllByRecursion (IsDueIn b (live_count (block_of m s) s.control)) (due m s)) e h)
+  where
+    none : (ds : List Due) → AllByRecursion (IsDueIn no_block (live_count (block_of m s) s.control)) ds → ds ≡ []
+    none [] d = refl
+    none (x ∷ ds) d = let l = (d.0).op in absurd (omega arith)
+
+stand_by_recursion : (p : Plan) → FitsEngine p → (i : ℕ) → i < length p.design.modules → (s : ModuleState) → AllByRecursion (StandsAtEnd p i) (requests_of p (i, s))
+unfolding requests
+stand_by_recursion p h i l s = by_block (sound_block p h i s.control.block)
+  where
+    by_block : IsBlockSound (length p.design.channels) (module_at p i) (block_of (module_at p i) s) ⊎ (block_of (module_at p i) s ≡ no_block)
+        → AllByRecursion (StandsAtEnd p i) (filter_map (request_for p.design.channels (module_at p i) s) (due (module_at p i) s))
+    by_block (inl sound) = all_stand p h i l p.design.channels s sound _ (due (module_at p i) s) (due_by_recursion (module_at p i) s)
+    by_block (inr none) =
+        subst (λ (ds : List Due). AllByRecursion (StandsAtEnd p i) (filter_map (request_for p.design.channels (module_at p i) s) ds))
+        (sym (nothing_due (module_at p i) s none (due_by_recursion (module_at p i) s))) tt
+
+-- each request of a module stands at an end of a channel of the plan, and the module is the one at that end
+pub requests_stand : (p : Plan) → FitsEngine p → (i : ℕ) → i < length p.design.modules → (s : ModuleState) → All (StandsAtEnd p i) (requests_of p (i, s))
+requests_stand p h i l s = All-from_recursion (StandsAtEnd p i) (requests_of p (i, s)) (stand_by_recursion p h i l s)

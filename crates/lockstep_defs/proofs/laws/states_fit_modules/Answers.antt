@@ -1,0 +1,23 @@
+use Rattle.lockstep_defs.proofs.Once.{takers_once}
+use Rattle.lockstep_defs.proofs.Rules.{keeps_ends}
+use Rattle.lockstep_defs.proofs.Standing.{due_in_range, requests_stand}
+use Rattle.lockstep_defs.proofs.States.{opened_state, move_state, history_state}
+use Rattle.lockstep_defs.proofs.laws.states_fit_modules.Goals as goal
+
+pub returns-clause-opened : goal.returns-clause-opened
+returns-clause-opened c = opened_state
+
+pub returns-clause-moved : goal.returns-clause-moved
+returns-clause-moved c = move_state
+
+pub returns-clause-history : goal.returns-clause-history
+returns-clause-history c = history_state
+
+pub returns-clause-due : goal.returns-clause-due
+returns-clause-due c = due_in_range
+
+pub returns-clause-requests : goal.returns-clause-requests
+returns-clause-requests c = requests_stand
+
+pub returns-clause-takers : goal.returns-clause-takers
+returns-clause-takers c = λ p h. takers_once p (keeps_ends p h)

@@ -13,3 +13,4 @@ pub mod Resting
 pub mod States
 pub mod Standing
 pub mod Order
+pub mod Counts

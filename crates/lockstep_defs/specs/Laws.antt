@@ -1,12 +1,13 @@
 -- The laws of the lockstep machine.
-use Rattle.std.specs.Prelude.{◌⊎◌, ℕ, zero, suc, if◌then◌else◌, ◌≡◌, ◌+◌, ◌*◌, ◌-◌, ◌<◌, ◌≤◌, Bool, true, false, IsTrue, IsFalse, List, ◌++◌, map, length, slice_index_or}
+use Rattle.std.specs.Prelude.{◌⊎◌, ℕ, zero, suc, if◌then◌else◌, ◌≡◌, ◌+◌, ◌*◌, ◌-◌, ◌<◌, ◌≤◌, Bool, true, false, IsTrue, IsFalse, List, ◌++◌, map, length, nat_lt, slice_index, slice_index_or}
 use Rattle.flow_design.specs.declared.design.Block.{Block}
 use Rattle.flow_design.specs.declared.plan.Plan.{Plan}
 use Rattle.flow_design.specs.declared.state.Control.{Control}
 use Rattle.flow_design.specs.declared.state.Reply.{Reply}
 use Rattle.flow_design.specs.declared.state.ModuleState.{ModuleState}
+use Rattle.flow_design.specs.Plans.{is_fifo, kind_at}
 use Rattle.flow_design.specs.Module.{interval, live_count, ages}
-use Rattle.lockstep_defs.specs.Channels.{HistoryStep, Exchange, moved, contents_of}
+use Rattle.lockstep_defs.specs.Channels.{HistoryStep, Exchange, is_possible, moved, contents_of}
 use Rattle.lockstep_defs.specs.Lockstep.{moves, state, history, state_at, steps_in}
 use Rattle.lockstep_defs.specs.Verdict.{is_settled}
 use Rattle.lockstep_defs.specs.Report.{steps_of}
@@ -37,6 +38,14 @@ IsConserved p c f = all_in p c f ≡ moved true f (history p c) ++ contents_of (
 abbrev pub PopsInOrder : Plan → ℕ → ℕ → Type 0
 PopsInOrder p c f = (n d : ℕ) → n < length (moved true f (history p c))
     → slice_index_or (moved true f (history p c)) n d ≡ slice_index_or (all_in p c f) n d
+
+-- what is possible is a matter of counts: an element is there where fewer were popped than went in, and a FIFO has a place
+-- where fewer were pushed than its depth and the pops together; a source or a sink always has one
+pub record IsCounted (p : Plan) (c f : ℕ) : Type 0 where
+  pub pops : is_possible p c (state p c).contents true f ≡ nat_lt (length (moved true f (history p c))) (length (all_in p c f))
+  pub pushes : IsTrue (is_fifo (kind_at p f))
+      → is_possible p c (state p c).contents false f ≡ nat_lt (length (moved false f (history p c))) (slice_index p.depths f + length (moved true f (history p c)))
+  pub unlimited : IsFalse (is_fifo (kind_at p f)) → is_possible p c (state p c).contents false f ≡ true
 
 -- the replies to the steps of a module
 abbrev pub replies_in : List HistoryStep → List (List Reply)

@@ -17,7 +17,7 @@ ghost use Rattle.lockstep_defs.specs.Verdict.{is_settled, settled_verdict, verdi
 ghost use Rattle.lockstep_defs.specs.Quiet.{fits};
 ghost use Rattle.lockstep_defs.specs.States.{IsStateOf, IsDueIn};
 ghost use Rattle.lockstep_defs.specs.Ends.{takers, StandsAtEnd};
-ghost use Rattle.lockstep_defs.specs.Laws.{SettledStays, NoneBefore, MovesOnce, IsConserved, PopsInOrder, IsBefore, IsOwnRun, IsLive, AreAges, QuietClocksEnd};
+ghost use Rattle.lockstep_defs.specs.Laws.{SettledStays, NoneBefore, MovesOnce, IsConserved, PopsInOrder, IsCounted, IsBefore, IsOwnRun, IsLive, AreAges, QuietClocksEnd};
 
 /// From a settled clock on nothing changes and nothing is done, and the verdict is that of the first settled clock.
 pub fn settled_clocks()
@@ -32,6 +32,7 @@ pub fn channels_are_queues()
     ensures once { (p : Plan) → FitsEngine p → (c : ℕ) → MovesOnce p c }
     ensures conserved { (p : Plan) → FitsEngine p → (c f : ℕ) → f < length p.design.channels → IsConserved p c f }
     ensures in_order { (p : Plan) → FitsEngine p → (c f : ℕ) → f < length p.design.channels → PopsInOrder p c f }
+    ensures counted { (p : Plan) → FitsEngine p → (c f : ℕ) → f < length p.design.channels → IsCounted p c f }
 {}
 
 /// The history stands in order of clocks, and in one clock in order of modules. What a module does in it is its own run on the

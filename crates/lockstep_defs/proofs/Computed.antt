@@ -1,5 +1,5 @@
 -- Opens the definitions, so that a small design's report is computed.
-use Rattle.flow_design.specs.declared.expr.Expr.TheBlock.{hidden-the_row-Expr-0}
+use Rattle.flow_design.specs.declared.expr.Expr.TheBlock.{shape-the_row-Expr-0, hidden-the_row-Expr-0}
 use Rattle.flow_design.specs.Words.{value}
 use Rattle.flow_design.specs.Module.{ages, due_at, due}
 use Rattle.lockstep_defs.specs.Machine.{requests, entered, ticked, decided, finished, move, opened, is_over}
@@ -11,5 +11,5 @@ use Rattle.lockstep_defs.specs.OwnRun.{own_next, own, marks}
 
 -- naming this on an `unfolding` line opens every definition
 unfoldable pub all_open : Unit {0}
-unfolding hidden-the_row-Expr-0 denote.Hole.Carrier.hidden report verdict first_settled is_settled moment opening clock_step steps_in moves reply moved moved_by is_over opened move finished decided ticked entered requests due due_at ages value own_next own marks
+unfolding shape-the_row-Expr-0 hidden-the_row-Expr-0 denote.Hole.Carrier.hidden report verdict first_settled is_settled moment opening clock_step steps_in moves reply moved moved_by is_over opened move finished decided ticked entered requests due due_at ages value own_next own marks
 all_open = tt

@@ -1,7 +1,7 @@
 -- Small designs whose reports are known.
 use Rattle.std.specs.Prelude.{ℕ, suc, List, [], ◌∷◌, Some, None}
-use Rattle.flow_design.specs.declared.expr.Expr.{Number, Var, Binary}
-use Rattle.flow_design.specs.declared.expr.BinOp.TheVariants.{Add, Or, Xor, Shl, LtU}
+use Rattle.flow_design.specs.declared.expr.Expr.{Expr, Number, Var, Binary, Sext, Pick}
+use Rattle.flow_design.specs.declared.expr.BinOp.TheVariants.{Add, Sub, Or, Xor, Shl, Shr, LtU, LtS, Div, Rem}
 use Rattle.flow_design.specs.declared.expr.Op.{Op}
 use Rattle.flow_design.specs.declared.expr.Op.TheVariants.{Set, Load, Store, Read, Write, TryRead, TryWrite, Empty}
 use Rattle.flow_design.specs.declared.design.BlockKind.TheVariants.{Plain, Loop}
@@ -83,6 +83,26 @@ cycle_limit_before_the_end = record plain_case { cycles = 2 }
 abbrev pub commit_order : Plan
 commit_order = plan_of (sink 8 ∷ [])
     (one_block (8 ∷ []) (block 2 (at 0 (Set 0 (Number 1)) ∷ at 0 (Set 0 (Number 2)) ∷ at 1 (Write 0 (Var 0)) ∷ [])) ∷ [])
+    ([] ∷ []) (0 ∷ [])
+
+-- a value is told in each clock
+abbrev pub telling : ℕ → List (Expr ℕ) → List Timed
+telling offset [] = []
+telling offset (e ∷ es) = at offset (Write 0 e) ∷ telling (suc offset) es
+
+abbrev pub word_arithmetic : Plan
+word_arithmetic = plan_of (sink 64 ∷ [])
+    (one_block [] (block 9 (telling 0
+    (Binary Div (Number 7) (Number 0)
+    ∷ Binary Rem (Number 7) (Number 0)
+    ∷ Binary Shl (Number 1) (Number 64)
+    ∷ Sext 8 (Number 128)
+    ∷ Binary LtS (Sext 1 (Number 1)) (Number 0)
+    ∷ Binary Sub (Number 0) (Number 1)
+    ∷ Pick (Number 0) (Number 5) (Number 6)
+    ∷ Binary Shr (Number 256) (Number 4)
+    ∷ Binary LtU (Number 18446744073709551615) (Number 1)
+    ∷ []))) ∷ [])
     ([] ∷ []) (0 ∷ [])
 
 abbrev pub empty_design : Plan
@@ -168,9 +188,9 @@ later_stall_delays_earlier_query = plan_of (fifo 8 ∷ fifo 8 ∷ sink 8 ∷ [])
     ∷ [])
     ([] ∷ [] ∷ [] ∷ []) (2 ∷ 2 ∷ 0 ∷ [])
 
--- a try to push into a full FIFO of depth 1, or a free one of depth 2
-abbrev pub tried_push : ℕ → Plan
-tried_push depth = plan_of (fifo 8 ∷ sink 8 ∷ [])
+-- a try to push a second element, which fails at depth 1 and is done at depth 2
+abbrev pub outcome_that_turns : ℕ → Plan
+outcome_that_turns depth = plan_of (fifo 8 ∷ sink 8 ∷ [])
     (one_block (1 ∷ []) (block 3 (at 0 (Write 0 (Number 1)) ∷ at 1 (TryWrite 0 0 (Number 2)) ∷ at 2 (Write 1 (Var 0)) ∷ []))
     ∷ one_block (8 ∷ []) (block 10 (at 9 (Read 0 0) ∷ []))
     ∷ [])
@@ -191,6 +211,14 @@ polling_loop = record {
 
 -- ---- deadlock
 
+-- a producer without an end, whose consumer never pops
+abbrev pub run_ahead_past_full : Plan
+run_ahead_past_full = plan_of (fifo 8 ∷ [])
+    (one_block (1 ∷ []) (loop 1 1 0 (at 0 (Write 0 (Number 7)) ∷ at 0 (Set 0 (Number 1)) ∷ []))
+    ∷ one_block (8 ∷ 1 ∷ []) (block 1 (at_if 0 1 (Read 0 0) ∷ []))
+    ∷ [])
+    ([] ∷ []) (2 ∷ [])
+
 -- a module that pops one channel, and then pushes the other
 abbrev pub waiting : ℕ → ℕ → Module
 waiting pops pushes = one_block (8 ∷ []) (block 2 (at 0 (Read pops 0) ∷ at 1 (Write pushes (Number 1)) ∷ []))
@@ -199,8 +227,8 @@ abbrev pub deadlock_at_once : Plan
 deadlock_at_once = plan_of (fifo 8 ∷ fifo 8 ∷ []) (waiting 1 0 ∷ waiting 0 1 ∷ []) ([] ∷ [] ∷ []) (2 ∷ 2 ∷ [])
 
 -- channels b, c and y
-abbrev pub pushed_too_early : ℕ → Plan
-pushed_too_early depth = plan_of (fifo 8 ∷ fifo 8 ∷ sink 8 ∷ [])
+abbrev pub deadlocked_record_goes_on : ℕ → Plan
+deadlocked_record_goes_on depth = plan_of (fifo 8 ∷ fifo 8 ∷ sink 8 ∷ [])
     (one_block [] (block 4
     (at 0 (Write 0 (Number 1)) ∷ at 1 (Write 0 (Number 2)) ∷ at 2 (Write 0 (Number 3)) ∷ at 3 (Write 1 (Number 9)) ∷ []))
     ∷ one_block (8 ∷ []) (block 5
@@ -251,7 +279,13 @@ parts = plan_of (sink 8 ∷ [])
             kind = Plain;
             len = 4;
             temps = 8 ∷ [];
-            ops = at 0 (Load 2 0 (Number 0)) ∷ at 1 (Write 0 (Var 2)) ∷ at 1 (Load 2 0 (Number 4)) ∷ at 2 (Write 0 (Var 2)) ∷ at 2 (Load 2 0 (Number 2)) ∷ at 3 (Write 0 (Var 2)) ∷ [];
+            ops = at 0 (Load 2 0 (Number 0))
+                ∷ at 1 (Write 0 (Var 2))
+                ∷ at 1 (Load 2 0 (Number 4))
+                ∷ at 2 (Write 0 (Var 2))
+                ∷ at 2 (Load 2 0 (Number 2))
+                ∷ at 3 (Write 0 (Var 2))
+                ∷ [];
             next = Goto 3;
           }
           ∷ block 1 []

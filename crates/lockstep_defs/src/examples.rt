@@ -15,6 +15,8 @@ pub fn sources_and_sinks()
     ensures plain_events { (report Designs.plain_case).events ≡ event 0 Kind.Read 0 0 ∷ event 0 Kind.Write 1 2 ∷ [] }
     ensures exhausted_source { Shows Designs.exhausted_source (Deadlock 0) ([] ∷ []) (held_by_channel 0 false 0 ∷ []) }
     ensures commit_order { Shows Designs.commit_order (Done 2) ((2 ∷ []) ∷ []) [] }
+    ensures word_arithmetic { Shows Designs.word_arithmetic (Done 9)
+        ((18446744073709551615 ∷ 7 ∷ 0 ∷ 18446744073709551488 ∷ 1 ∷ 18446744073709551615 ∷ 6 ∷ 16 ∷ 0 ∷ []) ∷ []) [] }
     ensures empty_design { Shows Designs.empty_design (Done 0) [] [] }
 {}
 
@@ -50,16 +52,17 @@ pub fn queries()
     ensures two_least_queries { Shows Designs.two_least_queries (Done 2) ((0 ∷ []) ∷ (0 ∷ []) ∷ []) [] }
     ensures later_stall_delays_earlier_query { Shows Designs.later_stall_delays_earlier_query (Done 14) ((0 ∷ 0 ∷ []) ∷ []) [] }
     ensures both_ends_in_one_module { Shows Designs.both_ends_in_one_module (Done 3) ((2 ∷ []) ∷ []) [] }
-    ensures push_tried_into_depth_one { Shows (Designs.tried_push 1) (Done 10) ((0 ∷ []) ∷ []) [] }
-    ensures push_tried_into_depth_two { Shows (Designs.tried_push 2) (Done 10) ((1 ∷ []) ∷ []) [] }
+    ensures outcome_at_depth_one { Shows (Designs.outcome_that_turns 1) (Done 10) ((0 ∷ []) ∷ []) [] }
+    ensures outcome_at_depth_two { Shows (Designs.outcome_that_turns 2) (Done 10) ((1 ∷ []) ∷ []) [] }
 {}
 
 /// Modules that wait for one another.
 pub fn deadlocks()
     ensures deadlock_at_once { Shows Designs.deadlock_at_once (Deadlock 0) [] (held_by_channel 0 false 1 ∷ held_by_channel 1 false 0 ∷ []) }
-    ensures deadlock_at_depth_two { Shows (Designs.pushed_too_early 2) (Deadlock 2) ([] ∷ [])
+    ensures deadlocked_record { Shows (Designs.deadlocked_record_goes_on 2) (Deadlock 2) ([] ∷ [])
         (held_by_channel 0 true 0 ∷ held_by_channel 1 false 1 ∷ []) }
-    ensures done_at_depth_three { Shows (Designs.pushed_too_early 3) (Done 9) ((3 ∷ []) ∷ []) [] }
+    ensures record_that_goes_on { Shows (Designs.deadlocked_record_goes_on 3) (Done 9) ((3 ∷ []) ∷ []) [] }
+    ensures run_ahead_past_full { Shows Designs.run_ahead_past_full (Deadlock 2) [] (held_by_channel 0 true 0 ∷ []) }
 {}
 
 /// Iterations that follow one another at once, and temps, memories and terminators.

@@ -6,10 +6,14 @@ pub returns-clause-deadlock_at_once : goal.returns-clause-deadlock_at_once
 unfolding all_open
 returns-clause-deadlock_at_once c = record { verdict_is = refl; outputs_are = refl; held_are = refl }
 
-pub returns-clause-deadlock_at_depth_two : goal.returns-clause-deadlock_at_depth_two
+pub returns-clause-deadlocked_record : goal.returns-clause-deadlocked_record
 unfolding all_open
-returns-clause-deadlock_at_depth_two c = record { verdict_is = refl; outputs_are = refl; held_are = refl }
+returns-clause-deadlocked_record c = record { verdict_is = refl; outputs_are = refl; held_are = refl }
 
-pub returns-clause-done_at_depth_three : goal.returns-clause-done_at_depth_three
+pub returns-clause-record_that_goes_on : goal.returns-clause-record_that_goes_on
 unfolding all_open
-returns-clause-done_at_depth_three c = record { verdict_is = refl; outputs_are = refl; held_are = refl }
+returns-clause-record_that_goes_on c = record { verdict_is = refl; outputs_are = refl; held_are = refl }
+
+pub returns-clause-run_ahead_past_full : goal.returns-clause-run_ahead_past_full
+unfolding all_open
+returns-clause-run_ahead_past_full c = record { verdict_is = refl; outputs_are = refl; held_are = refl }

@@ -22,10 +22,10 @@ pub returns-clause-both_ends_in_one_module : goal.returns-clause-both_ends_in_on
 unfolding all_open
 returns-clause-both_ends_in_one_module c = record { verdict_is = refl; outputs_are = refl; held_are = refl }
 
-pub returns-clause-push_tried_into_depth_one : goal.returns-clause-push_tried_into_depth_one
+pub returns-clause-outcome_at_depth_one : goal.returns-clause-outcome_at_depth_one
 unfolding all_open
-returns-clause-push_tried_into_depth_one c = record { verdict_is = refl; outputs_are = refl; held_are = refl }
+returns-clause-outcome_at_depth_one c = record { verdict_is = refl; outputs_are = refl; held_are = refl }
 
-pub returns-clause-push_tried_into_depth_two : goal.returns-clause-push_tried_into_depth_two
+pub returns-clause-outcome_at_depth_two : goal.returns-clause-outcome_at_depth_two
 unfolding all_open
-returns-clause-push_tried_into_depth_two c = record { verdict_is = refl; outputs_are = refl; held_are = refl }
+returns-clause-outcome_at_depth_two c = record { verdict_is = refl; outputs_are = refl; held_are = refl }

@@ -18,6 +18,10 @@ pub returns-clause-commit_order : goal.returns-clause-commit_order
 unfolding all_open
 returns-clause-commit_order c = record { verdict_is = refl; outputs_are = refl; held_are = refl }
 
+pub returns-clause-word_arithmetic : goal.returns-clause-word_arithmetic
+unfolding all_open
+returns-clause-word_arithmetic c = record { verdict_is = refl; outputs_are = refl; held_are = refl }
+
 pub returns-clause-empty_design : goal.returns-clause-empty_design
 unfolding all_open
 returns-clause-empty_design c = record { verdict_is = refl; outputs_are = refl; held_are = refl }

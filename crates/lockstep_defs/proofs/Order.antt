@@ -1,14 +1,17 @@
 -- The history stands in order of clocks and modules.
-use Rattle.std.proofs.Common.{◌≡◌, ℕ, zero, suc, ◌+◌, ◌≤◌, ◌<◌, List, [], ◌∷◌, ◌++◌, map, Bool, true, false, cond, refl, arith, inl, inr}
-use Rattle.std.specs.List.{flat_map, enumerate_from, AllByRecursion, AllPairs}
-use Rattle.std.proofs.lemmas.List.Elements.{All-from_recursion}
+use Rattle.std.proofs.Common.{◌≡◌, ◌≢◌, ℕ, zero, suc, ◌+◌, ◌≤◌, ◌<◌, ◌==◌, List, [], ◌∷◌, ◌++◌, map, length, Bool, true, false, cond, refl, sym, ◌∙◌, ap₂, subst, arith, ◌⊎◌, inl, inr}
+use Rattle.std.specs.List.{filter, flat_map, enumerate_from, AllByRecursion, AllPairs}
+use Rattle.std.proofs.lemmas.Bool.{cases_eq, cond-true, cond-false, eq-eqb, ne_eqb}
+use Rattle.std.proofs.lemmas.List.Elements.{All-from_recursion, recursion_from_All}
 use Rattle.flow_design.specs.declared.plan.Plan.{Plan}
 use Rattle.flow_design.specs.declared.state.ClockState.{ClockState}
 use Rattle.flow_design.specs.declared.state.ModuleState.{ModuleState}
 use Rattle.lockstep_defs.specs.Channels.{HistoryStep, Exchange}
 use Rattle.lockstep_defs.specs.Lockstep.{requests_of, moves, answered, step_with, step_of, steps_in, state, history}
+use Rattle.lockstep_defs.specs.Report.{steps_of}
 use Rattle.lockstep_defs.specs.Laws.{IsBefore}
 use Rattle.lockstep_defs.proofs.Settled.{history-zero, history-suc}
+use Rattle.lockstep_defs.proofs.Agrees.{all_modules}
 use Rattle.lockstep_defs.proofs.Queue.{all-append}
 
 abbrev pub IsRising : List HistoryStep → Type 0
@@ -103,3 +106,92 @@ pairs-from_rising (s ∷ ss) h (suc i) (suc j) d l m = pairs-from_rising ss h.1 
 
 pub in_order : (p : Plan) (c : ℕ) → AllPairs IsBefore (history p c)
 in_order p c = pairs-from_rising (history p c) (history_rises p c)
+
+rising-from_pairs : (ss : List HistoryStep) → AllPairs IsBefore ss → IsRising ss
+rising-from_pairs [] h = tt
+rising-from_pairs (s ∷ ss) h = (
+  recursion_from_All (IsBefore s) ss (λ k d l. h 0 (suc k) d (omega arith) (omega arith)),
+  rising-from_pairs ss (λ i j d l m. h (suc i) (suc j) d (omega arith) (omega arith)),
+)
+
+-- ---- no other list in order has the same steps of each module
+
+never_both : (s t : HistoryStep) → IsBefore s t → IsBefore t s → ⊥
+never_both s t (inl a) (inl b) = omega arith
+never_both s t (inl a) (inr b) = let e = b.0 in omega arith
+never_both s t (inr a) (inl b) = let e = a.0 in omega arith
+never_both s t (inr a) (inr b) = let e = a.1 in let f = b.1 in omega arith
+
+found : (P : HistoryStep → Type 0) (f : HistoryStep → Bool) (ss : List HistoryStep) (t : HistoryStep) (rest : List HistoryStep)
+    → AllByRecursion P ss → filter f ss ≡ t ∷ rest → P t
+found P f [] t rest h e = cc
+found P f (s ∷ ss) t rest h e = by_test (f s) (found P f ss t rest h.1) h.0 e
+  where
+    by_test : (b : Bool) → (filter f ss ≡ t ∷ rest → P t) → P s → cond b (s ∷ filter f ss) (filter f ss) ≡ t ∷ rest → P t
+    by_test true later here e = let same : s ≡ t = cc in subst P same here
+    by_test false later here e = later e
+
+own_first : (s : HistoryStep) (ss : List HistoryStep) → steps_of s.«module» (s ∷ ss) ≡ s ∷ steps_of s.«module» ss
+own_first s ss = cond-true (s.«module» == s.«module») (s ∷ steps_of s.«module» ss) (steps_of s.«module» ss) (eq-eqb s.«module» s.«module» refl)
+
+other_first : (i : ℕ) (s : HistoryStep) (ss : List HistoryStep) → (s.«module» ≢ i) → steps_of i (s ∷ ss) ≡ steps_of i ss
+other_first i s ss ne = cond-false (s.«module» == i) (s ∷ steps_of i ss) (steps_of i ss) (ne_eqb s.«module» i ne)
+
+-- two lists in order with the same steps of each module are the same
+pub one_order : (ss ts : List HistoryStep) → IsRising ss → IsRising ts → ((i : ℕ) → steps_of i ss ≡ steps_of i ts) → ss ≡ ts
+one_order [] [] a b h = refl
+one_order [] (t ∷ ts) a b h = let e = h t.«module» ∙ own_first t ts in cc
+one_order (s ∷ ss) [] a b h = let e = sym (own_first s ss) ∙ h s.«module» in cc
+one_order (s ∷ ss) (t ∷ ts) a b h = by_case (one_order ss ts a.1 b.1) (cases_eq s.«module» t.«module»)
+  where
+    by_case : (((i : ℕ) → steps_of i ss ≡ steps_of i ts) → ss ≡ ts) → ((s.«module» ≡ t.«module») ⊎ (s.«module» ≡ t.«module» → ⊥)) → (s ∷ ss) ≡ (t ∷ ts)
+    by_case rest (inl e) =
+        let both : s ∷ steps_of s.«module» ss ≡ t ∷ steps_of s.«module» ts =
+        sym (own_first s ss)
+        ∙ (h s.«module» ∙ cond-true (t.«module» == s.«module») (t ∷ steps_of s.«module» ts) (steps_of s.«module» ts) (eq-eqb t.«module» s.«module» (sym e))) in
+        let same : s ≡ t = cc in
+        ap₂ (λ (x : HistoryStep) (xs : List HistoryStep). x ∷ xs) same
+        (rest (λ i. elim (cases_eq s.«module» i) [
+          | inl k ↦ let here : steps_of s.«module» ss ≡ steps_of s.«module» ts = cc in subst (λ (j : ℕ). steps_of j ss ≡ steps_of j ts) k here
+          | inr k ↦ sym (other_first i s ss k) ∙ (h i ∙ other_first i t ts (λ q. k (e ∙ q)))
+        ]))
+    by_case rest (inr ne) =
+        let s_before = found (IsBefore s) (λ (x : HistoryStep). x.«module» == t.«module») ss t (steps_of t.«module» ts) a.0
+        (sym (other_first t.«module» s ss ne) ∙ (h t.«module» ∙ own_first t ts)) in
+        let t_before = found (IsBefore t) (λ (x : HistoryStep). x.«module» == s.«module») ts s (steps_of s.«module» ss) b.0
+        (sym (other_first s.«module» t ts (λ q. ne (sym q))) ∙ (sym (h s.«module») ∙ own_first s ss)) in
+        absurd (never_both s t s_before t_before)
+
+pub only_history : (p : Plan) (c : ℕ) (steps : List HistoryStep) → AllPairs IsBefore steps → ((i : ℕ) → steps_of i steps ≡ steps_of i (history p c))
+    → steps ≡ history p c
+only_history p c steps h same = one_order steps (history p c) (rising-from_pairs steps h) (history_rises p c) same
+
+-- ---- only modules of the plan have steps
+
+step_number : (p : Plan) (c : ℕ) (contents : List (List ℕ)) (n : ℕ) (m : ℕ × ModuleState) → m.0 < n → AllByRecursion (λ s. s.«module» < n) (step_of p c contents m)
+step_number p c contents n m h = by_test (moves p c contents m)
+  where
+    with_number : (xs : List Exchange) → AllByRecursion (λ s. s.«module» < n) (step_with c m.0 xs)
+    with_number [] = tt
+    with_number (x ∷ xs) = (h, tt)
+
+    by_test : (b : Bool) → AllByRecursion (λ s. s.«module» < n) (cond b (step_with c m.0 (map (answered p c contents) (requests_of p m))) [])
+    by_test true = with_number (map (answered p c contents) (requests_of p m))
+    by_test false = tt
+
+clock_numbers : (p : Plan) (c : ℕ) (contents : List (List ℕ)) (k n : ℕ) (ss : List ModuleState) → k + length ss ≤ n
+    → AllByRecursion (λ s. s.«module» < n) (flat_map (step_of p c contents) (enumerate_from k ss))
+clock_numbers p c contents k n [] h = tt
+clock_numbers p c contents k n (s ∷ ss) h =
+    all-append (λ (x : HistoryStep). x.«module» < n) (step_of p c contents (k, s)) (flat_map (step_of p c contents) (enumerate_from (k + 1) ss))
+    (step_number p c contents n (k, s) (omega arith)) (clock_numbers p c contents (k + 1) n ss (omega arith))
+
+steps_number : (p : Plan) (c : ℕ) → AllByRecursion (λ s. s.«module» < length p.design.modules) (steps_in p c (state p c))
+unfolding steps_in
+steps_number p c = clock_numbers p c (state p c).contents 0 (length p.design.modules) (state p c).modules (omega (arith, all_modules p c))
+
+pub history_numbers : (p : Plan) (c : ℕ) → AllByRecursion (λ s. s.«module» < length p.design.modules) (history p c)
+history_numbers p zero = rw history-zero tt
+history_numbers p (suc c) =
+    rw history-suc
+    (all-append (λ s. s.«module» < length p.design.modules) (history p c) (steps_in p c (state p c)) (history_numbers p c) (steps_number p c))

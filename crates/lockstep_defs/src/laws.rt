@@ -12,6 +12,8 @@ ghost use Rattle.flow_design.specs.Module.{block_of, interval, live_count, due};
 ghost use Rattle.flow_design.specs.Operations.{End};
 ghost use Rattle.flow_design.specs.StaticRules.{IsModuleSound, FitsEngine};
 ghost use Rattle.lockstep_defs.specs.Machine.{opened, move};
+ghost use Rattle.lockstep_defs.specs.Channels.{HistoryStep};
+ghost use Rattle.lockstep_defs.specs.Report.{steps_of};
 ghost use Rattle.lockstep_defs.specs.Lockstep.{module_at, requests_of, state, state_at, history};
 ghost use Rattle.lockstep_defs.specs.Verdict.{is_settled, settled_verdict, verdict};
 ghost use Rattle.lockstep_defs.specs.Quiet.{fits};
@@ -35,11 +37,14 @@ pub fn channels_are_queues()
     ensures counted { (p : Plan) → FitsEngine p → (c f : ℕ) → f < length p.design.channels → IsCounted p c f }
 {}
 
-/// The history stands in order of clocks, and in one clock in order of modules. What a module does in it is its own run on the
-/// history's replies.
+/// The history stands in order of clocks, and in one clock in order of modules, and it is the only list in that order with its
+/// modules' steps. What a module does in it is its own run on the history's replies.
 pub fn histories_are_own_runs()
     ensures order { (p : Plan) (c : ℕ) → AllPairs IsBefore (history p c) }
     ensures clocks { (p : Plan) (c : ℕ) → All (λ s. s.clock < c) (history p c) }
+    ensures modules { (p : Plan) (c : ℕ) → All (λ s. s.«module» < length p.design.modules) (history p c) }
+    ensures only { (p : Plan) (c : ℕ) (steps : Items HistoryStep) → AllPairs IsBefore steps
+        → ((i : ℕ) → steps_of i steps ≡ steps_of i (history p c)) → steps ≡ history p c }
     ensures own { (p : Plan) (i c : ℕ) → i < length p.design.modules → IsOwnRun p i c }
 {}
 

@@ -1,7 +1,7 @@
 use Rattle.std.proofs.lemmas.List.Elements.{All-from_recursion}
 use Rattle.lockstep_defs.specs.Lockstep.{history}
 use Rattle.lockstep_defs.proofs.Agrees.{is_own_run}
-use Rattle.lockstep_defs.proofs.Order.{in_order, before_clock}
+use Rattle.lockstep_defs.proofs.Order.{in_order, before_clock, history_numbers, only_history}
 use Rattle.lockstep_defs.proofs.laws.histories_are_own_runs.Goals as goal
 
 pub returns-clause-order : goal.returns-clause-order
@@ -12,3 +12,9 @@ returns-clause-clocks c = λ p b. All-from_recursion _ (history p b) (before_clo
 
 pub returns-clause-own : goal.returns-clause-own
 returns-clause-own c = is_own_run
+
+pub returns-clause-modules : goal.returns-clause-modules
+returns-clause-modules c = λ p b. All-from_recursion _ (history p b) (history_numbers p b)
+
+pub returns-clause-only : goal.returns-clause-only
+returns-clause-only c = only_history

@@ -200,7 +200,7 @@ first_steps : (p : Plan) (i : ℕ) → steps_of i (history p 0) ≡ []
 unfolding moment
 first_steps p i = refl
 
-own_suc : (p : Plan) (i : ℕ) (qss : List (List Reply)) (n : ℕ) → own p i qss (suc n) ≡ own_next p i qss (own p i qss n)
+pub own_suc : (p : Plan) (i : ℕ) (qss : List (List Reply)) (n : ℕ) → own p i qss (suc n) ≡ own_next p i qss (own p i qss n)
 unfolding own
 own_suc p i qss n = refl
 

@@ -1,5 +1,5 @@
 -- Quiet clocks end.
-use Rattle.std.proofs.Common.{◌≡◌, ℕ, zero, suc, ◌+◌, ◌*◌, ◌-◌, ◌≤◌, ◌<◌, List, [], length, Bool, true, false, ◌||◌, refl, sym, ap, subst, arith, ◌⊎◌, inl, inr, mul-le-mul_right, suc-mul}
+use Rattle.std.proofs.Common.{◌≡◌, ℕ, zero, suc, ◌+◌, ◌*◌, ◌-◌, ◌≤◌, ◌<◌, List, [], ◌∷◌, length, Bool, true, false, ◌||◌, refl, sym, ap, subst, arith, ◌∙◌, zero-add, add-zero, suc-add, ◌⊎◌, inl, inr, mul-le-mul_right, suc-mul}
 use Rattle.std.proofs.lemmas.Bool.{leb-false, cases_Bool, or_parts}
 use Rattle.flow_design.specs.declared.design.BlockKind.{BlockKind}
 use Rattle.flow_design.specs.declared.design.BlockKind.TheVariants.{Plain, Loop}
@@ -7,11 +7,14 @@ use Rattle.flow_design.specs.declared.design.Block.{Block}
 use Rattle.flow_design.specs.declared.plan.Plan.{Plan}
 use Rattle.flow_design.specs.declared.state.ModuleState.{ModuleState}
 use Rattle.flow_design.specs.declared.state.Reply.{Reply}
+use Rattle.flow_design.specs.declared.state.Request.{Request}
 use Rattle.flow_design.specs.StaticRules.{IsBlockSound, IsKindSound, FitsEngine}
 use Rattle.flow_design.specs.Module.{no_block, block_at, is_loop, interval, interval_of}
 use Rattle.lockstep_defs.specs.Machine.{is_spent, is_over, move, opened}
 use Rattle.lockstep_defs.specs.Lockstep.{module_at, requests_of}
-use Rattle.lockstep_defs.specs.Quiet.{is_some_request, rests, skip, quiet_below, span, measure, quiet, fits}
+use Rattle.lockstep_defs.specs.OwnRun.{Own, own_next, own}
+use Rattle.lockstep_defs.specs.Quiet.{own_later, is_some_request, rests, skip, quiet_below, span, measure, quiet, fits}
+use Rattle.lockstep_defs.proofs.Agrees.{own_suc}
 use Rattle.lockstep_defs.proofs.Moves.{left, Fallen, move_falls, HasIntervals, move_goes, opened_goes}
 use Rattle.lockstep_defs.proofs.Rules.{sound_block}
 
@@ -137,3 +140,28 @@ quiet_goes p i s j h = idle p i (suc (measure p i s)) s j h
 pub quiet_rests : (p : Plan) → FitsEngine p → (i : ℕ) (s : ModuleState) → fits p i s ≡ true → rests p i (skip p i (quiet p i s) s) ≡ true
 unfolding quiet
 quiet_rests p r i s f = reaches p r i (suc (measure p i s)) s f (inr (omega arith))
+
+-- ---- an own run in its quiet clocks
+
+no_requests : (rs : List Request) → is_some_request rs ≡ false → rs ≡ []
+no_requests [] h = refl
+no_requests (r ∷ rs) h = cc
+
+one_quiet : (p : Plan) (i : ℕ) (replies : List (List Reply)) (o : Own) (n : ℕ) → rests p i (skip p i n o.state) ≡ false
+    → own_next p i replies (own_later p i n o) ≡ own_later p i (suc n) o
+unfolding own_next
+one_quiet p i replies o n h =
+    let s = skip p i n o.state in
+    let parts = or_parts (is_over p.ops s) (is_some_request (requests_of p (i, s))) h in
+    let none = no_requests (requests_of p (i, s)) parts.1 in
+    let later : (o.since + n) + 1 ≡ o.since + suc n = omega arith in
+    rw (parts.0, none) (ap (λ (c : ℕ). record { state = move (module_at p i) s []; steps = o.steps; since = c }) later)
+
+-- where it does not rest, nothing but the clock and the state goes on
+pub own_goes : (p : Plan) (i : ℕ) (replies : List (List Reply)) (n q : ℕ) → ((j : ℕ) → j < q → rests p i (skip p i j (own p i replies n).state) ≡ false)
+    → own p i replies (q + n) ≡ own_later p i q (own p i replies n)
+own_goes p i replies n zero h = rw (zero-add, add-zero) refl
+own_goes p i replies n (suc q) h =
+    let before = own_goes p i replies n q (λ j l. h j (omega arith)) in
+    rw suc-add
+    (own_suc p i replies (q + n) ∙ (ap (own_next p i replies) before ∙ one_quiet p i replies (own p i replies n) q (h q (omega arith))))

@@ -8,6 +8,7 @@ use Rattle.flow_design.specs.declared.state.Request.{Request}
 use Rattle.flow_design.specs.Module.{interval, block_of}
 use Rattle.lockstep_defs.specs.Machine.{is_over, move}
 use Rattle.lockstep_defs.specs.Lockstep.{module_at, requests_of}
+use Rattle.lockstep_defs.specs.OwnRun.{Own}
 
 abbrev pub is_some_request : List Request → Bool
 is_some_request [] = false
@@ -21,6 +22,10 @@ rests p i s = is_over p.ops s || is_some_request (requests_of p (i, s))
 abbrev pub skip : Plan → ℕ → ℕ → ModuleState → ModuleState
 skip p i zero s = s
 skip p i (suc n) s = move (module_at p i) (skip p i n s) []
+
+-- an own run so many quiet clocks later
+abbrev pub own_later : Plan → ℕ → ℕ → Own → Own
+own_later p i n o = record { state = skip p i n o.state; steps = o.steps; since = o.since + n }
 
 -- the local clocks up to the first state in which it rests, n at most
 unfoldable pub quiet_below : Plan → ℕ → ℕ → ModuleState → ℕ

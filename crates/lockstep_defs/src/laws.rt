@@ -16,7 +16,8 @@ ghost use Rattle.lockstep_defs.specs.Channels.{HistoryStep};
 ghost use Rattle.lockstep_defs.specs.Report.{steps_of};
 ghost use Rattle.lockstep_defs.specs.Lockstep.{module_at, requests_of, state, state_at, history};
 ghost use Rattle.lockstep_defs.specs.Verdict.{is_settled, settled_verdict, verdict};
-ghost use Rattle.lockstep_defs.specs.Quiet.{fits};
+ghost use Rattle.lockstep_defs.specs.OwnRun.{own};
+ghost use Rattle.lockstep_defs.specs.Quiet.{rests, skip, own_later, fits};
 ghost use Rattle.lockstep_defs.specs.States.{IsStateOf, IsDueIn};
 ghost use Rattle.lockstep_defs.specs.Ends.{takers, StandsAtEnd};
 ghost use Rattle.lockstep_defs.specs.Laws.{SettledStays, NoneBefore, MovesOnce, IsConserved, PopsInOrder, IsCounted, IsBefore, IsOwnRun, IsLive, AreAges, QuietClocksEnd};
@@ -67,10 +68,13 @@ pub fn live_iterations()
     ensures ages { (b : Block) (k : Control) → AreAges b k }
 {}
 
-/// From each state that a module comes to its quiet clocks end.
+/// From each state that a module comes to its quiet clocks end, and in these nothing of its own run but the state goes on.
 pub fn quiet_clocks_end()
     ensures opened { (p : Plan) → FitsEngine p → (i : ℕ) → IsTrue (fits p i (opened (module_at p i))) }
     ensures moved { (p : Plan) → FitsEngine p → (i : ℕ) (s : ModuleState) (replies : Items Reply)
         → IsTrue (fits p i s) → IsTrue (fits p i (move (module_at p i) s replies)) }
     ensures end { (p : Plan) → FitsEngine p → (i : ℕ) (s : ModuleState) → IsTrue (fits p i s) → QuietClocksEnd p i s }
+    ensures own { (p : Plan) (i : ℕ) (replies : Items (Items Reply)) (n later : ℕ)
+        → ((j : ℕ) → j < later → IsFalse (rests p i (skip p i j (own p i replies n).state)))
+        → own p i replies (later + n) ≡ own_later p i later (own p i replies n) }
 {}

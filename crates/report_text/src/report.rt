@@ -9,7 +9,8 @@ use flow_design::{Channel, ChannelKind, Design, EventLine, Held, Report, Verdict
 use flow_word::{List, OutOfMemory, Words};
 use std::alloc::Global;
 
-/// The text of the report with this number, with its events if asked.
+/// The text of the report with this number, with its events if asked. The report is one of this design: its module and
+/// channel numbers are the design's, and it has one output per sink.
 #[tactic(auto, using(crate::proofs::LineLemmas::all_parts), unfolding(crate::specs::ReportText::report_text_of))]
 pub fn print_report(
     alloc: Global,

@@ -1,0 +1,48 @@
+-- Lines and numbers one after another.
+use Rattle.std.proofs.Common.{◌≡◌, ℕ, ◌+◌, ◌<◌, List, [], ◌∷◌, ◌++◌, length, map, take, get_or, ap, sym, append-nil, arith}
+use Rattle.std.proofs.lemmas.Grind.{common_steps}
+use Rattle.std.specs.Fmt.{decimal}
+use Rattle.std.specs.List.{join_with_byte}
+use Rattle.std.specs.Io.{StartsWith}
+use Rattle.std.proofs.Math.Seq.{take-append_seam}
+use Rattle.std.proofs.lemmas.List.{map_more, take_more, flat_map_more}
+use Rattle.report_text.specs.Lines.{Token, line, text_of_lines, spaced}
+
+-- the lines of the items before one, and that one's line
+pub lines_more : {X : Type 0} (f : X → List Token) (text : List ℕ) (xs : List X) (i : ℕ) (x : X) → i < length xs → x ≡ get_or xs i x
+    → (text ++ text_of_lines (map f (take i xs))) ++ line (f x) ≡ text ++ text_of_lines (map f (take (i + 1) xs))
+lines_more f text xs i x h e = rw (map_more f xs i x h) (rw (← e) (flat_map_more line text (map f (take i xs)) (f x)))
+
+-- the numbers before one, a space and that one
+pub spaced_more : (text : List ℕ) (xs : List ℕ) (i : ℕ) → i < length xs
+    → (text ++ spaced (take i xs)) ++ 32 ∷ decimal (get_or xs i 0) ≡ text ++ spaced (take (i + 1) xs)
+spaced_more text xs i h = rw (take_more xs i 0 h) (flat_map_more (λ n. 32 ∷ decimal n) text (take i xs) (get_or xs i 0))
+
+-- a token and then numbers, joined by spaces
+pub join_numbers : (token : Token) (xs : List ℕ) → join_with_byte 32 (token ∷ map decimal xs) ≡ token ++ spaced xs
+join_numbers token [] = sym (append-nil token)
+join_numbers token (x ∷ xs) = ap (λ t. token ++ 32 ∷ t) (join_numbers (decimal x) xs)
+
+-- a line of a word, a token and numbers
+pub numbers_line : (text word token : List ℕ) (xs : List ℕ) → (((text ++ word) ++ 32 ∷ token) ++ spaced xs) ++ 10 ∷ [] ≡ text ++ line (word ∷ token ∷ map decimal xs)
+numbers_line text word token xs = rw (join_numbers token xs) (grind (arith, common_steps))
+
+-- a line of a word and numbers
+pub word_line : (text word : List ℕ) (xs : List ℕ) → ((text ++ word) ++ spaced xs) ++ 10 ∷ [] ≡ text ++ line (word ∷ map decimal xs)
+word_line text word xs = rw (join_numbers word xs) (grind (arith, common_steps))
+
+-- what starts with a text and more starts with that text
+pub still_starts : (new old more : List ℕ) → StartsWith new (old ++ more) → StartsWith new old
+still_starts new old more h = grind (arith, common_steps, take-append_seam old more)
+
+-- a line of four tokens
+pub line_of_four : (text a b c d : List ℕ) → ((((text ++ a) ++ 32 ∷ b) ++ 32 ∷ c) ++ 32 ∷ d) ++ 10 ∷ [] ≡ text ++ line (a ∷ b ∷ c ∷ d ∷ [])
+line_of_four text a b c d = grind (arith, common_steps)
+
+-- a line of five tokens
+pub line_of_five : (text a b c d e : List ℕ) → (((((text ++ a) ++ 32 ∷ b) ++ 32 ∷ c) ++ 32 ∷ d) ++ 32 ∷ e) ++ 10 ∷ [] ≡ text ++ line (a ∷ b ∷ c ∷ d ∷ e ∷ [])
+line_of_five text a b c d e = grind (arith, common_steps)
+
+-- two lines and three groups of lines
+pub all_parts : (a b : List Token) (xs ys zs : List (List Token)) → ((((([] ++ line a) ++ line b) ++ text_of_lines xs) ++ text_of_lines ys) ++ text_of_lines zs) ≡ text_of_lines (a ∷ b ∷ xs ++ ys ++ zs)
+all_parts a b xs ys zs = grind (arith, common_steps)

@@ -1,0 +1,11 @@
+//! The text of a report, and the lines and numbers that other texts of the program share with it.
+#![tactic(auto)]
+
+mod lines;
+mod names;
+mod report;
+#[cfg(test)]
+mod tests;
+
+pub use lines::{print_numbers, print_runs, print_verdict, push_number};
+pub use report::print_report;

@@ -1,0 +1,36 @@
+//! The names that a report's numbers stand for.
+ghost use Rattle.std.specs.Prelude.{◌≡◌, ◌<◌, length};
+ghost use Rattle.report_text.specs.ReportText.{channel_name, module_name, kind_token};
+
+use flow_design::Design;
+use flow_word::Kind;
+
+/// The name of a channel.
+pub(crate) fn channel_name(design: &Design, number: u32) -> &[u8]
+    requires { number < length design.now.channels }
+    ensures { result.now ≡ channel_name design.now number }
+{
+    design.channels.as_slice()[number as usize].name.bytes()
+}
+
+/// The name of a module.
+pub(crate) fn module_name(design: &Design, number: u32) -> &[u8]
+    requires { number < length design.now.modules }
+    ensures { result.now ≡ module_name design.now number }
+{
+    design.modules.as_slice()[number as usize].name.bytes()
+}
+
+/// The word for a kind of access.
+pub(crate) fn kind_word(kind: Kind) -> &'static [u8]
+    ensures { result.now ≡ kind_token kind }
+{
+    match kind {
+        Kind::Read => b"read",
+        Kind::Write => b"write",
+        Kind::TryRead => b"tryread",
+        Kind::TryWrite => b"trywrite",
+        Kind::Empty => b"empty",
+        Kind::Full => b"full",
+    }
+}

@@ -1,0 +1,124 @@
+-- Loops that go over a list with the place of each item.
+use Rattle.std.proofs.Common.{◌≡◌, ℕ, ◌+◌, ◌<◌, ◌≤◌, List, [], ◌∷◌, ◌++◌, map, length, take, drop, get_or, refl, sym, ◌∙◌, ap, subst, arith, append_assoc, ⊎_elim, ◌⊎◌, inl, inr, Option, Bool, true, false, cond, zero-add, add-zero, suc}
+use Rattle.std.specs.List.{enumerate_from, flat_map, filter, filter_map, range_with_len, refill}
+use Rattle.std.proofs.Math.ListN.{set}
+use Rattle.std.proofs.lemmas.Bool.{cases_lt}
+use Rattle.std.proofs.lemmas.List.{take_more, take_more_set, take_all, take_at, map-append, append-nil, length-map, get_or-map, get_or-set_other, get_or-set_same, get_or_append_left, get_or_push, map-id}
+use Rattle.std.proofs.lemmas.List.Concat.{flat_map-append}
+use Rattle.std.proofs.lemmas.List.Elements.{filter-append, filter_map-append}
+use Rattle.std.proofs.lemmas.List.FromFn.{length-enumerate_from, get_or-enumerate_from, map-range_with_len_more}
+
+-- one item more, with its place
+pub numbered_more : {X : Type 0} (xs : List X) (i : ℕ) (d : X) → i < length xs
+    → take (i + 1) (enumerate_from 0 xs) ≡ take i (enumerate_from 0 xs) ++ (i, get_or xs i d) ∷ []
+numbered_more xs i d h =
+    let within : i < length (enumerate_from 0 xs) = omega (arith, length-enumerate_from 0 xs) in
+    take_more (enumerate_from 0 xs) i (0, d) within ∙ ap (λ m. take i (enumerate_from 0 xs) ++ m ∷ []) (rw zero-add at (get_or-enumerate_from 0 xs i (0, d) h))
+
+pub numbered_all : {X : Type 0} (xs : List X) (i : ℕ) → length xs ≤ i → take i (enumerate_from 0 xs) ≡ enumerate_from 0 xs
+numbered_all xs i h = take_all i (enumerate_from 0 xs) (omega (arith, length-enumerate_from 0 xs))
+
+pub numbered_read : {X Y : Type 0} (f : ℕ × X → Y) (xs : List X) (i : ℕ) (d : X) (e : Y) → i < length xs
+    → get_or (map f (enumerate_from 0 xs)) i e ≡ f (i, get_or xs i d)
+numbered_read f xs i d e h =
+    let within : i < length (enumerate_from 0 xs) = omega (arith, length-enumerate_from 0 xs) in
+    get_or-map f (enumerate_from 0 xs) i (0, d) e within ∙ ap f (rw zero-add at (get_or-enumerate_from 0 xs i (0, d) h))
+
+-- a list is written from the front on
+pub written_more : {X Y : Type 0} (f : ℕ × X → Y) (from : List X) (to : List Y) (i : ℕ) (y : Y) (d : X) → i < length to → i < length from
+    → take i to ≡ map f (take i (enumerate_from 0 from)) → y ≡ f (i, get_or from i d)
+    → take (i + 1) (set to i y) ≡ map f (take (i + 1) (enumerate_from 0 from))
+written_more f from to i y d h k so now =
+    rw (take_more_set to i y h, numbered_more from i d k, map-append, so, now) refl
+
+pub written_all : {X Y : Type 0} (f : ℕ × X → Y) (from : List X) (to : List Y) (i : ℕ) → length to ≡ length from → length to ≤ i
+    → take i to ≡ map f (take i (enumerate_from 0 from)) → to ≡ map f (enumerate_from 0 from)
+written_all f from to i count end so =
+    let all : length (enumerate_from 0 from) ≤ i = omega (arith, length-enumerate_from 0 from) in
+    sym (take_all i to end) ∙ (so ∙ ap (map f) (take_all i (enumerate_from 0 from) all))
+
+-- a list grows by what each item gives
+pub grown_more : {X Y : Type 0} (f : ℕ × X → List Y) (xs : List X) (i : ℕ) (d : X) (before out next : List Y) → i < length xs
+    → out ≡ before ++ flat_map f (take i (enumerate_from 0 xs)) → next ≡ out ++ f (i, get_or xs i d)
+    → next ≡ before ++ flat_map f (take (i + 1) (enumerate_from 0 xs))
+grown_more f xs i d before out next h so now =
+    now ∙ (ap (λ l. l ++ f (i, get_or xs i d)) so ∙ (append_assoc before (flat_map f (take i (enumerate_from 0 xs))) (f (i, get_or xs i d))
+    ∙ ap (λ l. before ++ l) (sym (ap (flat_map f) (numbered_more xs i d h) ∙ (flat_map-append f (take i (enumerate_from 0 xs)) ((i, get_or xs i d) ∷ []) ∙ ap (λ l. flat_map f (take i (enumerate_from 0 xs)) ++ l) (append-nil _))))))
+
+-- a list whose items were all written anew
+pub refilled : {X : Type 0} (xs ws : List X) → length ws ≡ length xs → refill (length xs) xs ws ≡ ws
+refilled xs ws h = take_at ws (drop (length ws) xs) (length xs) h
+
+pub numbered_length : {X Y : Type 0} (f : ℕ × X → Y) (xs : List X) (ws : List Y) → ws ≡ map f (enumerate_from 0 xs) → length ws ≡ length xs
+numbered_length f xs ws h = ap length h ∙ (length-map (enumerate_from 0 xs) f ∙ length-enumerate_from 0 xs)
+
+from_place : {X Y : Type 0} (f g : ℕ × X → Y) (xs : List X) (n : ℕ) (d : X) → ((k : ℕ) → k < length xs → f (n + k, get_or xs k d) ≡ g (n + k, get_or xs k d))
+    → map f (enumerate_from n xs) ≡ map g (enumerate_from n xs)
+from_place f g [] n d h = refl
+from_place f g (x ∷ xs) n d h =
+    let here : f (n, x) ≡ g (n, x) = subst (λ (m : ℕ). f (m, x) ≡ g (m, x)) (add-zero n) (h 0 (omega arith)) in
+    let rest = from_place f g xs (n + 1) d (λ k l. subst (λ (m : ℕ). f (m, get_or xs k d) ≡ g (m, get_or xs k d)) (next_place n k) (h (suc k) (omega arith))) in
+    rw (here, rest) refl
+  where
+    next_place : (n k : ℕ) → n + suc k ≡ n + 1 + k
+    next_place n k = omega arith
+
+-- functions that agree at each place
+pub same_by_places : {X Y : Type 0} (f g : ℕ × X → Y) (xs : List X) (d : X) → ((k : ℕ) → k < length xs → f (k, get_or xs k d) ≡ g (k, get_or xs k d))
+    → map f (enumerate_from 0 xs) ≡ map g (enumerate_from 0 xs)
+same_by_places f g xs d h = from_place f g xs 0 d (λ k l. subst (λ (n : ℕ). f (n, get_or xs k d) ≡ g (n, get_or xs k d)) (sym (zero-add k)) (h k l))
+
+-- one place written: the places behind it are as they were
+pub rest_more : {X : Type 0} (from to : List X) (i : ℕ) (y d : X) → ((k : ℕ) → i ≤ k → get_or to k d ≡ get_or from k d)
+    → (k : ℕ) → i + 1 ≤ k → get_or (set to i y) k d ≡ get_or from k d
+rest_more from to i y d h k l = get_or-set_other to i k y d (λ same. omega arith) ∙ h k (omega arith)
+
+below_or_at : (k i : ℕ) → k < i + 1 → (k < i) ⊎ (k ≡ i)
+below_or_at k i l = ⊎_elim (λ h. inl h) (λ h. inr (omega arith)) (cases_lt k i)
+
+-- a fact of each place so far, also at the place that was written
+pub held_more : {X : Type 0} (P : ℕ → X → Type 0) (to : List X) (i : ℕ) (y d : X) → i < length to → ((k : ℕ) → k < i → P k (get_or to k d)) → P i y
+    → (k : ℕ) → k < i + 1 → P k (get_or (set to i y) k d)
+held_more P to i y d within so now k l =
+    ⊎_elim (λ below. subst (P k) (sym (get_or-set_other to i k y d (λ same. omega arith))) (so k below))
+    (λ same. subst (λ (n : ℕ). P n (get_or (set to i y) n d)) (sym same) (subst (P i) (sym (get_or-set_same to i y d within)) now))
+    (below_or_at k i l)
+
+-- the same where an item is added at the end
+pub held_push : {X : Type 0} (P : ℕ → X → Type 0) (xs : List X) (i : ℕ) (y d : X) → length xs ≡ i → ((k : ℕ) → k < i → P k (get_or xs k d)) → P i y
+    → (k : ℕ) → k < i + 1 → P k (get_or (xs ++ y ∷ []) k d)
+held_push P xs i y d count so now k l =
+    ⊎_elim (λ below. subst (P k) (sym (get_or_append_left xs (y ∷ []) d k (omega arith))) (so k below))
+    (λ same. subst (λ (n : ℕ). P n (get_or (xs ++ y ∷ []) n d)) (sym same) (subst (P i) (sym (get_or_push xs y d i count)) now))
+    (below_or_at k i l)
+
+-- a list of what some items give
+pub kept_more : {X Y : Type 0} (f : ℕ × X → Option Y) (xs : List X) (i : ℕ) (d : X) (out next : List Y) → i < length xs
+    → out ≡ filter_map f (take i (enumerate_from 0 xs)) → next ≡ out ++ filter_map f ((i, get_or xs i d) ∷ [])
+    → next ≡ filter_map f (take (i + 1) (enumerate_from 0 xs))
+kept_more f xs i d out next h so now =
+    now ∙ (ap (λ l. l ++ filter_map f ((i, get_or xs i d) ∷ [])) so
+    ∙ sym (ap (filter_map f) (numbered_more xs i d h) ∙ filter_map-append f (take i (enumerate_from 0 xs)) ((i, get_or xs i d) ∷ [])))
+
+range_more : (i : ℕ) → range_with_len 0 (i + 1) ≡ range_with_len 0 i ++ i ∷ []
+range_more i =
+    let more = map-range_with_len_more (λ (n : ℕ). n) 0 i i (zero-add i) in
+    sym (map-id (range_with_len 0 (i + 1))) ∙ (more ∙ ap (λ (l : List ℕ). l ++ i ∷ []) (map-id (range_with_len 0 i)))
+
+-- a list of what the numbers that pass give
+pub passed_more : {Y : Type 0} (f g : ℕ → Y) (p : ℕ → Bool) (i : ℕ) (out next : List Y) → out ≡ map f (filter p (range_with_len 0 i))
+    → next ≡ out ++ map g (filter p (i ∷ [])) → g i ≡ f i → next ≡ map f (filter p (range_with_len 0 (i + 1)))
+passed_more f g p i out next so now same =
+    now ∙ (ap (λ l. l ++ map g (filter p (i ∷ []))) so ∙ (ap (λ l. map f (filter p (range_with_len 0 i)) ++ l) (by_test (p i))
+    ∙ sym (ap (λ (l : List ℕ). map f (filter p l)) (range_more i) ∙ (ap (map f) (filter-append p (range_with_len 0 i) (i ∷ [])) ∙ map-append f (filter p (range_with_len 0 i)) (filter p (i ∷ []))))))
+  where
+    by_test : (b : Bool) → map g (cond b (i ∷ []) []) ≡ map f (cond b (i ∷ []) [])
+    by_test true = ap (λ y. y ∷ []) same
+    by_test false = refl
+
+-- a list that was written through a loan of its items
+pub written_through : {X : Type 0} (f : ℕ × X → X) (xs lent ws : List X) → lent ≡ xs → ws ≡ map f (enumerate_from 0 lent)
+    → refill (length xs) xs ws ≡ map f (enumerate_from 0 xs)
+written_through {X} f xs lent ws e h =
+    let now = h ∙ ap (λ (l : List X). map f (enumerate_from 0 l)) e in
+    refilled xs ws (numbered_length f xs ws now) ∙ now

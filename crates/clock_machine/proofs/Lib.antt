@@ -1,0 +1,5 @@
+pub mod Fronts
+pub mod PartLemmas
+pub mod Queues
+pub mod Steps
+pub mod Idle

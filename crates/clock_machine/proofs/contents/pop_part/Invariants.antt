@@ -1,0 +1,7 @@
+use Rattle.std.proofs.Common.{◌≡◌, map, take}
+use Rattle.std.specs.List.{enumerate_from}
+use Rattle.clock_machine.specs.Parts.{exchange, after_pops}
+use Rattle.clock_machine.proofs.contents.pop_part.Given as goal
+
+abbrev pub invariant-loop-done : goal.invariant-loop-done
+invariant-loop-done l = l.contents ≡ map (after_pops (map exchange (take l.done-index l.done-items))) (enumerate_from 0 l.initial.contents)

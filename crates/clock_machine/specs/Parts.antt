@@ -1,0 +1,114 @@
+-- What the modules do in a clock, as the program holds it.
+use Rattle.std.specs.Prelude.{◌≡◌, ℕ, ◌≤◌, ◌<◌, Bool, true, false, not, if◌then◌else◌, List, [], ◌++◌, map, filter, flat_map, drop, length, slice_index_or}
+use Rattle.std.specs.List.{enumerate_from}
+use Rattle.flow_design.specs.declared.plan.Plan.{Plan}
+use Rattle.flow_design.specs.declared.report.EventLine.{EventLine}
+use Rattle.flow_design.specs.declared.report.Report.{Report}
+use Rattle.flow_design.specs.declared.report.Verdict.{Verdict}
+use Rattle.flow_design.specs.declared.state.ClockState.{ClockState}
+use Rattle.flow_design.specs.declared.state.ModuleState.{ModuleState}
+use Rattle.flow_design.specs.declared.state.Request.{Request}
+use Rattle.flow_design.specs.Module.{due}
+use Rattle.lockstep_defs.specs.Machine.{is_yes, is_over, move, nobody}
+use Rattle.lockstep_defs.specs.Channels.{HistoryStep, Exchange, is_blocking, reply, moved_by}
+use Rattle.lockstep_defs.specs.Lockstep.{module_at, requests_of, moves, step_with}
+use Rattle.lockstep_defs.specs.Verdict.{held}
+use Rattle.lockstep_defs.specs.Report.{outputs_in}
+use Rattle.module_move.specs.Sound.{IsRunnable}
+use Rattle.clock_machine.specs.declared.part.Answered.{Answered}
+use Rattle.clock_machine.specs.declared.part.Part.{Part}
+
+-- ---- a module's part in a clock
+
+-- an operation with its reply, as a step of the history has it
+abbrev pub exchange : Answered → Exchange
+exchange a = record { request = a.request; reply = a.reply }
+
+-- a request with its reply, as a part has it
+abbrev pub answered_as : Plan → ℕ → List (List ℕ) → Request → Answered
+answered_as p clock contents r = record { request = r; reply = reply p clock contents r }
+
+-- the part of a module that does not move
+abbrev pub no_part : Part
+no_part = record { moves = false; pending = []; replies = []; answered = [] }
+
+-- the part of a module that moves on these requests
+abbrev pub part_on : Plan → ℕ → List (List ℕ) → ℕ × ModuleState → List Request → Part
+part_on p clock contents m asked = record {
+  moves = true;
+  pending = due (module_at p m.0) m.1;
+  replies = map (reply p clock contents) asked;
+  answered = map (answered_as p clock contents) asked;
+}
+
+-- a module's part in a clock, by the contents from before it
+unfoldable pub part_of : Plan → ℕ → List (List ℕ) → ℕ × ModuleState → Part
+part_of p clock contents m = if moves p clock contents m then part_on p clock contents m (requests_of p m) else no_part
+
+-- a module after its part: it has moved on the replies, or stayed
+abbrev pub after_part : Plan → ℕ × ModuleState → Part → ModuleState
+after_part p m part = if part.moves then move (module_at p m.0) m.1 part.replies else m.1
+
+-- a module that moves is not over, and its part has what is due in it
+pub record IsReady (p : Plan) (m : ℕ × ModuleState) (part : Part) : Type 0 where
+  pub running : part.moves ≡ true → is_over p.ops m.1 ≡ false
+  pub due : part.moves ≡ true → part.pending ≡ due (module_at p m.0) m.1
+
+-- ---- what the parts make up
+
+-- what a part does, in commit order
+abbrev pub exchanges_of : Part → List Exchange
+exchanges_of part = map exchange part.answered
+
+-- what all parts do, in order of modules
+abbrev pub all_exchanges : List Part → List Exchange
+all_exchanges parts = flat_map exchanges_of parts
+
+-- the steps of a clock, by the modules' parts
+abbrev pub steps_from : ℕ → List Part → List HistoryStep
+steps_from clock parts = flat_map (λ m. step_with clock m.0 (exchanges_of m.1)) (enumerate_from 0 parts)
+
+-- the event of an operation that a module does in a clock
+abbrev pub event_by : ℕ → ℕ → Answered → EventLine
+event_by clock i a = record { «module» = i; kind = a.request.kind; channel = a.request.channel; cycle = clock }
+
+-- the events of a clock
+abbrev pub events_from : ℕ → List Part → List EventLine
+events_from clock parts = flat_map (λ m. map (event_by clock m.0) m.1.answered) (enumerate_from 0 parts)
+
+-- the outcomes of the queries among these operations
+abbrev pub outcomes_in : List Answered → List Bool
+outcomes_in xs = map (λ a. is_yes a.reply) (filter (λ a. not (is_blocking a.request.kind)) xs)
+
+-- a module's answers with those of its part behind them
+abbrev pub answers_with : List Part → ℕ × List Bool → List Bool
+answers_with parts m = m.1 ++ outcomes_in (slice_index_or parts m.0 no_part).answered
+
+-- ---- what the operations leave in the channels
+
+-- a channel's contents when these operations have taken off what they pop
+abbrev pub after_pops : List Exchange → ℕ × List ℕ → List ℕ
+after_pops xs f = drop (length (moved_by true f.0 xs)) f.1
+
+-- a channel's contents when these operations have put in what they push
+abbrev pub after_pushes : List Exchange → ℕ × List ℕ → List ℕ
+after_pushes xs f = f.1 ++ moved_by false f.0 xs
+
+-- ---- states that can come up
+
+-- a module's state in a clock: it can run, and its local clock is not ahead of the clock
+pub record IsFit (p : Plan) (clock : ℕ) (m : ℕ × ModuleState) : Type 0 where
+  pub runnable : IsRunnable (module_at p m.0) m.1
+  pub young : m.1.control.clock ≤ clock
+
+-- one such state per module
+pub record AreFit (p : Plan) (clock : ℕ) (states : List ModuleState) : Type 0 where
+  pub count : length states ≡ length p.design.modules
+  pub each : (i : ℕ) → i < length states → IsFit p clock (i, slice_index_or states i nobody)
+
+-- ---- the report
+
+-- what a run reports at a verdict: what its state shows, and what it was told
+abbrev pub report_from : Plan → Verdict → ClockState → List EventLine → List (List Bool) → Report
+report_from p v st events answers =
+    record { verdict = v; outputs = outputs_in p st; held = held p v st; events = events; answers = answers }

@@ -1,0 +1,154 @@
+//! Each module's part in a clock, by the contents from before it.
+ghost use Rattle.std.specs.Prelude.{◌≡◌, ◌<◌, ◌≤◌, not, IfOk, OnOk, length, map, ◌++◌, slice_index_or};
+ghost use Rattle.std.specs.List.{list_any};
+ghost use Rattle.flow_design.specs.StaticRules.{FitsEngine};
+ghost use Rattle.lockstep_defs.specs.Machine.{is_spent, is_over, nobody};
+ghost use Rattle.lockstep_defs.specs.Channels.{reply};
+ghost use Rattle.lockstep_defs.specs.Lockstep.{module_at, numbered};
+ghost use Rattle.lockstep_defs.specs.Verdict.{is_settled};
+ghost use Rattle.clock_machine.specs.Parts.{part_of, answered_as, AreFit};
+
+use crate::channels::{any_stalls, reply_to};
+use crate::part::{Answered, Part, Scratch};
+use flow_design::{ClockState, Module, ModuleState, Plan, Request};
+use flow_word::{List, OutOfMemory, Queue};
+use module_move::ask;
+
+/// Whether a module is spent: not ended, and its count is at least the operation limit.
+pub fn is_spent(ops: u64, state: &ModuleState) -> bool
+    ensures { result ≡ is_spent ops state.now }
+{
+    !state.ended && ops <= state.count
+}
+
+/// Whether a module is ended or spent, so that it moves no more.
+#[tactic(auto, unfolding(lockstep_defs::specs::Machine::is_over))]
+pub fn is_over(ops: u64, state: &ModuleState) -> bool
+    ensures { result ≡ is_over ops state.now }
+{
+    state.ended || is_spent(ops, state)
+}
+
+/// Module number i of a plan.
+pub fn module_at(plan: &Plan, i: usize) -> &Module
+    requires { i < length plan.now.design.modules }
+    ensures { result.now ≡ module_at plan.now i }
+{
+    &plan.design.modules.as_slice()[i]
+}
+
+/// The state of module number i.
+pub fn state_at(state: &ClockState, i: usize) -> &ModuleState
+    requires { i < length state.now.modules }
+    ensures { result.now ≡ slice_index_or state.now.modules i nobody }
+{
+    &state.modules.as_slice()[i]
+}
+
+/// Adds the replies to these requests to a part.
+fn answer(
+    plan: &Plan,
+    clock: u64,
+    contents: &[Queue<u64>],
+    requests: &[Request],
+    part: &mut Part,
+) -> Result<(), OutOfMemory>
+    ensures replies { OnOk result (part.new.replies ≡ part.old.replies ++ map (reply plan.now clock contents.now) requests.now) }
+    ensures answered { OnOk result (part.new.answered ≡ part.old.answered ++ map (answered_as plan.now clock contents.now) requests.now) }
+    ensures moves { OnOk result (part.new.moves ≡ part.old.moves) }
+    ensures pending { OnOk result (part.new.pending ≡ part.old.pending) }
+{
+    for request in requests {
+        let reply = reply_to(plan, clock, contents, request);
+        part.replies.push(reply)?;
+        part.answered.push(Answered {
+            request: *request,
+            reply,
+        })?;
+    }
+    Ok(())
+}
+
+/// The part of one module: no part where it is ended, spent or stalls, else what it has due, and the replies.
+fn take_part(
+    plan: &Plan,
+    clock: u64,
+    state: &ClockState,
+    i: usize,
+    requests: &mut List<Request>,
+    part: &mut Part,
+) -> Result<(), OutOfMemory>
+    requires fits { FitsEngine plan.now }
+    requires fit { AreFit plan.now clock state.now.modules }
+    requires early { clock ≤ plan.now.cycles }
+    requires within { i < length state.now.modules }
+    ensures { OnOk result (part.new ≡ part_of plan.now clock state.now.contents (i, slice_index_or state.now.modules i nobody)) }
+{
+    part.clear();
+    let contents = state.contents.as_slice();
+    let module = state_at(state, i);
+    if is_over(plan.ops, module) {
+        return Ok(());
+    }
+    let channels = plan.design.channels.as_slice();
+    let of = module_at(plan, i);
+    ask(channels, of, module, &mut part.pending, requests)?;
+    if any_stalls(plan, clock, contents, requests.as_slice()) {
+        part.clear();
+        return Ok(());
+    }
+    part.moves = true;
+    answer(plan, clock, contents, requests.as_slice(), part)?;
+    Ok(())
+}
+
+/// The parts of all modules, in order.
+fn take_parts(
+    plan: &Plan,
+    clock: u64,
+    state: &ClockState,
+    requests: &mut List<Request>,
+    parts: &mut [Part],
+) -> Result<(), OutOfMemory>
+    requires fits { FitsEngine plan.now }
+    requires fit { AreFit plan.now clock state.now.modules }
+    requires early { clock ≤ plan.now.cycles }
+    requires count { length parts.old ≡ length state.now.modules }
+    ensures { OnOk result (parts.new ≡ map (part_of plan.now clock state.now.contents) (numbered state.now)) }
+{
+    for (i, part) in parts.iter_mut().enumerate() {
+        take_part(plan, clock, state, i, requests, part)?;
+    }
+    Ok(())
+}
+
+/// Whether a module moves.
+fn any_moves(parts: &[Part]) -> bool
+    ensures { result ≡ list_any (λ part. part.moves) parts.now }
+{
+    parts.iter().any(|part| part.moves)
+}
+
+/// Fills in the parts of all modules, and says whether one moves.
+pub fn ask_all(
+    plan: &Plan,
+    clock: u64,
+    state: &ClockState,
+    scratch: &mut Scratch,
+) -> Result<bool, OutOfMemory>
+    requires fits { FitsEngine plan.now }
+    requires fit { AreFit plan.now clock state.now.modules }
+    requires early { clock ≤ plan.now.cycles }
+    requires count { length scratch.old.parts ≡ length state.now.modules }
+    ensures moving { IfOk result (λ moving. is_settled plan.now clock state.now ≡ not moving) }
+    ensures parts { OnOk result (scratch.new.parts ≡ map (part_of plan.now clock state.now.contents) (numbered state.now)) }
+{
+    take_parts(
+        plan,
+        clock,
+        state,
+        &mut scratch.requests,
+        scratch.parts.as_mut_slice(),
+    )?;
+    Ok(any_moves(scratch.parts.as_slice()))
+}

@@ -1,0 +1,262 @@
+//! The verdict of a settled clock, and the report.
+ghost use Rattle.std.specs.Prelude.{◌≡◌, ℕ, ◌<◌, ◌≤◌, [], ◌∷◌, ◌++◌, map, find, filter, filter_map, length, slice_index_or, IfOk, OnOk};
+ghost use Rattle.std.specs.List.{list_any, list_all};
+ghost use Rattle.flow_design.specs.StaticRules.{FitsEngine};
+ghost use Rattle.flow_design.specs.Plans.{kind_at};
+ghost use Rattle.lockstep_defs.specs.Machine.{is_spent, nobody};
+ghost use Rattle.lockstep_defs.specs.Channels.{stalls, contents_of};
+ghost use Rattle.lockstep_defs.specs.Verdict.{settled_verdict, held_by, held_in, held, clock_of};
+ghost use Rattle.lockstep_defs.specs.Report.{is_sink, sinks, outputs_in};
+ghost use Rattle.clock_machine.specs.Parts.{AreFit, report_from};
+
+use crate::asking::{is_over, is_spent, module_at, state_at};
+use crate::channels::{is_popping, stalls};
+use flow_design::{
+    ChannelKind, ClockState, Due, EventLine, Held, ModuleState, Plan, Report, Request, Verdict,
+};
+use flow_word::{Flags, List, OutOfMemory, Queue, Words};
+use module_move::ask;
+use std::alloc::Global;
+
+/// Whether all modules are ended.
+fn all_ended(states: &[ModuleState]) -> bool
+    ensures { result ≡ list_all (λ state. state.ended) states.now }
+{
+    states.iter().all(|state| state.ended)
+}
+
+/// Whether a module is spent.
+fn any_spent(ops: u64, states: &[ModuleState]) -> bool
+    ensures { result ≡ list_any (is_spent ops) states.now }
+{
+    states.iter().any(|state| is_spent(ops, state))
+}
+
+/// The verdict of a settled clock: done where all modules are ended, else ops where one is spent, else deadlock.
+fn settled_verdict(plan: &Plan, clock: u64, state: &ClockState) -> Verdict
+    ensures { result ≡ settled_verdict plan.now clock state.now }
+{
+    if all_ended(state.modules.as_slice()) {
+        Verdict::Done(clock)
+    } else if any_spent(plan.ops, state.modules.as_slice()) {
+        Verdict::Ops(clock)
+    } else {
+        Verdict::Deadlock(clock)
+    }
+}
+
+/// The first of these operations that blocks and cannot be done.
+fn first_stall(
+    plan: &Plan,
+    clock: u64,
+    contents: &[Queue<u64>],
+    requests: &[Request],
+) -> Option<Request>
+    ensures { result ≡ find (stalls plan.now clock contents.now) requests.now }
+{
+    requests
+        .iter()
+        .copied()
+        .find(|request| stalls(plan, clock, contents, request))
+}
+
+/// Adds how module number i is held, if it is neither ended nor spent.
+fn hold_one(
+    plan: &Plan,
+    clock: u64,
+    state: &ClockState,
+    i: usize,
+    pending: &mut List<Due>,
+    requests: &mut List<Request>,
+    held: &mut List<Held>,
+) -> Result<(), OutOfMemory>
+    requires fits { FitsEngine plan.now }
+    requires fit { AreFit plan.now clock state.now.modules }
+    requires early { clock ≤ plan.now.cycles }
+    requires within { i < length state.now.modules }
+    ensures { OnOk result (held.new ≡ held.old ++ filter_map (held_by plan.now clock state.now.contents) ((i, slice_index_or state.now.modules i nobody) ∷ [])) }
+{
+    let module = state_at(state, i);
+    if is_over(plan.ops, module) {
+        return Ok(());
+    }
+    let channels = plan.design.channels.as_slice();
+    let of = module_at(plan, i);
+    ask(channels, of, module, pending, requests)?;
+    let contents = state.contents.as_slice();
+    if let Some(request) = first_stall(plan, clock, contents, requests.as_slice()) {
+        held.push(Held {
+            module: i as u32,
+            full: !is_popping(request.kind),
+            channel: request.channel,
+        })?;
+    }
+    Ok(())
+}
+
+/// How the modules are held, in order.
+fn hold_all(
+    alloc: Global,
+    plan: &Plan,
+    clock: u64,
+    state: &ClockState,
+) -> Result<List<Held>, OutOfMemory>
+    requires fits { FitsEngine plan.now }
+    requires fit { AreFit plan.now clock state.now.modules }
+    requires early { clock ≤ plan.now.cycles }
+    ensures { IfOk result (λ list. list ≡ held_in plan.now clock state.now) }
+{
+    let mut held = List::new(alloc);
+    let mut pending = List::new(alloc);
+    let mut requests = List::new(alloc);
+    let count = state.modules.as_slice().len();
+    for i in 0..count {
+        hold_one(
+            plan,
+            clock,
+            state,
+            i,
+            &mut pending,
+            &mut requests,
+            &mut held,
+        )?;
+    }
+    Ok(held)
+}
+
+/// How the modules are held at a verdict: not at all where all are ended or the cycle limit was reached.
+fn held_at(
+    alloc: Global,
+    plan: &Plan,
+    verdict: Verdict,
+    state: &ClockState,
+) -> Result<List<Held>, OutOfMemory>
+    requires fits { FitsEngine plan.now }
+    requires fit { AreFit plan.now (clock_of verdict) state.now.modules }
+    requires early { clock_of verdict ≤ plan.now.cycles }
+    ensures { IfOk result (λ list. list ≡ held plan.now verdict state.now) }
+{
+    match verdict {
+        Verdict::Done(_) | Verdict::Cycles(_) => Ok(List::new(alloc)),
+        Verdict::Deadlock(clock) | Verdict::Ops(clock) => hold_all(alloc, plan, clock, state),
+    }
+}
+
+/// The values of a queue, moved into a list.
+fn drain(alloc: Global, queue: &mut Queue<u64>) -> Result<Words, OutOfMemory>
+    ensures { IfOk result (λ words. words ≡ queue.old) }
+{
+    let mut words = List::with_room(alloc, queue.len())?;
+    while let Some(value) = queue.pop() {
+        words.push(value)?;
+    }
+    Ok(words)
+}
+
+/// The values that channel number i holds, moved into a list. The other channels keep theirs.
+fn drain_channel(alloc: Global, contents: &mut [Queue<u64>], i: usize) -> Result<Words, OutOfMemory>
+    ensures values { IfOk result (λ words. words ≡ contents_of contents.old i) }
+    ensures others { (k : ℕ) → i < k → contents_of contents.new k ≡ contents_of contents.old k }
+{
+    if i < contents.len() {
+        drain(alloc, &mut contents[i])
+    } else {
+        Ok(List::new(alloc))
+    }
+}
+
+/// Whether a channel is a sink.
+fn is_sink(kind: ChannelKind) -> bool
+    ensures { result ≡ is_sink kind }
+{
+    match kind {
+        ChannelKind::Sink => true,
+        ChannelKind::Source | ChannelKind::Fifo(_) => false,
+    }
+}
+
+/// Adds the values of channel number i, if it is a sink. The other channels keep theirs.
+fn output_one(
+    alloc: Global,
+    plan: &Plan,
+    contents: &mut [Queue<u64>],
+    i: usize,
+    outputs: &mut List<Words>,
+) -> Result<(), OutOfMemory>
+    requires within { i < length plan.now.design.channels }
+    ensures values { OnOk result (outputs.new ≡ outputs.old ++ map (contents_of contents.old) (filter (λ f. is_sink (kind_at plan.now f)) (i ∷ []))) }
+    ensures others { OnOk result ((k : ℕ) → i < k → contents_of contents.new k ≡ contents_of contents.old k) }
+{
+    if is_sink(kind_of(plan, i)) {
+        let words = drain_channel(alloc, contents, i)?;
+        outputs.push(words)?;
+    }
+    Ok(())
+}
+
+/// The kind of channel number i.
+fn kind_of(plan: &Plan, i: usize) -> ChannelKind
+    requires { i < length plan.now.design.channels }
+    ensures { result ≡ kind_at plan.now i }
+{
+    plan.design.channels.as_slice()[i].kind
+}
+
+/// The values of all sinks, in order.
+fn outputs(
+    alloc: Global,
+    plan: &Plan,
+    contents: &mut [Queue<u64>],
+) -> Result<List<Words>, OutOfMemory>
+    ensures { IfOk result (λ outputs. outputs ≡ map (contents_of contents.old) (sinks plan.now)) }
+{
+    let mut outputs = List::new(alloc);
+    let count = plan.design.channels.as_slice().len();
+    for i in 0..count {
+        output_one(alloc, plan, contents, i, &mut outputs)?;
+    }
+    Ok(outputs)
+}
+
+/// The report at a verdict, on the state in its clock and what was done before it.
+pub fn report_at(
+    alloc: Global,
+    plan: &Plan,
+    verdict: Verdict,
+    mut state: ClockState,
+    events: List<EventLine>,
+    answers: List<Flags>,
+) -> Result<Report, OutOfMemory>
+    requires fits { FitsEngine plan.now }
+    requires fit { AreFit plan.now (clock_of verdict) state.modules }
+    requires early { clock_of verdict ≤ plan.now.cycles }
+    ensures { IfOk result (λ report. report ≡ report_from plan.now verdict state events answers) }
+{
+    let held = held_at(alloc, plan, verdict, &state)?;
+    let outputs = outputs(alloc, plan, state.contents.as_mut_slice())?;
+    Ok(Report {
+        verdict,
+        outputs,
+        held,
+        events,
+        answers,
+    })
+}
+
+/// The report of a run that comes to a settled clock.
+pub fn settled_report(
+    alloc: Global,
+    plan: &Plan,
+    clock: u64,
+    state: ClockState,
+    events: List<EventLine>,
+    answers: List<Flags>,
+) -> Result<Report, OutOfMemory>
+    requires fits { FitsEngine plan.now }
+    requires fit { AreFit plan.now clock state.modules }
+    requires early { clock ≤ plan.now.cycles }
+    ensures { IfOk result (λ report. report ≡ report_from plan.now (settled_verdict plan.now clock state) state events answers) }
+{
+    let verdict = settled_verdict(plan, clock, &state);
+    report_at(alloc, plan, verdict, state, events, answers)
+}

@@ -1,0 +1,96 @@
+//! How everything stands at clock 0.
+ghost use Rattle.std.specs.Prelude.{◌≡◌, ◌<◌, ◌++◌, ℕ, [], map, length, replicate, IfOk};
+ghost use Rattle.std.specs.List.{range_with_len};
+ghost use Rattle.flow_design.specs.StaticRules.{FitsEngine};
+ghost use Rattle.flow_design.specs.Words.{cut_to};
+ghost use Rattle.lockstep_defs.specs.Machine.{opened};
+ghost use Rattle.lockstep_defs.specs.Lockstep.{module_at, inputs_of, opening};
+ghost use Rattle.clock_machine.specs.Parts.{IsFit, AreFit};
+
+use crate::asking::module_at;
+use flow_design::{ClockState, ModuleState, Plan};
+use flow_word::{Flags, List, OutOfMemory, Queue, Width, cut};
+use module_move::open;
+use std::alloc::Global;
+
+/// The first state of module number i.
+fn open_one(alloc: Global, plan: &Plan, i: usize) -> Result<ModuleState, OutOfMemory>
+    requires fits { FitsEngine plan.now }
+    requires within { i < length plan.now.design.modules }
+    ensures state { IfOk result (λ state. state ≡ opened (module_at plan.now i)) }
+    ensures fit { IfOk result (λ state. IsFit plan.now 0 (i, state)) }
+{
+    let state = open(alloc, module_at(plan, i))?;
+    Ok(state)
+}
+
+/// The first states of all modules.
+fn open_modules(alloc: Global, plan: &Plan) -> Result<List<ModuleState>, OutOfMemory>
+    requires fits { FitsEngine plan.now }
+    ensures states { IfOk result (λ states. states ≡ map opened plan.now.design.modules) }
+    ensures fit { IfOk result (λ states. AreFit plan.now 0 states) }
+{
+    let count = plan.design.modules.as_slice().len();
+    let mut states = List::with_room(alloc, count as u64)?;
+    for i in 0..count {
+        states.push(open_one(alloc, plan, i)?)?;
+    }
+    Ok(states)
+}
+
+/// Values in a queue, each cut to a width.
+fn queue_of(alloc: Global, width: Width, values: &[u64]) -> Result<Queue<u64>, OutOfMemory>
+    ensures { IfOk result (λ queue. queue ≡ map (cut_to width) values.now) }
+{
+    let mut queue = Queue::new(alloc);
+    for value in values {
+        queue.push(cut(*value, width))?;
+    }
+    Ok(queue)
+}
+
+/// What channel number i holds at first: the inputs of a source, and nothing else.
+fn fill_one(alloc: Global, plan: &Plan, i: usize) -> Result<Queue<u64>, OutOfMemory>
+    requires fits { FitsEngine plan.now }
+    requires within { i < length plan.now.design.channels }
+    ensures { IfOk result (λ queue. queue ≡ inputs_of plan.now i) }
+{
+    let width = plan.design.channels.as_slice()[i].width;
+    let values = plan.inputs.as_slice()[i].as_slice();
+    queue_of(alloc, width, values)
+}
+
+/// What the channels hold at first.
+fn fill_channels(alloc: Global, plan: &Plan) -> Result<List<Queue<u64>>, OutOfMemory>
+    requires fits { FitsEngine plan.now }
+    ensures { IfOk result (λ contents. contents ≡ map (inputs_of plan.now) (range_with_len 0 (length plan.now.design.channels))) }
+{
+    let count = plan.design.channels.as_slice().len();
+    let mut contents = List::with_room(alloc, count as u64)?;
+    for i in 0..count {
+        contents.push(fill_one(alloc, plan, i)?)?;
+    }
+    Ok(contents)
+}
+
+/// The state at clock 0.
+pub fn open_all(alloc: Global, plan: &Plan) -> Result<ClockState, OutOfMemory>
+    requires fits { FitsEngine plan.now }
+    ensures state { IfOk result (λ state. state ≡ opening plan.now) }
+    ensures fit { IfOk result (λ state. AreFit plan.now 0 state.modules) }
+{
+    let modules = open_modules(alloc, plan)?;
+    let contents = fill_channels(alloc, plan)?;
+    Ok(ClockState { modules, contents })
+}
+
+/// No answers yet, for so many modules.
+pub fn no_answers(alloc: Global, modules: u64) -> Result<List<Flags>, OutOfMemory>
+    ensures { IfOk result (λ answers. answers ≡ replicate modules []) }
+{
+    let mut answers = List::new(alloc);
+    for _ in 0..modules {
+        answers.push(List::new(alloc))?;
+    }
+    Ok(answers)
+}

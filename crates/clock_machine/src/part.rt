@@ -1,0 +1,74 @@
+//! What a module does in a clock.
+ghost use Rattle.std.specs.Prelude.{◌≡◌, IfOk, length};
+ghost use Rattle.clock_machine.specs.Parts.{no_part};
+
+use flow_design::{Due, Effect, Reply, Request};
+use flow_word::{List, OutOfMemory};
+use std::alloc::Global;
+
+/// A FIFO operation that is done in a clock: what was asked, and the reply.
+#[derive(Clone, Copy, Debug, PartialEq, Eq)]
+pub struct Answered {
+    pub request: Request,
+    pub reply: Reply,
+}
+
+/// A module's part in a clock. All lists are empty where the module does not move.
+#[derive(Drop)]
+pub struct Part {
+    pub moves: bool,
+    /// The due operations, in commit order.
+    pub pending: List<Due>,
+    /// The replies to the FIFO operations among them.
+    pub replies: List<Reply>,
+    /// The FIFO operations beside their replies.
+    pub answered: List<Answered>,
+}
+
+/// Room that is used anew in each clock.
+#[derive(Drop)]
+pub struct Scratch {
+    /// One part per module.
+    pub parts: List<Part>,
+    pub requests: List<Request>,
+    pub effects: List<Effect>,
+}
+
+impl Part {
+    /// No part, which takes no memory.
+    pub fn new(alloc: Global) -> Part
+        ensures { result ≡ no_part }
+    {
+        Part {
+            moves: false,
+            pending: List::new(alloc),
+            replies: List::new(alloc),
+            answered: List::new(alloc),
+        }
+    }
+
+    /// Takes all out. The lists keep their room.
+    pub fn clear(&mut self)
+        ensures { self.new ≡ no_part }
+    {
+        self.moves = false;
+        self.pending.truncate(0);
+        self.replies.truncate(0);
+        self.answered.truncate(0);
+    }
+}
+
+/// Room for so many modules.
+pub fn new_scratch(alloc: Global, modules: u64) -> Result<Scratch, OutOfMemory>
+    ensures { IfOk result (λ scratch. length scratch.parts ≡ modules) }
+{
+    let mut parts = List::new(alloc);
+    for _ in 0..modules {
+        parts.push(Part::new(alloc))?;
+    }
+    Ok(Scratch {
+        parts,
+        requests: List::new(alloc),
+        effects: List::new(alloc),
+    })
+}

@@ -1,0 +1,111 @@
+//! The whole run, clock by clock.
+ghost use Rattle.std.specs.Prelude.{◌≡◌, ℕ, ◌+◌, ◌<◌, ◌≤◌, [], ◌++◌, map, length, slice_index_or, IfOk, OnOk};
+ghost use Rattle.flow_design.specs.StaticRules.{FitsEngine};
+ghost use Rattle.lockstep_defs.specs.Lockstep.{numbered, steps_in, clock_step};
+ghost use Rattle.lockstep_defs.specs.Report.{steps_of, outcomes, events_of, report};
+ghost use Rattle.clock_machine.specs.Parts.{part_of, AreFit};
+
+use crate::asking::ask_all;
+use crate::contents::{pop_all, push_all};
+use crate::ending::{report_at, settled_report};
+use crate::moving::move_all;
+use crate::opening::{no_answers, open_all};
+use crate::part::{Part, Scratch, new_scratch};
+use crate::telling::{tell_all_events, tell_all_outcomes};
+use flow_design::{ClockState, Effect, EventLine, Plan, Report, Verdict};
+use flow_word::{Flags, List, OutOfMemory};
+use std::alloc::Global;
+
+/// One clock: the modules move by their parts, then all that they pop is taken off, and then all that they push is put in.
+fn step(
+    alloc: Global,
+    plan: &Plan,
+    clock: u64,
+    parts: &[Part],
+    state: &mut ClockState,
+    effects: &mut List<Effect>,
+) -> Result<(), OutOfMemory>
+    requires fits { FitsEngine plan.now }
+    requires fit { AreFit plan.now clock state.old.modules }
+    requires early { clock ≤ plan.now.cycles }
+    requires parts { parts.now ≡ map (part_of plan.now clock state.old.contents) (numbered state.old) }
+    ensures state { OnOk result (state.new ≡ clock_step plan.now clock state.old) }
+    ensures fit { OnOk result (AreFit plan.now (clock + 1) state.new.modules) }
+{
+    move_all(
+        alloc,
+        plan,
+        clock,
+        parts,
+        state.modules.as_mut_slice(),
+        effects,
+    )?;
+    pop_all(state.contents.as_mut_slice(), parts);
+    push_all(state.contents.as_mut_slice(), parts)?;
+    Ok(())
+}
+
+/// One clock, with its events and answers.
+fn next_clock(
+    alloc: Global,
+    plan: &Plan,
+    clock: u64,
+    scratch: &mut Scratch,
+    state: &mut ClockState,
+    events: &mut List<EventLine>,
+    answers: &mut List<Flags>,
+) -> Result<(), OutOfMemory>
+    requires fits { FitsEngine plan.now }
+    requires fit { AreFit plan.now clock state.old.modules }
+    requires early { clock ≤ plan.now.cycles }
+    requires parts { scratch.old.parts ≡ map (part_of plan.now clock state.old.contents) (numbered state.old) }
+    requires count { length answers.old ≡ length plan.now.design.modules }
+    ensures state { OnOk result (state.new ≡ clock_step plan.now clock state.old) }
+    ensures fit { OnOk result (AreFit plan.now (clock + 1) state.new.modules) }
+    ensures parts { OnOk result (scratch.new.parts ≡ scratch.old.parts) }
+    ensures events { OnOk result (events.new ≡ events.old ++ events_of (steps_in plan.now clock state.old)) }
+    ensures count { OnOk result (length answers.new ≡ length answers.old) }
+    ensures answers { OnOk result ((i : ℕ) → i < length plan.now.design.modules → slice_index_or answers.new i [] ≡ slice_index_or answers.old i [] ++ outcomes (steps_of i (steps_in plan.now clock state.old))) }
+{
+    let parts = scratch.parts.as_slice();
+    tell_all_events(events, clock, parts)?;
+    tell_all_outcomes(answers.as_mut_slice(), parts)?;
+    step(alloc, plan, clock, parts, state, &mut scratch.effects)?;
+    Ok(())
+}
+
+/// The report of a plan, by going through its clocks one at a time.
+///
+/// A run takes as many clocks as its verdict says, and each clock time for the modules and for what is done in it.
+pub fn clock_run(alloc: Global, plan: &Plan) -> Result<Report, OutOfMemory>
+    requires fits { FitsEngine plan.now }
+    ensures { IfOk result (λ r. r ≡ report plan.now) }
+{
+    let modules = plan.design.modules.len();
+    let mut state = open_all(alloc, plan)?;
+    let mut scratch = new_scratch(alloc, modules)?;
+    let mut events = List::new(alloc);
+    let mut answers = no_answers(alloc, modules)?;
+    for clock in 0..plan.cycles {
+        if !ask_all(plan, clock, &state, &mut scratch)? {
+            let report = settled_report(alloc, plan, clock, state, events, answers)?;
+            return Ok(report);
+        }
+        next_clock(
+            alloc,
+            plan,
+            clock,
+            &mut scratch,
+            &mut state,
+            &mut events,
+            &mut answers,
+        )?;
+    }
+    if !ask_all(plan, plan.cycles, &state, &mut scratch)? {
+        let report = settled_report(alloc, plan, plan.cycles, state, events, answers)?;
+        return Ok(report);
+    }
+    let verdict = Verdict::Cycles(plan.cycles);
+    let report = report_at(alloc, plan, verdict, state, events, answers)?;
+    Ok(report)
+}

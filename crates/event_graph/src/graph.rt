@@ -45,7 +45,9 @@ impl Graph {
         Ok(Graph { lanes })
     }
 
-    /// Makes room for so many further steps of a module and their cycles. No lane's room falls.
+    /// Makes room for so many further steps of a module and their cycles.
+    ///
+    /// No lane's room falls, and the lanes are as they were, also after want of memory.
     pub fn reserve(&mut self, owner: u32, steps: u64) -> Result<(), OutOfMemory>
         requires { owner < length self.old.lanes }
         ensures lanes { self.new.lanes ≡ self.old.lanes }

@@ -44,7 +44,9 @@ impl FifoTable {
         Ok(FifoTable { channels: made })
     }
 
-    /// Makes room for so many further pushes and pops of a channel. No channel's room falls.
+    /// Makes room for so many further pushes and pops of a channel.
+    ///
+    /// No channel's room falls, and the channels are as they were, also after want of memory.
     pub fn reserve(&mut self, channel: u32, pushes: u64, pops: u64) -> Result<(), OutOfMemory>
         requires { channel < length self.old.channels }
         ensures channels { self.new.channels ≡ self.old.channels }

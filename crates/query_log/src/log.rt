@@ -38,7 +38,9 @@ impl QueryLog {
         Ok(QueryLog { logs })
     }
 
-    /// Makes room for so many more outcomes of a module. No module's room falls.
+    /// Makes room for so many more outcomes of a module.
+    ///
+    /// No module's room falls, and the logs are as they were, also after want of memory.
     pub fn reserve(&mut self, owner: u32, queries: u64) -> Result<(), OutOfMemory>
         requires { owner < length self.old.logs }
         ensures logs { self.new.logs ≡ self.old.logs }

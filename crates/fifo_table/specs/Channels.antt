@@ -17,16 +17,19 @@ IsSoundKind (Source inputs) = Unit {0}
 IsSoundKind Sink = Unit {0}
 IsSoundKind (Fifo depth) = (1 ≤ depth) × (depth ≤ 1000000)
 
+-- a preloaded input stream
 abbrev pub IsSource : TableChannel → Type 0
 IsSource (Source inputs) = Unit {0}
 IsSource Sink = ⊥
 IsSource (Fifo depth) = ⊥
 
+-- an output stream
 abbrev pub IsSink : TableChannel → Type 0
 IsSink (Source inputs) = ⊥
 IsSink Sink = Unit {0}
 IsSink (Fifo depth) = ⊥
 
+-- a queue with a depth
 abbrev pub IsFifo : TableChannel → Type 0
 IsFifo (Source inputs) = ⊥
 IsFifo Sink = ⊥

@@ -115,7 +115,8 @@ impl FifoTable {
         requires channel { channel < length self.now.channels }
         requires from_one { 1 ≤ n }
         requires no_sink { ¬ IsSink (channel_at self.now.channels channel).kind }
-        ensures { result ≡ read_enabler (channel_at self.now.channels channel) n }
+        ensures enabler { result ≡ read_enabler (channel_at self.now.channels channel) n }
+        ensures never { result ≡ Enabler.Never → IsSource (channel_at self.now.channels channel).kind }
     {
         let channel = &self.channels[channel as usize];
         match &channel.kind {
@@ -134,7 +135,8 @@ impl FifoTable {
         requires channel { channel < length self.now.channels }
         requires from_one { 1 ≤ n }
         requires no_source { ¬ IsSource (channel_at self.now.channels channel).kind }
-        ensures { result ≡ write_enabler (channel_at self.now.channels channel) n }
+        ensures enabler { result ≡ write_enabler (channel_at self.now.channels channel) n }
+        ensures never { result ≢ Enabler.Never }
     {
         let channel = &self.channels[channel as usize];
         match &channel.kind {
@@ -178,7 +180,8 @@ impl FifoTable {
 
 /// The event of a step, where it was emitted.
 fn emitted(at: Option<Place>) -> Enabler
-    ensures { result ≡ event_at at }
+    ensures enabler { result ≡ event_at at }
+    ensures never { result ≢ Enabler.Never }
 {
     match at {
         Some(at) => Enabler::Event(at),

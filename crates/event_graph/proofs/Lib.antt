@@ -1,0 +1,4 @@
+pub mod Changed
+pub mod Forgetting
+pub mod Growth
+pub mod Kept

@@ -1,0 +1,77 @@
+-- Lanes of steps: what a graph holds, when it is sound, and how it grows and shrinks.
+use Rattle.std.specs.Prelude.{ℕ, ◌-◌, ◌<◌, ◌≤◌, ◌^◌, List, [], ◌∷◌, ◌++◌, length, drop, filter, nat_lt, slice_get, slice_set, slice_index_or, All, if◌then◌else◌, Option, None, Some}
+use Rattle.std.specs.List.Sorted.{IsStrictlyIncreasing}
+use Rattle.flow_word.specs.declared.access.Step.{Step}
+use Rattle.flow_word.specs.declared.access.Place.{Place}
+
+-- a module's steps, and the cycles of the first of them
+pub record Lane : Type 0 where
+  pub steps : List Step
+  pub cycles : List ℕ
+
+-- every cycle is below this
+abbrev pub cycle_bound : ℕ
+cycle_bound = 10 ^ 15
+
+-- every gap is below this
+abbrev pub gap_bound : ℕ
+gap_bound = 10 ^ 18
+
+-- a lane without a step
+abbrev pub no_lane : Lane
+no_lane = record { steps = []; cycles = [] }
+
+-- the lane of a module
+abbrev pub lane_at : List Lane → ℕ → Lane
+lane_at lanes owner = slice_index_or lanes owner no_lane
+
+-- the place is that of a step
+pub record HasStep (lanes : List Lane) (place : Place) : Type 0 where
+  pub owner : place.module < length lanes
+  pub step : place.step < length (lane_at lanes place.module).steps
+
+-- the cycle of a step, where it has one
+abbrev pub cycle_of : List Lane → Place → Option ℕ
+cycle_of lanes place = slice_get (lane_at lanes place.module).cycles place.step
+
+-- the last cycle of a lane, where it has one
+abbrev pub last_cycle : Lane → Option ℕ
+last_cycle lane = slice_get lane.cycles (length lane.cycles - 1)
+
+-- a step's numbers are small enough to reckon with
+pub record IsSoundStep (step : Step) : Type 0 where
+  pub gap : step.gap < gap_bound
+  pub accesses : length step.accesses < 2 ^ 32
+
+-- every step but the first is at least one clock behind the step before it; the steps with a cycle are a prefix, and their cycles rise
+pub record IsSoundLane (lane : Lane) : Type 0 where
+  pub steps : All IsSoundStep lane.steps
+  pub apart : All (λ step. 1 ≤ step.gap) (drop 1 lane.steps)
+  pub prefix : length lane.cycles ≤ length lane.steps
+  pub rising : IsStrictlyIncreasing lane.cycles
+  pub below : All (λ cycle. cycle < cycle_bound) lane.cycles
+
+-- the lane with a step more
+abbrev pub longer : Lane → Step → Lane
+longer lane step = record { steps = lane.steps ++ step ∷ []; cycles = lane.cycles }
+
+-- the lane with the cycle of its first step that had none
+abbrev pub timed : Lane → ℕ → Lane
+timed lane cycle = record { steps = lane.steps; cycles = lane.cycles ++ cycle ∷ [] }
+
+-- the lane with those cycles alone that are below this one
+abbrev pub timed_below : ℕ → Lane → Lane
+timed_below cycle lane = record { steps = lane.steps; cycles = filter (λ c. nat_lt c cycle) lane.cycles }
+
+-- the lanes with a step more in one of them
+abbrev pub with_step : List Lane → ℕ → Step → List Lane
+with_step lanes owner step = slice_set lanes owner (longer (lane_at lanes owner) step)
+
+-- the lanes with a cycle more in one of them
+abbrev pub with_cycle : List Lane → ℕ → ℕ → List Lane
+with_cycle lanes owner cycle = slice_set lanes owner (timed (lane_at lanes owner) cycle)
+
+-- a cycle that is below this one
+abbrev pub if_below : ℕ → Option ℕ → Option ℕ
+if_below cycle None = None
+if_below cycle (Some c) = if nat_lt c cycle then Some c else None

@@ -1,0 +1,146 @@
+//! The lanes of all modules.
+ghost use Rattle.std.specs.Prelude.{◌≡◌, ◌≢◌, ℕ, ◌+◌, ◌<◌, ◌≤◌, length, map, replicate, slice_get, slice_index, All, Some, IfSome, IsOk, IfOk, OnOk, OnErr};
+ghost use Rattle.std.specs.Option.{ForSome};
+ghost use Rattle.event_graph.specs.Lanes.{no_lane, lane_at, last_cycle, cycle_bound, HasStep, IsSoundStep, IsSoundLane, with_step, with_cycle, timed_below, if_below};
+ghost use Rattle.event_graph.specs.Lanes.{cycle_of as cycle_at};
+ghost use Rattle.flow_word.specs.declared.access.Place.{Place};
+
+use crate::lane::RoomyLane;
+use flow_word::{OutOfMemory, Place, Step, Steps};
+use std::alloc::Global;
+use std::marker::Model;
+use std::sync::ledger::Ledger;
+
+/// A lane for each module: the steps that it made, and the cycles of the first of them.
+///
+/// A step keeps its place once it is pushed. Cycles alone come and go: they are given in order, rise along a lane, and
+/// are forgotten from a clock on. Contracts see the lanes, and beside them the room of each lane: how many further
+/// steps it takes without memory.
+#[derive(Drop)]
+pub struct Graph {
+    lanes: Vec<RoomyLane>,
+}
+
+impl Model for Graph {
+    ghost use Rattle.std.specs.Prelude.{◌<◌, ◌^◌, length, All};
+    ghost use Rattle.event_graph.specs.Lanes.{IsSoundLane};
+    ghost use Rattle.event_graph.specs.Roomed.{RoomedLanes, lanes_of, rooms_of};
+
+    ghost Value = { RoomedLanes };
+
+    ghost view = { λ g. record { lanes = lanes_of g.lanes.items; rooms = rooms_of g.lanes.items } };
+
+    ghost invariant = { λ g. All IsSoundLane (lanes_of g.lanes.items) × (length g.lanes.items < 2 ^ 32) };
+}
+
+impl Graph {
+    /// So many lanes without a step.
+    pub fn new(alloc: Global, modules: u32) -> Result<Graph, OutOfMemory>
+        ensures { IfOk result (λ graph. graph.lanes ≡ replicate modules no_lane) }
+    {
+        let mut lanes = Vec::with_capacity(alloc, modules as usize)?;
+        for _ in 0..modules {
+            lanes.push(RoomyLane::new(alloc))?;
+        }
+        Ok(Graph { lanes })
+    }
+
+    /// Makes room for so many further steps of a module and their cycles.
+    ///
+    /// No lane's room falls, and the lanes are as they were, also after want of memory.
+    pub fn reserve(&mut self, owner: u32, steps: u64) -> Result<(), OutOfMemory>
+        requires { owner < length self.old.lanes }
+        ensures lanes { self.new.lanes ≡ self.old.lanes }
+        ensures room { OnOk result (steps ≤ slice_index self.new.rooms owner) }
+        ensures kept { (k : ℕ) → slice_index self.old.rooms k ≤ slice_index self.new.rooms k }
+    {
+        self.lanes[owner as usize].reserve(steps)
+    }
+
+    /// Adds a step at the end of a module's lane, and takes the room for its cycle.
+    ///
+    /// It succeeds where the lane has room, of which it uses one place. After want of memory the lanes are as they
+    /// were, and the step is dropped.
+    pub fn push_step(&mut self, owner: u32, step: Step) -> Result<(), OutOfMemory>
+        requires owner { owner < length self.old.lanes }
+        requires sound { IsSoundStep step }
+        requires apart { 0 < length (lane_at self.old.lanes owner).steps → 1 ≤ step.gap }
+        ensures ok { OnOk result (self.new.lanes ≡ with_step self.old.lanes owner step) }
+        ensures err { OnErr result (self.new.lanes ≡ self.old.lanes) }
+        ensures succeeds { 0 < slice_index self.old.rooms owner → IsOk result }
+        ensures own_room { slice_index self.old.rooms owner ≤ slice_index self.new.rooms owner + 1 }
+        ensures other_rooms { (k : ℕ) → k ≢ owner → slice_index self.old.rooms k ≤ slice_index self.new.rooms k }
+    {
+        self.lanes[owner as usize].push_step(step)
+    }
+
+    /// How many modules there are.
+    pub fn modules(&self) -> u32
+        ensures count { result ≡ length self.now.lanes }
+        ensures sound { All IsSoundLane self.now.lanes }
+    {
+        self.lanes.len() as u32
+    }
+
+    /// How many steps a module made.
+    pub fn len(&self, owner: u32) -> u64
+        requires { owner < length self.now.lanes }
+        ensures count { result ≡ length (lane_at self.now.lanes owner).steps }
+        ensures sound { IsSoundLane (lane_at self.now.lanes owner) }
+    {
+        self.lanes[owner as usize].len()
+    }
+
+    /// How many of a module's steps have their cycle.
+    pub fn frontier(&self, owner: u32) -> u64
+        requires { owner < length self.now.lanes }
+        ensures count { result ≡ length (lane_at self.now.lanes owner).cycles }
+        ensures sound { IsSoundLane (lane_at self.now.lanes owner) }
+    {
+        self.lanes[owner as usize].cycles().len() as u64
+    }
+
+    /// The step at a place.
+    pub fn step(&self, place: Place) -> &Step
+        requires { HasStep self.now.lanes place }
+        ensures step { slice_get (lane_at self.now.lanes place.module).steps place.step ≡ Some result.now }
+        ensures sound { IsSoundStep result.now }
+        ensures apart { 0 < place.step → 1 ≤ result.now.gap }
+    {
+        &self.lanes[place.module as usize].steps()[place.step as usize]
+    }
+
+    /// The cycle of the step at a place, where it has one.
+    pub fn cycle_of(&self, place: Place) -> Option<u64>
+        requires { HasStep self.now.lanes place }
+        ensures cycle { result ≡ cycle_at self.now.lanes place }
+        ensures below { IfSome result (λ cycle. cycle < cycle_bound) }
+    {
+        let lane = &self.lanes[place.module as usize];
+        lane.cycles().get(place.step as usize).copied()
+    }
+
+    /// Gives a module's first step without a cycle this one. No other call gives a step its cycle.
+    pub fn set_cycle<L: Ledger>(&mut self, owner: u32, cycle: u64, steps: &mut Steps<L>)
+        requires owner { owner < length self.old.lanes }
+        requires waiting { length (lane_at self.old.lanes owner).cycles < length (lane_at self.old.lanes owner).steps }
+        requires below { cycle < cycle_bound }
+        requires later { ForSome (last_cycle (lane_at self.old.lanes owner)) (λ last. last < cycle) }
+        ensures lanes { self.new.lanes ≡ with_cycle self.old.lanes owner cycle }
+        ensures kept { (k : ℕ) → slice_index self.old.rooms k ≤ slice_index self.new.rooms k }
+        ensures ticks { steps.new ≡ steps.old + 1 }
+    {
+        self.lanes[owner as usize].set_cycle(cycle, steps);
+    }
+
+    /// Forgets every cycle that is at least this one. All else stays.
+    pub fn forget_from(&mut self, cycle: u64)
+        ensures lanes { self.new.lanes ≡ map (timed_below cycle) self.old.lanes }
+        ensures each { (place : Place) → cycle_at self.new.lanes place ≡ if_below cycle (cycle_at self.old.lanes place) }
+        ensures kept { (k : ℕ) → slice_index self.old.rooms k ≤ slice_index self.new.rooms k }
+    {
+        for lane in self.lanes.iter_mut() {
+            lane.forget_from(cycle);
+        }
+    }
+}

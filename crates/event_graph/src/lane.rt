@@ -1,0 +1,126 @@
+//! One module's lane, with its room.
+ghost use Rattle.std.specs.Prelude.{◌≡◌, ◌+◌, ◌<◌, ◌≤◌, length, take, filter, nat_lt, IsOk, OnOk, OnErr};
+ghost use Rattle.std.specs.Option.{ForSome};
+ghost use Rattle.std.specs.List.Sorted.{IsStrictlyIncreasing};
+ghost use Rattle.event_graph.specs.Lanes.{no_lane, last_cycle, cycle_bound, IsSoundStep, IsSoundLane, longer, timed, timed_below};
+
+use flow_word::{OutOfMemory, RoomyList, Step, Steps};
+use std::alloc::Global;
+use std::marker::Model;
+use std::sync::ledger::Ledger;
+
+/// A module's steps, and the cycles of the first of them. Each step has room for its cycle.
+#[derive(Drop)]
+pub struct RoomyLane {
+    steps: RoomyList<Step>,
+    cycles: Vec<u64>,
+}
+
+impl Model for RoomyLane {
+    ghost use Rattle.std.specs.Prelude.{◌-◌, ◌≤◌, length, min, vec_capacity};
+    ghost use Rattle.event_graph.specs.Lanes.{IsSoundLane};
+    ghost use Rattle.event_graph.specs.Roomed.{RoomedLane};
+
+    ghost Value = { RoomedLane };
+
+    ghost view = { λ l. record { lane = record { steps = l.steps.items; cycles = l.cycles.items }; room = min l.steps.room (vec_capacity l.cycles - length l.steps.items) } };
+
+    ghost invariant = { λ l. IsSoundLane (record { steps = l.steps.items; cycles = l.cycles.items }) × (length l.steps.items ≤ vec_capacity l.cycles) };
+}
+
+impl RoomyLane {
+    /// No step yet, which takes no memory.
+    pub fn new(alloc: Global) -> RoomyLane
+        ensures lane { result.lane ≡ no_lane }
+        ensures sound { IsSoundLane result.lane }
+    {
+        RoomyLane {
+            steps: RoomyList::new(alloc),
+            cycles: Vec::new(alloc),
+        }
+    }
+
+    /// How many steps there are.
+    pub fn len(&self) -> u64
+        ensures { result ≡ length self.now.lane.steps }
+    {
+        self.steps.len()
+    }
+
+    /// The steps.
+    pub fn steps(&self) -> &[Step]
+        ensures { result.now ≡ self.now.lane.steps }
+    {
+        self.steps.as_slice()
+    }
+
+    /// The cycles of the first steps.
+    pub fn cycles(&self) -> &[u64]
+        ensures { result.now ≡ self.now.lane.cycles }
+    {
+        self.cycles.as_slice()
+    }
+
+    /// Makes room for so many more steps and their cycles. The room never falls.
+    pub fn reserve(&mut self, more: u64) -> Result<(), OutOfMemory>
+        ensures lane { self.new.lane ≡ self.old.lane }
+        ensures room { OnOk result (more ≤ self.new.room) }
+        ensures kept { self.old.room ≤ self.new.room }
+        ensures sound { IsSoundLane self.new.lane }
+    {
+        self.steps.reserve(more)?;
+        let waiting = self.steps.len() as usize - self.cycles.len();
+        let wanted = waiting.checked_add(more as usize).ok_or(OutOfMemory)?;
+        self.cycles.reserve(wanted)?;
+        Ok(())
+    }
+
+    /// Adds a step, and takes the room for its cycle.
+    pub fn push_step(&mut self, step: Step) -> Result<(), OutOfMemory>
+        requires sound { IsSoundStep step }
+        requires apart { 0 < length self.old.lane.steps → 1 ≤ step.gap }
+        ensures ok { OnOk result (self.new.lane ≡ longer self.old.lane step) }
+        ensures err { OnErr result (self.new.lane ≡ self.old.lane) }
+        ensures succeeds { 0 < self.old.room → IsOk result }
+        ensures room { self.old.room ≤ self.new.room + 1 }
+        ensures lane_sound { IsSoundLane self.new.lane }
+    {
+        let waiting = self.steps.len() as usize - self.cycles.len();
+        self.cycles.reserve(waiting + 1)?;
+        self.steps.push(step)?;
+        Ok(())
+    }
+
+    /// Gives the first step without a cycle this one.
+    pub fn set_cycle<L: Ledger>(&mut self, cycle: u64, steps: &mut Steps<L>)
+        requires waiting { length self.old.lane.cycles < length self.old.lane.steps }
+        requires below { cycle < cycle_bound }
+        requires later { ForSome (last_cycle self.old.lane) (λ last. last < cycle) }
+        ensures lane { self.new.lane ≡ timed self.old.lane cycle }
+        ensures kept { self.old.room ≤ self.new.room }
+        ensures sound { IsSoundLane self.new.lane }
+        ensures ticks { steps.new ≡ steps.old + 1 }
+    {
+        // Its room was taken with the step.
+        let _ = self.cycles.push(cycle);
+        steps.tick();
+    }
+
+    /// Forgets the cycles from this one on.
+    pub fn forget_from(&mut self, cycle: u64)
+        ensures lane { self.new.lane ≡ timed_below cycle self.old.lane }
+        ensures kept { self.old.room ≤ self.new.room }
+        ensures sound { IsSoundLane self.new.lane }
+    {
+        let kept = count_below(self.cycles.as_slice(), cycle);
+        self.cycles.truncate(kept);
+    }
+}
+
+/// How many of the rising cycles are below this one. They stand at the front.
+fn count_below(cycles: &[u64], cycle: u64) -> usize
+    requires { IsStrictlyIncreasing cycles.now }
+    ensures { take result cycles.now ≡ filter (λ c. nat_lt c cycle) cycles.now }
+{
+    cycles.partition_point(|c| *c < cycle)
+}

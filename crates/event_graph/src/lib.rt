@@ -1,0 +1,13 @@
+//! The event graph: the steps that each module made, and the clocks at which they were done.
+#![tactic(auto)]
+
+mod candidate;
+mod graph;
+mod lane;
+
+pub use candidate::Candidate;
+pub use flow_word::{Access, Accesses, Kind, Place, Step};
+pub use graph::Graph;
+
+#[cfg(test)]
+mod tests;

@@ -1,0 +1,26 @@
+-- A table as contracts see it: its channels, and the room that was reserved beside them.
+use Rattle.std.specs.Prelude.{ℕ, List, map}
+use Rattle.fifo_table.specs.declared.channel.RoomyChannel.{RoomyChannel}
+use Rattle.fifo_table.specs.Channels.{Channel}
+
+-- the channels, and how many further pushes and pops each takes without memory
+pub record RoomedChannels : Type 0 where
+  pub channels : List Channel
+  pub push_rooms : List ℕ
+  pub pop_rooms : List ℕ
+
+-- a channel without its room
+abbrev pub channel_of : RoomyChannel → Channel
+channel_of roomy = record { kind = roomy.kind; pushes = roomy.pushes.items; pops = roomy.pops.items }
+
+-- the channels alone
+abbrev pub channels_of : List RoomyChannel → List Channel
+channels_of channels = map channel_of channels
+
+-- the rooms for pushes alone
+abbrev pub push_rooms_of : List RoomyChannel → List ℕ
+push_rooms_of channels = map (λ c. c.pushes.room) channels
+
+-- the rooms for pops alone
+abbrev pub pop_rooms_of : List RoomyChannel → List ℕ
+pop_rooms_of channels = map (λ c. c.pops.room) channels

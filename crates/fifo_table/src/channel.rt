@@ -1,0 +1,71 @@
+//! A channel with its pushes and pops.
+ghost use Rattle.std.specs.Prelude.{◌≡◌, ◌≤◌, IfOk, OnOk};
+ghost use Rattle.fifo_table.specs.Channels.{unused};
+ghost use Rattle.fifo_table.specs.Roomed.{channel_of};
+
+use flow_word::{List, OutOfMemory, Place, RoomyList, Words};
+use std::alloc::Global;
+
+/// What a channel is.
+#[derive(Debug, Drop)]
+pub enum TableChannel {
+    /// A preloaded input stream: its values, each cut to the channel's width.
+    Source(Words),
+    /// An output stream, which is never full.
+    Sink,
+    /// A queue of this depth, from 1 to 1,000,000.
+    Fifo(u64),
+}
+
+/// One push: the step that made it, and its value.
+#[derive(Clone, Copy, Debug, PartialEq, Eq)]
+pub struct Push {
+    pub at: Place,
+    pub value: u64,
+}
+
+/// A channel with its pushes and pops, and room for more of them.
+#[derive(Drop)]
+pub struct RoomyChannel {
+    pub kind: TableChannel,
+    pub pushes: RoomyList<Push>,
+    pub pops: RoomyList<Place>,
+}
+
+impl RoomyChannel {
+    /// A channel of this kind without a push and a pop.
+    pub fn new(alloc: Global, kind: &TableChannel) -> Result<RoomyChannel, OutOfMemory>
+        ensures { IfOk result (λ channel. channel_of channel ≡ unused kind.now) }
+    {
+        Ok(RoomyChannel {
+            kind: copied(alloc, kind)?,
+            pushes: RoomyList::new(alloc),
+            pops: RoomyList::new(alloc),
+        })
+    }
+
+    /// Makes room for so many further pushes and pops. Neither room falls.
+    pub fn reserve(&mut self, pushes: u64, pops: u64) -> Result<(), OutOfMemory>
+        ensures channel { channel_of self.new ≡ channel_of self.old }
+        ensures push_room { OnOk result (pushes ≤ self.new.pushes.room) }
+        ensures pop_room { OnOk result (pops ≤ self.new.pops.room) }
+        ensures pushes_kept { self.old.pushes.room ≤ self.new.pushes.room }
+        ensures pops_kept { self.old.pops.room ≤ self.new.pops.room }
+    {
+        self.pushes.reserve(pushes)?;
+        self.pops.reserve(pops)
+    }
+}
+
+fn copied(alloc: Global, kind: &TableChannel) -> Result<TableChannel, OutOfMemory>
+    ensures { IfOk result (λ copy. copy ≡ kind.now) }
+{
+    match kind {
+        TableChannel::Source(inputs) => Ok(TableChannel::Source(List::from_slice(
+            alloc,
+            inputs.as_slice(),
+        )?)),
+        TableChannel::Sink => Ok(TableChannel::Sink),
+        TableChannel::Fifo(depth) => Ok(TableChannel::Fifo(*depth)),
+    }
+}

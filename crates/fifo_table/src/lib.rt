@@ -1,0 +1,13 @@
+//! The FIFO table: the pushes and pops of each channel, by ordinal, and what each access waits for.
+#![tactic(auto)]
+
+mod channel;
+mod enabler;
+mod table;
+
+pub use channel::TableChannel;
+pub use enabler::Enabler;
+pub use table::FifoTable;
+
+#[cfg(test)]
+mod tests;

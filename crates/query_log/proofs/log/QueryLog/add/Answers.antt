@@ -1,0 +1,35 @@
+use Rattle.std.proofs.Common.{◌<◌, length, arith}
+use Rattle.std.proofs.lemmas.List.{length-map}
+use Rattle.query_log.specs.declared.roomy.RoomyLog.{RoomyLog}
+use Rattle.query_log.specs.Logs.{Log, no_log, answered, log_of}
+use Rattle.query_log.proofs.Changed.{shown_set, shown_old, shown_new, shown_other}
+use Rattle.query_log.proofs.SoundLogs.{replaced, read_sound, read_log, answered_sound}
+use Rattle.query_log.proofs.log.QueryLog.add.Goals as goal
+
+pub add-requires : goal.add-requires
+add-requires c =
+    let there : c.args.owner < length c.self.inside.logs.items = rw (← c.self.view_is, length-map) at c.requires.owner in
+    record {
+      room = rw (← c.self.view_is, shown_old (λ (l : RoomyLog). l.outcomes.room) c.self.inside.logs.items c.args.owner c.index_mut.result.now there c.index_mut.ensures.value) at c.requires.room;
+      verified = rw (← c.self.view_is, read_log c.self.inside.logs.items c.args.owner c.index_mut.result.now there c.index_mut.ensures.value) at c.requires.verified;
+    }
+
+pub invariant_of-self : goal.invariant_of-self
+invariant_of-self c =
+    let there : c.args.owner < length c.self.inside.logs.items = rw (← c.self.view_is, length-map) at c.requires.owner in
+    let sound = read_sound c.self.inside.logs.items c.args.owner c.index_mut.result.now there c.index_mut.ensures.value c.self.invariant in
+    replaced c.self.inside.logs.items c.args.owner c.add.new.self c.self.invariant (answered_sound _ _ c.args.yes c.add.ensures.log sound)
+
+pub returns-clause-logs : goal.returns-clause-logs
+returns-clause-logs c =
+    let there : c.args.owner < length c.self.inside.logs.items = rw (← c.self.view_is, length-map) at c.requires.owner in
+    rw (← c.self.view_is) (shown_set log_of (λ (l : Log). answered l c.args.yes) c.self.inside.logs.items c.args.owner c.index_mut.result.now c.add.new.self no_log there c.index_mut.ensures.value c.add.ensures.log)
+
+pub returns-clause-own_room : goal.returns-clause-own_room
+returns-clause-own_room c =
+    let there : c.args.owner < length c.self.inside.logs.items = rw (← c.self.view_is, length-map) at c.requires.owner in
+    rw (← c.self.view_is, shown_old (λ (l : RoomyLog). l.outcomes.room) c.self.inside.logs.items c.args.owner c.index_mut.result.now there c.index_mut.ensures.value, shown_new (λ (l : RoomyLog). l.outcomes.room) c.self.inside.logs.items c.args.owner c.add.new.self there) c.add.ensures.room
+
+pub returns-clause-other_rooms : goal.returns-clause-other_rooms
+returns-clause-other_rooms c =
+    rw (← c.self.view_is) (λ k apart. omega (arith, shown_other (λ (l : RoomyLog). l.outcomes.room) c.self.inside.logs.items c.args.owner k c.add.new.self apart))

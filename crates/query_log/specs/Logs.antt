@@ -1,0 +1,53 @@
+-- The outcomes of each module's queries, of which a front is verified.
+use Rattle.std.specs.Prelude.{ℕ, ◌+◌, ◌≤◌, Bool, List, [], ◌∷◌, ◌++◌, length, map, slice_get, slice_set, slice_index_or, Option}
+use Rattle.query_log.specs.declared.roomy.RoomyLog.{RoomyLog}
+
+-- a module's outcomes in order, and how many of the first are verified
+pub record Log : Type 0 where
+  pub outcomes : List Bool
+  pub verified : ℕ
+
+-- the log of each module, and how many more outcomes each takes without memory
+pub record RoomedLogs : Type 0 where
+  pub logs : List Log
+  pub rooms : List ℕ
+
+-- a log without an outcome
+abbrev pub no_log : Log
+no_log = record { outcomes = []; verified = 0 }
+
+-- the log of a module
+abbrev pub log_at : List Log → ℕ → Log
+log_at logs owner = slice_index_or logs owner no_log
+
+-- the outcome of a module's query, where there is one
+abbrev pub outcome_of : List Log → ℕ → ℕ → Option Bool
+outcome_of logs owner number = slice_get (log_at logs owner).outcomes number
+
+-- the verified outcomes are a prefix
+abbrev pub IsSoundLog : Log → Type 0
+IsSoundLog log = log.verified ≤ length log.outcomes
+
+-- a log with a verified outcome more
+abbrev pub answered : Log → Bool → Log
+answered log outcome = record { outcomes = log.outcomes ++ outcome ∷ []; verified = log.verified + 1 }
+
+-- the logs with a verified outcome more in one of them
+abbrev pub with_outcome : List Log → ℕ → Bool → List Log
+with_outcome logs owner outcome = slice_set logs owner (answered (log_at logs owner) outcome)
+
+-- the logs with so many verified outcomes in one of them
+abbrev pub with_verified : List Log → ℕ → ℕ → List Log
+with_verified logs owner verified = slice_set logs owner (record (log_at logs owner) { verified = verified })
+
+-- a log without its room
+abbrev pub log_of : RoomyLog → Log
+log_of roomy = record { outcomes = roomy.outcomes.items; verified = roomy.verified }
+
+-- the logs alone
+abbrev pub logs_of : List RoomyLog → List Log
+logs_of logs = map log_of logs
+
+-- the rooms alone
+abbrev pub rooms_of : List RoomyLog → List ℕ
+rooms_of logs = map (λ l. l.outcomes.room) logs

@@ -1,0 +1,47 @@
+//! One module's log, with its room.
+ghost use Rattle.std.specs.Prelude.{◌≡◌, ◌+◌, ◌<◌, ◌≤◌, length};
+ghost use Rattle.query_log.specs.Logs.{no_log, answered, log_of};
+
+use flow_word::RoomyList;
+use std::alloc::Global;
+
+/// A module's outcomes, with room for more, and how many of the first are verified.
+#[derive(Drop)]
+pub struct RoomyLog {
+    pub outcomes: RoomyList<bool>,
+    pub verified: u64,
+}
+
+impl RoomyLog {
+    /// No outcome yet, which takes no memory.
+    pub fn new(alloc: Global) -> RoomyLog
+        ensures { log_of result ≡ no_log }
+    {
+        RoomyLog {
+            outcomes: RoomyList::new(alloc),
+            verified: 0,
+        }
+    }
+
+    /// Adds the next outcome, so that all are verified.
+    pub fn add(&mut self, yes: bool)
+        requires room { 0 < self.old.outcomes.room }
+        requires verified { self.old.verified ≡ length self.old.outcomes.items }
+        ensures log { log_of self.new ≡ answered (log_of self.old) yes }
+        ensures room { self.old.outcomes.room ≤ self.new.outcomes.room + 1 }
+    {
+        // There is room for it.
+        let _ = self.outcomes.push(yes);
+        self.verified = self.outcomes.len();
+    }
+
+    /// Verifies the first outcome that is not verified.
+    pub fn verify_next(&mut self)
+        requires { self.old.verified < length self.old.outcomes.items }
+        ensures { self.new ≡ record self.old { verified = self.old.verified + 1 } }
+    {
+        // What is below a length has a number next to it.
+        let _len = self.outcomes.len();
+        self.verified += 1;
+    }
+}

@@ -6,7 +6,8 @@ ghost use Rattle.flow_design.specs.Plans.{kind_at};
 ghost use Rattle.lockstep_defs.specs.Machine.{is_spent, nobody};
 ghost use Rattle.lockstep_defs.specs.Channels.{stalls, contents_of};
 ghost use Rattle.lockstep_defs.specs.Verdict.{settled_verdict, held_by, held_in, held, clock_of};
-ghost use Rattle.lockstep_defs.specs.Report.{is_sink, sinks, outputs_in};
+ghost use Rattle.lockstep_defs.specs.Report.{sinks, outputs_in};
+ghost use Rattle.flow_design.specs.Plans.{is_sink};
 ghost use Rattle.clock_machine.specs.Parts.{AreFit, report_from};
 
 use crate::asking::{is_over, is_spent, module_at, state_at};

@@ -6,7 +6,7 @@ use Rattle.std.proofs.lemmas.List.{map-set, get_or-map, length-map, take_all, dr
 use Rattle.std.proofs.lemmas.List.Edits.{map_over_more}
 use Rattle.event_graph.specs.Lanes.{IsSoundLane, timed_below}
 use Rattle.event_graph.specs.Roomed.{RoomedLane, lanes_of, rooms_of}
-use Rattle.event_graph.proofs.Changed.{shown_kept}
+use Rattle.flow_word.proofs.Changed.{shown_kept}
 use Rattle.event_graph.proofs.Growth.{all_sound}
 
 -- the lanes before `at` have forgotten, the others stand; no room fell

@@ -1,4 +1,3 @@
-pub mod Changed
 pub mod Forgetting
 pub mod Growth
 pub mod Kept

@@ -8,7 +8,7 @@ use Rattle.flow_design.specs.declared.report.EventLine.{EventLine}
 use Rattle.flow_design.specs.declared.report.Report.{Report}
 use Rattle.flow_design.specs.declared.report.Verdict.{Verdict}
 use Rattle.flow_design.specs.declared.state.ClockState.{ClockState}
-use Rattle.flow_design.specs.Plans.{kind_at}
+use Rattle.flow_design.specs.Plans.{is_sink, kind_at}
 use Rattle.lockstep_defs.specs.Machine.{is_yes}
 use Rattle.lockstep_defs.specs.Channels.{HistoryStep, Exchange, is_blocking, contents_of}
 use Rattle.lockstep_defs.specs.Lockstep.{state, history}
@@ -33,11 +33,6 @@ event_of s x = record { «module» = s.«module»; kind = x.request.kind; channe
 -- one event for each operation
 abbrev pub events_of : List HistoryStep → List EventLine
 events_of steps = flat_map (λ s. map (event_of s) s.exchanges) steps
-
-abbrev pub is_sink : ChannelKind → Bool
-is_sink Source = false
-is_sink Sink = true
-is_sink (Fifo d) = false
 
 -- the numbers of the sinks, in order
 abbrev pub sinks : Plan → List ℕ

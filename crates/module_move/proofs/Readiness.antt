@@ -16,54 +16,16 @@ use Rattle.flow_design.specs.declared.state.Due.{Due}
 use Rattle.flow_design.specs.Module.{block_of, operation_at, no_operation, interval, live_count, ages_down, ages, temps_of, passes, due_at, due_in, due}
 use Rattle.flow_design.specs.StaticRules.{IsModuleSound, IsMemorySound, IsTimedSound, IsOperationSound}
 use Rattle.lockstep_defs.specs.Machine.{memory_of}
+use Rattle.lockstep_defs.proofs.Standing.{due_in_range}
 use Rattle.module_move.specs.Sound.{IsStateSound, IsDueSound, IsReady}
 use Rattle.module_move.proofs.Begins.{block_sound, interval_some, live_count_is, few_live}
 use Rattle.module_move.proofs.Ages.{span}
 
--- ---- which operations are due
-
-numbers_below : {X : Type 0} (xs : List X) → All (λ (t : ℕ × X). t.0 < length xs) (enumerate_from 0 xs)
-numbers_below {X} xs k d within =
-    let inside : k < length xs = rw (length-enumerate_from 0 xs) at within in
-    rw (get_or-enumerate_from 0 xs k d inside, zero-add) inside
-
-due_at_below : (b : Block) (offset : ℕ) → All (λ n. n < length b.ops) (due_at b offset)
-unfolding due_at
-due_at_below b offset =
-    All-map (λ n. n < length b.ops) (λ (t : ℕ × Timed). t.0) (filter (λ (t : ℕ × Timed). (t.1).offset == offset) (enumerate_from 0 b.ops))
-    (All-filter (λ (t : ℕ × Timed). (t.1).offset == offset) (λ (t : ℕ × Timed). t.0 < length b.ops) (enumerate_from 0 b.ops) (numbers_below b.ops))
-
-All-flat_map : {X Y : Type 0} (P : Y → Type 0) (f : X → List Y) (xs : List X) → All (λ x. All P (f x)) xs → All P (flat_map f xs)
-All-flat_map P f [] h = λ k d within. absurd (omega arith)
-All-flat_map {X} {Y} P f (x ∷ xs) h =
-    All-append P (f x) (flat_map f xs) (h 0 x (omega arith)) (All-flat_map P f xs (λ k d within. h (suc k) d (omega (arith, within))))
-
-length-ages_down : (ii age n : ℕ) → length (ages_down ii age n) ≡ n
-length-ages_down ii age zero = refl
-length-ages_down ii age (suc n) = ap suc (length-ages_down ii age n)
-
-due_in_sound : (b : Block) (s : ModuleState) (place age : ℕ)
-    → All (λ (d : Due). (d.iteration ≡ place) × (d.op < length b.ops)) (due_in b s (place, age))
-due_in_sound b s place age =
-    All-map (λ (d : Due). (d.iteration ≡ place) × (d.op < length b.ops)) (λ (n : ℕ). record { iteration = place; op = n })
-    (filter (λ n. passes s.registers (temps_of s place) (operation_at b n).guard) (due_at b age))
-    (λ k d within. (refl, All-filter (λ n. passes s.registers (temps_of s place) (operation_at b n).guard) (λ n. n < length b.ops) (due_at b age) (due_at_below b age) k d within))
-
 -- each due operation of a sound state
 pub due_sound : (m : Module) (s : ModuleState) → IsStateSound m s → All (IsDueSound m s) (due m s)
-unfolding due ages
-due_sound m s sound =
-    All-flat_map (IsDueSound m s) (due_in (block_of m s) s) (enumerate_from 0 (ages (block_of m s) s.control)) each
-  where
-    each : All (λ (it : ℕ × ℕ). All (IsDueSound m s) (due_in (block_of m s) s it)) (enumerate_from 0 (ages (block_of m s) s.control))
-    each k d within =
-        let count : length (enumerate_from 0 (ages_down (interval (block_of m s)) (s.control.clock - s.control.newest) (live_count (block_of m s) s.control))) ≡ length s.temps =
-        length-enumerate_from 0 _ ∙ (length-ages_down _ _ (live_count (block_of m s) s.control) ∙ sym sound.state.places.temps) in
-        let inside : k < length s.temps = rw count at within in
-        let listed : k < length (ages_down (interval (block_of m s)) (s.control.clock - s.control.newest) (live_count (block_of m s) s.control)) =
-        rw (length-ages_down _ _ (live_count (block_of m s) s.control), ← sound.state.places.temps) inside in
-        rw (get_or-enumerate_from 0 _ k d listed, zero-add)
-        (λ j e below. let found = due_in_sound (block_of m s) s k _ j e below in record { iteration = rw found.0 inside; op = found.1 })
+due_sound m s sound k d within =
+    let found = due_in_range m s k d within in
+    record { iteration = rw sound.state.places.temps found.iteration; op = found.op }
 
 -- ---- what an operation looks up
 
@@ -100,6 +62,10 @@ op_ready channels m s d h sound there =
     (λ n inside. memory_some m s n (sound.state.places.words n) h.words inside)
 
 -- ---- how many operations are due
+
+length-ages_down : (ii age n : ℕ) → length (ages_down ii age n) ≡ n
+length-ages_down ii age zero = refl
+length-ages_down ii age (suc n) = ap suc (length-ages_down ii age n)
 
 short_parts : {X Y : Type 0} (most : ℕ) (f : X → List Y) (xs : List X) → ((x : X) → length (f x) ≤ most) → length (flat_map f xs) ≤ length xs * most
 short_parts most f [] short = omega arith

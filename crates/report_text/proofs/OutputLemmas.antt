@@ -3,7 +3,8 @@ use Rattle.std.proofs.Common.{◌≡◌, ℕ, ◌+◌, ◌<◌, true, false, Lis
 use Rattle.std.proofs.Math.Seq.{drop-cons}
 use Rattle.flow_design.specs.declared.design.Channel.{Channel}
 use Rattle.report_text.specs.Lines.{line, text_of_lines}
-use Rattle.report_text.specs.ReportText.{is_sink, sink_names, output_lines, output_tokens}
+use Rattle.flow_design.specs.Plans.{is_sink}
+use Rattle.report_text.specs.ReportText.{sink_names, output_lines, output_tokens}
 
 -- what is printed, with what the channels and outputs from some places on give, is the whole
 pub record IsPrinting (first text : List ℕ) (channels : List Channel) (outputs : List (List ℕ)) (i at : ℕ) : Type 0 where

@@ -12,12 +12,8 @@ use Rattle.flow_design.specs.declared.report.Verdict.TheVariants.{Done, Deadlock
 use Rattle.flow_design.specs.declared.report.Held.{Held}
 use Rattle.flow_design.specs.declared.report.EventLine.{EventLine}
 use Rattle.flow_design.specs.declared.report.Report.{Report}
+use Rattle.flow_design.specs.Plans.{is_sink}
 use Rattle.report_text.specs.Lines.{Token, text_of_lines, verdict_tokens}
-
-abbrev pub is_sink : ChannelKind → Bool
-is_sink Source = false
-is_sink Sink = true
-is_sink (Fifo d) = false
 
 -- the names of the sinks, in order of declaration
 abbrev pub sink_names : List Channel → List Token

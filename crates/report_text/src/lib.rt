@@ -7,5 +7,7 @@ mod report;
 #[cfg(test)]
 mod tests;
 
-pub use lines::{print_numbers, print_runs, print_verdict, push_number};
+pub use lines::{
+    print_numbers, print_runs, print_verdict, push_number, push_token, push_value, push_values,
+};
 pub use report::print_report;

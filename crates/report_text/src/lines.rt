@@ -50,7 +50,7 @@ pub fn print_verdict(text: &mut List<u8>, verdict: Verdict) -> Result<(), OutOfM
 
 /// Adds numbers, with a space before each.
 #[tactic(auto, using(crate::proofs::LineLemmas::spaced_more, crate::proofs::LineLemmas::still_starts))]
-pub(crate) fn push_values(text: &mut List<u8>, numbers: &[u64]) -> Result<(), OutOfMemory>
+pub fn push_values(text: &mut List<u8>, numbers: &[u64]) -> Result<(), OutOfMemory>
     ensures ok { OnOk result (text.new ≡ text.old ++ spaced numbers.now) }
     ensures err { OnErr result (StartsWith text.new text.old) }
 {
@@ -61,7 +61,7 @@ pub(crate) fn push_values(text: &mut List<u8>, numbers: &[u64]) -> Result<(), Ou
 }
 
 /// Adds a space and a number.
-pub(crate) fn push_value(text: &mut List<u8>, number: u64) -> Result<(), OutOfMemory>
+pub fn push_value(text: &mut List<u8>, number: u64) -> Result<(), OutOfMemory>
     ensures ok { OnOk result (text.new ≡ text.old ++ 32 ∷ decimal number) }
     ensures err { OnErr result (StartsWith text.new text.old) }
 {
@@ -70,7 +70,7 @@ pub(crate) fn push_value(text: &mut List<u8>, number: u64) -> Result<(), OutOfMe
 }
 
 /// Adds a space and a token.
-pub(crate) fn push_token(text: &mut List<u8>, token: &[u8]) -> Result<(), OutOfMemory>
+pub fn push_token(text: &mut List<u8>, token: &[u8]) -> Result<(), OutOfMemory>
     ensures { OnOk result (text.new ≡ text.old ++ 32 ∷ token.now) }
 {
     text.push(b' ')?;

@@ -1,7 +1,7 @@
 use Rattle.std.proofs.Common.{arith, ◌∙◌}
 use Rattle.flow_design.specs.Plans.{kind_at}
 use Rattle.lockstep_defs.specs.Channels.{contents_of}
-use Rattle.lockstep_defs.specs.Report.{is_sink}
+use Rattle.flow_design.specs.Plans.{is_sink}
 use Rattle.clock_machine.proofs.Fronts.{passed_more}
 use Rattle.clock_machine.proofs.ending.outputs.Goals as goal
 

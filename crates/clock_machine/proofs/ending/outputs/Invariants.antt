@@ -2,7 +2,7 @@ use Rattle.std.proofs.Common.{◌≡◌, ℕ, ◌≤◌, map}
 use Rattle.std.specs.List.{range_with_len, filter}
 use Rattle.flow_design.specs.Plans.{kind_at}
 use Rattle.lockstep_defs.specs.Channels.{contents_of}
-use Rattle.lockstep_defs.specs.Report.{is_sink}
+use Rattle.flow_design.specs.Plans.{is_sink}
 use Rattle.clock_machine.proofs.ending.outputs.Given as goal
 
 abbrev pub invariant-loop-i : goal.invariant-loop-i

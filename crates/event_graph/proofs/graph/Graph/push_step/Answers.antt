@@ -4,7 +4,7 @@ use Rattle.std.proofs.lemmas.List.{length-set, length-map}
 use Rattle.std.proofs.lemmas.Result.{on_ok_weaker, on_err_weaker}
 use Rattle.event_graph.specs.Lanes.{Lane, no_lane, longer}
 use Rattle.event_graph.specs.Roomed.{RoomedLane}
-use Rattle.event_graph.proofs.Changed.{shown_set, shown_old, shown_new, shown_other}
+use Rattle.flow_word.proofs.Changed.{shown_set, shown_old, shown_new, shown_other}
 use Rattle.event_graph.proofs.Growth.{all_sound}
 use Rattle.event_graph.proofs.graph.Graph.push_step.Goals as goal
 

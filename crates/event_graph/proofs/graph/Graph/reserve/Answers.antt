@@ -3,7 +3,7 @@ use Rattle.std.proofs.Math.Seq.{map-set_same}
 use Rattle.std.proofs.lemmas.List.{length-set, length-map}
 use Rattle.std.proofs.lemmas.Result.{on_ok_weaker}
 use Rattle.event_graph.specs.Roomed.{RoomedLane}
-use Rattle.event_graph.proofs.Changed.{shown_new, shown_kept}
+use Rattle.flow_word.proofs.Changed.{shown_new, shown_kept}
 use Rattle.event_graph.proofs.Growth.{all_sound}
 use Rattle.event_graph.proofs.graph.Graph.reserve.Goals as goal
 

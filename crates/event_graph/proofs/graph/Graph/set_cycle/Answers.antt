@@ -2,7 +2,7 @@ use Rattle.std.proofs.Common.{◌<◌, length}
 use Rattle.std.proofs.lemmas.List.{length-set, length-map}
 use Rattle.event_graph.specs.Lanes.{Lane, no_lane, timed}
 use Rattle.event_graph.specs.Roomed.{RoomedLane}
-use Rattle.event_graph.proofs.Changed.{shown_set, shown_kept}
+use Rattle.flow_word.proofs.Changed.{shown_set, shown_kept}
 use Rattle.event_graph.proofs.Growth.{all_sound}
 use Rattle.event_graph.proofs.graph.Graph.set_cycle.Goals as goal
 

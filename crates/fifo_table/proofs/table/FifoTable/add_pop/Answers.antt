@@ -6,7 +6,7 @@ use Rattle.fifo_table.specs.declared.channel.RoomyChannel.{RoomyChannel}
 use Rattle.fifo_table.specs.Channels.{Channel, unused}
 use Rattle.fifo_table.specs.declared.channel.TableChannel.TheVariants.{Sink}
 use Rattle.fifo_table.specs.Roomed.{channel_of}
-use Rattle.fifo_table.proofs.Changed.{shown_set, shown_old, shown_new, shown_other}
+use Rattle.flow_word.proofs.Changed.{shown_set, shown_old, shown_new, shown_other}
 use Rattle.fifo_table.proofs.SoundKinds.{replaced, read_kind}
 use Rattle.fifo_table.proofs.table.FifoTable.add_pop.Goals as goal
 

@@ -5,7 +5,7 @@ use Rattle.std.proofs.lemmas.Result.{on_ok_weaker}
 use Rattle.fifo_table.specs.declared.channel.RoomyChannel.{RoomyChannel}
 use Rattle.fifo_table.specs.Channels.{Channel}
 use Rattle.fifo_table.specs.Roomed.{channel_of}
-use Rattle.fifo_table.proofs.Changed.{shown_new, shown_kept}
+use Rattle.flow_word.proofs.Changed.{shown_new, shown_kept}
 use Rattle.fifo_table.proofs.SoundKinds.{replaced, read_kind}
 use Rattle.fifo_table.proofs.table.FifoTable.reserve.Goals as goal
 

@@ -5,7 +5,7 @@ use Rattle.fifo_table.specs.declared.channel.RoomyChannel.{RoomyChannel}
 use Rattle.fifo_table.specs.Channels.{Channel, unused}
 use Rattle.fifo_table.specs.declared.channel.TableChannel.TheVariants.{Sink, Fifo}
 use Rattle.fifo_table.specs.Roomed.{channel_of}
-use Rattle.fifo_table.proofs.Changed.{shown_set}
+use Rattle.flow_word.proofs.Changed.{shown_set}
 use Rattle.fifo_table.proofs.SoundKinds.{replaced}
 use Rattle.fifo_table.proofs.table.FifoTable.set_depth.Goals as goal
 

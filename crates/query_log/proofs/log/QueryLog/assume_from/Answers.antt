@@ -3,7 +3,7 @@ use Rattle.std.proofs.Math.Seq.{map-set_same}
 use Rattle.std.proofs.lemmas.List.{length-map}
 use Rattle.query_log.specs.declared.roomy.RoomyLog.{RoomyLog}
 use Rattle.query_log.specs.Logs.{Log, no_log, log_of}
-use Rattle.query_log.proofs.Changed.{shown_set}
+use Rattle.flow_word.proofs.Changed.{shown_set}
 use Rattle.query_log.proofs.SoundLogs.{replaced, read_sound}
 use Rattle.query_log.proofs.log.QueryLog.assume_from.Goals as goal
 

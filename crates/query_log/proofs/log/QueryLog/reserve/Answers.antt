@@ -4,7 +4,7 @@ use Rattle.std.proofs.lemmas.List.{length-map}
 use Rattle.std.proofs.lemmas.Result.{on_ok_weaker}
 use Rattle.query_log.specs.declared.roomy.RoomyLog.{RoomyLog}
 use Rattle.query_log.specs.Logs.{log_of}
-use Rattle.query_log.proofs.Changed.{shown_new, shown_kept}
+use Rattle.flow_word.proofs.Changed.{shown_new, shown_kept}
 use Rattle.query_log.proofs.SoundLogs.{replaced, read_sound}
 use Rattle.query_log.proofs.log.QueryLog.reserve.Goals as goal
 

@@ -1,5 +1,5 @@
 -- What can give no command, whatever words follow.
-use Rattle.std.proofs.Common.{◌≡◌, ◌∙◌, List, [], ◌∷◌, ◌<◌, ◌||◌, Option, Some, None, refl, sym, ap, subst, codes, true, false, Bool, cond, length, arith, option_map, length-append, true≢false, is_some}
+use Rattle.std.proofs.Common.{◌≡◌, ◌∙◌, List, [], ◌∷◌, ◌<◌, ◌||◌, Option, Some, None, refl, sym, ap, subst, true, false, Bool, cond, length, arith, option_map, length-append, true≢false, is_some}
 use Rattle.std.specs.Prelude.{option_and_then}
 use Rattle.cli_words.specs.declared.Command.{Command}
 use Rattle.cli_words.specs.declared.Command.TheVariants.{Run, Alone, Clock, Check}
@@ -98,7 +98,8 @@ more_many said ws (ops e) = ops e
 more_many said ws (many h) = many (omega (arith, length-append said.positionals ws))
 
 -- an option, where it can be used
-option_stays : (f : Said → Option Said) (next : Said → Option Said) (said : Said) → ((now : Said) → f said ≡ Some now → Doomed now) → ((now : Said) → Doomed now → given (next now) ≡ None)
+option_stays : (f : Said → Option Said) (next : Said → Option Said) (said : Said)
+    → ((now : Said) → f said ≡ Some now → Doomed now) → ((now : Said) → Doomed now → given (next now) ≡ None)
     → given (option_and_then next (f said)) ≡ None
 option_stays f next said keeps after = go (f said) refl
   where
@@ -122,35 +123,51 @@ events_keep said d now e = go said.events e
     go true h = absurd (some_none now h)
     go false h = subst Doomed (some_eq _ _ h) same
 
-option_keeps : (key : Key) (value : Text) (said : Said) → Doomed said → (now : Said) → with_option key value said ≡ Some now → Doomed now
+option_keeps : (key : Key) (value : Text) (said : Said) → Doomed said → (now : Said)
+    → with_option key value said ≡ Some now → Doomed now
 option_keeps Cycles value said d now e = go said.cycles refl e
   where
-    go : (c : Option Text) → said.cycles ≡ c → cond (is_some c) None (Some (record said { cycles = Some value })) ≡ Some now → Doomed now
+    go : (c : Option Text) → said.cycles ≡ c
+        → cond (is_some c) None (Some (record said { cycles = Some value })) ≡ Some now → Doomed now
     go (Some x) is h = absurd (some_none now h)
-    go None is h = subst Doomed (some_eq _ _ h) (elim d [ cycles k ↦ absurd (some_none hyphen (sym is ∙ k)) | ops k ↦ ops k | many k ↦ many k ])
+    go None is h =
+        subst Doomed (some_eq _ _ h)
+        (elim d [ cycles k ↦ absurd (some_none hyphen (sym is ∙ k)) | ops k ↦ ops k | many k ↦ many k ])
 option_keeps Ops value said d now e = go said.ops refl e
   where
-    go : (c : Option Text) → said.ops ≡ c → cond (is_some c) None (Some (record said { ops = Some value })) ≡ Some now → Doomed now
+    go : (c : Option Text) → said.ops ≡ c
+        → cond (is_some c) None (Some (record said { ops = Some value })) ≡ Some now → Doomed now
     go (Some x) is h = absurd (some_none now h)
-    go None is h = subst Doomed (some_eq _ _ h) (elim d [ cycles k ↦ cycles k | ops k ↦ absurd (some_none hyphen (sym is ∙ k)) | many k ↦ many k ])
+    go None is h =
+        subst Doomed (some_eq _ _ h)
+        (elim d [ cycles k ↦ cycles k | ops k ↦ absurd (some_none hyphen (sym is ∙ k)) | many k ↦ many k ])
 
 -- whatever follows, what is doomed gives no command
-pub doomed_stays : (words : List Text) (waiting : Option Key) (said : Said) → Doomed said → given (said_from waiting said words) ≡ None
+pub doomed_stays : (words : List Text) (waiting : Option Key) (said : Said) → Doomed said
+    → given (said_from waiting said words) ≡ None
 doomed_stays [] None said d = doomed_none said d
 doomed_stays [] (Some key) said d = refl
 doomed_stays (word ∷ rest) None said d = go (word_of word) (λ waiting now. doomed_stays rest waiting now)
   where
-    go : (w : Word) → ((waiting : Option Key) (now : Said) → Doomed now → given (said_from waiting now rest) ≡ None)
+    go : (w : Word)
+        → ((waiting : Option Key) (now : Said) → Doomed now → given (said_from waiting now rest) ≡ None)
         → given (after_word w word rest said (λ waiting now. said_from waiting now rest)) ≡ None
     go End stays = doomed_none _ (more_many said rest d)
-    go Events stays = option_stays with_events (λ now. said_from None now rest) said (events_keep said d) (stays None)
+    go Events stays =
+        option_stays with_events (λ now. said_from None now rest) said (events_keep said d) (stays None)
     go (Takes key) stays = stays (Some key) said d
-    go (Has key value) stays = option_stays (with_option key value) (λ now. said_from None now rest) said (option_keeps key value said d) (stays None)
+    go (Has key value) stays =
+        option_stays (with_option key value) (λ now. said_from None now rest) said
+        (option_keeps key value said d) (stays None)
     go Positional stays = stays None _ (more_many said (word ∷ []) d)
     go Unknown stays = refl
-doomed_stays (value ∷ rest) (Some key) said d = go (begins_with_hyphen value) (λ now. doomed_stays rest None now)
+doomed_stays (value ∷ rest) (Some key) said d =
+    go (begins_with_hyphen value) (λ now. doomed_stays rest None now)
   where
     go : (b : Bool) → ((now : Said) → Doomed now → given (said_from None now rest) ≡ None)
-        → given (cond b None (option_and_then (λ now. said_from None now rest) (with_option key value said))) ≡ None
+        → given (cond b None
+        (option_and_then (λ now. said_from None now rest) (with_option key value said))) ≡ None
     go true stays = refl
-    go false stays = option_stays (with_option key value) (λ now. said_from None now rest) said (option_keeps key value said d) stays
+    go false stays =
+        option_stays (with_option key value) (λ now. said_from None now rest) said
+        (option_keeps key value said d) stays

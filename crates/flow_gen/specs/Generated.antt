@@ -40,25 +40,26 @@ draws seed (suc n) = draws seed n ++ drawn seed n ∷ []
 
 -- the FIFO behind module k
 unfoldable pub fifo_line : ℕ → Drawn → Text
-fifo_line k drawn = codes "fifo f" ++ decimal (k + 1) ++ codes " 32 " ++ decimal drawn.depth ++ codes "\n"
+fifo_line k drawn =
+    codes "fifo f" ++ decimal (k + 1) ++ codes " 32 " ++ decimal drawn.depth ++ codes "\n"
 
 -- module k, with its registers
 unfoldable pub declarations : ℕ → Text
 declarations k =
     codes "module m" ++ decimal k ++ codes "\nreg x 32\nreg n 32\nreg g 1\nreg e 1\n"
 
--- an iteration starts at each interval, and is one clock longer
+-- the loop, an iteration of which is one clock longer than the interval at which they start
 unfoldable pub loop_line : ℕ → Text
 loop_line interval =
     codes "loop l " ++ decimal interval ++ codes " " ++ decimal (interval + 1) ++ codes " while g\n"
 
--- the operations in the first clock of an iteration: the last of 1,000 is the one that finds n at 999
+-- the operations in the first clock of an iteration; another one follows where n is below 999
 unfoldable pub first_clock : Channel → Channel → Text
 first_clock input output =
     codes "at 0 read " ++ name_of input ++ codes " x\nat 0 full " ++ name_of output
     ++ codes " e\nat 0 set n + n 1\nat 0 set g <u n 999\n"
 
--- the operation in its second clock
+-- the operation in the second clock of an iteration
 unfoldable pub second_clock : Channel → ℕ → Text
 second_clock output addend =
     codes "at 1 write " ++ name_of output ++ codes " + x + " ++ decimal addend ++ codes " e\nstop\n"
@@ -77,15 +78,16 @@ module_lines modules k drawn =
     declarations k ++ loop_line drawn.interval ++ first_clock (input_of k) (output_of modules k)
     ++ second_clock (output_of modules k) drawn.addend
 
+-- a number behind a space
 unfoldable pub spaced : ℕ → Text
 spaced number = codes " " ++ decimal number
 
 -- ---- the text
 
 -- the lines of one module after the other, the first of which has the number k
-unfoldable pub texts : (ℕ → Drawn → Text) → ℕ → List Drawn → Text
-texts lines k [] = []
-texts lines k (d ∷ ds) = lines k d ++ texts lines (k + 1) ds
+unfoldable pub each_module : (ℕ → Drawn → Text) → ℕ → List Drawn → Text
+each_module lines k [] = []
+each_module lines k (d ∷ ds) = lines k d ++ each_module lines (k + 1) ds
 
 -- the first n numbers, from 0 on
 unfoldable pub first_numbers : ℕ → Text
@@ -95,8 +97,8 @@ first_numbers (suc n) = first_numbers n ++ spaced n
 -- the session whose modules have these draws: a FIFO behind each module but the last
 unfoldable pub session_of : List Drawn → Text
 session_of ds =
-    codes "flow 1\nsource a 32\nsink y 32\n" ++ texts fifo_line 0 (take (length ds - 1) ds)
-    ++ texts (module_lines (length ds)) 0 ds ++ codes "input a" ++ first_numbers 1000
+    codes "flow 1\nsource a 32\nsink y 32\n" ++ each_module fifo_line 0 (take (length ds - 1) ds)
+    ++ each_module (module_lines (length ds)) 0 ds ++ codes "input a" ++ first_numbers 1000
     ++ codes "\nend\n"
 
 -- the session of a seed, with so many modules

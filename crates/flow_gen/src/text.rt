@@ -1,6 +1,6 @@
 //! The lines of the session.
 ghost use Rattle.std.specs.Prelude.{◌≡◌, ◌++◌, ◌≤◌, ◌<◌, IfOk, OnOk, length, string_bytes};
-ghost use Rattle.flow_gen.specs.Generated.{declarations, fifo_line, first_clock, first_numbers, input_of, loop_line, module_lines, output_of, second_clock, session_of, spaced, texts};
+ghost use Rattle.flow_gen.specs.Generated.{declarations, fifo_line, first_clock, first_numbers, input_of, loop_line, module_lines, output_of, second_clock, session_of, spaced, each_module};
 
 use crate::channel::Channel;
 use crate::draws::Drawn;
@@ -29,7 +29,7 @@ pub fn session(alloc: Global, draws: &[Drawn]) -> Result<String, OutOfMemory>
 /// The FIFO behind each of these modules.
 fn push_fifos(text: &mut String, draws: &[Drawn]) -> Result<(), OutOfMemory>
     requires { length draws.now ≤ 64 }
-    ensures { OnOk result (string_bytes text.new ≡ string_bytes text.old ++ texts fifo_line 0 draws.now) }
+    ensures { OnOk result (string_bytes text.new ≡ string_bytes text.old ++ each_module fifo_line 0 draws.now) }
 {
     for (k, drawn) in draws.iter().enumerate() {
         push_fifo(text, k as u64, drawn)?;
@@ -51,7 +51,7 @@ fn push_fifo(text: &mut String, k: u64, drawn: &Drawn) -> Result<(), OutOfMemory
 fn push_modules(text: &mut String, draws: &[Drawn]) -> Result<(), OutOfMemory>
     requires { length draws.now ≤ 64 }
     ensures { OnOk result (string_bytes text.new
-        ≡ string_bytes text.old ++ texts (module_lines (length draws.now)) 0 draws.now) }
+        ≡ string_bytes text.old ++ each_module (module_lines (length draws.now)) 0 draws.now) }
 {
     let modules = draws.len() as u64;
     for (k, drawn) in draws.iter().enumerate() {

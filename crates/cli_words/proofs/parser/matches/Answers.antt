@@ -15,13 +15,18 @@ module _ (c : goal.After-try_get_matches_from) where
       c.in_ok-arg-4.ensures.shape c.positional.ensures.local ∙ ap₂ with_rule (
       c.in_ok-arg-3.ensures.shape c.option-2.ensures.local ∙ ap₂ with_rule (
       c.in_ok-arg-2.ensures.shape c.option.ensures.local ∙ ap₂ with_rule (
-      c.in_ok-arg.ensures.shape c.flag.ensures.local ∙ ap₂ with_rule c.bare_parser.ensures (c.flag.ensures.rule)) (c.option.ensures.rule)) (c.option-2.ensures.rule))
+      c.in_ok-arg.ensures.shape c.flag.ensures.local
+      ∙ ap₂ with_rule c.bare_parser.ensures (c.flag.ensures.rule)) (c.option.ensures.rule))
+      (c.option-2.ensures.rule))
       (c.positional.ensures.rule)) (c.positional-2.ensures.rule)) (c.positional-3.ensures.rule)
 
 pub returns-clause-fails : goal.returns-clause-fails
 returns-clause-fails c =
-    subst (λ a. FailsBy (fault_of a (map string_bytes c.args.words.now)) c.try_get_matches_from.result) (parser_is c)
+    subst (λ a. FailsBy (fault_of a (map string_bytes c.args.words.now)) c.try_get_matches_from.result)
+    (parser_is c)
     (c.try_get_matches_from.ensures.kinds (ap is_simple_and_free (parser_is c)))
 
 pub returns-clause-rows : goal.returns-clause-rows
-returns-clause-rows c = rows_by _ parser (map string_bytes c.args.words.now) c.try_get_matches_from.result (parser_is c) refl c.try_get_matches_from.ensures.matches
+returns-clause-rows c =
+    rows_by _ parser (map string_bytes c.args.words.now) c.try_get_matches_from.result
+    (parser_is c) refl c.try_get_matches_from.ensures.matches

@@ -6,9 +6,13 @@ use Rattle.cli_words.proofs.parser.parse.Goals as goal
 
 pub returns-in-Ok : goal.returns-in-Ok
 returns-in-Ok c =
-    given_ok (map string_bytes c.args.words.now) (all_utf8 c.args.words.now) (found_of c.in-Ok.matches) c.in-Ok.ensures.fails c.in-Ok.ensures.rows _
-    (by_flag (one_text (found_of c.in-Ok.matches) (codes "events")) c.get_flag.result c.get_flag.ensures.value c.get_flag.ensures.other)
+    given_ok (map string_bytes c.args.words.now) (all_utf8 c.args.words.now)
+    (found_of c.in-Ok.matches) c.in-Ok.ensures.fails c.in-Ok.ensures.rows _
+    (by_flag (one_text (found_of c.in-Ok.matches)
+    (codes "events")) c.get_flag.result c.get_flag.ensures.value c.get_flag.ensures.other)
     c.get_str.ensures c.get_str-in-Ok.ensures c.get_str-in-Ok-2.ensures c.get_str-in-Ok-3.ensures c.get_str-in-Ok-4.ensures
 
 pub returns-in-Err : goal.returns-in-Err
-returns-in-Err c = given_err (map string_bytes c.args.words.now) (all_utf8 c.args.words.now) c.in-Err.error c.fault_of.result c.in-Err.ensures.fails c.fault_of.ensures
+returns-in-Err c =
+    given_err (map string_bytes c.args.words.now)
+    (all_utf8 c.args.words.now) c.in-Err.error c.fault_of.result c.in-Err.ensures.fails c.fault_of.ensures

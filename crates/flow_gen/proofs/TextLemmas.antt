@@ -5,19 +5,23 @@ use Rattle.flow_gen.specs.Generated.{Text, first_numbers, spaced, each_module}
 use Rattle.flow_gen.specs.declared.draws.Drawn.{Drawn}
 
 -- the lines of the module at k, and those of the modules behind it
-pub each_module_more : (lines : ℕ → Drawn → Text) (k : ℕ) (ds : List Drawn) (d : Drawn) → k < length ds
-    → each_module lines k (drop k ds) ≡ lines k (get_or ds k d) ++ each_module lines (k + 1) (drop (k + 1) ds)
+pub each_module_more : (lines : ℕ → Drawn → Text) (k : ℕ) (ds : List Drawn) (d : Drawn)
+    → k < length ds
+    → each_module lines k (drop k ds)
+    ≡ lines k (get_or ds k d) ++ each_module lines (k + 1) (drop (k + 1) ds)
 unfolding each_module
 each_module_more lines k ds d inside = rw (drop-cons ds k d inside, add-one k) refl
 
 -- no line is left
-pub each_module_end : (lines : ℕ → Drawn → Text) (k : ℕ) (ds : List Drawn) → length ds ≤ k → each_module lines k (drop k ds) ≡ []
+pub each_module_end : (lines : ℕ → Drawn → Text) (k : ℕ) (ds : List Drawn) → length ds ≤ k
+    → each_module lines k (drop k ds) ≡ []
 unfolding each_module
 each_module_end lines k ds behind = rw (drop_all k ds behind) refl
 
 -- what is written and what is left make the whole, also once the lines of module k are written
-pub one_more : (lines : ℕ → Drawn → Text) (k : ℕ) (ds : List Drawn) (d : Drawn) (before after whole : Text)
-    → k < length ds → before ++ each_module lines k (drop k ds) ≡ whole → after ≡ before ++ lines k (get_or ds k d)
+pub one_more : (lines : ℕ → Drawn → Text) (k : ℕ) (ds : List Drawn) (d : Drawn)
+    (before after whole : Text) → k < length ds → before ++ each_module lines k (drop k ds) ≡ whole
+    → after ≡ before ++ lines k (get_or ds k d)
     → after ++ each_module lines (k + 1) (drop (k + 1) ds) ≡ whole
 one_more lines k ds d before after whole inside left written =
     ap (λ t. t ++ each_module lines (k + 1) (drop (k + 1) ds)) written
@@ -25,8 +29,8 @@ one_more lines k ds d before after whole inside left written =
     ∙ ap (λ t. before ++ t) (sym (each_module_more lines k ds d inside)) ∙ left
 
 -- at the end the whole is written
-pub all_written : (lines : ℕ → Drawn → Text) (k : ℕ) (ds : List Drawn) (text whole : Text) → length ds ≤ k
-    → text ++ each_module lines k (drop k ds) ≡ whole → text ≡ whole
+pub all_written : (lines : ℕ → Drawn → Text) (k : ℕ) (ds : List Drawn) (text whole : Text)
+    → length ds ≤ k → text ++ each_module lines k (drop k ds) ≡ whole → text ≡ whole
 all_written lines k ds text whole behind left =
     sym (append-nil text) ∙ sym (ap (λ t. text ++ t) (each_module_end lines k ds behind)) ∙ left
 

@@ -19,7 +19,7 @@ pub struct Drawn {
 }
 
 /// What is drawn for so many modules, the first module first.
-#[tactic(auto, using(crate::proofs::DrawLemmas::state_first, crate::proofs::DrawLemmas::state_more, crate::proofs::DrawLemmas::draws_none, crate::proofs::DrawLemmas::draws_more))]
+#[tactic(auto, using(crate::proofs::DrawLemmas::draw_steps))]
 pub fn draw_modules(alloc: Global, seed: u64, modules: u64) -> Result<List<Drawn>, OutOfMemory>
     requires { seed ≤ 65_535 }
     ensures { IfOk result (λ list. list ≡ draws seed modules) }

@@ -13,9 +13,9 @@ use std::alloc::Global;
 
 /// The text of the session with so many modules, in canonical form.
 ///
-/// Each module adds a number to each of 1,000 values on their way from a source to a sink. The seed
-/// decides those numbers, how far apart the iterations of a module start, and the depths of the FIFOs
-/// between the modules.
+/// Each module adds a number of its own to 1,000 values on their way from a source to a sink. The
+/// seed decides those numbers, how many clocks apart the iterations of a module start, and the depths
+/// of the FIFOs between the modules.
 #[tactic(auto, using(crate::proofs::DrawLemmas::draws_length))]
 pub fn generate(alloc: Global, seed: u64, modules: u64) -> Result<List<u8>, OutOfMemory>
     requires seed { seed ≤ 65_535 }

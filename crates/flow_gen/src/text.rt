@@ -29,7 +29,8 @@ pub fn session(alloc: Global, draws: &[Drawn]) -> Result<String, OutOfMemory>
 /// The FIFO behind each of these modules.
 fn push_fifos(text: &mut String, draws: &[Drawn]) -> Result<(), OutOfMemory>
     requires { length draws.now ≤ 64 }
-    ensures { OnOk result (string_bytes text.new ≡ string_bytes text.old ++ each_module fifo_line 0 draws.now) }
+    ensures { OnOk result (string_bytes text.new
+        ≡ string_bytes text.old ++ each_module fifo_line 0 draws.now) }
 {
     for (k, drawn) in draws.iter().enumerate() {
         push_fifo(text, k as u64, drawn)?;
@@ -105,7 +106,7 @@ fn push_declarations(text: &mut String, k: u64) -> Result<(), OutOfMemory>
     Ok(())
 }
 
-/// The head of the loop, whose iterations are one clock longer than the interval at which they start.
+/// The head of the loop. An iteration is one clock longer than the interval at which they start.
 #[tactic(auto, unfolding(crate::specs::Generated::loop_line))]
 fn push_loop(text: &mut String, interval: u64) -> Result<(), OutOfMemory>
     requires { interval ≤ 255 }

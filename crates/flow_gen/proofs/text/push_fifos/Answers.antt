@@ -8,4 +8,5 @@ loop-k-preserved c =
     (c.in_ok-push_fifo.ensures {u = tt})
 
 pub returns : goal.returns
-returns c = all_written fifo_line c.loop-k.k c.args.draws.now _ _ c.loop-k-test.false c.loop-k.invariant
+returns c =
+    all_written fifo_line c.loop-k.k c.args.draws.now _ _ c.loop-k-test.false c.loop-k.invariant

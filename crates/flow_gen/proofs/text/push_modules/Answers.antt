@@ -5,8 +5,11 @@ use Rattle.flow_gen.proofs.text.push_modules.Goals as goal
 
 pub loop-k-preserved : goal.loop-k-preserved
 loop-k-preserved c =
-    one_more (module_lines (length c.args.draws.now)) c.loop-k.k c.args.draws.now _ _ _ _ c.loop-k-test.true c.loop-k.invariant
+    one_more (module_lines (length c.args.draws.now)) c.loop-k.k c.args.draws.now _ _ _ _
+    c.loop-k-test.true c.loop-k.invariant
     (c.in_ok-push_module.ensures {u = tt})
 
 pub returns : goal.returns
-returns c = all_written (module_lines (length c.args.draws.now)) c.loop-k.k c.args.draws.now _ _ c.loop-k-test.false c.loop-k.invariant
+returns c =
+    all_written (module_lines (length c.args.draws.now)) c.loop-k.k c.args.draws.now _ _
+    c.loop-k-test.false c.loop-k.invariant

@@ -111,8 +111,8 @@ after_word (Has key value) word rest said next =
 after_word Positional word rest said next = next None (with_positionals (word ∷ []) said)
 after_word Unknown word rest said next = None
 
--- What the words say, read from the first on, where an option may wait for its value. A value that is a
--- word of its own must not begin with `-`.
+-- What the words say, read from the first on, where an option may wait for its value. A value that is
+-- a word of its own must not begin with `-`.
 abbrev pub said_from : Option Key → Said → List Text → Option Said
 said_from None said [] = Some said
 said_from (Some key) said [] = None

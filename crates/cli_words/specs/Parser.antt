@@ -30,4 +30,7 @@ bare_parser = let a = new_app (codes "omnisim") in record {
 
 -- three options and three positionals
 abbrev pub parser : App
-parser = with_rule (with_rule (with_rule (with_rule (with_rule (with_rule bare_parser events_rule) cycles_rule) ops_rule) (new_rule (codes "command"))) (new_rule (codes "second"))) (new_rule (codes "third"))
+parser =
+    with_rule (with_rule (with_rule (with_rule (with_rule (with_rule bare_parser events_rule)
+    cycles_rule) ops_rule) (new_rule (codes "command"))) (new_rule (codes "second")))
+    (new_rule (codes "third"))

@@ -47,10 +47,13 @@ pub enum WordFault {
     OutOfMemory,
 }
 
-/// Reads the words after the program's name.
+/// Reads the words after the program's name: the command that they are, or `Refused` where they are
+/// none of the accepted lists.
 pub fn read_words(alloc: Global, words: &[String]) -> Result<Command, WordFault>
-    ensures command { IfOk result (λ command. accepted (map string_bytes words.now) ≡ Some command) }
-    ensures refused { result ≡ Err WordFault.Refused → accepted (map string_bytes words.now) ≡ None }
+    ensures command { IfOk result
+        (λ command. accepted (map string_bytes words.now) ≡ Some command) }
+    ensures refused { result ≡ Err WordFault.Refused
+        → accepted (map string_bytes words.now) ≡ None }
 {
     let given = parser::parse(alloc, words)?;
     rules::command_of(&given).ok_or(WordFault::Refused)

@@ -33,7 +33,7 @@ pub fn parse<'a>(alloc: Global, words: &'a [String]) -> Result<Given<'a>, WordFa
             second: matches.get_str("second"),
             third: matches.get_str("third"),
         }),
-        Err(error) => Err(fault_of(&error)),
+        Err(error) => Err(word_fault(&error)),
     }
 }
 
@@ -86,8 +86,8 @@ fn positional<'a>(alloc: Global, name: &'a str) -> Arg<'a>
     Arg::new(alloc, name)
 }
 
-/// What is told of the parser's error.
-fn fault_of(error: &clap::Error) -> WordFault
+/// What the parser's error means for the words.
+fn word_fault(error: &clap::Error) -> WordFault
     ensures { kind_of error.now ≡ ErrorKind.OutOfMemory → result ≡ WordFault.OutOfMemory }
 {
     match error.kind() {

@@ -15,4 +15,4 @@ returns-in-Ok c =
 pub returns-in-Err : goal.returns-in-Err
 returns-in-Err c =
     given_err (map string_bytes c.args.words.now)
-    (all_utf8 c.args.words.now) c.in-Err.error c.fault_of.result c.in-Err.ensures.fails c.fault_of.ensures
+    (all_utf8 c.args.words.now) c.in-Err.error c.word_fault.result c.in-Err.ensures.fails c.word_fault.ensures

@@ -12,6 +12,7 @@ use Rattle.cli_words.specs.declared.Options.{Options}
 use Rattle.cli_words.specs.declared.rules.CommandName.{CommandName}
 use Rattle.cli_words.specs.declared.rules.CommandName.TheVariants as name
 
+-- a word, as its bytes
 abbrev pub Text : Type 0
 Text = List ℕ
 
@@ -36,10 +37,12 @@ pub data Word : Type 0 where
   -- it begins with `-`, and is none of these
   Unknown : Word
 
+-- the first byte is `-`
 abbrev pub begins_with_hyphen : Text → Bool
 begins_with_hyphen [] = false
 begins_with_hyphen (c ∷ cs) = c == 45
 
+-- the byte `=`
 abbrev pub is_equals : ℕ → Bool
 is_equals c = c == 61
 
@@ -82,6 +85,7 @@ pub record Said : Type 0 where
   pub ops : Option Text
   pub positionals : List Text
 
+-- before the first word
 abbrev pub nothing : Said
 nothing = record { events = false; cycles = None; ops = None; positionals = [] }
 
@@ -96,6 +100,7 @@ with_option Cycles value said =
 with_option Ops value said =
     if is_some said.ops then None else Some (record said { ops = Some value })
 
+-- positionals come in the order of the words
 abbrev pub with_positionals : List Text → Said → Said
 with_positionals words said = record said { positionals = said.positionals ++ words }
 
@@ -124,6 +129,7 @@ said_from (Some key) said (value ∷ rest) =
 
 -- ---- numbers
 
+-- a number that lies in the bounds, both included
 abbrev pub in_bounds : ℕ → ℕ → Result ℕ NumberFault → Option ℕ
 in_bounds low high (Ok number) =
     if nat_le low number && nat_le number high then Some number else None
@@ -155,6 +161,7 @@ abbrev pub no_more : {T : Type 0} → List Text → Option T → Option T
 no_more [] found = found
 no_more (word ∷ words) found = None
 
+-- an option is given
 abbrev pub has_options : Said → Bool
 has_options said = said.events || (is_some said.cycles || is_some said.ops)
 
@@ -162,6 +169,7 @@ has_options said = said.events || (is_some said.cycles || is_some said.ops)
 abbrev pub without_option : {T : Type 0} → Said → Option T → Option T
 without_option said found = if has_options said then None else found
 
+-- f of two values, where there are both
 abbrev pub both : {A B C : Type 0} → (A → B → C) → Option A → Option B → Option C
 both f None b = None
 both f (Some x) b = option_map (f x) b
@@ -197,6 +205,7 @@ abbrev pub command_by : Said → List Text → Option Command
 command_by said [] = None
 command_by said (word ∷ rest) = option_and_then (command_named said rest) (name_of word)
 
+-- the command that options and positionals give
 abbrev pub command_of : Said → Option Command
 command_of said = command_by said said.positionals
 

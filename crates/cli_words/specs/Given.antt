@@ -6,13 +6,16 @@ use Rattle.cli_words.specs.declared.WordFault.{WordFault}
 use Rattle.cli_words.specs.declared.WordFault.TheVariants as fault
 use Rattle.cli_words.specs.CommandWords.{Said, Text, accepted, command_of}
 
+-- the bytes of a text, where it is given
 abbrev pub text_of : Option (Bor Text) → Option Text
 text_of = option_map (λ s. s.now)
 
+-- the third positional
 abbrev pub last_of : Option Text → List Text
 last_of None = []
 last_of (Some word) = word ∷ []
 
+-- the second and the third
 abbrev pub further_of : Option Text → Option Text → List Text
 further_of None third = []
 further_of (Some word) third = word ∷ last_of third
@@ -22,6 +25,7 @@ abbrev pub positionals_of : Option Text → Option Text → Option Text → List
 positionals_of None second third = []
 positionals_of (Some word) second third = word ∷ further_of second third
 
+-- what is given, as what the words said
 abbrev pub said_of : Given → Said
 said_of g = record {
   events = g.events;

@@ -3,12 +3,15 @@ use Rattle.std.specs.Prelude.{codes, true, [], Some}
 use Rattle.clap.specs.Words.{App, Rule, Text, new_app, new_rule, with_rule}
 use Rattle.clap.specs.declared.builder.ArgAction.TheVariants.{SetTrue}
 
+-- an option `--NAME` that stands alone
 abbrev pub flag_rule : Text → Rule
 flag_rule name = record (new_rule name) { long = Some name; action = Some SetTrue }
 
+-- an option `--NAME` that takes a value
 abbrev pub option_rule : Text → Rule
 option_rule name = record (new_rule name) { long = Some name }
 
+-- the three options
 abbrev pub events_rule : Rule
 events_rule = flag_rule (codes "events")
 
@@ -18,6 +21,7 @@ cycles_rule = option_rule (codes "cycles")
 abbrev pub ops_rule : Rule
 ops_rule = option_rule (codes "ops")
 
+-- no program's name before the words, no help and no version
 abbrev pub bare_parser : App
 bare_parser = let a = new_app (codes "omnisim") in record {
   top = record a.top {

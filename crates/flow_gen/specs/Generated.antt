@@ -5,6 +5,7 @@ use Rattle.flow_gen.specs.declared.channel.Channel.{Channel}
 use Rattle.flow_gen.specs.declared.channel.Channel.TheVariants.{Fifo, Sink, Source}
 use Rattle.flow_gen.specs.declared.draws.Drawn.{Drawn}
 
+-- a text, as its bytes
 abbrev pub Text : Type 0
 Text = List ℕ
 

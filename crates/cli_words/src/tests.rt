@@ -73,6 +73,11 @@ fn accepted_and_refused(rt: HostRuntime) -> Result<(), Fail> {
         "gen 0 1 2",
         "gen 0 1 --ops=3",
     ];
+    let no_word: Vec<String> = Vec::new(alloc);
+    assert_eq!(rt;
+        read_words(alloc, no_word.as_slice()),
+        Err(WordFault::Refused)
+    );
     for line in refused {
         assert_eq!(rt; read(alloc, line)?, Err(WordFault::Refused));
     }

@@ -1,0 +1,197 @@
+-- The parser refuses what is not accepted, and has what was said of the words that it takes.
+use Rattle.std.proofs.Common.{◌≡◌, ◌∙◌, List, [], ◌∷◌, ◌++◌, ◌||◌, Option, Some, None, refl, sym, ap, subst, codes, true, false, Bool, cond, drop, fold, is_some, arith}
+use Rattle.std.specs.Prelude.{slice_get, option_and_then}
+use Rattle.std.specs.List.{AllByRecursion, list_all}
+use Rattle.std.specs.Str.{IsUtf8}
+use Rattle.clap.specs.Values.{bool_text}
+use Rattle.clap.specs.Walk.{Row, Rule, default_rows, reading_by, with_values, Held, first_of, has_row, idle, is_empty, more_values, nothing_held, one_of, row_text, with_default}
+use Rattle.clap.specs.Simple.{built, matches_of}
+use Rattle.clap.specs.Kinds.{or_else}
+use Rattle.clap.specs.Faults.{default_fault, defaults_fault, fault_of, given_default_fault}
+use Rattle.clap.specs.declared.parser.matches.ValueSource.TheVariants.{DefaultValue}
+use Rattle.clap.specs.declared.builder.value_parser.Reading.TheVariants.{AsWritten}
+use Rattle.clap.proofs.FaultLemmas.{leaf_fault}
+use Rattle.clap.proofs.SimpleLemmas.{is_nil}
+use Rattle.clap.proofs.WalkLemmas.{both}
+use Rattle.cli_words.specs.Parser.{parser}
+use Rattle.cli_words.specs.CommandWords.{Said, Text, accepted, command_of, nothing, said_from}
+use Rattle.cli_words.proofs.RowLemmas.{Rows, events_row, has_row-row_at, missing, other, own, row_at, rules, value_row}
+use Rattle.cli_words.proofs.WalkSteps.{AtMostThree, Ends, Holds, at, clear, end_of, events_filled, fails, fault_at, first_clear, passes, rows_in, second_clear, settle_at}
+use Rattle.cli_words.proofs.ReadLemmas.{both_read}
+
+-- ---- defaults
+
+or_true : (b : Bool) → (b || true) ≡ true
+or_true true = refl
+or_true false = refl
+
+same_both : {X : Type 0} (b : Bool) (x : X) → cond b x x ≡ x
+same_both true x = refl
+same_both false x = refl
+
+abbrev has_none : Rule → Bool
+has_none a = is_empty a.defaults
+
+no_default_fault : (rows : List Row) (a : Rule) → has_none a ≡ true → default_fault rows a ≡ []
+no_default_fault rows a e =
+    ap (λ b. cond (has_row a.id rows || b) [] (given_default_fault a a.defaults)) e
+    ∙ ap (λ b. cond b [] (given_default_fault a a.defaults)) (or_true (has_row a.id rows))
+
+no_default_row : (rows : List Row) (a : Rule) → has_none a ≡ true → with_default rows a ≡ rows
+no_default_row rows a e =
+    ap (λ ds. cond (has_row a.id rows) rows (default_rows a.id (reading_by a) ds rows)) (is_nil a.defaults e)
+    ∙ same_both (has_row a.id rows) rows
+
+no_defaults : (rows : List Row) (rs : List Rule) → list_all has_none rs ≡ true
+    → (defaults_fault rows rs ≡ []) × (fold with_default rows rs ≡ rows)
+unfolding defaults_fault
+no_defaults rows [] e = (refl, refl)
+no_defaults rows (a ∷ rs) e =
+    let parts = both (has_none a) _ e in
+    let same = no_default_row rows a parts.0 in
+    let more = no_defaults rows rs parts.1 in (
+      clear _ _ (no_default_fault rows a parts.0) (ap (λ x. defaults_fault x rs) same ∙ more.0),
+      ap (λ x. fold with_default x rs) same ∙ more.1,
+    )
+
+-- the rows at the end: the flag has its default
+abbrev completed : List Row → List Row
+completed rows = with_default rows events_filled
+
+other_rules : List Rule
+other_rules = drop 1 rules
+
+module _ (rows : List Row) where
+  events_default : default_fault rows events_filled ≡ []
+  events_default = same_both (has_row (codes "events") rows || false) []
+
+  defaults_clear : defaults_fault rows rules ≡ []
+  unfolding defaults_fault
+  defaults_clear = clear _ _ events_default (no_defaults (completed rows) (drop 1 rules) refl).0
+
+  completed_is : fold with_default rows rules ≡ completed rows
+  completed_is = (no_defaults (completed rows) (drop 1 rules) refl).1
+
+-- ---- what the getters read
+
+pub record Final (said : Said) (rows : List Row) : Type 0 where
+  pub events : one_of (codes "events") rows ≡ Some (bool_text said.events)
+  pub cycles : first_of (codes "cycles") rows ≡ said.cycles
+  pub ops : first_of (codes "ops") rows ≡ said.ops
+  pub command : first_of (codes "command") rows ≡ slice_get said.positionals 0
+  pub second : first_of (codes "second") rows ≡ slice_get said.positionals 1
+  pub third : first_of (codes "third") rows ≡ slice_get said.positionals 2
+
+first_is : (id : Text) (o : Option Text) (rows : List Row) → row_at id rows ≡ value_row id o
+    → first_of id rows ≡ o
+first_is id o rows e = ap (option_and_then (λ (r : Row). slice_get r.values 0)) e ∙ go o
+  where
+    go : (x : Option Text) → option_and_then (λ (r : Row). slice_get r.values 0) (value_row id x) ≡ x
+    go None = refl
+    go (Some t) = refl
+
+abbrev no_row : Row
+no_row =
+    record { id = codes "events"; values = codes "false" ∷ []; count = None; source = Some DefaultValue; reading = AsWritten }
+
+abbrev pub bare_final : Said → List Row → Type 0
+bare_final said rows = Final said rows
+
+final : (said : Said) (rows : List Row) → Rows said rows → Final said (completed rows)
+final said rows h = go said.events refl
+  where
+    go : (b : Bool) → said.events ≡ b → Final said (completed rows)
+    go true e =
+        let has : has_row (codes "events") rows ≡ true = has_row-row_at (codes "events") rows
+        ∙ ap is_some (h.events ∙ ap events_row e) in
+        let same : completed rows ≡ rows = ap
+        (λ b. cond b rows
+        (with_values (codes "events") AsWritten DefaultValue (codes "false" ∷ []) rows)) has in
+        subst (Final said) (sym same) (record {
+          events =
+              ap (option_and_then row_text) (h.events ∙ ap events_row e) ∙ ap (λ b. Some (bool_text b)) (sym e);
+          cycles = first_is (codes "cycles") said.cycles rows h.cycles;
+          ops = first_is (codes "ops") said.ops rows h.ops;
+          command = first_is (codes "command") (slice_get said.positionals 0) rows h.command;
+          second = first_is (codes "second") (slice_get said.positionals 1) rows h.second;
+          third = first_is (codes "third") (slice_get said.positionals 2) rows h.third;
+        })
+    go false e =
+        let none : row_at (codes "events") rows ≡ None = h.events ∙ ap events_row e in
+        let has : has_row (codes "events") rows ≡ false = has_row-row_at (codes "events") rows
+        ∙ ap is_some none in
+        let same : completed rows ≡ rows ++ no_row ∷ [] =
+        ap (λ b. cond b rows
+        (with_values (codes "events") AsWritten DefaultValue (codes "false" ∷ []) rows)) has
+        ∙ missing (codes "events") (more_values DefaultValue (codes "false" ∷ [])) (no_row ∷ []) rows none in
+        subst (Final said) (sym same) (record {
+          events =
+              ap (option_and_then row_text) (own (codes "events") no_row rows refl none)
+              ∙ ap (λ b. Some (bool_text b)) (sym e);
+          cycles =
+              first_is (codes "cycles") said.cycles (rows ++ no_row ∷ [])
+              (other (codes "cycles") no_row rows refl ∙ h.cycles);
+          ops =
+              first_is (codes "ops") said.ops (rows ++ no_row ∷ [])
+              (other (codes "ops") no_row rows refl ∙ h.ops);
+          command =
+              first_is (codes "command") (slice_get said.positionals 0) (rows ++ no_row ∷ [])
+              (other (codes "command") no_row rows refl ∙ h.command);
+          second =
+              first_is (codes "second") (slice_get said.positionals 1) (rows ++ no_row ∷ [])
+              (other (codes "second") no_row rows refl ∙ h.second);
+          third =
+              first_is (codes "third") (slice_get said.positionals 2) (rows ++ no_row ∷ [])
+              (other (codes "third") no_row rows refl ∙ h.third);
+        })
+
+-- ---- the whole parse
+
+-- the parser refuses the words, which are not accepted, or takes them and has what they said
+pub data Agrees (words : List Text) : Type 0 where
+  refuses : (fault_of parser words ≡ [] → ⊥) → accepted words ≡ None → Agrees words
+  takes : (said : Said) → AtMostThree said → fault_of parser words ≡ [] → Final said (matches_of parser words)
+      → accepted words ≡ command_of said → Agrees words
+
+abbrev start : Held
+start = nothing_held
+
+starts : Holds nothing nothing_held
+starts = record {
+  skip = refl;
+  settles = refl;
+  rows = record { events = refl; cycles = refl; ops = refl; command = refl; second = refl; third = refl };
+}
+
+fault_is : (words : List Text)
+    → fault_of parser words ≡ or_else (fault_at (at idle 1 false nothing_held) words) (or_else (settle_at (end_of (at idle 1 false nothing_held) words))
+    (or_else (defaults_fault (rows_in (end_of (at idle 1 false nothing_held) words)) rules) []))
+fault_is words = leaf_fault (built parser) nothing_held words refl
+
+abbrev last : List Text → List Row
+last words = rows_in (end_of (at idle 1 false nothing_held) words)
+
+pub agrees : (words : List Text) → AllByRecursion IsUtf8 words → Agrees words
+unfolding accepted
+agrees words u = go ((both_read words u).0 nothing nothing_held starts (omega arith))
+  where
+    go : Ends (at idle 1 false nothing_held) words (said_from None nothing words) → Agrees words
+    go (fails f none) =
+        refuses (λ e. let all = sym (fault_is words)
+        ∙ e in f (first_clear (fault_at (at idle 1 false nothing_held) words)
+        (or_else (settle_at (end_of (at idle 1 false nothing_held) words))
+        (or_else (defaults_fault (last words) rules) [])) all)
+        (first_clear (settle_at (end_of (at idle 1 false nothing_held) words))
+        (or_else (defaults_fault (last words) rules) [])
+        (second_clear (fault_at (at idle 1 false nothing_held) words)
+        (or_else (settle_at (end_of (at idle 1 false nothing_held) words))
+        (or_else (defaults_fault (last words) rules) [])) all))) none
+    go (passes said none held few same) =
+        takes said few
+        (fault_is words ∙ clear (fault_at (at idle 1 false nothing_held) words)
+        (or_else (settle_at (end_of (at idle 1 false nothing_held) words))
+        (or_else (defaults_fault (last words) rules) [])) none
+        (clear (settle_at (end_of (at idle 1 false nothing_held) words))
+        (or_else (defaults_fault (last words) rules) []) held.settles
+        (clear (defaults_fault (last words) rules) [] (defaults_clear (last words)) refl)))
+        (subst (Final said) (sym (completed_is (last words))) (final said (last words) held.rows)) same

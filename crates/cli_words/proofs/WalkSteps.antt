@@ -1,0 +1,294 @@
+-- One word of the parser's walk.
+use Rattle.std.proofs.Common.{◌≡◌, ◌∙◌, ℕ, List, [], ◌∷◌, ◌++◌, ◌<◌, ◌≤◌, ◌&&◌, ◌||◌, Option, Some, None, refl, sym, ap, ap₂, subst, codes, true, false, Bool, cond, length, arith, fold, suc, option_map, is_some}
+use Rattle.std.specs.Str.{bytes_eq}
+use Rattle.clap.specs.Walk.{Held, Rule, Row, Waiting, Walk, arg_by_index, arg_by_long, idle, is_pending, positional_held, pushed, settled, settled_rows, takes_several, to_positional, used, value, walked, has_row}
+use Rattle.clap.specs.Simple.{filled, new_rule, with_index}
+use Rattle.clap.specs.Kinds.{Kinds, or_else}
+use Rattle.clap.specs.Faults.{positional_fault, settle_fault, step_fault, turn_fault, use_fault, walk_fault}
+use Rattle.clap.specs.declared.error.kind.ErrorKind.{ErrorKind}
+use Rattle.clap.specs.declared.error.kind.ErrorKind.TheVariants as kind
+use Rattle.cli_words.specs.Parser.{cycles_rule, events_rule, ops_rule}
+use Rattle.cli_words.specs.CommandWords.{Cycles, Key, Ops, Said, Text, Unknown, Word, command_of, option_named, with_events, with_option, with_positionals, with_value, without_value}
+use Rattle.cli_words.proofs.RowLemmas.{Rows, added, command_added, cycles_added, events_added, events_row, has_row-row_at, ops_added, row, row_at, rules, second_added, third_added, top}
+use Rattle.cli_words.proofs.AcceptedLemmas.{given}
+
+-- ---- kinds of fault
+
+pub some_kind : (k : ErrorKind) (ks : Kinds) → k ∷ ks ≡ [] → ⊥
+some_kind k ks e = cc
+
+pub first_clear : (a b : Kinds) → or_else a b ≡ [] → a ≡ []
+first_clear [] b e = refl
+first_clear (k ∷ ks) b e = e
+
+pub second_clear : (a b : Kinds) → or_else a b ≡ [] → b ≡ []
+second_clear [] b e = e
+second_clear (k ∷ ks) b e = absurd (some_kind k ks e)
+
+pub clear : (a b : Kinds) → a ≡ [] → b ≡ [] → or_else a b ≡ []
+clear a b e f = ap (λ x. or_else x b) e ∙ f
+
+-- ---- where the walk stands
+
+abbrev pub at : Waiting → ℕ → Bool → Held → Walk
+at waiting position is_trailing h = record {
+  held = h;
+  waiting = waiting;
+  position = position;
+  is_trailing = is_trailing;
+  stopped = None;
+}
+
+abbrev pub end_of : Walk → List Text → Held
+end_of w words = (fold (walked rules []) w words).held
+
+abbrev pub fault_at : Walk → List Text → Kinds
+fault_at w words = walk_fault top [] w words
+
+abbrev pub settle_at : Held → Kinds
+settle_at h = settle_fault rules false h
+
+-- the parser refuses the words
+abbrev pub Fails : Walk → List Text → Type 0
+Fails w words = fault_at w words ≡ [] → settle_at (end_of w words) ≡ [] → ⊥
+
+-- what is held is what was said
+pub record Holds (said : Said) (h : Held) : Type 0 where
+  pub skip : h.skip ≡ 0
+  pub settles : settle_at h ≡ []
+  pub rows : Rows said (settled_rows rules h.pending h.rows)
+
+abbrev pub AtMostThree : Said → Type 0
+AtMostThree said = length said.positionals ≤ 3
+
+-- the parser refuses the words, which give no command, or takes them for what they said
+pub data Ends (w : Walk) (words : List Text) (o : Option Said) : Type 0 where
+  fails : Fails w words → given o ≡ None → Ends w words o
+  passes : (t : Said) → fault_at w words ≡ [] → Holds t (end_of w words) → AtMostThree t
+      → given o ≡ command_of t → Ends w words o
+
+passes_on : (w : Walk) (word : Text) (rest : List Text) (o : Option Said) → turn_fault top [] w word ≡ []
+    → Ends (walked rules [] w word) rest o → Ends w (word ∷ rest) o
+unfolding walk_fault
+passes_on w word rest o turn (fails f none) = fails (λ e settled. f (second_clear _ _ e) settled) none
+passes_on w word rest o turn (passes t e holds few same) = passes t (clear _ _ turn e) holds few same
+
+pub step_passes : (w after : Walk) (word : Text) (rest : List Text) (o : Option Said)
+    → turn_fault top [] w word ≡ [] → walked rules [] w word ≡ after
+    → Ends after rest o → Ends w (word ∷ rest) o
+step_passes w after word rest o turn is h = passes_on w word rest o turn (subst (λ y. Ends y rest o) (sym is) h)
+
+pub step_fails : (w : Walk) (word : Text) (rest : List Text) (o : Option Said)
+    → (turn_fault top [] w word ≡ [] → ⊥) → given o ≡ None → Ends w (word ∷ rest) o
+unfolding walk_fault
+step_fails w word rest o bad none = fails (λ e settled. bad (first_clear _ _ e)) none
+
+-- ---- uses
+
+has_no : (id : Text) (rows : List Row) (o : Option Row) → row_at id rows ≡ o → has_row id rows ≡ is_some o
+has_no id rows o e = has_row-row_at id rows ∙ ap is_some e
+
+abbrev pub events_filled : Rule
+events_filled = filled events_rule
+
+abbrev pub rule_at : Key → Rule
+rule_at Cycles = filled cycles_rule
+rule_at Ops = filled ops_rule
+
+-- what a long name comes to, on both sides
+pub data Named (v : Option Text) (o : Option Rule) (w : Word) : Type 0 where
+  flag : o ≡ Some events_filled → w ≡ without_value v → Named v o w
+  keyed : (k : Key) → o ≡ Some (rule_at k) → w ≡ with_value k v → Named v o w
+  unnamed : o ≡ None → w ≡ Unknown → Named v o w
+
+pub named : (n : Text) (v : Option Text) → Named v (arg_by_long rules n) (option_named (45 ∷ 45 ∷ n) v)
+named n v = go (bytes_eq (codes "events") n) (bytes_eq (codes "cycles") n) (bytes_eq (codes "ops") n)
+  where
+    go : (a b c : Bool)
+        → Named v (cond (a || false) (Some events_filled) (cond (b || false) (Some (rule_at Cycles)) (cond (c || false) (Some (rule_at Ops)) None)))
+        (cond a (without_value v) (cond b (with_value Cycles v) (cond c (with_value Ops v) Unknown)))
+    go true b c = flag refl refl
+    go false true c = keyed Cycles refl refl
+    go false false true = keyed Ops refl refl
+    go false false false = unnamed refl refl
+
+abbrev pub rows_in : Held → List Row
+rows_in h = settled_rows rules h.pending h.rows
+
+-- the flag, where it was not given yet
+flag_passes : (rows : List Row) → has_row (codes "events") rows ≡ false
+    → use_fault false events_filled [] rows ≡ []
+flag_passes rows e = ap (λ b. or_else (cond (b && true) (kind.ArgumentConflict ∷ []) []) []) e
+
+flag_fails : (rows : List Row) → has_row (codes "events") rows ≡ true
+    → use_fault false events_filled [] rows ≡ [] → ⊥
+flag_fails rows e none =
+    some_kind _ _ (sym (ap (λ b. or_else (cond (b && true) (kind.ArgumentConflict ∷ []) []) []) e) ∙ none)
+
+value_passes : (k : Key) (v : Text) (rows : List Row) → has_row (rule_at k).id rows ≡ false
+    → use_fault false (rule_at k) (v ∷ []) rows ≡ []
+value_passes Cycles v rows e = ap (λ b. or_else (cond (b && true) (kind.ArgumentConflict ∷ []) []) []) e
+value_passes Ops v rows e = ap (λ b. or_else (cond (b && true) (kind.ArgumentConflict ∷ []) []) []) e
+
+value_fails : (k : Key) (v : Text) (rows : List Row) → has_row (rule_at k).id rows ≡ true
+    → use_fault false (rule_at k) (v ∷ []) rows ≡ [] → ⊥
+value_fails Cycles v rows e none =
+    some_kind _ _ (sym (ap (λ b. or_else (cond (b && true) (kind.ArgumentConflict ∷ []) []) []) e) ∙ none)
+value_fails Ops v rows e none =
+    some_kind _ _ (sym (ap (λ b. or_else (cond (b && true) (kind.ArgumentConflict ∷ []) []) []) e) ∙ none)
+
+-- an option with its value, used where the rows are these
+pub data Used (k : Key) (v : Text) (said : Said) (rows : List Row) : Type 0 where
+  repeated : (use_fault false (rule_at k) (v ∷ []) rows ≡ [] → ⊥) → with_option k v said ≡ None
+      → Used k v said rows
+  unused : (now : Said) → with_option k v said ≡ Some now → use_fault false (rule_at k) (v ∷ []) rows ≡ []
+      → Rows now (used (rule_at k) (v ∷ []) rows)
+      → now.positionals ≡ said.positionals → Used k v said rows
+
+pub using : (k : Key) (v : Text) (said : Said) (rows : List Row) → Rows said rows → Used k v said rows
+using Cycles v said rows h = go said.cycles refl
+  where
+    go : (c : Option Text) → said.cycles ≡ c → Used Cycles v said rows
+    go (Some x) e =
+        repeated (value_fails Cycles v rows
+        (has_no _ rows _ (h.cycles ∙ ap (option_map (row (codes "cycles"))) e)))
+        (ap (λ (c : Option Text). cond (is_some c) None (Some (record said { cycles = Some v }))) e)
+    go None e =
+        unused (record said { cycles = Some v })
+        (ap (λ (c : Option Text). cond (is_some c) None (Some (record said { cycles = Some v }))) e)
+        (value_passes Cycles v rows (has_no _ rows _ (h.cycles ∙ ap (option_map (row (codes "cycles"))) e)))
+        (subst (Rows (record said { cycles = Some v }))
+        (sym (added (codes "cycles") v rows (h.cycles ∙ ap (option_map (row (codes "cycles"))) e)))
+        (cycles_added said.events said.cycles said.ops said.positionals rows v h e)) refl
+using Ops v said rows h = go said.ops refl
+  where
+    go : (c : Option Text) → said.ops ≡ c → Used Ops v said rows
+    go (Some x) e =
+        repeated (value_fails Ops v rows (has_no _ rows _ (h.ops ∙ ap (option_map (row (codes "ops"))) e)))
+        (ap (λ (c : Option Text). cond (is_some c) None (Some (record said { ops = Some v }))) e)
+    go None e =
+        unused (record said { ops = Some v })
+        (ap (λ (c : Option Text). cond (is_some c) None (Some (record said { ops = Some v }))) e)
+        (value_passes Ops v rows (has_no _ rows _ (h.ops ∙ ap (option_map (row (codes "ops"))) e)))
+        (subst (Rows (record said { ops = Some v }))
+        (sym (added (codes "ops") v rows (h.ops ∙ ap (option_map (row (codes "ops"))) e)))
+        (ops_added said.events said.cycles said.ops said.positionals rows v h e)) refl
+
+pub data Flagged (said : Said) (rows : List Row) : Type 0 where
+  again : (use_fault false events_filled [] rows ≡ [] → ⊥) → with_events said ≡ None → Flagged said rows
+  once : with_events said ≡ Some (record said { events = true }) → use_fault false events_filled [] rows ≡ []
+      → Rows (record said { events = true }) (used events_filled [] rows) → Flagged said rows
+
+pub flagging : (said : Said) (rows : List Row) → Rows said rows → Flagged said rows
+flagging said rows h = go said.events refl
+  where
+    go : (b : Bool) → said.events ≡ b → Flagged said rows
+    go true e =
+        again (flag_fails rows (has_no _ rows _ (h.events ∙ ap events_row e)))
+        (ap (λ b. cond b None (Some (record said { events = true }))) e)
+    go false e =
+        once (ap (λ b. cond b None (Some (record said { events = true }))) e)
+        (flag_passes rows (has_no _ rows _ (h.events ∙ ap events_row e)))
+        (subst (Rows (record said { events = true }))
+        (sym (added (codes "events") (codes "true") rows (h.events ∙ ap events_row e)))
+        (events_added said.events said.cycles said.ops said.positionals rows h e))
+
+-- ---- positionals
+
+-- a word that goes to the next positional, where there is one
+pub data Placed (said : Said) (is_trailing : Bool) (h : Held) (word : Text) : Type 0 where
+  stray : (step_fault top (suc (length said.positionals)) h value ≡ [] → ⊥)
+      → 3 < length (said.positionals ++ word ∷ []) → Placed said is_trailing h word
+  placed : (now : Held) → step_fault top (suc (length said.positionals)) h value ≡ []
+      → to_positional rules (arg_by_index rules (suc (length said.positionals))) word
+      (at idle (suc (length said.positionals)) is_trailing h) h
+      ≡ at idle (suc (length (said.positionals ++ word ∷ []))) is_trailing now
+      → Holds (with_positionals (word ∷ []) said) now → length (said.positionals ++ word ∷ []) ≤ 3
+      → Placed said is_trailing h word
+
+pub or_false : (b : Bool) → (b || false) ≡ b
+or_false true = refl
+or_false false = refl
+
+pub and_false : (b : Bool) → (b && false) ≡ false
+and_false true = refl
+and_false false = refl
+
+-- the positional waits to be used, over the rows of what came before
+abbrev pub holding : Rule → Text → Held → Held
+holding a word h = record { rows = rows_in h; pending = Some (a.id, word ∷ []); skip = h.skip }
+
+-- what takes the word as the argument a
+abbrev taking : Rule → Text → Held → Bool → Held
+taking a word h b = pushed a.id word (cond b h (settled rules h))
+
+holding_is : (a : Rule) (word : Text) (h : Held) → takes_several a ≡ false
+    → positional_held rules a word h ≡ holding a word h
+holding_is a word h one =
+    ap (λ b. taking a word h (is_pending a h.pending && b)) one
+    ∙ ap (taking a word h) (and_false (is_pending a h.pending))
+
+fault_is : (a : Rule) (h : Held) → takes_several a ≡ false → settle_at h ≡ []
+    → positional_fault rules false a h ≡ []
+fault_is a h one e =
+    ap (λ b. cond (is_pending a h.pending && b) [] (settle_at h)) one
+    ∙ ap (λ b. cond b [] (settle_at h)) (and_false (is_pending a h.pending)) ∙ e
+
+abbrev pub slot : ℕ → Text → Rule
+slot i id = with_index i (filled (new_rule id))
+
+slot_passes : (id : Text) (i : ℕ) (word : Text) (rows : List Row) → has_row id rows ≡ false
+    → use_fault false (slot i id) (word ∷ []) rows ≡ []
+slot_passes id i word rows e = ap (λ b. or_else (cond (b && true) (kind.ArgumentConflict ∷ []) []) []) e
+
+module _ (events : Bool) (cycles ops : Option Text) (t : Bool) (h : Held) (word : Text) where
+  abbrev having : List Text → Said
+  having ps = record { events = events; cycles = cycles; ops = ops; positionals = ps }
+
+  pub placing : (ps : List Text) → Holds (having ps) h → length ps ≤ 3 → Placed (having ps) t h word
+  placing [] holds few =
+      placed (holding (slot 1 (codes "command")) word h)
+      (fault_is (slot 1 (codes "command")) h refl holds.settles)
+      (ap₂ (λ (b : Bool) (x : Held). at idle 2 b x) (or_false t)
+      (holding_is (slot 1 (codes "command")) word h refl))
+      (record {
+        skip = holds.skip;
+        settles =
+            slot_passes (codes "command") 1 word (rows_in h)
+            (has_no (codes "command") (rows_in h) _ holds.rows.command);
+        rows =
+            subst (Rows (having (word ∷ [])))
+            (sym (added (codes "command") word (rows_in h) holds.rows.command))
+            (command_added events cycles ops (rows_in h) word holds.rows);
+      }) (omega arith)
+  placing (a ∷ []) holds few =
+      placed (holding (slot 2 (codes "second")) word h)
+      (fault_is (slot 2 (codes "second")) h refl holds.settles)
+      (ap₂ (λ (b : Bool) (x : Held). at idle 3 b x) (or_false t)
+      (holding_is (slot 2 (codes "second")) word h refl))
+      (record {
+        skip = holds.skip;
+        settles =
+            slot_passes (codes "second") 2 word (rows_in h)
+            (has_no (codes "second") (rows_in h) _ holds.rows.second);
+        rows =
+            subst (Rows (having (a ∷ word ∷ [])))
+            (sym (added (codes "second") word (rows_in h) holds.rows.second))
+            (second_added events cycles ops (rows_in h) a word holds.rows);
+      }) (omega arith)
+  placing (a ∷ b ∷ []) holds few =
+      placed (holding (slot 3 (codes "third")) word h) (fault_is (slot 3 (codes "third")) h refl holds.settles)
+      (ap₂ (λ (b : Bool) (x : Held). at idle 4 b x) (or_false t)
+      (holding_is (slot 3 (codes "third")) word h refl))
+      (record {
+        skip = holds.skip;
+        settles =
+            slot_passes (codes "third") 3 word (rows_in h)
+            (has_no (codes "third") (rows_in h) _ holds.rows.third);
+        rows =
+            subst (Rows (having (a ∷ b ∷ word ∷ [])))
+            (sym (added (codes "third") word (rows_in h) holds.rows.third))
+            (third_added events cycles ops (rows_in h) a b word holds.rows);
+      }) (omega arith)
+  placing (a ∷ b ∷ c ∷ []) holds few = stray (λ e. some_kind _ _ e) (omega arith)
+  placing (a ∷ b ∷ c ∷ d ∷ rest) holds few = absurd (omega arith)

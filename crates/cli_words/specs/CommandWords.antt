@@ -1,0 +1,216 @@
+-- Which lists of words are accepted, and the command that each one is.
+use Rattle.std.specs.Prelude.{◌==◌, ◌&&◌, ◌||◌, ◌^◌, ◌++◌, ◌∷◌, ℕ, Bool, true, false, not, List, []}
+use Rattle.std.specs.Prelude.{Option, Some, None, Result, Ok, Err, codes, if◌then◌else◌}
+use Rattle.std.specs.Prelude.{is_some, nat_le, option_and_then, option_map}
+use Rattle.std.specs.List.{after_first, before_first, list_any}
+use Rattle.std.specs.Str.{bytes_eq}
+use Rattle.flow_word.specs.Number.{number_of}
+use Rattle.flow_word.specs.declared.number.NumberFault.{NumberFault}
+use Rattle.cli_words.specs.declared.Command.{Command}
+use Rattle.cli_words.specs.declared.Command.TheVariants.{Run, Alone, Clock, Check, Gen}
+use Rattle.cli_words.specs.declared.Options.{Options}
+use Rattle.cli_words.specs.declared.rules.CommandName.{CommandName}
+use Rattle.cli_words.specs.declared.rules.CommandName.TheVariants as name
+
+-- a word, as its bytes
+abbrev pub Text : Type 0
+Text = List ℕ
+
+-- ---- one word
+
+-- the options that take a value
+pub data Key : Type 0 where
+  Cycles : Key
+  Ops : Key
+
+-- what a word is that stands before `--` and is no option's value
+pub data Word : Type 0 where
+  -- `--`
+  End : Word
+  -- `--events`
+  Events : Word
+  -- `--cycles` or `--ops`, which take the next word
+  Takes : Key → Word
+  -- `--cycles=V` or `--ops=V`
+  Has : Key → Text → Word
+  Positional : Word
+  -- it begins with `-`, and is none of these
+  Unknown : Word
+
+-- the first byte is `-`
+abbrev pub begins_with_hyphen : Text → Bool
+begins_with_hyphen [] = false
+begins_with_hyphen (c ∷ cs) = c == 45
+
+-- the byte `=`
+abbrev pub is_equals : ℕ → Bool
+is_equals c = c == 61
+
+-- what stands after the first `=`, if there is one
+abbrev pub value_in : Text → Option Text
+value_in word =
+    if list_any is_equals word then Some (after_first is_equals word) else None
+
+-- `--events` takes no value
+abbrev pub without_value : Option Text → Word
+without_value None = Events
+without_value (Some value) = Unknown
+
+-- an option's value stands after its `=`, or is the next word
+abbrev pub with_value : Key → Option Text → Word
+with_value key None = Takes key
+with_value key (Some value) = Has key value
+
+-- an option, by its name and what stands after its `=`
+abbrev pub option_named : Text → Option Text → Word
+option_named name value =
+    if bytes_eq (codes "--events") name then without_value value
+    else if bytes_eq (codes "--cycles") name then with_value Cycles value
+    else if bytes_eq (codes "--ops") name then with_value Ops value
+    else Unknown
+
+-- what a word is; the single hyphen is a positional
+abbrev pub word_of : Text → Word
+word_of word =
+    if not (begins_with_hyphen word) || bytes_eq (codes "-") word then Positional
+    else if bytes_eq (codes "--") word then End
+    else option_named (before_first is_equals word) (value_in word)
+
+-- ---- options and positionals
+
+-- what the words said so far
+pub record Said : Type 0 where
+  pub events : Bool
+  pub cycles : Option Text
+  pub ops : Option Text
+  pub positionals : List Text
+
+-- before the first word
+abbrev pub nothing : Said
+nothing = record { events = false; cycles = None; ops = None; positionals = [] }
+
+-- `--events` occurs at most once
+abbrev pub with_events : Said → Option Said
+with_events said = if said.events then None else Some (record said { events = true })
+
+-- so do `--cycles` and `--ops`
+abbrev pub with_option : Key → Text → Said → Option Said
+with_option Cycles value said =
+    if is_some said.cycles then None else Some (record said { cycles = Some value })
+with_option Ops value said =
+    if is_some said.ops then None else Some (record said { ops = Some value })
+
+-- positionals come in the order of the words
+abbrev pub with_positionals : List Text → Said → Said
+with_positionals words said = record said { positionals = said.positionals ++ words }
+
+-- What comes of a word: `next` reads the words behind it, and is told the option that waits for its
+-- value and what was said so far. Behind `--` all words are positionals.
+abbrev pub after_word : Word → Text → List Text → Said → (Option Key → Said → Option Said)
+    → Option Said
+after_word End word rest said next = Some (with_positionals rest said)
+after_word Events word rest said next = option_and_then (next None) (with_events said)
+after_word (Takes key) word rest said next = next (Some key) said
+after_word (Has key value) word rest said next =
+    option_and_then (next None) (with_option key value said)
+after_word Positional word rest said next = next None (with_positionals (word ∷ []) said)
+after_word Unknown word rest said next = None
+
+-- What the words say, read from the first on, where an option may wait for its value. A value that is
+-- a word of its own must not begin with `-`.
+abbrev pub said_from : Option Key → Said → List Text → Option Said
+said_from None said [] = Some said
+said_from (Some key) said [] = None
+said_from None said (word ∷ rest) =
+    after_word (word_of word) word rest said (λ waiting now. said_from waiting now rest)
+said_from (Some key) said (value ∷ rest) =
+    if begins_with_hyphen value then None
+    else option_and_then (λ now. said_from None now rest) (with_option key value said)
+
+-- ---- numbers
+
+-- a number that lies in the bounds, both included
+abbrev pub in_bounds : ℕ → ℕ → Result ℕ NumberFault → Option ℕ
+in_bounds low high (Ok number) =
+    if nat_le low number && nat_le number high then Some number else None
+in_bounds low high (Err fault) = None
+
+-- one or more digits and nothing else, whose number lies in the bounds
+abbrev pub number_in : ℕ → ℕ → Text → Option ℕ
+number_in low high text = in_bounds low high (number_of text)
+
+-- an option's value, where it is given
+abbrev pub limit_in : ℕ → Option Text → Option (Option ℕ)
+limit_in high None = Some None
+limit_in high (Some text) = option_map (λ n. Some n) (number_in 1 high text)
+
+-- ---- commands
+
+-- the commands by their names
+abbrev pub name_of : Text → Option CommandName
+name_of word =
+    if bytes_eq (codes "run") word then Some name.Run
+    else if bytes_eq (codes "alone") word then Some name.Alone
+    else if bytes_eq (codes "clock") word then Some name.Clock
+    else if bytes_eq (codes "check") word then Some name.Check
+    else if bytes_eq (codes "gen") word then Some name.Gen
+    else None
+
+-- no further positional
+abbrev pub no_more : {T : Type 0} → List Text → Option T → Option T
+no_more [] found = found
+no_more (word ∷ words) found = None
+
+-- an option is given
+abbrev pub has_options : Said → Bool
+has_options said = said.events || (is_some said.cycles || is_some said.ops)
+
+-- no option
+abbrev pub without_option : {T : Type 0} → Said → Option T → Option T
+without_option said found = if has_options said then None else found
+
+-- f of two values, where there are both
+abbrev pub both : {A B C : Type 0} → (A → B → C) → Option A → Option B → Option C
+both f None b = None
+both f (Some x) b = option_map (f x) b
+
+-- the options, with a cycle limit of 1 to 10^15 and an operation limit of 1 to 200,000
+abbrev pub options_of : Said → Option Options
+options_of said = both (λ cycles ops. record {
+  events = said.events;
+  cycles = cycles;
+  ops = ops;
+}) (limit_in (10 ^ 15) said.cycles) (limit_in 200_000 said.ops)
+
+-- the options of a command that has no further positional
+abbrev pub options_alone : Said → List Text → Option Options
+options_alone said rest = no_more rest (options_of said)
+
+-- `gen` has two further positionals: a seed of 0 to 65,535 and 1 to 64 modules
+abbrev pub gen_of : List Text → Option Command
+gen_of (seed ∷ modules ∷ []) =
+    both (λ s m. Gen s m) (number_in 0 65_535 seed) (number_in 1 64 modules)
+gen_of _ = None
+
+-- the rule of each command, on what was said and on the positionals behind the name
+abbrev pub command_named : Said → List Text → CommandName → Option Command
+command_named said rest name.Run = option_map (λ o. Run o) (options_alone said rest)
+command_named said rest name.Alone = option_map (λ o. Alone o) (options_alone said rest)
+command_named said rest name.Clock = option_map (λ o. Clock o) (options_alone said rest)
+command_named said rest name.Check = without_option said (no_more rest (Some Check))
+command_named said rest name.Gen = without_option said (gen_of rest)
+
+-- the first positional is the command's name
+abbrev pub command_by : Said → List Text → Option Command
+command_by said [] = None
+command_by said (word ∷ rest) = option_and_then (command_named said rest) (name_of word)
+
+-- the command that options and positionals give
+abbrev pub command_of : Said → Option Command
+command_of said = command_by said said.positionals
+
+-- ---- lists of words
+
+-- the command that a list of words is, if it is accepted
+unfoldable pub accepted : List Text → Option Command
+accepted words = option_and_then command_of (said_from None nothing words)

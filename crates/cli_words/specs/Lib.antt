@@ -1,0 +1,3 @@
+pub mod CommandWords
+pub mod Parser
+pub mod Given

@@ -1,0 +1,63 @@
+//! The words of the command line: which lists of words are a command, and which command.
+#![tactic(auto)]
+
+ghost use Rattle.std.specs.Prelude.{◌≡◌, IfOk, map, None, Some, Err, string_bytes};
+ghost use Rattle.cli_words.specs.CommandWords.{accepted};
+
+mod parser;
+mod rules;
+
+use std::alloc::Global;
+use thiserror::Error;
+
+/// What a simulating command is asked for.
+#[derive(Clone, Copy, Debug, PartialEq, Eq)]
+pub struct Options {
+    /// Whether the report tells every FIFO operation.
+    pub events: bool,
+    /// The cycle limit, in clocks, in place of the session's.
+    pub cycles: Option<u64>,
+    /// The operation limit, in place of the session's.
+    pub ops: Option<u64>,
+}
+
+/// What the words ask for.
+#[derive(Clone, Copy, Debug, PartialEq, Eq)]
+pub enum Command {
+    /// Simulate the session that is read, on one thread for each module.
+    Run(Options),
+    /// Simulate it on one thread.
+    Alone(Options),
+    /// Simulate it clock by clock.
+    Clock(Options),
+    /// Write the session in its canonical form.
+    Check,
+    /// Simulate the session made from this seed, with so many modules.
+    Gen(u64, u64),
+}
+
+/// Why there is no command.
+#[derive(Clone, Copy, Debug, PartialEq, Eq, Error)]
+pub enum WordFault {
+    /// The words are none of the accepted lists.
+    #[error("the words are refused")]
+    Refused,
+    /// There was no memory to read them.
+    #[error("out of memory")]
+    OutOfMemory,
+}
+
+/// Reads the words after the program's name: the command that they are, or `Refused` where they are
+/// none of the accepted lists.
+pub fn read_words(alloc: Global, words: &[String]) -> Result<Command, WordFault>
+    ensures command { IfOk result
+        (λ command. accepted (map string_bytes words.now) ≡ Some command) }
+    ensures refused { result ≡ Err WordFault.Refused
+        → accepted (map string_bytes words.now) ≡ None }
+{
+    let given = parser::parse(alloc, words)?;
+    rules::command_of(&given).ok_or(WordFault::Refused)
+}
+
+#[cfg(test)]
+mod tests;

@@ -1,0 +1,97 @@
+//! The options and positionals of a list of words, by one simple `clap` command.
+ghost use Rattle.std.specs.Prelude.{false, ◌≡◌, IfOk, map, string_bytes};
+ghost use Rattle.clap.specs.Words.{FailsBy, app_of, fault_of, found_of, kind_of, matches_of, new_rule, rows_of, rule_of};
+ghost use Rattle.cli_words.specs.Parser.{bare_parser, flag_rule, option_rule, parser};
+ghost use Rattle.cli_words.specs.Given.{IsGivenBy};
+
+use crate::WordFault;
+use clap::error::ErrorKind;
+use clap::{Arg, ArgAction, ArgMatches, Command};
+use std::alloc::Global;
+
+/// The options and the positionals, before any rule on commands and numbers is tried.
+#[derive(Clone, Copy)]
+pub struct Given<'a> {
+    pub events: bool,
+    pub cycles: Option<&'a str>,
+    pub ops: Option<&'a str>,
+    pub command: Option<&'a str>,
+    pub second: Option<&'a str>,
+    pub third: Option<&'a str>,
+}
+
+/// What the words give, and `Refused` only where no command can come of them.
+pub fn parse<'a>(alloc: Global, words: &'a [String]) -> Result<Given<'a>, WordFault>
+    ensures { IsGivenBy (map string_bytes words.entry.now) result }
+{
+    match matches(alloc, words) {
+        Ok(matches) => Ok(Given {
+            events: matches.get_flag("events"),
+            cycles: matches.get_str("cycles"),
+            ops: matches.get_str("ops"),
+            command: matches.get_str("command"),
+            second: matches.get_str("second"),
+            third: matches.get_str("third"),
+        }),
+        Err(error) => Err(word_fault(&error)),
+    }
+}
+
+/// The words, read as three options and at most three positionals.
+fn matches<'a>(alloc: Global, words: &'a [String]) -> Result<ArgMatches<'a>, clap::Error>
+    ensures fails { FailsBy (fault_of parser (map string_bytes words.entry.now)) result }
+    ensures rows { IfOk result (λ m. rows_of (found_of m)
+        ≡ matches_of parser (map string_bytes words.entry.now)) }
+{
+    let parser = bare_parser(alloc)
+        .arg(flag(alloc, "events"))?
+        .arg(option(alloc, "cycles"))?
+        .arg(option(alloc, "ops"))?
+        .arg(positional(alloc, "command"))?
+        .arg(positional(alloc, "second"))?
+        .arg(positional(alloc, "third"))?;
+    parser.try_get_matches_from(words)
+}
+
+/// A parser that takes no word yet: no program's name, no help and no version.
+fn bare_parser<'a>(alloc: Global) -> Command<'a>
+    ensures { app_of result ≡ bare_parser }
+{
+    Command::new(alloc, "omnisim")
+        .no_binary_name(true)
+        .disable_help_flag(true)
+        .disable_version_flag(true)
+}
+
+/// An option that stands alone.
+fn flag<'a>(alloc: Global, name: &'a str) -> Arg<'a>
+    ensures rule { rule_of result ≡ flag_rule name.entry.now }
+    ensures local { result.global ≡ false }
+{
+    Arg::new(alloc, name).long(name).action(ArgAction::SetTrue)
+}
+
+/// An option that takes a value.
+fn option<'a>(alloc: Global, name: &'a str) -> Arg<'a>
+    ensures rule { rule_of result ≡ option_rule name.entry.now }
+    ensures local { result.global ≡ false }
+{
+    Arg::new(alloc, name).long(name)
+}
+
+fn positional<'a>(alloc: Global, name: &'a str) -> Arg<'a>
+    ensures rule { rule_of result ≡ new_rule name.entry.now }
+    ensures local { result.global ≡ false }
+{
+    Arg::new(alloc, name)
+}
+
+/// What the parser's error means for the words.
+fn word_fault(error: &clap::Error) -> WordFault
+    ensures { kind_of error.now ≡ ErrorKind.OutOfMemory → result ≡ WordFault.OutOfMemory }
+{
+    match error.kind() {
+        ErrorKind::OutOfMemory => WordFault::OutOfMemory,
+        _ => WordFault::Refused,
+    }
+}

@@ -1,0 +1,10 @@
+use Rattle.std.proofs.Common.{◌≡◌, ◌++◌, drop, length}
+use Rattle.std.specs.Prelude.{string_bytes}
+use Rattle.flow_gen.specs.Generated.{module_lines, each_module}
+use Rattle.flow_gen.proofs.text.push_modules.Given as goal
+
+-- what is written and what is left make the whole
+abbrev pub invariant-loop-k : goal.invariant-loop-k
+invariant-loop-k l =
+    string_bytes l.text ++ each_module (module_lines (length l.draws)) l.k (drop l.k l.draws)
+    ≡ string_bytes l.initial.text ++ each_module (module_lines (length l.draws)) 0 l.draws

@@ -1,8 +1,6 @@
 -- The report.
-use Rattle.std.specs.Prelude.{ℕ, Bool, true, false, not, ◌==◌, List, map, filter, flat_map, length}
+use Rattle.std.specs.Prelude.{ℕ, Bool, not, ◌==◌, List, map, filter, flat_map, length}
 use Rattle.std.specs.List.{range_with_len}
-use Rattle.flow_design.specs.declared.design.ChannelKind.{ChannelKind}
-use Rattle.flow_design.specs.declared.design.ChannelKind.TheVariants.{Source, Sink, Fifo}
 use Rattle.flow_design.specs.declared.plan.Plan.{Plan}
 use Rattle.flow_design.specs.declared.report.EventLine.{EventLine}
 use Rattle.flow_design.specs.declared.report.Report.{Report}

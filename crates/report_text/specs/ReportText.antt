@@ -4,8 +4,6 @@ use Rattle.std.specs.List.{zip}
 use Rattle.flow_word.specs.declared.access.Kind.{Kind}
 use Rattle.flow_word.specs.declared.access.Kind.TheVariants.{Read, Write, TryRead, TryWrite, Empty, Full}
 use Rattle.flow_design.specs.declared.design.Channel.{Channel}
-use Rattle.flow_design.specs.declared.design.ChannelKind.{ChannelKind}
-use Rattle.flow_design.specs.declared.design.ChannelKind.TheVariants.{Source, Sink, Fifo}
 use Rattle.flow_design.specs.declared.design.Design.{Design}
 use Rattle.flow_design.specs.declared.report.Verdict.{Verdict}
 use Rattle.flow_design.specs.declared.report.Verdict.TheVariants.{Done, Deadlock, Cycles, Ops}

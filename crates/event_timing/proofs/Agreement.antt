@@ -6,8 +6,8 @@ use Rattle.event_timing.specs.Histories.{Trace, IsHistory}
 use Rattle.event_timing.specs.Steps.{done}
 use Rattle.event_timing.specs.Views.{own, own_state, first_accesses}
 use Rattle.event_timing.specs.Enablers.{known_of, candidate, all_decided, IsStuck}
-use Rattle.event_timing.specs.Core.{Core, opening_core, core_accesses, core_reply, values_there, view, has_query}
-use Rattle.event_timing.specs.Actions.{Action, MayRun, MayAssign, MayAnswer, MayEarliest, IsOpen, IsQuiet, IsDetermined, Acts, ActsAll, after_run, after_assign, after_answer, IsSame, IsFinal, new_flags}
+use Rattle.event_timing.specs.Core.{Core, opening_core, core_accesses, core_reply, view}
+use Rattle.event_timing.specs.Actions.{Action, MayAnswer, MayEarliest, IsOpen, IsQuiet, IsDetermined, Acts, ActsAll, after_answer, IsSame, IsFinal, new_flags}
 use Rattle.event_timing.specs.Agreement.{AreOwnMarks, IsTimed, IsAgreed, possible_all}
 use Rattle.event_timing.proofs.OwnRuns.{own_0}
 use Rattle.event_timing.proofs.Fronts.{agrees}

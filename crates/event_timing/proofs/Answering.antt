@@ -1,7 +1,7 @@
 -- Verified outcomes keep agreement.
 use Rattle.std.proofs.Common.{◌≡◌, ℕ, suc, ◌+◌, ◌<◌, ◌≤◌, Bool, true, false, cond, ◌&&◌, ◌||◌, ◌⊎◌, inl, inr, List, [], ◌∷◌, ◌++◌, sym, refl, ap, ap₂, ◌∙◌, subst, arith, eqb, Some, append_assoc, append-nil}
 use Rattle.std.proofs.lemmas.Bool.{cases_Bool, cond-true, cond-false, and_parts, and_from, both_ways, cases_lt, cases_eq, false_from_ne_true, ltb-true, or_left}
-use Rattle.event_timing.specs.Machines.{Design, IsDesign, Access, Reply, ready, values_in, took, pushes_on, pushers, same_side}
+use Rattle.event_timing.specs.Machines.{Design, IsDesign, Access, Reply, ready, values_in, took, takes_at, takers, same_side}
 use Rattle.event_timing.specs.Histories.{Trace, IsHistory}
 use Rattle.event_timing.specs.Steps.{steps, done}
 use Rattle.event_timing.specs.Enablers.{Known, known_of, answer, flags_at, candidate}
@@ -17,45 +17,45 @@ use Rattle.event_timing.proofs.Growing.{Grows, settled_less, settled_old, settle
 use Rattle.event_timing.proofs.Assigning.{put_at_same, put_at_other, new_sure, RightFlags, SureFlags, HappensFirst}
 use Rattle.event_timing.proofs.Running.{values_grow}
 
-no_pushers : (ch : ℕ) (xs : List Access) (rs : List Reply) → pushers ch xs ≡ 0 → values_in ch xs rs ≡ []
-no_pushers ch [] rs e = refl
-no_pushers ch (a ∷ xs) [] e = refl
-no_pushers ch (a ∷ xs) (r ∷ rs) e =
-    elim (cases_Bool (pushes_on ch a)) [
-      | inl k ↦ let e' = rw (cond-true {A = ℕ} (pushes_on ch a) 1 0 k) at e in absurd (omega arith)
+no_takers : (ch : ℕ) (xs : List Access) (rs : List Reply) → takers false ch xs ≡ 0 → values_in ch xs rs ≡ []
+no_takers ch [] rs e = refl
+no_takers ch (a ∷ xs) [] e = refl
+no_takers ch (a ∷ xs) (r ∷ rs) e =
+    elim (cases_Bool (takes_at false ch a)) [
+      | inl k ↦ let e' = rw (cond-true {A = ℕ} (takes_at false ch a) 1 0 k) at e in absurd (omega arith)
       | inr k ↦
-          let e' = rw (cond-false {A = ℕ} (pushes_on ch a) 1 0 k) at e in
+          let e' = rw (cond-false {A = ℕ} (takes_at false ch a) 1 0 k) at e in
           let t : took false ch a r ≡ false =
           false_from_ne_true (took false ch a r) (λ (w : took false ch a r ≡ true).
           let (w1, w2) = and_parts a.takes (r.possible && (same_side a.pops false && eqb a.channel ch)) w in
           let (w3, w4) = and_parts r.possible (same_side a.pops false && eqb a.channel ch) w2 in
           both_ways _ k (and_from a.takes (same_side a.pops false && eqb a.channel ch) w1 w4)) in
-          ap (λ (z : List ℕ). z ++ values_in ch xs rs) (cond-false {A = List ℕ} (took false ch a r) (a.value ∷ []) [] t) ∙ no_pushers ch xs rs (omega arith)
+          ap (λ (z : List ℕ). z ++ values_in ch xs rs) (cond-false {A = List ℕ} (took false ch a r) (a.value ∷ []) [] t) ∙ no_takers ch xs rs (omega arith)
     ]
 
 flag : Bool → Reply
 flag b = record { possible = b; front = 0 }
 
 -- an outcome adds pushes behind those that are there
-more_values : (ch : ℕ) (know : Access → Known) (c : ℕ) (xs : List Access) → pushers ch xs ≤ 1 → Begins (values_in ch xs (bare_replies (flags_at know c xs))) (values_in ch xs (bare_replies (no_outcomes xs)))
+more_values : (ch : ℕ) (know : Access → Known) (c : ℕ) (xs : List Access) → takers false ch xs ≤ 1 → Begins (values_in ch xs (bare_replies (flags_at know c xs))) (values_in ch xs (bare_replies (no_outcomes xs)))
 unfolding flag
 more_values ch know c [] l = begins_self []
 more_values ch know c (a ∷ xs) l =
-    elim (cases_Bool (pushes_on ch a)) [
+    elim (cases_Bool (takes_at false ch a)) [
       | inr k ↦
-          let l' = rw (cond-false {A = ℕ} (pushes_on ch a) 1 0 k) at l in
+          let l' = rw (cond-false {A = ℕ} (takes_at false ch a) 1 0 k) at l in
           let (more, e) = more_values ch know c xs (omega arith) in
           let t1 = cond-false {A = List ℕ} (took false ch a (flag (a.blocks || answer (know a) c))) (a.value ∷ []) [] (none (a.blocks || answer (know a) c) k) in
           let t2 = cond-false {A = List ℕ} (took false ch a (flag a.blocks)) (a.value ∷ []) [] (none a.blocks k) in
           (more, ap (λ (z : List ℕ). z ++ values_in ch xs (bare_replies (flags_at know c xs))) t1 ∙ (e ∙ sym (ap (λ (z : List ℕ). (z ++ values_in ch xs (bare_replies (no_outcomes xs))) ++ more) t2)))
       | inl k ↦
-          let l' = rw (cond-true {A = ℕ} (pushes_on ch a) 1 0 k) at l in
-          let n1 = no_pushers ch xs (bare_replies (flags_at know c xs)) (omega arith) in
-          let n2 = no_pushers ch xs (bare_replies (no_outcomes xs)) (omega arith) in
+          let l' = rw (cond-true {A = ℕ} (takes_at false ch a) 1 0 k) at l in
+          let n1 = no_takers ch xs (bare_replies (flags_at know c xs)) (omega arith) in
+          let n2 = no_takers ch xs (bare_replies (no_outcomes xs)) (omega arith) in
           head (cases_Bool a.blocks) n1 n2
     ]
   where
-    none : (b : Bool) → pushes_on ch a ≡ false → took false ch a (flag b) ≡ false
+    none : (b : Bool) → takes_at false ch a ≡ false → took false ch a (flag b) ≡ false
     none b k =
         false_from_ne_true (took false ch a (flag b)) (λ (w : took false ch a (flag b) ≡ true).
         let (w1, w2) = and_parts a.takes (b && (same_side a.pops false && eqb a.channel ch)) w in
@@ -110,7 +110,7 @@ answer_values_here {S} d i x b m c ch l a o =
     let s = pushed_same (core_accesses d z m) (core_accesses d x m) (λ j. bare_replies (z.flags m j)) (λ j. bare_replies (x.flags m j)) ch t (λ k q. ap (λ (f : List Bool). values_in ch (core_accesses d x m k) (bare_replies f)) (answer_other d x m c m k (λ p w. omega arith))) in
     let f1 = put_at_same x.flags m t (new_flags d x m c) in
     let f2 = b.unanswered m t l a in
-    let (more, g) = more_values ch (known_of d (view d x) m) c (core_accesses d x m t) (i.single m (x.state m t) ch) in
+    let (more, g) = more_values ch (known_of d (view d x) m) c (core_accesses d x m t) (i.single false m (x.state m t) ch) in
     let n1 : pushed_in ch (core_accesses d z m) (λ j. bare_replies (z.flags m j)) (suc t) ≡ pushed_in ch (core_accesses d x m) (λ j. bare_replies (x.flags m j)) t ++ values_in ch (core_accesses d x m t) (bare_replies (new_flags d x m c)) =
     pushed_in_more ch (core_accesses d z m) (λ j. bare_replies (z.flags m j)) t ∙ ap₂ (λ (p : List ℕ) (f : List Bool). p ++ values_in ch (core_accesses d x m t) (bare_replies f)) s f1 in
     let n2 : pushed_in ch (core_accesses d x m) (λ j. bare_replies (x.flags m j)) (suc t) ≡ pushed_in ch (core_accesses d x m) (λ j. bare_replies (x.flags m j)) t ++ values_in ch (core_accesses d x m t) (bare_replies (no_outcomes (core_accesses d x m t))) =

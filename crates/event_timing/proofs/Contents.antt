@@ -2,7 +2,7 @@
 use Rattle.std.proofs.Common.{◌≡◌, ℕ, zero, suc, ◌+◌, ◌-◌, ◌<◌, ◌≤◌, Bool, true, false, cond, not, ◌&&◌, ◌||◌, inl, inr, List, [], ◌∷◌, ◌++◌, map, length, drop, get_or, sym, refl, ap, ap₂, ◌∙◌, arith, zero-add, add-zero, eqb, ltb, leb, length-append, length-drop, drop-cons, drop-drop, append-nil, drop_of_length-le}
 use Rattle.std.proofs.lemmas.Bool.{cases_Bool, both_ways, cases_lt, ltb-true, lt-ltb, le-ltb, le-leb, lt-leb, false_from_ne_true, cond-true, cond-false, and_parts, and_from, eqb-true}
 use Rattle.std.proofs.lemmas.List.{get_or_append_left, get_or-append_right}
-use Rattle.event_timing.specs.Machines.{Design, IsDesign, Access, Reply, takes_in, values_in, HoldsLists, poppers, pops_on, took, same_side}
+use Rattle.event_timing.specs.Machines.{Design, IsDesign, Access, Reply, takes_in, values_in, HoldsLists, takers, takes_at, took, same_side}
 use Rattle.event_timing.specs.Histories.{IsHistory, is_possible, can_all, moves, replies, reply_to}
 use Rattle.event_timing.proofs.Values.{length_values}
 use Rattle.event_timing.proofs.OwnRuns.{not_same_side}
@@ -125,16 +125,16 @@ empty_takes {S} d w c ch (a ∷ xs) e =
     both_ways _ e (sym (ap₂ (can_take d w c) p q) ∙ k3)) in
     ap₂ (λ (x y : ℕ). x + y) (cond-false {A = ℕ} (took true ch a (reply_in d w c a)) 1 0 t) (empty_takes d w c ch xs e) ∙ (omega arith)
 
-takes_poppers : (ch : ℕ) (xs : List Access) (rs : List Reply) → takes_in true ch xs rs ≤ poppers ch xs
-takes_poppers ch [] rs = omega arith
-takes_poppers ch (a ∷ xs) [] = omega arith
-takes_poppers ch (a ∷ xs) (r ∷ rs) =
-    elim (cases_Bool (pops_on ch a)) [
+takes_takers : (ch : ℕ) (xs : List Access) (rs : List Reply) → takes_in true ch xs rs ≤ takers true ch xs
+takes_takers ch [] rs = omega arith
+takes_takers ch (a ∷ xs) [] = omega arith
+takes_takers ch (a ∷ xs) (r ∷ rs) =
+    elim (cases_Bool (takes_at true ch a)) [
       | inl k ↦
-          rw (cond-true {A = ℕ} (pops_on ch a) 1 0 k)
+          rw (cond-true {A = ℕ} (takes_at true ch a) 1 0 k)
           (elim (cases_Bool (took true ch a r)) [
-            | inl t ↦ rw (cond-true {A = ℕ} (took true ch a r) 1 0 t) (omega (arith, takes_poppers ch xs rs))
-            | inr t ↦ rw (cond-false {A = ℕ} (took true ch a r) 1 0 t) (omega (arith, takes_poppers ch xs rs))
+            | inl t ↦ rw (cond-true {A = ℕ} (took true ch a r) 1 0 t) (omega (arith, takes_takers ch xs rs))
+            | inr t ↦ rw (cond-false {A = ℕ} (took true ch a r) 1 0 t) (omega (arith, takes_takers ch xs rs))
           ])
       | inr k ↦
           let t : took true ch a r ≡ false =
@@ -142,15 +142,15 @@ takes_poppers ch (a ∷ xs) (r ∷ rs) =
           let (w1, w2) = and_parts a.takes (r.possible && (same_side a.pops true && eqb a.channel ch)) w in
           let (w3, w4) = and_parts r.possible (same_side a.pops true && eqb a.channel ch) w2 in
           both_ways _ k (and_from a.takes (same_side a.pops true && eqb a.channel ch) w1 w4)) in
-          rw (cond-false {A = ℕ} (pops_on ch a) 1 0 k, cond-false {A = ℕ} (took true ch a r) 1 0 t) (omega (arith, takes_poppers ch xs rs))
+          rw (cond-false {A = ℕ} (takes_at true ch a) 1 0 k, cond-false {A = ℕ} (took true ch a r) 1 0 t) (omega (arith, takes_takers ch xs rs))
     ]
 
 abbrev IsContents : {S : Type 0} → Design S → ℕ → ℕ → Type 0
 IsContents {S} d ch c = ((world d c).contents ch ≡ drop (flowed d true ch c) (elements d ch c)) × (flowed d true ch c ≤ length (elements d ch c))
 
-flow_room : {S : Type 0} → (d : Design S) → HoldsLists d → (ch c : ℕ) → IsContents d ch c → flowed d true ch c + flow d (world d c) c true ch ≤ length (elements d ch c)
+flow_room : {S : Type 0} → (d : Design S) → IsDesign d → (ch c : ℕ) → IsContents d ch c → flowed d true ch c + flow d (world d c) c true ch ≤ length (elements d ch c)
 unfolding flow replies_in
-flow_room {S} d j ch c (e, l) =
+flow_room {S} d i ch c (e, l) =
     let w : World S = world d c in
     let o : ℕ = d.owner true ch in
     elim (cases_Bool (moves_in d w c o)) [
@@ -163,16 +163,16 @@ flow_room {S} d j ch c (e, l) =
                 let p' = sym (ap (λ (es : List Element). not (is_empty c es)) e) ∙ p in
                 let p'' = sym (nonempty_is c (flowed d true ch c) (elements d ch c)) ∙ p' in
                 let q = ltb-true (flowed d true ch c) (length (elements d ch c)) (and_parts (ltb (flowed d true ch c) (length (elements d ch c))) (leb (get_or (elements d ch c) (flowed d true ch c) blank).since c) p'').0 in
-                omega (arith, takes_poppers ch (d.accesses o (w.state o)) (map (reply_in d w c) (d.accesses o (w.state o))), j.single_pop o (w.state o) ch)
+                omega (arith, takes_takers ch (d.accesses o (w.state o)) (map (reply_in d w c) (d.accesses o (w.state o))), i.single true o (w.state o) ch)
           ])
     ]
 
 -- a channel holds what came and did not leave
-pub contents_is : {S : Type 0} → (d : Design S) → HoldsLists d → (ch c : ℕ) → IsContents d ch c
-contents_is {S} d j ch zero = (contents_0 d ch ∙ (sym (elements_0 d ch) ∙ ap (λ (k : ℕ). drop k (elements d ch 0)) (sym (flowed_0 d true ch))), omega (arith, flowed_0 d true ch))
-contents_is {S} d j ch (suc c) =
-    let (e, l) = contents_is d j ch c in
-    let room = flow_room d j ch c (e, l) in
+pub contents_is : {S : Type 0} → (d : Design S) → IsDesign d → (ch c : ℕ) → IsContents d ch c
+contents_is {S} d i ch zero = (contents_0 d ch ∙ (sym (elements_0 d ch) ∙ ap (λ (k : ℕ). drop k (elements d ch 0)) (sym (flowed_0 d true ch))), omega (arith, flowed_0 d true ch))
+contents_is {S} d i ch (suc c) =
+    let (e, l) = contents_is d i ch c in
+    let room = flow_room d i ch c (e, l) in
     let f : ℕ = flow d (world d c) c true ch in
     let t : ℕ = flowed d true ch c in
     let es : List Element = elements d ch c in
@@ -210,14 +210,14 @@ front_drop zero (e ∷ es) = refl
 front_drop (suc t) [] = refl
 front_drop (suc t) (e ∷ es) = front_drop t es
 
-front_is : {S : Type 0} → (d : Design S) → HoldsLists d → (ch c : ℕ) → front_of ((world d c).contents ch) ≡ get_or (came d ch c) (flowed d true ch c) 0
-front_is {S} d j ch c =
-    ap front_of (contents_is d j ch c).0 ∙ (front_drop (flowed d true ch c) (elements d ch c) ∙ ap (λ (z : List ℕ). get_or z (flowed d true ch c) 0) (sym (came_is d ch c)))
+front_is : {S : Type 0} → (d : Design S) → IsDesign d → (ch c : ℕ) → front_of ((world d c).contents ch) ≡ get_or (came d ch c) (flowed d true ch c) 0
+front_is {S} d i ch c =
+    ap front_of (contents_is d i ch c).0 ∙ (front_drop (flowed d true ch c) (elements d ch c) ∙ ap (λ (z : List ℕ). get_or z (flowed d true ch c) 0) (sym (came_is d ch c)))
 
 -- what a channel allows, by its contents and by counts
 possible_is : {S : Type 0} → (d : Design S) → IsDesign d → HoldsLists d → (c : ℕ) (side : Bool) (ch : ℕ) → is_possible d (trace d) c side ch ≡ can_take d (world d c) c side ch
 possible_is {S} d i j c true ch =
-    let (e, l) = contents_is d j ch c in
+    let (e, l) = contents_is d i ch c in
     let t : ℕ = flowed d true ch c in
     let len = length_elements d i ch c in
     let up = flow_mono d false ch (suc c - d.lag true ch) c (omega (arith, i.lag_positive true ch)) in
@@ -230,7 +230,7 @@ possible_is {S} d i j c false ch =
     elim (cases_Bool (d.unlimited false ch)) [
       | inl u ↦ rw u refl
       | inr u ↦
-          let (e, l) = contents_is d j ch c in
+          let (e, l) = contents_is d i ch c in
           let len = length_elements d i ch c in
           let z = j.only_inputs ch u in
           let k : suc c - d.lag false ch ≡ c = omega (arith, j.lag_push ch) in
@@ -250,7 +250,7 @@ all_replies_is : {S : Type 0} → (d : Design S) → IsDesign d → HoldsLists d
 all_replies_is {S} d i j c [] = refl
 all_replies_is {S} d i j c (a ∷ xs) =
     ap₂ (λ (r : Reply) (rs : List Reply). r ∷ rs)
-    (ap₂ (λ (b : Bool) (v : ℕ). record { possible = b; front = cond {A = ℕ} (a.takes && (a.pops && b)) v 0 }) (possible_is d i j c a.pops a.channel) (sym (front_is d j a.channel c)))
+    (ap₂ (λ (b : Bool) (v : ℕ). record { possible = b; front = cond {A = ℕ} (a.takes && (a.pops && b)) v 0 }) (possible_is d i j c a.pops a.channel) (sym (front_is d i a.channel c)))
     (all_replies_is d i j c xs)
 
 moves_is : {S : Type 0} → (d : Design S) → IsDesign d → HoldsLists d → (c m : ℕ) → moves d (trace d) c m ≡ moves_in d (world d c) c m

@@ -180,7 +180,7 @@ closed_taken {S} d h i y o ch (suc c) e =
       | inr w ↦ y.taken_stays c o ch w ∙ closed_taken d h i y o ch c e
     ]
 
--- a table that names the step of a pop (push) names the one that `place` finds
+-- there is one such step
 pub place_unique : (a : ℕ → List Access) (r : ℕ → List Reply) (side : Bool) (ch n i j : ℕ) → j < n → tally a r side ch j ≤ i → i < tally a r side ch (suc j) → place a r side ch n i ≡ Some j
 place_unique a r side ch n i j l p q = later (place a r side ch n i) (place_says a r side ch n i)
   where

@@ -48,10 +48,6 @@ since_le {S} d h m (suc c) =
       | inr e ↦ omega (arith, since_same d h m c e, since_le d h m c)
     ]
 
--- how far behind its latest step the module is
-abbrev pub age : {S : Type 0} → Design S → Trace S → ℕ → ℕ → ℕ
-age {S} d h m c = min (c - since d h m c) (d.quiet m (rest d h m c))
-
 -- in clocks with no access it moves on
 young : {S : Type 0} → (d : Design S) (h : Trace S) → IsDesign d → IsHistory d h → (m c t j : ℕ) (s : S) → j < d.quiet m s → h.state c m ≡ skip d m j s → h.state (suc c) m ≡ skip d m (suc j) s
 young {S} d h i y m c t j s l e =

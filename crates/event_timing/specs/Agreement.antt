@@ -1,5 +1,5 @@
 -- Agreement of a core with a history.
-use Rattle.std.specs.Prelude.{Bool, List, Some, [], false, length, suc, true, ℕ, ◌&&◌, ◌++◌, ◌+◌, ◌<◌, ◌||◌, ◌∷◌, ◌≡◌, ◌≤◌, ◌⊎◌}
+use Rattle.std.specs.Prelude.{Bool, List, Some, [], false, suc, true, ℕ, ◌+◌, ◌<◌, ◌∷◌, ◌≡◌, ◌≤◌, ⊤}
 use Rattle.event_timing.specs.Machines.{Access, Reply, Design, ready}
 use Rattle.event_timing.specs.Histories.{Trace, is_possible, moves, replies}
 use Rattle.event_timing.specs.Steps.{steps, done}
@@ -7,15 +7,19 @@ use Rattle.event_timing.specs.Views.{own, from}
 use Rattle.event_timing.specs.Enablers.{candidate}
 use Rattle.event_timing.specs.Core.{Core, core_accesses, core_tally, all_below, core_reply, values_there, view, has_query, no_outcomes}
 
+-- one flag for each access, true where it blocks
 abbrev pub FlagsFit : List Access → List Bool → Type 0
-FlagsFit [] [] = Unit {0}
+FlagsFit [] [] = ⊤
 FlagsFit [] (b ∷ bs) = ⊥
 FlagsFit (a ∷ xs) [] = ⊥
 FlagsFit (a ∷ xs) (b ∷ bs) = (a.blocks ≡ true → b ≡ true) × FlagsFit xs bs
 
+-- whether each access is possible in clock c
 abbrev pub possible_all : {S : Type 0} → Design S → Trace S → ℕ → List Access → List Bool
 possible_all {S} d h c [] = []
 possible_all {S} d h c (a ∷ xs) = is_possible d h c a.pops a.channel ∷ possible_all d h c xs
+
+-- ---- agreement
 
 -- the marks are those of the module's own run on the replies
 pub record AreOwnMarks {S : Type 0} (d : Design S) (x : Core S) : Type 0 where
@@ -31,7 +35,7 @@ pub record AreOwnMarks {S : Type 0} (d : Design S) (x : Core S) : Type 0 where
   pub unanswered : (m k : ℕ) → k < x.emitted m → x.answered m k ≡ false → x.flags m k ≡ no_outcomes (core_accesses d x m k)
   pub inside : (m : ℕ) → d.modules ≤ m → x.emitted m ≡ 0
 
--- so many pops of each channel have a push with a cycle before them
+-- how many elements of a channel are inputs, or have a push with a cycle
 abbrev pub elements_timed : {S : Type 0} → Design S → Core S → ℕ → ℕ
 elements_timed {S} d x ch = d.start true ch + core_tally d x (d.owner false ch) false ch (x.timed (d.owner false ch))
 
@@ -52,16 +56,21 @@ pub record IsTimed {S : Type 0} (d : Design S) (h : Trace S) (limit : ℕ) (x : 
   pub answered_then : (m k : ℕ) → k < x.timed m → x.answered m k ≡ true
   pub there_then : (m k : ℕ) → k < x.timed m → values_there d x m k ≡ true
   pub below : (m k : ℕ) → k < x.timed m → x.cycle m k < limit
+  -- of the first step without a cycle: verified outcomes are the history's, and each pop in it has its push among the timed steps
   pub first_flags : (m : ℕ) → x.timed m < x.emitted m → x.verified m (x.timed m) ≡ true → (c : ℕ) → steps d h c m ≡ true → done d h m c ≡ x.timed m → x.flags m (x.timed m) ≡ possible_all d h c (core_accesses d x m (x.timed m))
   pub first_sure : (m : ℕ) → x.timed m < x.emitted m → x.verified m (x.timed m) ≡ true → has_query (core_accesses d x m (x.timed m)) ≡ true → all_below (elements_timed d x) (λ ch. core_tally d x m true ch (x.timed m)) (core_accesses d x m (x.timed m)) (x.flags m (x.timed m)) ≡ true
   pub first_happens : (m : ℕ) → x.timed m < x.emitted m → x.verified m (x.timed m) ≡ true → has_query (core_accesses d x m (x.timed m)) ≡ true → Happens d h m (x.timed m)
   pub verified_then : (m k : ℕ) → k < x.timed m → x.verified m k ≡ true
   pub verified_answered : (m k : ℕ) → k < x.emitted m → x.verified m k ≡ true → x.answered m k ≡ true
+  -- behind it nothing but steps without a query counts as verified
   pub later_plain : (m k : ℕ) → x.timed m < k → k < x.emitted m → x.verified m k ≡ true → has_query (core_accesses d x m k) ≡ false
 
+-- the core agrees with the history
 pub record IsAgreed {S : Type 0} (d : Design S) (h : Trace S) (limit : ℕ) (x : Core S) : Type 0 where
   pub marks : AreOwnMarks d x
   pub time : IsTimed d h limit x
+
+-- ---- what a final core tells of the verdict
 
 -- nobody moves from clock c on
 abbrev pub IsAtRest : {S : Type 0} → Design S → Trace S → ℕ → Type 0
@@ -71,6 +80,7 @@ IsAtRest {S} d h c = (e : ℕ) → c ≤ e → (m : ℕ) → moves d h e m ≡ f
 abbrev pub stop : {S : Type 0} → Design S → Core S → ℕ → ℕ
 stop {S} d x m = from (x.cycle m) (x.timed m) + d.quiet m (own d m (core_reply d x m) (x.timed m))
 
+-- no first step without a cycle is determined
 abbrev pub IsUndetermined : {S : Type 0} → Design S → Core S → Type 0
 IsUndetermined {S} d x = (m c : ℕ) → candidate d (view d x) m ≡ Some c → ⊥
 

@@ -4,6 +4,7 @@ use Rattle.event_timing.specs.Machines.{Design}
 use Rattle.event_timing.specs.Histories.{Trace}
 use Rattle.event_timing.specs.Core.{Core, core_accesses, core_tally, has_query}
 
+-- the design with another depth of one FIFO
 abbrev pub edited : {S : Type 0} → Design S → ℕ → ℕ → Design S
 edited {S} d fifo depth = record d { start = λ side ch. cond (not side && eqb ch fifo) depth (d.start side ch) }
 
@@ -17,7 +18,7 @@ unfoldable pub kept : (ℕ → ℕ) → ℕ → ℕ → ℕ
 kept cycle t zero = 0
 kept cycle t (suc n) = cond (ltb (cycle n) t) (suc n) (kept cycle t n)
 
--- the core from which a retiming begins
+-- the core from which a retiming begins: cycles from t on are forgotten, and outcomes behind them are assumed
 abbrev pub after_edit : {S : Type 0} → Design S → Core S → ℕ → Core S
 after_edit {S} d x t =
     record x {

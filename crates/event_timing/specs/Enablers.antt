@@ -1,5 +1,5 @@
 -- What is known of when an access is possible, and what follows for a step: its cycle, and the answers to its queries.
-use Rattle.std.specs.Prelude.{Bool, List, None, Option, Some, [], cond, false, leb, ltb, max, not, true, ℕ, ◌&&◌, ◌++◌, ◌+◌, ◌-◌, ◌<◌, ◌||◌, ◌∷◌, ◌≡◌, ◌≤◌}
+use Rattle.std.specs.Prelude.{Bool, List, None, Option, Some, [], cond, false, leb, ltb, max, not, true, ℕ, ◌&&◌, ◌+◌, ◌-◌, ◌||◌, ◌∷◌, ◌≡◌, ◌≤◌}
 use Rattle.event_timing.specs.Machines.{Access, Design}
 use Rattle.event_timing.specs.Views.{View, tally, place, from, first_accesses, own_state}
 
@@ -9,11 +9,12 @@ pub data Known : Type 0 where
   Never : Known
   Unknown : Known
 
+-- from the cycle of the enabler plus the lag on
 abbrev pub from_step : (ℕ → ℕ) → ℕ → Option ℕ → Known
 from_step cycle lag None = Unknown
 from_step cycle lag (Some j) = From (cycle j + lag)
 
--- of the access with i earlier ones of its side
+-- what is known of the access with i earlier ones of its side
 unfoldable pub known : {S : Type 0} → Design S → View → Bool → ℕ → ℕ → Known
 known {S} d v side ch i =
     cond (d.unlimited side ch || ltb i (d.start side ch)) (From 0)
@@ -25,6 +26,7 @@ known {S} d v side ch i =
 abbrev pub known_of : {S : Type 0} → Design S → View → ℕ → Access → Known
 known_of {S} d v m a = known d v a.pops a.channel (tally (v.accesses m) (v.reply m) a.pops a.channel (v.timed m))
 
+-- from when on both are possible
 abbrev pub both : Known → Known → Known
 both (From a) (From b) = From (max a b)
 both (From a) Never = Unknown
@@ -32,13 +34,16 @@ both (From a) Unknown = Unknown
 both Never k = Unknown
 both Unknown k = Unknown
 
+-- from when on all that block are possible
 abbrev pub bound : (Access → Known) → List Access → Known
 bound know [] = From 0
 bound know (a ∷ xs) = cond a.blocks (both (know a) (bound know xs)) (bound know xs)
 
+-- the clock in which the module comes to its first step without a cycle, if nothing blocks it
 abbrev pub reach : View → ℕ → ℕ
 reach v m = from (v.cycle m) (v.timed m) + v.wait m (v.timed m)
 
+-- the later of the two
 abbrev pub to_clock : ℕ → Known → Option ℕ
 to_clock t (From u) = Some (max t u)
 to_clock t Never = None
@@ -59,6 +64,7 @@ answer (From u) c = leb u c
 answer Never c = false
 answer Unknown c = false
 
+-- its enabler is known
 abbrev pub is_decided : Known → Bool
 is_decided (From u) = true
 is_decided Never = true

@@ -1,18 +1,22 @@
 -- The run of a design as functions of the clock, and the laws of counting that it obeys.
-use Rattle.std.specs.Prelude.{Bool, List, [], cond, false, get_or, length, ltb, map, not, suc, true, ℕ, ◌&&◌, ◌++◌, ◌+◌, ◌-◌, ◌<◌, ◌||◌, ◌∷◌, ◌≡◌, ◌≤◌}
+use Rattle.std.specs.Prelude.{◌≡◌, ℕ, suc, ◌+◌, ◌-◌, Bool, true, false, cond, not, ◌&&◌, ◌||◌, ltb, List, [], ◌∷◌, ◌++◌, map, get_or}
 use Rattle.event_timing.specs.Machines.{Access, Reply, Design, takes_in, values_in}
 
--- a run, xs functions of the clock: what holds before the clock's own moves
+-- what holds at a clock, before that clock's own moves
 pub record Trace (S : Type 0) : Type 0 where
+  -- each module's state
   pub state : ℕ → ℕ → S
-  -- pops (true) or pushes (false) of the channel in clocks before
+  -- pops (true) or pushes (false) of a channel in clocks before
   pub taken : ℕ → Bool → ℕ → ℕ
-  -- the inputs, then all values pushed in clocks before
+  -- a channel's inputs, then all values pushed on it in clocks before
   pub pushed : ℕ → ℕ → List ℕ
 
+-- whether a pop (or a push) of the channel is possible in clock c: fewer were done than the start and the other side's together,
+-- as far as those are seen
 abbrev pub is_possible : {S : Type 0} → Design S → Trace S → ℕ → Bool → ℕ → Bool
 is_possible {S} d h c side ch = d.unlimited side ch || ltb (h.taken c side ch) (d.start side ch + h.taken (suc c - d.lag side ch) (not side) ch)
 
+-- the n-th pop gives the n-th value that went in
 abbrev pub reply_to : {S : Type 0} → Design S → Trace S → ℕ → Access → Reply
 reply_to {S} d h c a =
     record {
@@ -27,12 +31,14 @@ abbrev pub can_all : {S : Type 0} → Design S → Trace S → ℕ → List Acce
 can_all {S} d h c [] = true
 can_all {S} d h c (a ∷ xs) = can_do d h c a && can_all d h c xs
 
+-- a module moves unless it is over, or an access that blocks is not possible
 unfoldable pub moves : {S : Type 0} → Design S → Trace S → ℕ → ℕ → Bool
 moves {S} d h c m = not (d.is_over m (h.state c m)) && can_all d h c (d.accesses m (h.state c m))
 
 unfoldable pub replies : {S : Type 0} → Design S → Trace S → ℕ → ℕ → List Reply
 replies {S} d h c m = map (reply_to d h c) (d.accesses m (h.state c m))
 
+-- the laws: how all starts, and what one clock changes for a module that moves, and for one that stays
 pub record IsHistory {S : Type 0} (d : Design S) (h : Trace S) : Type 0 where
   pub state_0 : (m : ℕ) → h.state 0 m ≡ d.opening m
   pub taken_0 : (side : Bool) (ch : ℕ) → h.taken 0 side ch ≡ 0

@@ -1,5 +1,5 @@
 -- What a core claims: of each module, that its first steps were done in these clocks, with these replies.
-use Rattle.std.specs.Prelude.{Bool, List, None, Option, Some, [], cond, false, leb, ltb, suc, true, zero, ℕ, ◌&&◌, ◌++◌, ◌+◌, ◌-◌, ◌<◌, ◌||◌, ◌∷◌, ◌≡◌, ◌≤◌}
+use Rattle.std.specs.Prelude.{Bool, List, None, Option, Some, [], cond, false, leb, ltb, suc, true, zero, ℕ, ◌&&◌, ◌++◌, ◌+◌, ◌<◌, ◌≡◌}
 use Rattle.event_timing.specs.Machines.{Access, Reply, Design, ready, takes_in, values_in}
 use Rattle.event_timing.specs.Histories.{Trace, replies}
 use Rattle.event_timing.specs.Steps.{steps, done}
@@ -13,6 +13,8 @@ pub record View : Type 0 where
   pub wait : ℕ → ℕ → ℕ
   pub reply : ℕ → ℕ → List Reply
   pub cycle : ℕ → ℕ → ℕ
+
+-- ---- own runs
 
 -- the own run of a module on these replies: its state after k steps
 unfoldable pub own : {S : Type 0} → Design S → ℕ → (ℕ → List Reply) → ℕ → S
@@ -38,6 +40,7 @@ abbrev pub from : (ℕ → ℕ) → ℕ → ℕ
 from cycle zero = 0
 from cycle (suc k) = suc (cycle k)
 
+-- the accesses of the first step without a cycle
 abbrev pub first_accesses : View → ℕ → List Access
 first_accesses v m = v.accesses m (v.timed m)
 
@@ -45,6 +48,7 @@ first_accesses v m = v.accesses m (v.timed m)
 abbrev pub own_state : {S : Type 0} → Design S → View → ℕ → ℕ → S
 own_state {S} d v m k = ready d m (own d m (v.reply m) k)
 
+-- its steps are those of the history, and the first one without a cycle is the next of its own run
 pub record Agrees {S : Type 0} (d : Design S) (h : Trace S) (v : View) : Type 0 where
   pub steps_then : (m k : ℕ) → k < v.timed m → steps d h (v.cycle m k) m ≡ true
   pub done_then : (m k : ℕ) → k < v.timed m → done d h m (v.cycle m k) ≡ k

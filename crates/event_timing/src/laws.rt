@@ -1,10 +1,10 @@
 //! The laws, for any design `d` over states of any type `S`, and any history `h` of it.
-ghost use Rattle.std.specs.Prelude.{◌≡◌, ℕ, suc, ◌+◌, ◌*◌, ◌<◌, ◌≤◌, ◌++◌, true, false, Some, List, length};
-ghost use Rattle.event_timing.specs.Machines.{Design, IsDesign, HoldsLists, Each};
+ghost use Rattle.std.specs.Prelude.{◌≡◌, ℕ, suc, ◌+◌, ◌*◌, ◌<◌, ◌≤◌, ◌++◌, Bool, true, false, Some, List, length};
+ghost use Rattle.event_timing.specs.Machines.{Design, IsDesign, Access, Reply, HoldsLists, Each};
 ghost use Rattle.event_timing.specs.Histories.{Trace, IsHistory, moves, is_possible};
 ghost use Rattle.event_timing.specs.Contents.{trace};
 ghost use Rattle.event_timing.specs.Steps.{steps, done};
-ghost use Rattle.event_timing.specs.Views.{pushed_in};
+ghost use Rattle.event_timing.specs.Views.{pushed_in, tally, place};
 ghost use Rattle.event_timing.specs.Enablers.{candidate, known_of, answer};
 ghost use Rattle.event_timing.specs.Core.{Core, opening_core, view, core_accesses, bare_replies};
 ghost use Rattle.event_timing.specs.Actions.{Action, ActsAll, MayRun, MayAnswer, MayEarliest, IsFinal, IsSame, IsNoRunOf, ActsRecorded, newest, new_flags};
@@ -24,10 +24,13 @@ pub fn every_order_agrees<S>()
 {}
 
 /// What is found by counts alone is the history's: the clock of a determined step, and the outcomes that an Answer or an
-/// Earliest finds. So a query is found to differ only where the history's outcome is not the assumed one.
+/// Earliest finds. So a query is found to differ only where the history's outcome is not the assumed one, and never before an edit.
+/// An enabler is the one step at which the count of pops, or of pushes, goes past the ordinal.
 pub fn found_by_counts<S>()
     ensures cycle { (d : Design S) (h : Trace S) → IsDesign d → IsHistory d h → (limit : ℕ) (x : Core S) → IsAgreed d h limit x
         → (m c : ℕ) → candidate d (view d x) m ≡ Some c → IsStepAt d h m (x.timed m) c }
+    ensures enabler { (accesses : ℕ → List Access) (replies : ℕ → List Reply) (side : Bool) (ch n i k : ℕ) → k < n
+        → tally accesses replies side ch k ≤ i → i < tally accesses replies side ch (suc k) → place accesses replies side ch n i ≡ Some k }
     ensures answered { (d : Design S) (h : Trace S) → IsDesign d → IsHistory d h → (limit : ℕ) (x : Core S) → IsAgreed d h limit x
         → (m c : ℕ) → MayAnswer d limit x m c → new_flags d x m c ≡ possible_all d h c (core_accesses d x m (x.timed m)) }
     ensures earliest { (d : Design S) (h : Trace S) → IsDesign d → IsHistory d h → (limit : ℕ) (x : Core S) → IsAgreed d h limit x

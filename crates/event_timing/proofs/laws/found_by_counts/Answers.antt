@@ -2,6 +2,7 @@ use Rattle.event_timing.proofs.ActionBound.{nothing_differs}
 use Rattle.event_timing.proofs.Agreement.{answer_found, earliest_found}
 use Rattle.event_timing.proofs.Candidate.{candidate_done, candidate_steps}
 use Rattle.event_timing.proofs.Fronts.{agrees}
+use Rattle.event_timing.proofs.OwnRuns.{place_unique}
 use Rattle.event_timing.specs.Core.{view}
 use Rattle.event_timing.proofs.laws.found_by_counts.Goals as goal
 
@@ -16,3 +17,6 @@ returns-clause-earliest g c = λ d h i y limit x a m k r. earliest_found d h i y
 
 pub returns-clause-never_differs : goal.returns-clause-never_differs
 returns-clause-never_differs g c = λ d h i y limit actions x s m k v e. nothing_differs d h i y limit actions x s m k v e
+
+pub returns-clause-enabler : goal.returns-clause-enabler
+returns-clause-enabler g c = λ a r side ch n i k l p q. place_unique a r side ch n i k l p q

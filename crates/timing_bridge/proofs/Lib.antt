@@ -1,0 +1,5 @@
+pub mod Requests
+pub mod Quiet
+pub mod Alike
+pub mod Moved
+pub mod History

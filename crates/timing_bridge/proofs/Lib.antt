@@ -3,3 +3,7 @@ pub mod Quiet
 pub mod Alike
 pub mod Moved
 pub mod History
+pub mod Edits
+pub mod Bounded
+pub mod Verdicts
+pub mod Steps

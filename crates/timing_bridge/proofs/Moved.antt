@@ -52,26 +52,33 @@ other_side Empty channel value q v false h = refl
 other_side Full channel value q v true h = refl
 other_side Full channel value q v false h = refl
 
-none_by : (p : Plan) (c : ℕ) (cs : List (List ℕ)) (side : Bool) (f i : ℕ) → (i ≢ owner p (side, f)) → (r : Request) → StandsAtEnd p i r → (b : Bool) → (r.channel == f) ≡ b
+-- none of module i's requests on channel f stands at this side
+abbrev pub StandsElsewhere : Plan → Bool → ℕ → ℕ → Type 0
+StandsElsewhere p side f i = (r : Request) → StandsAtEnd p i r → r.channel ≡ f → side_of r.kind ≢ side
+
+none_by : (p : Plan) (c : ℕ) (cs : List (List ℕ)) (side : Bool) (f i : ℕ) → StandsElsewhere p side f i → (r : Request) → StandsAtEnd p i r → (b : Bool) → (r.channel == f) ≡ b
     → cond b (moved_value side (answered p c cs r)) [] ≡ []
 unfolding reply
-none_by p c cs side f i ne r h false e = refl
-none_by p c cs side f i ne r h true e =
-    other_side r.kind r.channel r.value (is_possible p c cs (side_of r.kind) r.channel) (get_or (contents_of cs r.channel) 0 0) side
-    (λ k. ne (sym h.owned ∙ ap₂ (λ (a : Bool) (g : ℕ). owner p (a, g)) k (eqb-true r.channel f e)))
+none_by p c cs side f i never r h false e = refl
+none_by p c cs side f i never r h true e =
+    other_side r.kind r.channel r.value (is_possible p c cs (side_of r.kind) r.channel) (get_or (contents_of cs r.channel) 0 0) side (never r h (eqb-true r.channel f e))
 
-none_moved : (p : Plan) (c : ℕ) (cs : List (List ℕ)) (side : Bool) (f i : ℕ) → (i ≢ owner p (side, f)) → (rs : List Request) → AllByRecursion (StandsAtEnd p i) rs
+none_moved : (p : Plan) (c : ℕ) (cs : List (List ℕ)) (side : Bool) (f i : ℕ) → StandsElsewhere p side f i → (rs : List Request) → AllByRecursion (StandsAtEnd p i) rs
     → moved_by side f (map (answered p c cs) rs) ≡ []
 unfolding moved_by
-none_moved p c cs side f i ne [] h = refl
-none_moved p c cs side f i ne (r ∷ rs) h =
-    ap₂ (λ (x y : List ℕ). x ++ y) (none_by p c cs side f i ne r h.0 (r.channel == f) refl) (none_moved p c cs side f i ne rs h.1)
+none_moved p c cs side f i never [] h = refl
+none_moved p c cs side f i never (r ∷ rs) h =
+    ap₂ (λ (x y : List ℕ). x ++ y) (none_by p c cs side f i never r h.0 (r.channel == f) refl) (none_moved p c cs side f i never rs h.1)
 
-none_shared : (p : Plan) → FitsEngine p → (c : ℕ) (cs : List (List ℕ)) (side : Bool) (f i : ℕ) (s : ModuleState) → (i ≢ owner p (side, f)) → share p c cs side f (i, s) ≡ []
-none_shared p h c cs side f i s ne = elim (cases_Bool (moves p c cs (i, s))) [
-  | inl e ↦ share_moves p c cs side f (i, s) e ∙ none_moved p c cs side f i ne (requests_of p (i, s)) (stand p h i s)
+pub none_shared : (p : Plan) → FitsEngine p → (c : ℕ) (cs : List (List ℕ)) (side : Bool) (f i : ℕ) → StandsElsewhere p side f i → (s : ModuleState) → share p c cs side f (i, s) ≡ []
+none_shared p h c cs side f i never s = elim (cases_Bool (moves p c cs (i, s))) [
+  | inl e ↦ share_moves p c cs side f (i, s) e ∙ none_moved p c cs side f i never (requests_of p (i, s)) (stand p h i s)
   | inr e ↦ share_stays p c cs side f (i, s) e
 ]
+
+-- only its owner stands there
+not_owner : (p : Plan) (side : Bool) (f i : ℕ) → (i ≢ owner p (side, f)) → StandsElsewhere p side f i
+not_owner p side f i ne r h e k = ne (sym h.owned ∙ ap₂ (λ (a : Bool) (g : ℕ). owner p (a, g)) k e)
 
 -- ---- all modules
 
@@ -113,7 +120,7 @@ moved_in p h c side f =
     let past : share p c st.contents side f (o, nobody) ≡ [] = share_stays p c st.contents side f (o, nobody) (nobody_moves p c st.contents o) in
     let z : o - 0 ≡ o = omega arith in
     moved_shares p c st.contents side f (numbered st)
-    ∙ ((only_one (share p c st.contents side f) o nobody (λ i x ne. none_shared p h c st.contents side f i x ne) past 0 st.modules).0 (omega arith)
+    ∙ ((only_one (share p c st.contents side f) o nobody (λ i x ne. none_shared p h c st.contents side f i (not_owner p side f i ne) x) past 0 st.modules).0 (omega arith)
     ∙ ap (λ (k : ℕ). share p c st.contents side f (o, get_or st.modules k nobody)) z)
 
 pub moved_more : (p : Plan) → FitsEngine p → (c : ℕ) (side : Bool) (f : ℕ)

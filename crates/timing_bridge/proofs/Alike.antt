@@ -1,5 +1,5 @@
 -- What is possible by the contents is possible by counts, and what is told and moved is the same.
-use Rattle.std.proofs.Common.{◌≡◌, ℕ, zero, suc, ◌+◌, ◌-◌, ◌<◌, List, [], ◌∷◌, ◌++◌, map, length, get_or, Bool, true, false, ◌||◌, ◌&&◌, not, cond, refl, sym, ◌∙◌, ap, ap₂, arith, inl, inr, ◌==◌, ltb, length-append, add-zero}
+use Rattle.std.proofs.Common.{◌≡◌, ℕ, suc, ◌+◌, ◌-◌, ◌<◌, List, [], ◌∷◌, ◌++◌, map, length, get_or, Bool, true, false, ◌||◌, ◌&&◌, not, cond, refl, sym, ◌∙◌, ap, ap₂, arith, inl, inr, ◌==◌, ltb, length-append, add-zero}
 use Rattle.std.specs.List.{list_any, AllByRecursion}
 use Rattle.std.proofs.lemmas.Bool.{cases_Bool, or_parts}
 use Rattle.std.proofs.lemmas.List.{get_or-drop}

@@ -1,5 +1,5 @@
 -- A module's own run has fewer steps than the operation limit.
-use Rattle.std.proofs.Common.{◌≡◌, ℕ, zero, suc, ◌+◌, ◌≤◌, ◌<◌, List, [], ◌∷◌, map, length, ◌-◌, Bool, true, false, ◌&&◌, ◌||◌, not, arith, ◌==◌}
+use Rattle.std.proofs.Common.{◌≡◌, ℕ, zero, suc, ◌+◌, ◌≤◌, ◌<◌, List, [], ◌∷◌, map, length, ◌-◌, true, false, ◌&&◌, not, arith, ◌==◌}
 use Rattle.std.specs.Prelude.{nat_le, slice_index}
 use Rattle.std.specs.List.{filter_map}
 use Rattle.std.proofs.lemmas.Bool.{cond_both, or_parts, leb-false}

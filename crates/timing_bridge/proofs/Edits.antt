@@ -1,5 +1,5 @@
 -- An edit of the plan is the theory's edit of its design.
-use Rattle.std.proofs.Common.{◌≡◌, ℕ, ◌≤◌, ◌<◌, List, [], length, Bool, true, false, ◌&&◌, not, cond, refl, sym, ◌∙◌, ap, subst, inl, inr, eqb}
+use Rattle.std.proofs.Common.{◌≡◌, ℕ, ◌≤◌, ◌<◌, List, length, Bool, true, false, ◌&&◌, not, cond, refl, sym, ◌∙◌, ap, subst, inl, inr, eqb}
 use Rattle.std.specs.Prelude.{slice_index}
 use Rattle.std.proofs.lemmas.Bool.{cases_eq, eq-eqb, ne_eqb}
 use Rattle.std.proofs.lemmas.List.{get_or-set_same, get_or-set_other, length-set}

@@ -1,29 +1,26 @@
 -- The lockstep run of a plan is a history of its design.
-use Rattle.std.proofs.Common.{◌≡◌, ℕ, zero, suc, ◌+◌, ◌≤◌, ◌<◌, List, [], ◌∷◌, ◌++◌, map, length, get_or, Bool, true, false, ◌&&◌, not, refl, sym, ◌∙◌, ap, arith, inl, inr, length-append, append_assoc}
-use Rattle.std.specs.List.{list_any}
-use Rattle.std.proofs.lemmas.Bool.{cases_lt, cond-true, cond-false, not-true, not-false}
+use Rattle.std.proofs.Common.{◌≡◌, ℕ, suc, ◌+◌, List, [], ◌++◌, map, length, Bool, true, false, ◌&&◌, not, refl, sym, ◌∙◌, ap, arith, inl, inr, length-append, append_assoc}
+use Rattle.std.proofs.lemmas.Bool.{cases_lt, cond-true, cond-false}
 use Rattle.std.proofs.lemmas.List.{append-nil, get_or_past}
 use Rattle.flow_design.specs.declared.plan.Plan.{Plan}
 use Rattle.flow_design.specs.declared.state.ModuleState.{ModuleState}
 use Rattle.flow_design.specs.declared.state.Reply.{Reply}
-use Rattle.flow_design.specs.Plans.{is_fifo, kind_at}
 use Rattle.flow_design.specs.StaticRules.{FitsEngine}
-use Rattle.lockstep_defs.specs.Machine.{opened, move, nobody, is_over}
-use Rattle.lockstep_defs.specs.Channels.{stalls, reply, moved, contents_of}
+use Rattle.lockstep_defs.specs.Machine.{move, nobody, is_over}
+use Rattle.lockstep_defs.specs.Channels.{reply, moved, contents_of}
 use Rattle.lockstep_defs.specs.Lockstep.{module_at, requests_of, moves, next_state, opening, moment, state, state_at, history}
 use Rattle.lockstep_defs.specs.Ends.{owner}
-use Rattle.lockstep_defs.specs.Quiet.{quiet, fits}
+use Rattle.lockstep_defs.specs.Quiet.{fits}
 use Rattle.lockstep_defs.proofs.Settled.{history-zero}
 use Rattle.lockstep_defs.proofs.Queue.{moved-nil, nothing_stalls}
 use Rattle.lockstep_defs.proofs.Agrees.{all_modules, state_at-suc}
 use Rattle.event_timing.specs.Machines.{IsDesign, takes_in, values_in}
-use Rattle.event_timing.specs.Machines as theory
 use Rattle.event_timing.specs.Histories.{IsHistory, replies}
 use Rattle.event_timing.specs.Histories as counted
 use Rattle.timing_bridge.specs.Designs.{design, lockstep_run, accesses_in, move_in, told_all}
 use Rattle.timing_bridge.proofs.Requests.{owned_in, open_in, one_taker}
 use Rattle.timing_bridge.proofs.Quiet.{quiet_lives, quiet_idle, quiet_ends, first_fits, next_fits, outside_over}
-use Rattle.timing_bridge.proofs.Alike.{alike, can_same, told_same, taken_same, pushes_same, counted_replies}
+use Rattle.timing_bridge.proofs.Alike.{alike, can_same, told_same, taken_same, pushes_same}
 use Rattle.timing_bridge.proofs.Moved.{nobody_moves, share, share_moves, share_stays, moved_more}
 
 -- ---- the design

@@ -1,5 +1,5 @@
 -- In one clock a side of a channel is moved by its owner alone.
-use Rattle.std.proofs.Common.{◌≡◌, ◌≢◌, ℕ, zero, suc, ◌+◌, ◌-◌, ◌≤◌, ◌<◌, List, [], ◌∷◌, ◌++◌, map, length, get_or, Bool, true, false, cond, refl, sym, ◌∙◌, ap, ap₂, arith, inl, inr, ◌==◌}
+use Rattle.std.proofs.Common.{◌≡◌, ◌≢◌, ℕ, suc, ◌+◌, ◌-◌, ◌≤◌, ◌<◌, List, [], ◌∷◌, ◌++◌, map, get_or, Bool, true, false, cond, refl, sym, ◌∙◌, ap, ap₂, arith, inl, inr, ◌==◌}
 use Rattle.std.specs.List.{flat_map, enumerate_from, AllByRecursion}
 use Rattle.std.proofs.lemmas.Bool.{cases_Bool, cases_eq, eqb-true, cond-true, cond-false}
 use Rattle.std.proofs.lemmas.List.{append-nil}
@@ -10,7 +10,7 @@ use Rattle.flow_design.specs.declared.state.ModuleState.{ModuleState}
 use Rattle.flow_design.specs.declared.state.Request.{Request}
 use Rattle.flow_design.specs.StaticRules.{FitsEngine}
 use Rattle.lockstep_defs.specs.Machine.{is_over, nobody}
-use Rattle.lockstep_defs.specs.Channels.{Exchange, side_of, is_possible, reply, reply_by, moved_value, moved_by, moved, contents_of}
+use Rattle.lockstep_defs.specs.Channels.{side_of, is_possible, reply, reply_by, moved_value, moved_by, moved, contents_of}
 use Rattle.lockstep_defs.specs.Lockstep.{numbered, requests_of, moves, answered, step_with, step_of, steps_in, state, state_at, history}
 use Rattle.lockstep_defs.specs.Ends.{owner, StandsAtEnd}
 use Rattle.lockstep_defs.proofs.Settled.{history-suc}

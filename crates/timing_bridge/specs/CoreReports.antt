@@ -1,5 +1,5 @@
 -- The report that is read off a final core.
-use Rattle.std.specs.Prelude.{ℕ, zero, suc, max, is_some, Bool, false, not, ◌&&◌, ◌||◌, ◌≡◌, nat_lt, if◌then◌else◌, List, [], ◌++◌, map, length, filter, filter_map, find, Option, None, option_map, AllPairs}
+use Rattle.std.specs.Prelude.{ℕ, zero, suc, max, is_some, Bool, false, not, ◌&&◌, ◌||◌, ◌≡◌, nat_lt, if◌then◌else◌, List, [], ◌++◌, map, length, filter_map, find, Option, None, option_map, AllPairs}
 use Rattle.std.specs.List.{range_with_len, list_any}
 use Rattle.flow_design.specs.declared.plan.Plan.{Plan}
 use Rattle.flow_design.specs.declared.report.Held.{Held}

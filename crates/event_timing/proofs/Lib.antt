@@ -19,3 +19,4 @@ pub mod RunningAhead
 pub mod NoRun
 pub mod ActionBound
 pub mod FinalReport
+pub mod Cost

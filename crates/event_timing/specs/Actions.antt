@@ -1,5 +1,5 @@
 -- The four actions of a core: when each is permitted, and what it does.
-use Rattle.std.specs.Prelude.{Bool, List, Some, [], cond, eqb, false, not, suc, true, zero, ℕ, ◌&&◌, ◌<◌, ◌∷◌, ◌≡◌, ◌≤◌, ◌⊎◌, ⊤}
+use Rattle.std.specs.Prelude.{Bool, List, Some, [], cond, eqb, false, not, suc, true, zero, ℕ, ◌&&◌, ◌+◌, ◌<◌, ◌∷◌, ◌≡◌, ◌≤◌, ◌⊎◌, ⊤}
 use Rattle.event_timing.specs.Machines.{Design, ready}
 use Rattle.event_timing.specs.Views.{first_accesses}
 use Rattle.event_timing.specs.Enablers.{known_of, candidate, all_decided, flags_at}
@@ -151,3 +151,11 @@ IsRecorded {S} x (Earliest m) = x.answered m (x.timed m) ≡ true
 abbrev pub ActsRecorded : {S : Type 0} → Design S → ℕ → Core S → List Action → Core S → Type 0
 ActsRecorded {S} d limit x [] y = y ≡ x
 ActsRecorded {S} d limit x (a ∷ rest) y = (z : Core S) × Acts d limit x a z × IsRecorded x a × ActsRecorded d limit z rest y
+
+-- how many of them give module m a cycle
+abbrev pub assigns : ℕ → List Action → ℕ
+assigns m [] = 0
+assigns m (Run n ∷ rest) = assigns m rest
+assigns m (Assign n ∷ rest) = cond (eqb m n) 1 0 + assigns m rest
+assigns m (Answer n ∷ rest) = assigns m rest
+assigns m (Earliest n ∷ rest) = assigns m rest

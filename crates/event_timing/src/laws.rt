@@ -1,5 +1,5 @@
 //! The laws, for any design `d` over states of any type `S`, and any history `h` of it.
-ghost use Rattle.std.specs.Prelude.{◌≡◌, ℕ, suc, ◌+◌, ◌*◌, ◌<◌, ◌≤◌, ◌++◌, Bool, true, false, Some, List, length};
+ghost use Rattle.std.specs.Prelude.{◌≡◌, ℕ, suc, ◌+◌, ◌-◌, ◌*◌, ◌<◌, ◌≤◌, ◌++◌, Bool, true, false, Some, List, length};
 ghost use Rattle.event_timing.specs.Machines.{Design, IsDesign, Access, Reply, HoldsLists, Each};
 ghost use Rattle.event_timing.specs.Histories.{Trace, IsHistory, moves, is_possible};
 ghost use Rattle.event_timing.specs.Contents.{trace};
@@ -7,9 +7,9 @@ ghost use Rattle.event_timing.specs.Steps.{steps, done};
 ghost use Rattle.event_timing.specs.Views.{pushed_in, tally, place};
 ghost use Rattle.event_timing.specs.Enablers.{candidate, known_of, answer};
 ghost use Rattle.event_timing.specs.Core.{Core, opening_core, view, core_accesses, bare_replies};
-ghost use Rattle.event_timing.specs.Actions.{Action, ActsAll, MayRun, MayAnswer, MayEarliest, IsFinal, IsSame, IsNoRunOf, ActsRecorded, newest, new_flags};
+ghost use Rattle.event_timing.specs.Actions.{Action, ActsAll, MayRun, MayAnswer, MayEarliest, IsFinal, IsSame, IsNoRunOf, ActsRecorded, newest, new_flags, assigns};
 ghost use Rattle.event_timing.specs.Agreement.{IsAgreed, IsAtRest, IsStepAt, IsUndetermined, IsBounded, possible_all, stop};
-ghost use Rattle.event_timing.specs.Edits.{edited, after_edit, IsUntouchedByCycles};
+ghost use Rattle.event_timing.specs.Edits.{edited, after_edit, kept, IsUntouchedByCycles};
 
 /// The lockstep machine, with lists of elements as contents and any delays, obeys the laws of counting.
 pub fn lists_are_counts<S>()
@@ -76,6 +76,17 @@ pub fn edited_cores<S>()
     ensures { (d : Design S) (h : Trace S) → IsDesign d → IsHistory d h → ((ch : ℕ) → d.lag false ch ≡ 1) → (limit : ℕ) (x : Core S) → IsAgreed d h limit x
         → IsFinal d limit x → (fifo depth t : ℕ) → t ≤ limit → IsUntouchedByCycles d x fifo depth t
         → (g : Trace S) → IsHistory (edited d fifo depth) g → IsAgreed (edited d fifo depth) g limit (after_edit d x t) }
+{}
+
+/// Each Assign of a module gives one of its steps a cycle, and nothing else does. After an edit these are no more than the steps
+/// that had no cycle before it, those whose cycle was at `t` or later, and those that are emitted meanwhile.
+pub fn cycles_given<S>()
+    ensures given { (d : Design S) (limit : ℕ) (x : Core S) (actions : List Action) (y : Core S) → ActsAll d limit x actions y
+        → (m : ℕ) → assigns m actions + x.timed m ≡ y.timed m }
+    ensures edited { (d : Design S) (h : Trace S) → IsDesign d → IsHistory d h → ((ch : ℕ) → d.lag false ch ≡ 1) → (limit : ℕ) (x : Core S) → IsAgreed d h limit x
+        → IsFinal d limit x → (fifo depth t : ℕ) → t ≤ limit → IsUntouchedByCycles d x fifo depth t → (g : Trace S) → IsHistory (edited d fifo depth) g
+        → (actions : List Action) (y : Core S) → ActsAll (edited d fifo depth) limit (after_edit d x t) actions y → (m : ℕ)
+        → assigns m actions ≤ (x.emitted m - x.timed m) + (x.timed m - kept (x.cycle m) t (x.timed m)) + (y.emitted m - x.emitted m) }
 {}
 
 /// From the opening core no list of permitted actions is longer than this, where no own run has more than `most` steps.

@@ -10,3 +10,4 @@ pub mod Verdicts
 pub mod Steps
 pub mod Settling
 pub mod Reports
+pub mod OwnRuns

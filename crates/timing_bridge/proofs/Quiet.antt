@@ -37,7 +37,7 @@ none_asked : (rs : List Request) → is_some_request rs ≡ false → map seen r
 none_asked [] h = refl
 none_asked (r ∷ rs) h = cc
 
-goes : (p : Plan) (i : ℕ) (s : ModuleState) (n : ℕ) → n < quiet p i s → rests p i (skip (design p) i n s) ≡ false
+pub goes : (p : Plan) (i : ℕ) (s : ModuleState) (n : ℕ) → n < quiet p i s → rests p i (skip (design p) i n s) ≡ false
 goes p i s n l = ap (rests p i) (skip_same p i n s) ∙ quiet_goes p i s n l
 
 pub quiet_lives : (p : Plan) (i : ℕ) (s : ModuleState) (n : ℕ) → n < quiet p i s → is_over p.ops (skip (design p) i n s) ≡ false

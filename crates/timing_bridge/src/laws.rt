@@ -4,12 +4,15 @@ ghost use Rattle.std.specs.List.{range_with_len};
 ghost use Rattle.flow_design.specs.declared.plan.Edit.{Edit};
 ghost use Rattle.flow_design.specs.declared.plan.Plan.{Plan};
 ghost use Rattle.flow_design.specs.declared.state.ModuleState.{ModuleState};
+ghost use Rattle.flow_design.specs.declared.state.Reply.{Reply};
 ghost use Rattle.flow_design.specs.Plans.{with_depth, EditFits};
 ghost use Rattle.flow_design.specs.StaticRules.{FitsEngine};
 ghost use Rattle.lockstep_defs.specs.Channels.{HistoryStep};
 ghost use Rattle.lockstep_defs.specs.Lockstep.{history};
 ghost use Rattle.lockstep_defs.specs.Report.{report, steps_of};
+ghost use Rattle.lockstep_defs.specs.OwnRun.{own};
 ghost use Rattle.event_timing.specs.Machines.{IsDesign};
+ghost use Rattle.event_timing.specs.Machines as theory;
 ghost use Rattle.event_timing.specs.Histories.{IsHistory};
 ghost use Rattle.event_timing.specs.Steps.{done};
 ghost use Rattle.event_timing.specs.Core.{Core, opening_core};
@@ -17,6 +20,7 @@ ghost use Rattle.event_timing.specs.Actions.{Action, ActsAll, IsFinal};
 ghost use Rattle.event_timing.specs.Agreement.{IsAgreed, IsBounded};
 ghost use Rattle.event_timing.specs.Edits.{after_edit, IsUntouchedByCycles};
 ghost use Rattle.timing_bridge.specs.Designs.{design, lockstep_run};
+ghost use Rattle.timing_bridge.specs.OwnRuns.{AreTold, HasComeTo};
 ghost use Rattle.timing_bridge.specs.CoreReports.{core_step, core_report, core_verdict, AreInOrder};
 
 /// The plan's modules are machines of the theory, its lockstep run obeys the laws of counting, and no module's own run has more
@@ -25,6 +29,14 @@ pub fn plans_are_designs()
     ensures design { (p : Plan) → FitsEngine p → IsDesign (design p) }
     ensures history { (p : Plan) → FitsEngine p → IsHistory (design p) (lockstep_run p) }
     ensures bounded { (p : Plan) → FitsEngine p → IsBounded (design p) p.ops }
+{}
+
+/// A module's own run, local clock by local clock, is the theory's own run: after any number of local clocks its steps are the
+/// theory's, each with its quiet clocks as gap and the requests of the state behind them, and it stands in the quiet clocks
+/// behind the latest.
+pub fn own_runs_are_the_same()
+    ensures { (p : Plan) → FitsEngine p → (i : ℕ) → i < length p.design.modules
+        → (r : ℕ → List theory.Reply) (replies : List (List Reply)) → AreTold p i r replies → (n : ℕ) → (clocks : ℕ) × HasComeTo p i r (own p i replies n) clocks }
 {}
 
 /// After every list of permitted actions from the opening core, the core agrees with the plan's lockstep run.

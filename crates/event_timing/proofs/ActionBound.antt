@@ -69,7 +69,8 @@ first_is : {S : Type 0} → (x : Core S) (m : ℕ) (b : Bool) → x.timed m < x.
 unfolding first_one
 first_is {S} x m b l e = cond-true {A = ℕ} (ltb (x.timed m) (x.emitted m)) (cond (x.verified m (x.timed m)) 1 0) 0 (lt-ltb (x.timed m) (x.emitted m) l) ∙ ap (λ (z : Bool). cond {A = ℕ} z 1 0) e
 
-work_bound : {S : Type 0} → (d : Design S) (x : Core S) → AreOwnMarks d x → (most : ℕ) → IsBounded d most → ((m : ℕ) → x.timed m ≤ x.emitted m) → (m : ℕ) → work x m ≤ 3 * most + 1
+work_bound : {S : Type 0} → (d : Design S) (x : Core S) → AreOwnMarks d x → (most : ℕ) → IsBounded d most → ((m : ℕ) → x.timed m ≤ x.emitted m) → (m : ℕ)
+    → work x m ≤ 3 * most + 1
 unfolding work over_one
 work_bound {S} d x b most u w m =
     let e : x.emitted m ≤ most =
@@ -129,7 +130,8 @@ emit_rises {S} d x m r w =
 first_at : {S : Type 0} → Core S → ℕ → ℕ → ℕ
 first_at {S} x n t = cond (ltb t (x.emitted n)) (cond (x.verified n t) 1 0) 0
 
-assign_rises : {S : Type 0} → (d : Design S) (x : Core S) (m c : ℕ) → m < d.modules → x.timed m < x.emitted m → x.verified m (x.timed m) ≡ true → Rises d x (after_assign x m c)
+assign_rises : {S : Type 0} → (d : Design S) (x : Core S) (m c : ℕ) → m < d.modules → x.timed m < x.emitted m → x.verified m (x.timed m) ≡ true
+    → Rises d x (after_assign x m c)
 unfolding work over_one first_one first_at
 assign_rises {S} d x m c i l v =
     let a = first_is x m true l v in
@@ -140,7 +142,8 @@ assign_rises {S} d x m c i l v =
     (λ p. omega arith, omega arith) in
     record { who = m; inside = i; up = λ n. (raise n).1; more = (raise m).0 refl }
 
-answer_rises : {S : Type 0} → (d : Design S) (x : Core S) (m c : ℕ) → m < d.modules → x.timed m < x.emitted m → x.verified m (x.timed m) ≡ false → Rises d x (after_answer d x m c)
+answer_rises : {S : Type 0} → (d : Design S) (x : Core S) (m c : ℕ) → m < d.modules → x.timed m < x.emitted m → x.verified m (x.timed m) ≡ false
+    → Rises d x (after_answer d x m c)
 unfolding work over_one
 answer_rises {S} d x m c i l v =
     let z : Core S = after_answer d x m c in
@@ -183,7 +186,8 @@ inside_of : {S : Type 0} → (d : Design S) (x : Core S) → AreOwnMarks d x →
 inside_of {S} d x b m l = elim (cases_lt m d.modules) [ inl q ↦ q | inr q ↦ absurd (omega (arith, b.inside m q)) ]
 
 -- a permitted action raises some module's work, and assumes nothing
-acts_rise : {S : Type 0} → (d : Design S) (h : Trace S) (limit : ℕ) (x : Core S) → IsAgreed d h limit x → NoAssumed x → (a : Action) (z : Core S) → Acts d limit x a z → Rises d x z × NoAssumed z
+acts_rise : {S : Type 0} → (d : Design S) (h : Trace S) (limit : ℕ) (x : Core S) → IsAgreed d h limit x → NoAssumed x → (a : Action) (z : Core S)
+    → Acts d limit x a z → Rises d x z × NoAssumed z
 unfolding NoAssumed
 acts_rise {S} d h limit x g f (Action.Run m) z (r, e) = (
   subst (Rises d x) (sym e)
@@ -209,7 +213,9 @@ acts_rise {S} d h limit x g f (Action.Earliest m) z (c, r, inr (s, e)) =
     let l = first_emitted d x m c r.open_step.determined.at in
     absurd (s (λ a. absurd (both_ways _ r.open_step.open_query (f m (x.timed m) l a))))
 
-all_rise : {S : Type 0} → (d : Design S) (h : Trace S) → IsDesign d → IsHistory d h → (limit : ℕ) (x : Core S) → IsAgreed d h limit x → NoAssumed x → (actions : List Action) (z : Core S) → ActsAll d limit x actions z → (length actions + sum_to (work x) d.modules ≤ sum_to (work z) d.modules) × IsAgreed d h limit z × NoAssumed z
+all_rise : {S : Type 0} → (d : Design S) (h : Trace S) → IsDesign d → IsHistory d h → (limit : ℕ) (x : Core S) → IsAgreed d h limit x → NoAssumed x
+    → (actions : List Action) (z : Core S) → ActsAll d limit x actions z
+    → (length actions + sum_to (work x) d.modules ≤ sum_to (work z) d.modules) × IsAgreed d h limit z × NoAssumed z
 unfolding NoAssumed
 all_rise {S} d h i y limit x g f [] z e =
     let p : sum_to (work x) d.modules ≤ sum_to (work z) d.modules = subst (λ (w : Core S). sum_to (work x) d.modules ≤ sum_to (work w) d.modules) (sym e) (omega arith) in
@@ -225,13 +231,15 @@ unfolding NoAssumed
 none_assumed {S} d m k l = absurd (omega arith)
 
 -- how many actions there can be
-pub few_actions : {S : Type 0} → (d : Design S) (h : Trace S) → IsDesign d → IsHistory d h → (limit most : ℕ) → IsBounded d most → (actions : List Action) (z : Core S) → ActsAll d limit (opening_core d) actions z → length actions ≤ d.modules * (3 * most + 1)
+pub few_actions : {S : Type 0} → (d : Design S) (h : Trace S) → IsDesign d → IsHistory d h → (limit most : ℕ) → IsBounded d most
+    → (actions : List Action) (z : Core S) → ActsAll d limit (opening_core d) actions z → length actions ≤ d.modules * (3 * most + 1)
 few_actions {S} d h i y limit most u actions z s =
     let (n, g, v) = all_rise d h i y limit (opening_core d) (opening_agrees d h i y limit) (none_assumed d) actions z s in
     omega (arith, n, sum_most (work z) d.modules (3 * most + 1) (work_bound d z g.marks most u g.time.within))
 
 -- and none of them finds another outcome than an assumed one
-pub nothing_differs : {S : Type 0} → (d : Design S) (h : Trace S) → IsDesign d → IsHistory d h → (limit : ℕ) (actions : List Action) (z : Core S) → ActsAll d limit (opening_core d) actions z → (m c : ℕ) → z.verified m (z.timed m) ≡ false → candidate d (view d z) m ≡ Some c → IsSame d z m c
+pub nothing_differs : {S : Type 0} → (d : Design S) (h : Trace S) → IsDesign d → IsHistory d h → (limit : ℕ) (actions : List Action) (z : Core S)
+    → ActsAll d limit (opening_core d) actions z → (m c : ℕ) → z.verified m (z.timed m) ≡ false → candidate d (view d z) m ≡ Some c → IsSame d z m c
 unfolding NoAssumed
 nothing_differs {S} d h i y limit actions z s m c v e =
     let (n, g, f) = all_rise d h i y limit (opening_core d) (opening_agrees d h i y limit) (none_assumed d) actions z s in

@@ -18,7 +18,8 @@ use Rattle.event_timing.proofs.Candidate.{candidate_parts}
 use Rattle.event_timing.proofs.Earliest.{answers_right, earliest_right, nobody_ahead}
 
 -- where nothing but Earliest can be done, every module is over or waits
-pub stuck_ended : {S : Type 0} → (d : Design S) (h : Trace S) → IsDesign d → (limit : ℕ) (x : Core S) → AreOwnMarks d x → IsTimed d h limit x → IsQuiet d limit x → (m : ℕ) → ltb (x.timed m) (x.emitted m) ≡ false → d.is_over m (own_state d (view d x) m (x.timed m)) ≡ true
+pub stuck_ended : {S : Type 0} → (d : Design S) (h : Trace S) → IsDesign d → (limit : ℕ) (x : Core S) → AreOwnMarks d x → IsTimed d h limit x
+    → IsQuiet d limit x → (m : ℕ) → ltb (x.timed m) (x.emitted m) ≡ false → d.is_over m (own_state d (view d x) m (x.timed m)) ≡ true
 stuck_ended {S} d h i limit x b u q m o =
     let l = ltb-false (x.timed m) (x.emitted m) o in
     let e : x.emitted m ≡ x.timed m = omega (arith, u.within m) in
@@ -35,7 +36,8 @@ stuck_ended {S} d h i limit x b u q m o =
           ]
     ])
 
-stuck_later : {S : Type 0} → (d : Design S) (limit : ℕ) (x : Core S) → IsQuiet d limit x → (t : ℕ) → t ≤ limit → ((n e : ℕ) → IsOpen d limit x n e → t ≤ e) → (m c : ℕ) → candidate d (view d x) m ≡ Some c → t ≤ c
+stuck_later : {S : Type 0} → (d : Design S) (limit : ℕ) (x : Core S) → IsQuiet d limit x → (t : ℕ) → t ≤ limit → ((n e : ℕ) → IsOpen d limit x n e → t ≤ e)
+    → (m c : ℕ) → candidate d (view d x) m ≡ Some c → t ≤ c
 stuck_later {S} d limit x q t l f m c e =
     elim (cases_lt c t) [
       | inr w ↦ w
@@ -51,23 +53,28 @@ stuck_later {S} d limit x q t l f m c e =
           ]
     ]
 
-pub stuck : {S : Type 0} → (d : Design S) (h : Trace S) → IsDesign d → (limit : ℕ) (x : Core S) → AreOwnMarks d x → IsTimed d h limit x → IsQuiet d limit x → (t : ℕ) → t ≤ limit → ((n e : ℕ) → IsOpen d limit x n e → t ≤ e) → IsStuck d (view d x) t
+pub stuck : {S : Type 0} → (d : Design S) (h : Trace S) → IsDesign d → (limit : ℕ) (x : Core S) → AreOwnMarks d x → IsTimed d h limit x → IsQuiet d limit x
+    → (t : ℕ) → t ≤ limit → ((n e : ℕ) → IsOpen d limit x n e → t ≤ e) → IsStuck d (view d x) t
 stuck {S} d h i limit x b u q t l f = record { ended = stuck_ended d h i limit x b u q; later = stuck_later d limit x q t l f }
 
-answered_agrees : {S : Type 0} → (d : Design S) (h : Trace S) → IsDesign d → IsHistory d h → (limit : ℕ) (x : Core S) → IsAgreed d h limit x → (m c : ℕ) → candidate d (view d x) m ≡ Some c → new_flags d x m c ≡ possible_all d h c (core_accesses d x m (x.timed m)) → (y : Core S) → (IsSame d x m c × (y ≡ after_answer d x m c)) ⊎ ((IsSame d x m c → ⊥) × (y ≡ x)) → IsAgreed d h limit y
+answered_agrees : {S : Type 0} → (d : Design S) (h : Trace S) → IsDesign d → IsHistory d h → (limit : ℕ) (x : Core S) → IsAgreed d h limit x → (m c : ℕ)
+    → candidate d (view d x) m ≡ Some c → new_flags d x m c ≡ possible_all d h c (core_accesses d x m (x.timed m)) → (y : Core S)
+    → (IsSame d x m c × (y ≡ after_answer d x m c)) ⊎ ((IsSame d x m c → ⊥) × (y ≡ x)) → IsAgreed d h limit y
 answered_agrees {S} d h i y limit x g m c e r z (inl w) =
     subst (IsAgreed d h limit) (sym w.1) (record { marks = answer_marks d i x g.marks m c (first_emitted d x m c e) w.0; time = answer_time d h i y limit x g.marks g.time m c e r w.0 })
 answered_agrees {S} d h i y limit x g m c e r z (inr w) = subst (IsAgreed d h limit) (sym w.1) g
 
 -- what an Answer finds is the history's
-pub answer_found : {S : Type 0} → (d : Design S) (h : Trace S) → IsDesign d → IsHistory d h → (limit : ℕ) (x : Core S) → IsAgreed d h limit x → (m c : ℕ) → MayAnswer d limit x m c → new_flags d x m c ≡ possible_all d h c (core_accesses d x m (x.timed m))
+pub answer_found : {S : Type 0} → (d : Design S) (h : Trace S) → IsDesign d → IsHistory d h → (limit : ℕ) (x : Core S) → IsAgreed d h limit x → (m c : ℕ)
+    → MayAnswer d limit x m c → new_flags d x m c ≡ possible_all d h c (core_accesses d x m (x.timed m))
 answer_found {S} d h i y limit x g m c r =
     let at = r.determined.at in
     let (o, u, p, q) = candidate_parts d (view d x) m c at in
     answers_right d h i y (view d x) (agrees d h limit x g.marks g.time) m c o at r.decided
 
 -- and so is what an Earliest finds
-pub earliest_found : {S : Type 0} → (d : Design S) (h : Trace S) → IsDesign d → IsHistory d h → (limit : ℕ) (x : Core S) → IsAgreed d h limit x → (m c : ℕ) → MayEarliest d limit x m c → new_flags d x m c ≡ possible_all d h c (core_accesses d x m (x.timed m))
+pub earliest_found : {S : Type 0} → (d : Design S) (h : Trace S) → IsDesign d → IsHistory d h → (limit : ℕ) (x : Core S) → IsAgreed d h limit x → (m c : ℕ)
+    → MayEarliest d limit x m c → new_flags d x m c ≡ possible_all d h c (core_accesses d x m (x.timed m))
 earliest_found {S} d h i y limit x g m c r =
     let at = r.open_step.determined.at in
     let (o, u, p, q) = candidate_parts d (view d x) m c at in
@@ -75,7 +82,8 @@ earliest_found {S} d h i y limit x g m c r =
     let s = stuck d h i limit x g.marks g.time r.quiet c (omega arith) r.least in
     earliest_right d h i y (view d x) (agrees d h limit x g.marks g.time) m c o at s
 
-pub acts_agree : {S : Type 0} → (d : Design S) (h : Trace S) → IsDesign d → IsHistory d h → (limit : ℕ) (x : Core S) → IsAgreed d h limit x → (a : Action) (z : Core S) → Acts d limit x a z → IsAgreed d h limit z
+pub acts_agree : {S : Type 0} → (d : Design S) (h : Trace S) → IsDesign d → IsHistory d h → (limit : ℕ) (x : Core S) → IsAgreed d h limit x
+    → (a : Action) (z : Core S) → Acts d limit x a z → IsAgreed d h limit z
 acts_agree {S} d h i y limit x g (Action.Run m) z (r, e) =
     subst (IsAgreed d h limit) (sym e) (record { marks = run_marks d x g.marks m r; time = run_time d h i y limit x g.marks g.time m r })
 acts_agree {S} d h i y limit x g (Action.Assign m) z (c, r, e) =
@@ -85,7 +93,8 @@ acts_agree {S} d h i y limit x g (Action.Answer m) z (c, r, e) =
 acts_agree {S} d h i y limit x g (Action.Earliest m) z (c, r, e) =
     answered_agrees d h i y limit x g m c r.open_step.determined.at (earliest_found d h i y limit x g m c r) z e
 
-pub all_agree : {S : Type 0} → (d : Design S) (h : Trace S) → IsDesign d → IsHistory d h → (limit : ℕ) (x : Core S) → IsAgreed d h limit x → (actions : List Action) (z : Core S) → ActsAll d limit x actions z → IsAgreed d h limit z
+pub all_agree : {S : Type 0} → (d : Design S) (h : Trace S) → IsDesign d → IsHistory d h → (limit : ℕ) (x : Core S) → IsAgreed d h limit x
+    → (actions : List Action) (z : Core S) → ActsAll d limit x actions z → IsAgreed d h limit z
 all_agree {S} d h i y limit x g [] z e = subst (IsAgreed d h limit) (sym e) g
 all_agree {S} d h i y limit x g (a ∷ more) z (w, s, t) = all_agree d h i y limit w (acts_agree d h i y limit x g a w s) more z t
 
@@ -135,9 +144,11 @@ final_closed {S} d limit x f (suc b) e l n o =
       least = λ n' e' o'. elim (cases_lt e' e) [ inr w ↦ w | inl w ↦ absurd (final_closed d limit x f b e' (omega arith) n' o') ];
     })
 
-pub final_stuck : {S : Type 0} → (d : Design S) (h : Trace S) → IsDesign d → (limit : ℕ) (x : Core S) → IsAgreed d h limit x → IsFinal d limit x → IsStuck d (view d x) limit
+pub final_stuck : {S : Type 0} → (d : Design S) (h : Trace S) → IsDesign d → (limit : ℕ) (x : Core S) → IsAgreed d h limit x → IsFinal d limit x
+    → IsStuck d (view d x) limit
 final_stuck {S} d h i limit x g f = stuck d h i limit x g.marks g.time f.quiet limit (omega arith) (λ n e o. absurd (final_closed d limit x f (suc e) e (omega arith) n o))
 
 -- in a final core every step of the history below the limit has its cycle
-pub final_complete : {S : Type 0} → (d : Design S) (h : Trace S) → IsDesign d → IsHistory d h → (limit : ℕ) (x : Core S) → IsAgreed d h limit x → IsFinal d limit x → (m c : ℕ) → c ≤ limit → done d h m c ≤ x.timed m
+pub final_complete : {S : Type 0} → (d : Design S) (h : Trace S) → IsDesign d → IsHistory d h → (limit : ℕ) (x : Core S) → IsAgreed d h limit x
+    → IsFinal d limit x → (m c : ℕ) → c ≤ limit → done d h m c ≤ x.timed m
 final_complete {S} d h i y limit x g f m c l = nobody_ahead d h i y (view d x) (agrees d h limit x g.marks g.time) limit (final_stuck d h i limit x g f) c l m

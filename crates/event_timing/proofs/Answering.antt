@@ -37,7 +37,8 @@ flag : Bool → Reply
 flag b = record { possible = b; front = 0 }
 
 -- an outcome adds pushes behind those that are there
-more_values : (ch : ℕ) (know : Access → Known) (c : ℕ) (xs : List Access) → takers false ch xs ≤ 1 → Begins (values_in ch xs (bare_replies (flags_at know c xs))) (values_in ch xs (bare_replies (no_outcomes xs)))
+more_values : (ch : ℕ) (know : Access → Known) (c : ℕ) (xs : List Access) → takers false ch xs ≤ 1
+    → Begins (values_in ch xs (bare_replies (flags_at know c xs))) (values_in ch xs (bare_replies (no_outcomes xs)))
 unfolding flag
 more_values ch know c [] l = begins_self []
 more_values ch know c (a ∷ xs) l =
@@ -62,7 +63,9 @@ more_values ch know c (a ∷ xs) l =
         let (w3, w4) = and_parts b (same_side a.pops false && eqb a.channel ch) w2 in
         both_ways _ k (and_from a.takes (same_side a.pops false && eqb a.channel ch) w1 w4))
 
-    head : (a.blocks ≡ true) ⊎ (a.blocks ≡ false) → values_in ch xs (bare_replies (flags_at know c xs)) ≡ [] → values_in ch xs (bare_replies (no_outcomes xs)) ≡ [] → Begins (values_in ch (a ∷ xs) (bare_replies (flags_at know c (a ∷ xs)))) (values_in ch (a ∷ xs) (bare_replies (no_outcomes (a ∷ xs))))
+    head : (a.blocks ≡ true) ⊎ (a.blocks ≡ false) → values_in ch xs (bare_replies (flags_at know c xs)) ≡ []
+        → values_in ch xs (bare_replies (no_outcomes xs)) ≡ []
+        → Begins (values_in ch (a ∷ xs) (bare_replies (flags_at know c (a ∷ xs)))) (values_in ch (a ∷ xs) (bare_replies (no_outcomes (a ∷ xs))))
     head (inl b) n1 n2 =
         let f1 : (a.blocks || answer (know a) c) ≡ a.blocks = or_left a.blocks (answer (know a) c) b ∙ sym b in
         ([], ap₂ (λ (z : Bool) (zs : List ℕ). cond {A = List ℕ} (took false ch a (flag z)) (a.value ∷ []) [] ++ zs) f1 (n1 ∙ sym n2) ∙ sym (append-nil _))
@@ -84,14 +87,16 @@ at_cases m t n k =
     ]
 
 -- a function with one value changed keeps what holds of both
-pub put_at_both : {A : Type 0} → (f : ℕ → ℕ → A) (m t : ℕ) (y : A) (P : ℕ → ℕ → A → Type 0) → P m t y → ((n k : ℕ) → (n ≡ m → k ≡ t → ⊥) → P n k (f n k)) → (n k : ℕ) → P n k (put_at f m t y n k)
+pub put_at_both : {A : Type 0} → (f : ℕ → ℕ → A) (m t : ℕ) (y : A) (P : ℕ → ℕ → A → Type 0) → P m t y → ((n k : ℕ) → (n ≡ m → k ≡ t → ⊥) → P n k (f n k))
+    → (n k : ℕ) → P n k (put_at f m t y n k)
 put_at_both f m t y P e g n k =
     elim (at_cases m t n k) [
       | inr w ↦ subst (P n k) (sym (put_at_other f m t y n k w)) (g n k w)
       | inl w ↦ subst (λ (z : ℕ). P z k (put_at f m t y z k)) (sym w.0) (subst (λ (z : ℕ). P m z (put_at f m t y m z)) (sym w.1) (subst (P m t) (sym (put_at_same f m t y)) e))
     ]
 
-answer_flags : {S : Type 0} → (d : Design S) (x : Core S) (m c : ℕ) → IsSame d x m c → (n k : ℕ) → x.answered n k ≡ true → (after_answer d x m c).flags n k ≡ x.flags n k
+answer_flags : {S : Type 0} → (d : Design S) (x : Core S) (m c : ℕ) → IsSame d x m c → (n k : ℕ) → x.answered n k ≡ true
+    → (after_answer d x m c).flags n k ≡ x.flags n k
 answer_flags {S} d x m c s =
     put_at_both x.flags m (x.timed m) (new_flags d x m c) (λ n k f. x.answered n k ≡ true → f ≡ x.flags n k) (λ a. sym (s a)) (λ n k w a. refl)
 
@@ -102,7 +107,8 @@ pub answer_answered : {S : Type 0} → (d : Design S) (x : Core S) (m c : ℕ) �
 answer_answered {S} d x m c =
     put_at_both x.answered m (x.timed m) true (λ n k f. x.answered n k ≡ true → f ≡ true) (λ a. refl) (λ n k w a. a)
 
-answer_values_here : {S : Type 0} → (d : Design S) → IsDesign d → (x : Core S) → AreOwnMarks d x → (m c ch : ℕ) → x.timed m < x.emitted m → x.answered m (x.timed m) ≡ false → d.owner false ch ≡ m → Begins (core_values d (after_answer d x m c) ch) (core_values d x ch)
+answer_values_here : {S : Type 0} → (d : Design S) → IsDesign d → (x : Core S) → AreOwnMarks d x → (m c ch : ℕ) → x.timed m < x.emitted m
+    → x.answered m (x.timed m) ≡ false → d.owner false ch ≡ m → Begins (core_values d (after_answer d x m c) ch) (core_values d x ch)
 answer_values_here {S} d i x b m c ch l a o =
     let z : Core S = after_answer d x m c in
     let t : ℕ = x.timed m in
@@ -124,7 +130,8 @@ answer_values_here {S} d i x b m c ch l a o =
           (ap (λ (p : List ℕ). d.inputs ch ++ p) n4 ∙ sym (append_assoc (d.inputs ch) (pushed_in ch (core_accesses d x m) (λ j. bare_replies (x.flags m j)) (x.emitted m)) more)),
     )
 
-answer_values : {S : Type 0} → (d : Design S) → IsDesign d → (x : Core S) → AreOwnMarks d x → (m c ch : ℕ) → x.timed m < x.emitted m → IsSame d x m c → Begins (core_values d (after_answer d x m c) ch) (core_values d x ch)
+answer_values : {S : Type 0} → (d : Design S) → IsDesign d → (x : Core S) → AreOwnMarks d x → (m c ch : ℕ) → x.timed m < x.emitted m → IsSame d x m c
+    → Begins (core_values d (after_answer d x m c) ch) (core_values d x ch)
 answer_values {S} d i x b m c ch l s =
     elim (cases_Bool (x.answered m (x.timed m))) [
       | inl a ↦ values_grow d x (after_answer d x m c) ch (omega arith) (λ k q. refl) (λ k q. same a (d.owner false ch) k)
@@ -138,7 +145,8 @@ answer_values {S} d i x b m c ch l s =
     same : x.answered m (x.timed m) ≡ true → (n k : ℕ) → (after_answer d x m c).flags n k ≡ x.flags n k
     same a n k = put_at_both x.flags m (x.timed m) (new_flags d x m c) (λ n k f. f ≡ x.flags n k) (sym (s a)) (λ n k w. refl) n k
 
-pub answer_grows : {S : Type 0} → (d : Design S) → IsDesign d → (x : Core S) → AreOwnMarks d x → (m c : ℕ) → x.timed m < x.emitted m → IsSame d x m c → Grows d x (after_answer d x m c)
+pub answer_grows : {S : Type 0} → (d : Design S) → IsDesign d → (x : Core S) → AreOwnMarks d x → (m c : ℕ) → x.timed m < x.emitted m → IsSame d x m c
+    → Grows d x (after_answer d x m c)
 answer_grows {S} d i x b m c l s =
     record {
       emitted_up = λ n. omega arith;
@@ -149,14 +157,16 @@ answer_grows {S} d i x b m c l s =
       values_up = λ ch. answer_values d i x b m c ch l s;
     }
 
-answer_unanswered : {S : Type 0} → (d : Design S) (x : Core S) → AreOwnMarks d x → (m c : ℕ) → (n k : ℕ) → k < x.emitted n → (after_answer d x m c).answered n k ≡ false → (after_answer d x m c).flags n k ≡ no_outcomes (core_accesses d x n k)
+answer_unanswered : {S : Type 0} → (d : Design S) (x : Core S) → AreOwnMarks d x → (m c : ℕ) → (n k : ℕ) → k < x.emitted n
+    → (after_answer d x m c).answered n k ≡ false → (after_answer d x m c).flags n k ≡ no_outcomes (core_accesses d x n k)
 answer_unanswered {S} d x b m c n k l a =
     elim (at_cases m (x.timed m) n k) [
       | inr w ↦ answer_other d x m c n k w ∙ b.unanswered n k l (sym (put_at_other x.answered m (x.timed m) true n k w) ∙ a)
       | inl w ↦ absurd (both_ways _ a (put_at_both x.answered m (x.timed m) true (λ p q f. p ≡ m → q ≡ x.timed m → f ≡ true) (λ p q. refl) (λ p q v e f. absurd (v e f)) n k w.0 w.1))
     ]
 
-pub answer_marks : {S : Type 0} → (d : Design S) → IsDesign d → (x : Core S) → AreOwnMarks d x → (m c : ℕ) → x.timed m < x.emitted m → IsSame d x m c → AreOwnMarks d (after_answer d x m c)
+pub answer_marks : {S : Type 0} → (d : Design S) → IsDesign d → (x : Core S) → AreOwnMarks d x → (m c : ℕ) → x.timed m < x.emitted m → IsSame d x m c
+    → AreOwnMarks d (after_answer d x m c)
 answer_marks {S} d i x b m c l s =
     let z : Core S = after_answer d x m c in
     let g = answer_grows d i x b m c l s in
@@ -174,12 +184,16 @@ answer_marks {S} d i x b m c l s =
       inside = b.inside;
     }
 
-answer_sure : {S : Type 0} → (d : Design S) → IsDesign d → (h : Trace S) (limit : ℕ) (x : Core S) → AreOwnMarks d x → IsTimed d h limit x → (m c ch : ℕ) → x.timed m < x.emitted m → IsSame d x m c → elements_timed d (after_answer d x m c) ch ≡ elements_timed d x ch
+answer_sure : {S : Type 0} → (d : Design S) → IsDesign d → (h : Trace S) (limit : ℕ) (x : Core S) → AreOwnMarks d x → IsTimed d h limit x → (m c ch : ℕ)
+    → x.timed m < x.emitted m → IsSame d x m c → elements_timed d (after_answer d x m c) ch ≡ elements_timed d x ch
 answer_sure {S} d i h limit x b u m c ch l s =
     let p = settled_timed d h limit x u (d.owner false ch) (x.timed (d.owner false ch)) (omega arith) in
     ap (λ (z : ℕ). d.start true ch + z) (tally_grow d x (after_answer d x m c) (answer_grows d i x b m c l s) (d.owner false ch) (x.timed (d.owner false ch)) p.emitted p.answered false ch)
 
-answer_first_flags : {S : Type 0} → (d : Design S) (h : Trace S) → (limit : ℕ) (x : Core S) → IsTimed d h limit x → (m c : ℕ) → steps d h c m ≡ true → done d h m c ≡ x.timed m → new_flags d x m c ≡ possible_all d h c (core_accesses d x m (x.timed m)) → (n k : ℕ) → k < x.emitted n → k ≡ x.timed n → (after_answer d x m c).verified n k ≡ true → (e : ℕ) → steps d h e n ≡ true → done d h n e ≡ k → (after_answer d x m c).flags n k ≡ possible_all d h e (core_accesses d x n k)
+answer_first_flags : {S : Type 0} → (d : Design S) (h : Trace S) → (limit : ℕ) (x : Core S) → IsTimed d h limit x → (m c : ℕ) → steps d h c m ≡ true
+    → done d h m c ≡ x.timed m → new_flags d x m c ≡ possible_all d h c (core_accesses d x m (x.timed m)) → (n k : ℕ) → k < x.emitted n → k ≡ x.timed n
+    → (after_answer d x m c).verified n k ≡ true → (e : ℕ) → steps d h e n ≡ true → done d h n e ≡ k
+    → (after_answer d x m c).flags n k ≡ possible_all d h e (core_accesses d x n k)
 answer_first_flags {S} d h limit x u m c st dn r =
     put_at_both x.flags m (x.timed m) (new_flags d x m c) (λ n k f. k < x.emitted n → k ≡ x.timed n → (after_answer d x m c).verified n k ≡ true → (e : ℕ) → steps d h e n ≡ true → done d h n e ≡ k → f ≡ possible_all d h e (core_accesses d x n k))
     (λ l q v e s k.
@@ -189,7 +203,10 @@ answer_first_flags {S} d h limit x u m c st dn r =
     let f = subst (λ (p : ℕ). RightFlags d h x n p) (sym q) (u.first_flags n) in
     f l (sym (put_at_other x.verified m (x.timed m) true n k o) ∙ v) e s j)
 
-answer_first_sure : {S : Type 0} → (d : Design S) → IsDesign d → (h : Trace S) (limit : ℕ) (x : Core S) → AreOwnMarks d x → IsTimed d h limit x → (m c : ℕ) → x.timed m < x.emitted m → IsSame d x m c → candidate d (view d x) m ≡ Some c → (n k : ℕ) → k < x.emitted n → k ≡ x.timed n → (after_answer d x m c).verified n k ≡ true → has_query (core_accesses d x n k) ≡ true → all_below (elements_timed d (after_answer d x m c)) (λ ch. core_tally d (after_answer d x m c) n true ch k) (core_accesses d x n k) ((after_answer d x m c).flags n k) ≡ true
+answer_first_sure : {S : Type 0} → (d : Design S) → IsDesign d → (h : Trace S) (limit : ℕ) (x : Core S) → AreOwnMarks d x → IsTimed d h limit x → (m c : ℕ)
+    → x.timed m < x.emitted m → IsSame d x m c → candidate d (view d x) m ≡ Some c → (n k : ℕ) → k < x.emitted n → k ≡ x.timed n
+    → (after_answer d x m c).verified n k ≡ true → has_query (core_accesses d x n k) ≡ true
+    → all_below (elements_timed d (after_answer d x m c)) (λ ch. core_tally d (after_answer d x m c) n true ch k) (core_accesses d x n k) ((after_answer d x m c).flags n k) ≡ true
 answer_first_sure {S} d i h limit x b u m c lt s e =
     put_at_both x.flags m (x.timed m) (new_flags d x m c) (λ n k f. k < x.emitted n → k ≡ x.timed n → (after_answer d x m c).verified n k ≡ true → has_query (core_accesses d x n k) ≡ true → all_below (elements_timed d (after_answer d x m c)) (λ ch. core_tally d (after_answer d x m c) n true ch k) (core_accesses d x n k) f ≡ true)
     (λ l q v p. grown m (x.timed m) (new_flags d x m c) l (new_sure d i x m c e))
@@ -197,7 +214,8 @@ answer_first_sure {S} d i h limit x b u m c lt s e =
     let f = subst (λ (j : ℕ). SureFlags d (elements_timed d x) x n j) (sym q) (u.first_sure n) in
     grown n k (x.flags n k) l (f l (sym (put_at_other x.verified m (x.timed m) true n k o) ∙ v) p))
   where
-    grown : (n k : ℕ) (f : List Bool) → k < x.emitted n → all_below (elements_timed d x) (λ ch. core_tally d x n true ch k) (core_accesses d x n k) f ≡ true → all_below (elements_timed d (after_answer d x m c)) (λ ch. core_tally d (after_answer d x m c) n true ch k) (core_accesses d x n k) f ≡ true
+    grown : (n k : ℕ) (f : List Bool) → k < x.emitted n → all_below (elements_timed d x) (λ ch. core_tally d x n true ch k) (core_accesses d x n k) f ≡ true
+        → all_below (elements_timed d (after_answer d x m c)) (λ ch. core_tally d (after_answer d x m c) n true ch k) (core_accesses d x n k) f ≡ true
     grown n k f l w =
         let o = settled_old d x b n k l in
         below_grow (elements_timed d x) (elements_timed d (after_answer d x m c)) (λ ch. core_tally d x n true ch k) (λ ch. core_tally d (after_answer d x m c) n true ch k) (core_accesses d x n k) f
@@ -210,7 +228,9 @@ first_emitted {S} d x m c e =
     let (more, u, p, q) = candidate_parts d (view d x) m c e in
     ltb-true (x.timed m) (x.emitted m) more
 
-pub answer_time : {S : Type 0} → (d : Design S) (h : Trace S) → IsDesign d → IsHistory d h → (limit : ℕ) (x : Core S) → AreOwnMarks d x → IsTimed d h limit x → (m c : ℕ) → candidate d (view d x) m ≡ Some c → new_flags d x m c ≡ possible_all d h c (core_accesses d x m (x.timed m)) → IsSame d x m c → IsTimed d h limit (after_answer d x m c)
+pub answer_time : {S : Type 0} → (d : Design S) (h : Trace S) → IsDesign d → IsHistory d h → (limit : ℕ) (x : Core S) → AreOwnMarks d x → IsTimed d h limit x
+    → (m c : ℕ) → candidate d (view d x) m ≡ Some c → new_flags d x m c ≡ possible_all d h c (core_accesses d x m (x.timed m)) → IsSame d x m c
+    → IsTimed d h limit (after_answer d x m c)
 answer_time {S} d h i y limit x b u m c e r s =
     let l = first_emitted d x m c e in
     let g = answer_grows d i x b m c l s in

@@ -34,13 +34,16 @@ front_same {S} d h c s V t a f e =
       | inr k ↦ cond-false {A = ℕ} _ _ _ k ∙ sym (cond-false {A = ℕ} _ _ _ k)
     ]
 
-pub replies_right : {S : Type 0} → (d : Design S) (h : Trace S) (c : ℕ) (s : ℕ → ℕ) (V : ℕ → List ℕ) (t : ℕ → ℕ) (xs : List Access) → Each (FrontOk d h c s V t) xs → all_below s t xs (possible_all d h c xs) ≡ true → replies_of V t xs (possible_all d h c xs) ≡ map (reply_to d h c) xs
+pub replies_right : {S : Type 0} → (d : Design S) (h : Trace S) (c : ℕ) (s : ℕ → ℕ) (V : ℕ → List ℕ) (t : ℕ → ℕ) (xs : List Access)
+    → Each (FrontOk d h c s V t) xs → all_below s t xs (possible_all d h c xs) ≡ true → replies_of V t xs (possible_all d h c xs) ≡ map (reply_to d h c) xs
 replies_right {S} d h c s V t [] f e = refl
 replies_right {S} d h c s V t (a ∷ xs) (f, fs) e =
     let (e1, e2) = and_parts (not (pops_now a (is_possible d h c a.pops a.channel)) || ltb (t a.channel) (s a.channel)) (all_below s t xs (possible_all d h c xs)) e in
     ap₂ (λ (z : ℕ) (zs : List Reply). record { possible = is_possible d h c a.pops a.channel; front = z } ∷ zs) (front_same d h c s V t a f e1) (replies_right d h c s V t xs fs e2)
 
-front_ok : {S : Type 0} → (d : Design S) (h : Trace S) → IsDesign d → IsHistory d h → (limit : ℕ) (x : Core S) → AreOwnMarks d x → IsTimed d h limit x → (m c : ℕ) → done d h m c ≡ x.timed m → (a : Access) → d.owner a.pops a.channel ≡ m → FrontOk d h c (elements_timed d x) (core_values d x) (λ q. core_tally d x m true q (x.timed m)) a
+front_ok : {S : Type 0} → (d : Design S) (h : Trace S) → IsDesign d → IsHistory d h → (limit : ℕ) (x : Core S) → AreOwnMarks d x → IsTimed d h limit x
+    → (m c : ℕ) → done d h m c ≡ x.timed m → (a : Access) → d.owner a.pops a.channel ≡ m
+    → FrontOk d h c (elements_timed d x) (core_values d x) (λ q. core_tally d x m true q (x.timed m)) a
 front_ok {S} d h i y limit x b u m c k a o e p l =
     let g = agrees d h limit x b u in
     let o' : d.owner true a.channel ≡ m = sym (ap (λ (z : Bool). d.owner z a.channel) e) ∙ o in
@@ -49,12 +52,15 @@ front_ok {S} d h i y limit x b u m c k a o e p l =
     let n'' : h.taken c true a.channel ≡ core_tally d x m true a.channel (x.timed m) = n' ∙ core_tally_is d x m true a.channel (x.timed m) in
     get_right d h i y limit x b u a.channel c (core_tally d x m true a.channel (x.timed m)) n'' l p ∙ ap (λ (z : ℕ). get_or (h.pushed c a.channel) z 0) (sym n'')
 
-each_front : {S : Type 0} → (d : Design S) (h : Trace S) → IsDesign d → IsHistory d h → (limit : ℕ) (x : Core S) → AreOwnMarks d x → IsTimed d h limit x → (m c : ℕ) → done d h m c ≡ x.timed m → (xs : List Access) → Each (λ a. d.owner a.pops a.channel ≡ m) xs → Each (FrontOk d h c (elements_timed d x) (core_values d x) (λ q. core_tally d x m true q (x.timed m))) xs
+each_front : {S : Type 0} → (d : Design S) (h : Trace S) → IsDesign d → IsHistory d h → (limit : ℕ) (x : Core S) → AreOwnMarks d x → IsTimed d h limit x
+    → (m c : ℕ) → done d h m c ≡ x.timed m → (xs : List Access) → Each (λ a. d.owner a.pops a.channel ≡ m) xs
+    → Each (FrontOk d h c (elements_timed d x) (core_values d x) (λ q. core_tally d x m true q (x.timed m))) xs
 each_front {S} d h i y limit x b u m c k [] o = tt
 each_front {S} d h i y limit x b u m c k (a ∷ xs) (o, os) = (front_ok d h i y limit x b u m c k a o, each_front d h i y limit x b u m c k xs os)
 
 -- a known pop has its push among the steps with a cycle
-known_sure : {S : Type 0} → (d : Design S) (v : View) → (ch n p : ℕ) → d.unlimited true ch ≡ false → known d v true ch n ≡ From p → n < d.start true ch + tally (v.accesses (d.owner false ch)) (v.reply (d.owner false ch)) false ch (v.timed (d.owner false ch))
+known_sure : {S : Type 0} → (d : Design S) (v : View) → (ch n p : ℕ) → d.unlimited true ch ≡ false → known d v true ch n ≡ From p
+    → n < d.start true ch + tally (v.accesses (d.owner false ch)) (v.reply (d.owner false ch)) false ch (v.timed (d.owner false ch))
 unfolding enabler
 known_sure {S} d v ch n p u e =
     elim (cases_Bool (d.unlimited true ch || ltb n (d.start true ch))) [
@@ -69,7 +75,9 @@ known_sure {S} d v ch n p u e =
           ]
     ]
   where
-    event : (o : Option ℕ) → from_step (v.cycle (d.owner false ch)) (d.lag true ch) o ≡ From p → d.start true ch ≤ n → IsPlace (v.accesses (d.owner false ch)) (v.reply (d.owner false ch)) false ch (v.timed (d.owner false ch)) (n - d.start true ch) o → n < d.start true ch + tally (v.accesses (d.owner false ch)) (v.reply (d.owner false ch)) false ch (v.timed (d.owner false ch))
+    event : (o : Option ℕ) → from_step (v.cycle (d.owner false ch)) (d.lag true ch) o ≡ From p → d.start true ch ≤ n
+        → IsPlace (v.accesses (d.owner false ch)) (v.reply (d.owner false ch)) false ch (v.timed (d.owner false ch)) (n - d.start true ch) o
+        → n < d.start true ch + tally (v.accesses (d.owner false ch)) (v.reply (d.owner false ch)) false ch (v.timed (d.owner false ch))
     event None z l g = cc
     event (Some j) z l (g1, g2, g3) = omega (arith, tally_mono (v.accesses (d.owner false ch)) (v.reply (d.owner false ch)) false ch (suc j) (v.timed (d.owner false ch)) g1)
 
@@ -82,7 +90,8 @@ answer_from (From p) c e = (p, refl)
 answer_from Never c e = cc
 answer_from Unknown c e = cc
 
-bound_rest : (know : Access → Known) (a : Access) (xs : List Access) (u : ℕ) → bound know (a ∷ xs) ≡ From u → (q : ℕ) × (bound know xs ≡ From q) × (a.blocks ≡ true → (p : ℕ) × (know a ≡ From p))
+bound_rest : (know : Access → Known) (a : Access) (xs : List Access) (u : ℕ) → bound know (a ∷ xs) ≡ From u
+    → (q : ℕ) × (bound know xs ≡ From q) × (a.blocks ≡ true → (p : ℕ) × (know a ≡ From p))
 bound_rest know a xs u e =
     elim (cases_Bool a.blocks) [
       | inl b ↦
@@ -91,7 +100,8 @@ bound_rest know a xs u e =
       | inr b ↦ (u, sym (bound_free know a xs b) ∙ e, λ w. absurd (both_ways _ b w))
     ]
 
-sure_one : (know : Access → Known) (s t : ℕ → ℕ) (c : ℕ) (a : Access) → KnownSure know s t a → (a.blocks ≡ true → (p : ℕ) × (know a ≡ From p)) → (not (pops_now a (a.blocks || answer (know a) c)) || ltb (t a.channel) (s a.channel)) ≡ true
+sure_one : (know : Access → Known) (s t : ℕ → ℕ) (c : ℕ) (a : Access) → KnownSure know s t a → (a.blocks ≡ true → (p : ℕ) × (know a ≡ From p))
+    → (not (pops_now a (a.blocks || answer (know a) c)) || ltb (t a.channel) (s a.channel)) ≡ true
 sure_one know s t c a f g =
     elim (cases_Bool (pops_now a (a.blocks || answer (know a) c))) [
       | inr k ↦ or_left (not (pops_now a (a.blocks || answer (know a) c))) (ltb (t a.channel) (s a.channel)) (not_from_false _ k)
@@ -102,23 +112,27 @@ sure_one know s t c a f g =
           or_right (not (pops_now a (a.blocks || answer (know a) c))) (ltb (t a.channel) (s a.channel)) (lt-ltb (t a.channel) (s a.channel) (f k3 w.0 w.1))
     ]
 
-pub flags_sure : (know : Access → Known) (s t : ℕ → ℕ) (c : ℕ) (xs : List Access) (u : ℕ) → bound know xs ≡ From u → Each (KnownSure know s t) xs → all_below s t xs (flags_at know c xs) ≡ true
+pub flags_sure : (know : Access → Known) (s t : ℕ → ℕ) (c : ℕ) (xs : List Access) (u : ℕ) → bound know xs ≡ From u → Each (KnownSure know s t) xs
+    → all_below s t xs (flags_at know c xs) ≡ true
 flags_sure know s t c [] u e f = refl
 flags_sure know s t c (a ∷ xs) u e (f, fs) =
     let (q, k, g) = bound_rest know a xs u e in
     and_from (not (pops_now a (a.blocks || answer (know a) c)) || ltb (t a.channel) (s a.channel)) (all_below s t xs (flags_at know c xs)) (sure_one know s t c a f g) (flags_sure know s t c xs q k fs)
 
-one_known : {S : Type 0} → (d : Design S) → IsDesign d → (x : Core S) (m : ℕ) (a : Access) → KnownSure (known_of d (view d x) m) (elements_timed d x) (λ q. core_tally d x m true q (x.timed m)) a
+one_known : {S : Type 0} → (d : Design S) → IsDesign d → (x : Core S) (m : ℕ) (a : Access)
+    → KnownSure (known_of d (view d x) m) (elements_timed d x) (λ q. core_tally d x m true q (x.timed m)) a
 one_known {S} d i x m a e p k =
     let k' : known d (view d x) true a.channel (tally (core_accesses d x m) (core_reply d x m) true a.channel (x.timed m)) ≡ From p = sym (ap (λ (z : Bool). known d (view d x) z a.channel (tally (core_accesses d x m) (core_reply d x m) z a.channel (x.timed m))) e) ∙ k in
     let l = known_sure d (view d x) a.channel (tally (core_accesses d x m) (core_reply d x m) true a.channel (x.timed m)) p (i.pops_limited a.channel) k' in
     rw (core_tally_is d x m true a.channel (x.timed m), core_tally_is d x (d.owner false a.channel) false a.channel (x.timed (d.owner false a.channel))) at l
 
-each_known : {S : Type 0} → (d : Design S) → IsDesign d → (x : Core S) (m : ℕ) (xs : List Access) → Each (KnownSure (known_of d (view d x) m) (elements_timed d x) (λ q. core_tally d x m true q (x.timed m))) xs
+each_known : {S : Type 0} → (d : Design S) → IsDesign d → (x : Core S) (m : ℕ) (xs : List Access)
+    → Each (KnownSure (known_of d (view d x) m) (elements_timed d x) (λ q. core_tally d x m true q (x.timed m))) xs
 each_known {S} d i x m [] = tt
 each_known {S} d i x m (a ∷ xs) = (one_known d i x m a, each_known d i x m xs)
 
-pub new_sure : {S : Type 0} → (d : Design S) → IsDesign d → (x : Core S) (m c : ℕ) → candidate d (view d x) m ≡ Some c → all_below (elements_timed d x) (λ q. core_tally d x m true q (x.timed m)) (core_accesses d x m (x.timed m)) (flags_at (known_of d (view d x) m) c (core_accesses d x m (x.timed m))) ≡ true
+pub new_sure : {S : Type 0} → (d : Design S) → IsDesign d → (x : Core S) (m c : ℕ) → candidate d (view d x) m ≡ Some c
+    → all_below (elements_timed d x) (λ q. core_tally d x m true q (x.timed m)) (core_accesses d x m (x.timed m)) (flags_at (known_of d (view d x) m) c (core_accesses d x m (x.timed m))) ≡ true
 new_sure {S} d i x m c e =
     let (o, u, k, q) = candidate_parts d (view d x) m c e in
     flags_sure (known_of d (view d x) m) (elements_timed d x) (λ q. core_tally d x m true q (x.timed m)) c (core_accesses d x m (x.timed m)) u k (each_known d i x m (core_accesses d x m (x.timed m)))
@@ -133,7 +147,8 @@ plain_flags know c (a ∷ xs) (b ∷ bs) e (f, fs) =
     let k : a.blocks ≡ true = not-false _ e1 in
     ap₂ (λ (z : Bool) (zs : List Bool). z ∷ zs) (f k ∙ sym (or_left a.blocks (answer (know a) c) k)) (plain_flags know c xs bs e2 fs)
 
-pub plain_possible : {S : Type 0} → (d : Design S) (h : Trace S) (c : ℕ) (xs : List Access) (bs : List Bool) → has_query xs ≡ false → can_all d h c xs ≡ true → FlagsFit xs bs → bs ≡ possible_all d h c xs
+pub plain_possible : {S : Type 0} → (d : Design S) (h : Trace S) (c : ℕ) (xs : List Access) (bs : List Bool) → has_query xs ≡ false → can_all d h c xs ≡ true
+    → FlagsFit xs bs → bs ≡ possible_all d h c xs
 plain_possible {S} d h c [] [] e g f = refl
 plain_possible {S} d h c [] (b ∷ bs) e g f = absurd f
 plain_possible {S} d h c (a ∷ xs) [] e g f = absurd f
@@ -160,7 +175,8 @@ put_at_other f m k y n j e =
     let (p, q) = and_parts (eqb n m) (eqb j k) w in
     e (eqb-true n m p) (eqb-true j k q)))
 
-step_more : {S : Type 0} → (x : Core S) (m c : ℕ) (P : ℕ → ℕ → ℕ → Type 0) → ((n k : ℕ) → k < x.timed n → P n k (x.cycle n k)) → P m (x.timed m) c → (n k : ℕ) → k < (after_assign x m c).timed n → P n k ((after_assign x m c).cycle n k)
+step_more : {S : Type 0} → (x : Core S) (m c : ℕ) (P : ℕ → ℕ → ℕ → Type 0) → ((n k : ℕ) → k < x.timed n → P n k (x.cycle n k)) → P m (x.timed m) c → (n k : ℕ)
+    → k < (after_assign x m c).timed n → P n k ((after_assign x m c).cycle n k)
 step_more {S} x m c P f g n k l =
     elim (cases_eq n m) [
       | inr e ↦
@@ -191,7 +207,8 @@ below_mono s s' t (a ∷ xs) (b ∷ bs) l e =
     ])
     (below_mono s s' t xs bs l e2)
 
-pub sure_values : {S : Type 0} → (d : Design S) (h : Trace S) → IsDesign d → (limit : ℕ) (x : Core S) → IsTimed d h limit x → (ch : ℕ) → elements_timed d x ch ≤ length (core_values d x ch)
+pub sure_values : {S : Type 0} → (d : Design S) (h : Trace S) → IsDesign d → (limit : ℕ) (x : Core S) → IsTimed d h limit x → (ch : ℕ)
+    → elements_timed d x ch ≤ length (core_values d x ch)
 sure_values {S} d h i limit x u ch =
     omega (arith, i.start_inputs ch, length-append (d.inputs ch) (pushed_in ch (core_accesses d x (d.owner false ch)) (λ j. bare_replies (x.flags (d.owner false ch) j)) (x.emitted (d.owner false ch))), length_pushed_in ch (core_accesses d x (d.owner false ch)) (λ j. bare_replies (x.flags (d.owner false ch) j)) (x.emitted (d.owner false ch)), tally_mono (core_accesses d x (d.owner false ch)) (λ j. bare_replies (x.flags (d.owner false ch) j)) false ch (x.timed (d.owner false ch)) (x.emitted (d.owner false ch)) (u.within (d.owner false ch)))
 
@@ -203,7 +220,8 @@ record Assigned {S : Type 0} (d : Design S) (h : Trace S) (limit : ℕ) (x : Cor
   reply_now : core_reply d x m (x.timed m) ≡ replies d h c m
   there_now : values_there d x m (x.timed m) ≡ true
 
-assigned : {S : Type 0} → (d : Design S) (h : Trace S) → IsDesign d → IsHistory d h → (limit : ℕ) (x : Core S) → AreOwnMarks d x → IsTimed d h limit x → (m c : ℕ) → MayAssign d limit x m c → Assigned d h limit x m c
+assigned : {S : Type 0} → (d : Design S) (h : Trace S) → IsDesign d → IsHistory d h → (limit : ℕ) (x : Core S) → AreOwnMarks d x → IsTimed d h limit x
+    → (m c : ℕ) → MayAssign d limit x m c → Assigned d h limit x m c
 unfolding replies
 assigned {S} d h i y limit x b u m c w =
     let g = agrees d h limit x b u in
@@ -229,14 +247,16 @@ assigned {S} d h i y limit x b u m c w =
       there_now = below_mono (elements_timed d x) (λ z. length (core_values d x z)) (λ z. core_tally d x m true z (x.timed m)) (core_accesses d x m (x.timed m)) (x.flags m (x.timed m)) (sure_values d h i limit x u) q;
     }
 
-assign_within : {S : Type 0} → (x : Core S) (m c : ℕ) → x.timed m < x.emitted m → ((n : ℕ) → x.timed n ≤ x.emitted n) → (n : ℕ) → (after_assign x m c).timed n ≤ x.emitted n
+assign_within : {S : Type 0} → (x : Core S) (m c : ℕ) → x.timed m < x.emitted m → ((n : ℕ) → x.timed n ≤ x.emitted n) → (n : ℕ)
+    → (after_assign x m c).timed n ≤ x.emitted n
 assign_within {S} x m c l f n =
     elim (cases_eq n m) [
       | inr e ↦ rw (put_other x.timed m (suc (x.timed m)) n e) (f n)
       | inl e ↦ subst (λ (z : ℕ). put x.timed m (suc (x.timed m)) z ≤ x.emitted z) (sym e) (rw (put_same x.timed m (suc (x.timed m))) l)
     ]
 
-assign_done : {S : Type 0} → (d : Design S) (h : Trace S) (limit : ℕ) (x : Core S) → IsTimed d h limit x → (m c : ℕ) → Assigned d h limit x m c → IsDone d h (after_assign x m c)
+assign_done : {S : Type 0} → (d : Design S) (h : Trace S) (limit : ℕ) (x : Core S) → IsTimed d h limit x → (m c : ℕ) → Assigned d h limit x m c
+    → IsDone d h (after_assign x m c)
 assign_done {S} d h limit x u m c w =
     record {
       within = assign_within x m c w.emitted u.within;
@@ -279,7 +299,8 @@ abbrev pub HappensFirst : {S : Type 0} → Design S → Trace S → Core S → �
 HappensFirst {S} d h x n j = j < x.emitted n → x.verified n j ≡ true → has_query (core_accesses d x n j) ≡ true → Happens d h n j
 
 -- where the history does a step that is emitted, its accesses can be done
-pub can_emitted : {S : Type 0} → (d : Design S) (h : Trace S) → IsDesign d → IsHistory d h → (x : Core S) → AreOwnMarks d x → IsDone d h x → (m c j : ℕ) → j < x.emitted m → j ≤ x.timed m → steps d h c m ≡ true → done d h m c ≡ j → can_all d h c (core_accesses d x m j) ≡ true
+pub can_emitted : {S : Type 0} → (d : Design S) (h : Trace S) → IsDesign d → IsHistory d h → (x : Core S) → AreOwnMarks d x → IsDone d h x → (m c j : ℕ)
+    → j < x.emitted m → j ≤ x.timed m → steps d h c m ≡ true → done d h m c ≡ j → can_all d h c (core_accesses d x m j) ≡ true
 can_emitted {S} d h i y x b t m c j l q s k =
     let g = agrees_done d h x b t in
     let r = rest_own d h i y m (core_reply d x m) c (follows d h (view d x) g m c (omega arith)) in
@@ -288,7 +309,8 @@ can_emitted {S} d h i y x b t m c j l q s k =
     let a = moves_can d h c m (steps_moves d h c m s) in
     subst (λ (z : S). can_all d h c (d.accesses m z) ≡ true) e a
 
-assign_flags : {S : Type 0} → (d : Design S) (h : Trace S) → IsDesign d → IsHistory d h → (limit : ℕ) (x : Core S) → AreOwnMarks d x → IsTimed d h limit x → (m c : ℕ) → Assigned d h limit x m c → RightFlags d h x m (suc (x.timed m))
+assign_flags : {S : Type 0} → (d : Design S) (h : Trace S) → IsDesign d → IsHistory d h → (limit : ℕ) (x : Core S) → AreOwnMarks d x → IsTimed d h limit x
+    → (m c : ℕ) → Assigned d h limit x m c → RightFlags d h x m (suc (x.timed m))
 assign_flags {S} d h i y limit x b u m c w l v c' s k =
     let p = u.later_plain m (suc (x.timed m)) (omega arith) l v in
     let t = put_same x.timed m (suc (x.timed m)) in
@@ -302,7 +324,8 @@ sure_up : {S : Type 0} → (d : Design S) (x : Core S) (m c : ℕ) → (ch : ℕ
 sure_up {S} d x m c ch =
     omega (arith, tally_mono (core_accesses d x (d.owner false ch)) (λ j. bare_replies (x.flags (d.owner false ch) j)) false ch (x.timed (d.owner false ch)) (put x.timed m (suc (x.timed m)) (d.owner false ch)) (timed_up x m (d.owner false ch)))
 
-pub assign_time : {S : Type 0} → (d : Design S) (h : Trace S) → IsDesign d → IsHistory d h → (limit : ℕ) (x : Core S) → AreOwnMarks d x → IsTimed d h limit x → (m c : ℕ) → MayAssign d limit x m c → IsTimed d h limit (after_assign x m c)
+pub assign_time : {S : Type 0} → (d : Design S) (h : Trace S) → IsDesign d → IsHistory d h → (limit : ℕ) (x : Core S) → AreOwnMarks d x → IsTimed d h limit x
+    → (m c : ℕ) → MayAssign d limit x m c → IsTimed d h limit (after_assign x m c)
 assign_time {S} d h i y limit x b u m c may =
     let w = assigned d h i y limit x b u m c may in
     let t = assign_done d h limit x u m c w in

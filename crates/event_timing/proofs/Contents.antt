@@ -29,7 +29,8 @@ contents_0 : {S : Type 0} → (d : Design S) (ch : ℕ) → (world d 0).contents
 unfolding world
 contents_0 {S} d ch = refl
 
-contents_more : {S : Type 0} → (d : Design S) (ch c : ℕ) → (world d (suc c)).contents ch ≡ drop (flow d (world d c) c true ch) ((world d c).contents ch) ++ seen_from (c + d.lag true ch) (coming d (world d c) c ch)
+contents_more : {S : Type 0} → (d : Design S) (ch c : ℕ)
+    → (world d (suc c)).contents ch ≡ drop (flow d (world d c) c true ch) ((world d c).contents ch) ++ seen_from (c + d.lag true ch) (coming d (world d c) c ch)
 unfolding world tick
 contents_more {S} d ch c = refl
 
@@ -85,7 +86,8 @@ length_elements {S} d i ch (suc c) =
     rw (elements_more d ch c, flowed_more d false ch c) (omega (arith, length-append (elements d ch c) (seen_from (c + d.lag true ch) (coming d (world d c) c ch)), length_elements d i ch c, length_seen (c + d.lag true ch) (coming d (world d c) c ch), length_coming d (world d c) c ch))
 
 -- an element can be popped from the clock on in which its push is seen
-since_is : {S : Type 0} → (d : Design S) → IsDesign d → (ch c n k : ℕ) → n < length (elements d ch c) → leb (get_or (elements d ch c) n blank).since k ≡ ltb n (d.start true ch + flowed d false ch (suc k - d.lag true ch))
+since_is : {S : Type 0} → (d : Design S) → IsDesign d → (ch c n k : ℕ) → n < length (elements d ch c)
+    → leb (get_or (elements d ch c) n blank).since k ≡ ltb n (d.start true ch + flowed d false ch (suc k - d.lag true ch))
 since_is {S} d i ch zero n k l =
     let l' : n < length (seen_from 0 (d.inputs ch)) = rw (← elements_0 d ch) l in
     rw (elements_0 d ch, since_seen 0 (d.inputs ch) n (omega (arith, length_seen 0 (d.inputs ch))), le-leb 0 k (omega arith)) (sym (lt-ltb n (d.start true ch + flowed d false ch (suc k - d.lag true ch)) (omega (arith, length_seen 0 (d.inputs ch), i.start_inputs ch))))
@@ -112,7 +114,8 @@ drop_append (suc n) [] ys l = absurd (omega arith)
 drop_append (suc n) (x ∷ xs) ys l = drop_append n xs ys (omega arith)
 
 -- from an empty channel nothing is popped
-empty_takes : {S : Type 0} → (d : Design S) (w : World S) (c ch : ℕ) (xs : List Access) → can_take d w c true ch ≡ false → takes_in true ch xs (map (reply_in d w c) xs) ≡ 0
+empty_takes : {S : Type 0} → (d : Design S) (w : World S) (c ch : ℕ) (xs : List Access) → can_take d w c true ch ≡ false
+    → takes_in true ch xs (map (reply_in d w c) xs) ≡ 0
 empty_takes {S} d w c ch [] e = refl
 empty_takes {S} d w c ch (a ∷ xs) e =
     let t : took true ch a (reply_in d w c a) ≡ false =
@@ -148,7 +151,8 @@ takes_takers ch (a ∷ xs) (r ∷ rs) =
 abbrev IsContents : {S : Type 0} → Design S → ℕ → ℕ → Type 0
 IsContents {S} d ch c = ((world d c).contents ch ≡ drop (flowed d true ch c) (elements d ch c)) × (flowed d true ch c ≤ length (elements d ch c))
 
-flow_room : {S : Type 0} → (d : Design S) → IsDesign d → (ch c : ℕ) → IsContents d ch c → flowed d true ch c + flow d (world d c) c true ch ≤ length (elements d ch c)
+flow_room : {S : Type 0} → (d : Design S) → IsDesign d → (ch c : ℕ) → IsContents d ch c
+    → flowed d true ch c + flow d (world d c) c true ch ≤ length (elements d ch c)
 unfolding flow replies_in
 flow_room {S} d i ch c (e, l) =
     let w : World S = world d c in
@@ -215,7 +219,8 @@ front_is {S} d i ch c =
     ap front_of (contents_is d i ch c).0 ∙ (front_drop (flowed d true ch c) (elements d ch c) ∙ ap (λ (z : List ℕ). get_or z (flowed d true ch c) 0) (sym (came_is d ch c)))
 
 -- what a channel allows, by its contents and by counts
-possible_is : {S : Type 0} → (d : Design S) → IsDesign d → HoldsLists d → (c : ℕ) (side : Bool) (ch : ℕ) → is_possible d (trace d) c side ch ≡ can_take d (world d c) c side ch
+possible_is : {S : Type 0} → (d : Design S) → IsDesign d → HoldsLists d → (c : ℕ) (side : Bool) (ch : ℕ)
+    → is_possible d (trace d) c side ch ≡ can_take d (world d c) c side ch
 possible_is {S} d i j c true ch =
     let (e, l) = contents_is d i ch c in
     let t : ℕ = flowed d true ch c in
@@ -246,7 +251,8 @@ can_all_is : {S : Type 0} → (d : Design S) → IsDesign d → HoldsLists d →
 can_all_is {S} d i j c [] = refl
 can_all_is {S} d i j c (a ∷ xs) = ap₂ (λ (x y : Bool). (not a.blocks || x) && y) (possible_is d i j c a.pops a.channel) (can_all_is d i j c xs)
 
-all_replies_is : {S : Type 0} → (d : Design S) → IsDesign d → HoldsLists d → (c : ℕ) (xs : List Access) → map (reply_to d (trace d) c) xs ≡ map (reply_in d (world d c) c) xs
+all_replies_is : {S : Type 0} → (d : Design S) → IsDesign d → HoldsLists d → (c : ℕ) (xs : List Access)
+    → map (reply_to d (trace d) c) xs ≡ map (reply_in d (world d c) c) xs
 all_replies_is {S} d i j c [] = refl
 all_replies_is {S} d i j c (a ∷ xs) =
     ap₂ (λ (r : Reply) (rs : List Reply). r ∷ rs)
@@ -261,7 +267,8 @@ replies_is : {S : Type 0} → (d : Design S) → IsDesign d → HoldsLists d →
 unfolding replies replies_in
 replies_is {S} d i j c m = all_replies_is d i j c (d.accesses m ((world d c).state m))
 
-state_more : {S : Type 0} → (d : Design S) (c m : ℕ) → (world d (suc c)).state m ≡ cond (moves_in d (world d c) c m) (d.move m ((world d c).state m) (replies_in d (world d c) c m)) ((world d c).state m)
+state_more : {S : Type 0} → (d : Design S) (c m : ℕ)
+    → (world d (suc c)).state m ≡ cond (moves_in d (world d c) c m) (d.move m ((world d c).state m) (replies_in d (world d c) c m)) ((world d c).state m)
 unfolding world tick
 state_more {S} d c m = refl
 
@@ -277,11 +284,13 @@ came_more : {S : Type 0} → (d : Design S) (ch c : ℕ) → came d ch (suc c) �
 unfolding came
 came_more {S} d ch c = refl
 
-flow_is : {S : Type 0} → (d : Design S) → IsDesign d → HoldsLists d → (c : ℕ) (side : Bool) (ch : ℕ) → flow d (world d c) c side ch ≡ cond (moves d (trace d) c (d.owner side ch)) (takes_in side ch (d.accesses (d.owner side ch) ((world d c).state (d.owner side ch))) (replies d (trace d) c (d.owner side ch))) 0
+flow_is : {S : Type 0} → (d : Design S) → IsDesign d → HoldsLists d → (c : ℕ) (side : Bool) (ch : ℕ)
+    → flow d (world d c) c side ch ≡ cond (moves d (trace d) c (d.owner side ch)) (takes_in side ch (d.accesses (d.owner side ch) ((world d c).state (d.owner side ch))) (replies d (trace d) c (d.owner side ch))) 0
 unfolding flow
 flow_is {S} d i j c side ch = rw (moves_is d i j c (d.owner side ch), replies_is d i j c (d.owner side ch)) refl
 
-coming_is : {S : Type 0} → (d : Design S) → IsDesign d → HoldsLists d → (c ch : ℕ) → coming d (world d c) c ch ≡ cond (moves d (trace d) c (d.owner false ch)) (values_in ch (d.accesses (d.owner false ch) ((world d c).state (d.owner false ch))) (replies d (trace d) c (d.owner false ch))) []
+coming_is : {S : Type 0} → (d : Design S) → IsDesign d → HoldsLists d → (c ch : ℕ)
+    → coming d (world d c) c ch ≡ cond (moves d (trace d) c (d.owner false ch)) (values_in ch (d.accesses (d.owner false ch) ((world d c).state (d.owner false ch))) (replies d (trace d) c (d.owner false ch))) []
 unfolding coming
 coming_is {S} d i j c ch = rw (moves_is d i j c (d.owner false ch), replies_is d i j c (d.owner false ch)) refl
 

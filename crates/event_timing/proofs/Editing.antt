@@ -19,7 +19,8 @@ pub record Alike {S : Type 0} (h g : Trace S) (c : ℕ) : Type 0 where
   pub taken : (e : ℕ) → e ≤ c → (side : Bool) (ch : ℕ) → g.taken e side ch ≡ h.taken e side ch
   pub pushed : (e : ℕ) → e ≤ c → (ch : ℕ) → g.pushed e ch ≡ h.pushed e ch
 
-possible_alike : {S : Type 0} → (d : Design S) (h g : Trace S) → IsDesign d → (fifo depth t c : ℕ) → ((ch : ℕ) → d.lag false ch ≡ 1) → IsUntouched d h fifo depth t → c < t → Alike h g c → (side : Bool) (ch : ℕ) → is_possible (edited d fifo depth) g c side ch ≡ is_possible d h c side ch
+possible_alike : {S : Type 0} → (d : Design S) (h g : Trace S) → IsDesign d → (fifo depth t c : ℕ) → ((ch : ℕ) → d.lag false ch ≡ 1)
+    → IsUntouched d h fifo depth t → c < t → Alike h g c → (side : Bool) (ch : ℕ) → is_possible (edited d fifo depth) g c side ch ≡ is_possible d h c side ch
 possible_alike {S} d h g i fifo depth t c one u l a true ch =
     rw (a.taken c (omega arith) true ch, a.taken (suc c - d.lag true ch) (omega (arith, i.lag_positive true ch)) false ch) refl
 possible_alike {S} d h g i fifo depth t c one u l a false ch =
@@ -35,25 +36,30 @@ possible_alike {S} d h g i fifo depth t c one u l a false ch =
           rw (q, t1, t2, cond-true {A = ℕ} (eqb ch fifo) depth (d.start false ch) k, lt-ltb (h.taken c false ch) (d.start false ch + h.taken c true ch) r1, lt-ltb (h.taken c false ch) (depth + h.taken c true ch) r2) refl
     ]
 
-can_alike : {S : Type 0} → (d e : Design S) (h g : Trace S) (c : ℕ) → ((side : Bool) (ch : ℕ) → is_possible e g c side ch ≡ is_possible d h c side ch) → (xs : List Access) → can_all e g c xs ≡ can_all d h c xs
+can_alike : {S : Type 0} → (d e : Design S) (h g : Trace S) (c : ℕ) → ((side : Bool) (ch : ℕ) → is_possible e g c side ch ≡ is_possible d h c side ch)
+    → (xs : List Access) → can_all e g c xs ≡ can_all d h c xs
 can_alike {S} d e h g c f [] = refl
 can_alike {S} d e h g c f (a ∷ xs) = ap₂ (λ (x y : Bool). (not a.blocks || x) && y) (f a.pops a.channel) (can_alike d e h g c f xs)
 
-reply_alike : {S : Type 0} → (d e : Design S) (h g : Trace S) (c : ℕ) → ((side : Bool) (ch : ℕ) → is_possible e g c side ch ≡ is_possible d h c side ch) → Alike h g c → (xs : List Access) → map (reply_to e g c) xs ≡ map (reply_to d h c) xs
+reply_alike : {S : Type 0} → (d e : Design S) (h g : Trace S) (c : ℕ) → ((side : Bool) (ch : ℕ) → is_possible e g c side ch ≡ is_possible d h c side ch)
+    → Alike h g c → (xs : List Access) → map (reply_to e g c) xs ≡ map (reply_to d h c) xs
 reply_alike {S} d e h g c f a [] = refl
 reply_alike {S} d e h g c f a (x ∷ xs) =
     ap₂ (λ (r : Reply) (rs : List Reply). r ∷ rs)
     (rw (f x.pops x.channel, a.pushed c (omega arith) x.channel, a.taken c (omega arith) true x.channel) refl)
     (reply_alike d e h g c f a xs)
 
-moves_alike : {S : Type 0} → (d e : Design S) (h g : Trace S) (c : ℕ) → e.accesses ≡ d.accesses → e.is_over ≡ d.is_over → ((side : Bool) (ch : ℕ) → is_possible e g c side ch ≡ is_possible d h c side ch) → Alike h g c → (m : ℕ) → moves e g c m ≡ moves d h c m
+moves_alike : {S : Type 0} → (d e : Design S) (h g : Trace S) (c : ℕ) → e.accesses ≡ d.accesses → e.is_over ≡ d.is_over
+    → ((side : Bool) (ch : ℕ) → is_possible e g c side ch ≡ is_possible d h c side ch) → Alike h g c → (m : ℕ) → moves e g c m ≡ moves d h c m
 unfolding moves
 moves_alike {S} d e h g c p q f a m =
     ap₂ (λ (x y : Bool). not x && y)
     (ap₂ (λ (o : ℕ → S → Bool) (s : S). o m s) q (a.state c (omega arith) m))
     (ap₂ (λ (o : ℕ → S → List Access) (s : S). can_all e g c (o m s)) p (a.state c (omega arith) m) ∙ can_alike d e h g c f (d.accesses m (h.state c m)))
 
-replies_alike : {S : Type 0} → (d : Design S) (h g : Trace S) (fifo depth c : ℕ) → ((side : Bool) (ch : ℕ) → is_possible (edited d fifo depth) g c side ch ≡ is_possible d h c side ch) → Alike h g c → (m : ℕ) → replies (edited d fifo depth) g c m ≡ replies d h c m
+replies_alike : {S : Type 0} → (d : Design S) (h g : Trace S) (fifo depth c : ℕ)
+    → ((side : Bool) (ch : ℕ) → is_possible (edited d fifo depth) g c side ch ≡ is_possible d h c side ch) → Alike h g c → (m : ℕ)
+    → replies (edited d fifo depth) g c m ≡ replies d h c m
 unfolding replies
 replies_alike {S} d h g fifo depth c f a m =
     ap (λ (s : S). map (reply_to (edited d fifo depth) g c) (d.accesses m s)) (a.state c (omega arith) m) ∙ reply_alike d (edited d fifo depth) h g c f a (d.accesses m (h.state c m))
@@ -69,7 +75,8 @@ alike_0 {S} d h g fifo depth y z =
 up_to : (c : ℕ) (P : ℕ → Type 0) → ((e : ℕ) → e ≤ c → P e) → P (suc c) → (e : ℕ) → e ≤ suc c → P e
 up_to c P f g e l = elim (cases_eq e (suc c)) [ inl k ↦ subst P (sym k) g | inr k ↦ f e (omega arith) ]
 
-alike_more : {S : Type 0} → (d : Design S) (h g : Trace S) → IsDesign d → IsHistory d h → (fifo depth t c : ℕ) → IsHistory (edited d fifo depth) g → ((ch : ℕ) → d.lag false ch ≡ 1) → IsUntouched d h fifo depth t → c < t → Alike h g c → Alike h g (suc c)
+alike_more : {S : Type 0} → (d : Design S) (h g : Trace S) → IsDesign d → IsHistory d h → (fifo depth t c : ℕ) → IsHistory (edited d fifo depth) g
+    → ((ch : ℕ) → d.lag false ch ≡ 1) → IsUntouched d h fifo depth t → c < t → Alike h g c → Alike h g (suc c)
 alike_more {S} d h g i y fifo depth t c z one u l a =
     let f = possible_alike d h g i fifo depth t c one u l a in
     let mv = moves_alike d (edited d fifo depth) h g c refl refl f a in
@@ -93,18 +100,21 @@ alike_more {S} d h g i y fifo depth t c z one u l a =
     }
 
 -- up to the first touched clock both runs are one
-pub alike : {S : Type 0} → (d : Design S) (h g : Trace S) → IsDesign d → IsHistory d h → (fifo depth t : ℕ) → IsHistory (edited d fifo depth) g → ((ch : ℕ) → d.lag false ch ≡ 1) → IsUntouched d h fifo depth t → (c : ℕ) → c ≤ t → Alike h g c
+pub alike : {S : Type 0} → (d : Design S) (h g : Trace S) → IsDesign d → IsHistory d h → (fifo depth t : ℕ) → IsHistory (edited d fifo depth) g
+    → ((ch : ℕ) → d.lag false ch ≡ 1) → IsUntouched d h fifo depth t → (c : ℕ) → c ≤ t → Alike h g c
 alike {S} d h g i y fifo depth t z one u zero l = alike_0 d h g fifo depth y z
 alike {S} d h g i y fifo depth t z one u (suc c) l = alike_more d h g i y fifo depth t c z one u l (alike d h g i y fifo depth t z one u c (omega arith))
 
-steps_alike : {S : Type 0} → (d : Design S) (h g : Trace S) → IsDesign d → IsHistory d h → (fifo depth t : ℕ) → IsHistory (edited d fifo depth) g → ((ch : ℕ) → d.lag false ch ≡ 1) → IsUntouched d h fifo depth t → (c : ℕ) → c < t → (m : ℕ) → steps (edited d fifo depth) g c m ≡ steps d h c m
+steps_alike : {S : Type 0} → (d : Design S) (h g : Trace S) → IsDesign d → IsHistory d h → (fifo depth t : ℕ) → IsHistory (edited d fifo depth) g
+    → ((ch : ℕ) → d.lag false ch ≡ 1) → IsUntouched d h fifo depth t → (c : ℕ) → c < t → (m : ℕ) → steps (edited d fifo depth) g c m ≡ steps d h c m
 unfolding steps
 steps_alike {S} d h g i y fifo depth t z one u c l m =
     let a = alike d h g i y fifo depth t z one u c (omega arith) in
     let mv = moves_alike d (edited d fifo depth) h g c refl refl (possible_alike d h g i fifo depth t c one u l a) a m in
     ap₂ (λ (x : Bool) (s : S). x && is_some_access (d.accesses m s)) mv (a.state c (omega arith) m)
 
-done_alike : {S : Type 0} → (d : Design S) (h g : Trace S) → IsDesign d → IsHistory d h → (fifo depth t : ℕ) → IsHistory (edited d fifo depth) g → ((ch : ℕ) → d.lag false ch ≡ 1) → IsUntouched d h fifo depth t → (m c : ℕ) → c ≤ t → done (edited d fifo depth) g m c ≡ done d h m c
+done_alike : {S : Type 0} → (d : Design S) (h g : Trace S) → IsDesign d → IsHistory d h → (fifo depth t : ℕ) → IsHistory (edited d fifo depth) g
+    → ((ch : ℕ) → d.lag false ch ≡ 1) → IsUntouched d h fifo depth t → (m c : ℕ) → c ≤ t → done (edited d fifo depth) g m c ≡ done d h m c
 done_alike {S} d h g i y fifo depth t z one u m zero l = done_0 (edited d fifo depth) g m ∙ sym (done_0 d h m)
 done_alike {S} d h g i y fifo depth t z one u m (suc c) l =
     let s = steps_alike d h g i y fifo depth t z one u c l m in
@@ -141,10 +151,12 @@ kept_below cycle t (suc n) f k l =
           kept_below cycle t n (λ j k p q. f j k p (omega arith)) k l'
     ]
 
-pub cycles_rise : {S : Type 0} → (d : Design S) (h : Trace S) (limit : ℕ) (x : Core S) → IsTimed d h limit x → (m j k : ℕ) → j < k → k < x.timed m → x.cycle m j < x.cycle m k
+pub cycles_rise : {S : Type 0} → (d : Design S) (h : Trace S) (limit : ℕ) (x : Core S) → IsTimed d h limit x → (m j k : ℕ) → j < k → k < x.timed m
+    → x.cycle m j < x.cycle m k
 cycles_rise {S} d h limit x u m j k l q = done_less d h m (x.cycle m j) (x.cycle m k) (omega (arith, u.done_then m j (omega arith), u.done_then m k q))
 
-edit_kept : {S : Type 0} → (d : Design S) (h : Trace S) (limit : ℕ) (x : Core S) → IsTimed d h limit x → (t m k : ℕ) → k < kept (x.cycle m) t (x.timed m) → x.cycle m k < t
+edit_kept : {S : Type 0} → (d : Design S) (h : Trace S) (limit : ℕ) (x : Core S) → IsTimed d h limit x → (t m k : ℕ) → k < kept (x.cycle m) t (x.timed m)
+    → x.cycle m k < t
 edit_kept {S} d h limit x u t m k l = kept_below (x.cycle m) t (x.timed m) (λ j k p q. cycles_rise d h limit x u m j k p q) k l
 
 edit_marks : {S : Type 0} → (d : Design S) (x : Core S) (fifo depth t : ℕ) → AreOwnMarks d x → AreOwnMarks (edited d fifo depth) (after_edit d x t)
@@ -183,7 +195,9 @@ edit_design {S} d fifo depth i =
       outside = i.outside;
     }
 
-edit_done : {S : Type 0} → (d : Design S) (h g : Trace S) → IsDesign d → IsHistory d h → (fifo depth t : ℕ) → IsHistory (edited d fifo depth) g → ((ch : ℕ) → d.lag false ch ≡ 1) → IsUntouched d h fifo depth t → (limit : ℕ) (x : Core S) → IsTimed d h limit x → IsDone (edited d fifo depth) g (after_edit d x t)
+edit_done : {S : Type 0} → (d : Design S) (h g : Trace S) → IsDesign d → IsHistory d h → (fifo depth t : ℕ) → IsHistory (edited d fifo depth) g
+    → ((ch : ℕ) → d.lag false ch ≡ 1) → IsUntouched d h fifo depth t → (limit : ℕ) (x : Core S) → IsTimed d h limit x
+    → IsDone (edited d fifo depth) g (after_edit d x t)
 edit_done {S} d h g i y fifo depth t z one u limit x v =
     record {
       within = λ m. omega (arith, kept_le (x.cycle m) t (x.timed m), v.within m);
@@ -196,7 +210,8 @@ edit_done {S} d h g i y fifo depth t z one u limit x v =
     }
 
 -- behind the steps that stay, what counts as verified has no query
-edit_plain : {S : Type 0} → (d : Design S) (x : Core S) (t m k : ℕ) → kept (x.cycle m) t (x.timed m) ≤ k → (after_edit d x t).verified m k ≡ true → has_query (core_accesses d x m k) ≡ false
+edit_plain : {S : Type 0} → (d : Design S) (x : Core S) (t m k : ℕ) → kept (x.cycle m) t (x.timed m) ≤ k → (after_edit d x t).verified m k ≡ true
+    → has_query (core_accesses d x m k) ≡ false
 edit_plain {S} d x t m k l v =
     let (v1, v2) = and_parts (x.verified m k) (ltb k (kept (x.cycle m) t (x.timed m)) || not (has_query (core_accesses d x m k))) v in
     elim (or_cases (ltb k (kept (x.cycle m) t (x.timed m))) (not (has_query (core_accesses d x m k))) v2) [
@@ -204,7 +219,9 @@ edit_plain {S} d x t m k l v =
       | inr w ↦ not-true (has_query (core_accesses d x m k)) w
     ]
 
-edit_time : {S : Type 0} → (d : Design S) (h g : Trace S) → IsDesign d → IsHistory d h → (fifo depth t : ℕ) → IsHistory (edited d fifo depth) g → ((ch : ℕ) → d.lag false ch ≡ 1) → IsUntouched d h fifo depth t → (limit : ℕ) (x : Core S) → AreOwnMarks d x → IsTimed d h limit x → IsTimed (edited d fifo depth) g limit (after_edit d x t)
+edit_time : {S : Type 0} → (d : Design S) (h g : Trace S) → IsDesign d → IsHistory d h → (fifo depth t : ℕ) → IsHistory (edited d fifo depth) g
+    → ((ch : ℕ) → d.lag false ch ≡ 1) → IsUntouched d h fifo depth t → (limit : ℕ) (x : Core S) → AreOwnMarks d x → IsTimed d h limit x
+    → IsTimed (edited d fifo depth) g limit (after_edit d x t)
 edit_time {S} d h g i y fifo depth t z one u limit x b v =
     let w = edit_done d h g i y fifo depth t z one u limit x v in
     record {
@@ -227,6 +244,8 @@ edit_time {S} d h g i y fifo depth t z one u limit x b v =
     }
 
 -- the core from which a retiming begins agrees with the edited design
-pub edit_agrees : {S : Type 0} → (d : Design S) (h g : Trace S) → IsDesign d → IsHistory d h → (fifo depth t : ℕ) → IsHistory (edited d fifo depth) g → ((ch : ℕ) → d.lag false ch ≡ 1) → IsUntouched d h fifo depth t → (limit : ℕ) (x : Core S) → IsAgreed d h limit x → IsAgreed (edited d fifo depth) g limit (after_edit d x t)
+pub edit_agrees : {S : Type 0} → (d : Design S) (h g : Trace S) → IsDesign d → IsHistory d h → (fifo depth t : ℕ) → IsHistory (edited d fifo depth) g
+    → ((ch : ℕ) → d.lag false ch ≡ 1) → IsUntouched d h fifo depth t → (limit : ℕ) (x : Core S) → IsAgreed d h limit x
+    → IsAgreed (edited d fifo depth) g limit (after_edit d x t)
 edit_agrees {S} d h g i y fifo depth t z one u limit x a =
     record { marks = edit_marks d x fifo depth t a.marks; time = edit_time d h g i y fifo depth t z one u limit x a.marks a.time }

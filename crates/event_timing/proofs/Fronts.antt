@@ -35,36 +35,44 @@ pub agrees : {S : Type 0} → (d : Design S) (h : Trace S) (limit : ℕ) (x : Co
 agrees {S} d h limit x b t = agrees_done d h x b (record { within = t.within; steps_then = t.steps_then; done_then = t.done_then; reply_then = t.reply_then })
 
 -- counts do not read the values
-takes_plain : (side : Bool) (ch : ℕ) (V : ℕ → List ℕ) (t : ℕ → ℕ) (xs : List Access) (bs : List Bool) → takes_in side ch xs (replies_of V t xs bs) ≡ takes_in side ch xs (bare_replies bs)
+takes_plain : (side : Bool) (ch : ℕ) (V : ℕ → List ℕ) (t : ℕ → ℕ) (xs : List Access) (bs : List Bool)
+    → takes_in side ch xs (replies_of V t xs bs) ≡ takes_in side ch xs (bare_replies bs)
 takes_plain side ch V t [] bs = refl
 takes_plain side ch V t (a ∷ xs) [] = refl
 takes_plain side ch V t (a ∷ xs) (b ∷ bs) = rw (takes_plain side ch V t xs bs) refl
 
-values_plain : (ch : ℕ) (V : ℕ → List ℕ) (t : ℕ → ℕ) (xs : List Access) (bs : List Bool) → values_in ch xs (replies_of V t xs bs) ≡ values_in ch xs (bare_replies bs)
+values_plain : (ch : ℕ) (V : ℕ → List ℕ) (t : ℕ → ℕ) (xs : List Access) (bs : List Bool)
+    → values_in ch xs (replies_of V t xs bs) ≡ values_in ch xs (bare_replies bs)
 values_plain ch V t [] bs = refl
 values_plain ch V t (a ∷ xs) [] = refl
 values_plain ch V t (a ∷ xs) (b ∷ bs) = rw (values_plain ch V t xs bs) refl
 
-pub tally_same : (a b : ℕ → List Access) (r s : ℕ → List Reply) (side : Bool) (ch n : ℕ) → ((k : ℕ) → k < n → takes_in side ch (a k) (r k) ≡ takes_in side ch (b k) (s k)) → tally a r side ch n ≡ tally b s side ch n
+pub tally_same : (a b : ℕ → List Access) (r s : ℕ → List Reply) (side : Bool) (ch n : ℕ)
+    → ((k : ℕ) → k < n → takes_in side ch (a k) (r k) ≡ takes_in side ch (b k) (s k)) → tally a r side ch n ≡ tally b s side ch n
 tally_same a b r s side ch zero f = rw (tally_0 a r side ch, tally_0 b s side ch) refl
 tally_same a b r s side ch (suc n) f =
     rw (tally_more a r side ch n, tally_more b s side ch n, f n (omega arith), tally_same a b r s side ch n (λ k l. f k (omega arith))) refl
 
-pub pushed_same : (a b : ℕ → List Access) (r s : ℕ → List Reply) (ch n : ℕ) → ((k : ℕ) → k < n → values_in ch (a k) (r k) ≡ values_in ch (b k) (s k)) → pushed_in ch a r n ≡ pushed_in ch b s n
+pub pushed_same : (a b : ℕ → List Access) (r s : ℕ → List Reply) (ch n : ℕ) → ((k : ℕ) → k < n → values_in ch (a k) (r k) ≡ values_in ch (b k) (s k))
+    → pushed_in ch a r n ≡ pushed_in ch b s n
 pushed_same a b r s ch zero f = rw (pushed_in_0 ch a r, pushed_in_0 ch b s) refl
 pushed_same a b r s ch (suc n) f =
     rw (pushed_in_more ch a r n, pushed_in_more ch b s n, f n (omega arith), pushed_same a b r s ch n (λ k l. f k (omega arith))) refl
 
-pub core_tally_is : {S : Type 0} → (d : Design S) (x : Core S) (m : ℕ) (side : Bool) (ch n : ℕ) → tally (core_accesses d x m) (core_reply d x m) side ch n ≡ core_tally d x m side ch n
+pub core_tally_is : {S : Type 0} → (d : Design S) (x : Core S) (m : ℕ) (side : Bool) (ch n : ℕ)
+    → tally (core_accesses d x m) (core_reply d x m) side ch n ≡ core_tally d x m side ch n
 core_tally_is {S} d x m side ch n =
     tally_same (core_accesses d x m) (core_accesses d x m) (core_reply d x m) (λ j. bare_replies (x.flags m j)) side ch n (λ k l. takes_plain side ch (core_values d x) (λ q. core_tally d x m true q k) (core_accesses d x m k) (x.flags m k))
 
-pub core_pushed_is : {S : Type 0} → (d : Design S) (x : Core S) (m ch n : ℕ) → pushed_in ch (core_accesses d x m) (core_reply d x m) n ≡ pushed_in ch (core_accesses d x m) (λ j. bare_replies (x.flags m j)) n
+pub core_pushed_is : {S : Type 0} → (d : Design S) (x : Core S) (m ch n : ℕ)
+    → pushed_in ch (core_accesses d x m) (core_reply d x m) n ≡ pushed_in ch (core_accesses d x m) (λ j. bare_replies (x.flags m j)) n
 core_pushed_is {S} d x m ch n =
     pushed_same (core_accesses d x m) (core_accesses d x m) (core_reply d x m) (λ j. bare_replies (x.flags m j)) ch n (λ k l. values_plain ch (core_values d x) (λ q. core_tally d x m true q k) (core_accesses d x m k) (x.flags m k))
 
 -- the value at a place that is known to be pushed, in the core and in the history
-pub get_right : {S : Type 0} → (d : Design S) (h : Trace S) → IsDesign d → IsHistory d h → (limit : ℕ) (x : Core S) → AreOwnMarks d x → IsTimed d h limit x → (ch c t : ℕ) → h.taken c true ch ≡ t → t < elements_timed d x ch → is_possible d h c true ch ≡ true → get_or (core_values d x ch) t 0 ≡ get_or (h.pushed c ch) t 0
+pub get_right : {S : Type 0} → (d : Design S) (h : Trace S) → IsDesign d → IsHistory d h → (limit : ℕ) (x : Core S) → AreOwnMarks d x → IsTimed d h limit x
+    → (ch c t : ℕ) → h.taken c true ch ≡ t → t < elements_timed d x ch → is_possible d h c true ch ≡ true
+    → get_or (core_values d x ch) t 0 ≡ get_or (h.pushed c ch) t 0
 get_right {S} d h i y limit x b u ch c t e l p =
     let g = agrees d h limit x b u in
     let w : ℕ = d.owner false ch in

@@ -30,7 +30,8 @@ settled_less {S} d x m n k l s = record { emitted = λ j q. s.emitted j (omega a
 get_grow : (V W : List ℕ) (t u : ℕ) → Begins W V → u ≡ t → t < length V → get_or W u 0 ≡ get_or V t 0
 get_grow V W t u g e l = rw e (begins_get W V t g l)
 
-replies_grow : (V W : ℕ → List ℕ) (t u : ℕ → ℕ) (xs : List Access) (bs : List Bool) → ((ch : ℕ) → Begins (W ch) (V ch)) → ((ch : ℕ) → u ch ≡ t ch) → all_below (λ ch. length (V ch)) t xs bs ≡ true → replies_of W u xs bs ≡ replies_of V t xs bs
+replies_grow : (V W : ℕ → List ℕ) (t u : ℕ → ℕ) (xs : List Access) (bs : List Bool) → ((ch : ℕ) → Begins (W ch) (V ch)) → ((ch : ℕ) → u ch ≡ t ch)
+    → all_below (λ ch. length (V ch)) t xs bs ≡ true → replies_of W u xs bs ≡ replies_of V t xs bs
 replies_grow V W t u [] bs g e l = refl
 replies_grow V W t u (a ∷ xs) [] g e l = refl
 replies_grow V W t u (a ∷ xs) (b ∷ bs) g e l =
@@ -44,7 +45,8 @@ replies_grow V W t u (a ∷ xs) (b ∷ bs) g e l =
     ] in
     ap₂ (λ (z : ℕ) (zs : List Reply). record { possible = b; front = z } ∷ zs) f (replies_grow V W t u xs bs g e l2)
 
-pub below_grow : (s s' t u : ℕ → ℕ) (xs : List Access) (bs : List Bool) → ((ch : ℕ) → s ch ≤ s' ch) → ((ch : ℕ) → u ch ≡ t ch) → all_below s t xs bs ≡ true → all_below s' u xs bs ≡ true
+pub below_grow : (s s' t u : ℕ → ℕ) (xs : List Access) (bs : List Bool) → ((ch : ℕ) → s ch ≤ s' ch) → ((ch : ℕ) → u ch ≡ t ch) → all_below s t xs bs ≡ true
+    → all_below s' u xs bs ≡ true
 below_grow s s' t u [] bs l q e = refl
 below_grow s s' t u (a ∷ xs) [] l q e = refl
 below_grow s s' t u (a ∷ xs) (b ∷ bs) l q e =
@@ -56,7 +58,8 @@ below_grow s s' t u (a ∷ xs) (b ∷ bs) l q e =
     ])
     (below_grow s s' t u xs bs l q e2)
 
-pub tally_grow : {S : Type 0} → (d : Design S) (x z : Core S) → Grows d x z → (m n : ℕ) → ((k : ℕ) → k < n → k < x.emitted m) → ((k : ℕ) → k < n → x.answered m k ≡ true) → (side : Bool) (ch : ℕ) → core_tally d z m side ch n ≡ core_tally d x m side ch n
+pub tally_grow : {S : Type 0} → (d : Design S) (x z : Core S) → Grows d x z → (m n : ℕ) → ((k : ℕ) → k < n → k < x.emitted m)
+    → ((k : ℕ) → k < n → x.answered m k ≡ true) → (side : Bool) (ch : ℕ) → core_tally d z m side ch n ≡ core_tally d x m side ch n
 tally_grow {S} d x z g m n f h side ch =
     tally_same (core_accesses d z m) (core_accesses d x m) (λ j. bare_replies (z.flags m j)) (λ j. bare_replies (x.flags m j)) side ch n
     (λ k l. ap₂ (λ (s : S) (b : List Bool). takes_in side ch (d.accesses m s) (bare_replies b)) (g.state_same m k (f k l)) (g.flags_same m k (f k l) (h k l)))
@@ -76,7 +79,8 @@ there_grow {S} d x z g m n s =
     (λ ch. tally_grow d x z g m n (λ k l. s.emitted k (omega arith)) (λ k l. s.answered k (omega arith)) true ch)
     (s.there n (omega arith))
 
-pub own_grow : {S : Type 0} → (d : Design S) (x z : Core S) → Grows d x z → (m n : ℕ) → IsSettled d x m n → own d m (core_reply d z m) n ≡ own d m (core_reply d x m) n
+pub own_grow : {S : Type 0} → (d : Design S) (x z : Core S) → Grows d x z → (m n : ℕ) → IsSettled d x m n
+    → own d m (core_reply d z m) n ≡ own d m (core_reply d x m) n
 own_grow {S} d x z g m zero s = own_0 d m (core_reply d z m) ∙ sym (own_0 d m (core_reply d x m))
 own_grow {S} d x z g m (suc n) s =
     own_more d m (core_reply d z m) n
@@ -93,7 +97,8 @@ settled_timed {S} d h limit x u m n l =
     record { emitted = λ k q. omega (arith, u.within m); answered = λ k q. u.answered_then m k (omega arith); there = λ k q. u.there_then m k (omega arith) }
 
 -- and so are all, where the newest has its replies
-pub settled_all : {S : Type 0} → (d : Design S) (x : Core S) → AreOwnMarks d x → (m : ℕ) → ((k : ℕ) → suc k ≡ x.emitted m → x.answered m k ≡ true) → ((k : ℕ) → suc k ≡ x.emitted m → values_there d x m k ≡ true) → IsSettled d x m (x.emitted m)
+pub settled_all : {S : Type 0} → (d : Design S) (x : Core S) → AreOwnMarks d x → (m : ℕ) → ((k : ℕ) → suc k ≡ x.emitted m → x.answered m k ≡ true)
+    → ((k : ℕ) → suc k ≡ x.emitted m → values_there d x m k ≡ true) → IsSettled d x m (x.emitted m)
 settled_all {S} d x b m f g =
     record {
       emitted = λ k q. q;

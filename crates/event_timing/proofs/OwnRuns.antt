@@ -33,7 +33,8 @@ pub tally_0 : (a : ℕ → List Access) (r : ℕ → List Reply) (side : Bool) (
 unfolding tally
 tally_0 a r side ch = refl
 
-pub tally_more : (a : ℕ → List Access) (r : ℕ → List Reply) (side : Bool) (ch k : ℕ) → tally a r side ch (suc k) ≡ tally a r side ch k + takes_in side ch (a k) (r k)
+pub tally_more : (a : ℕ → List Access) (r : ℕ → List Reply) (side : Bool) (ch k : ℕ)
+    → tally a r side ch (suc k) ≡ tally a r side ch k + takes_in side ch (a k) (r k)
 unfolding tally
 tally_more a r side ch k = refl
 
@@ -44,7 +45,8 @@ Follows {S} d h m r c = (e : ℕ) → e < c → steps d h e m ≡ true → r (do
 pub follows_less : {S : Type 0} → (d : Design S) (h : Trace S) (m : ℕ) (r : ℕ → List Reply) (c : ℕ) → Follows d h m r (suc c) → Follows d h m r c
 follows_less {S} d h m r c f e l s = f e (omega arith) s
 
-pub rest_own : {S : Type 0} → (d : Design S) (h : Trace S) → IsDesign d → IsHistory d h → (m : ℕ) (r : ℕ → List Reply) (c : ℕ) → Follows d h m r c → rest d h m c ≡ own d m r (done d h m c)
+pub rest_own : {S : Type 0} → (d : Design S) (h : Trace S) → IsDesign d → IsHistory d h → (m : ℕ) (r : ℕ → List Reply) (c : ℕ) → Follows d h m r c
+    → rest d h m c ≡ own d m r (done d h m c)
 rest_own {S} d h i y m r zero f = rest_0 d h m ∙ (y.state_0 m ∙ (rw (done_0 d h m, own_0 d m r) refl))
 rest_own {S} d h i y m r (suc c) f = later (cases_Bool (steps d h c m)) (rest_own d h i y m r c (follows_less d h m r c f))
   where
@@ -60,7 +62,8 @@ none_taken : (side : Bool) (ch : ℕ) (xs : List Access) (rs : List Reply) → i
 none_taken side ch [] rs e = refl
 none_taken side ch (a ∷ xs) rs e = cc
 
-taken_still : {S : Type 0} → (d : Design S) (h : Trace S) → IsHistory d h → (c : ℕ) (side : Bool) (ch : ℕ) → steps d h c (d.owner side ch) ≡ false → h.taken (suc c) side ch ≡ h.taken c side ch
+taken_still : {S : Type 0} → (d : Design S) (h : Trace S) → IsHistory d h → (c : ℕ) (side : Bool) (ch : ℕ) → steps d h c (d.owner side ch) ≡ false
+    → h.taken (suc c) side ch ≡ h.taken c side ch
 taken_still {S} d h y c side ch e =
     elim (cases_Bool (moves d h c (d.owner side ch))) [
       | inl w ↦
@@ -74,12 +77,16 @@ taken_still {S} d h y c side ch e =
 abbrev pub OwnAccesses : {S : Type 0} → Design S → ℕ → (ℕ → List Access) → (ℕ → List Reply) → ℕ → Type 0
 OwnAccesses {S} d m a r n = (k : ℕ) → k < n → a k ≡ own_accesses d m r k
 
-pub taken_own : {S : Type 0} → (d : Design S) (h : Trace S) → IsDesign d → IsHistory d h → (side : Bool) (ch : ℕ) (a : ℕ → List Access) (r : ℕ → List Reply) (c : ℕ) → Follows d h (d.owner side ch) r c → OwnAccesses d (d.owner side ch) a r (done d h (d.owner side ch) c) → h.taken c side ch ≡ tally a r side ch (done d h (d.owner side ch) c)
+pub taken_own : {S : Type 0} → (d : Design S) (h : Trace S) → IsDesign d → IsHistory d h
+    → (side : Bool) (ch : ℕ) (a : ℕ → List Access) (r : ℕ → List Reply) (c : ℕ) → Follows d h (d.owner side ch) r c
+    → OwnAccesses d (d.owner side ch) a r (done d h (d.owner side ch) c) → h.taken c side ch ≡ tally a r side ch (done d h (d.owner side ch) c)
 taken_own {S} d h i y side ch a r zero f x = y.taken_0 side ch ∙ (rw (done_0 d h (d.owner side ch), tally_0 a r side ch) refl)
 taken_own {S} d h i y side ch a r (suc c) f x =
     later (cases_Bool (steps d h c (d.owner side ch))) (taken_own d h i y side ch a r c (follows_less d h (d.owner side ch) r c f) (λ k l. x k (omega (arith, done_up d h (d.owner side ch) c))))
   where
-    later : (steps d h c (d.owner side ch) ≡ true) ⊎ (steps d h c (d.owner side ch) ≡ false) → h.taken c side ch ≡ tally a r side ch (done d h (d.owner side ch) c) → h.taken (suc c) side ch ≡ tally a r side ch (done d h (d.owner side ch) (suc c))
+    later : (steps d h c (d.owner side ch) ≡ true) ⊎ (steps d h c (d.owner side ch) ≡ false)
+        → h.taken c side ch ≡ tally a r side ch (done d h (d.owner side ch) c)
+        → h.taken (suc c) side ch ≡ tally a r side ch (done d h (d.owner side ch) (suc c))
     later (inl e) g =
         let p = y.taken_moves c side ch (steps_moves d h c (d.owner side ch) e) in
         let b = step_ready d h i y (d.owner side ch) c e in
@@ -134,7 +141,8 @@ abbrev pub IsPlace : (ℕ → List Access) → (ℕ → List Reply) → Bool →
 IsPlace a r side ch n i None = tally a r side ch n ≤ i
 IsPlace a r side ch n i (Some j) = (j < n) × (tally a r side ch j ≤ i) × (i < tally a r side ch (suc j))
 
-place_wider : (a : ℕ → List Access) (r : ℕ → List Reply) (side : Bool) (ch n i : ℕ) → (o : Option ℕ) → (i < tally a r side ch n) ⊎ (tally a r side ch (suc n) ≤ i) → IsPlace a r side ch n i o → IsPlace a r side ch (suc n) i o
+place_wider : (a : ℕ → List Access) (r : ℕ → List Reply) (side : Bool) (ch n i : ℕ) → (o : Option ℕ)
+    → (i < tally a r side ch n) ⊎ (tally a r side ch (suc n) ≤ i) → IsPlace a r side ch n i o → IsPlace a r side ch (suc n) i o
 place_wider a r side ch n i None (inl l) g = absurd (omega arith)
 place_wider a r side ch n i None (inr l) g = l
 place_wider a r side ch n i (Some j) l (p, q, e) = (omega arith, q, e)
@@ -145,7 +153,8 @@ unfolding place
 place_says a r side ch zero i = omega (arith, tally_0 a r side ch)
 place_says a r side ch (suc n) i = later (cases_lt i (tally a r side ch n)) (cases_lt i (tally a r side ch (suc n))) (place_says a r side ch n i)
   where
-    later : (i < tally a r side ch n) ⊎ (tally a r side ch n ≤ i) → (i < tally a r side ch (suc n)) ⊎ (tally a r side ch (suc n) ≤ i) → IsPlace a r side ch n i (place a r side ch n i) → IsPlace a r side ch (suc n) i (place a r side ch (suc n) i)
+    later : (i < tally a r side ch n) ⊎ (tally a r side ch n ≤ i) → (i < tally a r side ch (suc n)) ⊎ (tally a r side ch (suc n) ≤ i)
+        → IsPlace a r side ch n i (place a r side ch n i) → IsPlace a r side ch (suc n) i (place a r side ch (suc n) i)
     later (inl p) q g = rw (lt-leb (tally a r side ch n) i p) (place_wider a r side ch n i _ (inl p) g)
     later (inr p) (inl q) g = rw (le-leb (tally a r side ch n) i p, lt-ltb i (tally a r side ch (suc n)) q) (omega arith, p, q)
     later (inr p) (inr q) g = rw (le-leb (tally a r side ch n) i p, le-ltb i (tally a r side ch (suc n)) q) (place_wider a r side ch n i _ (inr q) g)
@@ -157,7 +166,8 @@ not_same_side false true e = cc
 not_same_side false false e = refl
 
 -- nobody pushes a source, and nobody pops a sink
-closed_takes : {S : Type 0} → (d : Design S) (o : Bool) (ch : ℕ) (xs : List Access) (rs : List Reply) → d.closed (not o) ch ≡ true → Each (λ a. d.closed (not a.pops) a.channel ≡ false) xs → takes_in o ch xs rs ≡ 0
+closed_takes : {S : Type 0} → (d : Design S) (o : Bool) (ch : ℕ) (xs : List Access) (rs : List Reply) → d.closed (not o) ch ≡ true
+    → Each (λ a. d.closed (not a.pops) a.channel ≡ false) xs → takes_in o ch xs rs ≡ 0
 closed_takes {S} d o ch [] rs e g = refl
 closed_takes {S} d o ch (a ∷ xs) [] e g = refl
 closed_takes {S} d o ch (a ∷ xs) (r ∷ rs) e (g, gs) =
@@ -170,7 +180,8 @@ closed_takes {S} d o ch (a ∷ xs) (r ∷ rs) e (g, gs) =
     both_ways _ g' e) in
     rw (cond-false {A = ℕ} (took o ch a r) 1 0 t, closed_takes d o ch xs rs e gs) refl
 
-pub closed_taken : {S : Type 0} → (d : Design S) (h : Trace S) → IsDesign d → IsHistory d h → (o : Bool) (ch c : ℕ) → d.closed (not o) ch ≡ true → h.taken c o ch ≡ 0
+pub closed_taken : {S : Type 0} → (d : Design S) (h : Trace S) → IsDesign d → IsHistory d h → (o : Bool) (ch c : ℕ) → d.closed (not o) ch ≡ true
+    → h.taken c o ch ≡ 0
 closed_taken {S} d h i y o ch zero e = y.taken_0 o ch
 closed_taken {S} d h i y o ch (suc c) e =
     elim (cases_Bool (moves d h c (d.owner o ch))) [
@@ -181,7 +192,8 @@ closed_taken {S} d h i y o ch (suc c) e =
     ]
 
 -- there is one such step
-pub place_unique : (a : ℕ → List Access) (r : ℕ → List Reply) (side : Bool) (ch n i j : ℕ) → j < n → tally a r side ch j ≤ i → i < tally a r side ch (suc j) → place a r side ch n i ≡ Some j
+pub place_unique : (a : ℕ → List Access) (r : ℕ → List Reply) (side : Bool) (ch n i j : ℕ) → j < n → tally a r side ch j ≤ i → i < tally a r side ch (suc j)
+    → place a r side ch n i ≡ Some j
 place_unique a r side ch n i j l p q = later (place a r side ch n i) (place_says a r side ch n i)
   where
     later : (o : Option ℕ) → IsPlace a r side ch n i o → o ≡ Some j

@@ -14,7 +14,8 @@ use Rattle.event_timing.proofs.Fronts.{pushed_same, IsDone}
 use Rattle.event_timing.proofs.Growing.{Grows, IsSettled, settled_less, settled_old, settled_timed, settled_all, own_grow, reply_grow, there_grow, tally_grow, below_grow}
 use Rattle.event_timing.proofs.Assigning.{put_cases, put_same, put_other, put_at_same, put_at_other, plain_possible, can_emitted, RightFlags, SureFlags, HappensFirst}
 
-pub newest_own : {S : Type 0} → (d : Design S) (x : Core S) → AreOwnMarks d x → (m n : ℕ) → n ≤ x.emitted m → state_behind d x m n ≡ own d m (core_reply d x m) n
+pub newest_own : {S : Type 0} → (d : Design S) (x : Core S) → AreOwnMarks d x → (m n : ℕ) → n ≤ x.emitted m
+    → state_behind d x m n ≡ own d m (core_reply d x m) n
 newest_own {S} d x b m zero l = sym (own_0 d m (core_reply d x m))
 newest_own {S} d x b m (suc n) l = ap (λ (s : S). d.move m s (core_reply d x m n)) (b.own_step m n l) ∙ sym (own_more d m (core_reply d x m) n)
 
@@ -28,7 +29,8 @@ over_cases {S} x m n e =
       | inr k ↦ inr (sym (put_other x.over m true n k) ∙ e)
     ]
 
-over_marks : {S : Type 0} → (d : Design S) (x : Core S) → AreOwnMarks d x → (m : ℕ) → MayRun d x m → d.is_over m (ready d m (newest d x m)) ≡ true → AreOwnMarks d (emit_over x m)
+over_marks : {S : Type 0} → (d : Design S) (x : Core S) → AreOwnMarks d x → (m : ℕ) → MayRun d x m → d.is_over m (ready d m (newest d x m)) ≡ true
+    → AreOwnMarks d (emit_over x m)
 over_marks {S} d x b m r e =
     record {
       own_step = b.own_step;
@@ -76,7 +78,8 @@ over_time {S} d h limit x u m =
 abbrev pub emit : {S : Type 0} → Design S → Core S → ℕ → Core S
 emit {S} d x m = emit_step d x m (newest d x m)
 
-pub emit_more : {S : Type 0} → (x : Core S) (m : ℕ) (P : ℕ → ℕ → Type 0) → ((n k : ℕ) → k < x.emitted n → P n k) → P m (x.emitted m) → (n k : ℕ) → k < put x.emitted m (suc (x.emitted m)) n → P n k
+pub emit_more : {S : Type 0} → (x : Core S) (m : ℕ) (P : ℕ → ℕ → Type 0) → ((n k : ℕ) → k < x.emitted n → P n k) → P m (x.emitted m) → (n k : ℕ)
+    → k < put x.emitted m (suc (x.emitted m)) n → P n k
 emit_more {S} x m P f e n = put_cases x.emitted m (suc (x.emitted m)) (λ (p q : ℕ). (k : ℕ) → k < q → P p k) (λ p w. f p) here n
   where
     here : (k : ℕ) → k < suc (x.emitted m) → P m k
@@ -89,7 +92,10 @@ emit_up {S} x m n = put_cases x.emitted m (suc (x.emitted m)) (λ (p q : ℕ). x
 pub old_at : {S : Type 0} → {A : Type 0} → (f : ℕ → ℕ → A) (x : Core S) (m : ℕ) (y : A) (n k : ℕ) → k < x.emitted n → put_at f m (x.emitted m) y n k ≡ f n k
 old_at {S} f x m y n k l = put_at_other f m (x.emitted m) y n k (λ e w. let l' = subst (λ (z : ℕ). k < x.emitted z) e l in omega arith)
 
-pub values_grow : {S : Type 0} → (d : Design S) (x z : Core S) → (ch : ℕ) → x.emitted (d.owner false ch) ≤ z.emitted (d.owner false ch) → ((k : ℕ) → k < x.emitted (d.owner false ch) → z.state (d.owner false ch) k ≡ x.state (d.owner false ch) k) → ((k : ℕ) → k < x.emitted (d.owner false ch) → z.flags (d.owner false ch) k ≡ x.flags (d.owner false ch) k) → Begins (core_values d z ch) (core_values d x ch)
+pub values_grow : {S : Type 0} → (d : Design S) (x z : Core S) → (ch : ℕ) → x.emitted (d.owner false ch) ≤ z.emitted (d.owner false ch)
+    → ((k : ℕ) → k < x.emitted (d.owner false ch) → z.state (d.owner false ch) k ≡ x.state (d.owner false ch) k)
+    → ((k : ℕ) → k < x.emitted (d.owner false ch) → z.flags (d.owner false ch) k ≡ x.flags (d.owner false ch) k)
+    → Begins (core_values d z ch) (core_values d x ch)
 values_grow {S} d x z ch l f g =
     let w : ℕ = d.owner false ch in
     let (more, e) = pushed_in_mono ch (core_accesses d z w) (λ j. bare_replies (z.flags w j)) (x.emitted w) (z.emitted w) l in
@@ -111,14 +117,16 @@ no_outcomes_fit : (xs : List Access) → FlagsFit xs (no_outcomes xs)
 no_outcomes_fit [] = tt
 no_outcomes_fit (a ∷ xs) = (λ e. e, no_outcomes_fit xs)
 
-emit_own_step : {S : Type 0} → (d : Design S) (x : Core S) → AreOwnMarks d x → (m : ℕ) → MayRun d x m → (n k : ℕ) → k < (emit d x m).emitted n → (emit d x m).state n k ≡ ready d n (own d n (core_reply d (emit d x m) n) k)
+emit_own_step : {S : Type 0} → (d : Design S) (x : Core S) → AreOwnMarks d x → (m : ℕ) → MayRun d x m → (n k : ℕ) → k < (emit d x m).emitted n
+    → (emit d x m).state n k ≡ ready d n (own d n (core_reply d (emit d x m) n) k)
 emit_own_step {S} d x b m r =
     let g = emit_grows d x m in
     emit_more x m (λ n k. (emit d x m).state n k ≡ ready d n (own d n (core_reply d (emit d x m) n) k))
     (λ n k l. g.state_same n k l ∙ (b.own_step n k l ∙ ap (ready d n) (sym (own_grow d x (emit d x m) g n k (settled_old d x b n k l)))))
     (put_at_same x.state m (x.emitted m) (ready d m (newest d x m)) ∙ ap (ready d m) (newest_own d x b m (x.emitted m) (omega arith) ∙ sym (own_grow d x (emit d x m) g m (x.emitted m) (run_settled d x b m r))))
 
-emit_own_wait : {S : Type 0} → (d : Design S) (x : Core S) → AreOwnMarks d x → (m : ℕ) → MayRun d x m → (n k : ℕ) → k < (emit d x m).emitted n → (emit d x m).wait n k ≡ d.quiet n (own d n (core_reply d (emit d x m) n) k)
+emit_own_wait : {S : Type 0} → (d : Design S) (x : Core S) → AreOwnMarks d x → (m : ℕ) → MayRun d x m → (n k : ℕ) → k < (emit d x m).emitted n
+    → (emit d x m).wait n k ≡ d.quiet n (own d n (core_reply d (emit d x m) n) k)
 emit_own_wait {S} d x b m r =
     let g = emit_grows d x m in
     emit_more x m (λ n k. (emit d x m).wait n k ≡ d.quiet n (own d n (core_reply d (emit d x m) n) k))
@@ -128,19 +136,22 @@ emit_own_wait {S} d x b m r =
 emit_flags_same : {S : Type 0} → (d : Design S) (x : Core S) (m n k : ℕ) → k < x.emitted n → (emit d x m).flags n k ≡ x.flags n k
 emit_flags_same {S} d x m n k l = old_at x.flags x m _ n k l
 
-emit_fit : {S : Type 0} → (d : Design S) (x : Core S) → AreOwnMarks d x → (m : ℕ) → (n k : ℕ) → k < (emit d x m).emitted n → FlagsFit (core_accesses d (emit d x m) n k) ((emit d x m).flags n k)
+emit_fit : {S : Type 0} → (d : Design S) (x : Core S) → AreOwnMarks d x → (m : ℕ) → (n k : ℕ) → k < (emit d x m).emitted n
+    → FlagsFit (core_accesses d (emit d x m) n k) ((emit d x m).flags n k)
 emit_fit {S} d x b m =
     emit_more x m (λ n k. FlagsFit (core_accesses d (emit d x m) n k) ((emit d x m).flags n k))
     (λ n k l. subst (λ (s : S). FlagsFit (d.accesses n s) ((emit d x m).flags n k)) (sym (old_at x.state x m (ready d m (newest d x m)) n k l)) (subst (λ (f : List Bool). FlagsFit (core_accesses d x n k) f) (sym (emit_flags_same d x m n k l)) (b.fit n k l)))
     (subst (λ (s : S). FlagsFit (d.accesses m s) ((emit d x m).flags m (x.emitted m))) (sym (put_at_same x.state m (x.emitted m) (ready d m (newest d x m)))) (subst (λ (f : List Bool). FlagsFit (d.accesses m (ready d m (newest d x m))) f) (sym (put_at_same x.flags m (x.emitted m) (no_outcomes (d.accesses m (ready d m (newest d x m)))))) (no_outcomes_fit _)))
 
-emit_unanswered : {S : Type 0} → (d : Design S) (x : Core S) → AreOwnMarks d x → (m : ℕ) → (n k : ℕ) → k < (emit d x m).emitted n → (emit d x m).answered n k ≡ false → (emit d x m).flags n k ≡ no_outcomes (core_accesses d (emit d x m) n k)
+emit_unanswered : {S : Type 0} → (d : Design S) (x : Core S) → AreOwnMarks d x → (m : ℕ) → (n k : ℕ) → k < (emit d x m).emitted n
+    → (emit d x m).answered n k ≡ false → (emit d x m).flags n k ≡ no_outcomes (core_accesses d (emit d x m) n k)
 emit_unanswered {S} d x b m =
     emit_more x m (λ n k. (emit d x m).answered n k ≡ false → (emit d x m).flags n k ≡ no_outcomes (core_accesses d (emit d x m) n k))
     (λ n k l a. emit_flags_same d x m n k l ∙ (b.unanswered n k l (sym (old_at x.answered x m _ n k l) ∙ a) ∙ ap (λ (s : S). no_outcomes (d.accesses n s)) (sym (old_at x.state x m (ready d m (newest d x m)) n k l))))
     (λ a. put_at_same x.flags m (x.emitted m) (no_outcomes (d.accesses m (ready d m (newest d x m)))) ∙ ap (λ (s : S). no_outcomes (d.accesses m s)) (sym (put_at_same x.state m (x.emitted m) (ready d m (newest d x m)))))
 
-emit_marks : {S : Type 0} → (d : Design S) (x : Core S) → AreOwnMarks d x → (m : ℕ) → MayRun d x m → d.is_over m (ready d m (newest d x m)) ≡ false → AreOwnMarks d (emit d x m)
+emit_marks : {S : Type 0} → (d : Design S) (x : Core S) → AreOwnMarks d x → (m : ℕ) → MayRun d x m → d.is_over m (ready d m (newest d x m)) ≡ false
+    → AreOwnMarks d (emit d x m)
 emit_marks {S} d x b m r e =
     let g = emit_grows d x m in
     let z : Core S = emit d x m in
@@ -183,12 +194,15 @@ emit_done {S} d h limit x u m =
     }
 
 -- what a new step claims of its queries: nothing where it has one
-emit_plain : {S : Type 0} → (d : Design S) (x : Core S) (m : ℕ) → (emit d x m).verified m (x.emitted m) ≡ true → has_query (core_accesses d (emit d x m) m (x.emitted m)) ≡ false
+emit_plain : {S : Type 0} → (d : Design S) (x : Core S) (m : ℕ) → (emit d x m).verified m (x.emitted m) ≡ true
+    → has_query (core_accesses d (emit d x m) m (x.emitted m)) ≡ false
 emit_plain {S} d x m v =
     let v' = sym (put_at_same x.verified m (x.emitted m) (not (has_query (d.accesses m (ready d m (newest d x m)))))) ∙ v in
     ap (λ (s : S). has_query (d.accesses m s)) (put_at_same x.state m (x.emitted m) (ready d m (newest d x m))) ∙ not-true _ v'
 
-emit_first_flags : {S : Type 0} → (d : Design S) (h : Trace S) → IsDesign d → IsHistory d h → (limit : ℕ) (x : Core S) → AreOwnMarks d x → IsTimed d h limit x → (m : ℕ) → MayRun d x m → AreOwnMarks d (emit d x m) → (n k : ℕ) → k < (emit d x m).emitted n → k ≡ x.timed n → (emit d x m).verified n k ≡ true → (c : ℕ) → steps d h c n ≡ true → done d h n c ≡ k → (emit d x m).flags n k ≡ possible_all d h c (core_accesses d (emit d x m) n k)
+emit_first_flags : {S : Type 0} → (d : Design S) (h : Trace S) → IsDesign d → IsHistory d h → (limit : ℕ) (x : Core S) → AreOwnMarks d x → IsTimed d h limit x
+    → (m : ℕ) → MayRun d x m → AreOwnMarks d (emit d x m) → (n k : ℕ) → k < (emit d x m).emitted n → k ≡ x.timed n → (emit d x m).verified n k ≡ true → (c : ℕ)
+    → steps d h c n ≡ true → done d h n c ≡ k → (emit d x m).flags n k ≡ possible_all d h c (core_accesses d (emit d x m) n k)
 emit_first_flags {S} d h i y limit x b u m r b' =
     emit_more x m (λ n k. k ≡ x.timed n → (emit d x m).verified n k ≡ true → (c : ℕ) → steps d h c n ≡ true → done d h n c ≡ k → (emit d x m).flags n k ≡ possible_all d h c (core_accesses d (emit d x m) n k))
     (λ n k l e v c s q.
@@ -199,12 +213,15 @@ emit_first_flags {S} d h i y limit x b u m r b' =
     let a = can_emitted d h i y (emit d x m) b' (emit_done d h limit x u m) m c (x.emitted m) l (omega arith) s q in
     plain_possible d h c (core_accesses d (emit d x m) m (x.emitted m)) ((emit d x m).flags m (x.emitted m)) (emit_plain d x m v) a (b'.fit m (x.emitted m) l))
 
-emit_sure : {S : Type 0} → (d : Design S) (h : Trace S) (limit : ℕ) (x : Core S) → IsTimed d h limit x → (m ch : ℕ) → elements_timed d (emit d x m) ch ≡ elements_timed d x ch
+emit_sure : {S : Type 0} → (d : Design S) (h : Trace S) (limit : ℕ) (x : Core S) → IsTimed d h limit x → (m ch : ℕ)
+    → elements_timed d (emit d x m) ch ≡ elements_timed d x ch
 emit_sure {S} d h limit x u m ch =
     let s = settled_timed d h limit x u (d.owner false ch) (x.timed (d.owner false ch)) (omega arith) in
     ap (λ (z : ℕ). d.start true ch + z) (tally_grow d x (emit d x m) (emit_grows d x m) (d.owner false ch) (x.timed (d.owner false ch)) s.emitted s.answered false ch)
 
-emit_first_sure : {S : Type 0} → (d : Design S) (h : Trace S) (limit : ℕ) (x : Core S) → AreOwnMarks d x → IsTimed d h limit x → (m : ℕ) → (n k : ℕ) → k < (emit d x m).emitted n → k ≡ x.timed n → (emit d x m).verified n k ≡ true → has_query (core_accesses d (emit d x m) n k) ≡ true → all_below (elements_timed d (emit d x m)) (λ ch. core_tally d (emit d x m) n true ch k) (core_accesses d (emit d x m) n k) ((emit d x m).flags n k) ≡ true
+emit_first_sure : {S : Type 0} → (d : Design S) (h : Trace S) (limit : ℕ) (x : Core S) → AreOwnMarks d x → IsTimed d h limit x → (m : ℕ) → (n k : ℕ)
+    → k < (emit d x m).emitted n → k ≡ x.timed n → (emit d x m).verified n k ≡ true → has_query (core_accesses d (emit d x m) n k) ≡ true
+    → all_below (elements_timed d (emit d x m)) (λ ch. core_tally d (emit d x m) n true ch k) (core_accesses d (emit d x m) n k) ((emit d x m).flags n k) ≡ true
 emit_first_sure {S} d h limit x b u m =
     emit_more x m (λ n k. k ≡ x.timed n → (emit d x m).verified n k ≡ true → has_query (core_accesses d (emit d x m) n k) ≡ true → all_below (elements_timed d (emit d x m)) (λ ch. core_tally d (emit d x m) n true ch k) (core_accesses d (emit d x m) n k) ((emit d x m).flags n k) ≡ true)
     (λ n k l e v p.
@@ -220,7 +237,8 @@ emit_first_sure {S} d h limit x b u m =
     f')
     (λ e v p. absurd (both_ways _ (emit_plain d x m v) p))
 
-emit_time : {S : Type 0} → (d : Design S) (h : Trace S) → IsDesign d → IsHistory d h → (limit : ℕ) (x : Core S) → AreOwnMarks d x → IsTimed d h limit x → (m : ℕ) → MayRun d x m → AreOwnMarks d (emit d x m) → IsTimed d h limit (emit d x m)
+emit_time : {S : Type 0} → (d : Design S) (h : Trace S) → IsDesign d → IsHistory d h → (limit : ℕ) (x : Core S) → AreOwnMarks d x → IsTimed d h limit x
+    → (m : ℕ) → MayRun d x m → AreOwnMarks d (emit d x m) → IsTimed d h limit (emit d x m)
 emit_time {S} d h i y limit x b u m r b' =
     let g = emit_grows d x m in
     let z : Core S = emit d x m in
@@ -254,7 +272,8 @@ run_marks {S} d x b m r =
       | inr e ↦ subst (AreOwnMarks d) (sym (cond-false (d.is_over m (ready d m (newest d x m))) (emit_over x m) (emit d x m) e)) (emit_marks d x b m r e)
     ]
 
-pub run_time : {S : Type 0} → (d : Design S) (h : Trace S) → IsDesign d → IsHistory d h → (limit : ℕ) (x : Core S) → AreOwnMarks d x → IsTimed d h limit x → (m : ℕ) → MayRun d x m → IsTimed d h limit (after_run d x m)
+pub run_time : {S : Type 0} → (d : Design S) (h : Trace S) → IsDesign d → IsHistory d h → (limit : ℕ) (x : Core S) → AreOwnMarks d x → IsTimed d h limit x
+    → (m : ℕ) → MayRun d x m → IsTimed d h limit (after_run d x m)
 run_time {S} d h i y limit x b u m r =
     elim (cases_Bool (d.is_over m (ready d m (newest d x m)))) [
       | inl e ↦ subst (IsTimed d h limit) (sym (cond-true (d.is_over m (ready d m (newest d x m))) (emit_over x m) (emit d x m) e)) (over_time d h limit x u m)

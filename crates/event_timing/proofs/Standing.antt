@@ -6,7 +6,8 @@ use Rattle.event_timing.specs.Histories.{Trace, IsHistory, moves, replies, can_a
 use Rattle.event_timing.specs.Steps.{steps, rest, since}
 use Rattle.event_timing.proofs.Steps.{rest_more, rest_same, since_more, since_same}
 
-pub idle_moves : {S : Type 0} → (d : Design S) (h : Trace S) (c m : ℕ) → d.is_over m (h.state c m) ≡ false → d.accesses m (h.state c m) ≡ [] → moves d h c m ≡ true
+pub idle_moves : {S : Type 0} → (d : Design S) (h : Trace S) (c m : ℕ) → d.is_over m (h.state c m) ≡ false → d.accesses m (h.state c m) ≡ []
+    → moves d h c m ≡ true
 unfolding moves
 idle_moves {S} d h c m o a = rw (o, a) refl
 
@@ -23,7 +24,8 @@ pub moves_can : {S : Type 0} → (d : Design S) (h : Trace S) (c m : ℕ) → mo
 unfolding moves
 moves_can {S} d h c m e = (and_parts _ _ e).1
 
-pub moves_from : {S : Type 0} → (d : Design S) (h : Trace S) (c m : ℕ) → d.is_over m (h.state c m) ≡ false → can_all d h c (d.accesses m (h.state c m)) ≡ true → moves d h c m ≡ true
+pub moves_from : {S : Type 0} → (d : Design S) (h : Trace S) (c m : ℕ) → d.is_over m (h.state c m) ≡ false → can_all d h c (d.accesses m (h.state c m)) ≡ true
+    → moves d h c m ≡ true
 unfolding moves
 moves_from {S} d h c m o a = and_from _ _ (not_from_false _ o) a
 
@@ -35,7 +37,8 @@ pub steps_some : {S : Type 0} → (d : Design S) (h : Trace S) (c m : ℕ) → s
 unfolding steps
 steps_some {S} d h c m e = (and_parts _ _ e).1
 
-pub steps_from : {S : Type 0} → (d : Design S) (h : Trace S) (c m : ℕ) → moves d h c m ≡ true → is_some_access (d.accesses m (h.state c m)) ≡ true → steps d h c m ≡ true
+pub steps_from : {S : Type 0} → (d : Design S) (h : Trace S) (c m : ℕ) → moves d h c m ≡ true → is_some_access (d.accesses m (h.state c m)) ≡ true
+    → steps d h c m ≡ true
 unfolding steps
 steps_from {S} d h c m e s = and_from _ _ e s
 
@@ -49,7 +52,8 @@ since_le {S} d h m (suc c) =
     ]
 
 -- in clocks with no access it moves on
-young : {S : Type 0} → (d : Design S) (h : Trace S) → IsDesign d → IsHistory d h → (m c t j : ℕ) (s : S) → j < d.quiet m s → h.state c m ≡ skip d m j s → h.state (suc c) m ≡ skip d m (suc j) s
+young : {S : Type 0} → (d : Design S) (h : Trace S) → IsDesign d → IsHistory d h → (m c t j : ℕ) (s : S) → j < d.quiet m s → h.state c m ≡ skip d m j s
+    → h.state (suc c) m ≡ skip d m (suc j) s
 young {S} d h i y m c t j s l e =
     let o = i.quiet_lives m s j l in
     let a = i.quiet_idle m s j l in
@@ -58,7 +62,8 @@ young {S} d h i y m c t j s l e =
     y.state_moves c m (idle_moves d h c m o' a') ∙ (rw (idle_replies d h c m a', e) refl)
 
 -- then it stays till it steps
-old : {S : Type 0} → (d : Design S) (h : Trace S) → (i : IsDesign d) → IsHistory d h → (m c : ℕ) (s : S) → i.fits m s ≡ true → h.state c m ≡ ready d m s → steps d h c m ≡ false → h.state (suc c) m ≡ ready d m s
+old : {S : Type 0} → (d : Design S) (h : Trace S) → (i : IsDesign d) → IsHistory d h → (m c : ℕ) (s : S) → i.fits m s ≡ true → h.state c m ≡ ready d m s
+    → steps d h c m ≡ false → h.state (suc c) m ≡ ready d m s
 old {S} d h i y m c s f e n =
     let stays : moves d h c m ≡ false =
     false_from_ne_true _ (λ (w : moves d h c m ≡ true).
@@ -78,7 +83,8 @@ stands_fresh {S} d h m c =
     let e : min (c - c) (d.quiet m (h.state c m)) ≡ 0 = omega arith in
     rw e refl
 
-stands_on : {S : Type 0} → (d : Design S) (h : Trace S) → (i : IsDesign d) → IsHistory d h → (m c t : ℕ) (s : S) → i.fits m s ≡ true → t ≤ c → steps d h c m ≡ false → Stands d h m c t s → Stands d h m (suc c) t s
+stands_on : {S : Type 0} → (d : Design S) (h : Trace S) → (i : IsDesign d) → IsHistory d h → (m c t : ℕ) (s : S) → i.fits m s ≡ true → t ≤ c
+    → steps d h c m ≡ false → Stands d h m c t s → Stands d h m (suc c) t s
 stands_on {S} d h i y m c t s f l n e =
     elim (cases_lt (c - t) (d.quiet m s)) [
       | inl g ↦
@@ -124,12 +130,14 @@ pub where_now : {S : Type 0} → (d : Design S) (h : Trace S) → IsDesign d →
 where_now {S} d h i y m zero = rw (rest_0 d h m, since_0 d h m) (stands_fresh d h m 0)
 where_now {S} d h i y m (suc c) = later (cases_Bool (steps d h c m)) (where_now d h i y m c)
   where
-    later : (steps d h c m ≡ true) ⊎ (steps d h c m ≡ false) → Stands d h m c (since d h m c) (rest d h m c) → Stands d h m (suc c) (since d h m (suc c)) (rest d h m (suc c))
+    later : (steps d h c m ≡ true) ⊎ (steps d h c m ≡ false) → Stands d h m c (since d h m c) (rest d h m c)
+        → Stands d h m (suc c) (since d h m (suc c)) (rest d h m (suc c))
     later (inl e) g = rw (rest_more d h m c e, since_more d h m c e) (stands_fresh d h m (suc c))
     later (inr e) g = rw (rest_same d h m c e, since_same d h m c e) (stands_on d h i y m c (since d h m c) (rest d h m c) (rest_fits d h i y m c) (since_le d h m c) e g)
 
 -- before its next accesses are reached a module does no step
-pub early_no_step : {S : Type 0} → (d : Design S) (h : Trace S) → IsDesign d → IsHistory d h → (m c : ℕ) → c < since d h m c + d.quiet m (rest d h m c) → steps d h c m ≡ false
+pub early_no_step : {S : Type 0} → (d : Design S) (h : Trace S) → IsDesign d → IsHistory d h → (m c : ℕ) → c < since d h m c + d.quiet m (rest d h m c)
+    → steps d h c m ≡ false
 early_no_step {S} d h i y m c l =
     false_from_ne_true _ (λ (w : steps d h c m ≡ true).
     let j : min (c - since d h m c) (d.quiet m (rest d h m c)) ≡ c - since d h m c = omega (arith, since_le d h m c) in
@@ -142,20 +150,23 @@ early_no_step {S} d h i y m c l =
     cc)
 
 -- then it stands at them
-pub late_ready : {S : Type 0} → (d : Design S) (h : Trace S) → IsDesign d → IsHistory d h → (m c : ℕ) → since d h m c + d.quiet m (rest d h m c) ≤ c → h.state c m ≡ ready d m (rest d h m c)
+pub late_ready : {S : Type 0} → (d : Design S) (h : Trace S) → IsDesign d → IsHistory d h → (m c : ℕ) → since d h m c + d.quiet m (rest d h m c) ≤ c
+    → h.state c m ≡ ready d m (rest d h m c)
 late_ready {S} d h i y m c l =
     let j : min (c - since d h m c) (d.quiet m (rest d h m c)) ≡ d.quiet m (rest d h m c) = omega arith in
     rw j at (where_now d h i y m c)
 
 -- so a step is done at them
-pub step_ready : {S : Type 0} → (d : Design S) (h : Trace S) → IsDesign d → IsHistory d h → (m c : ℕ) → steps d h c m ≡ true → h.state c m ≡ ready d m (rest d h m c)
+pub step_ready : {S : Type 0} → (d : Design S) (h : Trace S) → IsDesign d → IsHistory d h → (m c : ℕ) → steps d h c m ≡ true
+    → h.state c m ≡ ready d m (rest d h m c)
 step_ready {S} d h i y m c w =
     elim (cases_lt c (since d h m c + d.quiet m (rest d h m c))) [
       | inl l ↦ absurd (both_ways _ (early_no_step d h i y m c l) w)
       | inr l ↦ late_ready d h i y m c l
     ]
 
-pub step_reached : {S : Type 0} → (d : Design S) (h : Trace S) → IsDesign d → IsHistory d h → (m c : ℕ) → steps d h c m ≡ true → since d h m c + d.quiet m (rest d h m c) ≤ c
+pub step_reached : {S : Type 0} → (d : Design S) (h : Trace S) → IsDesign d → IsHistory d h → (m c : ℕ) → steps d h c m ≡ true
+    → since d h m c + d.quiet m (rest d h m c) ≤ c
 step_reached {S} d h i y m c w =
     elim (cases_lt c (since d h m c + d.quiet m (rest d h m c))) [
       | inl l ↦ absurd (both_ways _ (early_no_step d h i y m c l) w)

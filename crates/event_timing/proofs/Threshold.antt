@@ -11,11 +11,15 @@ use Rattle.event_timing.proofs.Steps.{done_more, done_mono}
 use Rattle.event_timing.proofs.OwnRuns.{follows, taken_own, taken_mono, tally_mono, IsPlace, place_says, closed_taken}
 
 -- the history's counts are the view's, as long as no other step is done
-pub taken_view : {S : Type 0} → (d : Design S) (h : Trace S) → IsDesign d → IsHistory d h → (v : View) → Agrees d h v → (side : Bool) (ch c : ℕ) → done d h (d.owner side ch) c ≤ v.timed (d.owner side ch) → h.taken c side ch ≡ tally (v.accesses (d.owner side ch)) (v.reply (d.owner side ch)) side ch (done d h (d.owner side ch) c)
+pub taken_view : {S : Type 0} → (d : Design S) (h : Trace S) → IsDesign d → IsHistory d h → (v : View) → Agrees d h v → (side : Bool) (ch c : ℕ)
+    → done d h (d.owner side ch) c ≤ v.timed (d.owner side ch)
+    → h.taken c side ch ≡ tally (v.accesses (d.owner side ch)) (v.reply (d.owner side ch)) side ch (done d h (d.owner side ch) c)
 taken_view {S} d h i y v g side ch c l = taken_own d h i y side ch (v.accesses (d.owner side ch)) (v.reply (d.owner side ch)) c (follows d h v g (d.owner side ch) c l) (λ k q. g.accesses_then (d.owner side ch) k (omega arith))
 
 -- a pop (push) is in the count from the clock behind its cycle on
-pub counted : {S : Type 0} → (d : Design S) (h : Trace S) → IsDesign d → IsHistory d h → (v : View) → Agrees d h v → (o : Bool) (ch j n : ℕ) → j < v.timed (d.owner o ch) → tally (v.accesses (d.owner o ch)) (v.reply (d.owner o ch)) o ch j ≤ n → n < tally (v.accesses (d.owner o ch)) (v.reply (d.owner o ch)) o ch (suc j) → (c : ℕ) → ltb n (h.taken c o ch) ≡ ltb (v.cycle (d.owner o ch) j) c
+pub counted : {S : Type 0} → (d : Design S) (h : Trace S) → IsDesign d → IsHistory d h → (v : View) → Agrees d h v → (o : Bool) (ch j n : ℕ)
+    → j < v.timed (d.owner o ch) → tally (v.accesses (d.owner o ch)) (v.reply (d.owner o ch)) o ch j ≤ n
+    → n < tally (v.accesses (d.owner o ch)) (v.reply (d.owner o ch)) o ch (suc j) → (c : ℕ) → ltb n (h.taken c o ch) ≡ ltb (v.cycle (d.owner o ch) j) c
 counted {S} d h i y v g o ch j n l a b c =
     let w : ℕ = d.owner o ch in
     let e : ℕ = v.cycle w j in
@@ -39,22 +43,28 @@ Means {S} d h v c side ch (From u) = is_possible d h c side ch ≡ leb u c
 Means {S} d h v c side ch Never = is_possible d h c side ch ≡ false
 Means {S} d h v c side ch Unknown = done d h (d.owner (not side) ch) c ≤ v.timed (d.owner (not side) ch) → is_possible d h c side ch ≡ false
 
-pub known_free : {S : Type 0} → (d : Design S) (v : View) (side : Bool) (ch n : ℕ) → (d.unlimited side ch || ltb n (d.start side ch)) ≡ true → known d v side ch n ≡ From 0
+pub known_free : {S : Type 0} → (d : Design S) (v : View) (side : Bool) (ch n : ℕ) → (d.unlimited side ch || ltb n (d.start side ch)) ≡ true
+    → known d v side ch n ≡ From 0
 unfolding known
 known_free {S} d v side ch n e = cond-true _ _ _ e
 
-pub known_never : {S : Type 0} → (d : Design S) (v : View) (side : Bool) (ch n : ℕ) → (d.unlimited side ch || ltb n (d.start side ch)) ≡ false → d.closed side ch ≡ true → known d v side ch n ≡ Never
+pub known_never : {S : Type 0} → (d : Design S) (v : View) (side : Bool) (ch n : ℕ) → (d.unlimited side ch || ltb n (d.start side ch)) ≡ false
+    → d.closed side ch ≡ true → known d v side ch n ≡ Never
 unfolding known
 known_never {S} d v side ch n e f = cond-false _ _ _ e ∙ cond-true _ _ _ f
 
 unfoldable pub enabler : {S : Type 0} → Design S → View → Bool → ℕ → ℕ → Option ℕ
 enabler {S} d v side ch n = place (v.accesses (d.owner (not side) ch)) (v.reply (d.owner (not side) ch)) (not side) ch (v.timed (d.owner (not side) ch)) (n - d.start side ch)
 
-pub known_event : {S : Type 0} → (d : Design S) (v : View) (side : Bool) (ch n : ℕ) → (d.unlimited side ch || ltb n (d.start side ch)) ≡ false → d.closed side ch ≡ false → known d v side ch n ≡ from_step (v.cycle (d.owner (not side) ch)) (d.lag side ch) (enabler d v side ch n)
+pub known_event : {S : Type 0} → (d : Design S) (v : View) (side : Bool) (ch n : ℕ) → (d.unlimited side ch || ltb n (d.start side ch)) ≡ false
+    → d.closed side ch ≡ false → known d v side ch n ≡ from_step (v.cycle (d.owner (not side) ch)) (d.lag side ch) (enabler d v side ch n)
 unfolding known enabler
 known_event {S} d v side ch n e f = cond-false _ _ _ e ∙ cond-false _ _ _ f
 
-event_means : {S : Type 0} → (d : Design S) (h : Trace S) → IsDesign d → IsHistory d h → (v : View) → Agrees d h v → (side : Bool) (ch c n : ℕ) → h.taken c side ch ≡ n → d.unlimited side ch ≡ false → d.start side ch ≤ n → (o : Option ℕ) → IsPlace (v.accesses (d.owner (not side) ch)) (v.reply (d.owner (not side) ch)) (not side) ch (v.timed (d.owner (not side) ch)) (n - d.start side ch) o → Means d h v c side ch (from_step (v.cycle (d.owner (not side) ch)) (d.lag side ch) o)
+event_means : {S : Type 0} → (d : Design S) (h : Trace S) → IsDesign d → IsHistory d h → (v : View) → Agrees d h v → (side : Bool) (ch c n : ℕ)
+    → h.taken c side ch ≡ n → d.unlimited side ch ≡ false → d.start side ch ≤ n → (o : Option ℕ)
+    → IsPlace (v.accesses (d.owner (not side) ch)) (v.reply (d.owner (not side) ch)) (not side) ch (v.timed (d.owner (not side) ch)) (n - d.start side ch) o
+    → Means d h v c side ch (from_step (v.cycle (d.owner (not side) ch)) (d.lag side ch) o)
 event_means {S} d h i y v g side ch c n t u l None p = λ q.
     let z = i.lag_positive side ch in
     let w : ℕ = d.owner (not side) ch in
@@ -77,7 +87,8 @@ event_means {S} d h i y v g side ch c n t u l (Some j) (p1, p2, p3) =
           rw (u, t, le-leb (e + d.lag side ch) c q) (lt-ltb n (d.start side ch + h.taken (suc c - d.lag side ch) (not side) ch) (omega arith))
     ]
 
-free_possible : {S : Type 0} → (d : Design S) (h : Trace S) (c : ℕ) (side : Bool) (ch n : ℕ) → h.taken c side ch ≡ n → (d.unlimited side ch || ltb n (d.start side ch)) ≡ true → is_possible d h c side ch ≡ leb 0 c
+free_possible : {S : Type 0} → (d : Design S) (h : Trace S) (c : ℕ) (side : Bool) (ch n : ℕ) → h.taken c side ch ≡ n
+    → (d.unlimited side ch || ltb n (d.start side ch)) ≡ true → is_possible d h c side ch ≡ leb 0 c
 free_possible {S} d h c side ch n t e =
     elim (or_cases (d.unlimited side ch) (ltb n (d.start side ch)) e) [
       | inl u ↦ rw (u, le-leb 0 c (omega arith)) refl
@@ -90,7 +101,8 @@ not_not : (b : Bool) → not (not b) ≡ b
 not_not true = refl
 not_not false = refl
 
-never_possible : {S : Type 0} → (d : Design S) (h : Trace S) → IsDesign d → IsHistory d h → (c : ℕ) (side : Bool) (ch n : ℕ) → h.taken c side ch ≡ n → (d.unlimited side ch || ltb n (d.start side ch)) ≡ false → d.closed side ch ≡ true → is_possible d h c side ch ≡ false
+never_possible : {S : Type 0} → (d : Design S) (h : Trace S) → IsDesign d → IsHistory d h → (c : ℕ) (side : Bool) (ch n : ℕ) → h.taken c side ch ≡ n
+    → (d.unlimited side ch || ltb n (d.start side ch)) ≡ false → d.closed side ch ≡ true → is_possible d h c side ch ≡ false
 never_possible {S} d h i y c side ch n t e f =
     let f' : d.closed (not (not side)) ch ≡ true = rw (not_not side) f in
     let z = closed_taken d h i y (not side) ch (suc c - d.lag side ch) f' in
@@ -99,7 +111,8 @@ never_possible {S} d h i y c side ch n t e f =
     rw (p.0, t) (le-ltb n (d.start side ch + h.taken (suc c - d.lag side ch) (not side) ch) (omega arith))
 
 -- what is known of an access is true in each clock in which n are before it
-pub known_means : {S : Type 0} → (d : Design S) (h : Trace S) → IsDesign d → IsHistory d h → (v : View) → Agrees d h v → (side : Bool) (ch c n : ℕ) → h.taken c side ch ≡ n → Means d h v c side ch (known d v side ch n)
+pub known_means : {S : Type 0} → (d : Design S) (h : Trace S) → IsDesign d → IsHistory d h → (v : View) → Agrees d h v → (side : Bool) (ch c n : ℕ)
+    → h.taken c side ch ≡ n → Means d h v c side ch (known d v side ch n)
 unfolding enabler
 known_means {S} d h i y v g side ch c n t =
     elim (cases_Bool (d.unlimited side ch || ltb n (d.start side ch))) [

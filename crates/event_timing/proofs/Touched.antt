@@ -26,7 +26,8 @@ kept_ge cycle t n (suc b) l f =
           rw (cond-false {A = ℕ} (ltb (cycle b) t) (suc b) (kept cycle t b) e) (kept_ge cycle t n b l' f)
     ]
 
-pub kept_done : {S : Type 0} → (d : Design S) (h : Trace S) (limit : ℕ) (x : Core S) → IsTimed d h limit x → (m c : ℕ) → done d h m c ≤ x.timed m → kept (x.cycle m) c (x.timed m) ≡ done d h m c
+pub kept_done : {S : Type 0} → (d : Design S) (h : Trace S) (limit : ℕ) (x : Core S) → IsTimed d h limit x → (m c : ℕ) → done d h m c ≤ x.timed m
+    → kept (x.cycle m) c (x.timed m) ≡ done d h m c
 kept_done {S} d h limit x u m c l =
     let up = kept_ge (x.cycle m) c (done d h m c) (x.timed m) l (λ k q. done_less d h m (x.cycle m k) c (omega (arith, u.done_then m k (omega arith)))) in
     elim (cases_lt (done d h m c) (kept (x.cycle m) c (x.timed m))) [
@@ -38,14 +39,16 @@ kept_done {S} d h limit x u m c l =
           absurd (omega (arith, done_past d h m (x.cycle m k) c (u.steps_then m k lt) w, u.done_then m k lt))
     ]
 
-pub counts_right : {S : Type 0} → (d : Design S) (h : Trace S) → IsDesign d → IsHistory d h → (limit : ℕ) (x : Core S) → IsAgreed d h limit x → (side : Bool) (ch c : ℕ) → done d h (d.owner side ch) c ≤ x.timed (d.owner side ch) → h.taken c side ch ≡ by_cycles d x side ch c
+pub counts_right : {S : Type 0} → (d : Design S) (h : Trace S) → IsDesign d → IsHistory d h → (limit : ℕ) (x : Core S) → IsAgreed d h limit x
+    → (side : Bool) (ch c : ℕ) → done d h (d.owner side ch) c ≤ x.timed (d.owner side ch) → h.taken c side ch ≡ by_cycles d x side ch c
 counts_right {S} d h i y limit x g side ch c l =
     let w : ℕ = d.owner side ch in
     taken_view d h i y (view d x) (agrees d h limit x g.marks g.time) side ch c l
     ∙ (core_tally_is d x w side ch (done d h w c) ∙ ap (core_tally d x w side ch) (sym (kept_done d h limit x g.time w c l)))
 
 -- so the first touched clock may be read off the cycles
-pub untouched : {S : Type 0} → (d : Design S) (h : Trace S) → IsDesign d → IsHistory d h → (limit : ℕ) (x : Core S) → IsAgreed d h limit x → IsFinal d limit x → (fifo depth t : ℕ) → t ≤ limit → IsUntouchedByCycles d x fifo depth t → IsUntouched d h fifo depth t
+pub untouched : {S : Type 0} → (d : Design S) (h : Trace S) → IsDesign d → IsHistory d h → (limit : ℕ) (x : Core S) → IsAgreed d h limit x → IsFinal d limit x
+    → (fifo depth t : ℕ) → t ≤ limit → IsUntouchedByCycles d x fifo depth t → IsUntouched d h fifo depth t
 untouched {S} d h i y limit x g f fifo depth t l u =
     record {
       old_room = λ c q. let a = count false c q in let b = count true c q in omega (arith, u.old_room c q);

@@ -22,7 +22,8 @@ none_pushed : (ch : ℕ) (xs : List Access) (rs : List Reply) → is_some_access
 none_pushed ch [] rs e = refl
 none_pushed ch (a ∷ xs) rs e = cc
 
-pushed_still : {S : Type 0} → (d : Design S) (h : Trace S) → IsHistory d h → (c ch : ℕ) → steps d h c (d.owner false ch) ≡ false → h.pushed (suc c) ch ≡ h.pushed c ch
+pushed_still : {S : Type 0} → (d : Design S) (h : Trace S) → IsHistory d h → (c ch : ℕ) → steps d h c (d.owner false ch) ≡ false
+    → h.pushed (suc c) ch ≡ h.pushed c ch
 pushed_still {S} d h y c ch e =
     elim (cases_Bool (moves d h c (d.owner false ch))) [
       | inl w ↦
@@ -32,12 +33,16 @@ pushed_still {S} d h y c ch e =
       | inr w ↦ y.pushed_stays c ch w
     ]
 
-pub pushed_own : {S : Type 0} → (d : Design S) (h : Trace S) → IsDesign d → IsHistory d h → (ch : ℕ) (a : ℕ → List Access) (r : ℕ → List Reply) (c : ℕ) → Follows d h (d.owner false ch) r c → OwnAccesses d (d.owner false ch) a r (done d h (d.owner false ch) c) → h.pushed c ch ≡ d.inputs ch ++ pushed_in ch a r (done d h (d.owner false ch) c)
+pub pushed_own : {S : Type 0} → (d : Design S) (h : Trace S) → IsDesign d → IsHistory d h → (ch : ℕ) (a : ℕ → List Access) (r : ℕ → List Reply) (c : ℕ)
+    → Follows d h (d.owner false ch) r c → OwnAccesses d (d.owner false ch) a r (done d h (d.owner false ch) c)
+    → h.pushed c ch ≡ d.inputs ch ++ pushed_in ch a r (done d h (d.owner false ch) c)
 pushed_own {S} d h i y ch a r zero f x = y.pushed_0 ch ∙ (rw (done_0 d h (d.owner false ch), pushed_in_0 ch a r) (sym (append-nil _)))
 pushed_own {S} d h i y ch a r (suc c) f x =
     later (cases_Bool (steps d h c (d.owner false ch))) (pushed_own d h i y ch a r c (follows_less d h (d.owner false ch) r c f) (λ k l. x k (omega (arith, done_up d h (d.owner false ch) c))))
   where
-    later : (steps d h c (d.owner false ch) ≡ true) ⊎ (steps d h c (d.owner false ch) ≡ false) → h.pushed c ch ≡ d.inputs ch ++ pushed_in ch a r (done d h (d.owner false ch) c) → h.pushed (suc c) ch ≡ d.inputs ch ++ pushed_in ch a r (done d h (d.owner false ch) (suc c))
+    later : (steps d h c (d.owner false ch) ≡ true) ⊎ (steps d h c (d.owner false ch) ≡ false)
+        → h.pushed c ch ≡ d.inputs ch ++ pushed_in ch a r (done d h (d.owner false ch) c)
+        → h.pushed (suc c) ch ≡ d.inputs ch ++ pushed_in ch a r (done d h (d.owner false ch) (suc c))
     later (inl e) g =
         let p = y.pushed_moves c ch (steps_moves d h c (d.owner false ch) e) in
         let b = step_ready d h i y (d.owner false ch) c e in
@@ -48,7 +53,9 @@ pushed_own {S} d h i y ch a r (suc c) f x =
         p ∙ (rw (n, pushed_in_more ch a r (done d h (d.owner false ch) c), w, k, b, o, g) (simp append_assoc))
     later (inr e) g = pushed_still d h y c ch e ∙ (rw (done_same d h (d.owner false ch) c e) g)
 
-pub pushed_view : {S : Type 0} → (d : Design S) (h : Trace S) → IsDesign d → IsHistory d h → (v : View) → Agrees d h v → (ch c : ℕ) → done d h (d.owner false ch) c ≤ v.timed (d.owner false ch) → h.pushed c ch ≡ d.inputs ch ++ pushed_in ch (v.accesses (d.owner false ch)) (v.reply (d.owner false ch)) (done d h (d.owner false ch) c)
+pub pushed_view : {S : Type 0} → (d : Design S) (h : Trace S) → IsDesign d → IsHistory d h → (v : View) → Agrees d h v → (ch c : ℕ)
+    → done d h (d.owner false ch) c ≤ v.timed (d.owner false ch)
+    → h.pushed c ch ≡ d.inputs ch ++ pushed_in ch (v.accesses (d.owner false ch)) (v.reply (d.owner false ch)) (done d h (d.owner false ch) c)
 pushed_view {S} d h i y v g ch c l = pushed_own d h i y ch (v.accesses (d.owner false ch)) (v.reply (d.owner false ch)) c (follows d h v g (d.owner false ch) c l) (λ k q. g.accesses_then (d.owner false ch) k (omega arith))
 
 -- lists that only grow
@@ -100,7 +107,8 @@ length_pushed_in ch a r zero = rw (pushed_in_0 ch a r, tally_0 a r false ch) ref
 length_pushed_in ch a r (suc k) =
     rw (pushed_in_more ch a r k, tally_more a r false ch k) (omega (arith, length-append (pushed_in ch a r k) (values_in ch (a k) (r k)), length_values ch (a k) (r k), length_pushed_in ch a r k))
 
-pub length_pushed : {S : Type 0} → (d : Design S) (h : Trace S) → IsDesign d → IsHistory d h → (ch c : ℕ) → length (h.pushed c ch) ≡ d.start true ch + h.taken c false ch
+pub length_pushed : {S : Type 0} → (d : Design S) (h : Trace S) → IsDesign d → IsHistory d h → (ch c : ℕ)
+    → length (h.pushed c ch) ≡ d.start true ch + h.taken c false ch
 length_pushed {S} d h i y ch zero = rw (y.pushed_0 ch, y.taken_0 false ch) (omega (arith, i.start_inputs ch))
 length_pushed {S} d h i y ch (suc c) =
     elim (cases_Bool (moves d h c (d.owner false ch))) [

@@ -45,7 +45,9 @@ pub record IsHistory {S : Type 0} (d : Design S) (h : Trace S) : Type 0 where
   pub pushed_0 : (ch : ℕ) → h.pushed 0 ch ≡ d.inputs ch
   pub state_moves : (c m : ℕ) → moves d h c m ≡ true → h.state (suc c) m ≡ d.move m (h.state c m) (replies d h c m)
   pub state_stays : (c m : ℕ) → moves d h c m ≡ false → h.state (suc c) m ≡ h.state c m
-  pub taken_moves : (c : ℕ) (side : Bool) (ch : ℕ) → moves d h c (d.owner side ch) ≡ true → h.taken (suc c) side ch ≡ h.taken c side ch + takes_in side ch (d.accesses (d.owner side ch) (h.state c (d.owner side ch))) (replies d h c (d.owner side ch))
+  pub taken_moves : (c : ℕ) (side : Bool) (ch : ℕ) → moves d h c (d.owner side ch) ≡ true
+      → h.taken (suc c) side ch ≡ h.taken c side ch + takes_in side ch (d.accesses (d.owner side ch) (h.state c (d.owner side ch))) (replies d h c (d.owner side ch))
   pub taken_stays : (c : ℕ) (side : Bool) (ch : ℕ) → moves d h c (d.owner side ch) ≡ false → h.taken (suc c) side ch ≡ h.taken c side ch
-  pub pushed_moves : (c ch : ℕ) → moves d h c (d.owner false ch) ≡ true → h.pushed (suc c) ch ≡ h.pushed c ch ++ values_in ch (d.accesses (d.owner false ch) (h.state c (d.owner false ch))) (replies d h c (d.owner false ch))
+  pub pushed_moves : (c ch : ℕ) → moves d h c (d.owner false ch) ≡ true
+      → h.pushed (suc c) ch ≡ h.pushed c ch ++ values_in ch (d.accesses (d.owner false ch) (h.state c (d.owner false ch))) (replies d h c (d.owner false ch))
   pub pushed_stays : (c ch : ℕ) → moves d h c (d.owner false ch) ≡ false → h.pushed (suc c) ch ≡ h.pushed c ch

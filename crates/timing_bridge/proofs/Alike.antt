@@ -116,7 +116,7 @@ told_same p c (r ∷ rs) h e =
 
 -- ---- what is popped and pushed
 
-pop_kind : (k : Kind) (q t : Bool) (v : ℕ) → (is_blocking k && not q) ≡ false
+pub pop_kind : (k : Kind) (q t : Bool) (v : ℕ) → (is_blocking k && not q) ≡ false
     → cond (is_taking k && (q && (same_side (side_of k) true && t))) 1 0 ≡ length (cond t (popped_value (reply_by k q v)) [])
 pop_kind Read true true v h = refl
 pop_kind Read true false v h = refl
@@ -137,7 +137,7 @@ pop_kind Empty q false v h = refl
 pop_kind Full q true v h = refl
 pop_kind Full q false v h = refl
 
-push_kind : (k : Kind) (q t : Bool) (v w : ℕ) → (is_blocking k && not q) ≡ false
+pub push_kind : (k : Kind) (q t : Bool) (v w : ℕ) → (is_blocking k && not q) ≡ false
     → cond (is_taking k && (q && (same_side (side_of k) false && t))) (w ∷ []) [] ≡ cond t (pushed_value k (is_yes (reply_by k q v)) w) []
 push_kind Read true true v w h = refl
 push_kind Read true false v w h = refl
@@ -179,7 +179,7 @@ pushes_same p c f (r ∷ rs) h e =
     ap₂ (λ (q : Bool) (vs : List ℕ). cond (is_taking r.kind && (q && (same_side (side_of r.kind) false && (r.channel == f)))) (r.value ∷ []) [] ++ vs) (h.0).possible (pushes_same p c f rs h.1 parts.1)
     ∙ ap (λ (vs : List ℕ). vs ++ moved_by false f (map (answered p c cs) rs)) (push_kind r.kind (is_possible p c cs (side_of r.kind) r.channel) (r.channel == f) (get_or (contents_of cs r.channel) 0 0) r.value parts.0)
 
-one_long : (b : Bool) (v : ℕ) → cond b 1 0 ≡ length (cond b (v ∷ []) [])
+pub one_long : (b : Bool) (v : ℕ) → cond b 1 0 ≡ length (cond b (v ∷ []) [])
 one_long true v = refl
 one_long false v = refl
 
@@ -191,7 +191,8 @@ as_many f (a ∷ xs) (r ∷ rs) =
     ap₂ (λ (x y : ℕ). x + y) (one_long (took false f a r) a.value) (as_many f xs rs) ∙ sym (length-append _ _)
 
 -- what these requests take at a side, by counts, is what they move there
-pub taken_same : (p : Plan) (c : ℕ) (side : Bool) (f : ℕ) (rs : List Request) → AllByRecursion (Alike p c) rs → list_any (stalls p c (state p c).contents) rs ≡ false
+pub taken_same : (p : Plan) (c : ℕ) (side : Bool) (f : ℕ) (rs : List Request) → AllByRecursion (Alike p c) rs
+    → list_any (stalls p c (state p c).contents) rs ≡ false
     → takes_in side f (map seen rs) (counted_replies p c rs) ≡ length (moved_by side f (map (answered p c (state p c).contents) rs))
 taken_same p c true f rs h e = pops_same p c f rs h e
 taken_same p c false f rs h e = as_many f (map seen rs) (counted_replies p c rs) ∙ ap length (pushes_same p c f rs h e)

@@ -77,7 +77,8 @@ lives limit s h =
     leb-false limit s.count (rw parts.0 at parts.1)
 
 -- so many steps, so much counted
-steps_count : (p : Plan) → FitsEngine p → (i : ℕ) (r : ℕ → List theory.Reply) (k : ℕ) → ((j : ℕ) → j < k → is_over p.ops (ready (design p) i (own (design p) i r j)) ≡ false)
+steps_count : (p : Plan) → FitsEngine p → (i : ℕ) (r : ℕ → List theory.Reply) (k : ℕ)
+    → ((j : ℕ) → j < k → is_over p.ops (ready (design p) i (own (design p) i r j)) ≡ false)
     → k ≤ (own (design p) i r k).count
 unfolding own
 steps_count p h i r zero f = omega arith

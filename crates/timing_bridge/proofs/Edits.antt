@@ -26,7 +26,8 @@ use Rattle.timing_bridge.proofs.History.{plan_is_design, run_is_history}
 
 -- ---- the edited plan is one that the engine takes
 
-new_entries : (k : ChannelKind) (inputs : List ℕ) (old depth : ℕ) → AreEntriesSound k inputs old → is_fifo k ≡ true → 1 ≤ depth → depth ≤ 1000000 → AreEntriesSound k inputs depth
+new_entries : (k : ChannelKind) (inputs : List ℕ) (old depth : ℕ) → AreEntriesSound k inputs old → is_fifo k ≡ true → 1 ≤ depth → depth ≤ 1000000
+    → AreEntriesSound k inputs depth
 new_entries Source inputs old depth h e a b = cc
 new_entries Sink inputs old depth h e a b = cc
 new_entries (Fifo d) inputs old depth h e a b = (h.0, a, b)
@@ -64,7 +65,8 @@ edited_fits p h e fit =
 
 -- ---- its design
 
-same_start : (p : Plan) (f depth : ℕ) → f < length p.depths → (side : Bool) (g : ℕ) → cond (not side && eqb g f) depth (start_in p side g) ≡ start_in (with_depth p f depth) side g
+same_start : (p : Plan) (f depth : ℕ) → f < length p.depths → (side : Bool) (g : ℕ)
+    → cond (not side && eqb g f) depth (start_in p side g) ≡ start_in (with_depth p f depth) side g
 unfolding moment opening
 same_start p f depth h true g = refl
 same_start p f depth h false g = elim (cases_eq g f) [
@@ -77,7 +79,8 @@ unfolding moment opening owner quiet quiet_below measure
 same_design p f depth h = λ i. record (design (with_depth p f depth)) { start = λ side g. same_start p f depth h side g i }
 
 -- the cycles below the first touched clock agree with the edited plan's lockstep run
-pub plan_edit : (p : Plan) → FitsEngine p → (e : Edit) → EditFits p e → (limit t : ℕ) (x : Core ModuleState) → IsAgreed (design p) (lockstep_run p) limit x → IsFinal (design p) limit x
+pub plan_edit : (p : Plan) → FitsEngine p → (e : Edit) → EditFits p e → (limit t : ℕ) (x : Core ModuleState) → IsAgreed (design p) (lockstep_run p) limit x
+    → IsFinal (design p) limit x
     → t ≤ limit → IsUntouchedByCycles (design p) x e.channel e.depth t
     → IsAgreed (design (with_depth p e.channel e.depth)) (lockstep_run (with_depth p e.channel e.depth)) limit (after_edit (design p) x t)
 plan_edit p h e fit limit t x g final below u =

@@ -92,7 +92,8 @@ shared_values p h c f i e =
     ∙ sym (pushes_same p c f (requests_of p (i, state_at p c i)) (alike p h c i (state_at p c i)) (nothing_stalls p c (state p c).contents (i, state_at p c i) e))
 
 -- what was moved grows by what the owner moves, and not where it stays
-grows_by : (p : Plan) → FitsEngine p → (c : ℕ) (side : Bool) (f : ℕ) (vs : List ℕ) → share p c (state p c).contents side f (owner p (side, f), state_at p c (owner p (side, f))) ≡ vs
+grows_by : (p : Plan) → FitsEngine p → (c : ℕ) (side : Bool) (f : ℕ) (vs : List ℕ)
+    → share p c (state p c).contents side f (owner p (side, f), state_at p c (owner p (side, f))) ≡ vs
     → moved side f (history p (suc c)) ≡ moved side f (history p c) ++ vs
 grows_by p h c side f vs e = moved_more p h c side f ∙ ap (λ (l : List ℕ). moved side f (history p c) ++ l) e
 

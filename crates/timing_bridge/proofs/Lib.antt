@@ -11,3 +11,4 @@ pub mod Steps
 pub mod Settling
 pub mod Reports
 pub mod OwnRuns
+pub mod Ordinals

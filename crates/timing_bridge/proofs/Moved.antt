@@ -56,21 +56,24 @@ other_side Full channel value q v false h = refl
 abbrev pub StandsElsewhere : Plan → Bool → ℕ → ℕ → Type 0
 StandsElsewhere p side f i = (r : Request) → StandsAtEnd p i r → r.channel ≡ f → side_of r.kind ≢ side
 
-none_by : (p : Plan) (c : ℕ) (cs : List (List ℕ)) (side : Bool) (f i : ℕ) → StandsElsewhere p side f i → (r : Request) → StandsAtEnd p i r → (b : Bool) → (r.channel == f) ≡ b
+none_by : (p : Plan) (c : ℕ) (cs : List (List ℕ)) (side : Bool) (f i : ℕ) → StandsElsewhere p side f i → (r : Request) → StandsAtEnd p i r → (b : Bool)
+    → (r.channel == f) ≡ b
     → cond b (moved_value side (answered p c cs r)) [] ≡ []
 unfolding reply
 none_by p c cs side f i never r h false e = refl
 none_by p c cs side f i never r h true e =
     other_side r.kind r.channel r.value (is_possible p c cs (side_of r.kind) r.channel) (get_or (contents_of cs r.channel) 0 0) side (never r h (eqb-true r.channel f e))
 
-none_moved : (p : Plan) (c : ℕ) (cs : List (List ℕ)) (side : Bool) (f i : ℕ) → StandsElsewhere p side f i → (rs : List Request) → AllByRecursion (StandsAtEnd p i) rs
+none_moved : (p : Plan) (c : ℕ) (cs : List (List ℕ)) (side : Bool) (f i : ℕ) → StandsElsewhere p side f i → (rs : List Request)
+    → AllByRecursion (StandsAtEnd p i) rs
     → moved_by side f (map (answered p c cs) rs) ≡ []
 unfolding moved_by
 none_moved p c cs side f i never [] h = refl
 none_moved p c cs side f i never (r ∷ rs) h =
     ap₂ (λ (x y : List ℕ). x ++ y) (none_by p c cs side f i never r h.0 (r.channel == f) refl) (none_moved p c cs side f i never rs h.1)
 
-pub none_shared : (p : Plan) → FitsEngine p → (c : ℕ) (cs : List (List ℕ)) (side : Bool) (f i : ℕ) → StandsElsewhere p side f i → (s : ModuleState) → share p c cs side f (i, s) ≡ []
+pub none_shared : (p : Plan) → FitsEngine p → (c : ℕ) (cs : List (List ℕ)) (side : Bool) (f i : ℕ) → StandsElsewhere p side f i → (s : ModuleState)
+    → share p c cs side f (i, s) ≡ []
 none_shared p h c cs side f i never s = elim (cases_Bool (moves p c cs (i, s))) [
   | inl e ↦ share_moves p c cs side f (i, s) e ∙ none_moved p c cs side f i never (requests_of p (i, s)) (stand p h i s)
   | inr e ↦ share_stays p c cs side f (i, s) e
@@ -105,7 +108,8 @@ only_one {X} {Y} g r d none past n (x ∷ xs) =
       )
     ]
 
-moved_shares : (p : Plan) (c : ℕ) (cs : List (List ℕ)) (side : Bool) (f : ℕ) (ms : List (ℕ × ModuleState)) → moved side f (flat_map (step_of p c cs) ms) ≡ flat_map (share p c cs side f) ms
+moved_shares : (p : Plan) (c : ℕ) (cs : List (List ℕ)) (side : Bool) (f : ℕ) (ms : List (ℕ × ModuleState))
+    → moved side f (flat_map (step_of p c cs) ms) ≡ flat_map (share p c cs side f) ms
 moved_shares p c cs side f [] = moved-nil side f
 moved_shares p c cs side f (m ∷ ms) =
     moved-append side f (step_of p c cs m) (flat_map (step_of p c cs) ms) ∙ ap (λ (l : List ℕ). share p c cs side f m ++ l) (moved_shares p c cs side f ms)

@@ -21,7 +21,8 @@ use Rattle.timing_bridge.specs.Designs.{design, told_all, move_in}
 use Rattle.timing_bridge.specs.OwnRuns.{AreTold, clocks_of_steps, IsOwnStep, AreOwnSteps, HasComeTo}
 use Rattle.timing_bridge.proofs.Quiet.{goes, ready_rests, first_fits, next_fits}
 
-steps_more : (p : Plan) (i : ℕ) (r : ℕ → List theory.Reply) (k n : ℕ) (ss : List OwnStep) (s : OwnStep) → k + length ss ≡ n → AreOwnSteps p i r k ss → IsOwnStep p i r n s → AreOwnSteps p i r k (ss ++ s ∷ [])
+steps_more : (p : Plan) (i : ℕ) (r : ℕ → List theory.Reply) (k n : ℕ) (ss : List OwnStep) (s : OwnStep) → k + length ss ≡ n → AreOwnSteps p i r k ss
+    → IsOwnStep p i r n s → AreOwnSteps p i r k (ss ++ s ∷ [])
 steps_more p i r k n [] s e h one = let z : k ≡ n = omega arith in (subst (λ (j : ℕ). IsOwnStep p i r j s) (sym z) one, tt)
 steps_more p i r k n (x ∷ ss) s e h one = (h.0, steps_more p i r (suc k) n ss s (omega arith) h.1 one)
 
@@ -44,7 +45,8 @@ at_rest p i n s l e = elim (cases_lt n (quiet p i s)) [
   | inr q ↦ omega arith
 ]
 
-not_at_rest : (p : Plan) → FitsEngine p → (i n : ℕ) (s : ModuleState) → fits p i s ≡ true → n ≤ quiet p i s → rests p i (skip (design p) i n s) ≡ false → n < quiet p i s
+not_at_rest : (p : Plan) → FitsEngine p → (i n : ℕ) (s : ModuleState) → fits p i s ≡ true → n ≤ quiet p i s → rests p i (skip (design p) i n s) ≡ false
+    → n < quiet p i s
 not_at_rest p h i n s f l e = elim (cases_lt n (quiet p i s)) [
   | inl q ↦ q
   | inr q ↦
@@ -54,7 +56,8 @@ not_at_rest p h i n s f l e = elim (cases_lt n (quiet p i s)) [
 
 -- ---- one local clock
 
-one_more : (p : Plan) → FitsEngine p → (i : ℕ) (r : ℕ → List theory.Reply) (replies : List (List Reply)) → AreTold p i r replies → (o : Own) (t : ℕ) → HasComeTo p i r o t → is_over p.ops o.state ≡ false
+one_more : (p : Plan) → FitsEngine p → (i : ℕ) (r : ℕ → List theory.Reply) (replies : List (List Reply)) → AreTold p i r replies → (o : Own) (t : ℕ)
+    → HasComeTo p i r o t → is_over p.ops o.state ≡ false
     → (rs : List Request) → requests_of p (i, o.state) ≡ rs → (u : ℕ) × HasComeTo p i r (own_after (module_at p i) o rs (get_or replies (length o.steps) [])) u
 one_more p h i r replies tells o t g lives [] e =
     let s = own (design p) i r (length o.steps) in
@@ -93,19 +96,22 @@ one_more p h i r replies tells o t g lives (x ∷ rs) e =
       },
     )
 
-next_is : (p : Plan) → FitsEngine p → (i : ℕ) (r : ℕ → List theory.Reply) (replies : List (List Reply)) → AreTold p i r replies → (o : Own) (t : ℕ) → HasComeTo p i r o t
+next_is : (p : Plan) → FitsEngine p → (i : ℕ) (r : ℕ → List theory.Reply) (replies : List (List Reply)) → AreTold p i r replies → (o : Own) (t : ℕ)
+    → HasComeTo p i r o t
     → (u : ℕ) × HasComeTo p i r (own_next p i replies o) u
 unfolding own_next
 next_is p h i r replies tells o t g = by_test (is_over p.ops o.state) (one_more p h i r replies tells o t g)
   where
-    by_test : (b : Bool) → (b ≡ false → (rs : List Request) → requests_of p (i, o.state) ≡ rs → (u : ℕ) × HasComeTo p i r (own_after (module_at p i) o rs (get_or replies (length o.steps) [])) u)
+    by_test : (b : Bool)
+        → (b ≡ false → (rs : List Request) → requests_of p (i, o.state) ≡ rs → (u : ℕ) × HasComeTo p i r (own_after (module_at p i) o rs (get_or replies (length o.steps) [])) u)
         → (u : ℕ) × HasComeTo p i r (cond b o (own_after (module_at p i) o (requests p.design.channels (module_at p i) o.state) (get_or replies (length o.steps) []))) u
     by_test true f = (t, g)
     by_test false f = f refl (requests_of p (i, o.state)) refl
 
 -- ---- the whole run
 
-first_is : (p : Plan) → (i : ℕ) → i < length p.design.modules → (r : ℕ → List theory.Reply) (replies : List (List Reply)) → HasComeTo p i r (real.own p i replies 0) 0
+first_is : (p : Plan) → (i : ℕ) → i < length p.design.modules → (r : ℕ → List theory.Reply) (replies : List (List Reply))
+    → HasComeTo p i r (real.own p i replies 0) 0
 unfolding real.own
 first_is p i inside r replies = record {
   steps_are = tt;
@@ -114,7 +120,8 @@ first_is p i inside r replies = record {
   within = omega arith;
 }
 
-pub own_is : (p : Plan) → FitsEngine p → (i : ℕ) → i < length p.design.modules → (r : ℕ → List theory.Reply) (replies : List (List Reply)) → AreTold p i r replies → (n : ℕ)
+pub own_is : (p : Plan) → FitsEngine p → (i : ℕ) → i < length p.design.modules → (r : ℕ → List theory.Reply) (replies : List (List Reply))
+    → AreTold p i r replies → (n : ℕ)
     → (clocks : ℕ) × HasComeTo p i r (real.own p i replies n) clocks
 own_is p h i inside r replies tells zero = (0, first_is p i inside r replies)
 own_is p h i inside r replies tells (suc n) =

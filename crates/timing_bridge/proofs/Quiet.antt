@@ -87,5 +87,6 @@ first_fits p h i = elim (cases_lt i (length p.design.modules)) [
   | inr l ↦ ap (fits p i) (opening_past p i l)
 ]
 
-pub next_fits : (p : Plan) → FitsEngine p → (i : ℕ) (s : ModuleState) (replies : List theory.Reply) → fits p i s ≡ true → fits p i (move_in p i s replies) ≡ true
+pub next_fits : (p : Plan) → FitsEngine p → (i : ℕ) (s : ModuleState) (replies : List theory.Reply) → fits p i s ≡ true
+    → fits p i (move_in p i s replies) ≡ true
 next_fits p h i s replies f = fits_move p h i s (told_all (requests_of p (i, s)) replies) f

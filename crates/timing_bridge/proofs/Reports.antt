@@ -37,7 +37,8 @@ map_all : {Y : Type 0} (F G : ℕ → Y) (n k : ℕ) → ((i : ℕ) → F i ≡ 
 map_all F G n zero h = refl
 map_all {Y} F G n (suc k) h = ap₂ (λ (y : Y) (l : List Y). y ∷ l) (h n) (map_all F G (n + 1) k h)
 
-answers_are : (p : Plan) → FitsEngine p → (limit : ℕ) (x : Core ModuleState) → IsAgreed (design p) (lockstep_run p) limit x → (c : ℕ) → ((i : ℕ) → done (design p) (lockstep_run p) i c ≡ x.timed i)
+answers_are : (p : Plan) → FitsEngine p → (limit : ℕ) (x : Core ModuleState) → IsAgreed (design p) (lockstep_run p) limit x → (c : ℕ)
+    → ((i : ℕ) → done (design p) (lockstep_run p) i c ≡ x.timed i)
     → answers_in p (history p c) ≡ map (λ i. outcomes (core_steps p x i)) (modules_of p)
 answers_are p h limit x g c all =
     map_all (λ (i : ℕ). outcomes (steps_of i (history p c))) (λ (i : ℕ). outcomes (core_steps p x i)) 0 (length p.design.modules)
@@ -45,7 +46,8 @@ answers_are p h limit x g c all =
 
 -- ---- the report
 
-report_from : (p : Plan) → FitsEngine p → (limit : ℕ) (x : Core ModuleState) → IsAgreed (design p) (lockstep_run p) limit x → (ss : List HistoryStep) → AreInOrder p x ss → (v : Verdict) → verdict p ≡ v
+report_from : (p : Plan) → FitsEngine p → (limit : ℕ) (x : Core ModuleState) → IsAgreed (design p) (lockstep_run p) limit x → (ss : List HistoryStep)
+    → AreInOrder p x ss → (v : Verdict) → verdict p ≡ v
     → ((i : ℕ) → done (design p) (lockstep_run p) i (clock_of v) ≡ x.timed i) → held p v (state p (clock_of v)) ≡ core_held p x v → report p ≡ core_report p x ss v
 unfolding report
 report_from p h limit x g ss o v e all held_same =
@@ -65,7 +67,8 @@ clock_settled p c st =
     (λ e. cond_both (list_any (is_spent p.ops) st.modules) (Ops c) (Deadlock c) (λ (v : Verdict). clock_of v ≡ c) (λ d. refl) (λ d. refl))
 
 -- no step is determined: the verdict's clock is the last stop
-report_rested : (p : Plan) → FitsEngine p → (x : Core ModuleState) → IsAgreed (design p) (lockstep_run p) p.cycles x → IsFinal (design p) p.cycles x → IsUndetermined (design p) x
+report_rested : (p : Plan) → FitsEngine p → (x : Core ModuleState) → IsAgreed (design p) (lockstep_run p) p.cycles x → IsFinal (design p) p.cycles x
+    → IsUndetermined (design p) x
     → (last : ℕ) → ((i : ℕ) → stop (design p) x i ≤ last) → (m : ℕ) → stop (design p) x m ≡ last → last ≤ p.cycles → (ss : List HistoryStep) → AreInOrder p x ss
     → report p ≡ core_report p x ss (settled_verdict p last (core_states p x))
 report_rested p h x g f u last top m e l ss o =
@@ -75,29 +78,34 @@ report_rested p h x g f u last top m e l ss o =
     let all = λ (i : ℕ). let t = top i in done_last (design p) (lockstep_run p) (plan_is_design p h) (run_is_history p h) p.cycles x g f u i last (omega arith) in
     by_verdict v is (clock_settled p last (core_states p x)) all (held_all p h p.cycles x g f u last top)
   where
-    by_verdict : (v : Verdict) → verdict p ≡ v → clock_of v ≡ last → ((i : ℕ) → done (design p) (lockstep_run p) i last ≡ x.timed i) → held_in p last (state p last) ≡ filter_map (core_held_by p x last) (modules_of p) → report p ≡ core_report p x ss v
+    by_verdict : (v : Verdict) → verdict p ≡ v → clock_of v ≡ last → ((i : ℕ) → done (design p) (lockstep_run p) i last ≡ x.timed i)
+        → held_in p last (state p last) ≡ filter_map (core_held_by p x last) (modules_of p) → report p ≡ core_report p x ss v
     by_verdict (Done c) is k all q = report_from p h p.cycles x g ss o (Done c) is (λ i. ap (done (design p) (lockstep_run p) i) k ∙ all i) refl
     by_verdict (Deadlock c) is k all q = report_from p h p.cycles x g ss o (Deadlock c) is (λ i. ap (done (design p) (lockstep_run p) i) k ∙ all i) (subst (λ (n : ℕ). held_in p n (state p n) ≡ filter_map (core_held_by p x n) (modules_of p)) (sym k) q)
     by_verdict (Cycles c) is k all q = report_from p h p.cycles x g ss o (Cycles c) is (λ i. ap (done (design p) (lockstep_run p) i) k ∙ all i) refl
     by_verdict (Ops c) is k all q = report_from p h p.cycles x g ss o (Ops c) is (λ i. ap (done (design p) (lockstep_run p) i) k ∙ all i) (subst (λ (n : ℕ). held_in p n (state p n) ≡ filter_map (core_held_by p x n) (modules_of p)) (sym k) q)
 
 -- a step is determined, or the last stop is above the limit: the verdict is the limit's
-report_cut : (p : Plan) → FitsEngine p → (x : Core ModuleState) → IsAgreed (design p) (lockstep_run p) p.cycles x → IsFinal (design p) p.cycles x → verdict p ≡ Cycles p.cycles → (ss : List HistoryStep) → AreInOrder p x ss
+report_cut : (p : Plan) → FitsEngine p → (x : Core ModuleState) → IsAgreed (design p) (lockstep_run p) p.cycles x → IsFinal (design p) p.cycles x
+    → verdict p ≡ Cycles p.cycles → (ss : List HistoryStep) → AreInOrder p x ss
     → report p ≡ core_report p x ss (Cycles p.cycles)
 report_cut p h x g f e ss o = report_from p h p.cycles x g ss o (Cycles p.cycles) e (λ i. done_limit (design p) (lockstep_run p) (plan_is_design p h) (run_is_history p h) p.cycles x g f i) refl
 
 -- ---- numbers that name no module
 
-no_steps_beyond : (p : Plan) (limit : ℕ) (x : Core ModuleState) → IsAgreed (design p) (lockstep_run p) limit x → (i : ℕ) → length p.design.modules ≤ i → (x.emitted i ≡ 0) × (x.timed i ≡ 0)
+no_steps_beyond : (p : Plan) (limit : ℕ) (x : Core ModuleState) → IsAgreed (design p) (lockstep_run p) limit x → (i : ℕ) → length p.design.modules ≤ i
+    → (x.emitted i ≡ 0) × (x.timed i ≡ 0)
 no_steps_beyond p limit x g i l = let e = g.marks.inside i l in (e, omega (arith, g.time.within i))
 
-none_beyond : (p : Plan) (limit : ℕ) (x : Core ModuleState) → IsAgreed (design p) (lockstep_run p) limit x → (i : ℕ) → length p.design.modules ≤ i → candidate (design p) (view (design p) x) i ≡ None
+none_beyond : (p : Plan) (limit : ℕ) (x : Core ModuleState) → IsAgreed (design p) (lockstep_run p) limit x → (i : ℕ) → length p.design.modules ≤ i
+    → candidate (design p) (view (design p) x) i ≡ None
 unfolding candidate
 none_beyond p limit x g i l =
     let (z, y) = no_steps_beyond p limit x g i l in
     cond-false (nat_lt (x.timed i) (x.emitted i)) _ None (le-ltb (x.timed i) (x.emitted i) (omega arith))
 
-stop_beyond : (p : Plan) (limit : ℕ) (x : Core ModuleState) → IsAgreed (design p) (lockstep_run p) limit x → (i : ℕ) → length p.design.modules ≤ i → stop (design p) x i ≡ 0
+stop_beyond : (p : Plan) (limit : ℕ) (x : Core ModuleState) → IsAgreed (design p) (lockstep_run p) limit x → (i : ℕ) → length p.design.modules ≤ i
+    → stop (design p) x i ≡ 0
 stop_beyond p limit x g i l =
     let e = no_steps_beyond p limit x g i l in
     let d = design p in
@@ -107,7 +115,9 @@ stop_beyond p limit x g i l =
 
 -- ---- what is found by looking over all modules
 
-undetermined_by : (p : Plan) (x : Core ModuleState) (a n : ℕ) → list_any (λ i. is_some (candidate (design p) (view (design p) x) i)) (range_with_len a n) ≡ false → (i c : ℕ) → a ≤ i → i < a + n → candidate (design p) (view (design p) x) i ≡ Some c → ⊥
+undetermined_by : (p : Plan) (x : Core ModuleState) (a n : ℕ)
+    → list_any (λ i. is_some (candidate (design p) (view (design p) x) i)) (range_with_len a n) ≡ false → (i c : ℕ) → a ≤ i → i < a + n
+    → candidate (design p) (view (design p) x) i ≡ Some c → ⊥
 undetermined_by p x a zero h i c l m e = omega arith
 undetermined_by p x a (suc n) h i c l m e =
     let parts = or_parts (is_some (candidate (design p) (view (design p) x) a)) _ h in
@@ -116,7 +126,8 @@ undetermined_by p x a (suc n) h i c l m e =
       | inr k ↦ undetermined_by p x (a + 1) n parts.1 i c (omega arith) (omega arith) e
     ]
 
-determined_by : (p : Plan) (x : Core ModuleState) (a n : ℕ) → list_any (λ i. is_some (candidate (design p) (view (design p) x) i)) (range_with_len a n) ≡ true → (i : ℕ) × (c : ℕ) × (candidate (design p) (view (design p) x) i ≡ Some c)
+determined_by : (p : Plan) (x : Core ModuleState) (a n : ℕ) → list_any (λ i. is_some (candidate (design p) (view (design p) x) i)) (range_with_len a n) ≡ true
+    → (i : ℕ) × (c : ℕ) × (candidate (design p) (view (design p) x) i ≡ Some c)
 determined_by p x a zero h = cc
 determined_by p x a (suc n) h = by_option (candidate (design p) (view (design p) x) a) refl (determined_by p x (a + 1) n) h
   where
@@ -154,7 +165,8 @@ second_of true b h e = cc
 second_of false b h e = h
 
 -- the report of every final core is the plan's
-pub every_report : (p : Plan) → FitsEngine p → (x : Core ModuleState) → IsAgreed (design p) (lockstep_run p) p.cycles x → IsFinal (design p) p.cycles x → (ss : List HistoryStep) → AreInOrder p x ss → report p ≡ core_report p x ss (core_verdict p x)
+pub every_report : (p : Plan) → FitsEngine p → (x : Core ModuleState) → IsAgreed (design p) (lockstep_run p) p.cycles x → IsFinal (design p) p.cycles x
+    → (ss : List HistoryStep) → AreInOrder p x ss → report p ≡ core_report p x ss (core_verdict p x)
 unfolding core_verdict
 every_report p h x g f ss o =
     let count = length p.design.modules in

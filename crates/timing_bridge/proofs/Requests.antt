@@ -48,7 +48,8 @@ stand p h i s = elim (cases_lt i (length p.design.modules)) [
   | inr l ↦ subst (AllByRecursion (StandsAtEnd p i)) (sym (nothing_asked p s (module_at p i) (get_or_past p.design.modules i no_module l))) tt
 ]
 
-each_seen : (P : Request → Type 0) (Q : theory.Access → Type 0) → ((r : Request) → P r → Q (seen r)) → (rs : List Request) → AllByRecursion P rs → Each Q (map seen rs)
+each_seen : (P : Request → Type 0) (Q : theory.Access → Type 0) → ((r : Request) → P r → Q (seen r)) → (rs : List Request) → AllByRecursion P rs
+    → Each Q (map seen rs)
 each_seen P Q f [] h = tt
 each_seen P Q f (r ∷ rs) h = (f r h.0, each_seen P Q f rs h.1)
 

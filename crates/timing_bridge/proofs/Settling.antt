@@ -46,7 +46,8 @@ use Rattle.timing_bridge.proofs.History.{plan_is_design, run_is_history}
 -- ---- states
 
 -- from its stop on a module has the state behind its steps and quiet clocks
-last_state : (p : Plan) → FitsEngine p → (limit : ℕ) (x : Core ModuleState) → IsAgreed (design p) (lockstep_run p) limit x → IsFinal (design p) limit x → IsUndetermined (design p) x → (c i : ℕ) → stop (design p) x i ≤ c
+last_state : (p : Plan) → FitsEngine p → (limit : ℕ) (x : Core ModuleState) → IsAgreed (design p) (lockstep_run p) limit x → IsFinal (design p) limit x
+    → IsUndetermined (design p) x → (c i : ℕ) → stop (design p) x i ≤ c
     → state_at p c i ≡ core_state p x i
 last_state p h limit x g f u c i l =
     let d = design p in
@@ -61,7 +62,8 @@ last_state p h limit x g f u c i l =
     late_ready d w is hist i c (omega arith) ∙ ap (ready d i) rest
 
 -- all states at once
-pub last_states : (p : Plan) → FitsEngine p → (limit : ℕ) (x : Core ModuleState) → IsAgreed (design p) (lockstep_run p) limit x → IsFinal (design p) limit x → IsUndetermined (design p) x → (c : ℕ) → ((i : ℕ) → stop (design p) x i ≤ c)
+pub last_states : (p : Plan) → FitsEngine p → (limit : ℕ) (x : Core ModuleState) → IsAgreed (design p) (lockstep_run p) limit x → IsFinal (design p) limit x
+    → IsUndetermined (design p) x → (c : ℕ) → ((i : ℕ) → stop (design p) x i ≤ c)
     → (state p c).modules ≡ map (core_state p x) (modules_of p)
 last_states p h limit x g f u c top =
     let n = all_modules p c in
@@ -85,7 +87,8 @@ stalls_alike p x c i [] h e = tt
 stalls_alike p x c i (r ∷ rs) h e = (ap (λ (b : Bool). is_blocking r.kind && not b) (sym (h.0).possible ∙ e.0), stalls_alike p x c i rs h.1 e.1)
 
 -- a module that is not over is held by the first request that the core knows to be stuck
-held_is : (p : Plan) → FitsEngine p → (limit : ℕ) (x : Core ModuleState) → IsAgreed (design p) (lockstep_run p) limit x → IsFinal (design p) limit x → IsUndetermined (design p) x → (c i : ℕ) → x.timed i < x.emitted i → stop (design p) x i ≤ c
+held_is : (p : Plan) → FitsEngine p → (limit : ℕ) (x : Core ModuleState) → IsAgreed (design p) (lockstep_run p) limit x → IsFinal (design p) limit x
+    → IsUndetermined (design p) x → (c i : ℕ) → x.timed i < x.emitted i → stop (design p) x i ≤ c
     → held_by p c (state p c).contents (i, state_at p c i) ≡ option_map (held_at i) (find (is_stuck p x c i) (requests_of p (i, x.state i (x.timed i))))
 held_is p h limit x g f u c i more l =
     let d = design p in
@@ -100,7 +103,8 @@ held_is p h limit x g f u c i more l =
     (find_alike (stalls p c cs) (is_stuck p x c i) (requests_of p (i, now)) (stalls_alike p x c i (requests_of p (i, now)) (alike p h c i now) possible)
     ∙ ap (λ (s : ModuleState). find (is_stuck p x c i) (requests_of p (i, s))) here)
 
-held_one : (p : Plan) → FitsEngine p → (limit : ℕ) (x : Core ModuleState) → IsAgreed (design p) (lockstep_run p) limit x → IsFinal (design p) limit x → IsUndetermined (design p) x → (c i : ℕ) → stop (design p) x i ≤ c
+held_one : (p : Plan) → FitsEngine p → (limit : ℕ) (x : Core ModuleState) → IsAgreed (design p) (lockstep_run p) limit x → IsFinal (design p) limit x
+    → IsUndetermined (design p) x → (c i : ℕ) → stop (design p) x i ≤ c
     → held_by p c (state p c).contents (i, state_at p c i) ≡ core_held_by p x c i
 held_one p h limit x g f u c i l = elim (cases_lt (x.timed i) (x.emitted i)) [
   | inl m ↦ held_is p h limit x g f u c i m l ∙ sym (cond-true (nat_lt (x.timed i) (x.emitted i)) _ None (lt-ltb (x.timed i) (x.emitted i) m))
@@ -111,14 +115,16 @@ held_one p h limit x g f u c i l = elim (cases_lt (x.timed i) (x.emitted i)) [
       cond-true (is_over p.ops (state_at p c i)) None _ over_here ∙ sym (cond-false (nat_lt (x.timed i) (x.emitted i)) _ None none)
 ]
 
-by_number : (F : ℕ × ModuleState → Option Held) (G : ℕ → Option Held) (n : ℕ) (ss : List ModuleState) → ((j : ℕ) → j < length ss → F (n + j, get_or ss j nobody) ≡ G (n + j)) → filter_map F (enumerate_from n ss) ≡ filter_map G (range_with_len n (length ss))
+by_number : (F : ℕ × ModuleState → Option Held) (G : ℕ → Option Held) (n : ℕ) (ss : List ModuleState)
+    → ((j : ℕ) → j < length ss → F (n + j, get_or ss j nobody) ≡ G (n + j)) → filter_map F (enumerate_from n ss) ≡ filter_map G (range_with_len n (length ss))
 by_number F G n [] h = refl
 by_number F G n (s ∷ ss) h =
     let z : n + 0 ≡ n = omega arith in
     ap₂ (λ (o : Option Held) (l : List Held). cons_option o l) (ap (λ (i : ℕ). F (i, s)) (sym z) ∙ (h 0 (omega arith) ∙ ap G z))
     (by_number F G (n + 1) ss (λ j l. let q : (n + 1) + j ≡ n + suc j = omega arith in ap (λ (i : ℕ). F (i, get_or ss j nobody)) q ∙ (h (suc j) (omega arith) ∙ ap G (sym q))))
 
-pub held_all : (p : Plan) → FitsEngine p → (limit : ℕ) (x : Core ModuleState) → IsAgreed (design p) (lockstep_run p) limit x → IsFinal (design p) limit x → IsUndetermined (design p) x → (c : ℕ) → ((i : ℕ) → stop (design p) x i ≤ c)
+pub held_all : (p : Plan) → FitsEngine p → (limit : ℕ) (x : Core ModuleState) → IsAgreed (design p) (lockstep_run p) limit x → IsFinal (design p) limit x
+    → IsUndetermined (design p) x → (c : ℕ) → ((i : ℕ) → stop (design p) x i ≤ c)
     → held_in p c (state p c) ≡ filter_map (core_held_by p x c) (modules_of p)
 held_all p h limit x g f u c top =
     by_number (held_by p c (state p c).contents) (core_held_by p x c) 0 (state p c).modules
@@ -148,17 +154,20 @@ none_popped p h f s (suc c) =
     ∙ ap₂ (λ (x y : List ℕ). x ++ y) (none_popped p h f s c) (moved_in p h c true f ∙ none_shared p h c (state p c).contents true f o (no_popper p f o s) (state_at p c o)))
 
 -- a sink holds all that came
-sink_holds : (p : Plan) → FitsEngine p → (f : ℕ) → f < length p.design.channels → is_sink (kind_at p f) ≡ true → (c : ℕ) → contents_of (state p c).contents f ≡ all_in p c f
+sink_holds : (p : Plan) → FitsEngine p → (f : ℕ) → f < length p.design.channels → is_sink (kind_at p f) ≡ true → (c : ℕ)
+    → contents_of (state p c).contents f ≡ all_in p c f
 sink_holds p h f l s c =
     contents_are p (keeps_ends p h) f (omega (arith, channel_count p)) c
     ∙ ap (λ (vs : List ℕ). drop (length vs) (all_in p c f)) (none_popped p h f s c)
 
-sink_is : (p : Plan) → FitsEngine p → (limit : ℕ) (x : Core ModuleState) → IsAgreed (design p) (lockstep_run p) limit x → (c : ℕ) → ((i : ℕ) → done (design p) (lockstep_run p) i c ≡ x.timed i)
+sink_is : (p : Plan) → FitsEngine p → (limit : ℕ) (x : Core ModuleState) → IsAgreed (design p) (lockstep_run p) limit x → (c : ℕ)
+    → ((i : ℕ) → done (design p) (lockstep_run p) i c ≡ x.timed i)
     → (f : ℕ) → f < length p.design.channels → is_sink (kind_at p f) ≡ true → contents_of (state p c).contents f ≡ sink_values p x f
 sink_is p h limit x g c all f l s =
     sink_holds p h f l s c ∙ outputs_right (design p) (lockstep_run p) (plan_is_design p h) (run_is_history p h) limit x g f c (all (owner p (false, f)))
 
-map_chosen : (F G : ℕ → List ℕ) (t : ℕ → Bool) (n k : ℕ) → ((f : ℕ) → f < n + k → t f ≡ true → F f ≡ G f) → map F (filter t (range_with_len n k)) ≡ map G (filter t (range_with_len n k))
+map_chosen : (F G : ℕ → List ℕ) (t : ℕ → Bool) (n k : ℕ) → ((f : ℕ) → f < n + k → t f ≡ true → F f ≡ G f)
+    → map F (filter t (range_with_len n k)) ≡ map G (filter t (range_with_len n k))
 map_chosen F G t n zero h = refl
 map_chosen F G t n (suc k) h = by_test (t n) refl (map_chosen F G t (n + 1) k (λ f l e. h f (omega arith) e))
   where
@@ -168,7 +177,8 @@ map_chosen F G t n (suc k) h = by_test (t n) refl (map_chosen F G t (n + 1) k (�
     by_test false e rest = rest
 
 -- in a clock up to which the core has each step
-pub outputs_are : (p : Plan) → FitsEngine p → (limit : ℕ) (x : Core ModuleState) → IsAgreed (design p) (lockstep_run p) limit x → (c : ℕ) → ((i : ℕ) → done (design p) (lockstep_run p) i c ≡ x.timed i)
+pub outputs_are : (p : Plan) → FitsEngine p → (limit : ℕ) (x : Core ModuleState) → IsAgreed (design p) (lockstep_run p) limit x → (c : ℕ)
+    → ((i : ℕ) → done (design p) (lockstep_run p) i c ≡ x.timed i)
     → outputs_in p (state p c) ≡ map (sink_values p x) (sinks p)
 outputs_are p h limit x g c all =
     map_chosen (contents_of (state p c).contents) (sink_values p x) (λ f. is_sink (kind_at p f)) 0 (length p.design.channels)

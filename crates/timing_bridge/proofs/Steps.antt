@@ -65,7 +65,8 @@ no_step p h c i s =
       ]
     ]
 
-a_step : (p : Plan) → FitsEngine p → (c i : ℕ) → steps (design p) (lockstep_run p) c i ≡ true → step_of p c (state p c).contents (i, state_at p c i) ≡ done_at p c i ∷ []
+a_step : (p : Plan) → FitsEngine p → (c i : ℕ) → steps (design p) (lockstep_run p) c i ≡ true
+    → step_of p c (state p c).contents (i, state_at p c i) ≡ done_at p c i ∷ []
 a_step p h c i s =
     let cs = (state p c).contents in
     let xs = map (answered p c cs) (requests_of p (i, state_at p c i)) in
@@ -74,7 +75,8 @@ a_step p h c i s =
 
 -- ---- the core's step is that of the history's clock
 
-core_step_is : (p : Plan) → FitsEngine p → (limit : ℕ) (x : Core ModuleState) → IsAgreed (design p) (lockstep_run p) limit x → (c i k : ℕ) → steps (design p) (lockstep_run p) c i ≡ true
+core_step_is : (p : Plan) → FitsEngine p → (limit : ℕ) (x : Core ModuleState) → IsAgreed (design p) (lockstep_run p) limit x → (c i k : ℕ)
+    → steps (design p) (lockstep_run p) c i ≡ true
     → done (design p) (lockstep_run p) i c ≡ k → k < x.timed i → done_at p c i ≡ core_step p x i k
 core_step_is p h limit x g c i k s e l =
     let d = design p in
@@ -98,14 +100,15 @@ core_step_is p h limit x g c i k s e l =
 
 -- ---- all clocks
 
-range_more : (a n : ℕ) → range_with_len a (suc n) ≡ range_with_len a n ++ (a + n) ∷ []
+pub range_more : (a n : ℕ) → range_with_len a (suc n) ≡ range_with_len a n ++ (a + n) ∷ []
 range_more a zero = let z : a ≡ a + 0 = omega arith in ap (λ (k : ℕ). k ∷ []) z
 range_more a (suc n) =
     let z : (a + 1) + n ≡ a + suc n = omega arith in
     ap (λ (l : List ℕ). a ∷ l) (range_more (a + 1) n ∙ ap (λ (k : ℕ). range_with_len (a + 1) n ++ k ∷ []) z)
 
 -- a module's steps before a clock up to which the core has them all
-pub steps_are : (p : Plan) → FitsEngine p → (limit : ℕ) (x : Core ModuleState) → IsAgreed (design p) (lockstep_run p) limit x → (i : ℕ) → i < length p.design.modules → (c : ℕ)
+pub steps_are : (p : Plan) → FitsEngine p → (limit : ℕ) (x : Core ModuleState) → IsAgreed (design p) (lockstep_run p) limit x → (i : ℕ)
+    → i < length p.design.modules → (c : ℕ)
     → done (design p) (lockstep_run p) i c ≤ x.timed i → steps_of i (history p c) ≡ map (core_step p x i) (range_with_len 0 (done (design p) (lockstep_run p) i c))
 steps_are p h limit x g i inside zero l = ap (steps_of i) (history-zero p) ∙ ap (λ (n : ℕ). map (core_step p x i) (range_with_len 0 n)) (sym (done_0 (design p) (lockstep_run p) i))
 steps_are p h limit x g i inside (suc c) l =
@@ -137,7 +140,8 @@ none_beyond i n (s ∷ ss) l h =
     cond-false (s.«module» == i) (s ∷ steps_of i ss) (steps_of i ss) (ne_eqb s.«module» i (λ q. omega arith)) ∙ none_beyond i n ss l h.1
 
 -- where the core has all steps before clock c, all modules', and none beyond
-pub all_steps : (p : Plan) → FitsEngine p → (limit : ℕ) (x : Core ModuleState) → IsAgreed (design p) (lockstep_run p) limit x → (c : ℕ) → ((i : ℕ) → done (design p) (lockstep_run p) i c ≡ x.timed i)
+pub all_steps : (p : Plan) → FitsEngine p → (limit : ℕ) (x : Core ModuleState) → IsAgreed (design p) (lockstep_run p) limit x → (c : ℕ)
+    → ((i : ℕ) → done (design p) (lockstep_run p) i c ≡ x.timed i)
     → (i : ℕ) → core_steps p x i ≡ steps_of i (history p c)
 all_steps p h limit x g c all i = elim (cases_lt i (length p.design.modules)) [
   | inl l ↦
@@ -149,6 +153,7 @@ all_steps p h limit x g c all i = elim (cases_lt i (length p.design.modules)) [
 ]
 
 -- so the list in order of its steps is the history
-pub events_are : (p : Plan) → FitsEngine p → (limit : ℕ) (x : Core ModuleState) → IsAgreed (design p) (lockstep_run p) limit x → (c : ℕ) → ((i : ℕ) → done (design p) (lockstep_run p) i c ≡ x.timed i)
+pub events_are : (p : Plan) → FitsEngine p → (limit : ℕ) (x : Core ModuleState) → IsAgreed (design p) (lockstep_run p) limit x → (c : ℕ)
+    → ((i : ℕ) → done (design p) (lockstep_run p) i c ≡ x.timed i)
     → (ss : List HistoryStep) → AreInOrder p x ss → ss ≡ history p c
 events_are p h limit x g c all ss o = only_history p c ss o.rising (λ i. o.each i ∙ all_steps p h limit x g c all i)

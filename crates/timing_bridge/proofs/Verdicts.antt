@@ -22,7 +22,8 @@ use Rattle.timing_bridge.specs.Designs.{design, lockstep_run}
 use Rattle.timing_bridge.proofs.Moved.{nobody_moves}
 use Rattle.timing_bridge.proofs.History.{plan_is_design, run_is_history, moves_same}
 
-any_false : (test : ℕ × ModuleState → Bool) (n : ℕ) (xs : List ModuleState) → ((k : ℕ) → k < length xs → test (n + k, get_or xs k nobody) ≡ false) → list_any test (enumerate_from n xs) ≡ false
+any_false : (test : ℕ × ModuleState → Bool) (n : ℕ) (xs : List ModuleState) → ((k : ℕ) → k < length xs → test (n + k, get_or xs k nobody) ≡ false)
+    → list_any test (enumerate_from n xs) ≡ false
 any_false test n [] h = refl
 any_false test n (x ∷ xs) h =
     let z : n + 0 ≡ n = omega arith in
@@ -31,7 +32,8 @@ any_false test n (x ∷ xs) h =
     let e : (n + 1) + k ≡ n + suc k = omega arith in
     ap (λ (i : ℕ). test (i, get_or xs k nobody)) e ∙ h (suc k) (omega arith)))
 
-each_false : (test : ℕ × ModuleState → Bool) (n : ℕ) (xs : List ModuleState) → list_any test (enumerate_from n xs) ≡ false → (k : ℕ) → k < length xs → test (n + k, get_or xs k nobody) ≡ false
+each_false : (test : ℕ × ModuleState → Bool) (n : ℕ) (xs : List ModuleState) → list_any test (enumerate_from n xs) ≡ false → (k : ℕ) → k < length xs
+    → test (n + k, get_or xs k nobody) ≡ false
 each_false test n [] h k l = absurd (omega arith)
 each_false test n (x ∷ xs) h zero l =
     let z : n + 0 ≡ n = omega arith in
@@ -74,7 +76,8 @@ unsettled p h c i m e l = elim (cases_Bool (is_settled p e (state p e))) [
 -- ---- the verdict
 
 -- no step is determined: the verdict is that of the last stop, where it is within the limit
-pub final_settled : (p : Plan) → FitsEngine p → (x : Core ModuleState) → IsAgreed (design p) (lockstep_run p) p.cycles x → IsFinal (design p) p.cycles x → IsUndetermined (design p) x
+pub final_settled : (p : Plan) → FitsEngine p → (x : Core ModuleState) → IsAgreed (design p) (lockstep_run p) p.cycles x → IsFinal (design p) p.cycles x
+    → IsUndetermined (design p) x
     → (last : ℕ) → ((i : ℕ) → stop (design p) x i ≤ last) → (m : ℕ) → stop (design p) x m ≡ last → last ≤ p.cycles → verdict p ≡ settled_verdict p last (state p last)
 final_settled p h x g f u last top m e l =
     let d = design p in
@@ -92,7 +95,8 @@ final_cut p h x g f m c e =
     verdict_none p (λ k l. unsettled p h c m late.1 k (omega (arith, late.0)))
 
 -- the last stop is above the limit
-pub final_late : (p : Plan) → FitsEngine p → (x : Core ModuleState) → IsAgreed (design p) (lockstep_run p) p.cycles x → IsFinal (design p) p.cycles x → IsUndetermined (design p) x
+pub final_late : (p : Plan) → FitsEngine p → (x : Core ModuleState) → IsAgreed (design p) (lockstep_run p) p.cycles x → IsFinal (design p) p.cycles x
+    → IsUndetermined (design p) x
     → (m : ℕ) → p.cycles < stop (design p) x m → verdict p ≡ Cycles p.cycles
 final_late p h x g f u m l =
     let n = stop (design p) x m in

@@ -1,5 +1,5 @@
 //! The laws, for any plan `p` that the engine takes.
-ghost use Rattle.std.specs.Prelude.{ℕ, ◌≡◌, ◌+◌, ◌*◌, ◌<◌, ◌≤◌, List, map, length};
+ghost use Rattle.std.specs.Prelude.{ℕ, Bool, ◌≡◌, ◌+◌, ◌*◌, ◌<◌, ◌≤◌, List, map, length};
 ghost use Rattle.std.specs.List.{range_with_len};
 ghost use Rattle.flow_design.specs.declared.plan.Edit.{Edit};
 ghost use Rattle.flow_design.specs.declared.plan.Plan.{Plan};
@@ -7,7 +7,7 @@ ghost use Rattle.flow_design.specs.declared.state.ModuleState.{ModuleState};
 ghost use Rattle.flow_design.specs.declared.state.Reply.{Reply};
 ghost use Rattle.flow_design.specs.Plans.{with_depth, EditFits};
 ghost use Rattle.flow_design.specs.StaticRules.{FitsEngine};
-ghost use Rattle.lockstep_defs.specs.Channels.{HistoryStep};
+ghost use Rattle.lockstep_defs.specs.Channels.{HistoryStep, moved};
 ghost use Rattle.lockstep_defs.specs.Lockstep.{history};
 ghost use Rattle.lockstep_defs.specs.Report.{report, steps_of};
 ghost use Rattle.lockstep_defs.specs.OwnRun.{own};
@@ -15,9 +15,9 @@ ghost use Rattle.event_timing.specs.Machines.{IsDesign};
 ghost use Rattle.event_timing.specs.Machines as theory;
 ghost use Rattle.event_timing.specs.Histories.{IsHistory};
 ghost use Rattle.event_timing.specs.Steps.{done};
-ghost use Rattle.event_timing.specs.Core.{Core, opening_core};
+ghost use Rattle.event_timing.specs.Core.{Core, opening_core, core_tally};
 ghost use Rattle.event_timing.specs.Actions.{Action, ActsAll, IsFinal};
-ghost use Rattle.event_timing.specs.Agreement.{IsAgreed, IsBounded};
+ghost use Rattle.event_timing.specs.Agreement.{AreOwnMarks, IsAgreed, IsBounded};
 ghost use Rattle.event_timing.specs.Edits.{after_edit, IsUntouchedByCycles};
 ghost use Rattle.timing_bridge.specs.Designs.{design, lockstep_run};
 ghost use Rattle.timing_bridge.specs.OwnRuns.{AreTold, HasComeTo};
@@ -51,6 +51,13 @@ pub fn cores_show_history()
     ensures { (p : Plan) → FitsEngine p → (limit : ℕ) (x : Core ModuleState) → IsAgreed (design p) (lockstep_run p) limit x
         → (i : ℕ) → i < length p.design.modules → (c : ℕ) → done (design p) (lockstep_run p) i c ≤ x.timed i
         → steps_of i (history p c) ≡ map (core_step p x i) (range_with_len 0 (done (design p) (lockstep_run p) i c)) }
+{}
+
+/// The theory's count of a module's pops, or pushes, of a channel before its step `k` is how many elements its earlier steps
+/// moved there. So the ordinal of an access is one more.
+pub fn ordinals_are_counts()
+    ensures { (p : Plan) (x : Core ModuleState) → AreOwnMarks (design p) x → (i : ℕ) (side : Bool) (f k : ℕ) → k ≤ x.emitted i
+        → core_tally (design p) x i side f k ≡ length (moved side f (map (core_step p x i) (range_with_len 0 k))) }
 {}
 
 /// The report that is read off a final core, however it was reached, is the plan's.

@@ -7,5 +7,5 @@ mod laws;
 
 pub use laws::{
     cores_show_history, edited_plans_agree, every_order_agrees, every_report, few_actions,
-    own_runs_are_the_same, plans_are_designs,
+    ordinals_are_counts, own_runs_are_the_same, plans_are_designs,
 };

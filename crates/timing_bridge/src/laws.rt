@@ -15,12 +15,12 @@ ghost use Rattle.event_timing.specs.Machines.{IsDesign};
 ghost use Rattle.event_timing.specs.Machines as theory;
 ghost use Rattle.event_timing.specs.Histories.{IsHistory};
 ghost use Rattle.event_timing.specs.Steps.{done};
-ghost use Rattle.event_timing.specs.Core.{Core, opening_core, core_tally};
+ghost use Rattle.event_timing.specs.Core.{Core, opening_core, core_tally, core_reply};
 ghost use Rattle.event_timing.specs.Actions.{Action, ActsAll, IsFinal};
 ghost use Rattle.event_timing.specs.Agreement.{AreOwnMarks, IsAgreed, IsBounded};
 ghost use Rattle.event_timing.specs.Edits.{after_edit, IsUntouchedByCycles};
 ghost use Rattle.timing_bridge.specs.Designs.{design, lockstep_run};
-ghost use Rattle.timing_bridge.specs.OwnRuns.{AreTold, HasComeTo};
+ghost use Rattle.timing_bridge.specs.OwnRuns.{AreTold, HasComeTo, core_replies};
 ghost use Rattle.timing_bridge.specs.CoreReports.{core_step, core_report, core_verdict, AreInOrder};
 
 /// The plan's modules are machines of the theory, its lockstep run obeys the laws of counting, and no module's own run has more
@@ -31,12 +31,15 @@ pub fn plans_are_designs()
     ensures bounded { (p : Plan) → FitsEngine p → IsBounded (design p) p.ops }
 {}
 
-/// A module's own run, local clock by local clock, is the theory's own run: after any number of local clocks its steps are the
-/// theory's, each with its quiet clocks as gap and the requests of the state behind them, and it stands in the quiet clocks
-/// behind the latest.
+/// A module's own run, local clock by local clock, is the theory's own run: as long as it has made no more steps than there are
+/// replies, its steps are the theory's, each with its quiet clocks as gap and the requests of the state behind them, and it stands
+/// in the quiet clocks behind the latest. The replies may be those that a core tells of emitted steps.
 pub fn own_runs_are_the_same()
-    ensures { (p : Plan) → FitsEngine p → (i : ℕ) → i < length p.design.modules
-        → (r : ℕ → List theory.Reply) (replies : List (List Reply)) → AreTold p i r replies → (n : ℕ) → (clocks : ℕ) × HasComeTo p i r (own p i replies n) clocks }
+    ensures same { (p : Plan) → FitsEngine p → (i : ℕ) → i < length p.design.modules
+        → (r : ℕ → List theory.Reply) (replies : List (List Reply)) → AreTold p i r replies
+        → (n : ℕ) → length (own p i replies n).steps ≤ length replies → (clocks : ℕ) × HasComeTo p i r (own p i replies n) clocks }
+    ensures told { (p : Plan) (x : Core ModuleState) → AreOwnMarks (design p) x → (i n : ℕ) → n ≤ x.emitted i
+        → AreTold p i (core_reply (design p) x i) (core_replies p x i n) }
 {}
 
 /// After every list of permitted actions from the opening core, the core agrees with the plan's lockstep run.

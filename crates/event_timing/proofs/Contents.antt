@@ -1,10 +1,10 @@
 -- The lockstep machine's run is a history.
 use Rattle.std.proofs.Common.{◌≡◌, ℕ, zero, suc, ◌+◌, ◌-◌, ◌<◌, ◌≤◌, Bool, true, false, cond, not, ◌&&◌, ◌||◌, inl, inr, List, [], ◌∷◌, ◌++◌, map, length, drop, get_or, sym, refl, ap, ap₂, ◌∙◌, arith, zero-add, add-zero, eqb, ltb, leb, length-append, length-drop, drop-cons, drop-drop, append-nil, drop_of_length-le}
-use Rattle.std.proofs.lemmas.Bool.{cases_Bool, both_ways, cases_lt, ltb-true, lt-ltb, le-ltb, le-leb, lt-leb, false_from_ne_true, cond-true, cond-false, and_parts, and_from, eqb-true}
+use Rattle.std.proofs.lemmas.Bool.{cases_Bool, both_ways, cases_lt, ltb-true, lt-ltb, le-ltb, le-leb, lt-leb, false_from_ne_true, cond-true, cond-false, and_parts, eqb-true}
 use Rattle.std.proofs.lemmas.List.{get_or_append_left, get_or-append_right}
-use Rattle.event_timing.specs.Machines.{Design, IsDesign, Access, Reply, takes_in, values_in, HoldsLists, takers, takes_at, took, same_side}
+use Rattle.event_timing.specs.Machines.{Design, IsDesign, Access, Reply, takes_in, values_in, HoldsLists, took, same_side}
 use Rattle.event_timing.specs.Histories.{IsHistory, is_possible, can_all, moves, replies, reply_to}
-use Rattle.event_timing.proofs.Values.{length_values}
+use Rattle.event_timing.proofs.Values.{length_values, takes_takers}
 use Rattle.event_timing.proofs.OwnRuns.{not_same_side}
 use Rattle.event_timing.specs.Contents.{Element, World, is_empty, front_of, can_take, reply_in, can_all_in, moves_in, replies_in, flow, coming, seen_from, tick, world, flowed, came, elements, trace}
 
@@ -128,26 +128,6 @@ empty_takes {S} d w c ch (a ∷ xs) e =
     both_ways _ e (sym (ap₂ (can_take d w c) p q) ∙ k3)) in
     ap₂ (λ (x y : ℕ). x + y) (cond-false {A = ℕ} (took true ch a (reply_in d w c a)) 1 0 t) (empty_takes d w c ch xs e) ∙ (omega arith)
 
-takes_takers : (ch : ℕ) (xs : List Access) (rs : List Reply) → takes_in true ch xs rs ≤ takers true ch xs
-takes_takers ch [] rs = omega arith
-takes_takers ch (a ∷ xs) [] = omega arith
-takes_takers ch (a ∷ xs) (r ∷ rs) =
-    elim (cases_Bool (takes_at true ch a)) [
-      | inl k ↦
-          rw (cond-true {A = ℕ} (takes_at true ch a) 1 0 k)
-          (elim (cases_Bool (took true ch a r)) [
-            | inl t ↦ rw (cond-true {A = ℕ} (took true ch a r) 1 0 t) (omega (arith, takes_takers ch xs rs))
-            | inr t ↦ rw (cond-false {A = ℕ} (took true ch a r) 1 0 t) (omega (arith, takes_takers ch xs rs))
-          ])
-      | inr k ↦
-          let t : took true ch a r ≡ false =
-          false_from_ne_true (took true ch a r) (λ (w : took true ch a r ≡ true).
-          let (w1, w2) = and_parts a.takes (r.possible && (same_side a.pops true && eqb a.channel ch)) w in
-          let (w3, w4) = and_parts r.possible (same_side a.pops true && eqb a.channel ch) w2 in
-          both_ways _ k (and_from a.takes (same_side a.pops true && eqb a.channel ch) w1 w4)) in
-          rw (cond-false {A = ℕ} (takes_at true ch a) 1 0 k, cond-false {A = ℕ} (took true ch a r) 1 0 t) (omega (arith, takes_takers ch xs rs))
-    ]
-
 abbrev IsContents : {S : Type 0} → Design S → ℕ → ℕ → Type 0
 IsContents {S} d ch c = ((world d c).contents ch ≡ drop (flowed d true ch c) (elements d ch c)) × (flowed d true ch c ≤ length (elements d ch c))
 
@@ -167,7 +147,7 @@ flow_room {S} d i ch c (e, l) =
                 let p' = sym (ap (λ (es : List Element). not (is_empty c es)) e) ∙ p in
                 let p'' = sym (nonempty_is c (flowed d true ch c) (elements d ch c)) ∙ p' in
                 let q = ltb-true (flowed d true ch c) (length (elements d ch c)) (and_parts (ltb (flowed d true ch c) (length (elements d ch c))) (leb (get_or (elements d ch c) (flowed d true ch c) blank).since c) p'').0 in
-                omega (arith, takes_takers ch (d.accesses o (w.state o)) (map (reply_in d w c) (d.accesses o (w.state o))), i.single true o (w.state o) ch)
+                omega (arith, takes_takers true ch (d.accesses o (w.state o)) (map (reply_in d w c) (d.accesses o (w.state o))), i.single true o (w.state o) ch)
           ])
     ]
 

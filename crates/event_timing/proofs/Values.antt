@@ -1,8 +1,8 @@
 -- The values pushed on a channel, in the history and in a view.
-use Rattle.std.proofs.Common.{◌≡◌, ℕ, zero, suc, ◌+◌, ◌-◌, ◌<◌, ◌≤◌, true, false, ◌⊎◌, inl, inr, List, [], ◌∷◌, ◌++◌, length, get_or, sym, refl, ap, ◌∙◌, arith, zero-add, append_assoc, append-nil, length-append}
-use Rattle.std.proofs.lemmas.Bool.{cases_Bool, cond-true, cond-false, both_ways, false_from_ne_true}
+use Rattle.std.proofs.Common.{◌≡◌, ℕ, zero, suc, ◌+◌, ◌-◌, ◌<◌, ◌≤◌, Bool, true, false, ◌&&◌, ◌⊎◌, inl, inr, List, [], ◌∷◌, ◌++◌, length, get_or, sym, refl, ap, ◌∙◌, arith, zero-add, append_assoc, append-nil, length-append, eqb}
+use Rattle.std.proofs.lemmas.Bool.{cases_Bool, cond-true, cond-false, both_ways, false_from_ne_true, and_parts, and_from}
 use Rattle.std.proofs.lemmas.Grind.{common_steps}
-use Rattle.event_timing.specs.Machines.{Design, IsDesign, Access, Reply, is_some_access, values_in, takes_in, took}
+use Rattle.event_timing.specs.Machines.{Design, IsDesign, Access, Reply, is_some_access, values_in, takes_in, took, takers, takes_at, same_side}
 use Rattle.event_timing.specs.Histories.{Trace, IsHistory, replies, moves}
 use Rattle.event_timing.specs.Steps.{steps, done}
 use Rattle.event_timing.specs.Views.{tally, View, Agrees, pushed_in, Begins}
@@ -127,3 +127,34 @@ pushed_in_mono ch a r p q l =
     let e : (q - p) + p ≡ q = omega arith in
     let g = pushed_in_later ch a r p (q - p) in
     rw e at g
+
+-- accesses take no more than those that take where it is possible
+pub takes_takers : (side : Bool) (ch : ℕ) (xs : List Access) (rs : List Reply) → takes_in side ch xs rs ≤ takers side ch xs
+takes_takers side ch [] rs = omega arith
+takes_takers side ch (a ∷ xs) [] = omega arith
+takes_takers side ch (a ∷ xs) (r ∷ rs) =
+    elim (cases_Bool (takes_at side ch a)) [
+      | inl k ↦
+          rw (cond-true {A = ℕ} (takes_at side ch a) 1 0 k)
+          (elim (cases_Bool (took side ch a r)) [
+            | inl t ↦ rw (cond-true {A = ℕ} (took side ch a r) 1 0 t) (omega (arith, takes_takers side ch xs rs))
+            | inr t ↦ rw (cond-false {A = ℕ} (took side ch a r) 1 0 t) (omega (arith, takes_takers side ch xs rs))
+          ])
+      | inr k ↦
+          let t : took side ch a r ≡ false =
+          false_from_ne_true (took side ch a r) (λ (w : took side ch a r ≡ true).
+          let (w1, w2) = and_parts a.takes (r.possible && (same_side a.pops side && eqb a.channel ch)) w in
+          let (w3, w4) = and_parts r.possible (same_side a.pops side && eqb a.channel ch) w2 in
+          both_ways _ k (and_from a.takes (same_side a.pops side && eqb a.channel ch) w1 w4)) in
+          rw (cond-false {A = ℕ} (takes_at side ch a) 1 0 k, cond-false {A = ℕ} (took side ch a r) 1 0 t) (omega (arith, takes_takers side ch xs rs))
+    ]
+
+-- in one clock a side takes at most one
+pub taken_once : {S : Type 0} → (d : Design S) (h : Trace S) → IsDesign d → IsHistory d h → (c : ℕ) (side : Bool) (ch : ℕ)
+    → h.taken (suc c) side ch ≤ suc (h.taken c side ch)
+taken_once {S} d h i y c side ch =
+    let o : ℕ = d.owner side ch in
+    elim (cases_Bool (moves d h c o)) [
+      | inl e ↦ omega (arith, y.taken_moves c side ch e, takes_takers side ch (d.accesses o (h.state c o)) (replies d h c o), i.single side o (h.state c o) ch)
+      | inr e ↦ omega (arith, y.taken_stays c side ch e)
+    ]

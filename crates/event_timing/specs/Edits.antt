@@ -1,5 +1,5 @@
 -- A change of one FIFO's depth.
-use Rattle.std.specs.Prelude.{Bool, cond, eqb, false, ltb, not, suc, true, zero, ℕ, ◌&&◌, ◌+◌, ◌<◌, ◌||◌}
+use Rattle.std.specs.Prelude.{Bool, cond, eqb, false, ltb, not, suc, true, zero, ℕ, ◌&&◌, ◌+◌, ◌-◌, ◌<◌, ◌||◌}
 use Rattle.event_timing.specs.Machines.{Design}
 use Rattle.event_timing.specs.Histories.{Trace}
 use Rattle.event_timing.specs.Core.{Core, core_accesses, core_tally, has_query}
@@ -29,6 +29,10 @@ after_edit {S} d x t =
 -- how many pops (true) or pushes (false) of the channel have a cycle below c
 abbrev pub by_cycles : {S : Type 0} → Design S → Core S → Bool → ℕ → ℕ → ℕ
 by_cycles {S} d x side ch c = core_tally d x (d.owner side ch) side ch (kept (x.cycle (d.owner side ch)) c (x.timed (d.owner side ch)))
+
+-- by the cycles that are given, how many elements the FIFO holds in clock c
+abbrev pub held_by_cycles : {S : Type 0} → Design S → Core S → ℕ → ℕ → ℕ
+held_by_cycles {S} d x fifo c = by_cycles d x false fifo c - by_cycles d x true fifo c
 
 -- by the cycles that are given, the FIFO holds fewer elements in each clock before t than either depth
 pub record IsUntouchedByCycles {S : Type 0} (d : Design S) (x : Core S) (fifo depth t : ℕ) : Type 0 where

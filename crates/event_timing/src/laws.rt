@@ -1,5 +1,5 @@
 //! The laws, for any design `d` over states of any type `S`, and any history `h` of it.
-ghost use Rattle.std.specs.Prelude.{◌≡◌, ℕ, suc, ◌+◌, ◌-◌, ◌*◌, ◌<◌, ◌≤◌, ◌++◌, Bool, true, false, Some, List, length};
+ghost use Rattle.std.specs.Prelude.{◌≡◌, ℕ, suc, ◌+◌, ◌-◌, ◌*◌, ◌<◌, ◌≤◌, min, ◌++◌, Bool, true, false, Some, List, length};
 ghost use Rattle.event_timing.specs.Machines.{Design, IsDesign, Access, Reply, HoldsLists, Each};
 ghost use Rattle.event_timing.specs.Histories.{Trace, IsHistory, moves, is_possible};
 ghost use Rattle.event_timing.specs.Contents.{trace};
@@ -9,7 +9,7 @@ ghost use Rattle.event_timing.specs.Enablers.{candidate, known_of, answer};
 ghost use Rattle.event_timing.specs.Core.{Core, opening_core, view, core_accesses, bare_replies};
 ghost use Rattle.event_timing.specs.Actions.{Action, ActsAll, MayRun, MayAnswer, MayEarliest, IsFinal, IsSame, IsNoRunOf, ActsRecorded, newest, new_flags, assigns};
 ghost use Rattle.event_timing.specs.Agreement.{IsAgreed, IsAtRest, IsStepAt, IsUndetermined, IsBounded, possible_all, stop};
-ghost use Rattle.event_timing.specs.Edits.{edited, after_edit, kept, IsUntouchedByCycles};
+ghost use Rattle.event_timing.specs.Edits.{edited, after_edit, kept, held_by_cycles, IsUntouchedByCycles};
 
 /// The lockstep machine, with lists of elements as contents and any delays, obeys the laws of counting.
 pub fn lists_are_counts<S>()
@@ -69,6 +69,15 @@ pub fn final_reports<S>()
         → IsFinal d limit x → IsUndetermined d x → (m c : ℕ) → x.timed m < x.emitted m → stop d x m ≤ c
         → (h.state c m ≡ x.state m (x.timed m))
         × Each (λ a. is_possible d h c a.pops a.channel ≡ answer (known_of d (view d x) m a) c) (core_accesses d x m (x.timed m)) }
+{}
+
+/// The first touched clock is the least in which the FIFO holds as many elements as the lesser of both depths, by a final core's
+/// cycles. Up to it, and up to the limit where there is none, it holds fewer; and at the limit no cycle is forgotten.
+pub fn first_touched<S>()
+    ensures below { (d : Design S) (h : Trace S) → IsDesign d → IsHistory d h → (limit : ℕ) (x : Core S) → IsAgreed d h limit x → IsFinal d limit x
+        → (fifo depth t : ℕ) → t ≤ limit → 0 < d.start false fifo → 0 < depth
+        → ((c : ℕ) → c < t → held_by_cycles d x fifo c ≡ min (d.start false fifo) depth → ⊥) → IsUntouchedByCycles d x fifo depth t }
+    ensures none { (d : Design S) (h : Trace S) (limit : ℕ) (x : Core S) → IsAgreed d h limit x → (m : ℕ) → kept (x.cycle m) limit (x.timed m) ≡ x.timed m }
 {}
 
 /// A final core that is cut back to the cycles below the first touched clock agrees with the edited design. `g` is a history of that one.

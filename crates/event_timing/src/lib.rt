@@ -6,5 +6,5 @@ mod laws;
 
 pub use laws::{
     action_bound, cycles_given, edited_cores, every_order_agrees, final_cores, final_reports,
-    found_by_counts, lists_are_counts, recorded_outcomes, running_ahead,
+    first_touched, found_by_counts, lists_are_counts, recorded_outcomes, running_ahead,
 };

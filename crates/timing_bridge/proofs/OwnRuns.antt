@@ -100,7 +100,8 @@ one_more p h i r replies tells o t g lives (x ∷ rs) e l =
       },
     )
 
-next_is : (p : Plan) → FitsEngine p → (i : ℕ) (r : ℕ → List theory.Reply) (replies : List (List Reply)) → AreTold p i r replies → (o : Own) (t : ℕ) → HasComeTo p i r o t
+next_is : (p : Plan) → FitsEngine p → (i : ℕ) (r : ℕ → List theory.Reply) (replies : List (List Reply)) → AreTold p i r replies → (o : Own) (t : ℕ)
+    → HasComeTo p i r o t
     → length (own_next p i replies o).steps ≤ length replies → (u : ℕ) × HasComeTo p i r (own_next p i replies o) u
 unfolding own_next
 next_is p h i r replies tells o t g = by_test (is_over p.ops o.state) (one_more p h i r replies tells o t g)
@@ -126,7 +127,8 @@ next_grows p i replies o =
 
 -- ---- the whole run
 
-first_is : (p : Plan) → (i : ℕ) → i < length p.design.modules → (r : ℕ → List theory.Reply) (replies : List (List Reply)) → HasComeTo p i r (real.own p i replies 0) 0
+first_is : (p : Plan) → (i : ℕ) → i < length p.design.modules → (r : ℕ → List theory.Reply) (replies : List (List Reply))
+    → HasComeTo p i r (real.own p i replies 0) 0
 unfolding real.own
 first_is p i inside r replies = record {
   steps_are = tt;
@@ -135,7 +137,8 @@ first_is p i inside r replies = record {
   within = omega arith;
 }
 
-pub own_is : (p : Plan) → FitsEngine p → (i : ℕ) → i < length p.design.modules → (r : ℕ → List theory.Reply) (replies : List (List Reply)) → AreTold p i r replies → (n : ℕ)
+pub own_is : (p : Plan) → FitsEngine p → (i : ℕ) → i < length p.design.modules → (r : ℕ → List theory.Reply) (replies : List (List Reply))
+    → AreTold p i r replies → (n : ℕ)
     → length (real.own p i replies n).steps ≤ length replies → (clocks : ℕ) × HasComeTo p i r (real.own p i replies n) clocks
 own_is p h i inside r replies tells zero l = (0, first_is p i inside r replies)
 own_is p h i inside r replies tells (suc n) l =
@@ -146,7 +149,8 @@ own_is p h i inside r replies tells (suc n) l =
     (u, subst (λ (w : Own). HasComeTo p i r w u) (sym (own_suc p i replies n)) z)
 
 -- what a core tells a module of emitted steps
-pub told_by_core : (p : Plan) (x : Core ModuleState) → AreOwnMarks (design p) x → (i n : ℕ) → n ≤ x.emitted i → AreTold p i (core_reply (design p) x i) (core_replies p x i n)
+pub told_by_core : (p : Plan) (x : Core ModuleState) → AreOwnMarks (design p) x → (i n : ℕ) → n ≤ x.emitted i
+    → AreTold p i (core_reply (design p) x i) (core_replies p x i n)
 told_by_core p x b i n l k inside =
     let tell = λ (j : ℕ). told_all (requests_of p (i, x.state i j)) (core_reply (design p) x i j) in
     let below : k < n = omega (arith, length-map-range_with_len tell 0 n) in

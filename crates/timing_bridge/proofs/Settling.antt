@@ -11,13 +11,13 @@ use Rattle.flow_design.specs.declared.plan.Plan.{Plan}
 use Rattle.flow_design.specs.declared.report.Held.{Held}
 use Rattle.flow_design.specs.declared.state.ModuleState.{ModuleState}
 use Rattle.flow_design.specs.declared.state.Request.{Request}
-use Rattle.flow_design.specs.Plans.{kind_at}
+use Rattle.flow_design.specs.Plans.{is_sink, kind_at}
 use Rattle.flow_design.specs.StaticRules.{FitsEngine}
 use Rattle.lockstep_defs.specs.Machine.{nobody, is_over}
 use Rattle.lockstep_defs.specs.Channels.{side_of, is_blocking, stalls, moved, contents_of}
 use Rattle.lockstep_defs.specs.Lockstep.{requests_of, steps_in, state, state_at, history}
 use Rattle.lockstep_defs.specs.Verdict.{held_at, held_by, held_in}
-use Rattle.lockstep_defs.specs.Report.{is_sink, sinks, outputs_in}
+use Rattle.lockstep_defs.specs.Report.{sinks, outputs_in}
 use Rattle.lockstep_defs.specs.Ends.{owner, has_end}
 use Rattle.lockstep_defs.specs.Laws.{all_in}
 use Rattle.lockstep_defs.proofs.Settled.{history-zero, history-suc}

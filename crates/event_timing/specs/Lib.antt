@@ -8,3 +8,4 @@ pub mod Actions
 pub mod Agreement
 pub mod Edits
 pub mod Contents
+pub mod Work

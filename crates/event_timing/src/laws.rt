@@ -1,5 +1,5 @@
 //! The laws, for any design `d` over states of any type `S`, and any history `h` of it.
-ghost use Rattle.std.specs.Prelude.{◌≡◌, ℕ, suc, ◌+◌, ◌-◌, ◌*◌, ◌<◌, ◌≤◌, min, ◌++◌, Bool, true, false, Some, List, length};
+ghost use Rattle.std.specs.Prelude.{◌≡◌, ℕ, suc, ◌+◌, ◌-◌, ◌*◌, ◌<◌, ◌≤◌, min, ◌++◌, ◌⊎◌, Bool, true, false, Some, List, length};
 ghost use Rattle.event_timing.specs.Machines.{Design, IsDesign, Access, Reply, HoldsLists, Each};
 ghost use Rattle.event_timing.specs.Histories.{Trace, IsHistory, moves, is_possible};
 ghost use Rattle.event_timing.specs.Contents.{trace};
@@ -7,11 +7,12 @@ ghost use Rattle.event_timing.specs.Steps.{steps, done};
 ghost use Rattle.event_timing.specs.Views.{pushed_in, tally, place};
 ghost use Rattle.event_timing.specs.Enablers.{candidate, known_of, answer};
 ghost use Rattle.event_timing.specs.Core.{Core, opening_core, view, core_accesses, bare_replies};
-ghost use Rattle.event_timing.specs.Actions.{Action, ActsAll, MayRun, MayAnswer, MayEarliest, IsFinal, IsSame, IsNoRunOf, ActsRecorded, newest, new_flags, assigns};
+ghost use Rattle.event_timing.specs.Actions.{Action, Acts, ActsAll, MayRun, MayAnswer, MayEarliest, IsFinal, IsSame, IsNoRunOf, ActsRecorded, newest, new_flags, assigns};
 ghost use Rattle.event_timing.specs.Agreement.{IsAgreed, IsAtRest, IsStepAt, IsUndetermined, IsBounded, possible_all, stop};
+ghost use Rattle.event_timing.specs.Work.{work};
 ghost use Rattle.event_timing.specs.Edits.{edited, after_edit, kept, held_by_cycles, IsUntouchedByCycles};
 
-/// The lockstep machine, with lists of elements as contents and any delays, obeys the laws of counting.
+/// The lockstep machine, with lists of elements as contents and any delays of what is pushed, obeys the laws of counting.
 pub fn lists_are_counts<S>()
     ensures { (d : Design S) → IsDesign d → HoldsLists d → IsHistory d (trace d) }
 {}
@@ -98,10 +99,15 @@ pub fn cycles_given<S>()
         → assigns m actions ≤ (x.emitted m - x.timed m) + (x.timed m - kept (x.cycle m) t (x.timed m)) + (y.emitted m - x.emitted m) }
 {}
 
-/// From the opening core no list of permitted actions is longer than this, where no own run has more than `most` steps.
+/// From the opening core no list of permitted actions is longer than this, where no own run has more than `most` steps. From any core
+/// that agrees, each permitted action raises what the core has done, unless it differs and changes nothing; and that has a bound.
 pub fn action_bound<S>()
-    ensures { (d : Design S) (h : Trace S) → IsDesign d → IsHistory d h → (limit most : ℕ) → IsBounded d most
+    ensures opening { (d : Design S) (h : Trace S) → IsDesign d → IsHistory d h → (limit most : ℕ) → IsBounded d most
         → (actions : List Action) (x : Core S) → ActsAll d limit (opening_core d) actions x → length actions ≤ d.modules * (3 * most + 1) }
+    ensures rises { (d : Design S) (h : Trace S) (limit : ℕ) (x : Core S) → IsAgreed d h limit x
+        → (a : Action) (y : Core S) → Acts d limit x a y → (y ≡ x) ⊎ (work d x < work d y) }
+    ensures most { (d : Design S) (h : Trace S) (limit : ℕ) (x : Core S) → IsAgreed d h limit x → (most : ℕ) → IsBounded d most
+        → work d x ≤ d.modules * (3 * most + 1) }
 {}
 
 /// A Run of a module that is permitted stays so while others act, and emits the same.

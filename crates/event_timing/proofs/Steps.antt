@@ -1,0 +1,71 @@
+-- How the steps of a module are counted.
+use Rattle.std.proofs.Common.{◌≡◌, ℕ, zero, suc, ◌+◌, ◌-◌, ◌<◌, ◌≤◌, true, false, inl, inr, arith, zero-add}
+use Rattle.std.proofs.lemmas.Bool.{cases_Bool, cond-true, cond-false, cases_lt, cases_order}
+use Rattle.event_timing.specs.Machines.{Design}
+use Rattle.event_timing.specs.Histories.{Trace}
+use Rattle.event_timing.specs.Steps.{steps, done, rest, since}
+
+pub done_more : {S : Type 0} → (d : Design S) (h : Trace S) (m c : ℕ) → steps d h c m ≡ true → done d h m (suc c) ≡ suc (done d h m c)
+unfolding done
+done_more {S} d h m c e = cond-true _ _ _ e
+
+pub done_same : {S : Type 0} → (d : Design S) (h : Trace S) (m c : ℕ) → steps d h c m ≡ false → done d h m (suc c) ≡ done d h m c
+unfolding done
+done_same {S} d h m c e = cond-false _ _ _ e
+
+pub rest_more : {S : Type 0} → (d : Design S) (h : Trace S) (m c : ℕ) → steps d h c m ≡ true → rest d h m (suc c) ≡ h.state (suc c) m
+unfolding rest
+rest_more {S} d h m c e = cond-true _ _ _ e
+
+pub rest_same : {S : Type 0} → (d : Design S) (h : Trace S) (m c : ℕ) → steps d h c m ≡ false → rest d h m (suc c) ≡ rest d h m c
+unfolding rest
+rest_same {S} d h m c e = cond-false _ _ _ e
+
+pub since_more : {S : Type 0} → (d : Design S) (h : Trace S) (m c : ℕ) → steps d h c m ≡ true → since d h m (suc c) ≡ suc c
+unfolding since
+since_more {S} d h m c e = cond-true _ _ _ e
+
+pub since_same : {S : Type 0} → (d : Design S) (h : Trace S) (m c : ℕ) → steps d h c m ≡ false → since d h m (suc c) ≡ since d h m c
+unfolding since
+since_same {S} d h m c e = cond-false _ _ _ e
+
+pub done_up : {S : Type 0} → (d : Design S) (h : Trace S) (m c : ℕ) → done d h m c ≤ done d h m (suc c)
+done_up {S} d h m c =
+    elim (cases_Bool (steps d h c m)) [
+      | inl e ↦ omega (arith, done_more d h m c e)
+      | inr e ↦ omega (arith, done_same d h m c e)
+    ]
+
+done_later : {S : Type 0} → (d : Design S) (h : Trace S) (m a n : ℕ) → done d h m a ≤ done d h m (n + a)
+done_later {S} d h m a zero = rw zero-add (omega arith)
+done_later {S} d h m a (suc n) =
+    let e : suc n + a ≡ suc (n + a) = omega arith in
+    rw e (omega (arith, done_later d h m a n, done_up d h m (n + a)))
+
+-- more time, more steps
+pub done_mono : {S : Type 0} → (d : Design S) (h : Trace S) (m a b : ℕ) → a ≤ b → done d h m a ≤ done d h m b
+done_mono {S} d h m a b l =
+    let e : (b - a) + a ≡ b = omega arith in
+    let g = done_later d h m a (b - a) in
+    rw e at g
+
+-- a step counts for each later clock
+pub done_past : {S : Type 0} → (d : Design S) (h : Trace S) (m a b : ℕ) → steps d h a m ≡ true → a < b → done d h m a < done d h m b
+done_past {S} d h m a b e l = omega (arith, done_more d h m a e, done_mono d h m (suc a) b l)
+
+-- where fewer steps were done, it was earlier
+pub done_less : {S : Type 0} → (d : Design S) (h : Trace S) (m a b : ℕ) → done d h m a < done d h m b → a < b
+done_less {S} d h m a b l =
+    elim (cases_lt a b) [
+      | inl g ↦ g
+      | inr g ↦ absurd (omega (arith, done_mono d h m b a g))
+    ]
+
+-- the step of a number is in one clock
+pub same_clock : {S : Type 0} → (d : Design S) (h : Trace S) (m a b : ℕ) → steps d h a m ≡ true → steps d h b m ≡ true → done d h m a ≡ done d h m b → a ≡ b
+same_clock {S} d h m a b s t e =
+    elim (cases_order a b) [
+      | inl g ↦ g
+      | inr (inl g) ↦ absurd (omega (arith, done_past d h m a b s g))
+      | inr (inr g) ↦ absurd (omega (arith, done_past d h m b a t g))
+    ]

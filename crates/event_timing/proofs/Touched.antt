@@ -1,0 +1,98 @@
+-- What a final core's cycles say of a channel is true up to the limit.
+use Rattle.std.proofs.Common.{◌≡◌, ℕ, zero, suc, ◌+◌, ◌<◌, ◌≤◌, min, Bool, true, false, inl, inr, sym, ap, ◌∙◌, arith, ltb}
+use Rattle.std.proofs.lemmas.Bool.{cases_Bool, cases_lt, ltb-false, cond-true, cond-false}
+use Rattle.event_timing.specs.Machines.{Design, IsDesign}
+use Rattle.event_timing.specs.Histories.{Trace, IsHistory}
+use Rattle.event_timing.specs.Steps.{done}
+use Rattle.event_timing.specs.Core.{Core, view, core_tally}
+use Rattle.event_timing.specs.Agreement.{IsAgreed, IsTimed}
+use Rattle.event_timing.specs.Actions.{IsFinal}
+use Rattle.event_timing.specs.Edits.{kept, by_cycles, held_by_cycles, IsUntouched, IsUntouchedByCycles}
+use Rattle.event_timing.proofs.Steps.{done_less, done_past}
+use Rattle.event_timing.proofs.Threshold.{taken_view}
+use Rattle.event_timing.proofs.Fronts.{agrees, core_tally_is}
+use Rattle.event_timing.proofs.Editing.{kept_le, kept_below, cycles_rise}
+use Rattle.event_timing.proofs.Agreement.{final_complete}
+use Rattle.event_timing.proofs.Values.{taken_once}
+use Rattle.event_timing.proofs.OwnRuns.{taken_mono}
+
+kept_ge : (cycle : ℕ → ℕ) (t n b : ℕ) → n ≤ b → ((k : ℕ) → k < n → cycle k < t) → n ≤ kept cycle t b
+unfolding kept
+kept_ge cycle t n zero l f = omega arith
+kept_ge cycle t n (suc b) l f =
+    elim (cases_Bool (ltb (cycle b) t)) [
+      | inl e ↦ rw (cond-true {A = ℕ} (ltb (cycle b) t) (suc b) (kept cycle t b) e) l
+      | inr e ↦
+          let e' = ltb-false (cycle b) t e in
+          let l' : n ≤ b = elim (cases_lt b n) [ inl q ↦ let w = f b q in absurd (omega arith) | inr q ↦ q ] in
+          rw (cond-false {A = ℕ} (ltb (cycle b) t) (suc b) (kept cycle t b) e) (kept_ge cycle t n b l' f)
+    ]
+
+pub kept_done : {S : Type 0} → (d : Design S) (h : Trace S) (limit : ℕ) (x : Core S) → IsTimed d h limit x → (m c : ℕ) → done d h m c ≤ x.timed m
+    → kept (x.cycle m) c (x.timed m) ≡ done d h m c
+kept_done {S} d h limit x u m c l =
+    let up = kept_ge (x.cycle m) c (done d h m c) (x.timed m) l (λ k q. done_less d h m (x.cycle m k) c (omega (arith, u.done_then m k (omega arith)))) in
+    elim (cases_lt (done d h m c) (kept (x.cycle m) c (x.timed m))) [
+      | inr q ↦ omega arith
+      | inl q ↦
+          let k : ℕ = done d h m c in
+          let lt : k < x.timed m = omega (arith, kept_le (x.cycle m) c (x.timed m)) in
+          let w = kept_below (x.cycle m) c (x.timed m) (λ i j p r. cycles_rise d h limit x u m i j p r) k q in
+          absurd (omega (arith, done_past d h m (x.cycle m k) c (u.steps_then m k lt) w, u.done_then m k lt))
+    ]
+
+pub counts_right : {S : Type 0} → (d : Design S) (h : Trace S) → IsDesign d → IsHistory d h → (limit : ℕ) (x : Core S) → IsAgreed d h limit x
+    → (side : Bool) (ch c : ℕ) → done d h (d.owner side ch) c ≤ x.timed (d.owner side ch) → h.taken c side ch ≡ by_cycles d x side ch c
+counts_right {S} d h i y limit x g side ch c l =
+    let w : ℕ = d.owner side ch in
+    taken_view d h i y (view d x) (agrees d h limit x g.marks g.time) side ch c l
+    ∙ (core_tally_is d x w side ch (done d h w c) ∙ ap (core_tally d x w side ch) (sym (kept_done d h limit x g.time w c l)))
+
+final_counts : {S : Type 0} → (d : Design S) (h : Trace S) → IsDesign d → IsHistory d h → (limit : ℕ) (x : Core S) → IsAgreed d h limit x → IsFinal d limit x
+    → (side : Bool) (ch c : ℕ) → c ≤ limit → h.taken c side ch ≡ by_cycles d x side ch c
+final_counts {S} d h i y limit x g f side ch c l = counts_right d h i y limit x g side ch c (final_complete d h i y limit x g f (d.owner side ch) c l)
+
+-- so the first touched clock may be read off the cycles
+pub untouched : {S : Type 0} → (d : Design S) (h : Trace S) → IsDesign d → IsHistory d h → (limit : ℕ) (x : Core S) → IsAgreed d h limit x → IsFinal d limit x
+    → (fifo depth t : ℕ) → t ≤ limit → IsUntouchedByCycles d x fifo depth t → IsUntouched d h fifo depth t
+untouched {S} d h i y limit x g f fifo depth t l u =
+    let count = λ (side : Bool) (c : ℕ) (q : c < t). final_counts d h i y limit x g f side fifo c (omega arith) in
+    record {
+      old_room = λ c q. let a = count false c q in let b = count true c q in omega (arith, u.old_room c q);
+      new_room = λ c q. let a = count false c q in let b = count true c q in omega (arith, u.new_room c q);
+    }
+
+-- the number of elements goes up by one at most, so it is below the first number that it is never seen at
+never_reached : {S : Type 0} → (d : Design S) (h : Trace S) → IsDesign d → IsHistory d h → (limit : ℕ) (x : Core S) → IsAgreed d h limit x → IsFinal d limit x
+    → (fifo most t : ℕ) → t ≤ limit → 0 < most → ((c : ℕ) → c < t → held_by_cycles d x fifo c ≡ most → ⊥)
+    → (c : ℕ) → c < t → h.taken c false fifo < most + h.taken c true fifo
+never_reached {S} d h i y limit x g f fifo most t l some never zero q = omega (arith, y.taken_0 false fifo, y.taken_0 true fifo)
+never_reached {S} d h i y limit x g f fifo most t l some never (suc c) q =
+    let before = never_reached d h i y limit x g f fifo most t l some never c (omega arith) in
+    let pushes = final_counts d h i y limit x g f false fifo (suc c) (omega arith) in
+    let pops = final_counts d h i y limit x g f true fifo (suc c) (omega arith) in
+    let one = taken_once d h i y c false fifo in
+    let less = taken_mono d h y true fifo c (suc c) (omega arith) in
+    elim (cases_lt (h.taken (suc c) false fifo) (most + h.taken (suc c) true fifo)) [
+      | inl w ↦ w
+      | inr w ↦ absurd (never (suc c) q (omega arith))
+    ]
+
+-- a clock up to which the FIFO never holds the lesser of both depths is untouched
+pub before_first : {S : Type 0} → (d : Design S) (h : Trace S) → IsDesign d → IsHistory d h → (limit : ℕ) (x : Core S) → IsAgreed d h limit x
+    → IsFinal d limit x
+    → (fifo depth t : ℕ) → t ≤ limit → 0 < d.start false fifo → 0 < depth → ((c : ℕ) → c < t → held_by_cycles d x fifo c ≡ min (d.start false fifo) depth → ⊥)
+    → IsUntouchedByCycles d x fifo depth t
+before_first {S} d h i y limit x g f fifo depth t l old new never =
+    let count = λ (side : Bool) (c : ℕ) (q : c < t). final_counts d h i y limit x g f side fifo c (omega arith) in
+    let below = never_reached d h i y limit x g f fifo (min (d.start false fifo) depth) t l (omega arith) never in
+    record {
+      old_room = λ c q. let a = count false c q in let b = count true c q in omega (arith, below c q);
+      new_room = λ c q. let a = count false c q in let b = count true c q in omega (arith, below c q);
+    }
+
+-- at the limit no cycle is forgotten
+pub all_kept : {S : Type 0} → (d : Design S) (h : Trace S) (limit : ℕ) (x : Core S) → IsAgreed d h limit x → (m : ℕ)
+    → kept (x.cycle m) limit (x.timed m) ≡ x.timed m
+all_kept {S} d h limit x g m =
+    omega (arith, kept_le (x.cycle m) limit (x.timed m), kept_ge (x.cycle m) limit (x.timed m) (x.timed m) (omega arith) (λ k l. g.time.below m k l))

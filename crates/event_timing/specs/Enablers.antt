@@ -1,0 +1,80 @@
+-- What is known of when an access is possible, and what follows for a step: its cycle, and the answers to its queries.
+use Rattle.std.specs.Prelude.{Bool, List, None, Option, Some, [], cond, false, leb, ltb, max, not, true, ℕ, ◌&&◌, ◌+◌, ◌-◌, ◌||◌, ◌∷◌, ◌≡◌, ◌≤◌}
+use Rattle.event_timing.specs.Machines.{Access, Design}
+use Rattle.event_timing.specs.Views.{View, tally, place, from, first_accesses, own_state}
+
+-- what is known of when an access is possible
+pub data Known : Type 0 where
+  From : ℕ → Known
+  Never : Known
+  Unknown : Known
+
+-- from the cycle of the enabler plus the lag on
+abbrev pub from_step : (ℕ → ℕ) → ℕ → Option ℕ → Known
+from_step cycle lag None = Unknown
+from_step cycle lag (Some j) = From (cycle j + lag)
+
+-- what is known of the access with i earlier ones of its side
+unfoldable pub known : {S : Type 0} → Design S → View → Bool → ℕ → ℕ → Known
+known {S} d v side ch i =
+    cond (d.unlimited side ch || ltb i (d.start side ch)) (From 0)
+    (cond (d.closed side ch) Never
+    (from_step (v.cycle (d.owner (not side) ch)) (d.lag side ch)
+    (place (v.accesses (d.owner (not side) ch)) (v.reply (d.owner (not side) ch)) (not side) ch (v.timed (d.owner (not side) ch)) (i - d.start side ch))))
+
+-- of an access of the first step without a cycle
+abbrev pub known_of : {S : Type 0} → Design S → View → ℕ → Access → Known
+known_of {S} d v m a = known d v a.pops a.channel (tally (v.accesses m) (v.reply m) a.pops a.channel (v.timed m))
+
+-- from when on both are possible
+abbrev pub both : Known → Known → Known
+both (From a) (From b) = From (max a b)
+both (From a) Never = Unknown
+both (From a) Unknown = Unknown
+both Never k = Unknown
+both Unknown k = Unknown
+
+-- from when on all that block are possible
+abbrev pub bound : (Access → Known) → List Access → Known
+bound know [] = From 0
+bound know (a ∷ xs) = cond a.blocks (both (know a) (bound know xs)) (bound know xs)
+
+-- the clock in which the module comes to its first step without a cycle, if nothing blocks it
+abbrev pub reach : View → ℕ → ℕ
+reach v m = from (v.cycle m) (v.timed m) + v.wait m (v.timed m)
+
+-- the later of the two
+abbrev pub to_clock : ℕ → Known → Option ℕ
+to_clock t (From u) = Some (max t u)
+to_clock t Never = None
+to_clock t Unknown = None
+
+-- the determined cycle of the first step without one
+unfoldable pub candidate : {S : Type 0} → Design S → View → ℕ → Option ℕ
+candidate {S} d v m = cond (v.more m) (to_clock (reach v m) (bound (known_of d v m) (first_accesses v m))) None
+
+-- each module is over or has a first step without a cycle, and none of these is determined below t
+pub record IsStuck {S : Type 0} (d : Design S) (v : View) (t : ℕ) : Type 0 where
+  pub ended : (m : ℕ) → v.more m ≡ false → d.is_over m (own_state d v m (v.timed m)) ≡ true
+  pub later : (m c : ℕ) → candidate d v m ≡ Some c → t ≤ c
+
+-- what is answered to a query at clock c, when an undecided one counts as not possible
+abbrev pub answer : Known → ℕ → Bool
+answer (From u) c = leb u c
+answer Never c = false
+answer Unknown c = false
+
+-- its enabler is known
+abbrev pub is_decided : Known → Bool
+is_decided (From u) = true
+is_decided Never = true
+is_decided Unknown = false
+
+abbrev pub all_decided : (Access → Known) → List Access → Bool
+all_decided know [] = true
+all_decided know (a ∷ xs) = (a.blocks || is_decided (know a)) && all_decided know xs
+
+-- whether each access is done or possible, in the candidate's clock
+abbrev pub flags_at : (Access → Known) → ℕ → List Access → List Bool
+flags_at know c [] = []
+flags_at know c (a ∷ xs) = (a.blocks || answer (know a) c) ∷ flags_at know c xs

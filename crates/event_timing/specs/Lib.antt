@@ -1,0 +1,11 @@
+pub mod Machines
+pub mod Histories
+pub mod Steps
+pub mod Views
+pub mod Enablers
+pub mod Core
+pub mod Actions
+pub mod Agreement
+pub mod Edits
+pub mod Contents
+pub mod Work

@@ -1,0 +1,118 @@
+-- Modules as abstract machines: the accesses that are due in a state, the move on the replies to them, and the end.
+use Rattle.std.specs.Prelude.{◌≡◌, ℕ, zero, suc, ◌+◌, ◌<◌, ◌≤◌, Bool, true, false, cond, not, ◌&&◌, eqb, List, [], ◌∷◌, ◌++◌, length, ⊤}
+
+-- ---- what a module asks, and what it is told
+
+-- one access of a channel: its side, whether it waits, whether it takes an element or a place where it is possible, and what it pushes
+pub record Access : Type 0 where
+  pub pops : Bool
+  pub blocks : Bool
+  pub takes : Bool
+  pub channel : ℕ
+  pub value : ℕ
+
+-- what the module is told of an access: whether it was possible, and the front of the channel where it popped
+pub record Reply : Type 0 where
+  pub possible : Bool
+  pub front : ℕ
+
+-- ---- designs
+
+-- modules whose states are of any type, and the channels between them
+pub record Design (S : Type 0) : Type 0 where
+  pub modules : ℕ
+  -- of each module: its first state, the accesses due in a state, its move on the replies, and whether it moves no more
+  pub opening : ℕ → S
+  pub accesses : ℕ → S → List Access
+  pub move : ℕ → S → List Reply → S
+  pub is_over : ℕ → S → Bool
+  -- how many local clocks without an access come before the next access or the end
+  pub quiet : ℕ → S → ℕ
+  -- the module that pops (true) or pushes (false) a channel
+  pub owner : Bool → ℕ → ℕ
+  -- how many pops (pushes) are possible before any push (pop): the inputs of a source, the depth of a FIFO
+  pub start : Bool → ℕ → ℕ
+  -- the pushes of a sink
+  pub unlimited : Bool → ℕ → Bool
+  -- the pops of a source: no push will ever come
+  pub closed : Bool → ℕ → Bool
+  pub inputs : ℕ → List ℕ
+  -- after how many clocks a push is seen by a pop, and a pop by a push
+  pub lag : Bool → ℕ → ℕ
+
+-- the state so many local clocks later, in which nothing is asked
+abbrev pub skip : {S : Type 0} → Design S → ℕ → ℕ → S → S
+skip {S} d m zero s = s
+skip {S} d m (suc n) s = d.move m (skip d m n s) []
+
+-- the state behind the quiet clocks
+abbrev pub ready : {S : Type 0} → Design S → ℕ → S → S
+ready {S} d m s = skip d m (d.quiet m s) s
+
+abbrev pub is_some_access : List Access → Bool
+is_some_access [] = false
+is_some_access (a ∷ xs) = true
+
+abbrev pub Each : (Access → Type 0) → List Access → Type 0
+Each P [] = ⊤
+Each P (a ∷ xs) = P a × Each P xs
+
+abbrev pub same_side : Bool → Bool → Bool
+same_side true b = b
+same_side false b = not b
+
+-- the access takes at this side of the channel, where it is possible
+abbrev pub takes_at : Bool → ℕ → Access → Bool
+takes_at side ch a = a.takes && (same_side a.pops side && eqb a.channel ch)
+
+-- how many of the accesses do
+abbrev pub takers : Bool → ℕ → List Access → ℕ
+takers side ch [] = 0
+takers side ch (a ∷ xs) = cond (takes_at side ch a) 1 0 + takers side ch xs
+
+-- the rules of a design
+pub record IsDesign {S : Type 0} (d : Design S) : Type 0 where
+  -- in its quiet clocks a module is not over and asks nothing
+  pub quiet_lives : (m : ℕ) (s : S) (i : ℕ) → i < d.quiet m s → d.is_over m (skip d m i s) ≡ false
+  pub quiet_idle : (m : ℕ) (s : S) (i : ℕ) → i < d.quiet m s → d.accesses m (skip d m i s) ≡ []
+  -- the states that the module can come to, whatever it is replied
+  pub fits : ℕ → S → Bool
+  pub fits_opening : (m : ℕ) → fits m (d.opening m) ≡ true
+  pub fits_move : (m : ℕ) (s : S) (rs : List Reply) → fits m s ≡ true → fits m (d.move m s rs) ≡ true
+  -- the quiet clocks end: then the module is over, or has an access
+  pub quiet_ends : (m : ℕ) (s : S) → fits m s ≡ true → d.is_over m (ready d m s) ≡ false → is_some_access (d.accesses m (ready d m s)) ≡ true
+  -- each side of a channel has one module
+  pub owned : (m : ℕ) (s : S) → Each (λ a. d.owner a.pops a.channel ≡ m) (d.accesses m s)
+  -- nobody pushes a source
+  pub open_sides : (m : ℕ) (s : S) → Each (λ a. d.closed (not a.pops) a.channel ≡ false) (d.accesses m s)
+  -- nothing is seen in its own clock
+  pub lag_positive : (side : Bool) (ch : ℕ) → 0 < d.lag side ch
+  pub pops_limited : (ch : ℕ) → d.unlimited true ch ≡ false
+  pub start_inputs : (ch : ℕ) → d.start true ch ≡ length (d.inputs ch)
+  -- in one clock a module pops a channel at most once, and pushes it at most once
+  pub single : (side : Bool) (m : ℕ) (s : S) (ch : ℕ) → takers side ch (d.accesses m s) ≤ 1
+  -- a number that names no module is over from the start
+  pub outside : (m : ℕ) → d.modules ≤ m → d.is_over m (ready d m (d.opening m)) ≡ true
+
+-- what a list of elements as a channel's contents needs besides: a FIFO has no inputs, and a pop is seen by a push one clock later
+pub record HoldsLists {S : Type 0} (d : Design S) : Type 0 where
+  pub only_inputs : (ch : ℕ) → d.unlimited false ch ≡ false → d.start true ch ≡ 0
+  pub lag_push : (ch : ℕ) → d.lag false ch ≡ 1
+
+-- ---- what is taken
+
+-- an access takes at this side of the channel
+abbrev pub took : Bool → ℕ → Access → Reply → Bool
+took side ch a r = a.takes && (r.possible && (same_side a.pops side && eqb a.channel ch))
+
+-- how many elements (true) or places (false) of the channel these accesses take
+abbrev pub takes_in : Bool → ℕ → List Access → List Reply → ℕ
+takes_in side ch [] rs = 0
+takes_in side ch (a ∷ xs) [] = 0
+takes_in side ch (a ∷ xs) (r ∷ rs) = cond (took side ch a r) 1 0 + takes_in side ch xs rs
+
+-- the values that they push on the channel
+abbrev pub values_in : ℕ → List Access → List Reply → List ℕ
+values_in ch [] rs = []
+values_in ch (a ∷ xs) [] = []
+values_in ch (a ∷ xs) (r ∷ rs) = cond (took false ch a r) (a.value ∷ []) [] ++ values_in ch xs rs

@@ -1,0 +1,124 @@
+//! The laws, for any design `d` over states of any type `S`, and any history `h` of it.
+ghost use Rattle.std.specs.Prelude.{◌≡◌, ℕ, suc, ◌+◌, ◌-◌, ◌*◌, ◌<◌, ◌≤◌, min, ◌++◌, ◌⊎◌, Bool, true, false, Some, List, length};
+ghost use Rattle.event_timing.specs.Machines.{Design, IsDesign, Access, Reply, HoldsLists, Each};
+ghost use Rattle.event_timing.specs.Histories.{Trace, IsHistory, moves, is_possible};
+ghost use Rattle.event_timing.specs.Contents.{trace};
+ghost use Rattle.event_timing.specs.Steps.{steps, done};
+ghost use Rattle.event_timing.specs.Views.{pushed_in, tally, place};
+ghost use Rattle.event_timing.specs.Enablers.{candidate, known_of, answer};
+ghost use Rattle.event_timing.specs.Core.{Core, opening_core, view, core_accesses, bare_replies};
+ghost use Rattle.event_timing.specs.Actions.{Action, Acts, ActsAll, MayRun, MayAnswer, MayEarliest, IsFinal, IsSame, IsNoRunOf, ActsRecorded, newest, new_flags, assigns};
+ghost use Rattle.event_timing.specs.Agreement.{IsAgreed, IsAtRest, IsStepAt, IsUndetermined, IsBounded, possible_all, stop};
+ghost use Rattle.event_timing.specs.Work.{work};
+ghost use Rattle.event_timing.specs.Edits.{edited, after_edit, kept, held_by_cycles, IsUntouchedByCycles};
+
+/// The lockstep machine, with lists of elements as contents and any delays of what is pushed, obeys the laws of counting.
+pub fn lists_are_counts<S>()
+    ensures { (d : Design S) → IsDesign d → HoldsLists d → IsHistory d (trace d) }
+{}
+
+/// After every list of permitted actions a core agrees with the history, if it did before. The opening core does.
+pub fn every_order_agrees<S>()
+    ensures opening { (d : Design S) (h : Trace S) → IsDesign d → IsHistory d h → (limit : ℕ) → IsAgreed d h limit (opening_core d) }
+    ensures kept { (d : Design S) (h : Trace S) → IsDesign d → IsHistory d h → (limit : ℕ) (x : Core S) → IsAgreed d h limit x
+        → (actions : List Action) (y : Core S) → ActsAll d limit x actions y → IsAgreed d h limit y }
+{}
+
+/// What is found by counts alone is the history's: the clock of a determined step, and the outcomes that an Answer or an
+/// Earliest finds. So a query is found to differ only where the history's outcome is not the assumed one, and never before an edit.
+/// An enabler is the one step at which the count of pops, or of pushes, goes past the ordinal.
+pub fn found_by_counts<S>()
+    ensures cycle { (d : Design S) (h : Trace S) → IsDesign d → IsHistory d h → (limit : ℕ) (x : Core S) → IsAgreed d h limit x
+        → (m c : ℕ) → candidate d (view d x) m ≡ Some c → IsStepAt d h m (x.timed m) c }
+    ensures enabler { (accesses : ℕ → List Access) (replies : ℕ → List Reply) (side : Bool) (ch n i k : ℕ) → k < n
+        → tally accesses replies side ch k ≤ i → i < tally accesses replies side ch (suc k) → place accesses replies side ch n i ≡ Some k }
+    ensures answered { (d : Design S) (h : Trace S) → IsDesign d → IsHistory d h → (limit : ℕ) (x : Core S) → IsAgreed d h limit x
+        → (m c : ℕ) → MayAnswer d limit x m c → new_flags d x m c ≡ possible_all d h c (core_accesses d x m (x.timed m)) }
+    ensures earliest { (d : Design S) (h : Trace S) → IsDesign d → IsHistory d h → (limit : ℕ) (x : Core S) → IsAgreed d h limit x
+        → (m c : ℕ) → MayEarliest d limit x m c → new_flags d x m c ≡ possible_all d h c (core_accesses d x m (x.timed m)) }
+    ensures never_differs { (d : Design S) (h : Trace S) → IsDesign d → IsHistory d h → (limit : ℕ)
+        → (actions : List Action) (x : Core S) → ActsAll d limit (opening_core d) actions x → (m c : ℕ) → x.verified m (x.timed m) ≡ false → candidate d (view d x) m ≡ Some c → IsSame d x m c }
+{}
+
+/// A final core has each step of the history below the limit. Where none of its steps is determined, nobody moves from the
+/// last stop on, and the module of a stop moves in the clock before it. A determined step moves, at the limit or later.
+pub fn final_cores<S>()
+    ensures complete { (d : Design S) (h : Trace S) → IsDesign d → IsHistory d h → (limit : ℕ) (x : Core S) → IsAgreed d h limit x
+        → IsFinal d limit x → (m c : ℕ) → c ≤ limit → done d h m c ≤ x.timed m }
+    ensures rests { (d : Design S) (h : Trace S) → IsDesign d → IsHistory d h → (limit : ℕ) (x : Core S) → IsAgreed d h limit x
+        → IsFinal d limit x → IsUndetermined d x → (last : ℕ) → ((m : ℕ) → stop d x m ≤ last) → IsAtRest d h last }
+    ensures moved { (d : Design S) (h : Trace S) → IsDesign d → IsHistory d h → (limit : ℕ) (x : Core S) → IsAgreed d h limit x
+        → IsFinal d limit x → IsUndetermined d x → (m c : ℕ) → suc c ≡ stop d x m → moves d h c m ≡ true }
+    ensures late { (d : Design S) (h : Trace S) → IsDesign d → IsHistory d h → (limit : ℕ) (x : Core S) → IsAgreed d h limit x
+        → IsFinal d limit x → (m c : ℕ) → candidate d (view d x) m ≡ Some c → (limit ≤ c) × (moves d h c m ≡ true) }
+{}
+
+/// What a report tells besides is read off a core: the events, which are the steps with a cycle, each before its module's stop;
+/// what went into a channel before a clock up to which its pusher has each of its steps; and of a final core, how many steps each
+/// module did below the limit, and, where no step is determined, which accesses hold a module.
+pub fn final_reports<S>()
+    ensures counts { (d : Design S) (h : Trace S) → IsDesign d → IsHistory d h → (limit : ℕ) (x : Core S) → IsAgreed d h limit x
+        → IsFinal d limit x → (m : ℕ) → done d h m limit ≡ x.timed m }
+    ensures events { (d : Design S) (h : Trace S) → IsDesign d → IsHistory d h → (limit : ℕ) (x : Core S) → IsAgreed d h limit x
+        → (m c last : ℕ) → c < last → done d h m last ≤ x.timed m → steps d h c m ≡ true → (k : ℕ) × (k < x.timed m) × (x.cycle m k ≡ c) }
+    ensures before_stop { (d : Design S) (h : Trace S) → IsDesign d → IsHistory d h → (limit : ℕ) (x : Core S) → IsAgreed d h limit x
+        → (m k : ℕ) → k < x.timed m → x.cycle m k < stop d x m }
+    ensures outputs { (d : Design S) (h : Trace S) → IsDesign d → IsHistory d h → (limit : ℕ) (x : Core S) → IsAgreed d h limit x
+        → (ch c : ℕ) → done d h (d.owner false ch) c ≡ x.timed (d.owner false ch)
+        → h.pushed c ch ≡ d.inputs ch ++ pushed_in ch (core_accesses d x (d.owner false ch)) (λ k. bare_replies (x.flags (d.owner false ch) k)) (x.timed (d.owner false ch)) }
+    ensures held { (d : Design S) (h : Trace S) → IsDesign d → IsHistory d h → (limit : ℕ) (x : Core S) → IsAgreed d h limit x
+        → IsFinal d limit x → IsUndetermined d x → (m c : ℕ) → x.timed m < x.emitted m → stop d x m ≤ c
+        → (h.state c m ≡ x.state m (x.timed m))
+        × Each (λ a. is_possible d h c a.pops a.channel ≡ answer (known_of d (view d x) m a) c) (core_accesses d x m (x.timed m)) }
+{}
+
+/// The first touched clock is the least in which the FIFO holds as many elements as the lesser of both depths, by a final core's
+/// cycles. Up to it, and up to the limit where there is none, it holds fewer; and at the limit no cycle is forgotten.
+pub fn first_touched<S>()
+    ensures below { (d : Design S) (h : Trace S) → IsDesign d → IsHistory d h → (limit : ℕ) (x : Core S) → IsAgreed d h limit x → IsFinal d limit x
+        → (fifo depth t : ℕ) → t ≤ limit → 0 < d.start false fifo → 0 < depth
+        → ((c : ℕ) → c < t → held_by_cycles d x fifo c ≡ min (d.start false fifo) depth → ⊥) → IsUntouchedByCycles d x fifo depth t }
+    ensures none { (d : Design S) (h : Trace S) (limit : ℕ) (x : Core S) → IsAgreed d h limit x → (m : ℕ) → kept (x.cycle m) limit (x.timed m) ≡ x.timed m }
+{}
+
+/// A final core that is cut back to the cycles below the first touched clock agrees with the edited design. `g` is a history of that one.
+pub fn edited_cores<S>()
+    ensures { (d : Design S) (h : Trace S) → IsDesign d → IsHistory d h → ((ch : ℕ) → d.lag false ch ≡ 1) → (limit : ℕ) (x : Core S) → IsAgreed d h limit x
+        → IsFinal d limit x → (fifo depth t : ℕ) → t ≤ limit → IsUntouchedByCycles d x fifo depth t
+        → (g : Trace S) → IsHistory (edited d fifo depth) g → IsAgreed (edited d fifo depth) g limit (after_edit d x t) }
+{}
+
+/// Each Assign of a module gives one of its steps a cycle, and nothing else does. After an edit these are no more than the steps
+/// that had no cycle before it, those whose cycle was at `t` or later, and those that are emitted meanwhile.
+pub fn cycles_given<S>()
+    ensures given { (d : Design S) (limit : ℕ) (x : Core S) (actions : List Action) (y : Core S) → ActsAll d limit x actions y
+        → (m : ℕ) → assigns m actions + x.timed m ≡ y.timed m }
+    ensures edited { (d : Design S) (h : Trace S) → IsDesign d → IsHistory d h → ((ch : ℕ) → d.lag false ch ≡ 1) → (limit : ℕ) (x : Core S) → IsAgreed d h limit x
+        → IsFinal d limit x → (fifo depth t : ℕ) → t ≤ limit → IsUntouchedByCycles d x fifo depth t → (g : Trace S) → IsHistory (edited d fifo depth) g
+        → (actions : List Action) (y : Core S) → ActsAll (edited d fifo depth) limit (after_edit d x t) actions y → (m : ℕ)
+        → assigns m actions ≤ (x.emitted m - x.timed m) + (x.timed m - kept (x.cycle m) t (x.timed m)) + (y.emitted m - x.emitted m) }
+{}
+
+/// From the opening core no list of permitted actions is longer than this, where no own run has more than `most` steps. From any core
+/// that agrees, each permitted action raises what the core has done, unless it differs and changes nothing; and that has a bound.
+pub fn action_bound<S>()
+    ensures opening { (d : Design S) (h : Trace S) → IsDesign d → IsHistory d h → (limit most : ℕ) → IsBounded d most
+        → (actions : List Action) (x : Core S) → ActsAll d limit (opening_core d) actions x → length actions ≤ d.modules * (3 * most + 1) }
+    ensures rises { (d : Design S) (h : Trace S) (limit : ℕ) (x : Core S) → IsAgreed d h limit x
+        → (a : Action) (y : Core S) → Acts d limit x a y → (y ≡ x) ⊎ (work d x < work d y) }
+    ensures most { (d : Design S) (h : Trace S) (limit : ℕ) (x : Core S) → IsAgreed d h limit x → (most : ℕ) → IsBounded d most
+        → work d x ≤ d.modules * (3 * most + 1) }
+{}
+
+/// A Run of a module that is permitted stays so while others act, and emits the same.
+pub fn running_ahead<S>()
+    ensures { (d : Design S) (h : Trace S) → IsDesign d → IsHistory d h → (limit : ℕ) (x : Core S) → IsAgreed d h limit x → (m : ℕ) → MayRun d x m
+        → (actions : List Action) → IsNoRunOf m actions → (y : Core S) → ActsAll d limit x actions y → MayRun d y m × (newest d y m ≡ newest d x m) }
+{}
+
+/// An edit permits no Run, and neither do actions that meet only queries whose outcomes are recorded and found again.
+pub fn recorded_outcomes<S>()
+    ensures edited { (d : Design S) (x : Core S) (fifo depth t m : ℕ) → MayRun (edited d fifo depth) (after_edit d x t) m → MayRun d x m }
+    ensures kept { (d : Design S) (h : Trace S) → IsDesign d → IsHistory d h → (limit : ℕ) (x : Core S) → IsAgreed d h limit x
+        → ((m : ℕ) → MayRun d x m → ⊥) → (actions : List Action) (y : Core S) → ActsRecorded d limit x actions y → (m : ℕ) → MayRun d y m → ⊥ }
+{}

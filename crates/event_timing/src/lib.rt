@@ -1,0 +1,10 @@
+//! The theory of an engine that knows no clock and no contents of a FIFO: it agrees with the lockstep machine. Nothing here
+//! runs in the program. The functions have no body; each clause is a theorem on the definitions.
+#![tactic(auto)]
+
+mod laws;
+
+pub use laws::{
+    action_bound, cycles_given, edited_cores, every_order_agrees, final_cores, final_reports,
+    first_touched, found_by_counts, lists_are_counts, recorded_outcomes, running_ahead,
+};

@@ -1,0 +1,198 @@
+-- What is possible by the contents is possible by counts, and what is told and moved is the same.
+use Rattle.std.proofs.Common.{◌≡◌, ℕ, suc, ◌+◌, ◌-◌, ◌<◌, List, [], ◌∷◌, ◌++◌, map, length, get_or, Bool, true, false, ◌||◌, ◌&&◌, not, cond, refl, sym, ◌∙◌, ap, ap₂, arith, inl, inr, ◌==◌, ltb, length-append, add-zero}
+use Rattle.std.specs.List.{list_any, AllByRecursion}
+use Rattle.std.proofs.lemmas.Bool.{cases_Bool, or_parts}
+use Rattle.std.proofs.lemmas.List.{get_or-drop}
+use Rattle.flow_word.specs.declared.access.Kind.{Kind}
+use Rattle.flow_word.specs.declared.access.Kind.TheVariants.{Read, Write, TryRead, TryWrite, Empty, Full}
+use Rattle.flow_design.specs.declared.plan.Plan.{Plan}
+use Rattle.flow_design.specs.declared.state.ModuleState.{ModuleState}
+use Rattle.flow_design.specs.declared.state.Request.{Request}
+use Rattle.flow_design.specs.declared.state.Reply.{Reply}
+use Rattle.flow_design.specs.Plans.{is_fifo, kind_at}
+use Rattle.flow_design.specs.StaticRules.{FitsEngine}
+use Rattle.lockstep_defs.specs.Machine.{is_yes}
+use Rattle.lockstep_defs.specs.Channels.{side_of, is_blocking, is_taking, is_possible, stalls, reply, reply_by, popped_value, pushed_value, moved_by, moved, contents_of}
+use Rattle.lockstep_defs.specs.Lockstep.{requests_of, answered, state, history}
+use Rattle.lockstep_defs.specs.Ends.{StandsAtEnd}
+use Rattle.lockstep_defs.specs.Laws.{all_in}
+use Rattle.lockstep_defs.proofs.Queue.{contents_are, channel_count}
+use Rattle.lockstep_defs.proofs.Rules.{keeps_ends}
+use Rattle.lockstep_defs.proofs.Counts.{is_counted}
+use Rattle.event_timing.specs.Machines.{takes_in, values_in, took, same_side}
+use Rattle.event_timing.specs.Machines as theory
+use Rattle.event_timing.specs.Histories.{can_all, reply_to}
+use Rattle.event_timing.specs.Histories as counted
+use Rattle.timing_bridge.specs.Designs.{design, lockstep_run, seen, told, told_all}
+use Rattle.timing_bridge.proofs.Requests.{stand}
+
+-- ---- one channel
+
+possible_same : (p : Plan) → FitsEngine p → (c : ℕ) (side : Bool) (f : ℕ) → f < length p.design.channels
+    → counted.is_possible (design p) (lockstep_run p) c side f ≡ is_possible p c (state p c).contents side f
+possible_same p h c true f l =
+    let now : suc c - 1 ≡ c = omega arith in
+    rw now
+    (ap (λ (n : ℕ). ltb (length (moved true f (history p c))) n) (sym (length-append (contents_of (state p 0).contents f) (moved false f (history p c))))
+    ∙ sym (is_counted p h c f l).pops)
+possible_same p h c false f l =
+    let now : suc c - 1 ≡ c = omega arith in
+    rw now
+    (elim (cases_Bool (is_fifo (kind_at p f))) [
+      | inl e ↦
+          ap (λ (b : Bool). not b || ltb (length (moved false f (history p c))) ((design p).start false f + length (moved true f (history p c)))) e
+          ∙ sym ((is_counted p h c f l).pushes e)
+      | inr e ↦
+          ap (λ (b : Bool). not b || ltb (length (moved false f (history p c))) ((design p).start false f + length (moved true f (history p c)))) e
+          ∙ sym ((is_counted p h c f l).unlimited e)
+    ])
+
+front_same : (p : Plan) → FitsEngine p → (c f : ℕ) → f < length p.design.channels
+    → get_or (all_in p c f) (length (moved true f (history p c))) 0 ≡ get_or (contents_of (state p c).contents f) 0 0
+front_same p h c f l =
+    let n = length (moved true f (history p c)) in
+    ap (λ (i : ℕ). get_or (all_in p c f) i 0) (sym (add-zero n))
+    ∙ (sym (get_or-drop n (all_in p c f) 0 0)
+    ∙ ap (λ (xs : List ℕ). get_or xs 0 0) (sym (contents_are p (keeps_ends p h) f (omega (arith, channel_count p)) c)))
+
+-- ---- requests
+
+-- the theory finds this request as possible as the contents do, and the same front
+pub record Alike (p : Plan) (c : ℕ) (r : Request) : Type 0 where
+  pub possible : counted.is_possible (design p) (lockstep_run p) c (side_of r.kind) r.channel ≡ is_possible p c (state p c).contents (side_of r.kind) r.channel
+  pub front : get_or (all_in p c r.channel) (length (moved true r.channel (history p c))) 0 ≡ get_or (contents_of (state p c).contents r.channel) 0 0
+
+alike_all : (p : Plan) → FitsEngine p → (c i : ℕ) (rs : List Request) → AllByRecursion (StandsAtEnd p i) rs → AllByRecursion (Alike p c) rs
+alike_all p h c i [] e = tt
+alike_all p h c i (r ∷ rs) e = (
+  record { possible = possible_same p h c (side_of r.kind) r.channel (e.0).in_range; front = front_same p h c r.channel (e.0).in_range },
+  alike_all p h c i rs e.1,
+)
+
+pub alike : (p : Plan) → FitsEngine p → (c i : ℕ) (s : ModuleState) → AllByRecursion (Alike p c) (requests_of p (i, s))
+alike p h c i s = alike_all p h c i (requests_of p (i, s)) (stand p h i s)
+
+can_both : (b q x : Bool) → ((not b || q) && not x) ≡ not ((b && not q) || x)
+can_both true true x = refl
+can_both true false x = refl
+can_both false q x = refl
+
+pub can_same : (p : Plan) (c : ℕ) (rs : List Request) → AllByRecursion (Alike p c) rs
+    → can_all (design p) (lockstep_run p) c (map seen rs) ≡ not (list_any (stalls p c (state p c).contents) rs)
+can_same p c [] h = refl
+can_same p c (r ∷ rs) h =
+    ap₂ (λ (q x : Bool). (not (is_blocking r.kind) || q) && x) (h.0).possible (can_same p c rs h.1)
+    ∙ can_both (is_blocking r.kind) (is_possible p c (state p c).contents (side_of r.kind) r.channel) (list_any (stalls p c (state p c).contents) rs)
+
+-- ---- replies
+
+told_kind : (k : Kind) (q : Bool) (v : ℕ) → (is_blocking k && not q) ≡ false → reply_by k q (cond (is_taking k && (side_of k && q)) v 0) ≡ reply_by k q v
+told_kind Read true v h = refl
+told_kind Read false v h = cc
+told_kind Write q v h = refl
+told_kind TryRead true v h = refl
+told_kind TryRead false v h = refl
+told_kind TryWrite q v h = refl
+told_kind Empty q v h = refl
+told_kind Full q v h = refl
+
+told_one : (p : Plan) (c : ℕ) (r : Request) → Alike p c r → stalls p c (state p c).contents r ≡ false
+    → told r (reply_to (design p) (lockstep_run p) c (seen r)) ≡ reply p c (state p c).contents r
+unfolding reply
+told_one p c r h e =
+    ap₂ (λ (q : Bool) (v : ℕ). reply_by r.kind q (cond (is_taking r.kind && (side_of r.kind && q)) v 0)) h.possible h.front
+    ∙ told_kind r.kind (is_possible p c (state p c).contents (side_of r.kind) r.channel) (get_or (contents_of (state p c).contents r.channel) 0 0) e
+
+-- the theory's replies to these requests
+abbrev pub counted_replies : Plan → ℕ → List Request → List theory.Reply
+counted_replies p c rs = map (reply_to (design p) (lockstep_run p) c) (map seen rs)
+
+pub told_same : (p : Plan) (c : ℕ) (rs : List Request) → AllByRecursion (Alike p c) rs → list_any (stalls p c (state p c).contents) rs ≡ false
+    → told_all rs (counted_replies p c rs) ≡ map (reply p c (state p c).contents) rs
+told_same p c [] h e = refl
+told_same p c (r ∷ rs) h e =
+    let parts = or_parts (stalls p c (state p c).contents r) (list_any (stalls p c (state p c).contents) rs) e in
+    ap₂ (λ (x : Reply) (xs : List Reply). x ∷ xs) (told_one p c r h.0 parts.0) (told_same p c rs h.1 parts.1)
+
+-- ---- what is popped and pushed
+
+pub pop_kind : (k : Kind) (q t : Bool) (v : ℕ) → (is_blocking k && not q) ≡ false
+    → cond (is_taking k && (q && (same_side (side_of k) true && t))) 1 0 ≡ length (cond t (popped_value (reply_by k q v)) [])
+pop_kind Read true true v h = refl
+pop_kind Read true false v h = refl
+pop_kind Read false t v h = cc
+pop_kind Write true true v h = refl
+pop_kind Write true false v h = refl
+pop_kind Write false t v h = cc
+pop_kind TryRead true true v h = refl
+pop_kind TryRead true false v h = refl
+pop_kind TryRead false true v h = refl
+pop_kind TryRead false false v h = refl
+pop_kind TryWrite true true v h = refl
+pop_kind TryWrite true false v h = refl
+pop_kind TryWrite false true v h = refl
+pop_kind TryWrite false false v h = refl
+pop_kind Empty q true v h = refl
+pop_kind Empty q false v h = refl
+pop_kind Full q true v h = refl
+pop_kind Full q false v h = refl
+
+pub push_kind : (k : Kind) (q t : Bool) (v w : ℕ) → (is_blocking k && not q) ≡ false
+    → cond (is_taking k && (q && (same_side (side_of k) false && t))) (w ∷ []) [] ≡ cond t (pushed_value k (is_yes (reply_by k q v)) w) []
+push_kind Read true true v w h = refl
+push_kind Read true false v w h = refl
+push_kind Read false t v w h = cc
+push_kind Write true true v w h = refl
+push_kind Write true false v w h = refl
+push_kind Write false t v w h = cc
+push_kind TryRead true true v w h = refl
+push_kind TryRead true false v w h = refl
+push_kind TryRead false true v w h = refl
+push_kind TryRead false false v w h = refl
+push_kind TryWrite true true v w h = refl
+push_kind TryWrite true false v w h = refl
+push_kind TryWrite false true v w h = refl
+push_kind TryWrite false false v w h = refl
+push_kind Empty q true v w h = refl
+push_kind Empty q false v w h = refl
+push_kind Full q true v w h = refl
+push_kind Full q false v w h = refl
+
+pops_same : (p : Plan) (c f : ℕ) (rs : List Request) → AllByRecursion (Alike p c) rs → list_any (stalls p c (state p c).contents) rs ≡ false
+    → takes_in true f (map seen rs) (counted_replies p c rs) ≡ length (moved_by true f (map (answered p c (state p c).contents) rs))
+unfolding moved_by reply
+pops_same p c f [] h e = refl
+pops_same p c f (r ∷ rs) h e =
+    let cs = (state p c).contents in
+    let parts = or_parts (stalls p c cs r) (list_any (stalls p c cs) rs) e in
+    ap₂ (λ (q : Bool) (n : ℕ). cond (is_taking r.kind && (q && (same_side (side_of r.kind) true && (r.channel == f)))) 1 0 + n) (h.0).possible (pops_same p c f rs h.1 parts.1)
+    ∙ (ap (λ (n : ℕ). n + length (moved_by true f (map (answered p c cs) rs))) (pop_kind r.kind (is_possible p c cs (side_of r.kind) r.channel) (r.channel == f) (get_or (contents_of cs r.channel) 0 0) parts.0)
+    ∙ sym (length-append _ _))
+
+pub pushes_same : (p : Plan) (c f : ℕ) (rs : List Request) → AllByRecursion (Alike p c) rs → list_any (stalls p c (state p c).contents) rs ≡ false
+    → values_in f (map seen rs) (counted_replies p c rs) ≡ moved_by false f (map (answered p c (state p c).contents) rs)
+unfolding moved_by reply
+pushes_same p c f [] h e = refl
+pushes_same p c f (r ∷ rs) h e =
+    let cs = (state p c).contents in
+    let parts = or_parts (stalls p c cs r) (list_any (stalls p c cs) rs) e in
+    ap₂ (λ (q : Bool) (vs : List ℕ). cond (is_taking r.kind && (q && (same_side (side_of r.kind) false && (r.channel == f)))) (r.value ∷ []) [] ++ vs) (h.0).possible (pushes_same p c f rs h.1 parts.1)
+    ∙ ap (λ (vs : List ℕ). vs ++ moved_by false f (map (answered p c cs) rs)) (push_kind r.kind (is_possible p c cs (side_of r.kind) r.channel) (r.channel == f) (get_or (contents_of cs r.channel) 0 0) r.value parts.0)
+
+pub one_long : (b : Bool) (v : ℕ) → cond b 1 0 ≡ length (cond b (v ∷ []) [])
+one_long true v = refl
+one_long false v = refl
+
+-- the pushes are as many as their values
+as_many : (f : ℕ) (xs : List theory.Access) (rs : List theory.Reply) → takes_in false f xs rs ≡ length (values_in f xs rs)
+as_many f [] rs = refl
+as_many f (a ∷ xs) [] = refl
+as_many f (a ∷ xs) (r ∷ rs) =
+    ap₂ (λ (x y : ℕ). x + y) (one_long (took false f a r) a.value) (as_many f xs rs) ∙ sym (length-append _ _)
+
+-- what these requests take at a side, by counts, is what they move there
+pub taken_same : (p : Plan) (c : ℕ) (side : Bool) (f : ℕ) (rs : List Request) → AllByRecursion (Alike p c) rs
+    → list_any (stalls p c (state p c).contents) rs ≡ false
+    → takes_in side f (map seen rs) (counted_replies p c rs) ≡ length (moved_by side f (map (answered p c (state p c).contents) rs))
+taken_same p c true f rs h e = pops_same p c f rs h e
+taken_same p c false f rs h e = as_many f (map seen rs) (counted_replies p c rs) ∙ ap length (pushes_same p c f rs h e)

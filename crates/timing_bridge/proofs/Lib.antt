@@ -1,0 +1,14 @@
+pub mod Requests
+pub mod Quiet
+pub mod Alike
+pub mod Moved
+pub mod History
+pub mod Orders
+pub mod Edits
+pub mod Bounded
+pub mod Verdicts
+pub mod Steps
+pub mod Settling
+pub mod Reports
+pub mod OwnRuns
+pub mod Ordinals

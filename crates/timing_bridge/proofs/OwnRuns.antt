@@ -1,0 +1,158 @@
+-- A module's own run, local clock by local clock, is the theory's own run: its steps come after the quiet clocks.
+use Rattle.std.proofs.Common.{◌≡◌, ℕ, zero, suc, ◌+◌, ◌≤◌, ◌<◌, List, [], ◌∷◌, ◌++◌, length, get_or, Bool, true, false, cond, refl, sym, ◌∙◌, ap, ap₂, subst, arith, inl, inr, length-append, zero-add}
+use Rattle.std.proofs.lemmas.Bool.{cases_lt, both_ways, or_from, or_right, cond_both}
+use Rattle.std.proofs.lemmas.List.{get_or-map}
+use Rattle.std.proofs.lemmas.List.FromFn.{length-map-range_with_len, get_or-map-range_with_len}
+use Rattle.flow_design.specs.declared.plan.Plan.{Plan}
+use Rattle.flow_design.specs.declared.state.ModuleState.{ModuleState}
+use Rattle.flow_design.specs.declared.state.Reply.{Reply}
+use Rattle.flow_design.specs.declared.state.Request.{Request}
+use Rattle.flow_design.specs.StaticRules.{FitsEngine}
+use Rattle.lockstep_defs.specs.Machine.{requests, move, opened, nobody, is_over}
+use Rattle.lockstep_defs.specs.Lockstep.{no_module, module_at, requests_of}
+use Rattle.lockstep_defs.specs.OwnRun.{Own, OwnStep, own_after, own_next}
+use Rattle.lockstep_defs.specs.OwnRun as real
+use Rattle.lockstep_defs.specs.Quiet.{is_some_request, rests, quiet, fits}
+use Rattle.lockstep_defs.proofs.Agrees.{own_suc}
+use Rattle.event_timing.specs.Machines.{skip, ready}
+use Rattle.event_timing.specs.Machines as theory
+use Rattle.event_timing.specs.Views.{own}
+use Rattle.event_timing.specs.Core.{Core, core_reply}
+use Rattle.event_timing.specs.Agreement.{AreOwnMarks}
+use Rattle.event_timing.proofs.OwnRuns.{own_0, own_more}
+use Rattle.timing_bridge.specs.Designs.{design, told_all, move_in}
+use Rattle.timing_bridge.specs.OwnRuns.{AreTold, core_replies, clocks_of_steps, IsOwnStep, AreOwnSteps, HasComeTo}
+use Rattle.timing_bridge.proofs.Quiet.{goes, ready_rests, first_fits, next_fits}
+
+steps_more : (p : Plan) (i : ℕ) (r : ℕ → List theory.Reply) (k n : ℕ) (ss : List OwnStep) (s : OwnStep) → k + length ss ≡ n → AreOwnSteps p i r k ss
+    → IsOwnStep p i r n s → AreOwnSteps p i r k (ss ++ s ∷ [])
+steps_more p i r k n [] s e h one = let z : k ≡ n = omega arith in (subst (λ (j : ℕ). IsOwnStep p i r j s) (sym z) one, tt)
+steps_more p i r k n (x ∷ ss) s e h one = (h.0, steps_more p i r (suc k) n ss s (omega arith) h.1 one)
+
+skip_fits : (p : Plan) → FitsEngine p → (i n : ℕ) (s : ModuleState) → fits p i s ≡ true → fits p i (skip (design p) i n s) ≡ true
+skip_fits p h i zero s f = f
+skip_fits p h i (suc n) s f = next_fits p h i (skip (design p) i n s) [] (skip_fits p h i n s f)
+
+-- every state of an own run is one that the module comes to
+own_fits : (p : Plan) → FitsEngine p → (i : ℕ) (r : ℕ → List theory.Reply) (k : ℕ) → fits p i (own (design p) i r k) ≡ true
+own_fits p h i r zero = ap (fits p i) (own_0 (design p) i r) ∙ first_fits p h i
+own_fits p h i r (suc k) =
+    let s = own (design p) i r k in
+    ap (fits p i) (own_more (design p) i r k) ∙ next_fits p h i (ready (design p) i s) (r k) (skip_fits p h i (quiet p i s) s (own_fits p h i r k))
+
+-- ---- where it rests, the quiet clocks are over
+
+at_rest : (p : Plan) (i n : ℕ) (s : ModuleState) → n ≤ quiet p i s → rests p i (skip (design p) i n s) ≡ true → n ≡ quiet p i s
+at_rest p i n s l e = elim (cases_lt n (quiet p i s)) [
+  | inl q ↦ absurd (both_ways (rests p i (skip (design p) i n s)) (goes p i s n q) e)
+  | inr q ↦ omega arith
+]
+
+not_at_rest : (p : Plan) → FitsEngine p → (i n : ℕ) (s : ModuleState) → fits p i s ≡ true → n ≤ quiet p i s → rests p i (skip (design p) i n s) ≡ false
+    → n < quiet p i s
+not_at_rest p h i n s f l e = elim (cases_lt n (quiet p i s)) [
+  | inl q ↦ q
+  | inr q ↦
+      let k : quiet p i s ≡ n = omega arith in
+      absurd (both_ways _ e (subst (λ (c : ℕ). rests p i (skip (design p) i c s) ≡ true) k (ready_rests p h i s f)))
+]
+
+-- ---- one local clock
+
+one_more : (p : Plan) → FitsEngine p → (i : ℕ) (r : ℕ → List theory.Reply) (replies : List (List Reply)) → AreTold p i r replies → (o : Own) (t : ℕ)
+    → HasComeTo p i r o t → is_over p.ops o.state ≡ false
+    → (rs : List Request) → requests_of p (i, o.state) ≡ rs → length (own_after (module_at p i) o rs (get_or replies (length o.steps) [])).steps ≤ length replies
+    → (u : ℕ) × HasComeTo p i r (own_after (module_at p i) o rs (get_or replies (length o.steps) [])) u
+one_more p h i r replies tells o t g lives [] e l =
+    let s = own (design p) i r (length o.steps) in
+    let none : rests p i o.state ≡ false = or_from _ _ lives (ap is_some_request e) in
+    let less = not_at_rest p h i t s (own_fits p h i r (length o.steps)) g.within (subst (λ (z : ModuleState). rests p i z ≡ false) g.state_is none) in
+    let since = g.since_is in (
+      suc t,
+      record {
+        steps_are = g.steps_are;
+        state_is = ap (λ (l : List Request). move (module_at p i) o.state (told_all l [])) (sym e) ∙ ap (λ (z : ModuleState). move_in p i z []) g.state_is;
+        since_is = omega arith;
+        within = omega arith;
+      },
+    )
+one_more p h i r replies tells o t g lives (x ∷ rs) e l =
+    let k = length o.steps in
+    let s = own (design p) i r k in
+    let some : rests p i o.state ≡ true = or_right (is_over p.ops o.state) _ (ap is_some_request e) in
+    let at = at_rest p i t s g.within (subst (λ (z : ModuleState). rests p i z ≡ true) g.state_is some) in
+    let here : o.state ≡ ready (design p) i s = g.state_is ∙ ap (λ (n : ℕ). skip (design p) i n s) at in
+    let step : OwnStep = record { gap = o.since; requests = x ∷ rs; replies = get_or replies k [] } in
+    let since = g.since_is in
+    let one : IsOwnStep p i r k step = record {
+      gap = omega arith;
+      requests = sym e ∙ ap (λ (z : ModuleState). requests_of p (i, z)) here;
+    } in
+    let n : length (o.steps ++ step ∷ []) ≡ suc k = omega (arith, length-append o.steps (step ∷ [])) in
+    let moved : move (module_at p i) o.state (get_or replies k []) ≡ own (design p) i r (suc k) =
+    ap₂ (λ (z : ModuleState) (qs : List Reply). move (module_at p i) z qs) here (sym (tells k (omega arith))) ∙ sym (own_more (design p) i r k) in (
+      0,
+      record {
+        steps_are = steps_more p i r 0 k o.steps step (zero-add k) g.steps_are one;
+        state_is = moved ∙ ap (own (design p) i r) (sym n);
+        since_is = ap (λ (j : ℕ). clocks_of_steps j + 0) (sym n);
+        within = omega arith;
+      },
+    )
+
+next_is : (p : Plan) → FitsEngine p → (i : ℕ) (r : ℕ → List theory.Reply) (replies : List (List Reply)) → AreTold p i r replies → (o : Own) (t : ℕ)
+    → HasComeTo p i r o t
+    → length (own_next p i replies o).steps ≤ length replies → (u : ℕ) × HasComeTo p i r (own_next p i replies o) u
+unfolding own_next
+next_is p h i r replies tells o t g = by_test (is_over p.ops o.state) (one_more p h i r replies tells o t g)
+  where
+    goes_on : Own
+    goes_on = own_after (module_at p i) o (requests p.design.channels (module_at p i) o.state) (get_or replies (length o.steps) [])
+
+    by_test : (b : Bool)
+        → (b ≡ false → (rs : List Request) → requests_of p (i, o.state) ≡ rs → length (own_after (module_at p i) o rs (get_or replies (length o.steps) [])).steps ≤ length replies
+        → (u : ℕ) × HasComeTo p i r (own_after (module_at p i) o rs (get_or replies (length o.steps) [])) u)
+        → length (cond b o goes_on).steps ≤ length replies → (u : ℕ) × HasComeTo p i r (cond b o goes_on) u
+    by_test true f l = (t, g)
+    by_test false f l = f refl (requests_of p (i, o.state)) refl l
+
+after_grows : (p : Plan) (i : ℕ) (o : Own) (rs : List Request) (qs : List Reply) → length o.steps ≤ length (own_after (module_at p i) o rs qs).steps
+after_grows p i o [] qs = omega arith
+after_grows p i o (x ∷ rs) qs = omega (arith, length-append {A = OwnStep})
+
+next_grows : (p : Plan) (i : ℕ) (replies : List (List Reply)) (o : Own) → length o.steps ≤ length (own_next p i replies o).steps
+unfolding own_next
+next_grows p i replies o =
+    cond_both (is_over p.ops o.state) o _ (λ (z : Own). length o.steps ≤ length z.steps) (λ e. omega arith) (λ e. after_grows p i o (requests_of p (i, o.state)) (get_or replies (length o.steps) []))
+
+-- ---- the whole run
+
+first_is : (p : Plan) → (i : ℕ) → i < length p.design.modules → (r : ℕ → List theory.Reply) (replies : List (List Reply))
+    → HasComeTo p i r (real.own p i replies 0) 0
+unfolding real.own
+first_is p i inside r replies = record {
+  steps_are = tt;
+  state_is = sym (own_0 (design p) i r ∙ get_or-map opened p.design.modules i no_module nobody inside);
+  since_is = refl;
+  within = omega arith;
+}
+
+pub own_is : (p : Plan) → FitsEngine p → (i : ℕ) → i < length p.design.modules → (r : ℕ → List theory.Reply) (replies : List (List Reply))
+    → AreTold p i r replies → (n : ℕ)
+    → length (real.own p i replies n).steps ≤ length replies → (clocks : ℕ) × HasComeTo p i r (real.own p i replies n) clocks
+own_is p h i inside r replies tells zero l = (0, first_is p i inside r replies)
+own_is p h i inside r replies tells (suc n) l =
+    let o = real.own p i replies n in
+    let more : length (own_next p i replies o).steps ≤ length replies = subst (λ (z : Own). length z.steps ≤ length replies) (own_suc p i replies n) l in
+    let (t, g) = own_is p h i inside r replies tells n (omega (arith, next_grows p i replies o)) in
+    let (u, z) = next_is p h i r replies tells o t g more in
+    (u, subst (λ (w : Own). HasComeTo p i r w u) (sym (own_suc p i replies n)) z)
+
+-- what a core tells a module of emitted steps
+pub told_by_core : (p : Plan) (x : Core ModuleState) → AreOwnMarks (design p) x → (i n : ℕ) → n ≤ x.emitted i
+    → AreTold p i (core_reply (design p) x i) (core_replies p x i n)
+told_by_core p x b i n l k inside =
+    let tell = λ (j : ℕ). told_all (requests_of p (i, x.state i j)) (core_reply (design p) x i j) in
+    let below : k < n = omega (arith, length-map-range_with_len tell 0 n) in
+    ap (λ (s : ModuleState). told_all (requests_of p (i, s)) (core_reply (design p) x i k)) (sym (b.own_step i k (omega arith)))
+    ∙ sym (get_or-map-range_with_len tell 0 n k k [] below (zero-add k))

@@ -1,0 +1,95 @@
+-- The requests of a module as accesses of the theory: whose they are, and how many take.
+use Rattle.std.proofs.Common.{◌≡◌, ℕ, ◌+◌, ◌≤◌, List, [], ◌∷◌, map, length, Bool, true, false, ◌&&◌, not, cond, refl, sym, ◌∙◌, ap, ap₂, subst, arith, inl, inr, eqb}
+use Rattle.std.specs.List.{AllByRecursion, filter_map}
+use Rattle.std.proofs.lemmas.Bool.{cases_lt, cases_eq, eq-eqb, ne_eqb}
+use Rattle.std.proofs.lemmas.List.{get_or_past}
+use Rattle.std.proofs.lemmas.List.Elements.{recursion_from_All}
+use Rattle.flow_design.specs.declared.design.ChannelKind.{ChannelKind}
+use Rattle.flow_design.specs.declared.design.ChannelKind.TheVariants.{Source, Sink, Fifo}
+use Rattle.flow_design.specs.declared.design.Module.{Module}
+use Rattle.flow_design.specs.declared.plan.Plan.{Plan}
+use Rattle.flow_design.specs.declared.state.Due.{Due}
+use Rattle.flow_design.specs.declared.state.ModuleState.{ModuleState}
+use Rattle.flow_design.specs.declared.state.Request.{Request}
+use Rattle.flow_design.specs.Module.{no_block, block_of, live_count, due}
+use Rattle.flow_design.specs.Plans.{kind_at}
+use Rattle.flow_design.specs.StaticRules.{FitsEngine, same_end}
+use Rattle.lockstep_defs.specs.Machine.{requests, request_for}
+use Rattle.lockstep_defs.specs.Channels.{side_of, is_taking}
+use Rattle.lockstep_defs.specs.Lockstep.{no_module, module_at, requests_of}
+use Rattle.lockstep_defs.specs.Ends.{owner, is_taker, has_end, StandsAtEnd}
+use Rattle.lockstep_defs.specs.Ends as ends
+use Rattle.lockstep_defs.specs.States.{IsDueIn}
+use Rattle.lockstep_defs.proofs.Once.{takers_once}
+use Rattle.lockstep_defs.proofs.Rules.{keeps_ends}
+use Rattle.lockstep_defs.proofs.Standing.{due_in_range, requests_stand}
+use Rattle.event_timing.specs.Machines.{Each, takes_at, takers, same_side}
+use Rattle.event_timing.specs.Machines as theory
+use Rattle.timing_bridge.specs.Designs.{seen, accesses_in, is_source}
+
+-- ---- a number that names no module asks nothing
+
+nothing_due : (n : ℕ) (ds : List Due) → AllByRecursion (IsDueIn no_block n) ds → ds ≡ []
+nothing_due n [] h = refl
+nothing_due n (d ∷ ds) h = let l = (h.0).op in absurd (omega arith)
+
+nothing_asked : (p : Plan) (s : ModuleState) (m : Module) → m ≡ no_module → requests p.design.channels m s ≡ []
+unfolding requests
+nothing_asked p s m e =
+    let none : due no_module s ≡ [] = nothing_due (live_count no_block s.control) (due no_module s) (recursion_from_All (IsDueIn (block_of no_module s) (live_count (block_of no_module s) s.control)) (due no_module s) (due_in_range no_module s)) in
+    ap (λ (n : Module). requests p.design.channels n s) e ∙ ap (filter_map (request_for p.design.channels no_module s)) none
+
+-- ---- who stands where
+
+-- each request of a module stands at an end of a channel of the plan that is the module's own
+pub stand : (p : Plan) → FitsEngine p → (i : ℕ) (s : ModuleState) → AllByRecursion (StandsAtEnd p i) (requests_of p (i, s))
+stand p h i s = elim (cases_lt i (length p.design.modules)) [
+  | inl l ↦ recursion_from_All (StandsAtEnd p i) (requests_of p (i, s)) (requests_stand p h i l s)
+  | inr l ↦ subst (AllByRecursion (StandsAtEnd p i)) (sym (nothing_asked p s (module_at p i) (get_or_past p.design.modules i no_module l))) tt
+]
+
+each_seen : (P : Request → Type 0) (Q : theory.Access → Type 0) → ((r : Request) → P r → Q (seen r)) → (rs : List Request) → AllByRecursion P rs
+    → Each Q (map seen rs)
+each_seen P Q f [] h = tt
+each_seen P Q f (r ∷ rs) h = (f r h.0, each_seen P Q f rs h.1)
+
+pub owned_in : (p : Plan) → FitsEngine p → (i : ℕ) (s : ModuleState) → Each (λ a. owner p (a.pops, a.channel) ≡ i) (accesses_in p i s)
+owned_in p h i s = each_seen (StandsAtEnd p i) _ (λ r e. e.owned) (requests_of p (i, s)) (stand p h i s)
+
+not_source : (k : ChannelKind) (side : Bool) → has_end k side ≡ true → (not side && is_source k) ≡ false
+not_source Source true h = refl
+not_source Source false h = cc
+not_source Sink true h = refl
+not_source Sink false h = refl
+not_source (Fifo d) true h = refl
+not_source (Fifo d) false h = refl
+
+pub open_in : (p : Plan) → FitsEngine p → (i : ℕ) (s : ModuleState) → Each (λ a. (not a.pops && is_source (kind_at p a.channel)) ≡ false) (accesses_in p i s)
+open_in p h i s = each_seen (StandsAtEnd p i) _ (λ r e. not_source (kind_at p r.channel) (side_of r.kind) e.is_there) (requests_of p (i, s)) (stand p h i s)
+
+-- ---- at most one pop and one push of a channel in a local clock
+
+same_number : (f g : ℕ) → eqb g f ≡ eqb f g
+same_number f g = elim (cases_eq g f) [
+  | inl e ↦ eq-eqb g f e ∙ sym (eq-eqb f g (sym e))
+  | inr n ↦ ne_eqb g f n ∙ sym (ne_eqb f g (λ e. n (sym e)))
+]
+
+ends_same : (a side : Bool) (f g : ℕ) → (same_side a side && eqb g f) ≡ same_end (side, f) (a, g)
+ends_same true true f g = same_number f g
+ends_same true false f g = refl
+ends_same false true f g = refl
+ends_same false false f g = same_number f g
+
+count_more : (b : Bool) (r : Request) (rs : List Request) → cond b 1 0 + length rs ≡ length (cond b (r ∷ rs) rs)
+count_more true r rs = omega arith
+count_more false r rs = omega arith
+
+takers_same : (side : Bool) (f : ℕ) (rs : List Request) → takers side f (map seen rs) ≡ length (ends.takers (side, f) rs)
+takers_same side f [] = refl
+takers_same side f (r ∷ rs) =
+    ap₂ (λ (b : Bool) (n : ℕ). cond (is_taking r.kind && b) 1 0 + n) (ends_same (side_of r.kind) side f r.channel) (takers_same side f rs)
+    ∙ count_more (is_taker (side, f) r) r (ends.takers (side, f) rs)
+
+pub one_taker : (p : Plan) → FitsEngine p → (side : Bool) (i : ℕ) (s : ModuleState) (f : ℕ) → takers side f (accesses_in p i s) ≤ 1
+one_taker p h side i s f = omega (arith, takers_same side f (requests_of p (i, s)), takers_once p (keeps_ends p h) (side, f) i s)

@@ -1,0 +1,19 @@
+use Rattle.flow_design.specs.Plans.{with_depth}
+use Rattle.timing_bridge.proofs.Edits.{edited_fits, plan_edit}
+use Rattle.timing_bridge.proofs.Orders.{agrees_on}
+use Rattle.timing_bridge.proofs.Reports.{every_report}
+use Rattle.event_timing.specs.Edits.{after_edit}
+use Rattle.timing_bridge.specs.Designs.{design}
+use Rattle.timing_bridge.proofs.laws.edited_plans_agree.Goals as goal
+
+pub returns-clause-fits : goal.returns-clause-fits
+returns-clause-fits c = edited_fits
+
+pub returns-clause-agrees : goal.returns-clause-agrees
+returns-clause-agrees c = plan_edit
+
+pub returns-clause-reports : goal.returns-clause-reports
+returns-clause-reports c = λ p h e fit t x g f l u actions y s final ss o.
+    let q = with_depth p e.channel e.depth in
+    let k = edited_fits p h e fit in
+    every_report q k y (agrees_on q k p.cycles (after_edit (design p) x t) (plan_edit p h e fit p.cycles t x g f l u) actions y s) final ss o

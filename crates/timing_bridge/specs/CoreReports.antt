@@ -1,0 +1,108 @@
+-- The report that is read off a final core.
+use Rattle.std.specs.Prelude.{ℕ, zero, suc, max, is_some, Bool, false, not, ◌&&◌, ◌||◌, ◌≡◌, nat_lt, if◌then◌else◌, List, [], ◌++◌, map, length, filter_map, find, Option, None, option_map, AllPairs}
+use Rattle.std.specs.List.{range_with_len, list_any}
+use Rattle.flow_design.specs.declared.plan.Plan.{Plan}
+use Rattle.flow_design.specs.declared.report.Held.{Held}
+use Rattle.flow_design.specs.declared.report.Report.{Report}
+use Rattle.flow_design.specs.declared.report.Verdict.{Verdict}
+use Rattle.flow_design.specs.declared.report.Verdict.TheVariants.{Done, Deadlock, Cycles, Ops}
+use Rattle.flow_design.specs.declared.state.ClockState.{ClockState}
+use Rattle.flow_design.specs.declared.state.ModuleState.{ModuleState}
+use Rattle.flow_design.specs.declared.state.Request.{Request}
+use Rattle.lockstep_defs.specs.Channels.{HistoryStep, is_blocking, contents_of}
+use Rattle.lockstep_defs.specs.Lockstep.{requests_of, state}
+use Rattle.lockstep_defs.specs.Verdict.{settled_verdict, held_at}
+use Rattle.lockstep_defs.specs.Report.{steps_of, outcomes, events_of, sinks}
+use Rattle.lockstep_defs.specs.OwnRun.{paired}
+use Rattle.lockstep_defs.specs.Ends.{owner}
+use Rattle.lockstep_defs.specs.Laws.{IsBefore}
+use Rattle.event_timing.specs.Machines.{ready}
+use Rattle.event_timing.specs.Views.{own, pushed_in}
+use Rattle.event_timing.specs.Enablers.{answer, known_of, candidate}
+use Rattle.event_timing.specs.Core.{Core, core_reply, core_accesses, bare_replies, view}
+use Rattle.event_timing.specs.Agreement.{stop}
+use Rattle.timing_bridge.specs.Designs.{design, seen, told_all}
+
+-- ---- steps
+
+-- step k of module i, with its cycle, as the history has it
+abbrev pub core_step : Plan → Core ModuleState → ℕ → ℕ → HistoryStep
+core_step p x i k = record {
+  clock = x.cycle i k;
+  «module» = i;
+  exchanges = paired (requests_of p (i, x.state i k)) (told_all (requests_of p (i, x.state i k)) (core_reply (design p) x i k));
+}
+
+-- the steps with a cycle
+abbrev pub core_steps : Plan → Core ModuleState → ℕ → List HistoryStep
+core_steps p x i = map (core_step p x i) (range_with_len 0 (x.timed i))
+
+-- all modules' steps with a cycle, in order of cycles and then of modules
+pub record AreInOrder (p : Plan) (x : Core ModuleState) (steps : List HistoryStep) : Type 0 where
+  pub rising : AllPairs IsBefore steps
+  pub each : (i : ℕ) → steps_of i steps ≡ core_steps p x i
+
+-- ---- the verdict
+
+abbrev pub modules_of : Plan → List ℕ
+modules_of p = range_with_len 0 (length p.design.modules)
+
+-- the state of a module behind its steps with a cycle and its quiet clocks
+abbrev pub core_state : Plan → Core ModuleState → ℕ → ModuleState
+core_state p x i = ready (design p) i (own (design p) i (core_reply (design p) x i) (x.timed i))
+
+abbrev pub core_states : Plan → Core ModuleState → ClockState
+core_states p x = record { modules = map (core_state p x) (modules_of p); contents = [] }
+
+-- the greatest stop of the first n modules
+abbrev pub last_stop : Plan → Core ModuleState → ℕ → ℕ
+last_stop p x zero = 0
+last_stop p x (suc n) = max (stop (design p) x n) (last_stop p x n)
+
+-- some first step without a cycle is determined, at the limit or later
+abbrev pub is_determined : Plan → Core ModuleState → Bool
+is_determined p x = list_any (λ i. is_some (candidate (design p) (view (design p) x) i)) (modules_of p)
+
+-- the cycle limit where a step is determined or a stop is above it, and else what the states at the last stop say
+unfoldable pub core_verdict : Plan → Core ModuleState → Verdict
+core_verdict p x =
+    if is_determined p x || nat_lt p.cycles (last_stop p x (length p.design.modules)) then Cycles p.cycles
+    else settled_verdict p (last_stop p x (length p.design.modules)) (core_states p x)
+
+-- ---- held modules
+
+-- a blocking request of the first step without a cycle that cannot be done, by what the core knows
+abbrev pub is_stuck : Plan → Core ModuleState → ℕ → ℕ → Request → Bool
+is_stuck p x c i r = is_blocking r.kind && not (answer (known_of (design p) (view (design p) x) i (seen r)) c)
+
+abbrev pub core_held_by : Plan → Core ModuleState → ℕ → ℕ → Option Held
+core_held_by p x c i =
+    if nat_lt (x.timed i) (x.emitted i)
+    then option_map (held_at i) (find (is_stuck p x c i) (requests_of p (i, x.state i (x.timed i))))
+    else None
+
+abbrev pub core_held : Plan → Core ModuleState → Verdict → List Held
+core_held p x (Done c) = []
+core_held p x (Deadlock c) = filter_map (core_held_by p x c) (modules_of p)
+core_held p x (Cycles c) = []
+core_held p x (Ops c) = filter_map (core_held_by p x c) (modules_of p)
+
+-- ---- outputs
+
+-- all that was pushed on a channel in steps with a cycle
+abbrev pub sink_values : Plan → Core ModuleState → ℕ → List ℕ
+sink_values p x f =
+    contents_of (state p 0).contents f
+    ++ pushed_in f (core_accesses (design p) x (owner p (false, f))) (λ k. bare_replies (x.flags (owner p (false, f)) k)) (x.timed (owner p (false, f)))
+
+-- ---- the report
+
+-- with these steps, in order
+abbrev pub core_report : Plan → Core ModuleState → List HistoryStep → Verdict → Report
+core_report p x steps v = record {
+  verdict = v;
+  outputs = map (sink_values p x) (sinks p);
+  held = core_held p x v;
+  events = events_of steps;
+  answers = map (λ i. outcomes (core_steps p x i)) (modules_of p);
+}

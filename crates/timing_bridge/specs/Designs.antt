@@ -1,0 +1,86 @@
+-- The modules of a plan as machines of the theory, and the lockstep run as their history.
+use Rattle.std.specs.Prelude.{ℕ, Bool, true, false, not, ◌&&◌, List, [], ◌∷◌, map, length, slice_index, slice_index_or}
+use Rattle.flow_design.specs.declared.design.ChannelKind.{ChannelKind}
+use Rattle.flow_design.specs.declared.design.ChannelKind.TheVariants.{Source, Sink, Fifo}
+use Rattle.flow_design.specs.declared.plan.Plan.{Plan}
+use Rattle.flow_design.specs.declared.state.ModuleState.{ModuleState}
+use Rattle.flow_design.specs.declared.state.Request.{Request}
+use Rattle.flow_design.specs.declared.state.Reply.{Reply}
+use Rattle.flow_design.specs.Plans.{is_fifo, kind_at}
+use Rattle.lockstep_defs.specs.Machine.{opened, move, nobody, is_over}
+use Rattle.lockstep_defs.specs.Channels.{side_of, is_blocking, is_taking, reply_by, moved, contents_of}
+use Rattle.lockstep_defs.specs.Lockstep.{module_at, requests_of, state, state_at, history}
+use Rattle.lockstep_defs.specs.Quiet.{quiet}
+use Rattle.lockstep_defs.specs.Ends as ends
+use Rattle.lockstep_defs.specs.Laws.{all_in}
+use Rattle.event_timing.specs.Machines.{Design}
+use Rattle.event_timing.specs.Machines as theory
+use Rattle.event_timing.specs.Histories.{Trace}
+
+-- ---- requests and replies
+
+-- a request as the theory sees it
+abbrev pub seen : Request → theory.Access
+seen r = record {
+  pops = side_of r.kind;
+  blocks = is_blocking r.kind;
+  takes = is_taking r.kind;
+  channel = r.channel;
+  value = r.value;
+}
+
+-- the theory's reply as the module is told it; `empty` and `full` report the negation
+abbrev pub told : Request → theory.Reply → Reply
+told r a = reply_by r.kind a.possible a.front
+
+abbrev pub told_all : List Request → List theory.Reply → List Reply
+told_all [] replies = []
+told_all (r ∷ rs) [] = []
+told_all (r ∷ rs) (a ∷ replies) = told r a ∷ told_all rs replies
+
+-- ---- the design
+
+abbrev pub accesses_in : Plan → ℕ → ModuleState → List theory.Access
+accesses_in p i s = map seen (requests_of p (i, s))
+
+abbrev pub move_in : Plan → ℕ → ModuleState → List theory.Reply → ModuleState
+move_in p i s replies = move (module_at p i) s (told_all (requests_of p (i, s)) replies)
+
+abbrev pub is_source : ChannelKind → Bool
+is_source Source = true
+is_source Sink = false
+is_source (Fifo d) = false
+
+-- how many pops are possible before any push, and how many pushes before any pop
+abbrev pub start_in : Plan → Bool → ℕ → ℕ
+start_in p true f = length (contents_of (state p 0).contents f)
+start_in p false f = slice_index p.depths f
+
+-- a push is seen by a pop, and a pop by a push, one clock later
+abbrev pub lag_in : Plan → Bool → ℕ → ℕ
+lag_in p side f = 1
+
+abbrev pub design : Plan → Design ModuleState
+design p = record {
+  modules = length p.design.modules;
+  opening = λ i. slice_index_or (map opened p.design.modules) i nobody;
+  accesses = accesses_in p;
+  move = move_in p;
+  is_over = λ i s. is_over p.ops s;
+  quiet = quiet p;
+  owner = λ side f. ends.owner p (side, f);
+  start = start_in p;
+  unlimited = λ side f. not side && not (is_fifo (kind_at p f));
+  closed = λ side f. side && is_source (kind_at p f);
+  inputs = λ f. contents_of (state p 0).contents f;
+  lag = lag_in p;
+}
+
+-- ---- the run
+
+abbrev pub lockstep_run : Plan → Trace ModuleState
+lockstep_run p = record {
+  state = λ c i. state_at p c i;
+  taken = λ c side f. length (moved side f (history p c));
+  pushed = λ c f. all_in p c f;
+}

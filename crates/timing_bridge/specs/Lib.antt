@@ -1,0 +1,3 @@
+pub mod Designs
+pub mod CoreReports
+pub mod OwnRuns

@@ -1,0 +1,95 @@
+//! The laws, for any plan `p` that the engine takes.
+ghost use Rattle.std.specs.Prelude.{ℕ, Bool, ◌≡◌, ◌+◌, ◌*◌, ◌<◌, ◌≤◌, List, map, length};
+ghost use Rattle.std.specs.List.{range_with_len};
+ghost use Rattle.flow_design.specs.declared.plan.Edit.{Edit};
+ghost use Rattle.flow_design.specs.declared.plan.Plan.{Plan};
+ghost use Rattle.flow_design.specs.declared.state.ModuleState.{ModuleState};
+ghost use Rattle.flow_design.specs.declared.state.Reply.{Reply};
+ghost use Rattle.flow_design.specs.Plans.{with_depth, EditFits};
+ghost use Rattle.flow_design.specs.StaticRules.{FitsEngine};
+ghost use Rattle.lockstep_defs.specs.Channels.{HistoryStep, moved};
+ghost use Rattle.lockstep_defs.specs.Lockstep.{history};
+ghost use Rattle.lockstep_defs.specs.Report.{report, steps_of};
+ghost use Rattle.lockstep_defs.specs.OwnRun.{own};
+ghost use Rattle.event_timing.specs.Machines.{IsDesign};
+ghost use Rattle.event_timing.specs.Machines as theory;
+ghost use Rattle.event_timing.specs.Histories.{IsHistory};
+ghost use Rattle.event_timing.specs.Steps.{done};
+ghost use Rattle.event_timing.specs.Core.{Core, opening_core, core_tally, core_reply};
+ghost use Rattle.event_timing.specs.Actions.{Action, ActsAll, IsFinal};
+ghost use Rattle.event_timing.specs.Agreement.{AreOwnMarks, IsAgreed, IsBounded};
+ghost use Rattle.event_timing.specs.Edits.{after_edit, IsUntouchedByCycles};
+ghost use Rattle.timing_bridge.specs.Designs.{design, lockstep_run};
+ghost use Rattle.timing_bridge.specs.OwnRuns.{AreTold, HasComeTo, core_replies};
+ghost use Rattle.timing_bridge.specs.CoreReports.{core_step, core_report, core_verdict, AreInOrder};
+
+/// The plan's modules are machines of the theory, its lockstep run obeys the laws of counting, and no module's own run has more
+/// steps than the operation limit.
+pub fn plans_are_designs()
+    ensures design { (p : Plan) → FitsEngine p → IsDesign (design p) }
+    ensures history { (p : Plan) → FitsEngine p → IsHistory (design p) (lockstep_run p) }
+    ensures bounded { (p : Plan) → FitsEngine p → IsBounded (design p) p.ops }
+{}
+
+/// A module's own run, local clock by local clock, is the theory's own run: as long as it has made no more steps than there are
+/// replies, its steps are the theory's, each with its quiet clocks as gap and the requests of the state behind them, and it stands
+/// in the quiet clocks behind the latest. The replies may be those that a core tells of emitted steps.
+pub fn own_runs_are_the_same()
+    ensures same { (p : Plan) → FitsEngine p → (i : ℕ) → i < length p.design.modules
+        → (r : ℕ → List theory.Reply) (replies : List (List Reply)) → AreTold p i r replies
+        → (n : ℕ) → length (own p i replies n).steps ≤ length replies → (clocks : ℕ) × HasComeTo p i r (own p i replies n) clocks }
+    ensures told { (p : Plan) (x : Core ModuleState) → AreOwnMarks (design p) x → (i n : ℕ) → n ≤ x.emitted i
+        → AreTold p i (core_reply (design p) x i) (core_replies p x i n) }
+{}
+
+/// After every list of permitted actions from the opening core, the core agrees with the plan's lockstep run.
+pub fn every_order_agrees()
+    ensures { (p : Plan) → FitsEngine p → (limit : ℕ) (actions : List Action) (x : Core ModuleState)
+        → ActsAll (design p) limit (opening_core (design p)) actions x → IsAgreed (design p) (lockstep_run p) limit x }
+{}
+
+/// Of a core that agrees, a module's first steps with a cycle are its steps in the history, each with its clock, accesses, values
+/// and outcomes: as many as the history does before a clock up to which the core has them all.
+pub fn cores_show_history()
+    ensures { (p : Plan) → FitsEngine p → (limit : ℕ) (x : Core ModuleState) → IsAgreed (design p) (lockstep_run p) limit x
+        → (i : ℕ) → i < length p.design.modules → (c : ℕ) → done (design p) (lockstep_run p) i c ≤ x.timed i
+        → steps_of i (history p c) ≡ map (core_step p x i) (range_with_len 0 (done (design p) (lockstep_run p) i c)) }
+{}
+
+/// The theory's count of a module's pops, or pushes, of a channel before its step `k` is how many elements its earlier steps
+/// moved there. So the ordinal of an access is one more.
+pub fn ordinals_are_counts()
+    ensures { (p : Plan) (x : Core ModuleState) → AreOwnMarks (design p) x → (i : ℕ) (side : Bool) (f k : ℕ) → k ≤ x.emitted i
+        → core_tally (design p) x i side f k ≡ length (moved side f (map (core_step p x i) (range_with_len 0 k))) }
+{}
+
+/// The report that is read off a final core, however it was reached, is the plan's.
+pub fn every_report()
+    ensures reached { (p : Plan) → FitsEngine p → (actions : List Action) (x : Core ModuleState)
+        → ActsAll (design p) p.cycles (opening_core (design p)) actions x → IsFinal (design p) p.cycles x
+        → (steps : List HistoryStep) → AreInOrder p x steps → report p ≡ core_report p x steps (core_verdict p x) }
+    ensures agreed { (p : Plan) → FitsEngine p → (x : Core ModuleState)
+        → IsAgreed (design p) (lockstep_run p) p.cycles x → IsFinal (design p) p.cycles x
+        → (steps : List HistoryStep) → AreInOrder p x steps → report p ≡ core_report p x steps (core_verdict p x) }
+{}
+
+/// An edit that the plan takes gives a plan that the engine takes. A final core that is cut back to the cycles below the first
+/// touched clock agrees with the edited plan; and after every list of actions that are permitted from there, the report that is
+/// read off a final core is the edited plan's.
+pub fn edited_plans_agree()
+    ensures fits { (p : Plan) → FitsEngine p → (e : Edit) → EditFits p e → FitsEngine (with_depth p e.channel e.depth) }
+    ensures agrees { (p : Plan) → FitsEngine p → (e : Edit) → EditFits p e → (limit t : ℕ) (x : Core ModuleState)
+        → IsAgreed (design p) (lockstep_run p) limit x → IsFinal (design p) limit x → t ≤ limit → IsUntouchedByCycles (design p) x e.channel e.depth t
+        → IsAgreed (design (with_depth p e.channel e.depth)) (lockstep_run (with_depth p e.channel e.depth)) limit (after_edit (design p) x t) }
+    ensures reports { (p : Plan) → FitsEngine p → (e : Edit) → EditFits p e → (t : ℕ) (x : Core ModuleState)
+        → IsAgreed (design p) (lockstep_run p) p.cycles x → IsFinal (design p) p.cycles x → t ≤ p.cycles → IsUntouchedByCycles (design p) x e.channel e.depth t
+        → (actions : List Action) (y : Core ModuleState) → ActsAll (design (with_depth p e.channel e.depth)) p.cycles (after_edit (design p) x t) actions y
+        → IsFinal (design (with_depth p e.channel e.depth)) p.cycles y → (steps : List HistoryStep) → AreInOrder (with_depth p e.channel e.depth) y steps
+        → report (with_depth p e.channel e.depth) ≡ core_report (with_depth p e.channel e.depth) y steps (core_verdict (with_depth p e.channel e.depth) y) }
+{}
+
+/// From the opening core no list of permitted actions is longer than three for each operation of each module, and one for each module.
+pub fn few_actions()
+    ensures { (p : Plan) → FitsEngine p → (limit : ℕ) (actions : List Action) (x : Core ModuleState)
+        → ActsAll (design p) limit (opening_core (design p)) actions x → length actions ≤ length p.design.modules * (3 * p.ops + 1) }
+{}

@@ -1,5 +1,5 @@
 -- Which answer the program owes.
-use Rattle.std.proofs.Common.{◌≡◌, ◌∙◌, ap, subst, sym, refl, arith, ℕ, ◌+◌, ◌<◌, ◌≤◌, ◌&&◌, not, Bool, true, false, cond, List, [], ◌++◌, length, None, Some, IfSome, length-append, append-nil, nat_le}
+use Rattle.std.proofs.Common.{◌≡◌, ◌∙◌, ap, subst, sym, refl, arith, ℕ, ◌<◌, ◌≤◌, Bool, true, false, cond, List, ◌++◌, length, None, Some, IfSome, length-append, append-nil, nat_le}
 use Rattle.std.proofs.lemmas.Bool.{and_parts}
 use Rattle.std.proofs.lemmas.Bool.Decides.{nat_tests}
 use Rattle.std.specs.declared.option.Option.{Option}
@@ -12,7 +12,7 @@ use Rattle.lockstep_defs.specs.Report.{report}
 use Rattle.sim_cli.specs.declared.first_form.FirstForm.{FirstForm}
 use Rattle.sim_cli.specs.declared.status.Status.{Status}
 use Rattle.sim_cli.specs.FirstForm.{candidate, spelling, spells, first_form, is_sound, plan_of}
-use Rattle.sim_cli.specs.Answer.{Answer, asks_run, refused_words, not_built, text_limit, status_of, job, answer_to, answer}
+use Rattle.sim_cli.specs.Answer.{asks_run, refused_words, not_built, text_limit, status_of, job, answer_to, answer}
 
 -- ---- the session
 

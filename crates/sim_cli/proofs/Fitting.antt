@@ -1,21 +1,20 @@
 -- The plan of a sound session keeps the static rules and the limits.
-use Rattle.std.proofs.Common.{◌≡◌, refl, sym, ◌∙◌, ap, subst, arith, ℕ, zero, suc, ◌+◌, ◌-◌, ◌*◌, ◌<◌, ◌≤◌, max, Bool, true, false, ◌&&◌, not, nat_le, nat_lt, List, [], ◌∷◌, Option, None, Some, length, map, get_or, IsTrue, IfSome}
+use Rattle.std.proofs.Common.{◌≡◌, refl, sym, ◌∙◌, ap, arith, ℕ, zero, suc, ◌<◌, ◌≤◌, Bool, true, false, ◌&&◌, nat_le, nat_lt, [], ◌∷◌, Option, None, Some, length}
 use Rattle.std.proofs.lemmas.Bool.{and_parts, ltb-true, leb-true}
 use Rattle.std.proofs.lemmas.List.{length-map}
 use Rattle.std.specs.List.{All, AllPairs}
-use Rattle.flow_design.specs.declared.expr.Expr.{Expr, fold-Expr, fold-roll-Expr}
+use Rattle.flow_design.specs.declared.expr.Expr.{fold-Expr, fold-roll-Expr}
 use Rattle.flow_design.specs.declared.expr.Expr.TheOpen.{Expr-F}
-use Rattle.flow_design.specs.declared.expr.Expr.TheVariants.{Number, Var, Binary, rolls-Number, rolls-Var, rolls-Binary}
+use Rattle.flow_design.specs.declared.expr.Expr.TheVariants.{Number, Var, rolls-Number, rolls-Var, rolls-Binary}
 use Rattle.flow_design.specs.declared.expr.BinOp.TheVariants.{Add}
 use Rattle.flow_design.specs.declared.expr.Op.TheVariants.{Read, Write}
 use Rattle.flow_design.specs.declared.design.BlockKind.TheVariants.{Plain}
 use Rattle.flow_design.specs.declared.design.Next.TheVariants.{Stop}
-use Rattle.flow_design.specs.declared.design.Timed.{Timed}
 use Rattle.flow_design.specs.declared.design.Block.{Block}
-use Rattle.flow_design.specs.Words.{reach, nodes, depth, layer_reach, layer_nodes, layer_depth, cut_to}
+use Rattle.flow_design.specs.Words.{reach, nodes, depth, layer_reach, layer_nodes, layer_depth}
 use Rattle.flow_design.specs.Names.{is_name}
 use Rattle.flow_design.specs.Operations.{End}
-use Rattle.flow_design.specs.StaticRules.{IsExpressionSound, IsOperationSound, IsTimedSound, IsBlockSound, IsModuleSound, IsMemorySound, IsChannelSound, FitsEngine, Clashes}
+use Rattle.flow_design.specs.StaticRules.{IsExpressionSound, IsTimedSound, IsBlockSound, IsModuleSound, IsMemorySound, IsChannelSound, FitsEngine, Clashes}
 use Rattle.sim_cli.specs.declared.first_form.FirstForm.{FirstForm}
 use Rattle.sim_cli.specs.FirstForm.{sum_with, operations_of, module_of, plan_of, is_sound, are_names, are_widths, is_scheduled, is_fed}
 

@@ -1,9 +1,9 @@
 -- The report of a plan names modules and channels of the plan, and has one output per sink.
-use Rattle.std.proofs.Common.{◌≡◌, refl, sym, ◌∙◌, ap, subst, arith, ℕ, zero, suc, ◌+◌, ◌<◌, ◌≤◌, ◌==◌, not, Bool, true, false, cond, List, [], ◌∷◌, ◌++◌, length, map, get_or, Option, Some, None, add-zero}
+use Rattle.std.proofs.Common.{◌≡◌, refl, sym, ◌∙◌, ap, arith, ℕ, zero, suc, ◌+◌, ◌<◌, ◌≤◌, Bool, true, false, cond, List, [], ◌∷◌, ◌++◌, length, map, get_or, Option, Some, None, add-zero}
 use Rattle.std.specs.Prelude.{option_map, find, IfSome}
 use Rattle.std.proofs.lemmas.List.{length-map}
 use Rattle.std.proofs.lemmas.List.Elements.{All-from_recursion, recursion_from_All}
-use Rattle.std.specs.List.{All, AllByRecursion, filter, filter_map, cons_option, flat_map, enumerate_from, range_with_len}
+use Rattle.std.specs.List.{AllByRecursion, filter, filter_map, cons_option, flat_map, enumerate_from, range_with_len}
 use Rattle.flow_design.specs.declared.design.Channel.{Channel}
 use Rattle.flow_design.specs.declared.design.ChannelKind.{ChannelKind}
 use Rattle.flow_design.specs.declared.plan.Plan.{Plan}

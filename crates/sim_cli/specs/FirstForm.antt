@@ -1,5 +1,5 @@
 -- The sessions that are built so far: one source, one sink and one module, which adds a constant to each value that it reads.
-use Rattle.std.specs.Prelude.{ℕ, ◌+◌, ◌^◌, Bool, true, false, not, ◌&&◌, nat_le, nat_lt, ◌==◌, List, [], ◌∷◌, ◌++◌, map, drop, flat_map, length, slice_index_or, codes, Option, Some, None, Result, Ok, Err, if◌then◌else◌}
+use Rattle.std.specs.Prelude.{ℕ, Bool, not, ◌&&◌, nat_le, nat_lt, List, [], ◌∷◌, ◌++◌, map, drop, length, codes, Option, Some, None, if◌then◌else◌}
 use Rattle.std.specs.Fmt.{decimal}
 use Rattle.sim_cli.specs.Parts.{parts, part, word, number_in, is_width}
 use Rattle.std.specs.Str.{bytes_eq}

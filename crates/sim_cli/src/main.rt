@@ -3,6 +3,7 @@
 
 mod first_form;
 mod job;
+mod laws;
 mod parts;
 mod plan;
 mod program;

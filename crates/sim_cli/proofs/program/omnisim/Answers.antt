@@ -1,5 +1,5 @@
 use Rattle.std.proofs.Common.{◌≡◌, ◌∙◌, sym, ap, Err, true, false, map, string_bytes, arith}
-use Rattle.sim_cli.specs.Answer.{Answer, Tells, asks_run, answer}
+use Rattle.sim_cli.specs.Answer.{asks_run}
 use Rattle.sim_cli.proofs.Answering.{answer_refused, answer_session, answer_too_long, of_each, of_whole, of_long}
 use Rattle.sim_cli.proofs.program.omnisim.Goals as goal
 

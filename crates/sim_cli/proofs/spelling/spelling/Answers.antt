@@ -1,5 +1,3 @@
-use Rattle.std.proofs.Common.{◌≡◌, ap, ◌∙◌, List, ℕ, ◌++◌}
-use Rattle.report_text.specs.Lines.{text_of_lines}
 use Rattle.sim_cli.specs.FirstForm.{channel_statements, module_statements, operation_statements, ending_statements}
 use Rattle.sim_cli.proofs.LinesTogether.{four_groups}
 use Rattle.sim_cli.proofs.spelling.spelling.Goals as goal

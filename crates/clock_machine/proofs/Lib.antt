@@ -2,4 +2,5 @@ pub mod Fronts
 pub mod PartLemmas
 pub mod Queues
 pub mod Steps
-pub mod Idle
+pub mod Decided
+pub mod TestPlansFit

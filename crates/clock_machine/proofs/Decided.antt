@@ -1,5 +1,5 @@
 -- A test that a plan keeps the static rules and the limits. It computes: for a plan that is written out, the proof is refl.
-use Rattle.std.proofs.Common.{◌≡◌, refl, sym, ◌∙◌, ap, subst, arith, ℕ, zero, suc, ◌+◌, ◌*◌, ◌%◌, ◌^◌, ◌<◌, ◌≤◌, Bool, true, false, ◌&&◌, not, nat_le, nat_lt, nat_eq, List, [], ◌∷◌, Option, None, Some, length, get_or, slice_index, sum_by, count_by, IsTrue, IfSome}
+use Rattle.std.proofs.Common.{◌≡◌, refl, sym, ◌∙◌, ap, subst, arith, ℕ, ◌+◌, ◌*◌, ◌%◌, ◌^◌, ◌<◌, ◌≤◌, Bool, true, false, ◌&&◌, not, nat_le, nat_lt, nat_eq, List, [], ◌∷◌, Option, None, Some, length, get_or, slice_index, sum_by, count_by, IsTrue, IfSome}
 use Rattle.std.proofs.lemmas.Bool.{and_parts, ltb-true, leb-true, eqb-true, eq-eqb}
 use Rattle.std.proofs.lemmas.List.Sums.{AllPass-from_list_all}
 use Rattle.std.proofs.lemmas.List.Kept.{AllPairs-cons}
@@ -26,7 +26,7 @@ use Rattle.flow_design.specs.Module.{interval}
 use Rattle.flow_design.specs.Names.{is_name}
 use Rattle.flow_design.specs.Operations.{places_of, expressions_of, memory_of, End, end_of, used_end}
 use Rattle.flow_design.specs.Plans.{no_channel, kind_at}
-use Rattle.flow_design.specs.StaticRules.{same_end, is_end, uses, users_wanted, IsExpressionSound, IsOperationSound, IsTimedSound, IsLoopSound, IsKindSound, IsNextSound, Clashes, IsBlockSound, IsMemorySound, IsModuleSound, AreEntriesSound, IsChannelSound, FitsEngine}
+use Rattle.flow_design.specs.StaticRules.{same_end, is_end, uses, users_wanted, IsExpressionSound, IsOperationSound, IsTimedSound, IsKindSound, IsNextSound, Clashes, IsBlockSound, IsMemorySound, IsModuleSound, AreEntriesSound, IsChannelSound, FitsEngine}
 
 -- ---- lists and options
 

@@ -1,7 +1,7 @@
 -- The plans of the tests keep the static rules.
 use Rattle.std.proofs.Common.{refl}
 use Rattle.flow_design.specs.StaticRules.{FitsEngine}
-use Rattle.clock_machine.specs.TestPlans.{parts_plan, early_plan, polling_plan, adder_plan}
+use Rattle.clock_machine.specs.TestPlans.{parts_plan, early_plan, tester_plan, polling_plan, adder_plan}
 use Rattle.clock_machine.proofs.Decided.{decided, written_out}
 
 pub parts_fits : FitsEngine parts_plan
@@ -15,6 +15,10 @@ early_fits = decided (early_plan 2) refl
 pub early_fits_deeper : FitsEngine (early_plan 3)
 unfolding written_out
 early_fits_deeper = decided (early_plan 3) refl
+
+pub tester_fits : FitsEngine tester_plan
+unfolding written_out
+tester_fits = decided tester_plan refl
 
 pub polling_fits : FitsEngine (polling_plan 1000)
 unfolding written_out

@@ -4,7 +4,7 @@ use Rattle.flow_design.specs.declared.design.Channel.{Channel}
 use Rattle.flow_design.specs.declared.design.ChannelKind.{ChannelKind}
 use Rattle.flow_design.specs.declared.design.Module.{Module}
 use Rattle.flow_design.specs.declared.plan.Plan.{Plan}
-use Rattle.lockstep_defs.specs.Designs.{plain_case, parts, deadlocked_record_goes_on, polling_loop}
+use Rattle.lockstep_defs.specs.Designs.{plain_case, parts, deadlocked_record_goes_on, later_stall_delays_earlier_query, polling_loop}
 
 -- a channel whose name is c
 abbrev pub named_channel : Channel → Channel
@@ -29,6 +29,10 @@ parts_plan = named parts
 -- a deadlock at depth 2 that goes on at depth 3
 abbrev pub early_plan : ℕ → Plan
 early_plan depth = named (deadlocked_record_goes_on depth)
+
+-- a guard, and a query that a later stall delays
+abbrev pub tester_plan : Plan
+tester_plan = named later_stall_delays_earlier_query
 
 -- a loop without an end
 abbrev pub polling_plan : ℕ → Plan

@@ -4,7 +4,7 @@ mod plans;
 use crate::clock_run;
 use flow_design::{EventLine, Held, Report, Verdict};
 use flow_word::{Flags, Kind, List, OutOfMemory, Words};
-use plans::{adder_plan, early_plan, parts_plan, polling_plan};
+use plans::{adder_plan, early_plan, parts_plan, polling_plan, tester_plan};
 use std::alloc::Global;
 use std::test::Fail;
 
@@ -101,7 +101,20 @@ fn one_more_place_ends_the_deadlock(rt: HostRuntime) -> Result<(), Fail> {
     let alloc = rt.alloc();
     let plan = early_plan(alloc, 3)?;
     let report = clock_run(alloc, &plan)?;
+    let expected = outputs(alloc, [3].as_slice())?;
     assert_eq!(rt; report.verdict, Verdict::Done(9));
+    assert_eq!(rt; report.outputs, expected);
+    Ok(())
+}
+
+#[test]
+fn a_later_stall_delays_an_earlier_query(rt: HostRuntime) -> Result<(), Fail> {
+    let alloc = rt.alloc();
+    let plan = tester_plan(alloc)?;
+    let report = clock_run(alloc, &plan)?;
+    let expected = two_answers(alloc, [false, false].as_slice())?;
+    assert_eq!(rt; report.verdict, Verdict::Done(14));
+    assert_eq!(rt; report.answers, expected);
     Ok(())
 }
 

@@ -1,10 +1,12 @@
 //! The plans of the tests.
 ghost use Rattle.std.specs.Prelude.{◌≡◌, [], ◌∷◌, IfOk};
-ghost use Rattle.flow_design.specs.declared.expr.Expr.{Binary};
+ghost use Rattle.flow_design.specs.declared.expr.Expr.{Binary, Var, Number};
+ghost use Rattle.flow_design.specs.declared.expr.BinOp.TheVariants.{Xor};
+ghost use Rattle.flow_design.specs.declared.expr.Op.TheVariants.{Set};
 ghost use Rattle.flow_design.specs.Module.{block_at};
 ghost use Rattle.lockstep_defs.specs.Designs.{at as scheduled, block as plain_block, loop as loop_block, one_block, plan_of};
 ghost use Rattle.lockstep_defs.specs.Lockstep.{module_at};
-ghost use Rattle.clock_machine.specs.TestPlans.{channel_of, named_module, parts_plan, early_plan, polling_plan, adder_plan};
+ghost use Rattle.clock_machine.specs.TestPlans.{channel_of, named_module, parts_plan, early_plan, tester_plan, polling_plan, adder_plan};
 
 use flow_design::{
     BinOp, Block, BlockKind, Channel, ChannelKind, Design, Expr, Memory, Module, Name, Next, Op,
@@ -290,6 +292,62 @@ pub fn early_plan(alloc: Global, depth: u64) -> Result<Plan, OutOfMemory>
     registers.push(bits(8)?)?;
     let consumer = module(alloc, registers, plain(alloc, 5, pops(alloc)?))?;
     plan_of_two(alloc, producer, consumer, depth)
+}
+
+// ---- a guard and a query
+
+/// A register turns from 0 to 1, and back.
+fn turn(alloc: Global) -> Result<Op<u32>, OutOfMemory>
+    ensures { IfOk result (λ op. op ≡ Set 2 (Binary Xor (Var 2) (Number 1))) }
+{
+    let turned = binary(alloc, BinOp::Xor, Expr::Var(2), Expr::Number(1))?;
+    Ok(Op::Set(2, turned))
+}
+
+/// The operations of a loop that pops, asks and tells, and whose last operation has a guard.
+fn asks(alloc: Global) -> Result<List<Timed>, OutOfMemory>
+    ensures { IfOk result (λ ops. ops ≡ (block_at (module_at tester_plan 0) 0).ops) }
+{
+    let mut ops = List::new(alloc);
+    ops.push(at(0, Op::Read(0, 0)))?;
+    ops.push(at(0, turn(alloc)?))?;
+    ops.push(at(2, Op::Empty(1, 1)))?;
+    ops.push(at(3, Op::Write(2, Expr::Var(1))))?;
+    ops.push(Timed {
+        offset: 3,
+        guard: Some(3),
+        op: Op::Read(1, 0),
+    })?;
+    Ok(ops)
+}
+
+/// A loop that asks whether the second FIFO is empty.
+fn tester(alloc: Global) -> Result<Module, OutOfMemory>
+    ensures { IfOk result (λ made. made ≡ module_at tester_plan 0) }
+{
+    let bit = bits(1)?;
+    let registers = List::from_slice(alloc, [bits(8)?, bit, bit, bit].as_slice())?;
+    module(alloc, registers, looping(alloc, 4, 2, asks(alloc)?))
+}
+
+/// Pushes in clocks 0, 9 and 10.
+fn late_pushes(alloc: Global) -> Result<List<Timed>, OutOfMemory>
+    ensures { IfOk result (λ ops. ops ≡ (block_at (module_at tester_plan 1) 0).ops) }
+{
+    let mut ops = List::new(alloc);
+    ops.push(at(0, Op::Write(0, Expr::Number(1))))?;
+    ops.push(at(9, Op::Write(0, Expr::Number(2))))?;
+    ops.push(at(10, Op::Write(1, Expr::Number(1))))?;
+    Ok(ops)
+}
+
+/// A module that asks whether a FIFO is empty, and one that pushes late.
+pub fn tester_plan(alloc: Global) -> Result<Plan, OutOfMemory>
+    ensures { IfOk result (λ made. made ≡ tester_plan) }
+{
+    let tester = tester(alloc)?;
+    let pusher = plain_module(alloc, 11, late_pushes(alloc)?)?;
+    plan_of_two(alloc, tester, pusher, 2)
 }
 
 // ---- limits

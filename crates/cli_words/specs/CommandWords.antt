@@ -1,7 +1,7 @@
 -- Which lists of words are accepted, and the command that each one is.
-use Rattle.std.specs.Prelude.{◌==◌, ◌&&◌, ◌||◌, ◌^◌, ◌++◌, ◌∷◌, ℕ, Bool, true, false, not, List, []}
+use Rattle.std.specs.Prelude.{◌≤◌, ◌==◌, ◌&&◌, ◌||◌, ◌^◌, ◌++◌, ◌∷◌, ℕ, Bool, true, false, not, List, []}
 use Rattle.std.specs.Prelude.{Option, Some, None, Result, Ok, Err, codes, if◌then◌else◌}
-use Rattle.std.specs.Prelude.{is_some, nat_le, option_and_then, option_map}
+use Rattle.std.specs.Prelude.{IfSome, is_some, nat_le, option_and_then, option_map}
 use Rattle.std.specs.List.{after_first, before_first, list_any}
 use Rattle.std.specs.Str.{bytes_eq}
 use Rattle.flow_word.specs.Number.{number_of}
@@ -214,3 +214,21 @@ command_of said = command_by said said.positionals
 -- the command that a list of words is, if it is accepted
 unfoldable pub accepted : List Text → Option Command
 accepted words = option_and_then command_of (said_from None nothing words)
+
+-- ---- ranges
+
+-- a limit that is given is 1 to this
+abbrev pub IsLimit : ℕ → Option ℕ → Type 0
+IsLimit high limit = IfSome limit (λ n. (1 ≤ n) × (n ≤ high))
+
+-- the limits that the options give
+abbrev pub AreLimits : Options → Type 0
+AreLimits options = IsLimit (10 ^ 15) options.cycles × IsLimit 200_000 options.ops
+
+-- the numbers of a command are within their bounds
+abbrev pub IsInRange : Command → Type 0
+IsInRange (Run options) = AreLimits options
+IsInRange (Alone options) = AreLimits options
+IsInRange (Clock options) = AreLimits options
+IsInRange Check = Unit {0}
+IsInRange (Gen seed modules) = (seed ≤ 65_535) × (1 ≤ modules) × (modules ≤ 64)

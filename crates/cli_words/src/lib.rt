@@ -2,7 +2,7 @@
 #![tactic(auto)]
 
 ghost use Rattle.std.specs.Prelude.{◌≡◌, IfOk, map, None, Some, Err, string_bytes};
-ghost use Rattle.cli_words.specs.CommandWords.{accepted};
+ghost use Rattle.cli_words.specs.CommandWords.{accepted, IsInRange};
 
 mod parser;
 mod rules;
@@ -48,12 +48,14 @@ pub enum WordFault {
 }
 
 /// Reads the words after the program's name: the command that they are, or `Refused` where they are
-/// none of the accepted lists.
+/// none of the accepted lists. Its numbers are within their bounds.
+#[tactic(auto, using(crate::proofs::RangeLemmas::accepted_in_range))]
 pub fn read_words(alloc: Global, words: &[String]) -> Result<Command, WordFault>
     ensures command { IfOk result
         (λ command. accepted (map string_bytes words.now) ≡ Some command) }
     ensures refused { result ≡ Err WordFault.Refused
         → accepted (map string_bytes words.now) ≡ None }
+    ensures range { IfOk result (λ command. IsInRange command) }
 {
     let given = parser::parse(alloc, words)?;
     rules::command_of(&given).ok_or(WordFault::Refused)

@@ -1,0 +1,96 @@
+-- The numbers of an accepted command are within their bounds.
+use Rattle.std.proofs.Common.{◌≡◌, refl, sym, ◌∙◌, ap, subst, ℕ, ◌+◌, ◌≤◌, ◌^◌, ◌&&◌, Bool, true, false, nat_le, List, [], ◌∷◌, Option, None, Some, IfSome, Result, Ok, Err, cond}
+use Rattle.std.proofs.lemmas.Bool.{and_parts, leb-true}
+use Rattle.std.specs.Prelude.{option_map, option_and_then, if◌then◌else◌}
+use Rattle.flow_word.specs.Number.{number_of}
+use Rattle.flow_word.specs.declared.number.NumberFault.{NumberFault}
+use Rattle.cli_words.specs.declared.Command.{Command}
+use Rattle.cli_words.specs.declared.Command.TheVariants.{Run, Alone, Clock, Check, Gen}
+use Rattle.cli_words.specs.declared.Options.{Options}
+use Rattle.cli_words.specs.declared.rules.CommandName.{CommandName}
+use Rattle.cli_words.specs.declared.rules.CommandName.TheVariants as name
+use Rattle.cli_words.specs.CommandWords.{Text, Said, said_from, nothing, accepted, command_of, command_by, command_named, name_of, in_bounds, number_in, limit_in, both, options_of, options_alone, no_more, without_option, has_options, gen_of, IsLimit, AreLimits, IsInRange}
+
+-- what holds of a value that is there, where it holds of each value that could be
+there : {X : Type 0} (P : X → Type 0) {o : Option X} {x : X} → IfSome o P → o ≡ Some x → P x
+there P h e = subst (λ o. IfSome o P) e h
+
+bounded : (low high : ℕ) (read : Result ℕ NumberFault) → IfSome (in_bounds low high read) (λ n. (low ≤ n) × (n ≤ high))
+bounded low high (Err fault) = tt
+bounded low high (Ok n) = go (nat_le low n && nat_le n high) refl
+  where
+    go : (b : Bool) → (nat_le low n && nat_le n high) ≡ b → IfSome (cond b (Some n) None) (λ m. (low ≤ m) × (m ≤ high))
+    go false e = tt
+    go true e = let parts = and_parts (nat_le low n) (nat_le n high) e in (leb-true low n parts.0, leb-true n high parts.1)
+
+limited : (high : ℕ) (text : Option Text) → IfSome (limit_in high text) (IsLimit high)
+limited high None = tt
+limited high (Some text) = go (number_in 1 high text) (bounded 1 high (number_of text))
+  where
+    go : (o : Option ℕ) → IfSome o (λ n. (1 ≤ n) × (n ≤ high)) → IfSome (option_map (λ n. Some n) o) (IsLimit high)
+    go None h = tt
+    go (Some n) h = h
+
+-- both values, where both are there
+paired : {A B C : Type 0} (P : A → Type 0) (Q : B → Type 0) (R : C → Type 0) (f : A → B → C) → ((x : A) (y : B) → P x → Q y → R (f x y))
+    → (a : Option A) (b : Option B) → IfSome a P → IfSome b Q → IfSome (both f a b) R
+paired P Q R f h None b p q = tt
+paired P Q R f h (Some x) None p q = tt
+paired P Q R f h (Some x) (Some y) p q = h x y p q
+
+options_in_range : (said : Said) → IfSome (options_of said) AreLimits
+options_in_range said =
+    paired (IsLimit (10 ^ 15)) (IsLimit 200_000) AreLimits
+    (λ cycles ops. record { events = said.events; cycles = cycles; ops = ops })
+    (λ x y p q. (p, q))
+    (limit_in (10 ^ 15) said.cycles) (limit_in 200_000 said.ops)
+    (limited (10 ^ 15) said.cycles) (limited 200_000 said.ops)
+
+alone_in_range : (said : Said) (rest : List Text) → IfSome (options_alone said rest) AreLimits
+alone_in_range said [] = options_in_range said
+alone_in_range said (word ∷ words) = tt
+
+mapped : {X Y : Type 0} (P : X → Type 0) (Q : Y → Type 0) (f : X → Y) → ((x : X) → P x → Q (f x)) → (o : Option X) → IfSome o P → IfSome (option_map f o) Q
+mapped P Q f h None p = tt
+mapped P Q f h (Some x) p = h x p
+
+gen_in_range : (rest : List Text) → IfSome (gen_of rest) IsInRange
+gen_in_range [] = tt
+gen_in_range (seed ∷ []) = tt
+gen_in_range (seed ∷ modules ∷ more ∷ rest) = tt
+gen_in_range (seed ∷ modules ∷ []) =
+    paired (λ s. (0 ≤ s) × (s ≤ 65_535)) (λ m. (1 ≤ m) × (m ≤ 64)) IsInRange (λ s m. Gen s m) (λ s m p q. (p.1, q.0, q.1))
+    (number_in 0 65_535 seed) (number_in 1 64 modules)
+    (bounded 0 65_535 (number_of seed)) (bounded 1 64 (number_of modules))
+
+without_in_range : (said : Said) (found : Option Command) → IfSome found IsInRange → IfSome (without_option said found) IsInRange
+without_in_range said found h = go (has_options said)
+  where
+    go : (b : Bool) → IfSome (cond b None found) IsInRange
+    go true = tt
+    go false = h
+
+check_in_range : (rest : List Text) → IfSome (no_more rest (Some Check)) IsInRange
+check_in_range [] = tt
+check_in_range (word ∷ words) = tt
+
+named_in_range : (said : Said) (rest : List Text) (n : CommandName) → IfSome (command_named said rest n) IsInRange
+named_in_range said rest name.Run = mapped AreLimits IsInRange (λ o. Run o) (λ o h. h) (options_alone said rest) (alone_in_range said rest)
+named_in_range said rest name.Alone = mapped AreLimits IsInRange (λ o. Alone o) (λ o h. h) (options_alone said rest) (alone_in_range said rest)
+named_in_range said rest name.Clock = mapped AreLimits IsInRange (λ o. Clock o) (λ o h. h) (options_alone said rest) (alone_in_range said rest)
+named_in_range said rest name.Check = without_in_range said (no_more rest (Some Check)) (check_in_range rest)
+named_in_range said rest name.Gen = without_in_range said (gen_of rest) (gen_in_range rest)
+
+-- what follows a value that may be there
+followed : {X Y : Type 0} (Q : Y → Type 0) (f : X → Option Y) → ((x : X) → IfSome (f x) Q) → (o : Option X) → IfSome (option_and_then f o) Q
+followed Q f h None = tt
+followed Q f h (Some x) = h x
+
+by_in_range : (said : Said) (words : List Text) → IfSome (command_by said words) IsInRange
+by_in_range said [] = tt
+by_in_range said (word ∷ rest) = followed IsInRange (command_named said rest) (named_in_range said rest) (name_of word)
+
+pub accepted_in_range : (words : List Text) (command : Command) → accepted words ≡ Some command → IsInRange command
+unfolding accepted
+accepted_in_range words command e =
+    there IsInRange (followed IsInRange command_of (λ said. by_in_range said said.positionals) (said_from None nothing words)) e

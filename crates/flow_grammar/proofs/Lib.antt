@@ -1,0 +1,15 @@
+pub mod Again
+pub mod Induction
+pub mod Kept
+pub mod LineLaws
+pub mod Numbers
+pub mod PrefixLoop
+pub mod ReadAgain
+pub mod SessionLaws
+pub mod SpellingLaws
+pub mod StackLemmas
+pub mod TextLaws
+pub mod TokenLemmas
+pub mod Trees
+pub mod Verdicts
+pub mod Written

@@ -1,0 +1,106 @@
+-- A session that a text stands for keeps the rules of reading, and its line numbers rise.
+use Rattle.std.proofs.Common.{◌≡◌, ℕ, zero, suc, ◌+◌, ◌<◌, ◌≤◌, List, [], ◌∷◌, ◌++◌, length, take, None, Some, Bool, true, refl, sym, ap, subst, ◌∙◌, append_assoc, inl, inr, arith}
+use Rattle.std.specs.Prelude.{slice_get, ◌&&◌}
+use Rattle.std.specs.List.{list_all, All, AllPairs}
+use Rattle.std.proofs.lemmas.List.{append-nil}
+use Rattle.std.proofs.lemmas.List.Kept.{AllPairs-cons}
+use Rattle.flow_design.specs.declared.session.Statement.{Statement}
+use Rattle.flow_design.specs.declared.session.Statement.TheVariants.{Flow, Source, Sink, Fifo, Module, Reg, Mem, Block, Loop, Temp, At, Goto, Branch, Stop, Input, Limits, Depth, End}
+use Rattle.flow_grammar.specs.Tokens.{Line, Token, is_name, lines_of, tokens_of}
+use Rattle.flow_grammar.specs.Parts.{Part, Word, New, Use, Label, Num, parts, short_parts}
+use Rattle.flow_grammar.specs.Spelling.{Spells, Spelled, SpelledShort, Writes}
+use Rattle.flow_grammar.specs.Rules.{is_well_named, KeepsRules, KeepsReadingRules}
+use Rattle.flow_grammar.specs.Text.{statements_among, numbers_among, StandsFor}
+use Rattle.flow_grammar.proofs.TextLaws.{Words, InOrderFrom, ordered}
+
+-- ---- names
+
+spelled_named : (t : Token) (p : Part) → Spells t p → is_well_named p ≡ true
+spelled_named t (Word w) s = refl
+spelled_named t (New space n) s = subst (λ (x : Token). is_name x ≡ true) s.1 s.0
+spelled_named t (Use sort n) s = subst (λ (x : Token). is_name x ≡ true) s.1 s.0
+spelled_named t (Label n) s = subst (λ (x : Token). is_name x ≡ true) s.1 s.0
+spelled_named t (Num least most n) s = refl
+
+both_named : (a b : Bool) → a ≡ true → b ≡ true → a && b ≡ true
+both_named a b h k = rw (h, k) refl
+
+all_named : (ts : List Token) (ps : List Part) → Spelled ts ps → list_all is_well_named ps ≡ true
+all_named [] [] s = refl
+all_named [] (p ∷ ps) s = absurd s
+all_named (t ∷ ts) [] s = absurd s
+all_named (t ∷ ts) (p ∷ ps) s = both_named (is_well_named p) (list_all is_well_named ps) (spelled_named t p s.0) (all_named ts ps s.1)
+
+short_named : (ts : List Token) (s : Statement) → SpelledShort ts s → list_all is_well_named (parts s) ≡ true
+short_named ts (Flow n) h = absurd h
+short_named ts (Source n w) h = absurd h
+short_named ts (Sink n w) h = absurd h
+short_named ts (Fifo n w d) h = all_named ts (short_parts n w) h.1
+short_named ts (Module n) h = absurd h
+short_named ts (Reg n w) h = absurd h
+short_named ts (Mem n w l) h = absurd h
+short_named ts (Block n l) h = absurd h
+short_named ts (Loop n ii l r) h = absurd h
+short_named ts (Temp n w) h = absurd h
+short_named ts (At off guard o) h = absurd h
+short_named ts (Goto b) h = absurd h
+short_named ts (Branch r b c) h = absurd h
+short_named ts Stop h = absurd h
+short_named ts (Input n values) h = absurd h
+short_named ts (Limits c o) h = absurd h
+short_named ts (Depth n d) h = absurd h
+short_named ts End h = absurd h
+
+written_named : (ts : List Token) (s : Statement) → Writes ts s → list_all is_well_named (parts s) ≡ true
+written_named ts s (inl h) = all_named ts (parts s) h
+written_named ts s (inr h) = short_named ts s h
+
+-- ---- statements
+
+keeps_from : (front : List Statement) (lines : List Line) (said : Words) → InOrderFrom front lines said
+    → (i : ℕ) (s : Statement) → slice_get (statements_among said) i ≡ Some s → KeepsRules (front ++ take i (statements_among said)) s
+unfolding InOrderFrom
+keeps_from front [] [] p i s e = absurd cc
+keeps_from front [] (o ∷ said) p i s e = absurd p
+keeps_from front (line ∷ lines) [] p i s e = absurd p
+keeps_from front (line ∷ lines) (None ∷ said) p i s e = keeps_from front lines said p.1 i s e
+keeps_from front (line ∷ lines) (Some st ∷ said) p zero s e =
+    let same : st ≡ s = (cc) in
+    subst (λ (b : List Statement). KeepsRules b s) (sym (append-nil front))
+    (subst (λ (x : Statement). KeepsRules front x) same
+    (record { well_named = written_named (tokens_of line) st p.0.says; permitted = p.0.stands.permitted; faultless = p.0.stands.faultless }))
+keeps_from front (line ∷ lines) (Some st ∷ said) p (suc i) s e =
+    subst (λ (b : List Statement). KeepsRules b s) (append_assoc front (st ∷ []) (take i (statements_among said)))
+    (keeps_from (front ++ st ∷ []) lines said p.1 i s e)
+
+pub keeps_rules : (text : List ℕ) (s : List Statement) (l : List ℕ) → StandsFor text s l → KeepsReadingRules s
+keeps_rules text s l p =
+    subst KeepsReadingRules (sym p.statements_are)
+    (record { each = keeps_from [] (lines_of text) p.said (ordered (lines_of text) p.said p.in_order); over = p.over })
+
+-- ---- line numbers
+
+as_many : (n : ℕ) (said : Words) → length (numbers_among n said) ≡ length (statements_among said)
+as_many n [] = refl
+as_many n (None ∷ said) = as_many (n + 1) said
+as_many n (Some s ∷ said) = ap suc (as_many (n + 1) said)
+
+pub numbered : (text : List ℕ) (s : List Statement) (l : List ℕ) → StandsFor text s l → length l ≡ length s
+numbered text s l p = ap length p.numbers_are ∙ as_many 1 p.said ∙ sym (ap length p.statements_are)
+
+in_front_of : (n m : ℕ) (xs : List ℕ) → n ≤ m → All (λ x. n ≤ x) xs → All (λ x. n ≤ x) (m ∷ xs)
+in_front_of n m xs h rest zero d l = h
+in_front_of n m xs h rest (suc k) d l = rest k d (omega arith)
+
+at_least : (n m : ℕ) (said : Words) → n ≤ m → All (λ x. n ≤ x) (numbers_among m said)
+at_least n m [] h = λ k d l. absurd (omega arith)
+at_least n m (None ∷ said) h = at_least n (m + 1) said (omega arith)
+at_least n m (Some s ∷ said) h = in_front_of n m (numbers_among (m + 1) said) h (at_least n (m + 1) said (omega arith))
+
+rising_from : (n : ℕ) (said : Words) → AllPairs (λ a b. a < b) (numbers_among n said)
+rising_from n [] = λ i j d l m. absurd (omega arith)
+rising_from n (None ∷ said) = rising_from (n + 1) said
+rising_from n (Some s ∷ said) = AllPairs-cons (λ a b. a < b) n (numbers_among (n + 1) said) (λ k d l. let h = at_least (n + 1) (n + 1) said (omega arith) k d l in omega arith) (rising_from (n + 1) said)
+
+pub rising : (text : List ℕ) (s : List Statement) (l : List ℕ) → StandsFor text s l → AllPairs (λ a b. a < b) l
+rising text s l p = subst (AllPairs (λ a b. a < b)) (sym p.numbers_are) (rising_from 1 p.said)

@@ -1,0 +1,172 @@
+-- The expressions of some tokens are those whose parts the tokens spell.
+use Rattle.std.proofs.Common.{◌≡◌, ℕ, List, [], ◌∷◌, ◌++◌, Bool, true, false, cond, Option, None, Some, refl, subst, append_assoc}
+use Rattle.std.specs.Prelude.{codes, ◌==◌, ◌&&◌}
+use Rattle.std.specs.Option.{option_and_then}
+use Rattle.flow_design.specs.declared.expr.Expr.{Expr}
+use Rattle.flow_design.specs.declared.expr.Expr.TheOpen.{Expr-F}
+use Rattle.flow_design.specs.declared.expr.Expr.TheVariants.{Number, Var, Unary, Binary, Sext, Pick}
+use Rattle.flow_design.specs.declared.expr.UnOp.{UnOp}
+use Rattle.flow_design.specs.declared.expr.UnOp.TheVariants.{Not}
+use Rattle.flow_design.specs.declared.expr.BinOp.{BinOp}
+use Rattle.flow_design.specs.declared.expr.BinOp.TheVariants.{Add, Sub, Mul, And, Or, Xor, Shl, Shr, Eq, Ne, LtU, LtS, Div, Rem}
+use Rattle.flow_grammar.specs.declared.operator.Operator.{Operator}
+use Rattle.flow_grammar.specs.declared.operator.Operator.TheVariants.{One, Two, Extend, Choose}
+use Rattle.std.specs.Prelude.{if◌then◌else◌}
+use Rattle.std.proofs.lemmas.Bool.{eqb-true}
+use Rattle.flow_grammar.specs.Tokens.{is_word, is_number, is_name, number_of}
+use Rattle.flow_grammar.specs.Operators.{operator_of}
+use Rattle.flow_grammar.specs.Parts.{Part, expr_parts, layer_parts, binary_word}
+use Rattle.flow_grammar.specs.Spelling.{Spelled}
+use Rattle.flow_grammar.specs.Trees.{Trees, trees_of, with_token, extended, applied_if}
+use Rattle.flow_grammar.proofs.Trees.{folded-Number, folded-Var, folded-Unary, folded-Binary, folded-Sext, folded-Pick}
+
+pub parts_Unary : (o : UnOp) (a : Expr (List ℕ)) → expr_parts (Unary o a) ≡ layer_parts (Expr-F.Unary o (expr_parts a))
+unfolding expr_parts
+parts_Unary o a = folded-Unary (List ℕ) (List Part) layer_parts o a
+
+Token : Type 0
+Token = List ℕ
+
+-- what trees_of gives is spelled by the tokens
+abbrev all_parts : Trees → List Part
+all_parts [] = []
+all_parts (e ∷ es) = expr_parts e ++ all_parts es
+
+pub parts_Number : (n : ℕ) → expr_parts (Number n) ≡ layer_parts (Expr-F.Number n)
+unfolding expr_parts
+parts_Number n = folded-Number (List ℕ) (List Part) layer_parts n
+
+pub parts_Var : (n : List ℕ) → expr_parts (Var n) ≡ layer_parts (Expr-F.Var n)
+unfolding expr_parts
+parts_Var n = folded-Var (List ℕ) (List Part) layer_parts n
+
+pub parts_Binary : (o : BinOp) (a b : Expr (List ℕ)) → expr_parts (Binary o a b) ≡ layer_parts (Expr-F.Binary o (expr_parts a) (expr_parts b))
+unfolding expr_parts
+parts_Binary o a b = folded-Binary (List ℕ) (List Part) layer_parts o a b
+
+pub parts_Sext : (k : ℕ) (a : Expr (List ℕ)) → expr_parts (Sext k a) ≡ layer_parts (Expr-F.Sext k (expr_parts a))
+unfolding expr_parts
+parts_Sext k a = folded-Sext (List ℕ) (List Part) layer_parts k a
+
+pub parts_Pick : (a b c : Expr (List ℕ)) → expr_parts (Pick a b c) ≡ layer_parts (Expr-F.Pick (expr_parts a) (expr_parts b) (expr_parts c))
+unfolding expr_parts
+parts_Pick a b c = folded-Pick (List ℕ) (List Part) layer_parts a b c
+
+both_true : (a b : Bool) → a && b ≡ true → (a ≡ true) × (b ≡ true)
+both_true true b h = (refl, h)
+both_true false b h = absurd cc
+
+pub word_is : (t w : List ℕ) → is_word t w ≡ true → t ≡ w
+word_is [] [] h = refl
+word_is [] (y ∷ ys) h = absurd cc
+word_is (x ∷ xs) [] h = absurd cc
+word_is (x ∷ xs) (y ∷ ys) h = let p = both_true (x == y) (is_word xs ys) h in λ i. eqb-true x y p.0 i ∷ word_is xs ys p.1 i
+
+-- a word that an operator is
+abbrev IsWordOf : Option Operator → List ℕ → Type 0
+IsWordOf None t = Unit {0}
+IsWordOf (Some (One Not)) t = t ≡ codes "~"
+IsWordOf (Some (Two o)) t = t ≡ binary_word o
+IsWordOf (Some Extend) t = t ≡ codes "sext"
+IsWordOf (Some Choose) t = t ≡ codes "?:"
+
+word_if : (t w : List ℕ) (o : Operator) (rest : Option Operator) → (t ≡ w → IsWordOf (Some o) t) → IsWordOf rest t → IsWordOf (if is_word t w then Some o else rest) t
+word_if t w o rest here there = go (is_word t w) refl
+  where
+    go : (b : Bool) → is_word t w ≡ b → IsWordOf (cond b (Some o) rest) t
+    go true h = here (word_is t w h)
+    go false h = there
+
+operator_word : (t : List ℕ) → IsWordOf (operator_of t) t
+unfolding operator_of
+operator_word t =
+    word_if t (codes "~") (One Not) _ (λ e. e)
+    (word_if t (codes "+") (Two Add) _ (λ e. e)
+    (word_if t (codes "-") (Two Sub) _ (λ e. e)
+    (word_if t (codes "*") (Two Mul) _ (λ e. e)
+    (word_if t (codes "&") (Two And) _ (λ e. e)
+    (word_if t (codes "|") (Two Or) _ (λ e. e)
+    (word_if t (codes "^") (Two Xor) _ (λ e. e)
+    (word_if t (codes "<<") (Two Shl) _ (λ e. e)
+    (word_if t (codes ">>") (Two Shr) _ (λ e. e)
+    (word_if t (codes "==") (Two Eq) _ (λ e. e)
+    (word_if t (codes "!=") (Two Ne) _ (λ e. e)
+    (word_if t (codes "<u") (Two LtU) _ (λ e. e)
+    (word_if t (codes "<s") (Two LtS) _ (λ e. e)
+    (word_if t (codes "/") (Two Div) _ (λ e. e)
+    (word_if t (codes "%") (Two Rem) _ (λ e. e)
+    (word_if t (codes "?:") Choose _ (λ e. e)
+    (word_if t (codes "sext") Extend _ (λ e. e) tt))))))))))))))))
+
+pub spelled_append : (ts us : List (List ℕ)) (ps qs : List Part) → Spelled ts ps → Spelled us qs → Spelled (ts ++ us) (ps ++ qs)
+spelled_append [] us [] qs s t = t
+spelled_append [] us (p ∷ ps) qs s t = absurd s
+spelled_append (x ∷ ts) us [] qs s t = absurd s
+spelled_append (x ∷ ts) us (p ∷ ps) qs s t = (s.0, spelled_append ts us ps qs s.1 t)
+
+-- what trees say of tokens
+Says : List (List ℕ) → Option Trees → Type 0
+Says ts None = Unit {0}
+Says ts (Some es) = Spelled ts (all_parts es)
+
+-- a number in front is a tree of its own
+number_top : (k : List ℕ) (behind : List (List ℕ)) (e : Expr (List ℕ)) (es : Trees) → is_number k ≡ true → trees_of (k ∷ behind) ≡ Some (e ∷ es) → e ≡ Number (number_of k)
+unfolding trees_of with_token
+number_top k behind e es h t = go (trees_of behind) t
+  where
+    go : (found : Option Trees) → option_and_then (λ (x : Trees). cond (is_number k) (Some (Number (number_of k) ∷ x)) (cond (is_name k) (Some (Var k ∷ x)) (applied_if (operator_of k) behind x))) found ≡ Some (e ∷ es) → e ≡ Number (number_of k)
+    go None f = absurd cc
+    go (Some x) f = let g = rw h at f in cc
+
+says_extended : (t : List ℕ) (behind : List (List ℕ)) (es : Trees) → t ≡ codes "sext" → trees_of behind ≡ Some es → Spelled behind (all_parts es) → Says (t ∷ behind) (extended behind es)
+unfolding Says
+says_extended t [] es w e s = tt
+says_extended t (k ∷ behind) [] w e s = tt
+says_extended t (k ∷ behind) (number ∷ []) w e s = tt
+says_extended t (k ∷ behind) (number ∷ a ∷ es) w e s = go (is_number k) refl
+  where
+    go : (b : Bool) → is_number k ≡ b → Says (t ∷ k ∷ behind) (cond b (Some (Sext (number_of k) a ∷ es)) None)
+    go false h = tt
+    go true h =
+        let n : number ≡ Number (number_of k) = number_top k behind number (a ∷ es) h e in
+        let s' : Spelled (k ∷ behind) (expr_parts (Number (number_of k)) ++ all_parts (a ∷ es)) = subst (λ (x : Expr (List ℕ)). Spelled (k ∷ behind) (expr_parts x ++ all_parts (a ∷ es))) n s in
+        let q = rw (parts_Number (number_of k)) at s' in
+        rw (parts_Sext (number_of k) a) (w, ((h, refl), q.1))
+
+says_applied : (t : List ℕ) (behind : List (List ℕ)) (o : Option Operator) (es : Trees) → IsWordOf o t → trees_of behind ≡ Some es → Spelled behind (all_parts es) → Says (t ∷ behind) (applied_if o behind es)
+unfolding Says
+says_applied t behind None es w e s = tt
+says_applied t behind (Some (One Not)) [] w e s = tt
+says_applied t behind (Some (One Not)) (a ∷ es) w e s = rw (parts_Unary Not a) (w, s)
+says_applied t behind (Some (Two o)) [] w e s = tt
+says_applied t behind (Some (Two o)) (a ∷ []) w e s = tt
+says_applied t behind (Some (Two o)) (a ∷ b ∷ es) w e s = rw (parts_Binary o a b, append_assoc (expr_parts a) (expr_parts b) (all_parts es)) (w, s)
+says_applied t behind (Some Extend) es w e s = says_extended t behind es w e s
+says_applied t behind (Some Choose) [] w e s = tt
+says_applied t behind (Some Choose) (a ∷ []) w e s = tt
+says_applied t behind (Some Choose) (a ∷ b ∷ []) w e s = tt
+says_applied t behind (Some Choose) (a ∷ b ∷ c ∷ es) w e s =
+    rw (parts_Pick a b c, append_assoc (expr_parts a) (expr_parts b ++ expr_parts c) (all_parts es), append_assoc (expr_parts b) (expr_parts c) (all_parts es)) (w, s)
+
+says_token : (t : List ℕ) (behind : List (List ℕ)) (es : Trees) → trees_of behind ≡ Some es → Spelled behind (all_parts es) → Says (t ∷ behind) (with_token t behind es)
+unfolding Says with_token
+says_token t behind es e s = go (is_number t) (is_name t) refl refl
+  where
+    go : (a b : Bool) → is_number t ≡ a → is_name t ≡ b → Says (t ∷ behind) (cond a (Some (Number (number_of t) ∷ es)) (cond b (Some (Var t ∷ es)) (applied_if (operator_of t) behind es)))
+    go true b h k = rw (parts_Number (number_of t)) ((h, refl), s)
+    go false true h k = rw (parts_Var t) ((k, refl), s)
+    go false false h k = says_applied t behind (operator_of t) es (operator_word t) e s
+
+says : (ts : List (List ℕ)) → Says ts (trees_of ts)
+unfolding Says trees_of
+says [] = tt
+says (t ∷ behind) = go (trees_of behind) refl (says behind)
+  where
+    go : (found : Option Trees) → trees_of behind ≡ found → Says behind found → Says (t ∷ behind) (option_and_then (with_token t behind) found)
+    go None h s = tt
+    go (Some es) h s = says_token t behind es h s
+
+-- what trees_of gives is spelled by the tokens
+pub trees_spelled : (ts : List (List ℕ)) (es : Trees) → trees_of ts ≡ Some es → Spelled ts (all_parts es)
+unfolding Says
+trees_spelled ts es e = subst (Says ts) e (says ts)

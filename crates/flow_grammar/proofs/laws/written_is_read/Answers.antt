@@ -1,0 +1,5 @@
+use Rattle.flow_grammar.proofs.ReadAgain.{written_is_read}
+use Rattle.flow_grammar.proofs.laws.written_is_read.Goals as goal
+
+pub returns : goal.returns
+returns c = written_is_read

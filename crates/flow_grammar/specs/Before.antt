@@ -1,0 +1,114 @@
+-- What stands before a line, as functions of the statements before it, the latest first.
+use Rattle.std.specs.Prelude.{ℕ, Bool, true, false, List, length, count_by, sum_by, take_while, Option, None, Some}
+use Rattle.std.specs.List.{filter_map, list_any}
+use Rattle.flow_design.specs.declared.session.Statement.{Statement}
+use Rattle.flow_design.specs.declared.session.Statement.TheVariants.{Source, Sink, Fifo, Module, Reg, Mem, Block, Loop, Temp, At, Input, Depth}
+use Rattle.flow_grammar.specs.Tokens.{is_word}
+use Rattle.flow_grammar.specs.Parts.{Name}
+
+abbrev pub is_no_module : Statement → Bool
+is_no_module (Module n) = false
+is_no_module s = true
+
+abbrev pub is_no_block : Statement → Bool
+is_no_block (Block n l) = false
+is_no_block (Loop n ii l r) = false
+is_no_block s = true
+
+-- the statements of the module, and of the body, that the line would stand in
+abbrev pub in_module : List Statement → List Statement
+in_module earlier = take_while is_no_module earlier
+
+abbrev pub in_body : List Statement → List Statement
+in_body earlier = take_while is_no_block earlier
+
+abbrev pub source_name : Statement → Option Name
+source_name (Source n w) = Some n
+source_name s = None
+
+abbrev pub fifo_name : Statement → Option Name
+fifo_name (Fifo n w d) = Some n
+fifo_name s = None
+
+abbrev pub channel_name : Statement → Option Name
+channel_name (Source n w) = Some n
+channel_name (Sink n w) = Some n
+channel_name (Fifo n w d) = Some n
+channel_name s = None
+
+abbrev pub module_name : Statement → Option Name
+module_name (Module n) = Some n
+module_name s = None
+
+abbrev pub register_name : Statement → Option Name
+register_name (Reg n w) = Some n
+register_name s = None
+
+abbrev pub memory_name : Statement → Option Name
+memory_name (Mem n w l) = Some n
+memory_name s = None
+
+abbrev pub temp_name : Statement → Option Name
+temp_name (Temp n w) = Some n
+temp_name s = None
+
+abbrev pub block_name : Statement → Option Name
+block_name (Block n l) = Some n
+block_name (Loop n ii l r) = Some n
+block_name s = None
+
+abbrev pub input_name : Statement → Option Name
+input_name (Input n values) = Some n
+input_name s = None
+
+abbrev pub input_count : Statement → ℕ
+input_count (Input n values) = length values
+input_count s = 0
+
+abbrev pub is_operation : Statement → Bool
+is_operation (At off guard o) = true
+is_operation s = false
+
+abbrev pub is_edit : Statement → Bool
+is_edit (Depth n d) = true
+is_edit s = false
+
+abbrev pub channels : List Statement → List Name
+channels earlier = filter_map channel_name earlier
+
+abbrev pub sources : List Statement → List Name
+sources earlier = filter_map source_name earlier
+
+abbrev pub fifos : List Statement → List Name
+fifos earlier = filter_map fifo_name earlier
+
+abbrev pub modules : List Statement → List Name
+modules earlier = filter_map module_name earlier
+
+abbrev pub registers : List Statement → List Name
+registers earlier = filter_map register_name (in_module earlier)
+
+abbrev pub memories : List Statement → List Name
+memories earlier = filter_map memory_name (in_module earlier)
+
+abbrev pub blocks : List Statement → List Name
+blocks earlier = filter_map block_name (in_module earlier)
+
+abbrev pub temps : List Statement → List Name
+temps earlier = filter_map temp_name (in_body earlier)
+
+abbrev pub operations : List Statement → ℕ
+operations earlier = count_by is_operation (in_body earlier)
+
+abbrev pub inputs : List Statement → List Name
+inputs earlier = filter_map input_name earlier
+
+abbrev pub input_values : List Statement → ℕ
+input_values earlier = sum_by input_count earlier
+
+abbrev pub edits : List Statement → ℕ
+edits earlier = count_by is_edit earlier
+
+-- the name is among these
+abbrev pub is_among : List Name → Name → Bool
+is_among names n = list_any (λ m. is_word n m) names

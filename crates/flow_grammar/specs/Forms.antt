@@ -1,0 +1,141 @@
+-- The statement that the tokens of a line write, whatever its numbers are.
+use Rattle.std.specs.Prelude.{ℕ, Bool, List, [], ◌∷◌, ◌&&◌, map, codes, if◌then◌else◌, Option, None, Some, option_map}
+use Rattle.std.specs.List.{list_all}
+use Rattle.flow_design.specs.declared.expr.Expr.{Expr}
+use Rattle.flow_design.specs.declared.session.Statement.{Statement}
+use Rattle.flow_design.specs.declared.session.Statement.TheVariants.{Flow, Source, Sink, Fifo, Module, Reg, Mem, Block, Loop, Temp, At, Goto, Branch, Stop, Input, Limits, Depth, End}
+use Rattle.flow_design.specs.declared.expr.Op.{Op}
+use Rattle.flow_design.specs.declared.expr.Op.TheVariants as op
+use Rattle.flow_grammar.specs.Tokens.{Token, is_number, is_name, number_of, is_word}
+use Rattle.flow_grammar.specs.Trees.{Trees, trees_of}
+
+abbrev pub only_if : {A : Type 0} → Bool → A → Option A
+only_if test x = if test then Some x else None
+
+unfoldable pub flow_of : List Token → Option Statement
+flow_of (n ∷ []) = only_if (is_number n) (Flow (number_of n))
+flow_of ts = None
+
+abbrev pub name_width : (Token → ℕ → Statement) → List Token → Option Statement
+name_width make (n ∷ w ∷ []) = only_if (is_name n && is_number w) (make n (number_of w))
+name_width make ts = None
+
+unfoldable pub fifo_of : List Token → Option Statement
+fifo_of (n ∷ w ∷ []) = only_if (is_name n && is_number w) (Fifo n (number_of w) 2)
+fifo_of (n ∷ w ∷ d ∷ []) = only_if (is_name n && (is_number w && is_number d)) (Fifo n (number_of w) (number_of d))
+fifo_of ts = None
+
+abbrev pub one_name : (Token → Statement) → List Token → Option Statement
+one_name make (n ∷ []) = only_if (is_name n) (make n)
+one_name make ts = None
+
+unfoldable pub mem_of : List Token → Option Statement
+mem_of (n ∷ w ∷ l ∷ []) = only_if (is_name n && (is_number w && is_number l)) (Mem n (number_of w) (number_of l))
+mem_of ts = None
+
+unfoldable pub loop_of : List Token → Option Statement
+loop_of (n ∷ ii ∷ l ∷ w ∷ r ∷ []) = only_if (is_name n && (is_number ii && (is_number l && (is_word w (codes "while") && is_name r)))) (Loop n (number_of ii) (number_of l) r)
+loop_of ts = None
+
+abbrev pub one_tree : Option Trees → Option (Expr Token)
+one_tree (Some (e ∷ [])) = Some e
+one_tree trees = None
+
+abbrev pub two_trees : (Expr Token → Expr Token → Op Token) → Option Trees → Option (Op Token)
+two_trees make (Some (e ∷ f ∷ [])) = Some (make e f)
+two_trees make trees = None
+
+abbrev pub if_then : {A : Type 0} → Bool → Option A → Option A
+if_then test x = if test then x else None
+
+abbrev pub set_of : List Token → Option (Op Token)
+set_of (r ∷ ts) = if_then (is_name r) (option_map (op.Set r) (one_tree (trees_of ts)))
+set_of ts = None
+
+abbrev pub load_of : List Token → Option (Op Token)
+load_of (r ∷ m ∷ ts) = if_then (is_name r && is_name m) (option_map (op.Load r m) (one_tree (trees_of ts)))
+load_of ts = None
+
+abbrev pub store_of : List Token → Option (Op Token)
+store_of (m ∷ ts) = if_then (is_name m) (two_trees (op.Store m) (trees_of ts))
+store_of ts = None
+
+abbrev pub two_names : (Token → Token → Op Token) → List Token → Option (Op Token)
+two_names make (f ∷ r ∷ []) = only_if (is_name f && is_name r) (make f r)
+two_names make ts = None
+
+abbrev pub write_of : List Token → Option (Op Token)
+write_of (f ∷ ts) = if_then (is_name f) (option_map (op.Write f) (one_tree (trees_of ts)))
+write_of ts = None
+
+abbrev pub try_read_of : List Token → Option (Op Token)
+try_read_of (f ∷ r ∷ ok ∷ []) = only_if (is_name f && (is_name r && is_name ok)) (op.TryRead f r ok)
+try_read_of ts = None
+
+abbrev pub try_write_of : List Token → Option (Op Token)
+try_write_of (f ∷ ok ∷ ts) = if_then (is_name f && is_name ok) (option_map (op.TryWrite f ok) (one_tree (trees_of ts)))
+try_write_of ts = None
+
+-- an operation
+unfoldable pub op_of : List Token → Option (Op Token)
+op_of [] = None
+op_of (k ∷ ts) =
+    if is_word k (codes "set") then set_of ts
+    else if is_word k (codes "load") then load_of ts
+    else if is_word k (codes "store") then store_of ts
+    else if is_word k (codes "read") then two_names op.Read ts
+    else if is_word k (codes "write") then write_of ts
+    else if is_word k (codes "tryread") then try_read_of ts
+    else if is_word k (codes "trywrite") then try_write_of ts
+    else if is_word k (codes "empty") then two_names op.Empty ts
+    else if is_word k (codes "full") then two_names op.Full ts
+    else None
+
+-- an operation with a guard in front of it, where there is one
+abbrev pub guarded_of : ℕ → List Token → Option Statement
+guarded_of off (i ∷ r ∷ ts) = if is_word i (codes "if") then if_then (is_name r) (option_map (At off (Some r)) (op_of ts)) else option_map (At off None) (op_of (i ∷ r ∷ ts))
+guarded_of off ts = option_map (At off None) (op_of ts)
+
+unfoldable pub at_of : List Token → Option Statement
+at_of (off ∷ ts) = if_then (is_number off) (guarded_of (number_of off) ts)
+at_of ts = None
+
+unfoldable pub branch_of : List Token → Option Statement
+branch_of (r ∷ b ∷ c ∷ []) = only_if (is_name r && (is_name b && is_name c)) (Branch r b c)
+branch_of ts = None
+
+unfoldable pub input_of : List Token → Option Statement
+input_of (n ∷ ts) = only_if (is_name n && list_all is_number ts) (Input n (map number_of ts))
+input_of ts = None
+
+unfoldable pub limits_of : List Token → Option Statement
+limits_of (c ∷ o ∷ []) = only_if (is_number c && is_number o) (Limits (number_of c) (number_of o))
+limits_of ts = None
+
+abbrev pub bare : Statement → List Token → Option Statement
+bare statement [] = Some statement
+bare statement (t ∷ ts) = None
+
+-- the keyword and what stands behind it
+unfoldable pub statement_of : List Token → Option Statement
+statement_of [] = None
+statement_of (k ∷ ts) =
+    if is_word k (codes "flow") then flow_of ts
+    else if is_word k (codes "source") then name_width Source ts
+    else if is_word k (codes "sink") then name_width Sink ts
+    else if is_word k (codes "fifo") then fifo_of ts
+    else if is_word k (codes "module") then one_name Module ts
+    else if is_word k (codes "reg") then name_width Reg ts
+    else if is_word k (codes "mem") then mem_of ts
+    else if is_word k (codes "block") then name_width Block ts
+    else if is_word k (codes "loop") then loop_of ts
+    else if is_word k (codes "temp") then name_width Temp ts
+    else if is_word k (codes "at") then at_of ts
+    else if is_word k (codes "goto") then one_name Goto ts
+    else if is_word k (codes "branch") then branch_of ts
+    else if is_word k (codes "stop") then bare Stop ts
+    else if is_word k (codes "input") then input_of ts
+    else if is_word k (codes "limits") then limits_of ts
+    else if is_word k (codes "depth") then name_width Depth ts
+    else if is_word k (codes "end") then bare End ts
+    else None

@@ -1,0 +1,13 @@
+pub mod Before
+pub mod Forms
+pub mod Gives
+pub mod Line
+pub mod Numbers
+pub mod Operands
+pub mod Operators
+pub mod Parts
+pub mod Rules
+pub mod Spelling
+pub mod Text
+pub mod Tokens
+pub mod Trees

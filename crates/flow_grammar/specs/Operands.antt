@@ -1,0 +1,125 @@
+-- Expressions as the reader keeps them: one that fails a test is no more than the first test that it fails.
+use Rattle.std.specs.Prelude.{◌≡◌, ℕ, ◌+◌, ◌^◌, max, Bool, true, false, List, ◌∷◌, ◌&&◌, nat_le, nat_lt, if◌then◌else◌, not, Option, None, Some}
+use Rattle.flow_design.specs.declared.expr.Expr.{Expr, fold-Expr}
+use Rattle.flow_design.specs.declared.expr.Expr.TheOpen.{Expr-F}
+use Rattle.flow_design.specs.declared.expr.Expr.TheVariants.{Number, Var, Unary, Binary, Sext, Pick}
+use Rattle.flow_design.specs.declared.expr.UnOp.{UnOp}
+use Rattle.flow_design.specs.declared.expr.BinOp.{BinOp}
+use Rattle.flow_grammar.specs.declared.fault.Code.{Code}
+use Rattle.flow_grammar.specs.declared.fault.Code.TheVariants.{BadNumber, UnknownName, TooMany}
+use Rattle.flow_grammar.specs.declared.operand.Operand.{Operand}
+use Rattle.flow_grammar.specs.declared.operand.Operand.TheVariants.{Whole, Faulty}
+use Rattle.flow_grammar.specs.declared.operator.Operator.{Operator}
+use Rattle.flow_grammar.specs.declared.operator.Operator.TheVariants.{One, Two, Extend, Choose}
+use Rattle.std.specs.List.{list_all}
+use Rattle.flow_design.specs.Words.{nodes, depth}
+use Rattle.flow_grammar.specs.Parts.{Name, Part, Use, expr_parts}
+use Rattle.flow_grammar.specs.Rules.{is_in_range, is_small}
+use Rattle.flow_grammar.specs.Numbers.{number_within}
+use Rattle.flow_grammar.specs.Tokens.{is_number, is_name, number_of}
+use Rattle.flow_grammar.specs.Operators.{operator_of}
+
+-- the earlier of two tests that an expression may fail
+unfoldable pub earlier : Code → Code → Code
+earlier BadNumber d = BadNumber
+earlier UnknownName BadNumber = BadNumber
+earlier UnknownName d = UnknownName
+earlier c d = d
+
+-- a tree with so many nodes, so deep
+abbrev pub sized : Expr (List ℕ) → ℕ → ℕ → Operand
+sized tree nodes depth = if nat_le nodes 256 && nat_le depth 32 then Whole tree nodes depth else Faulty TooMany
+
+abbrev pub numbered : ℕ → Operand
+numbered n = if nat_lt n (2 ^ 64) then Whole (Number n) 1 1 else Faulty BadNumber
+
+unfoldable pub one : UnOp → Operand → Operand
+one o (Whole a n d) = sized (Unary o a) (1 + n) (1 + d)
+one o (Faulty c) = Faulty c
+
+unfoldable pub two : BinOp → Operand → Operand → Operand
+two o (Whole a n d) (Whole b m e) = sized (Binary o a b) (1 + (n + m)) (1 + max d e)
+two o (Whole a n d) (Faulty c) = Faulty c
+two o (Faulty c) (Whole b m e) = Faulty c
+two o (Faulty c) (Faulty d) = Faulty (earlier c d)
+
+abbrev pub named : (List ℕ → Bool) → List ℕ → Operand
+named known name = if known name then Whole (Var name) 1 1 else Faulty UnknownName
+
+abbrev pub widened : ℕ → Operand → Operand
+widened k (Whole a n d) = sized (Sext k a) (1 + n) (1 + d)
+widened k (Faulty c) = Faulty c
+
+abbrev pub widened_by : Option ℕ → Operand → Operand
+widened_by None a = Faulty BadNumber
+widened_by (Some k) a = widened k a
+
+unfoldable pub extend : ℕ → Operand → Operand
+extend k a = widened_by (number_within 1 64 k) a
+
+unfoldable pub choose : Operand → Operand → Operand → Operand
+choose (Whole a n d) (Whole b m e) (Whole c l f) = sized (Pick a b c) (1 + (n + (m + l))) (1 + max d (max e f))
+choose (Whole a n d) (Whole b m e) (Faulty z) = Faulty z
+choose (Whole a n d) (Faulty y) (Whole c l f) = Faulty y
+choose (Whole a n d) (Faulty y) (Faulty z) = Faulty (earlier y z)
+choose (Faulty x) (Whole b m e) (Whole c l f) = Faulty x
+choose (Faulty x) (Whole b m e) (Faulty z) = Faulty (earlier x z)
+choose (Faulty x) (Faulty y) (Whole c l f) = Faulty (earlier x y)
+choose (Faulty x) (Faulty y) (Faulty z) = Faulty (earlier x (earlier y z))
+
+-- what a layer is seen as, by what its operands are
+abbrev pub layer_seen : (List ℕ → Bool) → Expr-F (List ℕ) Operand → Operand
+layer_seen known (Expr-F.Number n) = numbered n
+layer_seen known (Expr-F.Var name) = named known name
+layer_seen known (Expr-F.Unary o a) = one o a
+layer_seen known (Expr-F.Binary o a b) = two o a b
+layer_seen known (Expr-F.Sext k a) = extend k a
+layer_seen known (Expr-F.Pick a b c) = choose a b c
+
+unfoldable pub seen : (List ℕ → Bool) → Expr (List ℕ) → Operand
+seen known = fold-Expr (List ℕ) Operand (layer_seen known)
+
+-- the same steps as those of trees
+abbrev pub Stacked : Type 0
+Stacked = List Operand
+
+abbrev pub extend_top : List (List ℕ) → Stacked → Option Stacked
+extend_top (k ∷ behind) (number ∷ a ∷ stack) = if is_number k then Some (extend (number_of k) a ∷ stack) else None
+extend_top behind stack = None
+
+abbrev pub apply : Operator → List (List ℕ) → Stacked → Option Stacked
+apply (One o) behind (a ∷ stack) = Some (one o a ∷ stack)
+apply (Two o) behind (a ∷ b ∷ stack) = Some (two o a b ∷ stack)
+apply Extend behind stack = extend_top behind stack
+apply Choose behind (a ∷ b ∷ c ∷ stack) = Some (choose a b c ∷ stack)
+apply o behind stack = None
+
+abbrev pub apply_if : Option Operator → List (List ℕ) → Stacked → Option Stacked
+apply_if None behind stack = None
+apply_if (Some o) behind stack = apply o behind stack
+
+unfoldable pub take_token : (List ℕ → Bool) → List ℕ → List (List ℕ) → Stacked → Option Stacked
+take_token known token behind stack =
+    if is_number token then Some (numbered (number_of token) ∷ stack)
+    else if is_name token then Some (named known token ∷ stack)
+    else apply_if (operator_of token) behind stack
+
+-- what a step on the stack did: it took the token, or nothing can be made of it
+abbrev pub Takes : Bool → Stacked → Option Stacked → Type 0
+Takes true new found = found ≡ Some new
+Takes false new found = found ≡ None
+
+-- ---- what this comes to
+
+-- the name is a known one
+abbrev pub is_known_by : (Name → Bool) → Part → Bool
+is_known_by known (Use sort name) = known name
+is_known_by known part = true
+
+-- the first test that an expression fails, or the expression with its size
+unfoldable pub kept : (Name → Bool) → Expr Name → Operand
+kept known e =
+    if not (list_all is_in_range (expr_parts e)) then Faulty BadNumber
+    else if not (list_all (is_known_by known) (expr_parts e)) then Faulty UnknownName
+    else if not (is_small e) then Faulty TooMany
+    else Whole e (nodes e) (depth e)

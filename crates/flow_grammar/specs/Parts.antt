@@ -1,0 +1,125 @@
+-- The parts of a statement, one for each token that writes it: the table of the language's forms.
+use Rattle.std.specs.Prelude.{ℕ, ◌-◌, ◌^◌, List, [], ◌∷◌, ◌++◌, map, codes, Option, None, Some}
+use Rattle.flow_design.specs.declared.session.Statement.{Statement}
+use Rattle.flow_design.specs.declared.session.Statement.TheVariants.{Flow, Source, Sink, Fifo, Module, Reg, Mem, Block, Loop, Temp, At, Goto, Branch, Stop, Input, Limits, Depth, End}
+use Rattle.flow_design.specs.declared.expr.Op.{Op}
+use Rattle.flow_design.specs.declared.expr.Op.TheVariants as op
+use Rattle.flow_design.specs.declared.expr.Expr.{Expr, fold-Expr}
+use Rattle.flow_design.specs.declared.expr.Expr.TheOpen.{Expr-F}
+use Rattle.flow_design.specs.declared.expr.UnOp.TheVariants.{Not}
+use Rattle.flow_design.specs.declared.expr.BinOp.{BinOp}
+use Rattle.flow_design.specs.declared.expr.BinOp.TheVariants.{Add, Sub, Mul, And, Or, Xor, Shl, Shr, Eq, Ne, LtU, LtS, Div, Rem}
+
+abbrev pub Name : Type 0
+Name = List ℕ
+
+-- the spaces of declared names
+pub data Space : Type 0 where
+  ChannelName ModuleName RegisterName MemoryName TempName BlockName : Space
+
+-- what a name is wanted to be
+pub data Sort : Type 0 where
+  AnyChannel ASource AFifo ARegister AMemory AVariable : Sort
+
+-- what one token of a line is
+pub data Part : Type 0 where
+  -- this word
+  Word : List ℕ → Part
+  -- a new name in this space
+  New : Space → Name → Part
+  -- a name of this sort, declared before
+  Use : Sort → Name → Part
+  -- a block's name, which may be declared later
+  Label : Name → Part
+  -- a number, which is to be at least the first and at most the second
+  Num : ℕ → ℕ → ℕ → Part
+
+-- ---- numbers by their ranges
+
+abbrev width : ℕ → Part
+width n = Num 1 64 n
+
+abbrev capacity : ℕ → Part
+capacity n = Num 1 1000000 n
+
+abbrev words : ℕ → Part
+words n = Num 1 4096 n
+
+abbrev clocks : ℕ → Part
+clocks n = Num 1 1000000000000 n
+
+abbrev pub plain : ℕ → Part
+plain n = Num 0 (2 ^ 64 - 1) n
+
+-- ---- expressions, in prefix form
+
+abbrev pub binary_word : BinOp → List ℕ
+binary_word Add = codes "+"
+binary_word Sub = codes "-"
+binary_word Mul = codes "*"
+binary_word And = codes "&"
+binary_word Or = codes "|"
+binary_word Xor = codes "^"
+binary_word Shl = codes "<<"
+binary_word Shr = codes ">>"
+binary_word Eq = codes "=="
+binary_word Ne = codes "!="
+binary_word LtU = codes "<u"
+binary_word LtS = codes "<s"
+binary_word Div = codes "/"
+binary_word Rem = codes "%"
+
+-- a layer of an expression, whose operands have these parts
+abbrev pub layer_parts : Expr-F Name (List Part) → List Part
+layer_parts (Expr-F.Number n) = plain n ∷ []
+layer_parts (Expr-F.Var name) = Use AVariable name ∷ []
+layer_parts (Expr-F.Unary Not a) = Word (codes "~") ∷ a
+layer_parts (Expr-F.Binary o a b) = Word (binary_word o) ∷ a ++ b
+layer_parts (Expr-F.Sext k a) = Word (codes "sext") ∷ width k ∷ a
+layer_parts (Expr-F.Pick a b c) = Word (codes "?:") ∷ a ++ (b ++ c)
+
+unfoldable pub expr_parts : Expr Name → List Part
+expr_parts = fold-Expr Name (List Part) layer_parts
+
+-- ---- operations
+
+abbrev pub op_parts : Op Name → List Part
+op_parts (op.Set r e) = Word (codes "set") ∷ Use AVariable r ∷ expr_parts e
+op_parts (op.Load r m e) = Word (codes "load") ∷ Use AVariable r ∷ Use AMemory m ∷ expr_parts e
+op_parts (op.Store m e f) = Word (codes "store") ∷ Use AMemory m ∷ expr_parts e ++ expr_parts f
+op_parts (op.Read f r) = Word (codes "read") ∷ Use AnyChannel f ∷ Use AVariable r ∷ []
+op_parts (op.Write f e) = Word (codes "write") ∷ Use AnyChannel f ∷ expr_parts e
+op_parts (op.TryRead f r ok) = Word (codes "tryread") ∷ Use AnyChannel f ∷ Use AVariable r ∷ Use AVariable ok ∷ []
+op_parts (op.TryWrite f ok e) = Word (codes "trywrite") ∷ Use AnyChannel f ∷ Use AVariable ok ∷ expr_parts e
+op_parts (op.Empty f r) = Word (codes "empty") ∷ Use AnyChannel f ∷ Use AVariable r ∷ []
+op_parts (op.Full f r) = Word (codes "full") ∷ Use AnyChannel f ∷ Use AVariable r ∷ []
+
+abbrev pub guard_parts : Option Name → List Part
+guard_parts None = []
+guard_parts (Some r) = Word (codes "if") ∷ Use AVariable r ∷ []
+
+-- ---- statements
+
+abbrev pub parts : Statement → List Part
+parts (Flow n) = Word (codes "flow") ∷ Num 1 1 n ∷ []
+parts (Source n w) = Word (codes "source") ∷ New ChannelName n ∷ width w ∷ []
+parts (Sink n w) = Word (codes "sink") ∷ New ChannelName n ∷ width w ∷ []
+parts (Fifo n w d) = Word (codes "fifo") ∷ New ChannelName n ∷ width w ∷ capacity d ∷ []
+parts (Module n) = Word (codes "module") ∷ New ModuleName n ∷ []
+parts (Reg n w) = Word (codes "reg") ∷ New RegisterName n ∷ width w ∷ []
+parts (Mem n w l) = Word (codes "mem") ∷ New MemoryName n ∷ width w ∷ words l ∷ []
+parts (Block n l) = Word (codes "block") ∷ New BlockName n ∷ clocks l ∷ []
+parts (Loop n ii l r) = Word (codes "loop") ∷ New BlockName n ∷ clocks ii ∷ clocks l ∷ Word (codes "while") ∷ Use ARegister r ∷ []
+parts (Temp n w) = Word (codes "temp") ∷ New TempName n ∷ width w ∷ []
+parts (At off guard o) = Word (codes "at") ∷ plain off ∷ guard_parts guard ++ op_parts o
+parts (Goto b) = Word (codes "goto") ∷ Label b ∷ []
+parts (Branch r b c) = Word (codes "branch") ∷ Use ARegister r ∷ Label b ∷ Label c ∷ []
+parts Stop = Word (codes "stop") ∷ []
+parts (Input n values) = Word (codes "input") ∷ Use ASource n ∷ map plain values
+parts (Limits c o) = Word (codes "limits") ∷ plain c ∷ plain o ∷ []
+parts (Depth n d) = Word (codes "depth") ∷ Use AFifo n ∷ capacity d ∷ []
+parts End = Word (codes "end") ∷ []
+
+-- a FIFO of depth 2 in its short form, without its depth
+abbrev pub short_parts : Name → ℕ → List Part
+short_parts n w = Word (codes "fifo") ∷ New ChannelName n ∷ width w ∷ []

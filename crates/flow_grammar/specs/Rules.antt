@@ -1,0 +1,208 @@
+-- The rules of reading for one statement: where it may stand, and the first rule that it breaks after the statements before
+-- it, which are given the latest first.
+use Rattle.std.specs.Prelude.{◌≡◌, ℕ, ◌+◌, Bool, true, false, List, [], ◌∷◌, ◌++◌, ◌&&◌, not, nat_le, nat_lt, reverse, take, slice_get, Option, None, Some, length, if◌then◌else◌}
+use Rattle.std.specs.List.{list_all}
+use Rattle.flow_design.specs.declared.expr.Expr.{Expr}
+use Rattle.flow_design.specs.declared.expr.Op.{Op}
+use Rattle.flow_design.specs.declared.expr.Op.TheVariants as op
+use Rattle.flow_design.specs.declared.session.Statement.{Statement}
+use Rattle.flow_design.specs.declared.session.Statement.TheVariants.{Flow, Source, Sink, Fifo, Module, Reg, Mem, Block, Loop, Temp, At, Goto, Branch, Stop, Input, Limits, Depth, End}
+use Rattle.flow_design.specs.Words.{nodes, depth}
+use Rattle.flow_grammar.specs.declared.fault.Code.{Code}
+use Rattle.flow_grammar.specs.declared.fault.Code.TheVariants.{BadNumber, DoubleName, UnknownName, TooMany}
+use Rattle.flow_grammar.specs.Tokens.{is_name}
+use Rattle.flow_grammar.specs.Parts.{Name, Part, New, Use, Label, Num, Space, ChannelName, ModuleName, RegisterName, MemoryName, TempName, BlockName, Sort, AnyChannel, ASource, AFifo, ARegister, AMemory, AVariable, parts}
+use Rattle.flow_grammar.specs.Before.{channels, sources, fifos, modules, registers, memories, blocks, temps, operations, inputs, input_values, edits, is_among}
+
+-- ---- which statement may stand where
+
+-- the places of a session
+pub data Place : Type 0 where
+  AtStart AmongChannels AmongRegisters AmongTemps AmongOperations AfterBody AmongInputs AmongEdits AtEnd : Place
+
+-- where a statement leads
+abbrev pub place_after : Statement → Place
+place_after (Flow n) = AmongChannels
+place_after (Source n w) = AmongChannels
+place_after (Sink n w) = AmongChannels
+place_after (Fifo n w d) = AmongChannels
+place_after (Module n) = AmongRegisters
+place_after (Reg n w) = AmongRegisters
+place_after (Mem n w l) = AmongRegisters
+place_after (Block n l) = AmongTemps
+place_after (Loop n ii l r) = AmongTemps
+place_after (Temp n w) = AmongTemps
+place_after (At off guard o) = AmongOperations
+place_after (Goto b) = AfterBody
+place_after (Branch r b c) = AfterBody
+place_after Stop = AfterBody
+place_after (Input n values) = AmongInputs
+place_after (Limits c o) = AmongEdits
+place_after (Depth n d) = AmongEdits
+place_after End = AtEnd
+
+-- the place behind these statements
+abbrev pub place : List Statement → Place
+place [] = AtStart
+place (s ∷ earlier) = place_after s
+
+-- which statement may stand at a place
+abbrev pub may_stand : Statement → Place → Bool
+-- at the start
+may_stand (Flow n) AtStart = true
+-- after `flow`, `source`, `sink` and `fifo`
+may_stand (Source n w) AmongChannels = true
+may_stand (Sink n w) AmongChannels = true
+may_stand (Fifo n w d) AmongChannels = true
+may_stand (Module n) AmongChannels = true
+may_stand (Input n values) AmongChannels = true
+may_stand (Limits c o) AmongChannels = true
+may_stand (Depth n d) AmongChannels = true
+may_stand End AmongChannels = true
+-- after `module`, `reg` and `mem`
+may_stand (Reg n w) AmongRegisters = true
+may_stand (Mem n w l) AmongRegisters = true
+may_stand (Block n l) AmongRegisters = true
+may_stand (Loop n ii l r) AmongRegisters = true
+-- after `block`, `loop` and `temp`
+may_stand (Temp n w) AmongTemps = true
+may_stand (At off guard o) AmongTemps = true
+may_stand (Goto b) AmongTemps = true
+may_stand (Branch r b c) AmongTemps = true
+may_stand Stop AmongTemps = true
+-- after `at`
+may_stand (At off guard o) AmongOperations = true
+may_stand (Goto b) AmongOperations = true
+may_stand (Branch r b c) AmongOperations = true
+may_stand Stop AmongOperations = true
+-- after a terminator
+may_stand (Block n l) AfterBody = true
+may_stand (Loop n ii l r) AfterBody = true
+may_stand (Module n) AfterBody = true
+may_stand (Input n values) AfterBody = true
+may_stand (Limits c o) AfterBody = true
+may_stand (Depth n d) AfterBody = true
+may_stand End AfterBody = true
+-- after `input`
+may_stand (Input n values) AmongInputs = true
+may_stand (Limits c o) AmongInputs = true
+may_stand (Depth n d) AmongInputs = true
+may_stand End AmongInputs = true
+-- after `limits` and `depth`
+may_stand (Depth n d) AmongEdits = true
+may_stand End AmongEdits = true
+-- and nowhere else, nothing after `end`
+may_stand s p = false
+
+-- the statement may stand behind these
+unfoldable pub may_follow : List Statement → Statement → Bool
+may_follow earlier s = may_stand s (place earlier)
+
+-- ---- names and numbers
+
+-- a name is one by its letters
+abbrev pub is_well_named : Part → Bool
+is_well_named (New space name) = is_name name
+is_well_named (Use sort name) = is_name name
+is_well_named (Label name) = is_name name
+is_well_named part = true
+
+abbrev pub is_in_range : Part → Bool
+is_in_range (Num least most n) = nat_le least n && nat_le n most
+is_in_range part = true
+
+-- the names of a space that stand already: registers, memories and the body's temps share one
+abbrev pub taken : List Statement → Space → List Name
+taken earlier ChannelName = channels earlier
+taken earlier ModuleName = modules earlier
+taken earlier RegisterName = registers earlier ++ memories earlier
+taken earlier MemoryName = registers earlier ++ memories earlier
+taken earlier TempName = registers earlier ++ (memories earlier ++ temps earlier)
+taken earlier BlockName = blocks earlier
+
+abbrev pub is_new : List Statement → Part → Bool
+is_new earlier (New space name) = not (is_among (taken earlier space) name)
+is_new earlier part = true
+
+-- the source has no input yet
+abbrev pub is_first_input : List Statement → Statement → Bool
+is_first_input earlier (Input n values) = not (is_among (inputs earlier) n)
+is_first_input earlier s = true
+
+-- the names of a sort that are declared before
+abbrev pub named : List Statement → Sort → List Name
+named earlier AnyChannel = channels earlier
+named earlier ASource = sources earlier
+named earlier AFifo = fifos earlier
+named earlier ARegister = registers earlier
+named earlier AMemory = memories earlier
+named earlier AVariable = registers earlier ++ temps earlier
+
+abbrev pub is_known : List Statement → Part → Bool
+is_known earlier (Use sort name) = is_among (named earlier sort) name
+is_known earlier part = true
+
+-- ---- counts
+
+-- an expression of at most 256 nodes, and at most 32 deep
+abbrev pub is_small : Expr Name → Bool
+is_small e = nat_le (nodes e) 256 && nat_le (depth e) 32
+
+-- each expression for itself
+abbrev pub has_small_trees : Op Name → Bool
+has_small_trees (op.Set r e) = is_small e
+has_small_trees (op.Load r m e) = is_small e
+has_small_trees (op.Store m e f) = is_small e && is_small f
+has_small_trees (op.Write f e) = is_small e
+has_small_trees (op.TryWrite f ok e) = is_small e
+has_small_trees o = true
+
+-- with this statement there are not too many of its kind
+abbrev pub has_room : List Statement → Statement → Bool
+has_room earlier (Source n w) = nat_lt (length (channels earlier)) 256
+has_room earlier (Sink n w) = nat_lt (length (channels earlier)) 256
+has_room earlier (Fifo n w d) = nat_lt (length (channels earlier)) 256
+has_room earlier (Module n) = nat_lt (length (modules earlier)) 64
+has_room earlier (Reg n w) = nat_lt (length (registers earlier)) 256
+has_room earlier (Mem n w l) = nat_lt (length (memories earlier)) 16
+has_room earlier (Block n l) = nat_lt (length (blocks earlier)) 256
+has_room earlier (Loop n ii l r) = nat_lt (length (blocks earlier)) 256
+has_room earlier (Temp n w) = nat_lt (length (temps earlier)) 64
+has_room earlier (At off guard o) = nat_lt (operations earlier) 1024 && has_small_trees o
+has_room earlier (Input n values) = nat_le (input_values earlier + length values) 100000
+has_room earlier (Depth n d) = nat_lt (edits earlier) 1000
+has_room earlier s = true
+
+-- ---- the first rule that a statement breaks
+
+unfoldable pub statement_fault : List Statement → Statement → Option Code
+statement_fault earlier s =
+    if not (list_all is_in_range (parts s)) then Some BadNumber
+    else if not (list_all (is_new earlier) (parts s) && is_first_input earlier s) then Some DoubleName
+    else if not (list_all (is_known earlier) (parts s)) then Some UnknownName
+    else if not (has_room earlier s) then Some TooMany
+    else None
+
+-- ---- sessions that keep the rules
+
+abbrev is_end : Place → Bool
+is_end AtEnd = true
+is_end p = false
+
+-- a session that is over: its last statement is `end`
+unfoldable pub is_over : List Statement → Bool
+is_over statements = is_end (place (reverse statements))
+
+-- a statement that keeps the rules behind these statements
+pub record KeepsRules (before : List Statement) (s : Statement) : Type 0 where
+  -- its names are names
+  pub well_named : list_all is_well_named (parts s) ≡ true
+  -- it may stand here
+  pub permitted : may_follow (reverse before) s ≡ true
+  -- its numbers, its new names, the names that it uses and the counts are in order
+  pub faultless : statement_fault (reverse before) s ≡ None
+
+-- a whole session that keeps them, as each session that a text stands for does
+pub record KeepsReadingRules (statements : List Statement) : Type 0 where
+  pub each : (i : ℕ) (s : Statement) → slice_get statements i ≡ Some s → KeepsRules (take i statements) s
+  pub over : is_over statements ≡ true

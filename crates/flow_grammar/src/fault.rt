@@ -1,0 +1,88 @@
+//! Why a text is refused.
+ghost use Rattle.std.specs.Prelude.{◌≡◌};
+
+use flow_word::OutOfMemory;
+use thiserror::Error;
+
+/// The first test that a text fails, with its number in the language.
+#[derive(Clone, Copy, Debug, PartialEq, Eq)]
+pub enum Code {
+    /// The text has more than 4,194,304 bytes.
+    TooLong = 1,
+    /// A byte of the line is not 9, 13 or 32 to 126.
+    NotAscii = 2,
+    /// The line's tokens are no statement that may stand at this place.
+    Syntax = 3,
+    /// A number is out of its range.
+    BadNumber = 4,
+    /// A declared name stands already in its space, or a source has its inputs already.
+    DoubleName = 5,
+    /// A name is not declared before, or is not what is wanted here.
+    UnknownName = 6,
+    /// A limit of `limits` is out of its range.
+    BadLimit = 7,
+    /// A channel has not the readers and writers that it must have.
+    Ends = 8,
+    /// Two operations of a body pop, or push, one channel in one clock.
+    PortClash = 9,
+    /// A loop's length is less than its interval, or more than 64 times it.
+    BadLoop = 10,
+    /// An operation's offset is not below its block's length.
+    BadOffset = 11,
+    /// The text has no `end`.
+    Truncated = 12,
+    /// The line is one too many of its kind, or an expression is too large.
+    TooMany = 13,
+    /// An `empty` does not stand in its channel's reader, or a `full` not in its writer.
+    WrongSide = 14,
+}
+
+/// A refusal: a test that fails, and the number of the line that fails it.
+#[derive(Clone, Copy, Debug, PartialEq, Eq)]
+pub struct TextFault {
+    /// Lines are numbered from 1. It is 0 where the text is too long.
+    pub line: u64,
+    pub code: Code,
+}
+
+/// Why a text gives no session.
+#[derive(Clone, Copy, Debug, PartialEq, Eq, Error)]
+pub enum ReadFail {
+    /// The text is refused.
+    #[error("the text is refused")]
+    Text(TextFault),
+    /// There was no memory to read it.
+    #[error("out of memory")]
+    OutOfMemory,
+}
+
+/// Why a line gives no statement.
+#[derive(Clone, Copy, Debug, PartialEq, Eq, Error)]
+pub enum LineFail {
+    /// The line fails this test.
+    #[error("the line is refused")]
+    Fault(Code),
+    /// There was no memory to read it.
+    #[error("out of memory")]
+    OutOfMemory,
+}
+
+impl From<OutOfMemory> for ReadFail {
+    ghost use Rattle.flow_grammar.specs.declared.fault.ReadFail.TheVariants.{OutOfMemory as OutOfMemory_of_read};
+
+    ghost from_gives = { λ _ fail. fail ≡ OutOfMemory_of_read };
+
+    fn from(_: OutOfMemory) -> ReadFail {
+        ReadFail::OutOfMemory
+    }
+}
+
+impl From<OutOfMemory> for LineFail {
+    ghost use Rattle.flow_grammar.specs.declared.fault.LineFail.TheVariants.{OutOfMemory as OutOfMemory_of_line};
+
+    ghost from_gives = { λ _ fail. fail ≡ OutOfMemory_of_line };
+
+    fn from(_: OutOfMemory) -> LineFail {
+        LineFail::OutOfMemory
+    }
+}

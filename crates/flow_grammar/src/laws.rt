@@ -1,0 +1,32 @@
+//! Laws of the grammar.
+ghost use Rattle.std.specs.Prelude.{◌≡◌, ◌<◌, Some, List, ℕ, Result, length, AllPairs};
+ghost use Rattle.flow_design.specs.declared.session.Statement.{Statement};
+ghost use Rattle.flow_grammar.specs.declared.fault.TextFault.{TextFault};
+ghost use Rattle.flow_grammar.specs.Rules.{KeepsReadingRules};
+ghost use Rattle.flow_grammar.specs.Text.{Said, StandsFor};
+ghost use Rattle.flow_grammar.specs.Tokens.{Token};
+ghost use Rattle.flow_grammar.specs.Forms.{statement_of};
+ghost use Rattle.flow_grammar.specs.Spelling.{Writes};
+
+/// What tokens write is what is worked out from them: they write at most one statement.
+pub fn written_is_read()
+    ensures { (tokens : List Token) (s : Statement) → Writes tokens s → statement_of tokens ≡ Some s }
+{}
+
+/// What is worked out from tokens is what they write.
+pub fn read_is_written()
+    ensures { (tokens : List Token) (s : Statement) → statement_of tokens ≡ Some s → Writes tokens s }
+{}
+
+/// Each text stands for exactly one session with its lines, or has exactly one fault.
+pub fn one_answer()
+    ensures some { (text : List ℕ) → (answer : Result (List Statement × List ℕ) TextFault) × Said text answer }
+    ensures no_other { (text : List ℕ) (a b : Result (List Statement × List ℕ) TextFault) → Said text a → Said text b → a ≡ b }
+{}
+
+/// A session that a text stands for keeps the rules of reading, and has one line number for each statement, rising.
+pub fn keeps_rules()
+    ensures rules { (text : List ℕ) (s : List Statement) (l : List ℕ) → StandsFor text s l → KeepsReadingRules s }
+    ensures numbered { (text : List ℕ) (s : List Statement) (l : List ℕ) → StandsFor text s l → length l ≡ length s }
+    ensures rising { (text : List ℕ) (s : List Statement) (l : List ℕ) → StandsFor text s l → AllPairs (λ a b. a < b) l }
+{}

@@ -1,0 +1,23 @@
+//! The grammar of session texts: lines, tokens, the spelling of statements, which statements may stand where, and the
+//! expressions in prefix form.
+#![tactic(auto)]
+
+mod fault;
+mod laws;
+mod operand;
+mod operator;
+mod prefix;
+mod stack;
+mod tokens;
+mod words;
+
+pub use fault::{Code, LineFail, ReadFail, TextFault};
+pub use laws::{keeps_rules, one_answer, read_is_written, written_is_read};
+pub use operand::Operand;
+pub use operator::{Operator, operator_in};
+pub use prefix::{Known, one_operand, two_operands};
+pub use tokens::tokens_in;
+pub use words::{is_identifier, is_numeral, is_word, number_in, width_of};
+
+#[cfg(test)]
+mod tests;

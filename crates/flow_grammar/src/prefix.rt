@@ -1,0 +1,248 @@
+//! Expressions in prefix form.
+ghost use Rattle.std.specs.Prelude.{◌≡◌, ℕ, Bool, true, List, map, option_map, IfOk};
+ghost use Rattle.flow_grammar.specs.Tokens.{is_number, number_of};
+ghost use Rattle.flow_grammar.specs.Trees.{trees_of};
+ghost use Rattle.flow_grammar.specs.Gives.{LineGives, only_operand, both_operands};
+ghost use Rattle.flow_grammar.specs.Operands.{numbered, named, take_token, apply, Takes, seen, kept};
+
+use crate::fault::{Code, LineFail};
+use crate::operand::{Operand, apply_choose, apply_extend, apply_one, apply_two};
+use crate::operator::{Operator, operator_in};
+use crate::stack::Stack;
+use crate::words::{is_identifier, is_numeral};
+use flow_design::{BinOp, Expr, Name, UnOp};
+use flow_word::{OutOfMemory, read_number};
+use std::alloc::Global;
+
+/// Who knows which names are variables.
+pub trait Known {
+    ghost knows: { Self → List ℕ → Bool };
+
+    fn is_known(&self, name: &[u8]) -> bool
+        ensures { result ≡ knows self.now name.now };
+}
+
+/// A number as an operand.
+#[tactic(auto, using(crate::proofs::Numbers::number_read))]
+fn number_operand(token: &[u8]) -> Operand
+    requires { is_number token.now ≡ true }
+    ensures { result ≡ numbered (number_of token.now) }
+{
+    match read_number(token) {
+        Ok(value) => Operand::Whole {
+            tree: Expr::Number(value),
+            nodes: 1,
+            depth: 1,
+        },
+        Err(_) => Operand::Faulty(Code::BadNumber),
+    }
+}
+
+/// A name as an operand.
+fn name_operand<K: Known>(alloc: Global, known: &K, token: &[u8]) -> Result<Operand, OutOfMemory>
+    ensures { IfOk result (λ operand. operand ≡ named (K.knows known.now) token.now) }
+{
+    if known.is_known(token) {
+        Ok(Operand::Whole {
+            tree: Expr::Var(Name::new(alloc, token)?),
+            nodes: 1,
+            depth: 1,
+        })
+    } else {
+        Ok(Operand::Faulty(Code::UnknownName))
+    }
+}
+
+/// An operator on the operand on top.
+fn take_one(
+    alloc: Global,
+    op: UnOp,
+    behind: &[&[u8]],
+    stack: &mut Stack<Operand>,
+) -> Result<bool, OutOfMemory>
+    ensures { IfOk result (λ taken. Takes taken stack.new (apply (Operator.One op) (map (λ t. t.now) behind.now) stack.old)) }
+{
+    match stack.pop() {
+        None => Ok(false),
+        Some(a) => {
+            stack.push(apply_one(alloc, op, a)?)?;
+            Ok(true)
+        }
+    }
+}
+
+/// An operator on the two operands on top.
+fn take_two(
+    alloc: Global,
+    op: BinOp,
+    behind: &[&[u8]],
+    stack: &mut Stack<Operand>,
+) -> Result<bool, OutOfMemory>
+    ensures { IfOk result (λ taken. Takes taken stack.new (apply (Operator.Two op) (map (λ t. t.now) behind.now) stack.old)) }
+{
+    match stack.pop() {
+        None => Ok(false),
+        Some(a) => match stack.pop() {
+            None => Ok(false),
+            Some(b) => {
+                stack.push(apply_two(alloc, op, a, b)?)?;
+                Ok(true)
+            }
+        },
+    }
+}
+
+/// A choice of the three operands on top.
+fn take_three(
+    alloc: Global,
+    behind: &[&[u8]],
+    stack: &mut Stack<Operand>,
+) -> Result<bool, OutOfMemory>
+    ensures { IfOk result (λ taken. Takes taken stack.new (apply Operator.Choose (map (λ t. t.now) behind.now) stack.old)) }
+{
+    match stack.pop() {
+        None => Ok(false),
+        Some(a) => match stack.pop() {
+            None => Ok(false),
+            Some(b) => match stack.pop() {
+                None => Ok(false),
+                Some(c) => {
+                    stack.push(apply_choose(alloc, a, b, c)?)?;
+                    Ok(true)
+                }
+            },
+        },
+    }
+}
+
+/// `sext`: the token behind it is the number of bits.
+fn take_extend(
+    alloc: Global,
+    behind: &[&[u8]],
+    stack: &mut Stack<Operand>,
+) -> Result<bool, OutOfMemory>
+    ensures { IfOk result (λ taken. Takes taken stack.new (apply Operator.Extend (map (λ t. t.now) behind.now) stack.old)) }
+{
+    match behind {
+        [] => Ok(false),
+        [bits, ..] => match stack.pop() {
+            None => Ok(false),
+            Some(_) => match stack.pop() {
+                None => Ok(false),
+                Some(a) => {
+                    if !is_numeral(bits) {
+                        return Ok(false);
+                    }
+                    stack.push(apply_extend(alloc, bits, a)?)?;
+                    Ok(true)
+                }
+            },
+        },
+    }
+}
+
+/// A token in front of the others.
+#[tactic(auto, unfolding(crate::specs::Operands::take_token))]
+fn take<K: Known>(
+    alloc: Global,
+    known: &K,
+    token: &[u8],
+    behind: &[&[u8]],
+    stack: &mut Stack<Operand>,
+) -> Result<bool, OutOfMemory>
+    ensures { IfOk result (λ taken. Takes taken stack.new (take_token (K.knows known.now) token.now (map (λ t. t.now) behind.now) stack.old)) }
+{
+    if is_numeral(token) {
+        stack.push(number_operand(token))?;
+        return Ok(true);
+    }
+    if is_identifier(token) {
+        stack.push(name_operand(alloc, known, token)?)?;
+        return Ok(true);
+    }
+    match operator_in(token) {
+        None => Ok(false),
+        Some(Operator::One(op)) => take_one(alloc, op, behind, stack),
+        Some(Operator::Two(op)) => take_two(alloc, op, behind, stack),
+        Some(Operator::Extend) => take_extend(alloc, behind, stack),
+        Some(Operator::Choose) => take_three(alloc, behind, stack),
+    }
+}
+
+/// The expressions that tokens write, going from the last token to the first.
+fn read_back<K: Known>(
+    alloc: Global,
+    known: &K,
+    tokens: &[&[u8]],
+) -> Result<Option<Stack<Operand>>, OutOfMemory>
+    ensures { IfOk result (λ found. found ≡ option_map (map (seen (K.knows known.now))) (trees_of (map (λ t. t.now) tokens.now))) }
+{
+    let mut stack = Stack::new(alloc);
+    let mut at = tokens.len();
+    while at > 0 {
+        at -= 1;
+        let (_, rest) = tokens.split_at(at);
+        let (_, behind) = rest.split_at(1);
+        if !take(alloc, known, rest[0], behind, &mut stack)? {
+            return Ok(None);
+        }
+    }
+    Ok(Some(stack))
+}
+
+/// The expressions that tokens write, one after the other, the first on top of the stack: each is the first test that it
+/// fails, or is whole. `None` where the tokens write no expressions.
+#[tactic(auto, using(crate::proofs::Kept::kept_all))]
+pub fn operands<K: Known>(
+    alloc: Global,
+    known: &K,
+    tokens: &[&[u8]],
+) -> Result<Option<Stack<Operand>>, OutOfMemory>
+    ensures { IfOk result (λ found. found ≡ option_map (map (kept (K.knows known.now))) (trees_of (map (λ t. t.now) tokens.now))) }
+{
+    let found = read_back(alloc, known, tokens)?;
+    Ok(found)
+}
+
+/// The one expression that tokens write.
+pub fn one_operand<K: Known>(
+    alloc: Global,
+    known: &K,
+    tokens: &[&[u8]],
+) -> Result<Operand, LineFail>
+    ensures { LineGives (λ o. o) result (only_operand (option_map (map (kept (K.knows known.now))) (trees_of (map (λ t. t.now) tokens.now)))) }
+{
+    let Some(mut stack) = operands(alloc, known, tokens)? else {
+        return Err(LineFail::Fault(Code::Syntax));
+    };
+    let Some(operand) = stack.pop() else {
+        return Err(LineFail::Fault(Code::Syntax));
+    };
+    match stack.pop() {
+        None => Ok(operand),
+        Some(_) => Err(LineFail::Fault(Code::Syntax)),
+    }
+}
+
+/// The two expressions that tokens write.
+pub fn two_operands<K: Known>(
+    alloc: Global,
+    known: &K,
+    tokens: &[&[u8]],
+) -> Result<(Operand, Operand), LineFail>
+    ensures { LineGives (λ o. o) result (both_operands (option_map (map (kept (K.knows known.now))) (trees_of (map (λ t. t.now) tokens.now)))) }
+{
+    let Some(mut stack) = operands(alloc, known, tokens)? else {
+        return Err(LineFail::Fault(Code::Syntax));
+    };
+    let Some(first) = stack.pop() else {
+        return Err(LineFail::Fault(Code::Syntax));
+    };
+    let Some(second) = stack.pop() else {
+        return Err(LineFail::Fault(Code::Syntax));
+    };
+    match stack.pop() {
+        None => Ok((first, second)),
+        Some(_) => Err(LineFail::Fault(Code::Syntax)),
+    }
+}

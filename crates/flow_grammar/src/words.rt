@@ -1,0 +1,72 @@
+//! What a token is: a word, a number, a name.
+ghost use Rattle.std.specs.Prelude.{◌≡◌, true};
+ghost use Rattle.std.specs.List.{list_all};
+ghost use Rattle.std.specs.Char.{is_ascii_digit};
+ghost use Rattle.flow_grammar.specs.Tokens.{is_word, is_number, is_name, number_of};
+ghost use Rattle.flow_grammar.specs.Numbers.{number_within};
+
+use flow_word::{Width, read_number};
+
+/// Whether a token is this word.
+pub fn is_word(token: &[u8], word: &[u8]) -> bool
+    ensures { result ≡ is_word token.now word.now }
+{
+    token == word
+}
+
+/// Whether a token is a number: digits, and at least one.
+#[tactic(auto, using(crate::proofs::Numbers::number_tests))]
+pub fn is_numeral(token: &[u8]) -> bool
+    ensures { result ≡ is_number token.now }
+{
+    if token.is_empty() {
+        false
+    } else {
+        all_digits(token)
+    }
+}
+
+fn all_digits(token: &[u8]) -> bool
+    ensures { result ≡ list_all is_ascii_digit token.now }
+{
+    token.iter().all(|byte| byte.is_ascii_digit())
+}
+
+/// Whether a token is a name.
+#[tactic(auto, unfolding(crate::specs::Tokens::is_name))]
+pub fn is_identifier(token: &[u8]) -> bool
+    ensures { result ≡ is_name token.now }
+{
+    flow_design::is_name(token)
+}
+
+/// What a number stands for, where it is from the least to the greatest. Leading zeros are allowed, and it may be too large
+/// for a word.
+#[tactic(auto, using(crate::proofs::Numbers::number_read))]
+pub fn number_in(token: &[u8], least: u64, most: u64) -> Option<u64>
+    requires { is_number token.now ≡ true }
+    ensures { result ≡ number_within least most (number_of token.now) }
+{
+    match read_number(token) {
+        Ok(value) => {
+            if least <= value && value <= most {
+                Some(value)
+            } else {
+                None
+            }
+        }
+        Err(_) => None,
+    }
+}
+
+/// A width, where the number is one.
+#[tactic(auto, using(crate::proofs::Numbers::number_read))]
+pub fn width_of(token: &[u8]) -> Option<Width>
+    requires { is_number token.now ≡ true }
+    ensures { result ≡ number_within 1 64 (number_of token.now) }
+{
+    match read_number(token) {
+        Ok(value) => Width::new(value),
+        Err(_) => None,
+    }
+}

@@ -1,0 +1,6 @@
+pub mod FormLemmas
+pub mod InputLaws
+pub mod KeywordLaws
+pub mod OperationLaws
+pub mod ReadingLaws
+pub mod TimedLaws

@@ -1,0 +1,7 @@
+use Rattle.std.proofs.Common.{map, sym, ◌∙◌}
+use Rattle.flow_grammar.specs.Trees.{trees_of}
+use Rattle.flow_text.proofs.OperationLaws.{set_read}
+use Rattle.flow_text.proofs.operations.new_set.Goals as goal
+
+pub returns-in-Ok : goal.returns-in-Ok
+returns-in-Ok c = set_read c.args.tables.now c.is_known-known.result c.args.register.now c.in_ok-register.register (trees_of (map (λ t. t.now) c.args.expression.now)) c.in-Ok.tree c.set_to.result (sym c.is_identifier.ensures ∙ c.if-not-is_identifier.false) c.is_known-known.ensures c.in-Ok.ensures c.in_ok-register.ensures c.set_to.ensures

@@ -1,0 +1,31 @@
+-- The values of an input.
+use Rattle.std.specs.Prelude.{ℕ, ◌+◌, ◌-◌, ◌^◌, Bool, List, length, ◌&&◌, not, nat_le, if◌then◌else◌, Option, None, Some, Result, Ok, Err}
+use Rattle.std.specs.List.{list_all}
+use Rattle.flow_design.specs.declared.session.Statement.{Statement}
+use Rattle.flow_design.specs.declared.session.Statement.TheVariants.{Input}
+use Rattle.flow_grammar.specs.declared.fault.Code.{Code}
+use Rattle.flow_grammar.specs.declared.fault.Code.TheVariants.{Syntax, BadNumber, DoubleName, UnknownName, TooMany}
+use Rattle.flow_grammar.specs.Parts.{Name}
+use Rattle.flow_grammar.specs.Before.{is_among}
+use Rattle.name_tables.specs.declared.tables.Tables.{Tables}
+use Rattle.name_tables.specs.TableTests.{takes_inputs}
+
+-- a number is a word
+abbrev pub is_plain : ℕ → Bool
+is_plain n = nat_le 0 n && nat_le n (2 ^ 64 - 1)
+
+-- the numbers, where each of them is a word
+abbrev pub words_within : List ℕ → Option (List ℕ)
+words_within ns = if list_all is_plain ns then Some ns else None
+
+abbrev pub input_of_words : Tables → Name → Option (List ℕ) → Result Statement Code
+input_of_words t n None = Err BadNumber
+input_of_words t n (Some values) =
+    if is_among t.inputs n then Err DoubleName
+    else if not (is_among t.sources n) then Err UnknownName
+    else if nat_le (t.input_values + length values) 100000 then Ok (Input n values)
+    else Err TooMany
+
+-- what a name and its values give, where the values are words
+abbrev pub input_reading : Tables → Name → Option (List ℕ) → Result Statement Code
+input_reading t n words = if takes_inputs t.place then input_of_words t n words else Err Syntax

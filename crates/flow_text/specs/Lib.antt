@@ -1,0 +1,5 @@
+pub mod Inputs
+pub mod Keywords
+pub mod Lines
+pub mod Operations
+pub mod Progress

@@ -1,0 +1,123 @@
+-- Operations while they are read: an expression or an operation, or the first test that it fails.
+use Rattle.std.specs.Prelude.{ℕ, Bool, true, false, [], ◌∷◌, ◌&&◌, not, nat_lt, if◌then◌else◌, Option, None, Some, Result, Ok, Err}
+use Rattle.std.specs.List.{list_all}
+use Rattle.flow_design.specs.declared.expr.Expr.{Expr}
+use Rattle.flow_design.specs.declared.expr.Op.{Op}
+use Rattle.flow_design.specs.declared.expr.Op.TheVariants as op
+use Rattle.flow_design.specs.declared.session.Statement.{Statement}
+use Rattle.flow_design.specs.declared.session.Statement.TheVariants.{At}
+use Rattle.flow_grammar.specs.declared.fault.Code.{Code}
+use Rattle.flow_grammar.specs.declared.fault.Code.TheVariants.{Syntax, BadNumber, UnknownName, TooMany}
+use Rattle.flow_grammar.specs.declared.operand.Operand.{Operand}
+use Rattle.flow_grammar.specs.declared.operand.Operand.TheVariants.{Whole, Faulty}
+use Rattle.flow_grammar.specs.Parts.{Name, expr_parts, op_parts, AVariable}
+use Rattle.flow_grammar.specs.Before.{is_among}
+use Rattle.flow_grammar.specs.Rules.{is_in_range, is_small, has_small_trees}
+use Rattle.flow_grammar.specs.Operands.{is_known_by, earlier}
+use Rattle.flow_grammar.specs.Trees.{Trees}
+use Rattle.name_tables.specs.declared.tables.Tables.{Tables}
+use Rattle.name_tables.specs.TableTests.{named, is_known, takes_operations}
+
+-- the first of three tests that fails, or what passes them
+abbrev pub tested : {A : Type 0} → Bool → Bool → Bool → A → Result A Code
+tested ranged known small x = if not ranged then Err BadNumber else if not known then Err UnknownName else if not small then Err TooMany else Ok x
+
+-- the registers and temps
+abbrev pub is_variable : Tables → Name → Bool
+is_variable t n = is_among (named t AVariable) n
+
+-- an expression beside names, of which it is told whether they are known
+unfoldable pub tree_judged : Tables → Bool → Expr Name → Result (Expr Name) Code
+tree_judged t known e = tested (list_all is_in_range (expr_parts e)) (known && list_all (is_known_by (is_variable t)) (expr_parts e)) (is_small e) e
+
+-- two expressions beside such names
+unfoldable pub trees_judged : Tables → Bool → Expr Name → Expr Name → Result (Expr Name × Expr Name) Code
+trees_judged t known e f =
+    tested (list_all is_in_range (expr_parts e) && list_all is_in_range (expr_parts f)) (known && (list_all (is_known_by (is_variable t)) (expr_parts e) && list_all (is_known_by (is_variable t)) (expr_parts f))) (is_small e && is_small f) (e, f)
+
+-- an operation
+unfoldable pub op_judged : Tables → Op Name → Result (Op Name) Code
+op_judged t o = tested (list_all is_in_range (op_parts o)) (list_all (is_known t) (op_parts o)) (has_small_trees o) o
+
+-- ---- what tokens give, where they write one of these
+
+abbrev pub tree_reading : Tables → Bool → Option Trees → Result (Result (Expr Name) Code) Code
+tree_reading t known (Some (e ∷ [])) = Ok (tree_judged t known e)
+tree_reading t known trees = Err Syntax
+
+abbrev pub trees_reading : Tables → Bool → Option Trees → Result (Result (Expr Name × Expr Name) Code) Code
+trees_reading t known (Some (e ∷ f ∷ [])) = Ok (trees_judged t known e f)
+trees_reading t known trees = Err Syntax
+
+abbrev pub op_reading : Tables → Option (Op Name) → Result (Result (Op Name) Code) Code
+op_reading t None = Err Syntax
+op_reading t (Some o) = Ok (op_judged t o)
+
+-- ---- an operand as it is kept
+
+-- the first failed test, where names beside it are known or not, and there is room or not
+abbrev pub first_code : Bool → Bool → Code → Code
+first_code known room BadNumber = BadNumber
+first_code false room c = UnknownName
+first_code true room UnknownName = UnknownName
+first_code true false c = TooMany
+first_code true true c = c
+
+abbrev pub tree_kept : Bool → Operand → Result (Expr Name) Code
+tree_kept known (Faulty c) = Err (first_code known true c)
+tree_kept true (Whole e n d) = Ok e
+tree_kept false (Whole e n d) = Err UnknownName
+
+abbrev pub trees_kept : Result (Expr Name) Code → Result (Expr Name) Code → Result (Expr Name × Expr Name) Code
+trees_kept (Ok e) (Ok f) = Ok (e, f)
+trees_kept (Ok e) (Err c) = Err c
+trees_kept (Err c) (Ok f) = Err c
+trees_kept (Err c) (Err d) = Err (earlier c d)
+
+-- what is made of an expression that passed
+abbrev pub with_tree : {A B : Type 0} → (A → B) → Result A Code → Result B Code
+with_tree f (Err c) = Err c
+with_tree f (Ok x) = Ok (f x)
+
+abbrev pub made : {A B : Type 0} → (A → B) → Result (Result A Code) Code → Result (Result B Code) Code
+made f (Err c) = Err c
+made f (Ok r) = Ok (with_tree f r)
+
+abbrev pub store_op : Name → Expr Name × Expr Name → Op Name
+store_op m p = op.Store m p.0 p.1
+
+-- an operation on names alone
+abbrev pub named_op : Bool → Op Name → Result (Op Name) Code
+named_op known o = if known then Ok o else Err UnknownName
+
+-- ---- an operation with its offset and guard
+
+-- the first test that fails of whether it may stand here, its offset, its names, and room for it
+abbrev pub op_there : Bool → ℕ → Option Name → Bool → Result (Op Name) Code → Result Statement Code
+op_there room off guard known (Err c) = Err (first_code known room c)
+op_there room off guard false (Ok o) = Err UnknownName
+op_there true off guard true (Ok o) = Ok (At off guard o)
+op_there false off guard true (Ok o) = Err TooMany
+
+abbrev pub op_at : Bool → Option ℕ → Option Name → Bool → Result (Op Name) Code → Result Statement Code
+op_at room None guard known o = Err BadNumber
+op_at room (Some off) guard known o = op_there room off guard known o
+
+abbrev pub timed_by : Bool → Bool → Option ℕ → Option Name → Bool → Result (Op Name) Code → Result Statement Code
+timed_by here room off guard known o = if here then op_at room off guard known o else Err Syntax
+
+-- the offset, where what stands beside a whole operation passes
+abbrev pub offset_there : Bool → Bool → Option ℕ → Bool → Result ℕ Code
+offset_there false room off known = Err Syntax
+offset_there true room None known = Err BadNumber
+offset_there true room (Some off) false = Err UnknownName
+offset_there true true (Some off) true = Ok off
+offset_there true false (Some off) true = Err TooMany
+
+-- what an offset, a guard that is known or not, and an operation give
+abbrev pub timed_reading : Tables → Option ℕ → Option Name → Bool → Result (Op Name) Code → Result Statement Code
+timed_reading t off guard known o = timed_by (takes_operations t.place) (nat_lt t.operations 1024) off guard known o
+
+abbrev pub guard_known : Tables → Option Name → Bool
+guard_known t None = true
+guard_known t (Some r) = is_variable t r

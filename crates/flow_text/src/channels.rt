@@ -1,0 +1,167 @@
+//! The forms of channels.
+ghost use Rattle.std.specs.Prelude.{◌≡◌, map, ◌&&◌, IfOk};
+ghost use Rattle.flow_design.specs.declared.session.Statement.TheVariants.{Source, Sink, Fifo};
+ghost use Rattle.flow_grammar.specs.Tokens.{is_number, is_name, number_of};
+ghost use Rattle.flow_grammar.specs.Forms.{only_if, name_width, fifo_of};
+ghost use Rattle.flow_grammar.specs.Gives.{LineGives};
+ghost use Rattle.name_tables.specs.TablesOf.{accepted, IsOfStatements};
+ghost use Rattle.name_tables.specs.TableTests.{reading_by};
+
+use flow_design::{Name, Statement};
+use flow_grammar::{Code, LineFail, is_identifier, is_numeral, number_in, width_of};
+use name_tables::Tables;
+use std::alloc::Global;
+
+/// The source of this name and width.
+#[tactic(auto, unfolding(name_tables::specs::TableTests::fault_by))]
+fn new_source<'a>(
+    alloc: Global,
+    tables: &mut Tables<'a>,
+    name: &'a [u8],
+    width: &[u8],
+) -> Result<Statement, LineFail>
+    requires { IsOfStatements tables.old }
+    ensures given { LineGives (λ s. s) result (reading_by tables.old (only_if (is_name name.now && is_number width.now) (Source name.now (number_of width.now)))) }
+    ensures kept { IfOk result (λ s. tables.new ≡ accepted tables.old s) }
+{
+    if !tables.place.takes_channels() || !is_identifier(name) || !is_numeral(width) {
+        return Err(LineFail::Fault(Code::Syntax));
+    }
+    let Some(width) = width_of(width) else {
+        return Err(LineFail::Fault(Code::BadNumber));
+    };
+    if tables.channels.has(name) {
+        return Err(LineFail::Fault(Code::DoubleName));
+    }
+    if tables.channels.len() >= 256 {
+        return Err(LineFail::Fault(Code::TooMany));
+    }
+    tables.add_source(name)?;
+    Ok(Statement::Source(Name::new(alloc, name)?, width))
+}
+
+/// `source N W`, behind its keyword.
+pub fn source<'a>(
+    alloc: Global,
+    tables: &mut Tables<'a>,
+    tokens: &[&'a [u8]],
+) -> Result<Statement, LineFail>
+    requires { IsOfStatements tables.old }
+    ensures given { LineGives (λ s. s) result (reading_by tables.old (name_width Source (map (λ t. t.now) tokens.now))) }
+    ensures kept { IfOk result (λ s. tables.new ≡ accepted tables.old s) }
+{
+    match tokens {
+        [name, width] => new_source(alloc, tables, *name, *width),
+        _ => Err(LineFail::Fault(Code::Syntax)),
+    }
+}
+
+/// The sink of this name and width.
+#[tactic(auto, unfolding(name_tables::specs::TableTests::fault_by))]
+fn new_sink<'a>(
+    alloc: Global,
+    tables: &mut Tables<'a>,
+    name: &'a [u8],
+    width: &[u8],
+) -> Result<Statement, LineFail>
+    ensures given { LineGives (λ s. s) result (reading_by tables.old (only_if (is_name name.now && is_number width.now) (Sink name.now (number_of width.now)))) }
+    ensures kept { IfOk result (λ s. tables.new ≡ accepted tables.old s) }
+{
+    if !tables.place.takes_channels() || !is_identifier(name) || !is_numeral(width) {
+        return Err(LineFail::Fault(Code::Syntax));
+    }
+    let Some(width) = width_of(width) else {
+        return Err(LineFail::Fault(Code::BadNumber));
+    };
+    if tables.channels.has(name) {
+        return Err(LineFail::Fault(Code::DoubleName));
+    }
+    if tables.channels.len() >= 256 {
+        return Err(LineFail::Fault(Code::TooMany));
+    }
+    tables.add_sink(name)?;
+    Ok(Statement::Sink(Name::new(alloc, name)?, width))
+}
+
+/// `sink N W`, behind its keyword.
+pub fn sink<'a>(
+    alloc: Global,
+    tables: &mut Tables<'a>,
+    tokens: &[&'a [u8]],
+) -> Result<Statement, LineFail>
+    ensures given { LineGives (λ s. s) result (reading_by tables.old (name_width Sink (map (λ t. t.now) tokens.now))) }
+    ensures kept { IfOk result (λ s. tables.new ≡ accepted tables.old s) }
+{
+    match tokens {
+        [name, width] => new_sink(alloc, tables, *name, *width),
+        _ => Err(LineFail::Fault(Code::Syntax)),
+    }
+}
+
+/// The FIFO of this name, width and depth.
+#[tactic(auto, unfolding(name_tables::specs::TableTests::fault_by))]
+fn new_fifo<'a>(
+    alloc: Global,
+    tables: &mut Tables<'a>,
+    name: &'a [u8],
+    width: &[u8],
+    depth: &[u8],
+) -> Result<Statement, LineFail>
+    requires { IsOfStatements tables.old }
+    ensures given { LineGives (λ s. s) result (reading_by tables.old (only_if (is_name name.now && (is_number width.now && is_number depth.now)) (Fifo name.now (number_of width.now) (number_of depth.now)))) }
+    ensures kept { IfOk result (λ s. tables.new ≡ accepted tables.old s) }
+{
+    if !tables.place.takes_channels() {
+        return Err(LineFail::Fault(Code::Syntax));
+    }
+    if !is_identifier(name) || !is_numeral(width) || !is_numeral(depth) {
+        return Err(LineFail::Fault(Code::Syntax));
+    }
+    let Some(width) = width_of(width) else {
+        return Err(LineFail::Fault(Code::BadNumber));
+    };
+    let Some(depth) = number_in(depth, 1, 1_000_000) else {
+        return Err(LineFail::Fault(Code::BadNumber));
+    };
+    if tables.channels.has(name) {
+        return Err(LineFail::Fault(Code::DoubleName));
+    }
+    if tables.channels.len() >= 256 {
+        return Err(LineFail::Fault(Code::TooMany));
+    }
+    tables.add_fifo(name)?;
+    Ok(Statement::Fifo(Name::new(alloc, name)?, width, depth))
+}
+
+/// The FIFO of this name and width, of depth 2.
+#[tactic(auto, using(crate::proofs::FormLemmas::default_depth))]
+fn new_short_fifo<'a>(
+    alloc: Global,
+    tables: &mut Tables<'a>,
+    name: &'a [u8],
+    width: &[u8],
+) -> Result<Statement, LineFail>
+    requires { IsOfStatements tables.old }
+    ensures given { LineGives (λ s. s) result (reading_by tables.old (only_if (is_name name.now && is_number width.now) (Fifo name.now (number_of width.now) 2))) }
+    ensures kept { IfOk result (λ s. tables.new ≡ accepted tables.old s) }
+{
+    new_fifo(alloc, tables, name, width, b"2")
+}
+
+/// `fifo N W` or `fifo N W DEPTH`, behind its keyword. Without a depth it is 2.
+#[tactic(auto, unfolding(flow_grammar::specs::Forms::fifo_of))]
+pub fn fifo<'a>(
+    alloc: Global,
+    tables: &mut Tables<'a>,
+    tokens: &[&'a [u8]],
+) -> Result<Statement, LineFail>
+    requires { IsOfStatements tables.old }
+    ensures given { LineGives (λ s. s) result (reading_by tables.old (fifo_of (map (λ t. t.now) tokens.now))) }
+    ensures kept { IfOk result (λ s. tables.new ≡ accepted tables.old s) }
+{
+    match tokens {
+        [name, width] => new_short_fifo(alloc, tables, *name, *width),
+        [name, width, depth] => new_fifo(alloc, tables, *name, *width, *depth),
+        _ => Err(LineFail::Fault(Code::Syntax)),
+    }
+}

@@ -1,0 +1,132 @@
+//! The form of `input`.
+ghost use Rattle.std.specs.Prelude.{◌≡◌, true, map, ◌&&◌, IfOk, Some};
+ghost use Rattle.std.specs.List.{list_all};
+ghost use Rattle.flow_design.specs.declared.session.Statement.TheVariants.{Input};
+ghost use Rattle.flow_grammar.specs.Tokens.{is_number, is_name, number_of};
+ghost use Rattle.flow_grammar.specs.Forms.{only_if, input_of};
+ghost use Rattle.flow_grammar.specs.Gives.{LineGives};
+ghost use Rattle.flow_text.specs.Inputs.{words_within, input_reading};
+ghost use Rattle.name_tables.specs.TablesOf.{accepted};
+ghost use Rattle.name_tables.specs.TableTests.{reading_by};
+
+use flow_design::{Name, Statement};
+use flow_grammar::{Code, LineFail, is_identifier, is_numeral, number_in};
+use flow_word::{List, OutOfMemory, Words};
+use name_tables::Tables;
+use std::alloc::Global;
+
+/// Whether all tokens are numbers.
+fn are_numerals(tokens: &[&[u8]]) -> bool
+    ensures { result ≡ list_all is_number (map (λ t. t.now) tokens.now) }
+{
+    let mut at = 0usize;
+    while at < tokens.len() {
+        if !is_numeral(tokens[at]) {
+            return false;
+        }
+        at += 1;
+    }
+    true
+}
+
+/// The numbers that tokens are, or `None` where one of them is too large for a word.
+fn words_in(alloc: Global, tokens: &[&[u8]]) -> Result<Option<Words>, OutOfMemory>
+    requires { list_all is_number (map (λ t. t.now) tokens.now) ≡ true }
+    ensures { IfOk result (λ words. words ≡ words_within (map number_of (map (λ t. t.now) tokens.now))) }
+{
+    let mut words = List::with_room(alloc, tokens.len() as u64)?;
+    let mut at = 0usize;
+    while at < tokens.len() {
+        let Some(word) = number_in(tokens[at], 0, u64::MAX) else {
+            return Ok(None);
+        };
+        words.push(word)?;
+        at += 1;
+    }
+    Ok(Some(words))
+}
+
+/// The input of this source, where its values are words.
+fn given_input<'a>(
+    alloc: Global,
+    tables: &mut Tables<'a>,
+    name: &'a [u8],
+    words: Words,
+) -> Result<Statement, LineFail>
+    ensures given { LineGives (λ s. s) result (input_reading tables.old name.now (Some words)) }
+    ensures kept { IfOk result (λ s. tables.new ≡ accepted tables.old s) }
+{
+    if !tables.place.takes_inputs() {
+        return Err(LineFail::Fault(Code::Syntax));
+    }
+    if tables.inputs.has(name) {
+        return Err(LineFail::Fault(Code::DoubleName));
+    }
+    if !tables.sources.has(name) {
+        return Err(LineFail::Fault(Code::UnknownName));
+    }
+    let count = words.len();
+    if count > 100_000 || tables.input_values > 100_000 - count {
+        return Err(LineFail::Fault(Code::TooMany));
+    }
+    tables.add_input(name, count)?;
+    Ok(Statement::Input(Name::new(alloc, name)?, words))
+}
+
+/// The input of this source, or its first failed test where its values may be no words.
+fn kept_input<'a>(
+    alloc: Global,
+    tables: &mut Tables<'a>,
+    name: &'a [u8],
+    words: Option<Words>,
+) -> Result<Statement, LineFail>
+    ensures given { LineGives (λ s. s) result (input_reading tables.old name.now words) }
+    ensures kept { IfOk result (λ s. tables.new ≡ accepted tables.old s) }
+{
+    match words {
+        Some(words) => given_input(alloc, tables, name, words),
+        None => {
+            if tables.place.takes_inputs() {
+                Err(LineFail::Fault(Code::BadNumber))
+            } else {
+                Err(LineFail::Fault(Code::Syntax))
+            }
+        }
+    }
+}
+
+/// The input of this source, with these values.
+fn new_input<'a>(
+    alloc: Global,
+    tables: &mut Tables<'a>,
+    name: &'a [u8],
+    values: &[&[u8]],
+) -> Result<Statement, LineFail>
+    ensures given { LineGives (λ s. s) result (reading_by tables.old (only_if (is_name name.now && list_all is_number (map (λ t. t.now) values.now)) (Input name.now (map number_of (map (λ t. t.now) values.now))))) }
+    ensures kept { IfOk result (λ s. tables.new ≡ accepted tables.old s) }
+{
+    if !is_identifier(name) {
+        return Err(LineFail::Fault(Code::Syntax));
+    }
+    if !are_numerals(values) {
+        return Err(LineFail::Fault(Code::Syntax));
+    }
+    let words = words_in(alloc, values)?;
+    kept_input(alloc, tables, name, words)
+}
+
+/// `input N V V V`, with any number of values, behind its keyword.
+#[tactic(auto, unfolding(flow_grammar::specs::Forms::input_of))]
+pub fn input<'a>(
+    alloc: Global,
+    tables: &mut Tables<'a>,
+    tokens: &[&'a [u8]],
+) -> Result<Statement, LineFail>
+    ensures given { LineGives (λ s. s) result (reading_by tables.old (input_of (map (λ t. t.now) tokens.now))) }
+    ensures kept { IfOk result (λ s. tables.new ≡ accepted tables.old s) }
+{
+    match tokens {
+        [name, values @ ..] => new_input(alloc, tables, *name, values),
+        _ => Err(LineFail::Fault(Code::Syntax)),
+    }
+}

@@ -1,0 +1,123 @@
+//! One line.
+ghost use Rattle.std.specs.Prelude.{◌≡◌, ◌∷◌, map, IfOk, Ok};
+ghost use Rattle.std.specs.List.{list_all};
+ghost use Rattle.flow_grammar.specs.Tokens.{is_permitted};
+ghost use Rattle.flow_grammar.specs.Forms.{statement_of};
+ghost use Rattle.flow_grammar.specs.Gives.{LineGives};
+ghost use Rattle.flow_text.specs.Keywords.{form_of};
+ghost use Rattle.flow_text.specs.Lines.{line_reading_by, tokens_reading_by, accepted_if};
+ghost use Rattle.name_tables.specs.TablesOf.{accepted, IsOfStatements};
+ghost use Rattle.name_tables.specs.TableTests.{reading_by};
+
+use crate::channels::{fifo, sink, source};
+use crate::ends::{branch, edit, end, flow, goto, limits, stop};
+use crate::inputs::input;
+use crate::keyword::{Keyword, keyword_in};
+use crate::modules::{block, memory, module, pipelined_loop, register, temp};
+use crate::timed::at;
+use flow_design::Statement;
+use flow_grammar::{Code, LineFail, tokens_in};
+use name_tables::Tables;
+use std::alloc::Global;
+
+/// The statement of a keyword, behind that keyword.
+fn form<'a>(
+    alloc: Global,
+    tables: &mut Tables<'a>,
+    keyword: Keyword,
+    tokens: &[&'a [u8]],
+) -> Result<Statement, LineFail>
+    requires { IsOfStatements tables.old }
+    ensures given { LineGives (λ s. s) result (reading_by tables.old (form_of keyword (map (λ t. t.now) tokens.now))) }
+    ensures kept { IfOk result (λ s. tables.new ≡ accepted tables.old s) }
+{
+    match keyword {
+        Keyword::Flow => flow(tables, tokens),
+        Keyword::Source => source(alloc, tables, tokens),
+        Keyword::Sink => sink(alloc, tables, tokens),
+        Keyword::Fifo => fifo(alloc, tables, tokens),
+        Keyword::Module => module(alloc, tables, tokens),
+        Keyword::Reg => register(alloc, tables, tokens),
+        Keyword::Mem => memory(alloc, tables, tokens),
+        Keyword::Block => block(alloc, tables, tokens),
+        Keyword::Loop => pipelined_loop(alloc, tables, tokens),
+        Keyword::Temp => temp(alloc, tables, tokens),
+        Keyword::At => at(alloc, tables, tokens),
+        Keyword::Goto => goto(alloc, tables, tokens),
+        Keyword::Branch => branch(alloc, tables, tokens),
+        Keyword::Stop => stop(tables, tokens),
+        Keyword::Input => input(alloc, tables, tokens),
+        Keyword::Limits => limits(tables, tokens),
+        Keyword::Depth => edit(alloc, tables, tokens),
+        Keyword::End => end(tables, tokens),
+    }
+}
+
+/// The statement that a keyword and the tokens behind it write.
+fn statement_behind<'a>(
+    alloc: Global,
+    tables: &mut Tables<'a>,
+    keyword: &[u8],
+    rest: &[&'a [u8]],
+) -> Result<Statement, LineFail>
+    requires { IsOfStatements tables.old }
+    ensures given { LineGives (λ s. s) result (reading_by tables.old (statement_of (keyword.now ∷ map (λ t. t.now) rest.now))) }
+    ensures kept { IfOk result (λ s. tables.new ≡ accepted tables.old s) }
+{
+    match keyword_in(keyword) {
+        Some(keyword) => form(alloc, tables, keyword, rest),
+        None => Err(LineFail::Fault(Code::Syntax)),
+    }
+}
+
+/// What the tokens of a line say: nothing where there is none, else the statement that they write.
+#[tactic(auto, unfolding(crate::specs::Lines::tokens_reading_by))]
+fn said<'a>(
+    alloc: Global,
+    tables: &mut Tables<'a>,
+    tokens: &[&'a [u8]],
+) -> Result<Option<Statement>, LineFail>
+    requires { IsOfStatements tables.old }
+    ensures given { LineGives (λ s. s) result (tokens_reading_by tables.old (map (λ t. t.now) tokens.now)) }
+    ensures kept { IfOk result (λ s. tables.new ≡ accepted_if tables.old s) }
+{
+    match tokens {
+        [keyword, rest @ ..] => match statement_behind(alloc, tables, *keyword, rest) {
+            Ok(statement) => Ok(Some(statement)),
+            Err(fail) => Err(fail),
+        },
+        _ => Ok(None),
+    }
+}
+
+/// Whether all bytes of a line are permitted.
+fn are_permitted(line: &[u8]) -> bool
+    ensures { result ≡ list_all is_permitted line.now }
+{
+    line.iter().all(|byte| is_permitted(*byte))
+}
+
+/// Whether a byte may stand in a line.
+fn is_permitted(byte: u8) -> bool
+    ensures { result ≡ is_permitted byte }
+{
+    byte == 9 || (byte == 13 || (32 <= byte && byte <= 126))
+}
+
+/// What a line says behind the statements of the tables, which then have its statement too.
+#[tactic(auto, unfolding(crate::specs::Lines::line_reading_by))]
+pub fn line_statement<'a>(
+    alloc: Global,
+    tables: &mut Tables<'a>,
+    line: &'a [u8],
+) -> Result<Option<Statement>, LineFail>
+    requires { IsOfStatements tables.old }
+    ensures given { LineGives (λ s. s) result (line_reading_by tables.old line.now) }
+    ensures kept { IfOk result (λ s. tables.new ≡ accepted_if tables.old s) }
+{
+    if !are_permitted(line) {
+        return Err(LineFail::Fault(Code::NotAscii));
+    }
+    let tokens = tokens_in(alloc, line)?;
+    said(alloc, tables, tokens.as_slice())
+}

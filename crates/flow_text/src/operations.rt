@@ -1,0 +1,495 @@
+//! The forms of operations.
+ghost use Rattle.std.specs.Prelude.{◌≡◌, map, ◌&&◌, option_map};
+ghost use Rattle.flow_design.specs.declared.expr.Op.TheVariants as op;
+ghost use Rattle.flow_grammar.specs.Tokens.{is_name};
+ghost use Rattle.flow_grammar.specs.Operands as grammar;
+ghost use Rattle.flow_grammar.specs.Before.{is_among};
+ghost use Rattle.flow_grammar.specs.Trees.{trees_of};
+ghost use Rattle.flow_grammar.specs.Forms.{only_if, if_then, one_tree, two_trees, set_of, load_of, store_of, write_of, two_names, try_read_of, try_write_of};
+ghost use Rattle.flow_grammar.specs.Gives.{LineGives};
+ghost use Rattle.flow_text.specs.Operations.{tree_reading, trees_reading, op_reading, tree_kept, trees_kept, with_tree, store_op, is_variable};
+
+use flow_design::{Expr, Name, Op};
+use flow_grammar::{Code, Known, LineFail, Operand, is_identifier, one_operand, two_operands};
+use name_tables::Tables;
+use std::alloc::Global;
+
+/// The earlier of two tests that expressions may fail.
+#[tactic(auto, unfolding(flow_grammar::specs::Operands::earlier))]
+fn earlier_test(a: Code, b: Code) -> Code
+    ensures { result ≡ grammar.earlier a b }
+{
+    match (a, b) {
+        (Code::BadNumber, _) => Code::BadNumber,
+        (Code::UnknownName, Code::BadNumber) => Code::BadNumber,
+        (Code::UnknownName, _) => Code::UnknownName,
+        _ => b,
+    }
+}
+
+/// The expression of an operand beside names that are known or not, or the first test that fails.
+fn tree_of(known: bool, operand: Operand) -> Result<Expr<Name>, Code>
+    ensures { result ≡ tree_kept known operand }
+{
+    match operand {
+        Operand::Faulty(Code::BadNumber) => Err(Code::BadNumber),
+        Operand::Faulty(code) => {
+            if known {
+                Err(code)
+            } else {
+                Err(Code::UnknownName)
+            }
+        }
+        Operand::Whole { tree, .. } => {
+            if known {
+                Ok(tree)
+            } else {
+                Err(Code::UnknownName)
+            }
+        }
+    }
+}
+
+/// Two expressions, or the first test that they fail.
+fn both(
+    first: Result<Expr<Name>, Code>,
+    second: Result<Expr<Name>, Code>,
+) -> Result<(Expr<Name>, Expr<Name>), Code>
+    ensures { result ≡ trees_kept first second }
+{
+    match first {
+        Ok(a) => match second {
+            Ok(b) => Ok((a, b)),
+            Err(code) => Err(code),
+        },
+        Err(code) => match second {
+            Ok(_) => Err(code),
+            Err(other) => Err(earlier_test(code, other)),
+        },
+    }
+}
+
+/// The one expression that tokens write, beside names that are known or not, or the first test that fails.
+fn tree(
+    alloc: Global,
+    tables: &Tables<'_>,
+    known: bool,
+    tokens: &[&[u8]],
+) -> Result<Result<Expr<Name>, Code>, LineFail>
+    ensures { LineGives (λ r. r) result (tree_reading tables.now known (trees_of (map (λ t. t.now) tokens.now))) }
+{
+    match one_operand(alloc, tables, tokens) {
+        Ok(operand) => Ok(tree_of(known, operand)),
+        Err(fail) => Err(fail),
+    }
+}
+
+/// The two expressions that tokens write, beside a name that is known or not, or the first test that fails.
+fn trees(
+    alloc: Global,
+    tables: &Tables<'_>,
+    known: bool,
+    tokens: &[&[u8]],
+) -> Result<Result<(Expr<Name>, Expr<Name>), Code>, LineFail>
+    ensures { LineGives (λ r. r) result (trees_reading tables.now known (trees_of (map (λ t. t.now) tokens.now))) }
+{
+    match two_operands(alloc, tables, tokens) {
+        Ok((first, second)) => Ok(both(tree_of(known, first), tree_of(true, second))),
+        Err(fail) => Err(fail),
+    }
+}
+
+/// The assignment of an expression that passed.
+fn set_to(register: Name, tree: Result<Expr<Name>, Code>) -> Result<Op<Name>, Code>
+    ensures { result ≡ with_tree (op.Set register) tree }
+{
+    match tree {
+        Ok(tree) => Ok(Op::Set(register, tree)),
+        Err(code) => Err(code),
+    }
+}
+
+/// An assignment to this variable.
+
+fn new_set(
+    alloc: Global,
+    tables: &Tables<'_>,
+    register: &[u8],
+    expression: &[&[u8]],
+) -> Result<Result<Op<Name>, Code>, LineFail>
+    ensures { LineGives (λ o. o) result (op_reading tables.now (if_then (is_name register.now) (option_map (op.Set register.now) (one_tree (trees_of (map (λ t. t.now) expression.now)))))) }
+{
+    if !is_identifier(register) {
+        return Err(LineFail::Fault(Code::Syntax));
+    }
+    let known = tables.is_known(register);
+    let register = Name::new(alloc, register)?;
+    match tree(alloc, tables, known, expression) {
+        Ok(tree) => Ok(set_to(register, tree)),
+        Err(fail) => Err(fail),
+    }
+}
+
+/// `set R E`, behind its keyword.
+pub fn set(
+    alloc: Global,
+    tables: &Tables<'_>,
+    tokens: &[&[u8]],
+) -> Result<Result<Op<Name>, Code>, LineFail>
+    ensures { LineGives (λ o. o) result (op_reading tables.now (set_of (map (λ t. t.now) tokens.now))) }
+{
+    match tokens {
+        [register, expression @ ..] => new_set(alloc, tables, *register, expression),
+        _ => Err(LineFail::Fault(Code::Syntax)),
+    }
+}
+
+/// Whether these are a variable and a memory.
+fn knows_load(tables: &Tables<'_>, register: &[u8], memory: &[u8]) -> bool
+    ensures { result ≡ (is_variable tables.now register.now && is_among tables.now.memories memory.now) }
+{
+    tables.is_known(register) && tables.memories.has(memory)
+}
+
+/// The load from an expression that passed.
+fn load_from(register: Name, memory: Name, tree: Result<Expr<Name>, Code>) -> Result<Op<Name>, Code>
+    ensures { result ≡ with_tree (op.Load register memory) tree }
+{
+    match tree {
+        Ok(tree) => Ok(Op::Load(register, memory, tree)),
+        Err(code) => Err(code),
+    }
+}
+
+/// A load to this variable from this memory.
+
+fn new_load(
+    alloc: Global,
+    tables: &Tables<'_>,
+    register: &[u8],
+    memory: &[u8],
+    expression: &[&[u8]],
+) -> Result<Result<Op<Name>, Code>, LineFail>
+    ensures { LineGives (λ o. o) result (op_reading tables.now (if_then (is_name register.now && is_name memory.now) (option_map (op.Load register.now memory.now) (one_tree (trees_of (map (λ t. t.now) expression.now)))))) }
+{
+    if !is_identifier(register) || !is_identifier(memory) {
+        return Err(LineFail::Fault(Code::Syntax));
+    }
+    let known = knows_load(tables, register, memory);
+    let register = Name::new(alloc, register)?;
+    let memory = Name::new(alloc, memory)?;
+    match tree(alloc, tables, known, expression) {
+        Ok(tree) => Ok(load_from(register, memory, tree)),
+        Err(fail) => Err(fail),
+    }
+}
+
+/// `load R M E`, behind its keyword.
+pub fn load(
+    alloc: Global,
+    tables: &Tables<'_>,
+    tokens: &[&[u8]],
+) -> Result<Result<Op<Name>, Code>, LineFail>
+    ensures { LineGives (λ o. o) result (op_reading tables.now (load_of (map (λ t. t.now) tokens.now))) }
+{
+    match tokens {
+        [register, memory, expression @ ..] => new_load(
+            alloc, tables, *register, *memory, expression,
+        ),
+        _ => Err(LineFail::Fault(Code::Syntax)),
+    }
+}
+
+/// The store to and of expressions that passed.
+fn store_to(memory: Name, trees: Result<(Expr<Name>, Expr<Name>), Code>) -> Result<Op<Name>, Code>
+    ensures { result ≡ with_tree (store_op memory) trees }
+{
+    match trees {
+        Ok((place, value)) => Ok(Op::Store(memory, place, value)),
+        Err(code) => Err(code),
+    }
+}
+
+/// A store to this memory.
+
+fn new_store(
+    alloc: Global,
+    tables: &Tables<'_>,
+    memory: &[u8],
+    expressions: &[&[u8]],
+) -> Result<Result<Op<Name>, Code>, LineFail>
+    ensures { LineGives (λ o. o) result (op_reading tables.now (if_then (is_name memory.now) (two_trees (op.Store memory.now) (trees_of (map (λ t. t.now) expressions.now))))) }
+{
+    if !is_identifier(memory) {
+        return Err(LineFail::Fault(Code::Syntax));
+    }
+    let known = tables.memories.has(memory);
+    let memory = Name::new(alloc, memory)?;
+    match trees(alloc, tables, known, expressions) {
+        Ok(trees) => Ok(store_to(memory, trees)),
+        Err(fail) => Err(fail),
+    }
+}
+
+/// `store M E E`, behind its keyword.
+pub fn store(
+    alloc: Global,
+    tables: &Tables<'_>,
+    tokens: &[&[u8]],
+) -> Result<Result<Op<Name>, Code>, LineFail>
+    ensures { LineGives (λ o. o) result (op_reading tables.now (store_of (map (λ t. t.now) tokens.now))) }
+{
+    match tokens {
+        [memory, expressions @ ..] => new_store(alloc, tables, *memory, expressions),
+        _ => Err(LineFail::Fault(Code::Syntax)),
+    }
+}
+
+/// The write of an expression that passed.
+fn written(channel: Name, tree: Result<Expr<Name>, Code>) -> Result<Op<Name>, Code>
+    ensures { result ≡ with_tree (op.Write channel) tree }
+{
+    match tree {
+        Ok(tree) => Ok(Op::Write(channel, tree)),
+        Err(code) => Err(code),
+    }
+}
+
+/// A write to this channel.
+
+fn new_write(
+    alloc: Global,
+    tables: &Tables<'_>,
+    channel: &[u8],
+    expression: &[&[u8]],
+) -> Result<Result<Op<Name>, Code>, LineFail>
+    ensures { LineGives (λ o. o) result (op_reading tables.now (if_then (is_name channel.now) (option_map (op.Write channel.now) (one_tree (trees_of (map (λ t. t.now) expression.now)))))) }
+{
+    if !is_identifier(channel) {
+        return Err(LineFail::Fault(Code::Syntax));
+    }
+    let known = tables.channels.has(channel);
+    let channel = Name::new(alloc, channel)?;
+    match tree(alloc, tables, known, expression) {
+        Ok(tree) => Ok(written(channel, tree)),
+        Err(fail) => Err(fail),
+    }
+}
+
+/// `write F E`, behind its keyword.
+pub fn write(
+    alloc: Global,
+    tables: &Tables<'_>,
+    tokens: &[&[u8]],
+) -> Result<Result<Op<Name>, Code>, LineFail>
+    ensures { LineGives (λ o. o) result (op_reading tables.now (write_of (map (λ t. t.now) tokens.now))) }
+{
+    match tokens {
+        [channel, expression @ ..] => new_write(alloc, tables, *channel, expression),
+        _ => Err(LineFail::Fault(Code::Syntax)),
+    }
+}
+
+/// Whether these are a channel and a variable.
+fn knows_outcome(tables: &Tables<'_>, channel: &[u8], outcome: &[u8]) -> bool
+    ensures { result ≡ (is_among tables.now.channels channel.now && is_variable tables.now outcome.now) }
+{
+    tables.channels.has(channel) && tables.is_known(outcome)
+}
+
+/// The write of an expression that passed, with its outcome.
+fn tried_write(
+    channel: Name,
+    outcome: Name,
+    tree: Result<Expr<Name>, Code>,
+) -> Result<Op<Name>, Code>
+    ensures { result ≡ with_tree (op.TryWrite channel outcome) tree }
+{
+    match tree {
+        Ok(tree) => Ok(Op::TryWrite(channel, outcome, tree)),
+        Err(code) => Err(code),
+    }
+}
+
+/// A write to this channel where it is not full, with the outcome in this variable.
+
+fn new_try_write(
+    alloc: Global,
+    tables: &Tables<'_>,
+    channel: &[u8],
+    outcome: &[u8],
+    expression: &[&[u8]],
+) -> Result<Result<Op<Name>, Code>, LineFail>
+    ensures { LineGives (λ o. o) result (op_reading tables.now (if_then (is_name channel.now && is_name outcome.now) (option_map (op.TryWrite channel.now outcome.now) (one_tree (trees_of (map (λ t. t.now) expression.now)))))) }
+{
+    if !is_identifier(channel) || !is_identifier(outcome) {
+        return Err(LineFail::Fault(Code::Syntax));
+    }
+    let known = knows_outcome(tables, channel, outcome);
+    let channel = Name::new(alloc, channel)?;
+    let outcome = Name::new(alloc, outcome)?;
+    match tree(alloc, tables, known, expression) {
+        Ok(tree) => Ok(tried_write(channel, outcome, tree)),
+        Err(fail) => Err(fail),
+    }
+}
+
+/// `trywrite F OK E`, behind its keyword.
+pub fn try_write(
+    alloc: Global,
+    tables: &Tables<'_>,
+    tokens: &[&[u8]],
+) -> Result<Result<Op<Name>, Code>, LineFail>
+    ensures { LineGives (λ o. o) result (op_reading tables.now (try_write_of (map (λ t. t.now) tokens.now))) }
+{
+    match tokens {
+        [channel, outcome, expression @ ..] => new_try_write(
+            alloc, tables, *channel, *outcome, expression,
+        ),
+        _ => Err(LineFail::Fault(Code::Syntax)),
+    }
+}
+
+/// A read of this channel to this variable.
+#[tactic(auto, using(crate::proofs::OperationLaws::read_is))]
+fn new_read(
+    alloc: Global,
+    tables: &Tables<'_>,
+    channel: &[u8],
+    register: &[u8],
+) -> Result<Result<Op<Name>, Code>, LineFail>
+    ensures { LineGives (λ o. o) result (op_reading tables.now (only_if (is_name channel.now && is_name register.now) (op.Read channel.now register.now))) }
+{
+    if !is_identifier(channel) || !is_identifier(register) {
+        return Err(LineFail::Fault(Code::Syntax));
+    }
+    let known = tables.channels.has(channel) && tables.is_known(register);
+    if !known {
+        return Ok(Err(Code::UnknownName));
+    }
+    let channel = Name::new(alloc, channel)?;
+    Ok(Ok(Op::Read(channel, Name::new(alloc, register)?)))
+}
+
+/// `read F R`, behind its keyword.
+pub fn read(
+    alloc: Global,
+    tables: &Tables<'_>,
+    tokens: &[&[u8]],
+) -> Result<Result<Op<Name>, Code>, LineFail>
+    ensures { LineGives (λ o. o) result (op_reading tables.now (two_names op.Read (map (λ t. t.now) tokens.now))) }
+{
+    match tokens {
+        [channel, register] => new_read(alloc, tables, *channel, *register),
+        _ => Err(LineFail::Fault(Code::Syntax)),
+    }
+}
+
+/// The test whether this channel is empty, to this variable.
+#[tactic(auto, using(crate::proofs::OperationLaws::empty_is))]
+fn new_empty(
+    alloc: Global,
+    tables: &Tables<'_>,
+    channel: &[u8],
+    register: &[u8],
+) -> Result<Result<Op<Name>, Code>, LineFail>
+    ensures { LineGives (λ o. o) result (op_reading tables.now (only_if (is_name channel.now && is_name register.now) (op.Empty channel.now register.now))) }
+{
+    if !is_identifier(channel) || !is_identifier(register) {
+        return Err(LineFail::Fault(Code::Syntax));
+    }
+    let known = tables.channels.has(channel) && tables.is_known(register);
+    if !known {
+        return Ok(Err(Code::UnknownName));
+    }
+    let channel = Name::new(alloc, channel)?;
+    Ok(Ok(Op::Empty(channel, Name::new(alloc, register)?)))
+}
+
+/// `empty F R`, behind its keyword.
+pub fn empty(
+    alloc: Global,
+    tables: &Tables<'_>,
+    tokens: &[&[u8]],
+) -> Result<Result<Op<Name>, Code>, LineFail>
+    ensures { LineGives (λ o. o) result (op_reading tables.now (two_names op.Empty (map (λ t. t.now) tokens.now))) }
+{
+    match tokens {
+        [channel, register] => new_empty(alloc, tables, *channel, *register),
+        _ => Err(LineFail::Fault(Code::Syntax)),
+    }
+}
+
+/// The test whether this channel is full, to this variable.
+#[tactic(auto, using(crate::proofs::OperationLaws::full_is))]
+fn new_full(
+    alloc: Global,
+    tables: &Tables<'_>,
+    channel: &[u8],
+    register: &[u8],
+) -> Result<Result<Op<Name>, Code>, LineFail>
+    ensures { LineGives (λ o. o) result (op_reading tables.now (only_if (is_name channel.now && is_name register.now) (op.Full channel.now register.now))) }
+{
+    if !is_identifier(channel) || !is_identifier(register) {
+        return Err(LineFail::Fault(Code::Syntax));
+    }
+    let known = tables.channels.has(channel) && tables.is_known(register);
+    if !known {
+        return Ok(Err(Code::UnknownName));
+    }
+    let channel = Name::new(alloc, channel)?;
+    Ok(Ok(Op::Full(channel, Name::new(alloc, register)?)))
+}
+
+/// `full F R`, behind its keyword.
+pub fn full(
+    alloc: Global,
+    tables: &Tables<'_>,
+    tokens: &[&[u8]],
+) -> Result<Result<Op<Name>, Code>, LineFail>
+    ensures { LineGives (λ o. o) result (op_reading tables.now (two_names op.Full (map (λ t. t.now) tokens.now))) }
+{
+    match tokens {
+        [channel, register] => new_full(alloc, tables, *channel, *register),
+        _ => Err(LineFail::Fault(Code::Syntax)),
+    }
+}
+
+/// A read of this channel to this variable where it is not empty, with the outcome in another.
+#[tactic(auto, using(crate::proofs::OperationLaws::try_read_is))]
+fn new_try_read(
+    alloc: Global,
+    tables: &Tables<'_>,
+    channel: &[u8],
+    register: &[u8],
+    outcome: &[u8],
+) -> Result<Result<Op<Name>, Code>, LineFail>
+    ensures { LineGives (λ o. o) result (op_reading tables.now (only_if (is_name channel.now && (is_name register.now && is_name outcome.now)) (op.TryRead channel.now register.now outcome.now))) }
+{
+    if !is_identifier(channel) || !is_identifier(register) || !is_identifier(outcome) {
+        return Err(LineFail::Fault(Code::Syntax));
+    }
+    let known = tables.channels.has(channel)
+        && tables.is_known(register)
+        && tables.is_known(outcome);
+    if !known {
+        return Ok(Err(Code::UnknownName));
+    }
+    let channel = Name::new(alloc, channel)?;
+    let register = Name::new(alloc, register)?;
+    Ok(Ok(Op::TryRead(channel, register, Name::new(alloc, outcome)?)))
+}
+
+/// `tryread F R OK`, behind its keyword.
+pub fn try_read(
+    alloc: Global,
+    tables: &Tables<'_>,
+    tokens: &[&[u8]],
+) -> Result<Result<Op<Name>, Code>, LineFail>
+    ensures { LineGives (λ o. o) result (op_reading tables.now (try_read_of (map (λ t. t.now) tokens.now))) }
+{
+    match tokens {
+        [channel, register, outcome] => new_try_read(alloc, tables, *channel, *register, *outcome),
+        _ => Err(LineFail::Fault(Code::Syntax)),
+    }
+}

@@ -1,0 +1,94 @@
+//! What is read of a session so far.
+ghost use Rattle.std.specs.Prelude.{◌≡◌, OnOk, IfOk, IfErr};
+ghost use Rattle.flow_grammar.specs.Gives.{TextGives, TextFails, at_line, line_reading, with_statement, with_number};
+ghost use Rattle.flow_text.specs.Lines.{line_reading_by, accepted_if};
+ghost use Rattle.flow_text.specs.Progress.{IsKept, IsOpening, IsAdded};
+ghost use Rattle.name_tables.specs.TablesOf.{IsOfStatements};
+
+use crate::lines::line_statement;
+use flow_design::Statement;
+use flow_grammar::{LineFail, ReadFail, TextFault};
+use flow_word::{List, OutOfMemory, Words};
+use name_tables::Tables;
+use std::alloc::Global;
+
+/// The statements so far, the number of each one's line, and what they declare.
+#[derive(Drop)]
+pub struct Progress<'a> {
+    pub tables: Tables<'a>,
+    pub statements: List<Statement>,
+    pub numbers: Words,
+}
+
+impl<'a> Progress<'a> {
+    /// Nothing.
+    pub fn new(alloc: Global) -> Progress<'a>
+        ensures { IsOpening result }
+    {
+        Progress {
+            tables: Tables::new(alloc),
+            statements: List::new(alloc),
+            numbers: List::new(alloc),
+        }
+    }
+}
+
+/// What a line says, with the line's number in a fault.
+fn numbered_statement<'a>(
+    alloc: Global,
+    tables: &mut Tables<'a>,
+    number: u64,
+    line: &'a [u8],
+) -> Result<Option<Statement>, ReadFail>
+    requires { IsOfStatements tables.old }
+    ensures given { TextGives (λ s. s) result (at_line number (line_reading_by tables.old line.now)) }
+    ensures kept { IfOk result (λ s. tables.new ≡ accepted_if tables.old s) }
+{
+    match line_statement(alloc, tables, line) {
+        Ok(statement) => Ok(statement),
+        Err(LineFail::OutOfMemory) => Err(ReadFail::OutOfMemory),
+        Err(LineFail::Fault(code)) => Err(ReadFail::Text(TextFault { line: number, code })),
+    }
+}
+
+/// Adds the statement of a line, if it has one.
+fn keep(
+    statements: &mut List<Statement>,
+    numbers: &mut Words,
+    number: u64,
+    statement: Option<Statement>,
+) -> Result<(), OutOfMemory>
+    ensures statements { OnOk result (statements.new ≡ with_statement statements.old statement) }
+    ensures numbers { OnOk result (numbers.new ≡ with_number numbers.old number statement) }
+{
+    if let Some(statement) = statement {
+        statements.push(statement)?;
+        numbers.push(number)?;
+    }
+    Ok(())
+}
+
+/// Reads the line with this number.
+pub fn read_line<'a>(
+    alloc: Global,
+    progress: &mut Progress<'a>,
+    number: u64,
+    line: &'a [u8],
+) -> Result<(), ReadFail>
+    requires { IsKept progress.old }
+    ensures ok { OnOk result (IsAdded progress.old progress.new number line.now) }
+    ensures err { IfErr result (λ fail. TextFails fail (at_line number (line_reading progress.old.statements line.now))) }
+{
+    match numbered_statement(alloc, &mut progress.tables, number, line) {
+        Ok(statement) => {
+            keep(
+                &mut progress.statements,
+                &mut progress.numbers,
+                number,
+                statement,
+            )?;
+            Ok(())
+        }
+        Err(fail) => Err(fail),
+    }
+}

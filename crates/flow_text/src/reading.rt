@@ -1,0 +1,128 @@
+//! Reading a text, line by line.
+ghost use Rattle.std.specs.Prelude.{◌≡◌, ◌≤◌, ◌+◌, [], ◌∷◌, length, position, IfOk, IfErr, Ok, Err, Result, ℕ, reverse, List as Items};
+ghost use Rattle.std.specs.Option.{option_copied};
+ghost use Rattle.flow_design.specs.declared.session.Statement.{Statement as StatementValue};
+ghost use Rattle.flow_grammar.specs.declared.fault.TextFault.{TextFault as FaultValue};
+ghost use Rattle.flow_grammar.specs.Tokens.{lines_of, is_line_feed};
+ghost use Rattle.flow_grammar.specs.Gives.{TextGives, TextFails, reading};
+ghost use Rattle.flow_grammar.specs.Text.{StandsFor, HasFault, IsAnswer, Answers, session_of};
+ghost use Rattle.flow_text.specs.Lines.{lines_left, bytes_left};
+ghost use Rattle.flow_text.specs.Progress.{IsOpening, IsThrough, with_front};
+ghost use Rattle.name_tables.specs.TablesOf.{tables_of};
+
+use crate::progress::{Progress, read_line};
+use flow_design::{Session, Statement};
+use flow_grammar::{Code, ReadFail, TextFault};
+use flow_word::{List, Words};
+use name_tables::Place;
+use std::alloc::Global;
+
+/// The longest text that is read, in bytes.
+pub const TEXT_LIMIT: usize = 4_194_304;
+
+fn line_feed_at(text: &[u8]) -> Option<usize>
+    ensures { result ≡ position is_line_feed text.now }
+{
+    text.iter().position(|byte| *byte == b'\n')
+}
+
+/// The first line of a text, and the text behind its line feed.
+fn first_line(text: &[u8]) -> (&[u8], Option<&[u8]>)
+    ensures lines { lines_of text.now ≡ result.0.now ∷ lines_left (option_copied result.1) }
+    ensures shorter { bytes_left (option_copied result.1) ≤ length text.now }
+{
+    match line_feed_at(text) {
+        None => (text, None),
+        Some(at) => {
+            let (line, _) = text.split_at(at);
+            let (_, behind) = text.split_at(at + 1);
+            (line, Some(behind))
+        }
+    }
+}
+
+/// Reads all lines of a text, and tells how many they are.
+fn read_on<'a>(alloc: Global, progress: &mut Progress<'a>, text: &'a [u8]) -> Result<u64, ReadFail>
+    requires { IsOpening progress.old }
+    ensures ok { IfOk result (λ n. IsThrough text.now progress.new n) }
+    ensures err { IfErr result (λ fail. TextFails fail (reading [] 0 (lines_of text.now))) }
+{
+    let mut number = 0u64;
+    let mut left = Some(text);
+    while let Some(rest) = left {
+        let (line, behind) = first_line(rest);
+        number += 1;
+        match read_line(alloc, progress, number, line) {
+            Ok(()) => {}
+            Err(fail) => return Err(fail),
+        }
+        left = behind;
+    }
+    Ok(number)
+}
+
+/// The session of so many lines, or that they have no end.
+fn closed(
+    place: Place,
+    statements: List<Statement>,
+    numbers: Words,
+    lines: u64,
+) -> Result<(Session, Words), ReadFail>
+    requires { place ≡ (tables_of (reverse statements)).place }
+    ensures { TextGives (λ read. (read.0.statements, read.1)) result (with_front statements numbers (reading statements lines [])) }
+{
+    if !place.is_over() {
+        return Err(ReadFail::Text(TextFault {
+            line: lines,
+            code: Code::Truncated,
+        }));
+    }
+    Ok((Session { statements }, numbers))
+}
+
+/// The lines, one after the other.
+fn read_lines(alloc: Global, text: &[u8]) -> Result<(Session, Words), ReadFail>
+    ensures { TextGives (λ read. (read.0.statements, read.1)) result (reading [] 0 (lines_of text.now)) }
+{
+    let mut progress = Progress::new(alloc);
+    match read_on(alloc, &mut progress, text) {
+        Ok(lines) => {
+            let Progress {
+                tables,
+                statements,
+                numbers,
+            } = progress;
+            closed(tables.place, statements, numbers, lines)
+        }
+        Err(fail) => Err(fail),
+    }
+}
+
+/// The answer to a text.
+#[tactic(auto, using(flow_grammar::proofs::TextLaws::answer_given))]
+fn answer(alloc: Global, text: &[u8]) -> Result<(Session, Words), ReadFail>
+    ensures { IsAnswer text.now (session_of result) }
+{
+    if text.len() > TEXT_LIMIT {
+        return Err(ReadFail::Text(TextFault {
+            line: 0,
+            code: Code::TooLong,
+        }));
+    }
+    read_lines(alloc, text)
+}
+
+/// The session that a text stands for, with the number of each statement's line, or the fault that the text has: the first
+/// test that its first failing line fails. `OutOfMemory` is the one free answer. Each text stands for one session or has one
+/// fault (`flow_grammar::one_answer`).
+#[tactic(auto, using(flow_grammar::proofs::TextLaws::only_session, flow_grammar::proofs::TextLaws::only_fault))]
+pub fn read_session(alloc: Global, text: &[u8]) -> Result<(Session, Words), ReadFail>
+    // What is answered is so.
+    ensures answer { IsAnswer text.now (session_of result) }
+    // A text that stands for a session is read as that session.
+    ensures session { (s : Items StatementValue) (l : Items ℕ) → StandsFor text.now s l → Answers (session_of result) (Ok (s, l)) }
+    // A text with a fault is refused with that fault.
+    ensures fault { (f : FaultValue) → HasFault text.now f → Answers (session_of result) (Err f) }
+{
+    answer(alloc, text)
+}

@@ -1,0 +1,265 @@
+//! The form of `at`.
+ghost use Rattle.std.specs.Prelude.{◌≡◌, ◌<◌, ◌∷◌, true, nat_lt, map, option_map, IfOk, Option, Some, None, Ok, Err};
+ghost use Rattle.flow_design.specs.declared.session.Statement.TheVariants.{At};
+ghost use Rattle.flow_grammar.specs.Tokens.{is_number, is_name, number_of};
+ghost use Rattle.flow_grammar.specs.Forms.{op_of, if_then, guarded_of, at_of};
+ghost use Rattle.flow_grammar.specs.Gives.{LineGives};
+ghost use Rattle.flow_grammar.specs.Parts.{Name as NameValue};
+ghost use Rattle.flow_text.specs.Keywords.{op_form_of};
+ghost use Rattle.flow_text.specs.Operations as operations;
+ghost use Rattle.flow_text.specs.Operations.{op_reading, timed_reading};
+ghost use Rattle.name_tables.specs.TablesOf.{accepted};
+ghost use Rattle.name_tables.specs.TableTests.{reading_by, takes_operations};
+
+use crate::keyword::{OpWord, op_word_in};
+use crate::operations::{empty, full, load, read, set, store, try_read, try_write, write};
+use flow_design::{Name, Op, Statement};
+use flow_grammar::{Code, Known, LineFail, is_identifier, is_numeral, is_word, number_in};
+use name_tables::Tables;
+use std::alloc::Global;
+
+/// The operation of a word, behind that word.
+fn worded(
+    alloc: Global,
+    tables: &Tables<'_>,
+    word: OpWord,
+    tokens: &[&[u8]],
+) -> Result<Result<Op<Name>, Code>, LineFail>
+    ensures { LineGives (λ o. o) result (op_reading tables.now (op_form_of word (map (λ t. t.now) tokens.now))) }
+{
+    match word {
+        OpWord::Set => set(alloc, tables, tokens),
+        OpWord::Load => load(alloc, tables, tokens),
+        OpWord::Store => store(alloc, tables, tokens),
+        OpWord::Read => read(alloc, tables, tokens),
+        OpWord::Write => write(alloc, tables, tokens),
+        OpWord::TryRead => try_read(alloc, tables, tokens),
+        OpWord::TryWrite => try_write(alloc, tables, tokens),
+        OpWord::Empty => empty(alloc, tables, tokens),
+        OpWord::Full => full(alloc, tables, tokens),
+    }
+}
+
+/// An operation, or the first test that it fails.
+#[tactic(auto, unfolding(flow_grammar::specs::Forms::op_of), using(crate::proofs::KeywordLaws::op_by_word))]
+fn operation(
+    alloc: Global,
+    tables: &Tables<'_>,
+    tokens: &[&[u8]],
+) -> Result<Result<Op<Name>, Code>, LineFail>
+    ensures { LineGives (λ o. o) result (op_reading tables.now (op_of (map (λ t. t.now) tokens.now))) }
+{
+    match tokens {
+        [word, rest @ ..] => operation_of(alloc, tables, *word, rest),
+        _ => Err(LineFail::Fault(Code::Syntax)),
+    }
+}
+
+/// The operation that a word and the tokens behind it write, or the first test that it fails.
+fn operation_of(
+    alloc: Global,
+    tables: &Tables<'_>,
+    word: &[u8],
+    rest: &[&[u8]],
+) -> Result<Result<Op<Name>, Code>, LineFail>
+    ensures { LineGives (λ o. o) result (op_reading tables.now (op_of (word.now ∷ map (λ t. t.now) rest.now))) }
+{
+    match op_word_in(word) {
+        Some(word) => worded(alloc, tables, word, rest),
+        None => Err(LineFail::Fault(Code::Syntax)),
+    }
+}
+
+/// The first test that fails, where names beside an operation are known or not, and there is room for it or not.
+fn first_code(known: bool, room: bool, code: Code) -> Code
+    ensures { result ≡ operations.first_code known room code }
+{
+    match code {
+        Code::BadNumber => Code::BadNumber,
+        Code::UnknownName => Code::UnknownName,
+        _ => {
+            if !known {
+                Code::UnknownName
+            } else if !room {
+                Code::TooMany
+            } else {
+                code
+            }
+        }
+    }
+}
+
+/// The refusal of an operation that fails a test, or of what stands beside it.
+fn refused(
+    tables: &mut Tables<'_>,
+    offset: Option<u64>,
+    known: bool,
+    code: Code,
+) -> Result<Statement, LineFail>
+    ensures given { (guard : Option NameValue) → LineGives (λ s. s) result (timed_reading tables.old offset guard known (Err code)) }
+    ensures kept { IfOk result (λ s. tables.new ≡ accepted tables.old s) }
+{
+    if !tables.place.takes_operations() {
+        return Err(LineFail::Fault(Code::Syntax));
+    }
+    if offset.is_none() {
+        return Err(LineFail::Fault(Code::BadNumber));
+    }
+    let code = first_code(known, tables.operations < 1024, code);
+    Err(LineFail::Fault(code))
+}
+
+/// The offset, where what stands beside a whole operation passes its tests.
+fn tested_offset(tables: &Tables<'_>, offset: Option<u64>, known: bool) -> Result<u64, Code>
+    ensures value { result ≡ operations.offset_there (takes_operations tables.now.place) (nat_lt tables.now.operations 1024) offset known }
+    ensures room { IfOk result (λ _. tables.now.operations < 1024) }
+{
+    if !tables.place.takes_operations() {
+        return Err(Code::Syntax);
+    }
+    let Some(offset) = offset else {
+        return Err(Code::BadNumber);
+    };
+    if !known {
+        return Err(Code::UnknownName);
+    }
+    if tables.operations >= 1024 {
+        return Err(Code::TooMany);
+    }
+    Ok(offset)
+}
+
+/// The statement of an operation that passes its tests, with its offset, and its guard, which is known or not.
+fn whole(
+    tables: &mut Tables<'_>,
+    offset: Option<u64>,
+    guard: Option<Name>,
+    known: bool,
+    operation: Op<Name>,
+) -> Result<Statement, LineFail>
+    ensures given { LineGives (λ s. s) result (timed_reading tables.old offset guard known (Ok operation)) }
+    ensures kept { IfOk result (λ s. tables.new ≡ accepted tables.old s) }
+{
+    match tested_offset(tables, offset, known) {
+        Ok(offset) => {
+            tables.add_operation();
+            Ok(Statement::At(offset, guard, operation))
+        }
+        Err(code) => Err(LineFail::Fault(code)),
+    }
+}
+
+/// The statement of an operation with its offset, and its guard, which is known or not.
+fn timed(
+    tables: &mut Tables<'_>,
+    offset: Option<u64>,
+    guard: Option<Name>,
+    known: bool,
+    operation: Result<Op<Name>, Code>,
+) -> Result<Statement, LineFail>
+    ensures given { LineGives (λ s. s) result (timed_reading tables.old offset guard known operation) }
+    ensures kept { IfOk result (λ s. tables.new ≡ accepted tables.old s) }
+{
+    match operation {
+        Err(code) => refused(tables, offset, known, code),
+        Ok(operation) => whole(tables, offset, guard, known, operation),
+    }
+}
+
+/// The operation at this offset, without a guard.
+fn unguarded(
+    alloc: Global,
+    tables: &mut Tables<'_>,
+    offset: &[u8],
+    tokens: &[&[u8]],
+) -> Result<Statement, LineFail>
+    requires { is_number offset.now ≡ true }
+    ensures given { LineGives (λ s. s) result (reading_by tables.old (option_map (At (number_of offset.now) None) (op_of (map (λ t. t.now) tokens.now)))) }
+    ensures kept { IfOk result (λ s. tables.new ≡ accepted tables.old s) }
+{
+    let offset = number_in(offset, 0, u64::MAX);
+    match operation(alloc, tables, tokens) {
+        Ok(operation) => timed(tables, offset, None, true, operation),
+        Err(fail) => Err(fail),
+    }
+}
+
+/// The operation at this offset, with this guard.
+fn guarded(
+    alloc: Global,
+    tables: &mut Tables<'_>,
+    offset: &[u8],
+    register: &[u8],
+    tokens: &[&[u8]],
+) -> Result<Statement, LineFail>
+    requires { is_number offset.now ≡ true }
+    ensures given { LineGives (λ s. s) result (reading_by tables.old (if_then (is_name register.now) (option_map (At (number_of offset.now) (Some register.now)) (op_of (map (λ t. t.now) tokens.now))))) }
+    ensures kept { IfOk result (λ s. tables.new ≡ accepted tables.old s) }
+{
+    if !is_identifier(register) {
+        return Err(LineFail::Fault(Code::Syntax));
+    }
+    let offset = number_in(offset, 0, u64::MAX);
+    let known = tables.is_known(register);
+    let guard = Name::new(alloc, register)?;
+    match operation(alloc, tables, tokens) {
+        Ok(operation) => timed(tables, offset, Some(guard), known, operation),
+        Err(fail) => Err(fail),
+    }
+}
+
+/// The operation at this offset, with a guard or without.
+fn with_offset(
+    alloc: Global,
+    tables: &mut Tables<'_>,
+    offset: &[u8],
+    tokens: &[&[u8]],
+) -> Result<Statement, LineFail>
+    requires { is_number offset.now ≡ true }
+    ensures given { LineGives (λ s. s) result (reading_by tables.old (guarded_of (number_of offset.now) (map (λ t. t.now) tokens.now))) }
+    ensures kept { IfOk result (λ s. tables.new ≡ accepted tables.old s) }
+{
+    match tokens {
+        [] => unguarded(alloc, tables, offset, tokens),
+        [_] => unguarded(alloc, tables, offset, tokens),
+        [word, register, rest @ ..] => {
+            if is_word(word, b"if") {
+                guarded(alloc, tables, offset, *register, rest)
+            } else {
+                unguarded(alloc, tables, offset, tokens)
+            }
+        }
+    }
+}
+
+/// An operation behind an offset.
+fn at_offset(
+    alloc: Global,
+    tables: &mut Tables<'_>,
+    offset: &[u8],
+    tokens: &[&[u8]],
+) -> Result<Statement, LineFail>
+    ensures given { LineGives (λ s. s) result (reading_by tables.old (if_then (is_number offset.now) (guarded_of (number_of offset.now) (map (λ t. t.now) tokens.now)))) }
+    ensures kept { IfOk result (λ s. tables.new ≡ accepted tables.old s) }
+{
+    if !is_numeral(offset) {
+        return Err(LineFail::Fault(Code::Syntax));
+    }
+    with_offset(alloc, tables, offset, tokens)
+}
+
+/// `at OFF OP` or `at OFF if R OP`, behind its keyword.
+#[tactic(auto, unfolding(flow_grammar::specs::Forms::at_of))]
+pub fn at<'a>(
+    alloc: Global,
+    tables: &mut Tables<'a>,
+    tokens: &[&'a [u8]],
+) -> Result<Statement, LineFail>
+    ensures given { LineGives (λ s. s) result (reading_by tables.old (at_of (map (λ t. t.now) tokens.now))) }
+    ensures kept { IfOk result (λ s. tables.new ≡ accepted tables.old s) }
+{
+    match tokens {
+        [offset, rest @ ..] => at_offset(alloc, tables, *offset, rest),
+        _ => Err(LineFail::Fault(Code::Syntax)),
+    }
+}

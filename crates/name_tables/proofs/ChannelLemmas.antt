@@ -1,0 +1,87 @@
+-- Sources and FIFOs are channels.
+use Rattle.std.proofs.Common.{◌≡◌, ℕ, List, [], ◌∷◌, Bool, true, false, Option, None, Some, refl, sym, ap, ◌∙◌, nat_eq}
+use Rattle.std.specs.Prelude.{◌||◌}
+use Rattle.std.specs.List.{filter_map}
+use Rattle.std.specs.Cmp.Lexicographic.{pointwise}
+use Rattle.flow_design.specs.declared.session.Statement.{Statement}
+use Rattle.flow_design.specs.declared.session.Statement.TheVariants.{Flow, Source, Sink, Fifo, Module, Reg, Mem, Block, Loop, Temp, At, Goto, Branch, Stop, Input, Limits, Depth, End}
+use Rattle.flow_grammar.specs.Before.{channel_name, source_name, fifo_name, channels, sources, fifos, is_among}
+use Rattle.name_tables.specs.declared.tables.Tables.{Tables}
+use Rattle.name_tables.specs.TablesOf.{tables_of, IsOfStatements}
+
+abbrev Name : Type 0
+Name = List ℕ
+
+-- a part of the names
+abbrev IsPart : (Statement → Option Name) → Type 0
+IsPart part = (s : Statement) (n : Name) → part s ≡ Some n → channel_name s ≡ Some n
+
+sources_are : IsPart source_name
+sources_are (Source m w) n e = e
+sources_are (Flow v) n e = absurd cc
+sources_are (Sink m w) n e = absurd cc
+sources_are (Fifo m w d) n e = absurd cc
+sources_are (Module m) n e = absurd cc
+sources_are (Reg m w) n e = absurd cc
+sources_are (Mem m w l) n e = absurd cc
+sources_are (Block m l) n e = absurd cc
+sources_are (Loop m ii l r) n e = absurd cc
+sources_are (Temp m w) n e = absurd cc
+sources_are (At off guard o) n e = absurd cc
+sources_are (Goto b) n e = absurd cc
+sources_are (Branch r b c) n e = absurd cc
+sources_are Stop n e = absurd cc
+sources_are (Input m values) n e = absurd cc
+sources_are (Limits c o) n e = absurd cc
+sources_are (Depth m d) n e = absurd cc
+sources_are End n e = absurd cc
+
+fifos_are : IsPart fifo_name
+fifos_are (Fifo m w d) n e = e
+fifos_are (Flow v) n e = absurd cc
+fifos_are (Sink m w) n e = absurd cc
+fifos_are (Source m w) n e = absurd cc
+fifos_are (Module m) n e = absurd cc
+fifos_are (Reg m w) n e = absurd cc
+fifos_are (Mem m w l) n e = absurd cc
+fifos_are (Block m l) n e = absurd cc
+fifos_are (Loop m ii l r) n e = absurd cc
+fifos_are (Temp m w) n e = absurd cc
+fifos_are (At off guard o) n e = absurd cc
+fifos_are (Goto b) n e = absurd cc
+fifos_are (Branch r b c) n e = absurd cc
+fifos_are Stop n e = absurd cc
+fifos_are (Input m values) n e = absurd cc
+fifos_are (Limits c o) n e = absurd cc
+fifos_are (Depth m d) n e = absurd cc
+fifos_are End n e = absurd cc
+
+or_none : (a b : Bool) → a || b ≡ false → (a ≡ false) × (b ≡ false)
+or_none false false h = (refl, refl)
+or_none false true h = absurd cc
+or_none true b h = absurd cc
+
+module _ (part : Statement → Option Name) (are : IsPart part) where
+  absent_cons : (s : Statement) (earlier : List Statement) (n : Name) (p c : Option Name) → part s ≡ p → channel_name s ≡ c
+      → (is_among (channels earlier) n ≡ false → is_among (filter_map part earlier) n ≡ false)
+      → is_among (channels (s ∷ earlier)) n ≡ false → is_among (filter_map part (s ∷ earlier)) n ≡ false
+  absent_cons s earlier n None None e k rest h = rw e (rest (rw k at h))
+  absent_cons s earlier n None (Some m) e k rest h = rw e (rest ((or_none (pointwise nat_eq n m) (is_among (channels earlier) n) (rw k at h)).1))
+  absent_cons s earlier n (Some l) c e k rest h =
+      let same : channel_name s ≡ Some l = are s l e in
+      let both = or_none (pointwise nat_eq n l) (is_among (channels earlier) n) (rw same at h) in
+      rw (e, both.0) (rest both.1)
+
+  absent : (earlier : List Statement) (n : Name) → is_among (channels earlier) n ≡ false → is_among (filter_map part earlier) n ≡ false
+  absent [] n h = refl
+  absent (s ∷ earlier) n h = absent_cons s earlier n (part s) (channel_name s) refl refl (absent earlier n) h
+
+-- what is no channel is no source
+pub new_source : (t : Tables) (n : Name) → IsOfStatements t → is_among t.channels n ≡ false → is_among t.sources n ≡ false
+unfolding tables_of
+new_source t n (earlier, e) h = rw e (absent source_name sources_are earlier n (rw e at h))
+
+-- and no FIFO
+pub new_fifo : (t : Tables) (n : Name) → IsOfStatements t → is_among t.channels n ≡ false → is_among t.fifos n ≡ false
+unfolding tables_of
+new_fifo t n (earlier, e) h = rw e (absent fifo_name fifos_are earlier n (rw e at h))

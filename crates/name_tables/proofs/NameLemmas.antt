@@ -1,0 +1,54 @@
+-- A table of names by its keys, and names in joined tables.
+use Rattle.std.proofs.Common.{◌≡◌, ℕ, List, [], ◌∷◌, ◌++◌, map, Bool, true, false, cond, refl, sym, ap, ◌∙◌, nat_eq}
+use Rattle.std.proofs.lemmas.List.{map-append, reverse-append, length-reverse}
+use Rattle.std.specs.Prelude.{◌||◌, if◌then◌else◌, reverse, length}
+use Rattle.std.specs.List.{list_any}
+use Rattle.std.specs.Cmp.Lexicographic.{pointwise}
+use Rattle.flow_grammar.specs.Before.{is_among}
+
+or_assoc : (a b c : Bool) → (a || b) || c ≡ a || (b || c)
+or_assoc true b c = refl
+or_assoc false b c = refl
+
+pub among_append : (xs ys : List (List ℕ)) (n : List ℕ) → is_among (xs ++ ys) n ≡ is_among xs n || is_among ys n
+among_append [] ys n = refl
+among_append (x ∷ xs) ys n = ap (λ (b : Bool). pointwise nat_eq n x || b) (among_append xs ys n) ∙ sym (or_assoc (pointwise nat_eq n x) (is_among xs n) (is_among ys n))
+
+or_swap : (a b : Bool) → a || (b || false) ≡ b || a
+or_swap true true = refl
+or_swap true false = refl
+or_swap false true = refl
+or_swap false false = refl
+
+-- the order of names does not matter
+pub among_reverse : (xs : List (List ℕ)) (n : List ℕ) → is_among (reverse xs) n ≡ is_among xs n
+among_reverse [] n = refl
+among_reverse (x ∷ xs) n =
+    ap (λ (ys : List (List ℕ)). is_among ys n) (reverse-append (x ∷ []) xs) ∙ among_append (reverse xs) (x ∷ []) n
+    ∙ or_swap (is_among (reverse xs) n) (pointwise nat_eq n x) ∙ ap (λ (b : Bool). pointwise nat_eq n x || b) (among_reverse xs n)
+
+or_none : (a b : Bool) → a || b ≡ false → (a ≡ false) × (b ≡ false)
+or_none false false h = (refl, refl)
+or_none false true h = absurd cc
+or_none true b h = absurd cc
+
+-- a name in neither of two tables
+pub absent_append : (xs ys : List (List ℕ)) (n : List ℕ) → is_among (xs ++ ys) n ≡ false → (is_among xs n ≡ false) × (is_among ys n ≡ false)
+absent_append xs ys n h = or_none (is_among xs n) (is_among ys n) (sym (among_append xs ys n) ∙ h)
+
+module _ {A : Type 0} (f : A → List ℕ) where
+  among_keys : (keys : List A) (n : List ℕ) → list_any (λ k. pointwise nat_eq n (f k)) keys ≡ is_among (map f keys) n
+  among_keys [] n = refl
+  among_keys (k ∷ keys) n = ap (λ (b : Bool). pointwise nat_eq n (f k) || b) (among_keys keys n)
+
+  -- a look-up by the keys
+  pub key_among : (keys : List A) (n : List ℕ) (table : List (List ℕ)) → reverse (map f keys) ≡ table → list_any (λ k. pointwise nat_eq n (f k)) keys ≡ is_among table n
+  key_among keys n table t = among_keys keys n ∙ sym (among_reverse (map f keys) n) ∙ ap (λ (ns : List (List ℕ)). is_among ns n) t
+
+  -- one key more is the latest name
+  pub key_added : (keys new : List A) (k : A) (table : List (List ℕ)) → reverse (map f keys) ≡ table → is_among table (f k) ≡ false
+      → new ≡ (if list_any (λ y. pointwise nat_eq (f k) (f y)) keys then keys else (keys ++ k ∷ [])) → reverse (map f new) ≡ f k ∷ table
+  key_added keys new k table t absent e =
+      let no : list_any (λ y. pointwise nat_eq (f k) (f y)) keys ≡ false = key_among keys (f k) table t ∙ absent in
+      let same : new ≡ keys ++ k ∷ [] = e ∙ ap (λ (b : Bool). cond b keys (keys ++ k ∷ [])) no in
+      ap (λ (ks : List A). reverse (map f ks)) same ∙ ap reverse (map-append f keys (k ∷ [])) ∙ reverse-append (map f keys) (f k ∷ []) ∙ ap (λ (ns : List (List ℕ)). f k ∷ ns) t

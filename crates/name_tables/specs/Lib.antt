@@ -1,0 +1,2 @@
+pub mod TablesOf
+pub mod TableTests

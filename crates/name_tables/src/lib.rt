@@ -1,0 +1,12 @@
+//! What the statements of a session declare: names by their spaces, and counts.
+#![tactic(auto)]
+
+mod names;
+mod place;
+mod tables;
+#[cfg(test)]
+mod tests;
+
+pub use names::Names;
+pub use place::Place;
+pub use tables::Tables;

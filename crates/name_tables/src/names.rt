@@ -1,0 +1,64 @@
+//! Names that stand already.
+ghost use Rattle.std.specs.Prelude.{◌≡◌, false, [], ◌∷◌, length, OnOk};
+ghost use Rattle.flow_grammar.specs.Before.{is_among};
+
+use flow_word::OutOfMemory;
+use indexmap::IndexSet;
+use std::alloc::Global;
+use std::marker::Model;
+
+/// Names of a text, each once, which stay where they stand in the text. Contracts see them as a list, the latest
+/// first.
+#[derive(Drop)]
+pub struct Names<'a> {
+    names: IndexSet<&'a [u8]>,
+}
+
+impl<'a> Model for Names<'a> {
+    ghost use Rattle.std.specs.Prelude.{List, ℕ, map, reverse};
+
+    ghost Value = { List (List ℕ) };
+
+    ghost view = { λ table. reverse (map (λ name. name.now) table.names.keys) };
+}
+
+impl<'a> Names<'a> {
+    /// No name.
+    pub fn new(alloc: Global) -> Names<'a>
+        ensures { result ≡ [] }
+    {
+        Names {
+            names: IndexSet::new(alloc),
+        }
+    }
+
+    /// How many names there are.
+    pub fn len(&self) -> usize
+        ensures { result ≡ length self.now }
+    {
+        self.names.len()
+    }
+
+    /// Whether a name is among them.
+    pub fn has(&self, name: &[u8]) -> bool
+        ensures { result ≡ is_among self.now name.now }
+    {
+        self.names.contains(name)
+    }
+
+    /// Adds a name that is not among them.
+    pub fn add(&mut self, name: &'a [u8]) -> Result<(), OutOfMemory>
+        requires { is_among self.old name.now ≡ false }
+        ensures { OnOk result (self.new ≡ name.now ∷ self.old) }
+    {
+        self.names.insert(name)?;
+        Ok(())
+    }
+
+    /// Forgets all names.
+    pub fn clear(&mut self)
+        ensures { self.new ≡ [] }
+    {
+        self.names.clear();
+    }
+}

@@ -1,0 +1,222 @@
+//! The tables of what is declared before a line.
+ghost use Rattle.std.specs.Prelude.{◌≡◌, ◌+◌, ◌<◌, ◌≤◌, ◌^◌, [], false, length, OnOk};
+ghost use Rattle.flow_grammar.specs.Before.{is_among};
+ghost use Rattle.flow_grammar.specs.Parts.{RegisterName, TempName, AVariable};
+ghost use Rattle.name_tables.specs.declared.place.Place.TheVariants as after;
+ghost use Rattle.name_tables.specs.TableTests as tests;
+ghost use Rattle.name_tables.specs.TablesOf as given;
+
+use crate::names::Names;
+use crate::place::Place;
+use flow_grammar::Known;
+use flow_word::OutOfMemory;
+use std::alloc::Global;
+
+/// What the statements before a line declare, as far as the line's tests ask for it.
+#[derive(Drop)]
+pub struct Tables<'a> {
+    /// The sort of the statement before.
+    pub place: Place,
+    pub channels: Names<'a>,
+    /// The channels that are sources.
+    pub sources: Names<'a>,
+    /// The channels that are FIFOs.
+    pub fifos: Names<'a>,
+    pub modules: Names<'a>,
+    /// The registers of this module.
+    pub registers: Names<'a>,
+    /// The memories of this module.
+    pub memories: Names<'a>,
+    /// The blocks of this module.
+    pub blocks: Names<'a>,
+    /// The temps of this body.
+    pub temps: Names<'a>,
+    /// The sources that have an `input`.
+    pub inputs: Names<'a>,
+    /// How many operations this body has.
+    pub operations: u64,
+    /// How many values all inputs have.
+    pub input_values: u64,
+    /// How many edits there are.
+    pub edits: u64,
+}
+
+impl Known for Tables<'_> {
+    ghost knows = { λ tables name. is_among (tests.named tables AVariable) name };
+
+    #[tactic(auto, using(crate::proofs::NameLemmas::among_append))]
+    fn is_known(&self, name: &[u8]) -> bool {
+        self.registers.has(name) || self.temps.has(name)
+    }
+}
+
+impl<'a> Tables<'a> {
+    /// The tables of no statement.
+    #[tactic(auto, unfolding(crate::specs::TablesOf::tables_of))]
+    pub fn new(alloc: Global) -> Tables<'a>
+        ensures { result ≡ given.tables_of [] }
+    {
+        Tables {
+            place: Place::Start,
+            channels: Names::new(alloc),
+            sources: Names::new(alloc),
+            fifos: Names::new(alloc),
+            modules: Names::new(alloc),
+            registers: Names::new(alloc),
+            memories: Names::new(alloc),
+            blocks: Names::new(alloc),
+            temps: Names::new(alloc),
+            inputs: Names::new(alloc),
+            operations: 0,
+            input_values: 0,
+            edits: 0,
+        }
+    }
+
+    /// Whether a register or memory of this module has this name.
+    #[tactic(auto, using(crate::proofs::NameLemmas::among_append))]
+    pub fn has_register_or_memory(&self, name: &[u8]) -> bool
+        ensures { result ≡ is_among (tests.taken self.now RegisterName) name.now }
+    {
+        self.registers.has(name) || self.memories.has(name)
+    }
+
+    /// Whether a register or memory of this module or a temp of this body has this name.
+    #[tactic(auto, using(crate::proofs::NameLemmas::among_append))]
+    pub fn has_variable_or_memory(&self, name: &[u8]) -> bool
+        ensures { result ≡ is_among (tests.taken self.now TempName) name.now }
+    {
+        self.registers.has(name) || self.memories.has(name) || self.temps.has(name)
+    }
+
+    /// Another sort of statement that declares nothing.
+    pub fn go_on(&mut self, place: Place)
+        ensures { self.new ≡ given.at_place self.old place }
+    {
+        self.place = place;
+    }
+
+    /// Adds a source.
+    #[tactic(auto, using(crate::proofs::ChannelLemmas::new_source))]
+    pub fn add_source(&mut self, name: &'a [u8]) -> Result<(), OutOfMemory>
+        requires tables { given.IsOfStatements self.old }
+        requires new { is_among self.old.channels name.now ≡ false }
+        ensures { OnOk result (self.new ≡ given.with_source self.old name.now) }
+    {
+        self.channels.add(name)?;
+        self.sources.add(name)?;
+        self.place = Place::Channels;
+        Ok(())
+    }
+
+    /// Adds a sink.
+    pub fn add_sink(&mut self, name: &'a [u8]) -> Result<(), OutOfMemory>
+        requires { is_among self.old.channels name.now ≡ false }
+        ensures { OnOk result (self.new ≡ given.with_sink self.old name.now) }
+    {
+        self.channels.add(name)?;
+        self.place = Place::Channels;
+        Ok(())
+    }
+
+    /// Adds a FIFO.
+    #[tactic(auto, using(crate::proofs::ChannelLemmas::new_fifo))]
+    pub fn add_fifo(&mut self, name: &'a [u8]) -> Result<(), OutOfMemory>
+        requires tables { given.IsOfStatements self.old }
+        requires new { is_among self.old.channels name.now ≡ false }
+        ensures { OnOk result (self.new ≡ given.with_fifo self.old name.now) }
+    {
+        self.channels.add(name)?;
+        self.fifos.add(name)?;
+        self.place = Place::Channels;
+        Ok(())
+    }
+
+    /// Begins a module.
+    pub fn add_module(&mut self, name: &'a [u8]) -> Result<(), OutOfMemory>
+        requires { is_among self.old.modules name.now ≡ false }
+        ensures { OnOk result (self.new ≡ given.with_module self.old name.now) }
+    {
+        self.modules.add(name)?;
+        self.registers.clear();
+        self.memories.clear();
+        self.blocks.clear();
+        self.place = Place::Registers;
+        Ok(())
+    }
+
+    /// Adds a register.
+    #[tactic(auto, using(crate::proofs::NameLemmas::absent_append))]
+    pub fn add_register(&mut self, name: &'a [u8]) -> Result<(), OutOfMemory>
+        requires { is_among (tests.taken self.old RegisterName) name.now ≡ false }
+        ensures { OnOk result (self.new ≡ given.with_register self.old name.now) }
+    {
+        self.registers.add(name)?;
+        self.place = Place::Registers;
+        Ok(())
+    }
+
+    /// Adds a memory.
+    #[tactic(auto, using(crate::proofs::NameLemmas::absent_append))]
+    pub fn add_memory(&mut self, name: &'a [u8]) -> Result<(), OutOfMemory>
+        requires { is_among (tests.taken self.old RegisterName) name.now ≡ false }
+        ensures { OnOk result (self.new ≡ given.with_memory self.old name.now) }
+    {
+        self.memories.add(name)?;
+        self.place = Place::Registers;
+        Ok(())
+    }
+
+    /// Begins the body of a block or a loop.
+    pub fn add_block(&mut self, name: &'a [u8]) -> Result<(), OutOfMemory>
+        requires { is_among self.old.blocks name.now ≡ false }
+        ensures { OnOk result (self.new ≡ given.with_block self.old name.now) }
+    {
+        self.blocks.add(name)?;
+        self.temps.clear();
+        self.operations = 0;
+        self.place = Place::Temps;
+        Ok(())
+    }
+
+    /// Adds a temp.
+    #[tactic(auto, using(crate::proofs::NameLemmas::absent_append))]
+    pub fn add_temp(&mut self, name: &'a [u8]) -> Result<(), OutOfMemory>
+        requires { is_among (tests.taken self.old TempName) name.now ≡ false }
+        ensures { OnOk result (self.new ≡ given.with_temp self.old name.now) }
+    {
+        self.temps.add(name)?;
+        self.place = Place::Temps;
+        Ok(())
+    }
+
+    /// Counts an operation.
+    pub fn add_operation(&mut self)
+        requires { self.old.operations < 1024 }
+        ensures { self.new ≡ given.with_operation self.old }
+    {
+        self.operations += 1;
+        self.place = Place::Operations;
+    }
+
+    /// Adds an input of so many values.
+    pub fn add_input(&mut self, name: &'a [u8], count: u64) -> Result<(), OutOfMemory>
+        requires new { is_among self.old.inputs name.now ≡ false }
+        requires room { self.old.input_values + count ≤ 100000 }
+        ensures { OnOk result (self.new ≡ given.with_input self.old name.now count) }
+    {
+        self.inputs.add(name)?;
+        self.input_values += count;
+        self.place = Place::Inputs;
+        Ok(())
+    }
+
+    /// Counts an edit.
+    pub fn add_edit(&mut self)
+        requires { self.old.edits < 1000 }
+        ensures { self.new ≡ given.with_edit self.old }
+    {
+        self.edits += 1;
+        self.place = Place::Edits;
+    }
+}

@@ -1,0 +1,11 @@
+pub mod Amounts
+pub mod Blocks
+pub mod Bodies
+pub mod Edits
+pub mod Fits
+pub mod Following
+pub mod Modules
+pub mod Numbers
+pub mod Reading
+pub mod Sets
+pub mod Slots

@@ -1,0 +1,130 @@
+-- Slots that the operations so far have taken.
+use Rattle.std.proofs.Common.{◌≡◌, ℕ, suc, ◌+◌, ◌<◌, ◌≤◌, List, [], ◌∷◌, ◌++◌, length, take, drop, get_or, Option, None, Some, option_map, Bool, true, false, cond, refl, sym, ap, ◌∙◌, arith, add-one}
+use Rattle.std.specs.Prelude.{◌||◌, ◌&&◌, ◌==◌}
+use mathlib.Core.Bool.{beq}
+use Rattle.std.specs.List.{list_any}
+use Rattle.std.proofs.Math.Seq.{take-suc, drop-cons}
+use Rattle.std.proofs.Math.ListN.{drop_of_length-le}
+use Rattle.std.proofs.lemmas.Bool.Decides.{nat_tests}
+use Rattle.indexmap.specs.IndexSet.{IndexSet, keys}
+use Rattle.flow_design.specs.declared.design.BlockKind.{BlockKind}
+use Rattle.flow_design.specs.declared.design.Timed.{Timed}
+use Rattle.flow_design.specs.Operations.{End}
+use Rattle.flow_design.specs.StaticRules.{same_end}
+use Rattle.flow_check.specs.First.{first_behind}
+use Rattle.flow_check.specs.Ports.{has_slot, has_this}
+use Rattle.flow_check.specs.Rules.{Slot, slot, is_slot, same_slot, clashes, takes_again}
+
+-- the slots are those of the operations so far, and none of these clashes with an earlier one
+pub record AreTaken {S : Type 0} (kind : BlockKind) (ops : List Timed) (at : ℕ) (slots : IndexSet Slot S) : Type 0 where
+  pub each : (s : Slot) → has_slot slots s ≡ list_any (λ t. is_slot s (slot kind t)) (take at ops)
+  pub rest : first_behind (clashes kind) [] ops ≡ option_map (λ k. at + k) (first_behind (clashes kind) (take at ops) (drop at ops))
+
+option_zero : (o : Option ℕ) → o ≡ option_map (λ k. 0 + k) o
+option_zero None = refl
+option_zero (Some k) = ap Some (omega arith)
+
+option_next : (at : ℕ) (o : Option ℕ) → option_map (λ k. at + k) (option_map (λ k. k + 1) o) ≡ option_map (λ k. (at + 1) + k) o
+option_next at None = refl
+option_next at (Some k) = ap Some (omega arith)
+
+pub any_behind : {X : Type 0} (p : X → Bool) (xs : List X) (x : X) → list_any p (xs ++ x ∷ []) ≡ list_any p xs || p x
+any_behind p [] x = by (p x)
+  where
+    by : (b : Bool) → b || false ≡ false || b
+    by true = refl
+    by false = refl
+any_behind p (y ∷ xs) x = by (p y) (any_behind p xs x)
+  where
+    by : (b : Bool) → list_any p (xs ++ x ∷ []) ≡ list_any p xs || p x → b || list_any p (xs ++ x ∷ []) ≡ (b || list_any p xs) || p x
+    by true e = refl
+    by false e = e
+
+-- no slot is taken yet
+pub none_taken : {S : Type 0} (kind : BlockKind) (ops : List Timed) (slots : IndexSet Slot S) → keys slots ≡ [] → AreTaken kind ops 0 slots
+none_taken kind ops slots e = record {
+  each = λ s. ap (list_any (same_slot s)) e;
+  rest = option_zero (first_behind (clashes kind) [] ops);
+}
+
+module _ {S : Type 0} (kind : BlockKind) (ops : List Timed) (at : ℕ) (slots : IndexSet Slot S) (d : Timed) (there : at < length ops) (taken : AreTaken kind ops at slots) where
+  asked : (o : Option Slot) → takes_again kind (take at ops) o ≡ has_this slots o
+  asked None = refl
+  asked (Some s) = sym (taken.each s)
+
+  opened : first_behind (clashes kind) (take at ops) (drop at ops)
+      ≡ cond (has_this slots (slot kind (get_or ops at d))) (Some 0) (option_map (λ k. k + 1) (first_behind (clashes kind) (take (at + 1) ops) (drop (at + 1) ops)))
+  opened = ap (first_behind (clashes kind) (take at ops)) (drop-cons ops at d there)
+      ∙ ap (λ (b : Bool). cond b (Some 0) (option_map (λ k. k + 1) (first_behind (clashes kind) (take at ops ++ get_or ops at d ∷ []) (drop (suc at) ops)))) (asked (slot kind (get_or ops at d)))
+      ∙ ap (λ (l : List Timed). cond (has_this slots (slot kind (get_or ops at d))) (Some 0) (option_map (λ k. k + 1) (first_behind (clashes kind) l (drop (suc at) ops)))) (sym (take-suc ops at d there))
+      ∙ ap (λ (n : ℕ). cond (has_this slots (slot kind (get_or ops at d))) (Some 0) (option_map (λ k. k + 1) (first_behind (clashes kind) (take n ops) (drop n ops)))) (sym (add-one at))
+
+  -- it is free, and the operation takes it
+  pub taken_more : (new : IndexSet Slot S) → has_this slots (slot kind (get_or ops at d)) ≡ false
+      → ((s : Slot) → has_slot new s ≡ has_slot slots s || is_slot s (slot kind (get_or ops at d))) → AreTaken kind ops (at + 1) new
+  taken_more new free more = record {
+    each = λ s. more s
+        ∙ ap (λ (b : Bool). b || is_slot s (slot kind (get_or ops at d))) (taken.each s)
+        ∙ sym (any_behind (λ t. is_slot s (slot kind t)) (take at ops) (get_or ops at d))
+        ∙ ap (list_any (λ t. is_slot s (slot kind t))) (sym (take-suc ops at d there))
+        ∙ ap (λ (n : ℕ). list_any (λ t. is_slot s (slot kind t)) (take n ops)) (sym (add-one at));
+    rest = taken.rest
+        ∙ ap (option_map (λ k. at + k)) (opened ∙ ap (λ (b : Bool). cond b (Some 0) (option_map (λ k. k + 1) (first_behind (clashes kind) (take (at + 1) ops) (drop (at + 1) ops)))) free)
+        ∙ option_next at (first_behind (clashes kind) (take (at + 1) ops) (drop (at + 1) ops));
+  }
+
+-- all have taken theirs
+pub all_taken : {S : Type 0} (kind : BlockKind) (ops : List Timed) (at : ℕ) (slots : IndexSet Slot S) → length ops ≤ at → AreTaken kind ops at slots
+    → None ≡ first_behind (clashes kind) [] ops
+all_taken kind ops at slots over taken =
+    sym (taken.rest ∙ ap (λ (l : List Timed). option_map (λ k. at + k) (first_behind (clashes kind) (take at ops) l)) (drop_of_length-le ops over))
+
+-- ---- equal ends and slots
+
+pub ends_turn : (e f : End) → same_end e f ≡ same_end f e
+ends_turn (true, n) (true, m) = grind (arith, nat_tests)
+ends_turn (false, n) (false, m) = grind (arith, nat_tests)
+ends_turn (true, n) (false, m) = refl
+ends_turn (false, n) (true, m) = refl
+
+pub slots_turn : (s t : Slot) → same_slot s t ≡ same_slot t s
+slots_turn (e, n) (f, m) = ap (λ (b : Bool). b && (n == m)) (ends_turn e f) ∙ ap (λ (b : Bool). same_end f e && b) (grind (arith, nat_tests))
+
+-- the test of a set's keys, which is the same
+abbrev pub plain : Slot → Slot → Bool
+plain s t = (beq (s.0).0 (t.0).0 && (s.0).1 == (t.0).1) && (s.1 == t.1)
+
+plain_is : (s t : Slot) → plain s t ≡ same_slot s t
+plain_is ((true, n), i) ((true, m), j) = refl
+plain_is ((true, n), i) ((false, m), j) = refl
+plain_is ((false, n), i) ((true, m), j) = refl
+plain_is ((false, n), i) ((false, m), j) = refl
+
+pub any_same : {X : Type 0} (p q : X → Bool) → ((x : X) → p x ≡ q x) → (xs : List X) → list_any p xs ≡ list_any q xs
+any_same p q h [] = refl
+any_same p q h (x ∷ xs) = ap (λ (b : Bool). b || list_any p xs) (h x) ∙ ap (λ (b : Bool). q x || b) (any_same p q h xs)
+
+-- a slot more among the keys of a set
+pub slot_more : (old new : List Slot) (own : Slot) (o : Option Slot) → o ≡ Some own
+    → ((q : Slot) → list_any (plain q) new ≡ cond (plain own q) true (list_any (plain q) old))
+    → (s : Slot) → list_any (same_slot s) new ≡ list_any (same_slot s) old || is_slot s o
+slot_more old new own o is more s =
+    sym (any_same (plain s) (same_slot s) (plain_is s) new) ∙ more s
+    ∙ ap (λ (b : Bool). cond b true (list_any (plain s) old)) (plain_is own s ∙ slots_turn own s)
+    ∙ ap (λ (b : Bool). cond (same_slot s own) true b) (any_same (plain s) (same_slot s) (plain_is s) old)
+    ∙ by (same_slot s own) (list_any (same_slot s) old)
+    ∙ ap (λ (p : Option Slot). list_any (same_slot s) old || is_slot s p) (sym is)
+  where
+    by : (b c : Bool) → cond b true c ≡ c || b
+    by true true = refl
+    by true false = refl
+    by false true = refl
+    by false false = refl
+
+-- the same of the operation as the code reads it
+pub taken_by : {S : Type 0} (kind : BlockKind) (ops : List Timed) (at : ℕ) (slots : IndexSet Slot S) (t : Timed) → at < length ops → AreTaken kind ops at slots
+    → t ≡ get_or ops at t → (new : IndexSet Slot S) → has_this slots (slot kind t) ≡ false
+    → ((s : Slot) → has_slot new s ≡ has_slot slots s || is_slot s (slot kind t)) → AreTaken kind ops (at + 1) new
+taken_by kind ops at slots t there taken is new free more =
+    taken_more kind ops at slots t there taken new (sym (ap (λ (u : Timed). has_this slots (slot kind u)) is) ∙ free)
+    (λ s. more s ∙ ap (λ (u : Timed). has_slot slots s || is_slot s (slot kind u)) is)

@@ -1,0 +1,5 @@
+use Rattle.flow_check.proofs.Edits.{edits_fit}
+use Rattle.flow_check.proofs.laws.read_edits_fit.Goals as goal
+
+pub returns : goal.returns
+returns c = edits_fit

@@ -1,0 +1,8 @@
+use Rattle.std.proofs.Common.{◌≡◌, drop}
+use Rattle.flow_check.specs.First.{first_for}
+use Rattle.flow_check.specs.Rules.{broken_by}
+use Rattle.flow_check.proofs.rules.first_broken.Given as goal
+
+-- no rule so far is broken
+abbrev pub invariant-loop-rule : goal.invariant-loop-rule
+invariant-loop-rule l = first_for (broken_by l.plan) (drop l.rule-index l.rules) ≡ first_for (broken_by l.plan) l.rules

@@ -1,0 +1,23 @@
+-- The checking fault of a session: the first rule that it breaks, at the line of the first statement that breaks it.
+use Rattle.std.specs.Prelude.{◌≡◌, ℕ, List, Option, Some, option_map}
+use Rattle.flow_design.specs.declared.session.Statement.{Statement}
+use Rattle.flow_grammar.specs.declared.fault.Code.{Code}
+use Rattle.flow_grammar.specs.declared.fault.TextFault.{TextFault}
+use Rattle.flow_grammar.specs.declared.fault.ReadFail.{ReadFail}
+use Rattle.flow_grammar.specs.declared.fault.ReadFail.TheVariants.{Text, OutOfMemory}
+use Rattle.session_plan.specs.Plans.{plan_of}
+use Rattle.flow_check.specs.declared.item.Item.{Item}
+use Rattle.flow_check.specs.Places.{line_of}
+use Rattle.flow_check.specs.Rules.{checking_fault}
+
+abbrev pub at_line : List Statement → List ℕ → Code × Item → TextFault
+at_line statements lines (code, item) = record { line = line_of statements lines item; code = code }
+
+-- the checking fault of these statements, which stand at these lines, if they have one
+abbrev pub fault_of : List Statement → List ℕ → Option TextFault
+fault_of statements lines = option_map (at_line statements lines) (checking_fault (plan_of statements))
+
+-- want of memory is a free answer, and any other refusal is the checking fault
+abbrev pub IsRefusal : List Statement → List ℕ → ReadFail → Type 0
+IsRefusal statements lines (Text fault) = fault_of statements lines ≡ Some fault
+IsRefusal statements lines OutOfMemory = Unit {0}

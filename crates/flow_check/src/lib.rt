@@ -1,0 +1,15 @@
+//! Checking a session that was read: the rules that need the whole of it, and the plan that it opens.
+#![tactic(auto)]
+
+mod item;
+mod laws;
+mod place;
+mod ports;
+mod rules;
+mod session;
+#[cfg(test)]
+mod tests;
+
+pub use laws::{checked_plans_fit, read_edits_fit, read_sessions_have_plans};
+pub use session::check;
+pub use session_plan::Checked;

@@ -1,0 +1,3 @@
+pub mod Giving
+pub mod NameLemmas
+pub mod Trees

@@ -1,0 +1,11 @@
+use Rattle.std.proofs.Common.{◌≡◌, ◌++◌, [], drop, map}
+use Rattle.session_plan.specs.Plans.{block}
+use Rattle.session_plan.specs.Sections.{sections}
+use Rattle.session_plan.specs.Tables.{scope_at}
+use Rattle.session_plan.specs.declared.section.Level.TheVariants as level
+use Rattle.session_plan.proofs.modules.blocks_of.Given as goal
+
+abbrev pub invariant-loop-i : goal.invariant-loop-i
+invariant-loop-i l =
+    l.blocks ++ map (block (scope_at l.channels l.own [])) (sections level.Blocks (drop l.i l.body))
+    ≡ map (block (scope_at l.channels l.own [])) (sections level.Blocks l.body)

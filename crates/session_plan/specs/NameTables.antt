@@ -1,0 +1,10 @@
+-- What a table of numbers by name says.
+use Rattle.std.specs.Borrow.{Bor}
+use Rattle.std.specs.Prelude.{ℕ, Option}
+use Rattle.std.specs.Str.{bytes_eq}
+use Rattle.indexmap.specs.IndexMap.{IndexMap, get_by}
+use Rattle.session_plan.specs.Names.{Name}
+
+-- the number that stands at a name
+abbrev pub number_at : {S : Type 0} → IndexMap (Bor Name) ℕ S → Name → Option ℕ
+number_at table n = get_by (λ k. bytes_eq n k.now) table

@@ -1,0 +1,23 @@
+-- The number of a name among names.
+use Rattle.std.specs.Prelude.{ℕ, List, [], ◌∷◌, ◌+◌, length, Option, None, Some, option_map, unwrap_or, if◌then◌else◌}
+use Rattle.std.specs.Str.{bytes_eq}
+
+abbrev pub Name : Type 0
+Name = List ℕ
+
+-- the place of the first of these names that is this one
+abbrev pub place_of : List Name → Name → Option ℕ
+place_of [] n = None
+place_of (m ∷ names) n = if bytes_eq n m then Some 0 else option_map (λ k. k + 1) (place_of names n)
+
+-- the number of a name: its place, or how many names there are where it is none of them
+abbrev pub number_of : List Name → Name → ℕ
+number_of names n = unwrap_or (place_of names n) (length names)
+
+-- the names that stand in a body: the channels of the session, what its module declares, and its temps
+pub record Scope : Type 0 where
+  pub channels : List Name
+  pub registers : List Name
+  pub memories : List Name
+  pub blocks : List Name
+  pub temps : List Name

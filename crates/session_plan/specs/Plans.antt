@@ -1,0 +1,144 @@
+-- The plan and the edits of a session.
+use Rattle.std.specs.Prelude.{ℕ, ◌==◌, List, [], ◌∷◌, map, Option, None, Some, if◌then◌else◌}
+use Rattle.std.specs.List.{filter_map, flat_map, enumerate_from}
+use Rattle.flow_design.specs.declared.session.Statement.{Statement}
+use Rattle.flow_design.specs.declared.session.Statement.TheVariants.{Source, Sink, Fifo, Module, Mem, Block, Loop, Input, Limits, Depth}
+use Rattle.flow_design.specs.declared.design.ChannelKind.{ChannelKind}
+use Rattle.flow_design.specs.declared.design.ChannelKind.TheVariants as kind
+use Rattle.flow_design.specs.declared.design.Channel.{Channel}
+use Rattle.flow_design.specs.declared.design.Memory.{Memory}
+use Rattle.flow_design.specs.declared.design.BlockKind.{BlockKind}
+use Rattle.flow_design.specs.declared.design.BlockKind.TheVariants as block_kind
+use Rattle.flow_design.specs.declared.design.Block.{Block as BlockOfPlan}
+use Rattle.flow_design.specs.declared.design.Module.{Module as ModuleOfPlan}
+use Rattle.flow_design.specs.declared.design.Next.TheVariants as next
+use Rattle.flow_design.specs.declared.plan.Plan.{Plan}
+use Rattle.flow_design.specs.declared.plan.Edit.{Edit}
+use Rattle.flow_design.specs.Words.{cut_to}
+use Rattle.session_plan.specs.Names.{Name, number_of, Scope}
+use Rattle.session_plan.specs.Sections.{sections, declared, declared_width}
+use Rattle.session_plan.specs.Numbered.{timed, terminator}
+use Rattle.session_plan.specs.declared.section.Level.TheVariants as level
+use Rattle.session_plan.specs.declared.section.Sort.TheVariants as sort
+
+-- ---- channels
+
+abbrev pub channel : Statement → Option Channel
+channel (Source n w) = Some (record { name = n; width = w; kind = kind.Source })
+channel (Sink n w) = Some (record { name = n; width = w; kind = kind.Sink })
+channel (Fifo n w depth) = Some (record { name = n; width = w; kind = kind.Fifo depth })
+channel s = None
+
+-- the depth of a FIFO, and 0 for the other channels
+abbrev pub depth_in : ChannelKind → ℕ
+depth_in kind.Source = 0
+depth_in kind.Sink = 0
+depth_in (kind.Fifo depth) = depth
+
+-- ---- blocks
+
+-- the first of these, or else this
+abbrev pub first_or : {A : Type 0} → A → List A → A
+first_or a [] = a
+first_or a (b ∷ bs) = b
+
+-- `block N LEN` and `loop N II LEN while R`
+abbrev pub kind_of : Scope → Statement → BlockKind
+kind_of scope (Loop n ii len again) = block_kind.Loop ii (number_of scope.registers again)
+kind_of scope s = block_kind.Plain
+
+abbrev pub len_of : Statement → ℕ
+len_of (Block n len) = len
+len_of (Loop n ii len again) = len
+len_of s = 0
+
+-- a block in its module: the temps of its body stand behind the module's registers
+unfoldable pub block : Scope → Statement × List Statement → BlockOfPlan
+block scope (head, body) =
+    let own : Scope = record scope { temps = filter_map (declared sort.Temps) body } in
+    record {
+      kind = kind_of scope head;
+      len = len_of head;
+      temps = filter_map (declared_width sort.Temps) body;
+      ops = filter_map (timed own) body;
+      next = first_or next.Stop (filter_map (terminator own) body);
+    }
+
+-- ---- modules
+
+abbrev pub memory : Statement → Option Memory
+memory (Mem n w len) = Some (record { width = w; len = len })
+memory s = None
+
+abbrev pub module_name : Statement → Name
+module_name (Module n) = n
+module_name s = []
+
+-- the names that stand in a module, beside the channels
+abbrev pub scope_of : List Name → List Statement → Scope
+scope_of channels body = record {
+  channels = channels;
+  registers = filter_map (declared sort.Registers) body;
+  memories = filter_map (declared sort.Memories) body;
+  blocks = filter_map (declared sort.Blocks) body;
+  temps = [];
+}
+
+unfoldable pub module_of : List Name → Statement × List Statement → ModuleOfPlan
+module_of channels (head, body) = record {
+  name = module_name head;
+  registers = filter_map (declared_width sort.Registers) body;
+  memories = filter_map memory body;
+  blocks = map (block (scope_of channels body)) (sections level.Blocks body);
+}
+
+-- ---- inputs, limits and edits
+
+-- the values of an `input` of channel number f
+abbrev pub values_for : List Name → ℕ → Statement → List ℕ
+values_for names f (Input n values) = if number_of names n == f then values else []
+values_for names f s = []
+
+-- the inputs of channel number f: a source takes the values that are given for it, each cut to its width
+abbrev pub inputs_of : ChannelKind → ℕ → List ℕ → List ℕ
+inputs_of kind.Source width values = map (cut_to width) values
+inputs_of kind.Sink width values = []
+inputs_of (kind.Fifo depth) width values = []
+
+abbrev pub inputs_for : List Name → List Statement → ℕ × Channel → List ℕ
+inputs_for names statements (f, c) = inputs_of c.kind c.width (flat_map (values_for names f) statements)
+
+-- the cycle limit and the operation limit
+abbrev pub limits : Statement → Option (ℕ × ℕ)
+limits (Limits cycles ops) = Some (cycles, ops)
+limits s = None
+
+abbrev pub limits_of : List Statement → ℕ × ℕ
+limits_of statements = first_or (1000000000, 100000) (filter_map limits statements)
+
+abbrev pub edit : List Name → Statement → Option Edit
+edit names (Depth n depth) = Some (record { channel = number_of names n; depth = depth })
+edit names s = None
+
+-- ---- the whole
+
+abbrev pub channels_of : List Statement → List Channel
+channels_of statements = filter_map channel statements
+
+abbrev pub channel_names : List Statement → List Name
+channel_names statements = filter_map (declared sort.Channels) statements
+
+abbrev pub modules_of : List Statement → List ModuleOfPlan
+modules_of statements = map (module_of (channel_names statements)) (sections level.Modules statements)
+
+unfoldable pub plan_of : List Statement → Plan
+plan_of statements = record {
+  design = record { channels = channels_of statements; modules = modules_of statements };
+  inputs = map (inputs_for (channel_names statements) statements) (enumerate_from 0 (channels_of statements));
+  cycles = (limits_of statements).0;
+  ops = (limits_of statements).1;
+  depths = map (λ c. depth_in c.kind) (channels_of statements);
+}
+
+unfoldable pub edits_of : List Statement → List Edit
+edits_of statements = filter_map (edit (channel_names statements)) statements

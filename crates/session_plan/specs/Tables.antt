@@ -1,0 +1,13 @@
+-- The names that stand in a body, from the tables of its module.
+use Rattle.std.specs.Prelude.{List}
+use Rattle.session_plan.specs.Names.{Name, Scope}
+use Rattle.session_plan.specs.declared.scope.ModuleNames.{ModuleNames}
+
+abbrev pub scope_at : List Name → ModuleNames → List Name → Scope
+scope_at channels own temps = record {
+  channels = channels;
+  registers = own.registers;
+  memories = own.memories;
+  blocks = own.blocks;
+  temps = temps;
+}

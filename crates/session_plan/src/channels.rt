@@ -1,0 +1,95 @@
+//! Channels with their inputs and depths, limits and edits.
+ghost use Rattle.std.specs.Prelude.{◌≡◌, map, replicate, [], length, IfOk, OnOk};
+ghost use Rattle.std.specs.List.{filter_map, enumerate_from};
+ghost use Rattle.session_plan.specs.Plans.{channel, depth_in, limits_of, edit, inputs_for};
+
+use crate::names::Names;
+use flow_design::{Channel, ChannelKind, Edit, Statement};
+use flow_word::{List, OutOfMemory, TryCopy, Width, Words, cut};
+use std::alloc::Global;
+
+/// The channel that a statement declares.
+fn channel(alloc: Global, statement: &Statement) -> Result<Option<Channel>, OutOfMemory>
+    ensures { IfOk result (λ c. c ≡ channel statement.now) }
+{
+    let (name, width, kind) = match statement {
+        Statement::Source(name, width) => (name, *width, ChannelKind::Source),
+        Statement::Sink(name, width) => (name, *width, ChannelKind::Sink),
+        Statement::Fifo(name, width, depth) => (name, *width, ChannelKind::Fifo(*depth)),
+        _ => return Ok(None),
+    };
+    Ok(Some(Channel {
+        name: name.try_copy(alloc)?,
+        width,
+        kind,
+    }))
+}
+
+/// The channels of a session.
+pub(crate) fn channels_of(
+    alloc: Global,
+    statements: &[Statement],
+) -> Result<List<Channel>, OutOfMemory>
+    ensures { IfOk result (λ channels. channels ≡ filter_map channel statements.now) }
+{
+    let mut channels = List::new(alloc);
+    for statement in statements {
+        if let Some(found) = channel(alloc, statement)? {
+            channels.push(found)?;
+        }
+    }
+    Ok(channels)
+}
+
+/// The depth of a FIFO, and 0 for the other channels.
+fn depth_in(kind: ChannelKind) -> u64
+    ensures { result ≡ depth_in kind }
+{
+    match kind {
+        ChannelKind::Source | ChannelKind::Sink => 0,
+        ChannelKind::Fifo(depth) => depth,
+    }
+}
+
+/// The depths of the channels.
+pub(crate) fn depths_of(alloc: Global, channels: &[Channel]) -> Result<Words, OutOfMemory>
+    ensures { IfOk result (λ depths. depths ≡ map (λ c. depth_in c.kind) channels.now) }
+{
+    let mut depths = Words::with_room(alloc, channels.len() as u64)?;
+    for channel in channels {
+        depths.push(depth_in(channel.kind))?;
+    }
+    Ok(depths)
+}
+
+/// The cycle limit and the operation limit.
+pub(crate) fn limits_of(statements: &[Statement]) -> (u64, u64)
+    ensures { result ≡ limits_of statements.now }
+{
+    for statement in statements {
+        if let Statement::Limits(cycles, ops) = statement {
+            return (*cycles, *ops);
+        }
+    }
+    (1_000_000_000, 100_000)
+}
+
+/// The edits of a session.
+pub(crate) fn edits_of(
+    alloc: Global,
+    channels: &Names,
+    statements: &[Statement],
+) -> Result<List<Edit>, OutOfMemory>
+    ensures { IfOk result (λ edits. edits ≡ filter_map (edit channels.now) statements.now) }
+{
+    let mut edits = List::new(alloc);
+    for statement in statements {
+        if let Statement::Depth(name, depth) = statement {
+            edits.push(Edit {
+                channel: channels.number(name.bytes()),
+                depth: *depth,
+            })?;
+        }
+    }
+    Ok(edits)
+}

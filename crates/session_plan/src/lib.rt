@@ -1,0 +1,16 @@
+//! From the statements of a session to its plan and its edits: names become numbers.
+#![tactic(auto)]
+
+mod channels;
+mod inputs;
+mod modules;
+mod names;
+mod numbering;
+mod scope;
+mod section;
+#[cfg(test)]
+mod tests;
+mod whole;
+
+pub use section::{Level, Sort};
+pub use whole::{Checked, elaborate};

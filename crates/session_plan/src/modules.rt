@@ -1,0 +1,199 @@
+//! Modules and their blocks.
+ghost use Rattle.std.specs.Prelude.{◌≡◌, List as Items, [], map, IfOk};
+ghost use Rattle.std.specs.List.{filter_map};
+ghost use Rattle.session_plan.specs.Names.{Name as SpecName};
+ghost use Rattle.session_plan.specs.Sections.{sections, declared_width};
+ghost use Rattle.session_plan.specs.Tables.{scope_at};
+ghost use Rattle.session_plan.specs.Numbered.{timed, terminator};
+ghost use Rattle.session_plan.specs.Plans.{first_or, kind_of, len_of, block, memory, module_name, scope_of, module_of};
+ghost use Rattle.flow_design.specs.declared.design.Next.TheVariants as next;
+ghost use Rattle.session_plan.specs.declared.section.Level.TheVariants as level;
+
+use crate::names::Names;
+use crate::numbering::{terminator, timed};
+use crate::scope::{ModuleNames, names_of};
+use crate::section::{Level, Sort, begins, body_of, declared_width};
+use flow_design::{Block, BlockKind, Memory, Module, Name, Next, Statement, Timed};
+use flow_word::{List, OutOfMemory, TryCopy, Width};
+use std::alloc::Global;
+
+/// The widths of the registers, or of the temps, in order.
+fn widths_of(alloc: Global, sort: Sort, body: &[Statement]) -> Result<List<Width>, OutOfMemory>
+    ensures { IfOk result (λ widths. widths ≡ filter_map (declared_width sort) body.now) }
+{
+    let mut widths = List::new(alloc);
+    for statement in body {
+        if let Some(width) = declared_width(sort, statement) {
+            widths.push(width)?;
+        }
+    }
+    Ok(widths)
+}
+
+/// The memories, in order.
+fn memories_of(alloc: Global, body: &[Statement]) -> Result<List<Memory>, OutOfMemory>
+    ensures { IfOk result (λ memories. memories ≡ filter_map memory body.now) }
+{
+    let mut memories = List::new(alloc);
+    for statement in body {
+        if let Statement::Mem(_, width, len) = statement {
+            memories.push(Memory {
+                width: *width,
+                len: *len,
+            })?;
+        }
+    }
+    Ok(memories)
+}
+
+/// The operations, in order.
+fn operations_of(
+    alloc: Global,
+    channels: &Names,
+    own: &ModuleNames,
+    temps: &Names,
+    body: &[Statement],
+) -> Result<List<Timed>, OutOfMemory>
+    ensures { IfOk result (λ ops. ops ≡ filter_map (timed (scope_at channels.now own.now temps.now)) body.now) }
+{
+    let mut ops = List::new(alloc);
+    for statement in body {
+        if let Some(op) = timed(alloc, channels, own, temps, statement)? {
+            ops.push(op)?;
+        }
+    }
+    Ok(ops)
+}
+
+/// The first terminator.
+fn next_of(own: &ModuleNames, body: &[Statement]) -> Next
+    ensures { result ≡ first_or next.Stop (filter_map (terminator (scope_at [] own.now [])) body.now) }
+{
+    for statement in body {
+        if let Some(next) = terminator(own, statement) {
+            return next;
+        }
+    }
+    Next::Stop
+}
+
+/// What the statement that begins a block says of its kind.
+fn kind_of(own: &ModuleNames, head: &Statement) -> BlockKind
+    ensures { result ≡ kind_of (scope_at [] own.now []) head.now }
+{
+    match head {
+        Statement::Loop(_, ii, _, again) => BlockKind::Loop {
+            ii: *ii,
+            again: own.registers.number(again.bytes()),
+        },
+        _ => BlockKind::Plain,
+    }
+}
+
+/// What it says of its length.
+fn len_of(head: &Statement) -> u64
+    ensures { result ≡ len_of head.now }
+{
+    match head {
+        Statement::Block(_, len) | Statement::Loop(_, _, len, _) => *len,
+        _ => 0,
+    }
+}
+
+/// A block of a module.
+#[tactic(auto, unfolding(crate::specs::Plans::block))]
+fn block_of(
+    alloc: Global,
+    channels: &Names,
+    own: &ModuleNames,
+    head: &Statement,
+    body: &[Statement],
+) -> Result<Block, OutOfMemory>
+    ensures { IfOk result (λ b. b ≡ block (scope_at channels.now own.now []) (head.now, body.now)) }
+{
+    let temps = names_of(alloc, Sort::Temps, body)?;
+    Ok(Block {
+        kind: kind_of(own, head),
+        len: len_of(head),
+        temps: widths_of(alloc, Sort::Temps, body)?,
+        ops: operations_of(alloc, channels, own, &temps, body)?,
+        next: next_of(own, body),
+    })
+}
+
+/// The blocks of a module.
+fn blocks_of(
+    alloc: Global,
+    channels: &Names,
+    own: &ModuleNames,
+    body: &[Statement],
+) -> Result<List<Block>, OutOfMemory>
+    ensures { IfOk result (λ blocks. blocks ≡ map (block (scope_at channels.now own.now [])) (sections level.Blocks body.now)) }
+{
+    let mut blocks = List::new(alloc);
+    for (i, head) in body.iter().enumerate() {
+        if begins(Level::Blocks, head) {
+            let own_body = body_of(Level::Blocks, &body[i + 1..]);
+            blocks.push(block_of(alloc, channels, own, head, own_body)?)?;
+        }
+    }
+    Ok(blocks)
+}
+
+/// The names that a module declares.
+fn names_in<'a>(alloc: Global, body: &'a [Statement]) -> Result<ModuleNames<'a>, OutOfMemory>
+    ensures { IfOk result (λ own. (channels : Items SpecName) → scope_at channels own [] ≡ scope_of channels body.now) }
+{
+    Ok(ModuleNames {
+        registers: names_of(alloc, Sort::Registers, body)?,
+        memories: names_of(alloc, Sort::Memories, body)?,
+        blocks: names_of(alloc, Sort::Blocks, body)?,
+    })
+}
+
+/// The name of a module.
+fn name_of(alloc: Global, head: &Statement) -> Result<Name, OutOfMemory>
+    ensures { IfOk result (λ name. name ≡ module_name head.now) }
+{
+    match head {
+        Statement::Module(name) => name.try_copy(alloc),
+        _ => Name::new(alloc, &[]),
+    }
+}
+
+/// A module.
+#[tactic(auto, unfolding(crate::specs::Plans::module_of))]
+fn module_of(
+    alloc: Global,
+    channels: &Names,
+    head: &Statement,
+    body: &[Statement],
+) -> Result<Module, OutOfMemory>
+    ensures { IfOk result (λ m. m ≡ module_of channels.now (head.now, body.now)) }
+{
+    let own = names_in(alloc, body)?;
+    Ok(Module {
+        name: name_of(alloc, head)?,
+        registers: widths_of(alloc, Sort::Registers, body)?,
+        memories: memories_of(alloc, body)?,
+        blocks: blocks_of(alloc, channels, &own, body)?,
+    })
+}
+
+/// The modules of a session.
+pub(crate) fn modules_of(
+    alloc: Global,
+    channels: &Names,
+    statements: &[Statement],
+) -> Result<List<Module>, OutOfMemory>
+    ensures { IfOk result (λ ms. ms ≡ map (module_of channels.now) (sections level.Modules statements.now)) }
+{
+    let mut modules = List::new(alloc);
+    for (i, head) in statements.iter().enumerate() {
+        if begins(Level::Modules, head) {
+            let body = body_of(Level::Modules, &statements[i + 1..]);
+            modules.push(module_of(alloc, channels, head, body)?)?;
+        }
+    }
+    Ok(modules)
+}

@@ -1,0 +1,94 @@
+//! Names by number.
+ghost use Rattle.std.specs.Prelude.{◌≡◌, ◌≤◌, ◌^◌, ℕ, List as Items, [], ◌∷◌, ◌++◌, length, if◌then◌else◌, OnOk, OnErr};
+ghost use Rattle.std.specs.Option.{option_or};
+ghost use Rattle.std.specs.Str.{bytes_eq};
+ghost use Rattle.session_plan.specs.Names.{number_of};
+ghost use Rattle.session_plan.specs.NameTables.{number_at};
+
+use flow_word::{List, OutOfMemory};
+use indexmap::IndexMap;
+use std::alloc::Global;
+use std::marker::Model;
+
+/// Names in the order in which they were declared, at most 2^30 of them. Contracts see them as that list.
+#[derive(Drop)]
+pub(crate) struct Names<'a> {
+    all: List<&'a [u8]>,
+    numbers: IndexMap<&'a [u8], u32>,
+}
+
+impl<'a> Model for Names<'a> {
+    ghost use Rattle.std.specs.Prelude.{◌≡◌, ◌≤◌, ◌^◌, List as Items, ℕ, map, length};
+    ghost use Rattle.session_plan.specs.Names.{place_of};
+    ghost use Rattle.session_plan.specs.NameTables.{number_at};
+
+    ghost Value = { Items (Items ℕ) };
+
+    ghost view = { λ names. map (λ name. name.now) names.all };
+
+    ghost invariant = { λ names.
+        (length names.all ≤ 2 ^ 30)
+        × ((n : Items ℕ) → number_at names.numbers n ≡ place_of (map (λ name. name.now) names.all) n) };
+}
+
+/// Notes the number of a name, unless it has one already. After want of memory the table is as it was.
+fn note<'a>(
+    numbers: &mut IndexMap<&'a [u8], u32>,
+    name: &'a [u8],
+    number: u32,
+) -> Result<(), OutOfMemory>
+    ensures ok { OnOk result ((n : Items ℕ) → number_at numbers.new n ≡ option_or (number_at numbers.old n) (if bytes_eq n name.now then Some number else None)) }
+    ensures err { OnErr result ((n : Items ℕ) → number_at numbers.new n ≡ number_at numbers.old n) }
+{
+    if !numbers.contains_key(name) {
+        numbers.insert(name, number)?;
+    }
+    Ok(())
+}
+
+impl<'a> Names<'a> {
+    /// No name.
+    pub(crate) fn new(alloc: Global) -> Names<'a>
+        ensures { result ≡ [] }
+    {
+        Names {
+            all: List::new(alloc),
+            numbers: IndexMap::new(alloc),
+        }
+    }
+
+    /// Another name. More than 2^30 are refused as want of memory.
+    pub(crate) fn add(&mut self, name: &'a [u8]) -> Result<(), OutOfMemory>
+        ensures { OnOk result (self.new ≡ self.old ++ name.now ∷ []) }
+    {
+        let number = self.all.len();
+        if number >= 1 << 30 {
+            return Err(OutOfMemory);
+        }
+        self.all.push(name)?;
+        if note(&mut self.numbers, name, number as u32).is_err() {
+            self.all.truncate(number);
+            return Err(OutOfMemory);
+        }
+        Ok(())
+    }
+
+    /// How many names there are.
+    pub(crate) fn len(&self) -> u32
+        ensures len { result ≡ length self.now }
+        ensures most { result ≤ 2 ^ 30 }
+    {
+        self.all.len() as u32
+    }
+
+    /// The number of a name: its place, or how many names there are where it is none of them.
+    pub(crate) fn number(&self, name: &[u8]) -> u32
+        ensures number { result ≡ number_of self.now name.now }
+        ensures most { result ≤ 2 ^ 30 }
+    {
+        match self.numbers.get(name) {
+            Some(number) => *number,
+            None => self.all.len() as u32,
+        }
+    }
+}

@@ -1,0 +1,157 @@
+//! Numbers in the place of names.
+ghost use Rattle.std.specs.Prelude.{◌≡◌, [], ◌++◌, option_map, IfOk};
+ghost use Rattle.session_plan.specs.Names.{number_of};
+ghost use Rattle.session_plan.specs.Numbered.{numbered, operation, timed, terminator};
+ghost use Rattle.session_plan.specs.Tables.{scope_at};
+
+use crate::names::Names;
+use crate::scope::ModuleNames;
+use flow_design::{Expr, Name, Next, Op, Statement, Timed};
+use flow_word::{Boxed, OutOfMemory};
+use std::alloc::Global;
+
+/// The number of a register, or of a temp: the temps follow the registers.
+#[tactic(auto, using(crate::proofs::NameLemmas::number_behind, crate::proofs::NameLemmas::number_among))]
+fn place(own: &ModuleNames, temps: &Names, name: &Name) -> u32
+    ensures { result ≡ number_of (own.now.registers ++ temps.now) name.now }
+{
+    let number = own.registers.number(name.bytes());
+    if number < own.registers.len() {
+        number
+    } else {
+        own.registers.len() + temps.number(name.bytes())
+    }
+}
+
+/// An expression over numbers.
+#[tactic(auto, using(crate::proofs::Trees::the_numbered))]
+fn numbered(
+    alloc: Global,
+    own: &ModuleNames,
+    temps: &Names,
+    expr: &Expr<Name>,
+) -> Result<Expr<u32>, OutOfMemory>
+    ensures { IfOk result (λ e. e ≡ numbered (own.now.registers ++ temps.now) expr.now) }
+{
+    match expr {
+        Expr::Number(value) => Ok(Expr::Number(*value)),
+        Expr::Var(name) => Ok(Expr::Var(place(own, temps, name))),
+        Expr::Unary(op, a) => Ok(Expr::Unary(
+            *op,
+            Boxed::new(alloc, numbered(alloc, own, temps, a.get())?)?,
+        )),
+        Expr::Binary(op, a, b) => {
+            let a = Boxed::new(alloc, numbered(alloc, own, temps, a.get())?)?;
+            let b = Boxed::new(alloc, numbered(alloc, own, temps, b.get())?)?;
+            Ok(Expr::Binary(*op, a, b))
+        }
+        Expr::Sext(width, a) => Ok(Expr::Sext(
+            *width,
+            Boxed::new(alloc, numbered(alloc, own, temps, a.get())?)?,
+        )),
+        Expr::Pick(a, b, c) => {
+            let a = Boxed::new(alloc, numbered(alloc, own, temps, a.get())?)?;
+            let b = Boxed::new(alloc, numbered(alloc, own, temps, b.get())?)?;
+            let c = Boxed::new(alloc, numbered(alloc, own, temps, c.get())?)?;
+            Ok(Expr::Pick(a, b, c))
+        }
+    }
+}
+
+/// An operation over numbers.
+fn operation(
+    alloc: Global,
+    channels: &Names,
+    own: &ModuleNames,
+    temps: &Names,
+    op: &Op<Name>,
+) -> Result<Op<u32>, OutOfMemory>
+    ensures { IfOk result (λ o. o ≡ operation (scope_at channels.now own.now temps.now) op.now) }
+{
+    match op {
+        Op::Set(x, e) => Ok(Op::Set(place(own, temps, x), numbered(alloc, own, temps, e)?)),
+        Op::Load(x, m, e) => {
+            Ok(Op::Load(
+                place(own, temps, x),
+                own.memories.number(m.bytes()),
+                numbered(alloc, own, temps, e)?,
+            ))
+        }
+        Op::Store(m, e, f) => {
+            let address = numbered(alloc, own, temps, e)?;
+            let value = numbered(alloc, own, temps, f)?;
+            Ok(Op::Store(own.memories.number(m.bytes()), address, value))
+        }
+        Op::Read(f, x) => Ok(Op::Read(channels.number(f.bytes()), place(own, temps, x))),
+        Op::Write(f, e) => Ok(Op::Write(
+            channels.number(f.bytes()),
+            numbered(alloc, own, temps, e)?,
+        )),
+        Op::TryRead(f, x, ok) => {
+            Ok(Op::TryRead(
+                channels.number(f.bytes()),
+                place(own, temps, x),
+                place(own, temps, ok),
+            ))
+        }
+        Op::TryWrite(f, ok, e) => {
+            Ok(Op::TryWrite(
+                channels.number(f.bytes()),
+                place(own, temps, ok),
+                numbered(alloc, own, temps, e)?,
+            ))
+        }
+        Op::Empty(f, x) => Ok(Op::Empty(channels.number(f.bytes()), place(own, temps, x))),
+        Op::Full(f, x) => Ok(Op::Full(channels.number(f.bytes()), place(own, temps, x))),
+    }
+}
+
+/// The number of a guard.
+fn guard(own: &ModuleNames, temps: &Names, name: &Option<Name>) -> Option<u32>
+    ensures { result ≡ option_map (number_of (own.now.registers ++ temps.now)) name.now }
+{
+    match name {
+        Some(name) => Some(place(own, temps, name)),
+        None => None,
+    }
+}
+
+/// What an `at` schedules.
+pub(crate) fn timed(
+    alloc: Global,
+    channels: &Names,
+    own: &ModuleNames,
+    temps: &Names,
+    statement: &Statement,
+) -> Result<Option<Timed>, OutOfMemory>
+    ensures { IfOk result (λ t. t ≡ timed (scope_at channels.now own.now temps.now) statement.now) }
+{
+    match statement {
+        Statement::At(offset, name, op) => {
+            Ok(Some(Timed {
+                offset: *offset,
+                guard: guard(own, temps, name),
+                op: operation(alloc, channels, own, temps, op)?,
+            }))
+        }
+        _ => Ok(None),
+    }
+}
+
+/// What a terminator says.
+pub(crate) fn terminator(own: &ModuleNames, statement: &Statement) -> Option<Next>
+    ensures { result ≡ terminator (scope_at [] own.now []) statement.now }
+{
+    match statement {
+        Statement::Goto(to) => Some(Next::Goto(own.blocks.number(to.bytes()))),
+        Statement::Branch(register, to, other) => {
+            Some(Next::Branch(
+                own.registers.number(register.bytes()),
+                own.blocks.number(to.bytes()),
+                own.blocks.number(other.bytes()),
+            ))
+        }
+        Statement::Stop => Some(Next::Stop),
+        _ => None,
+    }
+}

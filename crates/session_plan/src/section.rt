@@ -1,0 +1,76 @@
+//! Sections of a session, and what its statements declare.
+ghost use Rattle.std.specs.Prelude.{◌≡◌, option_map};
+ghost use Rattle.session_plan.specs.Sections.{begins, body_of, declared, declared_width};
+
+use flow_design::Statement;
+use flow_word::Width;
+
+/// What a section is.
+#[derive(Clone, Copy, Debug, PartialEq, Eq)]
+pub enum Level {
+    Modules,
+    Blocks,
+}
+
+/// What a name stands for.
+#[derive(Clone, Copy, Debug, PartialEq, Eq)]
+pub enum Sort {
+    Channels,
+    Registers,
+    Memories,
+    Blocks,
+    Temps,
+}
+
+/// Whether a statement begins a section.
+pub(crate) fn begins(level: Level, statement: &Statement) -> bool
+    ensures { result ≡ begins level statement.now }
+{
+    match (level, statement) {
+        (Level::Modules, Statement::Module(_)) => true,
+        (Level::Blocks, Statement::Block(_, _) | Statement::Loop(_, _, _, _)) => true,
+        _ => false,
+    }
+}
+
+/// The statements up to the next section.
+pub(crate) fn body_of<'a>(level: Level, rest: &'a [Statement]) -> &'a [Statement]
+    ensures { result.now ≡ body_of level rest.now }
+{
+    for (i, statement) in rest.iter().enumerate() {
+        if begins(level, statement) {
+            return &rest[..i];
+        }
+    }
+    rest
+}
+
+/// The name that a statement declares.
+pub(crate) fn declared<'a>(sort: Sort, statement: &'a Statement) -> Option<&'a [u8]>
+    ensures { option_map (λ n. n.now) result ≡ declared sort statement.now }
+{
+    match (sort, statement) {
+        (
+            Sort::Channels,
+            Statement::Source(name, _) | Statement::Sink(name, _) | Statement::Fifo(name, _, _),
+        ) => Some(name.bytes()),
+        (Sort::Registers, Statement::Reg(name, _)) => Some(name.bytes()),
+        (Sort::Memories, Statement::Mem(name, _, _)) => Some(name.bytes()),
+        (Sort::Blocks, Statement::Block(name, _) | Statement::Loop(name, _, _, _)) => {
+            Some(name.bytes())
+        }
+        (Sort::Temps, Statement::Temp(name, _)) => Some(name.bytes()),
+        _ => None,
+    }
+}
+
+/// The width of a register or temp.
+pub(crate) fn declared_width(sort: Sort, statement: &Statement) -> Option<Width>
+    ensures { result ≡ declared_width sort statement.now }
+{
+    match (sort, statement) {
+        (Sort::Registers, Statement::Reg(_, width)) => Some(*width),
+        (Sort::Temps, Statement::Temp(_, width)) => Some(*width),
+        _ => None,
+    }
+}

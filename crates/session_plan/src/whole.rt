@@ -1,0 +1,61 @@
+//! The plan and the edits of a session.
+ghost use Rattle.std.specs.Prelude.{◌≡◌, IfOk};
+ghost use Rattle.session_plan.specs.Plans.{plan_of, edits_of, channels_of, modules_of, channel_names};
+
+use crate::channels::{channels_of, depths_of, edits_of, limits_of};
+use crate::inputs::inputs_in;
+use crate::modules::modules_of;
+use crate::names::Names;
+use crate::scope::names_of;
+use crate::section::Sort;
+use flow_design::{Channel, Design, Edit, Plan, Statement};
+use flow_word::{List, OutOfMemory};
+use std::alloc::Global;
+
+/// The plan and the edits of a session.
+#[derive(Debug, Drop, PartialEq)]
+pub struct Checked {
+    pub plan: Plan,
+    /// In order, none of them applied to the plan.
+    pub edits: List<Edit>,
+}
+
+/// The plan and the edits that these statements write: channels, modules, blocks, registers and memories are numbered in
+/// order of their statements, and the temps of a body follow the module's registers. A name that stands for nothing
+/// gets the count of the names among which it was looked for, so that its number is out of range.
+#[tactic(auto, unfolding(crate::specs::Plans::edits_of))]
+pub fn elaborate(alloc: Global, statements: &[Statement]) -> Result<Checked, OutOfMemory>
+    ensures plan { IfOk result (λ checked. checked.plan ≡ plan_of statements.now) }
+    ensures edits { IfOk result (λ checked. checked.edits ≡ edits_of statements.now) }
+{
+    let names = names_of(alloc, Sort::Channels, statements)?;
+    let edits = edits_of(alloc, &names, statements)?;
+    let channels = channels_of(alloc, statements)?;
+    let plan = plan_in(alloc, &names, channels, statements)?;
+    Ok(Checked { plan, edits })
+}
+
+/// The plan, from the channels and their names.
+#[tactic(auto, unfolding(crate::specs::Plans::plan_of))]
+fn plan_in(
+    alloc: Global,
+    names: &Names,
+    channels: List<Channel>,
+    statements: &[Statement],
+) -> Result<Plan, OutOfMemory>
+    requires channels { channels ≡ channels_of statements.now }
+    requires names { names.now ≡ channel_names statements.now }
+    ensures { IfOk result (λ plan. plan ≡ plan_of statements.now) }
+{
+    let inputs = inputs_in(alloc, names, channels.as_slice(), statements)?;
+    let depths = depths_of(alloc, channels.as_slice())?;
+    let modules = modules_of(alloc, names, statements)?;
+    let (cycles, ops) = limits_of(statements);
+    Ok(Plan {
+        design: Design { channels, modules },
+        inputs,
+        cycles,
+        ops,
+        depths,
+    })
+}

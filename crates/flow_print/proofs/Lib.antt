@@ -1,0 +1,4 @@
+pub mod Printed
+pub mod ReadBack
+pub mod PartLemmas
+pub mod SplitLemmas

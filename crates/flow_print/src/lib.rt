@@ -1,0 +1,12 @@
+//! The canonical text of a session.
+#![tactic(auto)]
+
+mod expression;
+mod laws;
+mod operation;
+mod session;
+#[cfg(test)]
+mod tests;
+
+pub use laws::reads_back;
+pub use session::print_session;

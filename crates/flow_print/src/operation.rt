@@ -1,0 +1,78 @@
+//! Operations and their guards, as they stand behind the offset.
+ghost use Rattle.std.specs.Prelude.{◌≡◌, ◌∷◌, ◌++◌, OnOk};
+ghost use Rattle.flow_grammar.specs.Parts.{guard_parts, op_parts};
+ghost use Rattle.flow_print.specs.Canonical.{spaced_parts};
+
+use crate::expression::print_expression;
+use flow_design::{Name, Op};
+use flow_word::{List, OutOfMemory};
+use report_text::push_token;
+
+/// Adds `if R`, where there is a guard.
+#[tactic(auto, using(crate::proofs::Printed::printed_guards))]
+pub fn print_guard(text: &mut List<u8>, guard: &Option<Name>) -> Result<(), OutOfMemory>
+    ensures { OnOk result (text.new ≡ text.old ++ spaced_parts (guard_parts guard.now)) }
+{
+    match guard {
+        None => Ok(()),
+        Some(place) => push_two(text, b"if", place),
+    }
+}
+
+/// Adds an operation.
+#[tactic(auto, using(crate::proofs::Printed::printed_operations))]
+pub fn print_operation(text: &mut List<u8>, op: &Op<Name>) -> Result<(), OutOfMemory>
+    ensures { OnOk result (text.new ≡ text.old ++ spaced_parts (op_parts op.now)) }
+{
+    match op {
+        Op::Set(place, value) => {
+            push_two(text, b"set", place)?;
+            print_expression(text, value)
+        }
+        Op::Load(place, memory, address) => {
+            push_three(text, b"load", place, memory)?;
+            print_expression(text, address)
+        }
+        Op::Store(memory, address, value) => {
+            push_two(text, b"store", memory)?;
+            print_expression(text, address)?;
+            print_expression(text, value)
+        }
+        Op::Read(channel, place) => push_three(text, b"read", channel, place),
+        Op::Write(channel, value) => {
+            push_two(text, b"write", channel)?;
+            print_expression(text, value)
+        }
+        Op::TryRead(channel, place, done) => {
+            push_three(text, b"tryread", channel, place)?;
+            push_token(text, done.bytes())
+        }
+        Op::TryWrite(channel, done, value) => {
+            push_three(text, b"trywrite", channel, done)?;
+            print_expression(text, value)
+        }
+        Op::Empty(channel, place) => push_three(text, b"empty", channel, place),
+        Op::Full(channel, place) => push_three(text, b"full", channel, place),
+    }
+}
+
+/// Adds a word and a name.
+fn push_two(text: &mut List<u8>, word: &[u8], name: &Name) -> Result<(), OutOfMemory>
+    ensures { OnOk result (text.new ≡ text.old ++ 32 ∷ word.now ++ 32 ∷ name.now) }
+{
+    push_token(text, word)?;
+    push_token(text, name.bytes())
+}
+
+/// Adds a word and two names.
+fn push_three(
+    text: &mut List<u8>,
+    word: &[u8],
+    first: &Name,
+    second: &Name,
+) -> Result<(), OutOfMemory>
+    ensures { OnOk result (text.new ≡ text.old ++ 32 ∷ word.now ++ 32 ∷ first.now ++ 32 ∷ second.now) }
+{
+    push_two(text, word, first)?;
+    push_token(text, second.bytes())
+}

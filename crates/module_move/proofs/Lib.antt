@@ -1,5 +1,6 @@
 pub mod Ages
 pub mod Begins
+pub mod Failing
 pub mod Moving
 pub mod Picking
 pub mod Readiness

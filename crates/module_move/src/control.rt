@@ -1,9 +1,10 @@
 //! How the control of a module goes on after the commits of a local clock.
-ghost use Rattle.std.specs.Prelude.{◌≡◌, ℕ, ◌+◌, ◌-◌, ◌*◌, ◌<◌, ◌≤◌, ◌^◌, length, slice_index, OnOk};
+ghost use Rattle.std.specs.Prelude.{◌≡◌, ℕ, ◌+◌, ◌-◌, ◌*◌, ◌<◌, ◌≤◌, ◌^◌, length, slice_index, OnOk, OnErr};
 ghost use Rattle.std.specs.Int.{from_bool};
 ghost use Rattle.flow_design.specs.StaticRules.{IsModuleSound, IsNextSound};
 ghost use Rattle.flow_design.specs.Module.{block_of, interval};
-ghost use Rattle.lockstep_defs.specs.Machine.{again_of, ticked, decided, finished};
+ghost use Rattle.lockstep_defs.specs.Machine.{again_of, decided, finished};
+ghost use Rattle.module_move.specs.Moves.{ticked_to, gone_on};
 
 use crate::opening::enter;
 use crate::pending::{block_of, interval, live_count};
@@ -11,38 +12,18 @@ use flow_design::{Block, BlockKind, Module, ModuleState, Next};
 use flow_word::{OutOfMemory, Words};
 use std::alloc::Global;
 
-/// The clock goes up, the loop decides, and the block may end. After want of memory the state may be anything.
-#[tactic(auto, using(crate::proofs::Begins::block_sound, crate::proofs::Begins::interval_some, crate::proofs::Ages::span))]
-pub(crate) fn go_on(alloc: Global, of: &Module, state: &mut ModuleState) -> Result<(), OutOfMemory>
+/// The local clock goes up to a later one, and the temps of the iterations that are then no longer live go.
+#[tactic(auto, using(crate::proofs::Begins::block_sound, crate::proofs::Begins::interval_some, crate::proofs::Ages::span, crate::proofs::Ticking::turned))]
+pub fn tick_to(of: &Module, state: &mut ModuleState, clock: u64)
     requires module { (channels : ℕ) × IsModuleSound channels of.now }
     requires there { state.old.control.block < length of.now.blocks }
     requires started { state.old.control.newest ≤ state.old.control.clock }
-    requires small { state.old.control.clock < 2 ^ 60 }
-    requires few { state.old.count < 2 ^ 61 - 2 }
-    ensures gone { let b = block_of of.now state.old in OnOk result (state.new ≡ finished of.now b (decided b (ticked b state.old))) }
-    ensures clock { OnOk result (state.new.control.clock ≤ state.old.control.clock + 1) }
-    ensures count { OnOk result (state.new.count ≤ state.old.count + 1) }
+    requires later { state.old.control.clock ≤ clock }
+    requires small { clock ≤ 2 ^ 60 }
+    ensures ticked { state.new ≡ ticked_to of.now clock state.old }
 {
     let block = block_of(of, state);
-    tick(block, state);
-    decide(alloc, block, state)?;
-    finish(alloc, of, block, state)?;
-    Ok(())
-}
-
-/// The local clock goes up by one, and the temps of an iteration that is no longer live go.
-#[tactic(auto, using(crate::proofs::Ticking::turned), unfolding(lockstep_defs::specs::Machine::ticked))]
-fn tick(block: &Block, state: &mut ModuleState)
-    requires some { 1 ≤ interval block.now }
-    requires span { block.now.len ≤ 64 * interval block.now }
-    requires started { state.old.control.newest ≤ state.old.control.clock }
-    requires small { state.old.control.clock < 2 ^ 60 }
-    ensures ticked { state.new ≡ ticked block.now state.old }
-    ensures started { state.new.control.newest ≤ state.new.control.clock }
-    ensures clock { state.new.control.clock ≡ state.old.control.clock + 1 }
-    ensures count { state.new.count ≡ state.old.count }
-{
-    state.control.clock += 1;
+    state.control.clock = clock;
     let live = live_count(block, &state.control);
     let all = state.temps.len();
     if live < all {
@@ -54,6 +35,29 @@ fn tick(block: &Block, state: &mut ModuleState)
     }
 }
 
+/// The loop decides, and the block may end, in the local clock that has begun.
+///
+/// After want of memory the call may be made again: what it does then is what is left to do.
+#[tactic(auto, using(crate::proofs::Begins::block_sound, crate::proofs::Begins::interval_some))]
+pub fn go_on(alloc: Global, of: &Module, state: &mut ModuleState) -> Result<(), OutOfMemory>
+    requires module { (channels : ℕ) × IsModuleSound channels of.now }
+    requires there { state.old.control.block < length of.now.blocks }
+    requires started { state.old.control.newest ≤ state.old.control.clock }
+    requires few { state.old.count < 2 ^ 61 - 2 }
+    ensures gone { OnOk result (state.new ≡ gone_on of.now state.old) }
+    ensures left { OnErr result (gone_on of.now state.new ≡ gone_on of.now state.old) }
+    ensures clock { OnOk result (state.new.control.clock ≤ state.old.control.clock) }
+    ensures count { OnOk result (state.new.count ≤ state.old.count + 1) }
+    ensures started { OnErr result (state.new.control.newest ≤ state.new.control.clock) }
+    ensures block { OnErr result (state.new.control.block ≡ state.old.control.block) }
+    ensures few { OnErr result (state.new.count ≤ state.old.count + 1) }
+{
+    let block = block_of(of, state);
+    decide(alloc, block, state)?;
+    finish(alloc, of, block, state)?;
+    Ok(())
+}
+
 /// Where the newest iteration of a loop has been live for II local clocks, its register decides whether the next one starts.
 #[tactic(auto, unfolding(lockstep_defs::specs::Machine::decided))]
 fn decide(alloc: Global, block: &Block, state: &mut ModuleState) -> Result<(), OutOfMemory>
@@ -63,6 +67,8 @@ fn decide(alloc: Global, block: &Block, state: &mut ModuleState) -> Result<(), O
     ensures started { OnOk result (state.new.control.newest ≤ state.new.control.clock) }
     ensures clock { OnOk result (state.new.control.clock ≡ state.old.control.clock) }
     ensures count { OnOk result (state.new.count ≤ state.old.count + from_bool state.new.control.looping) }
+    ensures block { OnOk result (state.new.control.block ≡ state.old.control.block) }
+    ensures unchanged { OnErr result (state.new ≡ state.old) }
 {
     let age = state.control.clock - state.control.newest;
     if state.control.looping && age == interval(block) {
@@ -91,6 +97,7 @@ fn finish(
     ensures finished { OnOk result (state.new ≡ finished of.now block.now state.old) }
     ensures clock { OnOk result (state.new.control.clock ≤ state.old.control.clock) }
     ensures count { OnOk result (state.new.count + from_bool state.old.control.looping ≤ state.old.count + 1) }
+    ensures unchanged { OnErr result (state.new ≡ state.old) }
 {
     if state.control.looping || state.control.clock - state.control.newest < block.len {
         return Ok(());

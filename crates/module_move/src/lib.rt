@@ -11,5 +11,8 @@ mod pending;
 mod requests;
 
 pub use asking::ask;
-pub use moves::make_move;
+pub use control::{go_on, tick_to};
+pub use moves::{commit, make_move};
 pub use opening::open;
+pub use pending::{block_of, interval, live_count, temps_of};
+pub use requests::add_requests;

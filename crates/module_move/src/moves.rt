@@ -1,16 +1,45 @@
 //! One move of a module.
-ghost use Rattle.std.specs.Prelude.{◌≡◌, ℕ, ◌+◌, ◌<◌, ◌≤◌, ◌^◌, length, OnOk};
+ghost use Rattle.std.specs.Prelude.{◌≡◌, ℕ, ◌+◌, ◌<◌, ◌≤◌, ◌^◌, length, OnOk, OnErr};
 ghost use Rattle.flow_design.specs.StaticRules.{IsModuleSound};
 ghost use Rattle.flow_design.specs.Module.{due};
 ghost use Rattle.lockstep_defs.specs.Machine.{move};
+ghost use Rattle.module_move.specs.Moves.{counted};
 ghost use Rattle.module_move.specs.Sound.{IsStateSound, IsRunnable};
 
 use crate::commits::commit_all;
-use crate::control::go_on;
+use crate::control::{go_on, tick_to};
 use crate::effects::add_effects;
 use flow_design::{Due, Effect, Module, ModuleState, Reply};
 use flow_word::{List, OutOfMemory};
 use std::alloc::Global;
+
+/// The operations that are due, `pending`, commit together on the replies, and count. `effects` is room for what the
+/// operations write; what it held before is gone.
+///
+/// After want of memory the state is as it was.
+pub fn commit(
+    of: &Module,
+    state: &mut ModuleState,
+    pending: &[Due],
+    replies: &[Reply],
+    effects: &mut List<Effect>,
+) -> Result<(), OutOfMemory>
+    requires module { (channels : ℕ) × IsModuleSound channels of.now }
+    requires sound { IsStateSound of.now state.old }
+    requires pending { pending.now ≡ due of.now state.old }
+    requires few { state.old.count < 2 ^ 60 }
+    ensures committed { OnOk result (state.new ≡ counted of.now state.old replies.now) }
+    ensures unchanged { OnErr result (state.new ≡ state.old) }
+    ensures control { state.new.control ≡ state.old.control }
+    ensures count { OnOk result (state.new.count ≡ state.old.count + length pending.now) }
+    ensures few { length pending.now ≤ 65536 }
+{
+    effects.truncate(0);
+    add_effects(of, state, pending, replies, effects)?;
+    commit_all(of, state, effects.as_slice());
+    state.count += pending.len() as u64;
+    Ok(())
+}
 
 /// One local clock: the operations that are due, `pending`, commit together on the replies, the clock goes up, and the
 /// loop and the block may go on or end. `effects` is room for what the operations write; what it held before is gone.
@@ -34,11 +63,9 @@ pub fn make_move(
     ensures clock { OnOk result (state.new.control.clock ≤ state.old.control.clock + 1) }
     ensures count { OnOk result (state.new.count ≤ state.old.count + length pending.now + 1) }
 {
-    effects.truncate(0);
-    add_effects(of, state, pending, replies, effects)?;
-    commit_all(of, state, effects.as_slice());
-
-    state.count += pending.len() as u64;
+    commit(of, state, pending, replies, effects)?;
+    let next = state.control.clock + 1;
+    tick_to(of, state, next);
     go_on(alloc, of, state)?;
     Ok(())
 }

@@ -1,5 +1,5 @@
 //! The first state of a module, and how a block begins.
-ghost use Rattle.std.specs.Prelude.{◌≡◌, ◌+◌, ℕ, ◌<◌, ◌^◌, IfOk, OnOk, length, map, replicate};
+ghost use Rattle.std.specs.Prelude.{◌≡◌, ◌+◌, ℕ, ◌<◌, ◌^◌, IfOk, OnOk, OnErr, length, map, replicate};
 ghost use Rattle.flow_design.specs.StaticRules.{IsModuleSound};
 ghost use Rattle.flow_design.specs.Module.{is_loop};
 ghost use Rattle.lockstep_defs.specs.Machine.{opened, entered};
@@ -67,6 +67,7 @@ pub(crate) fn enter(
     ensures entered { OnOk result (state.new ≡ entered of.now number state.old) }
     ensures clock { OnOk result (state.new.control.clock ≡ 0) }
     ensures count { OnOk result (state.new.count ≡ state.old.count + 1) }
+    ensures unchanged { OnErr result (state.new ≡ state.old) }
 {
     let block = &of.blocks.as_slice()[number as usize];
     let mut temps = List::with_room(alloc, 1)?;

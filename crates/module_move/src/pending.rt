@@ -9,7 +9,7 @@ use flow_expr::variable;
 use flow_word::{List, OutOfMemory};
 
 /// The block in which the module stands.
-pub(crate) fn block_of<'a>(of: &'a Module, state: &ModuleState) -> &'a Block
+pub fn block_of<'a>(of: &'a Module, state: &ModuleState) -> &'a Block
     requires { state.now.control.block < length of.now.blocks }
     ensures { result.now ≡ block_of of.now state.now }
 {
@@ -25,7 +25,7 @@ pub(crate) fn operation<'a>(block: &'a Block, due: &Due) -> &'a Op<u32>
 }
 
 /// The local clocks between the starts of two iterations.
-pub(crate) fn interval(block: &Block) -> u64
+pub fn interval(block: &Block) -> u64
     ensures { result ≡ interval block.now }
 {
     match block.kind {
@@ -36,7 +36,7 @@ pub(crate) fn interval(block: &Block) -> u64
 
 /// How many iterations are live.
 #[tactic(auto, using(crate::proofs::Begins::live_count_is, crate::proofs::Begins::few_live))]
-pub(crate) fn live_count(block: &Block, control: &Control) -> u64
+pub fn live_count(block: &Block, control: &Control) -> u64
     requires some { 1 ≤ interval block.now }
     requires span { block.now.len ≤ 64 * interval block.now }
     requires started { control.now.newest ≤ control.now.clock }
@@ -52,7 +52,7 @@ pub(crate) fn live_count(block: &Block, control: &Control) -> u64
 }
 
 /// The temps of a live iteration, or none.
-pub(crate) fn temps_of(state: &ModuleState, iteration: u32) -> &[u64]
+pub fn temps_of(state: &ModuleState, iteration: u32) -> &[u64]
     ensures { result.now ≡ temps_of state.now iteration }
 {
     match state.temps.as_slice().get(iteration as usize) {

@@ -11,7 +11,7 @@ use flow_expr::eval;
 use flow_word::{Kind, List, OutOfMemory, cut};
 
 /// Adds the requests of the FIFO operations among the due ones, in commit order.
-pub(crate) fn add_requests(
+pub fn add_requests(
     channels: &[Channel],
     of: &Module,
     state: &ModuleState,

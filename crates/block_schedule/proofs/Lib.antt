@@ -1,0 +1,6 @@
+pub mod Entries
+pub mod Limits
+pub mod Making
+pub mod Search
+pub mod Next
+pub mod TestBlocksFit

@@ -1,0 +1,31 @@
+-- What a schedule holds of its block.
+use Rattle.std.specs.Prelude.{ℕ, ◌≡◌, ◌⊎◌, ◌+◌, ◌-◌, ◌==◌, ◌*◌, ◌<◌, ◌≤◌, List, map, filter, zip, length, All, Contains, IsPermutation}
+use Rattle.std.specs.List.Sorted.{IsNonDecreasing}
+use Rattle.flow_design.specs.declared.design.Block.{Block}
+use Rattle.flow_design.specs.Module.{interval, due_at}
+use Rattle.block_schedule.specs.declared.schedule.Schedule.{Schedule}
+
+-- the numbers that stand beside an offset
+abbrev pub beside : ℕ → List ℕ → List ℕ → List ℕ
+beside offset offsets numbers = map (λ e. e.1) (filter (λ e. e.0 == offset) (zip offsets numbers))
+
+-- the schedule of a block that keeps the limits: its offsets in order, and beside each offset the operations there, in text order
+pub record IsScheduleOf (b : Block) (s : Schedule) : Type 0 where
+  pub same_interval : s.interval ≡ interval b
+  pub same_len : s.len ≡ b.len
+  pub some : 1 ≤ interval b
+  pub in_block : All (λ t. t.offset < b.len) b.ops
+  pub most : b.len ≤ 1000000000000
+  pub short : interval b ≤ b.len
+  pub span : b.len ≤ 64 * interval b
+  pub pairs : length s.numbers.items ≡ length s.offsets.items
+  pub in_order : IsNonDecreasing s.offsets.items
+  pub offsets : IsPermutation (map (λ t. t.offset) b.ops) s.offsets.items
+  pub operations : (offset : ℕ) → beside offset s.offsets.items s.numbers.items ≡ due_at b offset
+
+-- the lesser of a local clock and that at which an iteration, which has this age now, has the next of these offsets as its age
+pub record IsSooner (offsets : List ℕ) (now age next clock : ℕ) : Type 0 where
+  pub from : now ≤ clock
+  pub most : clock ≤ next
+  pub reached : (clock ≡ next) ⊎ Contains offsets (age + (clock - now))
+  pub idle_before : (c : ℕ) → now ≤ c → c < clock → ¬ Contains offsets (age + (c - now))

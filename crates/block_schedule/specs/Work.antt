@@ -1,0 +1,46 @@
+-- The local clocks of a block in which there is work: an operation, a decision of the loop, or the block's end.
+use Rattle.std.specs.Prelude.{ℕ, ◌≡◌, ◌+◌, ◌^◌, ◌<◌, ◌≤◌, ◌⊎◌, IsTrue, IsFalse, map, Contains}
+use Rattle.flow_design.specs.declared.design.Block.{Block}
+use Rattle.flow_design.specs.declared.state.Control.{Control}
+use Rattle.flow_design.specs.Module.{is_loop, interval, ages}
+
+-- the control at another local clock, when no further iteration has started
+abbrev pub at_clock : Control → ℕ → Control
+at_clock k clock = record k { clock = clock }
+
+-- some operation of the block has this offset
+abbrev pub HasOperationAt : Block → ℕ → Type 0
+HasOperationAt b offset = Contains (map (λ t. t.offset) b.ops) offset
+
+-- a live iteration has an operation at its age
+pub record HasOperation (b : Block) (k : Control) : Type 0 where
+  pub age : ℕ
+  pub is_live : Contains (ages b k) age
+  pub operation : HasOperationAt b age
+
+-- an iteration is decided: the loop goes on, and its newest iteration has been live for II local clocks
+pub record IsDecided (b : Block) (k : Control) : Type 0 where
+  pub goes_on : IsTrue k.looping
+  pub is_old : k.clock ≡ k.newest + interval b
+
+-- the block is over: no further iteration starts, and the newest one started LEN local clocks ago
+pub record IsOver (b : Block) (k : Control) : Type 0 where
+  pub is_last : IsFalse k.looping
+  pub is_old : k.newest + b.len ≤ k.clock
+
+abbrev pub HasWork : Block → Control → Type 0
+HasWork b k = HasOperation b k ⊎ (IsDecided b k ⊎ IsOver b k)
+
+-- the least local clock with work, from the control's own on
+pub record IsNextDue (b : Block) (k : Control) (clock : ℕ) : Type 0 where
+  pub from : k.clock ≤ clock
+  pub work : HasWork b (at_clock k clock)
+  pub idle_before : (c : ℕ) → k.clock ≤ c → c < clock → ¬ HasWork b (at_clock k c)
+
+-- the control stands in the block: an iteration has started, the block is not over, and no decision was passed
+pub record StandsIn (b : Block) (k : Control) : Type 0 where
+  pub small : k.clock < 10 ^ 18
+  pub has_started : k.newest ≤ k.clock
+  pub is_young : IsFalse k.looping → k.clock < k.newest + b.len
+  pub is_loop : IsTrue k.looping → IsTrue (is_loop b.kind)
+  pub undecided : IsTrue k.looping → k.clock ≤ k.newest + interval b

@@ -1,0 +1,10 @@
+//! Tables of a block's operations by their offsets, and the next local clock in which a block has work.
+#![tactic(auto)]
+
+mod schedule;
+mod tables;
+
+pub use schedule::Schedule;
+
+#[cfg(test)]
+mod tests;

@@ -1,0 +1,112 @@
+//! The schedule of a block.
+ghost use Rattle.std.specs.Prelude.{ℕ, ◌≡◌, ◌+◌, ◌^◌, ◌≤◌, ◌<◌, if◌then◌else◌, All, IfOk};
+ghost use Rattle.std.specs.List.Sorted.{IsNonDecreasing};
+ghost use Rattle.flow_design.specs.declared.design.Block.{Block as BlockOf};
+ghost use Rattle.flow_design.specs.declared.design.Module.{Module as ModuleOf};
+ghost use Rattle.flow_design.specs.StaticRules.{IsBlockSound};
+ghost use Rattle.flow_design.specs.Module.{due_at, live_count};
+ghost use Rattle.block_schedule.specs.Schedules.{IsScheduleOf, IsSooner};
+ghost use Rattle.block_schedule.specs.Work.{StandsIn, IsNextDue};
+
+use crate::tables::{
+    entries_of, first_above, first_from, interval, numbers_of, offsets_of, sort_entries,
+};
+use flow_design::{Block, Control};
+use flow_word::OutOfMemory;
+use std::alloc::Global;
+
+/// A block's operations, in order of their offsets. Its size is that of the operations, however long the block is.
+#[derive(Debug, Drop)]
+pub struct Schedule {
+    interval: u64,
+    len: u64,
+    /// The offsets of all operations, which don't fall.
+    offsets: Vec<u64>,
+    /// The number of the operation that has the offset at the same place.
+    numbers: Vec<u32>,
+}
+
+impl Schedule {
+    /// The schedule of a block that keeps the limits.
+    pub fn new(alloc: Global, block: &Block) -> Result<Schedule, OutOfMemory>
+        requires { (channels : ℕ) × ((m : ModuleOf) × IsBlockSound channels m block.now) }
+        ensures { IfOk result (λ schedule. IsScheduleOf block.now schedule) }
+    {
+        let mut entries = entries_of(alloc, block.ops.as_slice())?;
+        sort_entries(&mut entries)?;
+        Ok(Schedule {
+            interval: interval(block),
+            len: block.len,
+            offsets: offsets_of(alloc, &entries)?,
+            numbers: numbers_of(alloc, &entries)?,
+        })
+    }
+
+    /// The numbers of the block's operations at an offset, in text order.
+    pub fn due(&self, offset: u64) -> &[u32]
+        requires { (block : BlockOf) × IsScheduleOf block self.now }
+        ensures { (block : BlockOf) → IsScheduleOf block self.now → result.now ≡ due_at block offset }
+    {
+        let from = first_from(self.offsets.as_slice(), offset);
+        let to = first_above(self.offsets.as_slice(), offset);
+        &self.numbers[from..to]
+    }
+
+    /// The least local clock, from the control's own on, at which a live iteration has an operation at its age, an
+    /// iteration is decided, or the block ends.
+    ///
+    /// It searches the table once for each live iteration, of which there are at most 64.
+    pub fn next_due(&self, control: &Control) -> u64
+        requires { (block : BlockOf) × (IsScheduleOf block self.now × StandsIn block control.now) }
+        ensures { (block : BlockOf) → IsScheduleOf block self.now → StandsIn block control.now → IsNextDue block control.now result }
+    {
+        let mut next = self.turn(control);
+        let newest_age = control.clock - control.newest;
+        for older in 0..self.live_count(control) {
+            next = self.sooner(control.clock, newest_age + older * self.interval, next);
+        }
+        next
+    }
+
+    /// The local clock at which the next iteration is decided, or else the block ends.
+    fn turn(&self, control: &Control) -> u64
+        requires { control.now.newest + self.now.interval + self.now.len < 2 ^ 62 }
+        ensures { result ≡ control.now.newest + (if control.now.looping then self.now.interval else self.now.len) }
+    {
+        control.newest
+            + if control.looping {
+                self.interval
+            } else {
+                self.len
+            }
+    }
+
+    /// How many iterations are live.
+    fn live_count(&self, control: &Control) -> u64
+        requires interval { 1 ≤ self.now.interval }
+        requires started { control.now.newest ≤ control.now.clock }
+        requires small { control.now.clock < 2 ^ 60 }
+        ensures { (block : BlockOf) → IsScheduleOf block self.now → result ≡ live_count block control.now }
+    {
+        let age = control.clock - control.newest;
+        if age >= self.len {
+            return 0;
+        }
+        1 + (control.newest / self.interval).min((self.len - 1 - age) / self.interval)
+    }
+
+    /// The lesser of a local clock and that at which an iteration that has this age now has its next operation.
+    fn sooner(&self, now: u64, age: u64, next: u64) -> u64
+        requires in_order { IsNonDecreasing self.now.offsets.items }
+        requires small_offsets { All (λ offset. offset < 2 ^ 60) self.now.offsets.items }
+        requires small { now < 2 ^ 60 }
+        requires from { now ≤ next }
+        ensures { IsSooner self.now.offsets.items now age next result }
+    {
+        let at = first_from(self.offsets.as_slice(), age);
+        match self.offsets.get(at) {
+            Some(offset) => next.min(now + (*offset - age)),
+            None => next,
+        }
+    }
+}

@@ -1,0 +1,76 @@
+//! What a schedule is made of.
+ghost use Rattle.std.specs.Prelude.{ℕ, ◌≡◌, ◌<◌, ◌≤◌, length, map, slice_index, IfOk, OnOk, IsPermutation};
+ghost use Rattle.std.specs.List.Sorted.{IsNonDecreasing, IsNonDecreasingBy, IsStableByKey};
+ghost use Rattle.std.specs.List.{enumerate_from};
+ghost use Rattle.std.specs.Ordering.{nat_cmp};
+ghost use Rattle.flow_design.specs.Module.{interval};
+
+use flow_design::{Block, BlockKind, Timed};
+use flow_word::OutOfMemory;
+use std::alloc::Global;
+
+/// The local clocks between the starts of two iterations.
+pub(crate) fn interval(block: &Block) -> u64
+    ensures { result ≡ interval block.now }
+{
+    match block.kind {
+        BlockKind::Plain => block.len,
+        BlockKind::Loop { ii, again: _ } => ii,
+    }
+}
+
+/// The offset of each operation beside its number, in text order.
+pub(crate) fn entries_of(alloc: Global, ops: &[Timed]) -> Result<Vec<(u64, u32)>, OutOfMemory>
+    requires { length ops.now ≤ 1024 }
+    ensures { IfOk result (λ entries. entries.items ≡ map (λ t. ((t.1).offset, t.0)) (enumerate_from 0 ops.now)) }
+{
+    let mut entries = Vec::with_capacity(alloc, ops.len())?;
+    for (number, timed) in ops.iter().enumerate() {
+        entries.push((timed.offset, number as u32))?;
+    }
+    Ok(entries)
+}
+
+/// Sorts the entries by offset. Entries of the same offset stay in order.
+pub(crate) fn sort_entries(entries: &mut Vec<(u64, u32)>) -> Result<(), OutOfMemory>
+    ensures moved { OnOk result (IsPermutation entries.old.items entries.new.items) }
+    ensures sorted { OnOk result (IsNonDecreasingBy (λ e. e.0) entries.new.items) }
+    ensures stable { OnOk result (IsStableByKey (λ e. e.0) nat_cmp entries.old.items entries.new.items) }
+{
+    entries.sort_by_key(|entry| entry.0)?;
+    Ok(())
+}
+
+/// The offsets of the entries.
+pub(crate) fn offsets_of(alloc: Global, entries: &[(u64, u32)]) -> Result<Vec<u64>, OutOfMemory>
+    ensures { IfOk result (λ offsets. offsets.items ≡ map (λ e. e.0) entries.now) }
+{
+    Ok(entries.iter().map(|entry| entry.0).collect(alloc)?)
+}
+
+/// The operation numbers of the entries.
+pub(crate) fn numbers_of(alloc: Global, entries: &[(u64, u32)]) -> Result<Vec<u32>, OutOfMemory>
+    ensures { IfOk result (λ numbers. numbers.items ≡ map (λ e. e.1) entries.now) }
+{
+    Ok(entries.iter().map(|entry| entry.1).collect(alloc)?)
+}
+
+/// The place of the first of the offsets that is not below this one.
+pub(crate) fn first_from(offsets: &[u64], offset: u64) -> usize
+    requires { IsNonDecreasing offsets.now }
+    ensures bound { result ≤ length offsets.now }
+    ensures below { (k : ℕ) → k < result → slice_index offsets.now k < offset }
+    ensures rest { (k : ℕ) → result ≤ k → k < length offsets.now → offset ≤ slice_index offsets.now k }
+{
+    offsets.partition_point(|other| *other < offset)
+}
+
+/// The place of the first of the offsets that is above this one.
+pub(crate) fn first_above(offsets: &[u64], offset: u64) -> usize
+    requires { IsNonDecreasing offsets.now }
+    ensures bound { result ≤ length offsets.now }
+    ensures below { (k : ℕ) → k < result → slice_index offsets.now k ≤ offset }
+    ensures rest { (k : ℕ) → result ≤ k → k < length offsets.now → offset < slice_index offsets.now k }
+{
+    offsets.partition_point(|other| *other <= offset)
+}

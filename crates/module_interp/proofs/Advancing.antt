@@ -1,0 +1,72 @@
+-- A run at its rest.
+use Rattle.std.proofs.Common.{◌≡◌, ◌≢◌, ℕ, ◌^◌, ◌<◌, ◌⊎◌, inl, inr, false, List, map, length, refl, sym, ap, subst, arith}
+use Rattle.std.specs.Prelude.{All}
+use Rattle.std.proofs.lemmas.Bool.{both_ways}
+use Rattle.flow_word.specs.declared.access.Access.{Access}
+use Rattle.flow_design.specs.declared.plan.Plan.{Plan}
+use Rattle.flow_design.specs.declared.state.Reply.{Reply}
+use Rattle.flow_design.specs.declared.state.Request.{Request}
+use Rattle.lockstep_defs.specs.Machine.{is_over}
+use Rattle.lockstep_defs.specs.Lockstep.{requests_of}
+use Rattle.lockstep_defs.specs.OwnRun.{Own, access_of}
+use Rattle.lockstep_defs.proofs.Standing.{requests_stand}
+use Rattle.module_interp.specs.declared.path.Stage.TheVariants.{Begun, Asked}
+use Rattle.module_interp.specs.declared.path.Path.{Path}
+use Rattle.module_interp.specs.declared.run.ModuleRun.{ModuleRun}
+use Rattle.module_interp.specs.OwnRests.{done_in}
+use Rattle.module_interp.specs.Paths.{LeadsTo, KeepsRest, IsAtStep, IsAtEnd}
+use Rattle.module_interp.specs.Runs.{StandsAt}
+use Rattle.module_interp.proofs.Ways.{has_begun, begun_same}
+use Rattle.module_interp.proofs.Standing.{IsAtRest, step_rest, end_rest, accesses_are, asked_leads}
+
+-- the way to the rest went on
+pub stands_on : (p : Plan) (i : ℕ) (o : Own) (r : ModuleRun) (y : Path) (accesses : List Access) → KeepsRest r.path y → y.stage ≢ Asked → StandsAt p i o r
+    → StandsAt p i o (record { path = y; tally = r.tally; accesses = accesses })
+stands_on p i o r y accesses keeps unasked s = record { leads = keeps p i o s.leads; tally = s.tally; few = s.few; accesses = λ e. absurd (unasked e) }
+
+-- and room for replies was made
+pub replies_alone : (x y : Path) (replies : List Reply) → KeepsRest x y → y.stage ≡ Begun → KeepsRest x (record y { replies = replies })
+replies_alone x y replies keeps begun p i o l =
+    begun_same y (record y { replies = replies }) (record { channels = refl; of = refl; limit = refl; schedules = refl }) begun begun refl refl p i o (keeps p i o l)
+
+pub rest_of : (p : Plan) (i : ℕ) (o : Own) (y : Path) → LeadsTo p i o y → (IsAtStep y ⊎ IsAtEnd y) → IsAtRest p i o y
+rest_of p i o y l (inl h) = step_rest p i o y l h
+rest_of p i o y l (inr h) = end_rest p i o y l h
+
+pub at_step : (y : Path) → (IsAtStep y ⊎ IsAtEnd y) → is_over y.limit y.state ≡ false → IsAtStep y
+at_step y (inl h) alive = h
+at_step y (inr h) alive = absurd (both_ways (is_over y.limit y.state) alive h.over)
+
+-- what is needed to list the accesses
+pub record CanList (p : Plan) (o : Own) (y : Path) : Type 0 where
+  pub few : length (done_in o.steps) < 2 ^ 40
+  pub all : All (λ (r : Request). r.channel < length p.design.channels) y.asked
+
+pub can_list : (p : Plan) (i : ℕ) (o : Own) (r : ModuleRun) (y : Path) → KeepsRest r.path y → StandsAt p i o r → IsAtStep y → CanList p o y
+can_list p i o r y keeps s h =
+    let l = keeps p i o s.leads in
+    let b = l.path in
+    let began = has_begun y (record { plan = p; number = i; is = b }) h.begun h.alive in
+    let rest = step_rest p i o y l h in
+    let count : o.state.count ≡ y.state.count = ap (λ z. z.count) rest.state in
+    let small = began.count in
+    let few = s.few in
+    let asked : y.asked ≡ requests_of p (i, y.state) = rw (← b.channels, ← b.of) h.asked in
+    record {
+      few = omega arith;
+      all = subst (All (λ (r : Request). r.channel < length p.design.channels)) (sym asked)
+          (λ k d inside. (requests_stand p b.fits i b.owner y.state k d inside).in_range);
+    }
+
+-- the step was given
+pub stands_asked : (p : Plan) (i : ℕ) (o : Own) (r : ModuleRun) (y : Path) (replies : List Reply) (accesses : List Access) → KeepsRest r.path y → StandsAt p i o r → IsAtStep y
+    → length replies ≡ length y.asked → accesses ≡ map (access_of (done_in o.steps)) y.asked
+    → StandsAt p i o (record { path = record y { replies = replies; stage = Asked }; tally = r.tally; accesses = accesses })
+stands_asked p i o r y replies accesses keeps s h count given =
+    let l = keeps p i o s.leads in
+    record {
+      leads = asked_leads p i o y replies l h count;
+      tally = s.tally;
+      few = s.few;
+      accesses = λ e. accesses_are p i o y accesses l (step_rest p i o y l h) h.asked given;
+    }

@@ -1,0 +1,218 @@
+-- A run goes on from its rest on replies.
+use Rattle.std.proofs.Common.{◌≡◌, ℕ, zero, suc, ◌+◌, ◌^◌, ◌<◌, ◌≤◌, true, false, List, [], ◌∷◌, ◌++◌, length, refl, sym, ap, subst, arith, ◌∙◌, length-append, append_assoc}
+use Rattle.std.specs.Prelude.{All, filter_map, Option, Some, None}
+use Rattle.std.proofs.lemmas.Bool.{or_right, and_parts}
+use Rattle.std.proofs.lemmas.List.{length-map, append-nil}
+use Rattle.flow_word.specs.declared.access.Access.{Access}
+use Rattle.flow_design.specs.declared.design.Channel.{Channel}
+use Rattle.flow_design.specs.declared.design.Module.{Module}
+use Rattle.flow_design.specs.declared.plan.Plan.{Plan}
+use Rattle.flow_design.specs.declared.state.Reply.{Reply}
+use Rattle.flow_design.specs.declared.state.Request.{Request}
+use Rattle.flow_design.specs.declared.state.ModuleState.{ModuleState}
+use Rattle.flow_design.specs.Module.{due}
+use Rattle.lockstep_defs.specs.Machine.{move, requests, request_for, is_over}
+use Rattle.lockstep_defs.specs.Lockstep.{module_at, requests_of}
+use Rattle.lockstep_defs.specs.Channels.{Exchange}
+use Rattle.lockstep_defs.specs.OwnRun.{OwnStep, Own, own_after, paired}
+use Rattle.lockstep_defs.specs.Quiet.{quiet, skip, is_some_request}
+use Rattle.lockstep_defs.specs.States.{IsStateOf}
+use Rattle.lockstep_defs.proofs.States.{move_state}
+use Rattle.lockstep_defs.proofs.Standing.{requests_stand}
+use Rattle.module_move.proofs.Readiness.{few_due}
+use Rattle.module_interp.specs.declared.path.Stage.{Stage}
+use Rattle.module_interp.specs.declared.path.Stage.TheVariants.{Begun, Asked, Answered, Ticked}
+use Rattle.module_interp.specs.declared.path.Path.{Path}
+use Rattle.module_interp.specs.declared.tally.Tally.{Tally}
+use Rattle.module_interp.specs.declared.run.ModuleRun.{ModuleRun}
+use Rattle.module_interp.specs.OwnRests.{requests_at, next_rest, done_in, accesses_at, fits_kind, all_fit}
+use Rattle.module_interp.specs.Paths.{after_move, CanAsk, IsInTime, LeadsTo, IsTallyOf}
+use Rattle.module_interp.specs.Runs.{is_asked, StandsAt}
+use Rattle.module_interp.proofs.Counting.{move_up}
+use Rattle.module_interp.proofs.Keeping.{at_stage, sound_at, begun_alive}
+use Rattle.module_interp.proofs.Standing.{IsAtRest, at_rest, some_asked}
+use Rattle.module_interp.proofs.Tallies.{length-paired}
+use Rattle.module_interp.proofs.Timing.{module_sound, step_in_time}
+
+pub asked_stage : (g : Stage) → is_asked g ≡ true → g ≡ Asked
+asked_stage Begun h = cc
+asked_stage Asked h = refl
+asked_stage Answered h = cc
+asked_stage Ticked h = cc
+
+pub fit_length : (as' : List Access) (rs : List Reply) → all_fit as' rs ≡ true → length rs ≡ length as'
+fit_length [] [] h = refl
+fit_length [] (r ∷ rs) h = cc
+fit_length (a ∷ as') [] h = cc
+fit_length (a ∷ as') (r ∷ rs) h = ap suc (fit_length as' rs (and_parts (fits_kind a.kind r) (all_fit as' rs) h).1)
+
+-- ---- at a step that waits
+
+pub record Waits (p : Plan) (i : ℕ) (o : Own) (x : Path) : Type 0 where
+  pub can : CanAsk x
+  pub rest : IsAtRest p i o x
+  pub state : IsStateOf (module_at p i) x.state
+  pub time : IsInTime p (module_at p i) x.state x.since
+  pub asked : x.asked ≡ requests_of p (i, x.state)
+  pub alive : x.state.ended ≡ false
+  pub few : x.state.count < p.ops
+
+pub waits_at : (p : Plan) (i : ℕ) (o : Own) (x : Path) → LeadsTo p i o x → x.stage ≡ Asked → Waits p i o x
+waits_at p i o x l asked =
+    let b = l.path in
+    let can : CanAsk x = sound_at x Asked asked b.stage in
+    let here : after_move x ≡ x.state = at_stage x Asked asked in
+    let same : x.asked ≡ requests_of p (i, x.state) = rw (← b.channels, ← b.of) can.asked in
+    let life = begun_alive x.limit x.state can.alive in
+    record {
+      can = can;
+      rest = at_rest p i o x l here (or_right (is_over p.ops x.state) _ (ap is_some_request (sym same) ∙ some_asked x.asked can.some));
+      state = subst (IsStateOf (module_at p i)) here b.state;
+      time = subst (λ (s : ModuleState). IsInTime p (module_at p i) s x.since) here b.time;
+      asked = same;
+      alive = life.0;
+      few = rw b.limit at life.1;
+    }
+
+-- ---- the next rest
+
+after_state : (m : Module) (o : Own) (rs : List Request) (qs : List Reply) → 0 < length rs → (own_after m o rs qs).state ≡ move m o.state qs
+after_state m o [] qs h = absurd (omega arith)
+after_state m o (r ∷ rs) qs h = refl
+
+after_since : (m : Module) (o : Own) (rs : List Request) (qs : List Reply) → 0 < length rs → (own_after m o rs qs).since ≡ 1
+after_since m o [] qs h = absurd (omega arith)
+after_since m o (r ∷ rs) qs h = refl
+
+flat_push : (steps : List OwnStep) (s : OwnStep) → done_in (steps ++ s ∷ []) ≡ done_in steps ++ paired s.requests s.replies
+flat_push [] s = append-nil (paired s.requests s.replies)
+flat_push (t ∷ ts) s =
+    ap (λ (xs : List Exchange). paired t.requests t.replies ++ xs) (flat_push ts s) ∙ sym (append_assoc (paired t.requests t.replies) (done_in ts) (paired s.requests s.replies))
+
+pub after_done : (m : Module) (o : Own) (rs : List Request) (qs : List Reply) → 0 < length rs → done_in (own_after m o rs qs).steps ≡ done_in o.steps ++ paired rs qs
+after_done m o [] qs h = absurd (omega arith)
+after_done m o (r ∷ rs) qs h = flat_push o.steps (record { gap = o.since; requests = r ∷ rs; replies = qs })
+
+pub fed_leads : (p : Plan) (i : ℕ) (o : Own) (x : Path) (qs : List Reply) → LeadsTo p i o x → x.stage ≡ Asked
+    → LeadsTo p i (next_rest p i o qs) (record x { replies = qs; since = 1; stage = Answered })
+fed_leads p i o x qs l asked =
+    let b = l.path in
+    let w = waits_at p i o x l asked in
+    let m = module_at p i in
+    let sound = module_sound p b.fits i b.owner in
+    let few = few_due (length p.design.channels) m x.state sound (record { state = w.state; running = w.alive }) in
+    let ops = b.fits.operations in
+    let count = (move_up m x.state qs).1 in
+    let alive_few = w.few in
+    let same : move x.of x.state qs ≡ move m x.state qs = ap (λ (n : Module). move n x.state qs) b.of in
+    let some : 0 < length (requests_at p i o) = subst (λ (rs : List Request). 0 < length rs) (w.asked ∙ ap (λ (s : ModuleState). requests_of p (i, s)) (sym w.rest.state)) w.can.some in
+    let base : (own_after m o (requests_at p i o) qs).state ≡ move x.of x.state qs =
+    after_state m o (requests_at p i o) qs some ∙ (ap (λ (s : ModuleState). move m s qs) w.rest.state ∙ sym same) in
+    record {
+      path = record {
+        fits = b.fits;
+        owner = b.owner;
+        channels = b.channels;
+        of = b.of;
+        limit = b.limit;
+        count = b.count;
+        schedules = b.schedules;
+        state = subst (IsStateOf m) (sym same) (move_state (length p.design.channels) m sound x.state qs w.state w.alive);
+        operations = subst (λ (s : ModuleState). s.count < 2 ^ 32) (sym same) (omega arith);
+        time = subst (λ (s : ModuleState). IsInTime p m s 1) (sym same) (step_in_time p b.fits i b.owner x.state qs x.since w.state w.alive w.few w.time);
+        stage = record { state = w.can.answer.state; pending = w.can.answer.pending; clock = w.can.answer.clock; count = w.can.answer.count };
+      };
+      rest = ap (λ (s : ModuleState). skip p i (quiet p i s) s) base;
+      since = ap (λ (n : ℕ). n + quiet p i (own_after m o (requests_at p i o) qs).state) (after_since m o (requests_at p i o) qs some)
+          ∙ ap (λ (s : ModuleState). 1 + quiet p i s) base;
+    }
+
+-- ---- what was done counts
+
+fewer_map : {X Y : Type 0} (f : X → Option Y) (xs : List X) → length (filter_map f xs) ≤ length xs
+fewer_map f [] = omega arith
+fewer_map {X} {Y} f (x ∷ xs) = by_option (f x) refl (fewer_map f xs)
+  where
+    by_option : (y : Option Y) → f x ≡ y → length (filter_map f xs) ≤ length xs → length (filter_map f (x ∷ xs)) ≤ suc (length xs)
+    by_option None e rest = rw e (omega arith)
+    by_option (Some y) e rest = rw e (omega arith)
+
+fewer_requests : (channels : List Channel) (m : Module) (s : ModuleState) → length (requests channels m s) ≤ length (due m s)
+unfolding requests
+fewer_requests channels m s = fewer_map (request_for channels m s) (due m s)
+
+skip_up : (p : Plan) (i n : ℕ) (s : ModuleState) → s.count ≤ (skip p i n s).count
+skip_up p i zero s = omega arith
+skip_up p i (suc n) s =
+    let rest = skip_up p i n s in
+    let more = (move_up (module_at p i) (skip p i n s) []).0 in
+    omega arith
+
+pub fed_few : (p : Plan) (i : ℕ) (o : Own) (qs : List Reply) → 0 < length (requests_at p i o) → length (done_in o.steps) ≤ o.state.count
+    → length (done_in (next_rest p i o qs).steps) ≤ (next_rest p i o qs).state.count
+fed_few p i o qs some few =
+    let m = module_at p i in
+    let rs = requests_at p i o in
+    let z = (own_after m o rs qs).state in
+    let total : length (done_in (next_rest p i o qs).steps) ≡ length (done_in o.steps) + length rs =
+    ap (λ (xs : List Exchange). length xs) (after_done m o rs qs some) ∙ (length-append (done_in o.steps) (paired rs qs) ∙ ap (λ (n : ℕ). length (done_in o.steps) + n) (length-paired rs qs)) in
+    let count : z.count ≡ (move m o.state qs).count = ap (λ (s : ModuleState). s.count) (after_state m o rs qs some) in
+    let up = (move_up m o.state qs).0 in
+    let less = fewer_requests p.design.channels m o.state in
+    let later = skip_up p i (quiet p i z) z in
+    omega arith
+
+pub fed_stands : (p : Plan) (i : ℕ) (o : Own) (r : ModuleRun) (qs : List Reply) (t : Tally) → StandsAt p i o r → r.path.stage ≡ Asked
+    → IsTallyOf (length p.design.channels) (done_in o.steps ++ paired r.path.asked qs) t
+    → StandsAt p i (next_rest p i o qs) (record { path = record r.path { replies = qs; since = 1; stage = Answered }; tally = t; accesses = r.accesses })
+fed_stands p i o r qs t s asked tally =
+    let w = waits_at p i o r.path s.leads asked in
+    let m = module_at p i in
+    let same : r.path.asked ≡ requests_at p i o = w.asked ∙ ap (λ (s : ModuleState). requests_of p (i, s)) (sym w.rest.state) in
+    let some : 0 < length (requests_at p i o) = subst (λ (rs : List Request). 0 < length rs) same w.can.some in
+    record {
+      leads = fed_leads p i o r.path qs s.leads asked;
+      tally = subst (λ (xs : List Exchange). IsTallyOf (length p.design.channels) xs t)
+          (ap (λ (rs : List Request). done_in o.steps ++ paired rs qs) same ∙ sym (after_done m o (requests_at p i o) qs some)) tally;
+      few = fed_few p i o qs some s.few;
+      accesses = λ e. cc;
+    }
+
+-- what is needed to count a step
+pub record CanCount (p : Plan) (o : Own) (x : Path) (qs : List Reply) : Type 0 where
+  pub few : length (done_in o.steps) + length x.asked < 2 ^ 40
+  pub all : All (λ (r : Request). r.channel < length p.design.channels) x.asked
+  pub one_each : length qs ≡ length x.asked
+  pub room : length x.replies ≡ length qs
+
+pub can_count : (p : Plan) (i : ℕ) (o : Own) (r : ModuleRun) (qs : List Reply) → StandsAt p i o r → r.path.stage ≡ Asked → all_fit (accesses_at p i o) qs ≡ true
+    → CanCount p o r.path qs
+can_count p i o r qs s asked fit =
+    let w = waits_at p i o r.path s.leads asked in
+    let b = s.leads.path in
+    let m = module_at p i in
+    let same : r.path.asked ≡ requests_at p i o = w.asked ∙ ap (λ (s : ModuleState). requests_of p (i, s)) (sym w.rest.state) in
+    let count : o.state.count ≡ r.path.state.count = ap (λ (z : ModuleState). z.count) w.rest.state in
+    let due_few = few_due (length p.design.channels) m r.path.state (module_sound p b.fits i b.owner) (record { state = w.state; running = w.alive }) in
+    let less = fewer_requests p.design.channels m r.path.state in
+    let size : length r.path.asked ≡ length (requests_of p (i, r.path.state)) = ap (λ (rs : List Request). length rs) w.asked in
+    let each : length qs ≡ length r.path.asked = fit_length (accesses_at p i o) qs fit ∙ (length-map (requests_at p i o) _ ∙ ap (λ (rs : List Request). length rs) (sym same)) in
+    let few = s.few in
+    let ops = b.fits.operations in
+    let alive_few = w.few in
+    let room = w.can.replies in
+    record {
+      few = omega arith;
+      all = subst (All (λ (r : Request). r.channel < length p.design.channels)) (sym w.asked)
+          (λ k d inside. (requests_stand p b.fits i b.owner r.path.state k d inside).in_range);
+      one_each = each;
+      room = omega arith;
+    }
+
+pub waits_channels : (p : Plan) (i : ℕ) (o : Own) (r : ModuleRun) → StandsAt p i o r → r.path.stage ≡ Asked
+    → All (λ (q : Request). q.channel < length p.design.channels) r.path.asked
+waits_channels p i o r s asked =
+    let w = waits_at p i o r.path s.leads asked in
+    let b = s.leads.path in
+    subst (All (λ (q : Request). q.channel < length p.design.channels)) (sym w.asked)
+    (λ k d inside. (requests_stand p b.fits i b.owner r.path.state k d inside).in_range)

@@ -1,0 +1,13 @@
+pub mod Advancing
+pub mod Chains
+pub mod Counting
+pub mod Feeding
+pub mod Idle
+pub mod Keeping
+pub mod Looking
+pub mod Opening
+pub mod Rests
+pub mod Standing
+pub mod Tallies
+pub mod Timing
+pub mod Ways

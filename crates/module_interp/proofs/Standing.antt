@@ -1,0 +1,111 @@
+-- Where a run stands, and its marks.
+use Rattle.std.proofs.Common.{◌≡◌, ℕ, ◌<◌, inl, inr, true, false, List, [], ◌∷◌, map, length, refl, sym, ap, subst, arith, ◌∙◌}
+use Rattle.std.proofs.lemmas.Bool.{or_left, or_right, or_parts, or_cases, cond-true, cond-false, both_ways}
+use Rattle.flow_word.specs.declared.access.Access.{Access}
+use Rattle.flow_design.specs.declared.plan.Plan.{Plan}
+use Rattle.flow_design.specs.declared.state.Advance.{Advance}
+use Rattle.flow_design.specs.declared.state.Advance.TheVariants.{Step, Ended, Spent}
+use Rattle.flow_design.specs.declared.state.Reply.{Reply}
+use Rattle.flow_design.specs.declared.state.Request.{Request}
+use Rattle.flow_design.specs.declared.state.ModuleState.{ModuleState}
+use Rattle.lockstep_defs.specs.Machine.{requests, is_over, is_spent}
+use Rattle.lockstep_defs.specs.Lockstep.{module_at, requests_of}
+use Rattle.lockstep_defs.specs.OwnRun.{Own, access_of}
+use Rattle.lockstep_defs.specs.Report.{queries}
+use Rattle.lockstep_defs.specs.Quiet.{rests, quiet, skip, is_some_request}
+use Rattle.lockstep_defs.specs.States.{IsStateOf}
+use Rattle.module_interp.specs.declared.path.Stage.TheVariants.{Begun, Asked}
+use Rattle.module_interp.specs.declared.path.Path.{Path}
+use Rattle.module_interp.specs.OwnRests.{done_in, accesses_at, mark_at}
+use Rattle.module_interp.specs.Paths.{after_move, LeadsTo, IsAtStep, IsAtEnd}
+use Rattle.module_interp.proofs.Keeping.{leads_still, at_stage, begun_alive}
+use Rattle.module_interp.proofs.Rests.{none_at_rest}
+use Rattle.module_interp.proofs.Ways.{has_begun}
+
+-- ---- at a rest
+
+pub record IsAtRest (p : Plan) (i : ℕ) (o : Own) (x : Path) : Type 0 where
+  pub state : o.state ≡ x.state
+  pub since : o.since ≡ x.since
+
+pub at_rest : (p : Plan) (i : ℕ) (o : Own) (x : Path) → LeadsTo p i o x → after_move x ≡ x.state → rests p i x.state ≡ true → IsAtRest p i o x
+at_rest p i o x l here rest =
+    let b = l.path in
+    let state : IsStateOf (module_at p i) x.state = subst (IsStateOf (module_at p i)) here b.state in
+    let none : quiet p i x.state ≡ 0 = none_at_rest p b.fits i x.state state.control.goes rest in
+    let none_too : quiet p i (after_move x) ≡ 0 = ap (quiet p i) here ∙ none in
+    let since = l.since in
+    record {
+      state = l.rest ∙ (ap (λ (n : ℕ). skip p i n (after_move x)) none_too ∙ here);
+      since = omega arith;
+    }
+
+pub some_asked : (rs : List Request) → 0 < length rs → is_some_request rs ≡ true
+some_asked [] h = absurd (omega arith)
+some_asked (r ∷ rs) h = refl
+
+pub step_rest : (p : Plan) (i : ℕ) (o : Own) (x : Path) → LeadsTo p i o x → IsAtStep x → IsAtRest p i o x
+step_rest p i o x l h =
+    let b = l.path in
+    let asked : requests_of p (i, x.state) ≡ x.asked = rw (← b.channels, ← b.of) (sym h.asked) in
+    at_rest p i o x l (at_stage x Begun h.begun)
+    (or_right (is_over p.ops x.state) _ (ap is_some_request asked ∙ some_asked x.asked h.some))
+
+pub end_rest : (p : Plan) (i : ℕ) (o : Own) (x : Path) → LeadsTo p i o x → IsAtEnd x → IsAtRest p i o x
+end_rest p i o x l h =
+    at_rest p i o x l (at_stage x Begun h.begun) (or_left (is_over p.ops x.state) _ (rw (← l.path.limit) h.over))
+
+-- ---- marks
+
+over_if_ended : (limit : ℕ) (s : ModuleState) → is_over limit s ≡ false → s.ended ≡ false
+over_if_ended limit s h = (begun_alive limit s h).0
+
+pub ended_mark : (p : Plan) (i : ℕ) (o : Own) (x : Path) → IsAtRest p i o x → x.state.ended ≡ true → Ended x.since ≡ mark_at p i o
+ended_mark p i o x h over =
+    let ended : o.state.ended ≡ true = ap (λ (s : ModuleState). s.ended) h.state ∙ over in
+    ap Ended (sym h.since) ∙ sym (cond-true o.state.ended (Ended o.since) _ ended)
+
+spent_is : (limit : ℕ) (s : ModuleState) → is_over limit s ≡ true → s.ended ≡ false → is_spent limit s ≡ true
+unfolding is_over
+spent_is limit s over alive = elim (or_cases s.ended (is_spent limit s) over) [
+  | inl ended ↦ absurd (both_ways s.ended alive ended)
+  | inr spent ↦ spent
+]
+
+pub spent_mark : (p : Plan) (i : ℕ) (o : Own) (x : Path) → LeadsTo p i o x → IsAtRest p i o x → x.state.ended ≡ false → is_over x.limit x.state ≡ true → Spent x.since ≡ mark_at p i o
+spent_mark p i o x l h alive over =
+    let ended : o.state.ended ≡ false = ap (λ (s : ModuleState). s.ended) h.state ∙ alive in
+    let spent : is_spent p.ops o.state ≡ true = ap (is_spent p.ops) h.state ∙ spent_is p.ops x.state (rw (← l.path.limit) over) alive in
+    ap Spent (sym h.since) ∙ (sym (cond-true (is_spent p.ops o.state) (Spent o.since) _ spent) ∙ sym (cond-false o.state.ended (Ended o.since) _ ended))
+
+not_spent : (limit : ℕ) (s : ModuleState) → is_over limit s ≡ false → is_spent limit s ≡ false
+unfolding is_over
+not_spent limit s h = (or_parts s.ended (is_spent limit s) h).1
+
+pub step_mark : (p : Plan) (i : ℕ) (o : Own) (x : Path) (accesses : List Access) (queries_so_far : ℕ) → LeadsTo p i o x → IsAtRest p i o x → is_over x.limit x.state ≡ false
+    → accesses ≡ accesses_at p i o → queries_so_far ≡ length (queries (done_in o.steps))
+    → Step (record { gap = x.since; accesses = accesses; first_query = queries_so_far }) ≡ mark_at p i o
+step_mark p i o x accesses n l h alive same asks =
+    let life = begun_alive x.limit x.state alive in
+    let ended : o.state.ended ≡ false = ap (λ (s : ModuleState). s.ended) h.state ∙ life.0 in
+    let spent : is_spent p.ops o.state ≡ false = ap (is_spent p.ops) h.state ∙ not_spent p.ops x.state (rw (← l.path.limit) alive) in
+    let made : ℕ → List Access → ℕ → Advance = λ g xs k. Step (record { gap = g; accesses = xs; first_query = k }) in
+    ap (λ (g : ℕ). made g accesses n) (sym h.since) ∙ (ap (λ (xs : List Access). made o.since xs n) same ∙ (ap (made o.since (accesses_at p i o)) asks
+    ∙ (sym (cond-false (is_spent p.ops o.state) (Spent o.since) _ spent) ∙ sym (cond-false o.state.ended (Ended o.since) _ ended))))
+
+-- ---- a step that was given
+
+pub accesses_are : (p : Plan) (i : ℕ) (o : Own) (x : Path) (accesses : List Access) → LeadsTo p i o x → IsAtRest p i o x → x.asked ≡ requests x.channels x.of x.state
+    → accesses ≡ map (access_of (done_in o.steps)) x.asked → accesses ≡ accesses_at p i o
+accesses_are p i o x accesses l h asked are =
+    let b = l.path in
+    let same : x.asked ≡ requests_of p (i, o.state) = rw (h.state, ← b.channels, ← b.of) asked in
+    are ∙ ap (map (access_of (done_in o.steps))) same
+
+pub asked_leads : (p : Plan) (i : ℕ) (o : Own) (x : Path) (replies : List Reply) → LeadsTo p i o x → IsAtStep x → length replies ≡ length x.asked
+    → LeadsTo p i o (record x { replies = replies; stage = Asked })
+asked_leads p i o x replies l h count =
+    let began = has_begun x (record { plan = p; number = i; is = l.path }) h.begun h.alive in
+    leads_still p i o x (record x { replies = replies; stage = Asked }) l (record { channels = refl; of = refl; limit = refl; schedules = refl })
+    (sym (at_stage x Begun h.begun)) refl
+    (record { answer = record { state = began.sound; pending = h.pending; clock = began.clock; count = began.count }; alive = h.alive; some = h.some; asked = h.asked; replies = count })

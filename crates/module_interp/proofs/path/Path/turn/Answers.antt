@@ -1,0 +1,15 @@
+use Rattle.std.proofs.Common.{◌≡◌, ap, arith}
+use Rattle.flow_design.specs.declared.state.ModuleState.{ModuleState}
+use Rattle.module_interp.specs.declared.path.Stage.TheVariants.{Ticked}
+use Rattle.module_move.specs.Moves.{gone_on}
+use Rattle.module_interp.specs.Paths.{after_move}
+use Rattle.module_interp.proofs.Counting.{gone_on_up}
+use Rattle.module_interp.proofs.Keeping.{at_stage}
+use Rattle.module_interp.proofs.path.Path.turn.Goals as goal
+
+pub go_on-requires-clause-few : goal.go_on-requires-clause-few
+go_on-requires-clause-few c =
+    let x = c.args.self.now in
+    let small = c.requires.path.is.operations in
+    let same : (after_move x).count ≡ (gone_on x.of x.state).count = ap (λ (s : ModuleState). s.count) (at_stage x Ticked c.in-Ticked.is) in
+    omega (arith, (gone_on_up x.of x.state).0)

@@ -1,0 +1,28 @@
+use Rattle.std.proofs.Common.{◌∙◌, ◌+◌, ◌++◌, ◌∷◌, [], ℕ, List, ap, ap₂, sym, length, map}
+use Rattle.std.proofs.lemmas.List.{map_more, length_push, take_all}
+use Rattle.flow_word.specs.declared.access.Access.{Access}
+use Rattle.flow_design.specs.declared.state.Reply.{Reply}
+use Rattle.flow_design.specs.declared.state.Request.{Request}
+use Rattle.lockstep_defs.specs.OwnRun.{access_of}
+use Rattle.module_interp.proofs.run.list_accesses.Goals as goal
+
+pub access-access-requires : goal.access-access-requires
+access-access-requires c =
+    let (n, (before, (h, (small, all)))) = c.requires.tally in
+    record { tally = (n, (before, (h, (small, all c.loop-request.request-index _ c.loop-request-test.true)))) }
+
+pub loop-request-preserved : goal.loop-request-preserved
+loop-request-preserved c = record {
+  given = λ channels before h all.
+      c.in_ok-push.ensures.ok
+      ∙ (ap₂ (λ (as' : List Access) (a : Access). as' ++ a ∷ []) (c.loop-request.invariant.given channels before h all)
+      (c.access-access.ensures channels before h (all c.loop-request.request-index _ c.loop-request-test.true))
+      ∙ sym (map_more (access_of before) c.args.asked.now c.loop-request.request-index _ c.loop-request-test.true));
+  same = c.in_ok-push-2.ensures.ok ∙ (ap (λ (xs : List Access). xs ++ c.access-access.result ∷ []) c.loop-request.invariant.same ∙ sym c.in_ok-push.ensures.ok);
+  count = ap (λ (xs : List Reply). length xs) c.in_ok-push-3.ensures.ok ∙ (length_push c.loop-request.replies _ ∙ ap (λ (n : ℕ). n + 1) c.loop-request.invariant.count);
+}
+
+pub returns-clause-given : goal.returns-clause-given
+returns-clause-given c = λ channels before h all.
+    c.loop-request.invariant.given channels before h all
+    ∙ ap (λ (rs : List Request). map (access_of before) rs) (take_all c.loop-request.request-index c.args.asked.now c.loop-request-test.false)

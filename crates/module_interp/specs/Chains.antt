@@ -1,0 +1,36 @@
+-- The chain of rests of a module's own run: each is the next one behind the replies to the one before it.
+use Rattle.std.specs.Prelude.{ℕ, zero, suc, ◌+◌, ◌<◌, List, [], ◌∷◌, ◌++◌, slice_index_or, IsTrue}
+use Rattle.flow_design.specs.declared.plan.Plan.{Plan}
+use Rattle.flow_design.specs.declared.state.Advance.{Advance}
+use Rattle.flow_design.specs.declared.state.Reply.{Reply}
+use Rattle.lockstep_defs.specs.Machine.{opened}
+use Rattle.lockstep_defs.specs.Lockstep.{module_at}
+use Rattle.lockstep_defs.specs.OwnRun.{Own, own_after}
+use Rattle.lockstep_defs.specs.Quiet.{quiet}
+use Rattle.module_interp.specs.OwnRests.{first_rest, next_rest, requests_at, mark_at}
+use Rattle.module_interp.specs.Runs.{is_step}
+
+-- the replies to the k-th rest, from 0
+abbrev pub replies_to : List (List Reply) → ℕ → List Reply
+replies_to replies k = slice_index_or replies k []
+
+-- the k-th rest, from 0
+unfoldable pub rest_at : Plan → ℕ → List (List Reply) → ℕ → Own
+rest_at p i replies zero = first_rest p i
+rest_at p i replies (suc k) = next_rest p i (rest_at p i replies k) (replies_to replies k)
+
+-- the local clock in which it rests there
+unfoldable pub clock_at : Plan → ℕ → List (List Reply) → ℕ → ℕ
+clock_at p i replies zero = quiet p i (opened (module_at p i))
+clock_at p i replies (suc k) =
+    let o = rest_at p i replies k in
+    quiet p i (own_after (module_at p i) o (requests_at p i o) (replies_to replies k)).state + suc (clock_at p i replies k)
+
+-- the marks of the first k rests
+unfoldable pub marks_before : Plan → ℕ → List (List Reply) → ℕ → List Advance
+marks_before p i replies zero = []
+marks_before p i replies (suc k) = marks_before p i replies k ++ mark_at p i (rest_at p i replies k) ∷ []
+
+-- each rest before the k-th is a step
+abbrev pub GoesTo : Plan → ℕ → List (List Reply) → ℕ → Type 0
+GoesTo p i replies k = (j : ℕ) → j < k → IsTrue (is_step (mark_at p i (rest_at p i replies j)))

@@ -1,0 +1,4 @@
+pub mod Chains
+pub mod OwnRests
+pub mod Paths
+pub mod Runs

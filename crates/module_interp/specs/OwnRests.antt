@@ -1,0 +1,94 @@
+-- A module's own run from rest to rest: it rests in a local clock with a due FIFO operation, and where it is over.
+use Rattle.std.specs.Prelude.{ℕ, Bool, true, false, ◌&&◌, if◌then◌else◌, List, [], ◌∷◌, map, length, flat_map}
+use Rattle.flow_word.specs.declared.access.Access.{Access}
+use Rattle.flow_word.specs.declared.access.Kind.{Kind}
+use Rattle.flow_word.specs.declared.access.Kind.TheVariants as kind
+use Rattle.flow_design.specs.declared.plan.Plan.{Plan}
+use Rattle.flow_design.specs.declared.state.Advance.{Advance}
+use Rattle.flow_design.specs.declared.state.Advance.TheVariants.{Step, Ended, Spent}
+use Rattle.flow_design.specs.declared.state.Request.{Request}
+use Rattle.flow_design.specs.declared.state.Reply.{Reply}
+use Rattle.flow_design.specs.declared.state.Reply.TheVariants.{Done, Value, Flag, Took, Missed}
+use Rattle.lockstep_defs.specs.Machine.{opened, is_spent}
+use Rattle.lockstep_defs.specs.Channels.{Exchange}
+use Rattle.lockstep_defs.specs.Lockstep.{module_at, requests_of}
+use Rattle.lockstep_defs.specs.Report.{queries}
+use Rattle.lockstep_defs.specs.OwnRun.{OwnStep, Own, own_after, paired, access_of}
+use Rattle.lockstep_defs.specs.Quiet.{quiet, own_later}
+
+-- ---- rests
+
+-- at the end of its quiet clocks
+abbrev pub to_rest : Plan → ℕ → Own → Own
+to_rest p i o = own_later p i (quiet p i o.state) o
+
+-- the first rest, from local clock 0 on
+abbrev pub first_rest : Plan → ℕ → Own
+first_rest p i = to_rest p i (record { state = opened (module_at p i); steps = []; since = 0 })
+
+-- the requests of the step at which it rests
+abbrev pub requests_at : Plan → ℕ → Own → List Request
+requests_at p i o = requests_of p (i, o.state)
+
+-- the next rest, where that step has these replies
+abbrev pub next_rest : Plan → ℕ → Own → List Reply → Own
+next_rest p i o replies = to_rest p i (own_after (module_at p i) o (requests_at p i o) replies)
+
+-- ---- marks
+
+-- all that was done in steps
+abbrev pub done_in : List OwnStep → List Exchange
+done_in steps = flat_map (λ s. paired s.requests s.replies) steps
+
+-- the accesses of the step at which it rests
+abbrev pub accesses_at : Plan → ℕ → Own → List Access
+accesses_at p i o = map (access_of (done_in o.steps)) (requests_at p i o)
+
+-- the mark of a rest: the step, or that the module is ended or spent
+abbrev pub mark_at : Plan → ℕ → Own → Advance
+mark_at p i o =
+    if o.state.ended then Ended o.since
+    else (if is_spent p.ops o.state then Spent o.since
+    else Step (record { gap = o.since; accesses = accesses_at p i o; first_query = length (queries (done_in o.steps)) }))
+
+-- ---- replies
+
+-- a reply fits a kind of access
+abbrev pub fits_kind : Kind → Reply → Bool
+fits_kind kind.Read Done = false
+fits_kind kind.Read (Value v) = true
+fits_kind kind.Read (Flag b) = false
+fits_kind kind.Read (Took v) = false
+fits_kind kind.Read Missed = false
+fits_kind kind.Write Done = true
+fits_kind kind.Write (Value v) = false
+fits_kind kind.Write (Flag b) = false
+fits_kind kind.Write (Took v) = false
+fits_kind kind.Write Missed = false
+fits_kind kind.TryRead Done = false
+fits_kind kind.TryRead (Value v) = false
+fits_kind kind.TryRead (Flag b) = false
+fits_kind kind.TryRead (Took v) = true
+fits_kind kind.TryRead Missed = true
+fits_kind kind.TryWrite Done = false
+fits_kind kind.TryWrite (Value v) = false
+fits_kind kind.TryWrite (Flag b) = true
+fits_kind kind.TryWrite (Took v) = false
+fits_kind kind.TryWrite Missed = false
+fits_kind kind.Empty Done = false
+fits_kind kind.Empty (Value v) = false
+fits_kind kind.Empty (Flag b) = true
+fits_kind kind.Empty (Took v) = false
+fits_kind kind.Empty Missed = false
+fits_kind kind.Full Done = false
+fits_kind kind.Full (Value v) = false
+fits_kind kind.Full (Flag b) = true
+fits_kind kind.Full (Took v) = false
+fits_kind kind.Full Missed = false
+
+-- one reply for each access, each of which fits it
+abbrev pub all_fit : List Access → List Reply → Bool
+all_fit [] [] = true
+all_fit [] (r ∷ rs) = false
+all_fit (a ∷ as') [] = false
+all_fit (a ∷ as') (r ∷ rs) = fits_kind a.kind r && all_fit as' rs

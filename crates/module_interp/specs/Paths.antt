@@ -1,0 +1,141 @@
+-- How the program's run stands in a module's own run.
+use Rattle.std.specs.Prelude.{ℕ, ◌≡◌, ◌+◌, ◌-◌, ◌*◌, ◌^◌, ◌<◌, ◌≤◌, if◌then◌else◌, true, false, List, length, slice_index, slice_index_or}
+use Rattle.flow_design.specs.declared.design.Module.{Module}
+use Rattle.flow_design.specs.declared.plan.Plan.{Plan}
+use Rattle.flow_design.specs.declared.state.ModuleState.{ModuleState}
+use Rattle.flow_design.specs.StaticRules.{FitsEngine}
+use Rattle.flow_design.specs.Module.{block_at, block_of, due}
+use Rattle.lockstep_defs.specs.Machine.{move, requests, is_over}
+use Rattle.lockstep_defs.specs.Channels.{Exchange, moved_by}
+use Rattle.lockstep_defs.specs.Report.{queries}
+use Rattle.lockstep_defs.specs.Lockstep.{module_at}
+use Rattle.lockstep_defs.specs.OwnRun.{Own}
+use Rattle.lockstep_defs.specs.Quiet.{quiet, skip, clocks_left}
+use Rattle.lockstep_defs.specs.States.{IsStateOf}
+use Rattle.module_move.specs.Moves.{gone_on}
+use Rattle.module_move.specs.Sound.{IsStateSound}
+use Rattle.block_schedule.specs.declared.schedule.Schedule.{Schedule}
+use Rattle.block_schedule.specs.Schedules.{IsScheduleOf}
+use Rattle.module_interp.specs.declared.path.Stage.{Stage}
+use Rattle.module_interp.specs.declared.path.Stage.TheVariants.{Begun, Asked, Answered, Ticked}
+use Rattle.module_interp.specs.declared.path.Path.{Path}
+use Rattle.module_interp.specs.declared.tally.Tally.{Tally}
+
+-- ---- how long a module can run
+
+-- no block goes on for so many local clocks from its last start of an iteration
+abbrev pub block_bound : ℕ
+block_bound = 2000000000002
+
+-- no module runs for so many local clocks
+abbrev pub clock_bound : ℕ
+clock_bound = 400002000000400002
+
+-- falls in each local clock: the operation count goes up, or the next decision or the block's end comes nearer
+abbrev pub clocks_to_go : Plan → Module → ModuleState → ℕ
+clocks_to_go p m s = (p.ops - s.count) * block_bound + clocks_left (block_of m s) s.control
+
+-- the local clocks since a step, and the block's local clock, stay below the bound
+pub record IsInTime (p : Plan) (m : Module) (s : ModuleState) (elapsed : ℕ) : Type 0 where
+  pub since : elapsed ≤ clock_bound
+  pub left : s.ended ≡ false → elapsed + clocks_to_go p m s ≤ clock_bound
+  pub clock : s.ended ≡ false → s.control.clock + clocks_to_go p m s ≤ clock_bound
+
+-- ---- the move in which a module stands
+
+abbrev pub after_move_by : Stage → Path → ModuleState
+after_move_by Begun x = x.state
+after_move_by Asked x = x.state
+after_move_by Answered x = move x.of x.state x.replies
+after_move_by Ticked x = gone_on x.of x.state
+
+-- the state behind what is left to do
+abbrev pub after_move : Path → ModuleState
+after_move x = after_move_by x.stage x
+
+-- what is needed to do it
+pub record CanAnswer (x : Path) : Type 0 where
+  pub state : IsStateSound x.of x.state
+  pub pending : x.pending ≡ due x.of x.state
+  pub clock : x.state.control.clock ≤ clock_bound
+  pub count : x.state.count < 2 ^ 32
+
+pub record CanGoOn (x : Path) : Type 0 where
+  pub block : x.state.control.block < length x.of.blocks
+  pub has_started : x.state.control.newest ≤ x.state.control.clock
+
+pub record CanAsk (x : Path) : Type 0 where
+  pub answer : CanAnswer x
+  pub alive : is_over x.limit x.state ≡ false
+  pub some : 0 < length x.asked
+  pub asked : x.asked ≡ requests x.channels x.of x.state
+  pub replies : length x.replies ≡ length x.asked
+
+abbrev pub IsStageSoundBy : Stage → Path → Type 0
+IsStageSoundBy Begun x = Unit {0}
+IsStageSoundBy Asked x = CanAsk x
+IsStageSoundBy Answered x = CanAnswer x
+IsStageSoundBy Ticked x = CanGoOn x
+
+-- the path is that of module i of a plan
+pub record IsPathOf (p : Plan) (i : ℕ) (x : Path) : Type 0 where
+  pub fits : FitsEngine p
+  pub owner : i < length p.design.modules
+  pub channels : x.channels ≡ p.design.channels
+  pub of : x.of ≡ module_at p i
+  pub limit : x.limit ≡ p.ops
+  pub count : length x.schedules ≡ length x.of.blocks
+  pub schedules : (n : ℕ) (d : Schedule) → n < length x.of.blocks → IsScheduleOf (block_at x.of n) (slice_index_or x.schedules n d)
+  pub state : IsStateOf (module_at p i) (after_move x)
+  pub operations : (after_move x).count < 2 ^ 32
+  pub time : IsInTime p (module_at p i) (after_move x) x.since
+  pub stage : IsStageSoundBy x.stage x
+
+-- ---- the rest to which it leads
+
+-- behind its move and the quiet clocks from there on, the path comes to this rest
+pub record LeadsTo (p : Plan) (i : ℕ) (o : Own) (x : Path) : Type 0 where
+  pub path : IsPathOf p i x
+  pub rest : o.state ≡ skip p i (quiet p i (after_move x)) (after_move x)
+  pub since : o.since ≡ x.since + quiet p i (after_move x)
+
+-- what leads to a rest still leads there
+abbrev pub KeepsRest : Path → Path → Type 0
+KeepsRest x y = (p : Plan) (i : ℕ) (o : Own) → LeadsTo p i o x → LeadsTo p i o y
+
+-- the path of some module
+pub record IsPath (x : Path) : Type 0 where
+  pub plan : Plan
+  pub number : ℕ
+  pub is : IsPathOf plan number x
+
+-- how many local clocks there may be up to the end, one more than that, and 0 at the end
+abbrev pub clocks_to_end : Path → ℕ
+clocks_to_end x =
+    let s = after_move x in
+    if s.ended then 0 else (x.limit - s.count) * block_bound + clocks_left (block_of x.of s) s.control + 1
+
+-- ---- rests
+
+-- a FIFO operation is due, and all that is due was looked up
+pub record IsAtStep (x : Path) : Type 0 where
+  pub begun : x.stage ≡ Begun
+  pub alive : is_over x.limit x.state ≡ false
+  pub pending : x.pending ≡ due x.of x.state
+  pub asked : x.asked ≡ requests x.channels x.of x.state
+  pub some : 0 < length x.asked
+
+-- the module is ended or spent
+pub record IsAtEnd (x : Path) : Type 0 where
+  pub begun : x.stage ≡ Begun
+  pub over : is_over x.limit x.state ≡ true
+
+-- ---- what was done
+
+-- the counts of what was done on so many channels
+pub record IsTallyOf (channels : ℕ) (before : List Exchange) (t : Tally) : Type 0 where
+  pub popped_count : length t.popped ≡ channels
+  pub pushed_count : length t.pushed ≡ channels
+  pub popped_are : (f : ℕ) → f < channels → slice_index t.popped f ≡ length (moved_by true f before)
+  pub pushed_are : (f : ℕ) → f < channels → slice_index t.pushed f ≡ length (moved_by false f before)
+  pub queries_are : t.queries ≡ length (queries before)

@@ -1,0 +1,28 @@
+//! The laws of a module's own run from rest to rest, for any plan `p` that the engine takes.
+ghost use Rattle.std.specs.Prelude.{ℕ, suc, ◌≡◌, ◌<◌, ◌≤◌, ◌^◌, List as Items, length};
+ghost use Rattle.flow_design.specs.StaticRules.{FitsEngine};
+ghost use Rattle.flow_design.specs.declared.plan.Plan.{Plan};
+ghost use Rattle.flow_design.specs.declared.state.Reply.{Reply};
+ghost use Rattle.lockstep_defs.specs.OwnRun.{Own, own, marks};
+ghost use Rattle.module_interp.specs.declared.run.ModuleRun.{ModuleRun};
+ghost use Rattle.module_interp.specs.OwnRests.{next_rest};
+ghost use Rattle.module_interp.specs.Chains.{rest_at, clock_at, marks_before, GoesTo};
+ghost use Rattle.module_interp.specs.Runs.{StandsAt};
+
+/// The rests are those of the own run on any replies, each behind as many steps as there were rests before it. Where there are
+/// replies to each rest but the last, the marks of the rests are the marks of the own run, of any number of local clocks that
+/// goes past the last rest.
+pub fn rests_are_own_runs()
+    ensures own { (p : Plan) → FitsEngine p → (i : ℕ) (replies : Items (Items Reply)) (k : ℕ) → GoesTo p i replies k
+        → own p i replies (clock_at p i replies k) ≡ rest_at p i replies k }
+    ensures steps { (p : Plan) → FitsEngine p → (i : ℕ) (replies : Items (Items Reply)) (k : ℕ) → GoesTo p i replies k
+        → length (rest_at p i replies k).steps ≡ k }
+    ensures marks { (p : Plan) → FitsEngine p → (i : ℕ) (replies : Items (Items Reply)) → GoesTo p i replies (length replies)
+        → (n : ℕ) → clock_at p i replies (length replies) < n → marks p i replies n ≡ marks_before p i replies (suc (length replies)) }
+{}
+
+/// A rest is less than 10^18 local clocks from the step before it or from local clock 0, and at least one behind a step.
+pub fn gaps_are_short()
+    ensures most { (p : Plan) (i : ℕ) (o : Own) (run : ModuleRun) → StandsAt p i o run → o.since < 10 ^ 18 }
+    ensures least { (p : Plan) (i : ℕ) (o : Own) (replies : Items Reply) → 1 ≤ (next_rest p i o replies).since }
+{}

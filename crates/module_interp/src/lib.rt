@@ -1,0 +1,14 @@
+//! A module's own run, ahead of time, on the replies that it is fed. Local clocks without work are jumped over.
+#![tactic(auto)]
+
+mod due;
+mod laws;
+mod making;
+mod path;
+mod quiet;
+mod run;
+mod tally;
+
+pub use flow_design::{Advance, Reply};
+pub use laws::{gaps_are_short, rests_are_own_runs};
+pub use run::ModuleRun;

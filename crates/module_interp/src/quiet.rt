@@ -1,0 +1,205 @@
+//! The local clocks in which a module asks nothing of the channels.
+ghost use Rattle.std.specs.Prelude.{◌≡◌, ◌≢◌, ℕ, ◌<◌, ◌≤◌, ◌^◌, ◌⊎◌, [], true, false, IfOk, OnOk, OnErr};
+ghost use Rattle.flow_design.specs.Module.{block_of, due};
+ghost use Rattle.lockstep_defs.specs.Machine.{move, requests, is_over};
+ghost use Rattle.module_move.specs.Moves.{ticked_to, gone_on};
+ghost use Rattle.block_schedule.specs.Work.{IsNextDue};
+ghost use Rattle.module_interp.specs.declared.path.Stage.TheVariants.{Begun, Asked, Ticked};
+ghost use Rattle.module_interp.specs.Paths.{after_move, CanAnswer, IsPath, KeepsRest, clocks_to_end, IsAtStep, IsAtEnd};
+
+use crate::due::look_up;
+use crate::path::{Path, Stage};
+use flow_word::OutOfMemory;
+use module_move::{add_requests, commit, go_on, tick_to};
+
+impl Path {
+    /// Comes to the next local clock with a due FIFO operation, or to the end of the run.
+    ///
+    /// After want of memory the path still leads to the same rest.
+    pub fn come_to_rest(&mut self) -> Result<(), OutOfMemory>
+        requires path { IsPath self.old }
+        requires answered { self.old.stage ≢ Asked }
+        ensures kept { KeepsRest self.old self.new }
+        ensures rest { OnOk result (IsAtStep self.new ⊎ IsAtEnd self.new) }
+        ensures unasked { self.new.stage ≢ Asked }
+    {
+        let mut rests = false;
+        while !rests {
+            rests = self.go_a_way()?;
+        }
+        Ok(())
+    }
+
+    /// Does what is left of the move, and then comes nearer to the rest. Whether it is there.
+    fn go_a_way(&mut self) -> Result<bool, OutOfMemory>
+        requires path { IsPath self.old }
+        requires answered { self.old.stage ≢ Asked }
+        ensures kept { KeepsRest self.old self.new }
+        ensures unasked { self.new.stage ≢ Asked }
+        ensures rest { IfOk result (λ rests. rests ≡ true → IsAtStep self.new ⊎ IsAtEnd self.new) }
+        ensures nearer { IfOk result (λ rests. rests ≡ false → clocks_to_end self.new < clocks_to_end self.old) }
+        ensures no_farther { IfOk result (λ rests. clocks_to_end self.new ≤ clocks_to_end self.old) }
+    {
+        self.settle()?;
+        if self.is_over() {
+            return Ok(true);
+        }
+        let rests = self.stands_still()?;
+        Ok(rests)
+    }
+
+    /// Does what is left to do of the move.
+    fn settle(&mut self) -> Result<(), OutOfMemory>
+        requires path { IsPath self.old }
+        requires answered { self.old.stage ≢ Asked }
+        ensures kept { KeepsRest self.old self.new }
+        ensures unasked { self.new.stage ≢ Asked }
+        ensures begun { OnOk result (self.new.stage ≡ Begun) }
+        ensures same { clocks_to_end self.new ≡ clocks_to_end self.old }
+    {
+        self.answer()?;
+        self.turn()?;
+        Ok(())
+    }
+
+    /// Where the replies are there, the due operations commit on them.
+    fn answer(&mut self) -> Result<(), OutOfMemory>
+        requires path { IsPath self.old }
+        requires answered { self.old.stage ≢ Asked }
+        ensures kept { KeepsRest self.old self.new }
+        ensures ticked { OnOk result ((self.new.stage ≡ Begun) ⊎ (self.new.stage ≡ Ticked)) }
+        ensures unasked { self.new.stage ≢ Asked }
+        ensures same { clocks_to_end self.new ≡ clocks_to_end self.old }
+    {
+        match self.stage {
+            Stage::Answered => {
+                self.commit_due()?;
+                Ok(())
+            }
+            Stage::Begun | Stage::Asked | Stage::Ticked => Ok(()),
+        }
+    }
+
+    /// Where the clock has gone up, the loop decides and the block may end.
+    fn turn(&mut self) -> Result<(), OutOfMemory>
+        requires path { IsPath self.old }
+        requires ticked { (self.old.stage ≡ Begun) ⊎ (self.old.stage ≡ Ticked) }
+        ensures kept { KeepsRest self.old self.new }
+        ensures begun { OnOk result (self.new.stage ≡ Begun) }
+        ensures unasked { self.new.stage ≢ Asked }
+        ensures same { clocks_to_end self.new ≡ clocks_to_end self.old }
+    {
+        match self.stage {
+            Stage::Ticked => {
+                go_on(self.alloc, &self.of, &mut self.state)?;
+                self.stage = Stage::Begun;
+                Ok(())
+            }
+            Stage::Begun | Stage::Asked | Stage::Answered => Ok(()),
+        }
+    }
+
+    /// Whether a FIFO operation is due. If not, the due operations commit and the clock goes up, or it jumps to the next
+    /// local clock with work.
+    fn stands_still(&mut self) -> Result<bool, OutOfMemory>
+        requires path { IsPath self.old }
+        requires begun { self.old.stage ≡ Begun }
+        requires alive { is_over self.old.limit self.old.state ≡ false }
+        ensures kept { KeepsRest self.old self.new }
+        ensures unasked { self.new.stage ≢ Asked }
+        ensures rest { IfOk result (λ rests. rests ≡ true → IsAtStep self.new) }
+        ensures nearer { IfOk result (λ rests. rests ≡ false → clocks_to_end self.new < clocks_to_end self.old) }
+        ensures no_farther { IfOk result (λ rests. clocks_to_end self.new ≤ clocks_to_end self.old) }
+    {
+        let schedule = &self.schedules.as_slice()[self.state.control.block as usize];
+        let next = schedule.next_due(&self.state.control);
+        if next > self.state.control.clock {
+            self.jump(next);
+            return Ok(false);
+        }
+        self.ask()?;
+        if self.asked.len() > 0 {
+            return Ok(true);
+        }
+        self.pass()?;
+        Ok(false)
+    }
+
+    /// Jumps to a later local clock, before which there is no work.
+    fn jump(&mut self, clock: u64)
+        requires path { IsPath self.old }
+        requires begun { self.old.stage ≡ Begun }
+        requires alive { is_over self.old.limit self.old.state ≡ false }
+        requires next { IsNextDue (block_of self.old.of self.old.state) self.old.state.control clock }
+        requires later { self.old.state.control.clock < clock }
+        ensures kept { KeepsRest self.old self.new }
+        ensures ticked { self.new.stage ≡ Ticked }
+        ensures nearer { clocks_to_end self.new < clocks_to_end self.old }
+    {
+        self.since += clock - self.state.control.clock;
+        tick_to(&self.of, &mut self.state, clock);
+        self.stage = Stage::Ticked;
+    }
+
+    /// Looks up the due operations and their requests.
+    fn ask(&mut self) -> Result<(), OutOfMemory>
+        requires path { IsPath self.old }
+        requires begun { self.old.stage ≡ Begun }
+        requires alive { is_over self.old.limit self.old.state ≡ false }
+        ensures frame { self.new ≡ record self.old { pending = self.new.pending; asked = self.new.asked } }
+        ensures pending { OnOk result (self.new.pending ≡ due self.old.of self.old.state) }
+        ensures asked { OnOk result (self.new.asked ≡ requests self.old.channels self.old.of self.old.state) }
+    {
+        let schedule = &self.schedules.as_slice()[self.state.control.block as usize];
+        look_up(&self.of, schedule, &self.state, &mut self.pending)?;
+        self.asked.truncate(0);
+        add_requests(
+            self.channels.as_slice(),
+            &self.of,
+            &self.state,
+            self.pending.as_slice(),
+            &mut self.asked,
+        )?;
+        Ok(())
+    }
+
+    /// A local clock in which no FIFO operation is due: the due operations commit.
+    fn pass(&mut self) -> Result<(), OutOfMemory>
+        requires path { IsPath self.old }
+        requires begun { self.old.stage ≡ Begun }
+        requires alive { is_over self.old.limit self.old.state ≡ false }
+        requires pending { self.old.pending ≡ due self.old.of self.old.state }
+        requires none { requests self.old.channels self.old.of self.old.state ≡ [] }
+        ensures kept { KeepsRest self.old self.new }
+        ensures unasked { self.new.stage ≢ Asked }
+        ensures nearer { OnOk result (clocks_to_end self.new < clocks_to_end self.old) }
+    {
+        self.replies.truncate(0);
+        self.commit_due()?;
+        self.since += 1;
+        Ok(())
+    }
+
+    /// The due operations commit on the replies, and the clock goes up.
+    fn commit_due(&mut self) -> Result<(), OutOfMemory>
+        requires path { IsPath self.old }
+        requires answer { CanAnswer self.old }
+        ensures frame { OnOk result (self.new ≡ record self.old { state = self.new.state; stage = Ticked; effects = self.new.effects }) }
+        ensures moved { OnOk result (gone_on self.new.of self.new.state ≡ move self.old.of self.old.state self.old.replies) }
+        ensures block { OnOk result (self.new.state.control.block ≡ self.old.state.control.block) }
+        ensures started { OnOk result (self.new.state.control.newest ≤ self.new.state.control.clock) }
+        ensures unchanged { OnErr result (self.new ≡ record self.old { effects = self.new.effects }) }
+    {
+        commit(
+            &self.of,
+            &mut self.state,
+            self.pending.as_slice(),
+            self.replies.as_slice(),
+            &mut self.effects,
+        )?;
+        let next = self.state.control.clock + 1;
+        tick_to(&self.of, &mut self.state, next);
+        self.stage = Stage::Ticked;
+        Ok(())
+    }
+}

@@ -1,0 +1,139 @@
+//! The run of a module.
+ghost use Rattle.std.specs.Prelude.{◌≡◌, ℕ, ◌<◌, ◌^◌, true, false, if◌then◌else◌, [], map, List as Items, length, All, IfOk, OnErr};
+ghost use Rattle.flow_design.specs.StaticRules.{FitsEngine};
+ghost use Rattle.flow_design.specs.declared.plan.Plan.{Plan as PlanOf};
+ghost use Rattle.lockstep_defs.specs.Channels.{Exchange};
+ghost use Rattle.lockstep_defs.specs.Report.{queries};
+ghost use Rattle.lockstep_defs.specs.OwnRun.{Own, access_of};
+ghost use Rattle.module_interp.specs.OwnRests.{first_rest, next_rest, accesses_at, mark_at, all_fit};
+ghost use Rattle.module_interp.specs.Paths.{IsTallyOf};
+ghost use Rattle.module_interp.specs.Runs.{waits, is_step, StandsAt};
+
+use crate::making::first_path;
+use crate::path::{Path, Stage};
+use crate::tally::Tally;
+use flow_design::{Advance, Plan, Reply, Request};
+use flow_word::{Access, Accesses, List, OutOfMemory, Step};
+use std::alloc::Global;
+
+/// A module's own run, ahead of time: from one local clock with a due FIFO operation to the next, on the replies that it
+/// is fed.
+///
+/// Contracts see where it stands: at a rest of the own run of the definitions, that is at its next step or its end, and
+/// whether that step waits for replies. How far the call has come towards the rest doesn't show.
+#[derive(Drop)]
+pub struct ModuleRun {
+    path: Path,
+    tally: Tally,
+    /// The accesses of the last step.
+    accesses: List<Access>,
+}
+
+impl ModuleRun {
+    /// The run of a module of a plan, at the module's first rest. It owns a copy of the module.
+    pub fn new(alloc: Global, plan: &Plan, number: u32) -> Result<ModuleRun, OutOfMemory>
+        requires fits { FitsEngine plan.now }
+        requires owner { number < length plan.now.design.modules }
+        ensures stands { IfOk result (λ run. StandsAt plan.now number (first_rest plan.now number) run) }
+        ensures waits { IfOk result (λ run. waits run ≡ false) }
+    {
+        let path = first_path(alloc, plan, number)?;
+        let tally = Tally::new(alloc, plan.design.channels.len())?;
+        Ok(ModuleRun {
+            path,
+            tally,
+            accesses: List::new(alloc),
+        })
+    }
+
+    /// The accesses of the step that waits for replies, in commit order; none where no step waits.
+    pub fn waiting(&self) -> &[Access]
+        ensures { (p : PlanOf) (i : ℕ) (o : Own) → StandsAt p i o self.now → result.now ≡ (if waits self.now then accesses_at p i o else []) }
+    {
+        match self.path.stage {
+            Stage::Asked => self.accesses.as_slice(),
+            Stage::Begun | Stage::Answered | Stage::Ticked => &[],
+        }
+    }
+
+    /// Runs local clocks to the next one with a due FIFO operation, and gives that step, which then waits for replies; or
+    /// gives the end of the run, and does so again at each later call.
+    ///
+    /// After want of memory the run is as it was.
+    pub fn advance(&mut self) -> Result<Advance, OutOfMemory>
+        requires stands { (p : PlanOf) × ((i : ℕ) × ((o : Own) × StandsAt p i o self.old)) }
+        requires answered { waits self.old ≡ false }
+        ensures stands { (p : PlanOf) (i : ℕ) (o : Own) → StandsAt p i o self.old → StandsAt p i o self.new }
+        ensures mark { IfOk result (λ mark. (p : PlanOf) (i : ℕ) (o : Own) → StandsAt p i o self.old → mark ≡ mark_at p i o) }
+        ensures waits { IfOk result (λ mark. waits self.new ≡ is_step mark) }
+        ensures as_before { OnErr result (waits self.new ≡ false) }
+    {
+        self.path.come_to_rest()?;
+        if self.path.state.ended {
+            return Ok(Advance::Ended(self.path.since));
+        }
+        if self.path.is_over() {
+            return Ok(Advance::Spent(self.path.since));
+        }
+        let accesses = list_accesses(
+            self.path.alloc,
+            &self.tally,
+            self.path.asked.as_slice(),
+            &mut self.accesses,
+            &mut self.path.replies,
+        )?;
+        self.path.stage = Stage::Asked;
+        Ok(Advance::Step(Step {
+            gap: self.path.since,
+            accesses,
+            first_query: self.tally.queries,
+        }))
+    }
+
+    /// Commits the step that waits, on its replies. It takes no memory: what the module does on them is done by the next call
+    /// that goes on.
+    pub fn feed(&mut self, replies: &[Reply])
+        requires stands { (p : PlanOf) × ((i : ℕ) × ((o : Own) × (StandsAt p i o self.old × (all_fit (accesses_at p i o) replies.now ≡ true)))) }
+        requires waits { waits self.old ≡ true }
+        ensures stands { (p : PlanOf) (i : ℕ) (o : Own) → StandsAt p i o self.old → StandsAt p i (next_rest p i o replies.now) self.new }
+        ensures fed { waits self.new ≡ false }
+    {
+        self.tally.count_step(self.path.asked.as_slice(), replies);
+        write_over(&mut self.path.replies, replies);
+        self.path.since = 1;
+        self.path.stage = Stage::Answered;
+    }
+}
+
+/// Lists the accesses of these requests twice, and makes room for their replies. What the two lists held before is gone.
+fn list_accesses(
+    alloc: Global,
+    tally: &Tally,
+    asked: &[Request],
+    kept: &mut List<Access>,
+    replies: &mut List<Reply>,
+) -> Result<Accesses, OutOfMemory>
+    requires tally { (channels : ℕ) × ((before : Items Exchange) × (IsTallyOf channels before tally.now × ((length before < 2 ^ 40) × All (λ r. r.channel < channels) asked.now))) }
+    ensures given { IfOk result (λ accesses. (channels : ℕ) (before : Items Exchange) → IsTallyOf channels before tally.now → All (λ r. r.channel < channels) asked.now → accesses ≡ map (access_of before) asked.now) }
+    ensures kept { IfOk result (λ accesses. kept.new ≡ accesses) }
+    ensures replies { IfOk result (λ accesses. length replies.new ≡ length asked.now) }
+{
+    let mut accesses = Accesses::new(alloc);
+    kept.truncate(0);
+    replies.truncate(0);
+    for request in asked {
+        let access = tally.access(*request);
+        accesses.push(access)?;
+        kept.push(access)?;
+        replies.push(Reply::Done)?;
+    }
+    Ok(accesses)
+}
+
+/// Writes as many replies over those of a list.
+fn write_over(list: &mut List<Reply>, replies: &[Reply])
+    requires { length list.old ≡ length replies.now }
+    ensures { list.new ≡ replies.now }
+{
+    list.as_mut_slice().copy_from_slice(replies);
+}

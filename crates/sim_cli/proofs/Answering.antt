@@ -1,60 +1,57 @@
--- Which answer the program owes.
-use Rattle.std.proofs.Common.{◌≡◌, ◌∙◌, ap, subst, sym, refl, arith, ℕ, ◌<◌, ◌≤◌, Bool, true, false, cond, List, ◌++◌, length, None, Some, IfSome, length-append, append-nil, nat_le}
-use Rattle.std.proofs.lemmas.Bool.{and_parts}
-use Rattle.std.proofs.lemmas.Bool.Decides.{nat_tests}
+-- That each text has an answer, and what holds of what was read.
+use Rattle.std.proofs.Common.{◌≡◌, ◌∙◌, ap, subst, sym, refl, arith, ℕ, ◌<◌, ◌≤◌, Bool, List, ◌++◌, [], length, None, Some, IfSome, Result, Ok, Err, length-append, append-nil}
 use Rattle.std.specs.declared.option.Option.{Option}
-use Rattle.std.specs.Str.{bytes_eq}
-use Rattle.std.specs.Io.KnownBytes.{Consumes, IsAtEnd}
+use Rattle.std.specs.Io.KnownBytes.{Appends, Consumes, IsAtEnd}
 use Rattle.sim_io.specs.Causes.{LosesCount}
-use Rattle.report_text.specs.Lines.{line, runs_tokens}
-use Rattle.report_text.specs.ReportText.{report_text_of}
-use Rattle.lockstep_defs.specs.Report.{report}
-use Rattle.sim_cli.specs.declared.first_form.FirstForm.{FirstForm}
-use Rattle.sim_cli.specs.declared.status.Status.{Status}
-use Rattle.sim_cli.specs.FirstForm.{candidate, spelling, spells, first_form, is_sound, plan_of}
-use Rattle.sim_cli.specs.Answer.{asks_run, refused_words, not_built, text_limit, status_of, job, answer_to, answer}
+use Rattle.flow_design.specs.declared.session.Statement.{Statement}
+use Rattle.flow_grammar.specs.declared.fault.TextFault.{TextFault}
+use Rattle.flow_grammar.specs.Text.{Said, StandsFor, HasFault}
+use Rattle.flow_check.specs.Checked.{fault_of}
+use Rattle.flow_gen.specs.Generated.{session_text}
+use Rattle.cli_words.specs.declared.Command.{Command}
+use Rattle.cli_words.specs.declared.Command.TheVariants.{Run, Alone, Clock, Check, Gen}
+use Rattle.sim_cli.specs.declared.task.Task.{Task}
+use Rattle.sim_cli.specs.declared.task.Task.TheVariants.{Simulate, Print, Summarize}
+use Rattle.sim_cli.specs.declared.status.Status.TheVariants.{ReadFault, Memory}
+use Rattle.sim_cli.specs.Made.{Answer, refused_words, refused, made}
+use Rattle.sim_cli.specs.Answer.{AnswersSession, AnswersText, AnswersCommand, Tells}
+use Rattle.sim_cli.specs.Answer.AnswersSession.{misfit, fit}
+use Rattle.sim_cli.specs.Answer.AnswersText.{misread, read}
 
--- ---- the session
+-- ---- the answer to a session
 
--- a form that a text spells is sound
-pub form_sound : (text : List ℕ) (f : FirstForm) → first_form text ≡ Some f → is_sound f ≡ true
-unfolding first_form spells
-form_sound text f e = by_test (spells text (candidate text)) refl e
+-- by its checking fault
+abbrev answer_by : Option TextFault → Task → List Statement → List ℕ → Answer
+answer_by None task s l = made task s l
+answer_by (Some fault) task s l = refused fault
+
+pub session_answer : (task : Task) (s : List Statement) (l : List ℕ) → AnswersSession task s l (answer_by (fault_of s l) task s l)
+session_answer task s l = go (fault_of s l) refl
   where
-    by_test : (b : Bool) → spells text (candidate text) ≡ b → cond b (Some (candidate text)) None ≡ Some f → is_sound f ≡ true
-    by_test true h found =
-        let same : candidate text ≡ f = cc in
-        subst (λ (g : FirstForm). is_sound g ≡ true) same (and_parts (is_sound (candidate text)) (bytes_eq (spelling (candidate text)) text) h).0
-    by_test false h found = cc
+    go : (o : Option TextFault) → fault_of s l ≡ o → AnswersSession task s l (answer_by o task s l)
+    go None e = fit e refl
+    go (Some fault) e = misfit fault e refl
 
--- the parts of a job
-pub job_is : (f : FirstForm) (told runs : List ℕ) (status : Status) → told ≡ report_text_of (plan_of f).design (report (plan_of f)) 0 false
-    → runs ≡ line (runs_tokens 1) → status ≡ status_of (report (plan_of f)).verdict → record { text = told ++ runs; status = status } ≡ job (plan_of f)
-unfolding job
-job_is f told runs status p q r =
-    ap (λ (t : List ℕ). record { text = t ++ runs; status = status }) p
-    ∙ (ap (λ (u : List ℕ). record { text = report_text_of (plan_of f).design (report (plan_of f)) 0 false ++ u; status = status }) q
-    ∙ ap (λ (s : Status). record { text = report_text_of (plan_of f).design (report (plan_of f)) 0 false ++ line (runs_tokens 1); status = s }) r)
+pub session_only : (task : Task) (s : List Statement) (l : List ℕ) (a : Answer) → AnswersSession task s l a → a ≡ answer_by (fault_of s l) task s l
+session_only task s l a (misfit fault e h) = rw e h
+session_only task s l a (fit e h) = rw e h
 
--- ---- the whole answer
+-- ---- the answer to a text
 
-pub answer_refused : (words : List (List ℕ)) (bytes : List ℕ) → asks_run words ≡ false → answer words bytes ≡ refused_words
-unfolding answer
-answer_refused words bytes h = rw h refl
+-- by what is said of it
+abbrev pub answer_to : Result (List Statement × List ℕ) TextFault → Task → Answer
+answer_to (Ok r) task = answer_by (fault_of r.0 r.1) task r.0 r.1
+answer_to (Err fault) task = refused fault
 
-answer_asked : (words : List (List ℕ)) (bytes : List ℕ) → asks_run words ≡ true → answer words bytes ≡ cond (nat_le (length bytes) text_limit) (answer_to (first_form bytes)) not_built
-unfolding answer
-answer_asked words bytes h = rw h refl
+pub text_answer : (task : Task) (text : List ℕ) (r : Result (List Statement × List ℕ) TextFault) → Said text r → AnswersText task text (answer_to r task)
+text_answer task text (Ok r) said = read r.0 r.1 said (session_answer task r.0 r.1)
+text_answer task text (Err fault) said = misread fault said refl
 
-pub answer_session : (words : List (List ℕ)) (bytes : List ℕ) → asks_run words ≡ true → length bytes ≤ 4194304 → answer words bytes ≡ answer_to (first_form bytes)
-answer_session words bytes h within =
-    let test : nat_le (length bytes) text_limit ≡ true = grind (arith, nat_tests) in
-    answer_asked words bytes h ∙ rw test refl
-
-pub answer_too_long : (words : List (List ℕ)) (bytes : List ℕ) → asks_run words ≡ true → 4194304 < length bytes → answer words bytes ≡ not_built
-answer_too_long words bytes h over =
-    let test : nat_le (length bytes) text_limit ≡ false = grind (arith, nat_tests) in
-    answer_asked words bytes h ∙ rw test refl
+pub text_only : (task : Task) (text : List ℕ) (r : Result (List Statement × List ℕ) TextFault)
+    → ((x : Result (List Statement × List ℕ) TextFault) → Said text x → x ≡ r)
+    → (a : Answer) → AnswersText task text a → a ≡ answer_to r task
+text_only task text r only a (misread fault said h) = subst (λ x. a ≡ answer_to x task) (only (Err fault) said) h
+text_only task text r only a (read s l said h) = subst (λ x. a ≡ answer_to x task) (only (Ok (s, l)) said) (session_only task s l a h)
 
 -- ---- what was read
 
@@ -74,3 +71,42 @@ pub of_long : (P : List ℕ → Type 0) (old new : Option (List ℕ)) (n : ℕ) 
 of_long P None new n c h = tt
 of_long P (Some x) None n c h = absurd c.consumed
 of_long P (Some x) (Some y) n c h = h x (omega (arith, ap length c.consumed, length-append c.bytes y, c.count))
+
+-- ---- what a result tells without an answer
+
+-- nothing was added
+nothing_added : (o : Option (List ℕ)) → Appends o o []
+nothing_added None = tt
+nothing_added (Some x) = sym (append-nil x)
+
+-- want of memory, and nothing written
+pub no_memory : (whole : Answer) (held : Option (List ℕ)) (finished : Bool) → Tells whole Memory held held finished
+no_memory whole held finished = record {
+  answered = λ i. absurd i;
+  write = λ e. cc;
+  memory = λ _. record { count = 0; appended = nothing_added held };
+}
+
+-- a fault of reading, and nothing written
+pub not_read : (whole : Answer) (old new : Option (List ℕ)) (finished : Bool) → Tells whole ReadFault old new finished
+not_read whole old new finished = record { answered = λ i. absurd i; write = λ e. cc; memory = λ e. cc }
+
+-- ---- the answer to a command
+
+pub command_some : ((task : Task) (text : List ℕ) → (a : Answer) × AnswersText task text a)
+    → (command : Option Command) (bytes : List ℕ) → (a : Answer) × AnswersCommand command bytes a
+command_some some None bytes = (refused_words, refl)
+command_some some (Some (Run o)) bytes = some (Simulate o) bytes
+command_some some (Some (Clock o)) bytes = some (Simulate o) bytes
+command_some some (Some (Alone o)) bytes = (refused_words, refl)
+command_some some (Some Check) bytes = some Print bytes
+command_some some (Some (Gen seed modules)) bytes = some (Summarize seed modules) (session_text seed modules)
+
+pub command_only : ((task : Task) (text : List ℕ) (a b : Answer) → AnswersText task text a → AnswersText task text b → a ≡ b)
+    → (command : Option Command) (bytes : List ℕ) (a b : Answer) → AnswersCommand command bytes a → AnswersCommand command bytes b → a ≡ b
+command_only only None bytes a b p q = p ∙ sym q
+command_only only (Some (Run o)) bytes a b p q = only (Simulate o) bytes a b p q
+command_only only (Some (Clock o)) bytes a b p q = only (Simulate o) bytes a b p q
+command_only only (Some (Alone o)) bytes a b p q = p ∙ sym q
+command_only only (Some Check) bytes a b p q = only Print bytes a b p q
+command_only only (Some (Gen seed modules)) bytes a b p q = only (Summarize seed modules) (session_text seed modules) a b p q

@@ -1,8 +1,6 @@
 pub mod Answering
-pub mod Fitting
-pub mod LinesTogether
-pub mod ReadBack
+pub mod Limits
 pub mod Reported
-pub mod Respelled
-pub mod Splitting
+pub mod Sums
+pub mod Telling
 pub mod Told

@@ -1,68 +1,69 @@
--- What the program answers: a text and a status.
-use Rattle.std.specs.Prelude.{◌≡◌, ℕ, Bool, true, false, nat_le, if◌then◌else◌, List, [], ◌∷◌, ◌++◌, length, codes, Option, Some, None}
-use Rattle.std.specs.Str.{bytes_eq}
+-- The whole answer to the program's words and the bytes of its input.
+use Rattle.std.specs.Prelude.{◌≡◌, ℕ, Bool, true, false, List, [], Option, Some, None}
 use Rattle.std.specs.Io.KnownBytes.{Appends}
 use Rattle.sim_io.specs.Causes.{AppendsPrefix}
-use Rattle.flow_design.specs.declared.plan.Plan.{Plan}
-use Rattle.flow_design.specs.declared.report.Verdict.{Verdict}
-use Rattle.flow_design.specs.declared.report.Verdict.TheVariants as verdict
-use Rattle.lockstep_defs.specs.Report.{report}
-use Rattle.report_text.specs.Lines.{line, runs_tokens}
-use Rattle.report_text.specs.ReportText.{report_text_of}
-use Rattle.sim_cli.specs.declared.first_form.FirstForm.{FirstForm}
+use Rattle.flow_design.specs.declared.session.Statement.{Statement}
+use Rattle.flow_gen.specs.Generated.{session_text}
+use Rattle.flow_grammar.specs.declared.fault.TextFault.{TextFault}
+use Rattle.flow_grammar.specs.Text.{StandsFor, HasFault}
+use Rattle.flow_check.specs.Checked.{fault_of}
+use Rattle.cli_words.specs.CommandWords.{accepted, AreLimits}
+use Rattle.cli_words.specs.declared.Command.{Command}
+use Rattle.cli_words.specs.declared.Command.TheVariants.{Run, Alone, Clock, Check, Gen}
+use Rattle.sim_cli.specs.Made.{Answer, refused_words, refused, made}
+use Rattle.sim_cli.specs.declared.task.Task.{Task}
+use Rattle.sim_cli.specs.declared.task.Task.TheVariants.{Simulate, Print, Summarize}
 use Rattle.sim_cli.specs.declared.status.Status.{Status}
-use Rattle.sim_cli.specs.declared.status.Status.TheVariants.{Done, Words, Text, Deadlock, Cycles, Ops, ReadFault, WriteFault, Memory}
-use Rattle.sim_cli.specs.FirstForm.{first_form, plan_of}
+use Rattle.sim_cli.specs.declared.status.Status.TheVariants.{ReadFault, WriteFault, Memory}
 
-pub record Answer : Type 0 where
-  pub text : List ℕ
-  pub status : Status
+-- ---- a session, and a text
+
+-- the answer to a session that was read
+pub data AnswersSession (task : Task) (statements : List Statement) (lines : List ℕ) (answer : Answer) : Type 0 where
+  -- it has a checking fault, and is refused with it
+  misfit : (fault : TextFault) → fault_of statements lines ≡ Some fault → answer ≡ refused fault → AnswersSession task statements lines answer
+  -- it has none
+  fit : fault_of statements lines ≡ None → answer ≡ made task statements lines → AnswersSession task statements lines answer
+
+-- the answer to a text
+pub data AnswersText (task : Task) (text : List ℕ) (answer : Answer) : Type 0 where
+  -- it has a reading fault, and is refused with it
+  misread : (fault : TextFault) → HasFault text fault → answer ≡ refused fault → AnswersText task text answer
+  -- it stands for a session
+  read : (statements : List Statement) (lines : List ℕ) → StandsFor text statements lines → AnswersSession task statements lines answer
+      → AnswersText task text answer
 
 -- ---- the words
 
--- the words ask for a simulation: there is one word, `run`
-abbrev pub asks_run : List (List ℕ) → Bool
-asks_run [] = false
-asks_run (word ∷ []) = bytes_eq word (codes "run")
-asks_run (word ∷ other ∷ words) = false
+-- the answer to a command, with these bytes as the input
+abbrev pub AnswersCommand : Option Command → List ℕ → Answer → Type 0
+AnswersCommand None bytes answer = answer ≡ refused_words
+AnswersCommand (Some (Run o)) bytes answer = AnswersText (Simulate o) bytes answer
+AnswersCommand (Some (Clock o)) bytes answer = AnswersText (Simulate o) bytes answer
+-- not built yet
+AnswersCommand (Some (Alone o)) bytes answer = answer ≡ refused_words
+AnswersCommand (Some Check) bytes answer = AnswersText Print bytes answer
+-- the generated session takes the place of the input
+AnswersCommand (Some (Gen seed modules)) bytes answer = AnswersText (Summarize seed modules) (session_text seed modules) answer
 
-abbrev pub refused_words : Answer
-refused_words = record { text = line (codes "refused" ∷ codes "words" ∷ []); status = Words }
+-- the answer to the words, with these bytes as the input
+abbrev pub Answers : List (List ℕ) → List ℕ → Answer → Type 0
+Answers words = AnswersCommand (accepted words)
 
--- ---- the session
+-- whether a command takes input
+abbrev pub takes_input : Option Command → Bool
+takes_input (Some (Run o)) = true
+takes_input (Some (Clock o)) = true
+takes_input (Some Check) = true
+takes_input command = false
 
--- the most bytes that a session text has
-abbrev pub text_limit : ℕ
-text_limit = 4194304
+-- ---- tasks
 
--- the text is of no form that is built
-abbrev pub not_built : Answer
-not_built = record { text = line (codes "refused" ∷ codes "0" ∷ codes "20" ∷ []); status = Text }
-
-abbrev pub status_of : Verdict → Status
-status_of (verdict.Done c) = Done
-status_of (verdict.Deadlock c) = Deadlock
-status_of (verdict.Cycles c) = Cycles
-status_of (verdict.Ops c) = Ops
-
--- the job of a plan without edits: the text of its report, the number of runs, and the status of its verdict
-unfoldable pub job : Plan → Answer
-job p = record {
-  text = report_text_of p.design (report p) 0 false ++ line (runs_tokens 1);
-  status = status_of (report p).verdict;
-}
-
-abbrev pub answer_to : Option FirstForm → Answer
-answer_to None = not_built
-answer_to (Some f) = job (plan_of f)
-
--- the answer to a session text
-abbrev pub session_answer : List ℕ → Answer
-session_answer bytes = if nat_le (length bytes) text_limit then answer_to (first_form bytes) else not_built
-
--- the whole answer to the program's words and the bytes of its input
-unfoldable pub answer : List (List ℕ) → List ℕ → Answer
-answer words bytes = if asks_run words then session_answer bytes else refused_words
+-- the limits that a task gives are within their bounds
+abbrev pub IsSound : Task → Type 0
+IsSound (Simulate o) = AreLimits o
+IsSound Print = Unit {0}
+IsSound (Summarize seed modules) = Unit {0}
 
 -- ---- what a result tells
 
@@ -80,3 +81,15 @@ pub record Tells (whole : Answer) (result : Status) (old new : Option (List ℕ)
   -- after a fault of writing, or want of memory, a prefix was written
   pub write : result ≡ WriteFault → AppendsPrefix old new whole.text
   pub memory : result ≡ Memory → AppendsPrefix old new whole.text
+
+-- the result tells the answer to a command
+pub record TellsCommand (command : Option Command) (bytes : List ℕ) (result : Status) (old new : Option (List ℕ)) (finished : Bool) : Type 0 where
+  pub whole : Answer
+  pub answers : AnswersCommand command bytes whole
+  pub tells : Tells whole result old new finished
+
+-- the result tells the answer to a text
+pub record TellsText (task : Task) (text : List ℕ) (result : Status) (old new : Option (List ℕ)) (finished : Bool) : Type 0 where
+  pub whole : Answer
+  pub answers : AnswersText task text whole
+  pub tells : Tells whole result old new finished

@@ -1,3 +1,2 @@
 pub mod Answer
-pub mod FirstForm
-pub mod Parts
+pub mod Made

@@ -1,25 +1,23 @@
-//! The law of the spelling.
-ghost use Rattle.std.specs.Prelude.{◌≡◌, ◌<◌, ◌^◌, true, All, Some};
-ghost use Rattle.sim_cli.specs.FirstForm.{first_form, is_sound, spelling};
+//! The law of the whole answer.
+ghost use Rattle.std.specs.Prelude.{◌≡◌, ℕ, List};
+ghost use Rattle.sim_cli.specs.Made.{Answer};
+ghost use Rattle.sim_cli.specs.Answer.{Answers, AnswersText};
+ghost use Rattle.sim_cli.specs.declared.task.Task.{Task as TaskOf};
 
-use crate::first_form::FirstForm;
+use flow_grammar::one_answer as one_reading;
 
-/// The spelling of each sound form is read as that form.
-pub fn spellings_are_read(form: &FirstForm)
-    requires { is_sound form.now ≡ true }
-    ensures { first_form (spelling form.now) ≡ Some form.now }
+/// All words have exactly one answer to each input.
+pub fn one_answer()
+    ensures some { (words : List (List ℕ)) (bytes : List ℕ) → (a : Answer) × Answers words bytes a }
+    ensures no_other { (words : List (List ℕ)) (bytes : List ℕ) (a b : Answer) → Answers words bytes a → Answers words bytes b → a ≡ b }
 {
-    // Numbers that no rule bounds are below 2 ^ 64 by their type.
-    word_fits(form.constant);
-    words_fit(form.inputs.as_slice());
+    one_text_answer();
 }
 
-/// What the type of a number says of it.
-fn word_fits(number: u64)
-    ensures { number < 2 ^ 64 }
-{}
-
-/// What the type of numbers says of each.
-fn words_fit(numbers: &[u64])
-    ensures { All (λ n. n < 2 ^ 64) numbers.now }
-{}
+/// Each text has exactly one answer under each task.
+pub(crate) fn one_text_answer()
+    ensures some { (task : TaskOf) (text : List ℕ) → (a : Answer) × AnswersText task text a }
+    ensures no_other { (task : TaskOf) (text : List ℕ) (a b : Answer) → AnswersText task text a → AnswersText task text b → a ≡ b }
+{
+    one_reading();
+}

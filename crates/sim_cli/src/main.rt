@@ -1,17 +1,14 @@
 //! OmniSim: simulates scheduled dataflow hardware, and writes what a lockstep machine would do.
 #![tactic(auto)]
 
-mod first_form;
-mod job;
+mod answer;
 mod laws;
-mod parts;
-mod plan;
 mod program;
-mod spelling;
+mod reply;
 mod status;
+mod task;
 #[cfg(test)]
 mod tests;
-mod words_of;
 
 use program::omnisim;
 use sim_io::{StdSink, StdSource};

@@ -4,7 +4,7 @@ use flow_design::Verdict;
 /// The program's exit status.
 #[derive(Clone, Copy, Debug, PartialEq, Eq)]
 pub enum Status {
-    /// The report is done.
+    /// The design is done, or what was asked for is printed.
     Done = 0,
     /// The words were refused, and nothing was read.
     Words = 1,
@@ -26,7 +26,8 @@ pub enum Status {
 
 impl Status {
     ghost use Rattle.std.specs.Prelude.{◌≡◌};
-    ghost use Rattle.sim_cli.specs.Answer.{status_of, IsAnswer};
+    ghost use Rattle.sim_cli.specs.Made.{status_of};
+    ghost use Rattle.sim_cli.specs.Answer.{IsAnswer};
 
     /// The status of a verdict.
     pub fn of(verdict: Verdict) -> Status

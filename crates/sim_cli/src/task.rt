@@ -1,0 +1,13 @@
+//! What is to be made of a session.
+use cli_words::Options;
+
+/// What is to be made of a session.
+#[derive(Clone, Copy, Debug)]
+pub enum Task {
+    /// Simulate it, and write its report.
+    Simulate(Options),
+    /// Write its canonical form.
+    Print,
+    /// Simulate it, and write the summary of the session made from this seed with so many modules.
+    Summarize(u64, u64),
+}

@@ -8,9 +8,9 @@ ghost use Rattle.clock_machine.specs.Parts.{after_part, no_part, IsReady, IsFit,
 
 use crate::asking::module_at;
 use crate::part::Part;
-use flow_design::{Effect, ModuleState, Plan};
-use flow_word::{List, OutOfMemory};
-use module_move::make_move;
+use flow_design::{ModuleState, Plan};
+use flow_word::OutOfMemory;
+use module_move::{MoveRoom, make_move};
 use std::alloc::Global;
 
 /// The move of one module by its part in the clock.
@@ -21,7 +21,7 @@ fn move_one(
     i: usize,
     part: &Part,
     state: &mut ModuleState,
-    effects: &mut List<Effect>,
+    room: &mut MoveRoom,
 ) -> Result<(), OutOfMemory>
     requires fits { FitsEngine plan.now }
     requires fit { IsFit plan.now clock (i, state.old) }
@@ -36,7 +36,7 @@ fn move_one(
     }
     let of = module_at(plan, i);
     let pending = part.pending.as_slice();
-    make_move(alloc, of, state, pending, part.replies.as_slice(), effects)?;
+    make_move(alloc, of, state, pending, part.replies.as_slice(), room)?;
     Ok(())
 }
 
@@ -47,7 +47,7 @@ pub fn move_all(
     clock: u64,
     parts: &[Part],
     states: &mut [ModuleState],
-    effects: &mut List<Effect>,
+    room: &mut MoveRoom,
 ) -> Result<(), OutOfMemory>
     requires fits { FitsEngine plan.now }
     requires fit { AreFit plan.now clock states.old }
@@ -58,7 +58,7 @@ pub fn move_all(
     ensures fit { OnOk result (AreFit plan.now (clock + 1) states.new) }
 {
     for (i, state) in states.iter_mut().enumerate() {
-        move_one(alloc, plan, clock, i, &parts[i], state, effects)?;
+        move_one(alloc, plan, clock, i, &parts[i], state, room)?;
     }
     Ok(())
 }

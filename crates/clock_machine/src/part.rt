@@ -2,8 +2,9 @@
 ghost use Rattle.std.specs.Prelude.{◌≡◌, IfOk, length};
 ghost use Rattle.clock_machine.specs.Parts.{no_part};
 
-use flow_design::{Due, Effect, Reply, Request};
+use flow_design::{Due, Reply, Request};
 use flow_word::{List, OutOfMemory};
+use module_move::MoveRoom;
 use std::alloc::Global;
 
 /// A FIFO operation that is done in a clock: what was asked, and the reply.
@@ -31,7 +32,7 @@ pub struct Scratch {
     /// One part per module.
     pub parts: List<Part>,
     pub requests: List<Request>,
-    pub effects: List<Effect>,
+    pub room: MoveRoom,
 }
 
 impl Part {
@@ -69,6 +70,6 @@ pub fn new_scratch(alloc: Global, modules: u64) -> Result<Scratch, OutOfMemory>
     Ok(Scratch {
         parts,
         requests: List::new(alloc),
-        effects: List::new(alloc),
+        room: MoveRoom::new(alloc),
     })
 }

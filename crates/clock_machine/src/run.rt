@@ -12,8 +12,9 @@ use crate::moving::move_all;
 use crate::opening::{no_answers, open_all};
 use crate::part::{Part, Scratch, new_scratch};
 use crate::telling::{tell_all_events, tell_all_outcomes};
-use flow_design::{ClockState, Effect, EventLine, Plan, Report, Verdict};
+use flow_design::{ClockState, EventLine, Plan, Report, Verdict};
 use flow_word::{Flags, List, OutOfMemory};
+use module_move::MoveRoom;
 use std::alloc::Global;
 
 /// One clock: the modules move by their parts, then all that they pop is taken off, and then all that they push is put in.
@@ -23,7 +24,7 @@ fn step(
     clock: u64,
     parts: &[Part],
     state: &mut ClockState,
-    effects: &mut List<Effect>,
+    room: &mut MoveRoom,
 ) -> Result<(), OutOfMemory>
     requires fits { FitsEngine plan.now }
     requires fit { AreFit plan.now clock state.old.modules }
@@ -38,7 +39,7 @@ fn step(
         clock,
         parts,
         state.modules.as_mut_slice(),
-        effects,
+        room,
     )?;
     pop_all(state.contents.as_mut_slice(), parts);
     push_all(state.contents.as_mut_slice(), parts)?;
@@ -70,7 +71,7 @@ fn next_clock(
     let parts = scratch.parts.as_slice();
     tell_all_events(events, clock, parts)?;
     tell_all_outcomes(answers.as_mut_slice(), parts)?;
-    step(alloc, plan, clock, parts, state, &mut scratch.effects)?;
+    step(alloc, plan, clock, parts, state, &mut scratch.room)?;
     Ok(())
 }
 

@@ -8,13 +8,14 @@ ghost use Rattle.module_move.specs.Moves.{ticked_to, gone_on};
 
 use crate::opening::enter;
 use crate::pending::{block_of, interval, live_count};
+use crate::room::MoveRoom;
 use flow_design::{Block, BlockKind, Module, ModuleState, Next};
-use flow_word::{OutOfMemory, Words};
+use flow_word::OutOfMemory;
 use std::alloc::Global;
 
 /// The local clock goes up to a later one, and the temps of the iterations that are then no longer live go.
-#[tactic(auto, using(crate::proofs::Begins::block_sound, crate::proofs::Begins::interval_some, crate::proofs::Ages::span, crate::proofs::Ticking::turned))]
-pub fn tick_to(of: &Module, state: &mut ModuleState, clock: u64)
+#[tactic(auto, using(crate::proofs::Begins::block_sound, crate::proofs::Begins::interval_some, crate::proofs::Ages::span))]
+pub fn tick_to(of: &Module, state: &mut ModuleState, clock: u64, room: &mut MoveRoom)
     requires module { (channels : ℕ) × IsModuleSound channels of.now }
     requires there { state.old.control.block < length of.now.blocks }
     requires started { state.old.control.newest ≤ state.old.control.clock }
@@ -25,21 +26,19 @@ pub fn tick_to(of: &Module, state: &mut ModuleState, clock: u64)
     let block = block_of(of, state);
     state.control.clock = clock;
     let live = live_count(block, &state.control);
-    let all = state.temps.len();
-    if live < all {
-        state
-            .temps
-            .as_mut_slice()
-            .rotate_left((all - live) as usize);
-        state.temps.truncate(live);
-    }
+    room.keep_newest(&mut state.temps, live);
 }
 
 /// The loop decides, and the block may end, in the local clock that has begun.
 ///
 /// After want of memory the call may be made again: what it does then is what is left to do.
 #[tactic(auto, using(crate::proofs::Begins::block_sound, crate::proofs::Begins::interval_some))]
-pub fn go_on(alloc: Global, of: &Module, state: &mut ModuleState) -> Result<(), OutOfMemory>
+pub fn go_on(
+    alloc: Global,
+    of: &Module,
+    state: &mut ModuleState,
+    room: &mut MoveRoom,
+) -> Result<(), OutOfMemory>
     requires module { (channels : ℕ) × IsModuleSound channels of.now }
     requires there { state.old.control.block < length of.now.blocks }
     requires started { state.old.control.newest ≤ state.old.control.clock }
@@ -53,14 +52,19 @@ pub fn go_on(alloc: Global, of: &Module, state: &mut ModuleState) -> Result<(), 
     ensures few { OnErr result (state.new.count ≤ state.old.count + 1) }
 {
     let block = block_of(of, state);
-    decide(alloc, block, state)?;
-    finish(alloc, of, block, state)?;
+    decide(alloc, block, state, room)?;
+    finish(alloc, of, block, state, room)?;
     Ok(())
 }
 
 /// Where the newest iteration of a loop has been live for II local clocks, its register decides whether the next one starts.
 #[tactic(auto, unfolding(lockstep_defs::specs::Machine::decided))]
-fn decide(alloc: Global, block: &Block, state: &mut ModuleState) -> Result<(), OutOfMemory>
+fn decide(
+    alloc: Global,
+    block: &Block,
+    state: &mut ModuleState,
+    room: &mut MoveRoom,
+) -> Result<(), OutOfMemory>
     requires started { state.old.control.newest ≤ state.old.control.clock }
     requires few { state.old.count < 2 ^ 61 - 2 }
     ensures decided { OnOk result (state.new ≡ decided block.now state.old) }
@@ -75,7 +79,7 @@ fn decide(alloc: Global, block: &Block, state: &mut ModuleState) -> Result<(), O
         if again(block, state.registers.as_slice()) == 0 {
             state.control.looping = false;
         } else {
-            state.temps.push(Words::zeros(alloc, block.temps.len())?)?;
+            state.temps.push(room.new_temps(alloc, block.temps.len())?)?;
             state.control.newest = state.control.clock;
             state.count += 1;
         }
@@ -90,6 +94,7 @@ fn finish(
     of: &Module,
     block: &Block,
     state: &mut ModuleState,
+    room: &mut MoveRoom,
 ) -> Result<(), OutOfMemory>
     requires next { IsNextSound (length of.now.registers) (length of.now.blocks) block.now.next }
     requires started { state.old.control.newest ≤ state.old.control.clock }
@@ -103,10 +108,10 @@ fn finish(
         return Ok(());
     }
     match block.next {
-        Next::Goto(to) => enter(alloc, of, to, state),
+        Next::Goto(to) => enter(alloc, of, to, state, room),
         Next::Branch(register, to, other) => {
             let value = word_at(state.registers.as_slice(), register);
-            enter(alloc, of, if value == 0 { other } else { to }, state)
+            enter(alloc, of, if value == 0 { other } else { to }, state, room)
         }
         Next::Stop => {
             state.ended = true;

@@ -9,6 +9,7 @@ mod moves;
 mod opening;
 mod pending;
 mod requests;
+mod room;
 
 pub use asking::ask;
 pub use control::{go_on, tick_to};
@@ -16,3 +17,4 @@ pub use moves::{commit, make_move};
 pub use opening::open;
 pub use pending::{block_of, interval, live_count, temps_of};
 pub use requests::add_requests;
+pub use room::MoveRoom;

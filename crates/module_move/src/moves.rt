@@ -9,12 +9,12 @@ ghost use Rattle.module_move.specs.Sound.{IsStateSound, IsRunnable};
 use crate::commits::commit_all;
 use crate::control::{go_on, tick_to};
 use crate::effects::add_effects;
-use flow_design::{Due, Effect, Module, ModuleState, Reply};
-use flow_word::{List, OutOfMemory};
+use crate::room::MoveRoom;
+use flow_design::{Due, Module, ModuleState, Reply};
+use flow_word::OutOfMemory;
 use std::alloc::Global;
 
-/// The operations that are due, `pending`, commit together on the replies, and count. `effects` is room for what the
-/// operations write; what it held before is gone.
+/// The operations that are due, `pending`, commit together on the replies, and count.
 ///
 /// After want of memory the state is as it was.
 pub fn commit(
@@ -22,7 +22,7 @@ pub fn commit(
     state: &mut ModuleState,
     pending: &[Due],
     replies: &[Reply],
-    effects: &mut List<Effect>,
+    room: &mut MoveRoom,
 ) -> Result<(), OutOfMemory>
     requires module { (channels : ℕ) × IsModuleSound channels of.now }
     requires sound { IsStateSound of.now state.old }
@@ -34,15 +34,15 @@ pub fn commit(
     ensures count { OnOk result (state.new.count ≡ state.old.count + length pending.now) }
     ensures few { length pending.now ≤ 65536 }
 {
-    effects.truncate(0);
-    add_effects(of, state, pending, replies, effects)?;
-    commit_all(of, state, effects.as_slice());
+    room.effects.truncate(0);
+    add_effects(of, state, pending, replies, &mut room.effects)?;
+    commit_all(of, state, room.effects.as_slice());
     state.count += pending.len() as u64;
     Ok(())
 }
 
 /// One local clock: the operations that are due, `pending`, commit together on the replies, the clock goes up, and the
-/// loop and the block may go on or end. `effects` is room for what the operations write; what it held before is gone.
+/// loop and the block may go on or end.
 ///
 /// After want of memory the state may be anything.
 pub fn make_move(
@@ -51,7 +51,7 @@ pub fn make_move(
     state: &mut ModuleState,
     pending: &[Due],
     replies: &[Reply],
-    effects: &mut List<Effect>,
+    room: &mut MoveRoom,
 ) -> Result<(), OutOfMemory>
     requires module { (channels : ℕ) × IsModuleSound channels of.now }
     requires sound { IsStateSound of.now state.old }
@@ -63,9 +63,9 @@ pub fn make_move(
     ensures clock { OnOk result (state.new.control.clock ≤ state.old.control.clock + 1) }
     ensures count { OnOk result (state.new.count ≤ state.old.count + length pending.now + 1) }
 {
-    commit(of, state, pending, replies, effects)?;
+    commit(of, state, pending, replies, room)?;
     let next = state.control.clock + 1;
-    tick_to(of, state, next);
-    go_on(alloc, of, state)?;
+    tick_to(of, state, next, room);
+    go_on(alloc, of, state, room)?;
     Ok(())
 }

@@ -5,6 +5,7 @@ ghost use Rattle.flow_design.specs.Module.{is_loop};
 ghost use Rattle.lockstep_defs.specs.Machine.{opened, entered};
 ghost use Rattle.lockstep_defs.specs.States.{IsStateOf};
 
+use crate::room::MoveRoom;
 use flow_design::{BlockKind, Control, Memory, Module, ModuleState};
 use flow_word::{List, OutOfMemory, Words};
 use std::alloc::Global;
@@ -39,7 +40,7 @@ fn first_state(alloc: Global, of: &Module) -> Result<ModuleState, OutOfMemory>
         count: 0,
         ended: false,
     };
-    enter(alloc, of, 0, &mut state)?;
+    enter(alloc, of, 0, &mut state, &mut MoveRoom::new(alloc))?;
     Ok(state)
 }
 
@@ -61,6 +62,7 @@ pub(crate) fn enter(
     of: &Module,
     number: u32,
     state: &mut ModuleState,
+    room: &mut MoveRoom,
 ) -> Result<(), OutOfMemory>
     requires there { number < length of.now.blocks }
     requires few { state.old.count < 2 ^ 61 }
@@ -70,9 +72,8 @@ pub(crate) fn enter(
     ensures unchanged { OnErr result (state.new ≡ state.old) }
 {
     let block = &of.blocks.as_slice()[number as usize];
-    let mut temps = List::with_room(alloc, 1)?;
-    temps.push(Words::zeros(alloc, block.temps.len())?)?;
-    state.temps = temps;
+    state.temps.push(room.new_temps(alloc, block.temps.len())?)?;
+    room.keep_newest(&mut state.temps, 1);
     state.control = Control {
         block: number,
         clock: 0,

@@ -1,0 +1,51 @@
+//! Room that the moves of modules use again.
+ghost use Rattle.std.specs.Prelude.{◌≡◌, ◌-◌, length, drop, IfOk, replicate};
+
+use flow_design::Effect;
+use flow_word::{List, OutOfMemory, Words};
+use std::alloc::Global;
+
+/// Room that the moves of modules use again, so that a local clock takes no memory once it is there. What it holds means nothing.
+#[derive(Drop)]
+pub struct MoveRoom {
+    /// For what the due operations write.
+    pub effects: List<Effect>,
+    /// The temps of an iteration that is no longer live, for the next one that starts.
+    pub temps: Words,
+}
+
+impl MoveRoom {
+    /// No room yet, which takes no memory.
+    pub fn new(alloc: Global) -> MoveRoom {
+        MoveRoom {
+            effects: List::new(alloc),
+            temps: List::new(alloc),
+        }
+    }
+
+    /// The temps of an iteration that starts: so many zeros.
+    pub(crate) fn new_temps(&mut self, alloc: Global, count: u64) -> Result<Words, OutOfMemory>
+        ensures { IfOk result (λ words. words ≡ replicate count 0) }
+    {
+        let mut words = std::mem::replace(&mut self.temps, List::new(alloc));
+        words.truncate(0);
+        for _ in 0..count {
+            words.push(0)?;
+        }
+        Ok(words)
+    }
+
+    /// Keeps the temps of the newest iterations, so many of them.
+    #[tactic(auto, using(crate::proofs::Ticking::newest_kept))]
+    pub(crate) fn keep_newest(&mut self, temps: &mut List<Words>, live: u64)
+        ensures { temps.new ≡ drop (length temps.old - live) temps.old }
+    {
+        let all = temps.len();
+        if live < all {
+            let items = temps.as_mut_slice();
+            items.rotate_left((all - live) as usize);
+            std::mem::swap(&mut items[all as usize - 1], &mut self.temps);
+            temps.truncate(live);
+        }
+    }
+}

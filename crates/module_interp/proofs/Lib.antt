@@ -4,7 +4,6 @@ pub mod Counting
 pub mod Feeding
 pub mod Idle
 pub mod Keeping
-pub mod Looking
 pub mod Opening
 pub mod Rests
 pub mod Standing

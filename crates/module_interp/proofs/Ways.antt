@@ -3,7 +3,7 @@ use Rattle.std.proofs.Common.{◌≡◌, ℕ, suc, ◌+◌, ◌-◌, ◌^◌, �
 use Rattle.std.proofs.lemmas.Bool.{ltb-true, and_parts}
 use Rattle.flow_design.specs.declared.design.Module.{Module}
 use Rattle.flow_design.specs.declared.plan.Plan.{Plan}
-use Rattle.flow_design.specs.declared.state.Effect.{Effect}
+use Rattle.module_move.specs.declared.room.MoveRoom.{MoveRoom}
 use Rattle.flow_design.specs.declared.state.Due.{Due}
 use Rattle.flow_design.specs.declared.state.Request.{Request}
 use Rattle.flow_design.specs.declared.state.ModuleState.{ModuleState}
@@ -48,9 +48,9 @@ has_begun x h begun alive =
 
 -- ---- commits
 
-pub committed : (x y : Path) (es : List Effect) → x.stage ≡ Answered → CanAnswer x → y ≡ record x { state = y.state; stage = Ticked; effects = es }
+pub committed : (x y : Path) (room : MoveRoom) → x.stage ≡ Answered → CanAnswer x → y ≡ record x { state = y.state; stage = Ticked; room = room }
     → gone_on y.of y.state ≡ move x.of x.state x.replies → y.state.control.block ≡ x.state.control.block → y.state.control.newest ≤ y.state.control.clock → KeepsRest x y
-committed x y es answered can frame moved block started p i o l =
+committed x y room answered can frame moved block started p i o l =
     let f : IsFixed x y = record {
       channels = ap (λ (z : Path). z.channels) frame;
       of = ap (λ (z : Path). z.of) frame;
@@ -65,20 +65,20 @@ committed x y es answered can frame moved block started p i o l =
     sound_at' : (y : Path) → y.stage ≡ Ticked → CanGoOn y → IsStageSoundBy y.stage y
     sound_at' y stage can = subst (λ (s : Stage). IsStageSoundBy s y) (sym stage) can
 
-pub committed_same : (x y : Path) (es : List Effect) → x.stage ≡ Answered → y ≡ record x { state = y.state; stage = Ticked; effects = es }
+pub committed_same : (x y : Path) (room : MoveRoom) → x.stage ≡ Answered → y ≡ record x { state = y.state; stage = Ticked; room = room }
     → gone_on y.of y.state ≡ move x.of x.state x.replies → clocks_to_end y ≡ clocks_to_end x
-committed_same x y es answered frame moved =
+committed_same x y room answered frame moved =
     let stage : y.stage ≡ Ticked = ap (λ (z : Path). z.stage) frame in
     same_end x y (ap (λ (z : Path). z.of) frame) (ap (λ (z : Path). z.limit) frame) (at_stage y Ticked stage ∙ (moved ∙ sym (at_stage x Answered answered)))
 
-pub effects_same : (x y : Path) (es : List Effect) → x.stage ≡ Answered → y ≡ record x { effects = es } → clocks_to_end y ≡ clocks_to_end x
-effects_same x y es answered frame =
+pub room_same : (x y : Path) (room : MoveRoom) → x.stage ≡ Answered → y ≡ record x { room = room } → clocks_to_end y ≡ clocks_to_end x
+room_same x y room answered frame =
     let stage : y.stage ≡ Answered = ap (λ (z : Path). z.stage) frame ∙ answered in
     same_end x y (ap (λ (z : Path). z.of) frame) (ap (λ (z : Path). z.limit) frame)
     (at_stage y Answered stage ∙ (ap (λ (z : Path). move z.of z.state z.replies) frame ∙ sym (at_stage x Answered answered)))
 
-pub effects_alone : (x y : Path) (es : List Effect) → x.stage ≡ Answered → CanAnswer x → y ≡ record x { effects = es } → KeepsRest x y
-effects_alone x y es answered can frame p i o l =
+pub room_alone : (x y : Path) (room : MoveRoom) → x.stage ≡ Answered → CanAnswer x → y ≡ record x { room = room } → KeepsRest x y
+room_alone x y room answered can frame p i o l =
     let f : IsFixed x y = record {
       channels = ap (λ (z : Path). z.channels) frame;
       of = ap (λ (z : Path). z.of) frame;
@@ -86,7 +86,7 @@ effects_alone x y es answered can frame p i o l =
       schedules = ap (λ (z : Path). z.schedules) frame;
     } in
     let stage : y.stage ≡ Answered = ap (λ (z : Path). z.stage) frame ∙ answered in
-    let still : CanAnswer (record x { effects = es }) = record { state = can.state; pending = can.pending; clock = can.clock; count = can.count } in
+    let still : CanAnswer (record x { room = room }) = record { state = can.state; pending = can.pending; clock = can.clock; count = can.count } in
     leads_still p i o x y l f
     (at_stage y Answered stage ∙ (ap (λ (z : Path). move z.of z.state z.replies) frame ∙ sym (at_stage x Answered answered)))
     (ap (λ (z : Path). z.since) frame)
@@ -176,10 +176,10 @@ idle x clock n path begun alive next far p i b =
     })
 
 -- a jump to the next clock with work
-pub jumps : (x : Path) (clock n : ℕ) → IsPath x → x.stage ≡ Begun → is_over x.limit x.state ≡ false
+pub jumps : (x : Path) (clock n : ℕ) (room : MoveRoom) → IsPath x → x.stage ≡ Begun → is_over x.limit x.state ≡ false
     → IsNextDue (block_of x.of x.state) x.state.control clock → clock ≡ x.state.control.clock + suc n
-    → Passes x (record x { since = x.since + (clock - x.state.control.clock); state = ticked_to x.of clock x.state; stage = Ticked }) n
-jumps x clock n path begun alive next far =
+    → Passes x (record x { since = x.since + (clock - x.state.control.clock); state = ticked_to x.of clock x.state; stage = Ticked; room = room }) n
+jumps x clock n room path begun alive next far =
     let sound = (has_begun x path begun alive).sound in
     let started = sound.state.control.has_started in
     record {

@@ -1,7 +1,6 @@
 //! A module's own run, ahead of time, on the replies that it is fed. Local clocks without work are jumped over.
 #![tactic(auto)]
 
-mod due;
 mod laws;
 mod making;
 mod path;

@@ -3,8 +3,9 @@ ghost use Rattle.std.specs.Prelude.{◌≡◌};
 ghost use Rattle.lockstep_defs.specs.Machine.{is_over};
 
 use block_schedule::Schedule;
-use flow_design::{Channel, Due, Effect, Module, ModuleState, Reply, Request};
+use flow_design::{Channel, Due, Module, ModuleState, Reply, Request};
 use flow_word::List;
+use module_move::MoveRoom;
 use std::alloc::Global;
 
 /// What is left to do of the move in which a module stands.
@@ -40,8 +41,8 @@ pub struct Path {
     pub asked: List<Request>,
     /// The replies to these.
     pub replies: List<Reply>,
-    /// Room for what the due operations write.
-    pub effects: List<Effect>,
+    /// Room that its moves use again.
+    pub room: MoveRoom,
 }
 
 impl Path {

@@ -7,10 +7,9 @@ ghost use Rattle.block_schedule.specs.Work.{IsNextDue};
 ghost use Rattle.module_interp.specs.declared.path.Stage.TheVariants.{Begun, Asked, Ticked};
 ghost use Rattle.module_interp.specs.Paths.{after_move, CanAnswer, IsPath, KeepsRest, clocks_to_end, IsAtStep, IsAtEnd};
 
-use crate::due::look_up;
 use crate::path::{Path, Stage};
 use flow_word::OutOfMemory;
-use module_move::{add_requests, commit, go_on, tick_to};
+use module_move::{ask, commit, go_on, tick_to};
 
 impl Path {
     /// Comes to the next local clock with a due FIFO operation, or to the end of the run.
@@ -91,7 +90,7 @@ impl Path {
     {
         match self.stage {
             Stage::Ticked => {
-                go_on(self.alloc, &self.of, &mut self.state)?;
+                go_on(self.alloc, &self.of, &mut self.state, &mut self.room)?;
                 self.stage = Stage::Begun;
                 Ok(())
             }
@@ -137,7 +136,7 @@ impl Path {
         ensures nearer { clocks_to_end self.new < clocks_to_end self.old }
     {
         self.since += clock - self.state.control.clock;
-        tick_to(&self.of, &mut self.state, clock);
+        tick_to(&self.of, &mut self.state, clock, &mut self.room);
         self.stage = Stage::Ticked;
     }
 
@@ -151,13 +150,12 @@ impl Path {
         ensures asked { OnOk result (self.new.asked ≡ requests self.old.channels self.old.of self.old.state) }
     {
         let schedule = &self.schedules.as_slice()[self.state.control.block as usize];
-        look_up(&self.of, schedule, &self.state, &mut self.pending)?;
-        self.asked.truncate(0);
-        add_requests(
+        ask(
             self.channels.as_slice(),
             &self.of,
+            schedule,
             &self.state,
-            self.pending.as_slice(),
+            &mut self.pending,
             &mut self.asked,
         )?;
         Ok(())
@@ -184,21 +182,21 @@ impl Path {
     fn commit_due(&mut self) -> Result<(), OutOfMemory>
         requires path { IsPath self.old }
         requires answer { CanAnswer self.old }
-        ensures frame { OnOk result (self.new ≡ record self.old { state = self.new.state; stage = Ticked; effects = self.new.effects }) }
+        ensures frame { OnOk result (self.new ≡ record self.old { state = self.new.state; stage = Ticked; room = self.new.room }) }
         ensures moved { OnOk result (gone_on self.new.of self.new.state ≡ move self.old.of self.old.state self.old.replies) }
         ensures block { OnOk result (self.new.state.control.block ≡ self.old.state.control.block) }
         ensures started { OnOk result (self.new.state.control.newest ≤ self.new.state.control.clock) }
-        ensures unchanged { OnErr result (self.new ≡ record self.old { effects = self.new.effects }) }
+        ensures unchanged { OnErr result (self.new ≡ record self.old { room = self.new.room }) }
     {
         commit(
             &self.of,
             &mut self.state,
             self.pending.as_slice(),
             self.replies.as_slice(),
-            &mut self.effects,
+            &mut self.room,
         )?;
         let next = self.state.control.clock + 1;
-        tick_to(&self.of, &mut self.state, next);
+        tick_to(&self.of, &mut self.state, next, &mut self.room);
         self.stage = Stage::Ticked;
         Ok(())
     }

@@ -1,8 +1,8 @@
 pub mod Ages
 pub mod Begins
 pub mod Failing
+pub mod Looking
 pub mod Moving
-pub mod Picking
 pub mod Readiness
 pub mod Storing
 pub mod Ticking

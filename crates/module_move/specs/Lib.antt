@@ -1,2 +1,3 @@
 pub mod Moves
+pub mod Scheduled
 pub mod Sound

@@ -1,5 +1,5 @@
 -- What a module's machine needs to look up and compute its requests and its move.
-use Rattle.std.specs.Prelude.{◌≡◌, ◌==◌, ◌&&◌, IfSome, ℕ, ◌+◌, ◌<◌, ◌≤◌, Bool, false, List, length, All}
+use Rattle.std.specs.Prelude.{◌≡◌, IfSome, ℕ, ◌+◌, ◌<◌, ◌≤◌, false, List, length, All}
 use Rattle.flow_design.specs.declared.design.Module.{Module}
 use Rattle.flow_design.specs.declared.design.Timed.{Timed}
 use Rattle.flow_design.specs.declared.state.ModuleState.{ModuleState}
@@ -9,7 +9,7 @@ use Rattle.flow_design.specs.declared.expr.Op.TheVariants.{Set, Load, Store, Rea
 use Rattle.flow_design.specs.Words.{reach}
 use Rattle.lockstep_defs.specs.Machine.{memory_of}
 use Rattle.lockstep_defs.specs.States.{IsStateOf}
-use Rattle.flow_design.specs.Module.{block_of, temps_of, passes}
+use Rattle.flow_design.specs.Module.{block_of, temps_of}
 
 -- a state that the module comes to, in which it is not ended
 pub record IsStateSound (m : Module) (s : ModuleState) : Type 0 where
@@ -26,10 +26,6 @@ IsGuardSound places t = IfSome t.guard (λ g. g < places)
 
 abbrev pub AreGuardsSound : ℕ → List Timed → Type 0
 AreGuardsSound places ts = All (IsGuardSound places) ts
-
--- an operation is due in an iteration of this age: its offset is the age, and its guard passes
-abbrev pub is_due : List ℕ → List ℕ → ℕ → Timed → Bool
-is_due registers temps age t = (t.offset == age) && passes registers temps t.guard
 
 -- a due operation of a sound state: its iteration is live, and the block has it
 pub record IsDueSound (m : Module) (s : ModuleState) (d : Due) : Type 0 where

@@ -6,7 +6,7 @@ ghost use Rattle.flow_design.specs.Words.{cut_to};
 ghost use Rattle.lockstep_defs.specs.Machine.{stored};
 ghost use Rattle.lockstep_defs.specs.States.{HasPlaces};
 
-use crate::pending::block_of;
+use crate::standing::block_of;
 use flow_design::{Block, Effect, Memory, Module, ModuleState};
 use flow_word::{List, Words, cut};
 

@@ -7,8 +7,8 @@ ghost use Rattle.lockstep_defs.specs.Machine.{again_of, decided, finished};
 ghost use Rattle.module_move.specs.Moves.{ticked_to, gone_on};
 
 use crate::opening::enter;
-use crate::pending::{block_of, interval, live_count};
 use crate::room::MoveRoom;
+use crate::standing::{block_of, interval, live_count};
 use flow_design::{Block, BlockKind, Module, ModuleState, Next};
 use flow_word::OutOfMemory;
 use std::alloc::Global;

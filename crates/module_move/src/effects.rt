@@ -7,7 +7,7 @@ ghost use Rattle.flow_design.specs.declared.state.Effect.TheVariants.{Variable};
 ghost use Rattle.lockstep_defs.specs.Machine.{is_yes, value_in, value_of, memory_of, address_in, is_fifo_operation, effects_of, effects};
 ghost use Rattle.module_move.specs.Sound.{IsStateSound, IsDueSound, IsReady, places_in};
 
-use crate::pending::{block_of, operation, temps_of};
+use crate::standing::{block_of, operation, temps_of};
 use flow_design::{Due, Effect, Expr, Module, ModuleState, Op, Reply};
 use flow_expr::eval;
 use flow_word::{List, OutOfMemory};

@@ -4,17 +4,19 @@
 mod asking;
 mod commits;
 mod control;
+mod due;
 mod effects;
 mod moves;
 mod opening;
-mod pending;
 mod requests;
 mod room;
+mod schedules;
+mod standing;
 
 pub use asking::ask;
 pub use control::{go_on, tick_to};
 pub use moves::{commit, make_move};
 pub use opening::open;
-pub use pending::{block_of, interval, live_count, temps_of};
-pub use requests::add_requests;
 pub use room::MoveRoom;
+pub use schedules::schedules_of;
+pub use standing::{block_of, interval, live_count, temps_of};

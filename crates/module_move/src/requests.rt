@@ -5,13 +5,13 @@ ghost use Rattle.flow_design.specs.Words.{reach, cut_to};
 ghost use Rattle.lockstep_defs.specs.Machine.{width_of, value_of, request_of, request_for};
 ghost use Rattle.module_move.specs.Sound.{IsStateSound, IsDueSound, IsReady, places_in};
 
-use crate::pending::{block_of, operation, temps_of};
+use crate::standing::{block_of, operation, temps_of};
 use flow_design::{Channel, Due, Expr, Module, ModuleState, Op, Request};
 use flow_expr::eval;
 use flow_word::{Kind, List, OutOfMemory, cut};
 
 /// Adds the requests of the FIFO operations among the due ones, in commit order.
-pub fn add_requests(
+pub(crate) fn add_requests(
     channels: &[Channel],
     of: &Module,
     state: &ModuleState,

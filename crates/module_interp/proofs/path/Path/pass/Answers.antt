@@ -12,7 +12,7 @@ commit_due-requires-clause-answer c =
     let h = has_begun c.args.self.now c.requires.path c.requires.begun c.requires.alive in
     record { state = h.sound; pending = c.requires.pending; clock = h.clock; count = h.count }
 
-passed : (x y : Path) (replies : List Reply) → y ≡ record x { state = y.state; stage = Ticked; replies = replies; effects = y.effects }
+passed : (x y : Path) (replies : List Reply) → y ≡ record x { state = y.state; stage = Ticked; replies = replies; room = y.room }
     → x.stage ≡ Begun → is_over x.limit x.state ≡ false → requests x.channels x.of x.state ≡ []
     → gone_on y.of y.state ≡ move x.of x.state [] → y.state.control.block ≡ x.state.control.block → y.state.control.newest ≤ y.state.control.clock
     → Passes x (record y { since = y.since + 1 }) 0

@@ -5,14 +5,14 @@ ghost use Rattle.flow_design.specs.Module.{block_of, operation_at, temps_of, pas
 ghost use Rattle.module_move.specs.Sound.{IsStateSound, AreGuardsSound};
 ghost use Rattle.block_schedule.specs.Schedules.{IsScheduleOf};
 
+use crate::standing::{block_of, interval, live_count, temps_of};
 use block_schedule::Schedule;
 use flow_design::{Block, Due, Module, ModuleState};
 use flow_expr::variable;
 use flow_word::{List, OutOfMemory};
-use module_move::{block_of, interval, live_count, temps_of};
 
 /// Fills `pending` with the operations that are due, in commit order. What it held before is gone.
-pub fn look_up(
+pub(crate) fn look_up(
     of: &Module,
     schedule: &Schedule,
     state: &ModuleState,

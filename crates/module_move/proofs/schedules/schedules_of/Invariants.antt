@@ -2,7 +2,7 @@ use Rattle.std.proofs.Common.{◌≡◌, ℕ, ◌<◌, length, get_or}
 use Rattle.flow_design.specs.Module.{no_block}
 use Rattle.block_schedule.specs.declared.schedule.Schedule.{Schedule}
 use Rattle.block_schedule.specs.Schedules.{IsScheduleOf}
-use Rattle.module_interp.proofs.making.schedules_of.Given as goal
+use Rattle.module_move.proofs.schedules.schedules_of.Given as goal
 
 -- the schedules of the blocks so far
 abbrev pub invariant-loop-block : goal.invariant-loop-block

@@ -1,6 +1,6 @@
 use Rattle.std.proofs.Common.{◌≡◌, ◌++◌, take}
-use Rattle.module_interp.proofs.Looking.{passing}
-use Rattle.module_interp.proofs.due.add_passing.Given as goal
+use Rattle.module_move.proofs.Looking.{passing}
+use Rattle.module_move.proofs.due.add_passing.Given as goal
 
 -- those that pass among the numbers so far were added
 abbrev pub invariant-loop-number : goal.invariant-loop-number

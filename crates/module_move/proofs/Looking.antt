@@ -1,14 +1,12 @@
 -- Looking up the due operations, iteration by iteration.
 use Rattle.std.proofs.Common.{◌≡◌, refl, sym, ◌∙◌, ap, arith, ℕ, ◌+◌, ◌<◌, ◌≤◌, ◌==◌, Bool, true, false, cond, List, [], ◌∷◌, ◌++◌, map, length, take, get_or, append_assoc}
-use Rattle.std.specs.Prelude.{filter, flat_map, filter_map, All}
+use Rattle.std.specs.Prelude.{filter, flat_map, All}
 use Rattle.std.specs.List.{enumerate_from, AllByRecursion}
 use Rattle.std.proofs.lemmas.Bool.{cond_both}
 use Rattle.std.proofs.lemmas.List.{map-append, take_more, take_all}
 use Rattle.std.proofs.lemmas.List.Elements.{filter-append, All-from_recursion}
 use Rattle.flow_design.specs.declared.design.Block.{Block}
 use Rattle.flow_design.specs.declared.design.Module.{Module}
-use Rattle.flow_design.specs.declared.design.Channel.{Channel}
-use Rattle.lockstep_defs.specs.Machine.{requests, request_for}
 use Rattle.flow_design.specs.declared.design.Timed.{Timed}
 use Rattle.flow_design.specs.declared.state.Due.{Due}
 use Rattle.flow_design.specs.declared.state.ModuleState.{ModuleState}
@@ -65,8 +63,3 @@ numbers_in b a k (t ∷ ts) h =
 pub numbers_inside : (b : Block) (offset : ℕ) → All (λ n. n < length b.ops) (due_at b offset)
 unfolding due_at
 numbers_inside b offset = All-from_recursion (λ n. n < length b.ops) _ (numbers_in b offset 0 b.ops (omega arith))
-
--- the requests of the due operations
-pub requests_are : (channels : List Channel) (m : Module) (s : ModuleState) (ds : List Due) → ds ≡ due m s → filter_map (request_for channels m s) ds ≡ requests channels m s
-unfolding requests
-requests_are channels m s ds e = ap (filter_map (request_for channels m s)) e

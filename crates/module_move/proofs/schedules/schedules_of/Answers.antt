@@ -6,7 +6,7 @@ use Rattle.flow_design.specs.Module.{no_block}
 use Rattle.flow_design.specs.StaticRules.{IsBlockSound}
 use Rattle.block_schedule.specs.declared.schedule.Schedule.{Schedule}
 use Rattle.block_schedule.specs.Schedules.{IsScheduleOf}
-use Rattle.module_interp.proofs.making.schedules_of.Goals as goal
+use Rattle.module_move.proofs.schedules.schedules_of.Goals as goal
 
 each_more : (blocks : List Block) (before now : List Schedule) (i : ℕ) (s : Schedule) → length before ≡ i → now ≡ before ++ s ∷ [] → IsScheduleOf (get_or blocks i no_block) s
     → ((n : ℕ) (d : Schedule) → n < i → IsScheduleOf (get_or blocks n no_block) (get_or before n d))

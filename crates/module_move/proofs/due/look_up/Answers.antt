@@ -4,8 +4,8 @@ use Rattle.flow_design.specs.declared.design.Block.{Block}
 use Rattle.flow_design.specs.Module.{due}
 use Rattle.block_schedule.specs.Schedules.{IsScheduleOf}
 use Rattle.module_move.proofs.Ages.{due_is, adding_more}
-use Rattle.module_interp.proofs.Looking.{passing, numbers_inside}
-use Rattle.module_interp.proofs.due.look_up.Goals as goal
+use Rattle.module_move.proofs.Looking.{passing, numbers_inside}
+use Rattle.module_move.proofs.due.look_up.Goals as goal
 
 pub loop-left-init : goal.loop-left-init
 loop-left-init c = record {

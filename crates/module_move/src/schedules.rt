@@ -1,0 +1,22 @@
+//! The schedules of a module's blocks.
+ghost use Rattle.std.specs.Prelude.{ℕ, All, IfOk};
+ghost use Rattle.flow_design.specs.declared.design.Module.{Module as ModuleOf};
+ghost use Rattle.flow_design.specs.StaticRules.{IsBlockSound};
+ghost use Rattle.module_move.specs.Scheduled.{AreSchedulesOf};
+
+use block_schedule::Schedule;
+use flow_design::Block;
+use flow_word::{List, OutOfMemory};
+use std::alloc::Global;
+
+/// The schedule of each block.
+pub fn schedules_of(alloc: Global, blocks: &[Block]) -> Result<List<Schedule>, OutOfMemory>
+    requires { (channels : ℕ) × ((m : ModuleOf) × All (IsBlockSound channels m) blocks.now) }
+    ensures { IfOk result (AreSchedulesOf blocks.now) }
+{
+    let mut schedules = List::with_room(alloc, blocks.len() as u64)?;
+    for block in blocks {
+        schedules.push(Schedule::new(alloc, block)?)?;
+    }
+    Ok(schedules)
+}

@@ -1,0 +1,58 @@
+//! Where a module stands: its block, and the iterations that are live.
+ghost use Rattle.std.specs.Prelude.{◌≡◌, ◌*◌, ◌<◌, ◌≤◌, length};
+ghost use Rattle.flow_design.specs.Module.{block_of, operation_at, interval, live_count, temps_of};
+
+use flow_design::{Block, BlockKind, Control, Due, Module, ModuleState, Op};
+
+/// The block in which the module stands.
+pub fn block_of<'a>(of: &'a Module, state: &ModuleState) -> &'a Block
+    requires { state.now.control.block < length of.now.blocks }
+    ensures { result.now ≡ block_of of.now state.now }
+{
+    &of.blocks.as_slice()[state.control.block as usize]
+}
+
+/// A due operation of the block.
+pub(crate) fn operation<'a>(block: &'a Block, due: &Due) -> &'a Op<u32>
+    requires { due.now.op < length block.now.ops }
+    ensures { result.now ≡ (operation_at block.now due.now.op).op }
+{
+    &block.ops.as_slice()[due.op as usize].op
+}
+
+/// The local clocks between the starts of two iterations.
+pub fn interval(block: &Block) -> u64
+    ensures { result ≡ interval block.now }
+{
+    match block.kind {
+        BlockKind::Plain => block.len,
+        BlockKind::Loop { ii, again: _ } => ii,
+    }
+}
+
+/// How many iterations are live.
+#[tactic(auto, using(crate::proofs::Begins::live_count_is, crate::proofs::Begins::few_live))]
+pub fn live_count(block: &Block, control: &Control) -> u64
+    requires some { 1 ≤ interval block.now }
+    requires span { block.now.len ≤ 64 * interval block.now }
+    requires started { control.now.newest ≤ control.now.clock }
+    ensures count { result ≡ live_count block.now control.now }
+    ensures few { result ≤ 64 }
+{
+    let age = control.clock - control.newest;
+    if age >= block.len {
+        return 0;
+    }
+    let step = interval(block);
+    1 + (control.newest / step).min((block.len - 1 - age) / step)
+}
+
+/// The temps of a live iteration, or none.
+pub fn temps_of(state: &ModuleState, iteration: u32) -> &[u64]
+    ensures { result.now ≡ temps_of state.now iteration }
+{
+    match state.temps.as_slice().get(iteration as usize) {
+        Some(temps) => temps.as_slice(),
+        None => &[],
+    }
+}

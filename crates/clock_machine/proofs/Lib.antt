@@ -2,5 +2,6 @@ pub mod Fronts
 pub mod PartLemmas
 pub mod Queues
 pub mod Steps
+pub mod Tables
 pub mod Decided
 pub mod TestPlansFit

@@ -15,6 +15,8 @@ use Rattle.lockstep_defs.specs.Lockstep.{module_at, requests_of, moves, step_wit
 use Rattle.lockstep_defs.specs.Verdict.{held}
 use Rattle.lockstep_defs.specs.Report.{outputs_in}
 use Rattle.module_move.specs.Sound.{IsRunnable}
+use Rattle.module_move.specs.Scheduled.{AreSchedulesOf}
+use Rattle.block_schedule.specs.declared.schedule.Schedule.{Schedule}
 use Rattle.clock_machine.specs.declared.part.Answered.{Answered}
 use Rattle.clock_machine.specs.declared.part.Part.{Part}
 
@@ -105,6 +107,11 @@ pub record IsFit (p : Plan) (clock : ℕ) (m : ℕ × ModuleState) : Type 0 wher
 pub record AreFit (p : Plan) (clock : ℕ) (states : List ModuleState) : Type 0 where
   pub count : length states ≡ length p.design.modules
   pub each : (i : ℕ) → i < length states → IsFit p clock (i, slice_index_or states i nobody)
+
+-- the schedules of all blocks, module by module
+pub record AreSchedules (p : Plan) (tables : List (List Schedule)) : Type 0 where
+  pub count : length tables ≡ length p.design.modules
+  pub each : (i : ℕ) (d : List Schedule) → i < length p.design.modules → AreSchedulesOf (module_at p i).blocks (slice_index_or tables i d)
 
 -- ---- the report
 

@@ -1,16 +1,19 @@
 //! Each module's part in a clock, by the contents from before it.
-ghost use Rattle.std.specs.Prelude.{◌≡◌, ◌<◌, ◌≤◌, not, IfOk, OnOk, length, map, ◌++◌, slice_index_or};
+ghost use Rattle.std.specs.Prelude.{◌≡◌, ◌<◌, ◌≤◌, ◌^◌, not, IfOk, OnOk, length, map, ◌++◌, slice_index_or};
 ghost use Rattle.std.specs.List.{list_any};
 ghost use Rattle.flow_design.specs.StaticRules.{FitsEngine};
-ghost use Rattle.lockstep_defs.specs.Machine.{is_spent, is_over, nobody};
+ghost use Rattle.lockstep_defs.specs.Machine.{is_spent, is_over, nobody, requests};
 ghost use Rattle.lockstep_defs.specs.Channels.{reply};
 ghost use Rattle.lockstep_defs.specs.Lockstep.{module_at, numbered};
 ghost use Rattle.lockstep_defs.specs.Verdict.{is_settled};
-ghost use Rattle.clock_machine.specs.Parts.{part_of, answered_as, AreFit};
+ghost use Rattle.clock_machine.specs.Parts.{part_of, answered_as, AreFit, AreSchedules};
+ghost use Rattle.module_move.specs.Sound.{IsStateSound};
+ghost use Rattle.flow_design.specs.Module.{due};
 
 use crate::channels::{any_stalls, reply_to};
 use crate::part::{Answered, Part, Scratch};
-use flow_design::{ClockState, Module, ModuleState, Plan, Request};
+use block_schedule::Schedule;
+use flow_design::{ClockState, Due, Module, ModuleState, Plan, Request};
 use flow_word::{List, OutOfMemory, Queue};
 use module_move::ask;
 
@@ -45,6 +48,37 @@ pub fn state_at(state: &ClockState, i: usize) -> &ModuleState
     &state.modules.as_slice()[i]
 }
 
+/// Fills in what is due in module number i, in this state, and the requests of the FIFO operations among it.
+pub fn ask_one(
+    plan: &Plan,
+    schedules: &[List<Schedule>],
+    i: usize,
+    state: &ModuleState,
+    pending: &mut List<Due>,
+    asked: &mut List<Request>,
+) -> Result<(), OutOfMemory>
+    requires fits { FitsEngine plan.now }
+    requires schedules { AreSchedules plan.now schedules.now }
+    requires within { i < length plan.now.design.modules }
+    requires sound { IsStateSound (module_at plan.now i) state.now }
+    requires small { state.now.control.clock < 2 ^ 60 }
+    ensures due { OnOk result (pending.new ≡ due (module_at plan.now i) state.now) }
+    ensures asked { OnOk result (asked.new ≡ requests plan.now.design.channels (module_at plan.now i) state.now) }
+{
+    let own = &schedules[i];
+    let schedule = &own.as_slice()[state.control.block as usize];
+    let channels = plan.design.channels.as_slice();
+    ask(
+        channels,
+        module_at(plan, i),
+        schedule,
+        state,
+        pending,
+        asked,
+    )?;
+    Ok(())
+}
+
 /// Adds the replies to these requests to a part.
 fn answer(
     plan: &Plan,
@@ -72,6 +106,7 @@ fn answer(
 /// The part of one module: no part where it is ended, spent or stalls, else what it has due, and the replies.
 fn take_part(
     plan: &Plan,
+    schedules: &[List<Schedule>],
     clock: u64,
     state: &ClockState,
     i: usize,
@@ -79,6 +114,7 @@ fn take_part(
     part: &mut Part,
 ) -> Result<(), OutOfMemory>
     requires fits { FitsEngine plan.now }
+    requires schedules { AreSchedules plan.now schedules.now }
     requires fit { AreFit plan.now clock state.now.modules }
     requires early { clock ≤ plan.now.cycles }
     requires within { i < length state.now.modules }
@@ -90,9 +126,7 @@ fn take_part(
     if is_over(plan.ops, module) {
         return Ok(());
     }
-    let channels = plan.design.channels.as_slice();
-    let of = module_at(plan, i);
-    ask(channels, of, module, &mut part.pending, requests)?;
+    ask_one(plan, schedules, i, module, &mut part.pending, requests)?;
     if any_stalls(plan, clock, contents, requests.as_slice()) {
         part.clear();
         return Ok(());
@@ -105,19 +139,21 @@ fn take_part(
 /// The parts of all modules, in order.
 fn take_parts(
     plan: &Plan,
+    schedules: &[List<Schedule>],
     clock: u64,
     state: &ClockState,
     requests: &mut List<Request>,
     parts: &mut [Part],
 ) -> Result<(), OutOfMemory>
     requires fits { FitsEngine plan.now }
+    requires schedules { AreSchedules plan.now schedules.now }
     requires fit { AreFit plan.now clock state.now.modules }
     requires early { clock ≤ plan.now.cycles }
     requires count { length parts.old ≡ length state.now.modules }
     ensures { OnOk result (parts.new ≡ map (part_of plan.now clock state.now.contents) (numbered state.now)) }
 {
     for (i, part) in parts.iter_mut().enumerate() {
-        take_part(plan, clock, state, i, requests, part)?;
+        take_part(plan, schedules, clock, state, i, requests, part)?;
     }
     Ok(())
 }
@@ -132,11 +168,13 @@ fn any_moves(parts: &[Part]) -> bool
 /// Fills in the parts of all modules, and says whether one moves.
 pub fn ask_all(
     plan: &Plan,
+    schedules: &[List<Schedule>],
     clock: u64,
     state: &ClockState,
     scratch: &mut Scratch,
 ) -> Result<bool, OutOfMemory>
     requires fits { FitsEngine plan.now }
+    requires schedules { AreSchedules plan.now schedules.now }
     requires fit { AreFit plan.now clock state.now.modules }
     requires early { clock ≤ plan.now.cycles }
     requires count { length scratch.old.parts ≡ length state.now.modules }
@@ -145,6 +183,7 @@ pub fn ask_all(
 {
     take_parts(
         plan,
+        schedules,
         clock,
         state,
         &mut scratch.requests,

@@ -8,15 +8,15 @@ ghost use Rattle.lockstep_defs.specs.Channels.{stalls, contents_of};
 ghost use Rattle.lockstep_defs.specs.Verdict.{settled_verdict, held_by, held_in, held, clock_of};
 ghost use Rattle.lockstep_defs.specs.Report.{sinks, outputs_in};
 ghost use Rattle.flow_design.specs.Plans.{is_sink};
-ghost use Rattle.clock_machine.specs.Parts.{AreFit, report_from};
+ghost use Rattle.clock_machine.specs.Parts.{AreFit, AreSchedules, report_from};
 
-use crate::asking::{is_over, is_spent, module_at, state_at};
+use crate::asking::{ask_one, is_over, is_spent, state_at};
 use crate::channels::{is_popping, stalls};
+use block_schedule::Schedule;
 use flow_design::{
     ChannelKind, ClockState, Due, EventLine, Held, ModuleState, Plan, Report, Request, Verdict,
 };
 use flow_word::{Flags, List, OutOfMemory, Queue, Words};
-use module_move::ask;
 use std::alloc::Global;
 
 /// Whether all modules are ended.
@@ -64,6 +64,7 @@ fn first_stall(
 /// Adds how module number i is held, if it is neither ended nor spent.
 fn hold_one(
     plan: &Plan,
+    schedules: &[List<Schedule>],
     clock: u64,
     state: &ClockState,
     i: usize,
@@ -72,6 +73,7 @@ fn hold_one(
     held: &mut List<Held>,
 ) -> Result<(), OutOfMemory>
     requires fits { FitsEngine plan.now }
+    requires schedules { AreSchedules plan.now schedules.now }
     requires fit { AreFit plan.now clock state.now.modules }
     requires early { clock ≤ plan.now.cycles }
     requires within { i < length state.now.modules }
@@ -81,9 +83,7 @@ fn hold_one(
     if is_over(plan.ops, module) {
         return Ok(());
     }
-    let channels = plan.design.channels.as_slice();
-    let of = module_at(plan, i);
-    ask(channels, of, module, pending, requests)?;
+    ask_one(plan, schedules, i, module, pending, requests)?;
     let contents = state.contents.as_slice();
     if let Some(request) = first_stall(plan, clock, contents, requests.as_slice()) {
         held.push(Held {
@@ -99,10 +99,12 @@ fn hold_one(
 fn hold_all(
     alloc: Global,
     plan: &Plan,
+    schedules: &[List<Schedule>],
     clock: u64,
     state: &ClockState,
 ) -> Result<List<Held>, OutOfMemory>
     requires fits { FitsEngine plan.now }
+    requires schedules { AreSchedules plan.now schedules.now }
     requires fit { AreFit plan.now clock state.now.modules }
     requires early { clock ≤ plan.now.cycles }
     ensures { IfOk result (λ list. list ≡ held_in plan.now clock state.now) }
@@ -114,6 +116,7 @@ fn hold_all(
     for i in 0..count {
         hold_one(
             plan,
+            schedules,
             clock,
             state,
             i,
@@ -129,17 +132,21 @@ fn hold_all(
 fn held_at(
     alloc: Global,
     plan: &Plan,
+    schedules: &[List<Schedule>],
     verdict: Verdict,
     state: &ClockState,
 ) -> Result<List<Held>, OutOfMemory>
     requires fits { FitsEngine plan.now }
+    requires schedules { AreSchedules plan.now schedules.now }
     requires fit { AreFit plan.now (clock_of verdict) state.now.modules }
     requires early { clock_of verdict ≤ plan.now.cycles }
     ensures { IfOk result (λ list. list ≡ held plan.now verdict state.now) }
 {
     match verdict {
         Verdict::Done(_) | Verdict::Cycles(_) => Ok(List::new(alloc)),
-        Verdict::Deadlock(clock) | Verdict::Ops(clock) => hold_all(alloc, plan, clock, state),
+        Verdict::Deadlock(clock) | Verdict::Ops(clock) => hold_all(
+            alloc, plan, schedules, clock, state,
+        ),
     }
 }
 
@@ -223,17 +230,19 @@ fn outputs(
 pub fn report_at(
     alloc: Global,
     plan: &Plan,
+    schedules: &[List<Schedule>],
     verdict: Verdict,
     mut state: ClockState,
     events: List<EventLine>,
     answers: List<Flags>,
 ) -> Result<Report, OutOfMemory>
     requires fits { FitsEngine plan.now }
+    requires schedules { AreSchedules plan.now schedules.now }
     requires fit { AreFit plan.now (clock_of verdict) state.modules }
     requires early { clock_of verdict ≤ plan.now.cycles }
     ensures { IfOk result (λ report. report ≡ report_from plan.now verdict state events answers) }
 {
-    let held = held_at(alloc, plan, verdict, &state)?;
+    let held = held_at(alloc, plan, schedules, verdict, &state)?;
     let outputs = outputs(alloc, plan, state.contents.as_mut_slice())?;
     Ok(Report {
         verdict,
@@ -248,16 +257,18 @@ pub fn report_at(
 pub fn settled_report(
     alloc: Global,
     plan: &Plan,
+    schedules: &[List<Schedule>],
     clock: u64,
     state: ClockState,
     events: List<EventLine>,
     answers: List<Flags>,
 ) -> Result<Report, OutOfMemory>
     requires fits { FitsEngine plan.now }
+    requires schedules { AreSchedules plan.now schedules.now }
     requires fit { AreFit plan.now clock state.modules }
     requires early { clock ≤ plan.now.cycles }
     ensures { IfOk result (λ report. report ≡ report_from plan.now (settled_verdict plan.now clock state) state events answers) }
 {
     let verdict = settled_verdict(plan, clock, &state);
-    report_at(alloc, plan, verdict, state, events, answers)
+    report_at(alloc, plan, schedules, verdict, state, events, answers)
 }

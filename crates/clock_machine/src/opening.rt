@@ -5,12 +5,13 @@ ghost use Rattle.flow_design.specs.StaticRules.{FitsEngine};
 ghost use Rattle.flow_design.specs.Words.{cut_to};
 ghost use Rattle.lockstep_defs.specs.Machine.{opened};
 ghost use Rattle.lockstep_defs.specs.Lockstep.{module_at, inputs_of, opening};
-ghost use Rattle.clock_machine.specs.Parts.{IsFit, AreFit};
+ghost use Rattle.clock_machine.specs.Parts.{IsFit, AreFit, AreSchedules};
 
 use crate::asking::module_at;
+use block_schedule::Schedule;
 use flow_design::{ClockState, ModuleState, Plan};
 use flow_word::{Flags, List, OutOfMemory, Queue, Width, cut};
-use module_move::open;
+use module_move::{open, schedules_of};
 use std::alloc::Global;
 
 /// The first state of module number i.
@@ -71,6 +72,20 @@ fn fill_channels(alloc: Global, plan: &Plan) -> Result<List<Queue<u64>>, OutOfMe
         contents.push(fill_one(alloc, plan, i)?)?;
     }
     Ok(contents)
+}
+
+/// The schedules of all blocks, module by module.
+pub fn schedules_of_all(alloc: Global, plan: &Plan) -> Result<List<List<Schedule>>, OutOfMemory>
+    requires fits { FitsEngine plan.now }
+    ensures { IfOk result (AreSchedules plan.now) }
+{
+    let count = plan.design.modules.as_slice().len();
+    let mut schedules = List::with_room(alloc, count as u64)?;
+    for i in 0..count {
+        let blocks = module_at(plan, i).blocks.as_slice();
+        schedules.push(schedules_of(alloc, blocks)?)?;
+    }
+    Ok(schedules)
 }
 
 /// The state at clock 0.

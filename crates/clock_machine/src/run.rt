@@ -9,7 +9,7 @@ use crate::asking::ask_all;
 use crate::contents::{pop_all, push_all};
 use crate::ending::{report_at, settled_report};
 use crate::moving::move_all;
-use crate::opening::{no_answers, open_all};
+use crate::opening::{no_answers, open_all, schedules_of_all};
 use crate::part::{Part, Scratch, new_scratch};
 use crate::telling::{tell_all_events, tell_all_outcomes};
 use flow_design::{ClockState, EventLine, Plan, Report, Verdict};
@@ -84,12 +84,14 @@ pub fn clock_run(alloc: Global, plan: &Plan) -> Result<Report, OutOfMemory>
 {
     let modules = plan.design.modules.len();
     let mut state = open_all(alloc, plan)?;
+    let schedules = schedules_of_all(alloc, plan)?;
+    let schedules = schedules.as_slice();
     let mut scratch = new_scratch(alloc, modules)?;
     let mut events = List::new(alloc);
     let mut answers = no_answers(alloc, modules)?;
     for clock in 0..plan.cycles {
-        if !ask_all(plan, clock, &state, &mut scratch)? {
-            let report = settled_report(alloc, plan, clock, state, events, answers)?;
+        if !ask_all(plan, schedules, clock, &state, &mut scratch)? {
+            let report = settled_report(alloc, plan, schedules, clock, state, events, answers)?;
             return Ok(report);
         }
         next_clock(
@@ -102,11 +104,11 @@ pub fn clock_run(alloc: Global, plan: &Plan) -> Result<Report, OutOfMemory>
             &mut answers,
         )?;
     }
-    if !ask_all(plan, plan.cycles, &state, &mut scratch)? {
-        let report = settled_report(alloc, plan, plan.cycles, state, events, answers)?;
+    if !ask_all(plan, schedules, plan.cycles, &state, &mut scratch)? {
+        let report = settled_report(alloc, plan, schedules, plan.cycles, state, events, answers)?;
         return Ok(report);
     }
     let verdict = Verdict::Cycles(plan.cycles);
-    let report = report_at(alloc, plan, verdict, state, events, answers)?;
+    let report = report_at(alloc, plan, schedules, verdict, state, events, answers)?;
     Ok(report)
 }

@@ -14,348 +14,388 @@ const PLAIN_CASE: &[u8] =
 const REALISTIC_LINE: &[u8] =
     b"flow 1\nsource a 16\nfifo p 16 2\nfifo q 32 2\nfifo r 32 2\nsink y 32\nmodule reader\nreg x 16\nreg n 16\nreg g 1\nloop l 1 2 while g\nat 0 read a x\nat 0 set n + n 1\nat 0 set g <u n 255\nat 1 write p x\nstop\nmodule filter\nreg x 16\nreg d1 16\nreg d2 16\nreg d3 16\nreg c0 8\nreg c1 8\nreg c2 8\nreg c3 8\nreg acc 32\nreg n 16\nreg g 1\nmem m 8 4\nblock init 2\nat 0 store m 0 1\nat 0 store m 1 2\nat 0 store m 2 3\nat 0 store m 3 4\nat 1 load c0 m 0\nat 1 load c1 m 1\nat 1 load c2 m 2\nat 1 load c3 m 3\ngoto l\nloop l 1 3 while g\nat 0 read p x\nat 0 set n + n 1\nat 0 set g <u n 255\nat 1 set acc + * c0 x + * c1 d1 + * c2 d2 * c3 d3\nat 1 set d1 x\nat 1 set d2 d1\nat 1 set d3 d2\nat 2 write q acc\nstop\nmodule decimator\nreg v 32\nreg u 32\nreg ok 1\nreg h 1\nreg w 1\nreg k 16\nreg g 1\nloop l 1 3 while g\nat 0 tryread q v ok\nat 0 set g <u k 256\nat 1 set w & ok h\nat 1 set u v\nat 1 if ok set h ^ h 1\nat 1 if ok set k + k 1\nat 2 if w write r u\nstop\nmodule writer\nreg z 32\nreg n 16\nreg g 1\nloop l 1 2 while g\nat 0 read r z\nat 0 set n + n 1\nat 0 set g <u n 127\nat 1 write y z\nstop\ninput a 0 1 2 3 4 5 6 7 8 9 10 11 12 13 14 15 16 17 18 19 20 21 22 23 24 25 26 27 28 29 30 31 32 33 34 35 36 37 38 39 40 41 42 43 44 45 46 47 48 49 50 51 52 53 54 55 56 57 58 59 60 61 62 63 64 65 66 67 68 69 70 71 72 73 74 75 76 77 78 79 80 81 82 83 84 85 86 87 88 89 90 91 92 93 94 95 96 97 98 99 100 101 102 103 104 105 106 107 108 109 110 111 112 113 114 115 116 117 118 119 120 121 122 123 124 125 126 127 128 129 130 131 132 133 134 135 136 137 138 139 140 141 142 143 144 145 146 147 148 149 150 151 152 153 154 155 156 157 158 159 160 161 162 163 164 165 166 167 168 169 170 171 172 173 174 175 176 177 178 179 180 181 182 183 184 185 186 187 188 189 190 191 192 193 194 195 196 197 198 199 200 201 202 203 204 205 206 207 208 209 210 211 212 213 214 215 216 217 218 219 220 221 222 223 224 225 226 227 228 229 230 231 232 233 234 235 236 237 238 239 240 241 242 243 244 245 246 247 248 249 250 251 252 253 254 255\ndepth p 1\ndepth r 1\ndepth p 2\ndepth q 1\ndepth q 8\nend\n";
 
-/// The words as strings.
-fn words_of<R: AllocGlobal>(rt: &R, words: &[&str]) -> Result<Vec<String>, Fail> {
-    let mut strings = Vec::new(rt.alloc());
-    for word in words {
-        strings.push(String::from_str(rt.alloc(), word)?)?;
+/// What `run` and `clock` answer to a session with some options.
+#[derive(Clone, Copy, Drop)]
+struct Row {
+    options: &'static [&'static str],
+    text: &'static [u8],
+    told: &'static [u8],
+    status: Status,
+}
+
+/// The command and its options as strings.
+fn words_of<R: AllocGlobal>(rt: &R, command: &str, options: &[&str]) -> Result<Vec<String>, Fail> {
+    let mut words = Vec::new(rt.alloc());
+    words.push(String::from_str(rt.alloc(), command)?)?;
+    for option in options {
+        words.push(String::from_str(rt.alloc(), option)?)?;
     }
-    Ok(strings)
+    Ok(words)
 }
 
 /// What the program answers to these words and a text, through a source and a sink that fail in these calls.
 fn answer<R: Threads + Wait + Sync + AllocGlobal>(
     rt: &R,
-    words: &[&str],
+    words: &[String],
     text: &[u8],
     takes: &[u64],
     puts: &[u64],
 ) -> Result<(Status, MemSink), Fail> {
     let alloc = rt.alloc();
-    let words = words_of(rt, words)?;
     let mut source = MemSource::new(alloc, text, 64, takes)?;
     let mut sink = MemSink::new(alloc, 4096, 4, puts)?;
-    let status = omnisim(rt, alloc, words.as_slice(), &mut source, &mut sink);
+    let status = omnisim(rt, alloc, words, &mut source, &mut sink);
     Ok((status, sink))
 }
 
-/// The program answers this text and status.
-fn row<R: Threads + Wait + Sync + AllocGlobal + Abort>(
+/// The program answers this text and status to a command with some options.
+fn answers<R: Threads + Wait + Sync + AllocGlobal + Abort>(
     rt: &R,
-    words: &[&str],
+    command: &str,
+    options: &[&str],
     text: &[u8],
     told: &[u8],
     wanted: Status,
 ) -> Result<(), Fail> {
-    let (status, sink) = answer(rt, words, text, &[], &[])?;
+    let words = words_of(rt, command, options)?;
+    let (status, sink) = answer(rt, words.as_slice(), text, &[], &[])?;
     assert_eq!(rt; sink.held(), told);
     assert_eq!(rt; status, wanted);
     Ok(())
 }
 
-#[test]
-fn simple_designs(rt: HostRuntime) -> Result<(), Fail> {
-    row(
-        &rt,
-        &["clock"],
-        b"flow 1\nsource a 8\nfifo b 8\nsink y 8\nmodule p\nreg x 8\nblock k 2\nat 0 read a x\nat 1 write b x\nstop\nmodule q\nreg z 8\nblock k 2\nat 0 read b z\nat 1 write y z\nstop\ninput a 5\nend\n",
-        b"report 0\nverdict done 4\nout y 5\nruns 1\n",
-        Status::Done,
-    )?;
-    row(
-        &rt,
-        &["run", "--events"],
-        b"flow 1\nfifo b 8\nmodule P\nreg i 8\nreg g 1\nloop l 1 1 while g\nat 0 write b i\nat 0 set i + i 1\nat 0 set g <u i 2\nstop\nmodule Q\nreg x 8\nreg i 8\nreg g 1\nloop l 1 1 while g\nat 0 read b x\nat 0 set i + i 1\nat 0 set g <u i 2\nstop\nend\n",
-        b"report 0\nverdict done 4\nevent P write b 0\nevent P write b 1\nevent Q read b 1\nevent P write b 2\nevent Q read b 2\nevent Q read b 3\nruns 1\n",
-        Status::Done,
-    )?;
-    row(
-        &rt,
-        &["run"],
-        b"flow 1\nend\n",
-        b"report 0\nverdict done 0\nruns 1\n",
-        Status::Done,
-    )?;
-    row(
-        &rt,
-        &["clock"],
-        b"flow 1\nsink y 64\nmodule m\nblock k 9\nat 0 write y / 7 0\nat 1 write y % 7 0\nat 2 write y << 1 64\nat 3 write y sext 8 128\nat 4 write y <s sext 1 1 0\nat 5 write y - 0 1\nat 6 write y ?: 0 5 6\nat 7 write y >> 256 4\nat 8 write y <u 18446744073709551615 1\nstop\nend\n",
-        b"report 0\nverdict done 9\nout y 18446744073709551615 7 0 18446744073709551488 1 18446744073709551615 6 16 0\nruns 1\n",
-        Status::Done,
-    )?;
-    row(
-        &rt,
-        &["clock"],
-        b"flow 1\nsink y 8\nmodule m\nreg x 8\nblock k 2\nat 0 set x 1\nat 0 set x 2\nat 1 write y x\nstop\nend\n",
-        b"report 0\nverdict done 2\nout y 2\nruns 1\n",
-        Status::Done,
-    )?;
+/// The program answers so under `run` and under `clock`.
+fn simulates<R: Threads + Wait + Sync + AllocGlobal + Abort>(
+    rt: &R,
+    rows: &[Row],
+) -> Result<(), Fail> {
+    for row in rows {
+        answers(rt, "run", row.options, row.text, row.told, row.status)?;
+        answers(rt, "clock", row.options, row.text, row.told, row.status)?;
+    }
     Ok(())
+}
+
+/// The program refuses each text so under `check`, `run` and `clock`.
+fn refuses<R: Threads + Wait + Sync + AllocGlobal + Abort>(
+    rt: &R,
+    rows: &[(&[u8], &[u8])],
+) -> Result<(), Fail> {
+    for (text, told) in rows {
+        answers(rt, "check", &[], text, told, Status::Text)?;
+        answers(rt, "run", &[], text, told, Status::Text)?;
+        answers(rt, "clock", &[], text, told, Status::Text)?;
+    }
+    Ok(())
+}
+
+#[test]
+fn designs_that_are_done(rt: HostRuntime) -> Result<(), Fail> {
+    let rows = [
+        // plain case
+        Row {
+            options: &[],
+            text: PLAIN_CASE,
+            told: b"report 0\nverdict done 3\nout y 8\nruns 1\n",
+            status: Status::Done,
+        },
+        // visibility one clock later
+        Row {
+            options: &[],
+            text: b"flow 1\nsource a 8\nfifo b 8\nsink y 8\nmodule p\nreg x 8\nblock k 2\nat 0 read a x\nat 1 write b x\nstop\nmodule q\nreg z 8\nblock k 2\nat 0 read b z\nat 1 write y z\nstop\ninput a 5\nend\n",
+            told: b"report 0\nverdict done 4\nout y 5\nruns 1\n",
+            status: Status::Done,
+        },
+        // three values through depth two
+        Row {
+            options: &[],
+            text: b"flow 1\nfifo b 8\nmodule P\nreg i 8\nreg g 1\nloop l 1 1 while g\nat 0 write b i\nat 0 set i + i 1\nat 0 set g <u i 2\nstop\nmodule Q\nreg x 8\nreg i 8\nreg g 1\nloop l 1 1 while g\nat 0 read b x\nat 0 set i + i 1\nat 0 set g <u i 2\nstop\nend\n",
+            told: b"report 0\nverdict done 4\nruns 1\n",
+            status: Status::Done,
+        },
+        // three values through depth two, with their events
+        Row {
+            options: &["--events"],
+            text: b"flow 1\nfifo b 8\nmodule P\nreg i 8\nreg g 1\nloop l 1 1 while g\nat 0 write b i\nat 0 set i + i 1\nat 0 set g <u i 2\nstop\nmodule Q\nreg x 8\nreg i 8\nreg g 1\nloop l 1 1 while g\nat 0 read b x\nat 0 set i + i 1\nat 0 set g <u i 2\nstop\nend\n",
+            told: b"report 0\nverdict done 4\nevent P write b 0\nevent P write b 1\nevent Q read b 1\nevent P write b 2\nevent Q read b 2\nevent Q read b 3\nruns 1\n",
+            status: Status::Done,
+        },
+        // empty design
+        Row {
+            options: &[],
+            text: b"flow 1\nend\n",
+            told: b"report 0\nverdict done 0\nruns 1\n",
+            status: Status::Done,
+        },
+        // word arithmetic
+        Row {
+            options: &[],
+            text: b"flow 1\nsink y 64\nmodule m\nblock k 9\nat 0 write y / 7 0\nat 1 write y % 7 0\nat 2 write y << 1 64\nat 3 write y sext 8 128\nat 4 write y <s sext 1 1 0\nat 5 write y - 0 1\nat 6 write y ?: 0 5 6\nat 7 write y >> 256 4\nat 8 write y <u 18446744073709551615 1\nstop\nend\n",
+            told: b"report 0\nverdict done 9\nout y 18446744073709551615 7 0 18446744073709551488 1 18446744073709551615 6 16 0\nruns 1\n",
+            status: Status::Done,
+        },
+        // commit order
+        Row {
+            options: &[],
+            text: b"flow 1\nsink y 8\nmodule m\nreg x 8\nblock k 2\nat 0 set x 1\nat 0 set x 2\nat 1 write y x\nstop\nend\n",
+            told: b"report 0\nverdict done 2\nout y 2\nruns 1\n",
+            status: Status::Done,
+        },
+    ];
+    simulates(&rt, rows.as_slice())
 }
 
 #[test]
 fn queries(rt: HostRuntime) -> Result<(), Fail> {
-    row(
-        &rt,
-        &["clock"],
-        b"flow 1\nfifo b 8\nsink y 8\nmodule p\nblock k 6\nat 5 write b 3\nstop\nmodule q\nreg x 8\nreg ok 1\nblock k 7\nat 5 tryread b x ok\nat 6 write y ok\nstop\nend\n",
-        b"report 0\nverdict done 7\nout y 0\nruns 1\n",
-        Status::Done,
-    )?;
-    row(
-        &rt,
-        &["run"],
-        b"flow 1\nfifo b 8\nsink y 8\nmodule p\nblock k 6\nat 5 write b 3\nstop\nmodule q\nreg x 8\nreg ok 1\nblock k 8\nat 6 tryread b x ok\nat 7 write y ok\nstop\nend\n",
-        b"report 0\nverdict done 8\nout y 1\nruns 1\n",
-        Status::Done,
-    )?;
-    row(
-        &rt,
-        &["clock"],
-        b"flow 1\nfifo ab 8\nfifo ba 8\nsink y 8\nsink z 8\nmodule A\nreg x 8\nreg ok 1\nblock k 2\nat 0 tryread ba x ok\nat 1 write ab 1\nat 1 write y ok\nstop\nmodule B\nreg x 8\nreg ok 1\nblock k 2\nat 0 tryread ab x ok\nat 1 write ba 1\nat 1 write z ok\nstop\nend\n",
-        b"report 0\nverdict done 2\nout y 0\nout z 0\nruns 1\n",
-        Status::Done,
-    )?;
-    row(
-        &rt,
-        &["run"],
-        b"flow 1\nfifo b 8\nsink y 8\nmodule m\nreg x 8\nreg o 1\nreg p 1\nblock k 3\nat 0 write b 5\nat 0 tryread b x o\nat 1 tryread b x p\nat 2 write y | << p 1 o\nstop\nend\n",
-        b"report 0\nverdict done 3\nout y 2\nruns 1\n",
-        Status::Done,
-    )?;
-    Ok(())
+    let rows = [
+        // tie in the clock
+        Row {
+            options: &[],
+            text: b"flow 1\nfifo b 8\nsink y 8\nmodule p\nblock k 6\nat 5 write b 3\nstop\nmodule q\nreg x 8\nreg ok 1\nblock k 7\nat 5 tryread b x ok\nat 6 write y ok\nstop\nend\n",
+            told: b"report 0\nverdict done 7\nout y 0\nruns 1\n",
+            status: Status::Done,
+        },
+        // tie in the clock, one later
+        Row {
+            options: &[],
+            text: b"flow 1\nfifo b 8\nsink y 8\nmodule p\nblock k 6\nat 5 write b 3\nstop\nmodule q\nreg x 8\nreg ok 1\nblock k 8\nat 6 tryread b x ok\nat 7 write y ok\nstop\nend\n",
+            told: b"report 0\nverdict done 8\nout y 1\nruns 1\n",
+            status: Status::Done,
+        },
+        // two least queries
+        Row {
+            options: &[],
+            text: b"flow 1\nfifo ab 8\nfifo ba 8\nsink y 8\nsink z 8\nmodule A\nreg x 8\nreg ok 1\nblock k 2\nat 0 tryread ba x ok\nat 1 write ab 1\nat 1 write y ok\nstop\nmodule B\nreg x 8\nreg ok 1\nblock k 2\nat 0 tryread ab x ok\nat 1 write ba 1\nat 1 write z ok\nstop\nend\n",
+            told: b"report 0\nverdict done 2\nout y 0\nout z 0\nruns 1\n",
+            status: Status::Done,
+        },
+        // later stall delays earlier query
+        Row {
+            options: &[],
+            text: b"flow 1\nfifo b 8\nfifo c 8\nsink y 8\nmodule R\nreg x 8\nreg e 1\nreg g 1\nreg z 1\nloop l 1 4 while g\nat 0 read b x\nat 0 set g ^ g 1\nat 2 empty c e\nat 3 write y e\nat 3 if z read c x\nstop\nmodule S\nblock k 11\nat 0 write b 1\nat 9 write b 2\nat 10 write c 1\nstop\nend\n",
+            told: b"report 0\nverdict done 14\nout y 0 0\nruns 1\n",
+            status: Status::Done,
+        },
+        // both ends in one module
+        Row {
+            options: &[],
+            text: b"flow 1\nfifo b 8\nsink y 8\nmodule m\nreg x 8\nreg o 1\nreg p 1\nblock k 3\nat 0 write b 5\nat 0 tryread b x o\nat 1 tryread b x p\nat 2 write y | << p 1 o\nstop\nend\n",
+            told: b"report 0\nverdict done 3\nout y 2\nruns 1\n",
+            status: Status::Done,
+        },
+    ];
+    simulates(&rt, rows.as_slice())
 }
 
 #[test]
-fn loops_and_limits(rt: HostRuntime) -> Result<(), Fail> {
-    row(
-        &rt,
-        &["clock"],
-        b"flow 1\nfifo b 8\nfifo c 8\nsink y 8\nmodule R\nreg x 8\nreg e 1\nreg g 1\nreg z 1\nloop l 1 4 while g\nat 0 read b x\nat 0 set g ^ g 1\nat 2 empty c e\nat 3 write y e\nat 3 if z read c x\nstop\nmodule S\nblock k 11\nat 0 write b 1\nat 9 write b 2\nat 10 write c 1\nstop\nend\n",
-        b"report 0\nverdict done 14\nout y 0 0\nruns 1\n",
-        Status::Done,
-    )?;
-    row(
-        &rt,
-        &["clock"],
-        b"flow 1\nfifo b 8\nmodule P\nreg x 8\nreg ok 1\nreg one 1\nloop l 1 1 while one\nat 0 tryread b x ok\nat 0 set one 1\nstop\nmodule W\nreg z 1\nblock k 1\nat 0 if z write b 1\nstop\nlimits 1000 10\nend\n",
-        b"report 0\nverdict ops 3\nruns 1\n",
-        Status::Ops,
-    )?;
-    row(
-        &rt,
-        &["clock", "--cycles", "2"],
-        b"flow 1\nsource a 8\nsink y 8\nmodule m\nreg x 8\nblock k 3\nat 0 read a x\nat 2 write y + x 1\nstop\ninput a 7\nend\n",
-        b"report 0\nverdict cycles 2\nout y\nruns 1\n",
-        Status::Cycles,
-    )?;
-    row(
-        &rt,
-        &["run", "--cycles=3"],
-        b"flow 1\nsource a 8\nsink y 8\nmodule m\nreg x 8\nblock k 3\nat 0 read a x\nat 2 write y + x 1\nstop\ninput a 7\nend\n",
-        b"report 0\nverdict done 3\nout y 8\nruns 1\n",
-        Status::Done,
-    )?;
-    row(
-        &rt,
-        &["run", "--ops", "2"],
-        b"flow 1\nsource a 8\nsink y 8\nmodule m\nreg x 8\nblock k 3\nat 0 read a x\nat 2 write y + x 1\nstop\ninput a 7\nend\n",
-        b"report 0\nverdict ops 1\nout y\nruns 1\n",
-        Status::Ops,
-    )?;
-    row(
-        &rt,
-        &["clock", "--ops", "3"],
-        b"flow 1\nsource a 8\nsink y 8\nmodule m\nreg x 8\nblock k 3\nat 0 read a x\nat 2 write y + x 1\nstop\ninput a 7\nend\n",
-        b"report 0\nverdict done 3\nout y 8\nruns 1\n",
-        Status::Done,
-    )?;
-    Ok(())
+fn limits(rt: HostRuntime) -> Result<(), Fail> {
+    let rows = [
+        // polling loop
+        Row {
+            options: &[],
+            text: b"flow 1\nfifo b 8\nmodule P\nreg x 8\nreg ok 1\nreg one 1\nloop l 1 1 while one\nat 0 tryread b x ok\nat 0 set one 1\nstop\nmodule W\nreg z 1\nblock k 1\nat 0 if z write b 1\nstop\nlimits 1000 10\nend\n",
+            told: b"report 0\nverdict ops 3\nruns 1\n",
+            status: Status::Ops,
+        },
+        // exact end, one clock less
+        Row {
+            options: &["--cycles", "2"],
+            text: PLAIN_CASE,
+            told: b"report 0\nverdict cycles 2\nout y\nruns 1\n",
+            status: Status::Cycles,
+        },
+        // exact end
+        Row {
+            options: &["--cycles", "3"],
+            text: PLAIN_CASE,
+            told: b"report 0\nverdict done 3\nout y 8\nruns 1\n",
+            status: Status::Done,
+        },
+        // exact end, its value in the same word
+        Row {
+            options: &["--cycles=3"],
+            text: PLAIN_CASE,
+            told: b"report 0\nverdict done 3\nout y 8\nruns 1\n",
+            status: Status::Done,
+        },
+        // exact operation limit, one less
+        Row {
+            options: &["--ops", "2"],
+            text: PLAIN_CASE,
+            told: b"report 0\nverdict ops 1\nout y\nruns 1\n",
+            status: Status::Ops,
+        },
+        // exact operation limit
+        Row {
+            options: &["--ops", "3"],
+            text: PLAIN_CASE,
+            told: b"report 0\nverdict done 3\nout y 8\nruns 1\n",
+            status: Status::Done,
+        },
+    ];
+    simulates(&rt, rows.as_slice())
 }
 
 #[test]
 fn deadlocks(rt: HostRuntime) -> Result<(), Fail> {
-    row(
-        &rt,
-        &["clock"],
-        b"flow 1\nfifo ab 8\nfifo ba 8\nmodule A\nreg x 8\nblock k 2\nat 0 read ba x\nat 1 write ab 1\nstop\nmodule B\nreg x 8\nblock k 2\nat 0 read ab x\nat 1 write ba 1\nstop\nend\n",
-        b"report 0\nverdict deadlock 0\nheld A empty ba\nheld B empty ab\nruns 1\n",
-        Status::Deadlock,
-    )?;
-    row(
-        &rt,
-        &["run"],
-        b"flow 1\nfifo b 8\nmodule P\nreg one 1\nloop l 1 1 while one\nat 0 write b 7\nat 0 set one 1\nstop\nmodule Q\nreg x 8\nreg z 1\nblock k 1\nat 0 if z read b x\nstop\nend\n",
-        b"report 0\nverdict deadlock 2\nheld P full b\nruns 1\n",
-        Status::Deadlock,
-    )?;
-    row(
-        &rt,
-        &["clock"],
-        b"flow 1\nsource a 8\nsink y 8\nmodule m\nreg x 8\nblock k 3\nat 0 read a x\nat 2 write y + x 1\nstop\nend\n",
-        b"report 0\nverdict deadlock 0\nout y\nheld m empty a\nruns 1\n",
-        Status::Deadlock,
-    )?;
-    Ok(())
+    let rows = [
+        // deadlock at once
+        Row {
+            options: &[],
+            text: b"flow 1\nfifo ab 8\nfifo ba 8\nmodule A\nreg x 8\nblock k 2\nat 0 read ba x\nat 1 write ab 1\nstop\nmodule B\nreg x 8\nblock k 2\nat 0 read ab x\nat 1 write ba 1\nstop\nend\n",
+            told: b"report 0\nverdict deadlock 0\nheld A empty ba\nheld B empty ab\nruns 1\n",
+            status: Status::Deadlock,
+        },
+        // run ahead past a full FIFO
+        Row {
+            options: &[],
+            text: b"flow 1\nfifo b 8\nmodule P\nreg one 1\nloop l 1 1 while one\nat 0 write b 7\nat 0 set one 1\nstop\nmodule Q\nreg x 8\nreg z 1\nblock k 1\nat 0 if z read b x\nstop\nend\n",
+            told: b"report 0\nverdict deadlock 2\nheld P full b\nruns 1\n",
+            status: Status::Deadlock,
+        },
+        // exhausted source
+        Row {
+            options: &[],
+            text: b"flow 1\nsource a 8\nsink y 8\nmodule m\nreg x 8\nblock k 3\nat 0 read a x\nat 2 write y + x 1\nstop\nend\n",
+            told: b"report 0\nverdict deadlock 0\nout y\nheld m empty a\nruns 1\n",
+            status: Status::Deadlock,
+        },
+    ];
+    simulates(&rt, rows.as_slice())
 }
 
 #[test]
 fn texts_that_are_misread(rt: HostRuntime) -> Result<(), Fail> {
-    let check = &["check"];
-    row(
-        &rt,
-        check,
-        b"flow 1\n\xc8\nend\n",
-        b"refused 2 2\n",
-        Status::Text,
-    )?;
-    row(
-        &rt,
-        check,
-        b"flow 1\nfifo b\nend\n",
-        b"refused 2 3\n",
-        Status::Text,
-    )?;
-    row(
-        &rt,
-        check,
-        b"flow 1\nend\nend\n",
-        b"refused 3 3\n",
-        Status::Text,
-    )?;
-    row(
-        &rt,
-        check,
-        b"flow 1\nfifo b 8 0\nend\n",
-        b"refused 2 4\n",
-        Status::Text,
-    )?;
-    row(&rt, check, b"flow 2\nend\n", b"refused 1 4\n", Status::Text)?;
-    row(
-        &rt,
-        check,
-        b"flow 1\nsink y 8\nsink y 8\nend\n",
-        b"refused 3 5\n",
-        Status::Text,
-    )?;
-    row(&rt, check, b"flow 1\n", b"refused 2 12\n", Status::Text)?;
-    row(&rt, check, b"", b"refused 1 12\n", Status::Text)?;
-    row(
-        &rt,
-        check,
-        b"flow 1\nmodule m\nreg x 8\nblock k 1\nat 0 set x ~ ~ ~ ~ ~ ~ ~ ~ ~ ~ ~ ~ ~ ~ ~ ~ ~ ~ ~ ~ ~ ~ ~ ~ ~ ~ ~ ~ ~ ~ ~ ~ 1\nstop\nend\n",
-        b"refused 5 13\n",
-        Status::Text,
-    )?;
-    row(
-        &rt,
-        check,
-        b"flow 1\ndepth b 3\nend\n",
-        b"refused 2 6\n",
-        Status::Text,
-    )?;
-    Ok(())
+    let rows = [
+        (
+            b"flow 1\n\xc8\nend\n".as_slice(),
+            b"refused 2 2\n".as_slice(),
+        ),
+        (
+            b"flow 1\nfifo b\nend\n".as_slice(),
+            b"refused 2 3\n".as_slice(),
+        ),
+        (
+            b"flow 1\nend\nend\n".as_slice(),
+            b"refused 3 3\n".as_slice(),
+        ),
+        (
+            b"flow 1\nfifo b 8 0\nend\n".as_slice(),
+            b"refused 2 4\n".as_slice(),
+        ),
+        (b"flow 2\nend\n".as_slice(), b"refused 1 4\n".as_slice()),
+        (b"flow 3\nend\n".as_slice(), b"refused 1 4\n".as_slice()),
+        (
+            b"flow 1\nsink y 8\nsink y 8\nend\n".as_slice(),
+            b"refused 3 5\n".as_slice(),
+        ),
+        (
+            b"flow 1\ndepth b 3\nend\n".as_slice(),
+            b"refused 2 6\n".as_slice(),
+        ),
+        (b"flow 1\n".as_slice(), b"refused 2 12\n".as_slice()),
+        (b"".as_slice(), b"refused 1 12\n".as_slice()),
+        (
+            b"flow 1\nmodule m\nreg x 8\nblock k 1\nat 0 set x ~ ~ ~ ~ ~ ~ ~ ~ ~ ~ ~ ~ ~ ~ ~ ~ ~ ~ ~ ~ ~ ~ ~ ~ ~ ~ ~ ~ ~ ~ ~ ~ 1\nstop\nend\n".as_slice(),
+            b"refused 5 13\n".as_slice(),
+        ),
+    ];
+    refuses(&rt, rows.as_slice())
 }
 
 #[test]
 fn sessions_that_break_a_rule(rt: HostRuntime) -> Result<(), Fail> {
-    let check = &["run"];
-    row(
-        &rt,
-        check,
-        b"flow 1\nlimits 0 5\nend\n",
-        b"refused 2 7\n",
-        Status::Text,
-    )?;
-    row(
-        &rt,
-        check,
-        b"flow 1\nfifo b 8\nmodule p\nblock k 1\nat 0 write b 1\nstop\nmodule q\nreg x 8\nblock k 1\nat 0 write b 2\nat 0 read b x\nstop\nend\n",
-        b"refused 2 8\n",
-        Status::Text,
-    )?;
-    row(
-        &rt,
-        check,
-        b"flow 1\nsource a 8\nmodule m\nreg x 8\nreg g 1\nloop l 2 4 while g\nat 1 read a x\nat 3 read a x\nstop\nend\n",
-        b"refused 8 9\n",
-        Status::Text,
-    )?;
-    row(
-        &rt,
-        check,
-        b"flow 1\nmodule m\nreg g 1\nloop l 1 65 while g\nstop\nend\n",
-        b"refused 4 10\n",
-        Status::Text,
-    )?;
-    row(
-        &rt,
-        check,
-        b"flow 1\nmodule m\nreg x 8\nblock k 1\nat 1 set x 1\nstop\nend\n",
-        b"refused 5 11\n",
-        Status::Text,
-    )?;
-    row(
-        &rt,
-        check,
-        b"flow 1\nfifo b 8\nmodule p\nreg e 1\nblock k 1\nat 0 write b 1\nat 0 empty b e\nstop\nmodule q\nreg x 8\nblock k 1\nat 0 read b x\nstop\nend\n",
-        b"refused 7 14\n",
-        Status::Text,
-    )?;
-    row(
-        &rt,
-        check,
-        b"flow 1\nmodule m\nblock k 1\ngoto z\nend\n",
-        b"refused 4 6\n",
-        Status::Text,
-    )?;
-    Ok(())
+    let rows = [
+        (
+            b"flow 1\nmodule m\nblock k 1\ngoto z\nend\n".as_slice(),
+            b"refused 4 6\n".as_slice(),
+        ),
+        (
+            b"flow 1\nlimits 0 5\nend\n".as_slice(),
+            b"refused 2 7\n".as_slice(),
+        ),
+        (
+            b"flow 1\nfifo b 8\nmodule p\nblock k 1\nat 0 write b 1\nstop\nmodule q\nreg x 8\nblock k 1\nat 0 write b 2\nat 0 read b x\nstop\nend\n".as_slice(),
+            b"refused 2 8\n".as_slice(),
+        ),
+        (
+            b"flow 1\nsource a 8\nmodule m\nreg x 8\nreg g 1\nloop l 2 4 while g\nat 1 read a x\nat 3 read a x\nstop\nend\n".as_slice(),
+            b"refused 8 9\n".as_slice(),
+        ),
+        (
+            b"flow 1\nmodule m\nreg g 1\nloop l 1 65 while g\nstop\nend\n".as_slice(),
+            b"refused 4 10\n".as_slice(),
+        ),
+        (
+            b"flow 1\nmodule m\nreg x 8\nblock k 1\nat 1 set x 1\nstop\nend\n".as_slice(),
+            b"refused 5 11\n".as_slice(),
+        ),
+        (
+            b"flow 1\nfifo b 8\nmodule p\nreg e 1\nblock k 1\nat 0 write b 1\nat 0 empty b e\nstop\nmodule q\nreg x 8\nblock k 1\nat 0 read b x\nstop\nend\n".as_slice(),
+            b"refused 7 14\n".as_slice(),
+        ),
+    ];
+    refuses(&rt, rows.as_slice())
+}
+
+#[test]
+fn a_text_that_is_too_long(rt: HostRuntime) -> Result<(), Fail> {
+    let longest = vec![in rt.alloc(); b' '; 4_194_304]?;
+    let longer = vec![in rt.alloc(); b' '; 4_194_305]?;
+    let rows = [
+        (longest.as_slice(), b"refused 1 12\n".as_slice()),
+        (longer.as_slice(), b"refused 0 1\n".as_slice()),
+    ];
+    refuses(&rt, rows.as_slice())
 }
 
 #[test]
 fn canonical_forms(rt: HostRuntime) -> Result<(), Fail> {
-    let check = &["check"];
-    row(&rt, check, PLAIN_CASE, PLAIN_CASE, Status::Done)?;
-    row(
-        &rt,
-        check,
-        b"# note\nflow  01\n\nlimits 5 007 # small\nend\n",
-        b"flow 1\nlimits 5 7\nend\n",
-        Status::Done,
-    )?;
-    row(&rt, check, REALISTIC_LINE, REALISTIC_LINE, Status::Done)?;
     let deepest =
         b"flow 1\nmodule m\nreg x 8\nblock k 1\nat 0 set x ~ ~ ~ ~ ~ ~ ~ ~ ~ ~ ~ ~ ~ ~ ~ ~ ~ ~ ~ ~ ~ ~ ~ ~ ~ ~ ~ ~ ~ ~ ~ 1\nstop\nend\n";
-    row(&rt, check, deepest, deepest, Status::Done)?;
+    let rows = [
+        (PLAIN_CASE, PLAIN_CASE),
+        (
+            b"# note\nflow  01\n\nlimits 5 007 # small\nend\n".as_slice(),
+            b"flow 1\nlimits 5 7\nend\n".as_slice(),
+        ),
+        (REALISTIC_LINE, REALISTIC_LINE),
+        (deepest.as_slice(), deepest.as_slice()),
+    ];
+    for (text, told) in rows {
+        answers(&rt, "check", &[], text, told, Status::Done)?;
+    }
     Ok(())
 }
 
 #[test]
 fn generated_sessions(rt: HostRuntime) -> Result<(), Fail> {
-    row(
-        &rt,
-        &["gen", "0", "1"],
-        b"",
-        b"gen 0 1\nverdict done 3001\nsum 1000 747500\nruns 1\n",
-        Status::Done,
-    )?;
-    row(
-        &rt,
-        &["gen", "0", "2"],
-        b"",
-        b"gen 0 2\nverdict done 3002\nsum 1000 980500\nruns 1\n",
-        Status::Done,
-    )?;
-    Ok(())
+    let one = b"gen 0 1\nverdict done 3001\nsum 1000 747500\nruns 1\n";
+    let two = b"gen 0 2\nverdict done 3002\nsum 1000 980500\nruns 1\n";
+    answers(&rt, "gen", &["0", "1"], b"", one, Status::Done)?;
+    answers(&rt, "gen", &["0", "2"], b"", two, Status::Done)
 }
 
 #[test]
 fn refused_words(rt: HostRuntime) -> Result<(), Fail> {
     let told = b"refused words\n";
-    row(&rt, &[], PLAIN_CASE, told, Status::Words)?;
-    row(&rt, &["alone"], PLAIN_CASE, told, Status::Words)?;
-    row(&rt, &["check", "--events"], PLAIN_CASE, told, Status::Words)?;
-    row(&rt, &["gen", "1", "65"], PLAIN_CASE, told, Status::Words)?;
+    let lists = [
+        ("run", ["--events=1"].as_slice()),
+        ("run", ["--cycles", "0"].as_slice()),
+        ("run", ["--ops", "5", "--ops", "5"].as_slice()),
+        ("run", ["--ops", "200001"].as_slice()),
+        ("run", ["further"].as_slice()),
+        ("check", ["--events"].as_slice()),
+        ("gen", ["1", "65"].as_slice()),
+        ("alone", [].as_slice()),
+        ("", [].as_slice()),
+    ];
+    for (command, options) in lists {
+        answers(&rt, command, options, PLAIN_CASE, told, Status::Words)?;
+    }
+    let (status, sink) = answer(&rt, &[], PLAIN_CASE, &[], &[])?;
+    assert_eq!(rt; sink.held(), told.as_slice());
+    assert_eq!(rt; status, Status::Words);
     Ok(())
 }
 
@@ -363,34 +403,55 @@ fn refused_words(rt: HostRuntime) -> Result<(), Fail> {
 fn depth_edits(rt: HostRuntime) -> Result<(), Fail> {
     let text =
         b"flow 1\nfifo b 8\nmodule m\nreg x 8\nblock k 2\nat 0 write b 1\nat 1 read b x\nstop\ndepth b 1\nend\n";
-    row(&rt, &["clock"], text, b"refused 9 20\n", Status::Text)?;
-    row(
-        &rt,
-        &["run"],
-        REALISTIC_LINE,
-        b"refused 78 20\n",
-        Status::Text,
-    )
+    let rows = [
+        Row {
+            options: &[],
+            text,
+            told: b"refused 9 20\n",
+            status: Status::Text,
+        },
+        Row {
+            options: &["--events"],
+            text: REALISTIC_LINE,
+            told: b"refused 78 20\n",
+            status: Status::Text,
+        },
+    ];
+    simulates(&rt, rows.as_slice())
 }
 
 #[test]
 fn truncated_texts(rt: HostRuntime) -> Result<(), Fail> {
-    let run = &["run"];
+    let told = [
+        (0, b"refused 1 12\n".as_slice()),
+        (1, b"refused 1 3\n".as_slice()),
+        (5, b"refused 1 3\n".as_slice()),
+        (6, b"refused 1 12\n".as_slice()),
+        (7, b"refused 2 12\n".as_slice()),
+        (85, b"refused 8 3\n".as_slice()),
+        (98, b"refused 10 3\n".as_slice()),
+        (101, b"refused 10 12\n".as_slice()),
+        (102, b"refused 11 12\n".as_slice()),
+        (104, b"refused 11 3\n".as_slice()),
+    ];
+    for (len, told) in told {
+        let text = PLAIN_CASE.get(..len).unwrap_or(PLAIN_CASE);
+        answers(&rt, "check", &[], text, told, Status::Text)?;
+        answers(&rt, "run", &[], text, told, Status::Text)?;
+    }
+    let words = words_of(&rt, "run", &[])?;
     for len in 0..105 {
-        let (status, _) = answer(&rt, run, &PLAIN_CASE[..len], &[], &[])?;
+        let (status, _) = answer(&rt, words.as_slice(), &PLAIN_CASE[..len], &[], &[])?;
         assert_eq!(rt; status, Status::Text);
     }
-    row(&rt, run, &PLAIN_CASE[..1], b"refused 1 3\n", Status::Text)?;
-    row(&rt, run, &PLAIN_CASE[..6], b"refused 1 12\n", Status::Text)?;
-    row(&rt, run, &PLAIN_CASE[..7], b"refused 2 12\n", Status::Text)?;
-    row(&rt, run, &PLAIN_CASE[..98], b"refused 10 3\n", Status::Text)?;
     let told = b"report 0\nverdict done 3\nout y 8\nruns 1\n";
-    row(&rt, run, &PLAIN_CASE[..105], told, Status::Done)
+    answers(&rt, "run", &[], &PLAIN_CASE[..105], told, Status::Done)
 }
 
 #[test]
 fn a_source_and_a_sink_that_fail(rt: HostRuntime) -> Result<(), Fail> {
-    let run = &["run"];
+    let words = words_of(&rt, "run", &[])?;
+    let run = words.as_slice();
     for call in 0..3 {
         let (status, sink) = answer(&rt, run, PLAIN_CASE, &[call], &[])?;
         assert_eq!(rt; status, Status::ReadFault);

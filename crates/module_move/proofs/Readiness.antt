@@ -84,16 +84,24 @@ due_in_few : (b : Block) (s : ModuleState) (it : ℕ × ℕ) → length (due_in 
 due_in_few b s it =
     rw length-map (omega (arith, fewer_pass (λ n. passes s.registers (temps_of s it.0) (operation_at b n).guard) (due_at b it.1), due_at_few b it.1))
 
--- at most 64 live iterations of at most 1,024 operations
+-- at most 64 live iterations
+pub few_are_live : (channels : ℕ) (m : Module) (s : ModuleState) → IsModuleSound channels m → IsStateSound m s → live_count (block_of m s) s.control ≤ 64
+few_are_live channels m s h sound =
+    let b = block_of m s in
+    let block = block_sound channels m s.control.block h sound.state.block in
+    let age = s.control.clock - s.control.newest in
+    let live : age < b.len = omega (arith, sound.state.control.has_started, sound.state.young sound.running) in
+    let quotient = few_live b.len (interval b) age (interval_some channels m b block) (span channels m b block) live in
+    omega (arith, live_count_is b s.control live, quotient)
+
+-- of at most 1,024 operations
 pub few_due : (channels : ℕ) (m : Module) (s : ModuleState) → IsModuleSound channels m → IsStateSound m s → length (due m s) ≤ 65536
 unfolding due ages
 few_due channels m s h sound =
     let b = block_of m s in
     let block = block_sound channels m s.control.block h sound.state.block in
     let age = s.control.clock - s.control.newest in
-    let live : age < b.len = omega (arith, sound.state.control.has_started, sound.state.young sound.running) in
-    let quotient = few_live b.len (interval b) age (interval_some channels m b block) (span channels m b block) live in
-    let count : live_count b s.control ≤ 64 = omega (arith, live_count_is b s.control live, quotient) in
+    let count : live_count b s.control ≤ 64 = few_are_live channels m s h sound in
     let listed : length (enumerate_from 0 (ages_down (interval b) age (live_count b s.control))) ≡ live_count b s.control = length-enumerate_from 0 _ ∙ length-ages_down _ _ (live_count b s.control) in
     let each : (it : ℕ × ℕ) → length (due_in b s it) ≤ 1024 = λ it. omega (arith, due_in_few b s it, block.count) in
     omega (arith, short_parts 1024 (due_in b s) (enumerate_from 0 (ages_down (interval b) age (live_count b s.control))) each, listed)

@@ -5,7 +5,7 @@ ghost use Rattle.flow_design.specs.Module.{block_of, operation_at, temps_of, pas
 ghost use Rattle.module_move.specs.Sound.{IsStateSound, AreGuardsSound};
 ghost use Rattle.block_schedule.specs.Schedules.{IsScheduleOf};
 
-use crate::standing::{block_of, interval, live_count, temps_of};
+use crate::standing::{block_of, interval, temps_of};
 use block_schedule::Schedule;
 use flow_design::{Block, Due, Module, ModuleState};
 use flow_expr::variable;
@@ -27,7 +27,7 @@ pub(crate) fn look_up(
     let block = block_of(of, state);
     let step = interval(block);
     let newest_age = state.control.clock - state.control.newest;
-    let mut left = live_count(block, &state.control);
+    let mut left = state.temps.len();
     let mut place = 0u32;
     pending.truncate(0);
     while left > 0 {

@@ -4,14 +4,21 @@ use Rattle.flow_design.specs.declared.design.Block.{Block}
 use Rattle.flow_design.specs.Module.{due}
 use Rattle.block_schedule.specs.Schedules.{IsScheduleOf}
 use Rattle.module_move.proofs.Ages.{due_is, adding_more}
+use Rattle.module_move.proofs.Readiness.{few_are_live}
 use Rattle.module_move.proofs.Looking.{passing, numbers_inside}
 use Rattle.module_move.proofs.due.look_up.Goals as goal
 
 pub loop-left-init : goal.loop-left-init
 loop-left-init c = record {
-  rest = rw (c.truncate.ensures, c.interval-step.ensures, c.live_count-left.ensures.count, c.block_of-block.ensures) (sym (due_is c.args.of.now c.args.state.now));
-  places = zero-add c.live_count-left.result ∙ c.live_count-left.ensures.count;
+  rest = rw (c.truncate.ensures, c.interval-step.ensures, c.len-left.ensures, c.block_of-block.ensures, c.requires.sound.state.places.temps) (sym (due_is c.args.of.now c.args.state.now));
+  places = rw (c.len-left.ensures, c.block_of-block.ensures) (zero-add (length c.args.state.now.temps) ∙ c.requires.sound.state.places.temps);
 }
+
+pub overflow_add-place : goal.overflow_add-place
+overflow_add-place c =
+    let few = few_are_live c.requires.module.0 c.args.of.now c.args.state.now c.requires.module.1 c.requires.sound in
+    let places = rw c.block_of-block.ensures at c.loop-left.invariant.places in
+    omega (arith, few, places)
 
 pub add_passing-requires-clause-numbers : goal.add_passing-requires-clause-numbers
 add_passing-requires-clause-numbers c =

@@ -1,5 +1,5 @@
 -- The parts of a move, put together.
-use Rattle.std.proofs.Common.{◌≡◌, ◌∙◌, refl, ap, ℕ, ◌+◌, ◌<◌, ◌≤◌, ◌-◌, ◌==◌, List, Bool, true, false, ◌&&◌, length, arith, sym, subst, cond}
+use Rattle.std.proofs.Common.{◌≡◌, ◌∙◌, refl, ap, ℕ, ◌+◌, ◌≤◌, ◌-◌, ◌==◌, List, false, ◌&&◌, length, arith, sym, subst, cond}
 use Rattle.std.specs.Prelude.{slice_index}
 use Rattle.std.specs.List.{fold}
 use Rattle.std.proofs.lemmas.Bool.{cond_both, ne_eqb, and_right}

@@ -376,25 +376,28 @@ fn generated_sessions(rt: HostRuntime) -> Result<(), Fail> {
     answers(&rt, "gen", &["0", "2"], b"", two, Status::Done)
 }
 
+/// The program refuses these words.
+fn refuses_words<R: Threads + Wait + Sync + AllocGlobal + Abort>(
+    rt: &R,
+    command: &str,
+    options: &[&str],
+) -> Result<(), Fail> {
+    let told = b"refused words\n";
+    answers(rt, command, options, PLAIN_CASE, told, Status::Words)
+}
+
 #[test]
 fn refused_words(rt: HostRuntime) -> Result<(), Fail> {
-    let told = b"refused words\n";
-    let lists = [
-        ("run", ["--events=1"].as_slice()),
-        ("run", ["--cycles", "0"].as_slice()),
-        ("run", ["--ops", "5", "--ops", "5"].as_slice()),
-        ("run", ["--ops", "200001"].as_slice()),
-        ("run", ["further"].as_slice()),
-        ("check", ["--events"].as_slice()),
-        ("gen", ["1", "65"].as_slice()),
-        ("alone", [].as_slice()),
-        ("", [].as_slice()),
-    ];
-    for (command, options) in lists {
-        answers(&rt, command, options, PLAIN_CASE, told, Status::Words)?;
-    }
+    refuses_words(&rt, "run", &["--events=1"])?;
+    refuses_words(&rt, "run", &["--cycles", "0"])?;
+    refuses_words(&rt, "run", &["--ops", "5", "--ops", "5"])?;
+    refuses_words(&rt, "run", &["--ops", "200001"])?;
+    refuses_words(&rt, "run", &["further"])?;
+    refuses_words(&rt, "check", &["--events"])?;
+    refuses_words(&rt, "gen", &["1", "65"])?;
+    refuses_words(&rt, "alone", &[])?;
     let (status, sink) = answer(&rt, &[], PLAIN_CASE, &[], &[])?;
-    assert_eq!(rt; sink.held(), told.as_slice());
+    assert_eq!(rt; sink.held(), b"refused words\n".as_slice());
     assert_eq!(rt; status, Status::Words);
     Ok(())
 }

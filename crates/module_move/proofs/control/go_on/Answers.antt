@@ -1,9 +1,6 @@
-use Rattle.std.proofs.Common.{◌≡◌, ◌∙◌, ap, subst, sym}
-use Rattle.flow_design.specs.declared.design.Block.{Block}
-use Rattle.flow_design.specs.declared.state.ModuleState.{ModuleState}
-use Rattle.flow_design.specs.Module.{block_of, block_at}
-use Rattle.lockstep_defs.specs.Machine.{decided, finished}
-use Rattle.module_move.specs.Moves.{gone_on}
+use Rattle.std.proofs.Common.{◌≡◌, ◌∙◌}
+use Rattle.flow_design.specs.Module.{block_of}
+use Rattle.lockstep_defs.specs.Machine.{decided}
 use Rattle.module_move.proofs.Begins.{block_sound, interval_some}
 use Rattle.module_move.proofs.Failing.{on_err}
 use Rattle.module_move.proofs.Moving.{gone_on_again}

@@ -1,4 +1,4 @@
-use Rattle.std.proofs.Common.{◌≡◌, ◌∙◌, arith, length, ◌≤◌}
+use Rattle.std.proofs.Common.{◌∙◌, arith, length, ◌≤◌}
 use Rattle.module_move.proofs.Readiness.{due_sound, few_due}
 use Rattle.module_move.proofs.Moving.{counted_is}
 use Rattle.module_move.proofs.moves.commit.Goals as goal

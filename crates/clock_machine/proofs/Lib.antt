@@ -3,5 +3,3 @@ pub mod PartLemmas
 pub mod Queues
 pub mod Steps
 pub mod Tables
-pub mod Decided
-pub mod TestPlansFit

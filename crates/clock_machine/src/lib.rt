@@ -12,6 +12,3 @@ mod run;
 mod telling;
 
 pub use run::clock_run;
-
-#[cfg(test)]
-mod tests;

@@ -7,8 +7,6 @@ mod place;
 mod ports;
 mod rules;
 mod session;
-#[cfg(test)]
-mod tests;
 
 pub use laws::{checked_plans_fit, read_edits_fit, read_sessions_have_plans};
 pub use session::check;

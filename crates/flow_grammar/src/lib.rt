@@ -18,6 +18,3 @@ pub use operator::{Operator, operator_in};
 pub use prefix::{Known, one_operand, two_operands};
 pub use tokens::tokens_in;
 pub use words::{is_identifier, is_numeral, is_word, number_in, width_of};
-
-#[cfg(test)]
-mod tests;

@@ -5,8 +5,6 @@ mod expression;
 mod laws;
 mod operation;
 mod session;
-#[cfg(test)]
-mod tests;
 
 pub use laws::reads_back;
 pub use session::print_session;

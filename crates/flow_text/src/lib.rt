@@ -10,8 +10,6 @@ mod modules;
 mod operations;
 mod progress;
 mod reading;
-#[cfg(test)]
-mod tests;
 mod timed;
 
 pub use flow_grammar::{Code, ReadFail, TextFault};

@@ -4,8 +4,6 @@
 mod names;
 mod place;
 mod tables;
-#[cfg(test)]
-mod tests;
 
 pub use names::Names;
 pub use place::Place;

@@ -8,8 +8,6 @@ mod names;
 mod numbering;
 mod scope;
 mod section;
-#[cfg(test)]
-mod tests;
 mod whole;
 
 pub use section::{Level, Sort};

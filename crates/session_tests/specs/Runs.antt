@@ -1,0 +1,13 @@
+-- The runs of the tests.
+use Rattle.std.specs.Prelude.{ℕ}
+use Rattle.flow_design.specs.declared.plan.Plan.{Plan}
+use Rattle.lockstep_defs.specs.OwnRun.{Own}
+use Rattle.module_interp.specs.declared.run.ModuleRun.{ModuleRun}
+use Rattle.module_interp.specs.Runs.{StandsAt}
+
+-- the run of a module of some plan, at some rest
+pub record IsRun (run : ModuleRun) : Type 0 where
+  pub plan : Plan
+  pub number : ℕ
+  pub rest : Own
+  pub stands : StandsAt plan number rest run

@@ -1,0 +1,347 @@
+//! A module of a session, run ahead of time on replies that are fed to it. What is expected was worked out from the clock rules.
+ghost use Rattle.std.specs.Prelude.{ℕ, ◌≡◌, ◌<◌, true, false, length, IfOk, OnOk};
+ghost use Rattle.flow_word.specs.declared.access.Kind.{Kind as KindOf};
+ghost use Rattle.flow_design.specs.StaticRules.{FitsEngine};
+ghost use Rattle.module_interp.specs.OwnRests.{fits_kind, all_fit};
+ghost use Rattle.module_interp.specs.Runs.{waits};
+ghost use Rattle.session_tests.specs.Runs.{IsRun};
+
+use flow_check::check;
+use flow_design::{Plan, Reply};
+use flow_grammar::keeps_rules;
+use flow_text::read_session;
+use flow_word::{Access, Kind};
+use module_interp::{Advance, ModuleRun};
+use std::process::Abort;
+use std::test::Fail;
+
+/// One operation in the last local clock of a block as long as a block can be.
+const LONG_BLOCK: &[u8] =
+    b"flow 1\nsink y 8\nmodule m\nblock k 1000000000000\nat 999999999999 write y 1\nstop\nlimits 1000000000000000 100000\nend\n";
+
+/// Two iterations that overlap: a read, a test two local clocks later, and a write one later. The channels are b, c and y.
+const LATER_STALL: &[u8] =
+    b"flow 1\nfifo b 8\nfifo c 8\nsink y 8\nmodule R\nreg x 8\nreg e 1\nreg g 1\nreg z 1\nloop l 1 4 while g\nat 0 read b x\nat 0 set g ^ g 1\nat 2 empty c e\nat 3 write y e\nat 3 if z read c x\nstop\nmodule S\nblock k 11\nat 0 write b 1\nat 9 write b 2\nat 10 write c 1\nstop\nend\n";
+
+/// A loop without an end that tries a read in each local clock, with 10 as operation limit.
+const POLLING_LOOP: &[u8] =
+    b"flow 1\nfifo b 8\nmodule P\nreg x 8\nreg ok 1\nreg one 1\nloop l 1 1 while one\nat 0 tryread b x ok\nat 0 set one 1\nstop\nmodule W\nreg z 1\nblock k 1\nat 0 if z write b 1\nstop\nlimits 1000 10\nend\n";
+
+/// Two iterations, each of which starts where the one before it ends. A temp counts from 0 in each.
+const ITERATIONS_IN_TURN: &[u8] =
+    b"flow 1\nsink y 8\nmodule m\nreg i 8\nreg g 1\nloop l 3 3 while g\ntemp t 8\nat 0 set t + t + i 1\nat 1 set i t\nat 1 set g <u i 1\nat 2 write y t\nstop\nend\n";
+
+/// 65 iterations, of which 64 are live at a time, with an operation at each age. A temp takes the iteration's number and
+/// goes up by 1 at each of 62 ages. The channels are z and y.
+const MOST_ITERATIONS: &[u8] =
+    b"flow 1\nsink z 8\nsink y 8\nmodule m\nreg n 8\nreg g 1\nloop l 1 64 while g\ntemp t 8\nat 0 write z n\nat 0 set t n\nat 0 set n + n 1\nat 0 set g <u n 64\nat 1 set t + t 1\nat 2 set t + t 1\nat 3 set t + t 1\nat 4 set t + t 1\nat 5 set t + t 1\nat 6 set t + t 1\nat 7 set t + t 1\nat 8 set t + t 1\nat 9 set t + t 1\nat 10 set t + t 1\nat 11 set t + t 1\nat 12 set t + t 1\nat 13 set t + t 1\nat 14 set t + t 1\nat 15 set t + t 1\nat 16 set t + t 1\nat 17 set t + t 1\nat 18 set t + t 1\nat 19 set t + t 1\nat 20 set t + t 1\nat 21 set t + t 1\nat 22 set t + t 1\nat 23 set t + t 1\nat 24 set t + t 1\nat 25 set t + t 1\nat 26 set t + t 1\nat 27 set t + t 1\nat 28 set t + t 1\nat 29 set t + t 1\nat 30 set t + t 1\nat 31 set t + t 1\nat 32 set t + t 1\nat 33 set t + t 1\nat 34 set t + t 1\nat 35 set t + t 1\nat 36 set t + t 1\nat 37 set t + t 1\nat 38 set t + t 1\nat 39 set t + t 1\nat 40 set t + t 1\nat 41 set t + t 1\nat 42 set t + t 1\nat 43 set t + t 1\nat 44 set t + t 1\nat 45 set t + t 1\nat 46 set t + t 1\nat 47 set t + t 1\nat 48 set t + t 1\nat 49 set t + t 1\nat 50 set t + t 1\nat 51 set t + t 1\nat 52 set t + t 1\nat 53 set t + t 1\nat 54 set t + t 1\nat 55 set t + t 1\nat 56 set t + t 1\nat 57 set t + t 1\nat 58 set t + t 1\nat 59 set t + t 1\nat 60 set t + t 1\nat 61 set t + t 1\nat 62 set t + t 1\nat 63 write y t\nstop\nend\n";
+
+/// Four iterations that overlap. Each has a guard of its own, which the first and the third leave at 0. The channels are a and y.
+const GUARDS_OF_THEIR_OWN: &[u8] =
+    b"flow 1\nsource a 8\nsink y 8\nmodule m\nreg x 8\nreg n 8\nreg g 1\nloop l 1 3 while g\ntemp h 1\ntemp t 8\nat 0 read a x\nat 0 set n + n 1\nat 0 set g <u n 3\nat 0 set h n\nat 0 if h set x 99\nat 1 set t x\nat 2 if h write y t\nstop\nend\n";
+
+/// A memory of three words, with addresses past them.
+const ADDRESSES_PAST_THE_END: &[u8] =
+    b"flow 1\nsink y 8\nmodule m\nreg x 8\nmem w 8 3\nblock k 4\nat 0 store w 7 300\nat 1 load x w 18446744073709551613\nat 2 write y x\nat 2 load x w 3\nat 3 write y x\nstop\nend\n";
+
+/// A loop whose condition is read in its iteration's last local clock, and a block behind it. The channels are a and y.
+const DECIDED_AT_THE_END: &[u8] =
+    b"flow 1\nsource a 8\nsink y 8\nmodule m\nreg x 8\nloop l 2 2 while x\nat 1 read a x\ngoto k\nblock k 1\nat 0 write y + x 5\nstop\nend\n";
+
+/// The plan of a session text that is not refused.
+fn plan<R: AllocGlobal>(rt: &R, text: &[u8]) -> Result<Plan, Fail>
+    ensures fits { IfOk result (λ plan. FitsEngine plan) }
+{
+    keeps_rules();
+    let (session, lines) = read_session(rt.alloc(), text)?;
+    let checked = check(rt.alloc(), &session, &lines)?;
+    Ok(checked.plan)
+}
+
+/// The run of the first module of a session.
+fn first_run<R: AllocGlobal + Abort>(rt: &R, text: &[u8]) -> Result<ModuleRun, Fail>
+    ensures run { IfOk result (λ run. IsRun run) }
+    ensures fed { IfOk result (λ run. waits run ≡ false) }
+{
+    let plan = plan(rt, text)?;
+    assert!(rt; plan.design.modules.len() > 0);
+    let run = ModuleRun::new(rt.alloc(), &plan, 0)?;
+    Ok(run)
+}
+
+/// The next mark of a run is a step with this gap, number of earlier queries and accesses, which then wait. It is fed these
+/// replies.
+fn step<R: Abort>(
+    rt: &R,
+    run: &mut ModuleRun,
+    gap: u64,
+    first_query: u64,
+    accesses: &[Access],
+    replies: &[Reply],
+) -> Result<(), Fail>
+    requires run { IsRun run.old }
+    requires fed { waits run.old ≡ false }
+    ensures run { OnOk result (IsRun run.new) }
+    ensures fed { OnOk result (waits run.new ≡ false) }
+{
+    let mark = run.advance()?;
+    match mark {
+        Advance::Step(step) => {
+            assert_eq!(rt; step.gap, gap);
+            assert_eq!(rt; step.first_query, first_query);
+            assert_eq!(rt; step.accesses.as_slice(), accesses);
+            assert_eq!(rt; run.waiting(), accesses);
+            assert!(rt; all_fit(run.waiting(), replies));
+            run.feed(replies);
+            Ok(())
+        }
+        Advance::Ended(_) | Advance::Spent(_) => panic!(rt; "no step"),
+    }
+}
+
+/// The run is ended so many local clocks after its last step, and stays so. No step waits.
+fn ends<R: Abort>(rt: &R, run: &mut ModuleRun, gap: u64) -> Result<(), Fail>
+    requires run { IsRun run.old }
+    requires fed { waits run.old ≡ false }
+{
+    for _ in 0..2 {
+        match run.advance()? {
+            Advance::Ended(elapsed) => assert_eq!(rt; elapsed, gap),
+            Advance::Step(_) | Advance::Spent(_) => panic!(rt; "not ended"),
+        }
+        assert_eq!(rt; run.waiting(), [].as_slice());
+    }
+    Ok(())
+}
+
+/// The run is spent so many local clocks after its last step.
+fn is_spent<R: Abort>(rt: &R, run: &mut ModuleRun, gap: u64) -> Result<(), Fail>
+    requires run { IsRun run.old }
+    requires fed { waits run.old ≡ false }
+{
+    match run.advance()? {
+        Advance::Spent(elapsed) => assert_eq!(rt; elapsed, gap),
+        Advance::Step(_) | Advance::Ended(_) => panic!(rt; "not spent"),
+    }
+    Ok(())
+}
+
+/// Whether there is one reply for each access, each of which fits it.
+fn all_fit(accesses: &[Access], replies: &[Reply]) -> bool
+    ensures { result ≡ all_fit accesses.now replies.now }
+{
+    match (accesses, replies) {
+        ([], []) => true,
+        ([access, accesses @ ..], [reply, replies @ ..]) => {
+            fits_kind(access.kind, *reply) && all_fit(accesses, replies)
+        }
+        ([], [_, ..]) => false,
+        ([_access, _accesses @ ..], []) => false,
+    }
+}
+
+/// Whether a reply fits a kind of access.
+fn fits_kind(kind: Kind, reply: Reply) -> bool
+    ensures { result ≡ fits_kind kind reply }
+{
+    match kind {
+        Kind::Read => matches!(&reply, Reply::Value(_)),
+        Kind::Write => matches!(&reply, Reply::Done),
+        Kind::TryRead => matches!(&reply, Reply::Took(_) | Reply::Missed),
+        Kind::TryWrite | Kind::Empty | Kind::Full => matches!(&reply, Reply::Flag(_)),
+    }
+}
+
+/// An access that pushes nothing.
+fn access(kind: Kind, channel: u32, ordinal: u64) -> Access {
+    Access {
+        kind,
+        channel,
+        ordinal,
+        value: 0,
+    }
+}
+
+/// A write.
+fn write(channel: u32, ordinal: u64, value: u64) -> Access {
+    Access {
+        kind: Kind::Write,
+        channel,
+        ordinal,
+        value,
+    }
+}
+
+#[test]
+fn a_long_block_is_jumped_over(rt: HostRuntime) -> Result<(), Fail> {
+    let mut run = first_run(&rt, LONG_BLOCK)?;
+    step(
+        &rt,
+        &mut run,
+        999999999999,
+        0,
+        &[write(0, 1, 1)],
+        &[Reply::Done],
+    )?;
+    ends(&rt, &mut run, 1)
+}
+
+#[test]
+fn the_older_iteration_commits_first(rt: HostRuntime) -> Result<(), Fail> {
+    let mut run = first_run(&rt, LATER_STALL)?;
+    let empty = access(Kind::Empty, 1, 1);
+    let no = Reply::Flag(false);
+    step(
+        &rt,
+        &mut run,
+        0,
+        0,
+        &[access(Kind::Read, 0, 1)],
+        &[Reply::Value(1)],
+    )?;
+    step(
+        &rt,
+        &mut run,
+        1,
+        0,
+        &[access(Kind::Read, 0, 2)],
+        &[Reply::Value(2)],
+    )?;
+    step(&rt, &mut run, 1, 0, &[empty], &[no])?;
+    step(
+        &rt,
+        &mut run,
+        1,
+        1,
+        &[write(2, 1, 0), empty],
+        &[Reply::Done, no],
+    )?;
+    step(&rt, &mut run, 1, 2, &[write(2, 2, 0)], &[Reply::Done])?;
+    ends(&rt, &mut run, 1)
+}
+
+#[test]
+fn a_polling_loop_is_spent(rt: HostRuntime) -> Result<(), Fail> {
+    let mut run = first_run(&rt, POLLING_LOOP)?;
+    let tries = access(Kind::TryRead, 0, 1);
+    step(&rt, &mut run, 0, 0, &[tries], &[Reply::Missed])?;
+    step(&rt, &mut run, 1, 1, &[tries], &[Reply::Missed])?;
+    step(&rt, &mut run, 1, 2, &[tries], &[Reply::Missed])?;
+    is_spent(&rt, &mut run, 1)
+}
+
+#[test]
+fn iterations_in_turn(rt: HostRuntime) -> Result<(), Fail> {
+    let mut run = first_run(&rt, ITERATIONS_IN_TURN)?;
+    step(&rt, &mut run, 2, 0, &[write(0, 1, 1)], &[Reply::Done])?;
+    step(&rt, &mut run, 3, 0, &[write(0, 2, 2)], &[Reply::Done])?;
+    ends(&rt, &mut run, 1)
+}
+
+/// The iterations before the first one is 63 local clocks old: each writes its number.
+fn first_iterations<R: Abort>(rt: &R, run: &mut ModuleRun) -> Result<(), Fail>
+    requires run { IsRun run.old }
+    requires fed { waits run.old ≡ false }
+    ensures run { OnOk result (IsRun run.new) }
+    ensures fed { OnOk result (waits run.new ≡ false) }
+{
+    step(rt, run, 0, 0, &[write(0, 1, 0)], &[Reply::Done])?;
+    for number in 1..63 {
+        step(
+            rt,
+            run,
+            1,
+            0,
+            &[write(0, number + 1, number)],
+            &[Reply::Done],
+        )?;
+    }
+    Ok(())
+}
+
+#[test]
+fn most_live_iterations(rt: HostRuntime) -> Result<(), Fail> {
+    let mut run = first_run(&rt, MOST_ITERATIONS)?;
+    first_iterations(&rt, &mut run)?;
+    for number in 0..2 {
+        step(
+            &rt,
+            &mut run,
+            1,
+            0,
+            &[
+                write(1, number + 1, number + 62),
+                write(0, number + 64, number + 63),
+            ],
+            &[Reply::Done, Reply::Done],
+        )?;
+    }
+    for number in 2..65 {
+        step(
+            &rt,
+            &mut run,
+            1,
+            0,
+            &[write(1, number + 1, number + 62)],
+            &[Reply::Done],
+        )?;
+    }
+    ends(&rt, &mut run, 1)
+}
+
+#[test]
+fn guards_of_their_own(rt: HostRuntime) -> Result<(), Fail> {
+    let mut run = first_run(&rt, GUARDS_OF_THEIR_OWN)?;
+    for (ordinal, value) in [(1, 10), (2, 20), (3, 30)] {
+        let gap = (ordinal > 1) as u64;
+        step(
+            &rt,
+            &mut run,
+            gap,
+            0,
+            &[access(Kind::Read, 0, ordinal)],
+            &[Reply::Value(value)],
+        )?;
+    }
+    step(
+        &rt,
+        &mut run,
+        1,
+        0,
+        &[write(1, 1, 20), access(Kind::Read, 0, 4)],
+        &[Reply::Done, Reply::Value(40)],
+    )?;
+    step(&rt, &mut run, 2, 0, &[write(1, 2, 40)], &[Reply::Done])?;
+    ends(&rt, &mut run, 1)
+}
+
+#[test]
+fn addresses_past_the_end(rt: HostRuntime) -> Result<(), Fail> {
+    let mut run = first_run(&rt, ADDRESSES_PAST_THE_END)?;
+    step(&rt, &mut run, 2, 0, &[write(0, 1, 44)], &[Reply::Done])?;
+    step(&rt, &mut run, 1, 0, &[write(0, 2, 0)], &[Reply::Done])?;
+    ends(&rt, &mut run, 1)
+}
+
+#[test]
+fn decided_at_the_end(rt: HostRuntime) -> Result<(), Fail> {
+    let mut run = first_run(&rt, DECIDED_AT_THE_END)?;
+    step(
+        &rt,
+        &mut run,
+        1,
+        0,
+        &[access(Kind::Read, 0, 1)],
+        &[Reply::Value(3)],
+    )?;
+    step(
+        &rt,
+        &mut run,
+        2,
+        0,
+        &[access(Kind::Read, 0, 2)],
+        &[Reply::Value(0)],
+    )?;
+    step(&rt, &mut run, 1, 0, &[write(1, 1, 5)], &[Reply::Done])?;
+    ends(&rt, &mut run, 1)
+}

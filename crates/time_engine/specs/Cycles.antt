@@ -1,0 +1,63 @@
+-- The cycle of a module's first step without one.
+use Rattle.std.specs.Prelude.{◌≡◌, ℕ, ◌+◌, ◌<◌, max, Bool, ◌&&◌, if◌then◌else◌, List, [], ◌∷◌, length, filter, position, Option, None, Some, unwrap_or, is_some, is_none, option_and_then, slice_get}
+use Rattle.std.specs.List.{filter_map}
+use Rattle.std.specs.Option.{ForSome}
+use Rattle.flow_word.specs.declared.access.Access.{Access}
+use Rattle.flow_word.specs.declared.access.Step.{Step}
+use Rattle.event_graph.specs.Lanes.{Lane, lane_at, last_cycle, cycle_bound}
+use Rattle.fifo_table.specs.Channels.{Channel}
+use Rattle.time_engine.specs.declared.known.Known.{Known}
+use Rattle.time_engine.specs.declared.known.Known.TheVariants.{From, Never, Unknown}
+use Rattle.time_engine.specs.Possible.{is_blocking, when_possible}
+
+-- ---- the accesses of a step
+
+-- the clock, where one is known
+abbrev pub known_clock : Known → Option ℕ
+known_clock (From clock) = Some clock
+known_clock Never = None
+known_clock Unknown = None
+
+-- the access blocks, and no clock is known from which it is possible
+abbrev pub is_waiting : List Lane → List Channel → Access → Bool
+is_waiting lanes channels access = is_blocking access.kind && is_none (known_clock (when_possible lanes channels access))
+
+-- the clocks that are known from which the blocking ones of the accesses are possible
+unfoldable pub clocks_of : List Lane → List Channel → List Access → List ℕ
+clocks_of lanes channels accesses = filter_map (λ access. known_clock (when_possible lanes channels access)) (filter (λ access. is_blocking access.kind) accesses)
+
+-- the latest of the clocks, and 0 where there is none
+unfoldable pub latest : List ℕ → ℕ
+latest [] = 0
+latest (clock ∷ clocks) = max clock (latest clocks)
+
+-- ---- a module's first step without a cycle
+
+abbrev pub open_step : Lane → Option Step
+open_step lane = slice_get lane.steps (length lane.cycles)
+
+-- the clock in which the module comes to the step: its gap after the cycle before, or after clock 0
+abbrev pub arrival : Lane → Step → ℕ
+arrival lane step = unwrap_or (last_cycle lane) 0 + step.gap
+
+-- the number of its first access that waits
+unfoldable pub first_waiting : List Lane → List Channel → ℕ → Option ℕ
+first_waiting lanes channels owner = option_and_then (λ step. position (is_waiting lanes channels) step.accesses) (open_step (lane_at lanes owner))
+
+-- the cycle, unless an access waits
+abbrev pub cycle_unless : Option ℕ → ℕ → Option ℕ
+cycle_unless waiting cycle = if is_some waiting then None else Some cycle
+
+-- its cycle, where that is determined: no access waits, and it is the latest of the clock in which the module comes to the step and of
+-- those from which its blocking accesses are possible
+unfoldable pub determined : List Lane → List Channel → ℕ → Option ℕ
+determined lanes channels owner =
+    option_and_then (λ step. cycle_unless (first_waiting lanes channels owner) (latest (arrival (lane_at lanes owner) step ∷ clocks_of lanes channels step.accesses)))
+    (open_step (lane_at lanes owner))
+
+-- the step can be given this cycle: there is one, and the cycle is later than the module's last
+pub record MayTake (lanes : List Lane) (owner cycle : ℕ) : Type 0 where
+  pub inside : owner < length lanes
+  pub waiting : length (lane_at lanes owner).cycles < length (lane_at lanes owner).steps
+  pub below : cycle < cycle_bound
+  pub later : ForSome (last_cycle (lane_at lanes owner)) (λ last. last < cycle)

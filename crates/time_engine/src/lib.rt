@@ -1,0 +1,12 @@
+//! Timing: the cycle of a module's next step, from the cycles that were given before.
+#![tactic(auto)]
+
+mod known;
+mod timing;
+
+pub use event_graph::Candidate;
+pub use known::{Known, known_of};
+pub use timing::{assign, candidate};
+
+#[cfg(test)]
+mod tests;

@@ -1,0 +1,112 @@
+//! The cycle of a module's first step without one.
+ghost use Rattle.std.specs.Prelude.{◌≡◌, ℕ, List, All, ◌+◌, ◌^◌, ◌<◌, ◌≤◌, ◌↔◌, ◌∷◌, [], length, slice_get, slice_index, position, unwrap_or, is_none, None, Some, IfSome, IfOk, OnOk, IfErr, IsSomeAnd};
+ghost use Rattle.event_graph.specs.Lanes.{lane_at, cycle_bound, with_cycle};
+ghost use Rattle.event_graph.specs.Lanes.{last_cycle as last_of};
+ghost use Rattle.time_engine.specs.Conditions.{IsAccess, HasAccesses, HasPlaces};
+ghost use Rattle.time_engine.specs.Possible.{is_blocking};
+ghost use Rattle.time_engine.specs.Cycles.{is_waiting, clocks_of, open_step, first_waiting, determined, MayTake};
+ghost use Rattle.time_engine.specs.Cycles.{latest as latest_of};
+ghost use Rattle.fifo_table.specs.Channels.{Channel};
+
+use crate::known::{Known, known_of};
+use event_graph::{Access, Candidate, Graph, Kind, Place};
+use fifo_table::FifoTable;
+use flow_word::Steps;
+use std::sync::ledger::Ledger;
+
+/// What is known of the cycle of a module's first step without one. It looks at each access of that step once, and takes
+/// no memory.
+pub fn candidate(graph: &Graph, fifos: &FifoTable, owner: u32, limit: u64) -> Candidate
+    requires owner { owner < length graph.now.lanes }
+    requires accesses { HasAccesses graph.now.lanes fifos.now.channels }
+    requires places { HasPlaces graph.now.lanes fifos.now.channels }
+    requires limit { limit ≤ cycle_bound }
+    ensures nothing { (result ≡ Candidate.Nothing) ↔ (open_step (lane_at graph.now.lanes owner) ≡ None) }
+    ensures waits { (i : ℕ) → (result ≡ Candidate.Waits i) ↔ (first_waiting graph.now.lanes fifos.now.channels owner ≡ Some i) }
+    ensures beyond { (result ≡ Candidate.Beyond) ↔ IsSomeAnd (determined graph.now.lanes fifos.now.channels owner) (λ cycle. limit ≤ cycle) }
+    ensures at { (cycle : ℕ) → (result ≡ Candidate.At cycle) ↔ ((determined graph.now.lanes fifos.now.channels owner ≡ Some cycle) × (cycle < limit)) }
+    ensures may_take { (cycle : ℕ) → result ≡ Candidate.At cycle → MayTake graph.now.lanes owner cycle }
+{
+    let first = graph.frontier(owner);
+    if first == graph.len(owner) {
+        return Candidate::Nothing;
+    }
+    let step = graph.step(Place { module: owner, step: first });
+    let arrival = last_cycle(graph, owner) + step.gap;
+    match latest(graph, fifos, step.accesses.as_slice(), arrival) {
+        Err(access) => Candidate::Waits(access),
+        Ok(cycle) if cycle < limit => Candidate::At(cycle),
+        Ok(_) => Candidate::Beyond,
+    }
+}
+
+/// Gives a module's first step without a cycle this one. The steps stay, so what the graph and a table were to each
+/// other they still are.
+pub fn assign<L: Ledger>(graph: &mut Graph, owner: u32, cycle: u64, steps: &mut Steps<L>)
+    requires { MayTake graph.old.lanes owner cycle }
+    ensures lanes { graph.new.lanes ≡ with_cycle graph.old.lanes owner cycle }
+    ensures kept { (k : ℕ) → slice_index graph.old.rooms k ≤ slice_index graph.new.rooms k }
+    ensures ticks { steps.new ≡ steps.old + 1 }
+    ensures accesses { (channels : List Channel) → HasAccesses graph.old.lanes channels → HasAccesses graph.new.lanes channels }
+    ensures places { (channels : List Channel) → HasPlaces graph.old.lanes channels → HasPlaces graph.new.lanes channels }
+{
+    graph.set_cycle(owner, cycle, steps);
+}
+
+/// A module's last cycle, and 0 where it has none.
+fn last_cycle(graph: &Graph, owner: u32) -> u64
+    requires { owner < length graph.now.lanes }
+    ensures cycle { result ≡ unwrap_or (last_of (lane_at graph.now.lanes owner)) 0 }
+    ensures below { result < cycle_bound }
+{
+    match graph.frontier(owner).checked_sub(1) {
+        Some(step) => graph.cycle_of(Place { module: owner, step }).unwrap_or(0),
+        None => 0,
+    }
+}
+
+/// The latest of a clock and of those from which the blocking accesses are possible, or the number of the first access that
+/// waits.
+fn latest(graph: &Graph, fifos: &FifoTable, accesses: &[Access], clock: u64) -> Result<u64, u32>
+    requires accesses { All (IsAccess fifos.now.channels) accesses.now }
+    requires few { length accesses.now < 2 ^ 32 }
+    requires places { HasPlaces graph.now.lanes fifos.now.channels }
+    ensures none_waits { OnOk result (position (is_waiting graph.now.lanes fifos.now.channels) accesses.now ≡ None) }
+    ensures latest { IfOk result (λ cycle. cycle ≡ latest_of (clock ∷ clocks_of graph.now.lanes fifos.now.channels accesses.now)) }
+    ensures waits { IfErr result (λ i. position (is_waiting graph.now.lanes fifos.now.channels) accesses.now ≡ Some i) }
+{
+    let mut cycle = clock;
+    for (number, access) in accesses.iter().enumerate() {
+        match later(graph, fifos, access, cycle) {
+            Some(later) => cycle = later,
+            None => return Err(number as u32),
+        }
+    }
+    Ok(cycle)
+}
+
+/// The later of a clock and of the one from which the access, if it blocks, is possible. None where it waits.
+fn later(graph: &Graph, fifos: &FifoTable, access: &Access, clock: u64) -> Option<u64>
+    requires access { IsAccess fifos.now.channels access.now }
+    requires places { HasPlaces graph.now.lanes fifos.now.channels }
+    ensures waits { is_none result ≡ is_waiting graph.now.lanes fifos.now.channels access.now }
+    ensures later { IfSome result (λ later. later ≡ latest_of (clock ∷ clocks_of graph.now.lanes fifos.now.channels (access.now ∷ []))) }
+{
+    if !blocks(access.kind) {
+        return Some(clock);
+    }
+    match known_of(graph, fifos, access) {
+        Known::From(possible) => Some(clock.max(possible)),
+        Known::Never | Known::Unknown => None,
+    }
+}
+
+/// Whether an access of this kind blocks its module while it cannot be done.
+fn blocks(kind: Kind) -> bool
+    ensures { result ≡ is_blocking kind }
+{
+    match kind {
+        Kind::Read | Kind::Write => true,
+        Kind::TryRead | Kind::TryWrite | Kind::Empty | Kind::Full => false,
+    }
+}

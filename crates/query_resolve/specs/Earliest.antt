@@ -1,0 +1,17 @@
+-- The first of the least cycles.
+use Rattle.std.specs.Prelude.{◌≡◌, ℕ, ◌≤◌, List, Option, None, Some, slice_get}
+use Rattle.event_graph.specs.declared.candidate.Candidate.{Candidate}
+use Rattle.event_graph.specs.declared.candidate.Candidate.TheVariants.{At, Waits, Beyond, Nothing}
+
+-- the cycle of a candidate, where it is determined and below the limit
+abbrev pub cycle_of : Candidate → Option ℕ
+cycle_of (At cycle) = Some cycle
+cycle_of (Waits i) = None
+cycle_of Beyond = None
+cycle_of Nothing = None
+
+-- this module has this cycle; no module has a lesser one, and no module before it the same
+pub record IsEarliest (candidates : List Candidate) (m cycle : ℕ) : Type 0 where
+  pub here : slice_get candidates m ≡ Some (At cycle)
+  pub least : (n other : ℕ) → slice_get candidates n ≡ Some (At other) → cycle ≤ other
+  pub first : (n : ℕ) → slice_get candidates n ≡ Some (At cycle) → m ≤ n

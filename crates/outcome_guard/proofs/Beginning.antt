@@ -1,5 +1,5 @@
 -- What a slice begins with.
-use Rattle.std.proofs.Common.{◌≡◌, Bool, true, List, length, take, drop}
+use Rattle.std.proofs.Common.{◌≡◌, Bool, true, List, length, drop}
 use Rattle.std.proofs.Math.Bool.{beq}
 use Rattle.std.specs.List.{starts_with}
 use Rattle.std.specs.Cmp.{booleans_Decides}

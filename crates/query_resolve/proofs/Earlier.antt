@@ -1,11 +1,8 @@
 -- The first of the least cycles among the first candidates, one after the other.
-use Rattle.std.proofs.Common.{◌≡◌, refl, ℕ, ◌+◌, ◌<◌, ◌≤◌, List, length, Option, None, Some, arith, inl, inr}
-use Rattle.std.specs.Prelude.{All, slice_get}
-use Rattle.std.proofs.lemmas.Bool.{cases_lt}
-use Rattle.std.proofs.lemmas.Option.{slice_get_within}
+use Rattle.std.proofs.Common.{◌≡◌, ℕ, ◌<◌, ◌≤◌, List, Option, None, Some}
+use Rattle.std.specs.Prelude.{slice_get}
 use Rattle.event_graph.specs.declared.candidate.Candidate.{Candidate}
-use Rattle.event_graph.specs.declared.candidate.Candidate.TheVariants.{At, Waits, Beyond, Nothing}
-use Rattle.query_resolve.specs.Earliest.{cycle_of, IsEarliest}
+use Rattle.event_graph.specs.declared.candidate.Candidate.TheVariants.{At}
 
 -- of the first i candidates this one is the first of the least
 pub record IsFirst (candidates : List Candidate) (i m cycle : ℕ) : Type 0 where

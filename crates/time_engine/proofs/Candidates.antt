@@ -1,6 +1,6 @@
 -- What is said of a module's first step without a cycle.
-use Rattle.std.proofs.Common.{◌≡◌, refl, ℕ, ◌+◌, ◌-◌, ◌<◌, ◌≤◌, List, ◌∷◌, length, Option, None, Some, arith}
-use Rattle.std.specs.Prelude.{◌↔◌, position, unwrap_or, slice_get, IsSomeAnd}
+use Rattle.std.proofs.Common.{◌≡◌, refl, ℕ, ◌-◌, ◌<◌, ◌≤◌, List, ◌∷◌, length, Option, None, Some, arith}
+use Rattle.std.specs.Prelude.{◌↔◌, position, unwrap_or, IsSomeAnd}
 use Rattle.std.proofs.lemmas.Option.{slice_get_within}
 use Rattle.flow_word.specs.declared.access.Step.{Step}
 use Rattle.event_graph.specs.declared.candidate.Candidate.{Candidate}

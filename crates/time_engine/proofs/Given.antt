@@ -1,7 +1,6 @@
 -- A graph in which one step more has its cycle has the steps of before.
-use Rattle.std.proofs.Common.{◌≡◌, refl, sym, ap, ◌∙◌, subst, ℕ, ◌<◌, List, length, get_or, arith, inl, inr}
+use Rattle.std.proofs.Common.{◌≡◌, refl, ℕ, ◌<◌, List, length, inl, inr}
 use Rattle.std.specs.Prelude.{All}
-use Rattle.std.proofs.Math.ListN.{set}
 use Rattle.std.proofs.lemmas.Bool.Decides.{eqb_tells}
 use Rattle.std.proofs.lemmas.List.{length-set, get_or-set_same, get_or-set_other}
 use Rattle.std.proofs.lemmas.List.Elements.{All-set, All-weaker}
@@ -37,7 +36,7 @@ pub places_stay : (lanes : List Lane) (owner cycle : ℕ) (channels : List Chann
     → HasPlaces (with_cycle lanes owner cycle) channels
 places_stay lanes owner cycle channels inside all = record {
   pushes = All-weaker (λ (channel : Channel). All (λ (push : Push). HasStep lanes push.at) channel.pushes) (λ (channel : Channel). All (λ (push : Push). HasStep (with_cycle lanes owner cycle) push.at) channel.pushes)
-    (λ channel. All-weaker (λ (push : Push). HasStep lanes push.at) (λ (push : Push). HasStep (with_cycle lanes owner cycle) push.at) (λ push. step_stays lanes owner cycle push.at inside) channel.pushes) channels all.pushes;
+      (λ channel. All-weaker (λ (push : Push). HasStep lanes push.at) (λ (push : Push). HasStep (with_cycle lanes owner cycle) push.at) (λ push. step_stays lanes owner cycle push.at inside) channel.pushes) channels all.pushes;
   pops = All-weaker (λ (channel : Channel). All (HasStep lanes) channel.pops) (λ (channel : Channel). All (HasStep (with_cycle lanes owner cycle)) channel.pops)
-    (λ channel. All-weaker (HasStep lanes) (HasStep (with_cycle lanes owner cycle)) (λ place. step_stays lanes owner cycle place inside) channel.pops) channels all.pops;
+      (λ channel. All-weaker (HasStep lanes) (HasStep (with_cycle lanes owner cycle)) (λ place. step_stays lanes owner cycle place inside) channel.pops) channels all.pops;
 }

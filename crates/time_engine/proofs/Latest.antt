@@ -1,5 +1,5 @@
 -- The latest of clocks, one access after the other.
-use Rattle.std.proofs.Common.{◌≡◌, refl, ap, ◌∙◌, ℕ, ◌+◌, ◌<◌, ◌≤◌, max, length, get_or, take, Bool, true, false, List, [], ◌∷◌, ◌++◌, Option, None, Some, cond, arith}
+use Rattle.std.proofs.Common.{◌≡◌, refl, ap, ◌∙◌, ℕ, ◌+◌, ◌<◌, ◌≤◌, max, length, get_or, take, true, false, List, [], ◌∷◌, ◌++◌, arith}
 use Rattle.std.specs.Prelude.{filter}
 use Rattle.std.specs.List.{filter_map}
 use Rattle.std.proofs.lemmas.List.{take_more}
@@ -7,7 +7,6 @@ use Rattle.std.proofs.lemmas.List.Elements.{filter-append, filter_map-append}
 use Rattle.flow_word.specs.declared.access.Access.{Access}
 use Rattle.event_graph.specs.Lanes.{Lane}
 use Rattle.fifo_table.specs.Channels.{Channel}
-use Rattle.time_engine.specs.declared.known.Known.{Known}
 use Rattle.time_engine.specs.declared.known.Known.TheVariants.{From}
 use Rattle.time_engine.specs.Possible.{is_blocking, when_possible}
 use Rattle.time_engine.specs.Cycles.{known_clock, clocks_of, latest}

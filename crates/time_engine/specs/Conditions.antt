@@ -1,5 +1,5 @@
 -- What a graph and a table must be to each other.
-use Rattle.std.specs.Prelude.{ℕ, ◌<◌, ◌≤◌, Bool, true, false, List, length, All}
+use Rattle.std.specs.Prelude.{◌<◌, ◌≤◌, Bool, true, false, List, length, All}
 use Rattle.flow_word.specs.declared.access.Access.{Access}
 use Rattle.fifo_table.specs.declared.channel.TableChannel.{TableChannel}
 use Rattle.fifo_table.specs.Channels.{Channel, IsSource, IsSink, channel_at}

@@ -31,7 +31,10 @@ pub fn candidate(graph: &Graph, fifos: &FifoTable, owner: u32, limit: u64) -> Ca
     if first == graph.len(owner) {
         return Candidate::Nothing;
     }
-    let step = graph.step(Place { module: owner, step: first });
+    let step = graph.step(Place {
+        module: owner,
+        step: first,
+    });
     let arrival = last_cycle(graph, owner) + step.gap;
     match latest(graph, fifos, step.accesses.as_slice(), arrival) {
         Err(access) => Candidate::Waits(access),
@@ -60,7 +63,12 @@ fn last_cycle(graph: &Graph, owner: u32) -> u64
     ensures below { result < cycle_bound }
 {
     match graph.frontier(owner).checked_sub(1) {
-        Some(step) => graph.cycle_of(Place { module: owner, step }).unwrap_or(0),
+        Some(step) => graph
+            .cycle_of(Place {
+                module: owner,
+                step,
+            })
+            .unwrap_or(0),
         None => 0,
     }
 }

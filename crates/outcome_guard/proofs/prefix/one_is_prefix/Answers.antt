@@ -10,8 +10,10 @@ returns-then-starts_with c =
 pub returns-else-starts_with : goal.returns-else-starts_with
 returns-else-starts_with c =
     let long = begins c.args.a.now c.args.b.now c.starts_with.result c.starts_with.ensures.value in
-    let short = begins c.args.b.now c.args.a.now c.starts_with-else-starts_with.result c.starts_with-else-starts_with.ensures.value in
-    ((λ yes. inl (short.0 yes)), (λ one. elim one [
-      | inl a_first ↦ short.1 a_first
-      | inr b_first ↦ let yes = long.1 b_first in let no = c.if-starts_with.false in cc
-    ]))
+    let short = begins c.args.b.now c.args.a.now c.starts_with-else-starts_with.result c.starts_with-else-starts_with.ensures.value in (
+      (λ yes. inl (short.0 yes)),
+      (λ one. elim one [
+        | inl a_first ↦ short.1 a_first
+        | inr b_first ↦ let yes = long.1 b_first in let no = c.if-starts_with.false in cc
+      ]),
+    )

@@ -1,4 +1,3 @@
-use Rattle.std.proofs.Common.{refl}
 use Rattle.time_engine.proofs.Latest.{latest_none, latest_one, clocks_of_query, clocks_of_known}
 use Rattle.time_engine.proofs.timing.later.Goals as goal
 

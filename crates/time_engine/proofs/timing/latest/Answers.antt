@@ -1,4 +1,4 @@
-use Rattle.std.proofs.Common.{◌≡◌, ◌∙◌, sym, length, arith}
+use Rattle.std.proofs.Common.{◌≡◌, sym, length, arith}
 use Rattle.time_engine.specs.Cycles.{is_waiting}
 use Rattle.time_engine.proofs.First.{none_more, position_found, position_none}
 use Rattle.time_engine.proofs.Latest.{latest_none, clocks_of-none, latest_next}

@@ -110,7 +110,6 @@ fn set_to(register: Name, tree: Result<Expr<Name>, Code>) -> Result<Op<Name>, Co
 }
 
 /// An assignment to this variable.
-
 fn new_set(
     alloc: Global,
     tables: &Tables<'_>,
@@ -162,7 +161,6 @@ fn load_from(register: Name, memory: Name, tree: Result<Expr<Name>, Code>) -> Re
 }
 
 /// A load to this variable from this memory.
-
 fn new_load(
     alloc: Global,
     tables: &Tables<'_>,
@@ -211,7 +209,6 @@ fn store_to(memory: Name, trees: Result<(Expr<Name>, Expr<Name>), Code>) -> Resu
 }
 
 /// A store to this memory.
-
 fn new_store(
     alloc: Global,
     tables: &Tables<'_>,
@@ -256,7 +253,6 @@ fn written(channel: Name, tree: Result<Expr<Name>, Code>) -> Result<Op<Name>, Co
 }
 
 /// A write to this channel.
-
 fn new_write(
     alloc: Global,
     tables: &Tables<'_>,
@@ -312,7 +308,6 @@ fn tried_write(
 }
 
 /// A write to this channel where it is not full, with the outcome in this variable.
-
 fn new_try_write(
     alloc: Global,
     tables: &Tables<'_>,

@@ -7,7 +7,7 @@ ghost use Rattle.flow_grammar.specs.Tokens.{lines_of, is_line_feed};
 ghost use Rattle.flow_grammar.specs.Gives.{TextGives, TextFails, reading};
 ghost use Rattle.flow_grammar.specs.Text.{StandsFor, HasFault, IsAnswer, Answers, session_of};
 ghost use Rattle.flow_text.specs.Lines.{lines_left, bytes_left};
-ghost use Rattle.flow_text.specs.Progress.{IsOpening, IsThrough, with_front};
+ghost use Rattle.flow_text.specs.Progress.{IsKept, IsOpening, IsThrough, with_front};
 ghost use Rattle.name_tables.specs.TablesOf.{tables_of};
 
 use crate::progress::{Progress, read_line};
@@ -80,21 +80,34 @@ fn closed(
     Ok((Session { statements }, numbers))
 }
 
+/// The session of what was read, so many lines, or that it has no end.
+fn finished(progress: Progress<'_>, lines: u64) -> Result<(Session, Words), ReadFail>
+    requires { IsKept progress }
+    ensures { TextGives (λ read. (read.0.statements, read.1)) result (with_front progress.entry.statements progress.entry.numbers (reading progress.entry.statements lines [])) }
+{
+    let Progress {
+        tables,
+        statements,
+        numbers,
+    } = progress;
+    let place = tables.place;
+    // A call: a drop at the end of the block is proved field by field, which takes a hundred times as long.
+    drop(tables);
+    closed(place, statements, numbers, lines)
+}
+
 /// The lines, one after the other.
 fn read_lines(alloc: Global, text: &[u8]) -> Result<(Session, Words), ReadFail>
     ensures { TextGives (λ read. (read.0.statements, read.1)) result (reading [] 0 (lines_of text.now)) }
 {
     let mut progress = Progress::new(alloc);
     match read_on(alloc, &mut progress, text) {
-        Ok(lines) => {
-            let Progress {
-                tables,
-                statements,
-                numbers,
-            } = progress;
-            closed(tables.place, statements, numbers, lines)
+        Ok(lines) => finished(progress, lines),
+        Err(fail) => {
+            // A call, as above.
+            drop(progress);
+            Err(fail)
         }
-        Err(fail) => Err(fail),
     }
 }
 

@@ -145,7 +145,12 @@ fn whole(
             tables.add_operation();
             Ok(Statement::At(offset, guard, operation))
         }
-        Err(code) => Err(LineFail::Fault(code)),
+        Err(code) => {
+            // Calls: a drop at the end of the block is proved field by field, which takes twenty times as long.
+            drop(guard);
+            drop(operation);
+            Err(LineFail::Fault(code))
+        }
     }
 }
 

@@ -99,19 +99,30 @@ fn step<R: Abort>(
     }
 }
 
-/// The run is ended so many local clocks after its last step, and stays so. No step waits.
+/// The next mark of a run is its end, so many local clocks after its last step. No step waits.
+fn is_ended<R: Abort>(rt: &R, run: &mut ModuleRun, gap: u64) -> Result<(), Fail>
+    requires run { IsRun run.old }
+    requires fed { waits run.old ≡ false }
+    ensures run { OnOk result (IsRun run.new) }
+    ensures fed { OnOk result (waits run.new ≡ false) }
+{
+    match run.advance()? {
+        Advance::Ended(elapsed) => {
+            assert_eq!(rt; elapsed, gap);
+            assert_eq!(rt; run.waiting(), [].as_slice());
+            Ok(())
+        }
+        Advance::Step(_) | Advance::Spent(_) => panic!(rt; "not ended"),
+    }
+}
+
+/// The run is ended so many local clocks after its last step, and stays so.
 fn ends<R: Abort>(rt: &R, run: &mut ModuleRun, gap: u64) -> Result<(), Fail>
     requires run { IsRun run.old }
     requires fed { waits run.old ≡ false }
 {
-    for _ in 0..2 {
-        match run.advance()? {
-            Advance::Ended(elapsed) => assert_eq!(rt; elapsed, gap),
-            Advance::Step(_) | Advance::Spent(_) => panic!(rt; "not ended"),
-        }
-        assert_eq!(rt; run.waiting(), [].as_slice());
-    }
-    Ok(())
+    is_ended(rt, run, gap)?;
+    is_ended(rt, run, gap)
 }
 
 /// The run is spent so many local clocks after its last step.
@@ -172,17 +183,49 @@ fn write(channel: u32, ordinal: u64, value: u64) -> Access {
     }
 }
 
+/// The next step has a read of the first channel alone, which gets this value.
+fn read<R: Abort>(
+    rt: &R,
+    run: &mut ModuleRun,
+    gap: u64,
+    ordinal: u64,
+    value: u64,
+) -> Result<(), Fail>
+    requires run { IsRun run.old }
+    requires fed { waits run.old ≡ false }
+    ensures run { OnOk result (IsRun run.new) }
+    ensures fed { OnOk result (waits run.new ≡ false) }
+{
+    step(
+        rt,
+        run,
+        gap,
+        0,
+        &[access(Kind::Read, 0, ordinal)],
+        &[Reply::Value(value)],
+    )
+}
+
+/// The next step has this write alone, behind so many queries.
+fn writes<R: Abort>(
+    rt: &R,
+    run: &mut ModuleRun,
+    gap: u64,
+    first_query: u64,
+    access: Access,
+) -> Result<(), Fail>
+    requires run { IsRun run.old }
+    requires fed { waits run.old ≡ false }
+    ensures run { OnOk result (IsRun run.new) }
+    ensures fed { OnOk result (waits run.new ≡ false) }
+{
+    step(rt, run, gap, first_query, &[access], &[Reply::Done])
+}
+
 #[test]
 fn a_long_block_is_jumped_over(rt: HostRuntime) -> Result<(), Fail> {
     let mut run = first_run(&rt, LONG_BLOCK)?;
-    step(
-        &rt,
-        &mut run,
-        999999999999,
-        0,
-        &[write(0, 1, 1)],
-        &[Reply::Done],
-    )?;
+    writes(&rt, &mut run, 999999999999, 0, write(0, 1, 1))?;
     ends(&rt, &mut run, 1)
 }
 
@@ -191,22 +234,8 @@ fn the_older_iteration_commits_first(rt: HostRuntime) -> Result<(), Fail> {
     let mut run = first_run(&rt, LATER_STALL)?;
     let empty = access(Kind::Empty, 1, 1);
     let no = Reply::Flag(false);
-    step(
-        &rt,
-        &mut run,
-        0,
-        0,
-        &[access(Kind::Read, 0, 1)],
-        &[Reply::Value(1)],
-    )?;
-    step(
-        &rt,
-        &mut run,
-        1,
-        0,
-        &[access(Kind::Read, 0, 2)],
-        &[Reply::Value(2)],
-    )?;
+    read(&rt, &mut run, 0, 1, 1)?;
+    read(&rt, &mut run, 1, 2, 2)?;
     step(&rt, &mut run, 1, 0, &[empty], &[no])?;
     step(
         &rt,
@@ -216,7 +245,7 @@ fn the_older_iteration_commits_first(rt: HostRuntime) -> Result<(), Fail> {
         &[write(2, 1, 0), empty],
         &[Reply::Done, no],
     )?;
-    step(&rt, &mut run, 1, 2, &[write(2, 2, 0)], &[Reply::Done])?;
+    writes(&rt, &mut run, 1, 2, write(2, 2, 0))?;
     ends(&rt, &mut run, 1)
 }
 
@@ -233,28 +262,58 @@ fn a_polling_loop_is_spent(rt: HostRuntime) -> Result<(), Fail> {
 #[test]
 fn iterations_in_turn(rt: HostRuntime) -> Result<(), Fail> {
     let mut run = first_run(&rt, ITERATIONS_IN_TURN)?;
-    step(&rt, &mut run, 2, 0, &[write(0, 1, 1)], &[Reply::Done])?;
-    step(&rt, &mut run, 3, 0, &[write(0, 2, 2)], &[Reply::Done])?;
+    writes(&rt, &mut run, 2, 0, write(0, 1, 1))?;
+    writes(&rt, &mut run, 3, 0, write(0, 2, 2))?;
     ends(&rt, &mut run, 1)
 }
 
-/// The iterations before the first one is 63 local clocks old: each writes its number.
-fn first_iterations<R: Abort>(rt: &R, run: &mut ModuleRun) -> Result<(), Fail>
+/// The local clocks before the first iteration is 63 local clocks old: the newest iteration writes its number.
+fn young_iterations<R: Abort>(rt: &R, run: &mut ModuleRun) -> Result<(), Fail>
     requires run { IsRun run.old }
     requires fed { waits run.old ≡ false }
     ensures run { OnOk result (IsRun run.new) }
     ensures fed { OnOk result (waits run.new ≡ false) }
 {
-    step(rt, run, 0, 0, &[write(0, 1, 0)], &[Reply::Done])?;
-    for number in 1..63 {
+    for number in 0..63 {
+        let gap = number.min(1);
+        let newest = write(0, number + 1, number);
+        writes(rt, run, gap, 0, newest)?;
+    }
+    Ok(())
+}
+
+/// The local clocks in which the oldest iteration is 63 local clocks old, and the newest one begins.
+fn all_iterations<R: Abort>(rt: &R, run: &mut ModuleRun) -> Result<(), Fail>
+    requires run { IsRun run.old }
+    requires fed { waits run.old ≡ false }
+    ensures run { OnOk result (IsRun run.new) }
+    ensures fed { OnOk result (waits run.new ≡ false) }
+{
+    for number in 0..2 {
+        let oldest = write(1, number + 1, number + 62);
+        let newest = write(0, number + 64, number + 63);
         step(
             rt,
             run,
             1,
             0,
-            &[write(0, number + 1, number)],
-            &[Reply::Done],
+            &[oldest, newest],
+            &[Reply::Done, Reply::Done],
         )?;
+    }
+    Ok(())
+}
+
+/// The local clocks in which the oldest iteration is 63 local clocks old, and no further one begins.
+fn old_iterations<R: Abort>(rt: &R, run: &mut ModuleRun) -> Result<(), Fail>
+    requires run { IsRun run.old }
+    requires fed { waits run.old ≡ false }
+    ensures run { OnOk result (IsRun run.new) }
+    ensures fed { OnOk result (waits run.new ≡ false) }
+{
+    for number in 2..65 {
+        let oldest = write(1, number + 1, number + 62);
+        writes(rt, run, 1, 0, oldest)?;
     }
     Ok(())
 }
@@ -262,47 +321,18 @@ fn first_iterations<R: Abort>(rt: &R, run: &mut ModuleRun) -> Result<(), Fail>
 #[test]
 fn most_live_iterations(rt: HostRuntime) -> Result<(), Fail> {
     let mut run = first_run(&rt, MOST_ITERATIONS)?;
-    first_iterations(&rt, &mut run)?;
-    for number in 0..2 {
-        step(
-            &rt,
-            &mut run,
-            1,
-            0,
-            &[
-                write(1, number + 1, number + 62),
-                write(0, number + 64, number + 63),
-            ],
-            &[Reply::Done, Reply::Done],
-        )?;
-    }
-    for number in 2..65 {
-        step(
-            &rt,
-            &mut run,
-            1,
-            0,
-            &[write(1, number + 1, number + 62)],
-            &[Reply::Done],
-        )?;
-    }
+    young_iterations(&rt, &mut run)?;
+    all_iterations(&rt, &mut run)?;
+    old_iterations(&rt, &mut run)?;
     ends(&rt, &mut run, 1)
 }
 
 #[test]
 fn guards_of_their_own(rt: HostRuntime) -> Result<(), Fail> {
     let mut run = first_run(&rt, GUARDS_OF_THEIR_OWN)?;
-    for (ordinal, value) in [(1, 10), (2, 20), (3, 30)] {
-        let gap = (ordinal > 1) as u64;
-        step(
-            &rt,
-            &mut run,
-            gap,
-            0,
-            &[access(Kind::Read, 0, ordinal)],
-            &[Reply::Value(value)],
-        )?;
-    }
+    read(&rt, &mut run, 0, 1, 10)?;
+    read(&rt, &mut run, 1, 2, 20)?;
+    read(&rt, &mut run, 1, 3, 30)?;
     step(
         &rt,
         &mut run,
@@ -311,37 +341,23 @@ fn guards_of_their_own(rt: HostRuntime) -> Result<(), Fail> {
         &[write(1, 1, 20), access(Kind::Read, 0, 4)],
         &[Reply::Done, Reply::Value(40)],
     )?;
-    step(&rt, &mut run, 2, 0, &[write(1, 2, 40)], &[Reply::Done])?;
+    writes(&rt, &mut run, 2, 0, write(1, 2, 40))?;
     ends(&rt, &mut run, 1)
 }
 
 #[test]
 fn addresses_past_the_end(rt: HostRuntime) -> Result<(), Fail> {
     let mut run = first_run(&rt, ADDRESSES_PAST_THE_END)?;
-    step(&rt, &mut run, 2, 0, &[write(0, 1, 44)], &[Reply::Done])?;
-    step(&rt, &mut run, 1, 0, &[write(0, 2, 0)], &[Reply::Done])?;
+    writes(&rt, &mut run, 2, 0, write(0, 1, 44))?;
+    writes(&rt, &mut run, 1, 0, write(0, 2, 0))?;
     ends(&rt, &mut run, 1)
 }
 
 #[test]
 fn decided_at_the_end(rt: HostRuntime) -> Result<(), Fail> {
     let mut run = first_run(&rt, DECIDED_AT_THE_END)?;
-    step(
-        &rt,
-        &mut run,
-        1,
-        0,
-        &[access(Kind::Read, 0, 1)],
-        &[Reply::Value(3)],
-    )?;
-    step(
-        &rt,
-        &mut run,
-        2,
-        0,
-        &[access(Kind::Read, 0, 2)],
-        &[Reply::Value(0)],
-    )?;
-    step(&rt, &mut run, 1, 0, &[write(1, 1, 5)], &[Reply::Done])?;
+    read(&rt, &mut run, 1, 1, 3)?;
+    read(&rt, &mut run, 2, 2, 0)?;
+    writes(&rt, &mut run, 1, 0, write(1, 1, 5))?;
     ends(&rt, &mut run, 1)
 }

@@ -222,49 +222,74 @@ fn writes<R: Abort>(
     step(rt, run, gap, first_query, &[access], &[Reply::Done])
 }
 
+/// It jumps to the one operation.
+fn jumps_over_a_long_block<R: Abort>(rt: &R, run: &mut ModuleRun) -> Result<(), Fail>
+    requires run { IsRun run.old }
+    requires fed { waits run.old ≡ false }
+{
+    writes(rt, run, 999999999999, 0, write(0, 1, 1))?;
+    ends(rt, run, 1)
+}
+
 #[test]
 fn a_long_block_is_jumped_over(rt: HostRuntime) -> Result<(), Fail> {
     let mut run = first_run(&rt, LONG_BLOCK)?;
-    writes(&rt, &mut run, 999999999999, 0, write(0, 1, 1))?;
-    ends(&rt, &mut run, 1)
+    jumps_over_a_long_block(&rt, &mut run)
+}
+
+/// In the fourth step the older iteration's write comes first.
+fn commits_the_older_first<R: Abort>(rt: &R, run: &mut ModuleRun) -> Result<(), Fail>
+    requires run { IsRun run.old }
+    requires fed { waits run.old ≡ false }
+{
+    let empty = access(Kind::Empty, 1, 1);
+    let no = Reply::Flag(false);
+    read(rt, run, 0, 1, 1)?;
+    read(rt, run, 1, 2, 2)?;
+    step(rt, run, 1, 0, &[empty], &[no])?;
+    step(rt, run, 1, 1, &[write(2, 1, 0), empty], &[Reply::Done, no])?;
+    writes(rt, run, 1, 2, write(2, 2, 0))?;
+    ends(rt, run, 1)
 }
 
 #[test]
 fn the_older_iteration_commits_first(rt: HostRuntime) -> Result<(), Fail> {
     let mut run = first_run(&rt, LATER_STALL)?;
-    let empty = access(Kind::Empty, 1, 1);
-    let no = Reply::Flag(false);
-    read(&rt, &mut run, 0, 1, 1)?;
-    read(&rt, &mut run, 1, 2, 2)?;
-    step(&rt, &mut run, 1, 0, &[empty], &[no])?;
-    step(
-        &rt,
-        &mut run,
-        1,
-        1,
-        &[write(2, 1, 0), empty],
-        &[Reply::Done, no],
-    )?;
-    writes(&rt, &mut run, 1, 2, write(2, 2, 0))?;
-    ends(&rt, &mut run, 1)
+    commits_the_older_first(&rt, &mut run)
+}
+
+/// Each try counts three operations and iterations, so three tries use up the limit of 10.
+fn polls<R: Abort>(rt: &R, run: &mut ModuleRun) -> Result<(), Fail>
+    requires run { IsRun run.old }
+    requires fed { waits run.old ≡ false }
+{
+    let tries = access(Kind::TryRead, 0, 1);
+    step(rt, run, 0, 0, &[tries], &[Reply::Missed])?;
+    step(rt, run, 1, 1, &[tries], &[Reply::Missed])?;
+    step(rt, run, 1, 2, &[tries], &[Reply::Missed])?;
+    is_spent(rt, run, 1)
 }
 
 #[test]
 fn a_polling_loop_is_spent(rt: HostRuntime) -> Result<(), Fail> {
     let mut run = first_run(&rt, POLLING_LOOP)?;
-    let tries = access(Kind::TryRead, 0, 1);
-    step(&rt, &mut run, 0, 0, &[tries], &[Reply::Missed])?;
-    step(&rt, &mut run, 1, 1, &[tries], &[Reply::Missed])?;
-    step(&rt, &mut run, 1, 2, &[tries], &[Reply::Missed])?;
-    is_spent(&rt, &mut run, 1)
+    polls(&rt, &mut run)
+}
+
+/// Each iteration begins where the one before it ends.
+fn iterates_in_turn<R: Abort>(rt: &R, run: &mut ModuleRun) -> Result<(), Fail>
+    requires run { IsRun run.old }
+    requires fed { waits run.old ≡ false }
+{
+    writes(rt, run, 2, 0, write(0, 1, 1))?;
+    writes(rt, run, 3, 0, write(0, 2, 2))?;
+    ends(rt, run, 1)
 }
 
 #[test]
 fn iterations_in_turn(rt: HostRuntime) -> Result<(), Fail> {
     let mut run = first_run(&rt, ITERATIONS_IN_TURN)?;
-    writes(&rt, &mut run, 2, 0, write(0, 1, 1))?;
-    writes(&rt, &mut run, 3, 0, write(0, 2, 2))?;
-    ends(&rt, &mut run, 1)
+    iterates_in_turn(&rt, &mut run)
 }
 
 /// The local clocks before the first iteration is 63 local clocks old: the newest iteration writes its number.
@@ -318,46 +343,78 @@ fn old_iterations<R: Abort>(rt: &R, run: &mut ModuleRun) -> Result<(), Fail>
     Ok(())
 }
 
-#[test]
-fn most_live_iterations(rt: HostRuntime) -> Result<(), Fail> {
-    let mut run = first_run(&rt, MOST_ITERATIONS)?;
-    young_iterations(&rt, &mut run)?;
-    all_iterations(&rt, &mut run)?;
-    old_iterations(&rt, &mut run)?;
-    ends(&rt, &mut run, 1)
+/// One iteration begins in each of 65 local clocks, and ends 64 later.
+fn iterates_most<R: Abort>(rt: &R, run: &mut ModuleRun) -> Result<(), Fail>
+    requires run { IsRun run.old }
+    requires fed { waits run.old ≡ false }
+{
+    young_iterations(rt, run)?;
+    all_iterations(rt, run)?;
+    old_iterations(rt, run)?;
+    ends(rt, run, 1)
 }
 
 #[test]
-fn guards_of_their_own(rt: HostRuntime) -> Result<(), Fail> {
-    let mut run = first_run(&rt, GUARDS_OF_THEIR_OWN)?;
-    read(&rt, &mut run, 0, 1, 10)?;
-    read(&rt, &mut run, 1, 2, 20)?;
-    read(&rt, &mut run, 1, 3, 30)?;
+fn most_live_iterations(rt: HostRuntime) -> Result<(), Fail> {
+    let mut run = first_run(&rt, MOST_ITERATIONS)?;
+    iterates_most(&rt, &mut run)
+}
+
+/// The second and the fourth iteration write what they have read.
+fn guards_by_temps<R: Abort>(rt: &R, run: &mut ModuleRun) -> Result<(), Fail>
+    requires run { IsRun run.old }
+    requires fed { waits run.old ≡ false }
+{
+    read(rt, run, 0, 1, 10)?;
+    read(rt, run, 1, 2, 20)?;
+    read(rt, run, 1, 3, 30)?;
     step(
-        &rt,
-        &mut run,
+        rt,
+        run,
         1,
         0,
         &[write(1, 1, 20), access(Kind::Read, 0, 4)],
         &[Reply::Done, Reply::Value(40)],
     )?;
-    writes(&rt, &mut run, 2, 0, write(1, 2, 40))?;
-    ends(&rt, &mut run, 1)
+    writes(rt, run, 2, 0, write(1, 2, 40))?;
+    ends(rt, run, 1)
+}
+
+#[test]
+fn guards_of_their_own(rt: HostRuntime) -> Result<(), Fail> {
+    let mut run = first_run(&rt, GUARDS_OF_THEIR_OWN)?;
+    guards_by_temps(&rt, &mut run)
+}
+
+/// An address counts modulo the memory's length, and 300 is cut to 44.
+fn wraps_addresses<R: Abort>(rt: &R, run: &mut ModuleRun) -> Result<(), Fail>
+    requires run { IsRun run.old }
+    requires fed { waits run.old ≡ false }
+{
+    writes(rt, run, 2, 0, write(0, 1, 44))?;
+    writes(rt, run, 1, 0, write(0, 2, 0))?;
+    ends(rt, run, 1)
 }
 
 #[test]
 fn addresses_past_the_end(rt: HostRuntime) -> Result<(), Fail> {
     let mut run = first_run(&rt, ADDRESSES_PAST_THE_END)?;
-    writes(&rt, &mut run, 2, 0, write(0, 1, 44))?;
-    writes(&rt, &mut run, 1, 0, write(0, 2, 0))?;
-    ends(&rt, &mut run, 1)
+    wraps_addresses(&rt, &mut run)
+}
+
+/// The block behind the loop begins in the local clock of the decision.
+fn decides_at_the_end<R: Abort>(rt: &R, run: &mut ModuleRun) -> Result<(), Fail>
+    requires run { IsRun run.old }
+    requires fed { waits run.old ≡ false }
+{
+    read(rt, run, 1, 1, 3)?;
+    read(rt, run, 2, 2, 0)?;
+    writes(rt, run, 1, 0, write(1, 1, 5))?;
+    ends(rt, run, 1)
 }
 
 #[test]
 fn decided_at_the_end(rt: HostRuntime) -> Result<(), Fail> {
     let mut run = first_run(&rt, DECIDED_AT_THE_END)?;
-    read(&rt, &mut run, 1, 1, 3)?;
-    read(&rt, &mut run, 2, 2, 0)?;
-    writes(&rt, &mut run, 1, 0, write(1, 1, 5))?;
-    ends(&rt, &mut run, 1)
+    decides_at_the_end(&rt, &mut run)
 }

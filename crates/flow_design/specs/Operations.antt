@@ -1,5 +1,10 @@
--- What an operation names: registers and temps, expressions, a channel, a memory, and the end of the channel at which it stands.
-use Rattle.std.specs.Prelude.{ℕ, Bool, true, false, List, [], ◌∷◌, Option, Some, None}
+-- What an operation names: registers and temps, expressions, a memory, and the port of a channel at which it stands.
+use Rattle.std.specs.Prelude.{ℕ, if◌then◌else◌, List, [], ◌∷◌, Option, Some, None, option_and_then}
+use Rattle.std.specs.Option.{option_map}
+use Rattle.flow_word.specs.declared.access.Kind.{Kind}
+use Rattle.flow_word.specs.declared.access.Kind.TheVariants as kind
+use Rattle.flow_word.specs.declared.access.Port.{Port}
+use Rattle.flow_word.specs.Kinds.{side_of, is_taking}
 use Rattle.flow_design.specs.declared.expr.Expr.{Expr}
 use Rattle.flow_design.specs.declared.expr.Op.{Op}
 use Rattle.flow_design.specs.declared.expr.Op.TheVariants.{Set, Load, Store, Read, Write, TryRead, TryWrite, Empty, Full}
@@ -40,30 +45,30 @@ memory_of (TryWrite f ok e) = None
 memory_of (Empty f x) = None
 memory_of (Full f x) = None
 
--- an end of a channel: its popping side (true) or its pushing side (false), and the channel
-abbrev pub End : Type 0
-End = Bool × ℕ
+-- the kind of a FIFO operation, and its channel; none of an operation that is no FIFO operation
+abbrev pub access_of : Op ℕ → Option (Kind × ℕ)
+access_of (Set x e) = None
+access_of (Load x n e) = None
+access_of (Store n e a) = None
+access_of (Read f x) = Some (kind.Read, f)
+access_of (Write f e) = Some (kind.Write, f)
+access_of (TryRead f x ok) = Some (kind.TryRead, f)
+access_of (TryWrite f ok e) = Some (kind.TryWrite, f)
+access_of (Empty f x) = Some (kind.Empty, f)
+access_of (Full f x) = Some (kind.Full, f)
 
--- the end at which it stands: `read`, `tryread` and `empty` at the popping end, `write`, `trywrite` and `full` at the pushing end
-abbrev pub end_of : Op ℕ → Option End
-end_of (Set x e) = None
-end_of (Load x n e) = None
-end_of (Store n e a) = None
-end_of (Read f x) = Some (true, f)
-end_of (Write f e) = Some (false, f)
-end_of (TryRead f x ok) = Some (true, f)
-end_of (TryWrite f ok e) = Some (false, f)
-end_of (Empty f x) = Some (true, f)
-end_of (Full f x) = Some (false, f)
+-- the port of an access of this kind
+abbrev pub port : Kind → ℕ → Port
+port k f = record { side = side_of k; channel = f }
 
--- the end at which it pops or pushes, for which `read`, `tryread`, `write` and `trywrite` alone count
-abbrev pub used_end : Op ℕ → Option End
-used_end (Set x e) = None
-used_end (Load x n e) = None
-used_end (Store n e a) = None
-used_end (Read f x) = Some (true, f)
-used_end (Write f e) = Some (false, f)
-used_end (TryRead f x ok) = Some (true, f)
-used_end (TryWrite f ok e) = Some (false, f)
-used_end (Empty f x) = None
-used_end (Full f x) = None
+-- the port at which an access of this kind pops or pushes; none of one that only tests
+abbrev pub taken_port : Kind → ℕ → Option Port
+taken_port k f = if is_taking k then Some (port k f) else None
+
+-- the port at which an operation stands: `read`, `tryread` and `empty` at the popping side, `write`, `trywrite` and `full` at the pushing side
+abbrev pub port_of : Op ℕ → Option Port
+port_of op = option_map (λ a. port a.0 a.1) (access_of op)
+
+-- the port at which it pops or pushes, for which `read`, `tryread`, `write` and `trywrite` alone count
+abbrev pub used_port : Op ℕ → Option Port
+used_port op = option_and_then (λ a. taken_port a.0 a.1) (access_of op)

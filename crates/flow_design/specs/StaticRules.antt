@@ -1,6 +1,11 @@
 -- Which plans the engine takes: those that keep the static rules and the limits of the language.
-use Rattle.std.specs.Prelude.{◌≡◌, ℕ, ◌+◌, ◌*◌, ◌%◌, ◌^◌, nat_eq, ◌<◌, ◌≤◌, Bool, true, false, IsTrue, List, [], length, slice_index, slice_index_or, sum_by, count_by, All, AllPairs, Option, Some, None, IfSome}
+use Rattle.std.specs.Prelude.{◌≡◌, ℕ, ◌+◌, ◌*◌, ◌%◌, nat_eq, ◌<◌, ◌≤◌, Bool, false, ◌&&◌, IsTrue, List, [], length, slice_index, slice_index_or, sum_by, count_by, All, AllPairs, Option, None, Some, IfSome}
 use Rattle.std.specs.List.{list_any}
+use Rattle.flow_word.specs.declared.access.Port.{Port}
+use Rattle.flow_word.specs.declared.access.Side.{Side}
+use Rattle.flow_word.specs.declared.access.Side.TheVariants.{Pop, Push}
+use Rattle.flow_word.specs.Kinds.{same_side}
+use Rattle.flow_design.specs.declared.limits.TheConstants.{MODULES, CHANNELS, REGISTERS, TEMPS, MEMORIES, MEMORY_WORDS, BLOCKS, OPERATIONS, LIVE_ITERATIONS, BLOCK_CLOCKS, EXPRESSION_NODES, EXPRESSION_DEPTH, INPUT_VALUES, FIFO_DEPTH, FIFO_DELAY, CYCLES, COUNTED_OPERATIONS}
 use Rattle.flow_design.specs.declared.expr.Expr.{Expr}
 use Rattle.flow_design.specs.declared.expr.Op.{Op}
 use Rattle.flow_design.specs.declared.design.BlockKind.{BlockKind}
@@ -17,49 +22,46 @@ use Rattle.flow_design.specs.declared.plan.Plan.{Plan}
 use Rattle.flow_design.specs.Words.{reach, nodes, depth}
 use Rattle.flow_design.specs.Module.{interval}
 use Rattle.flow_design.specs.Names.{is_name}
-use Rattle.flow_design.specs.Operations.{places_of, expressions_of, memory_of, End, end_of, used_end}
+use Rattle.flow_design.specs.Operations.{places_of, expressions_of, memory_of, port_of, used_port}
 use Rattle.flow_design.specs.Plans.{no_channel, kind_at}
 
--- ---- ends
+-- ---- ports
 
-abbrev pub same_end : End → End → Bool
-same_end (true, f) (true, g) = nat_eq f g
-same_end (false, f) (false, g) = nat_eq f g
-same_end (true, f) (false, g) = false
-same_end (false, f) (true, g) = false
+abbrev pub same_port : Port → Port → Bool
+same_port a b = same_side a.side b.side && nat_eq a.channel b.channel
 
-abbrev pub is_end : End → Option End → Bool
-is_end e None = false
-is_end e (Some other) = same_end e other
+abbrev pub is_port : Port → Option Port → Bool
+is_port a None = false
+is_port a (Some b) = same_port a b
 
 -- some operation of the module pops (or pushes) the channel
-abbrev pub uses : End → Module → Bool
-uses e m = list_any (λ b. list_any (λ t. is_end e (used_end t.op)) b.ops) m.blocks
+abbrev pub uses : Port → Module → Bool
+uses a m = list_any (λ b. list_any (λ t. is_port a (used_port t.op)) b.ops) m.blocks
 
--- how many modules pop (true) or push (false) a channel of a kind
-abbrev pub users_wanted : ChannelKind → Bool → ℕ
-users_wanted Source true = 1
-users_wanted Source false = 0
-users_wanted Sink true = 0
-users_wanted Sink false = 1
-users_wanted (Fifo d) side = 1
+-- how many modules pop or push a channel of a kind
+abbrev pub users_wanted : ChannelKind → Side → ℕ
+users_wanted Source Pop = 1
+users_wanted Source Push = 0
+users_wanted Sink Pop = 0
+users_wanted Sink Push = 1
+users_wanted (Fifo depth delay) side = 1
 
 -- ---- operations
 
 -- an expression over so many registers and temps
 pub record IsExpressionSound (places : ℕ) (e : Expr ℕ) : Type 0 where
   pub variables : reach e ≤ places
-  pub size : nodes e ≤ 256
-  pub height : depth e ≤ 32
+  pub size : nodes e ≤ EXPRESSION_NODES
+  pub height : depth e ≤ EXPRESSION_DEPTH
 
 -- an operation of a body with these temps
 pub record IsOperationSound (channels : ℕ) (m : Module) (temps : ℕ) (op : Op ℕ) : Type 0 where
   pub places : All (λ x. x < length m.registers + temps) (places_of op)
   pub expressions : All (IsExpressionSound (length m.registers + temps)) (expressions_of op)
   pub memory : IfSome (memory_of op) (λ n. n < length m.memories)
-  pub channel : IfSome (end_of op) (λ e. e.1 < channels)
+  pub channel : IfSome (port_of op) (λ a. a.channel < channels)
   -- `empty` stands in the channel's reader, and `full` in its writer
-  pub side : IfSome (end_of op) (λ e. IsTrue (uses e m))
+  pub side : IfSome (port_of op) (λ a. IsTrue (uses a m))
 
 -- a scheduled operation of a body
 pub record IsTimedSound (channels : ℕ) (m : Module) (b : Block) (t : Timed) : Type 0 where
@@ -73,7 +75,7 @@ pub record IsTimedSound (channels : ℕ) (m : Module) (b : Block) (t : Timed) : 
 pub record IsLoopSound (registers len ii again : ℕ) : Type 0 where
   pub interval : 1 ≤ ii
   pub least : ii ≤ len
-  pub most : len ≤ 64 * ii
+  pub most : len ≤ LIVE_ITERATIONS * ii
   pub register : again < registers
 
 abbrev pub IsKindSound : ℕ → ℕ → BlockKind → Type 0
@@ -87,59 +89,59 @@ IsNextSound registers blocks Stop = Unit {0}
 
 -- port clash: two pops, or two pushes, of one channel at offsets equal modulo the interval
 pub record Clashes (interval : ℕ) (t u : Timed) : Type 0 where
-  pub end : End
-  pub first : used_end t.op ≡ Some end
-  pub second : used_end u.op ≡ Some end
+  pub port : Port
+  pub first : used_port t.op ≡ Some port
+  pub second : used_port u.op ≡ Some port
   pub offsets : t.offset % interval ≡ u.offset % interval
 
 pub record IsBlockSound (channels : ℕ) (m : Module) (b : Block) : Type 0 where
   pub least : 1 ≤ b.len
-  pub most : b.len ≤ 1000000000000
+  pub most : b.len ≤ BLOCK_CLOCKS
   pub kind : IsKindSound (length m.registers) b.len b.kind
-  pub temps : length b.temps ≤ 64
-  pub count : length b.ops ≤ 1024
+  pub temps : length b.temps ≤ TEMPS
+  pub count : length b.ops ≤ OPERATIONS
   pub operations : All (IsTimedSound channels m b) b.ops
   pub apart : AllPairs (λ t u. ¬ Clashes (interval b) t u) b.ops
   pub next : IsNextSound (length m.registers) (length m.blocks) b.next
 
 pub record IsMemorySound (memory : Memory) : Type 0 where
   pub least : 1 ≤ memory.len
-  pub most : memory.len ≤ 4096
+  pub most : memory.len ≤ MEMORY_WORDS
 
 pub record IsModuleSound (channels : ℕ) (m : Module) : Type 0 where
   pub name : IsTrue (is_name m.name)
-  pub registers : length m.registers ≤ 256
-  pub memories : length m.memories ≤ 16
+  pub registers : length m.registers ≤ REGISTERS
+  pub memories : length m.memories ≤ MEMORIES
   pub words : All IsMemorySound m.memories
   pub some : 1 ≤ length m.blocks
-  pub count : length m.blocks ≤ 256
+  pub count : length m.blocks ≤ BLOCKS
   pub blocks : All (IsBlockSound channels m) m.blocks
 
 -- ---- channels and plans
 
--- the entries of a channel: a source alone has inputs, and a FIFO alone has a depth
+-- the entries of a channel: a source alone has inputs, and a FIFO alone has a depth; a FIFO's delay is within its limits
 abbrev pub AreEntriesSound : ChannelKind → List ℕ → ℕ → Type 0
 AreEntriesSound Source inputs depth = depth ≡ 0
 AreEntriesSound Sink inputs depth = (inputs ≡ []) × (depth ≡ 0)
-AreEntriesSound (Fifo d) inputs depth = (inputs ≡ []) × (1 ≤ depth) × (depth ≤ 1000000)
+AreEntriesSound (Fifo declared delay) inputs depth = (inputs ≡ []) × (1 ≤ depth) × (depth ≤ FIFO_DEPTH) × (1 ≤ delay) × (delay ≤ FIFO_DELAY)
 
 -- channel number f of a plan
 pub record IsChannelSound (plan : Plan) (f : ℕ) : Type 0 where
   pub name : IsTrue (is_name (slice_index_or plan.design.channels f no_channel).name)
-  pub popping : count_by (uses (true, f)) plan.design.modules ≡ users_wanted (kind_at plan f) true
-  pub pushing : count_by (uses (false, f)) plan.design.modules ≡ users_wanted (kind_at plan f) false
+  pub popping : count_by (uses (record { side = Pop; channel = f })) plan.design.modules ≡ users_wanted (kind_at plan f) Pop
+  pub pushing : count_by (uses (record { side = Push; channel = f })) plan.design.modules ≡ users_wanted (kind_at plan f) Push
   pub entries : AreEntriesSound (kind_at plan f) (slice_index_or plan.inputs f []) (slice_index plan.depths f)
 
 -- the plan keeps the static rules and the limits
 pub record FitsEngine (plan : Plan) : Type 0 where
-  pub channel_count : length plan.design.channels ≤ 256
-  pub module_count : length plan.design.modules ≤ 64
+  pub channel_count : length plan.design.channels ≤ CHANNELS
+  pub module_count : length plan.design.modules ≤ MODULES
   pub inputs : length plan.inputs ≡ length plan.design.channels
   pub depths : length plan.depths ≡ length plan.design.channels
-  pub input_count : sum_by length plan.inputs ≤ 100000
+  pub input_count : sum_by length plan.inputs ≤ INPUT_VALUES
   pub channels : (f : ℕ) → f < length plan.design.channels → IsChannelSound plan f
   pub modules : All (IsModuleSound (length plan.design.channels)) plan.design.modules
   pub some_cycles : 1 ≤ plan.cycles
-  pub cycles : plan.cycles ≤ 10 ^ 15
+  pub cycles : plan.cycles ≤ CYCLES
   pub some_operations : 1 ≤ plan.ops
-  pub operations : plan.ops ≤ 200000
+  pub operations : plan.ops ≤ COUNTED_OPERATIONS

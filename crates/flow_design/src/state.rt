@@ -27,12 +27,20 @@ pub struct ModuleState {
     pub ended: bool,
 }
 
+/// An element that a channel holds.
+#[derive(Clone, Copy, Debug, PartialEq, Eq)]
+pub struct Element {
+    pub value: u64,
+    /// The first clock in which it can be popped: 0 for an input value.
+    pub since: u64,
+}
+
 /// The state of all modules and channels at one clock.
 #[derive(Drop)]
 pub struct ClockState {
     pub modules: List<ModuleState>,
     /// What each channel holds, the front first.
-    pub contents: List<Queue<u64>>,
+    pub contents: List<Queue<Element>>,
 }
 
 /// A due FIFO operation: what a module asks of a channel in a clock.

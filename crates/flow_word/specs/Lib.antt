@@ -1,4 +1,5 @@
 pub mod formers
+pub mod Kinds
 pub mod Lends
 pub mod Number
 pub mod Room

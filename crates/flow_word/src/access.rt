@@ -1,5 +1,25 @@
-//! FIFO accesses, and the steps that they make up.
+//! FIFO accesses, the ports at which they stand, and the steps that they make up.
+ghost use Rattle.std.specs.Prelude.{◌≡◌};
+ghost use Rattle.flow_word.specs.Kinds.{other_side, side_of, is_blocking, is_taking};
+
 use crate::accesses::Accesses;
+
+/// The side of a channel at which an access stands.
+#[derive(Clone, Copy, Debug, PartialEq, Eq, Hash)]
+pub enum Side {
+    /// Elements leave here.
+    Pop,
+    /// Elements come in here.
+    Push,
+}
+
+/// One side of one channel. In a plan that keeps the static rules one module at most stands at a port.
+#[derive(Clone, Copy, Debug, PartialEq, Eq, Hash)]
+pub struct Port {
+    pub side: Side,
+    /// The number of the channel.
+    pub channel: u32,
+}
 
 /// What an access does to its channel.
 ///
@@ -14,6 +34,50 @@ pub enum Kind {
     TryWrite,
     Empty,
     Full,
+}
+
+impl Side {
+    /// The other side of the channel.
+    pub fn other(self) -> Side
+        ensures { result ≡ other_side self }
+    {
+        match self {
+            Side::Pop => Side::Push,
+            Side::Push => Side::Pop,
+        }
+    }
+}
+
+impl Kind {
+    /// The side of its channel at which the access stands.
+    pub fn side(self) -> Side
+        ensures { result ≡ side_of self }
+    {
+        match self {
+            Kind::Read | Kind::TryRead | Kind::Empty => Side::Pop,
+            Kind::Write | Kind::TryWrite | Kind::Full => Side::Push,
+        }
+    }
+
+    /// Whether the access keeps its module still while it cannot be done. The others are the queries.
+    pub fn is_blocking(self) -> bool
+        ensures { result ≡ is_blocking self }
+    {
+        match self {
+            Kind::Read | Kind::Write => true,
+            Kind::TryRead | Kind::TryWrite | Kind::Empty | Kind::Full => false,
+        }
+    }
+
+    /// Whether the access pops or pushes an element where it is done. The others only test.
+    pub fn takes(self) -> bool
+        ensures { result ≡ is_taking self }
+    {
+        match self {
+            Kind::Read | Kind::Write | Kind::TryRead | Kind::TryWrite => true,
+            Kind::Empty | Kind::Full => false,
+        }
+    }
 }
 
 /// One access of a channel by a module.

@@ -13,7 +13,7 @@ mod roomy;
 mod steps;
 mod width;
 
-pub use access::{Access, Kind, Place, Step};
+pub use access::{Access, Kind, Place, Port, Side, Step};
 pub use accesses::Accesses;
 pub use boxed::Boxed;
 pub use copying::TryCopy;

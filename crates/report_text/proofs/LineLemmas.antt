@@ -1,5 +1,5 @@
 -- Lines and numbers one after another.
-use Rattle.std.proofs.Common.{◌≡◌, ℕ, ◌+◌, ◌<◌, List, [], ◌∷◌, ◌++◌, length, map, take, get_or, ap, sym, append-nil, arith}
+use Rattle.std.proofs.Common.{◌≡◌, ℕ, ◌+◌, ◌<◌, List, [], ◌∷◌, ◌++◌, length, map, take, get_or, ap, sym, ◌≤◌, ◌∙◌, append-nil, length-take, take-take, arith}
 use Rattle.std.proofs.lemmas.Grind.{common_steps}
 use Rattle.std.specs.Fmt.{decimal}
 use Rattle.std.specs.List.{join_with_byte}
@@ -24,7 +24,8 @@ join_numbers token [] = sym (append-nil token)
 join_numbers token (x ∷ xs) = ap (λ t. token ++ 32 ∷ t) (join_numbers (decimal x) xs)
 
 -- a line of a word, a token and numbers
-pub numbers_line : (text word token : List ℕ) (xs : List ℕ) → (((text ++ word) ++ 32 ∷ token) ++ spaced xs) ++ 10 ∷ [] ≡ text ++ line (word ∷ token ∷ map decimal xs)
+pub numbers_line : (text word token : List ℕ) (xs : List ℕ)
+    → (((text ++ word) ++ 32 ∷ token) ++ spaced xs) ++ 10 ∷ [] ≡ text ++ line (word ∷ token ∷ map decimal xs)
 numbers_line text word token xs = rw (join_numbers token xs) (grind (arith, common_steps))
 
 -- a line of a word and numbers
@@ -35,14 +36,23 @@ word_line text word xs = rw (join_numbers word xs) (grind (arith, common_steps))
 pub still_starts : (new old more : List ℕ) → StartsWith new (old ++ more) → StartsWith new old
 still_starts new old more h = grind (arith, common_steps, take-append_seam old more)
 
+-- what begins with a text begins with what that began with
+pub begins_through : (new text old : List ℕ) → StartsWith new text → StartsWith text old → StartsWith new old
+begins_through new text old h g =
+    let shorter : length old ≤ length text = omega (arith, ap length g, length-take (length old) text) in
+    sym (take-take (length old) (length text) new shorter) ∙ (ap (λ t. take (length old) t) h ∙ g)
+
 -- a line of four tokens
 pub line_of_four : (text a b c d : List ℕ) → ((((text ++ a) ++ 32 ∷ b) ++ 32 ∷ c) ++ 32 ∷ d) ++ 10 ∷ [] ≡ text ++ line (a ∷ b ∷ c ∷ d ∷ [])
 line_of_four text a b c d = grind (arith, common_steps)
 
 -- a line of five tokens
-pub line_of_five : (text a b c d e : List ℕ) → (((((text ++ a) ++ 32 ∷ b) ++ 32 ∷ c) ++ 32 ∷ d) ++ 32 ∷ e) ++ 10 ∷ [] ≡ text ++ line (a ∷ b ∷ c ∷ d ∷ e ∷ [])
+pub line_of_five : (text a b c d e : List ℕ)
+    → (((((text ++ a) ++ 32 ∷ b) ++ 32 ∷ c) ++ 32 ∷ d) ++ 32 ∷ e) ++ 10 ∷ [] ≡ text ++ line (a ∷ b ∷ c ∷ d ∷ e ∷ [])
 line_of_five text a b c d e = grind (arith, common_steps)
 
--- two lines and three groups of lines
-pub all_parts : (a b : List Token) (xs ys zs : List (List Token)) → ((((([] ++ line a) ++ line b) ++ text_of_lines xs) ++ text_of_lines ys) ++ text_of_lines zs) ≡ text_of_lines (a ∷ b ∷ xs ++ ys ++ zs)
-all_parts a b xs ys zs = grind (arith, common_steps)
+-- behind a text, two lines and three groups of lines
+pub all_parts : (text : List ℕ) (a b : List Token) (xs ys zs : List (List Token))
+    → ((((text ++ line a) ++ line b) ++ text_of_lines xs) ++ text_of_lines ys) ++ text_of_lines zs
+    ≡ text ++ text_of_lines (a ∷ b ∷ xs ++ ys ++ zs)
+all_parts text a b xs ys zs = grind (arith, common_steps)

@@ -1,5 +1,7 @@
 -- The lines of the outputs, channel after channel.
-use Rattle.std.proofs.Common.{◌≡◌, ℕ, ◌+◌, ◌<◌, true, false, List, ◌∷◌, ◌++◌, length, drop, get_or, append_assoc, add-one, suc, arith}
+use Rattle.std.proofs.Common.{◌≡◌, ℕ, ◌+◌, ◌<◌, ◌≤◌, ◌∙◌, ap, true, false, List, ◌∷◌, ◌++◌, length, drop, get_or, append_assoc, add-one, suc, length-take, arith}
+use Rattle.std.specs.Io.{StartsWith}
+use Rattle.std.proofs.lemmas.List.{take-append-le}
 use Rattle.std.proofs.Math.Seq.{drop-cons}
 use Rattle.flow_design.specs.declared.design.Channel.{Channel}
 use Rattle.report_text.specs.Lines.{line, text_of_lines}
@@ -10,9 +12,17 @@ use Rattle.report_text.specs.ReportText.{sink_names, output_lines, output_tokens
 pub record IsPrinting (first text : List ℕ) (channels : List Channel) (outputs : List (List ℕ)) (i at : ℕ) : Type 0 where
   pub printed : text ++ text_of_lines (output_lines (drop i channels) (drop at outputs)) ≡ first ++ text_of_lines (output_lines channels outputs)
   pub left : at + length (sink_names (drop i channels)) ≡ length outputs
+  pub begins : StartsWith text first
+
+-- a text that grows still begins with what it began with
+grown : (first text more : List ℕ) → StartsWith text first → StartsWith (text ++ more) first
+grown first text more h =
+    let shorter : length first ≤ length text = omega (arith, ap length h, length-take (length first) text) in
+    take-append-le (length first) text more shorter ∙ h
 
 -- a channel that is no sink
-passed : (c : Channel) (cs : List Channel) (os : List (List ℕ)) → is_sink c.kind ≡ false → text_of_lines (output_lines (c ∷ cs) os) ≡ text_of_lines (output_lines cs os)
+passed : (c : Channel) (cs : List Channel) (os : List (List ℕ)) → is_sink c.kind ≡ false
+    → text_of_lines (output_lines (c ∷ cs) os) ≡ text_of_lines (output_lines cs os)
 passed c cs os e = rw e
 
 -- a sink and its output
@@ -27,26 +37,31 @@ not_counted : (c : Channel) (cs : List Channel) → is_sink c.kind ≡ false →
 not_counted c cs e = rw e
 
 -- the channels from a place on
-from_place : (channels : List Channel) (i : ℕ) (c : Channel) → i < length channels → c ≡ get_or channels i c → drop i channels ≡ c ∷ drop (i + 1) channels
+from_place : (channels : List Channel) (i : ℕ) (c : Channel) → i < length channels → c ≡ get_or channels i c
+    → drop i channels ≡ c ∷ drop (i + 1) channels
 from_place channels i c h e = rw (add-one, drop-cons channels i c h) (rw (← e))
 
 -- a sink still has its output
-pub has_output : (first text : List ℕ) (channels : List Channel) (outputs : List (List ℕ)) (i at : ℕ) (c : Channel) → i < length channels → c ≡ get_or channels i c
+pub has_output : (first text : List ℕ) (channels : List Channel) (outputs : List (List ℕ)) (i at : ℕ) (c : Channel)
+    → i < length channels → c ≡ get_or channels i c
     → is_sink c.kind ≡ true → IsPrinting first text channels outputs i at → at < length outputs
 has_output first text channels outputs i at c h e s p =
     let n = rw (from_place channels i c h e, counted c (drop (i + 1) channels) s) at p.left in
     omega (arith, n)
 
 -- past a channel that is no sink
-pub passed_more : (first text : List ℕ) (channels : List Channel) (outputs : List (List ℕ)) (i at : ℕ) (c : Channel) → i < length channels → c ≡ get_or channels i c
+pub passed_more : (first text : List ℕ) (channels : List Channel) (outputs : List (List ℕ)) (i at : ℕ) (c : Channel)
+    → i < length channels → c ≡ get_or channels i c
     → is_sink c.kind ≡ false → IsPrinting first text channels outputs i at → IsPrinting first text channels outputs (i + 1) at
 passed_more first text channels outputs i at c h e s p = record {
   printed = rw (from_place channels i c h e, passed c (drop (i + 1) channels) (drop at outputs) s) at p.printed;
   left = rw (from_place channels i c h e, not_counted c (drop (i + 1) channels) s) at p.left;
+  begins = p.begins;
 }
 
 -- past a sink whose line is printed
-pub printed_more : (first text : List ℕ) (channels : List Channel) (outputs : List (List ℕ)) (i at : ℕ) (c : Channel) (o : List ℕ) → i < length channels → c ≡ get_or channels i c
+pub printed_more : (first text : List ℕ) (channels : List Channel) (outputs : List (List ℕ)) (i at : ℕ) (c : Channel) (o : List ℕ)
+    → i < length channels → c ≡ get_or channels i c
     → is_sink c.kind ≡ true → at < length outputs → o ≡ get_or outputs at o → IsPrinting first text channels outputs i at
     → IsPrinting first (text ++ line (output_tokens (c.name, o))) channels outputs (i + 1) (at + 1)
 printed_more first text channels outputs i at c o h e s g f p = record {
@@ -57,4 +72,5 @@ printed_more first text channels outputs i at c o h e s g f p = record {
   left =
       let n = rw (from_place channels i c h e, counted c (drop (i + 1) channels) s) at p.left in
       omega (arith, n);
+  begins = grown first text (line (output_tokens (c.name, o))) p.begins;
 }

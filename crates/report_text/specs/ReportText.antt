@@ -36,7 +36,8 @@ output_tokens output = codes "out" ∷ output.0 ∷ map decimal output.1
 
 -- `held MODULE empty CHANNEL` or `held MODULE full CHANNEL`
 abbrev pub held_tokens : Design → Held → List Token
-held_tokens design h = codes "held" ∷ module_name design h.module ∷ (if h.full then codes "full" else codes "empty") ∷ channel_name design h.channel ∷ []
+held_tokens design h =
+    codes "held" ∷ module_name design h.module ∷ (if h.full then codes "full" else codes "empty") ∷ channel_name design h.channel ∷ []
 
 abbrev pub kind_token : Kind → Token
 kind_token Read = codes "read"
@@ -48,7 +49,8 @@ kind_token Full = codes "full"
 
 -- `event MODULE KIND CHANNEL CYCLE`
 abbrev pub event_tokens : Design → EventLine → List Token
-event_tokens design e = codes "event" ∷ module_name design e.module ∷ kind_token e.kind ∷ channel_name design e.channel ∷ decimal e.cycle ∷ []
+event_tokens design e =
+    codes "event" ∷ module_name design e.module ∷ kind_token e.kind ∷ channel_name design e.channel ∷ decimal e.cycle ∷ []
 
 -- the verdicts with held modules
 abbrev pub tells_held : Verdict → Bool

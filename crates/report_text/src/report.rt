@@ -1,5 +1,6 @@
 //! The text of a report.
-ghost use Rattle.std.specs.Prelude.{◌≡◌, ◌<◌, ◌++◌, length, map, true, All, IfOk, OnOk};
+ghost use Rattle.std.specs.Prelude.{◌≡◌, ◌<◌, ◌++◌, length, map, true, All, OnOk, OnErr};
+ghost use Rattle.std.specs.Io.{StartsWith};
 ghost use Rattle.report_text.specs.Lines.{line, text_of_lines};
 ghost use Rattle.report_text.specs.ReportText.{IsReportOf, report_text_of, sink_names, output_tokens, output_lines, held_lines, held_tokens, event_lines, event_tokens, tells_held};
 ghost use Rattle.flow_design.specs.Plans.{is_sink};
@@ -8,32 +9,27 @@ use crate::lines::{print_numbers, print_verdict, push_token, push_value, push_va
 use crate::names::{channel_name, kind_word, module_name};
 use flow_design::{Channel, ChannelKind, Design, EventLine, Held, Report, Verdict};
 use flow_word::{List, OutOfMemory, Words};
-use std::alloc::Global;
 
-/// The text of the report with this number, with its events if asked. The report is one of this design: its module and
-/// channel numbers are the design's, and it has one output per sink.
-#[tactic(auto, using(crate::proofs::LineLemmas::all_parts), unfolding(crate::specs::ReportText::report_text_of))]
+/// Adds the text of the report with this number, with its events if asked. The report is one of this design: its module
+/// and channel numbers are the design's, and it has one output per sink. After want of memory a part of it may stand behind the
+/// text of before.
+#[tactic(auto, using(crate::proofs::LineLemmas::all_parts, crate::proofs::LineLemmas::still_starts), unfolding(crate::specs::ReportText::report_text_of))]
 pub fn print_report(
-    alloc: Global,
+    text: &mut List<u8>,
     design: &Design,
     report: &Report,
     number: u64,
     events: bool,
-) -> Result<List<u8>, OutOfMemory>
+) -> Result<(), OutOfMemory>
     requires { IsReportOf design.now report.now }
-    ensures { IfOk result (λ text. text ≡ report_text_of design.now report.now number events) }
+    ensures ok { OnOk result (text.new ≡ text.old ++ report_text_of design.now report.now number events) }
+    ensures err { OnErr result (StartsWith text.new text.old) }
 {
-    let mut text = List::new(alloc);
-    print_numbers(&mut text, b"report", &[number])?;
-    print_verdict(&mut text, report.verdict)?;
-    print_outputs(
-        &mut text,
-        design.channels.as_slice(),
-        report.outputs.as_slice(),
-    )?;
-    print_all_held(&mut text, design, report.verdict, report.held.as_slice())?;
-    print_events(&mut text, design, events, report.events.as_slice())?;
-    Ok(text)
+    print_numbers(text, b"report", &[number])?;
+    print_verdict(text, report.verdict)?;
+    print_outputs(text, design.channels.as_slice(), report.outputs.as_slice())?;
+    print_all_held(text, design, report.verdict, report.held.as_slice())?;
+    print_events(text, design, events, report.events.as_slice())
 }
 
 /// Whether held modules are told of.
@@ -51,14 +47,15 @@ fn is_sink(kind: ChannelKind) -> bool
 }
 
 /// Adds a line for each sink.
-#[tactic(auto, using(crate::proofs::OutputLemmas::has_output, crate::proofs::OutputLemmas::passed_more, crate::proofs::OutputLemmas::printed_more))]
+#[tactic(auto, using(crate::proofs::OutputLemmas::has_output, crate::proofs::OutputLemmas::passed_more, crate::proofs::OutputLemmas::printed_more, crate::proofs::LineLemmas::still_starts))]
 fn print_outputs(
     text: &mut List<u8>,
     channels: &[Channel],
     outputs: &[Words],
 ) -> Result<(), OutOfMemory>
     requires { length outputs.now ≡ length (sink_names channels.now) }
-    ensures { OnOk result (text.new ≡ text.old ++ text_of_lines (output_lines channels.now outputs.now)) }
+    ensures ok { OnOk result (text.new ≡ text.old ++ text_of_lines (output_lines channels.now outputs.now)) }
+    ensures err { OnErr result (StartsWith text.new text.old) }
 {
     let mut at = 0;
     for channel in channels {
@@ -71,9 +68,10 @@ fn print_outputs(
 }
 
 /// Adds the line of one sink.
-#[tactic(auto, using(crate::proofs::LineLemmas::numbers_line))]
+#[tactic(auto, using(crate::proofs::LineLemmas::numbers_line, crate::proofs::LineLemmas::still_starts))]
 fn print_output(text: &mut List<u8>, name: &[u8], values: &[u64]) -> Result<(), OutOfMemory>
-    ensures { OnOk result (text.new ≡ text.old ++ line (output_tokens (name.now, values.now))) }
+    ensures ok { OnOk result (text.new ≡ text.old ++ line (output_tokens (name.now, values.now))) }
+    ensures err { OnErr result (StartsWith text.new text.old) }
 {
     text.extend_from_slice(b"out")?;
     push_token(text, name)?;
@@ -82,7 +80,7 @@ fn print_output(text: &mut List<u8>, name: &[u8], values: &[u64]) -> Result<(), 
 }
 
 /// Adds a line for each held module, where the verdict has any.
-#[tactic(auto, using(crate::proofs::LineLemmas::lines_more))]
+#[tactic(auto, using(crate::proofs::LineLemmas::lines_more, crate::proofs::LineLemmas::still_starts))]
 fn print_all_held(
     text: &mut List<u8>,
     design: &Design,
@@ -90,7 +88,8 @@ fn print_all_held(
     held: &[Held],
 ) -> Result<(), OutOfMemory>
     requires { All (λ h. (h.module < length design.now.modules) × (h.channel < length design.now.channels)) held.now }
-    ensures { OnOk result (text.new ≡ text.old ++ text_of_lines (held_lines design.now verdict held.now)) }
+    ensures ok { OnOk result (text.new ≡ text.old ++ text_of_lines (held_lines design.now verdict held.now)) }
+    ensures err { OnErr result (StartsWith text.new text.old) }
 {
     if !tells_held(verdict) {
         return Ok(());
@@ -102,11 +101,12 @@ fn print_all_held(
 }
 
 /// Adds the line of one held module.
-#[tactic(auto, using(crate::proofs::LineLemmas::line_of_four))]
+#[tactic(auto, using(crate::proofs::LineLemmas::line_of_four, crate::proofs::LineLemmas::still_starts))]
 fn print_held(text: &mut List<u8>, design: &Design, held: &Held) -> Result<(), OutOfMemory>
     requires module { held.now.module < length design.now.modules }
     requires channel { held.now.channel < length design.now.channels }
-    ensures { OnOk result (text.new ≡ text.old ++ line (held_tokens design.now held.now)) }
+    ensures ok { OnOk result (text.new ≡ text.old ++ line (held_tokens design.now held.now)) }
+    ensures err { OnErr result (StartsWith text.new text.old) }
 {
     text.extend_from_slice(b"held")?;
     push_token(text, module_name(design, held.module))?;
@@ -116,7 +116,7 @@ fn print_held(text: &mut List<u8>, design: &Design, held: &Held) -> Result<(), O
 }
 
 /// Adds a line for each event, if they are asked for.
-#[tactic(auto, using(crate::proofs::LineLemmas::lines_more))]
+#[tactic(auto, using(crate::proofs::LineLemmas::lines_more, crate::proofs::LineLemmas::still_starts))]
 fn print_events(
     text: &mut List<u8>,
     design: &Design,
@@ -124,7 +124,8 @@ fn print_events(
     events: &[EventLine],
 ) -> Result<(), OutOfMemory>
     requires { All (λ e. (e.module < length design.now.modules) × (e.channel < length design.now.channels)) events.now }
-    ensures { OnOk result (text.new ≡ text.old ++ text_of_lines (event_lines design.now asked events.now)) }
+    ensures ok { OnOk result (text.new ≡ text.old ++ text_of_lines (event_lines design.now asked events.now)) }
+    ensures err { OnErr result (StartsWith text.new text.old) }
 {
     if !asked {
         return Ok(());
@@ -136,11 +137,12 @@ fn print_events(
 }
 
 /// Adds the line of one event.
-#[tactic(auto, using(crate::proofs::LineLemmas::line_of_five))]
+#[tactic(auto, using(crate::proofs::LineLemmas::line_of_five, crate::proofs::LineLemmas::still_starts))]
 fn print_event(text: &mut List<u8>, design: &Design, event: &EventLine) -> Result<(), OutOfMemory>
     requires module { event.now.module < length design.now.modules }
     requires channel { event.now.channel < length design.now.channels }
-    ensures { OnOk result (text.new ≡ text.old ++ line (event_tokens design.now event.now)) }
+    ensures ok { OnOk result (text.new ≡ text.old ++ line (event_tokens design.now event.now)) }
+    ensures err { OnErr result (StartsWith text.new text.old) }
 {
     text.extend_from_slice(b"event")?;
     push_token(text, module_name(design, event.module))?;

@@ -35,7 +35,7 @@ fn design(alloc: Global) -> Result<Design, OutOfMemory>
 {
     let mut channels = List::new(alloc);
     channels.push(channel(alloc, b"squares", ChannelKind::Sink)?)?;
-    channels.push(channel(alloc, b"queue", ChannelKind::Fifo(2))?)?;
+    channels.push(channel(alloc, b"queue", ChannelKind::Fifo(2, 1))?)?;
     channels.push(channel(alloc, b"given", ChannelKind::Source)?)?;
     channels.push(channel(alloc, b"rest", ChannelKind::Sink)?)?;
     let mut modules = List::new(alloc);
@@ -65,7 +65,8 @@ fn prints_a_report_that_is_done(rt: HostRuntime) -> Result<(), Fail> {
         events,
         answers: List::new(alloc),
     };
-    let mut text = print_report(alloc, &design, &report, 0, false)?;
+    let mut text = List::new(alloc);
+    print_report(&mut text, &design, &report, 0, false)?;
     print_runs(&mut text, 1)?;
     let want =
         b"report 0\nverdict done 12\nout squares 0 10 18446744073709551615\nout rest\nruns 1\n";
@@ -124,7 +125,8 @@ fn prints_a_deadlock_with_events(rt: HostRuntime) -> Result<(), Fail> {
         events: events(alloc)?,
         answers: List::new(alloc),
     };
-    let text = print_report(alloc, &design, &report, 1, true)?;
+    let mut text = List::new(alloc);
+    print_report(&mut text, &design, &report, 1, true)?;
     let want =
         b"report 1\nverdict deadlock 11\nout squares\nout rest 7\nheld maker full queue\nheld taker empty given\nevent maker trywrite queue 2\nevent taker empty given 2\nevent maker full queue 3\nevent taker tryread given 3\nevent taker read queue 4\nevent taker write rest 10\n";
     assert_eq!(rt; text.as_slice(), want.as_slice());

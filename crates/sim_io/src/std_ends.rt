@@ -104,8 +104,29 @@ impl<W: Write> Sink for StdSink<W> {
 #[cfg(test)]
 mod tests {
     use super::*;
-    use crate::{PutFault, read_all, write_all_of};
+    use crate::{PutFault, TakeFault, read_all, write_all_of};
+    use std::io;
     use std::test::Fail;
+
+    /// A line that has broken off: nothing comes from it, it takes nothing, and it cannot be flushed.
+    #[derive(Drop)]
+    struct Broken;
+
+    impl Read for Broken {
+        fn read(&mut self, _: &mut [u8]) -> io::Result<usize> {
+            Err(io::Error::from(io::ErrorKind::ConnectionReset))
+        }
+    }
+
+    impl Write for Broken {
+        fn write(&mut self, _: &[u8]) -> io::Result<usize> {
+            Err(io::Error::from(io::ErrorKind::ConnectionReset))
+        }
+
+        fn flush(&mut self) -> io::Result<()> {
+            Err(io::Error::from(io::ErrorKind::ConnectionReset))
+        }
+    }
 
     #[test]
     fn reads_what_a_reader_gives(rt: HostRuntime) -> Result<(), Fail> {
@@ -124,5 +145,17 @@ mod tests {
         assert_eq!(rt; write_all_of(&mut sink, b"!!!"), Err(PutFault::WriteFault));
         assert_eq!(rt; &room, b"a text!!");
         Ok(())
+    }
+
+    #[test]
+    fn a_line_that_has_broken_off_is_a_fault(rt: HostRuntime) {
+        let read = read_all(rt.alloc(), &mut StdSource::new(Broken), 6);
+        assert!(rt; read.is_err_and(|fault| fault == TakeFault::ReadFault));
+        let mut sink = StdSink::new(Broken);
+        assert_eq!(rt;
+            write_all_of(&mut sink, b"a text"),
+            Err(PutFault::WriteFault)
+        );
+        assert_eq!(rt; sink.finish(), Err(Failed));
     }
 }

@@ -67,6 +67,6 @@ pub record ShowsEach {E : Type 0} (bearer : E → Option ℕ) (v : View E) (rest
   pub others : (k : ℕ) (w : View E) → slice_get rest k ≡ Some w → ShowsPass bearer log w
   pub unborn : (n : ℕ) → v.made < n → n < v.passes → entries_of bearer n log ≡ []
 
--- each pass that the first made, in the order of their numbers
-abbrev pub InOrder : {E : Type 0} → List (View E) → Type 0
-InOrder {E} ws = (k : ℕ) (w : View E) → slice_get ws k ≡ Some w → w.number ≡ k + 1
+-- each pass that the first made stands somewhere among these, in whatever order
+abbrev pub AreAllMade : {E : Type 0} → View E → List (View E) → Type 0
+AreAllMade {E} v ws = (n : ℕ) → 0 < n → n ≤ v.made → (k : ℕ) × (w : View E) × (slice_get ws k ≡ Some w) × (w.number ≡ n)

@@ -1,5 +1,7 @@
 //! The laws, for any design `d` over states of any type `S`, and any history `h` of it.
 ghost use Rattle.std.specs.Prelude.{◌≡◌, ℕ, suc, ◌+◌, ◌-◌, ◌*◌, ◌<◌, ◌≤◌, min, ◌++◌, ◌⊎◌, Bool, true, false, Some, List, length};
+ghost use Rattle.flow_word.specs.declared.access.Side.{Side};
+ghost use Rattle.flow_word.specs.declared.access.Side.TheVariants.{Pop, Push};
 ghost use Rattle.event_timing.specs.Machines.{Design, IsDesign, Access, Reply, HoldsLists, Each};
 ghost use Rattle.event_timing.specs.Histories.{Trace, IsHistory, moves, is_possible};
 ghost use Rattle.event_timing.specs.Contents.{trace};
@@ -30,7 +32,7 @@ pub fn every_order_agrees<S>()
 pub fn found_by_counts<S>()
     ensures cycle { (d : Design S) (h : Trace S) → IsDesign d → IsHistory d h → (limit : ℕ) (x : Core S) → IsAgreed d h limit x
         → (m c : ℕ) → candidate d (view d x) m ≡ Some c → IsStepAt d h m (x.timed m) c }
-    ensures enabler { (accesses : ℕ → List Access) (replies : ℕ → List Reply) (side : Bool) (ch n i k : ℕ) → k < n
+    ensures enabler { (accesses : ℕ → List Access) (replies : ℕ → List Reply) (side : Side) (ch n i k : ℕ) → k < n
         → tally accesses replies side ch k ≤ i → i < tally accesses replies side ch (suc k) → place accesses replies side ch n i ≡ Some k }
     ensures answered { (d : Design S) (h : Trace S) → IsDesign d → IsHistory d h → (limit : ℕ) (x : Core S) → IsAgreed d h limit x
         → (m c : ℕ) → MayAnswer d limit x m c → new_flags d x m c ≡ possible_all d h c (core_accesses d x m (x.timed m)) }
@@ -64,26 +66,26 @@ pub fn final_reports<S>()
     ensures before_stop { (d : Design S) (h : Trace S) → IsDesign d → IsHistory d h → (limit : ℕ) (x : Core S) → IsAgreed d h limit x
         → (m k : ℕ) → k < x.timed m → x.cycle m k < stop d x m }
     ensures outputs { (d : Design S) (h : Trace S) → IsDesign d → IsHistory d h → (limit : ℕ) (x : Core S) → IsAgreed d h limit x
-        → (ch c : ℕ) → done d h (d.owner false ch) c ≡ x.timed (d.owner false ch)
-        → h.pushed c ch ≡ d.inputs ch ++ pushed_in ch (core_accesses d x (d.owner false ch)) (λ k. bare_replies (x.flags (d.owner false ch) k)) (x.timed (d.owner false ch)) }
+        → (ch c : ℕ) → done d h (d.owner Push ch) c ≡ x.timed (d.owner Push ch)
+        → h.pushed c ch ≡ d.inputs ch ++ pushed_in ch (core_accesses d x (d.owner Push ch)) (λ k. bare_replies (x.flags (d.owner Push ch) k)) (x.timed (d.owner Push ch)) }
     ensures held { (d : Design S) (h : Trace S) → IsDesign d → IsHistory d h → (limit : ℕ) (x : Core S) → IsAgreed d h limit x
         → IsFinal d limit x → IsUndetermined d x → (m c : ℕ) → x.timed m < x.emitted m → stop d x m ≤ c
         → (h.state c m ≡ x.state m (x.timed m))
-        × Each (λ a. is_possible d h c a.pops a.channel ≡ answer (known_of d (view d x) m a) c) (core_accesses d x m (x.timed m)) }
+        × Each (λ a. is_possible d h c a.side a.channel ≡ answer (known_of d (view d x) m a) c) (core_accesses d x m (x.timed m)) }
 {}
 
 /// The first touched clock is the least in which the FIFO holds as many elements as the lesser of both depths, by a final core's
 /// cycles. Up to it, and up to the limit where there is none, it holds fewer; and at the limit no cycle is forgotten.
 pub fn first_touched<S>()
     ensures below { (d : Design S) (h : Trace S) → IsDesign d → IsHistory d h → (limit : ℕ) (x : Core S) → IsAgreed d h limit x → IsFinal d limit x
-        → (fifo depth t : ℕ) → t ≤ limit → 0 < d.start false fifo → 0 < depth
-        → ((c : ℕ) → c < t → held_by_cycles d x fifo c ≡ min (d.start false fifo) depth → ⊥) → IsUntouchedByCycles d x fifo depth t }
+        → (fifo depth t : ℕ) → t ≤ limit → 0 < d.start Push fifo → 0 < depth
+        → ((c : ℕ) → c < t → held_by_cycles d x fifo c ≡ min (d.start Push fifo) depth → ⊥) → IsUntouchedByCycles d x fifo depth t }
     ensures none { (d : Design S) (h : Trace S) (limit : ℕ) (x : Core S) → IsAgreed d h limit x → (m : ℕ) → kept (x.cycle m) limit (x.timed m) ≡ x.timed m }
 {}
 
 /// A final core that is cut back to the cycles below the first touched clock agrees with the edited design. `g` is a history of that one.
 pub fn edited_cores<S>()
-    ensures { (d : Design S) (h : Trace S) → IsDesign d → IsHistory d h → ((ch : ℕ) → d.lag false ch ≡ 1) → (limit : ℕ) (x : Core S) → IsAgreed d h limit x
+    ensures { (d : Design S) (h : Trace S) → IsDesign d → IsHistory d h → ((ch : ℕ) → d.lag Push ch ≡ 1) → (limit : ℕ) (x : Core S) → IsAgreed d h limit x
         → IsFinal d limit x → (fifo depth t : ℕ) → t ≤ limit → IsUntouchedByCycles d x fifo depth t
         → (g : Trace S) → IsHistory (edited d fifo depth) g → IsAgreed (edited d fifo depth) g limit (after_edit d x t) }
 {}
@@ -93,7 +95,7 @@ pub fn edited_cores<S>()
 pub fn cycles_given<S>()
     ensures given { (d : Design S) (limit : ℕ) (x : Core S) (actions : List Action) (y : Core S) → ActsAll d limit x actions y
         → (m : ℕ) → assigns m actions + x.timed m ≡ y.timed m }
-    ensures edited { (d : Design S) (h : Trace S) → IsDesign d → IsHistory d h → ((ch : ℕ) → d.lag false ch ≡ 1) → (limit : ℕ) (x : Core S) → IsAgreed d h limit x
+    ensures edited { (d : Design S) (h : Trace S) → IsDesign d → IsHistory d h → ((ch : ℕ) → d.lag Push ch ≡ 1) → (limit : ℕ) (x : Core S) → IsAgreed d h limit x
         → IsFinal d limit x → (fifo depth t : ℕ) → t ≤ limit → IsUntouchedByCycles d x fifo depth t → (g : Trace S) → IsHistory (edited d fifo depth) g
         → (actions : List Action) (y : Core S) → ActsAll (edited d fifo depth) limit (after_edit d x t) actions y → (m : ℕ)
         → assigns m actions ≤ (x.emitted m - x.timed m) + (x.timed m - kept (x.cycle m) t (x.timed m)) + (y.emitted m - x.emitted m) }

@@ -7,9 +7,9 @@ use Rattle.event_timing.specs.Machines.{Design, IsDesign, Access, Reply, is_some
 use Rattle.event_timing.specs.Histories.{Trace, IsHistory, replies, reply_to, moves, is_possible, can_all}
 use Rattle.event_timing.specs.Steps.{steps, done}
 use Rattle.event_timing.specs.Views.{own}
-use Rattle.event_timing.specs.Core.{Core, core_accesses, has_query}
+use Rattle.event_timing.specs.Core.{Core, core_accesses, core_reply, has_query}
 use Rattle.event_timing.specs.Agreement.{AreOwnMarks, IsTimed, IsAgreed}
-use Rattle.event_timing.specs.Edits.{edited, IsUntouched, kept, after_edit}
+use Rattle.event_timing.specs.Edits.{edited, IsUntouched, kept, kept_cycle, after_edit}
 use Rattle.event_timing.proofs.Steps.{done_more, done_less, done_same}
 use Rattle.event_timing.proofs.OwnRuns.{done_0}
 use Rattle.event_timing.proofs.Fronts.{IsDone}
@@ -161,7 +161,7 @@ edit_kept : {S : Type 0} → (d : Design S) (h : Trace S) (limit : ℕ) (x : Cor
     → x.cycle m k < t
 edit_kept {S} d h limit x u t m k l = kept_below (x.cycle m) t (x.timed m) (λ j k p q. cycles_rise d h limit x u m j k p q) k l
 
-edit_marks : {S : Type 0} → (d : Design S) (x : Core S) (fifo depth t : ℕ) → AreOwnMarks d x → AreOwnMarks (edited d fifo depth) (after_edit d x t)
+pub edit_marks : {S : Type 0} → (d : Design S) (x : Core S) (fifo depth t : ℕ) → AreOwnMarks d x → AreOwnMarks (edited d fifo depth) (after_edit d x t)
 unfolding own
 edit_marks {S} d x fifo depth t b =
     record {
@@ -197,18 +197,21 @@ edit_design {S} d fifo depth i =
       outside = i.outside;
     }
 
+kept_same : (cycle : ℕ → ℕ) (t n k : ℕ) → k < kept cycle t n → kept_cycle cycle t n k ≡ cycle k
+kept_same cycle t n k l = cond-true {A = ℕ} (ltb k (kept cycle t n)) (cycle k) 0 (lt-ltb k (kept cycle t n) l)
+
 edit_done : {S : Type 0} → (d : Design S) (h g : Trace S) → IsDesign d → IsHistory d h → (fifo depth t : ℕ) → IsHistory (edited d fifo depth) g
     → ((ch : ℕ) → d.lag Push ch ≡ 1) → IsUntouched d h fifo depth t → (limit : ℕ) (x : Core S) → IsTimed d h limit x
     → IsDone (edited d fifo depth) g (after_edit d x t)
 edit_done {S} d h g i y fifo depth t z one u limit x v =
     record {
       within = λ m. omega (arith, kept_le (x.cycle m) t (x.timed m), v.within m);
-      steps_then = λ m k l. steps_alike d h g i y fifo depth t z one u (x.cycle m k) (edit_kept d h limit x v t m k l) m ∙ v.steps_then m k (omega (arith, kept_le (x.cycle m) t (x.timed m)));
-      done_then = λ m k l. let q = edit_kept d h limit x v t m k l in done_alike d h g i y fifo depth t z one u m (x.cycle m k) (omega arith) ∙ v.done_then m k (omega (arith, kept_le (x.cycle m) t (x.timed m)));
-      reply_then = λ m k l.
+      steps_then = λ m k l. subst (λ (c : ℕ). steps (edited d fifo depth) g c m ≡ true) (sym (kept_same (x.cycle m) t (x.timed m) k l)) (steps_alike d h g i y fifo depth t z one u (x.cycle m k) (edit_kept d h limit x v t m k l) m ∙ v.steps_then m k (omega (arith, kept_le (x.cycle m) t (x.timed m))));
+      done_then = λ m k l. subst (λ (c : ℕ). done (edited d fifo depth) g m c ≡ k) (sym (kept_same (x.cycle m) t (x.timed m) k l)) (let q = edit_kept d h limit x v t m k l in done_alike d h g i y fifo depth t z one u m (x.cycle m k) (omega arith) ∙ v.done_then m k (omega (arith, kept_le (x.cycle m) t (x.timed m))));
+      reply_then = λ m k l. subst (λ (c : ℕ). core_reply d x m k ≡ replies (edited d fifo depth) g c m) (sym (kept_same (x.cycle m) t (x.timed m) k l)) (
           let q = edit_kept d h limit x v t m k l in
           let a = alike d h g i y fifo depth t z one u (x.cycle m k) (omega arith) in
-          v.reply_then m k (omega (arith, kept_le (x.cycle m) t (x.timed m))) ∙ sym (replies_alike d h g fifo depth (x.cycle m k) (possible_alike d h g i fifo depth t (x.cycle m k) one u q a) a m);
+          v.reply_then m k (omega (arith, kept_le (x.cycle m) t (x.timed m))) ∙ sym (replies_alike d h g fifo depth (x.cycle m k) (possible_alike d h g i fifo depth t (x.cycle m k) one u q a) a m));
     }
 
 -- behind the steps that stay, what counts as verified has no query
@@ -233,7 +236,7 @@ edit_time {S} d h g i y fifo depth t z one u limit x b v =
       reply_then = w.reply_then;
       answered_then = λ m k l. v.answered_then m k (omega (arith, kept_le (x.cycle m) t (x.timed m)));
       there_then = λ m k l. v.there_then m k (omega (arith, kept_le (x.cycle m) t (x.timed m)));
-      below = λ m k l. v.below m k (omega (arith, kept_le (x.cycle m) t (x.timed m)));
+      below = λ m k l. subst (λ (c : ℕ). c < limit) (sym (kept_same (x.cycle m) t (x.timed m) k l)) (v.below m k (omega (arith, kept_le (x.cycle m) t (x.timed m))));
       first_flags = λ m l q c s k.
           let p = edit_plain d x t m (kept (x.cycle m) t (x.timed m)) (omega arith) q in
           let a = can_emitted (edited d fifo depth) g (edit_design d fifo depth i) z (after_edit d x t) (edit_marks d x fifo depth t b) w m c (kept (x.cycle m) t (x.timed m)) l (omega arith) s k in

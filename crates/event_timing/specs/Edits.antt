@@ -21,11 +21,16 @@ unfoldable pub kept : (ℕ → ℕ) → ℕ → ℕ → ℕ
 kept cycle t zero = 0
 kept cycle t (suc n) = cond (ltb (cycle n) t) (suc n) (kept cycle t n)
 
+-- the cycles that stay, and 0 behind them
+abbrev pub kept_cycle : (ℕ → ℕ) → ℕ → ℕ → ℕ → ℕ
+kept_cycle cycle t n k = cond (ltb k (kept cycle t n)) (cycle k) 0
+
 -- the core from which a retiming begins: cycles from t on are forgotten, and outcomes behind them are assumed
 abbrev pub after_edit : {S : Type 0} → Design S → Core S → ℕ → Core S
 after_edit {S} d x t =
     record x {
       timed = λ m. kept (x.cycle m) t (x.timed m);
+      cycle = λ m k. kept_cycle (x.cycle m) t (x.timed m) k;
       verified = λ m k. x.verified m k && (ltb k (kept (x.cycle m) t (x.timed m)) || not (has_query (core_accesses d x m k)));
     }
 

@@ -9,13 +9,14 @@ use Rattle.event_timing.specs.Steps.{steps, done}
 use Rattle.event_timing.specs.Enablers.{Known, known_of, answer, flags_at, candidate}
 use Rattle.event_timing.specs.Views.{pushed_in, Begins}
 use Rattle.event_timing.specs.Core.{Core, bare_replies, core_accesses, core_tally, core_values, all_below, view, has_query, no_outcomes}
-use Rattle.event_timing.specs.Agreement.{AreOwnMarks, IsTimed, elements_timed, possible_all, FlagsFit, Happens}
+use Rattle.event_timing.specs.Agreement.{AreOwnMarks, IsTimed, elements_timed, possible_all, FlagsFit, HappensBefore}
 use Rattle.event_timing.specs.Actions.{after_answer, new_flags, IsSame, put_at}
 use Rattle.event_timing.proofs.Steps.{same_clock}
 use Rattle.event_timing.proofs.Values.{begins_self, pushed_in_more}
 use Rattle.event_timing.proofs.Candidate.{candidate_parts, candidate_steps, candidate_done}
 use Rattle.event_timing.proofs.Fronts.{agrees, pushed_same}
-use Rattle.event_timing.proofs.Growing.{Grows, settled_less, settled_old, settled_timed, settled_all, own_grow, reply_grow, there_grow, tally_grow, below_grow}
+use Rattle.event_timing.specs.Growth.{Grows}
+use Rattle.event_timing.proofs.Growing.{settled_less, settled_old, settled_timed, settled_all, own_grow, reply_grow, there_grow, tally_grow, below_grow}
 use Rattle.event_timing.proofs.Assigning.{put_at_same, put_at_other, new_sure, RightFlags, SureFlags, HappensFirst}
 use Rattle.event_timing.proofs.Running.{values_grow}
 
@@ -232,8 +233,8 @@ first_emitted {S} d x m c e =
 
 pub answer_time : {S : Type 0} → (d : Design S) (h : Trace S) → IsDesign d → IsHistory d h → (limit : ℕ) (x : Core S) → AreOwnMarks d x → IsTimed d h limit x
     → (m c : ℕ) → candidate d (view d x) m ≡ Some c → new_flags d x m c ≡ possible_all d h c (core_accesses d x m (x.timed m)) → IsSame d x m c
-    → IsTimed d h limit (after_answer d x m c)
-answer_time {S} d h i y limit x b u m c e r s =
+    → c < limit → IsTimed d h limit (after_answer d x m c)
+answer_time {S} d h i y limit x b u m c e r s below =
     let l = first_emitted d x m c e in
     let g = answer_grows d i x b m c l s in
     let z : Core S = after_answer d x m c in
@@ -250,9 +251,9 @@ answer_time {S} d h i y limit x b u m c e r s =
       below = u.below;
       first_flags = λ n q. answer_first_flags d h limit x u m c st dn r n (x.timed n) q refl;
       first_sure = λ n q. answer_first_sure d i h limit x b u m c l s e n (x.timed n) q refl;
-      first_happens = λ n q. put_at_both x.verified m (x.timed m) true (λ n k f. k < x.emitted n → k ≡ x.timed n → f ≡ true → has_query (core_accesses d x n k) ≡ true → Happens d h n k)
-          (λ q e v p. (c, (st, dn)))
-          (λ n k w q e v p. subst (λ (j : ℕ). HappensFirst d h x n j) (sym e) (u.first_happens n) q v p) n (x.timed n) q refl;
+      first_happens = λ n q. put_at_both x.verified m (x.timed m) true (λ n k f. k < x.emitted n → k ≡ x.timed n → f ≡ true → has_query (core_accesses d x n k) ≡ true → HappensBefore d h limit n k)
+          (λ q e v p. (c, below, (st, dn)))
+          (λ n k w q e v p. subst (λ (j : ℕ). HappensFirst d h limit x n j) (sym e) (u.first_happens n) q v p) n (x.timed n) q refl;
       verified_then = put_at_both x.verified m (x.timed m) true (λ n k f. k < x.timed n → f ≡ true) (λ q. refl) (λ n k w q. u.verified_then n k q);
       verified_answered = put_at_both x.verified m (x.timed m) true (λ n k f. k < x.emitted n → f ≡ true → z.answered n k ≡ true)
           (λ q v. put_at_same x.answered m (x.timed m) true)

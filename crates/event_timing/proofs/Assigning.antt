@@ -11,7 +11,7 @@ use Rattle.event_timing.specs.Views.{tally, View, pushed_in}
 use Rattle.event_timing.specs.Enablers.{Known, known, known_of, bound, answer, flags_at, from_step, candidate}
 use Rattle.event_timing.specs.Enablers.Known.{From, Never, Unknown}
 use Rattle.event_timing.specs.Core.{Core, bare_replies, core_accesses, core_tally, core_values, pops_now, replies_of, all_below, core_reply, values_there, view, has_query}
-use Rattle.event_timing.specs.Agreement.{AreOwnMarks, IsTimed, elements_timed, possible_all, FlagsFit, Happens}
+use Rattle.event_timing.specs.Agreement.{AreOwnMarks, IsTimed, elements_timed, possible_all, FlagsFit, HappensBefore}
 use Rattle.event_timing.specs.Actions.{after_assign, put, put_at, MayAssign}
 use Rattle.event_timing.proofs.Standing.{step_ready, moves_can, steps_moves}
 use Rattle.event_timing.proofs.OwnRuns.{rest_own, follows, tally_mono, IsPlace, place_says, same_side_is}
@@ -299,8 +299,8 @@ RightFlags {S} d h x n j = j < x.emitted n → x.verified n j ≡ true → (c : 
 abbrev pub SureFlags : {S : Type 0} → Design S → (ℕ → ℕ) → Core S → ℕ → ℕ → Type 0
 SureFlags {S} d s x n j = j < x.emitted n → x.verified n j ≡ true → has_query (core_accesses d x n j) ≡ true → all_below s (λ ch. core_tally d x n Pop ch j) (core_accesses d x n j) (x.flags n j) ≡ true
 
-abbrev pub HappensFirst : {S : Type 0} → Design S → Trace S → Core S → ℕ → ℕ → Type 0
-HappensFirst {S} d h x n j = j < x.emitted n → x.verified n j ≡ true → has_query (core_accesses d x n j) ≡ true → Happens d h n j
+abbrev pub HappensFirst : {S : Type 0} → Design S → Trace S → ℕ → Core S → ℕ → ℕ → Type 0
+HappensFirst {S} d h limit x n j = j < x.emitted n → x.verified n j ≡ true → has_query (core_accesses d x n j) ≡ true → HappensBefore d h limit n j
 
 -- where the history does a step that is emitted, its accesses can be done
 pub can_emitted : {S : Type 0} → (d : Design S) (h : Trace S) → IsDesign d → IsHistory d h → (x : Core S) → AreOwnMarks d x → IsDone d h x → (m c j : ℕ)
@@ -345,7 +345,7 @@ assign_time {S} d h i y limit x b u m c may =
       first_sure = put_cases x.timed m (suc (x.timed m)) (SureFlags d (elements_timed d (after_assign x m c)) x)
           (λ n e l v q. below_mono (elements_timed d x) (elements_timed d (after_assign x m c)) (λ ch. core_tally d x n Pop ch (x.timed n)) (core_accesses d x n (x.timed n)) (x.flags n (x.timed n)) (sure_up d x m c) (u.first_sure n l v q))
           (λ l v q. absurd (both_ways _ (u.later_plain m (suc (x.timed m)) (omega arith) l v) q));
-      first_happens = put_cases x.timed m (suc (x.timed m)) (HappensFirst d h x)
+      first_happens = put_cases x.timed m (suc (x.timed m)) (HappensFirst d h limit x)
           (λ n e. u.first_happens n)
           (λ l v q. absurd (both_ways _ (u.later_plain m (suc (x.timed m)) (omega arith) l v) q));
       verified_then = step_more x m c (λ n k z. x.verified n k ≡ true) u.verified_then may.verified;

@@ -1,6 +1,7 @@
 -- After an edit the cycles below the first touched clock stay.
 use Rattle.std.proofs.Common.{◌≡◌, ℕ, zero, suc, ◌+◌, ◌-◌, ◌<◌, ◌≤◌, Bool, true, false, not, ◌&&◌, ◌||◌, inl, inr, List, [], ◌∷◌, map, sym, refl, ap, ap₂, ◌∙◌, subst, arith, eqb, ltb}
 use Rattle.std.proofs.lemmas.Bool.{cases_Bool, both_ways, cases_eq, ltb-true, lt-ltb, cond-true, cond-false, and_parts, and_from, or_cases, or_left, eqb-true, not-true}
+use mathlib.Core.Path.{fun_ext}
 use Rattle.flow_word.specs.declared.access.Side.{Side}
 use Rattle.flow_word.specs.declared.access.Side.TheVariants.{Pop, Push}
 use Rattle.event_timing.specs.Machines.{Design, IsDesign, Access, Reply, is_some_access}
@@ -254,3 +255,17 @@ pub edit_agrees : {S : Type 0} → (d : Design S) (h g : Trace S) → IsDesign d
     → IsAgreed (edited d fifo depth) g limit (after_edit d x t)
 edit_agrees {S} d h g i y fifo depth t z one u limit x a =
     record { marks = edit_marks d x fifo depth t a.marks; time = edit_time d h g i y fifo depth t z one u limit x a.marks a.time }
+
+-- ---- the depth that stands
+
+same_start : {S : Type 0} → (d : Design S) (fifo : ℕ) (side : Side) (ch : ℕ) → (edited d fifo (d.start Push fifo)).start side ch ≡ d.start side ch
+same_start {S} d fifo Pop ch = refl
+same_start {S} d fifo Push ch =
+    elim (cases_Bool (eqb ch fifo)) [
+      | inl e ↦ cond-true {A = ℕ} (eqb ch fifo) (d.start Push fifo) (d.start Push ch) e ∙ ap (d.start Push) (sym (eqb-true ch fifo e))
+      | inr e ↦ cond-false {A = ℕ} (eqb ch fifo) (d.start Push fifo) (d.start Push ch) e
+    ]
+
+-- an edit to it is no edit
+pub same_depth : {S : Type 0} → (d : Design S) (fifo : ℕ) → edited d fifo (d.start Push fifo) ≡ d
+same_depth {S} d fifo = ap (λ (f : Side → ℕ → ℕ). record d { start = f }) (fun_ext (λ side. fun_ext (λ ch. same_start d fifo side ch)))

@@ -8,23 +8,10 @@ use Rattle.event_timing.specs.Histories.{Trace}
 use Rattle.event_timing.specs.Views.{own, Begins}
 use Rattle.event_timing.specs.Core.{Core, bare_replies, core_accesses, core_tally, core_values, pops_now, replies_of, all_below, core_reply, values_there}
 use Rattle.event_timing.specs.Agreement.{AreOwnMarks, IsTimed}
+use Rattle.event_timing.specs.Growth.{Grows, IsSettled}
 use Rattle.event_timing.proofs.OwnRuns.{own_0, own_more}
 use Rattle.event_timing.proofs.Values.{begins_get, begins_length}
 use Rattle.event_timing.proofs.Fronts.{tally_same}
-
-pub record Grows {S : Type 0} (d : Design S) (x z : Core S) : Type 0 where
-  pub emitted_up : (n : ℕ) → x.emitted n ≤ z.emitted n
-  pub state_same : (n k : ℕ) → k < x.emitted n → z.state n k ≡ x.state n k
-  pub wait_same : (n k : ℕ) → k < x.emitted n → z.wait n k ≡ x.wait n k
-  pub flags_same : (n k : ℕ) → k < x.emitted n → x.answered n k ≡ true → z.flags n k ≡ x.flags n k
-  pub answered_up : (n k : ℕ) → k < x.emitted n → x.answered n k ≡ true → z.answered n k ≡ true
-  pub values_up : (ch : ℕ) → Begins (core_values d z ch) (core_values d x ch)
-
--- every reply to the first n steps is there
-pub record IsSettled {S : Type 0} (d : Design S) (x : Core S) (m n : ℕ) : Type 0 where
-  pub emitted : (k : ℕ) → k < n → k < x.emitted m
-  pub answered : (k : ℕ) → k < n → x.answered m k ≡ true
-  pub there : (k : ℕ) → k < n → values_there d x m k ≡ true
 
 pub settled_less : {S : Type 0} → (d : Design S) (x : Core S) (m n k : ℕ) → k ≤ n → IsSettled d x m n → IsSettled d x m k
 settled_less {S} d x m n k l s = record { emitted = λ j q. s.emitted j (omega arith); answered = λ j q. s.answered j (omega arith); there = λ j q. s.there j (omega arith) }

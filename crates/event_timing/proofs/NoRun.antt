@@ -7,7 +7,7 @@ use Rattle.event_timing.specs.Core.{Core, view}
 use Rattle.event_timing.specs.Agreement.{AreOwnMarks, IsAgreed}
 use Rattle.event_timing.specs.Actions.{MayRun, after_assign, after_answer, IsSame, new_flags, Action, Acts, IsRecorded, ActsRecorded}
 use Rattle.event_timing.specs.Edits.{edited, after_edit}
-use Rattle.event_timing.proofs.Growing.{Grows}
+use Rattle.event_timing.specs.Growth.{Grows}
 use Rattle.event_timing.proofs.Running.{values_grow}
 use Rattle.event_timing.proofs.Answering.{answer_marks, put_at_both, first_emitted}
 use Rattle.event_timing.proofs.RunningAhead.{stays}

@@ -7,12 +7,13 @@ use Rattle.event_timing.specs.Histories.{Trace, IsHistory}
 use Rattle.event_timing.specs.Steps.{steps, done}
 use Rattle.event_timing.specs.Views.{own, pushed_in, Begins}
 use Rattle.event_timing.specs.Core.{Core, bare_replies, core_accesses, core_tally, core_values, all_below, core_reply, values_there, has_query, no_outcomes}
-use Rattle.event_timing.specs.Agreement.{AreOwnMarks, IsTimed, elements_timed, possible_all, FlagsFit, Happens}
+use Rattle.event_timing.specs.Agreement.{AreOwnMarks, IsTimed, elements_timed, possible_all, FlagsFit, HappensBefore}
 use Rattle.event_timing.specs.Actions.{after_run, put, put_at, MayRun, newest, state_behind, emit_over, emit_step}
 use Rattle.event_timing.proofs.OwnRuns.{own_0, own_more}
 use Rattle.event_timing.proofs.Values.{pushed_in_mono}
 use Rattle.event_timing.proofs.Fronts.{pushed_same, IsDone}
-use Rattle.event_timing.proofs.Growing.{Grows, IsSettled, settled_less, settled_old, settled_timed, settled_all, own_grow, reply_grow, there_grow, tally_grow, below_grow}
+use Rattle.event_timing.specs.Growth.{Grows, IsSettled}
+use Rattle.event_timing.proofs.Growing.{settled_less, settled_old, settled_timed, settled_all, own_grow, reply_grow, there_grow, tally_grow, below_grow}
 use Rattle.event_timing.proofs.Assigning.{put_cases, put_same, put_other, put_at_same, put_at_other, plain_possible, can_emitted, RightFlags, SureFlags, HappensFirst}
 
 pub newest_own : {S : Type 0} → (d : Design S) (x : Core S) → AreOwnMarks d x → (m n : ℕ) → n ≤ x.emitted m
@@ -254,8 +255,8 @@ emit_time {S} d h i y limit x b u m r b' =
       below = u.below;
       first_flags = λ n l. emit_first_flags d h i y limit x b u m r b' n (x.timed n) l refl;
       first_sure = λ n l. emit_first_sure d h limit x b u m n (x.timed n) l refl;
-      first_happens = λ n l. emit_more x m (λ n k. k ≡ x.timed n → z.verified n k ≡ true → has_query (core_accesses d z n k) ≡ true → Happens d h n k)
-          (λ n k l e v p. subst (λ (j : ℕ). HappensFirst d h x n j) (sym e) (u.first_happens n) l (sym (old_at x.verified x m _ n k l) ∙ v) (sym (ap (λ (s : S). has_query (d.accesses n s)) (g.state_same n k l)) ∙ p))
+      first_happens = λ n l. emit_more x m (λ n k. k ≡ x.timed n → z.verified n k ≡ true → has_query (core_accesses d z n k) ≡ true → HappensBefore d h limit n k)
+          (λ n k l e v p. subst (λ (j : ℕ). HappensFirst d h limit x n j) (sym e) (u.first_happens n) l (sym (old_at x.verified x m _ n k l) ∙ v) (sym (ap (λ (s : S). has_query (d.accesses n s)) (g.state_same n k l)) ∙ p))
           (λ e v p. absurd (both_ways _ (emit_plain d x m v) p)) n (x.timed n) l refl;
       verified_then = λ n k l. old_at x.verified x m _ n k (omega (arith, u.within n)) ∙ u.verified_then n k l;
       verified_answered = emit_more x m (λ n k. z.verified n k ≡ true → z.answered n k ≡ true)

@@ -44,9 +44,9 @@ elements_timed {S} d x ch = d.start Pop ch + core_tally d x (d.owner Push ch) Pu
 abbrev pub IsStepAt : {S : Type 0} → Design S → Trace S → ℕ → ℕ → ℕ → Type 0
 IsStepAt {S} d h m k c = (steps d h c m ≡ true) × (done d h m c ≡ k)
 
--- and in some clock
-abbrev pub Happens : {S : Type 0} → Design S → Trace S → ℕ → ℕ → Type 0
-Happens {S} d h m k = (c : ℕ) × IsStepAt d h m k c
+-- and in some clock before the limit
+abbrev pub HappensBefore : {S : Type 0} → Design S → Trace S → ℕ → ℕ → ℕ → Type 0
+HappensBefore {S} d h limit m k = (c : ℕ) × (c < limit) × IsStepAt d h m k c
 
 -- the steps with a cycle are those of the history, and so are verified outcomes
 pub record IsTimed {S : Type 0} (d : Design S) (h : Trace S) (limit : ℕ) (x : Core S) : Type 0 where
@@ -63,11 +63,15 @@ pub record IsTimed {S : Type 0} (d : Design S) (h : Trace S) (limit : ℕ) (x : 
   pub first_sure : (m : ℕ) → x.timed m < x.emitted m → x.verified m (x.timed m) ≡ true → has_query (core_accesses d x m (x.timed m)) ≡ true
       → all_below (elements_timed d x) (λ ch. core_tally d x m Pop ch (x.timed m)) (core_accesses d x m (x.timed m)) (x.flags m (x.timed m)) ≡ true
   pub first_happens : (m : ℕ) → x.timed m < x.emitted m → x.verified m (x.timed m) ≡ true → has_query (core_accesses d x m (x.timed m)) ≡ true
-      → Happens d h m (x.timed m)
+      → HappensBefore d h limit m (x.timed m)
   pub verified_then : (m k : ℕ) → k < x.timed m → x.verified m k ≡ true
   pub verified_answered : (m k : ℕ) → k < x.emitted m → x.verified m k ≡ true → x.answered m k ≡ true
   -- behind it nothing but steps without a query counts as verified
   pub later_plain : (m k : ℕ) → x.timed m < k → k < x.emitted m → x.verified m k ≡ true → has_query (core_accesses d x m k) ≡ false
+
+-- each recorded outcome is verified: none is assumed
+abbrev pub AllVerified : {S : Type 0} → Core S → Type 0
+AllVerified {S} x = (m k : ℕ) → k < x.emitted m → x.answered m k ≡ true → x.verified m k ≡ true
 
 -- the core agrees with the history
 pub record IsAgreed {S : Type 0} (d : Design S) (h : Trace S) (limit : ℕ) (x : Core S) : Type 0 where

@@ -1,16 +1,18 @@
 //! The laws, for any design `d` over states of any type `S`, and any history `h` of it.
-ghost use Rattle.std.specs.Prelude.{◌≡◌, ℕ, suc, ◌+◌, ◌-◌, ◌*◌, ◌<◌, ◌≤◌, min, ◌++◌, ◌⊎◌, Bool, true, false, Some, List, length};
+ghost use Rattle.std.specs.Prelude.{◌≡◌, ◌↔◌, ℕ, suc, ◌+◌, ◌-◌, ◌*◌, ◌<◌, ◌≤◌, min, ◌++◌, ◌⊎◌, Bool, true, false, Some, List, length};
 ghost use Rattle.flow_word.specs.declared.access.Side.{Side};
 ghost use Rattle.flow_word.specs.declared.access.Side.TheVariants.{Pop, Push};
 ghost use Rattle.event_timing.specs.Machines.{Design, IsDesign, Access, Reply, HoldsLists, Each};
 ghost use Rattle.event_timing.specs.Histories.{Trace, IsHistory, moves, is_possible};
 ghost use Rattle.event_timing.specs.Contents.{trace};
 ghost use Rattle.event_timing.specs.Steps.{steps, done};
-ghost use Rattle.event_timing.specs.Views.{pushed_in, tally, place};
+ghost use Rattle.event_timing.specs.Views.{own, pushed_in, tally, place};
 ghost use Rattle.event_timing.specs.Enablers.{candidate, known_of, answer};
-ghost use Rattle.event_timing.specs.Core.{Core, opening_core, view, core_accesses, bare_replies};
-ghost use Rattle.event_timing.specs.Actions.{Action, Acts, ActsAll, MayRun, MayAnswer, MayEarliest, IsFinal, IsSame, IsNoRunOf, ActsRecorded, newest, new_flags, assigns};
-ghost use Rattle.event_timing.specs.Agreement.{IsAgreed, IsAtRest, IsStepAt, IsUndetermined, IsBounded, possible_all, stop};
+ghost use Rattle.event_timing.specs.Core.{Core, opening_core, view, core_accesses, core_reply, core_tally, bare_replies, has_query, values_there};
+ghost use Rattle.event_timing.specs.Actions.{Action, Acts, ActsAll, MayRun, MayAssign, MayAnswer, MayEarliest, IsOpen, IsQuiet, IsFinal, IsSame, IsNoRunOf, ActsRecorded, newest, new_flags, assigns, runs, after_run, after_assign, after_answer};
+ghost use Rattle.event_timing.specs.Agreement.{IsAgreed, AreOwnMarks, AllVerified, HappensBefore, IsAtRest, IsStepAt, IsUndetermined, IsBounded, possible_all, stop};
+ghost use Rattle.event_timing.specs.Growth.{Grows, GrowsBeside, IsSettled};
+ghost use Rattle.event_timing.specs.Permitted.{IsInside, may_run, may_assign, may_answer, is_open, is_quiet, may_earliest, is_final};
 ghost use Rattle.event_timing.specs.Work.{work};
 ghost use Rattle.event_timing.specs.Edits.{edited, after_edit, kept, held_by_cycles, IsUntouchedByCycles};
 
@@ -26,8 +28,40 @@ pub fn every_order_agrees<S>()
         → (actions : List Action) (y : Core S) → ActsAll d limit x actions y → IsAgreed d h limit y }
 {}
 
+/// The marks of a core stay those of the modules' own runs, whatever is done.
+pub fn marks_stay<S>()
+    ensures run { (d : Design S) (x : Core S) → AreOwnMarks d x → (m : ℕ) → MayRun d x m → AreOwnMarks d (after_run d x m) }
+    ensures assign { (d : Design S) (x : Core S) → AreOwnMarks d x → (m c : ℕ) → AreOwnMarks d (after_assign x m c) }
+    ensures answer { (d : Design S) → IsDesign d → (x : Core S) → AreOwnMarks d x → (m c : ℕ) → x.timed m < x.emitted m → IsSame d x m c
+        → AreOwnMarks d (after_answer d x m c) }
+    ensures edit { (d : Design S) (x : Core S) → AreOwnMarks d x → (fifo depth t : ℕ) → AreOwnMarks (edited d fifo depth) (after_edit d x t) }
+    ensures newest { (d : Design S) (x : Core S) → AreOwnMarks d x → (m : ℕ) → newest d x m ≡ own d m (core_reply d x m) (x.emitted m) }
+{}
+
+/// A core only grows: what a module has emitted and was replied stays, whatever is done. Actions without a Run of a module let the
+/// core grow beside it, and leave the module's marks as they were. Where the replies of a module's first steps are all there, growth
+/// changes none of them.
+pub fn cores_grow<S>()
+    ensures run { (d : Design S) (x : Core S) (m : ℕ) → Grows d x (after_run d x m) }
+    ensures assign { (d : Design S) (x : Core S) (m c : ℕ) → Grows d x (after_assign x m c) }
+    ensures answer { (d : Design S) → IsDesign d → (x : Core S) → AreOwnMarks d x → (m c : ℕ) → x.timed m < x.emitted m → IsSame d x m c
+        → Grows d x (after_answer d x m c) }
+    ensures all { (d : Design S) (h : Trace S) → IsDesign d → IsHistory d h → (limit : ℕ) (x : Core S) → IsAgreed d h limit x
+        → (actions : List Action) (y : Core S) → ActsAll d limit x actions y → Grows d x y }
+    ensures others { (d : Design S) (h : Trace S) → IsDesign d → IsHistory d h → (limit : ℕ) (x : Core S) → IsAgreed d h limit x
+        → (m : ℕ) (actions : List Action) → IsNoRunOf m actions → (y : Core S) → ActsAll d limit x actions y → GrowsBeside d x y m }
+    ensures settled { (d : Design S) (x : Core S) → AreOwnMarks d x → (m n : ℕ) → n < x.emitted m → IsSettled d x m n }
+    ensures settled_all { (d : Design S) (x : Core S) → AreOwnMarks d x → (m : ℕ) → MayRun d x m → IsSettled d x m (x.emitted m) }
+    ensures counts { (d : Design S) (x y : Core S) → Grows d x y → (m n : ℕ) → IsSettled d x m n → (side : Side) (ch : ℕ)
+        → core_tally d y m side ch n ≡ core_tally d x m side ch n }
+    ensures replies { (d : Design S) (x y : Core S) → Grows d x y → (m n : ℕ) → IsSettled d x m (suc n) → core_reply d y m n ≡ core_reply d x m n }
+    ensures there { (d : Design S) (x y : Core S) → Grows d x y → (m n : ℕ) → IsSettled d x m (suc n) → values_there d y m n ≡ true }
+    ensures rests { (d : Design S) (x y : Core S) → Grows d x y → (m n : ℕ) → IsSettled d x m n
+        → own d m (core_reply d y m) n ≡ own d m (core_reply d x m) n }
+{}
+
 /// What is found by counts alone is the history's: the clock of a determined step, and the outcomes that an Answer or an
-/// Earliest finds. So a query is found to differ only where the history's outcome is not the assumed one, and never before an edit.
+/// Earliest finds. So a query is found to differ only where the history's outcome is not the assumed one.
 /// An enabler is the one step at which the count of pops, or of pushes, goes past the ordinal.
 pub fn found_by_counts<S>()
     ensures cycle { (d : Design S) (h : Trace S) → IsDesign d → IsHistory d h → (limit : ℕ) (x : Core S) → IsAgreed d h limit x
@@ -38,8 +72,20 @@ pub fn found_by_counts<S>()
         → (m c : ℕ) → MayAnswer d limit x m c → new_flags d x m c ≡ possible_all d h c (core_accesses d x m (x.timed m)) }
     ensures earliest { (d : Design S) (h : Trace S) → IsDesign d → IsHistory d h → (limit : ℕ) (x : Core S) → IsAgreed d h limit x
         → (m c : ℕ) → MayEarliest d limit x m c → new_flags d x m c ≡ possible_all d h c (core_accesses d x m (x.timed m)) }
-    ensures never_differs { (d : Design S) (h : Trace S) → IsDesign d → IsHistory d h → (limit : ℕ)
-        → (actions : List Action) (x : Core S) → ActsAll d limit (opening_core d) actions x → (m c : ℕ) → x.verified m (x.timed m) ≡ false → candidate d (view d x) m ≡ Some c → IsSame d x m c }
+{}
+
+/// Where each recorded outcome is verified, none that is found is another, whatever is done; so it is from the opening on, and an
+/// edit alone makes outcomes assumed. A verified outcome is that of a step which the history does before the limit.
+pub fn verified_outcomes<S>()
+    ensures opening { (d : Design S) → AllVerified (opening_core d) }
+    ensures kept { (d : Design S) (h : Trace S) → IsDesign d → IsHistory d h → (limit : ℕ) (x : Core S) → IsAgreed d h limit x → AllVerified x
+        → (actions : List Action) (y : Core S) → ActsAll d limit x actions y → AllVerified y }
+    ensures never_differs { (d : Design S) (x : Core S) → AllVerified x → (m c : ℕ) → x.verified m (x.timed m) ≡ false
+        → candidate d (view d x) m ≡ Some c → IsSame d x m c }
+    ensures happens { (d : Design S) (h : Trace S) (limit : ℕ) (x : Core S) → IsAgreed d h limit x → (m k : ℕ) → k < x.emitted m → x.verified m k ≡ true
+        → has_query (core_accesses d x m k) ≡ true → HappensBefore d h limit m k }
+    ensures found { (d : Design S) (h : Trace S) (limit : ℕ) (x : Core S) → IsAgreed d h limit x → (m c : ℕ) → x.timed m < x.emitted m
+        → x.verified m (x.timed m) ≡ true → IsStepAt d h m (x.timed m) c → x.flags m (x.timed m) ≡ possible_all d h c (core_accesses d x m (x.timed m)) }
 {}
 
 /// A final core has each step of the history below the limit. Where none of its steps is determined, nobody moves from the
@@ -84,8 +130,11 @@ pub fn first_touched<S>()
 {}
 
 /// A final core that is cut back to the cycles below the first touched clock agrees with the edited design. `g` is a history of that one.
+/// An edited design keeps the rules of a design, and an edit to the depth that stands changes nothing.
 pub fn edited_cores<S>()
-    ensures { (d : Design S) (h : Trace S) → IsDesign d → IsHistory d h → ((ch : ℕ) → d.lag Push ch ≡ 1) → (limit : ℕ) (x : Core S) → IsAgreed d h limit x
+    ensures same_depth { (d : Design S) (fifo : ℕ) → edited d fifo (d.start Push fifo) ≡ d }
+    ensures design { (d : Design S) → IsDesign d → (fifo depth : ℕ) → IsDesign (edited d fifo depth) }
+    ensures cut { (d : Design S) (h : Trace S) → IsDesign d → IsHistory d h → ((ch : ℕ) → d.lag Push ch ≡ 1) → (limit : ℕ) (x : Core S) → IsAgreed d h limit x
         → IsFinal d limit x → (fifo depth t : ℕ) → t ≤ limit → IsUntouchedByCycles d x fifo depth t
         → (g : Trace S) → IsHistory (edited d fifo depth) g → IsAgreed (edited d fifo depth) g limit (after_edit d x t) }
 {}
@@ -112,9 +161,12 @@ pub fn action_bound<S>()
         → work d x ≤ d.modules * (3 * most + 1) }
 {}
 
-/// A Run of a module that is permitted stays so while others act, and emits the same.
+/// A Run of a module that is permitted stays so while others act, and emits the same. So do several, one after the other.
 pub fn running_ahead<S>()
-    ensures { (d : Design S) (h : Trace S) → IsDesign d → IsHistory d h → (limit : ℕ) (x : Core S) → IsAgreed d h limit x → (m : ℕ) → MayRun d x m
+    ensures several { (d : Design S) (h : Trace S) → IsDesign d → IsHistory d h → (limit : ℕ) (x : Core S) → IsAgreed d h limit x
+        → (m n : ℕ) (y : Core S) → ActsAll d limit x (runs n m) y → (actions : List Action) → IsNoRunOf m actions → (z : Core S)
+        → ActsAll d limit x actions z → (w : Core S) × ActsAll d limit z (runs n m) w × GrowsBeside d y w m }
+    ensures one { (d : Design S) (h : Trace S) → IsDesign d → IsHistory d h → (limit : ℕ) (x : Core S) → IsAgreed d h limit x → (m : ℕ) → MayRun d x m
         → (actions : List Action) → IsNoRunOf m actions → (y : Core S) → ActsAll d limit x actions y → MayRun d y m × (newest d y m ≡ newest d x m) }
 {}
 
@@ -123,4 +175,17 @@ pub fn recorded_outcomes<S>()
     ensures edited { (d : Design S) (x : Core S) (fifo depth t m : ℕ) → MayRun (edited d fifo depth) (after_edit d x t) m → MayRun d x m }
     ensures kept { (d : Design S) (h : Trace S) → IsDesign d → IsHistory d h → (limit : ℕ) (x : Core S) → IsAgreed d h limit x
         → ((m : ℕ) → MayRun d x m → ⊥) → (actions : List Action) (y : Core S) → ActsRecorded d limit x actions y → (m : ℕ) → MayRun d y m → ⊥ }
+{}
+
+/// The tests decide: each is true exactly where its action is permitted. Those that ask all modules want a core that has emitted
+/// steps of the design's modules alone.
+pub fn tests_decide<S>()
+    ensures run { (d : Design S) (x : Core S) (m : ℕ) → (may_run d x m ≡ true) ↔ MayRun d x m }
+    ensures assign { (d : Design S) (limit : ℕ) (x : Core S) (m : ℕ) → (may_assign d limit x m ≡ true) ↔ ((c : ℕ) × MayAssign d limit x m c) }
+    ensures answer { (d : Design S) (limit : ℕ) (x : Core S) (m : ℕ) → (may_answer d limit x m ≡ true) ↔ ((c : ℕ) × MayAnswer d limit x m c) }
+    ensures open_step { (d : Design S) (limit : ℕ) (x : Core S) (m : ℕ) → (is_open d limit x m ≡ true) ↔ ((c : ℕ) × IsOpen d limit x m c) }
+    ensures quiet { (d : Design S) (limit : ℕ) (x : Core S) → IsInside d x → (is_quiet d limit x ≡ true) ↔ IsQuiet d limit x }
+    ensures earliest { (d : Design S) (limit : ℕ) (x : Core S) → IsInside d x → (m : ℕ)
+        → (may_earliest d limit x m ≡ true) ↔ ((c : ℕ) × MayEarliest d limit x m c) }
+    ensures last { (d : Design S) (limit : ℕ) (x : Core S) → IsInside d x → (is_final d limit x ≡ true) ↔ IsFinal d limit x }
 {}

@@ -8,6 +8,7 @@ use Rattle.flow_word.specs.Kinds.{same_side}
 use Rattle.flow_word.specs.declared.access.Side.TheVariants.{Pop, Push}
 use Rattle.flow_design.specs.declared.design.ChannelKind.{ChannelKind}
 use Rattle.flow_design.specs.declared.design.ChannelKind.TheVariants.{Source, Sink, Fifo}
+use Rattle.flow_design.specs.declared.limits.TheConstants.{FIFO_DEPTH}
 use Rattle.flow_design.specs.declared.plan.Edit.{Edit}
 use Rattle.flow_design.specs.declared.plan.Plan.{Plan}
 use Rattle.flow_design.specs.declared.state.ModuleState.{ModuleState}
@@ -29,7 +30,7 @@ use Rattle.timing_bridge.proofs.History.{plan_is_design, run_is_history}
 
 -- ---- the edited plan is one that the engine takes
 
-new_entries : (k : ChannelKind) (inputs : List ℕ) (old depth : ℕ) → AreEntriesSound k inputs old → is_fifo k ≡ true → 1 ≤ depth → depth ≤ 1000000
+new_entries : (k : ChannelKind) (inputs : List ℕ) (old depth : ℕ) → AreEntriesSound k inputs old → is_fifo k ≡ true → 1 ≤ depth → depth ≤ FIFO_DEPTH
     → AreEntriesSound k inputs depth
 new_entries Source inputs old depth h e a b = cc
 new_entries Sink inputs old depth h e a b = cc
@@ -81,7 +82,7 @@ same_lag : (p : Plan) (f depth : ℕ) (side : Side) (g : ℕ) → lag_in p side 
 same_lag p f depth Pop g = refl
 same_lag p f depth Push g = refl
 
-same_design : (p : Plan) (f depth : ℕ) → f < length p.depths → edited (design p) f depth ≡ design (with_depth p f depth)
+pub same_design : (p : Plan) (f depth : ℕ) → f < length p.depths → edited (design p) f depth ≡ design (with_depth p f depth)
 unfolding moment opening owner quiet quiet_below measure
 same_design p f depth h = λ i. record (design (with_depth p f depth)) { start = λ side g. same_start p f depth h side g i; lag = λ side g. same_lag p f depth side g i }
 

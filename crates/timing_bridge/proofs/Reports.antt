@@ -61,7 +61,7 @@ report_from p h limit x g ss o v e all held_same =
       answers = answers_are p h limit x g (clock_of v) all i;
     })
 
-clock_settled : (p : Plan) (c : ℕ) (st : ClockState) → clock_of (settled_verdict p c st) ≡ c
+pub clock_settled : (p : Plan) (c : ℕ) (st : ClockState) → clock_of (settled_verdict p c st) ≡ c
 clock_settled p c st =
     cond_both (list_all (λ s. s.ended) st.modules) (Done c) _ (λ (v : Verdict). clock_of v ≡ c) (λ e. refl)
     (λ e. cond_both (list_any (is_spent p.ops) st.modules) (Ops c) (Deadlock c) (λ (v : Verdict). clock_of v ≡ c) (λ d. refl) (λ d. refl))

@@ -37,7 +37,7 @@ paired_answers p c cs [] = refl
 paired_answers p c cs (r ∷ rs) = ap (λ (l : List Exchange). answered p c cs r ∷ l) (paired_answers p c cs rs)
 
 -- what module i does in clock c, as a step
-abbrev done_at : Plan → ℕ → ℕ → HistoryStep
+abbrev pub done_at : Plan → ℕ → ℕ → HistoryStep
 done_at p c i = record { clock = c; «module» = i; exchanges = map (answered p c (state p c).contents) (requests_of p (i, state_at p c i)) }
 
 step_some : (c i : ℕ) (p : Plan) (cs : List (List Element)) (rs : List Request) → is_some_access (map seen rs) ≡ true
@@ -66,7 +66,7 @@ no_step p h c i s =
       ]
     ]
 
-a_step : (p : Plan) → FitsEngine p → (c i : ℕ) → steps (design p) (lockstep_run p) c i ≡ true
+pub a_step : (p : Plan) → FitsEngine p → (c i : ℕ) → steps (design p) (lockstep_run p) c i ≡ true
     → step_of p c (state p c).contents (i, state_at p c i) ≡ done_at p c i ∷ []
 a_step p h c i s =
     let cs = (state p c).contents in

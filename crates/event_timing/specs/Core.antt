@@ -54,9 +54,13 @@ core_accesses {S} d x m k = d.accesses m (x.state m k)
 abbrev pub core_tally : {S : Type 0} → Design S → Core S → ℕ → Side → ℕ → ℕ → ℕ
 core_tally {S} d x m side ch k = tally (core_accesses d x m) (λ j. bare_replies (x.flags m j)) side ch k
 
+-- the values that module m pushed on a channel in its first k steps
+abbrev pub core_pushed : {S : Type 0} → Design S → Core S → ℕ → ℕ → ℕ → List ℕ
+core_pushed {S} d x m ch k = pushed_in ch (core_accesses d x m) (λ j. bare_replies (x.flags m j)) k
+
 -- the values pushed on a channel in emitted steps, inputs first
 abbrev pub core_values : {S : Type 0} → Design S → Core S → ℕ → List ℕ
-core_values {S} d x ch = d.inputs ch ++ pushed_in ch (core_accesses d x (d.owner Push ch)) (λ j. bare_replies (x.flags (d.owner Push ch) j)) (x.emitted (d.owner Push ch))
+core_values {S} d x ch = d.inputs ch ++ core_pushed d x (d.owner Push ch) ch (x.emitted (d.owner Push ch))
 
 -- whether the access pops an element
 abbrev pub pops_now : Access → Bool → Bool

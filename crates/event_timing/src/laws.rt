@@ -6,9 +6,9 @@ ghost use Rattle.event_timing.specs.Machines.{Design, IsDesign, Access, Reply, H
 ghost use Rattle.event_timing.specs.Histories.{Trace, IsHistory, moves, is_possible};
 ghost use Rattle.event_timing.specs.Contents.{trace};
 ghost use Rattle.event_timing.specs.Steps.{steps, done};
-ghost use Rattle.event_timing.specs.Views.{own, pushed_in, tally, place};
+ghost use Rattle.event_timing.specs.Views.{own, tally, place};
 ghost use Rattle.event_timing.specs.Enablers.{candidate, known_of, answer};
-ghost use Rattle.event_timing.specs.Core.{Core, opening_core, view, core_accesses, core_reply, core_tally, bare_replies, has_query, values_there};
+ghost use Rattle.event_timing.specs.Core.{Core, opening_core, view, core_accesses, core_reply, core_tally, core_pushed, has_query, values_there};
 ghost use Rattle.event_timing.specs.Actions.{Action, Acts, ActsAll, MayRun, MayAssign, MayAnswer, MayEarliest, IsOpen, IsQuiet, IsFinal, IsSame, IsNoRunOf, ActsRecorded, newest, new_flags, assigns, runs, after_run, after_assign, after_answer};
 ghost use Rattle.event_timing.specs.Agreement.{IsAgreed, AreOwnMarks, AllVerified, HappensBefore, IsAtRest, IsStepAt, IsUndetermined, IsBounded, possible_all, stop};
 ghost use Rattle.event_timing.specs.Growth.{Grows, GrowsBeside, IsSettled};
@@ -113,7 +113,7 @@ pub fn final_reports<S>()
         → (m k : ℕ) → k < x.timed m → x.cycle m k < stop d x m }
     ensures outputs { (d : Design S) (h : Trace S) → IsDesign d → IsHistory d h → (limit : ℕ) (x : Core S) → IsAgreed d h limit x
         → (ch c : ℕ) → done d h (d.owner Push ch) c ≡ x.timed (d.owner Push ch)
-        → h.pushed c ch ≡ d.inputs ch ++ pushed_in ch (core_accesses d x (d.owner Push ch)) (λ k. bare_replies (x.flags (d.owner Push ch) k)) (x.timed (d.owner Push ch)) }
+        → h.pushed c ch ≡ d.inputs ch ++ core_pushed d x (d.owner Push ch) ch (x.timed (d.owner Push ch)) }
     ensures held { (d : Design S) (h : Trace S) → IsDesign d → IsHistory d h → (limit : ℕ) (x : Core S) → IsAgreed d h limit x
         → IsFinal d limit x → IsUndetermined d x → (m c : ℕ) → x.timed m < x.emitted m → stop d x m ≤ c
         → (h.state c m ≡ x.state m (x.timed m))

@@ -1,8 +1,9 @@
 -- A sound block keeps the limits that a schedule needs.
 use Rattle.std.proofs.Common.{ℕ}
+use Rattle.std.specs.Prelude.{All}
 use Rattle.flow_design.specs.declared.design.Module.{Module}
 use Rattle.flow_design.specs.declared.design.Block.{Block}
-use Rattle.flow_design.specs.StaticRules.{IsBlockSound}
+use Rattle.flow_design.specs.StaticRules.{IsBlockSound, IsModuleSound}
 use Rattle.lockstep_defs.proofs.Blocks.{some_interval, short_interval, span}
 use Rattle.block_schedule.specs.Schedules.{KeepsLimits}
 
@@ -15,3 +16,6 @@ keeps_limits channels m b sound = record {
   in_block = λ k d l. (sound.operations k d l).offset;
   count = sound.count;
 }
+
+pub blocks_keep_limits : (channels : ℕ) (m : Module) → IsModuleSound channels m → All KeepsLimits m.blocks
+blocks_keep_limits channels m sound k d l = keeps_limits channels m _ (sound.blocks k d l)

@@ -73,11 +73,17 @@ none_in is (t ∷ ts) e = cc
 pub takers_once : (p : Plan) → KeepsPorts p → (e : Port) (i : ℕ) (s : ModuleState) → length (takers e (requests_of p (i, s))) ≤ 1
 takers_once p h e i s = by_case (h.intervals i s.control.block)
   where
-    by_case : ((block_of (module_at p i) s).ops ≡ []) ⊎ (0 < interval (block_of (module_at p i) s)) → length (takers e (requests_of p (i, s))) ≤ 1
+    by_case : ((block_of (module_at p i) s).ops ≡ []) ⊎ (0 < interval (block_of (module_at p i) s))
+        → length (takers e (requests_of p (i, s))) ≤ 1
     by_case (inl none) =
         omega (arith, takers_due p.design.channels (module_at p i) s e, none_due (takes e) (module_at p i) s (none_in (takes e) _ none))
     by_case (inr pos) =
-        omega (arith, takers_due p.design.channels (module_at p i) s e, due_once (takes e) (module_at p i) s (h.apart e i s.control.block) pos)
+        omega (
+          arith,
+          takers_due p.design.channels (module_at p i) s e,
+          due_once (takes e) (module_at p i) s (h.apart e i s.control.block)
+              pos,
+        )
 
 -- ---- a module that doesn't use a port has no such request
 
@@ -91,7 +97,8 @@ uses_none e [] n h = tt
 uses_none e (b ∷ bs) zero h = any_false (λ t. takes e t.op) b.ops (or_parts _ _ h).0
 uses_none e (b ∷ bs) (suc n) h = uses_none e bs n (or_parts _ _ h).1
 
-pub no_takers : (p : Plan) (e : Port) (i : ℕ) (s : ModuleState) → uses e (module_at p i) ≡ false → length (takers e (requests_of p (i, s))) ≡ 0
+pub no_takers : (p : Plan) (e : Port) (i : ℕ) (s : ModuleState) → uses e (module_at p i) ≡ false
+    → length (takers e (requests_of p (i, s))) ≡ 0
 no_takers p e i s h =
     takers_due p.design.channels (module_at p i) s e
     ∙ none_due (takes e) (module_at p i) s (uses_none e (module_at p i).blocks s.control.block h)

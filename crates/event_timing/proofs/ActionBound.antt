@@ -6,7 +6,7 @@ use Rattle.event_timing.specs.Histories.{Trace, IsHistory}
 use Rattle.event_timing.specs.Core.{Core, opening_core, core_reply, has_query, view}
 use Rattle.event_timing.specs.Enablers.{candidate}
 use Rattle.event_timing.specs.Actions.{Action, MayRun, MayAssign, Acts, ActsAll, after_run, after_assign, after_answer, emit_over, newest, put, IsSame}
-use Rattle.event_timing.specs.Agreement.{AreOwnMarks, IsAgreed, IsBounded}
+use Rattle.event_timing.specs.Agreement.{AreOwnMarks, IsAgreed, IsBounded, AllVerified}
 use Rattle.event_timing.specs.Work.{first_one, over_one, work_of, sum_to, work}
 use Rattle.event_timing.proofs.Running.{emit, old_at, emit_more}
 use Rattle.event_timing.proofs.Answering.{first_emitted, put_at_both}
@@ -31,10 +31,6 @@ sum_most : (f : ℕ → ℕ) (n b : ℕ) → ((k : ℕ) → f k ≤ b) → sum_t
 unfolding sum_to
 sum_most f zero b l = omega arith
 sum_most f (suc n) b l = omega (arith, sum_most f n b l, l n)
-
--- no outcome is assumed
-NoAssumed : {S : Type 0} → Core S → Type 0
-NoAssumed {S} x = (m k : ℕ) → k < x.emitted m → x.answered m k ≡ true → x.verified m k ≡ true
 
 first_le : {S : Type 0} → (x : Core S) (m : ℕ) → first_one x m ≤ 1
 unfolding first_one
@@ -151,26 +147,23 @@ answer_rises {S} d x m c i l v =
       more = omega arith;
     }
 
-run_none : {S : Type 0} → (d : Design S) (x : Core S) → NoAssumed x → (m : ℕ) → NoAssumed (after_run d x m)
-unfolding NoAssumed
+run_none : {S : Type 0} → (d : Design S) (x : Core S) → AllVerified x → (m : ℕ) → AllVerified (after_run d x m)
 run_none {S} d x g m =
     elim (cases_Bool (d.is_over m (ready d m (newest d x m)))) [
-      | inl e ↦ subst NoAssumed (sym (cond-true (d.is_over m (ready d m (newest d x m))) (emit_over x m) (emit d x m) e)) g
-      | inr e ↦ subst NoAssumed (sym (cond-false (d.is_over m (ready d m (newest d x m))) (emit_over x m) (emit d x m) e))
+      | inl e ↦ subst AllVerified (sym (cond-true (d.is_over m (ready d m (newest d x m))) (emit_over x m) (emit d x m) e)) g
+      | inr e ↦ subst AllVerified (sym (cond-false (d.is_over m (ready d m (newest d x m))) (emit_over x m) (emit d x m) e))
           (emit_more x m (λ n k. (emit d x m).answered n k ≡ true → (emit d x m).verified n k ≡ true)
           (λ n k l a. old_at x.verified x m _ n k l ∙ g n k l (sym (old_at x.answered x m _ n k l) ∙ a))
           (λ a. put_at_same x.verified m (x.emitted m) (not (has_query (d.accesses m (ready d m (newest d x m))))) ∙ (sym (put_at_same x.answered m (x.emitted m) (not (has_query (d.accesses m (ready d m (newest d x m)))))) ∙ a)))
     ]
 
-answer_none : {S : Type 0} → (d : Design S) (x : Core S) → NoAssumed x → (m c : ℕ) → NoAssumed (after_answer d x m c)
-unfolding NoAssumed
+answer_none : {S : Type 0} → (d : Design S) (x : Core S) → AllVerified x → (m c : ℕ) → AllVerified (after_answer d x m c)
 answer_none {S} d x g m c =
     put_at_both x.verified m (x.timed m) true (λ n k v. k < x.emitted n → (after_answer d x m c).answered n k ≡ true → v ≡ true)
     (λ l a. refl)
     (λ n k w l a. g n k l (sym (put_at_other x.answered m (x.timed m) true n k w) ∙ a))
 
-assign_none : {S : Type 0} → (x : Core S) (m c : ℕ) → NoAssumed x → NoAssumed (after_assign x m c)
-unfolding NoAssumed
+assign_none : {S : Type 0} → (x : Core S) (m c : ℕ) → AllVerified x → AllVerified (after_assign x m c)
 assign_none {S} x m c f = f
 
 inside_of : {S : Type 0} → (d : Design S) (x : Core S) → AreOwnMarks d x → (m : ℕ) → x.timed m < x.emitted m → m < d.modules
@@ -215,34 +208,32 @@ most_work {S} d h limit x g most u = sum_most (work_of x) d.modules (3 * most + 
 
 -- ---- where no outcome is assumed
 
-never_found : {S : Type 0} → (d : Design S) (x : Core S) → NoAssumed x → (m c : ℕ) → candidate d (view d x) m ≡ Some c → x.verified m (x.timed m) ≡ false → IsSame d x m c
-unfolding NoAssumed
+pub never_found : {S : Type 0} → (d : Design S) (x : Core S) → AllVerified x → (m c : ℕ) → candidate d (view d x) m ≡ Some c → x.verified m (x.timed m) ≡ false → IsSame d x m c
 never_found {S} d x f m c at v a = absurd (both_ways _ v (f m (x.timed m) (first_emitted d x m c at) a))
 
 -- each permitted action raises some module's work, and assumes nothing
-acts_plainly : {S : Type 0} → (d : Design S) (h : Trace S) (limit : ℕ) (x : Core S) → IsAgreed d h limit x → NoAssumed x → (a : Action) (z : Core S) → Acts d limit x a z → Rises d x z × NoAssumed z
-acts_plainly {S} d h limit x g f (Action.Run m) z (r, e) = (subst (Rises d x) (sym e) (run_rises d h limit x g m r), subst NoAssumed (sym e) (run_none d x f m))
-acts_plainly {S} d h limit x g f (Action.Assign m) z (c, r, e) = (subst (Rises d x) (sym e) (given_rises d h limit x g m c r), subst NoAssumed (sym e) (assign_none x m c f))
+acts_plainly : {S : Type 0} → (d : Design S) (h : Trace S) (limit : ℕ) (x : Core S) → IsAgreed d h limit x → AllVerified x → (a : Action) (z : Core S) → Acts d limit x a z → Rises d x z × AllVerified z
+acts_plainly {S} d h limit x g f (Action.Run m) z (r, e) = (subst (Rises d x) (sym e) (run_rises d h limit x g m r), subst AllVerified (sym e) (run_none d x f m))
+acts_plainly {S} d h limit x g f (Action.Assign m) z (c, r, e) = (subst (Rises d x) (sym e) (given_rises d h limit x g m c r), subst AllVerified (sym e) (assign_none x m c f))
 acts_plainly {S} d h limit x g f (Action.Answer m) z (c, r, inl (s, e)) =
-    (subst (Rises d x) (sym e) (found_rises d h limit x g m c r.determined.at r.open_query), subst NoAssumed (sym e) (answer_none d x f m c))
+    (subst (Rises d x) (sym e) (found_rises d h limit x g m c r.determined.at r.open_query), subst AllVerified (sym e) (answer_none d x f m c))
 acts_plainly {S} d h limit x g f (Action.Answer m) z (c, r, inr (s, e)) = absurd (s (never_found d x f m c r.determined.at r.open_query))
 acts_plainly {S} d h limit x g f (Action.Earliest m) z (c, r, inl (s, e)) =
-    (subst (Rises d x) (sym e) (found_rises d h limit x g m c r.open_step.determined.at r.open_step.open_query), subst NoAssumed (sym e) (answer_none d x f m c))
+    (subst (Rises d x) (sym e) (found_rises d h limit x g m c r.open_step.determined.at r.open_step.open_query), subst AllVerified (sym e) (answer_none d x f m c))
 acts_plainly {S} d h limit x g f (Action.Earliest m) z (c, r, inr (s, e)) = absurd (s (never_found d x f m c r.open_step.determined.at r.open_step.open_query))
 
-all_rise : {S : Type 0} → (d : Design S) (h : Trace S) → IsDesign d → IsHistory d h → (limit : ℕ) (x : Core S) → IsAgreed d h limit x → NoAssumed x
-    → (actions : List Action) (z : Core S) → ActsAll d limit x actions z → (length actions + work d x ≤ work d z) × IsAgreed d h limit z × NoAssumed z
+pub all_rise : {S : Type 0} → (d : Design S) (h : Trace S) → IsDesign d → IsHistory d h → (limit : ℕ) (x : Core S) → IsAgreed d h limit x → AllVerified x
+    → (actions : List Action) (z : Core S) → ActsAll d limit x actions z → (length actions + work d x ≤ work d z) × IsAgreed d h limit z × AllVerified z
 all_rise {S} d h i y limit x g f [] z e =
     let p : work d x ≤ work d z = subst (λ (w : Core S). work d x ≤ work d w) (sym e) (omega arith) in
-    (omega arith, subst (IsAgreed d h limit) (sym e) g, subst NoAssumed (sym e) f)
+    (omega arith, subst (IsAgreed d h limit) (sym e) g, subst AllVerified (sym e) f)
 all_rise {S} d h i y limit x g f (a ∷ more) z (w, s, t) =
     let (p, q) = acts_plainly d h limit x g f a w s in
     let (n, r, v) = all_rise d h i y limit w (acts_agree d h i y limit x g a w s) q more z t in
     let k = all_more d x w p in
     (omega arith, r, v)
 
-none_assumed : {S : Type 0} → (d : Design S) → NoAssumed (opening_core d)
-unfolding NoAssumed
+pub none_assumed : {S : Type 0} → (d : Design S) → AllVerified (opening_core d)
 none_assumed {S} d m k l = absurd (omega arith)
 
 -- how many actions there can be
@@ -251,10 +242,3 @@ pub few_actions : {S : Type 0} → (d : Design S) (h : Trace S) → IsDesign d �
 few_actions {S} d h i y limit most u actions z s =
     let (n, g, v) = all_rise d h i y limit (opening_core d) (opening_agrees d h i y limit) (none_assumed d) actions z s in
     omega (arith, n, most_work d h limit z g most u)
-
--- and none of them finds another outcome than an assumed one
-pub nothing_differs : {S : Type 0} → (d : Design S) (h : Trace S) → IsDesign d → IsHistory d h → (limit : ℕ) (actions : List Action) (z : Core S)
-    → ActsAll d limit (opening_core d) actions z → (m c : ℕ) → z.verified m (z.timed m) ≡ false → candidate d (view d z) m ≡ Some c → IsSame d z m c
-nothing_differs {S} d h i y limit actions z s m c v e =
-    let (n, g, f) = all_rise d h i y limit (opening_core d) (opening_agrees d h i y limit) (none_assumed d) actions z s in
-    never_found d z f m c e v

@@ -58,11 +58,11 @@ pub stuck : {S : Type 0} → (d : Design S) (h : Trace S) → IsDesign d → (li
 stuck {S} d h i limit x b u q t l f = record { ended = stuck_ended d h i limit x b u q; later = stuck_later d limit x q t l f }
 
 answered_agrees : {S : Type 0} → (d : Design S) (h : Trace S) → IsDesign d → IsHistory d h → (limit : ℕ) (x : Core S) → IsAgreed d h limit x → (m c : ℕ)
-    → candidate d (view d x) m ≡ Some c → new_flags d x m c ≡ possible_all d h c (core_accesses d x m (x.timed m)) → (y : Core S)
+    → c < limit → candidate d (view d x) m ≡ Some c → new_flags d x m c ≡ possible_all d h c (core_accesses d x m (x.timed m)) → (y : Core S)
     → (IsSame d x m c × (y ≡ after_answer d x m c)) ⊎ ((IsSame d x m c → ⊥) × (y ≡ x)) → IsAgreed d h limit y
-answered_agrees {S} d h i y limit x g m c e r z (inl w) =
-    subst (IsAgreed d h limit) (sym w.1) (record { marks = answer_marks d i x g.marks m c (first_emitted d x m c e) w.0; time = answer_time d h i y limit x g.marks g.time m c e r w.0 })
-answered_agrees {S} d h i y limit x g m c e r z (inr w) = subst (IsAgreed d h limit) (sym w.1) g
+answered_agrees {S} d h i y limit x g m c l e r z (inl w) =
+    subst (IsAgreed d h limit) (sym w.1) (record { marks = answer_marks d i x g.marks m c (first_emitted d x m c e) w.0; time = answer_time d h i y limit x g.marks g.time m c e r w.0 l })
+answered_agrees {S} d h i y limit x g m c l e r z (inr w) = subst (IsAgreed d h limit) (sym w.1) g
 
 -- what an Answer finds is the history's
 pub answer_found : {S : Type 0} → (d : Design S) (h : Trace S) → IsDesign d → IsHistory d h → (limit : ℕ) (x : Core S) → IsAgreed d h limit x → (m c : ℕ)
@@ -89,9 +89,9 @@ acts_agree {S} d h i y limit x g (Action.Run m) z (r, e) =
 acts_agree {S} d h i y limit x g (Action.Assign m) z (c, r, e) =
     subst (IsAgreed d h limit) (sym e) (record { marks = assign_marks d x m c g.marks; time = assign_time d h i y limit x g.marks g.time m c r })
 acts_agree {S} d h i y limit x g (Action.Answer m) z (c, r, e) =
-    answered_agrees d h i y limit x g m c r.determined.at (answer_found d h i y limit x g m c r) z e
+    answered_agrees d h i y limit x g m c r.determined.below r.determined.at (answer_found d h i y limit x g m c r) z e
 acts_agree {S} d h i y limit x g (Action.Earliest m) z (c, r, e) =
-    answered_agrees d h i y limit x g m c r.open_step.determined.at (earliest_found d h i y limit x g m c r) z e
+    answered_agrees d h i y limit x g m c r.open_step.determined.below r.open_step.determined.at (earliest_found d h i y limit x g m c r) z e
 
 pub all_agree : {S : Type 0} → (d : Design S) (h : Trace S) → IsDesign d → IsHistory d h → (limit : ℕ) (x : Core S) → IsAgreed d h limit x
     → (actions : List Action) (z : Core S) → ActsAll d limit x actions z → IsAgreed d h limit z

@@ -1,79 +1,82 @@
 -- Verified outcomes keep agreement.
 use Rattle.std.proofs.Common.{◌≡◌, ℕ, suc, ◌+◌, ◌<◌, ◌≤◌, Bool, true, false, cond, ◌&&◌, ◌||◌, ◌⊎◌, inl, inr, List, [], ◌∷◌, ◌++◌, sym, refl, ap, ap₂, ◌∙◌, subst, arith, eqb, Some, append_assoc, append-nil}
 use Rattle.std.proofs.lemmas.Bool.{cases_Bool, cond-true, cond-false, and_parts, and_from, both_ways, cases_lt, cases_eq, false_from_ne_true, ltb-true, or_left}
-use Rattle.event_timing.specs.Machines.{Design, IsDesign, Access, Reply, ready, values_in, took, takes_at, takers, same_side}
+use Rattle.flow_word.specs.declared.access.Side.TheVariants.{Pop, Push}
+use Rattle.flow_word.specs.Kinds.{same_side}
+use Rattle.event_timing.specs.Machines.{Design, IsDesign, Access, Reply, ready, values_in, took, takes_at, takers}
 use Rattle.event_timing.specs.Histories.{Trace, IsHistory}
 use Rattle.event_timing.specs.Steps.{steps, done}
 use Rattle.event_timing.specs.Enablers.{Known, known_of, answer, flags_at, candidate}
 use Rattle.event_timing.specs.Views.{pushed_in, Begins}
 use Rattle.event_timing.specs.Core.{Core, bare_replies, core_accesses, core_tally, core_values, all_below, view, has_query, no_outcomes}
-use Rattle.event_timing.specs.Agreement.{AreOwnMarks, IsTimed, elements_timed, possible_all, FlagsFit, Happens}
+use Rattle.event_timing.specs.Agreement.{AreOwnMarks, IsTimed, elements_timed, possible_all, FlagsFit, HappensBefore}
 use Rattle.event_timing.specs.Actions.{after_answer, new_flags, IsSame, put_at}
 use Rattle.event_timing.proofs.Steps.{same_clock}
 use Rattle.event_timing.proofs.Values.{begins_self, pushed_in_more}
 use Rattle.event_timing.proofs.Candidate.{candidate_parts, candidate_steps, candidate_done}
 use Rattle.event_timing.proofs.Fronts.{agrees, pushed_same}
-use Rattle.event_timing.proofs.Growing.{Grows, settled_less, settled_old, settled_timed, settled_all, own_grow, reply_grow, there_grow, tally_grow, below_grow}
+use Rattle.event_timing.specs.Growth.{Grows}
+use Rattle.event_timing.proofs.Growing.{settled_less, settled_old, settled_timed, settled_all, own_grow, reply_grow, there_grow, tally_grow, below_grow}
 use Rattle.event_timing.proofs.Assigning.{put_at_same, put_at_other, new_sure, RightFlags, SureFlags, HappensFirst}
 use Rattle.event_timing.proofs.Running.{values_grow}
 
-no_takers : (ch : ℕ) (xs : List Access) (rs : List Reply) → takers false ch xs ≡ 0 → values_in ch xs rs ≡ []
+no_takers : (ch : ℕ) (xs : List Access) (rs : List Reply) → takers Push ch xs ≡ 0 → values_in ch xs rs ≡ []
 no_takers ch [] rs e = refl
 no_takers ch (a ∷ xs) [] e = refl
 no_takers ch (a ∷ xs) (r ∷ rs) e =
-    elim (cases_Bool (takes_at false ch a)) [
-      | inl k ↦ let e' = rw (cond-true {A = ℕ} (takes_at false ch a) 1 0 k) at e in absurd (omega arith)
+    elim (cases_Bool (takes_at Push ch a)) [
+      | inl k ↦ let e' = rw (cond-true {A = ℕ} (takes_at Push ch a) 1 0 k) at e in absurd (omega arith)
       | inr k ↦
-          let e' = rw (cond-false {A = ℕ} (takes_at false ch a) 1 0 k) at e in
-          let t : took false ch a r ≡ false =
-          false_from_ne_true (took false ch a r) (λ (w : took false ch a r ≡ true).
-          let (w1, w2) = and_parts a.takes (r.possible && (same_side a.pops false && eqb a.channel ch)) w in
-          let (w3, w4) = and_parts r.possible (same_side a.pops false && eqb a.channel ch) w2 in
-          both_ways _ k (and_from a.takes (same_side a.pops false && eqb a.channel ch) w1 w4)) in
-          ap (λ (z : List ℕ). z ++ values_in ch xs rs) (cond-false {A = List ℕ} (took false ch a r) (a.value ∷ []) [] t) ∙ no_takers ch xs rs (omega arith)
+          let e' = rw (cond-false {A = ℕ} (takes_at Push ch a) 1 0 k) at e in
+          let t : took Push ch a r ≡ false =
+          false_from_ne_true (took Push ch a r) (λ (w : took Push ch a r ≡ true).
+          let (w1, w2) = and_parts a.takes (r.possible && (same_side a.side Push && eqb a.channel ch)) w in
+          let (w3, w4) = and_parts r.possible (same_side a.side Push && eqb a.channel ch) w2 in
+          both_ways _ k (and_from a.takes (same_side a.side Push && eqb a.channel ch) w1 w4)) in
+          ap (λ (z : List ℕ). z ++ values_in ch xs rs) (cond-false {A = List ℕ} (took Push ch a r) (a.value ∷ []) [] t) ∙ no_takers ch xs rs (omega arith)
     ]
 
 flag : Bool → Reply
 flag b = record { possible = b; front = 0 }
 
 -- an outcome adds pushes behind those that are there
-more_values : (ch : ℕ) (know : Access → Known) (c : ℕ) (xs : List Access) → takers false ch xs ≤ 1
+more_values : (ch : ℕ) (know : Access → Known) (c : ℕ) (xs : List Access) → takers Push ch xs ≤ 1
     → Begins (values_in ch xs (bare_replies (flags_at know c xs))) (values_in ch xs (bare_replies (no_outcomes xs)))
 unfolding flag
 more_values ch know c [] l = begins_self []
 more_values ch know c (a ∷ xs) l =
-    elim (cases_Bool (takes_at false ch a)) [
+    elim (cases_Bool (takes_at Push ch a)) [
       | inr k ↦
-          let l' = rw (cond-false {A = ℕ} (takes_at false ch a) 1 0 k) at l in
+          let l' = rw (cond-false {A = ℕ} (takes_at Push ch a) 1 0 k) at l in
           let (more, e) = more_values ch know c xs (omega arith) in
-          let t1 = cond-false {A = List ℕ} (took false ch a (flag (a.blocks || answer (know a) c))) (a.value ∷ []) [] (none (a.blocks || answer (know a) c) k) in
-          let t2 = cond-false {A = List ℕ} (took false ch a (flag a.blocks)) (a.value ∷ []) [] (none a.blocks k) in
+          let t1 = cond-false {A = List ℕ} (took Push ch a (flag (a.blocks || answer (know a) c))) (a.value ∷ []) [] (none (a.blocks || answer (know a) c) k) in
+          let t2 = cond-false {A = List ℕ} (took Push ch a (flag a.blocks)) (a.value ∷ []) [] (none a.blocks k) in
           (more, ap (λ (z : List ℕ). z ++ values_in ch xs (bare_replies (flags_at know c xs))) t1 ∙ (e ∙ sym (ap (λ (z : List ℕ). (z ++ values_in ch xs (bare_replies (no_outcomes xs))) ++ more) t2)))
       | inl k ↦
-          let l' = rw (cond-true {A = ℕ} (takes_at false ch a) 1 0 k) at l in
+          let l' = rw (cond-true {A = ℕ} (takes_at Push ch a) 1 0 k) at l in
           let n1 = no_takers ch xs (bare_replies (flags_at know c xs)) (omega arith) in
           let n2 = no_takers ch xs (bare_replies (no_outcomes xs)) (omega arith) in
           head (cases_Bool a.blocks) n1 n2
     ]
   where
-    none : (b : Bool) → takes_at false ch a ≡ false → took false ch a (flag b) ≡ false
+    none : (b : Bool) → takes_at Push ch a ≡ false → took Push ch a (flag b) ≡ false
     none b k =
-        false_from_ne_true (took false ch a (flag b)) (λ (w : took false ch a (flag b) ≡ true).
-        let (w1, w2) = and_parts a.takes (b && (same_side a.pops false && eqb a.channel ch)) w in
-        let (w3, w4) = and_parts b (same_side a.pops false && eqb a.channel ch) w2 in
-        both_ways _ k (and_from a.takes (same_side a.pops false && eqb a.channel ch) w1 w4))
+        false_from_ne_true (took Push ch a (flag b)) (λ (w : took Push ch a (flag b) ≡ true).
+        let (w1, w2) = and_parts a.takes (b && (same_side a.side Push && eqb a.channel ch)) w in
+        let (w3, w4) = and_parts b (same_side a.side Push && eqb a.channel ch) w2 in
+        both_ways _ k (and_from a.takes (same_side a.side Push && eqb a.channel ch) w1 w4))
 
     head : (a.blocks ≡ true) ⊎ (a.blocks ≡ false) → values_in ch xs (bare_replies (flags_at know c xs)) ≡ []
         → values_in ch xs (bare_replies (no_outcomes xs)) ≡ []
         → Begins (values_in ch (a ∷ xs) (bare_replies (flags_at know c (a ∷ xs)))) (values_in ch (a ∷ xs) (bare_replies (no_outcomes (a ∷ xs))))
     head (inl b) n1 n2 =
         let f1 : (a.blocks || answer (know a) c) ≡ a.blocks = or_left a.blocks (answer (know a) c) b ∙ sym b in
-        ([], ap₂ (λ (z : Bool) (zs : List ℕ). cond {A = List ℕ} (took false ch a (flag z)) (a.value ∷ []) [] ++ zs) f1 (n1 ∙ sym n2) ∙ sym (append-nil _))
+        ([], ap₂ (λ (z : Bool) (zs : List ℕ). cond {A = List ℕ} (took Push ch a (flag z)) (a.value ∷ []) [] ++ zs) f1 (n1 ∙ sym n2) ∙ sym (append-nil _))
     head (inr b) n1 n2 =
-        let t2 : took false ch a (flag a.blocks) ≡ false = false_from_ne_true (took false ch a (flag a.blocks)) (λ (w : took false ch a (flag a.blocks) ≡ true).
-        let (w1, w2) = and_parts a.takes (a.blocks && (same_side a.pops false && eqb a.channel ch)) w in
-        both_ways _ b (and_parts a.blocks (same_side a.pops false && eqb a.channel ch) w2).0) in
-        (_, sym (ap₂ (λ (z zs : List ℕ). (z ++ zs) ++ (cond {A = List ℕ} (took false ch a (flag (a.blocks || answer (know a) c))) (a.value ∷ []) [] ++ values_in ch xs (bare_replies (flags_at know c xs)))) (cond-false {A = List ℕ} (took false ch a (flag a.blocks)) (a.value ∷ []) [] t2) n2))
+        let t2 : took Push ch a (flag a.blocks) ≡ false = false_from_ne_true (took Push ch a (flag a.blocks)) (λ (w : took Push ch a (flag a.blocks) ≡ true).
+        let (w1, w2) = and_parts a.takes (a.blocks && (same_side a.side Push && eqb a.channel ch)) w in
+        both_ways _ b (and_parts a.blocks (same_side a.side Push && eqb a.channel ch) w2).0) in
+        (_, sym (ap₂ (λ (z zs : List ℕ). (z ++ zs) ++ (cond {A = List ℕ} (took Push ch a (flag (a.blocks || answer (know a) c))) (a.value ∷ []) [] ++ values_in ch xs (bare_replies (flags_at know c xs)))) (cond-false {A = List ℕ} (took Push ch a (flag a.blocks)) (a.value ∷ []) [] t2) n2))
 
 flags_at_fit : (know : Access → Known) (c : ℕ) (xs : List Access) → FlagsFit xs (flags_at know c xs)
 flags_at_fit know c [] = tt
@@ -108,7 +111,7 @@ answer_answered {S} d x m c =
     put_at_both x.answered m (x.timed m) true (λ n k f. x.answered n k ≡ true → f ≡ true) (λ a. refl) (λ n k w a. a)
 
 answer_values_here : {S : Type 0} → (d : Design S) → IsDesign d → (x : Core S) → AreOwnMarks d x → (m c ch : ℕ) → x.timed m < x.emitted m
-    → x.answered m (x.timed m) ≡ false → d.owner false ch ≡ m → Begins (core_values d (after_answer d x m c) ch) (core_values d x ch)
+    → x.answered m (x.timed m) ≡ false → d.owner Push ch ≡ m → Begins (core_values d (after_answer d x m c) ch) (core_values d x ch)
 answer_values_here {S} d i x b m c ch l a o =
     let z : Core S = after_answer d x m c in
     let t : ℕ = x.timed m in
@@ -116,7 +119,7 @@ answer_values_here {S} d i x b m c ch l a o =
     let s = pushed_same (core_accesses d z m) (core_accesses d x m) (λ j. bare_replies (z.flags m j)) (λ j. bare_replies (x.flags m j)) ch t (λ k q. ap (λ (f : List Bool). values_in ch (core_accesses d x m k) (bare_replies f)) (answer_other d x m c m k (λ p w. omega arith))) in
     let f1 = put_at_same x.flags m t (new_flags d x m c) in
     let f2 = b.unanswered m t l a in
-    let (more, g) = more_values ch (known_of d (view d x) m) c (core_accesses d x m t) (i.single false m (x.state m t) ch) in
+    let (more, g) = more_values ch (known_of d (view d x) m) c (core_accesses d x m t) (i.single Push m (x.state m t) ch) in
     let n1 : pushed_in ch (core_accesses d z m) (λ j. bare_replies (z.flags m j)) (suc t) ≡ pushed_in ch (core_accesses d x m) (λ j. bare_replies (x.flags m j)) t ++ values_in ch (core_accesses d x m t) (bare_replies (new_flags d x m c)) =
     pushed_in_more ch (core_accesses d z m) (λ j. bare_replies (z.flags m j)) t ∙ ap₂ (λ (p : List ℕ) (f : List Bool). p ++ values_in ch (core_accesses d x m t) (bare_replies f)) s f1 in
     let n2 : pushed_in ch (core_accesses d x m) (λ j. bare_replies (x.flags m j)) (suc t) ≡ pushed_in ch (core_accesses d x m) (λ j. bare_replies (x.flags m j)) t ++ values_in ch (core_accesses d x m t) (bare_replies (no_outcomes (core_accesses d x m t))) =
@@ -134,11 +137,11 @@ answer_values : {S : Type 0} → (d : Design S) → IsDesign d → (x : Core S) 
     → Begins (core_values d (after_answer d x m c) ch) (core_values d x ch)
 answer_values {S} d i x b m c ch l s =
     elim (cases_Bool (x.answered m (x.timed m))) [
-      | inl a ↦ values_grow d x (after_answer d x m c) ch (omega arith) (λ k q. refl) (λ k q. same a (d.owner false ch) k)
+      | inl a ↦ values_grow d x (after_answer d x m c) ch (omega arith) (λ k q. refl) (λ k q. same a (d.owner Push ch) k)
       | inr a ↦
-          elim (cases_eq (d.owner false ch) m) [
+          elim (cases_eq (d.owner Push ch) m) [
             | inl o ↦ answer_values_here d i x b m c ch l a o
-            | inr o ↦ values_grow d x (after_answer d x m c) ch (omega arith) (λ k q. refl) (λ k q. answer_other d x m c (d.owner false ch) k (λ p w. o p))
+            | inr o ↦ values_grow d x (after_answer d x m c) ch (omega arith) (λ k q. refl) (λ k q. answer_other d x m c (d.owner Push ch) k (λ p w. o p))
           ]
     ]
   where
@@ -187,8 +190,8 @@ answer_marks {S} d i x b m c l s =
 answer_sure : {S : Type 0} → (d : Design S) → IsDesign d → (h : Trace S) (limit : ℕ) (x : Core S) → AreOwnMarks d x → IsTimed d h limit x → (m c ch : ℕ)
     → x.timed m < x.emitted m → IsSame d x m c → elements_timed d (after_answer d x m c) ch ≡ elements_timed d x ch
 answer_sure {S} d i h limit x b u m c ch l s =
-    let p = settled_timed d h limit x u (d.owner false ch) (x.timed (d.owner false ch)) (omega arith) in
-    ap (λ (z : ℕ). d.start true ch + z) (tally_grow d x (after_answer d x m c) (answer_grows d i x b m c l s) (d.owner false ch) (x.timed (d.owner false ch)) p.emitted p.answered false ch)
+    let p = settled_timed d h limit x u (d.owner Push ch) (x.timed (d.owner Push ch)) (omega arith) in
+    ap (λ (z : ℕ). d.start Pop ch + z) (tally_grow d x (after_answer d x m c) (answer_grows d i x b m c l s) (d.owner Push ch) (x.timed (d.owner Push ch)) p.emitted p.answered Push ch)
 
 answer_first_flags : {S : Type 0} → (d : Design S) (h : Trace S) → (limit : ℕ) (x : Core S) → IsTimed d h limit x → (m c : ℕ) → steps d h c m ≡ true
     → done d h m c ≡ x.timed m → new_flags d x m c ≡ possible_all d h c (core_accesses d x m (x.timed m)) → (n k : ℕ) → k < x.emitted n → k ≡ x.timed n
@@ -206,21 +209,21 @@ answer_first_flags {S} d h limit x u m c st dn r =
 answer_first_sure : {S : Type 0} → (d : Design S) → IsDesign d → (h : Trace S) (limit : ℕ) (x : Core S) → AreOwnMarks d x → IsTimed d h limit x → (m c : ℕ)
     → x.timed m < x.emitted m → IsSame d x m c → candidate d (view d x) m ≡ Some c → (n k : ℕ) → k < x.emitted n → k ≡ x.timed n
     → (after_answer d x m c).verified n k ≡ true → has_query (core_accesses d x n k) ≡ true
-    → all_below (elements_timed d (after_answer d x m c)) (λ ch. core_tally d (after_answer d x m c) n true ch k) (core_accesses d x n k) ((after_answer d x m c).flags n k) ≡ true
+    → all_below (elements_timed d (after_answer d x m c)) (λ ch. core_tally d (after_answer d x m c) n Pop ch k) (core_accesses d x n k) ((after_answer d x m c).flags n k) ≡ true
 answer_first_sure {S} d i h limit x b u m c lt s e =
-    put_at_both x.flags m (x.timed m) (new_flags d x m c) (λ n k f. k < x.emitted n → k ≡ x.timed n → (after_answer d x m c).verified n k ≡ true → has_query (core_accesses d x n k) ≡ true → all_below (elements_timed d (after_answer d x m c)) (λ ch. core_tally d (after_answer d x m c) n true ch k) (core_accesses d x n k) f ≡ true)
+    put_at_both x.flags m (x.timed m) (new_flags d x m c) (λ n k f. k < x.emitted n → k ≡ x.timed n → (after_answer d x m c).verified n k ≡ true → has_query (core_accesses d x n k) ≡ true → all_below (elements_timed d (after_answer d x m c)) (λ ch. core_tally d (after_answer d x m c) n Pop ch k) (core_accesses d x n k) f ≡ true)
     (λ l q v p. grown m (x.timed m) (new_flags d x m c) l (new_sure d i x m c e))
     (λ n k o l q v p.
     let f = subst (λ (j : ℕ). SureFlags d (elements_timed d x) x n j) (sym q) (u.first_sure n) in
     grown n k (x.flags n k) l (f l (sym (put_at_other x.verified m (x.timed m) true n k o) ∙ v) p))
   where
-    grown : (n k : ℕ) (f : List Bool) → k < x.emitted n → all_below (elements_timed d x) (λ ch. core_tally d x n true ch k) (core_accesses d x n k) f ≡ true
-        → all_below (elements_timed d (after_answer d x m c)) (λ ch. core_tally d (after_answer d x m c) n true ch k) (core_accesses d x n k) f ≡ true
+    grown : (n k : ℕ) (f : List Bool) → k < x.emitted n → all_below (elements_timed d x) (λ ch. core_tally d x n Pop ch k) (core_accesses d x n k) f ≡ true
+        → all_below (elements_timed d (after_answer d x m c)) (λ ch. core_tally d (after_answer d x m c) n Pop ch k) (core_accesses d x n k) f ≡ true
     grown n k f l w =
         let o = settled_old d x b n k l in
-        below_grow (elements_timed d x) (elements_timed d (after_answer d x m c)) (λ ch. core_tally d x n true ch k) (λ ch. core_tally d (after_answer d x m c) n true ch k) (core_accesses d x n k) f
+        below_grow (elements_timed d x) (elements_timed d (after_answer d x m c)) (λ ch. core_tally d x n Pop ch k) (λ ch. core_tally d (after_answer d x m c) n Pop ch k) (core_accesses d x n k) f
         (λ ch. omega (arith, answer_sure d i h limit x b u m c ch lt s))
-        (λ ch. tally_grow d x (after_answer d x m c) (answer_grows d i x b m c lt s) n k o.emitted o.answered true ch)
+        (λ ch. tally_grow d x (after_answer d x m c) (answer_grows d i x b m c lt s) n k o.emitted o.answered Pop ch)
         w
 
 pub first_emitted : {S : Type 0} → (d : Design S) (x : Core S) (m c : ℕ) → candidate d (view d x) m ≡ Some c → x.timed m < x.emitted m
@@ -230,8 +233,8 @@ first_emitted {S} d x m c e =
 
 pub answer_time : {S : Type 0} → (d : Design S) (h : Trace S) → IsDesign d → IsHistory d h → (limit : ℕ) (x : Core S) → AreOwnMarks d x → IsTimed d h limit x
     → (m c : ℕ) → candidate d (view d x) m ≡ Some c → new_flags d x m c ≡ possible_all d h c (core_accesses d x m (x.timed m)) → IsSame d x m c
-    → IsTimed d h limit (after_answer d x m c)
-answer_time {S} d h i y limit x b u m c e r s =
+    → c < limit → IsTimed d h limit (after_answer d x m c)
+answer_time {S} d h i y limit x b u m c e r s below =
     let l = first_emitted d x m c e in
     let g = answer_grows d i x b m c l s in
     let z : Core S = after_answer d x m c in
@@ -248,9 +251,9 @@ answer_time {S} d h i y limit x b u m c e r s =
       below = u.below;
       first_flags = λ n q. answer_first_flags d h limit x u m c st dn r n (x.timed n) q refl;
       first_sure = λ n q. answer_first_sure d i h limit x b u m c l s e n (x.timed n) q refl;
-      first_happens = λ n q. put_at_both x.verified m (x.timed m) true (λ n k f. k < x.emitted n → k ≡ x.timed n → f ≡ true → has_query (core_accesses d x n k) ≡ true → Happens d h n k)
-          (λ q e v p. (c, (st, dn)))
-          (λ n k w q e v p. subst (λ (j : ℕ). HappensFirst d h x n j) (sym e) (u.first_happens n) q v p) n (x.timed n) q refl;
+      first_happens = λ n q. put_at_both x.verified m (x.timed m) true (λ n k f. k < x.emitted n → k ≡ x.timed n → f ≡ true → has_query (core_accesses d x n k) ≡ true → HappensBefore d h limit n k)
+          (λ q e v p. (c, below, (st, dn)))
+          (λ n k w q e v p. subst (λ (j : ℕ). HappensFirst d h limit x n j) (sym e) (u.first_happens n) q v p) n (x.timed n) q refl;
       verified_then = put_at_both x.verified m (x.timed m) true (λ n k f. k < x.timed n → f ≡ true) (λ q. refl) (λ n k w q. u.verified_then n k q);
       verified_answered = put_at_both x.verified m (x.timed m) true (λ n k f. k < x.emitted n → f ≡ true → z.answered n k ≡ true)
           (λ q v. put_at_same x.answered m (x.timed m) true)

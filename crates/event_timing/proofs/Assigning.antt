@@ -1,6 +1,9 @@
 -- Giving a cycle keeps agreement.
 use Rattle.std.proofs.Common.{◌≡◌, ℕ, suc, ◌+◌, ◌-◌, ◌<◌, ◌≤◌, Bool, true, false, cond, not, ◌&&◌, ◌||◌, inl, inr, List, [], ◌∷◌, map, length, get_or, sym, refl, ap, ap₂, ◌∙◌, subst, arith, eqb, ltb, Option, Some, None, length-append}
 use Rattle.std.proofs.lemmas.Bool.{cases_Bool, cond-true, cond-false, and_parts, and_from, both_ways, cases_eq, not-false, not_from_false, false_from_ne_true, lt-ltb, eqb-true, ltb-true, ltb-false, or_cases, or_parts, or_left, or_right, eq-eqb, ne_eqb}
+use Rattle.flow_word.specs.declared.access.Side.{Side}
+use Rattle.flow_word.specs.declared.access.Side.TheVariants.{Pop, Push}
+use Rattle.flow_word.specs.Kinds.{same_side}
 use Rattle.event_timing.specs.Machines.{Design, IsDesign, Access, Reply, Each, ready}
 use Rattle.event_timing.specs.Histories.{Trace, IsHistory, is_possible, replies, reply_to, can_all, can_do}
 use Rattle.event_timing.specs.Steps.{steps, done}
@@ -8,10 +11,10 @@ use Rattle.event_timing.specs.Views.{tally, View, pushed_in}
 use Rattle.event_timing.specs.Enablers.{Known, known, known_of, bound, answer, flags_at, from_step, candidate}
 use Rattle.event_timing.specs.Enablers.Known.{From, Never, Unknown}
 use Rattle.event_timing.specs.Core.{Core, bare_replies, core_accesses, core_tally, core_values, pops_now, replies_of, all_below, core_reply, values_there, view, has_query}
-use Rattle.event_timing.specs.Agreement.{AreOwnMarks, IsTimed, elements_timed, possible_all, FlagsFit, Happens}
+use Rattle.event_timing.specs.Agreement.{AreOwnMarks, IsTimed, elements_timed, possible_all, FlagsFit, HappensBefore}
 use Rattle.event_timing.specs.Actions.{after_assign, put, put_at, MayAssign}
 use Rattle.event_timing.proofs.Standing.{step_ready, moves_can, steps_moves}
-use Rattle.event_timing.proofs.OwnRuns.{rest_own, follows, tally_mono, IsPlace, place_says}
+use Rattle.event_timing.proofs.OwnRuns.{rest_own, follows, tally_mono, IsPlace, place_says, same_side_is}
 use Rattle.event_timing.proofs.Threshold.{taken_view, known_never, known_event, enabler}
 use Rattle.event_timing.proofs.Candidate.{both_parts, bound_blocks, bound_free, can_blocks, candidate_parts, candidate_done, candidate_steps, candidate_ready}
 use Rattle.event_timing.proofs.Values.{length_pushed_in}
@@ -19,18 +22,19 @@ use Rattle.event_timing.proofs.Fronts.{agrees, agrees_done, IsDone, get_right, c
 
 -- what the channel of a pop has at its front
 abbrev pub FrontOk : {S : Type 0} → Design S → Trace S → ℕ → (ℕ → ℕ) → (ℕ → List ℕ) → (ℕ → ℕ) → Access → Type 0
-FrontOk {S} d h c s V t a = a.pops ≡ true → is_possible d h c true a.channel ≡ true → t a.channel < s a.channel → get_or (V a.channel) (t a.channel) 0 ≡ get_or (h.pushed c a.channel) (h.taken c true a.channel) 0
+FrontOk {S} d h c s V t a = a.side ≡ Pop → is_possible d h c Pop a.channel ≡ true → t a.channel < s a.channel → get_or (V a.channel) (t a.channel) 0 ≡ get_or (h.pushed c a.channel) (h.taken c Pop a.channel) 0
 
-front_same : {S : Type 0} → (d : Design S) (h : Trace S) (c : ℕ) (s : ℕ → ℕ) (V : ℕ → List ℕ) (t : ℕ → ℕ) (a : Access) → FrontOk d h c s V t a → (not (pops_now a (is_possible d h c a.pops a.channel)) || ltb (t a.channel) (s a.channel)) ≡ true → cond {A = ℕ} (pops_now a (is_possible d h c a.pops a.channel)) (get_or (V a.channel) (t a.channel) 0) 0 ≡ cond {A = ℕ} (pops_now a (is_possible d h c a.pops a.channel)) (get_or (h.pushed c a.channel) (h.taken c true a.channel) 0) 0
+front_same : {S : Type 0} → (d : Design S) (h : Trace S) (c : ℕ) (s : ℕ → ℕ) (V : ℕ → List ℕ) (t : ℕ → ℕ) (a : Access) → FrontOk d h c s V t a → (not (pops_now a (is_possible d h c a.side a.channel)) || ltb (t a.channel) (s a.channel)) ≡ true → cond {A = ℕ} (pops_now a (is_possible d h c a.side a.channel)) (get_or (V a.channel) (t a.channel) 0) 0 ≡ cond {A = ℕ} (pops_now a (is_possible d h c a.side a.channel)) (get_or (h.pushed c a.channel) (h.taken c Pop a.channel) 0) 0
 front_same {S} d h c s V t a f e =
-    elim (cases_Bool (pops_now a (is_possible d h c a.pops a.channel))) [
+    elim (cases_Bool (pops_now a (is_possible d h c a.side a.channel))) [
       | inl k ↦
-          let (k1, k2) = and_parts a.takes (a.pops && is_possible d h c a.pops a.channel) k in
-          let (k3, k4) = and_parts a.pops (is_possible d h c a.pops a.channel) k2 in
-          let p : is_possible d h c true a.channel ≡ true = sym (ap (λ (z : Bool). is_possible d h c z a.channel) k3) ∙ k4 in
+          let (k1, k2) = and_parts a.takes (same_side a.side Pop && is_possible d h c a.side a.channel) k in
+          let (k3, k4) = and_parts (same_side a.side Pop) (is_possible d h c a.side a.channel) k2 in
+          let pop = same_side_is a.side Pop k3 in
+          let p : is_possible d h c Pop a.channel ≡ true = sym (ap (λ (z : Side). is_possible d h c z a.channel) pop) ∙ k4 in
           let l = sym (ap (λ (z : Bool). not z || ltb (t a.channel) (s a.channel)) k) ∙ e in
-          let g = f k3 p (ltb-true (t a.channel) (s a.channel) l) in
-          ap (λ (z : ℕ). cond {A = ℕ} (pops_now a (is_possible d h c a.pops a.channel)) z 0) g
+          let g = f pop p (ltb-true (t a.channel) (s a.channel) l) in
+          ap (λ (z : ℕ). cond {A = ℕ} (pops_now a (is_possible d h c a.side a.channel)) z 0) g
       | inr k ↦ cond-false {A = ℕ} _ _ _ k ∙ sym (cond-false {A = ℕ} _ _ _ k)
     ]
 
@@ -38,52 +42,52 @@ pub replies_right : {S : Type 0} → (d : Design S) (h : Trace S) (c : ℕ) (s :
     → Each (FrontOk d h c s V t) xs → all_below s t xs (possible_all d h c xs) ≡ true → replies_of V t xs (possible_all d h c xs) ≡ map (reply_to d h c) xs
 replies_right {S} d h c s V t [] f e = refl
 replies_right {S} d h c s V t (a ∷ xs) (f, fs) e =
-    let (e1, e2) = and_parts (not (pops_now a (is_possible d h c a.pops a.channel)) || ltb (t a.channel) (s a.channel)) (all_below s t xs (possible_all d h c xs)) e in
-    ap₂ (λ (z : ℕ) (zs : List Reply). record { possible = is_possible d h c a.pops a.channel; front = z } ∷ zs) (front_same d h c s V t a f e1) (replies_right d h c s V t xs fs e2)
+    let (e1, e2) = and_parts (not (pops_now a (is_possible d h c a.side a.channel)) || ltb (t a.channel) (s a.channel)) (all_below s t xs (possible_all d h c xs)) e in
+    ap₂ (λ (z : ℕ) (zs : List Reply). record { possible = is_possible d h c a.side a.channel; front = z } ∷ zs) (front_same d h c s V t a f e1) (replies_right d h c s V t xs fs e2)
 
 front_ok : {S : Type 0} → (d : Design S) (h : Trace S) → IsDesign d → IsHistory d h → (limit : ℕ) (x : Core S) → AreOwnMarks d x → IsTimed d h limit x
-    → (m c : ℕ) → done d h m c ≡ x.timed m → (a : Access) → d.owner a.pops a.channel ≡ m
-    → FrontOk d h c (elements_timed d x) (core_values d x) (λ q. core_tally d x m true q (x.timed m)) a
+    → (m c : ℕ) → done d h m c ≡ x.timed m → (a : Access) → d.owner a.side a.channel ≡ m
+    → FrontOk d h c (elements_timed d x) (core_values d x) (λ q. core_tally d x m Pop q (x.timed m)) a
 front_ok {S} d h i y limit x b u m c k a o e p l =
     let g = agrees d h limit x b u in
-    let o' : d.owner true a.channel ≡ m = sym (ap (λ (z : Bool). d.owner z a.channel) e) ∙ o in
-    let n = taken_view d h i y (view d x) g true a.channel c (rw o' (omega arith)) in
+    let o' : d.owner Pop a.channel ≡ m = sym (ap (λ (z : Side). d.owner z a.channel) e) ∙ o in
+    let n = taken_view d h i y (view d x) g Pop a.channel c (rw o' (omega arith)) in
     let n' = rw (o', k) at n in
-    let n'' : h.taken c true a.channel ≡ core_tally d x m true a.channel (x.timed m) = n' ∙ core_tally_is d x m true a.channel (x.timed m) in
-    get_right d h i y limit x b u a.channel c (core_tally d x m true a.channel (x.timed m)) n'' l p ∙ ap (λ (z : ℕ). get_or (h.pushed c a.channel) z 0) (sym n'')
+    let n'' : h.taken c Pop a.channel ≡ core_tally d x m Pop a.channel (x.timed m) = n' ∙ core_tally_is d x m Pop a.channel (x.timed m) in
+    get_right d h i y limit x b u a.channel c (core_tally d x m Pop a.channel (x.timed m)) n'' l p ∙ ap (λ (z : ℕ). get_or (h.pushed c a.channel) z 0) (sym n'')
 
 each_front : {S : Type 0} → (d : Design S) (h : Trace S) → IsDesign d → IsHistory d h → (limit : ℕ) (x : Core S) → AreOwnMarks d x → IsTimed d h limit x
-    → (m c : ℕ) → done d h m c ≡ x.timed m → (xs : List Access) → Each (λ a. d.owner a.pops a.channel ≡ m) xs
-    → Each (FrontOk d h c (elements_timed d x) (core_values d x) (λ q. core_tally d x m true q (x.timed m))) xs
+    → (m c : ℕ) → done d h m c ≡ x.timed m → (xs : List Access) → Each (λ a. d.owner a.side a.channel ≡ m) xs
+    → Each (FrontOk d h c (elements_timed d x) (core_values d x) (λ q. core_tally d x m Pop q (x.timed m))) xs
 each_front {S} d h i y limit x b u m c k [] o = tt
 each_front {S} d h i y limit x b u m c k (a ∷ xs) (o, os) = (front_ok d h i y limit x b u m c k a o, each_front d h i y limit x b u m c k xs os)
 
 -- a known pop has its push among the steps with a cycle
-known_sure : {S : Type 0} → (d : Design S) (v : View) → (ch n p : ℕ) → d.unlimited true ch ≡ false → known d v true ch n ≡ From p
-    → n < d.start true ch + tally (v.accesses (d.owner false ch)) (v.reply (d.owner false ch)) false ch (v.timed (d.owner false ch))
+known_sure : {S : Type 0} → (d : Design S) (v : View) → (ch n p : ℕ) → d.unlimited Pop ch ≡ false → known d v Pop ch n ≡ From p
+    → n < d.start Pop ch + tally (v.accesses (d.owner Push ch)) (v.reply (d.owner Push ch)) Push ch (v.timed (d.owner Push ch))
 unfolding enabler
 known_sure {S} d v ch n p u e =
-    elim (cases_Bool (d.unlimited true ch || ltb n (d.start true ch))) [
+    elim (cases_Bool (d.unlimited Pop ch || ltb n (d.start Pop ch))) [
       | inl f ↦
           let f' = rw u at f in
-          omega (arith, ltb-true n (d.start true ch) f')
+          omega (arith, ltb-true n (d.start Pop ch) f')
       | inr f ↦
           let f' = rw u at f in
-          elim (cases_Bool (d.closed true ch)) [
-            | inl q ↦ let z = sym (known_never d v true ch n f q) ∙ e in cc
-            | inr q ↦ event (enabler d v true ch n) (sym (known_event d v true ch n f q) ∙ e) (ltb-false n (d.start true ch) f') (place_says (v.accesses (d.owner false ch)) (v.reply (d.owner false ch)) false ch (v.timed (d.owner false ch)) (n - d.start true ch))
+          elim (cases_Bool (d.closed Pop ch)) [
+            | inl q ↦ let z = sym (known_never d v Pop ch n f q) ∙ e in cc
+            | inr q ↦ event (enabler d v Pop ch n) (sym (known_event d v Pop ch n f q) ∙ e) (ltb-false n (d.start Pop ch) f') (place_says (v.accesses (d.owner Push ch)) (v.reply (d.owner Push ch)) Push ch (v.timed (d.owner Push ch)) (n - d.start Pop ch))
           ]
     ]
   where
-    event : (o : Option ℕ) → from_step (v.cycle (d.owner false ch)) (d.lag true ch) o ≡ From p → d.start true ch ≤ n
-        → IsPlace (v.accesses (d.owner false ch)) (v.reply (d.owner false ch)) false ch (v.timed (d.owner false ch)) (n - d.start true ch) o
-        → n < d.start true ch + tally (v.accesses (d.owner false ch)) (v.reply (d.owner false ch)) false ch (v.timed (d.owner false ch))
+    event : (o : Option ℕ) → from_step (v.cycle (d.owner Push ch)) (d.lag Pop ch) o ≡ From p → d.start Pop ch ≤ n
+        → IsPlace (v.accesses (d.owner Push ch)) (v.reply (d.owner Push ch)) Push ch (v.timed (d.owner Push ch)) (n - d.start Pop ch) o
+        → n < d.start Pop ch + tally (v.accesses (d.owner Push ch)) (v.reply (d.owner Push ch)) Push ch (v.timed (d.owner Push ch))
     event None z l g = cc
-    event (Some j) z l (g1, g2, g3) = omega (arith, tally_mono (v.accesses (d.owner false ch)) (v.reply (d.owner false ch)) false ch (suc j) (v.timed (d.owner false ch)) g1)
+    event (Some j) z l (g1, g2, g3) = omega (arith, tally_mono (v.accesses (d.owner Push ch)) (v.reply (d.owner Push ch)) Push ch (suc j) (v.timed (d.owner Push ch)) g1)
 
 -- a known pop is elements_timed
 abbrev pub KnownSure : (Access → Known) → (ℕ → ℕ) → (ℕ → ℕ) → Access → Type 0
-KnownSure know s t a = a.pops ≡ true → (p : ℕ) → know a ≡ From p → t a.channel < s a.channel
+KnownSure know s t a = a.side ≡ Pop → (p : ℕ) → know a ≡ From p → t a.channel < s a.channel
 
 answer_from : (k : Known) (c : ℕ) → answer k c ≡ true → (p : ℕ) × (k ≡ From p)
 answer_from (From p) c e = (p, refl)
@@ -106,10 +110,10 @@ sure_one know s t c a f g =
     elim (cases_Bool (pops_now a (a.blocks || answer (know a) c))) [
       | inr k ↦ or_left (not (pops_now a (a.blocks || answer (know a) c))) (ltb (t a.channel) (s a.channel)) (not_from_false _ k)
       | inl k ↦
-          let (k1, k2) = and_parts a.takes (a.pops && (a.blocks || answer (know a) c)) k in
-          let (k3, k4) = and_parts a.pops (a.blocks || answer (know a) c) k2 in
+          let (k1, k2) = and_parts a.takes (same_side a.side Pop && (a.blocks || answer (know a) c)) k in
+          let (k3, k4) = and_parts (same_side a.side Pop) (a.blocks || answer (know a) c) k2 in
           let w : (p : ℕ) × (know a ≡ From p) = elim (or_cases a.blocks (answer (know a) c) k4) [ inl z ↦ g z | inr z ↦ answer_from (know a) c z ] in
-          or_right (not (pops_now a (a.blocks || answer (know a) c))) (ltb (t a.channel) (s a.channel)) (lt-ltb (t a.channel) (s a.channel) (f k3 w.0 w.1))
+          or_right (not (pops_now a (a.blocks || answer (know a) c))) (ltb (t a.channel) (s a.channel)) (lt-ltb (t a.channel) (s a.channel) (f (same_side_is a.side Pop k3) w.0 w.1))
     ]
 
 pub flags_sure : (know : Access → Known) (s t : ℕ → ℕ) (c : ℕ) (xs : List Access) (u : ℕ) → bound know xs ≡ From u → Each (KnownSure know s t) xs
@@ -120,22 +124,22 @@ flags_sure know s t c (a ∷ xs) u e (f, fs) =
     and_from (not (pops_now a (a.blocks || answer (know a) c)) || ltb (t a.channel) (s a.channel)) (all_below s t xs (flags_at know c xs)) (sure_one know s t c a f g) (flags_sure know s t c xs q k fs)
 
 one_known : {S : Type 0} → (d : Design S) → IsDesign d → (x : Core S) (m : ℕ) (a : Access)
-    → KnownSure (known_of d (view d x) m) (elements_timed d x) (λ q. core_tally d x m true q (x.timed m)) a
+    → KnownSure (known_of d (view d x) m) (elements_timed d x) (λ q. core_tally d x m Pop q (x.timed m)) a
 one_known {S} d i x m a e p k =
-    let k' : known d (view d x) true a.channel (tally (core_accesses d x m) (core_reply d x m) true a.channel (x.timed m)) ≡ From p = sym (ap (λ (z : Bool). known d (view d x) z a.channel (tally (core_accesses d x m) (core_reply d x m) z a.channel (x.timed m))) e) ∙ k in
-    let l = known_sure d (view d x) a.channel (tally (core_accesses d x m) (core_reply d x m) true a.channel (x.timed m)) p (i.pops_limited a.channel) k' in
-    rw (core_tally_is d x m true a.channel (x.timed m), core_tally_is d x (d.owner false a.channel) false a.channel (x.timed (d.owner false a.channel))) at l
+    let k' : known d (view d x) Pop a.channel (tally (core_accesses d x m) (core_reply d x m) Pop a.channel (x.timed m)) ≡ From p = sym (ap (λ (z : Side). known d (view d x) z a.channel (tally (core_accesses d x m) (core_reply d x m) z a.channel (x.timed m))) e) ∙ k in
+    let l = known_sure d (view d x) a.channel (tally (core_accesses d x m) (core_reply d x m) Pop a.channel (x.timed m)) p (i.pops_limited a.channel) k' in
+    rw (core_tally_is d x m Pop a.channel (x.timed m), core_tally_is d x (d.owner Push a.channel) Push a.channel (x.timed (d.owner Push a.channel))) at l
 
 each_known : {S : Type 0} → (d : Design S) → IsDesign d → (x : Core S) (m : ℕ) (xs : List Access)
-    → Each (KnownSure (known_of d (view d x) m) (elements_timed d x) (λ q. core_tally d x m true q (x.timed m))) xs
+    → Each (KnownSure (known_of d (view d x) m) (elements_timed d x) (λ q. core_tally d x m Pop q (x.timed m))) xs
 each_known {S} d i x m [] = tt
 each_known {S} d i x m (a ∷ xs) = (one_known d i x m a, each_known d i x m xs)
 
 pub new_sure : {S : Type 0} → (d : Design S) → IsDesign d → (x : Core S) (m c : ℕ) → candidate d (view d x) m ≡ Some c
-    → all_below (elements_timed d x) (λ q. core_tally d x m true q (x.timed m)) (core_accesses d x m (x.timed m)) (flags_at (known_of d (view d x) m) c (core_accesses d x m (x.timed m))) ≡ true
+    → all_below (elements_timed d x) (λ q. core_tally d x m Pop q (x.timed m)) (core_accesses d x m (x.timed m)) (flags_at (known_of d (view d x) m) c (core_accesses d x m (x.timed m))) ≡ true
 new_sure {S} d i x m c e =
     let (o, u, k, q) = candidate_parts d (view d x) m c e in
-    flags_sure (known_of d (view d x) m) (elements_timed d x) (λ q. core_tally d x m true q (x.timed m)) c (core_accesses d x m (x.timed m)) u k (each_known d i x m (core_accesses d x m (x.timed m)))
+    flags_sure (known_of d (view d x) m) (elements_timed d x) (λ q. core_tally d x m Pop q (x.timed m)) c (core_accesses d x m (x.timed m)) u k (each_known d i x m (core_accesses d x m (x.timed m)))
 
 -- a step without queries has no other flags
 pub plain_flags : (know : Access → Known) (c : ℕ) (xs : List Access) (bs : List Bool) → has_query xs ≡ false → FlagsFit xs bs → bs ≡ flags_at know c xs
@@ -210,7 +214,7 @@ below_mono s s' t (a ∷ xs) (b ∷ bs) l e =
 pub sure_values : {S : Type 0} → (d : Design S) (h : Trace S) → IsDesign d → (limit : ℕ) (x : Core S) → IsTimed d h limit x → (ch : ℕ)
     → elements_timed d x ch ≤ length (core_values d x ch)
 sure_values {S} d h i limit x u ch =
-    omega (arith, i.start_inputs ch, length-append (d.inputs ch) (pushed_in ch (core_accesses d x (d.owner false ch)) (λ j. bare_replies (x.flags (d.owner false ch) j)) (x.emitted (d.owner false ch))), length_pushed_in ch (core_accesses d x (d.owner false ch)) (λ j. bare_replies (x.flags (d.owner false ch) j)) (x.emitted (d.owner false ch)), tally_mono (core_accesses d x (d.owner false ch)) (λ j. bare_replies (x.flags (d.owner false ch) j)) false ch (x.timed (d.owner false ch)) (x.emitted (d.owner false ch)) (u.within (d.owner false ch)))
+    omega (arith, i.start_inputs ch, length-append (d.inputs ch) (pushed_in ch (core_accesses d x (d.owner Push ch)) (λ j. bare_replies (x.flags (d.owner Push ch) j)) (x.emitted (d.owner Push ch))), length_pushed_in ch (core_accesses d x (d.owner Push ch)) (λ j. bare_replies (x.flags (d.owner Push ch) j)) (x.emitted (d.owner Push ch)), tally_mono (core_accesses d x (d.owner Push ch)) (λ j. bare_replies (x.flags (d.owner Push ch) j)) Push ch (x.timed (d.owner Push ch)) (x.emitted (d.owner Push ch)) (u.within (d.owner Push ch)))
 
 -- the facts of a step that may be given its cycle
 record Assigned {S : Type 0} (d : Design S) (h : Trace S) (limit : ℕ) (x : Core S) (m c : ℕ) : Type 0 where
@@ -232,19 +236,19 @@ assigned {S} d h i y limit x b u m c w =
     let k = candidate_done d h i y (view d x) g m c e in
     let r = candidate_ready d h i y (view d x) g m c e in
     let f = u.first_flags m l w.verified c s k in
-    let q : all_below (elements_timed d x) (λ z. core_tally d x m true z (x.timed m)) (core_accesses d x m (x.timed m)) (x.flags m (x.timed m)) ≡ true =
+    let q : all_below (elements_timed d x) (λ z. core_tally d x m Pop z (x.timed m)) (core_accesses d x m (x.timed m)) (x.flags m (x.timed m)) ≡ true =
     elim (cases_Bool (has_query (core_accesses d x m (x.timed m)))) [
       | inl p ↦ u.first_sure m l w.verified p
       | inr p ↦ rw (plain_flags (known_of d (view d x) m) c (core_accesses d x m (x.timed m)) (x.flags m (x.timed m)) p (b.fit m (x.timed m) l)) (new_sure d i x m c e)
     ] in
-    let q' : all_below (elements_timed d x) (λ z. core_tally d x m true z (x.timed m)) (core_accesses d x m (x.timed m)) (possible_all d h c (core_accesses d x m (x.timed m))) ≡ true = rw (← f) q in
-    let t = replies_right d h c (elements_timed d x) (core_values d x) (λ z. core_tally d x m true z (x.timed m)) (core_accesses d x m (x.timed m)) (each_front d h i y limit x b u m c k (core_accesses d x m (x.timed m)) (i.owned m (x.state m (x.timed m)))) q' in
+    let q' : all_below (elements_timed d x) (λ z. core_tally d x m Pop z (x.timed m)) (core_accesses d x m (x.timed m)) (possible_all d h c (core_accesses d x m (x.timed m))) ≡ true = rw (← f) q in
+    let t = replies_right d h c (elements_timed d x) (core_values d x) (λ z. core_tally d x m Pop z (x.timed m)) (core_accesses d x m (x.timed m)) (each_front d h i y limit x b u m c k (core_accesses d x m (x.timed m)) (i.owned m (x.state m (x.timed m)))) q' in
     record {
       emitted = l;
       steps_now = s;
       done_now = k;
-      reply_now = ap (replies_of (core_values d x) (λ z. core_tally d x m true z (x.timed m)) (core_accesses d x m (x.timed m))) f ∙ (t ∙ ap (λ (z : S). map (reply_to d h c) (d.accesses m z)) (b.own_step m (x.timed m) l ∙ sym r));
-      there_now = below_mono (elements_timed d x) (λ z. length (core_values d x z)) (λ z. core_tally d x m true z (x.timed m)) (core_accesses d x m (x.timed m)) (x.flags m (x.timed m)) (sure_values d h i limit x u) q;
+      reply_now = ap (replies_of (core_values d x) (λ z. core_tally d x m Pop z (x.timed m)) (core_accesses d x m (x.timed m))) f ∙ (t ∙ ap (λ (z : S). map (reply_to d h c) (d.accesses m z)) (b.own_step m (x.timed m) l ∙ sym r));
+      there_now = below_mono (elements_timed d x) (λ z. length (core_values d x z)) (λ z. core_tally d x m Pop z (x.timed m)) (core_accesses d x m (x.timed m)) (x.flags m (x.timed m)) (sure_values d h i limit x u) q;
     }
 
 assign_within : {S : Type 0} → (x : Core S) (m c : ℕ) → x.timed m < x.emitted m → ((n : ℕ) → x.timed n ≤ x.emitted n) → (n : ℕ)
@@ -293,10 +297,10 @@ abbrev pub RightFlags : {S : Type 0} → Design S → Trace S → Core S → ℕ
 RightFlags {S} d h x n j = j < x.emitted n → x.verified n j ≡ true → (c : ℕ) → steps d h c n ≡ true → done d h n c ≡ j → x.flags n j ≡ possible_all d h c (core_accesses d x n j)
 
 abbrev pub SureFlags : {S : Type 0} → Design S → (ℕ → ℕ) → Core S → ℕ → ℕ → Type 0
-SureFlags {S} d s x n j = j < x.emitted n → x.verified n j ≡ true → has_query (core_accesses d x n j) ≡ true → all_below s (λ ch. core_tally d x n true ch j) (core_accesses d x n j) (x.flags n j) ≡ true
+SureFlags {S} d s x n j = j < x.emitted n → x.verified n j ≡ true → has_query (core_accesses d x n j) ≡ true → all_below s (λ ch. core_tally d x n Pop ch j) (core_accesses d x n j) (x.flags n j) ≡ true
 
-abbrev pub HappensFirst : {S : Type 0} → Design S → Trace S → Core S → ℕ → ℕ → Type 0
-HappensFirst {S} d h x n j = j < x.emitted n → x.verified n j ≡ true → has_query (core_accesses d x n j) ≡ true → Happens d h n j
+abbrev pub HappensFirst : {S : Type 0} → Design S → Trace S → ℕ → Core S → ℕ → ℕ → Type 0
+HappensFirst {S} d h limit x n j = j < x.emitted n → x.verified n j ≡ true → has_query (core_accesses d x n j) ≡ true → HappensBefore d h limit n j
 
 -- where the history does a step that is emitted, its accesses can be done
 pub can_emitted : {S : Type 0} → (d : Design S) (h : Trace S) → IsDesign d → IsHistory d h → (x : Core S) → AreOwnMarks d x → IsDone d h x → (m c j : ℕ)
@@ -322,7 +326,7 @@ timed_up {S} x m n = put_cases x.timed m (suc (x.timed m)) (λ (p q : ℕ). x.ti
 
 sure_up : {S : Type 0} → (d : Design S) (x : Core S) (m c : ℕ) → (ch : ℕ) → elements_timed d x ch ≤ elements_timed d (after_assign x m c) ch
 sure_up {S} d x m c ch =
-    omega (arith, tally_mono (core_accesses d x (d.owner false ch)) (λ j. bare_replies (x.flags (d.owner false ch) j)) false ch (x.timed (d.owner false ch)) (put x.timed m (suc (x.timed m)) (d.owner false ch)) (timed_up x m (d.owner false ch)))
+    omega (arith, tally_mono (core_accesses d x (d.owner Push ch)) (λ j. bare_replies (x.flags (d.owner Push ch) j)) Push ch (x.timed (d.owner Push ch)) (put x.timed m (suc (x.timed m)) (d.owner Push ch)) (timed_up x m (d.owner Push ch)))
 
 pub assign_time : {S : Type 0} → (d : Design S) (h : Trace S) → IsDesign d → IsHistory d h → (limit : ℕ) (x : Core S) → AreOwnMarks d x → IsTimed d h limit x
     → (m c : ℕ) → MayAssign d limit x m c → IsTimed d h limit (after_assign x m c)
@@ -339,9 +343,9 @@ assign_time {S} d h i y limit x b u m c may =
       below = step_more x m c (λ n k z. z < limit) u.below may.determined.below;
       first_flags = put_cases x.timed m (suc (x.timed m)) (RightFlags d h x) (λ n e. u.first_flags n) (assign_flags d h i y limit x b u m c w);
       first_sure = put_cases x.timed m (suc (x.timed m)) (SureFlags d (elements_timed d (after_assign x m c)) x)
-          (λ n e l v q. below_mono (elements_timed d x) (elements_timed d (after_assign x m c)) (λ ch. core_tally d x n true ch (x.timed n)) (core_accesses d x n (x.timed n)) (x.flags n (x.timed n)) (sure_up d x m c) (u.first_sure n l v q))
+          (λ n e l v q. below_mono (elements_timed d x) (elements_timed d (after_assign x m c)) (λ ch. core_tally d x n Pop ch (x.timed n)) (core_accesses d x n (x.timed n)) (x.flags n (x.timed n)) (sure_up d x m c) (u.first_sure n l v q))
           (λ l v q. absurd (both_ways _ (u.later_plain m (suc (x.timed m)) (omega arith) l v) q));
-      first_happens = put_cases x.timed m (suc (x.timed m)) (HappensFirst d h x)
+      first_happens = put_cases x.timed m (suc (x.timed m)) (HappensFirst d h limit x)
           (λ n e. u.first_happens n)
           (λ l v q. absurd (both_ways _ (u.later_plain m (suc (x.timed m)) (omega arith) l v) q));
       verified_then = step_more x m c (λ n k z. x.verified n k ≡ true) u.verified_then may.verified;

@@ -1,6 +1,7 @@
 -- The determined cycle of a step is the clock in which the history does it.
 use Rattle.std.proofs.Common.{◌≡◌, ℕ, zero, suc, ◌+◌, ◌-◌, ◌<◌, ◌≤◌, max, Bool, true, false, not, ◌&&◌, ◌||◌, inl, inr, List, [], ◌∷◌, sym, refl, ap, ap₂, ◌∙◌, arith, zero-add, leb, Some, None}
 use Rattle.std.proofs.lemmas.Bool.{cases_Bool, cond-true, cond-false, and_parts, both_ways, cases_lt, false_from_ne_true, le-leb, lt-leb, leb-true}
+use Rattle.flow_word.specs.declared.access.Side.{Side}
 use Rattle.event_timing.specs.Machines.{Design, IsDesign, Access, Each, ready, is_some_access}
 use Rattle.event_timing.specs.Histories.{Trace, IsHistory, is_possible, can_all, can_do}
 use Rattle.event_timing.specs.Steps.{steps, done, rest, since}
@@ -32,13 +33,13 @@ leb_max p q c =
 
 -- what is known of each of these accesses is true in clock c
 abbrev pub EachMeans : {S : Type 0} → Design S → Trace S → View → ℕ → (Access → Known) → List Access → Type 0
-EachMeans {S} d h v c know xs = Each (λ a. Means d h v c a.pops a.channel (know a)) xs
+EachMeans {S} d h v c know xs = Each (λ a. Means d h v c a.side a.channel (know a)) xs
 
-pub can_blocks : {S : Type 0} → (d : Design S) (h : Trace S) (c : ℕ) (a : Access) → a.blocks ≡ true → can_do d h c a ≡ is_possible d h c a.pops a.channel
-can_blocks {S} d h c a b = ap (λ (z : Bool). not z || is_possible d h c a.pops a.channel) b
+pub can_blocks : {S : Type 0} → (d : Design S) (h : Trace S) (c : ℕ) (a : Access) → a.blocks ≡ true → can_do d h c a ≡ is_possible d h c a.side a.channel
+can_blocks {S} d h c a b = ap (λ (z : Bool). not z || is_possible d h c a.side a.channel) b
 
 can_free : {S : Type 0} → (d : Design S) (h : Trace S) (c : ℕ) (a : Access) → a.blocks ≡ false → can_do d h c a ≡ true
-can_free {S} d h c a b = ap (λ (z : Bool). not z || is_possible d h c a.pops a.channel) b
+can_free {S} d h c a b = ap (λ (z : Bool). not z || is_possible d h c a.side a.channel) b
 
 pub bound_blocks : (know : Access → Known) (a : Access) (xs : List Access) → a.blocks ≡ true → bound know (a ∷ xs) ≡ both (know a) (bound know xs)
 bound_blocks know a xs b = cond-true a.blocks (both (know a) (bound know xs)) (bound know xs) b
@@ -47,13 +48,13 @@ pub bound_free : (know : Access → Known) (a : Access) (xs : List Access) → a
 bound_free know a xs b = cond-false a.blocks (both (know a) (bound know xs)) (bound know xs) b
 
 exact_more : {S : Type 0} → (d : Design S) (h : Trace S) (v : View) (c : ℕ) (know : Access → Known) (a : Access) (xs : List Access) (u : ℕ)
-    → Means d h v c a.pops a.channel (know a) → bound know (a ∷ xs) ≡ From u → ((q : ℕ) → bound know xs ≡ From q → can_all d h c xs ≡ leb q c)
+    → Means d h v c a.side a.channel (know a) → bound know (a ∷ xs) ≡ From u → ((q : ℕ) → bound know xs ≡ From q → can_all d h c xs ≡ leb q c)
     → can_all d h c (a ∷ xs) ≡ leb u c
 exact_more {S} d h v c know a xs u g e ih =
     elim (cases_Bool a.blocks) [
       | inl b ↦
           let (p, q, k1, k2, k3) = both_parts (know a) (bound know xs) u (sym (bound_blocks know a xs b) ∙ e) in
-          let g' : is_possible d h c a.pops a.channel ≡ leb p c = rw k1 at g in
+          let g' : is_possible d h c a.side a.channel ≡ leb p c = rw k1 at g in
           ap₂ (λ (x y : Bool). x && y) (can_blocks d h c a b ∙ g') (ih q k2) ∙ (leb_max p q c ∙ ap (λ (z : ℕ). leb z c) k3)
       | inr b ↦ ap₂ (λ (x y : Bool). x && y) (can_free d h c a b) (ih u (sym (bound_free know a xs b) ∙ e))
     ]
@@ -64,19 +65,19 @@ pub bound_exact : {S : Type 0} → (d : Design S) (h : Trace S) (v : View) (c : 
 bound_exact {S} d h v c know [] u g e = sym (le-leb u c (let k : u ≡ 0 = cc in omega arith))
 bound_exact {S} d h v c know (a ∷ xs) u (g, gs) e = exact_more d h v c know a xs u g e (λ q k. bound_exact d h v c know xs q gs k)
 
-found_one : {S : Type 0} → (d : Design S) (h : Trace S) (v : View) (c : ℕ) (side : Bool) (ch : ℕ) → ((m : ℕ) → done d h m c ≤ v.timed m) → (k : Known)
+found_one : {S : Type 0} → (d : Design S) (h : Trace S) (v : View) (c : ℕ) (side : Side) (ch : ℕ) → ((m : ℕ) → done d h m c ≤ v.timed m) → (k : Known)
     → Means d h v c side ch k → is_possible d h c side ch ≡ true → (u : ℕ) × (k ≡ From u) × (u ≤ c)
 found_one {S} d h v c side ch n (From u) z p = (u, refl, leb-true u c (sym z ∙ p))
 found_one {S} d h v c side ch n Never z p = absurd (both_ways _ z p)
 found_one {S} d h v c side ch n Unknown z p = absurd (both_ways _ (z (n _)) p)
 
 found_more : {S : Type 0} → (d : Design S) (h : Trace S) (v : View) (c : ℕ) (know : Access → Known) (a : Access) (xs : List Access)
-    → ((m : ℕ) → done d h m c ≤ v.timed m) → Means d h v c a.pops a.channel (know a) → can_do d h c a ≡ true → (u : ℕ) × (bound know xs ≡ From u) × (u ≤ c)
+    → ((m : ℕ) → done d h m c ≤ v.timed m) → Means d h v c a.side a.channel (know a) → can_do d h c a ≡ true → (u : ℕ) × (bound know xs ≡ From u) × (u ≤ c)
     → (u : ℕ) × (bound know (a ∷ xs) ≡ From u) × (u ≤ c)
 found_more {S} d h v c know a xs n g e (u, k, l) =
     elim (cases_Bool a.blocks) [
       | inl b ↦
-          let (p, k1, k2) = found_one d h v c a.pops a.channel n (know a) g (sym (can_blocks d h c a b) ∙ e) in
+          let (p, k1, k2) = found_one d h v c a.side a.channel n (know a) g (sym (can_blocks d h c a b) ∙ e) in
           (max p u, bound_blocks know a xs b ∙ ap₂ both k1 k, omega arith)
       | inr b ↦ (u, bound_free know a xs b ∙ k, l)
     ]
@@ -89,7 +90,7 @@ bound_found {S} d h v c know (a ∷ xs) n (g, gs) e =
     let (e1, e2) = and_parts (can_do d h c a) (can_all d h c xs) e in
     found_more d h v c know a xs n g e1 (bound_found d h v c know xs n gs e2)
 
-access_means : {S : Type 0} → (d : Design S) (h : Trace S) → IsDesign d → IsHistory d h → (v : View) → Agrees d h v → (m c : ℕ) (side : Bool) (ch : ℕ)
+access_means : {S : Type 0} → (d : Design S) (h : Trace S) → IsDesign d → IsHistory d h → (v : View) → Agrees d h v → (m c : ℕ) (side : Side) (ch : ℕ)
     → done d h m c ≡ v.timed m → d.owner side ch ≡ m → Means d h v c side ch (known d v side ch (tally (v.accesses m) (v.reply m) side ch (v.timed m)))
 access_means {S} d h i y v g m c side ch k o =
     let l : done d h (d.owner side ch) c ≤ v.timed (d.owner side ch) = rw o (omega arith) in
@@ -98,14 +99,14 @@ access_means {S} d h i y v g m c side ch k o =
     known_means d h i y v g side ch c (tally (v.accesses m) (v.reply m) side ch (v.timed m)) t'
 
 each_means : {S : Type 0} → (d : Design S) (h : Trace S) → IsDesign d → IsHistory d h → (v : View) → Agrees d h v → (m c : ℕ) → done d h m c ≡ v.timed m
-    → (xs : List Access) → Each (λ a. d.owner a.pops a.channel ≡ m) xs → EachMeans d h v c (known_of d v m) xs
+    → (xs : List Access) → Each (λ a. d.owner a.side a.channel ≡ m) xs → EachMeans d h v c (known_of d v m) xs
 each_means {S} d h i y v g m c k [] o = tt
-each_means {S} d h i y v g m c k (a ∷ xs) (o, os) = (access_means d h i y v g m c a.pops a.channel k o, each_means d h i y v g m c k xs os)
+each_means {S} d h i y v g m c k (a ∷ xs) (o, os) = (access_means d h i y v g m c a.side a.channel k o, each_means d h i y v g m c k xs os)
 
 pub first_means : {S : Type 0} → (d : Design S) (h : Trace S) → IsDesign d → IsHistory d h → (v : View) → Agrees d h v → (m c : ℕ) → v.more m ≡ true
     → done d h m c ≡ v.timed m → EachMeans d h v c (known_of d v m) (first_accesses v m)
 first_means {S} d h i y v g m c o k =
-    let w : Each (λ a. d.owner a.pops a.channel ≡ m) (first_accesses v m) = rw (g.accesses_first m o) (i.owned m _) in
+    let w : Each (λ a. d.owner a.side a.channel ≡ m) (first_accesses v m) = rw (g.accesses_first m o) (i.owned m _) in
     each_means d h i y v g m c k (first_accesses v m) w
 
 -- the clock behind the latest step with a cycle

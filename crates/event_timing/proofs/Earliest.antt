@@ -1,6 +1,7 @@
 -- Where nothing else can be done, no step without a cycle comes before the least determined one.
 use Rattle.std.proofs.Common.{◌≡◌, ℕ, zero, suc, ◌<◌, ◌≤◌, max, Bool, true, false, not, ◌||◌, ◌⊎◌, inl, inr, List, [], ◌∷◌, sym, refl, ap, ap₂, ◌∙◌, arith, Some}
 use Rattle.std.proofs.lemmas.Bool.{cases_Bool, and_parts, both_ways, cases_eq}
+use Rattle.flow_word.specs.declared.access.Side.{Side}
 use Rattle.event_timing.specs.Machines.{Design, IsDesign, Access, ready}
 use Rattle.event_timing.specs.Histories.{Trace, IsHistory, is_possible, can_all, can_do}
 use Rattle.event_timing.specs.Steps.{steps, done}
@@ -61,13 +62,13 @@ nobody_ahead {S} d h i y v g t z (suc c) l m = later (nobody_ahead d h i y v g t
           | inr k ↦ omega (arith, done_more d h m c w, n m)
         ]
 
-answer_known : {S : Type 0} → (d : Design S) (h : Trace S) (v : View) (c : ℕ) (side : Bool) (ch : ℕ) (k : Known) → is_decided k ≡ true → Means d h v c side ch k
+answer_known : {S : Type 0} → (d : Design S) (h : Trace S) (v : View) (c : ℕ) (side : Side) (ch : ℕ) (k : Known) → is_decided k ≡ true → Means d h v c side ch k
     → is_possible d h c side ch ≡ answer k c
 answer_known {S} d h v c side ch (From u) e g = g
 answer_known {S} d h v c side ch Never e g = g
 answer_known {S} d h v c side ch Unknown e g = cc
 
-pub answer_late : {S : Type 0} → (d : Design S) (h : Trace S) (v : View) (c : ℕ) (side : Bool) (ch : ℕ) (k : Known) → ((m : ℕ) → done d h m c ≤ v.timed m)
+pub answer_late : {S : Type 0} → (d : Design S) (h : Trace S) (v : View) (c : ℕ) (side : Side) (ch : ℕ) (k : Known) → ((m : ℕ) → done d h m c ≤ v.timed m)
     → Means d h v c side ch k → is_possible d h c side ch ≡ answer k c
 answer_late {S} d h v c side ch (From u) n g = g
 answer_late {S} d h v c side ch Never n g = g
@@ -75,11 +76,11 @@ answer_late {S} d h v c side ch Unknown n g = g (n _)
 
 -- one access of a step that is done
 flag_one : {S : Type 0} → (d : Design S) (h : Trace S) (c : ℕ) (a : Access) (b : Bool) → can_do d h c a ≡ true
-    → (a.blocks ≡ false → is_possible d h c a.pops a.channel ≡ b) → (a.blocks || b) ≡ is_possible d h c a.pops a.channel
+    → (a.blocks ≡ false → is_possible d h c a.side a.channel ≡ b) → (a.blocks || b) ≡ is_possible d h c a.side a.channel
 flag_one {S} d h c a b e f =
     elim (cases_Bool a.blocks) [
       | inl k ↦
-          let e' = sym (ap (λ (z : Bool). not z || is_possible d h c a.pops a.channel) k) ∙ e in
+          let e' = sym (ap (λ (z : Bool). not z || is_possible d h c a.side a.channel) k) ∙ e in
           ap (λ (z : Bool). z || b) k ∙ sym e'
       | inr k ↦ ap (λ (z : Bool). z || b) k ∙ sym (f k)
     ]
@@ -91,7 +92,7 @@ flags_decided {S} d h v c know (a ∷ xs) (g, gs) e f =
     let (e1, e2) = and_parts (can_do d h c a) (can_all d h c xs) e in
     let (f1, f2) = and_parts (a.blocks || is_decided (know a)) (all_decided know xs) f in
     ap₂ (λ (x : Bool) (y : List Bool). x ∷ y)
-    (flag_one d h c a (answer (know a) c) e1 (λ b. answer_known d h v c a.pops a.channel (know a) (sym (ap (λ (z : Bool). z || is_decided (know a)) b) ∙ f1) g))
+    (flag_one d h c a (answer (know a) c) e1 (λ b. answer_known d h v c a.side a.channel (know a) (sym (ap (λ (z : Bool). z || is_decided (know a)) b) ∙ f1) g))
     (flags_decided d h v c know xs gs e2 f2)
 
 flags_late : {S : Type 0} → (d : Design S) (h : Trace S) (v : View) (c : ℕ) (know : Access → Known) (xs : List Access) → ((m : ℕ) → done d h m c ≤ v.timed m)
@@ -100,7 +101,7 @@ flags_late {S} d h v c know [] n g e = refl
 flags_late {S} d h v c know (a ∷ xs) n (g, gs) e =
     let (e1, e2) = and_parts (can_do d h c a) (can_all d h c xs) e in
     ap₂ (λ (x : Bool) (y : List Bool). x ∷ y)
-    (flag_one d h c a (answer (know a) c) e1 (λ b. answer_late d h v c a.pops a.channel (know a) n g))
+    (flag_one d h c a (answer (know a) c) e1 (λ b. answer_late d h v c a.side a.channel (know a) n g))
     (flags_late d h v c know xs n gs e2)
 
 pub candidate_can : {S : Type 0} → (d : Design S) (h : Trace S) → IsDesign d → IsHistory d h → (v : View) → Agrees d h v → (m c : ℕ) → v.more m ≡ true

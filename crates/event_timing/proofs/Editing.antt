@@ -1,13 +1,16 @@
 -- After an edit the cycles below the first touched clock stay.
 use Rattle.std.proofs.Common.{◌≡◌, ℕ, zero, suc, ◌+◌, ◌-◌, ◌<◌, ◌≤◌, Bool, true, false, not, ◌&&◌, ◌||◌, inl, inr, List, [], ◌∷◌, map, sym, refl, ap, ap₂, ◌∙◌, subst, arith, eqb, ltb}
 use Rattle.std.proofs.lemmas.Bool.{cases_Bool, both_ways, cases_eq, ltb-true, lt-ltb, cond-true, cond-false, and_parts, and_from, or_cases, or_left, eqb-true, not-true}
+use mathlib.Core.Path.{fun_ext}
+use Rattle.flow_word.specs.declared.access.Side.{Side}
+use Rattle.flow_word.specs.declared.access.Side.TheVariants.{Pop, Push}
 use Rattle.event_timing.specs.Machines.{Design, IsDesign, Access, Reply, is_some_access}
 use Rattle.event_timing.specs.Histories.{Trace, IsHistory, replies, reply_to, moves, is_possible, can_all}
 use Rattle.event_timing.specs.Steps.{steps, done}
 use Rattle.event_timing.specs.Views.{own}
-use Rattle.event_timing.specs.Core.{Core, core_accesses, has_query}
+use Rattle.event_timing.specs.Core.{Core, core_accesses, core_reply, has_query}
 use Rattle.event_timing.specs.Agreement.{AreOwnMarks, IsTimed, IsAgreed}
-use Rattle.event_timing.specs.Edits.{edited, IsUntouched, kept, after_edit}
+use Rattle.event_timing.specs.Edits.{edited, IsUntouched, kept, kept_cycle, after_edit}
 use Rattle.event_timing.proofs.Steps.{done_more, done_less, done_same}
 use Rattle.event_timing.proofs.OwnRuns.{done_0}
 use Rattle.event_timing.proofs.Fronts.{IsDone}
@@ -16,41 +19,41 @@ use Rattle.event_timing.proofs.Assigning.{can_emitted, plain_possible}
 -- two runs that stand alike before clock c
 pub record Alike {S : Type 0} (h g : Trace S) (c : ℕ) : Type 0 where
   pub state : (e : ℕ) → e ≤ c → (m : ℕ) → g.state e m ≡ h.state e m
-  pub taken : (e : ℕ) → e ≤ c → (side : Bool) (ch : ℕ) → g.taken e side ch ≡ h.taken e side ch
+  pub taken : (e : ℕ) → e ≤ c → (side : Side) (ch : ℕ) → g.taken e side ch ≡ h.taken e side ch
   pub pushed : (e : ℕ) → e ≤ c → (ch : ℕ) → g.pushed e ch ≡ h.pushed e ch
 
-possible_alike : {S : Type 0} → (d : Design S) (h g : Trace S) → IsDesign d → (fifo depth t c : ℕ) → ((ch : ℕ) → d.lag false ch ≡ 1)
-    → IsUntouched d h fifo depth t → c < t → Alike h g c → (side : Bool) (ch : ℕ) → is_possible (edited d fifo depth) g c side ch ≡ is_possible d h c side ch
-possible_alike {S} d h g i fifo depth t c one u l a true ch =
-    rw (a.taken c (omega arith) true ch, a.taken (suc c - d.lag true ch) (omega (arith, i.lag_positive true ch)) false ch) refl
-possible_alike {S} d h g i fifo depth t c one u l a false ch =
-    let q : suc c - d.lag false ch ≡ c = omega (arith, one ch) in
-    let t1 = a.taken c (omega arith) false ch in
-    let t2 = a.taken c (omega arith) true ch in
+possible_alike : {S : Type 0} → (d : Design S) (h g : Trace S) → IsDesign d → (fifo depth t c : ℕ) → ((ch : ℕ) → d.lag Push ch ≡ 1)
+    → IsUntouched d h fifo depth t → c < t → Alike h g c → (side : Side) (ch : ℕ) → is_possible (edited d fifo depth) g c side ch ≡ is_possible d h c side ch
+possible_alike {S} d h g i fifo depth t c one u l a Pop ch =
+    rw (a.taken c (omega arith) Pop ch, a.taken (suc c - d.lag Pop ch) (omega (arith, i.lag_positive Pop ch)) Push ch) refl
+possible_alike {S} d h g i fifo depth t c one u l a Push ch =
+    let q : suc c - d.lag Push ch ≡ c = omega (arith, one ch) in
+    let t1 = a.taken c (omega arith) Push ch in
+    let t2 = a.taken c (omega arith) Pop ch in
     elim (cases_Bool (eqb ch fifo)) [
-      | inr k ↦ rw (q, t1, t2, cond-false {A = ℕ} (eqb ch fifo) depth (d.start false ch) k) refl
+      | inr k ↦ rw (q, t1, t2, cond-false {A = ℕ} (eqb ch fifo) depth (d.start Push ch) k) refl
       | inl k ↦
           let w = eqb-true ch fifo k in
-          let r1 = subst (λ (z : ℕ). h.taken c false z < d.start false z + h.taken c true z) (sym w) (u.old_room c l) in
-          let r2 = subst (λ (z : ℕ). h.taken c false z < depth + h.taken c true z) (sym w) (u.new_room c l) in
-          rw (q, t1, t2, cond-true {A = ℕ} (eqb ch fifo) depth (d.start false ch) k, lt-ltb (h.taken c false ch) (d.start false ch + h.taken c true ch) r1, lt-ltb (h.taken c false ch) (depth + h.taken c true ch) r2) refl
+          let r1 = subst (λ (z : ℕ). h.taken c Push z < d.start Push z + h.taken c Pop z) (sym w) (u.old_room c l) in
+          let r2 = subst (λ (z : ℕ). h.taken c Push z < depth + h.taken c Pop z) (sym w) (u.new_room c l) in
+          rw (q, t1, t2, cond-true {A = ℕ} (eqb ch fifo) depth (d.start Push ch) k, lt-ltb (h.taken c Push ch) (d.start Push ch + h.taken c Pop ch) r1, lt-ltb (h.taken c Push ch) (depth + h.taken c Pop ch) r2) refl
     ]
 
-can_alike : {S : Type 0} → (d e : Design S) (h g : Trace S) (c : ℕ) → ((side : Bool) (ch : ℕ) → is_possible e g c side ch ≡ is_possible d h c side ch)
+can_alike : {S : Type 0} → (d e : Design S) (h g : Trace S) (c : ℕ) → ((side : Side) (ch : ℕ) → is_possible e g c side ch ≡ is_possible d h c side ch)
     → (xs : List Access) → can_all e g c xs ≡ can_all d h c xs
 can_alike {S} d e h g c f [] = refl
-can_alike {S} d e h g c f (a ∷ xs) = ap₂ (λ (x y : Bool). (not a.blocks || x) && y) (f a.pops a.channel) (can_alike d e h g c f xs)
+can_alike {S} d e h g c f (a ∷ xs) = ap₂ (λ (x y : Bool). (not a.blocks || x) && y) (f a.side a.channel) (can_alike d e h g c f xs)
 
-reply_alike : {S : Type 0} → (d e : Design S) (h g : Trace S) (c : ℕ) → ((side : Bool) (ch : ℕ) → is_possible e g c side ch ≡ is_possible d h c side ch)
+reply_alike : {S : Type 0} → (d e : Design S) (h g : Trace S) (c : ℕ) → ((side : Side) (ch : ℕ) → is_possible e g c side ch ≡ is_possible d h c side ch)
     → Alike h g c → (xs : List Access) → map (reply_to e g c) xs ≡ map (reply_to d h c) xs
 reply_alike {S} d e h g c f a [] = refl
 reply_alike {S} d e h g c f a (x ∷ xs) =
     ap₂ (λ (r : Reply) (rs : List Reply). r ∷ rs)
-    (rw (f x.pops x.channel, a.pushed c (omega arith) x.channel, a.taken c (omega arith) true x.channel) refl)
+    (rw (f x.side x.channel, a.pushed c (omega arith) x.channel, a.taken c (omega arith) Pop x.channel) refl)
     (reply_alike d e h g c f a xs)
 
 moves_alike : {S : Type 0} → (d e : Design S) (h g : Trace S) (c : ℕ) → e.accesses ≡ d.accesses → e.is_over ≡ d.is_over
-    → ((side : Bool) (ch : ℕ) → is_possible e g c side ch ≡ is_possible d h c side ch) → Alike h g c → (m : ℕ) → moves e g c m ≡ moves d h c m
+    → ((side : Side) (ch : ℕ) → is_possible e g c side ch ≡ is_possible d h c side ch) → Alike h g c → (m : ℕ) → moves e g c m ≡ moves d h c m
 unfolding moves
 moves_alike {S} d e h g c p q f a m =
     ap₂ (λ (x y : Bool). not x && y)
@@ -58,7 +61,7 @@ moves_alike {S} d e h g c p q f a m =
     (ap₂ (λ (o : ℕ → S → List Access) (s : S). can_all e g c (o m s)) p (a.state c (omega arith) m) ∙ can_alike d e h g c f (d.accesses m (h.state c m)))
 
 replies_alike : {S : Type 0} → (d : Design S) (h g : Trace S) (fifo depth c : ℕ)
-    → ((side : Bool) (ch : ℕ) → is_possible (edited d fifo depth) g c side ch ≡ is_possible d h c side ch) → Alike h g c → (m : ℕ)
+    → ((side : Side) (ch : ℕ) → is_possible (edited d fifo depth) g c side ch ≡ is_possible d h c side ch) → Alike h g c → (m : ℕ)
     → replies (edited d fifo depth) g c m ≡ replies d h c m
 unfolding replies
 replies_alike {S} d h g fifo depth c f a m =
@@ -76,7 +79,7 @@ up_to : (c : ℕ) (P : ℕ → Type 0) → ((e : ℕ) → e ≤ c → P e) → P
 up_to c P f g e l = elim (cases_eq e (suc c)) [ inl k ↦ subst P (sym k) g | inr k ↦ f e (omega arith) ]
 
 alike_more : {S : Type 0} → (d : Design S) (h g : Trace S) → IsDesign d → IsHistory d h → (fifo depth t c : ℕ) → IsHistory (edited d fifo depth) g
-    → ((ch : ℕ) → d.lag false ch ≡ 1) → IsUntouched d h fifo depth t → c < t → Alike h g c → Alike h g (suc c)
+    → ((ch : ℕ) → d.lag Push ch ≡ 1) → IsUntouched d h fifo depth t → c < t → Alike h g c → Alike h g (suc c)
 alike_more {S} d h g i y fifo depth t c z one u l a =
     let f = possible_alike d h g i fifo depth t c one u l a in
     let mv = moves_alike d (edited d fifo depth) h g c refl refl f a in
@@ -93,20 +96,20 @@ alike_more {S} d h g i y fifo depth t c z one u l a =
             | inr w ↦ z.taken_stays c side ch (mv (d.owner side ch) ∙ w) ∙ (a.taken c (omega arith) side ch ∙ sym (y.taken_stays c side ch w))
           ]) e q;
       pushed = λ e q ch. up_to c (λ e. g.pushed e ch ≡ h.pushed e ch) (λ e q. a.pushed e q ch)
-          (elim (cases_Bool (moves d h c (d.owner false ch))) [
-            | inl w ↦ z.pushed_moves c ch (mv (d.owner false ch) ∙ w) ∙ (rw (a.pushed c (omega arith) ch, a.state c (omega arith) (d.owner false ch), rp (d.owner false ch)) refl ∙ sym (y.pushed_moves c ch w))
-            | inr w ↦ z.pushed_stays c ch (mv (d.owner false ch) ∙ w) ∙ (a.pushed c (omega arith) ch ∙ sym (y.pushed_stays c ch w))
+          (elim (cases_Bool (moves d h c (d.owner Push ch))) [
+            | inl w ↦ z.pushed_moves c ch (mv (d.owner Push ch) ∙ w) ∙ (rw (a.pushed c (omega arith) ch, a.state c (omega arith) (d.owner Push ch), rp (d.owner Push ch)) refl ∙ sym (y.pushed_moves c ch w))
+            | inr w ↦ z.pushed_stays c ch (mv (d.owner Push ch) ∙ w) ∙ (a.pushed c (omega arith) ch ∙ sym (y.pushed_stays c ch w))
           ]) e q;
     }
 
 -- up to the first touched clock both runs are one
 pub alike : {S : Type 0} → (d : Design S) (h g : Trace S) → IsDesign d → IsHistory d h → (fifo depth t : ℕ) → IsHistory (edited d fifo depth) g
-    → ((ch : ℕ) → d.lag false ch ≡ 1) → IsUntouched d h fifo depth t → (c : ℕ) → c ≤ t → Alike h g c
+    → ((ch : ℕ) → d.lag Push ch ≡ 1) → IsUntouched d h fifo depth t → (c : ℕ) → c ≤ t → Alike h g c
 alike {S} d h g i y fifo depth t z one u zero l = alike_0 d h g fifo depth y z
 alike {S} d h g i y fifo depth t z one u (suc c) l = alike_more d h g i y fifo depth t c z one u l (alike d h g i y fifo depth t z one u c (omega arith))
 
 steps_alike : {S : Type 0} → (d : Design S) (h g : Trace S) → IsDesign d → IsHistory d h → (fifo depth t : ℕ) → IsHistory (edited d fifo depth) g
-    → ((ch : ℕ) → d.lag false ch ≡ 1) → IsUntouched d h fifo depth t → (c : ℕ) → c < t → (m : ℕ) → steps (edited d fifo depth) g c m ≡ steps d h c m
+    → ((ch : ℕ) → d.lag Push ch ≡ 1) → IsUntouched d h fifo depth t → (c : ℕ) → c < t → (m : ℕ) → steps (edited d fifo depth) g c m ≡ steps d h c m
 unfolding steps
 steps_alike {S} d h g i y fifo depth t z one u c l m =
     let a = alike d h g i y fifo depth t z one u c (omega arith) in
@@ -114,7 +117,7 @@ steps_alike {S} d h g i y fifo depth t z one u c l m =
     ap₂ (λ (x : Bool) (s : S). x && is_some_access (d.accesses m s)) mv (a.state c (omega arith) m)
 
 done_alike : {S : Type 0} → (d : Design S) (h g : Trace S) → IsDesign d → IsHistory d h → (fifo depth t : ℕ) → IsHistory (edited d fifo depth) g
-    → ((ch : ℕ) → d.lag false ch ≡ 1) → IsUntouched d h fifo depth t → (m c : ℕ) → c ≤ t → done (edited d fifo depth) g m c ≡ done d h m c
+    → ((ch : ℕ) → d.lag Push ch ≡ 1) → IsUntouched d h fifo depth t → (m c : ℕ) → c ≤ t → done (edited d fifo depth) g m c ≡ done d h m c
 done_alike {S} d h g i y fifo depth t z one u m zero l = done_0 (edited d fifo depth) g m ∙ sym (done_0 d h m)
 done_alike {S} d h g i y fifo depth t z one u m (suc c) l =
     let s = steps_alike d h g i y fifo depth t z one u c l m in
@@ -159,7 +162,7 @@ edit_kept : {S : Type 0} → (d : Design S) (h : Trace S) (limit : ℕ) (x : Cor
     → x.cycle m k < t
 edit_kept {S} d h limit x u t m k l = kept_below (x.cycle m) t (x.timed m) (λ j k p q. cycles_rise d h limit x u m j k p q) k l
 
-edit_marks : {S : Type 0} → (d : Design S) (x : Core S) (fifo depth t : ℕ) → AreOwnMarks d x → AreOwnMarks (edited d fifo depth) (after_edit d x t)
+pub edit_marks : {S : Type 0} → (d : Design S) (x : Core S) (fifo depth t : ℕ) → AreOwnMarks d x → AreOwnMarks (edited d fifo depth) (after_edit d x t)
 unfolding own
 edit_marks {S} d x fifo depth t b =
     record {
@@ -195,18 +198,21 @@ edit_design {S} d fifo depth i =
       outside = i.outside;
     }
 
+kept_same : (cycle : ℕ → ℕ) (t n k : ℕ) → k < kept cycle t n → kept_cycle cycle t n k ≡ cycle k
+kept_same cycle t n k l = cond-true {A = ℕ} (ltb k (kept cycle t n)) (cycle k) 0 (lt-ltb k (kept cycle t n) l)
+
 edit_done : {S : Type 0} → (d : Design S) (h g : Trace S) → IsDesign d → IsHistory d h → (fifo depth t : ℕ) → IsHistory (edited d fifo depth) g
-    → ((ch : ℕ) → d.lag false ch ≡ 1) → IsUntouched d h fifo depth t → (limit : ℕ) (x : Core S) → IsTimed d h limit x
+    → ((ch : ℕ) → d.lag Push ch ≡ 1) → IsUntouched d h fifo depth t → (limit : ℕ) (x : Core S) → IsTimed d h limit x
     → IsDone (edited d fifo depth) g (after_edit d x t)
 edit_done {S} d h g i y fifo depth t z one u limit x v =
     record {
       within = λ m. omega (arith, kept_le (x.cycle m) t (x.timed m), v.within m);
-      steps_then = λ m k l. steps_alike d h g i y fifo depth t z one u (x.cycle m k) (edit_kept d h limit x v t m k l) m ∙ v.steps_then m k (omega (arith, kept_le (x.cycle m) t (x.timed m)));
-      done_then = λ m k l. let q = edit_kept d h limit x v t m k l in done_alike d h g i y fifo depth t z one u m (x.cycle m k) (omega arith) ∙ v.done_then m k (omega (arith, kept_le (x.cycle m) t (x.timed m)));
-      reply_then = λ m k l.
+      steps_then = λ m k l. subst (λ (c : ℕ). steps (edited d fifo depth) g c m ≡ true) (sym (kept_same (x.cycle m) t (x.timed m) k l)) (steps_alike d h g i y fifo depth t z one u (x.cycle m k) (edit_kept d h limit x v t m k l) m ∙ v.steps_then m k (omega (arith, kept_le (x.cycle m) t (x.timed m))));
+      done_then = λ m k l. subst (λ (c : ℕ). done (edited d fifo depth) g m c ≡ k) (sym (kept_same (x.cycle m) t (x.timed m) k l)) (let q = edit_kept d h limit x v t m k l in done_alike d h g i y fifo depth t z one u m (x.cycle m k) (omega arith) ∙ v.done_then m k (omega (arith, kept_le (x.cycle m) t (x.timed m))));
+      reply_then = λ m k l. subst (λ (c : ℕ). core_reply d x m k ≡ replies (edited d fifo depth) g c m) (sym (kept_same (x.cycle m) t (x.timed m) k l)) (
           let q = edit_kept d h limit x v t m k l in
           let a = alike d h g i y fifo depth t z one u (x.cycle m k) (omega arith) in
-          v.reply_then m k (omega (arith, kept_le (x.cycle m) t (x.timed m))) ∙ sym (replies_alike d h g fifo depth (x.cycle m k) (possible_alike d h g i fifo depth t (x.cycle m k) one u q a) a m);
+          v.reply_then m k (omega (arith, kept_le (x.cycle m) t (x.timed m))) ∙ sym (replies_alike d h g fifo depth (x.cycle m k) (possible_alike d h g i fifo depth t (x.cycle m k) one u q a) a m));
     }
 
 -- behind the steps that stay, what counts as verified has no query
@@ -220,7 +226,7 @@ edit_plain {S} d x t m k l v =
     ]
 
 edit_time : {S : Type 0} → (d : Design S) (h g : Trace S) → IsDesign d → IsHistory d h → (fifo depth t : ℕ) → IsHistory (edited d fifo depth) g
-    → ((ch : ℕ) → d.lag false ch ≡ 1) → IsUntouched d h fifo depth t → (limit : ℕ) (x : Core S) → AreOwnMarks d x → IsTimed d h limit x
+    → ((ch : ℕ) → d.lag Push ch ≡ 1) → IsUntouched d h fifo depth t → (limit : ℕ) (x : Core S) → AreOwnMarks d x → IsTimed d h limit x
     → IsTimed (edited d fifo depth) g limit (after_edit d x t)
 edit_time {S} d h g i y fifo depth t z one u limit x b v =
     let w = edit_done d h g i y fifo depth t z one u limit x v in
@@ -231,7 +237,7 @@ edit_time {S} d h g i y fifo depth t z one u limit x b v =
       reply_then = w.reply_then;
       answered_then = λ m k l. v.answered_then m k (omega (arith, kept_le (x.cycle m) t (x.timed m)));
       there_then = λ m k l. v.there_then m k (omega (arith, kept_le (x.cycle m) t (x.timed m)));
-      below = λ m k l. v.below m k (omega (arith, kept_le (x.cycle m) t (x.timed m)));
+      below = λ m k l. subst (λ (c : ℕ). c < limit) (sym (kept_same (x.cycle m) t (x.timed m) k l)) (v.below m k (omega (arith, kept_le (x.cycle m) t (x.timed m))));
       first_flags = λ m l q c s k.
           let p = edit_plain d x t m (kept (x.cycle m) t (x.timed m)) (omega arith) q in
           let a = can_emitted (edited d fifo depth) g (edit_design d fifo depth i) z (after_edit d x t) (edit_marks d x fifo depth t b) w m c (kept (x.cycle m) t (x.timed m)) l (omega arith) s k in
@@ -245,7 +251,21 @@ edit_time {S} d h g i y fifo depth t z one u limit x b v =
 
 -- the core from which a retiming begins agrees with the edited design
 pub edit_agrees : {S : Type 0} → (d : Design S) (h g : Trace S) → IsDesign d → IsHistory d h → (fifo depth t : ℕ) → IsHistory (edited d fifo depth) g
-    → ((ch : ℕ) → d.lag false ch ≡ 1) → IsUntouched d h fifo depth t → (limit : ℕ) (x : Core S) → IsAgreed d h limit x
+    → ((ch : ℕ) → d.lag Push ch ≡ 1) → IsUntouched d h fifo depth t → (limit : ℕ) (x : Core S) → IsAgreed d h limit x
     → IsAgreed (edited d fifo depth) g limit (after_edit d x t)
 edit_agrees {S} d h g i y fifo depth t z one u limit x a =
     record { marks = edit_marks d x fifo depth t a.marks; time = edit_time d h g i y fifo depth t z one u limit x a.marks a.time }
+
+-- ---- the depth that stands
+
+same_start : {S : Type 0} → (d : Design S) (fifo : ℕ) (side : Side) (ch : ℕ) → (edited d fifo (d.start Push fifo)).start side ch ≡ d.start side ch
+same_start {S} d fifo Pop ch = refl
+same_start {S} d fifo Push ch =
+    elim (cases_Bool (eqb ch fifo)) [
+      | inl e ↦ cond-true {A = ℕ} (eqb ch fifo) (d.start Push fifo) (d.start Push ch) e ∙ ap (d.start Push) (sym (eqb-true ch fifo e))
+      | inr e ↦ cond-false {A = ℕ} (eqb ch fifo) (d.start Push fifo) (d.start Push ch) e
+    ]
+
+-- an edit to it is no edit
+pub same_depth : {S : Type 0} → (d : Design S) (fifo : ℕ) → edited d fifo (d.start Push fifo) ≡ d
+same_depth {S} d fifo = ap (λ (f : Side → ℕ → ℕ). record d { start = f }) (fun_ext (λ side. fun_ext (λ ch. same_start d fifo side ch)))

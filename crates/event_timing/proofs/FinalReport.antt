@@ -1,6 +1,7 @@
 -- The report of a final core, read off its cycles.
-use Rattle.std.proofs.Common.{◌≡◌, ℕ, zero, suc, ◌+◌, ◌<◌, ◌≤◌, true, false, inl, inr, List, [], ◌∷◌, ◌++◌, sym, refl, ◌∙◌, arith}
+use Rattle.std.proofs.Common.{◌≡◌, ℕ, zero, suc, ◌+◌, ◌<◌, ◌≤◌, true, inl, inr, List, [], ◌∷◌, ◌++◌, sym, refl, ◌∙◌, arith}
 use Rattle.std.proofs.lemmas.Bool.{cases_lt, lt-ltb}
+use Rattle.flow_word.specs.declared.access.Side.TheVariants.{Push}
 use Rattle.event_timing.specs.Machines.{Design, IsDesign, Access, Each}
 use Rattle.event_timing.specs.Histories.{Trace, IsHistory, is_possible}
 use Rattle.event_timing.specs.Steps.{steps, done}
@@ -34,11 +35,11 @@ done_limit {S} d h i y limit x g f m = done_all d h limit x g m limit (limit_beg
 
 -- what a sink holds there
 pub outputs_right : {S : Type 0} → (d : Design S) (h : Trace S) → IsDesign d → IsHistory d h → (limit : ℕ) (x : Core S) → IsAgreed d h limit x → (ch c : ℕ)
-    → done d h (d.owner false ch) c ≡ x.timed (d.owner false ch)
-    → h.pushed c ch ≡ d.inputs ch ++ pushed_in ch (core_accesses d x (d.owner false ch)) (λ j. bare_replies (x.flags (d.owner false ch) j)) (x.timed (d.owner false ch))
+    → done d h (d.owner Push ch) c ≡ x.timed (d.owner Push ch)
+    → h.pushed c ch ≡ d.inputs ch ++ pushed_in ch (core_accesses d x (d.owner Push ch)) (λ j. bare_replies (x.flags (d.owner Push ch) j)) (x.timed (d.owner Push ch))
 outputs_right {S} d h i y limit x g ch c k =
     let q = pushed_view d h i y (view d x) (agrees d h limit x g.marks g.time) ch c (omega arith) in
-    rw (k, core_pushed_is d x (d.owner false ch) ch (x.timed (d.owner false ch))) at q
+    rw (k, core_pushed_is d x (d.owner Push ch) ch (x.timed (d.owner Push ch))) at q
 
 -- the events in clocks before: each is a step with that cycle
 pub event_found : {S : Type 0} → (d : Design S) (h : Trace S) (limit : ℕ) (x : Core S) → IsAgreed d h limit x → (m c last : ℕ) → c < last
@@ -62,15 +63,15 @@ event_before {S} d h limit x g m k l = later (x.timed m) refl
         ]
 
 each_late : {S : Type 0} → (d : Design S) (h : Trace S) (x : Core S) (m c : ℕ) → ((n : ℕ) → done d h n c ≤ x.timed n)
-    → (know : Access → Known) (xs : List Access) → EachMeans d h (view d x) c know xs → Each (λ a. is_possible d h c a.pops a.channel ≡ answer (know a) c) xs
+    → (know : Access → Known) (xs : List Access) → EachMeans d h (view d x) c know xs → Each (λ a. is_possible d h c a.side a.channel ≡ answer (know a) c) xs
 each_late {S} d h x m c n know [] g = tt
-each_late {S} d h x m c n know (a ∷ xs) (g, gs) = (answer_late d h (view d x) c a.pops a.channel (know a) n g, each_late d h x m c n know xs gs)
+each_late {S} d h x m c n know (a ∷ xs) (g, gs) = (answer_late d h (view d x) c a.side a.channel (know a) n g, each_late d h x m c n know xs gs)
 
 -- where no step is determined, a module that is not over stands at its first step without a cycle from its stop on,
 -- and of each access there, what is known says whether it is possible
 pub held_right : {S : Type 0} → (d : Design S) (h : Trace S) → IsDesign d → IsHistory d h → (limit : ℕ) (x : Core S) → IsAgreed d h limit x → IsFinal d limit x
     → IsUndetermined d x → (m c : ℕ) → x.timed m < x.emitted m → stop d x m ≤ c
-    → (h.state c m ≡ x.state m (x.timed m)) × Each (λ a. is_possible d h c a.pops a.channel ≡ answer (known_of d (view d x) m a) c) (core_accesses d x m (x.timed m))
+    → (h.state c m ≡ x.state m (x.timed m)) × Each (λ a. is_possible d h c a.side a.channel ≡ answer (known_of d (view d x) m a) c) (core_accesses d x m (x.timed m))
 held_right {S} d h i y limit x g f u m c l s =
     let a = agrees d h limit x g.marks g.time in
     let k = done_last d h i y limit x g f u m c (omega arith) in

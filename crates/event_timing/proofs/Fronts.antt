@@ -1,6 +1,8 @@
 -- The values that a core hands to a module are those of the history.
 use Rattle.std.proofs.Common.{◌≡◌, ℕ, zero, suc, ◌+◌, ◌-◌, ◌<◌, ◌≤◌, Bool, true, false, inl, inr, List, [], ◌∷◌, ◌++◌, length, get_or, sym, refl, ap, ◌∙◌, subst, arith, append_assoc}
 use Rattle.std.proofs.lemmas.Bool.{cases_lt, ltb-true}
+use Rattle.flow_word.specs.declared.access.Side.{Side}
+use Rattle.flow_word.specs.declared.access.Side.TheVariants.{Pop, Push}
 use Rattle.event_timing.specs.Machines.{Design, IsDesign, Access, Reply, values_in, takes_in}
 use Rattle.event_timing.specs.Histories.{Trace, IsHistory, is_possible, replies}
 use Rattle.event_timing.specs.Steps.{steps, done}
@@ -35,7 +37,7 @@ pub agrees : {S : Type 0} → (d : Design S) (h : Trace S) (limit : ℕ) (x : Co
 agrees {S} d h limit x b t = agrees_done d h x b (record { within = t.within; steps_then = t.steps_then; done_then = t.done_then; reply_then = t.reply_then })
 
 -- counts do not read the values
-takes_plain : (side : Bool) (ch : ℕ) (V : ℕ → List ℕ) (t : ℕ → ℕ) (xs : List Access) (bs : List Bool)
+takes_plain : (side : Side) (ch : ℕ) (V : ℕ → List ℕ) (t : ℕ → ℕ) (xs : List Access) (bs : List Bool)
     → takes_in side ch xs (replies_of V t xs bs) ≡ takes_in side ch xs (bare_replies bs)
 takes_plain side ch V t [] bs = refl
 takes_plain side ch V t (a ∷ xs) [] = refl
@@ -47,7 +49,7 @@ values_plain ch V t [] bs = refl
 values_plain ch V t (a ∷ xs) [] = refl
 values_plain ch V t (a ∷ xs) (b ∷ bs) = rw (values_plain ch V t xs bs) refl
 
-pub tally_same : (a b : ℕ → List Access) (r s : ℕ → List Reply) (side : Bool) (ch n : ℕ)
+pub tally_same : (a b : ℕ → List Access) (r s : ℕ → List Reply) (side : Side) (ch n : ℕ)
     → ((k : ℕ) → k < n → takes_in side ch (a k) (r k) ≡ takes_in side ch (b k) (s k)) → tally a r side ch n ≡ tally b s side ch n
 tally_same a b r s side ch zero f = rw (tally_0 a r side ch, tally_0 b s side ch) refl
 tally_same a b r s side ch (suc n) f =
@@ -59,31 +61,31 @@ pushed_same a b r s ch zero f = rw (pushed_in_0 ch a r, pushed_in_0 ch b s) refl
 pushed_same a b r s ch (suc n) f =
     rw (pushed_in_more ch a r n, pushed_in_more ch b s n, f n (omega arith), pushed_same a b r s ch n (λ k l. f k (omega arith))) refl
 
-pub core_tally_is : {S : Type 0} → (d : Design S) (x : Core S) (m : ℕ) (side : Bool) (ch n : ℕ)
+pub core_tally_is : {S : Type 0} → (d : Design S) (x : Core S) (m : ℕ) (side : Side) (ch n : ℕ)
     → tally (core_accesses d x m) (core_reply d x m) side ch n ≡ core_tally d x m side ch n
 core_tally_is {S} d x m side ch n =
-    tally_same (core_accesses d x m) (core_accesses d x m) (core_reply d x m) (λ j. bare_replies (x.flags m j)) side ch n (λ k l. takes_plain side ch (core_values d x) (λ q. core_tally d x m true q k) (core_accesses d x m k) (x.flags m k))
+    tally_same (core_accesses d x m) (core_accesses d x m) (core_reply d x m) (λ j. bare_replies (x.flags m j)) side ch n (λ k l. takes_plain side ch (core_values d x) (λ q. core_tally d x m Pop q k) (core_accesses d x m k) (x.flags m k))
 
 pub core_pushed_is : {S : Type 0} → (d : Design S) (x : Core S) (m ch n : ℕ)
     → pushed_in ch (core_accesses d x m) (core_reply d x m) n ≡ pushed_in ch (core_accesses d x m) (λ j. bare_replies (x.flags m j)) n
 core_pushed_is {S} d x m ch n =
-    pushed_same (core_accesses d x m) (core_accesses d x m) (core_reply d x m) (λ j. bare_replies (x.flags m j)) ch n (λ k l. values_plain ch (core_values d x) (λ q. core_tally d x m true q k) (core_accesses d x m k) (x.flags m k))
+    pushed_same (core_accesses d x m) (core_accesses d x m) (core_reply d x m) (λ j. bare_replies (x.flags m j)) ch n (λ k l. values_plain ch (core_values d x) (λ q. core_tally d x m Pop q k) (core_accesses d x m k) (x.flags m k))
 
 -- the value at a place that is known to be pushed, in the core and in the history
 pub get_right : {S : Type 0} → (d : Design S) (h : Trace S) → IsDesign d → IsHistory d h → (limit : ℕ) (x : Core S) → AreOwnMarks d x → IsTimed d h limit x
-    → (ch c t : ℕ) → h.taken c true ch ≡ t → t < elements_timed d x ch → is_possible d h c true ch ≡ true
+    → (ch c t : ℕ) → h.taken c Pop ch ≡ t → t < elements_timed d x ch → is_possible d h c Pop ch ≡ true
     → get_or (core_values d x ch) t 0 ≡ get_or (h.pushed c ch) t 0
 get_right {S} d h i y limit x b u ch c t e l p =
     let g = agrees d h limit x b u in
-    let w : ℕ = d.owner false ch in
+    let w : ℕ = d.owner Push ch in
     let c1 : ℕ = begin (view d x) w in
     let k = done_begin d h (view d x) g w (x.timed w) refl in
     let q = pushed_view d h i y (view d x) g ch c1 (omega arith) in
     let q' = rw (k, core_pushed_is d x w ch (x.timed w)) at q in
     let (more, f) = pushed_in_mono ch (core_accesses d x w) (λ j. bare_replies (x.flags w j)) (x.timed w) (x.emitted w) (u.within w) in
     let z : Begins (core_values d x ch) (h.pushed c1 ch) = (more, ap (λ (s : List ℕ). d.inputs ch ++ s) f ∙ (sym (append_assoc (d.inputs ch) (pushed_in ch (core_accesses d x w) (λ j. bare_replies (x.flags w j)) (x.timed w)) more) ∙ ap (λ (s : List ℕ). s ++ more) (sym q'))) in
-    let n = taken_view d h i y (view d x) g false ch c1 (omega arith) in
-    let n' = rw (k, core_tally_is d x w false ch (x.timed w)) at n in
+    let n = taken_view d h i y (view d x) g Push ch c1 (omega arith) in
+    let n' = rw (k, core_tally_is d x w Push ch (x.timed w)) at n in
     let len = length_pushed d h i y ch c1 in
     let l' : t < length (h.pushed c1 ch) = omega (arith, len, n', l) in
     let first = begins_get (core_values d x ch) (h.pushed c1 ch) t z l' in
@@ -91,8 +93,8 @@ get_right {S} d h i y limit x b u ch c t e l p =
       | inr o ↦ first ∙ sym (begins_get (h.pushed c ch) (h.pushed c1 ch) t (pushed_mono d h y ch c1 c o) l')
       | inl o ↦
           let p' = rw (i.pops_limited ch) at p in
-          let p'' = ltb-true (h.taken c true ch) (d.start true ch + h.taken (suc c - d.lag true ch) false ch) p' in
-          let up = taken_mono d h y false ch (suc c - d.lag true ch) c (omega (arith, i.lag_positive true ch)) in
+          let p'' = ltb-true (h.taken c Pop ch) (d.start Pop ch + h.taken (suc c - d.lag Pop ch) Push ch) p' in
+          let up = taken_mono d h y Push ch (suc c - d.lag Pop ch) c (omega (arith, i.lag_positive Pop ch)) in
           let len' = length_pushed d h i y ch c in
           let l'' : t < length (h.pushed c ch) = omega (arith, len', up, p'', e) in
           first ∙ begins_get (h.pushed c1 ch) (h.pushed c ch) t (pushed_mono d h y ch c c1 (omega arith)) l''

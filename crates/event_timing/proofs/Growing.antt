@@ -1,28 +1,17 @@
 -- What stays as a core grows: the replies to its settled steps.
 use Rattle.std.proofs.Common.{◌≡◌, ℕ, zero, suc, ◌<◌, ◌≤◌, Bool, true, cond, not, ◌||◌, inl, inr, List, [], ◌∷◌, length, get_or, sym, refl, ap, ap₂, ◌∙◌, arith, ltb}
 use Rattle.std.proofs.lemmas.Bool.{cases_Bool, cond-false, and_parts, and_from, cases_eq, lt-ltb, ltb-true, or_cases, or_left, or_right}
+use Rattle.flow_word.specs.declared.access.Side.{Side}
+use Rattle.flow_word.specs.declared.access.Side.TheVariants.{Pop}
 use Rattle.event_timing.specs.Machines.{Design, Access, Reply, ready, takes_in}
 use Rattle.event_timing.specs.Histories.{Trace}
 use Rattle.event_timing.specs.Views.{own, Begins}
 use Rattle.event_timing.specs.Core.{Core, bare_replies, core_accesses, core_tally, core_values, pops_now, replies_of, all_below, core_reply, values_there}
 use Rattle.event_timing.specs.Agreement.{AreOwnMarks, IsTimed}
+use Rattle.event_timing.specs.Growth.{Grows, IsSettled}
 use Rattle.event_timing.proofs.OwnRuns.{own_0, own_more}
 use Rattle.event_timing.proofs.Values.{begins_get, begins_length}
 use Rattle.event_timing.proofs.Fronts.{tally_same}
-
-pub record Grows {S : Type 0} (d : Design S) (x z : Core S) : Type 0 where
-  pub emitted_up : (n : ℕ) → x.emitted n ≤ z.emitted n
-  pub state_same : (n k : ℕ) → k < x.emitted n → z.state n k ≡ x.state n k
-  pub wait_same : (n k : ℕ) → k < x.emitted n → z.wait n k ≡ x.wait n k
-  pub flags_same : (n k : ℕ) → k < x.emitted n → x.answered n k ≡ true → z.flags n k ≡ x.flags n k
-  pub answered_up : (n k : ℕ) → k < x.emitted n → x.answered n k ≡ true → z.answered n k ≡ true
-  pub values_up : (ch : ℕ) → Begins (core_values d z ch) (core_values d x ch)
-
--- every reply to the first n steps is there
-pub record IsSettled {S : Type 0} (d : Design S) (x : Core S) (m n : ℕ) : Type 0 where
-  pub emitted : (k : ℕ) → k < n → k < x.emitted m
-  pub answered : (k : ℕ) → k < n → x.answered m k ≡ true
-  pub there : (k : ℕ) → k < n → values_there d x m k ≡ true
 
 pub settled_less : {S : Type 0} → (d : Design S) (x : Core S) (m n k : ℕ) → k ≤ n → IsSettled d x m n → IsSettled d x m k
 settled_less {S} d x m n k l s = record { emitted = λ j q. s.emitted j (omega arith); answered = λ j q. s.answered j (omega arith); there = λ j q. s.there j (omega arith) }
@@ -59,24 +48,24 @@ below_grow s s' t u (a ∷ xs) (b ∷ bs) l q e =
     (below_grow s s' t u xs bs l q e2)
 
 pub tally_grow : {S : Type 0} → (d : Design S) (x z : Core S) → Grows d x z → (m n : ℕ) → ((k : ℕ) → k < n → k < x.emitted m)
-    → ((k : ℕ) → k < n → x.answered m k ≡ true) → (side : Bool) (ch : ℕ) → core_tally d z m side ch n ≡ core_tally d x m side ch n
+    → ((k : ℕ) → k < n → x.answered m k ≡ true) → (side : Side) (ch : ℕ) → core_tally d z m side ch n ≡ core_tally d x m side ch n
 tally_grow {S} d x z g m n f h side ch =
     tally_same (core_accesses d z m) (core_accesses d x m) (λ j. bare_replies (z.flags m j)) (λ j. bare_replies (x.flags m j)) side ch n
     (λ k l. ap₂ (λ (s : S) (b : List Bool). takes_in side ch (d.accesses m s) (bare_replies b)) (g.state_same m k (f k l)) (g.flags_same m k (f k l) (h k l)))
 
 pub reply_grow : {S : Type 0} → (d : Design S) (x z : Core S) → Grows d x z → (m n : ℕ) → IsSettled d x m (suc n) → core_reply d z m n ≡ core_reply d x m n
 reply_grow {S} d x z g m n s =
-    ap₂ (λ (p : S) (b : List Bool). replies_of (core_values d z) (λ ch. core_tally d z m true ch n) (d.accesses m p) b) (g.state_same m n (s.emitted n (omega arith))) (g.flags_same m n (s.emitted n (omega arith)) (s.answered n (omega arith)))
-    ∙ replies_grow (core_values d x) (core_values d z) (λ ch. core_tally d x m true ch n) (λ ch. core_tally d z m true ch n) (core_accesses d x m n) (x.flags m n) g.values_up
-    (λ ch. tally_grow d x z g m n (λ k l. s.emitted k (omega arith)) (λ k l. s.answered k (omega arith)) true ch)
+    ap₂ (λ (p : S) (b : List Bool). replies_of (core_values d z) (λ ch. core_tally d z m Pop ch n) (d.accesses m p) b) (g.state_same m n (s.emitted n (omega arith))) (g.flags_same m n (s.emitted n (omega arith)) (s.answered n (omega arith)))
+    ∙ replies_grow (core_values d x) (core_values d z) (λ ch. core_tally d x m Pop ch n) (λ ch. core_tally d z m Pop ch n) (core_accesses d x m n) (x.flags m n) g.values_up
+    (λ ch. tally_grow d x z g m n (λ k l. s.emitted k (omega arith)) (λ k l. s.answered k (omega arith)) Pop ch)
     (s.there n (omega arith))
 
 pub there_grow : {S : Type 0} → (d : Design S) (x z : Core S) → Grows d x z → (m n : ℕ) → IsSettled d x m (suc n) → values_there d z m n ≡ true
 there_grow {S} d x z g m n s =
-    ap₂ (λ (p : S) (b : List Bool). all_below (λ ch. length (core_values d z ch)) (λ ch. core_tally d z m true ch n) (d.accesses m p) b) (g.state_same m n (s.emitted n (omega arith))) (g.flags_same m n (s.emitted n (omega arith)) (s.answered n (omega arith)))
-    ∙ below_grow (λ ch. length (core_values d x ch)) (λ ch. length (core_values d z ch)) (λ ch. core_tally d x m true ch n) (λ ch. core_tally d z m true ch n) (core_accesses d x m n) (x.flags m n)
+    ap₂ (λ (p : S) (b : List Bool). all_below (λ ch. length (core_values d z ch)) (λ ch. core_tally d z m Pop ch n) (d.accesses m p) b) (g.state_same m n (s.emitted n (omega arith))) (g.flags_same m n (s.emitted n (omega arith)) (s.answered n (omega arith)))
+    ∙ below_grow (λ ch. length (core_values d x ch)) (λ ch. length (core_values d z ch)) (λ ch. core_tally d x m Pop ch n) (λ ch. core_tally d z m Pop ch n) (core_accesses d x m n) (x.flags m n)
     (λ ch. begins_length (core_values d z ch) (core_values d x ch) (g.values_up ch))
-    (λ ch. tally_grow d x z g m n (λ k l. s.emitted k (omega arith)) (λ k l. s.answered k (omega arith)) true ch)
+    (λ ch. tally_grow d x z g m n (λ k l. s.emitted k (omega arith)) (λ k l. s.answered k (omega arith)) Pop ch)
     (s.there n (omega arith))
 
 pub own_grow : {S : Type 0} → (d : Design S) (x z : Core S) → Grows d x z → (m n : ℕ) → IsSettled d x m n

@@ -16,6 +16,9 @@ pub mod Editing
 pub mod Touched
 pub mod Contents
 pub mod RunningAhead
+pub mod Beside
+pub mod Verified
+pub mod Deciding
 pub mod NoRun
 pub mod ActionBound
 pub mod FinalReport

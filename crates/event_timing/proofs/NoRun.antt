@@ -1,12 +1,13 @@
 -- An edit that finds only recorded outcomes permits no Run.
-use Rattle.std.proofs.Common.{◌≡◌, ℕ, ◌<◌, Bool, true, ◌⊎◌, inl, inr, List, [], ◌∷◌, sym, refl, subst, arith, Some}
+use Rattle.std.proofs.Common.{◌≡◌, ℕ, ◌<◌, true, ◌⊎◌, inl, inr, List, [], ◌∷◌, sym, refl, subst, arith, Some}
+use Rattle.flow_word.specs.declared.access.Side.TheVariants.{Push}
 use Rattle.event_timing.specs.Machines.{Design, IsDesign}
 use Rattle.event_timing.specs.Enablers.{candidate}
 use Rattle.event_timing.specs.Core.{Core, view}
 use Rattle.event_timing.specs.Agreement.{AreOwnMarks, IsAgreed}
 use Rattle.event_timing.specs.Actions.{MayRun, after_assign, after_answer, IsSame, new_flags, Action, Acts, IsRecorded, ActsRecorded}
 use Rattle.event_timing.specs.Edits.{edited, after_edit}
-use Rattle.event_timing.proofs.Growing.{Grows}
+use Rattle.event_timing.specs.Growth.{Grows}
 use Rattle.event_timing.proofs.Running.{values_grow}
 use Rattle.event_timing.proofs.Answering.{answer_marks, put_at_both, first_emitted}
 use Rattle.event_timing.proofs.RunningAhead.{stays}
@@ -28,7 +29,7 @@ shrinks {S} d x n c a s =
       wait_same = λ m k l. refl;
       flags_same = λ m k l v. sym (same m k);
       answered_up = put_at_both x.answered n (x.timed n) true (λ m k b. k < x.emitted m → b ≡ true → x.answered m k ≡ true) (λ l v. a) (λ m k w l v. v);
-      values_up = λ ch. values_grow d (after_answer d x n c) x ch (omega arith) (λ k l. refl) (λ k l. sym (same (d.owner Bool.false ch) k));
+      values_up = λ ch. values_grow d (after_answer d x n c) x ch (omega arith) (λ k l. refl) (λ k l. sym (same (d.owner Push ch) k));
     }
   where
     same : (m k : ℕ) → (after_answer d x n c).flags m k ≡ x.flags m k

@@ -1,7 +1,10 @@
 -- A module's steps in a history are its own run on the history's replies.
-use Rattle.std.proofs.Common.{ap, ◌≡◌, ℕ, zero, suc, ◌+◌, ◌-◌, ◌<◌, ◌≤◌, Bool, true, false, not, ◌⊎◌, inl, inr, List, [], ◌∷◌, refl, ◌∙◌, arith, zero-add, add-zero, Option, Some, None}
+use Rattle.std.proofs.Common.{ap, ◌≡◌, ℕ, zero, suc, ◌+◌, ◌-◌, ◌<◌, ◌≤◌, true, false, ◌⊎◌, inl, inr, List, [], ◌∷◌, refl, ◌∙◌, arith, zero-add, add-zero, Option, Some, None}
 use Rattle.std.proofs.lemmas.Bool.{cases_Bool, cond-false, and_parts, both_ways, cases_lt, false_from_ne_true, le-leb, lt-ltb, le-ltb, lt-leb, eqb-true, cases_order}
-use Rattle.event_timing.specs.Machines.{Design, IsDesign, Access, Reply, ready, skip, is_some_access, takes_in, took, same_side, Each}
+use Rattle.flow_word.specs.declared.access.Side.{Side}
+use Rattle.flow_word.specs.declared.access.Side.TheVariants.{Pop, Push}
+use Rattle.flow_word.specs.Kinds.{other_side, same_side}
+use Rattle.event_timing.specs.Machines.{Design, IsDesign, Access, Reply, ready, skip, is_some_access, takes_in, took, Each}
 use Rattle.event_timing.specs.Histories.{Trace, IsHistory, moves, replies}
 use Rattle.event_timing.specs.Steps.{steps, done, rest}
 use Rattle.event_timing.specs.Views.{own, own_accesses, tally, place, View, Agrees}
@@ -29,11 +32,11 @@ pub own_fits : {S : Type 0} → (d : Design S) → (i : IsDesign d) → (m : ℕ
 own_fits {S} d i m r zero = rw (own_0 d m r) (i.fits_opening m)
 own_fits {S} d i m r (suc k) = rw (own_more d m r k) (i.fits_move m (ready d m (own d m r k)) (r k) (skip_fits d i m (d.quiet m (own d m r k)) (own d m r k) (own_fits d i m r k)))
 
-pub tally_0 : (a : ℕ → List Access) (r : ℕ → List Reply) (side : Bool) (ch : ℕ) → tally a r side ch 0 ≡ 0
+pub tally_0 : (a : ℕ → List Access) (r : ℕ → List Reply) (side : Side) (ch : ℕ) → tally a r side ch 0 ≡ 0
 unfolding tally
 tally_0 a r side ch = refl
 
-pub tally_more : (a : ℕ → List Access) (r : ℕ → List Reply) (side : Bool) (ch k : ℕ)
+pub tally_more : (a : ℕ → List Access) (r : ℕ → List Reply) (side : Side) (ch k : ℕ)
     → tally a r side ch (suc k) ≡ tally a r side ch k + takes_in side ch (a k) (r k)
 unfolding tally
 tally_more a r side ch k = refl
@@ -58,11 +61,11 @@ rest_own {S} d h i y m r (suc c) f = later (cases_Bool (steps d h c m)) (rest_ow
         rest_more d h m c e ∙ (a ∙ (rw (done_more d h m c e, own_more d m r (done d h m c), b, g, k) refl))
     later (inr e) g = rw (rest_same d h m c e, done_same d h m c e) g
 
-none_taken : (side : Bool) (ch : ℕ) (xs : List Access) (rs : List Reply) → is_some_access xs ≡ false → takes_in side ch xs rs ≡ 0
+none_taken : (side : Side) (ch : ℕ) (xs : List Access) (rs : List Reply) → is_some_access xs ≡ false → takes_in side ch xs rs ≡ 0
 none_taken side ch [] rs e = refl
 none_taken side ch (a ∷ xs) rs e = cc
 
-taken_still : {S : Type 0} → (d : Design S) (h : Trace S) → IsHistory d h → (c : ℕ) (side : Bool) (ch : ℕ) → steps d h c (d.owner side ch) ≡ false
+taken_still : {S : Type 0} → (d : Design S) (h : Trace S) → IsHistory d h → (c : ℕ) (side : Side) (ch : ℕ) → steps d h c (d.owner side ch) ≡ false
     → h.taken (suc c) side ch ≡ h.taken c side ch
 taken_still {S} d h y c side ch e =
     elim (cases_Bool (moves d h c (d.owner side ch))) [
@@ -78,7 +81,7 @@ abbrev pub OwnAccesses : {S : Type 0} → Design S → ℕ → (ℕ → List Acc
 OwnAccesses {S} d m a r n = (k : ℕ) → k < n → a k ≡ own_accesses d m r k
 
 pub taken_own : {S : Type 0} → (d : Design S) (h : Trace S) → IsDesign d → IsHistory d h
-    → (side : Bool) (ch : ℕ) (a : ℕ → List Access) (r : ℕ → List Reply) (c : ℕ) → Follows d h (d.owner side ch) r c
+    → (side : Side) (ch : ℕ) (a : ℕ → List Access) (r : ℕ → List Reply) (c : ℕ) → Follows d h (d.owner side ch) r c
     → OwnAccesses d (d.owner side ch) a r (done d h (d.owner side ch) c) → h.taken c side ch ≡ tally a r side ch (done d h (d.owner side ch) c)
 taken_own {S} d h i y side ch a r zero f x = y.taken_0 side ch ∙ (rw (done_0 d h (d.owner side ch), tally_0 a r side ch) refl)
 taken_own {S} d h i y side ch a r (suc c) f x =
@@ -105,50 +108,50 @@ follows {S} d h v g m c l e b s =
     let p = g.reply_then m (done d h m e) k in
     rw t at p
 
-tally_up : (a : ℕ → List Access) (r : ℕ → List Reply) (side : Bool) (ch b n : ℕ) → tally a r side ch b ≤ tally a r side ch (n + b)
+tally_up : (a : ℕ → List Access) (r : ℕ → List Reply) (side : Side) (ch b n : ℕ) → tally a r side ch b ≤ tally a r side ch (n + b)
 tally_up a r side ch b zero = rw zero-add (omega arith)
 tally_up a r side ch b (suc n) =
     let e : suc n + b ≡ suc (n + b) = omega arith in
     rw e (omega (arith, tally_up a r side ch b n, tally_more a r side ch (n + b)))
 
-pub tally_mono : (a : ℕ → List Access) (r : ℕ → List Reply) (side : Bool) (ch p q : ℕ) → p ≤ q → tally a r side ch p ≤ tally a r side ch q
+pub tally_mono : (a : ℕ → List Access) (r : ℕ → List Reply) (side : Side) (ch p q : ℕ) → p ≤ q → tally a r side ch p ≤ tally a r side ch q
 tally_mono a r side ch p q l =
     let e : (q - p) + p ≡ q = omega arith in
     let g = tally_up a r side ch p (q - p) in
     rw e at g
 
-taken_up : {S : Type 0} → (d : Design S) (h : Trace S) → IsHistory d h → (side : Bool) (ch c : ℕ) → h.taken c side ch ≤ h.taken (suc c) side ch
+taken_up : {S : Type 0} → (d : Design S) (h : Trace S) → IsHistory d h → (side : Side) (ch c : ℕ) → h.taken c side ch ≤ h.taken (suc c) side ch
 taken_up {S} d h y side ch c =
     elim (cases_Bool (moves d h c (d.owner side ch))) [
       | inl e ↦ omega (arith, y.taken_moves c side ch e)
       | inr e ↦ omega (arith, y.taken_stays c side ch e)
     ]
 
-taken_later : {S : Type 0} → (d : Design S) (h : Trace S) → IsHistory d h → (side : Bool) (ch a n : ℕ) → h.taken a side ch ≤ h.taken (n + a) side ch
+taken_later : {S : Type 0} → (d : Design S) (h : Trace S) → IsHistory d h → (side : Side) (ch a n : ℕ) → h.taken a side ch ≤ h.taken (n + a) side ch
 taken_later {S} d h y side ch a zero = rw zero-add (omega arith)
 taken_later {S} d h y side ch a (suc n) =
     let e : suc n + a ≡ suc (n + a) = omega arith in
     rw e (omega (arith, taken_later d h y side ch a n, taken_up d h y side ch (n + a)))
 
-pub taken_mono : {S : Type 0} → (d : Design S) (h : Trace S) → IsHistory d h → (side : Bool) (ch a b : ℕ) → a ≤ b → h.taken a side ch ≤ h.taken b side ch
+pub taken_mono : {S : Type 0} → (d : Design S) (h : Trace S) → IsHistory d h → (side : Side) (ch a b : ℕ) → a ≤ b → h.taken a side ch ≤ h.taken b side ch
 taken_mono {S} d h y side ch a b l =
     let e : (b - a) + a ≡ b = omega arith in
     let g = taken_later d h y side ch a (b - a) in
     rw e at g
 
 -- it is the step of the pop (push) with i before it, or none of the first n is
-abbrev pub IsPlace : (ℕ → List Access) → (ℕ → List Reply) → Bool → ℕ → ℕ → ℕ → Option ℕ → Type 0
+abbrev pub IsPlace : (ℕ → List Access) → (ℕ → List Reply) → Side → ℕ → ℕ → ℕ → Option ℕ → Type 0
 IsPlace a r side ch n i None = tally a r side ch n ≤ i
 IsPlace a r side ch n i (Some j) = (j < n) × (tally a r side ch j ≤ i) × (i < tally a r side ch (suc j))
 
-place_wider : (a : ℕ → List Access) (r : ℕ → List Reply) (side : Bool) (ch n i : ℕ) → (o : Option ℕ)
+place_wider : (a : ℕ → List Access) (r : ℕ → List Reply) (side : Side) (ch n i : ℕ) → (o : Option ℕ)
     → (i < tally a r side ch n) ⊎ (tally a r side ch (suc n) ≤ i) → IsPlace a r side ch n i o → IsPlace a r side ch (suc n) i o
 place_wider a r side ch n i None (inl l) g = absurd (omega arith)
 place_wider a r side ch n i None (inr l) g = l
 place_wider a r side ch n i (Some j) l (p, q, e) = (omega arith, q, e)
 
 -- what `place` finds
-pub place_says : (a : ℕ → List Access) (r : ℕ → List Reply) (side : Bool) (ch n i : ℕ) → IsPlace a r side ch n i (place a r side ch n i)
+pub place_says : (a : ℕ → List Access) (r : ℕ → List Reply) (side : Side) (ch n i : ℕ) → IsPlace a r side ch n i (place a r side ch n i)
 unfolding place
 place_says a r side ch zero i = omega (arith, tally_0 a r side ch)
 place_says a r side ch (suc n) i = later (cases_lt i (tally a r side ch n)) (cases_lt i (tally a r side ch (suc n))) (place_says a r side ch n i)
@@ -159,28 +162,28 @@ place_says a r side ch (suc n) i = later (cases_lt i (tally a r side ch n)) (cas
     later (inr p) (inl q) g = rw (le-leb (tally a r side ch n) i p, lt-ltb i (tally a r side ch (suc n)) q) (omega arith, p, q)
     later (inr p) (inr q) g = rw (le-leb (tally a r side ch n) i p, le-ltb i (tally a r side ch (suc n)) q) (place_wider a r side ch n i _ (inr q) g)
 
-pub not_same_side : (a b : Bool) → same_side a b ≡ true → a ≡ b
-not_same_side true true e = refl
-not_same_side true false e = cc
-not_same_side false true e = cc
-not_same_side false false e = refl
+pub same_side_is : (a b : Side) → same_side a b ≡ true → a ≡ b
+same_side_is Pop Pop e = refl
+same_side_is Pop Push e = cc
+same_side_is Push Pop e = cc
+same_side_is Push Push e = refl
 
 -- nobody pushes a source, and nobody pops a sink
-closed_takes : {S : Type 0} → (d : Design S) (o : Bool) (ch : ℕ) (xs : List Access) (rs : List Reply) → d.closed (not o) ch ≡ true
-    → Each (λ a. d.closed (not a.pops) a.channel ≡ false) xs → takes_in o ch xs rs ≡ 0
+closed_takes : {S : Type 0} → (d : Design S) (o : Side) (ch : ℕ) (xs : List Access) (rs : List Reply) → d.closed (other_side o) ch ≡ true
+    → Each (λ a. d.closed (other_side a.side) a.channel ≡ false) xs → takes_in o ch xs rs ≡ 0
 closed_takes {S} d o ch [] rs e g = refl
 closed_takes {S} d o ch (a ∷ xs) [] e g = refl
 closed_takes {S} d o ch (a ∷ xs) (r ∷ rs) e (g, gs) =
     let t : took o ch a r ≡ false =
     false_from_ne_true _ (λ (w : took o ch a r ≡ true).
     let w1 = (and_parts _ _ (and_parts _ _ (and_parts _ _ w).1).1) in
-    let p = not_same_side a.pops o w1.0 in
+    let p = same_side_is a.side o w1.0 in
     let q = eqb-true a.channel ch w1.1 in
     let g' = rw (p, q) at g in
     both_ways _ g' e) in
     rw (cond-false {A = ℕ} (took o ch a r) 1 0 t, closed_takes d o ch xs rs e gs) refl
 
-pub closed_taken : {S : Type 0} → (d : Design S) (h : Trace S) → IsDesign d → IsHistory d h → (o : Bool) (ch c : ℕ) → d.closed (not o) ch ≡ true
+pub closed_taken : {S : Type 0} → (d : Design S) (h : Trace S) → IsDesign d → IsHistory d h → (o : Side) (ch c : ℕ) → d.closed (other_side o) ch ≡ true
     → h.taken c o ch ≡ 0
 closed_taken {S} d h i y o ch zero e = y.taken_0 o ch
 closed_taken {S} d h i y o ch (suc c) e =
@@ -192,7 +195,7 @@ closed_taken {S} d h i y o ch (suc c) e =
     ]
 
 -- there is one such step
-pub place_unique : (a : ℕ → List Access) (r : ℕ → List Reply) (side : Bool) (ch n i j : ℕ) → j < n → tally a r side ch j ≤ i → i < tally a r side ch (suc j)
+pub place_unique : (a : ℕ → List Access) (r : ℕ → List Reply) (side : Side) (ch n i j : ℕ) → j < n → tally a r side ch j ≤ i → i < tally a r side ch (suc j)
     → place a r side ch n i ≡ Some j
 place_unique a r side ch n i j l p q = later (place a r side ch n i) (place_says a r side ch n i)
   where

@@ -1,17 +1,19 @@
 -- A Run keeps agreement.
 use Rattle.std.proofs.Common.{◌≡◌, ℕ, zero, suc, ◌+◌, ◌<◌, ◌≤◌, Bool, true, false, not, ◌⊎◌, inl, inr, List, [], ◌∷◌, ◌++◌, sym, refl, ap, ap₂, ◌∙◌, subst, arith, append_assoc}
 use Rattle.std.proofs.lemmas.Bool.{cases_Bool, cond-true, cond-false, both_ways, cases_eq, not-true}
+use Rattle.flow_word.specs.declared.access.Side.TheVariants.{Pop, Push}
 use Rattle.event_timing.specs.Machines.{Design, IsDesign, Access, ready, values_in}
 use Rattle.event_timing.specs.Histories.{Trace, IsHistory}
 use Rattle.event_timing.specs.Steps.{steps, done}
 use Rattle.event_timing.specs.Views.{own, pushed_in, Begins}
 use Rattle.event_timing.specs.Core.{Core, bare_replies, core_accesses, core_tally, core_values, all_below, core_reply, values_there, has_query, no_outcomes}
-use Rattle.event_timing.specs.Agreement.{AreOwnMarks, IsTimed, elements_timed, possible_all, FlagsFit, Happens}
+use Rattle.event_timing.specs.Agreement.{AreOwnMarks, IsTimed, elements_timed, possible_all, FlagsFit, HappensBefore}
 use Rattle.event_timing.specs.Actions.{after_run, put, put_at, MayRun, newest, state_behind, emit_over, emit_step}
 use Rattle.event_timing.proofs.OwnRuns.{own_0, own_more}
 use Rattle.event_timing.proofs.Values.{pushed_in_mono}
 use Rattle.event_timing.proofs.Fronts.{pushed_same, IsDone}
-use Rattle.event_timing.proofs.Growing.{Grows, IsSettled, settled_less, settled_old, settled_timed, settled_all, own_grow, reply_grow, there_grow, tally_grow, below_grow}
+use Rattle.event_timing.specs.Growth.{Grows, IsSettled}
+use Rattle.event_timing.proofs.Growing.{settled_less, settled_old, settled_timed, settled_all, own_grow, reply_grow, there_grow, tally_grow, below_grow}
 use Rattle.event_timing.proofs.Assigning.{put_cases, put_same, put_other, put_at_same, put_at_other, plain_possible, can_emitted, RightFlags, SureFlags, HappensFirst}
 
 pub newest_own : {S : Type 0} → (d : Design S) (x : Core S) → AreOwnMarks d x → (m n : ℕ) → n ≤ x.emitted m
@@ -92,12 +94,12 @@ emit_up {S} x m n = put_cases x.emitted m (suc (x.emitted m)) (λ (p q : ℕ). x
 pub old_at : {S : Type 0} → {A : Type 0} → (f : ℕ → ℕ → A) (x : Core S) (m : ℕ) (y : A) (n k : ℕ) → k < x.emitted n → put_at f m (x.emitted m) y n k ≡ f n k
 old_at {S} f x m y n k l = put_at_other f m (x.emitted m) y n k (λ e w. let l' = subst (λ (z : ℕ). k < x.emitted z) e l in omega arith)
 
-pub values_grow : {S : Type 0} → (d : Design S) (x z : Core S) → (ch : ℕ) → x.emitted (d.owner false ch) ≤ z.emitted (d.owner false ch)
-    → ((k : ℕ) → k < x.emitted (d.owner false ch) → z.state (d.owner false ch) k ≡ x.state (d.owner false ch) k)
-    → ((k : ℕ) → k < x.emitted (d.owner false ch) → z.flags (d.owner false ch) k ≡ x.flags (d.owner false ch) k)
+pub values_grow : {S : Type 0} → (d : Design S) (x z : Core S) → (ch : ℕ) → x.emitted (d.owner Push ch) ≤ z.emitted (d.owner Push ch)
+    → ((k : ℕ) → k < x.emitted (d.owner Push ch) → z.state (d.owner Push ch) k ≡ x.state (d.owner Push ch) k)
+    → ((k : ℕ) → k < x.emitted (d.owner Push ch) → z.flags (d.owner Push ch) k ≡ x.flags (d.owner Push ch) k)
     → Begins (core_values d z ch) (core_values d x ch)
 values_grow {S} d x z ch l f g =
-    let w : ℕ = d.owner false ch in
+    let w : ℕ = d.owner Push ch in
     let (more, e) = pushed_in_mono ch (core_accesses d z w) (λ j. bare_replies (z.flags w j)) (x.emitted w) (z.emitted w) l in
     let s = pushed_same (core_accesses d z w) (core_accesses d x w) (λ j. bare_replies (z.flags w j)) (λ j. bare_replies (x.flags w j)) ch (x.emitted w) (λ k q. ap₂ (λ (p : S) (b : List Bool). values_in ch (d.accesses w p) (bare_replies b)) (f k q) (g k q)) in
     (more, ap (λ (p : List ℕ). d.inputs ch ++ p) (e ∙ ap (λ (p : List ℕ). p ++ more) s) ∙ sym (append_assoc (d.inputs ch) (pushed_in ch (core_accesses d x w) (λ j. bare_replies (x.flags w j)) (x.emitted w)) more))
@@ -110,7 +112,7 @@ emit_grows {S} d x m =
       wait_same = λ n k l. old_at x.wait x m _ n k l;
       flags_same = λ n k l a. old_at x.flags x m _ n k l;
       answered_up = λ n k l a. old_at x.answered x m _ n k l ∙ a;
-      values_up = λ ch. values_grow d x (emit d x m) ch (emit_up x m (d.owner false ch)) (λ k l. old_at x.state x m _ (d.owner false ch) k l) (λ k l. old_at x.flags x m _ (d.owner false ch) k l);
+      values_up = λ ch. values_grow d x (emit d x m) ch (emit_up x m (d.owner Push ch)) (λ k l. old_at x.state x m _ (d.owner Push ch) k l) (λ k l. old_at x.flags x m _ (d.owner Push ch) k l);
     }
 
 no_outcomes_fit : (xs : List Access) → FlagsFit xs (no_outcomes xs)
@@ -216,24 +218,24 @@ emit_first_flags {S} d h i y limit x b u m r b' =
 emit_sure : {S : Type 0} → (d : Design S) (h : Trace S) (limit : ℕ) (x : Core S) → IsTimed d h limit x → (m ch : ℕ)
     → elements_timed d (emit d x m) ch ≡ elements_timed d x ch
 emit_sure {S} d h limit x u m ch =
-    let s = settled_timed d h limit x u (d.owner false ch) (x.timed (d.owner false ch)) (omega arith) in
-    ap (λ (z : ℕ). d.start true ch + z) (tally_grow d x (emit d x m) (emit_grows d x m) (d.owner false ch) (x.timed (d.owner false ch)) s.emitted s.answered false ch)
+    let s = settled_timed d h limit x u (d.owner Push ch) (x.timed (d.owner Push ch)) (omega arith) in
+    ap (λ (z : ℕ). d.start Pop ch + z) (tally_grow d x (emit d x m) (emit_grows d x m) (d.owner Push ch) (x.timed (d.owner Push ch)) s.emitted s.answered Push ch)
 
 emit_first_sure : {S : Type 0} → (d : Design S) (h : Trace S) (limit : ℕ) (x : Core S) → AreOwnMarks d x → IsTimed d h limit x → (m : ℕ) → (n k : ℕ)
     → k < (emit d x m).emitted n → k ≡ x.timed n → (emit d x m).verified n k ≡ true → has_query (core_accesses d (emit d x m) n k) ≡ true
-    → all_below (elements_timed d (emit d x m)) (λ ch. core_tally d (emit d x m) n true ch k) (core_accesses d (emit d x m) n k) ((emit d x m).flags n k) ≡ true
+    → all_below (elements_timed d (emit d x m)) (λ ch. core_tally d (emit d x m) n Pop ch k) (core_accesses d (emit d x m) n k) ((emit d x m).flags n k) ≡ true
 emit_first_sure {S} d h limit x b u m =
-    emit_more x m (λ n k. k ≡ x.timed n → (emit d x m).verified n k ≡ true → has_query (core_accesses d (emit d x m) n k) ≡ true → all_below (elements_timed d (emit d x m)) (λ ch. core_tally d (emit d x m) n true ch k) (core_accesses d (emit d x m) n k) ((emit d x m).flags n k) ≡ true)
+    emit_more x m (λ n k. k ≡ x.timed n → (emit d x m).verified n k ≡ true → has_query (core_accesses d (emit d x m) n k) ≡ true → all_below (elements_timed d (emit d x m)) (λ ch. core_tally d (emit d x m) n Pop ch k) (core_accesses d (emit d x m) n k) ((emit d x m).flags n k) ≡ true)
     (λ n k l e v p.
     let f = subst (λ (j : ℕ). SureFlags d (elements_timed d x) x n j) (sym e) (u.first_sure n) in
     let st = old_at x.state x m (ready d m (newest d x m)) n k l in
     let p' = sym (ap (λ (s : S). has_query (d.accesses n s)) st) ∙ p in
     let f' = f l (sym (old_at x.verified x m _ n k l) ∙ v) p' in
     let o = settled_old d x b n k l in
-    ap₂ (λ (s : S) (q : List Bool). all_below (elements_timed d (emit d x m)) (λ ch. core_tally d (emit d x m) n true ch k) (d.accesses n s) q) st (emit_flags_same d x m n k l)
-    ∙ below_grow (elements_timed d x) (elements_timed d (emit d x m)) (λ ch. core_tally d x n true ch k) (λ ch. core_tally d (emit d x m) n true ch k) (core_accesses d x n k) (x.flags n k)
+    ap₂ (λ (s : S) (q : List Bool). all_below (elements_timed d (emit d x m)) (λ ch. core_tally d (emit d x m) n Pop ch k) (d.accesses n s) q) st (emit_flags_same d x m n k l)
+    ∙ below_grow (elements_timed d x) (elements_timed d (emit d x m)) (λ ch. core_tally d x n Pop ch k) (λ ch. core_tally d (emit d x m) n Pop ch k) (core_accesses d x n k) (x.flags n k)
     (λ ch. omega (arith, emit_sure d h limit x u m ch))
-    (λ ch. tally_grow d x (emit d x m) (emit_grows d x m) n k o.emitted o.answered true ch)
+    (λ ch. tally_grow d x (emit d x m) (emit_grows d x m) n k o.emitted o.answered Pop ch)
     f')
     (λ e v p. absurd (both_ways _ (emit_plain d x m v) p))
 
@@ -253,8 +255,8 @@ emit_time {S} d h i y limit x b u m r b' =
       below = u.below;
       first_flags = λ n l. emit_first_flags d h i y limit x b u m r b' n (x.timed n) l refl;
       first_sure = λ n l. emit_first_sure d h limit x b u m n (x.timed n) l refl;
-      first_happens = λ n l. emit_more x m (λ n k. k ≡ x.timed n → z.verified n k ≡ true → has_query (core_accesses d z n k) ≡ true → Happens d h n k)
-          (λ n k l e v p. subst (λ (j : ℕ). HappensFirst d h x n j) (sym e) (u.first_happens n) l (sym (old_at x.verified x m _ n k l) ∙ v) (sym (ap (λ (s : S). has_query (d.accesses n s)) (g.state_same n k l)) ∙ p))
+      first_happens = λ n l. emit_more x m (λ n k. k ≡ x.timed n → z.verified n k ≡ true → has_query (core_accesses d z n k) ≡ true → HappensBefore d h limit n k)
+          (λ n k l e v p. subst (λ (j : ℕ). HappensFirst d h limit x n j) (sym e) (u.first_happens n) l (sym (old_at x.verified x m _ n k l) ∙ v) (sym (ap (λ (s : S). has_query (d.accesses n s)) (g.state_same n k l)) ∙ p))
           (λ e v p. absurd (both_ways _ (emit_plain d x m v) p)) n (x.timed n) l refl;
       verified_then = λ n k l. old_at x.verified x m _ n k (omega (arith, u.within n)) ∙ u.verified_then n k l;
       verified_answered = emit_more x m (λ n k. z.verified n k ≡ true → z.answered n k ≡ true)

@@ -9,7 +9,8 @@ use Rattle.event_timing.specs.Core.{Core, core_reply, core_values, view}
 use Rattle.event_timing.specs.Actions.{Action, Acts, ActsAll, MayRun, newest, after_run, after_assign, after_answer, emit_over, IsSame, IsNoRunOf}
 use Rattle.event_timing.specs.Agreement.{AreOwnMarks, IsAgreed}
 use Rattle.event_timing.proofs.Values.{begins_self}
-use Rattle.event_timing.proofs.Growing.{Grows, settled_less, settled_all, there_grow, own_grow}
+use Rattle.event_timing.specs.Growth.{Grows}
+use Rattle.event_timing.proofs.Growing.{settled_less, settled_all, there_grow, own_grow}
 use Rattle.event_timing.proofs.Running.{emit, emit_grows, newest_own}
 use Rattle.event_timing.proofs.Assigning.{put_other}
 use Rattle.event_timing.proofs.Answering.{answer_grows, first_emitted}
@@ -27,7 +28,7 @@ stays {S} d x z b g m e o r =
     }
 
 -- what a Run emits is the same, whatever else was done meanwhile
-newest_stays : {S : Type 0} → (d : Design S) (x z : Core S) → AreOwnMarks d x → AreOwnMarks d z → Grows d x z → (m : ℕ) → z.emitted m ≡ x.emitted m
+pub newest_stays : {S : Type 0} → (d : Design S) (x z : Core S) → AreOwnMarks d x → AreOwnMarks d z → Grows d x z → (m : ℕ) → z.emitted m ≡ x.emitted m
     → MayRun d x m → newest d z m ≡ newest d x m
 newest_stays {S} d x z b b' g m e r =
     newest_own d z b' m (z.emitted m) (omega arith)
@@ -43,10 +44,10 @@ grown : {S : Type 0} → (d : Design S) (x z : Core S) → AreOwnMarks d x → A
     → z.over m ≡ x.over m → MayRun d x m → StaysAhead d x z m
 grown {S} d x z b b' g m e o r = (stays d x z b g m e o r, newest_stays d x z b b' g m e r)
 
-over_grows : {S : Type 0} → (d : Design S) (x : Core S) (n : ℕ) → Grows d x (emit_over x n)
+pub over_grows : {S : Type 0} → (d : Design S) (x : Core S) (n : ℕ) → Grows d x (emit_over x n)
 over_grows {S} d x n = record { emitted_up = λ m. omega arith; state_same = λ m k l. refl; wait_same = λ m k l. refl; flags_same = λ m k l v. refl; answered_up = λ m k l v. v; values_up = λ ch. begins_self (core_values d x ch) }
 
-assign_grows : {S : Type 0} → (d : Design S) (x : Core S) (n c : ℕ) → Grows d x (after_assign x n c)
+pub assign_grows : {S : Type 0} → (d : Design S) (x : Core S) (n c : ℕ) → Grows d x (after_assign x n c)
 assign_grows {S} d x n c = record { emitted_up = λ m. omega arith; state_same = λ m k l. refl; wait_same = λ m k l. refl; flags_same = λ m k l v. refl; answered_up = λ m k l v. v; values_up = λ ch. begins_self (core_values d x ch) }
 
 run_ahead : {S : Type 0} → (d : Design S) (x : Core S) → AreOwnMarks d x → (m n : ℕ) → AreOwnMarks d (after_run d x n) → (m ≡ n → ⊥) → MayRun d x m
@@ -78,7 +79,7 @@ acts_ahead {S} d i limit x b m r (Action.Assign n) o z b' (c, p, e) =
 acts_ahead {S} d i limit x b m r (Action.Answer n) o z b' (c, p, e) = answer_ahead d i x b m n c p.determined.at z b' e r
 acts_ahead {S} d i limit x b m r (Action.Earliest n) o z b' (c, p, e) = answer_ahead d i x b m n c p.open_step.determined.at z b' e r
 
-no_run_parts : (m : ℕ) (a : Action) (more : List Action) → IsNoRunOf m (a ∷ more) → IsNoRunOf m (a ∷ []) × IsNoRunOf m more
+pub no_run_parts : (m : ℕ) (a : Action) (more : List Action) → IsNoRunOf m (a ∷ more) → IsNoRunOf m (a ∷ []) × IsNoRunOf m more
 no_run_parts m (Action.Run n) more (o, os) = ((o, tt), os)
 no_run_parts m (Action.Assign n) more os = (tt, os)
 no_run_parts m (Action.Answer n) more os = (tt, os)

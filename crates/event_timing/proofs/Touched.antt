@@ -1,6 +1,8 @@
 -- What a final core's cycles say of a channel is true up to the limit.
-use Rattle.std.proofs.Common.{◌≡◌, ℕ, zero, suc, ◌+◌, ◌<◌, ◌≤◌, min, Bool, true, false, inl, inr, sym, ap, ◌∙◌, arith, ltb}
+use Rattle.std.proofs.Common.{◌≡◌, ℕ, zero, suc, ◌+◌, ◌<◌, ◌≤◌, min, inl, inr, sym, ap, ◌∙◌, arith, ltb}
 use Rattle.std.proofs.lemmas.Bool.{cases_Bool, cases_lt, ltb-false, cond-true, cond-false}
+use Rattle.flow_word.specs.declared.access.Side.{Side}
+use Rattle.flow_word.specs.declared.access.Side.TheVariants.{Pop, Push}
 use Rattle.event_timing.specs.Machines.{Design, IsDesign}
 use Rattle.event_timing.specs.Histories.{Trace, IsHistory}
 use Rattle.event_timing.specs.Steps.{done}
@@ -42,38 +44,38 @@ kept_done {S} d h limit x u m c l =
     ]
 
 pub counts_right : {S : Type 0} → (d : Design S) (h : Trace S) → IsDesign d → IsHistory d h → (limit : ℕ) (x : Core S) → IsAgreed d h limit x
-    → (side : Bool) (ch c : ℕ) → done d h (d.owner side ch) c ≤ x.timed (d.owner side ch) → h.taken c side ch ≡ by_cycles d x side ch c
+    → (side : Side) (ch c : ℕ) → done d h (d.owner side ch) c ≤ x.timed (d.owner side ch) → h.taken c side ch ≡ by_cycles d x side ch c
 counts_right {S} d h i y limit x g side ch c l =
     let w : ℕ = d.owner side ch in
     taken_view d h i y (view d x) (agrees d h limit x g.marks g.time) side ch c l
     ∙ (core_tally_is d x w side ch (done d h w c) ∙ ap (core_tally d x w side ch) (sym (kept_done d h limit x g.time w c l)))
 
 final_counts : {S : Type 0} → (d : Design S) (h : Trace S) → IsDesign d → IsHistory d h → (limit : ℕ) (x : Core S) → IsAgreed d h limit x → IsFinal d limit x
-    → (side : Bool) (ch c : ℕ) → c ≤ limit → h.taken c side ch ≡ by_cycles d x side ch c
+    → (side : Side) (ch c : ℕ) → c ≤ limit → h.taken c side ch ≡ by_cycles d x side ch c
 final_counts {S} d h i y limit x g f side ch c l = counts_right d h i y limit x g side ch c (final_complete d h i y limit x g f (d.owner side ch) c l)
 
 -- so the first touched clock may be read off the cycles
 pub untouched : {S : Type 0} → (d : Design S) (h : Trace S) → IsDesign d → IsHistory d h → (limit : ℕ) (x : Core S) → IsAgreed d h limit x → IsFinal d limit x
     → (fifo depth t : ℕ) → t ≤ limit → IsUntouchedByCycles d x fifo depth t → IsUntouched d h fifo depth t
 untouched {S} d h i y limit x g f fifo depth t l u =
-    let count = λ (side : Bool) (c : ℕ) (q : c < t). final_counts d h i y limit x g f side fifo c (omega arith) in
+    let count = λ (side : Side) (c : ℕ) (q : c < t). final_counts d h i y limit x g f side fifo c (omega arith) in
     record {
-      old_room = λ c q. let a = count false c q in let b = count true c q in omega (arith, u.old_room c q);
-      new_room = λ c q. let a = count false c q in let b = count true c q in omega (arith, u.new_room c q);
+      old_room = λ c q. let a = count Push c q in let b = count Pop c q in omega (arith, u.old_room c q);
+      new_room = λ c q. let a = count Push c q in let b = count Pop c q in omega (arith, u.new_room c q);
     }
 
 -- the number of elements goes up by one at most, so it is below the first number that it is never seen at
 never_reached : {S : Type 0} → (d : Design S) (h : Trace S) → IsDesign d → IsHistory d h → (limit : ℕ) (x : Core S) → IsAgreed d h limit x → IsFinal d limit x
     → (fifo most t : ℕ) → t ≤ limit → 0 < most → ((c : ℕ) → c < t → held_by_cycles d x fifo c ≡ most → ⊥)
-    → (c : ℕ) → c < t → h.taken c false fifo < most + h.taken c true fifo
-never_reached {S} d h i y limit x g f fifo most t l some never zero q = omega (arith, y.taken_0 false fifo, y.taken_0 true fifo)
+    → (c : ℕ) → c < t → h.taken c Push fifo < most + h.taken c Pop fifo
+never_reached {S} d h i y limit x g f fifo most t l some never zero q = omega (arith, y.taken_0 Push fifo, y.taken_0 Pop fifo)
 never_reached {S} d h i y limit x g f fifo most t l some never (suc c) q =
     let before = never_reached d h i y limit x g f fifo most t l some never c (omega arith) in
-    let pushes = final_counts d h i y limit x g f false fifo (suc c) (omega arith) in
-    let pops = final_counts d h i y limit x g f true fifo (suc c) (omega arith) in
-    let one = taken_once d h i y c false fifo in
-    let less = taken_mono d h y true fifo c (suc c) (omega arith) in
-    elim (cases_lt (h.taken (suc c) false fifo) (most + h.taken (suc c) true fifo)) [
+    let pushes = final_counts d h i y limit x g f Push fifo (suc c) (omega arith) in
+    let pops = final_counts d h i y limit x g f Pop fifo (suc c) (omega arith) in
+    let one = taken_once d h i y c Push fifo in
+    let less = taken_mono d h y Pop fifo c (suc c) (omega arith) in
+    elim (cases_lt (h.taken (suc c) Push fifo) (most + h.taken (suc c) Pop fifo)) [
       | inl w ↦ w
       | inr w ↦ absurd (never (suc c) q (omega arith))
     ]
@@ -81,14 +83,14 @@ never_reached {S} d h i y limit x g f fifo most t l some never (suc c) q =
 -- a clock up to which the FIFO never holds the lesser of both depths is untouched
 pub before_first : {S : Type 0} → (d : Design S) (h : Trace S) → IsDesign d → IsHistory d h → (limit : ℕ) (x : Core S) → IsAgreed d h limit x
     → IsFinal d limit x
-    → (fifo depth t : ℕ) → t ≤ limit → 0 < d.start false fifo → 0 < depth → ((c : ℕ) → c < t → held_by_cycles d x fifo c ≡ min (d.start false fifo) depth → ⊥)
+    → (fifo depth t : ℕ) → t ≤ limit → 0 < d.start Push fifo → 0 < depth → ((c : ℕ) → c < t → held_by_cycles d x fifo c ≡ min (d.start Push fifo) depth → ⊥)
     → IsUntouchedByCycles d x fifo depth t
 before_first {S} d h i y limit x g f fifo depth t l old new never =
-    let count = λ (side : Bool) (c : ℕ) (q : c < t). final_counts d h i y limit x g f side fifo c (omega arith) in
-    let below = never_reached d h i y limit x g f fifo (min (d.start false fifo) depth) t l (omega arith) never in
+    let count = λ (side : Side) (c : ℕ) (q : c < t). final_counts d h i y limit x g f side fifo c (omega arith) in
+    let below = never_reached d h i y limit x g f fifo (min (d.start Push fifo) depth) t l (omega arith) never in
     record {
-      old_room = λ c q. let a = count false c q in let b = count true c q in omega (arith, below c q);
-      new_room = λ c q. let a = count false c q in let b = count true c q in omega (arith, below c q);
+      old_room = λ c q. let a = count Push c q in let b = count Pop c q in omega (arith, below c q);
+      new_room = λ c q. let a = count Push c q in let b = count Pop c q in omega (arith, below c q);
     }
 
 -- at the limit no cycle is forgotten

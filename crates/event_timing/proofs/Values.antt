@@ -1,8 +1,11 @@
 -- The values pushed on a channel, in the history and in a view.
-use Rattle.std.proofs.Common.{◌≡◌, ℕ, zero, suc, ◌+◌, ◌-◌, ◌<◌, ◌≤◌, Bool, true, false, ◌&&◌, ◌⊎◌, inl, inr, List, [], ◌∷◌, ◌++◌, length, get_or, sym, refl, ap, ◌∙◌, arith, zero-add, append_assoc, append-nil, length-append, eqb}
+use Rattle.std.proofs.Common.{◌≡◌, ℕ, zero, suc, ◌+◌, ◌-◌, ◌<◌, ◌≤◌, true, false, ◌&&◌, ◌⊎◌, inl, inr, List, [], ◌∷◌, ◌++◌, length, get_or, sym, refl, ap, ◌∙◌, arith, zero-add, append_assoc, append-nil, length-append, eqb}
 use Rattle.std.proofs.lemmas.Bool.{cases_Bool, cond-true, cond-false, both_ways, false_from_ne_true, and_parts, and_from}
 use Rattle.std.proofs.lemmas.Grind.{common_steps}
-use Rattle.event_timing.specs.Machines.{Design, IsDesign, Access, Reply, is_some_access, values_in, takes_in, took, takers, takes_at, same_side}
+use Rattle.flow_word.specs.declared.access.Side.{Side}
+use Rattle.flow_word.specs.declared.access.Side.TheVariants.{Pop, Push}
+use Rattle.flow_word.specs.Kinds.{same_side}
+use Rattle.event_timing.specs.Machines.{Design, IsDesign, Access, Reply, is_some_access, values_in, takes_in, took, takers, takes_at}
 use Rattle.event_timing.specs.Histories.{Trace, IsHistory, replies, moves}
 use Rattle.event_timing.specs.Steps.{steps, done}
 use Rattle.event_timing.specs.Views.{tally, View, Agrees, pushed_in, Begins}
@@ -22,41 +25,41 @@ none_pushed : (ch : ℕ) (xs : List Access) (rs : List Reply) → is_some_access
 none_pushed ch [] rs e = refl
 none_pushed ch (a ∷ xs) rs e = cc
 
-pushed_still : {S : Type 0} → (d : Design S) (h : Trace S) → IsHistory d h → (c ch : ℕ) → steps d h c (d.owner false ch) ≡ false
+pushed_still : {S : Type 0} → (d : Design S) (h : Trace S) → IsHistory d h → (c ch : ℕ) → steps d h c (d.owner Push ch) ≡ false
     → h.pushed (suc c) ch ≡ h.pushed c ch
 pushed_still {S} d h y c ch e =
-    elim (cases_Bool (moves d h c (d.owner false ch))) [
+    elim (cases_Bool (moves d h c (d.owner Push ch))) [
       | inl w ↦
-          let s : is_some_access (d.accesses (d.owner false ch) (h.state c (d.owner false ch))) ≡ false =
-          false_from_ne_true _ (λ (t : is_some_access (d.accesses (d.owner false ch) (h.state c (d.owner false ch))) ≡ true). both_ways _ e (steps_from d h c (d.owner false ch) w t)) in
-          y.pushed_moves c ch w ∙ (rw (none_pushed ch (d.accesses (d.owner false ch) (h.state c (d.owner false ch))) (replies d h c (d.owner false ch)) s) (append-nil _))
+          let s : is_some_access (d.accesses (d.owner Push ch) (h.state c (d.owner Push ch))) ≡ false =
+          false_from_ne_true _ (λ (t : is_some_access (d.accesses (d.owner Push ch) (h.state c (d.owner Push ch))) ≡ true). both_ways _ e (steps_from d h c (d.owner Push ch) w t)) in
+          y.pushed_moves c ch w ∙ (rw (none_pushed ch (d.accesses (d.owner Push ch) (h.state c (d.owner Push ch))) (replies d h c (d.owner Push ch)) s) (append-nil _))
       | inr w ↦ y.pushed_stays c ch w
     ]
 
 pub pushed_own : {S : Type 0} → (d : Design S) (h : Trace S) → IsDesign d → IsHistory d h → (ch : ℕ) (a : ℕ → List Access) (r : ℕ → List Reply) (c : ℕ)
-    → Follows d h (d.owner false ch) r c → OwnAccesses d (d.owner false ch) a r (done d h (d.owner false ch) c)
-    → h.pushed c ch ≡ d.inputs ch ++ pushed_in ch a r (done d h (d.owner false ch) c)
-pushed_own {S} d h i y ch a r zero f x = y.pushed_0 ch ∙ (rw (done_0 d h (d.owner false ch), pushed_in_0 ch a r) (sym (append-nil _)))
+    → Follows d h (d.owner Push ch) r c → OwnAccesses d (d.owner Push ch) a r (done d h (d.owner Push ch) c)
+    → h.pushed c ch ≡ d.inputs ch ++ pushed_in ch a r (done d h (d.owner Push ch) c)
+pushed_own {S} d h i y ch a r zero f x = y.pushed_0 ch ∙ (rw (done_0 d h (d.owner Push ch), pushed_in_0 ch a r) (sym (append-nil _)))
 pushed_own {S} d h i y ch a r (suc c) f x =
-    later (cases_Bool (steps d h c (d.owner false ch))) (pushed_own d h i y ch a r c (follows_less d h (d.owner false ch) r c f) (λ k l. x k (omega (arith, done_up d h (d.owner false ch) c))))
+    later (cases_Bool (steps d h c (d.owner Push ch))) (pushed_own d h i y ch a r c (follows_less d h (d.owner Push ch) r c f) (λ k l. x k (omega (arith, done_up d h (d.owner Push ch) c))))
   where
-    later : (steps d h c (d.owner false ch) ≡ true) ⊎ (steps d h c (d.owner false ch) ≡ false)
-        → h.pushed c ch ≡ d.inputs ch ++ pushed_in ch a r (done d h (d.owner false ch) c)
-        → h.pushed (suc c) ch ≡ d.inputs ch ++ pushed_in ch a r (done d h (d.owner false ch) (suc c))
+    later : (steps d h c (d.owner Push ch) ≡ true) ⊎ (steps d h c (d.owner Push ch) ≡ false)
+        → h.pushed c ch ≡ d.inputs ch ++ pushed_in ch a r (done d h (d.owner Push ch) c)
+        → h.pushed (suc c) ch ≡ d.inputs ch ++ pushed_in ch a r (done d h (d.owner Push ch) (suc c))
     later (inl e) g =
-        let p = y.pushed_moves c ch (steps_moves d h c (d.owner false ch) e) in
-        let b = step_ready d h i y (d.owner false ch) c e in
+        let p = y.pushed_moves c ch (steps_moves d h c (d.owner Push ch) e) in
+        let b = step_ready d h i y (d.owner Push ch) c e in
         let k = f c (omega arith) e in
-        let o = rest_own d h i y (d.owner false ch) r c (follows_less d h (d.owner false ch) r c f) in
-        let n = done_more d h (d.owner false ch) c e in
-        let w = x (done d h (d.owner false ch) c) (omega arith) in
-        p ∙ (rw (n, pushed_in_more ch a r (done d h (d.owner false ch) c), w, k, b, o, g) (simp append_assoc))
-    later (inr e) g = pushed_still d h y c ch e ∙ (rw (done_same d h (d.owner false ch) c e) g)
+        let o = rest_own d h i y (d.owner Push ch) r c (follows_less d h (d.owner Push ch) r c f) in
+        let n = done_more d h (d.owner Push ch) c e in
+        let w = x (done d h (d.owner Push ch) c) (omega arith) in
+        p ∙ (rw (n, pushed_in_more ch a r (done d h (d.owner Push ch) c), w, k, b, o, g) (simp append_assoc))
+    later (inr e) g = pushed_still d h y c ch e ∙ (rw (done_same d h (d.owner Push ch) c e) g)
 
 pub pushed_view : {S : Type 0} → (d : Design S) (h : Trace S) → IsDesign d → IsHistory d h → (v : View) → Agrees d h v → (ch c : ℕ)
-    → done d h (d.owner false ch) c ≤ v.timed (d.owner false ch)
-    → h.pushed c ch ≡ d.inputs ch ++ pushed_in ch (v.accesses (d.owner false ch)) (v.reply (d.owner false ch)) (done d h (d.owner false ch) c)
-pushed_view {S} d h i y v g ch c l = pushed_own d h i y ch (v.accesses (d.owner false ch)) (v.reply (d.owner false ch)) c (follows d h v g (d.owner false ch) c l) (λ k q. g.accesses_then (d.owner false ch) k (omega arith))
+    → done d h (d.owner Push ch) c ≤ v.timed (d.owner Push ch)
+    → h.pushed c ch ≡ d.inputs ch ++ pushed_in ch (v.accesses (d.owner Push ch)) (v.reply (d.owner Push ch)) (done d h (d.owner Push ch) c)
+pushed_view {S} d h i y v g ch c l = pushed_own d h i y ch (v.accesses (d.owner Push ch)) (v.reply (d.owner Push ch)) c (follows d h v g (d.owner Push ch) c l) (λ k q. g.accesses_then (d.owner Push ch) k (omega arith))
 
 -- lists that only grow
 pub begins_self : (xs : List ℕ) → Begins xs xs
@@ -76,7 +79,7 @@ begins_length xs ys (a, e) = rw e (grind (arith, common_steps))
 
 pushed_up : {S : Type 0} → (d : Design S) (h : Trace S) → IsHistory d h → (ch c : ℕ) → Begins (h.pushed (suc c) ch) (h.pushed c ch)
 pushed_up {S} d h y ch c =
-    elim (cases_Bool (moves d h c (d.owner false ch))) [
+    elim (cases_Bool (moves d h c (d.owner Push ch))) [
       | inl e ↦ (_, y.pushed_moves c ch e)
       | inr e ↦ ([], y.pushed_stays c ch e ∙ sym (append-nil _))
     ]
@@ -93,27 +96,27 @@ pushed_mono {S} d h y ch a b l =
     let g = pushed_later d h y ch a (b - a) in
     rw e at g
 
-pub length_values : (ch : ℕ) (xs : List Access) (rs : List Reply) → length (values_in ch xs rs) ≡ takes_in false ch xs rs
+pub length_values : (ch : ℕ) (xs : List Access) (rs : List Reply) → length (values_in ch xs rs) ≡ takes_in Push ch xs rs
 length_values ch [] rs = refl
 length_values ch (a ∷ xs) [] = refl
 length_values ch (a ∷ xs) (r ∷ rs) =
-    elim (cases_Bool (took false ch a r)) [
-      | inl e ↦ rw (cond-true {A = List ℕ} (took false ch a r) (a.value ∷ []) [] e, cond-true {A = ℕ} (took false ch a r) 1 0 e) (omega (arith, length_values ch xs rs))
-      | inr e ↦ rw (cond-false {A = List ℕ} (took false ch a r) (a.value ∷ []) [] e, cond-false {A = ℕ} (took false ch a r) 1 0 e) (omega (arith, length_values ch xs rs))
+    elim (cases_Bool (took Push ch a r)) [
+      | inl e ↦ rw (cond-true {A = List ℕ} (took Push ch a r) (a.value ∷ []) [] e, cond-true {A = ℕ} (took Push ch a r) 1 0 e) (omega (arith, length_values ch xs rs))
+      | inr e ↦ rw (cond-false {A = List ℕ} (took Push ch a r) (a.value ∷ []) [] e, cond-false {A = ℕ} (took Push ch a r) 1 0 e) (omega (arith, length_values ch xs rs))
     ]
 
-pub length_pushed_in : (ch : ℕ) (a : ℕ → List Access) (r : ℕ → List Reply) (k : ℕ) → length (pushed_in ch a r k) ≡ tally a r false ch k
-length_pushed_in ch a r zero = rw (pushed_in_0 ch a r, tally_0 a r false ch) refl
+pub length_pushed_in : (ch : ℕ) (a : ℕ → List Access) (r : ℕ → List Reply) (k : ℕ) → length (pushed_in ch a r k) ≡ tally a r Push ch k
+length_pushed_in ch a r zero = rw (pushed_in_0 ch a r, tally_0 a r Push ch) refl
 length_pushed_in ch a r (suc k) =
-    rw (pushed_in_more ch a r k, tally_more a r false ch k) (omega (arith, length-append (pushed_in ch a r k) (values_in ch (a k) (r k)), length_values ch (a k) (r k), length_pushed_in ch a r k))
+    rw (pushed_in_more ch a r k, tally_more a r Push ch k) (omega (arith, length-append (pushed_in ch a r k) (values_in ch (a k) (r k)), length_values ch (a k) (r k), length_pushed_in ch a r k))
 
 pub length_pushed : {S : Type 0} → (d : Design S) (h : Trace S) → IsDesign d → IsHistory d h → (ch c : ℕ)
-    → length (h.pushed c ch) ≡ d.start true ch + h.taken c false ch
-length_pushed {S} d h i y ch zero = rw (y.pushed_0 ch, y.taken_0 false ch) (omega (arith, i.start_inputs ch))
+    → length (h.pushed c ch) ≡ d.start Pop ch + h.taken c Push ch
+length_pushed {S} d h i y ch zero = rw (y.pushed_0 ch, y.taken_0 Push ch) (omega (arith, i.start_inputs ch))
 length_pushed {S} d h i y ch (suc c) =
-    elim (cases_Bool (moves d h c (d.owner false ch))) [
-      | inl e ↦ rw (y.pushed_moves c ch e, y.taken_moves c false ch e) (omega (arith, length-append (h.pushed c ch) (values_in ch (d.accesses (d.owner false ch) (h.state c (d.owner false ch))) (replies d h c (d.owner false ch))), length_values ch (d.accesses (d.owner false ch) (h.state c (d.owner false ch))) (replies d h c (d.owner false ch)), length_pushed d h i y ch c))
-      | inr e ↦ rw (y.pushed_stays c ch e, y.taken_stays c false ch e) (length_pushed d h i y ch c)
+    elim (cases_Bool (moves d h c (d.owner Push ch))) [
+      | inl e ↦ rw (y.pushed_moves c ch e, y.taken_moves c Push ch e) (omega (arith, length-append (h.pushed c ch) (values_in ch (d.accesses (d.owner Push ch) (h.state c (d.owner Push ch))) (replies d h c (d.owner Push ch))), length_values ch (d.accesses (d.owner Push ch) (h.state c (d.owner Push ch))) (replies d h c (d.owner Push ch)), length_pushed d h i y ch c))
+      | inr e ↦ rw (y.pushed_stays c ch e, y.taken_stays c Push ch e) (length_pushed d h i y ch c)
     ]
 
 pushed_in_later : (ch : ℕ) (a : ℕ → List Access) (r : ℕ → List Reply) (k n : ℕ) → Begins (pushed_in ch a r (n + k)) (pushed_in ch a r k)
@@ -129,7 +132,7 @@ pushed_in_mono ch a r p q l =
     rw e at g
 
 -- accesses take no more than those that take where it is possible
-pub takes_takers : (side : Bool) (ch : ℕ) (xs : List Access) (rs : List Reply) → takes_in side ch xs rs ≤ takers side ch xs
+pub takes_takers : (side : Side) (ch : ℕ) (xs : List Access) (rs : List Reply) → takes_in side ch xs rs ≤ takers side ch xs
 takes_takers side ch [] rs = omega arith
 takes_takers side ch (a ∷ xs) [] = omega arith
 takes_takers side ch (a ∷ xs) (r ∷ rs) =
@@ -143,14 +146,14 @@ takes_takers side ch (a ∷ xs) (r ∷ rs) =
       | inr k ↦
           let t : took side ch a r ≡ false =
           false_from_ne_true (took side ch a r) (λ (w : took side ch a r ≡ true).
-          let (w1, w2) = and_parts a.takes (r.possible && (same_side a.pops side && eqb a.channel ch)) w in
-          let (w3, w4) = and_parts r.possible (same_side a.pops side && eqb a.channel ch) w2 in
-          both_ways _ k (and_from a.takes (same_side a.pops side && eqb a.channel ch) w1 w4)) in
+          let (w1, w2) = and_parts a.takes (r.possible && (same_side a.side side && eqb a.channel ch)) w in
+          let (w3, w4) = and_parts r.possible (same_side a.side side && eqb a.channel ch) w2 in
+          both_ways _ k (and_from a.takes (same_side a.side side && eqb a.channel ch) w1 w4)) in
           rw (cond-false {A = ℕ} (takes_at side ch a) 1 0 k, cond-false {A = ℕ} (took side ch a r) 1 0 t) (omega (arith, takes_takers side ch xs rs))
     ]
 
 -- in one clock a side takes at most one
-pub taken_once : {S : Type 0} → (d : Design S) (h : Trace S) → IsDesign d → IsHistory d h → (c : ℕ) (side : Bool) (ch : ℕ)
+pub taken_once : {S : Type 0} → (d : Design S) (h : Trace S) → IsDesign d → IsHistory d h → (c : ℕ) (side : Side) (ch : ℕ)
     → h.taken (suc c) side ch ≤ suc (h.taken c side ch)
 taken_once {S} d h i y c side ch =
     let o : ℕ = d.owner side ch in

@@ -132,6 +132,11 @@ pub record IsFinal {S : Type 0} (d : Design S) (limit : ℕ) (x : Core S) : Type
   pub quiet : IsQuiet d limit x
   pub no_earliest : (n e : ℕ) → MayEarliest d limit x n e → ⊥
 
+-- so many Runs of a module
+abbrev pub runs : ℕ → ℕ → List Action
+runs zero m = []
+runs (suc n) m = Run m ∷ runs n m
+
 -- none of them is a Run of module m
 abbrev pub IsNoRunOf : ℕ → List Action → Type 0
 IsNoRunOf m [] = ⊤

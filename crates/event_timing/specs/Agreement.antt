@@ -1,5 +1,6 @@
 -- Agreement of a core with a history.
 use Rattle.std.specs.Prelude.{Bool, List, Some, [], false, suc, true, ℕ, ◌+◌, ◌<◌, ◌∷◌, ◌≡◌, ◌≤◌, ⊤}
+use Rattle.flow_word.specs.declared.access.Side.TheVariants.{Pop, Push}
 use Rattle.event_timing.specs.Machines.{Access, Reply, Design, ready}
 use Rattle.event_timing.specs.Histories.{Trace, is_possible, moves, replies}
 use Rattle.event_timing.specs.Steps.{steps, done}
@@ -17,7 +18,7 @@ FlagsFit (a ∷ xs) (b ∷ bs) = (a.blocks ≡ true → b ≡ true) × FlagsFit 
 -- whether each access is possible in clock c
 abbrev pub possible_all : {S : Type 0} → Design S → Trace S → ℕ → List Access → List Bool
 possible_all {S} d h c [] = []
-possible_all {S} d h c (a ∷ xs) = is_possible d h c a.pops a.channel ∷ possible_all d h c xs
+possible_all {S} d h c (a ∷ xs) = is_possible d h c a.side a.channel ∷ possible_all d h c xs
 
 -- ---- agreement
 
@@ -37,15 +38,15 @@ pub record AreOwnMarks {S : Type 0} (d : Design S) (x : Core S) : Type 0 where
 
 -- how many elements of a channel are inputs, or have a push with a cycle
 abbrev pub elements_timed : {S : Type 0} → Design S → Core S → ℕ → ℕ
-elements_timed {S} d x ch = d.start true ch + core_tally d x (d.owner false ch) false ch (x.timed (d.owner false ch))
+elements_timed {S} d x ch = d.start Pop ch + core_tally d x (d.owner Push ch) Push ch (x.timed (d.owner Push ch))
 
 -- the history does the module's step of this number in clock c
 abbrev pub IsStepAt : {S : Type 0} → Design S → Trace S → ℕ → ℕ → ℕ → Type 0
 IsStepAt {S} d h m k c = (steps d h c m ≡ true) × (done d h m c ≡ k)
 
--- and in some clock
-abbrev pub Happens : {S : Type 0} → Design S → Trace S → ℕ → ℕ → Type 0
-Happens {S} d h m k = (c : ℕ) × IsStepAt d h m k c
+-- and in some clock before the limit
+abbrev pub HappensBefore : {S : Type 0} → Design S → Trace S → ℕ → ℕ → ℕ → Type 0
+HappensBefore {S} d h limit m k = (c : ℕ) × (c < limit) × IsStepAt d h m k c
 
 -- the steps with a cycle are those of the history, and so are verified outcomes
 pub record IsTimed {S : Type 0} (d : Design S) (h : Trace S) (limit : ℕ) (x : Core S) : Type 0 where
@@ -60,13 +61,17 @@ pub record IsTimed {S : Type 0} (d : Design S) (h : Trace S) (limit : ℕ) (x : 
   pub first_flags : (m : ℕ) → x.timed m < x.emitted m → x.verified m (x.timed m) ≡ true → (c : ℕ) → steps d h c m ≡ true → done d h m c ≡ x.timed m
       → x.flags m (x.timed m) ≡ possible_all d h c (core_accesses d x m (x.timed m))
   pub first_sure : (m : ℕ) → x.timed m < x.emitted m → x.verified m (x.timed m) ≡ true → has_query (core_accesses d x m (x.timed m)) ≡ true
-      → all_below (elements_timed d x) (λ ch. core_tally d x m true ch (x.timed m)) (core_accesses d x m (x.timed m)) (x.flags m (x.timed m)) ≡ true
+      → all_below (elements_timed d x) (λ ch. core_tally d x m Pop ch (x.timed m)) (core_accesses d x m (x.timed m)) (x.flags m (x.timed m)) ≡ true
   pub first_happens : (m : ℕ) → x.timed m < x.emitted m → x.verified m (x.timed m) ≡ true → has_query (core_accesses d x m (x.timed m)) ≡ true
-      → Happens d h m (x.timed m)
+      → HappensBefore d h limit m (x.timed m)
   pub verified_then : (m k : ℕ) → k < x.timed m → x.verified m k ≡ true
   pub verified_answered : (m k : ℕ) → k < x.emitted m → x.verified m k ≡ true → x.answered m k ≡ true
   -- behind it nothing but steps without a query counts as verified
   pub later_plain : (m k : ℕ) → x.timed m < k → k < x.emitted m → x.verified m k ≡ true → has_query (core_accesses d x m k) ≡ false
+
+-- each recorded outcome is verified: none is assumed
+abbrev pub AllVerified : {S : Type 0} → Core S → Type 0
+AllVerified {S} x = (m k : ℕ) → k < x.emitted m → x.answered m k ≡ true → x.verified m k ≡ true
 
 -- the core agrees with the history
 pub record IsAgreed {S : Type 0} (d : Design S) (h : Trace S) (limit : ℕ) (x : Core S) : Type 0 where

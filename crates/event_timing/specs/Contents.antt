@@ -1,5 +1,8 @@
 -- The lockstep machine: every module moves one clock at a time, and channels hold lists of elements.
-use Rattle.std.specs.Prelude.{Bool, List, [], cond, drop, false, length, ltb, map, not, suc, true, zero, ℕ, ◌&&◌, ◌++◌, ◌+◌, ◌||◌, ◌∷◌}
+use Rattle.std.specs.Prelude.{Bool, List, [], cond, drop, length, ltb, map, not, suc, true, zero, ℕ, ◌&&◌, ◌++◌, ◌+◌, ◌||◌, ◌∷◌}
+use Rattle.flow_word.specs.declared.access.Side.{Side}
+use Rattle.flow_word.specs.declared.access.Side.TheVariants.{Pop, Push}
+use Rattle.flow_word.specs.Kinds.{same_side}
 use Rattle.event_timing.specs.Machines.{Access, Reply, Design, takes_in, values_in}
 use Rattle.event_timing.specs.Histories.{Trace}
 
@@ -23,20 +26,20 @@ front_of [] = 0
 front_of (e ∷ es) = e.value
 
 -- there is an element to pop, or a place to push
-abbrev pub can_take : {S : Type 0} → Design S → World S → ℕ → Bool → ℕ → Bool
-can_take {S} d w c true ch = not (is_empty c (w.contents ch))
-can_take {S} d w c false ch = d.unlimited false ch || ltb (length (w.contents ch)) (d.start false ch)
+abbrev pub can_take : {S : Type 0} → Design S → World S → ℕ → Side → ℕ → Bool
+can_take {S} d w c Pop ch = not (is_empty c (w.contents ch))
+can_take {S} d w c Push ch = d.unlimited Push ch || ltb (length (w.contents ch)) (d.start Push ch)
 
 abbrev pub reply_in : {S : Type 0} → Design S → World S → ℕ → Access → Reply
 reply_in {S} d w c a =
     record {
-      possible = can_take d w c a.pops a.channel;
-      front = cond (a.takes && (a.pops && can_take d w c a.pops a.channel)) (front_of (w.contents a.channel)) 0;
+      possible = can_take d w c a.side a.channel;
+      front = cond (a.takes && (same_side a.side Pop && can_take d w c a.side a.channel)) (front_of (w.contents a.channel)) 0;
     }
 
 abbrev pub can_all_in : {S : Type 0} → Design S → World S → ℕ → List Access → Bool
 can_all_in {S} d w c [] = true
-can_all_in {S} d w c (a ∷ xs) = (not a.blocks || can_take d w c a.pops a.channel) && can_all_in d w c xs
+can_all_in {S} d w c (a ∷ xs) = (not a.blocks || can_take d w c a.side a.channel) && can_all_in d w c xs
 
 -- a module moves unless it is over, or an access that blocks cannot be done
 unfoldable pub moves_in : {S : Type 0} → Design S → World S → ℕ → ℕ → Bool
@@ -45,13 +48,13 @@ moves_in {S} d w c m = not (d.is_over m (w.state m)) && can_all_in d w c (d.acce
 unfoldable pub replies_in : {S : Type 0} → Design S → World S → ℕ → ℕ → List Reply
 replies_in {S} d w c m = map (reply_in d w c) (d.accesses m (w.state m))
 
--- how many elements leave the channel (true) or come (false) in this clock
-unfoldable pub flow : {S : Type 0} → Design S → World S → ℕ → Bool → ℕ → ℕ
+-- how many elements leave the channel (are popped) or come (are pushed) in this clock
+unfoldable pub flow : {S : Type 0} → Design S → World S → ℕ → Side → ℕ → ℕ
 flow {S} d w c side ch = cond (moves_in d w c (d.owner side ch)) (takes_in side ch (d.accesses (d.owner side ch) (w.state (d.owner side ch))) (replies_in d w c (d.owner side ch))) 0
 
 -- the values that come
 unfoldable pub coming : {S : Type 0} → Design S → World S → ℕ → ℕ → List ℕ
-coming {S} d w c ch = cond (moves_in d w c (d.owner false ch)) (values_in ch (d.accesses (d.owner false ch) (w.state (d.owner false ch))) (replies_in d w c (d.owner false ch))) []
+coming {S} d w c ch = cond (moves_in d w c (d.owner Push ch)) (values_in ch (d.accesses (d.owner Push ch) (w.state (d.owner Push ch))) (replies_in d w c (d.owner Push ch))) []
 
 -- values as elements that can be popped from clock c on
 abbrev pub seen_from : ℕ → List ℕ → List Element
@@ -63,7 +66,7 @@ unfoldable pub tick : {S : Type 0} → Design S → ℕ → World S → World S
 tick {S} d c w =
     record {
       state = λ m. cond (moves_in d w c m) (d.move m (w.state m) (replies_in d w c m)) (w.state m);
-      contents = λ ch. drop (flow d w c true ch) (w.contents ch) ++ seen_from (c + d.lag true ch) (coming d w c ch);
+      contents = λ ch. drop (flow d w c Pop ch) (w.contents ch) ++ seen_from (c + d.lag Pop ch) (coming d w c ch);
     }
 
 -- how all stands at a clock
@@ -71,8 +74,8 @@ unfoldable pub world : {S : Type 0} → Design S → ℕ → World S
 world {S} d zero = record { state = d.opening; contents = λ ch. seen_from 0 (d.inputs ch) }
 world {S} d (suc c) = tick d c (world d c)
 
--- how many elements left the channel (true) or came (false) in clocks before
-unfoldable pub flowed : {S : Type 0} → Design S → Bool → ℕ → ℕ → ℕ
+-- how many elements left the channel (were popped) or came (were pushed) in clocks before
+unfoldable pub flowed : {S : Type 0} → Design S → Side → ℕ → ℕ → ℕ
 flowed {S} d side ch zero = 0
 flowed {S} d side ch (suc c) = flowed d side ch c + flow d (world d c) c side ch
 
@@ -84,7 +87,7 @@ came {S} d ch (suc c) = came d ch c ++ coming d (world d c) c ch
 -- every element that ever came, with the clock from which it can be popped
 unfoldable pub elements : {S : Type 0} → Design S → ℕ → ℕ → List Element
 elements {S} d ch zero = seen_from 0 (d.inputs ch)
-elements {S} d ch (suc c) = elements d ch c ++ seen_from (c + d.lag true ch) (coming d (world d c) c ch)
+elements {S} d ch (suc c) = elements d ch c ++ seen_from (c + d.lag Pop ch) (coming d (world d c) c ch)
 
 -- the run as functions of the clock
 abbrev pub trace : {S : Type 0} → Design S → Trace S

@@ -1,5 +1,8 @@
 -- The core: the marks of each module, the cycles of its first steps, and the outcomes of its queries.
 use Rattle.std.specs.Prelude.{Bool, List, [], cond, false, get_or, length, ltb, not, true, ℕ, ◌&&◌, ◌++◌, ◌||◌, ◌∷◌}
+use Rattle.flow_word.specs.declared.access.Side.{Side}
+use Rattle.flow_word.specs.declared.access.Side.TheVariants.{Pop, Push}
+use Rattle.flow_word.specs.Kinds.{same_side}
 use Rattle.event_timing.specs.Machines.{Access, Reply, Design}
 use Rattle.event_timing.specs.Views.{View, tally, pushed_in}
 
@@ -48,16 +51,16 @@ abbrev pub core_accesses : {S : Type 0} → Design S → Core S → ℕ → ℕ 
 core_accesses {S} d x m k = d.accesses m (x.state m k)
 
 -- how many pops (pushes) of the channel are in the first k steps
-abbrev pub core_tally : {S : Type 0} → Design S → Core S → ℕ → Bool → ℕ → ℕ → ℕ
+abbrev pub core_tally : {S : Type 0} → Design S → Core S → ℕ → Side → ℕ → ℕ → ℕ
 core_tally {S} d x m side ch k = tally (core_accesses d x m) (λ j. bare_replies (x.flags m j)) side ch k
 
 -- the values pushed on a channel in emitted steps, inputs first
 abbrev pub core_values : {S : Type 0} → Design S → Core S → ℕ → List ℕ
-core_values {S} d x ch = d.inputs ch ++ pushed_in ch (core_accesses d x (d.owner false ch)) (λ j. bare_replies (x.flags (d.owner false ch) j)) (x.emitted (d.owner false ch))
+core_values {S} d x ch = d.inputs ch ++ pushed_in ch (core_accesses d x (d.owner Push ch)) (λ j. bare_replies (x.flags (d.owner Push ch) j)) (x.emitted (d.owner Push ch))
 
 -- whether the access pops an element
 abbrev pub pops_now : Access → Bool → Bool
-pops_now a b = a.takes && (a.pops && b)
+pops_now a b = a.takes && (same_side a.side Pop && b)
 
 -- the replies to accesses of which these are done or possible, with these values on the channels and so many pops before
 abbrev pub replies_of : (ℕ → List ℕ) → (ℕ → ℕ) → List Access → List Bool → List Reply
@@ -73,11 +76,11 @@ all_below s t (a ∷ xs) (b ∷ bs) = (not (pops_now a b) || ltb (t a.channel) (
 
 -- the replies to step k
 abbrev pub core_reply : {S : Type 0} → Design S → Core S → ℕ → ℕ → List Reply
-core_reply {S} d x m k = replies_of (core_values d x) (λ ch. core_tally d x m true ch k) (core_accesses d x m k) (x.flags m k)
+core_reply {S} d x m k = replies_of (core_values d x) (λ ch. core_tally d x m Pop ch k) (core_accesses d x m k) (x.flags m k)
 
 -- the values of its pops are there
 abbrev pub values_there : {S : Type 0} → Design S → Core S → ℕ → ℕ → Bool
-values_there {S} d x m k = all_below (λ ch. length (core_values d x ch)) (λ ch. core_tally d x m true ch k) (core_accesses d x m k) (x.flags m k)
+values_there {S} d x m k = all_below (λ ch. length (core_values d x ch)) (λ ch. core_tally d x m Pop ch k) (core_accesses d x m k) (x.flags m k)
 
 -- ---- what it claims
 

@@ -1,5 +1,7 @@
 -- What is known of when an access is possible, and what follows for a step: its cycle, and the answers to its queries.
-use Rattle.std.specs.Prelude.{Bool, List, None, Option, Some, [], cond, false, leb, ltb, max, not, true, ℕ, ◌&&◌, ◌+◌, ◌-◌, ◌||◌, ◌∷◌, ◌≡◌, ◌≤◌}
+use Rattle.std.specs.Prelude.{Bool, List, None, Option, Some, [], cond, false, leb, ltb, max, true, ℕ, ◌&&◌, ◌+◌, ◌-◌, ◌||◌, ◌∷◌, ◌≡◌, ◌≤◌}
+use Rattle.flow_word.specs.declared.access.Side.{Side}
+use Rattle.flow_word.specs.Kinds.{other_side}
 use Rattle.event_timing.specs.Machines.{Access, Design}
 use Rattle.event_timing.specs.Views.{View, tally, place, from, first_accesses, own_state}
 
@@ -15,16 +17,16 @@ from_step cycle lag None = Unknown
 from_step cycle lag (Some j) = From (cycle j + lag)
 
 -- what is known of the access with i earlier ones of its side
-unfoldable pub known : {S : Type 0} → Design S → View → Bool → ℕ → ℕ → Known
+unfoldable pub known : {S : Type 0} → Design S → View → Side → ℕ → ℕ → Known
 known {S} d v side ch i =
     cond (d.unlimited side ch || ltb i (d.start side ch)) (From 0)
     (cond (d.closed side ch) Never
-    (from_step (v.cycle (d.owner (not side) ch)) (d.lag side ch)
-    (place (v.accesses (d.owner (not side) ch)) (v.reply (d.owner (not side) ch)) (not side) ch (v.timed (d.owner (not side) ch)) (i - d.start side ch))))
+    (from_step (v.cycle (d.owner (other_side side) ch)) (d.lag side ch)
+    (place (v.accesses (d.owner (other_side side) ch)) (v.reply (d.owner (other_side side) ch)) (other_side side) ch (v.timed (d.owner (other_side side) ch)) (i - d.start side ch))))
 
 -- of an access of the first step without a cycle
 abbrev pub known_of : {S : Type 0} → Design S → View → ℕ → Access → Known
-known_of {S} d v m a = known d v a.pops a.channel (tally (v.accesses m) (v.reply m) a.pops a.channel (v.timed m))
+known_of {S} d v m a = known d v a.side a.channel (tally (v.accesses m) (v.reply m) a.side a.channel (v.timed m))
 
 -- from when on both are possible
 abbrev pub both : Known → Known → Known

@@ -1,31 +1,34 @@
 -- The run of a design as functions of the clock, and the laws of counting that it obeys.
 use Rattle.std.specs.Prelude.{◌≡◌, ℕ, suc, ◌+◌, ◌-◌, Bool, true, false, cond, not, ◌&&◌, ◌||◌, ltb, List, [], ◌∷◌, ◌++◌, map, get_or}
+use Rattle.flow_word.specs.declared.access.Side.{Side}
+use Rattle.flow_word.specs.declared.access.Side.TheVariants.{Pop, Push}
+use Rattle.flow_word.specs.Kinds.{other_side, same_side}
 use Rattle.event_timing.specs.Machines.{Access, Reply, Design, takes_in, values_in}
 
 -- what holds at a clock, before that clock's own moves
 pub record Trace (S : Type 0) : Type 0 where
   -- each module's state
   pub state : ℕ → ℕ → S
-  -- pops (true) or pushes (false) of a channel in clocks before
-  pub taken : ℕ → Bool → ℕ → ℕ
+  -- pops or pushes of a channel in clocks before
+  pub taken : ℕ → Side → ℕ → ℕ
   -- a channel's inputs, then all values pushed on it in clocks before
   pub pushed : ℕ → ℕ → List ℕ
 
 -- whether a pop (or a push) of the channel is possible in clock c: fewer were done than the start and the other side's together,
 -- as far as those are seen
-abbrev pub is_possible : {S : Type 0} → Design S → Trace S → ℕ → Bool → ℕ → Bool
-is_possible {S} d h c side ch = d.unlimited side ch || ltb (h.taken c side ch) (d.start side ch + h.taken (suc c - d.lag side ch) (not side) ch)
+abbrev pub is_possible : {S : Type 0} → Design S → Trace S → ℕ → Side → ℕ → Bool
+is_possible {S} d h c side ch = d.unlimited side ch || ltb (h.taken c side ch) (d.start side ch + h.taken (suc c - d.lag side ch) (other_side side) ch)
 
 -- the n-th pop gives the n-th value that went in
 abbrev pub reply_to : {S : Type 0} → Design S → Trace S → ℕ → Access → Reply
 reply_to {S} d h c a =
     record {
-      possible = is_possible d h c a.pops a.channel;
-      front = cond (a.takes && (a.pops && is_possible d h c a.pops a.channel)) (get_or (h.pushed c a.channel) (h.taken c true a.channel) 0) 0;
+      possible = is_possible d h c a.side a.channel;
+      front = cond (a.takes && (same_side a.side Pop && is_possible d h c a.side a.channel)) (get_or (h.pushed c a.channel) (h.taken c Pop a.channel) 0) 0;
     }
 
 abbrev pub can_do : {S : Type 0} → Design S → Trace S → ℕ → Access → Bool
-can_do {S} d h c a = not a.blocks || is_possible d h c a.pops a.channel
+can_do {S} d h c a = not a.blocks || is_possible d h c a.side a.channel
 
 abbrev pub can_all : {S : Type 0} → Design S → Trace S → ℕ → List Access → Bool
 can_all {S} d h c [] = true
@@ -41,13 +44,13 @@ replies {S} d h c m = map (reply_to d h c) (d.accesses m (h.state c m))
 -- the laws: how all starts, and what one clock changes for a module that moves, and for one that stays
 pub record IsHistory {S : Type 0} (d : Design S) (h : Trace S) : Type 0 where
   pub state_0 : (m : ℕ) → h.state 0 m ≡ d.opening m
-  pub taken_0 : (side : Bool) (ch : ℕ) → h.taken 0 side ch ≡ 0
+  pub taken_0 : (side : Side) (ch : ℕ) → h.taken 0 side ch ≡ 0
   pub pushed_0 : (ch : ℕ) → h.pushed 0 ch ≡ d.inputs ch
   pub state_moves : (c m : ℕ) → moves d h c m ≡ true → h.state (suc c) m ≡ d.move m (h.state c m) (replies d h c m)
   pub state_stays : (c m : ℕ) → moves d h c m ≡ false → h.state (suc c) m ≡ h.state c m
-  pub taken_moves : (c : ℕ) (side : Bool) (ch : ℕ) → moves d h c (d.owner side ch) ≡ true
+  pub taken_moves : (c : ℕ) (side : Side) (ch : ℕ) → moves d h c (d.owner side ch) ≡ true
       → h.taken (suc c) side ch ≡ h.taken c side ch + takes_in side ch (d.accesses (d.owner side ch) (h.state c (d.owner side ch))) (replies d h c (d.owner side ch))
-  pub taken_stays : (c : ℕ) (side : Bool) (ch : ℕ) → moves d h c (d.owner side ch) ≡ false → h.taken (suc c) side ch ≡ h.taken c side ch
-  pub pushed_moves : (c ch : ℕ) → moves d h c (d.owner false ch) ≡ true
-      → h.pushed (suc c) ch ≡ h.pushed c ch ++ values_in ch (d.accesses (d.owner false ch) (h.state c (d.owner false ch))) (replies d h c (d.owner false ch))
-  pub pushed_stays : (c ch : ℕ) → moves d h c (d.owner false ch) ≡ false → h.pushed (suc c) ch ≡ h.pushed c ch
+  pub taken_stays : (c : ℕ) (side : Side) (ch : ℕ) → moves d h c (d.owner side ch) ≡ false → h.taken (suc c) side ch ≡ h.taken c side ch
+  pub pushed_moves : (c ch : ℕ) → moves d h c (d.owner Push ch) ≡ true
+      → h.pushed (suc c) ch ≡ h.pushed c ch ++ values_in ch (d.accesses (d.owner Push ch) (h.state c (d.owner Push ch))) (replies d h c (d.owner Push ch))
+  pub pushed_stays : (c ch : ℕ) → moves d h c (d.owner Push ch) ≡ false → h.pushed (suc c) ch ≡ h.pushed c ch

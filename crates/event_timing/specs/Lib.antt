@@ -5,6 +5,8 @@ pub mod Views
 pub mod Enablers
 pub mod Core
 pub mod Actions
+pub mod Permitted
+pub mod Growth
 pub mod Agreement
 pub mod Edits
 pub mod Contents

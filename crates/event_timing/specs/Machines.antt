@@ -1,11 +1,14 @@
 -- Modules as abstract machines: the accesses that are due in a state, the move on the replies to them, and the end.
-use Rattle.std.specs.Prelude.{◌≡◌, ℕ, zero, suc, ◌+◌, ◌<◌, ◌≤◌, Bool, true, false, cond, not, ◌&&◌, eqb, List, [], ◌∷◌, ◌++◌, length, ⊤}
+use Rattle.std.specs.Prelude.{◌≡◌, ℕ, zero, suc, ◌+◌, ◌<◌, ◌≤◌, Bool, true, false, cond, ◌&&◌, eqb, List, [], ◌∷◌, ◌++◌, length, ⊤}
+use Rattle.flow_word.specs.declared.access.Side.{Side}
+use Rattle.flow_word.specs.declared.access.Side.TheVariants.{Pop, Push}
+use Rattle.flow_word.specs.Kinds.{other_side, same_side}
 
 -- ---- what a module asks, and what it is told
 
 -- one access of a channel: its side, whether it waits, whether it takes an element or a place where it is possible, and what it pushes
 pub record Access : Type 0 where
-  pub pops : Bool
+  pub side : Side
   pub blocks : Bool
   pub takes : Bool
   pub channel : ℕ
@@ -28,17 +31,17 @@ pub record Design (S : Type 0) : Type 0 where
   pub is_over : ℕ → S → Bool
   -- how many local clocks without an access come before the next access or the end
   pub quiet : ℕ → S → ℕ
-  -- the module that pops (true) or pushes (false) a channel
-  pub owner : Bool → ℕ → ℕ
+  -- the module that pops a channel, and the one that pushes it
+  pub owner : Side → ℕ → ℕ
   -- how many pops (pushes) are possible before any push (pop): the inputs of a source, the depth of a FIFO
-  pub start : Bool → ℕ → ℕ
+  pub start : Side → ℕ → ℕ
   -- the pushes of a sink
-  pub unlimited : Bool → ℕ → Bool
+  pub unlimited : Side → ℕ → Bool
   -- the pops of a source: no push will ever come
-  pub closed : Bool → ℕ → Bool
+  pub closed : Side → ℕ → Bool
   pub inputs : ℕ → List ℕ
   -- after how many clocks a push is seen by a pop, and a pop by a push
-  pub lag : Bool → ℕ → ℕ
+  pub lag : Side → ℕ → ℕ
 
 -- the state so many local clocks later, in which nothing is asked
 abbrev pub skip : {S : Type 0} → Design S → ℕ → ℕ → S → S
@@ -57,16 +60,12 @@ abbrev pub Each : (Access → Type 0) → List Access → Type 0
 Each P [] = ⊤
 Each P (a ∷ xs) = P a × Each P xs
 
-abbrev pub same_side : Bool → Bool → Bool
-same_side true b = b
-same_side false b = not b
-
 -- the access takes at this side of the channel, where it is possible
-abbrev pub takes_at : Bool → ℕ → Access → Bool
-takes_at side ch a = a.takes && (same_side a.pops side && eqb a.channel ch)
+abbrev pub takes_at : Side → ℕ → Access → Bool
+takes_at side ch a = a.takes && (same_side a.side side && eqb a.channel ch)
 
 -- how many of the accesses do
-abbrev pub takers : Bool → ℕ → List Access → ℕ
+abbrev pub takers : Side → ℕ → List Access → ℕ
 takers side ch [] = 0
 takers side ch (a ∷ xs) = cond (takes_at side ch a) 1 0 + takers side ch xs
 
@@ -82,31 +81,31 @@ pub record IsDesign {S : Type 0} (d : Design S) : Type 0 where
   -- the quiet clocks end: then the module is over, or has an access
   pub quiet_ends : (m : ℕ) (s : S) → fits m s ≡ true → d.is_over m (ready d m s) ≡ false → is_some_access (d.accesses m (ready d m s)) ≡ true
   -- each side of a channel has one module
-  pub owned : (m : ℕ) (s : S) → Each (λ a. d.owner a.pops a.channel ≡ m) (d.accesses m s)
+  pub owned : (m : ℕ) (s : S) → Each (λ a. d.owner a.side a.channel ≡ m) (d.accesses m s)
   -- nobody pushes a source
-  pub open_sides : (m : ℕ) (s : S) → Each (λ a. d.closed (not a.pops) a.channel ≡ false) (d.accesses m s)
+  pub open_sides : (m : ℕ) (s : S) → Each (λ a. d.closed (other_side a.side) a.channel ≡ false) (d.accesses m s)
   -- nothing is seen in its own clock
-  pub lag_positive : (side : Bool) (ch : ℕ) → 0 < d.lag side ch
-  pub pops_limited : (ch : ℕ) → d.unlimited true ch ≡ false
-  pub start_inputs : (ch : ℕ) → d.start true ch ≡ length (d.inputs ch)
+  pub lag_positive : (side : Side) (ch : ℕ) → 0 < d.lag side ch
+  pub pops_limited : (ch : ℕ) → d.unlimited Pop ch ≡ false
+  pub start_inputs : (ch : ℕ) → d.start Pop ch ≡ length (d.inputs ch)
   -- in one clock a module pops a channel at most once, and pushes it at most once
-  pub single : (side : Bool) (m : ℕ) (s : S) (ch : ℕ) → takers side ch (d.accesses m s) ≤ 1
+  pub single : (side : Side) (m : ℕ) (s : S) (ch : ℕ) → takers side ch (d.accesses m s) ≤ 1
   -- a number that names no module is over from the start
   pub outside : (m : ℕ) → d.modules ≤ m → d.is_over m (ready d m (d.opening m)) ≡ true
 
 -- what a list of elements as a channel's contents needs besides: a FIFO has no inputs, and a pop is seen by a push one clock later
 pub record HoldsLists {S : Type 0} (d : Design S) : Type 0 where
-  pub only_inputs : (ch : ℕ) → d.unlimited false ch ≡ false → d.start true ch ≡ 0
-  pub lag_push : (ch : ℕ) → d.lag false ch ≡ 1
+  pub only_inputs : (ch : ℕ) → d.unlimited Push ch ≡ false → d.start Pop ch ≡ 0
+  pub lag_push : (ch : ℕ) → d.lag Push ch ≡ 1
 
 -- ---- what is taken
 
 -- an access takes at this side of the channel
-abbrev pub took : Bool → ℕ → Access → Reply → Bool
-took side ch a r = a.takes && (r.possible && (same_side a.pops side && eqb a.channel ch))
+abbrev pub took : Side → ℕ → Access → Reply → Bool
+took side ch a r = a.takes && (r.possible && (same_side a.side side && eqb a.channel ch))
 
--- how many elements (true) or places (false) of the channel these accesses take
-abbrev pub takes_in : Bool → ℕ → List Access → List Reply → ℕ
+-- how many elements (popping) or places (pushing) of the channel these accesses take
+abbrev pub takes_in : Side → ℕ → List Access → List Reply → ℕ
 takes_in side ch [] rs = 0
 takes_in side ch (a ∷ xs) [] = 0
 takes_in side ch (a ∷ xs) (r ∷ rs) = cond (took side ch a r) 1 0 + takes_in side ch xs rs
@@ -115,4 +114,4 @@ takes_in side ch (a ∷ xs) (r ∷ rs) = cond (took side ch a r) 1 0 + takes_in 
 abbrev pub values_in : ℕ → List Access → List Reply → List ℕ
 values_in ch [] rs = []
 values_in ch (a ∷ xs) [] = []
-values_in ch (a ∷ xs) (r ∷ rs) = cond (took false ch a r) (a.value ∷ []) [] ++ values_in ch xs rs
+values_in ch (a ∷ xs) (r ∷ rs) = cond (took Push ch a r) (a.value ∷ []) [] ++ values_in ch xs rs

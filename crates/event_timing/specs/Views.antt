@@ -1,5 +1,6 @@
 -- What a core claims: of each module, that its first steps were done in these clocks, with these replies.
 use Rattle.std.specs.Prelude.{Bool, List, None, Option, Some, [], cond, false, leb, ltb, suc, true, zero, ℕ, ◌&&◌, ◌++◌, ◌+◌, ◌<◌, ◌≡◌}
+use Rattle.flow_word.specs.declared.access.Side.{Side}
 use Rattle.event_timing.specs.Machines.{Access, Reply, Design, ready, takes_in, values_in}
 use Rattle.event_timing.specs.Histories.{Trace, replies}
 use Rattle.event_timing.specs.Steps.{steps, done}
@@ -26,12 +27,12 @@ abbrev pub own_accesses : {S : Type 0} → Design S → ℕ → (ℕ → List Re
 own_accesses {S} d m r k = d.accesses m (ready d m (own d m r k))
 
 -- how many pops (pushes) of the channel are in the first k steps, with these accesses and replies
-unfoldable pub tally : (ℕ → List Access) → (ℕ → List Reply) → Bool → ℕ → ℕ → ℕ
+unfoldable pub tally : (ℕ → List Access) → (ℕ → List Reply) → Side → ℕ → ℕ → ℕ
 tally a r side ch zero = 0
 tally a r side ch (suc k) = tally a r side ch k + takes_in side ch (a k) (r k)
 
 -- the step, below n, of the pop (push) with i before it
-unfoldable pub place : (ℕ → List Access) → (ℕ → List Reply) → Bool → ℕ → ℕ → ℕ → Option ℕ
+unfoldable pub place : (ℕ → List Access) → (ℕ → List Reply) → Side → ℕ → ℕ → ℕ → Option ℕ
 place a r side ch zero i = None
 place a r side ch (suc n) i = cond (leb (tally a r side ch n) i && ltb i (tally a r side ch (suc n))) (Some n) (place a r side ch n i)
 

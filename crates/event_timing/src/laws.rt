@@ -1,14 +1,18 @@
 //! The laws, for any design `d` over states of any type `S`, and any history `h` of it.
-ghost use Rattle.std.specs.Prelude.{◌≡◌, ℕ, suc, ◌+◌, ◌-◌, ◌*◌, ◌<◌, ◌≤◌, min, ◌++◌, ◌⊎◌, Bool, true, false, Some, List, length};
+ghost use Rattle.std.specs.Prelude.{◌≡◌, ◌↔◌, ℕ, suc, ◌+◌, ◌-◌, ◌*◌, ◌<◌, ◌≤◌, min, ◌++◌, ◌⊎◌, Bool, true, false, Some, List, length};
+ghost use Rattle.flow_word.specs.declared.access.Side.{Side};
+ghost use Rattle.flow_word.specs.declared.access.Side.TheVariants.{Pop, Push};
 ghost use Rattle.event_timing.specs.Machines.{Design, IsDesign, Access, Reply, HoldsLists, Each};
 ghost use Rattle.event_timing.specs.Histories.{Trace, IsHistory, moves, is_possible};
 ghost use Rattle.event_timing.specs.Contents.{trace};
 ghost use Rattle.event_timing.specs.Steps.{steps, done};
-ghost use Rattle.event_timing.specs.Views.{pushed_in, tally, place};
+ghost use Rattle.event_timing.specs.Views.{own, pushed_in, tally, place};
 ghost use Rattle.event_timing.specs.Enablers.{candidate, known_of, answer};
-ghost use Rattle.event_timing.specs.Core.{Core, opening_core, view, core_accesses, bare_replies};
-ghost use Rattle.event_timing.specs.Actions.{Action, Acts, ActsAll, MayRun, MayAnswer, MayEarliest, IsFinal, IsSame, IsNoRunOf, ActsRecorded, newest, new_flags, assigns};
-ghost use Rattle.event_timing.specs.Agreement.{IsAgreed, IsAtRest, IsStepAt, IsUndetermined, IsBounded, possible_all, stop};
+ghost use Rattle.event_timing.specs.Core.{Core, opening_core, view, core_accesses, core_reply, core_tally, bare_replies, has_query, values_there};
+ghost use Rattle.event_timing.specs.Actions.{Action, Acts, ActsAll, MayRun, MayAssign, MayAnswer, MayEarliest, IsOpen, IsQuiet, IsFinal, IsSame, IsNoRunOf, ActsRecorded, newest, new_flags, assigns, runs, after_run, after_assign, after_answer};
+ghost use Rattle.event_timing.specs.Agreement.{IsAgreed, AreOwnMarks, AllVerified, HappensBefore, IsAtRest, IsStepAt, IsUndetermined, IsBounded, possible_all, stop};
+ghost use Rattle.event_timing.specs.Growth.{Grows, GrowsBeside, IsSettled};
+ghost use Rattle.event_timing.specs.Permitted.{IsInside, may_run, may_assign, may_answer, is_open, is_quiet, may_earliest, is_final};
 ghost use Rattle.event_timing.specs.Work.{work};
 ghost use Rattle.event_timing.specs.Edits.{edited, after_edit, kept, held_by_cycles, IsUntouchedByCycles};
 
@@ -24,20 +28,64 @@ pub fn every_order_agrees<S>()
         → (actions : List Action) (y : Core S) → ActsAll d limit x actions y → IsAgreed d h limit y }
 {}
 
+/// The marks of a core stay those of the modules' own runs, whatever is done.
+pub fn marks_stay<S>()
+    ensures run { (d : Design S) (x : Core S) → AreOwnMarks d x → (m : ℕ) → MayRun d x m → AreOwnMarks d (after_run d x m) }
+    ensures assign { (d : Design S) (x : Core S) → AreOwnMarks d x → (m c : ℕ) → AreOwnMarks d (after_assign x m c) }
+    ensures answer { (d : Design S) → IsDesign d → (x : Core S) → AreOwnMarks d x → (m c : ℕ) → x.timed m < x.emitted m → IsSame d x m c
+        → AreOwnMarks d (after_answer d x m c) }
+    ensures edit { (d : Design S) (x : Core S) → AreOwnMarks d x → (fifo depth t : ℕ) → AreOwnMarks (edited d fifo depth) (after_edit d x t) }
+    ensures newest { (d : Design S) (x : Core S) → AreOwnMarks d x → (m : ℕ) → newest d x m ≡ own d m (core_reply d x m) (x.emitted m) }
+{}
+
+/// A core only grows: what a module has emitted and was replied stays, whatever is done. Actions without a Run of a module let the
+/// core grow beside it, and leave the module's marks as they were. Where the replies of a module's first steps are all there, growth
+/// changes none of them.
+pub fn cores_grow<S>()
+    ensures run { (d : Design S) (x : Core S) (m : ℕ) → Grows d x (after_run d x m) }
+    ensures assign { (d : Design S) (x : Core S) (m c : ℕ) → Grows d x (after_assign x m c) }
+    ensures answer { (d : Design S) → IsDesign d → (x : Core S) → AreOwnMarks d x → (m c : ℕ) → x.timed m < x.emitted m → IsSame d x m c
+        → Grows d x (after_answer d x m c) }
+    ensures all { (d : Design S) (h : Trace S) → IsDesign d → IsHistory d h → (limit : ℕ) (x : Core S) → IsAgreed d h limit x
+        → (actions : List Action) (y : Core S) → ActsAll d limit x actions y → Grows d x y }
+    ensures others { (d : Design S) (h : Trace S) → IsDesign d → IsHistory d h → (limit : ℕ) (x : Core S) → IsAgreed d h limit x
+        → (m : ℕ) (actions : List Action) → IsNoRunOf m actions → (y : Core S) → ActsAll d limit x actions y → GrowsBeside d x y m }
+    ensures settled { (d : Design S) (x : Core S) → AreOwnMarks d x → (m n : ℕ) → n < x.emitted m → IsSettled d x m n }
+    ensures settled_all { (d : Design S) (x : Core S) → AreOwnMarks d x → (m : ℕ) → MayRun d x m → IsSettled d x m (x.emitted m) }
+    ensures counts { (d : Design S) (x y : Core S) → Grows d x y → (m n : ℕ) → IsSettled d x m n → (side : Side) (ch : ℕ)
+        → core_tally d y m side ch n ≡ core_tally d x m side ch n }
+    ensures replies { (d : Design S) (x y : Core S) → Grows d x y → (m n : ℕ) → IsSettled d x m (suc n) → core_reply d y m n ≡ core_reply d x m n }
+    ensures there { (d : Design S) (x y : Core S) → Grows d x y → (m n : ℕ) → IsSettled d x m (suc n) → values_there d y m n ≡ true }
+    ensures rests { (d : Design S) (x y : Core S) → Grows d x y → (m n : ℕ) → IsSettled d x m n
+        → own d m (core_reply d y m) n ≡ own d m (core_reply d x m) n }
+{}
+
 /// What is found by counts alone is the history's: the clock of a determined step, and the outcomes that an Answer or an
-/// Earliest finds. So a query is found to differ only where the history's outcome is not the assumed one, and never before an edit.
+/// Earliest finds. So a query is found to differ only where the history's outcome is not the assumed one.
 /// An enabler is the one step at which the count of pops, or of pushes, goes past the ordinal.
 pub fn found_by_counts<S>()
     ensures cycle { (d : Design S) (h : Trace S) → IsDesign d → IsHistory d h → (limit : ℕ) (x : Core S) → IsAgreed d h limit x
         → (m c : ℕ) → candidate d (view d x) m ≡ Some c → IsStepAt d h m (x.timed m) c }
-    ensures enabler { (accesses : ℕ → List Access) (replies : ℕ → List Reply) (side : Bool) (ch n i k : ℕ) → k < n
+    ensures enabler { (accesses : ℕ → List Access) (replies : ℕ → List Reply) (side : Side) (ch n i k : ℕ) → k < n
         → tally accesses replies side ch k ≤ i → i < tally accesses replies side ch (suc k) → place accesses replies side ch n i ≡ Some k }
     ensures answered { (d : Design S) (h : Trace S) → IsDesign d → IsHistory d h → (limit : ℕ) (x : Core S) → IsAgreed d h limit x
         → (m c : ℕ) → MayAnswer d limit x m c → new_flags d x m c ≡ possible_all d h c (core_accesses d x m (x.timed m)) }
     ensures earliest { (d : Design S) (h : Trace S) → IsDesign d → IsHistory d h → (limit : ℕ) (x : Core S) → IsAgreed d h limit x
         → (m c : ℕ) → MayEarliest d limit x m c → new_flags d x m c ≡ possible_all d h c (core_accesses d x m (x.timed m)) }
-    ensures never_differs { (d : Design S) (h : Trace S) → IsDesign d → IsHistory d h → (limit : ℕ)
-        → (actions : List Action) (x : Core S) → ActsAll d limit (opening_core d) actions x → (m c : ℕ) → x.verified m (x.timed m) ≡ false → candidate d (view d x) m ≡ Some c → IsSame d x m c }
+{}
+
+/// Where each recorded outcome is verified, none that is found is another, whatever is done; so it is from the opening on, and an
+/// edit alone makes outcomes assumed. A verified outcome is that of a step which the history does before the limit.
+pub fn verified_outcomes<S>()
+    ensures opening { (d : Design S) → AllVerified (opening_core d) }
+    ensures kept { (d : Design S) (h : Trace S) → IsDesign d → IsHistory d h → (limit : ℕ) (x : Core S) → IsAgreed d h limit x → AllVerified x
+        → (actions : List Action) (y : Core S) → ActsAll d limit x actions y → AllVerified y }
+    ensures never_differs { (d : Design S) (x : Core S) → AllVerified x → (m c : ℕ) → x.verified m (x.timed m) ≡ false
+        → candidate d (view d x) m ≡ Some c → IsSame d x m c }
+    ensures happens { (d : Design S) (h : Trace S) (limit : ℕ) (x : Core S) → IsAgreed d h limit x → (m k : ℕ) → k < x.emitted m → x.verified m k ≡ true
+        → has_query (core_accesses d x m k) ≡ true → HappensBefore d h limit m k }
+    ensures found { (d : Design S) (h : Trace S) (limit : ℕ) (x : Core S) → IsAgreed d h limit x → (m c : ℕ) → x.timed m < x.emitted m
+        → x.verified m (x.timed m) ≡ true → IsStepAt d h m (x.timed m) c → x.flags m (x.timed m) ≡ possible_all d h c (core_accesses d x m (x.timed m)) }
 {}
 
 /// A final core has each step of the history below the limit. Where none of its steps is determined, nobody moves from the
@@ -64,26 +112,29 @@ pub fn final_reports<S>()
     ensures before_stop { (d : Design S) (h : Trace S) → IsDesign d → IsHistory d h → (limit : ℕ) (x : Core S) → IsAgreed d h limit x
         → (m k : ℕ) → k < x.timed m → x.cycle m k < stop d x m }
     ensures outputs { (d : Design S) (h : Trace S) → IsDesign d → IsHistory d h → (limit : ℕ) (x : Core S) → IsAgreed d h limit x
-        → (ch c : ℕ) → done d h (d.owner false ch) c ≡ x.timed (d.owner false ch)
-        → h.pushed c ch ≡ d.inputs ch ++ pushed_in ch (core_accesses d x (d.owner false ch)) (λ k. bare_replies (x.flags (d.owner false ch) k)) (x.timed (d.owner false ch)) }
+        → (ch c : ℕ) → done d h (d.owner Push ch) c ≡ x.timed (d.owner Push ch)
+        → h.pushed c ch ≡ d.inputs ch ++ pushed_in ch (core_accesses d x (d.owner Push ch)) (λ k. bare_replies (x.flags (d.owner Push ch) k)) (x.timed (d.owner Push ch)) }
     ensures held { (d : Design S) (h : Trace S) → IsDesign d → IsHistory d h → (limit : ℕ) (x : Core S) → IsAgreed d h limit x
         → IsFinal d limit x → IsUndetermined d x → (m c : ℕ) → x.timed m < x.emitted m → stop d x m ≤ c
         → (h.state c m ≡ x.state m (x.timed m))
-        × Each (λ a. is_possible d h c a.pops a.channel ≡ answer (known_of d (view d x) m a) c) (core_accesses d x m (x.timed m)) }
+        × Each (λ a. is_possible d h c a.side a.channel ≡ answer (known_of d (view d x) m a) c) (core_accesses d x m (x.timed m)) }
 {}
 
 /// The first touched clock is the least in which the FIFO holds as many elements as the lesser of both depths, by a final core's
 /// cycles. Up to it, and up to the limit where there is none, it holds fewer; and at the limit no cycle is forgotten.
 pub fn first_touched<S>()
     ensures below { (d : Design S) (h : Trace S) → IsDesign d → IsHistory d h → (limit : ℕ) (x : Core S) → IsAgreed d h limit x → IsFinal d limit x
-        → (fifo depth t : ℕ) → t ≤ limit → 0 < d.start false fifo → 0 < depth
-        → ((c : ℕ) → c < t → held_by_cycles d x fifo c ≡ min (d.start false fifo) depth → ⊥) → IsUntouchedByCycles d x fifo depth t }
+        → (fifo depth t : ℕ) → t ≤ limit → 0 < d.start Push fifo → 0 < depth
+        → ((c : ℕ) → c < t → held_by_cycles d x fifo c ≡ min (d.start Push fifo) depth → ⊥) → IsUntouchedByCycles d x fifo depth t }
     ensures none { (d : Design S) (h : Trace S) (limit : ℕ) (x : Core S) → IsAgreed d h limit x → (m : ℕ) → kept (x.cycle m) limit (x.timed m) ≡ x.timed m }
 {}
 
 /// A final core that is cut back to the cycles below the first touched clock agrees with the edited design. `g` is a history of that one.
+/// An edited design keeps the rules of a design, and an edit to the depth that stands changes nothing.
 pub fn edited_cores<S>()
-    ensures { (d : Design S) (h : Trace S) → IsDesign d → IsHistory d h → ((ch : ℕ) → d.lag false ch ≡ 1) → (limit : ℕ) (x : Core S) → IsAgreed d h limit x
+    ensures same_depth { (d : Design S) (fifo : ℕ) → edited d fifo (d.start Push fifo) ≡ d }
+    ensures design { (d : Design S) → IsDesign d → (fifo depth : ℕ) → IsDesign (edited d fifo depth) }
+    ensures cut { (d : Design S) (h : Trace S) → IsDesign d → IsHistory d h → ((ch : ℕ) → d.lag Push ch ≡ 1) → (limit : ℕ) (x : Core S) → IsAgreed d h limit x
         → IsFinal d limit x → (fifo depth t : ℕ) → t ≤ limit → IsUntouchedByCycles d x fifo depth t
         → (g : Trace S) → IsHistory (edited d fifo depth) g → IsAgreed (edited d fifo depth) g limit (after_edit d x t) }
 {}
@@ -93,7 +144,7 @@ pub fn edited_cores<S>()
 pub fn cycles_given<S>()
     ensures given { (d : Design S) (limit : ℕ) (x : Core S) (actions : List Action) (y : Core S) → ActsAll d limit x actions y
         → (m : ℕ) → assigns m actions + x.timed m ≡ y.timed m }
-    ensures edited { (d : Design S) (h : Trace S) → IsDesign d → IsHistory d h → ((ch : ℕ) → d.lag false ch ≡ 1) → (limit : ℕ) (x : Core S) → IsAgreed d h limit x
+    ensures edited { (d : Design S) (h : Trace S) → IsDesign d → IsHistory d h → ((ch : ℕ) → d.lag Push ch ≡ 1) → (limit : ℕ) (x : Core S) → IsAgreed d h limit x
         → IsFinal d limit x → (fifo depth t : ℕ) → t ≤ limit → IsUntouchedByCycles d x fifo depth t → (g : Trace S) → IsHistory (edited d fifo depth) g
         → (actions : List Action) (y : Core S) → ActsAll (edited d fifo depth) limit (after_edit d x t) actions y → (m : ℕ)
         → assigns m actions ≤ (x.emitted m - x.timed m) + (x.timed m - kept (x.cycle m) t (x.timed m)) + (y.emitted m - x.emitted m) }
@@ -110,9 +161,12 @@ pub fn action_bound<S>()
         → work d x ≤ d.modules * (3 * most + 1) }
 {}
 
-/// A Run of a module that is permitted stays so while others act, and emits the same.
+/// A Run of a module that is permitted stays so while others act, and emits the same. So do several, one after the other.
 pub fn running_ahead<S>()
-    ensures { (d : Design S) (h : Trace S) → IsDesign d → IsHistory d h → (limit : ℕ) (x : Core S) → IsAgreed d h limit x → (m : ℕ) → MayRun d x m
+    ensures several { (d : Design S) (h : Trace S) → IsDesign d → IsHistory d h → (limit : ℕ) (x : Core S) → IsAgreed d h limit x
+        → (m n : ℕ) (y : Core S) → ActsAll d limit x (runs n m) y → (actions : List Action) → IsNoRunOf m actions → (z : Core S)
+        → ActsAll d limit x actions z → (w : Core S) × ActsAll d limit z (runs n m) w × GrowsBeside d y w m }
+    ensures one { (d : Design S) (h : Trace S) → IsDesign d → IsHistory d h → (limit : ℕ) (x : Core S) → IsAgreed d h limit x → (m : ℕ) → MayRun d x m
         → (actions : List Action) → IsNoRunOf m actions → (y : Core S) → ActsAll d limit x actions y → MayRun d y m × (newest d y m ≡ newest d x m) }
 {}
 
@@ -121,4 +175,17 @@ pub fn recorded_outcomes<S>()
     ensures edited { (d : Design S) (x : Core S) (fifo depth t m : ℕ) → MayRun (edited d fifo depth) (after_edit d x t) m → MayRun d x m }
     ensures kept { (d : Design S) (h : Trace S) → IsDesign d → IsHistory d h → (limit : ℕ) (x : Core S) → IsAgreed d h limit x
         → ((m : ℕ) → MayRun d x m → ⊥) → (actions : List Action) (y : Core S) → ActsRecorded d limit x actions y → (m : ℕ) → MayRun d y m → ⊥ }
+{}
+
+/// The tests decide: each is true exactly where its action is permitted. Those that ask all modules want a core that has emitted
+/// steps of the design's modules alone.
+pub fn tests_decide<S>()
+    ensures run { (d : Design S) (x : Core S) (m : ℕ) → (may_run d x m ≡ true) ↔ MayRun d x m }
+    ensures assign { (d : Design S) (limit : ℕ) (x : Core S) (m : ℕ) → (may_assign d limit x m ≡ true) ↔ ((c : ℕ) × MayAssign d limit x m c) }
+    ensures answer { (d : Design S) (limit : ℕ) (x : Core S) (m : ℕ) → (may_answer d limit x m ≡ true) ↔ ((c : ℕ) × MayAnswer d limit x m c) }
+    ensures open_step { (d : Design S) (limit : ℕ) (x : Core S) (m : ℕ) → (is_open d limit x m ≡ true) ↔ ((c : ℕ) × IsOpen d limit x m c) }
+    ensures quiet { (d : Design S) (limit : ℕ) (x : Core S) → IsInside d x → (is_quiet d limit x ≡ true) ↔ IsQuiet d limit x }
+    ensures earliest { (d : Design S) (limit : ℕ) (x : Core S) → IsInside d x → (m : ℕ)
+        → (may_earliest d limit x m ≡ true) ↔ ((c : ℕ) × MayEarliest d limit x m c) }
+    ensures last { (d : Design S) (limit : ℕ) (x : Core S) → IsInside d x → (is_final d limit x ≡ true) ↔ IsFinal d limit x }
 {}

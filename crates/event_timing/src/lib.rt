@@ -5,6 +5,7 @@
 mod laws;
 
 pub use laws::{
-    action_bound, cycles_given, edited_cores, every_order_agrees, final_cores, final_reports,
-    first_touched, found_by_counts, lists_are_counts, recorded_outcomes, running_ahead,
+    action_bound, cores_grow, cycles_given, edited_cores, every_order_agrees, final_cores,
+    final_reports, first_touched, found_by_counts, lists_are_counts, marks_stay, recorded_outcomes,
+    running_ahead, tests_decide, verified_outcomes,
 };

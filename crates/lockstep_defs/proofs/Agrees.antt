@@ -7,6 +7,7 @@ use Rattle.std.proofs.lemmas.List.FromFn.{get_or-enumerate_from, length-enumerat
 use Rattle.std.proofs.lemmas.Bool.{ne_eqb, eq-eqb}
 use Rattle.std.proofs.Math.ListN.{get_or-append}
 use Rattle.flow_design.specs.declared.plan.Plan.{Plan}
+use Rattle.flow_design.specs.declared.state.Element.{Element}
 use Rattle.flow_design.specs.declared.state.ClockState.{ClockState}
 use Rattle.flow_design.specs.declared.state.ModuleState.{ModuleState}
 use Rattle.flow_design.specs.declared.state.Request.{Request}
@@ -76,17 +77,17 @@ own_of_self : (c i : ℕ) (xs : List Exchange) → (i == i) ≡ true → steps_o
 own_of_self c i [] h = refl
 own_of_self c i (x ∷ xs) h = rw h
 
-of_other : (p : Plan) (c : ℕ) (contents : List (List ℕ)) (i : ℕ) (m : ℕ × ModuleState) (b : Bool) → (m.0 == i) ≡ false
+of_other : (p : Plan) (c : ℕ) (contents : List (List Element)) (i : ℕ) (m : ℕ × ModuleState) (b : Bool) → (m.0 == i) ≡ false
     → steps_of i (cond b (step_with c m.0 (map (answered p c contents) (requests_of p m))) []) ≡ []
 of_other p c contents i m false h = refl
 of_other p c contents i m true h = own_of_other c i m.0 (map (answered p c contents) (requests_of p m)) h
 
-of_self : (p : Plan) (c : ℕ) (contents : List (List ℕ)) (i : ℕ) (s : ModuleState) (b : Bool)
+of_self : (p : Plan) (c : ℕ) (contents : List (List Element)) (i : ℕ) (s : ModuleState) (b : Bool)
     → steps_of i (cond b (step_with c i (map (answered p c contents) (requests_of p (i, s)))) []) ≡ cond b (step_with c i (map (answered p c contents) (requests_of p (i, s)))) []
 of_self p c contents i s false = refl
 of_self p c contents i s true = own_of_self c i (map (answered p c contents) (requests_of p (i, s))) (eq-eqb i i refl)
 
-none_of : (p : Plan) (c : ℕ) (contents : List (List ℕ)) (i n : ℕ) (ss : List ModuleState) → i < n
+none_of : (p : Plan) (c : ℕ) (contents : List (List Element)) (i n : ℕ) (ss : List ModuleState) → i < n
     → steps_of i (flat_map (step_of p c contents) (enumerate_from n ss)) ≡ []
 none_of p c contents i n [] h = refl
 none_of p c contents i n (s ∷ ss) h =
@@ -94,7 +95,7 @@ none_of p c contents i n (s ∷ ss) h =
     let rest = none_of p c contents i (n + 1) ss (omega arith) in
     rw (filter-append, of_other p c contents i (n, s) (moves p c contents (n, s)) (ne_eqb n i other), rest)
 
-picked : (p : Plan) (c : ℕ) (contents : List (List ℕ)) (n k i : ℕ) (d : ModuleState) (ss : List ModuleState) → i ≡ n + k → k < length ss
+picked : (p : Plan) (c : ℕ) (contents : List (List Element)) (n k i : ℕ) (d : ModuleState) (ss : List ModuleState) → i ≡ n + k → k < length ss
     → steps_of i (flat_map (step_of p c contents) (enumerate_from n ss)) ≡ step_of p c contents (i, get_or ss k d)
 picked p c contents n k i d [] e h = absurd (omega arith)
 picked p c contents n zero i d (s ∷ ss) e h =
@@ -153,11 +154,11 @@ pub record Agrees (o : Own) (s : ModuleState) (steps : List HistoryStep) : Type 
   pub state_is : o.state ≡ s
   pub steps_are : exchanges_in o.steps ≡ map (λ t. t.exchanges) steps
 
-replies_of_answered : (p : Plan) (c : ℕ) (contents : List (List ℕ)) (rs : List Request) → map (λ x. x.reply) (map (answered p c contents) rs) ≡ map (reply p c contents) rs
+replies_of_answered : (p : Plan) (c : ℕ) (contents : List (List Element)) (rs : List Request) → map (λ x. x.reply) (map (answered p c contents) rs) ≡ map (reply p c contents) rs
 replies_of_answered p c contents [] = refl
 replies_of_answered p c contents (r ∷ rs) = ap (λ (l : List Reply). reply p c contents r ∷ l) (replies_of_answered p c contents rs)
 
-paired_answered : (p : Plan) (c : ℕ) (contents : List (List ℕ)) (rs : List Request) → paired rs (map (reply p c contents) rs) ≡ map (answered p c contents) rs
+paired_answered : (p : Plan) (c : ℕ) (contents : List (List Element)) (rs : List Request) → paired rs (map (reply p c contents) rs) ≡ map (answered p c contents) rs
 paired_answered p c contents [] = refl
 paired_answered p c contents (r ∷ rs) = ap (λ (l : List Exchange). answered p c contents r ∷ l) (paired_answered p c contents rs)
 
@@ -167,14 +168,14 @@ lengths_agree o s steps h =
     ∙ (ap length h.steps_are ∙ (length-map steps (λ t. t.exchanges) ∙ sym (length-map steps (λ t. map (λ x. x.reply) t.exchanges))))
 
 -- the replies to the step that comes next
-next_replies : (p : Plan) (c i : ℕ) (contents : List (List ℕ)) (o : Own) (s : ModuleState) (steps : List HistoryStep) (r : Request) (rs : List Request)
+next_replies : (p : Plan) (c i : ℕ) (contents : List (List Element)) (o : Own) (s : ModuleState) (steps : List HistoryStep) (r : Request) (rs : List Request)
     → Agrees o s steps
     → get_or (replies_in (steps ++ step_with c i (map (answered p c contents) (r ∷ rs)))) (length o.steps) [] ≡ map (reply p c contents) (r ∷ rs)
 next_replies p c i contents o s steps r rs h =
     rw (map-append, lengths_agree o s steps h)
     (get_or_push (replies_in steps) _ [] (length (replies_in steps)) refl ∙ replies_of_answered p c contents (r ∷ rs))
 
-agrees_after : (p : Plan) (c i : ℕ) (contents : List (List ℕ)) (o : Own) (s : ModuleState) (steps : List HistoryStep) (rs : List Request) → Agrees o s steps
+agrees_after : (p : Plan) (c i : ℕ) (contents : List (List Element)) (o : Own) (s : ModuleState) (steps : List HistoryStep) (rs : List Request) → Agrees o s steps
     → Agrees (own_after (module_at p i) o rs (get_or (replies_in (steps ++ step_with c i (map (answered p c contents) rs))) (length o.steps) []))
     (move (module_at p i) s (map (reply p c contents) rs)) (steps ++ step_with c i (map (answered p c contents) rs))
 agrees_after p c i contents o s steps [] h = rw (append-nil steps) (record {
@@ -209,7 +210,7 @@ unfolding own_next
 next_on p i qss o e = ap (λ (b : Bool). cond b o (goes_on p i qss o)) e
 
 -- a module that moves is not over
-pub is_on : (p : Plan) (c : ℕ) (contents : List (List ℕ)) (m : ℕ × ModuleState) → moves p c contents m ≡ true → is_over p.ops m.1 ≡ false
+pub is_on : (p : Plan) (c : ℕ) (contents : List (List Element)) (m : ℕ × ModuleState) → moves p c contents m ≡ true → is_over p.ops m.1 ≡ false
 unfolding moves
 is_on p c contents m h = by_tests (is_over p.ops m.1) _ h
   where
@@ -220,7 +221,7 @@ is_on p c contents m h = by_tests (is_over p.ops m.1) _ h
 longer : (steps now : List HistoryStep) (k : ℕ) → k < length (replies_in steps) → get_or (replies_in steps) k [] ≡ get_or (replies_in (steps ++ now)) k []
 longer steps now k l = rw map-append (sym (get_or-append (replies_in steps) (replies_in now) [] k l))
 
-one_more : (p : Plan) (c i : ℕ) (contents : List (List ℕ)) (n : ℕ) (s : ModuleState) (steps : List HistoryStep) (b : Bool) → moves p c contents (i, s) ≡ b
+one_more : (p : Plan) (c i : ℕ) (contents : List (List Element)) (n : ℕ) (s : ModuleState) (steps : List HistoryStep) (b : Bool) → moves p c contents (i, s) ≡ b
     → Agrees (own p i (replies_in steps) n) s steps
     → Agrees (own p i (replies_in (steps ++ cond b (step_with c i (map (answered p c contents) (requests_of p (i, s)))) [])) (cond b (suc n) n))
     (cond b (move (module_at p i) s (map (reply p c contents) (requests_of p (i, s)))) s)

@@ -1,4 +1,3 @@
-pub mod Computed
 pub mod Settled
 pub mod Found
 pub mod Exits

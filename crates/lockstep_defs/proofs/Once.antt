@@ -1,4 +1,4 @@
--- The static rules: one module at each end of a channel, and at most one pop and one push of a channel in a clock.
+-- The static rules: one module at each port of a channel, and at most one pop and one push of a channel in a clock.
 use Rattle.std.proofs.Common.{◌≡◌, ℕ, zero, suc, ◌+◌, ◌≤◌, ◌<◌, List, [], ◌∷◌, length, get_or, Bool, true, false, cond, refl, ◌∙◌, ap, arith, ◌⊎◌, inl, inr}
 use Rattle.std.specs.List.{filter_map, AllByRecursion, cons_option, list_any}
 use Rattle.flow_design.specs.declared.expr.Op.{Op}
@@ -11,21 +11,27 @@ use Rattle.flow_design.specs.declared.state.Due.{Due}
 use Rattle.flow_design.specs.declared.state.Request.{Request}
 use Rattle.flow_design.specs.declared.state.ModuleState.{ModuleState}
 use Rattle.flow_design.specs.Module.{no_block, block_at, block_of, operation_at, interval, due}
-use Rattle.flow_design.specs.Operations.{End, used_end}
-use Rattle.flow_design.specs.StaticRules.{same_end, is_end, uses}
+use Rattle.flow_word.specs.declared.access.Port.{Port}
+use Rattle.flow_word.specs.declared.access.Side.{Side}
+use Rattle.flow_word.specs.declared.access.Side.TheVariants.{Pop, Push}
+use Rattle.flow_design.specs.Operations.{used_port}
+use Rattle.flow_design.specs.StaticRules.{same_port, is_port, uses}
 use Rattle.flow_design.specs.declared.design.Channel.{Channel}
 use Rattle.lockstep_defs.specs.Machine.{request_of, request_for, requests}
 use Rattle.lockstep_defs.specs.Lockstep.{module_at, requests_of}
-use Rattle.lockstep_defs.specs.Ends.{takes, owner, takers}
+use Rattle.lockstep_defs.specs.Ports.{takes, owner, takers}
 use Rattle.std.proofs.lemmas.Bool.{or_parts}
 use Rattle.lockstep_defs.proofs.Due.{AreApart, how_many, due_once, none_due}
 
+abbrev pub port_on : Side → ℕ → Port
+port_on side f = record { side = side; channel = f }
+
 -- what the laws of channels take of the static rules
-pub record KeepsEnds (p : Plan) : Type 0 where
-  -- one module at each end
-  pub owned : (e : End) (i : ℕ) → uses e (module_at p i) ≡ true → owner p e ≡ i
+pub record KeepsPorts (p : Plan) : Type 0 where
+  -- one module at each port
+  pub owned : (e : Port) (i : ℕ) → uses e (module_at p i) ≡ true → owner p e ≡ i
   -- no two pops, or pushes, of one channel in one body have offsets equal modulo II
-  pub apart : (e : End) (i b : ℕ) → AreApart (takes e) (interval (block_at (module_at p i) b)) (block_at (module_at p i) b).ops
+  pub apart : (e : Port) (i b : ℕ) → AreApart (takes e) (interval (block_at (module_at p i) b)) (block_at (module_at p i) b).ops
   -- II and LEN are at least 1
   pub intervals : (i b : ℕ) → ((block_at (module_at p i) b).ops ≡ []) ⊎ (0 < interval (block_at (module_at p i) b))
 
@@ -35,26 +41,26 @@ length-cond : {X : Type 0} (b : Bool) (x : X) (xs : List X) → length (cond b (
 length-cond true x xs = omega arith
 length-cond false x xs = omega arith
 
-taker_of : (channels : List Channel) (s : ModuleState) (e : End) (i : ℕ) (op : Op ℕ) (rs : List Request)
+taker_of : (channels : List Channel) (s : ModuleState) (e : Port) (i : ℕ) (op : Op ℕ) (rs : List Request)
     → length (takers e (cons_option (request_of channels s i op) rs)) ≡ cond (takes e op) 1 0 + length (takers e rs)
 taker_of channels s e i (Set x a) rs = omega arith
 taker_of channels s e i (Load x n a) rs = omega arith
 taker_of channels s e i (Store n a b) rs = omega arith
-taker_of channels s e i (Read f x) rs = length-cond (same_end e (true, f)) _ (takers e rs)
-taker_of channels s e i (Write f a) rs = length-cond (same_end e (false, f)) _ (takers e rs)
-taker_of channels s e i (TryRead f x ok) rs = length-cond (same_end e (true, f)) _ (takers e rs)
-taker_of channels s e i (TryWrite f ok a) rs = length-cond (same_end e (false, f)) _ (takers e rs)
+taker_of channels s e i (Read f x) rs = length-cond (same_port e (port_on Pop f)) _ (takers e rs)
+taker_of channels s e i (Write f a) rs = length-cond (same_port e (port_on Push f)) _ (takers e rs)
+taker_of channels s e i (TryRead f x ok) rs = length-cond (same_port e (port_on Pop f)) _ (takers e rs)
+taker_of channels s e i (TryWrite f ok a) rs = length-cond (same_port e (port_on Push f)) _ (takers e rs)
 taker_of channels s e i (Empty f x) rs = omega arith
 taker_of channels s e i (Full f x) rs = omega arith
 
-takers_counted : (channels : List Channel) (m : Module) (s : ModuleState) (e : End) (ds : List Due)
+takers_counted : (channels : List Channel) (m : Module) (s : ModuleState) (e : Port) (ds : List Due)
     → length (takers e (filter_map (request_for channels m s) ds)) ≡ how_many (takes e) (block_of m s) ds
 takers_counted channels m s e [] = refl
 takers_counted channels m s e (d ∷ ds) =
     taker_of channels s e d.iteration (operation_at (block_of m s) d.op).op (filter_map (request_for channels m s) ds)
     ∙ ap (λ (n : ℕ). cond (takes e (operation_at (block_of m s) d.op).op) 1 0 + n) (takers_counted channels m s e ds)
 
-takers_due : (channels : List Channel) (m : Module) (s : ModuleState) (e : End)
+takers_due : (channels : List Channel) (m : Module) (s : ModuleState) (e : Port)
     → length (takers e (requests channels m s)) ≡ how_many (takes e) (block_of m s) (due m s)
 unfolding requests
 takers_due channels m s e = takers_counted channels m s e (due m s)
@@ -64,7 +70,7 @@ none_in is [] e = tt
 none_in is (t ∷ ts) e = cc
 
 -- a module pops a channel at most once in a local clock, and pushes it at most once
-pub takers_once : (p : Plan) → KeepsEnds p → (e : End) (i : ℕ) (s : ModuleState) → length (takers e (requests_of p (i, s))) ≤ 1
+pub takers_once : (p : Plan) → KeepsPorts p → (e : Port) (i : ℕ) (s : ModuleState) → length (takers e (requests_of p (i, s))) ≤ 1
 takers_once p h e i s = by_case (h.intervals i s.control.block)
   where
     by_case : ((block_of (module_at p i) s).ops ≡ []) ⊎ (0 < interval (block_of (module_at p i) s)) → length (takers e (requests_of p (i, s))) ≤ 1
@@ -73,19 +79,19 @@ takers_once p h e i s = by_case (h.intervals i s.control.block)
     by_case (inr pos) =
         omega (arith, takers_due p.design.channels (module_at p i) s e, due_once (takes e) (module_at p i) s (h.apart e i s.control.block) pos)
 
--- ---- a module that doesn't use an end has no such request
+-- ---- a module that doesn't use a port has no such request
 
 any_false : {X : Type 0} (f : X → Bool) (xs : List X) → list_any f xs ≡ false → AllByRecursion (λ x. f x ≡ false) xs
 any_false f [] h = tt
 any_false f (x ∷ xs) h = let parts = or_parts (f x) (list_any f xs) h in (parts.0, any_false f xs parts.1)
 
-uses_none : (e : End) (bs : List Block) (n : ℕ) → list_any (λ b. list_any (λ t. is_end e (used_end t.op)) b.ops) bs ≡ false
+uses_none : (e : Port) (bs : List Block) (n : ℕ) → list_any (λ b. list_any (λ t. is_port e (used_port t.op)) b.ops) bs ≡ false
     → AllByRecursion (λ t. takes e t.op ≡ false) (get_or bs n no_block).ops
 uses_none e [] n h = tt
 uses_none e (b ∷ bs) zero h = any_false (λ t. takes e t.op) b.ops (or_parts _ _ h).0
 uses_none e (b ∷ bs) (suc n) h = uses_none e bs n (or_parts _ _ h).1
 
-pub no_takers : (p : Plan) (e : End) (i : ℕ) (s : ModuleState) → uses e (module_at p i) ≡ false → length (takers e (requests_of p (i, s))) ≡ 0
+pub no_takers : (p : Plan) (e : Port) (i : ℕ) (s : ModuleState) → uses e (module_at p i) ≡ false → length (takers e (requests_of p (i, s))) ≡ 0
 no_takers p e i s h =
     takers_due p.design.channels (module_at p i) s e
     ∙ none_due (takes e) (module_at p i) s (uses_none e (module_at p i).blocks s.control.block h)

@@ -4,6 +4,7 @@ use Rattle.std.specs.List.{filter, flat_map, enumerate_from, AllByRecursion, All
 use Rattle.std.proofs.lemmas.Bool.{cases_eq, cond-true, cond-false, eq-eqb, ne_eqb}
 use Rattle.std.proofs.lemmas.List.Elements.{All-from_recursion, recursion_from_All}
 use Rattle.flow_design.specs.declared.plan.Plan.{Plan}
+use Rattle.flow_design.specs.declared.state.Element.{Element}
 use Rattle.flow_design.specs.declared.state.ClockState.{ClockState}
 use Rattle.flow_design.specs.declared.state.ModuleState.{ModuleState}
 use Rattle.lockstep_defs.specs.Channels.{HistoryStep, Exchange}
@@ -36,14 +37,14 @@ step_with-from : (c i n : ℕ) (xs : List Exchange) → n ≤ i → AllByRecursi
 step_with-from c i n [] h = tt
 step_with-from c i n (x ∷ xs) h = ((refl, h), tt)
 
-step_of-from : (p : Plan) (c n : ℕ) (contents : List (List ℕ)) (m : ℕ × ModuleState) → n ≤ m.0 → AllByRecursion (IsFrom c n) (step_of p c contents m)
+step_of-from : (p : Plan) (c n : ℕ) (contents : List (List Element)) (m : ℕ × ModuleState) → n ≤ m.0 → AllByRecursion (IsFrom c n) (step_of p c contents m)
 step_of-from p c n contents m h = by_test (moves p c contents m)
   where
     by_test : (b : Bool) → AllByRecursion (IsFrom c n) (cond b (step_with c m.0 (map (answered p c contents) (requests_of p m))) [])
     by_test true = step_with-from c m.0 n (map (answered p c contents) (requests_of p m)) h
     by_test false = tt
 
-all_from : (p : Plan) (c : ℕ) (contents : List (List ℕ)) (n k : ℕ) (ss : List ModuleState) → n ≤ k
+all_from : (p : Plan) (c : ℕ) (contents : List (List Element)) (n k : ℕ) (ss : List ModuleState) → n ≤ k
     → AllByRecursion (IsFrom c n) (flat_map (step_of p c contents) (enumerate_from k ss))
 all_from p c contents n k [] h = tt
 all_from p c contents n k (s ∷ ss) h =
@@ -58,7 +59,7 @@ one_then p c i (x ∷ xs) ts h k = (all_map (IsFrom c (i + 1)) _ (λ s from. lat
     later : (s : HistoryStep) → IsFrom c (i + 1) s → IsBefore (record { clock = c; «module» = i; exchanges = x ∷ xs }) s
     later s from = let same = from.0 in let more = from.1 in inr (omega arith, omega arith)
 
-clock_rises : (p : Plan) (c : ℕ) (contents : List (List ℕ)) (n : ℕ) (ss : List ModuleState) → IsRising (flat_map (step_of p c contents) (enumerate_from n ss))
+clock_rises : (p : Plan) (c : ℕ) (contents : List (List Element)) (n : ℕ) (ss : List ModuleState) → IsRising (flat_map (step_of p c contents) (enumerate_from n ss))
 clock_rises p c contents n [] = tt
 clock_rises p c contents n (s ∷ ss) = by_test (moves p c contents (n, s)) (all_from p c contents (n + 1) (n + 1) ss (omega arith)) (clock_rises p c contents (n + 1) ss)
   where
@@ -168,7 +169,7 @@ only_history p c steps h same = one_order steps (history p c) (rising-from_pairs
 
 -- ---- only modules of the plan have steps
 
-step_number : (p : Plan) (c : ℕ) (contents : List (List ℕ)) (n : ℕ) (m : ℕ × ModuleState) → m.0 < n → AllByRecursion (λ s. s.«module» < n) (step_of p c contents m)
+step_number : (p : Plan) (c : ℕ) (contents : List (List Element)) (n : ℕ) (m : ℕ × ModuleState) → m.0 < n → AllByRecursion (λ s. s.«module» < n) (step_of p c contents m)
 step_number p c contents n m h = by_test (moves p c contents m)
   where
     with_number : (xs : List Exchange) → AllByRecursion (λ s. s.«module» < n) (step_with c m.0 xs)
@@ -179,7 +180,7 @@ step_number p c contents n m h = by_test (moves p c contents m)
     by_test true = with_number (map (answered p c contents) (requests_of p m))
     by_test false = tt
 
-clock_numbers : (p : Plan) (c : ℕ) (contents : List (List ℕ)) (k n : ℕ) (ss : List ModuleState) → k + length ss ≤ n
+clock_numbers : (p : Plan) (c : ℕ) (contents : List (List Element)) (k n : ℕ) (ss : List ModuleState) → k + length ss ≤ n
     → AllByRecursion (λ s. s.«module» < n) (flat_map (step_of p c contents) (enumerate_from k ss))
 clock_numbers p c contents k n [] h = tt
 clock_numbers p c contents k n (s ∷ ss) h =

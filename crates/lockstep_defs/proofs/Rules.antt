@@ -1,5 +1,5 @@
 -- A plan that the engine takes keeps what the laws of channels take of the static rules.
-use Rattle.std.proofs.Common.{◌≡◌, ◌≢◌, ℕ, zero, suc, ◌%◌, ◌≤◌, ◌<◌, List, [], ◌∷◌, length, get_or, Bool, true, false, cond, refl, sym, ap, subst, arith, nat_lt, ◌⊎◌, inl, inr, Option, Some, None}
+use Rattle.std.proofs.Common.{◌≡◌, ◌≢◌, ℕ, zero, suc, ◌%◌, ◌≤◌, ◌<◌, List, [], ◌∷◌, length, get_or, Bool, true, false, cond, refl, sym, ap, subst, arith, nat_lt, nat_eq, ◌&&◌, ◌⊎◌, inl, inr, Option, Some, None}
 use Rattle.std.specs.List.{filter, AllByRecursion, All, Any, list_any, position_or_len}
 use Rattle.std.specs.Prelude.{IfSome}
 use Rattle.std.proofs.lemmas.Bool.{eqb-true, ltb-true, ltb-false}
@@ -17,15 +17,19 @@ use Rattle.flow_design.specs.declared.design.Block.{Block}
 use Rattle.flow_design.specs.declared.design.Module.{Module}
 use Rattle.flow_design.specs.declared.plan.Plan.{Plan}
 use Rattle.flow_design.specs.Module.{no_block, no_operation, block_at, interval, interval_of}
-use Rattle.flow_design.specs.Operations.{End, end_of, used_end}
+use Rattle.flow_word.specs.declared.access.Port.{Port}
+use Rattle.flow_word.specs.declared.access.Side.{Side}
+use Rattle.flow_word.specs.declared.access.Side.TheVariants.{Pop, Push}
+use Rattle.flow_word.specs.Kinds.{same_side}
+use Rattle.flow_design.specs.Operations.{port_of, used_port}
 use Rattle.flow_design.specs.Plans.{kind_at}
-use Rattle.flow_design.specs.StaticRules.{same_end, is_end, uses, users_wanted, Clashes, IsKindSound, IsTimedSound, IsBlockSound, IsModuleSound, FitsEngine}
+use Rattle.flow_design.specs.StaticRules.{same_port, is_port, uses, users_wanted, Clashes, IsKindSound, IsTimedSound, IsBlockSound, IsModuleSound, FitsEngine}
 use Rattle.lockstep_defs.specs.Lockstep.{no_module, module_at}
-use Rattle.lockstep_defs.specs.Ends.{takes, owner}
+use Rattle.lockstep_defs.specs.Ports.{takes, owner}
 use Rattle.lockstep_defs.proofs.Due.{AreApart}
-use Rattle.lockstep_defs.proofs.Once.{KeepsEnds}
+use Rattle.lockstep_defs.proofs.Once.{KeepsPorts, port_on}
 
--- ---- one module at each end
+-- ---- one module at each port
 
 pub some_pass : {X : Type 0} (f : X → Bool) (xs : List X) (i : ℕ) (d : X) → i < length xs → f (get_or xs i d) ≡ true → 1 ≤ length (filter f xs)
 some_pass f [] i d l h = absurd (omega arith)
@@ -49,18 +53,21 @@ only_one f (x ∷ xs) (suc i) d l h one =
     by_test true e one more rest = absurd (omega arith)
     by_test false e one more rest = rw (e, rest one) (omega arith)
 
--- an operation that pops or pushes at an end stands there
-same_end-sound : (e g : End) → same_end e g ≡ true → g ≡ e
-same_end-sound (true, f) (true, g) h = ap (λ (n : ℕ). (true, n)) (sym (eqb-true f g h))
-same_end-sound (false, f) (false, g) h = ap (λ (n : ℕ). (false, n)) (sym (eqb-true f g h))
-same_end-sound (true, f) (false, g) h = cc
-same_end-sound (false, f) (true, g) h = cc
+-- an operation that pops or pushes at a port stands there
+same_port-sound : (e g : Port) → same_port e g ≡ true → g ≡ e
+same_port-sound a b h = by_sides a.side b.side a.channel b.channel h
+  where
+    by_sides : (s t : Side) (f g : ℕ) → (same_side s t && nat_eq f g) ≡ true → port_on t g ≡ port_on s f
+    by_sides Pop Pop f g h = ap (port_on Pop) (sym (eqb-true f g h))
+    by_sides Push Push f g h = ap (port_on Push) (sym (eqb-true f g h))
+    by_sides Pop Push f g h = cc
+    by_sides Push Pop f g h = cc
 
-is_end-sound : (e : End) (o : Option End) → is_end e o ≡ true → o ≡ Some e
-is_end-sound e None h = cc
-is_end-sound e (Some g) h = ap Some (same_end-sound e g h)
+is_port-sound : (e : Port) (o : Option Port) → is_port e o ≡ true → o ≡ Some e
+is_port-sound e None h = cc
+is_port-sound e (Some g) h = ap Some (same_port-sound e g h)
 
-used_stands : (op : Op ℕ) (e : End) → used_end op ≡ Some e → end_of op ≡ Some e
+used_stands : (op : Op ℕ) (e : Port) → used_port op ≡ Some e → port_of op ≡ Some e
 used_stands (Set x a) e h = cc
 used_stands (Load x n a) e h = cc
 used_stands (Store n a b) e h = cc
@@ -71,34 +78,35 @@ used_stands (TryWrite f ok a) e h = h
 used_stands (Empty f x) e h = cc
 used_stands (Full f x) e h = cc
 
--- an end that a module uses is one of a channel of the plan
-channel_used : (n : ℕ) (m : Module) (e : End) → All (IsBlockSound n m) m.blocks → uses e m ≡ true → e.1 < n
+-- a port that a module uses is one of a channel of the plan
+channel_used : (n : ℕ) (m : Module) (e : Port) → All (IsBlockSound n m) m.blocks → uses e m ≡ true → e.channel < n
 channel_used n m e sound h = in_block (Any-from_list_any _ m.blocks h)
   where
-    in_operation : (b : Block) → IsBlockSound n m b → Any (λ t. is_end e (used_end t.op) ≡ true) b.ops → e.1 < n
+    in_operation : (b : Block) → IsBlockSound n m b → Any (λ t. is_port e (used_port t.op) ≡ true) b.ops → e.channel < n
     in_operation b s (k, t, l, at_k, used) =
         let here : IsTimedSound n m b t = subst (λ (u : Timed). IsTimedSound n m b u) at_k (s.operations k t l) in
-        by_end (end_of t.op) (used_stands t.op e (is_end-sound e (used_end t.op) used)) here.operation.channel
+        by_port (port_of t.op) (used_stands t.op e (is_port-sound e (used_port t.op) used)) here.operation.channel
       where
-        by_end : (o : Option End) → o ≡ Some e → IfSome o (λ g. g.1 < n) → e.1 < n
-        by_end o same s = subst (λ (o : Option End). IfSome o (λ g. g.1 < n)) same s
+        by_port : (o : Option Port) → o ≡ Some e → IfSome o (λ g. g.channel < n) → e.channel < n
+        by_port o same s = subst (λ (o : Option Port). IfSome o (λ g. g.channel < n)) same s
 
-    in_block : Any (λ b. list_any (λ t. is_end e (used_end t.op)) b.ops ≡ true) m.blocks → e.1 < n
+    in_block : Any (λ b. list_any (λ t. is_port e (used_port t.op)) b.ops ≡ true) m.blocks → e.channel < n
     in_block (k, b, l, at_k, used) =
         in_operation b (subst (λ (c : Block). IsBlockSound n m c) at_k (sound k b l)) (Any-from_list_any _ b.ops used)
 
-wanted_once : (k : ChannelKind) (side : Bool) → users_wanted k side ≤ 1
-wanted_once Source true = omega arith
-wanted_once Source false = omega arith
-wanted_once Sink true = omega arith
-wanted_once Sink false = omega arith
-wanted_once (Fifo d) side = omega arith
+wanted_once : (k : ChannelKind) (side : Side) → users_wanted k side ≤ 1
+wanted_once Source Pop = omega arith
+wanted_once Source Push = omega arith
+wanted_once Sink Pop = omega arith
+wanted_once Sink Push = omega arith
+wanted_once (Fifo depth delay) side = omega arith
 
-used_once : (p : Plan) → FitsEngine p → (e : End) → e.1 < length p.design.channels → length (filter (uses e) p.design.modules) ≤ 1
-used_once p h (true, f) l =
-    omega (arith, length-filter (uses (true, f)) p.design.modules, (h.channels f l).popping, wanted_once (kind_at p f) true)
-used_once p h (false, f) l =
-    omega (arith, length-filter (uses (false, f)) p.design.modules, (h.channels f l).pushing, wanted_once (kind_at p f) false)
+used_once : (p : Plan) → FitsEngine p → (e : Port) → e.channel < length p.design.channels → length (filter (uses e) p.design.modules) ≤ 1
+used_once p h e l = by_side e.side e.channel l
+  where
+    by_side : (side : Side) (f : ℕ) → f < length p.design.channels → length (filter (uses (port_on side f)) p.design.modules) ≤ 1
+    by_side Pop f l = omega (arith, length-filter (uses (port_on Pop f)) p.design.modules, (h.channels f l).popping, wanted_once (kind_at p f) Pop)
+    by_side Push f l = omega (arith, length-filter (uses (port_on Push f)) p.design.modules, (h.channels f l).pushing, wanted_once (kind_at p f) Push)
 
 -- ---- sound modules and blocks
 
@@ -133,20 +141,20 @@ some_interval registers len (Loop ii again) l s = s.interval
 
 -- ---- pops and pushes that are apart
 
-apart_from : (e : End) (ii : ℕ) (t : Timed) (ts : List Timed) → takes e t.op ≡ true → ((k : ℕ) → k < length ts → ¬ Clashes ii t (get_or ts k no_operation))
+apart_from : (e : Port) (ii : ℕ) (t : Timed) (ts : List Timed) → takes e t.op ≡ true → ((k : ℕ) → k < length ts → ¬ Clashes ii t (get_or ts k no_operation))
     → AllByRecursion (λ u. (takes e u.op ≡ true) → t.offset % ii ≢ u.offset % ii) ts
 apart_from e ii t [] used h = tt
 apart_from e ii t (u ∷ us) used h = (
   λ also same. h 0 (omega arith) (record {
-    end = e;
-    first = is_end-sound e (used_end t.op) used;
-    second = is_end-sound e (used_end u.op) also;
+    port = e;
+    first = is_port-sound e (used_port t.op) used;
+    second = is_port-sound e (used_port u.op) also;
     offsets = same;
   }),
   apart_from e ii t us used (λ k l. h (suc k) (omega arith)),
 )
 
-are_apart : (e : End) (ii : ℕ) (ts : List Timed) → ((j k : ℕ) → j < k → k < length ts → ¬ Clashes ii (get_or ts j no_operation) (get_or ts k no_operation))
+are_apart : (e : Port) (ii : ℕ) (ts : List Timed) → ((j k : ℕ) → j < k → k < length ts → ¬ Clashes ii (get_or ts j no_operation) (get_or ts k no_operation))
     → AreApart (takes e) ii ts
 are_apart e ii [] h = tt
 are_apart e ii (t ∷ ts) h = (
@@ -156,7 +164,7 @@ are_apart e ii (t ∷ ts) h = (
 
 -- ---- the rules
 
-pub owned_by : (p : Plan) → FitsEngine p → (e : End) (i : ℕ) → uses e (module_at p i) ≡ true → owner p e ≡ i
+pub owned_by : (p : Plan) → FitsEngine p → (e : Port) (i : ℕ) → uses e (module_at p i) ≡ true → owner p e ≡ i
 unfolding owner
 owned_by p h e i used = by_module (sound_module p h i)
   where
@@ -167,7 +175,7 @@ owned_by p h e i used = by_module (sound_module p h i)
         (used_once p h e (channel_used (length p.design.channels) (module_at p i) e (s.1).blocks used))
     by_module (inr none) = let unused : uses e no_module ≡ true = subst (λ (m : Module). uses e m ≡ true) none used in cc
 
-apart_in : (p : Plan) → FitsEngine p → (e : End) (i b : ℕ)
+apart_in : (p : Plan) → FitsEngine p → (e : Port) (i b : ℕ)
     → AreApart (takes e) (interval (block_at (module_at p i) b)) (block_at (module_at p i) b).ops
 apart_in p h e i b = by_block (sound_block p h i b)
   where
@@ -185,5 +193,5 @@ intervals_in p h i b = by_block (sound_block p h i b)
     by_block (inr none) = inl (ap (λ (c : Block). c.ops) none)
 
 -- each plan that the engine takes keeps the rules
-pub keeps_ends : (p : Plan) → FitsEngine p → KeepsEnds p
-keeps_ends p h = record { owned = owned_by p h; apart = apart_in p h; intervals = intervals_in p h }
+pub keeps_ports : (p : Plan) → FitsEngine p → KeepsPorts p
+keeps_ports p h = record { owned = owned_by p h; apart = apart_in p h; intervals = intervals_in p h }

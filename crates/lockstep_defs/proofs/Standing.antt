@@ -18,16 +18,20 @@ use Rattle.flow_design.specs.declared.state.Due.{Due}
 use Rattle.flow_design.specs.declared.state.ModuleState.{ModuleState}
 use Rattle.flow_design.specs.declared.state.Request.{Request}
 use Rattle.flow_design.specs.Module.{no_block, no_operation, block_of, operation_at, live_count, ages, due_at, due_in, due}
-use Rattle.flow_design.specs.Operations.{End, end_of}
+use Rattle.flow_word.specs.declared.access.Port.{Port}
+use Rattle.flow_word.specs.declared.access.Side.{Side}
+use Rattle.flow_word.specs.declared.access.Side.TheVariants.{Pop, Push}
+use Rattle.flow_design.specs.Operations.{port, port_of}
 use Rattle.flow_design.specs.Plans.{kind_at}
 use Rattle.flow_design.specs.StaticRules.{uses, users_wanted, IsBlockSound, FitsEngine}
 use Rattle.lockstep_defs.specs.Machine.{request_of, request_for, requests}
-use Rattle.lockstep_defs.specs.Channels.{side_of}
+use Rattle.flow_word.specs.Kinds.{side_of}
 use Rattle.lockstep_defs.specs.Lockstep.{module_at, requests_of}
-use Rattle.lockstep_defs.specs.Ends.{has_end, StandsAtEnd}
+use Rattle.lockstep_defs.specs.Ports.{has_port, StandsAtPort}
 use Rattle.lockstep_defs.specs.States.{IsDueIn}
 use Rattle.lockstep_defs.proofs.Live.{are_ages}
 use Rattle.lockstep_defs.proofs.Queue.{all-append}
+use Rattle.lockstep_defs.proofs.Once.{port_on}
 use Rattle.lockstep_defs.proofs.Rules.{some_pass, sound_block, owned_by}
 
 -- ---- due operations are in range
@@ -71,35 +75,43 @@ due_by_recursion m s =
 pub due_in_range : (m : Module) (s : ModuleState) → All (IsDueIn (block_of m s) (live_count (block_of m s) s.control)) (due m s)
 due_in_range m s = All-from_recursion (IsDueIn (block_of m s) (live_count (block_of m s) s.control)) (due m s) (due_by_recursion m s)
 
--- ---- requests stand at ends of their module
+-- ---- requests stand at ports of their module
 
-none_wanted : (k : ChannelKind) (side : Bool) → 1 ≤ users_wanted k side → has_end k side ≡ true
-none_wanted Source true h = refl
-none_wanted Source false h = absurd (omega arith)
-none_wanted Sink true h = absurd (omega arith)
-none_wanted Sink false h = refl
-none_wanted (Fifo d) side h = refl
+none_wanted : (k : ChannelKind) (side : Side) → 1 ≤ users_wanted k side → has_port k side ≡ true
+none_wanted Source Pop h = refl
+none_wanted Source Push h = absurd (omega arith)
+none_wanted Sink Pop h = absurd (omega arith)
+none_wanted Sink Push h = refl
+none_wanted (Fifo depth delay) side h = refl
 
--- an end that a module uses is there
-end_there : (p : Plan) → FitsEngine p → (i : ℕ) (e : End) → i < length p.design.modules → e.1 < length p.design.channels → uses e (module_at p i) ≡ true
-    → has_end (kind_at p e.1) e.0 ≡ true
-end_there p h i (true, f) l in_range used = none_wanted (kind_at p f) true
-    (omega (arith, length-filter (uses (true, f)) p.design.modules, (h.channels f in_range).popping, some_pass (uses (true, f)) p.design.modules i _ l used))
-end_there p h i (false, f) l in_range used = none_wanted (kind_at p f) false
-    (omega (arith, length-filter (uses (false, f)) p.design.modules, (h.channels f in_range).pushing, some_pass (uses (false, f)) p.design.modules i _ l used))
+-- a port that a module uses is there
+port_there : (p : Plan) → FitsEngine p → (i : ℕ) (e : Port) → i < length p.design.modules → e.channel < length p.design.channels → uses e (module_at p i) ≡ true
+    → has_port (kind_at p e.channel) e.side ≡ true
+port_there p h i e l in_range used = by_side e.side e.channel in_range used
+  where
+    by_side : (side : Side) (f : ℕ) → f < length p.design.channels → uses (port_on side f) (module_at p i) ≡ true
+        → has_port (kind_at p f) side ≡ true
+    by_side Pop f in_range used =
+        let popping = (h.channels f in_range).popping in
+        none_wanted (kind_at p f) Pop
+        (omega (arith, length-filter (uses (port_on Pop f)) p.design.modules, popping, some_pass (uses (port_on Pop f)) p.design.modules i _ l used))
+    by_side Push f in_range used =
+        let pushing = (h.channels f in_range).pushing in
+        none_wanted (kind_at p f) Push
+        (omega (arith, length-filter (uses (port_on Push f)) p.design.modules, pushing, some_pass (uses (port_on Push f)) p.design.modules i _ l used))
 
 stands : (p : Plan) → FitsEngine p → (i : ℕ) → i < length p.design.modules → (r : Request) → r.channel < length p.design.channels
-    → uses (side_of r.kind, r.channel) (module_at p i) ≡ true → StandsAtEnd p i r
+    → uses (port r.kind r.channel) (module_at p i) ≡ true → StandsAtPort p i r
 stands p h i l r in_range used = record {
   in_range = in_range;
-  is_there = end_there p h i (side_of r.kind, r.channel) l in_range used;
-  owned = owned_by p h (side_of r.kind, r.channel) i used;
+  is_there = port_there p h i (port r.kind r.channel) l in_range used;
+  owned = owned_by p h (port r.kind r.channel) i used;
 }
 
--- an operation of a module makes a request that stands at an end, or none
+-- an operation of a module makes a request that stands at a port, or none
 operation_stands : (p : Plan) → FitsEngine p → (i : ℕ) → i < length p.design.modules → (channels : List Channel) (s : ModuleState) (n : ℕ) (op : Op ℕ)
-    → IfSome (end_of op) (λ e. e.1 < length p.design.channels) → IfSome (end_of op) (λ e. uses e (module_at p i) ≡ true)
-    → (rs : List Request) → AllByRecursion (StandsAtEnd p i) rs → AllByRecursion (StandsAtEnd p i) (cons_option (request_of channels s n op) rs)
+    → IfSome (port_of op) (λ e. e.channel < length p.design.channels) → IfSome (port_of op) (λ e. uses e (module_at p i) ≡ true)
+    → (rs : List Request) → AllByRecursion (StandsAtPort p i) rs → AllByRecursion (StandsAtPort p i) (cons_option (request_of channels s n op) rs)
 operation_stands p h i l channels s n (Set x a) c u rs rest = rest
 operation_stands p h i l channels s n (Load x k a) c u rs rest = rest
 operation_stands p h i l channels s n (Store k a b) c u rs rest = rest
@@ -112,7 +124,7 @@ operation_stands p h i l channels s n (Full f x) c u rs rest = (stands p h i l _
 
 all_stand : (p : Plan) → FitsEngine p → (i : ℕ) → i < length p.design.modules → (channels : List Channel) (s : ModuleState)
     → IsBlockSound (length p.design.channels) (module_at p i) (block_of (module_at p i) s) → (n : ℕ) (ds : List Due)
-    → AllByRecursion (IsDueIn (block_of (module_at p i) s) n) ds → AllByRecursion (StandsAtEnd p i) (filter_map (request_for channels (module_at p i) s) ds)
+    → AllByRecursion (IsDueIn (block_of (module_at p i) s) n) ds → AllByRecursion (StandsAtPort p i) (filter_map (request_for channels (module_at p i) s) ds)
 all_stand p h i l channels s sound n [] d = tt
 all_stand p h i l channels s sound n (x ∷ ds) d =
     let here = (sound.operations x.op no_operation (d.0).op).operation in
@@ -126,17 +138,17 @@ nothing_due m s e h = none (due m s) (subst (λ (b : Block). AllByRecursion (IsD
     none [] d = refl
     none (x ∷ ds) d = let l = (d.0).op in absurd (omega arith)
 
-stand_by_recursion : (p : Plan) → FitsEngine p → (i : ℕ) → i < length p.design.modules → (s : ModuleState) → AllByRecursion (StandsAtEnd p i) (requests_of p (i, s))
+stand_by_recursion : (p : Plan) → FitsEngine p → (i : ℕ) → i < length p.design.modules → (s : ModuleState) → AllByRecursion (StandsAtPort p i) (requests_of p (i, s))
 unfolding requests
 stand_by_recursion p h i l s = by_block (sound_block p h i s.control.block)
   where
     by_block : IsBlockSound (length p.design.channels) (module_at p i) (block_of (module_at p i) s) ⊎ (block_of (module_at p i) s ≡ no_block)
-        → AllByRecursion (StandsAtEnd p i) (filter_map (request_for p.design.channels (module_at p i) s) (due (module_at p i) s))
+        → AllByRecursion (StandsAtPort p i) (filter_map (request_for p.design.channels (module_at p i) s) (due (module_at p i) s))
     by_block (inl sound) = all_stand p h i l p.design.channels s sound _ (due (module_at p i) s) (due_by_recursion (module_at p i) s)
     by_block (inr none) =
-        subst (λ (ds : List Due). AllByRecursion (StandsAtEnd p i) (filter_map (request_for p.design.channels (module_at p i) s) ds))
+        subst (λ (ds : List Due). AllByRecursion (StandsAtPort p i) (filter_map (request_for p.design.channels (module_at p i) s) ds))
         (sym (nothing_due (module_at p i) s none (due_by_recursion (module_at p i) s))) tt
 
--- each request of a module stands at an end of a channel of the plan, and the module is the one at that end
-pub requests_stand : (p : Plan) → FitsEngine p → (i : ℕ) → i < length p.design.modules → (s : ModuleState) → All (StandsAtEnd p i) (requests_of p (i, s))
-requests_stand p h i l s = All-from_recursion (StandsAtEnd p i) (requests_of p (i, s)) (stand_by_recursion p h i l s)
+-- each request of a module stands at a port of a channel of the plan, and the module is the one at that port
+pub requests_stand : (p : Plan) → FitsEngine p → (i : ℕ) → i < length p.design.modules → (s : ModuleState) → All (StandsAtPort p i) (requests_of p (i, s))
+requests_stand p h i l s = All-from_recursion (StandsAtPort p i) (requests_of p (i, s)) (stand_by_recursion p h i l s)

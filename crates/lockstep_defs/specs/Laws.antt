@@ -1,15 +1,17 @@
 -- The laws of the lockstep machine.
 use Rattle.std.specs.Prelude.{◌⊎◌, ℕ, zero, suc, if◌then◌else◌, ◌≡◌, ◌+◌, ◌*◌, ◌-◌, ◌<◌, ◌≤◌, Bool, true, false, IsTrue, IsFalse, List, ◌++◌, map, length, nat_lt, slice_index, slice_index_or}
+use Rattle.flow_word.specs.declared.access.Side.{Side}
+use Rattle.flow_word.specs.declared.access.Side.TheVariants.{Pop, Push}
 use Rattle.flow_design.specs.declared.design.Block.{Block}
 use Rattle.flow_design.specs.declared.plan.Plan.{Plan}
 use Rattle.flow_design.specs.declared.state.Control.{Control}
 use Rattle.flow_design.specs.declared.state.Reply.{Reply}
 use Rattle.flow_design.specs.declared.state.ModuleState.{ModuleState}
-use Rattle.flow_design.specs.Plans.{is_fifo, kind_at}
+use Rattle.flow_design.specs.Plans.{is_fifo, kind_at, delay_at}
 use Rattle.flow_design.specs.Module.{interval, live_count, ages}
-use Rattle.lockstep_defs.specs.Channels.{HistoryStep, Exchange, is_possible, moved, contents_of}
+use Rattle.lockstep_defs.specs.Channels.{HistoryStep, Exchange, is_possible, moved, values, contents_of}
 use Rattle.lockstep_defs.specs.Lockstep.{moves, state, history, state_at, steps_in}
-use Rattle.lockstep_defs.specs.Verdict.{is_settled}
+use Rattle.lockstep_defs.specs.Verdict.{is_settled, some_moves}
 use Rattle.lockstep_defs.specs.Report.{steps_of}
 use Rattle.lockstep_defs.specs.OwnRun.{OwnStep, Own, own, paired}
 use Rattle.lockstep_defs.specs.Quiet.{rests, skip, quiet}
@@ -18,34 +20,39 @@ use Rattle.lockstep_defs.specs.Quiet.{rests, skip, quiet}
 abbrev pub SettledStays : Plan → ℕ → Type 0
 SettledStays p c = IsTrue (is_settled p c (state p c)) → (n : ℕ) → (state p (n + c) ≡ state p c) × (history p (n + c) ≡ history p c)
 
+-- from a clock that is not settled some module moves in it or in a later one
+abbrev pub SomeoneMoves : Plan → ℕ → Type 0
+SomeoneMoves p c = IsFalse (is_settled p c (state p c)) → (n : ℕ) × IsTrue (some_moves p (n + c) (state p (n + c)).contents (state p (n + c)))
+
 -- no clock before this one is settled
 abbrev pub NoneBefore : Plan → ℕ → Type 0
 NoneBefore p c = (b : ℕ) → b < c → IsFalse (is_settled p b (state p b))
 
 -- in each clock at most one element is popped off a channel, and at most one is pushed on it
 abbrev pub MovesOnce : Plan → ℕ → Type 0
-MovesOnce p c = (side : Bool) (f : ℕ) → length (moved side f (steps_in p c (state p c))) ≤ 1
+MovesOnce p c = (side : Side) (f : ℕ) → length (moved side f (steps_in p c (state p c))) ≤ 1
 
 -- what a channel held at clock 0, and then all that was pushed on it before clock c
 abbrev pub all_in : Plan → ℕ → ℕ → List ℕ
-all_in p c f = contents_of (state p 0).contents f ++ moved false f (history p c)
+all_in p c f = values (contents_of (state p 0).contents f) ++ moved Push f (history p c)
 
 -- what went in is what was popped, and then what the channel holds
 abbrev pub IsConserved : Plan → ℕ → ℕ → Type 0
-IsConserved p c f = all_in p c f ≡ moved true f (history p c) ++ contents_of (state p c).contents f
+IsConserved p c f = all_in p c f ≡ moved Pop f (history p c) ++ values (contents_of (state p c).contents f)
 
 -- the n-th pop gives the n-th value that went in
 abbrev pub PopsInOrder : Plan → ℕ → ℕ → Type 0
-PopsInOrder p c f = (n d : ℕ) → n < length (moved true f (history p c))
-    → slice_index_or (moved true f (history p c)) n d ≡ slice_index_or (all_in p c f) n d
+PopsInOrder p c f = (n d : ℕ) → n < length (moved Pop f (history p c))
+    → slice_index_or (moved Pop f (history p c)) n d ≡ slice_index_or (all_in p c f) n d
 
--- what is possible is a matter of counts: an element is there where fewer were popped than went in, and a FIFO has a place
+-- what is possible is a matter of counts: an element is there where fewer were popped than went in as many clocks ago as the
+-- channel's delay, and a FIFO has a place
 -- where fewer were pushed than its depth and the pops together; a source or a sink always has one
 pub record IsCounted (p : Plan) (c f : ℕ) : Type 0 where
-  pub pops : is_possible p c (state p c).contents true f ≡ nat_lt (length (moved true f (history p c))) (length (all_in p c f))
+  pub pops : is_possible p c (state p c).contents Pop f ≡ nat_lt (length (moved Pop f (history p c))) (length (all_in p (suc c - delay_at p f) f))
   pub pushes : IsTrue (is_fifo (kind_at p f))
-      → is_possible p c (state p c).contents false f ≡ nat_lt (length (moved false f (history p c))) (slice_index p.depths f + length (moved true f (history p c)))
-  pub unlimited : IsFalse (is_fifo (kind_at p f)) → is_possible p c (state p c).contents false f ≡ true
+      → is_possible p c (state p c).contents Push f ≡ nat_lt (length (moved Push f (history p c))) (slice_index p.depths f + length (moved Pop f (history p c)))
+  pub unlimited : IsFalse (is_fifo (kind_at p f)) → is_possible p c (state p c).contents Push f ≡ true
 
 -- the replies to the steps of a module
 abbrev pub replies_in : List HistoryStep → List (List Reply)

@@ -6,7 +6,5 @@ pub mod Report
 pub mod OwnRun
 pub mod Quiet
 pub mod States
-pub mod Ends
+pub mod Ports
 pub mod Laws
-pub mod Designs
-pub mod Shows

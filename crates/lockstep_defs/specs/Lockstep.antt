@@ -1,14 +1,17 @@
 -- All modules, one clock at a time.
-use Rattle.std.specs.Prelude.{ℕ, zero, suc, Bool, true, false, not, ◌&&◌, if◌then◌else◌, List, [], ◌∷◌, ◌++◌, map, length, drop, flat_map, slice_index_or}
+use Rattle.std.specs.Prelude.{ℕ, zero, suc, Bool, true, false, not, ◌&&◌, if◌then◌else◌, ◌+◌, List, [], ◌∷◌, ◌++◌, map, length, drop, flat_map, slice_index_or}
 use Rattle.std.specs.List.{list_any, enumerate_from, range_with_len}
+use Rattle.flow_word.specs.declared.access.Side.TheVariants.{Pop, Push}
 use Rattle.flow_design.specs.declared.design.Module.{Module}
 use Rattle.flow_design.specs.declared.plan.Plan.{Plan}
 use Rattle.flow_design.specs.declared.state.ModuleState.{ModuleState}
 use Rattle.flow_design.specs.declared.state.ClockState.{ClockState}
+use Rattle.flow_design.specs.declared.state.Element.{Element}
 use Rattle.flow_design.specs.declared.state.Request.{Request}
 use Rattle.flow_design.specs.Words.{cut_to}
+use Rattle.flow_design.specs.Plans.{delay_at}
 use Rattle.lockstep_defs.specs.Machine.{requests, move, opened, is_over, nobody, width_of}
-use Rattle.lockstep_defs.specs.Channels.{HistoryStep, Exchange, stalls, reply, moved}
+use Rattle.lockstep_defs.specs.Channels.{HistoryStep, Exchange, element_from, stalls, reply, moved}
 
 -- ---- one module
 
@@ -28,14 +31,14 @@ abbrev pub requests_of : Plan → ℕ × ModuleState → List Request
 requests_of p m = requests p.design.channels (module_at p m.0) m.1
 
 -- a module moves unless it is ended, spent or has a blocking operation that cannot be done
-unfoldable pub moves : Plan → ℕ → List (List ℕ) → ℕ × ModuleState → Bool
+unfoldable pub moves : Plan → ℕ → List (List Element) → ℕ × ModuleState → Bool
 moves p clock contents m = not (is_over p.ops m.1) && not (list_any (stalls p clock contents) (requests_of p m))
 
-abbrev pub next_state : Plan → ℕ → List (List ℕ) → ℕ × ModuleState → ModuleState
+abbrev pub next_state : Plan → ℕ → List (List Element) → ℕ × ModuleState → ModuleState
 next_state p clock contents m =
     if moves p clock contents m then move (module_at p m.0) m.1 (map (reply p clock contents) (requests_of p m)) else m.1
 
-abbrev pub answered : Plan → ℕ → List (List ℕ) → Request → Exchange
+abbrev pub answered : Plan → ℕ → List (List Element) → Request → Exchange
 answered p clock contents r = record { request = r; reply = reply p clock contents r }
 
 -- the step of module i in a clock, where it has done something
@@ -43,7 +46,7 @@ abbrev pub step_with : ℕ → ℕ → List Exchange → List HistoryStep
 step_with clock i [] = []
 step_with clock i (x ∷ xs) = record { clock = clock; «module» = i; exchanges = x ∷ xs } ∷ []
 
-abbrev pub step_of : Plan → ℕ → List (List ℕ) → ℕ × ModuleState → List HistoryStep
+abbrev pub step_of : Plan → ℕ → List (List Element) → ℕ × ModuleState → List HistoryStep
 step_of p clock contents m =
     if moves p clock contents m then step_with clock m.0 (map (answered p clock contents) (requests_of p m)) else []
 
@@ -53,21 +56,23 @@ step_of p clock contents m =
 unfoldable pub steps_in : Plan → ℕ → ClockState → List HistoryStep
 steps_in p clock st = flat_map (step_of p clock st.contents) (numbered st)
 
--- a channel's contents after these steps: the popped fronts are off, and the pushed values are on
-abbrev pub contents_after : List HistoryStep → ℕ × List ℕ → List ℕ
-contents_after steps f = drop (length (moved true f.0 steps)) f.1 ++ moved false f.0 steps
+-- a channel's contents after these steps of a clock: the popped fronts are off, and the pushed values are on, which can be
+-- popped after the channel's delay
+abbrev pub contents_after : Plan → ℕ → List HistoryStep → ℕ × List Element → List Element
+contents_after p clock steps f =
+    drop (length (moved Pop f.0 steps)) f.1 ++ map (element_from (clock + delay_at p f.0)) (moved Push f.0 steps)
 
 unfoldable pub clock_step : Plan → ℕ → ClockState → ClockState
 clock_step p clock st = record {
   modules = map (next_state p clock st.contents) (numbered st);
-  contents = map (contents_after (steps_in p clock st)) (enumerate_from 0 st.contents);
+  contents = map (contents_after p clock (steps_in p clock st)) (enumerate_from 0 st.contents);
 }
 
 -- ---- the state at a clock, and the history before it
 
--- the input values of a channel, each cut to its width
-abbrev pub inputs_of : Plan → ℕ → List ℕ
-inputs_of p f = map (cut_to (width_of p.design.channels f)) (slice_index_or p.inputs f [])
+-- the input values of a channel, each cut to its width, which can be popped from clock 0 on
+abbrev pub inputs_of : Plan → ℕ → List Element
+inputs_of p f = map (λ v. element_from 0 (cut_to (width_of p.design.channels f) v)) (slice_index_or p.inputs f [])
 
 -- how everything stands at clock 0
 unfoldable pub opening : Plan → ClockState

@@ -1,8 +1,8 @@
 -- A module as a machine: what it asks of the channels, one move on the replies, and when it is over. Proofs about clocks open none of
 -- `requests`, `move`, `is_over` and `opened`.
-use Rattle.std.specs.Prelude.{ℕ, ◌+◌, ◌-◌, ◌%◌, ◌==◌, nat_lt, nat_le, Bool, true, false, not, ◌&&◌, ◌||◌, if◌then◌else◌, Option, Some, None, List, [], ◌∷◌, ◌++◌, map, length, drop, replicate, fold, filter_map, slice_index, slice_index_or, slice_set}
+use Rattle.std.specs.Prelude.{ℕ, ◌+◌, ◌-◌, ◌%◌, ◌==◌, nat_lt, nat_le, Bool, true, false, not, ◌&&◌, ◌||◌, if◌then◌else◌, Option, Some, None, List, [], ◌∷◌, ◌++◌, map, length, drop, replicate, fold, filter_map, option_map, slice_index, slice_index_or, slice_set}
 use Rattle.std.specs.Int.{from_bool}
-use Rattle.flow_word.specs.declared.access.Kind.TheVariants as kind
+use Rattle.std.specs.Option.{is_some}
 use Rattle.flow_design.specs.declared.expr.Expr.{Expr}
 use Rattle.flow_design.specs.declared.expr.Op.{Op}
 use Rattle.flow_design.specs.declared.expr.Op.TheVariants.{Set, Load, Store, Read, Write, TryRead, TryWrite, Empty, Full}
@@ -22,6 +22,7 @@ use Rattle.flow_design.specs.declared.state.Request.{Request}
 use Rattle.flow_design.specs.declared.state.Reply.{Reply}
 use Rattle.flow_design.specs.declared.state.Reply.TheVariants.{Done, Value, Flag, Took, Missed}
 use Rattle.flow_design.specs.Words.{value, cut_to}
+use Rattle.flow_design.specs.Operations.{expressions_of, access_of}
 use Rattle.flow_design.specs.Plans.{no_channel}
 use Rattle.flow_design.specs.Module.{block_at, block_of, operation_at, is_loop, interval, live_count, temps_of, due}
 
@@ -34,17 +35,15 @@ width_of channels f = (slice_index_or channels f no_channel).width
 abbrev pub value_of : ModuleState → ℕ → Expr ℕ → ℕ
 value_of s iteration e = value s.registers (temps_of s iteration) e
 
--- the request of an operation, if it is a FIFO operation; what it pushes is cut to the channel's width
+-- what a FIFO operation pushes: the value of its expression, cut to the channel's width; 0 where it has none
+abbrev pub word_pushed : List Channel → ModuleState → ℕ → ℕ → List (Expr ℕ) → ℕ
+word_pushed channels s i f [] = 0
+word_pushed channels s i f (e ∷ es) = cut_to (width_of channels f) (value_of s i e)
+
+-- the request of an operation, if it is a FIFO operation
 abbrev pub request_of : List Channel → ModuleState → ℕ → Op ℕ → Option Request
-request_of channels s i (Set x e) = None
-request_of channels s i (Load x n e) = None
-request_of channels s i (Store n e a) = None
-request_of channels s i (Read f x) = Some (record { kind = kind.Read; channel = f; value = 0 })
-request_of channels s i (Write f e) = Some (record { kind = kind.Write; channel = f; value = cut_to (width_of channels f) (value_of s i e) })
-request_of channels s i (TryRead f x ok) = Some (record { kind = kind.TryRead; channel = f; value = 0 })
-request_of channels s i (TryWrite f ok e) = Some (record { kind = kind.TryWrite; channel = f; value = cut_to (width_of channels f) (value_of s i e) })
-request_of channels s i (Empty f x) = Some (record { kind = kind.Empty; channel = f; value = 0 })
-request_of channels s i (Full f x) = Some (record { kind = kind.Full; channel = f; value = 0 })
+request_of channels s i op =
+    option_map (λ a. record { kind = a.0; channel = a.1; value = word_pushed channels s i a.1 (expressions_of op) }) (access_of op)
 
 abbrev pub request_for : List Channel → Module → ModuleState → Due → Option Request
 request_for channels m s d = request_of channels s d.iteration (operation_at (block_of m s) d.op).op
@@ -91,15 +90,7 @@ effects_of s i (Empty f x) r = Variable i x (from_bool (is_yes r)) ∷ []
 effects_of s i (Full f x) r = Variable i x (from_bool (is_yes r)) ∷ []
 
 abbrev pub is_fifo_operation : Op ℕ → Bool
-is_fifo_operation (Set x e) = false
-is_fifo_operation (Load x n e) = false
-is_fifo_operation (Store n e a) = false
-is_fifo_operation (Read f x) = true
-is_fifo_operation (Write f e) = true
-is_fifo_operation (TryRead f x ok) = true
-is_fifo_operation (TryWrite f ok e) = true
-is_fifo_operation (Empty f x) = true
-is_fifo_operation (Full f x) = true
+is_fifo_operation op = is_some (access_of op)
 
 -- what the due operations write, in commit order; each FIFO operation takes the next reply
 abbrev pub effects : Block → ModuleState → List Due → List Reply → List Effect

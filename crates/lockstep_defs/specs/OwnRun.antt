@@ -10,7 +10,8 @@ use Rattle.flow_design.specs.declared.state.Request.{Request}
 use Rattle.flow_design.specs.declared.state.Reply.{Reply}
 use Rattle.flow_design.specs.declared.state.Reply.TheVariants.{Done}
 use Rattle.lockstep_defs.specs.Machine.{requests, move, opened, is_spent, is_over}
-use Rattle.lockstep_defs.specs.Channels.{Exchange, side_of, moved_by}
+use Rattle.flow_word.specs.Kinds.{side_of}
+use Rattle.lockstep_defs.specs.Channels.{Exchange, moved_by}
 use Rattle.lockstep_defs.specs.Lockstep.{module_at}
 use Rattle.lockstep_defs.specs.Report.{queries}
 

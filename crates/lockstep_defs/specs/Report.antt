@@ -8,7 +8,8 @@ use Rattle.flow_design.specs.declared.report.Verdict.{Verdict}
 use Rattle.flow_design.specs.declared.state.ClockState.{ClockState}
 use Rattle.flow_design.specs.Plans.{is_sink, kind_at}
 use Rattle.lockstep_defs.specs.Machine.{is_yes}
-use Rattle.lockstep_defs.specs.Channels.{HistoryStep, Exchange, is_blocking, contents_of}
+use Rattle.flow_word.specs.Kinds.{is_blocking}
+use Rattle.lockstep_defs.specs.Channels.{HistoryStep, Exchange, values, contents_of}
 use Rattle.lockstep_defs.specs.Lockstep.{state, history}
 use Rattle.lockstep_defs.specs.Verdict.{verdict, held, clock_of}
 
@@ -38,7 +39,7 @@ sinks p = filter (λ f. is_sink (kind_at p f)) (range_with_len 0 (length p.desig
 
 -- what each sink holds
 abbrev pub outputs_in : Plan → ClockState → List (List ℕ)
-outputs_in p st = map (contents_of st.contents) (sinks p)
+outputs_in p st = map (λ f. values (contents_of st.contents f)) (sinks p)
 
 -- the query outcomes of each module
 abbrev pub answers_in : Plan → List HistoryStep → List (List Bool)

@@ -1,5 +1,5 @@
 -- Settled clocks, the verdict, and the held modules.
-use Rattle.std.specs.Prelude.{ℕ, zero, suc, Bool, true, false, not, if◌then◌else◌, Option, Some, None, option_map, List, [], filter_map, find}
+use Rattle.std.specs.Prelude.{ℕ, zero, suc, Bool, true, false, not, ◌&&◌, if◌then◌else◌, Option, Some, None, option_map, List, [], filter_map, find}
 use Rattle.std.specs.List.{list_any, list_all}
 use Rattle.flow_design.specs.declared.plan.Plan.{Plan}
 use Rattle.flow_design.specs.declared.report.Held.{Held}
@@ -7,16 +7,23 @@ use Rattle.flow_design.specs.declared.report.Verdict.{Verdict}
 use Rattle.flow_design.specs.declared.report.Verdict.TheVariants.{Done, Deadlock, Cycles, Ops}
 use Rattle.flow_design.specs.declared.state.ModuleState.{ModuleState}
 use Rattle.flow_design.specs.declared.state.ClockState.{ClockState}
+use Rattle.flow_design.specs.declared.state.Element.{Element}
 use Rattle.flow_design.specs.declared.state.Request.{Request}
 use Rattle.lockstep_defs.specs.Machine.{is_spent, is_over}
-use Rattle.lockstep_defs.specs.Channels.{side_of, stalls}
+use Rattle.flow_word.specs.declared.access.Side.TheVariants.{Push}
+use Rattle.flow_word.specs.Kinds.{side_of, same_side}
+use Rattle.lockstep_defs.specs.Channels.{stalls, all_ready}
 use Rattle.lockstep_defs.specs.Lockstep.{numbered, requests_of, moves, clock_step, state}
 
 -- ---- the first settled clock
 
--- no module moves
+-- some module moves, on these contents
+abbrev pub some_moves : Plan → ℕ → List (List Element) → ClockState → Bool
+some_moves p clock contents st = list_any (moves p clock contents) (numbered st)
+
+-- no module moves, and none would move if every element could be popped
 unfoldable pub is_settled : Plan → ℕ → ClockState → Bool
-is_settled p clock st = not (list_any (moves p clock st.contents) (numbered st))
+is_settled p clock st = not (some_moves p clock st.contents st) && not (some_moves p clock (all_ready st.contents) st)
 
 -- the first settled clock among so many from this one on, whose state is given
 unfoldable pub first_settled : Plan → ℕ → ℕ → ClockState → Option ℕ
@@ -49,15 +56,16 @@ clock_of (Ops clock) = clock
 -- ---- held modules
 
 abbrev pub held_at : ℕ → Request → Held
-held_at i r = record { «module» = i; full = not (side_of r.kind); channel = r.channel }
+held_at i r = record { «module» = i; full = same_side Push (side_of r.kind); channel = r.channel }
 
--- a module that is neither ended nor spent is held by its first request that stalls
-abbrev pub held_by : Plan → ℕ → List (List ℕ) → ℕ × ModuleState → Option Held
+-- a module that is neither ended nor spent is held by its first request that stalls on these contents
+abbrev pub held_by : Plan → ℕ → List (List Element) → ℕ × ModuleState → Option Held
 held_by p clock contents m =
     if is_over p.ops m.1 then None else option_map (held_at m.0) (find (stalls p clock contents) (requests_of p m))
 
+-- which would stall even if every element could be popped
 abbrev pub held_in : Plan → ℕ → ClockState → List Held
-held_in p clock st = filter_map (held_by p clock st.contents) (numbered st)
+held_in p clock st = filter_map (held_by p clock (all_ready st.contents)) (numbered st)
 
 -- with a verdict in this state; there are none where all modules are ended or the cycle limit was reached
 abbrev pub held : Plan → Verdict → ClockState → List Held

@@ -9,7 +9,7 @@ ghost use Rattle.flow_design.specs.declared.state.ModuleState.{ModuleState};
 ghost use Rattle.flow_design.specs.declared.state.Reply.{Reply};
 ghost use Rattle.std.specs.Prelude.{List as Items};
 ghost use Rattle.flow_design.specs.Module.{block_of, interval, live_count, due};
-ghost use Rattle.flow_design.specs.Operations.{End};
+ghost use Rattle.flow_word.specs.declared.access.Port.{Port};
 ghost use Rattle.flow_design.specs.StaticRules.{IsModuleSound, FitsEngine};
 ghost use Rattle.lockstep_defs.specs.Machine.{opened, move};
 ghost use Rattle.lockstep_defs.specs.Channels.{HistoryStep};
@@ -19,12 +19,14 @@ ghost use Rattle.lockstep_defs.specs.Verdict.{is_settled, settled_verdict, verdi
 ghost use Rattle.lockstep_defs.specs.OwnRun.{own};
 ghost use Rattle.lockstep_defs.specs.Quiet.{rests, skip, own_later, fits};
 ghost use Rattle.lockstep_defs.specs.States.{IsStateOf, IsDueIn};
-ghost use Rattle.lockstep_defs.specs.Ends.{takers, StandsAtEnd};
-ghost use Rattle.lockstep_defs.specs.Laws.{SettledStays, NoneBefore, MovesOnce, IsConserved, PopsInOrder, IsCounted, IsBefore, IsOwnRun, IsLive, AreAges, QuietClocksEnd};
+ghost use Rattle.lockstep_defs.specs.Ports.{takers, StandsAtPort};
+ghost use Rattle.lockstep_defs.specs.Laws.{SettledStays, SomeoneMoves, NoneBefore, MovesOnce, IsConserved, PopsInOrder, IsCounted, IsBefore, IsOwnRun, IsLive, AreAges, QuietClocksEnd};
 
-/// From a settled clock on nothing changes and nothing is done, and the verdict is that of the first settled clock.
+/// From a settled clock on nothing changes and nothing is done, and from one that is not settled some module moves in it or in
+/// a later one. The verdict is that of the first settled clock.
 pub fn settled_clocks()
     ensures stays { (p : Plan) (c : ℕ) → SettledStays p c }
+    ensures moves { (p : Plan) (c : ℕ) → SomeoneMoves p c }
     ensures first { (p : Plan) (c : ℕ) → c ≤ p.cycles → NoneBefore p c → IsTrue (is_settled p c (state p c))
         → verdict p ≡ settled_verdict p c (state p c) }
     ensures none { (p : Plan) → NoneBefore p (p.cycles + 1) → verdict p ≡ Cycles p.cycles }
@@ -57,8 +59,8 @@ pub fn states_fit_modules()
     ensures history { (p : Plan) → FitsEngine p → (c i : ℕ) → i < length p.design.modules → IsStateOf (module_at p i) (state_at p c i) }
     ensures due { (m : Module) (s : ModuleState) → All (IsDueIn (block_of m s) (live_count (block_of m s) s.control)) (due m s) }
     ensures requests { (p : Plan) → FitsEngine p → (i : ℕ) → i < length p.design.modules → (s : ModuleState)
-        → All (StandsAtEnd p i) (requests_of p (i, s)) }
-    ensures takers { (p : Plan) → FitsEngine p → (e : End) (i : ℕ) (s : ModuleState) → length (takers e (requests_of p (i, s))) ≤ 1 }
+        → All (StandsAtPort p i) (requests_of p (i, s)) }
+    ensures takers { (p : Plan) → FitsEngine p → (a : Port) (i : ℕ) (s : ModuleState) → length (takers a (requests_of p (i, s))) ≤ 1 }
 {}
 
 /// The live iterations of a block whose interval is at least 1 started at the newest one's start and at each interval before it,

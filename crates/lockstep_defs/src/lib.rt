@@ -2,12 +2,8 @@
 //! have no body; each clause is a theorem on the definitions.
 #![tactic(auto)]
 
-mod examples;
 mod laws;
 
-pub use examples::{
-    blocks_and_loops, deadlocks, fifos, limits, own_runs, queries, sources_and_sinks,
-};
 pub use laws::{
     channels_are_queues, histories_are_own_runs, live_iterations, quiet_clocks_end, settled_clocks,
     states_fit_modules,

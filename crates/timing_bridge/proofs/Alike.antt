@@ -3,23 +3,28 @@ use Rattle.std.proofs.Common.{◌≡◌, ℕ, suc, ◌+◌, ◌-◌, ◌<◌, Li
 use Rattle.std.specs.List.{list_any, AllByRecursion}
 use Rattle.std.proofs.lemmas.Bool.{cases_Bool, or_parts}
 use Rattle.std.proofs.lemmas.List.{get_or-drop}
+use Rattle.flow_word.specs.declared.access.Side.{Side}
+use Rattle.flow_word.specs.declared.access.Side.TheVariants.{Pop, Push}
+use Rattle.flow_word.specs.Kinds.{same_side}
 use Rattle.flow_word.specs.declared.access.Kind.{Kind}
 use Rattle.flow_word.specs.declared.access.Kind.TheVariants.{Read, Write, TryRead, TryWrite, Empty, Full}
 use Rattle.flow_design.specs.declared.plan.Plan.{Plan}
+use Rattle.flow_design.specs.declared.state.Element.{Element}
 use Rattle.flow_design.specs.declared.state.ModuleState.{ModuleState}
 use Rattle.flow_design.specs.declared.state.Request.{Request}
 use Rattle.flow_design.specs.declared.state.Reply.{Reply}
-use Rattle.flow_design.specs.Plans.{is_fifo, kind_at}
+use Rattle.flow_design.specs.Plans.{is_fifo, kind_at, delay_at}
 use Rattle.flow_design.specs.StaticRules.{FitsEngine}
-use Rattle.lockstep_defs.specs.Machine.{is_yes}
-use Rattle.lockstep_defs.specs.Channels.{side_of, is_blocking, is_taking, is_possible, stalls, reply, reply_by, popped_value, pushed_value, moved_by, moved, contents_of}
+use Rattle.lockstep_defs.specs.Machine.{is_yes, value_in}
+use Rattle.flow_word.specs.Kinds.{side_of, is_blocking, is_taking}
+use Rattle.lockstep_defs.specs.Channels.{front, values, is_possible, stalls, reply, reply_by, popped_value, pushed_value, moved_by, moved, contents_of}
 use Rattle.lockstep_defs.specs.Lockstep.{requests_of, answered, state, history}
-use Rattle.lockstep_defs.specs.Ends.{StandsAtEnd}
+use Rattle.lockstep_defs.specs.Ports.{StandsAtPort}
 use Rattle.lockstep_defs.specs.Laws.{all_in}
 use Rattle.lockstep_defs.proofs.Queue.{contents_are, channel_count}
-use Rattle.lockstep_defs.proofs.Rules.{keeps_ends}
+use Rattle.lockstep_defs.proofs.Rules.{keeps_ports}
 use Rattle.lockstep_defs.proofs.Counts.{is_counted}
-use Rattle.event_timing.specs.Machines.{takes_in, values_in, took, same_side}
+use Rattle.event_timing.specs.Machines.{takes_in, values_in, took}
 use Rattle.event_timing.specs.Machines as theory
 use Rattle.event_timing.specs.Histories.{can_all, reply_to}
 use Rattle.event_timing.specs.Histories as counted
@@ -28,41 +33,44 @@ use Rattle.timing_bridge.proofs.Requests.{stand}
 
 -- ---- one channel
 
-possible_same : (p : Plan) → FitsEngine p → (c : ℕ) (side : Bool) (f : ℕ) → f < length p.design.channels
+possible_same : (p : Plan) → FitsEngine p → (c : ℕ) (side : Side) (f : ℕ) → f < length p.design.channels
     → counted.is_possible (design p) (lockstep_run p) c side f ≡ is_possible p c (state p c).contents side f
-possible_same p h c true f l =
-    let now : suc c - 1 ≡ c = omega arith in
-    rw now
-    (ap (λ (n : ℕ). ltb (length (moved true f (history p c))) n) (sym (length-append (contents_of (state p 0).contents f) (moved false f (history p c))))
-    ∙ sym (is_counted p h c f l).pops)
-possible_same p h c false f l =
+possible_same p h c Pop f l =
+    ap (λ (n : ℕ). ltb (length (moved Pop f (history p c))) n)
+    (sym (length-append (values (contents_of (state p 0).contents f)) (moved Push f (history p (suc c - delay_at p f)))))
+    ∙ sym (is_counted p h c f l).pops
+possible_same p h c Push f l =
     let now : suc c - 1 ≡ c = omega arith in
     rw now
     (elim (cases_Bool (is_fifo (kind_at p f))) [
       | inl e ↦
-          ap (λ (b : Bool). not b || ltb (length (moved false f (history p c))) ((design p).start false f + length (moved true f (history p c)))) e
+          ap (λ (b : Bool). not b || ltb (length (moved Push f (history p c))) ((design p).start Push f + length (moved Pop f (history p c)))) e
           ∙ sym ((is_counted p h c f l).pushes e)
       | inr e ↦
-          ap (λ (b : Bool). not b || ltb (length (moved false f (history p c))) ((design p).start false f + length (moved true f (history p c)))) e
+          ap (λ (b : Bool). not b || ltb (length (moved Push f (history p c))) ((design p).start Push f + length (moved Pop f (history p c)))) e
           ∙ sym ((is_counted p h c f l).unlimited e)
     ])
 
+first_value : (held : List Element) → get_or (values held) 0 0 ≡ front held
+first_value [] = refl
+first_value (e ∷ held) = refl
+
 front_same : (p : Plan) → FitsEngine p → (c f : ℕ) → f < length p.design.channels
-    → get_or (all_in p c f) (length (moved true f (history p c))) 0 ≡ get_or (contents_of (state p c).contents f) 0 0
+    → get_or (all_in p c f) (length (moved Pop f (history p c))) 0 ≡ front (contents_of (state p c).contents f)
 front_same p h c f l =
-    let n = length (moved true f (history p c)) in
+    let n = length (moved Pop f (history p c)) in
     ap (λ (i : ℕ). get_or (all_in p c f) i 0) (sym (add-zero n))
     ∙ (sym (get_or-drop n (all_in p c f) 0 0)
-    ∙ ap (λ (xs : List ℕ). get_or xs 0 0) (sym (contents_are p (keeps_ends p h) f (omega (arith, channel_count p)) c)))
+    ∙ (ap (λ (xs : List ℕ). get_or xs 0 0) (sym (contents_are p (keeps_ports p h) f (omega (arith, channel_count p)) c)) ∙ first_value (contents_of (state p c).contents f)))
 
 -- ---- requests
 
 -- the theory finds this request as possible as the contents do, and the same front
 pub record Alike (p : Plan) (c : ℕ) (r : Request) : Type 0 where
   pub possible : counted.is_possible (design p) (lockstep_run p) c (side_of r.kind) r.channel ≡ is_possible p c (state p c).contents (side_of r.kind) r.channel
-  pub front : get_or (all_in p c r.channel) (length (moved true r.channel (history p c))) 0 ≡ get_or (contents_of (state p c).contents r.channel) 0 0
+  pub front : get_or (all_in p c r.channel) (length (moved Pop r.channel (history p c))) 0 ≡ front (contents_of (state p c).contents r.channel)
 
-alike_all : (p : Plan) → FitsEngine p → (c i : ℕ) (rs : List Request) → AllByRecursion (StandsAtEnd p i) rs → AllByRecursion (Alike p c) rs
+alike_all : (p : Plan) → FitsEngine p → (c i : ℕ) (rs : List Request) → AllByRecursion (StandsAtPort p i) rs → AllByRecursion (Alike p c) rs
 alike_all p h c i [] e = tt
 alike_all p h c i (r ∷ rs) e = (
   record { possible = possible_same p h c (side_of r.kind) r.channel (e.0).in_range; front = front_same p h c r.channel (e.0).in_range },
@@ -86,7 +94,7 @@ can_same p c (r ∷ rs) h =
 
 -- ---- replies
 
-told_kind : (k : Kind) (q : Bool) (v : ℕ) → (is_blocking k && not q) ≡ false → reply_by k q (cond (is_taking k && (side_of k && q)) v 0) ≡ reply_by k q v
+told_kind : (k : Kind) (q : Bool) (v : ℕ) → (is_blocking k && not q) ≡ false → reply_by k q (cond (is_taking k && (same_side (side_of k) Pop && q)) v 0) ≡ reply_by k q v
 told_kind Read true v h = refl
 told_kind Read false v h = cc
 told_kind Write q v h = refl
@@ -100,8 +108,8 @@ told_one : (p : Plan) (c : ℕ) (r : Request) → Alike p c r → stalls p c (st
     → told r (reply_to (design p) (lockstep_run p) c (seen r)) ≡ reply p c (state p c).contents r
 unfolding reply
 told_one p c r h e =
-    ap₂ (λ (q : Bool) (v : ℕ). reply_by r.kind q (cond (is_taking r.kind && (side_of r.kind && q)) v 0)) h.possible h.front
-    ∙ told_kind r.kind (is_possible p c (state p c).contents (side_of r.kind) r.channel) (get_or (contents_of (state p c).contents r.channel) 0 0) e
+    ap₂ (λ (q : Bool) (v : ℕ). reply_by r.kind q (cond (is_taking r.kind && (same_side (side_of r.kind) Pop && q)) v 0)) h.possible h.front
+    ∙ told_kind r.kind (is_possible p c (state p c).contents (side_of r.kind) r.channel) (front (contents_of (state p c).contents r.channel)) e
 
 -- the theory's replies to these requests
 abbrev pub counted_replies : Plan → ℕ → List Request → List theory.Reply
@@ -117,7 +125,7 @@ told_same p c (r ∷ rs) h e =
 -- ---- what is popped and pushed
 
 pub pop_kind : (k : Kind) (q t : Bool) (v : ℕ) → (is_blocking k && not q) ≡ false
-    → cond (is_taking k && (q && (same_side (side_of k) true && t))) 1 0 ≡ length (cond t (popped_value (reply_by k q v)) [])
+    → cond (is_taking k && (q && (same_side (side_of k) Pop && t))) 1 0 ≡ length (cond t (popped_value k (is_yes (reply_by k q v)) (value_in (reply_by k q v))) [])
 pop_kind Read true true v h = refl
 pop_kind Read true false v h = refl
 pop_kind Read false t v h = cc
@@ -138,7 +146,7 @@ pop_kind Full q true v h = refl
 pop_kind Full q false v h = refl
 
 pub push_kind : (k : Kind) (q t : Bool) (v w : ℕ) → (is_blocking k && not q) ≡ false
-    → cond (is_taking k && (q && (same_side (side_of k) false && t))) (w ∷ []) [] ≡ cond t (pushed_value k (is_yes (reply_by k q v)) w) []
+    → cond (is_taking k && (q && (same_side (side_of k) Push && t))) (w ∷ []) [] ≡ cond t (pushed_value k (is_yes (reply_by k q v)) w) []
 push_kind Read true true v w h = refl
 push_kind Read true false v w h = refl
 push_kind Read false t v w h = cc
@@ -159,40 +167,40 @@ push_kind Full q true v w h = refl
 push_kind Full q false v w h = refl
 
 pops_same : (p : Plan) (c f : ℕ) (rs : List Request) → AllByRecursion (Alike p c) rs → list_any (stalls p c (state p c).contents) rs ≡ false
-    → takes_in true f (map seen rs) (counted_replies p c rs) ≡ length (moved_by true f (map (answered p c (state p c).contents) rs))
+    → takes_in Pop f (map seen rs) (counted_replies p c rs) ≡ length (moved_by Pop f (map (answered p c (state p c).contents) rs))
 unfolding moved_by reply
 pops_same p c f [] h e = refl
 pops_same p c f (r ∷ rs) h e =
     let cs = (state p c).contents in
     let parts = or_parts (stalls p c cs r) (list_any (stalls p c cs) rs) e in
-    ap₂ (λ (q : Bool) (n : ℕ). cond (is_taking r.kind && (q && (same_side (side_of r.kind) true && (r.channel == f)))) 1 0 + n) (h.0).possible (pops_same p c f rs h.1 parts.1)
-    ∙ (ap (λ (n : ℕ). n + length (moved_by true f (map (answered p c cs) rs))) (pop_kind r.kind (is_possible p c cs (side_of r.kind) r.channel) (r.channel == f) (get_or (contents_of cs r.channel) 0 0) parts.0)
+    ap₂ (λ (q : Bool) (n : ℕ). cond (is_taking r.kind && (q && (same_side (side_of r.kind) Pop && (r.channel == f)))) 1 0 + n) (h.0).possible (pops_same p c f rs h.1 parts.1)
+    ∙ (ap (λ (n : ℕ). n + length (moved_by Pop f (map (answered p c cs) rs))) (pop_kind r.kind (is_possible p c cs (side_of r.kind) r.channel) (r.channel == f) (front (contents_of cs r.channel)) parts.0)
     ∙ sym (length-append _ _))
 
 pub pushes_same : (p : Plan) (c f : ℕ) (rs : List Request) → AllByRecursion (Alike p c) rs → list_any (stalls p c (state p c).contents) rs ≡ false
-    → values_in f (map seen rs) (counted_replies p c rs) ≡ moved_by false f (map (answered p c (state p c).contents) rs)
+    → values_in f (map seen rs) (counted_replies p c rs) ≡ moved_by Push f (map (answered p c (state p c).contents) rs)
 unfolding moved_by reply
 pushes_same p c f [] h e = refl
 pushes_same p c f (r ∷ rs) h e =
     let cs = (state p c).contents in
     let parts = or_parts (stalls p c cs r) (list_any (stalls p c cs) rs) e in
-    ap₂ (λ (q : Bool) (vs : List ℕ). cond (is_taking r.kind && (q && (same_side (side_of r.kind) false && (r.channel == f)))) (r.value ∷ []) [] ++ vs) (h.0).possible (pushes_same p c f rs h.1 parts.1)
-    ∙ ap (λ (vs : List ℕ). vs ++ moved_by false f (map (answered p c cs) rs)) (push_kind r.kind (is_possible p c cs (side_of r.kind) r.channel) (r.channel == f) (get_or (contents_of cs r.channel) 0 0) r.value parts.0)
+    ap₂ (λ (q : Bool) (vs : List ℕ). cond (is_taking r.kind && (q && (same_side (side_of r.kind) Push && (r.channel == f)))) (r.value ∷ []) [] ++ vs) (h.0).possible (pushes_same p c f rs h.1 parts.1)
+    ∙ ap (λ (vs : List ℕ). vs ++ moved_by Push f (map (answered p c cs) rs)) (push_kind r.kind (is_possible p c cs (side_of r.kind) r.channel) (r.channel == f) (front (contents_of cs r.channel)) r.value parts.0)
 
 pub one_long : (b : Bool) (v : ℕ) → cond b 1 0 ≡ length (cond b (v ∷ []) [])
 one_long true v = refl
 one_long false v = refl
 
 -- the pushes are as many as their values
-as_many : (f : ℕ) (xs : List theory.Access) (rs : List theory.Reply) → takes_in false f xs rs ≡ length (values_in f xs rs)
+as_many : (f : ℕ) (xs : List theory.Access) (rs : List theory.Reply) → takes_in Push f xs rs ≡ length (values_in f xs rs)
 as_many f [] rs = refl
 as_many f (a ∷ xs) [] = refl
 as_many f (a ∷ xs) (r ∷ rs) =
-    ap₂ (λ (x y : ℕ). x + y) (one_long (took false f a r) a.value) (as_many f xs rs) ∙ sym (length-append _ _)
+    ap₂ (λ (x y : ℕ). x + y) (one_long (took Push f a r) a.value) (as_many f xs rs) ∙ sym (length-append _ _)
 
 -- what these requests take at a side, by counts, is what they move there
-pub taken_same : (p : Plan) (c : ℕ) (side : Bool) (f : ℕ) (rs : List Request) → AllByRecursion (Alike p c) rs
+pub taken_same : (p : Plan) (c : ℕ) (side : Side) (f : ℕ) (rs : List Request) → AllByRecursion (Alike p c) rs
     → list_any (stalls p c (state p c).contents) rs ≡ false
     → takes_in side f (map seen rs) (counted_replies p c rs) ≡ length (moved_by side f (map (answered p c (state p c).contents) rs))
-taken_same p c true f rs h e = pops_same p c f rs h e
-taken_same p c false f rs h e = as_many f (map seen rs) (counted_replies p c rs) ∙ ap length (pushes_same p c f rs h e)
+taken_same p c Pop f rs h e = pops_same p c f rs h e
+taken_same p c Push f rs h e = as_many f (map seen rs) (counted_replies p c rs) ∙ ap length (pushes_same p c f rs h e)

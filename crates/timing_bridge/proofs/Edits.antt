@@ -1,8 +1,11 @@
 -- An edit of the plan is the theory's edit of its design.
-use Rattle.std.proofs.Common.{◌≡◌, ℕ, ◌≤◌, ◌<◌, List, length, Bool, true, false, ◌&&◌, not, cond, refl, sym, ◌∙◌, ap, subst, inl, inr, eqb}
+use Rattle.std.proofs.Common.{◌≡◌, ℕ, ◌≤◌, ◌<◌, List, length, true, ◌&&◌, cond, refl, sym, ◌∙◌, ap, subst, inl, inr, eqb}
 use Rattle.std.specs.Prelude.{slice_index}
 use Rattle.std.proofs.lemmas.Bool.{cases_eq, eq-eqb, ne_eqb}
 use Rattle.std.proofs.lemmas.List.{get_or-set_same, get_or-set_other, length-set}
+use Rattle.flow_word.specs.declared.access.Side.{Side}
+use Rattle.flow_word.specs.Kinds.{same_side}
+use Rattle.flow_word.specs.declared.access.Side.TheVariants.{Pop, Push}
 use Rattle.flow_design.specs.declared.design.ChannelKind.{ChannelKind}
 use Rattle.flow_design.specs.declared.design.ChannelKind.TheVariants.{Source, Sink, Fifo}
 use Rattle.flow_design.specs.declared.plan.Edit.{Edit}
@@ -11,7 +14,7 @@ use Rattle.flow_design.specs.declared.state.ModuleState.{ModuleState}
 use Rattle.flow_design.specs.Plans.{is_fifo, kind_at, with_depth, EditFits}
 use Rattle.flow_design.specs.StaticRules.{AreEntriesSound, IsChannelSound, FitsEngine}
 use Rattle.lockstep_defs.specs.Lockstep.{opening, moment}
-use Rattle.lockstep_defs.specs.Ends.{owner}
+use Rattle.lockstep_defs.specs.Ports.{owner}
 use Rattle.lockstep_defs.specs.Quiet.{quiet, quiet_below, measure}
 use Rattle.event_timing.specs.Machines.{Design}
 use Rattle.event_timing.specs.Histories.{IsHistory}
@@ -21,7 +24,7 @@ use Rattle.event_timing.specs.Agreement.{IsAgreed}
 use Rattle.event_timing.specs.Edits.{edited, after_edit, IsUntouchedByCycles}
 use Rattle.event_timing.proofs.Editing.{edit_agrees}
 use Rattle.event_timing.proofs.Touched.{untouched}
-use Rattle.timing_bridge.specs.Designs.{design, lockstep_run, start_in}
+use Rattle.timing_bridge.specs.Designs.{design, lag_in, lockstep_run, start_in}
 use Rattle.timing_bridge.proofs.History.{plan_is_design, run_is_history}
 
 -- ---- the edited plan is one that the engine takes
@@ -30,7 +33,7 @@ new_entries : (k : ChannelKind) (inputs : List ℕ) (old depth : ℕ) → AreEnt
     → AreEntriesSound k inputs depth
 new_entries Source inputs old depth h e a b = cc
 new_entries Sink inputs old depth h e a b = cc
-new_entries (Fifo d) inputs old depth h e a b = (h.0, a, b)
+new_entries (Fifo declared delay) inputs old depth h e a b = let (none, least, most, some, few) = h in (none, a, b, some, few)
 
 channel_kept : (p : Plan) (e : Edit) → EditFits p e → (f : ℕ) → IsChannelSound p f → IsChannelSound (with_depth p e.channel e.depth) f
 channel_kept p e fit f h =
@@ -65,18 +68,22 @@ edited_fits p h e fit =
 
 -- ---- its design
 
-same_start : (p : Plan) (f depth : ℕ) → f < length p.depths → (side : Bool) (g : ℕ)
-    → cond (not side && eqb g f) depth (start_in p side g) ≡ start_in (with_depth p f depth) side g
+same_start : (p : Plan) (f depth : ℕ) → f < length p.depths → (side : Side) (g : ℕ)
+    → cond (same_side side Push && eqb g f) depth (start_in p side g) ≡ start_in (with_depth p f depth) side g
 unfolding moment opening
-same_start p f depth h true g = refl
-same_start p f depth h false g = elim (cases_eq g f) [
+same_start p f depth h Pop g = refl
+same_start p f depth h Push g = elim (cases_eq g f) [
   | inl e ↦ rw (eq-eqb g f e, e) (sym (get_or-set_same p.depths f depth 0 h))
   | inr ne ↦ rw (ne_eqb g f ne) (sym (get_or-set_other p.depths f g depth 0 ne))
 ]
 
+same_lag : (p : Plan) (f depth : ℕ) (side : Side) (g : ℕ) → lag_in p side g ≡ lag_in (with_depth p f depth) side g
+same_lag p f depth Pop g = refl
+same_lag p f depth Push g = refl
+
 same_design : (p : Plan) (f depth : ℕ) → f < length p.depths → edited (design p) f depth ≡ design (with_depth p f depth)
 unfolding moment opening owner quiet quiet_below measure
-same_design p f depth h = λ i. record (design (with_depth p f depth)) { start = λ side g. same_start p f depth h side g i }
+same_design p f depth h = λ i. record (design (with_depth p f depth)) { start = λ side g. same_start p f depth h side g i; lag = λ side g. same_lag p f depth side g i }
 
 -- the cycles below the first touched clock agree with the edited plan's lockstep run
 pub plan_edit : (p : Plan) → FitsEngine p → (e : Edit) → EditFits p e → (limit t : ℕ) (x : Core ModuleState) → IsAgreed (design p) (lockstep_run p) limit x

@@ -1,29 +1,43 @@
 -- The lockstep run of a plan is a history of its design.
-use Rattle.std.proofs.Common.{◌≡◌, ℕ, suc, ◌+◌, List, [], ◌++◌, map, length, Bool, true, false, ◌&&◌, not, refl, sym, ◌∙◌, ap, arith, inl, inr, length-append, append_assoc}
+use Rattle.std.proofs.Common.{◌≡◌, ℕ, suc, ◌+◌, List, [], ◌++◌, map, length, Bool, true, false, ◌&&◌, not, ◌<◌, refl, sym, ◌∙◌, ap, arith, inl, inr, length-append, append_assoc}
 use Rattle.std.proofs.lemmas.Bool.{cases_lt, cond-true, cond-false}
 use Rattle.std.proofs.lemmas.List.{append-nil, get_or_past}
+use Rattle.flow_word.specs.declared.access.Side.{Side}
+use Rattle.flow_word.specs.declared.access.Side.TheVariants.{Pop, Push}
+use Rattle.flow_design.specs.declared.design.Channel.{Channel}
 use Rattle.flow_design.specs.declared.plan.Plan.{Plan}
 use Rattle.flow_design.specs.declared.state.ModuleState.{ModuleState}
 use Rattle.flow_design.specs.declared.state.Reply.{Reply}
+use Rattle.flow_design.specs.Plans.{no_channel, delay_of, delay_at}
 use Rattle.flow_design.specs.StaticRules.{FitsEngine}
 use Rattle.lockstep_defs.specs.Machine.{move, nobody, is_over}
-use Rattle.lockstep_defs.specs.Channels.{reply, moved, contents_of}
+use Rattle.lockstep_defs.specs.Channels.{reply, moved, values, contents_of}
 use Rattle.lockstep_defs.specs.Lockstep.{module_at, requests_of, moves, next_state, opening, moment, state, state_at, history}
-use Rattle.lockstep_defs.specs.Ends.{owner}
+use Rattle.lockstep_defs.specs.Ports.{owner}
 use Rattle.lockstep_defs.specs.Quiet.{fits}
 use Rattle.lockstep_defs.proofs.Settled.{history-zero}
+use Rattle.lockstep_defs.proofs.Counts.{delay_positive}
 use Rattle.lockstep_defs.proofs.Queue.{moved-nil, nothing_stalls}
 use Rattle.lockstep_defs.proofs.Agrees.{all_modules, state_at-suc}
 use Rattle.event_timing.specs.Machines.{IsDesign, takes_in, values_in}
 use Rattle.event_timing.specs.Histories.{IsHistory, replies}
 use Rattle.event_timing.specs.Histories as counted
-use Rattle.timing_bridge.specs.Designs.{design, lockstep_run, accesses_in, move_in, told_all}
+use Rattle.timing_bridge.specs.Designs.{design, lag_in, lockstep_run, accesses_in, move_in, told_all}
 use Rattle.timing_bridge.proofs.Requests.{owned_in, open_in, one_taker}
 use Rattle.timing_bridge.proofs.Quiet.{quiet_lives, quiet_idle, quiet_ends, first_fits, next_fits, outside_over}
 use Rattle.timing_bridge.proofs.Alike.{alike, can_same, told_same, taken_same, pushes_same}
 use Rattle.timing_bridge.proofs.Moved.{nobody_moves, share, share_moves, share_stays, moved_more}
 
 -- ---- the design
+
+some_lag : (p : Plan) → FitsEngine p → (side : Side) (f : ℕ) → 0 < lag_in p side f
+some_lag p h Push f = omega arith
+some_lag p h Pop f = elim (cases_lt f (length p.design.channels)) [
+  | inl l ↦ delay_positive p h f l
+  | inr l ↦
+      let one : delay_at p f ≡ 1 = ap (λ (ch : Channel). delay_of ch.kind) (get_or_past p.design.channels f no_channel l) in
+      omega (arith, one)
+]
 
 pub plan_is_design : (p : Plan) → FitsEngine p → IsDesign (design p)
 plan_is_design p h =
@@ -36,7 +50,7 @@ plan_is_design p h =
       quiet_ends = quiet_ends p h;
       owned = owned_in p h;
       open_sides = open_in p h;
-      lag_positive = λ side f. omega arith;
+      lag_positive = some_lag p h;
       pops_limited = λ f. refl;
       start_inputs = λ f. refl;
       single = one_taker p h;
@@ -77,7 +91,7 @@ stays p h c i m = next_at p c i ∙ cond-false (moves p c (state p c).contents (
 
 -- ---- what is moved
 
-shared : (p : Plan) → FitsEngine p → (c : ℕ) (side : Bool) (f i : ℕ) → moves p c (state p c).contents (i, state_at p c i) ≡ true
+shared : (p : Plan) → FitsEngine p → (c : ℕ) (side : Side) (f i : ℕ) → moves p c (state p c).contents (i, state_at p c i) ≡ true
     → length (share p c (state p c).contents side f (i, state_at p c i)) ≡ takes_in side f (accesses_in p i (state_at p c i)) (replies (design p) (lockstep_run p) c i)
 unfolding replies
 shared p h c side f i e =
@@ -85,22 +99,22 @@ shared p h c side f i e =
     ∙ sym (taken_same p c side f (requests_of p (i, state_at p c i)) (alike p h c i (state_at p c i)) (nothing_stalls p c (state p c).contents (i, state_at p c i) e))
 
 shared_values : (p : Plan) → FitsEngine p → (c f i : ℕ) → moves p c (state p c).contents (i, state_at p c i) ≡ true
-    → share p c (state p c).contents false f (i, state_at p c i) ≡ values_in f (accesses_in p i (state_at p c i)) (replies (design p) (lockstep_run p) c i)
+    → share p c (state p c).contents Push f (i, state_at p c i) ≡ values_in f (accesses_in p i (state_at p c i)) (replies (design p) (lockstep_run p) c i)
 unfolding replies
 shared_values p h c f i e =
-    share_moves p c (state p c).contents false f (i, state_at p c i) e
+    share_moves p c (state p c).contents Push f (i, state_at p c i) e
     ∙ sym (pushes_same p c f (requests_of p (i, state_at p c i)) (alike p h c i (state_at p c i)) (nothing_stalls p c (state p c).contents (i, state_at p c i) e))
 
 -- what was moved grows by what the owner moves, and not where it stays
-grows_by : (p : Plan) → FitsEngine p → (c : ℕ) (side : Bool) (f : ℕ) (vs : List ℕ)
-    → share p c (state p c).contents side f (owner p (side, f), state_at p c (owner p (side, f))) ≡ vs
+grows_by : (p : Plan) → FitsEngine p → (c : ℕ) (side : Side) (f : ℕ) (vs : List ℕ)
+    → share p c (state p c).contents side f (owner p (record { side = side; channel = f }), state_at p c (owner p (record { side = side; channel = f }))) ≡ vs
     → moved side f (history p (suc c)) ≡ moved side f (history p c) ++ vs
 grows_by p h c side f vs e = moved_more p h c side f ∙ ap (λ (l : List ℕ). moved side f (history p c) ++ l) e
 
-same_moved : (p : Plan) → FitsEngine p → (c : ℕ) (side : Bool) (f : ℕ) → counted.moves (design p) (lockstep_run p) c (owner p (side, f)) ≡ false
+same_moved : (p : Plan) → FitsEngine p → (c : ℕ) (side : Side) (f : ℕ) → counted.moves (design p) (lockstep_run p) c (owner p (record { side = side; channel = f })) ≡ false
     → moved side f (history p (suc c)) ≡ moved side f (history p c)
 same_moved p h c side f m =
-    let o = owner p (side, f) in
+    let o = owner p (record { side = side; channel = f }) in
     grows_by p h c side f [] (share_stays p c (state p c).contents side f (o, state_at p c o) (sym (moves_same p h c o) ∙ m)) ∙ append-nil _
 
 first_state : (p : Plan) (i : ℕ) → state_at p 0 i ≡ (design p).opening i
@@ -112,17 +126,17 @@ run_is_history p h =
     record {
       state_0 = first_state p;
       taken_0 = λ side f. ap length (ap (moved side f) (history-zero p) ∙ moved-nil side f);
-      pushed_0 = λ f. ap (λ (l : List ℕ). contents_of (state p 0).contents f ++ l) (ap (moved false f) (history-zero p) ∙ moved-nil false f) ∙ append-nil _;
+      pushed_0 = λ f. ap (λ (l : List ℕ). values (contents_of (state p 0).contents f) ++ l) (ap (moved Push f) (history-zero p) ∙ moved-nil Push f) ∙ append-nil _;
       state_moves = moves_on p h;
       state_stays = stays p h;
       taken_moves = λ c side f m.
-          let o = owner p (side, f) in
+          let o = owner p (record { side = side; channel = f }) in
           ap length (moved_more p h c side f)
           ∙ (length-append _ _ ∙ ap (λ (n : ℕ). length (moved side f (history p c)) + n) (shared p h c side f o (sym (moves_same p h c o) ∙ m)));
       taken_stays = λ c side f m. ap length (same_moved p h c side f m);
       pushed_moves = λ c f m.
-          let o = owner p (false, f) in
-          ap (λ (l : List ℕ). contents_of (state p 0).contents f ++ l) (grows_by p h c false f _ (shared_values p h c f o (sym (moves_same p h c o) ∙ m)))
-          ∙ sym (append_assoc (contents_of (state p 0).contents f) (moved false f (history p c)) (values_in f (accesses_in p o (state_at p c o)) (replies (design p) (lockstep_run p) c o)));
-      pushed_stays = λ c f m. ap (λ (l : List ℕ). contents_of (state p 0).contents f ++ l) (same_moved p h c false f m);
+          let o = owner p (record { side = Push; channel = f }) in
+          ap (λ (l : List ℕ). values (contents_of (state p 0).contents f) ++ l) (grows_by p h c Push f _ (shared_values p h c f o (sym (moves_same p h c o) ∙ m)))
+          ∙ sym (append_assoc (values (contents_of (state p 0).contents f)) (moved Push f (history p c)) (values_in f (accesses_in p o (state_at p c o)) (replies (design p) (lockstep_run p) c o)));
+      pushed_stays = λ c f m. ap (λ (l : List ℕ). values (contents_of (state p 0).contents f) ++ l) (same_moved p h c Push f m);
     }

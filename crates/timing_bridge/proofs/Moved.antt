@@ -3,76 +3,80 @@ use Rattle.std.proofs.Common.{◌≡◌, ◌≢◌, ℕ, suc, ◌+◌, ◌-◌, 
 use Rattle.std.specs.List.{flat_map, enumerate_from, AllByRecursion}
 use Rattle.std.proofs.lemmas.Bool.{cases_Bool, cases_eq, eqb-true, cond-true, cond-false}
 use Rattle.std.proofs.lemmas.List.{append-nil}
+use Rattle.flow_word.specs.declared.access.Side.{Side}
+use Rattle.flow_word.specs.declared.access.Side.TheVariants.{Pop, Push}
 use Rattle.flow_word.specs.declared.access.Kind.{Kind}
 use Rattle.flow_word.specs.declared.access.Kind.TheVariants.{Read, Write, TryRead, TryWrite, Empty, Full}
 use Rattle.flow_design.specs.declared.plan.Plan.{Plan}
+use Rattle.flow_design.specs.declared.state.Element.{Element}
 use Rattle.flow_design.specs.declared.state.ModuleState.{ModuleState}
 use Rattle.flow_design.specs.declared.state.Request.{Request}
 use Rattle.flow_design.specs.StaticRules.{FitsEngine}
 use Rattle.lockstep_defs.specs.Machine.{is_over, nobody}
-use Rattle.lockstep_defs.specs.Channels.{side_of, is_possible, reply, reply_by, moved_value, moved_by, moved, contents_of}
+use Rattle.flow_word.specs.Kinds.{side_of}
+use Rattle.lockstep_defs.specs.Channels.{is_possible, front, reply, reply_by, moved_value, moved_by, moved, contents_of}
 use Rattle.lockstep_defs.specs.Lockstep.{numbered, requests_of, moves, answered, step_with, step_of, steps_in, state, state_at, history}
-use Rattle.lockstep_defs.specs.Ends.{owner, StandsAtEnd}
+use Rattle.lockstep_defs.specs.Ports.{owner, StandsAtPort}
 use Rattle.lockstep_defs.proofs.Settled.{history-suc}
 use Rattle.lockstep_defs.proofs.Queue.{moved-nil, moved-append, moved-step}
 use Rattle.timing_bridge.proofs.Requests.{stand}
 
-pub nobody_moves : (p : Plan) (c : ℕ) (cs : List (List ℕ)) (i : ℕ) → moves p c cs (i, nobody) ≡ false
+pub nobody_moves : (p : Plan) (c : ℕ) (cs : List (List Element)) (i : ℕ) → moves p c cs (i, nobody) ≡ false
 unfolding moves is_over
 nobody_moves p c cs i = refl
 
 -- ---- one module
 
 -- what module m moves at a side of channel f in clock c
-abbrev pub share : Plan → ℕ → List (List ℕ) → Bool → ℕ → ℕ × ModuleState → List ℕ
+abbrev pub share : Plan → ℕ → List (List Element) → Side → ℕ → ℕ × ModuleState → List ℕ
 share p c cs side f m = moved side f (step_of p c cs m)
 
-pub share_moves : (p : Plan) (c : ℕ) (cs : List (List ℕ)) (side : Bool) (f : ℕ) (m : ℕ × ModuleState) → moves p c cs m ≡ true
+pub share_moves : (p : Plan) (c : ℕ) (cs : List (List Element)) (side : Side) (f : ℕ) (m : ℕ × ModuleState) → moves p c cs m ≡ true
     → share p c cs side f m ≡ moved_by side f (map (answered p c cs) (requests_of p m))
 share_moves p c cs side f m e =
     ap (moved side f) (cond-true (moves p c cs m) (step_with c m.0 (map (answered p c cs) (requests_of p m))) [] e) ∙ moved-step c m.0 side f _
 
-pub share_stays : (p : Plan) (c : ℕ) (cs : List (List ℕ)) (side : Bool) (f : ℕ) (m : ℕ × ModuleState) → moves p c cs m ≡ false → share p c cs side f m ≡ []
+pub share_stays : (p : Plan) (c : ℕ) (cs : List (List Element)) (side : Side) (f : ℕ) (m : ℕ × ModuleState) → moves p c cs m ≡ false → share p c cs side f m ≡ []
 share_stays p c cs side f m e =
     ap (moved side f) (cond-false (moves p c cs m) (step_with c m.0 (map (answered p c cs) (requests_of p m))) [] e) ∙ moved-nil side f
 
 -- an operation moves nothing at the other side of its channel
-other_side : (k : Kind) (channel value : ℕ) (q : Bool) (v : ℕ) (side : Bool) → (side_of k ≢ side)
+moves_nothing : (k : Kind) (channel value : ℕ) (q : Bool) (v : ℕ) (side : Side) → (side_of k ≢ side)
     → moved_value side (record { request = record { kind = k; channel = channel; value = value }; reply = reply_by k q v }) ≡ []
-other_side Read channel value q v true h = absurd (h refl)
-other_side Read channel value q v false h = refl
-other_side Write channel value q v true h = refl
-other_side Write channel value q v false h = absurd (h refl)
-other_side TryRead channel value q v true h = absurd (h refl)
-other_side TryRead channel value q v false h = refl
-other_side TryWrite channel value q v true h = refl
-other_side TryWrite channel value q v false h = absurd (h refl)
-other_side Empty channel value q v true h = refl
-other_side Empty channel value q v false h = refl
-other_side Full channel value q v true h = refl
-other_side Full channel value q v false h = refl
+moves_nothing Read channel value q v Pop h = absurd (h refl)
+moves_nothing Read channel value q v Push h = refl
+moves_nothing Write channel value q v Pop h = refl
+moves_nothing Write channel value q v Push h = absurd (h refl)
+moves_nothing TryRead channel value q v Pop h = absurd (h refl)
+moves_nothing TryRead channel value q v Push h = refl
+moves_nothing TryWrite channel value q v Pop h = refl
+moves_nothing TryWrite channel value q v Push h = absurd (h refl)
+moves_nothing Empty channel value q v Pop h = refl
+moves_nothing Empty channel value q v Push h = refl
+moves_nothing Full channel value q v Pop h = refl
+moves_nothing Full channel value q v Push h = refl
 
 -- none of module i's requests on channel f stands at this side
-abbrev pub StandsElsewhere : Plan → Bool → ℕ → ℕ → Type 0
-StandsElsewhere p side f i = (r : Request) → StandsAtEnd p i r → r.channel ≡ f → side_of r.kind ≢ side
+abbrev pub StandsElsewhere : Plan → Side → ℕ → ℕ → Type 0
+StandsElsewhere p side f i = (r : Request) → StandsAtPort p i r → r.channel ≡ f → side_of r.kind ≢ side
 
-none_by : (p : Plan) (c : ℕ) (cs : List (List ℕ)) (side : Bool) (f i : ℕ) → StandsElsewhere p side f i → (r : Request) → StandsAtEnd p i r → (b : Bool)
+none_by : (p : Plan) (c : ℕ) (cs : List (List Element)) (side : Side) (f i : ℕ) → StandsElsewhere p side f i → (r : Request) → StandsAtPort p i r → (b : Bool)
     → (r.channel == f) ≡ b
     → cond b (moved_value side (answered p c cs r)) [] ≡ []
 unfolding reply
 none_by p c cs side f i never r h false e = refl
 none_by p c cs side f i never r h true e =
-    other_side r.kind r.channel r.value (is_possible p c cs (side_of r.kind) r.channel) (get_or (contents_of cs r.channel) 0 0) side (never r h (eqb-true r.channel f e))
+    moves_nothing r.kind r.channel r.value (is_possible p c cs (side_of r.kind) r.channel) (front (contents_of cs r.channel)) side (never r h (eqb-true r.channel f e))
 
-none_moved : (p : Plan) (c : ℕ) (cs : List (List ℕ)) (side : Bool) (f i : ℕ) → StandsElsewhere p side f i → (rs : List Request)
-    → AllByRecursion (StandsAtEnd p i) rs
+none_moved : (p : Plan) (c : ℕ) (cs : List (List Element)) (side : Side) (f i : ℕ) → StandsElsewhere p side f i → (rs : List Request)
+    → AllByRecursion (StandsAtPort p i) rs
     → moved_by side f (map (answered p c cs) rs) ≡ []
 unfolding moved_by
 none_moved p c cs side f i never [] h = refl
 none_moved p c cs side f i never (r ∷ rs) h =
     ap₂ (λ (x y : List ℕ). x ++ y) (none_by p c cs side f i never r h.0 (r.channel == f) refl) (none_moved p c cs side f i never rs h.1)
 
-pub none_shared : (p : Plan) → FitsEngine p → (c : ℕ) (cs : List (List ℕ)) (side : Bool) (f i : ℕ) → StandsElsewhere p side f i → (s : ModuleState)
+pub none_shared : (p : Plan) → FitsEngine p → (c : ℕ) (cs : List (List Element)) (side : Side) (f i : ℕ) → StandsElsewhere p side f i → (s : ModuleState)
     → share p c cs side f (i, s) ≡ []
 none_shared p h c cs side f i never s = elim (cases_Bool (moves p c cs (i, s))) [
   | inl e ↦ share_moves p c cs side f (i, s) e ∙ none_moved p c cs side f i never (requests_of p (i, s)) (stand p h i s)
@@ -80,8 +84,8 @@ none_shared p h c cs side f i never s = elim (cases_Bool (moves p c cs (i, s))) 
 ]
 
 -- only its owner stands there
-not_owner : (p : Plan) (side : Bool) (f i : ℕ) → (i ≢ owner p (side, f)) → StandsElsewhere p side f i
-not_owner p side f i ne r h e k = ne (sym h.owned ∙ ap₂ (λ (a : Bool) (g : ℕ). owner p (a, g)) k e)
+not_owner : (p : Plan) (side : Side) (f i : ℕ) → (i ≢ owner p (record { side = side; channel = f })) → StandsElsewhere p side f i
+not_owner p side f i ne r h e k = ne (sym h.owned ∙ ap₂ (λ (a : Side) (g : ℕ). owner p (record { side = a; channel = g })) k e)
 
 -- ---- all modules
 
@@ -108,27 +112,27 @@ only_one {X} {Y} g r d none past n (x ∷ xs) =
       )
     ]
 
-moved_shares : (p : Plan) (c : ℕ) (cs : List (List ℕ)) (side : Bool) (f : ℕ) (ms : List (ℕ × ModuleState))
+moved_shares : (p : Plan) (c : ℕ) (cs : List (List Element)) (side : Side) (f : ℕ) (ms : List (ℕ × ModuleState))
     → moved side f (flat_map (step_of p c cs) ms) ≡ flat_map (share p c cs side f) ms
 moved_shares p c cs side f [] = moved-nil side f
 moved_shares p c cs side f (m ∷ ms) =
     moved-append side f (step_of p c cs m) (flat_map (step_of p c cs) ms) ∙ ap (λ (l : List ℕ). share p c cs side f m ++ l) (moved_shares p c cs side f ms)
 
 -- in a clock a side of a channel is moved by its owner alone
-pub moved_in : (p : Plan) → FitsEngine p → (c : ℕ) (side : Bool) (f : ℕ)
-    → moved side f (steps_in p c (state p c)) ≡ share p c (state p c).contents side f (owner p (side, f), state_at p c (owner p (side, f)))
+pub moved_in : (p : Plan) → FitsEngine p → (c : ℕ) (side : Side) (f : ℕ)
+    → moved side f (steps_in p c (state p c)) ≡ share p c (state p c).contents side f (owner p (record { side = side; channel = f }), state_at p c (owner p (record { side = side; channel = f })))
 unfolding steps_in
 moved_in p h c side f =
     let st = state p c in
-    let o = owner p (side, f) in
+    let o = owner p (record { side = side; channel = f }) in
     let past : share p c st.contents side f (o, nobody) ≡ [] = share_stays p c st.contents side f (o, nobody) (nobody_moves p c st.contents o) in
     let z : o - 0 ≡ o = omega arith in
     moved_shares p c st.contents side f (numbered st)
     ∙ ((only_one (share p c st.contents side f) o nobody (λ i x ne. none_shared p h c st.contents side f i (not_owner p side f i ne) x) past 0 st.modules).0 (omega arith)
     ∙ ap (λ (k : ℕ). share p c st.contents side f (o, get_or st.modules k nobody)) z)
 
-pub moved_more : (p : Plan) → FitsEngine p → (c : ℕ) (side : Bool) (f : ℕ)
-    → moved side f (history p (suc c)) ≡ moved side f (history p c) ++ share p c (state p c).contents side f (owner p (side, f), state_at p c (owner p (side, f)))
+pub moved_more : (p : Plan) → FitsEngine p → (c : ℕ) (side : Side) (f : ℕ)
+    → moved side f (history p (suc c)) ≡ moved side f (history p c) ++ share p c (state p c).contents side f (owner p (record { side = side; channel = f }), state_at p c (owner p (record { side = side; channel = f })))
 moved_more p h c side f =
     ap (moved side f) (history-suc p c)
     ∙ (moved-append side f (history p c) (steps_in p c (state p c)) ∙ ap (λ (l : List ℕ). moved side f (history p c) ++ l) (moved_in p h c side f))

@@ -2,15 +2,19 @@
 use Rattle.std.proofs.Common.{◌≡◌, ℕ, zero, suc, ◌+◌, ◌≤◌, ◌<◌, List, [], ◌∷◌, ◌++◌, map, length, Bool, true, false, ◌&&◌, not, cond, refl, sym, ◌∙◌, ap, ap₂, arith, length-append, ◌==◌}
 use Rattle.std.specs.List.{range_with_len}
 use Rattle.std.proofs.lemmas.List.{append-nil, map-append}
+use Rattle.flow_word.specs.declared.access.Side.{Side}
+use Rattle.flow_word.specs.declared.access.Side.TheVariants.{Pop, Push}
+use Rattle.flow_word.specs.Kinds.{same_side}
 use Rattle.flow_word.specs.declared.access.Kind.{Kind}
 use Rattle.flow_design.specs.declared.plan.Plan.{Plan}
 use Rattle.flow_design.specs.declared.state.ModuleState.{ModuleState}
 use Rattle.flow_design.specs.declared.state.Request.{Request}
-use Rattle.lockstep_defs.specs.Channels.{HistoryStep, side_of, is_blocking, is_taking, reply_by, moved_value, moved_by, moved}
+use Rattle.flow_word.specs.Kinds.{side_of, is_blocking, is_taking}
+use Rattle.lockstep_defs.specs.Channels.{HistoryStep, reply_by, moved_value, moved_by, moved}
 use Rattle.lockstep_defs.specs.Lockstep.{requests_of}
 use Rattle.lockstep_defs.specs.OwnRun.{paired}
 use Rattle.lockstep_defs.proofs.Queue.{moved-nil, moved-append}
-use Rattle.event_timing.specs.Machines.{takes_in, same_side}
+use Rattle.event_timing.specs.Machines.{takes_in}
 use Rattle.event_timing.specs.Views.{tally}
 use Rattle.event_timing.specs.Core.{Core, core_accesses, core_tally, core_values, replies_of, core_reply}
 use Rattle.event_timing.specs.Agreement.{FlagsFit, AreOwnMarks}
@@ -29,13 +33,13 @@ not_stuck true false h = let e = h refl in cc
 not_stuck false possible h = refl
 
 -- an operation takes at a side, by counts, where it moves something there
-moves_one : (side : Bool) (k : Kind) (q t : Bool) (channel v w : ℕ) → (is_blocking k && not q) ≡ false
+moves_one : (side : Side) (k : Kind) (q t : Bool) (channel v w : ℕ) → (is_blocking k && not q) ≡ false
     → cond (is_taking k && (q && (same_side (side_of k) side && t))) 1 0
     ≡ length (cond t (moved_value side (record { request = record { kind = k; channel = channel; value = w }; reply = reply_by k q v })) [])
-moves_one true k q t channel v w h = pop_kind k q t v h
-moves_one false k q t channel v w h = one_long (is_taking k && (q && (same_side (side_of k) false && t))) w ∙ ap length (push_kind k q t v w h)
+moves_one Pop k q t channel v w h = pop_kind k q t v h
+moves_one Push k q t channel v w h = one_long (is_taking k && (q && (same_side (side_of k) Push && t))) w ∙ ap length (push_kind k q t v w h)
 
-moves_all : (values : ℕ → List ℕ) (before : ℕ → ℕ) (side : Bool) (f : ℕ) (rs : List Request) (bs : List Bool) → FlagsFit (map seen rs) bs
+moves_all : (values : ℕ → List ℕ) (before : ℕ → ℕ) (side : Side) (f : ℕ) (rs : List Request) (bs : List Bool) → FlagsFit (map seen rs) bs
     → takes_in side f (map seen rs) (replies_of values before (map seen rs) bs)
     ≡ length (moved_by side f (paired rs (told_all rs (replies_of values before (map seen rs) bs))))
 unfolding moved_by
@@ -48,18 +52,18 @@ moves_all values before side f (r ∷ rs) (b ∷ bs) (h, hs) =
     (moves_all values before side f rs bs hs)
     ∙ sym (length-append _ _)
 
-step_moves : (p : Plan) (x : Core ModuleState) → AreOwnMarks (design p) x → (i k : ℕ) → k < x.emitted i → (side : Bool) (f : ℕ)
+step_moves : (p : Plan) (x : Core ModuleState) → AreOwnMarks (design p) x → (i k : ℕ) → k < x.emitted i → (side : Side) (f : ℕ)
     → takes_in side f (core_accesses (design p) x i k) (core_reply (design p) x i k) ≡ length (moved_by side f (core_step p x i k).exchanges)
 step_moves p x b i k l side f =
-    moves_all (core_values (design p) x) (λ g. core_tally (design p) x i true g k) side f (requests_of p (i, x.state i k)) (x.flags i k) (b.fit i k l)
+    moves_all (core_values (design p) x) (λ g. core_tally (design p) x i Pop g k) side f (requests_of p (i, x.state i k)) (x.flags i k) (b.fit i k l)
 
 -- ---- all earlier steps
 
-one_step : (side : Bool) (f : ℕ) (s : HistoryStep) → moved side f (s ∷ []) ≡ moved_by side f s.exchanges
+one_step : (side : Side) (f : ℕ) (s : HistoryStep) → moved side f (s ∷ []) ≡ moved_by side f s.exchanges
 unfolding moved
 one_step side f s = append-nil _
 
-counted : (p : Plan) (x : Core ModuleState) → AreOwnMarks (design p) x → (i : ℕ) (side : Bool) (f k : ℕ) → k ≤ x.emitted i
+counted : (p : Plan) (x : Core ModuleState) → AreOwnMarks (design p) x → (i : ℕ) (side : Side) (f k : ℕ) → k ≤ x.emitted i
     → tally (core_accesses (design p) x i) (core_reply (design p) x i) side f k ≡ length (moved side f (map (core_step p x i) (range_with_len 0 k)))
 counted p x b i side f zero l = tally_0 (core_accesses (design p) x i) (core_reply (design p) x i) side f ∙ sym (ap length (moved-nil side f))
 counted p x b i side f (suc k) l =
@@ -73,6 +77,6 @@ counted p x b i side f (suc k) l =
     ∙ (sym (length-append (moved side f before) (moved side f (now ∷ [])))
     ∙ ap length (sym (moved-append side f before (now ∷ [])) ∙ ap (moved side f) (sym steps))))
 
-pub ordinals : (p : Plan) (x : Core ModuleState) → AreOwnMarks (design p) x → (i : ℕ) (side : Bool) (f k : ℕ) → k ≤ x.emitted i
+pub ordinals : (p : Plan) (x : Core ModuleState) → AreOwnMarks (design p) x → (i : ℕ) (side : Side) (f k : ℕ) → k ≤ x.emitted i
     → core_tally (design p) x i side f k ≡ length (moved side f (map (core_step p x i) (range_with_len 0 k)))
 ordinals p x b i side f k l = sym (core_tally_is (design p) x i side f k) ∙ counted p x b i side f k l

@@ -79,11 +79,11 @@ report_rested p h x g f u last top m e l ss o =
     by_verdict v is (clock_settled p last (core_states p x)) all (held_all p h p.cycles x g f u last top)
   where
     by_verdict : (v : Verdict) → verdict p ≡ v → clock_of v ≡ last → ((i : ℕ) → done (design p) (lockstep_run p) i last ≡ x.timed i)
-        → held_in p last (state p last) ≡ filter_map (core_held_by p x last) (modules_of p) → report p ≡ core_report p x ss v
+        → held_in p last (state p last) ≡ filter_map (core_held_by p x) (modules_of p) → report p ≡ core_report p x ss v
     by_verdict (Done c) is k all q = report_from p h p.cycles x g ss o (Done c) is (λ i. ap (done (design p) (lockstep_run p) i) k ∙ all i) refl
-    by_verdict (Deadlock c) is k all q = report_from p h p.cycles x g ss o (Deadlock c) is (λ i. ap (done (design p) (lockstep_run p) i) k ∙ all i) (subst (λ (n : ℕ). held_in p n (state p n) ≡ filter_map (core_held_by p x n) (modules_of p)) (sym k) q)
+    by_verdict (Deadlock c) is k all q = report_from p h p.cycles x g ss o (Deadlock c) is (λ i. ap (done (design p) (lockstep_run p) i) k ∙ all i) (subst (λ (n : ℕ). held_in p n (state p n) ≡ filter_map (core_held_by p x) (modules_of p)) (sym k) q)
     by_verdict (Cycles c) is k all q = report_from p h p.cycles x g ss o (Cycles c) is (λ i. ap (done (design p) (lockstep_run p) i) k ∙ all i) refl
-    by_verdict (Ops c) is k all q = report_from p h p.cycles x g ss o (Ops c) is (λ i. ap (done (design p) (lockstep_run p) i) k ∙ all i) (subst (λ (n : ℕ). held_in p n (state p n) ≡ filter_map (core_held_by p x n) (modules_of p)) (sym k) q)
+    by_verdict (Ops c) is k all q = report_from p h p.cycles x g ss o (Ops c) is (λ i. ap (done (design p) (lockstep_run p) i) k ∙ all i) (subst (λ (n : ℕ). held_in p n (state p n) ≡ filter_map (core_held_by p x) (modules_of p)) (sym k) q)
 
 -- a step is determined, or the last stop is above the limit: the verdict is the limit's
 report_cut : (p : Plan) → FitsEngine p → (x : Core ModuleState) → IsAgreed (design p) (lockstep_run p) p.cycles x → IsFinal (design p) p.cycles x

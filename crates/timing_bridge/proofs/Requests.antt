@@ -1,9 +1,14 @@
 -- The requests of a module as accesses of the theory: whose they are, and how many take.
-use Rattle.std.proofs.Common.{◌≡◌, ℕ, ◌+◌, ◌≤◌, List, [], ◌∷◌, map, length, Bool, true, false, ◌&&◌, not, cond, refl, sym, ◌∙◌, ap, ap₂, subst, arith, inl, inr, eqb}
+use Rattle.std.proofs.Common.{◌≡◌, ℕ, ◌+◌, ◌≤◌, List, [], ◌∷◌, map, length, Bool, true, false, ◌&&◌, cond, refl, sym, ◌∙◌, ap, ap₂, subst, arith, inl, inr, eqb}
 use Rattle.std.specs.List.{AllByRecursion, filter_map}
 use Rattle.std.proofs.lemmas.Bool.{cases_lt, cases_eq, eq-eqb, ne_eqb}
 use Rattle.std.proofs.lemmas.List.{get_or_past}
 use Rattle.std.proofs.lemmas.List.Elements.{recursion_from_All}
+use Rattle.flow_word.specs.declared.access.Kind.{Kind}
+use Rattle.flow_word.specs.declared.access.Kind.TheVariants.{Read, Write, TryRead, TryWrite, Empty, Full}
+use Rattle.flow_word.specs.declared.access.Side.{Side}
+use Rattle.flow_word.specs.declared.access.Side.TheVariants.{Pop, Push}
+use Rattle.flow_word.specs.Kinds.{other_side, same_side}
 use Rattle.flow_design.specs.declared.design.ChannelKind.{ChannelKind}
 use Rattle.flow_design.specs.declared.design.ChannelKind.TheVariants.{Source, Sink, Fifo}
 use Rattle.flow_design.specs.declared.design.Module.{Module}
@@ -11,19 +16,20 @@ use Rattle.flow_design.specs.declared.plan.Plan.{Plan}
 use Rattle.flow_design.specs.declared.state.Due.{Due}
 use Rattle.flow_design.specs.declared.state.ModuleState.{ModuleState}
 use Rattle.flow_design.specs.declared.state.Request.{Request}
+use Rattle.flow_design.specs.Operations.{taken_port}
 use Rattle.flow_design.specs.Module.{no_block, block_of, live_count, due}
 use Rattle.flow_design.specs.Plans.{kind_at}
-use Rattle.flow_design.specs.StaticRules.{FitsEngine, same_end}
+use Rattle.flow_design.specs.StaticRules.{FitsEngine, same_port, is_port}
 use Rattle.lockstep_defs.specs.Machine.{requests, request_for}
-use Rattle.lockstep_defs.specs.Channels.{side_of, is_taking}
+use Rattle.flow_word.specs.Kinds.{side_of, is_taking}
 use Rattle.lockstep_defs.specs.Lockstep.{no_module, module_at, requests_of}
-use Rattle.lockstep_defs.specs.Ends.{owner, is_taker, has_end, StandsAtEnd}
-use Rattle.lockstep_defs.specs.Ends as ends
+use Rattle.lockstep_defs.specs.Ports.{owner, is_taker, has_port, StandsAtPort}
+use Rattle.lockstep_defs.specs.Ports as ports
 use Rattle.lockstep_defs.specs.States.{IsDueIn}
 use Rattle.lockstep_defs.proofs.Once.{takers_once}
-use Rattle.lockstep_defs.proofs.Rules.{keeps_ends}
+use Rattle.lockstep_defs.proofs.Rules.{keeps_ports}
 use Rattle.lockstep_defs.proofs.Standing.{due_in_range, requests_stand}
-use Rattle.event_timing.specs.Machines.{Each, takes_at, takers, same_side}
+use Rattle.event_timing.specs.Machines.{Each, takes_at, takers}
 use Rattle.event_timing.specs.Machines as theory
 use Rattle.timing_bridge.specs.Designs.{seen, accesses_in, is_source}
 
@@ -42,10 +48,10 @@ nothing_asked p s m e =
 -- ---- who stands where
 
 -- each request of a module stands at an end of a channel of the plan that is the module's own
-pub stand : (p : Plan) → FitsEngine p → (i : ℕ) (s : ModuleState) → AllByRecursion (StandsAtEnd p i) (requests_of p (i, s))
+pub stand : (p : Plan) → FitsEngine p → (i : ℕ) (s : ModuleState) → AllByRecursion (StandsAtPort p i) (requests_of p (i, s))
 stand p h i s = elim (cases_lt i (length p.design.modules)) [
-  | inl l ↦ recursion_from_All (StandsAtEnd p i) (requests_of p (i, s)) (requests_stand p h i l s)
-  | inr l ↦ subst (AllByRecursion (StandsAtEnd p i)) (sym (nothing_asked p s (module_at p i) (get_or_past p.design.modules i no_module l))) tt
+  | inl l ↦ recursion_from_All (StandsAtPort p i) (requests_of p (i, s)) (requests_stand p h i l s)
+  | inr l ↦ subst (AllByRecursion (StandsAtPort p i)) (sym (nothing_asked p s (module_at p i) (get_or_past p.design.modules i no_module l))) tt
 ]
 
 each_seen : (P : Request → Type 0) (Q : theory.Access → Type 0) → ((r : Request) → P r → Q (seen r)) → (rs : List Request) → AllByRecursion P rs
@@ -53,19 +59,19 @@ each_seen : (P : Request → Type 0) (Q : theory.Access → Type 0) → ((r : Re
 each_seen P Q f [] h = tt
 each_seen P Q f (r ∷ rs) h = (f r h.0, each_seen P Q f rs h.1)
 
-pub owned_in : (p : Plan) → FitsEngine p → (i : ℕ) (s : ModuleState) → Each (λ a. owner p (a.pops, a.channel) ≡ i) (accesses_in p i s)
-owned_in p h i s = each_seen (StandsAtEnd p i) _ (λ r e. e.owned) (requests_of p (i, s)) (stand p h i s)
+pub owned_in : (p : Plan) → FitsEngine p → (i : ℕ) (s : ModuleState) → Each (λ a. owner p (record { side = a.side; channel = a.channel }) ≡ i) (accesses_in p i s)
+owned_in p h i s = each_seen (StandsAtPort p i) _ (λ r e. e.owned) (requests_of p (i, s)) (stand p h i s)
 
-not_source : (k : ChannelKind) (side : Bool) → has_end k side ≡ true → (not side && is_source k) ≡ false
-not_source Source true h = refl
-not_source Source false h = cc
-not_source Sink true h = refl
-not_source Sink false h = refl
-not_source (Fifo d) true h = refl
-not_source (Fifo d) false h = refl
+not_source : (k : ChannelKind) (side : Side) → has_port k side ≡ true → (same_side (other_side side) Pop && is_source k) ≡ false
+not_source Source Pop h = refl
+not_source Source Push h = cc
+not_source Sink Pop h = refl
+not_source Sink Push h = refl
+not_source (Fifo declared delay) Pop h = refl
+not_source (Fifo declared delay) Push h = refl
 
-pub open_in : (p : Plan) → FitsEngine p → (i : ℕ) (s : ModuleState) → Each (λ a. (not a.pops && is_source (kind_at p a.channel)) ≡ false) (accesses_in p i s)
-open_in p h i s = each_seen (StandsAtEnd p i) _ (λ r e. not_source (kind_at p r.channel) (side_of r.kind) e.is_there) (requests_of p (i, s)) (stand p h i s)
+pub open_in : (p : Plan) → FitsEngine p → (i : ℕ) (s : ModuleState) → Each (λ a. (same_side (other_side a.side) Pop && is_source (kind_at p a.channel)) ≡ false) (accesses_in p i s)
+open_in p h i s = each_seen (StandsAtPort p i) _ (λ r e. not_source (kind_at p r.channel) (side_of r.kind) e.is_there) (requests_of p (i, s)) (stand p h i s)
 
 -- ---- at most one pop and one push of a channel in a local clock
 
@@ -75,21 +81,30 @@ same_number f g = elim (cases_eq g f) [
   | inr n ↦ ne_eqb g f n ∙ sym (ne_eqb f g (λ e. n (sym e)))
 ]
 
-ends_same : (a side : Bool) (f g : ℕ) → (same_side a side && eqb g f) ≡ same_end (side, f) (a, g)
-ends_same true true f g = same_number f g
-ends_same true false f g = refl
-ends_same false true f g = refl
-ends_same false false f g = same_number f g
+ports_same : (a side : Side) (f g : ℕ) → (same_side a side && eqb g f) ≡ same_port (record { side = side; channel = f }) (record { side = a; channel = g })
+ports_same Pop Pop f g = same_number f g
+ports_same Pop Push f g = refl
+ports_same Push Pop f g = refl
+ports_same Push Push f g = same_number f g
+
+taker_same : (side : Side) (f : ℕ) (k : Kind) (g : ℕ)
+    → (is_taking k && (same_side (side_of k) side && eqb g f)) ≡ is_port (record { side = side; channel = f }) (taken_port k g)
+taker_same side f Read g = ports_same Pop side f g
+taker_same side f Write g = ports_same Push side f g
+taker_same side f TryRead g = ports_same Pop side f g
+taker_same side f TryWrite g = ports_same Push side f g
+taker_same side f Empty g = refl
+taker_same side f Full g = refl
 
 count_more : (b : Bool) (r : Request) (rs : List Request) → cond b 1 0 + length rs ≡ length (cond b (r ∷ rs) rs)
 count_more true r rs = omega arith
 count_more false r rs = omega arith
 
-takers_same : (side : Bool) (f : ℕ) (rs : List Request) → takers side f (map seen rs) ≡ length (ends.takers (side, f) rs)
+takers_same : (side : Side) (f : ℕ) (rs : List Request) → takers side f (map seen rs) ≡ length (ports.takers (record { side = side; channel = f }) rs)
 takers_same side f [] = refl
 takers_same side f (r ∷ rs) =
-    ap₂ (λ (b : Bool) (n : ℕ). cond (is_taking r.kind && b) 1 0 + n) (ends_same (side_of r.kind) side f r.channel) (takers_same side f rs)
-    ∙ count_more (is_taker (side, f) r) r (ends.takers (side, f) rs)
+    ap₂ (λ (b : Bool) (n : ℕ). cond b 1 0 + n) (taker_same side f r.kind r.channel) (takers_same side f rs)
+    ∙ count_more (is_taker (record { side = side; channel = f }) r) r (ports.takers (record { side = side; channel = f }) rs)
 
-pub one_taker : (p : Plan) → FitsEngine p → (side : Bool) (i : ℕ) (s : ModuleState) (f : ℕ) → takers side f (accesses_in p i s) ≤ 1
-one_taker p h side i s f = omega (arith, takers_same side f (requests_of p (i, s)), takers_once p (keeps_ends p h) (side, f) i s)
+pub one_taker : (p : Plan) → FitsEngine p → (side : Side) (i : ℕ) (s : ModuleState) (f : ℕ) → takers side f (accesses_in p i s) ≤ 1
+one_taker p h side i s f = omega (arith, takers_same side f (requests_of p (i, s)), takers_once p (keeps_ports p h) (record { side = side; channel = f }) i s)

@@ -1,46 +1,51 @@
 -- What the lockstep machine shows at a settled clock, read off a final core.
-use Rattle.std.proofs.Common.{◌≡◌, ℕ, zero, suc, ◌+◌, ◌≤◌, ◌<◌, List, [], ◌∷◌, ◌++◌, map, length, get_or, drop, Bool, true, false, ◌&&◌, not, cond, refl, sym, ◌∙◌, ap, ap₂, subst, arith, inl, inr, Some, None, Option, zero-add}
+use Rattle.std.proofs.Common.{◌≡◌, ℕ, zero, suc, ◌+◌, ◌≤◌, ◌<◌, List, [], ◌∷◌, ◌++◌, map, length, get_or, drop, Bool, true, false, ◌&&◌, not, cond, max, refl, sym, ◌∙◌, ap, ap₂, subst, arith, inl, inr, Some, None, Option, zero-add}
 use Rattle.std.specs.List.{find, filter, filter_map, enumerate_from, cons_option, AllByRecursion, range_with_len}
 use Rattle.std.specs.Prelude.{option_map, nat_lt}
-use Rattle.std.proofs.lemmas.Bool.{cases_lt, cond-true, cond-false, lt-ltb, le-ltb}
+use Rattle.std.proofs.lemmas.Bool.{cases_lt, cond-true, cond-false, lt-ltb, le-ltb, le-leb}
 use Rattle.std.proofs.lemmas.List.{same_lists, get_or_default}
 use Rattle.std.proofs.lemmas.List.FromFn.{length-map-range_with_len, get_or-map-range_with_len}
+use Rattle.flow_word.specs.declared.access.Side.{Side}
+use Rattle.flow_word.specs.declared.access.Side.TheVariants.{Pop, Push}
 use Rattle.flow_design.specs.declared.design.ChannelKind.{ChannelKind}
 use Rattle.flow_design.specs.declared.design.ChannelKind.TheVariants.{Source, Sink, Fifo}
 use Rattle.flow_design.specs.declared.plan.Plan.{Plan}
 use Rattle.flow_design.specs.declared.report.Held.{Held}
+use Rattle.flow_design.specs.declared.state.ClockState.{ClockState}
 use Rattle.flow_design.specs.declared.state.ModuleState.{ModuleState}
 use Rattle.flow_design.specs.declared.state.Request.{Request}
 use Rattle.flow_design.specs.Plans.{is_sink, kind_at}
 use Rattle.flow_design.specs.StaticRules.{FitsEngine}
 use Rattle.lockstep_defs.specs.Machine.{nobody, is_over}
-use Rattle.lockstep_defs.specs.Channels.{side_of, is_blocking, stalls, moved, contents_of}
+use Rattle.flow_word.specs.Kinds.{side_of, is_blocking}
+use Rattle.lockstep_defs.specs.Channels.{stalls, all_ready, moved, values, contents_of}
 use Rattle.lockstep_defs.specs.Lockstep.{requests_of, steps_in, state, state_at, history}
 use Rattle.lockstep_defs.specs.Verdict.{held_at, held_by, held_in}
 use Rattle.lockstep_defs.specs.Report.{sinks, outputs_in}
-use Rattle.lockstep_defs.specs.Ends.{owner, has_end}
+use Rattle.lockstep_defs.specs.Ports.{owner, has_port}
 use Rattle.lockstep_defs.specs.Laws.{all_in}
-use Rattle.lockstep_defs.proofs.Settled.{history-zero, history-suc}
+use Rattle.lockstep_defs.proofs.Settled.{history-zero, history-suc, settled_stays, same_stalls, late_stalls, latest_all}
 use Rattle.lockstep_defs.proofs.Queue.{moved-nil, moved-append, contents_are, channel_count}
-use Rattle.lockstep_defs.proofs.Rules.{keeps_ends}
+use Rattle.lockstep_defs.proofs.Rules.{keeps_ports}
 use Rattle.lockstep_defs.proofs.Agrees.{all_modules}
 use Rattle.event_timing.specs.Machines.{Each, ready}
 use Rattle.event_timing.specs.Histories as counted
 use Rattle.event_timing.specs.Steps.{done}
-use Rattle.event_timing.specs.Enablers.{answer, known_of}
+use Rattle.event_timing.specs.Enablers.{Known, From, Never, Unknown, answer, known_of}
 use Rattle.event_timing.specs.Core.{Core, view}
 use Rattle.event_timing.specs.Actions.{IsFinal}
 use Rattle.event_timing.specs.Agreement.{IsAgreed, IsUndetermined, stop}
 use Rattle.event_timing.proofs.Standing.{late_ready}
 use Rattle.event_timing.proofs.Candidate.{since_first, rest_first}
 use Rattle.event_timing.proofs.Agreement.{stuck_ended}
-use Rattle.event_timing.proofs.Verdict.{done_last}
+use Rattle.event_timing.proofs.Verdict.{done_last, rests}
 use Rattle.event_timing.proofs.Fronts.{agrees}
 use Rattle.event_timing.proofs.FinalReport.{held_right, outputs_right}
-use Rattle.timing_bridge.specs.Designs.{design, lockstep_run, seen, accesses_in}
-use Rattle.timing_bridge.specs.CoreReports.{modules_of, core_state, is_stuck, core_held_by, sink_values}
+use Rattle.timing_bridge.specs.Designs.{design, lockstep_run, seen}
+use Rattle.timing_bridge.specs.CoreReports.{modules_of, core_state, is_from, is_stuck, core_held_by, sink_values}
 use Rattle.timing_bridge.proofs.Alike.{Alike, alike}
 use Rattle.timing_bridge.proofs.Moved.{StandsElsewhere, none_shared, moved_in}
+use Rattle.timing_bridge.proofs.Verdicts.{settled_from}
 use Rattle.timing_bridge.proofs.History.{plan_is_design, run_is_history}
 
 -- ---- states
@@ -80,38 +85,78 @@ find_alike : (f g : Request → Bool) (rs : List Request) → AllByRecursion (λ
 find_alike f g [] h = refl
 find_alike f g (r ∷ rs) h = ap₂ (λ (b : Bool) (o : Option Request). cond b (Some r) o) h.0 (find_alike f g rs h.1)
 
-stalls_alike : (p : Plan) (x : Core ModuleState) (c i : ℕ) (rs : List Request) → AllByRecursion (Alike p c) rs
-    → Each (λ a. counted.is_possible (design p) (lockstep_run p) c a.pops a.channel ≡ answer (known_of (design p) (view (design p) x) i a) c) (map seen rs)
-    → AllByRecursion (λ r. stalls p c (state p c).contents r ≡ is_stuck p x c i r) rs
-stalls_alike p x c i [] h e = tt
-stalls_alike p x c i (r ∷ rs) h e = (ap (λ (b : Bool). is_blocking r.kind && not b) (sym (h.0).possible ∙ e.0), stalls_alike p x c i rs h.1 e.1)
+-- a clock from which on the answer is the same
+abbrev latest_known : Known → ℕ
+latest_known (From u) = u
+latest_known Never = 0
+latest_known Unknown = 0
+
+abbrev latest_asked : Plan → Core ModuleState → ℕ → List Request → ℕ
+latest_asked p x i [] = 0
+latest_asked p x i (r ∷ rs) = max (latest_known (known_of (design p) (view (design p) x) i (seen r))) (latest_asked p x i rs)
+
+late_answer : (k : Known) (c : ℕ) → latest_known k ≤ c → answer k c ≡ is_from k
+late_answer (From u) c l = le-leb u c l
+late_answer Never c l = refl
+late_answer Unknown c l = refl
+
+-- late enough a request stalls where the core does not know from when on it is possible
+stalls_alike : (p : Plan) (x : Core ModuleState) (c i : ℕ) (rs : List Request) → latest_asked p x i rs ≤ c → AllByRecursion (Alike p c) rs
+    → Each (λ a. counted.is_possible (design p) (lockstep_run p) c a.side a.channel ≡ answer (known_of (design p) (view (design p) x) i a) c) (map seen rs)
+    → AllByRecursion (λ r. stalls p c (state p c).contents r ≡ is_stuck p x i r) rs
+stalls_alike p x c i [] late h e = tt
+stalls_alike p x c i (r ∷ rs) late h e = (
+  ap (λ (b : Bool). is_blocking r.kind && not b)
+      (sym (h.0).possible ∙ (e.0 ∙ late_answer (known_of (design p) (view (design p) x) i (seen r)) c (omega arith))),
+  stalls_alike p x c i rs (omega arith) h.1 e.1,
+)
+
+all_by : (P Q : Request → Type 0) → ((r : Request) → P r → Q r) → (rs : List Request) → AllByRecursion P rs → AllByRecursion Q rs
+all_by P Q f [] h = tt
+all_by P Q f (r ∷ rs) h = (f r h.0, all_by P Q f rs h.1)
+
+-- from a settled clock on a request of any clock stalls late enough as it would if every element could be popped
+late_as_ready : (p : Plan) (c n : ℕ) → state p (n + c) ≡ state p c → latest_all (state p c).contents ≤ n + c → (r : Request)
+    → stalls p c (all_ready (state p c).contents) r ≡ stalls p (n + c) (state p (n + c)).contents r
+late_as_ready p c n same late r =
+    same_stalls p c (n + c) (state p c).contents r
+    ∙ (sym (late_stalls p (n + c) (state p c).contents late r)
+    ∙ ap (λ (st : ClockState). stalls p (n + c) st.contents r) (sym same))
 
 -- a module that is not over is held by the first request that the core knows to be stuck
 held_is : (p : Plan) → FitsEngine p → (limit : ℕ) (x : Core ModuleState) → IsAgreed (design p) (lockstep_run p) limit x → IsFinal (design p) limit x
-    → IsUndetermined (design p) x → (c i : ℕ) → x.timed i < x.emitted i → stop (design p) x i ≤ c
-    → held_by p c (state p c).contents (i, state_at p c i) ≡ option_map (held_at i) (find (is_stuck p x c i) (requests_of p (i, x.state i (x.timed i))))
-held_is p h limit x g f u c i more l =
+    → IsUndetermined (design p) x → (c : ℕ) → ((i : ℕ) → stop (design p) x i ≤ c) → (i : ℕ) → x.timed i < x.emitted i
+    → held_by p c (all_ready (state p c).contents) (i, state_at p c i) ≡ option_map (held_at i) (find (is_stuck p x i) (requests_of p (i, x.state i (x.timed i))))
+held_is p h limit x g f u c top i more =
     let d = design p in
+    let w = lockstep_run p in
     let cs = (state p c).contents in
     let now = state_at p c i in
-    let right = held_right d (lockstep_run p) (plan_is_design p h) (run_is_history p h) limit x g f u i c more l in
-    let here : now ≡ x.state i (x.timed i) = right.0 in
-    let lives : is_over p.ops now ≡ false = ap (is_over p.ops) here ∙ g.marks.lives i (x.timed i) more in
-    let possible = subst (λ (s : ModuleState). Each (λ a. counted.is_possible d (lockstep_run p) c a.pops a.channel ≡ answer (known_of d (view d x) i a) c) (accesses_in p i s)) (sym here) right.1 in
+    let asked = requests_of p (i, x.state i (x.timed i)) in
+    let n = latest_all cs + latest_asked p x i asked in
+    let rest = rests d w (plan_is_design p h) (run_is_history p h) limit x g f u c top in
+    let same = settled_stays p c n (settled_from p h c rest) in
+    let at_c = (held_right d w (plan_is_design p h) (run_is_history p h) limit x g f u i c more (top i)).0 in
+    let t = top i in
+    let right = held_right d w (plan_is_design p h) (run_is_history p h) limit x g f u i (n + c) more (omega arith) in
+    let lives : is_over p.ops now ≡ false = ap (is_over p.ops) at_c ∙ g.marks.lives i (x.timed i) more in
+    let stuck = stalls_alike p x (n + c) i asked (omega arith) (alike p h (n + c) i (x.state i (x.timed i))) right.1 in
+    let alike_all = all_by (λ r. stalls p (n + c) (state p (n + c)).contents r ≡ is_stuck p x i r) (λ r. stalls p c (all_ready cs) r ≡ is_stuck p x i r)
+    (λ r e. late_as_ready p c n same (omega arith) r ∙ e) asked stuck in
     cond-false (is_over p.ops now) None _ lives
     ∙ ap (option_map (held_at i))
-    (find_alike (stalls p c cs) (is_stuck p x c i) (requests_of p (i, now)) (stalls_alike p x c i (requests_of p (i, now)) (alike p h c i now) possible)
-    ∙ ap (λ (s : ModuleState). find (is_stuck p x c i) (requests_of p (i, s))) here)
+    (ap (λ (s : ModuleState). find (stalls p c (all_ready cs)) (requests_of p (i, s))) at_c
+    ∙ find_alike (stalls p c (all_ready cs)) (is_stuck p x i) asked alike_all)
 
 held_one : (p : Plan) → FitsEngine p → (limit : ℕ) (x : Core ModuleState) → IsAgreed (design p) (lockstep_run p) limit x → IsFinal (design p) limit x
-    → IsUndetermined (design p) x → (c i : ℕ) → stop (design p) x i ≤ c
-    → held_by p c (state p c).contents (i, state_at p c i) ≡ core_held_by p x c i
-held_one p h limit x g f u c i l = elim (cases_lt (x.timed i) (x.emitted i)) [
-  | inl m ↦ held_is p h limit x g f u c i m l ∙ sym (cond-true (nat_lt (x.timed i) (x.emitted i)) _ None (lt-ltb (x.timed i) (x.emitted i) m))
+    → IsUndetermined (design p) x → (c : ℕ) → ((i : ℕ) → stop (design p) x i ≤ c) → (i : ℕ)
+    → held_by p c (all_ready (state p c).contents) (i, state_at p c i) ≡ core_held_by p x i
+held_one p h limit x g f u c top i = elim (cases_lt (x.timed i) (x.emitted i)) [
+  | inl m ↦ held_is p h limit x g f u c top i m ∙ sym (cond-true (nat_lt (x.timed i) (x.emitted i)) _ None (lt-ltb (x.timed i) (x.emitted i) m))
   | inr m ↦
       let none = le-ltb (x.timed i) (x.emitted i) m in
       let over = stuck_ended (design p) (lockstep_run p) (plan_is_design p h) limit x g.marks g.time f.quiet i none in
-      let over_here : is_over p.ops (state_at p c i) ≡ true = ap (is_over p.ops) (last_state p h limit x g f u c i l) ∙ over in
+      let over_here : is_over p.ops (state_at p c i) ≡ true = ap (is_over p.ops) (last_state p h limit x g f u c i (top i)) ∙ over in
       cond-true (is_over p.ops (state_at p c i)) None _ over_here ∙ sym (cond-false (nat_lt (x.timed i) (x.emitted i)) _ None none)
 ]
 
@@ -125,46 +170,46 @@ by_number F G n (s ∷ ss) h =
 
 pub held_all : (p : Plan) → FitsEngine p → (limit : ℕ) (x : Core ModuleState) → IsAgreed (design p) (lockstep_run p) limit x → IsFinal (design p) limit x
     → IsUndetermined (design p) x → (c : ℕ) → ((i : ℕ) → stop (design p) x i ≤ c)
-    → held_in p c (state p c) ≡ filter_map (core_held_by p x c) (modules_of p)
+    → held_in p c (state p c) ≡ filter_map (core_held_by p x) (modules_of p)
 held_all p h limit x g f u c top =
-    by_number (held_by p c (state p c).contents) (core_held_by p x c) 0 (state p c).modules
+    by_number (held_by p c (all_ready (state p c).contents)) (core_held_by p x) 0 (state p c).modules
     (λ j l.
     let z : 0 + j ≡ j = omega arith in
-    ap (λ (i : ℕ). held_by p c (state p c).contents (i, state_at p c j)) z ∙ (held_one p h limit x g f u c j (top j) ∙ ap (core_held_by p x c) (sym z)))
-    ∙ ap (λ (n : ℕ). filter_map (core_held_by p x c) (range_with_len 0 n)) (all_modules p c)
+    ap (λ (i : ℕ). held_by p c (all_ready (state p c).contents) (i, state_at p c j)) z ∙ (held_one p h limit x g f u c top j ∙ ap (core_held_by p x) (sym z)))
+    ∙ ap (λ (n : ℕ). filter_map (core_held_by p x) (range_with_len 0 n)) (all_modules p c)
 
 -- ---- outputs
 
-sink_end : (k : ChannelKind) (side : Bool) → is_sink k ≡ true → has_end k side ≡ true → side ≡ true → ⊥
-sink_end Source side s h e = cc
-sink_end Sink true s h e = cc
-sink_end Sink false s h e = cc
-sink_end (Fifo n) side s h e = cc
+sink_port : (k : ChannelKind) (side : Side) → is_sink k ≡ true → has_port k side ≡ true → side ≡ Pop → ⊥
+sink_port Source side s h e = cc
+sink_port Sink Pop s h e = cc
+sink_port Sink Push s h e = cc
+sink_port (Fifo declared delay) side s h e = cc
 
 -- nobody pops a sink
-no_popper : (p : Plan) (f i : ℕ) → is_sink (kind_at p f) ≡ true → StandsElsewhere p true f i
-no_popper p f i s r h e k = sink_end (kind_at p f) (side_of r.kind) s (subst (λ (g : ℕ). has_end (kind_at p g) (side_of r.kind) ≡ true) e h.is_there) k
+no_popper : (p : Plan) (f i : ℕ) → is_sink (kind_at p f) ≡ true → StandsElsewhere p Pop f i
+no_popper p f i s r h e k = sink_port (kind_at p f) (side_of r.kind) s (subst (λ (g : ℕ). has_port (kind_at p g) (side_of r.kind) ≡ true) e h.is_there) k
 
-none_popped : (p : Plan) → FitsEngine p → (f : ℕ) → is_sink (kind_at p f) ≡ true → (c : ℕ) → moved true f (history p c) ≡ []
-none_popped p h f s zero = ap (moved true f) (history-zero p) ∙ moved-nil true f
+none_popped : (p : Plan) → FitsEngine p → (f : ℕ) → is_sink (kind_at p f) ≡ true → (c : ℕ) → moved Pop f (history p c) ≡ []
+none_popped p h f s zero = ap (moved Pop f) (history-zero p) ∙ moved-nil Pop f
 none_popped p h f s (suc c) =
-    let o = owner p (true, f) in
-    ap (moved true f) (history-suc p c)
-    ∙ (moved-append true f (history p c) (steps_in p c (state p c))
-    ∙ ap₂ (λ (x y : List ℕ). x ++ y) (none_popped p h f s c) (moved_in p h c true f ∙ none_shared p h c (state p c).contents true f o (no_popper p f o s) (state_at p c o)))
+    let o = owner p (record { side = Pop; channel = f }) in
+    ap (moved Pop f) (history-suc p c)
+    ∙ (moved-append Pop f (history p c) (steps_in p c (state p c))
+    ∙ ap₂ (λ (x y : List ℕ). x ++ y) (none_popped p h f s c) (moved_in p h c Pop f ∙ none_shared p h c (state p c).contents Pop f o (no_popper p f o s) (state_at p c o)))
 
 -- a sink holds all that came
 sink_holds : (p : Plan) → FitsEngine p → (f : ℕ) → f < length p.design.channels → is_sink (kind_at p f) ≡ true → (c : ℕ)
-    → contents_of (state p c).contents f ≡ all_in p c f
+    → values (contents_of (state p c).contents f) ≡ all_in p c f
 sink_holds p h f l s c =
-    contents_are p (keeps_ends p h) f (omega (arith, channel_count p)) c
+    contents_are p (keeps_ports p h) f (omega (arith, channel_count p)) c
     ∙ ap (λ (vs : List ℕ). drop (length vs) (all_in p c f)) (none_popped p h f s c)
 
 sink_is : (p : Plan) → FitsEngine p → (limit : ℕ) (x : Core ModuleState) → IsAgreed (design p) (lockstep_run p) limit x → (c : ℕ)
     → ((i : ℕ) → done (design p) (lockstep_run p) i c ≡ x.timed i)
-    → (f : ℕ) → f < length p.design.channels → is_sink (kind_at p f) ≡ true → contents_of (state p c).contents f ≡ sink_values p x f
+    → (f : ℕ) → f < length p.design.channels → is_sink (kind_at p f) ≡ true → values (contents_of (state p c).contents f) ≡ sink_values p x f
 sink_is p h limit x g c all f l s =
-    sink_holds p h f l s c ∙ outputs_right (design p) (lockstep_run p) (plan_is_design p h) (run_is_history p h) limit x g f c (all (owner p (false, f)))
+    sink_holds p h f l s c ∙ outputs_right (design p) (lockstep_run p) (plan_is_design p h) (run_is_history p h) limit x g f c (all (owner p (record { side = Push; channel = f })))
 
 map_chosen : (F G : ℕ → List ℕ) (t : ℕ → Bool) (n k : ℕ) → ((f : ℕ) → f < n + k → t f ≡ true → F f ≡ G f)
     → map F (filter t (range_with_len n k)) ≡ map G (filter t (range_with_len n k))
@@ -181,5 +226,5 @@ pub outputs_are : (p : Plan) → FitsEngine p → (limit : ℕ) (x : Core Module
     → ((i : ℕ) → done (design p) (lockstep_run p) i c ≡ x.timed i)
     → outputs_in p (state p c) ≡ map (sink_values p x) (sinks p)
 outputs_are p h limit x g c all =
-    map_chosen (contents_of (state p c).contents) (sink_values p x) (λ f. is_sink (kind_at p f)) 0 (length p.design.channels)
+    map_chosen (λ f. values (contents_of (state p c).contents f)) (sink_values p x) (λ f. is_sink (kind_at p f)) 0 (length p.design.channels)
     (λ f l s. sink_is p h limit x g c all f (omega arith) s)

@@ -4,6 +4,7 @@ use Rattle.std.specs.List.{range_with_len, AllByRecursion}
 use Rattle.std.proofs.lemmas.Bool.{cases_Bool, cases_lt, cond-true, cond-false, and_cases, both_ways, ne_eqb}
 use Rattle.std.proofs.lemmas.List.{append-nil, map-append}
 use Rattle.flow_design.specs.declared.plan.Plan.{Plan}
+use Rattle.flow_design.specs.declared.state.Element.{Element}
 use Rattle.flow_design.specs.declared.state.ModuleState.{ModuleState}
 use Rattle.flow_design.specs.declared.state.Request.{Request}
 use Rattle.flow_design.specs.StaticRules.{FitsEngine}
@@ -31,7 +32,7 @@ use Rattle.timing_bridge.proofs.History.{plan_is_design, run_is_history, moves_s
 
 -- ---- one clock
 
-paired_answers : (p : Plan) (c : ℕ) (cs : List (List ℕ)) (rs : List Request) → paired rs (map (reply p c cs) rs) ≡ map (answered p c cs) rs
+paired_answers : (p : Plan) (c : ℕ) (cs : List (List Element)) (rs : List Request) → paired rs (map (reply p c cs) rs) ≡ map (answered p c cs) rs
 paired_answers p c cs [] = refl
 paired_answers p c cs (r ∷ rs) = ap (λ (l : List Exchange). answered p c cs r ∷ l) (paired_answers p c cs rs)
 
@@ -39,12 +40,12 @@ paired_answers p c cs (r ∷ rs) = ap (λ (l : List Exchange). answered p c cs r
 abbrev done_at : Plan → ℕ → ℕ → HistoryStep
 done_at p c i = record { clock = c; «module» = i; exchanges = map (answered p c (state p c).contents) (requests_of p (i, state_at p c i)) }
 
-step_some : (c i : ℕ) (p : Plan) (cs : List (List ℕ)) (rs : List Request) → is_some_access (map seen rs) ≡ true
+step_some : (c i : ℕ) (p : Plan) (cs : List (List Element)) (rs : List Request) → is_some_access (map seen rs) ≡ true
     → step_with c i (map (answered p c cs) rs) ≡ record { clock = c; «module» = i; exchanges = map (answered p c cs) rs } ∷ []
 step_some c i p cs [] h = cc
 step_some c i p cs (r ∷ rs) h = refl
 
-step_none : (c i : ℕ) (p : Plan) (cs : List (List ℕ)) (rs : List Request) → is_some_access (map seen rs) ≡ false → step_with c i (map (answered p c cs) rs) ≡ []
+step_none : (c i : ℕ) (p : Plan) (cs : List (List Element)) (rs : List Request) → is_some_access (map seen rs) ≡ false → step_with c i (map (answered p c cs) rs) ≡ []
 step_none c i p cs [] h = refl
 step_none c i p cs (r ∷ rs) h = cc
 

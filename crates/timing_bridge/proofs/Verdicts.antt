@@ -1,22 +1,22 @@
 -- Settled clocks in the theory's words, and the verdict of a final core.
-use Rattle.std.proofs.Common.{◌≡◌, ℕ, zero, suc, ◌+◌, ◌-◌, ◌≤◌, ◌<◌, List, [], ◌∷◌, length, get_or, Bool, true, false, not, refl, sym, ◌∙◌, ap, subst, arith, inl, inr, zero-add, Some}
+use Rattle.std.proofs.Common.{◌≡◌, ℕ, zero, suc, ◌+◌, ◌-◌, ◌≤◌, ◌<◌, List, [], ◌∷◌, length, get_or, Bool, true, false, refl, sym, ◌∙◌, ap, subst, arith, inl, inr, zero-add, Some}
 use Rattle.std.specs.List.{list_any, enumerate_from}
-use Rattle.std.proofs.lemmas.Bool.{cases_Bool, cases_lt, or_parts, or_from, both_ways, not-true}
+use Rattle.std.proofs.lemmas.Bool.{cases_Bool, cases_lt, or_parts, or_from, both_ways}
 use Rattle.std.proofs.lemmas.List.{get_or_past}
 use Rattle.flow_design.specs.declared.plan.Plan.{Plan}
 use Rattle.flow_design.specs.declared.report.Verdict.TheVariants.{Cycles}
 use Rattle.flow_design.specs.declared.state.ModuleState.{ModuleState}
 use Rattle.flow_design.specs.StaticRules.{FitsEngine}
 use Rattle.lockstep_defs.specs.Machine.{nobody}
-use Rattle.lockstep_defs.specs.Lockstep.{moves, numbered, state}
-use Rattle.lockstep_defs.specs.Verdict.{is_settled, settled_verdict, verdict}
-use Rattle.lockstep_defs.proofs.Settled.{still_settled}
+use Rattle.lockstep_defs.specs.Lockstep.{moves, state}
+use Rattle.lockstep_defs.specs.Verdict.{some_moves, is_settled, settled_verdict, verdict}
+use Rattle.lockstep_defs.proofs.Settled.{still_settled, settled_none, rests_settled}
 use Rattle.lockstep_defs.proofs.Found.{verdict_found, verdict_none}
 use Rattle.event_timing.specs.Histories as counted
 use Rattle.event_timing.specs.Enablers.{candidate}
 use Rattle.event_timing.specs.Core.{Core, view}
 use Rattle.event_timing.specs.Actions.{IsFinal}
-use Rattle.event_timing.specs.Agreement.{IsAgreed, IsUndetermined, stop}
+use Rattle.event_timing.specs.Agreement.{IsAgreed, IsAtRest, IsUndetermined, stop}
 use Rattle.event_timing.proofs.Verdict.{rests, moved, determined_late}
 use Rattle.timing_bridge.specs.Designs.{design, lockstep_run}
 use Rattle.timing_bridge.proofs.Moved.{nobody_moves}
@@ -44,22 +44,22 @@ each_false test n (x ∷ xs) h (suc k) l =
 
 -- ---- settled clocks
 
-settled_from : (p : Plan) → FitsEngine p → (c : ℕ) → ((i : ℕ) → counted.moves (design p) (lockstep_run p) c i ≡ false) → is_settled p c (state p c) ≡ true
-unfolding is_settled
-settled_from p h c f =
+none_moves : (p : Plan) → FitsEngine p → (c : ℕ) → ((i : ℕ) → counted.moves (design p) (lockstep_run p) c i ≡ false)
+    → some_moves p c (state p c).contents (state p c) ≡ false
+none_moves p h c f =
     let st = state p c in
-    ap not (any_false (moves p c st.contents) 0 st.modules (λ k l. ap (λ (i : ℕ). moves p c st.contents (i, get_or st.modules k nobody)) (zero-add k) ∙ (sym (moves_same p h c k) ∙ f k)))
+    any_false (moves p c st.contents) 0 st.modules (λ k l. ap (λ (i : ℕ). moves p c st.contents (i, get_or st.modules k nobody)) (zero-add k) ∙ (sym (moves_same p h c k) ∙ f k))
 
-nobody_settled : (p : Plan) (c : ℕ) → is_settled p c (state p c) ≡ true → list_any (moves p c (state p c).contents) (numbered (state p c)) ≡ false
-unfolding is_settled
-nobody_settled p c s = not-true _ s
+-- where nobody moves in a clock and those after it, it is settled
+pub settled_from : (p : Plan) → FitsEngine p → (c : ℕ) → IsAtRest (design p) (lockstep_run p) c → is_settled p c (state p c) ≡ true
+settled_from p h c rest = rests_settled p c (λ k. none_moves p h (k + c) (λ i. rest (k + c) (omega arith) i))
 
 settled_gives : (p : Plan) → FitsEngine p → (c : ℕ) → is_settled p c (state p c) ≡ true → (i : ℕ) → counted.moves (design p) (lockstep_run p) c i ≡ false
 settled_gives p h c s i =
     let st = state p c in
     moves_same p h c i
     ∙ elim (cases_lt i (length st.modules)) [
-      | inl l ↦ ap (λ (j : ℕ). moves p c st.contents (j, get_or st.modules i nobody)) (sym (zero-add i)) ∙ each_false (moves p c st.contents) 0 st.modules (nobody_settled p c s) i l
+      | inl l ↦ ap (λ (j : ℕ). moves p c st.contents (j, get_or st.modules i nobody)) (sym (zero-add i)) ∙ each_false (moves p c st.contents) 0 st.modules (settled_none p c st s) i l
       | inr l ↦ ap (λ (t : ModuleState). moves p c st.contents (i, t)) (get_or_past st.modules i nobody l) ∙ nobody_moves p c st.contents i
     ]
 
@@ -85,7 +85,7 @@ final_settled p h x g f u last top m e l =
     let rest = rests d w (plan_is_design p h) (run_is_history p h) p.cycles x g f u last top in
     verdict_found p last l
     (λ c k. unsettled p h (last - 1) m (moved d w (plan_is_design p h) (run_is_history p h) p.cycles x g f u m (last - 1) (omega arith)) c (omega arith))
-    (settled_from p h last (λ i. rest last (omega arith) i))
+    (settled_from p h last rest)
 
 -- a step is determined: it moves at the limit or later, and no clock up to the limit is settled
 pub final_cut : (p : Plan) → FitsEngine p → (x : Core ModuleState) → IsAgreed (design p) (lockstep_run p) p.cycles x → IsFinal (design p) p.cycles x

@@ -1,6 +1,7 @@
 -- The report that is read off a final core.
-use Rattle.std.specs.Prelude.{ℕ, zero, suc, max, is_some, Bool, false, not, ◌&&◌, ◌||◌, ◌≡◌, nat_lt, if◌then◌else◌, List, [], ◌++◌, map, length, filter_map, find, Option, None, option_map, AllPairs}
+use Rattle.std.specs.Prelude.{ℕ, zero, suc, max, is_some, Bool, true, false, not, ◌&&◌, ◌||◌, ◌≡◌, nat_lt, if◌then◌else◌, List, [], ◌++◌, map, length, filter_map, find, Option, None, option_map, AllPairs}
 use Rattle.std.specs.List.{range_with_len, list_any}
+use Rattle.flow_word.specs.declared.access.Side.TheVariants.{Push}
 use Rattle.flow_design.specs.declared.plan.Plan.{Plan}
 use Rattle.flow_design.specs.declared.report.Held.{Held}
 use Rattle.flow_design.specs.declared.report.Report.{Report}
@@ -9,16 +10,17 @@ use Rattle.flow_design.specs.declared.report.Verdict.TheVariants.{Done, Deadlock
 use Rattle.flow_design.specs.declared.state.ClockState.{ClockState}
 use Rattle.flow_design.specs.declared.state.ModuleState.{ModuleState}
 use Rattle.flow_design.specs.declared.state.Request.{Request}
-use Rattle.lockstep_defs.specs.Channels.{HistoryStep, is_blocking, contents_of}
+use Rattle.flow_word.specs.Kinds.{is_blocking}
+use Rattle.lockstep_defs.specs.Channels.{HistoryStep, values, contents_of}
 use Rattle.lockstep_defs.specs.Lockstep.{requests_of, state}
 use Rattle.lockstep_defs.specs.Verdict.{settled_verdict, held_at}
 use Rattle.lockstep_defs.specs.Report.{steps_of, outcomes, events_of, sinks}
 use Rattle.lockstep_defs.specs.OwnRun.{paired}
-use Rattle.lockstep_defs.specs.Ends.{owner}
+use Rattle.lockstep_defs.specs.Ports.{owner}
 use Rattle.lockstep_defs.specs.Laws.{IsBefore}
 use Rattle.event_timing.specs.Machines.{ready}
 use Rattle.event_timing.specs.Views.{own, pushed_in}
-use Rattle.event_timing.specs.Enablers.{answer, known_of, candidate}
+use Rattle.event_timing.specs.Enablers.{Known, From, Never, Unknown, known_of, candidate}
 use Rattle.event_timing.specs.Core.{Core, core_reply, core_accesses, bare_replies, view}
 use Rattle.event_timing.specs.Agreement.{stop}
 use Rattle.timing_bridge.specs.Designs.{design, seen, told_all}
@@ -71,29 +73,39 @@ core_verdict p x =
 
 -- ---- held modules
 
--- a blocking request of the first step without a cycle that cannot be done, by what the core knows
-abbrev pub is_stuck : Plan → Core ModuleState → ℕ → ℕ → Request → Bool
-is_stuck p x c i r = is_blocking r.kind && not (answer (known_of (design p) (view (design p) x) i (seen r)) c)
+-- the core knows from which clock on it is possible
+abbrev pub is_from : Known → Bool
+is_from (From u) = true
+is_from Never = false
+is_from Unknown = false
 
-abbrev pub core_held_by : Plan → Core ModuleState → ℕ → ℕ → Option Held
-core_held_by p x c i =
+-- a blocking request of the first step without a cycle that will never be done, by what the core knows
+abbrev pub is_stuck : Plan → Core ModuleState → ℕ → Request → Bool
+is_stuck p x i r = is_blocking r.kind && not (is_from (known_of (design p) (view (design p) x) i (seen r)))
+
+abbrev pub core_held_by : Plan → Core ModuleState → ℕ → Option Held
+core_held_by p x i =
     if nat_lt (x.timed i) (x.emitted i)
-    then option_map (held_at i) (find (is_stuck p x c i) (requests_of p (i, x.state i (x.timed i))))
+    then option_map (held_at i) (find (is_stuck p x i) (requests_of p (i, x.state i (x.timed i))))
     else None
 
 abbrev pub core_held : Plan → Core ModuleState → Verdict → List Held
 core_held p x (Done c) = []
-core_held p x (Deadlock c) = filter_map (core_held_by p x c) (modules_of p)
+core_held p x (Deadlock c) = filter_map (core_held_by p x) (modules_of p)
 core_held p x (Cycles c) = []
-core_held p x (Ops c) = filter_map (core_held_by p x c) (modules_of p)
+core_held p x (Ops c) = filter_map (core_held_by p x) (modules_of p)
 
 -- ---- outputs
+
+-- the module that pushes a channel
+abbrev pub pusher : Plan → ℕ → ℕ
+pusher p f = owner p (record { side = Push; channel = f })
 
 -- all that was pushed on a channel in steps with a cycle
 abbrev pub sink_values : Plan → Core ModuleState → ℕ → List ℕ
 sink_values p x f =
-    contents_of (state p 0).contents f
-    ++ pushed_in f (core_accesses (design p) x (owner p (false, f))) (λ k. bare_replies (x.flags (owner p (false, f)) k)) (x.timed (owner p (false, f)))
+    values (contents_of (state p 0).contents f)
+    ++ pushed_in f (core_accesses (design p) x (pusher p f)) (λ k. bare_replies (x.flags (pusher p f) k)) (x.timed (pusher p f))
 
 -- ---- the report
 

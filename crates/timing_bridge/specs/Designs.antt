@@ -1,17 +1,20 @@
 -- The modules of a plan as machines of the theory, and the lockstep run as their history.
 use Rattle.std.specs.Prelude.{ℕ, Bool, true, false, not, ◌&&◌, List, [], ◌∷◌, map, length, slice_index, slice_index_or}
+use Rattle.flow_word.specs.declared.access.Side.{Side}
+use Rattle.flow_word.specs.declared.access.Side.TheVariants.{Pop, Push}
 use Rattle.flow_design.specs.declared.design.ChannelKind.{ChannelKind}
 use Rattle.flow_design.specs.declared.design.ChannelKind.TheVariants.{Source, Sink, Fifo}
 use Rattle.flow_design.specs.declared.plan.Plan.{Plan}
 use Rattle.flow_design.specs.declared.state.ModuleState.{ModuleState}
 use Rattle.flow_design.specs.declared.state.Request.{Request}
 use Rattle.flow_design.specs.declared.state.Reply.{Reply}
-use Rattle.flow_design.specs.Plans.{is_fifo, kind_at}
+use Rattle.flow_design.specs.Plans.{is_fifo, kind_at, delay_at}
 use Rattle.lockstep_defs.specs.Machine.{opened, move, nobody, is_over}
-use Rattle.lockstep_defs.specs.Channels.{side_of, is_blocking, is_taking, reply_by, moved, contents_of}
+use Rattle.flow_word.specs.Kinds.{same_side, side_of, is_blocking, is_taking}
+use Rattle.lockstep_defs.specs.Channels.{reply_by, moved, values, contents_of}
 use Rattle.lockstep_defs.specs.Lockstep.{module_at, requests_of, state, state_at, history}
 use Rattle.lockstep_defs.specs.Quiet.{quiet}
-use Rattle.lockstep_defs.specs.Ends as ends
+use Rattle.lockstep_defs.specs.Ports as ports
 use Rattle.lockstep_defs.specs.Laws.{all_in}
 use Rattle.event_timing.specs.Machines.{Design}
 use Rattle.event_timing.specs.Machines as theory
@@ -22,7 +25,7 @@ use Rattle.event_timing.specs.Histories.{Trace}
 -- a request as the theory sees it
 abbrev pub seen : Request → theory.Access
 seen r = record {
-  pops = side_of r.kind;
+  side = side_of r.kind;
   blocks = is_blocking r.kind;
   takes = is_taking r.kind;
   channel = r.channel;
@@ -49,16 +52,17 @@ move_in p i s replies = move (module_at p i) s (told_all (requests_of p (i, s)) 
 abbrev pub is_source : ChannelKind → Bool
 is_source Source = true
 is_source Sink = false
-is_source (Fifo d) = false
+is_source (Fifo depth delay) = false
 
 -- how many pops are possible before any push, and how many pushes before any pop
-abbrev pub start_in : Plan → Bool → ℕ → ℕ
-start_in p true f = length (contents_of (state p 0).contents f)
-start_in p false f = slice_index p.depths f
+abbrev pub start_in : Plan → Side → ℕ → ℕ
+start_in p Pop f = length (values (contents_of (state p 0).contents f))
+start_in p Push f = slice_index p.depths f
 
--- a push is seen by a pop, and a pop by a push, one clock later
-abbrev pub lag_in : Plan → Bool → ℕ → ℕ
-lag_in p side f = 1
+-- a push is seen by a pop after the channel's delay, and a pop by a push one clock later
+abbrev pub lag_in : Plan → Side → ℕ → ℕ
+lag_in p Pop f = delay_at p f
+lag_in p Push f = 1
 
 abbrev pub design : Plan → Design ModuleState
 design p = record {
@@ -68,11 +72,11 @@ design p = record {
   move = move_in p;
   is_over = λ i s. is_over p.ops s;
   quiet = quiet p;
-  owner = λ side f. ends.owner p (side, f);
+  owner = λ side f. ports.owner p (record { side = side; channel = f });
   start = start_in p;
-  unlimited = λ side f. not side && not (is_fifo (kind_at p f));
-  closed = λ side f. side && is_source (kind_at p f);
-  inputs = λ f. contents_of (state p 0).contents f;
+  unlimited = λ side f. same_side side Push && not (is_fifo (kind_at p f));
+  closed = λ side f. same_side side Pop && is_source (kind_at p f);
+  inputs = λ f. values (contents_of (state p 0).contents f);
   lag = lag_in p;
 }
 

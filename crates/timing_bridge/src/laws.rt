@@ -1,6 +1,7 @@
 //! The laws, for any plan `p` that the engine takes.
-ghost use Rattle.std.specs.Prelude.{ℕ, Bool, ◌≡◌, ◌+◌, ◌*◌, ◌<◌, ◌≤◌, List, map, length};
+ghost use Rattle.std.specs.Prelude.{ℕ, ◌≡◌, ◌+◌, ◌*◌, ◌<◌, ◌≤◌, List, map, length};
 ghost use Rattle.std.specs.List.{range_with_len};
+ghost use Rattle.flow_word.specs.declared.access.Side.{Side};
 ghost use Rattle.flow_design.specs.declared.plan.Edit.{Edit};
 ghost use Rattle.flow_design.specs.declared.plan.Plan.{Plan};
 ghost use Rattle.flow_design.specs.declared.state.ModuleState.{ModuleState};
@@ -59,7 +60,7 @@ pub fn cores_show_history()
 /// The theory's count of a module's pops, or pushes, of a channel before its step `k` is how many elements its earlier steps
 /// moved there. So the ordinal of an access is one more.
 pub fn ordinals_are_counts()
-    ensures { (p : Plan) (x : Core ModuleState) → AreOwnMarks (design p) x → (i : ℕ) (side : Bool) (f k : ℕ) → k ≤ x.emitted i
+    ensures { (p : Plan) (x : Core ModuleState) → AreOwnMarks (design p) x → (i : ℕ) (side : Side) (f k : ℕ) → k ≤ x.emitted i
         → core_tally (design p) x i side f k ≡ length (moved side f (map (core_step p x i) (range_with_len 0 k))) }
 {}
 

@@ -1,4 +1,3 @@
-use Rattle.event_timing.proofs.ActionBound.{nothing_differs}
 use Rattle.event_timing.proofs.Agreement.{answer_found, earliest_found}
 use Rattle.event_timing.proofs.Candidate.{candidate_done, candidate_steps}
 use Rattle.event_timing.proofs.Fronts.{agrees}
@@ -14,9 +13,6 @@ returns-clause-answered g c = λ d h i y limit x a m k r. answer_found d h i y l
 
 pub returns-clause-earliest : goal.returns-clause-earliest
 returns-clause-earliest g c = λ d h i y limit x a m k r. earliest_found d h i y limit x a m k r
-
-pub returns-clause-never_differs : goal.returns-clause-never_differs
-returns-clause-never_differs g c = λ d h i y limit actions x s m k v e. nothing_differs d h i y limit actions x s m k v e
 
 pub returns-clause-enabler : goal.returns-clause-enabler
 returns-clause-enabler g c = λ a r side ch n i k l p q. place_unique a r side ch n i k l p q

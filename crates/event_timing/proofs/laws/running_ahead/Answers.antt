@@ -1,5 +1,9 @@
+use Rattle.event_timing.proofs.Beside.{runs_stay}
 use Rattle.event_timing.proofs.RunningAhead.{still_ahead}
 use Rattle.event_timing.proofs.laws.running_ahead.Goals as goal
 
-pub returns : goal.returns
-returns g c = λ d h i y limit x a m r actions o z s. still_ahead d h i y limit x a m r actions o z s
+pub returns-clause-several : goal.returns-clause-several
+returns-clause-several g c = λ d h i y limit x a m n z t actions o w s. runs_stay d h i y limit x a m n z t actions o w s
+
+pub returns-clause-one : goal.returns-clause-one
+returns-clause-one g c = λ d h i y limit x a m r actions o z s. still_ahead d h i y limit x a m r actions o z s

@@ -1,5 +1,5 @@
 use Rattle.lockstep_defs.proofs.Once.{takers_once}
-use Rattle.lockstep_defs.proofs.Rules.{keeps_ends}
+use Rattle.lockstep_defs.proofs.Rules.{keeps_ports}
 use Rattle.lockstep_defs.proofs.Standing.{due_in_range, requests_stand}
 use Rattle.lockstep_defs.proofs.States.{opened_state, move_state, history_state}
 use Rattle.lockstep_defs.proofs.laws.states_fit_modules.Goals as goal
@@ -20,4 +20,4 @@ pub returns-clause-requests : goal.returns-clause-requests
 returns-clause-requests c = requests_stand
 
 pub returns-clause-takers : goal.returns-clause-takers
-returns-clause-takers c = λ p h. takers_once p (keeps_ends p h)
+returns-clause-takers c = λ p h. takers_once p (keeps_ports p h)

@@ -1,6 +1,6 @@
 use Rattle.std.proofs.Common.{refl}
-use Rattle.lockstep_defs.proofs.Computed.{all_open}
-use Rattle.lockstep_defs.proofs.examples.blocks_and_loops.Goals as goal
+use Rattle.lockstep_examples.proofs.Computed.{all_open}
+use Rattle.lockstep_examples.proofs.examples.blocks_and_loops.Goals as goal
 
 pub returns-clause-back_to_back : goal.returns-clause-back_to_back
 unfolding all_open

@@ -30,7 +30,11 @@ abbrev pub sink : ℕ → Channel
 sink width = record { name = []; width = width; kind = Sink }
 
 abbrev pub fifo : ℕ → Channel
-fifo width = record { name = []; width = width; kind = Fifo 2 }
+fifo width = record { name = []; width = width; kind = Fifo 2 1 }
+
+-- a FIFO with a delay
+abbrev pub slow_fifo : ℕ → ℕ → Channel
+slow_fifo width delay = record { name = []; width = width; kind = Fifo 2 delay }
 
 -- `block LEN` and `loop II LEN while R`, which stop at their end
 abbrev pub block : ℕ → List Timed → Block
@@ -235,6 +239,41 @@ deadlocked_record_goes_on depth = plan_of (fifo 8 ∷ fifo 8 ∷ sink 8 ∷ [])
     (at 0 (Read 1 0) ∷ at 1 (Read 0 0) ∷ at 2 (Read 0 0) ∷ at 3 (Read 0 0) ∷ at 4 (Write 2 (Var 0)) ∷ []))
     ∷ [])
     ([] ∷ [] ∷ [] ∷ []) (depth ∷ 2 ∷ 0 ∷ [])
+
+-- ---- FIFOs with a delay
+
+abbrev pub five_clocks_later : Plan
+five_clocks_later = plan_of (source 8 ∷ slow_fifo 8 5 ∷ sink 8 ∷ [])
+    (one_block (8 ∷ []) (block 2 (at 0 (Read 0 0) ∷ at 1 (Write 1 (Var 0)) ∷ []))
+    ∷ one_block (8 ∷ []) (block 2 (at 0 (Read 1 0) ∷ at 1 (Write 2 (Var 0)) ∷ []))
+    ∷ [])
+    ((5 ∷ []) ∷ [] ∷ [] ∷ []) (0 ∷ 2 ∷ 0 ∷ [])
+
+abbrev pub three_values_late : ℕ → Plan
+three_values_late depth = record (three_values depth) {
+  design = record (three_values depth).design { channels = slow_fifo 8 5 ∷ [] };
+}
+
+-- a push in clock 5 on a FIFO of this delay, and a tried pop in clock 6
+abbrev pub tried_pop_late : ℕ → Plan
+tried_pop_late delay = plan_of (slow_fifo 8 delay ∷ sink 8 ∷ [])
+    (one_block [] (block 6 (at 5 (Write 0 (Number 3)) ∷ []))
+    ∷ one_block (8 ∷ 1 ∷ []) (block 8 (at 6 (TryRead 0 0 1) ∷ at 7 (Write 1 (Var 1)) ∷ []))
+    ∷ [])
+    ([] ∷ [] ∷ []) (2 ∷ 0 ∷ [])
+
+-- two modules that wait for one another; the one that pops first would wait long for its element
+abbrev pub slow_deadlock : Plan
+slow_deadlock = record deadlock_at_once { design = record deadlock_at_once.design { channels = slow_fifo 8 9 ∷ fifo 8 ∷ [] } }
+
+-- a module that waits for an element that can be popped later, and for one that never comes
+abbrev pub held_by_the_second : Plan
+held_by_the_second = plan_of (slow_fifo 8 9 ∷ fifo 8 ∷ [])
+    (one_block [] (block 1 (at 0 (Write 0 (Number 3)) ∷ []))
+    ∷ one_block (8 ∷ 8 ∷ []) (block 1 (at 0 (Read 0 0) ∷ at 0 (Read 1 1) ∷ []))
+    ∷ one_block (1 ∷ []) (block 1 (at_if 0 0 (Write 1 (Number 1)) ∷ []))
+    ∷ [])
+    ([] ∷ [] ∷ []) (2 ∷ 2 ∷ [])
 
 -- ---- loops, temps, memories and terminators
 

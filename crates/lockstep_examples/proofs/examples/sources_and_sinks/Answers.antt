@@ -1,6 +1,6 @@
 use Rattle.std.proofs.Common.{refl}
-use Rattle.lockstep_defs.proofs.Computed.{all_open}
-use Rattle.lockstep_defs.proofs.examples.sources_and_sinks.Goals as goal
+use Rattle.lockstep_examples.proofs.Computed.{all_open}
+use Rattle.lockstep_examples.proofs.examples.sources_and_sinks.Goals as goal
 
 pub returns-clause-plain_case : goal.returns-clause-plain_case
 unfolding all_open

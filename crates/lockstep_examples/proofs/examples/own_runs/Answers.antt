@@ -1,6 +1,6 @@
 use Rattle.std.proofs.Common.{refl}
-use Rattle.lockstep_defs.proofs.Computed.{all_open}
-use Rattle.lockstep_defs.proofs.examples.own_runs.Goals as goal
+use Rattle.lockstep_examples.proofs.Computed.{all_open}
+use Rattle.lockstep_examples.proofs.examples.own_runs.Goals as goal
 
 pub returns-clause-ended : goal.returns-clause-ended
 unfolding all_open

@@ -1,6 +1,6 @@
 use Rattle.std.proofs.Common.{refl}
-use Rattle.lockstep_defs.proofs.Computed.{all_open}
-use Rattle.lockstep_defs.proofs.examples.fifos.Goals as goal
+use Rattle.lockstep_examples.proofs.Computed.{all_open}
+use Rattle.lockstep_examples.proofs.examples.fifos.Goals as goal
 
 pub returns-clause-visibility_one_clock_later : goal.returns-clause-visibility_one_clock_later
 unfolding all_open

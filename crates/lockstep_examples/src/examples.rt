@@ -6,8 +6,8 @@ ghost use Rattle.flow_design.specs.declared.state.Advance.TheVariants as Advance
 ghost use Rattle.flow_design.specs.declared.state.Reply.TheVariants as Reply;
 ghost use Rattle.lockstep_defs.specs.Report.{report};
 ghost use Rattle.lockstep_defs.specs.OwnRun.{marks};
-ghost use Rattle.lockstep_defs.specs.Designs as Designs;
-ghost use Rattle.lockstep_defs.specs.Shows.{Shows, event, held_by_channel, access, step_mark};
+ghost use Rattle.lockstep_examples.specs.Designs as Designs;
+ghost use Rattle.lockstep_examples.specs.Shows.{Shows, event, held_by_channel, access, step_mark};
 
 /// From a source to a sink.
 pub fn sources_and_sinks()
@@ -43,6 +43,25 @@ pub fn fifos()
     ensures events_through_depth_one { (report Designs.three_values_through_depth_one).events
         ≡ event 0 Kind.Write 0 0 ∷ event 1 Kind.Read 0 1 ∷ event 0 Kind.Write 0 2
         ∷ event 1 Kind.Read 0 3 ∷ event 0 Kind.Write 0 4 ∷ event 1 Kind.Read 0 5 ∷ [] }
+{}
+
+/// FIFOs whose elements can be popped later, and other depths for them.
+pub fn delays()
+    ensures five_clocks_later { Shows Designs.five_clocks_later (Done 8) ((5 ∷ []) ∷ []) [] }
+    ensures later_events { (report Designs.five_clocks_later).events
+        ≡ event 0 Kind.Read 0 0 ∷ event 0 Kind.Write 1 1 ∷ event 1 Kind.Read 1 6 ∷ event 1 Kind.Write 2 7 ∷ [] }
+    ensures late_through_depth_two { Shows (Designs.three_values_late 2) (Done 12) [] [] }
+    ensures late_events_through_depth_two { (report (Designs.three_values_late 2)).events
+        ≡ event 0 Kind.Write 0 0 ∷ event 0 Kind.Write 0 1 ∷ event 1 Kind.Read 0 5
+        ∷ event 0 Kind.Write 0 6 ∷ event 1 Kind.Read 0 6 ∷ event 1 Kind.Read 0 11 ∷ [] }
+    ensures late_through_depth_three { Shows (Designs.three_values_late 3) (Done 8) [] [] }
+    ensures late_events_through_depth_three { (report (Designs.three_values_late 3)).events
+        ≡ event 0 Kind.Write 0 0 ∷ event 0 Kind.Write 0 1 ∷ event 0 Kind.Write 0 2
+        ∷ event 1 Kind.Read 0 5 ∷ event 1 Kind.Read 0 6 ∷ event 1 Kind.Read 0 7 ∷ [] }
+    ensures there_in_time { Shows (Designs.tried_pop_late 1) (Done 8) ((1 ∷ []) ∷ []) [] }
+    ensures not_there_yet { Shows (Designs.tried_pop_late 2) (Done 8) ((0 ∷ []) ∷ []) [] }
+    ensures slow_deadlock { Shows Designs.slow_deadlock (Deadlock 0) [] (held_by_channel 0 false 1 ∷ held_by_channel 1 false 0 ∷ []) }
+    ensures held_by_the_second { Shows Designs.held_by_the_second (Deadlock 1) [] (held_by_channel 1 false 1 ∷ []) }
 {}
 
 /// Operations that never block, and tests.

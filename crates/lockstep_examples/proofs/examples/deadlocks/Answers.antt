@@ -1,6 +1,6 @@
 use Rattle.std.proofs.Common.{refl}
-use Rattle.lockstep_defs.proofs.Computed.{all_open}
-use Rattle.lockstep_defs.proofs.examples.deadlocks.Goals as goal
+use Rattle.lockstep_examples.proofs.Computed.{all_open}
+use Rattle.lockstep_examples.proofs.examples.deadlocks.Goals as goal
 
 pub returns-clause-deadlock_at_once : goal.returns-clause-deadlock_at_once
 unfolding all_open

@@ -1,0 +1,38 @@
+use Rattle.event_timing.proofs.Answering.{answer_grows}
+use Rattle.event_timing.proofs.Beside.{run_grows, actions_grow, others_grow}
+use Rattle.event_timing.proofs.Growing.{settled_old, settled_all, tally_grow, reply_grow, there_grow, own_grow}
+use Rattle.event_timing.proofs.RunningAhead.{assign_grows}
+use Rattle.event_timing.proofs.laws.cores_grow.Goals as goal
+
+pub returns-clause-run : goal.returns-clause-run
+returns-clause-run g c = λ d x m. run_grows d x m
+
+pub returns-clause-assign : goal.returns-clause-assign
+returns-clause-assign g c = λ d x m k. assign_grows d x m k
+
+pub returns-clause-answer : goal.returns-clause-answer
+returns-clause-answer g c = λ d i x b m k l s. answer_grows d i x b m k l s
+
+pub returns-clause-all : goal.returns-clause-all
+returns-clause-all g c = λ d h i y limit x a actions z s. actions_grow d h i y limit x a actions z s
+
+pub returns-clause-others : goal.returns-clause-others
+returns-clause-others g c = λ d h i y limit x a m actions o z s. others_grow d h i y limit x a m actions o z s
+
+pub returns-clause-settled : goal.returns-clause-settled
+returns-clause-settled g c = λ d x b m n l. settled_old d x b m n l
+
+pub returns-clause-settled_all : goal.returns-clause-settled_all
+returns-clause-settled_all g c = λ d x b m r. settled_all d x b m r.answered r.there
+
+pub returns-clause-counts : goal.returns-clause-counts
+returns-clause-counts g c = λ d x z w m n s side ch. tally_grow d x z w m n s.emitted s.answered side ch
+
+pub returns-clause-replies : goal.returns-clause-replies
+returns-clause-replies g c = λ d x z w m n s. reply_grow d x z w m n s
+
+pub returns-clause-there : goal.returns-clause-there
+returns-clause-there g c = λ d x z w m n s. there_grow d x z w m n s
+
+pub returns-clause-rests : goal.returns-clause-rests
+returns-clause-rests g c = λ d x z w m n s. own_grow d x z w m n s

@@ -1,0 +1,45 @@
+-- The ports of channels, and who stands at them.
+use Rattle.std.specs.Prelude.{ℕ, ◌≡◌, ◌<◌, Bool, true, false, List, length, filter}
+use Rattle.std.specs.List.{position_or_len}
+use Rattle.flow_word.specs.declared.access.Port.{Port}
+use Rattle.flow_word.specs.declared.access.Side.{Side}
+use Rattle.flow_word.specs.declared.access.Side.TheVariants.{Pop, Push}
+use Rattle.flow_word.specs.Kinds.{side_of}
+use Rattle.flow_design.specs.declared.expr.Op.{Op}
+use Rattle.flow_design.specs.declared.design.ChannelKind.{ChannelKind}
+use Rattle.flow_design.specs.declared.design.ChannelKind.TheVariants.{Source, Sink, Fifo}
+use Rattle.flow_design.specs.declared.plan.Plan.{Plan}
+use Rattle.flow_design.specs.declared.state.Request.{Request}
+use Rattle.flow_design.specs.Operations.{port, taken_port, used_port}
+use Rattle.flow_design.specs.Plans.{kind_at}
+use Rattle.flow_design.specs.StaticRules.{is_port, uses}
+
+-- the operation pops or pushes at this port
+abbrev pub takes : Port → Op ℕ → Bool
+takes a op = is_port a (used_port op)
+
+-- the module at a port, the first if there were more; the number of modules where there is none
+unfoldable pub owner : Plan → Port → ℕ
+owner p a = position_or_len (uses a) p.design.modules
+
+-- the request pops or pushes at this port, where that is possible
+abbrev pub is_taker : Port → Request → Bool
+is_taker a r = is_port a (taken_port r.kind r.channel)
+
+-- those of the requests
+abbrev pub takers : Port → List Request → List Request
+takers a requests = filter (is_taker a) requests
+
+-- a source is never pushed, and a sink never popped
+abbrev pub has_port : ChannelKind → Side → Bool
+has_port Source Pop = true
+has_port Source Push = false
+has_port Sink Pop = false
+has_port Sink Push = true
+has_port (Fifo depth delay) side = true
+
+-- a request of module i stands at a port that is there, and that the module has
+pub record StandsAtPort (p : Plan) (i : ℕ) (r : Request) : Type 0 where
+  pub in_range : r.channel < length p.design.channels
+  pub is_there : has_port (kind_at p r.channel) (side_of r.kind) ≡ true
+  pub owned : owner p (port r.kind r.channel) ≡ i

@@ -70,6 +70,7 @@ impl Graph {
         ensures succeeds { 0 < slice_index self.old.rooms owner → IsOk result }
         ensures own_room { slice_index self.old.rooms owner ≤ slice_index self.new.rooms owner + 1 }
         ensures other_rooms { (k : ℕ) → k ≢ owner → slice_index self.old.rooms k ≤ slice_index self.new.rooms k }
+        ensures sound { All IsSoundLane self.new.lanes }
     {
         self.lanes[owner as usize].push_step(step)
     }
@@ -128,6 +129,7 @@ impl Graph {
         requires later { ForSome (last_cycle (lane_at self.old.lanes owner)) (λ last. last < cycle) }
         ensures lanes { self.new.lanes ≡ with_cycle self.old.lanes owner cycle }
         ensures kept { (k : ℕ) → slice_index self.old.rooms k ≤ slice_index self.new.rooms k }
+        ensures sound { All IsSoundLane self.new.lanes }
         ensures ticks { steps.new ≡ steps.old + 1 }
     {
         self.lanes[owner as usize].set_cycle(cycle, steps);
@@ -138,6 +140,7 @@ impl Graph {
         ensures lanes { self.new.lanes ≡ map (timed_below cycle) self.old.lanes }
         ensures each { (place : Place) → cycle_at self.new.lanes place ≡ if_below cycle (cycle_at self.old.lanes place) }
         ensures kept { (k : ℕ) → slice_index self.old.rooms k ≤ slice_index self.new.rooms k }
+        ensures sound { All IsSoundLane self.new.lanes }
     {
         for lane in self.lanes.iter_mut() {
             lane.forget_from(cycle);

@@ -1,39 +1,70 @@
 -- Channels with the pushes and pops that were emitted so far.
-use Rattle.std.specs.Prelude.{ℕ, ◌-◌, ◌≤◌, List, [], ◌∷◌, ◌++◌, map, slice_get, slice_set, slice_index_or, Option}
+use Rattle.std.specs.Prelude.{ℕ, ◌-◌, ◌≤◌, List, [], ◌∷◌, ◌++◌, map, slice_get, slice_set, slice_index_or, Option, option_map}
 use Rattle.flow_word.specs.declared.access.Place.{Place}
-use Rattle.fifo_table.specs.declared.channel.Push.{Push}
+use Rattle.flow_word.specs.declared.access.Side.{Side}
+use Rattle.flow_word.specs.declared.access.Side.TheVariants.{Pop, Push}
+use Rattle.flow_design.specs.declared.limits.TheConstants.{FIFO_DEPTH, FIFO_DELAY}
+use Rattle.fifo_table.specs.declared.channel.Pushed.{Pushed}
 use Rattle.fifo_table.specs.declared.channel.TableChannel.{TableChannel}
 use Rattle.fifo_table.specs.declared.channel.TableChannel.TheVariants.{Source, Sink, Fifo}
 
--- what a channel is, and its pushes and pops in order
-pub record Channel : Type 0 where
-  pub kind : TableChannel
-  pub pushes : List Push
-  pub pops : List Place
+-- ---- what a channel is
 
--- a FIFO's depth is within its bounds
+-- a FIFO's depth and delay are within the limits
 abbrev pub IsSoundKind : TableChannel → Type 0
 IsSoundKind (Source inputs) = Unit {0}
 IsSoundKind Sink = Unit {0}
-IsSoundKind (Fifo depth) = (1 ≤ depth) × (depth ≤ 1000000)
+IsSoundKind (Fifo depth delay) = (1 ≤ depth) × (depth ≤ FIFO_DEPTH) × (1 ≤ delay) × (delay ≤ FIFO_DELAY)
 
 -- a preloaded input stream
 abbrev pub IsSource : TableChannel → Type 0
 IsSource (Source inputs) = Unit {0}
 IsSource Sink = ⊥
-IsSource (Fifo depth) = ⊥
+IsSource (Fifo depth delay) = ⊥
 
 -- an output stream
 abbrev pub IsSink : TableChannel → Type 0
 IsSink (Source inputs) = ⊥
 IsSink Sink = Unit {0}
-IsSink (Fifo depth) = ⊥
+IsSink (Fifo depth delay) = ⊥
 
 -- a queue with a depth
 abbrev pub IsFifo : TableChannel → Type 0
 IsFifo (Source inputs) = ⊥
 IsFifo Sink = ⊥
-IsFifo (Fifo depth) = Unit {0}
+IsFifo (Fifo depth delay) = Unit {0}
+
+-- a channel of this kind has the side: nobody pops a sink, and nobody pushes a source
+abbrev pub HasSide : TableChannel → Side → Type 0
+HasSide kind Pop = ¬ IsSink kind
+HasSide kind Push = ¬ IsSource kind
+
+-- the depth of a FIFO
+abbrev pub depth_of : TableChannel → ℕ
+depth_of (Source inputs) = 0
+depth_of Sink = 0
+depth_of (Fifo depth delay) = depth
+
+-- a FIFO of another depth
+abbrev pub deepened : TableChannel → ℕ → TableChannel
+deepened (Source inputs) depth = Source inputs
+deepened Sink depth = Sink
+deepened (Fifo old delay) depth = Fifo depth delay
+
+-- how many clocks after the event that it waits for an access is possible: a pop of a FIFO so many as its delay, every other one
+abbrev pub lag_of : TableChannel → Side → ℕ
+lag_of (Source inputs) side = 1
+lag_of Sink side = 1
+lag_of (Fifo depth delay) Pop = delay
+lag_of (Fifo depth delay) Push = 1
+
+-- ---- channels
+
+-- what a channel is, and its pushes and pops in order
+pub record Channel : Type 0 where
+  pub kind : TableChannel
+  pub pushes : List Pushed
+  pub pops : List Place
 
 -- a channel without a push and a pop
 abbrev pub unused : TableChannel → Channel
@@ -47,14 +78,25 @@ channel_at channels c = slice_index_or channels c (unused Sink)
 abbrev pub nth : {X : Type 0} → List X → ℕ → Option X
 nth items n = slice_get items (n - 1)
 
+-- the steps of the pops, or of the pushes, in order
+abbrev pub places_of : Side → Channel → List Place
+places_of Pop channel = channel.pops
+places_of Push channel = map (λ p. p.at) channel.pushes
+
+-- the module of the first of these steps, where there is one
+abbrev pub first_module : List Place → Option ℕ
+first_module places = option_map (λ place. place.module) (slice_get places 0)
+
 -- the values that a channel's pops find, in order: a source's inputs, else what was pushed
-abbrev pub values_of : TableChannel → List Push → List ℕ
+abbrev pub values_of : TableChannel → List Pushed → List ℕ
 values_of (Source inputs) pushes = inputs
 values_of Sink pushes = map (λ p. p.value) pushes
-values_of (Fifo depth) pushes = map (λ p. p.value) pushes
+values_of (Fifo depth delay) pushes = map (λ p. p.value) pushes
+
+-- ---- changes
 
 -- a push and its value
-abbrev pub push_of : Place → ℕ → Push
+abbrev pub push_of : Place → ℕ → Pushed
 push_of at value = record { at = at; value = value }
 
 -- the channels with a push more in one of them
@@ -68,4 +110,4 @@ with_pop channels c at = slice_set channels c (record (channel_at channels c) { 
 
 -- the channels with another depth of one of them
 abbrev pub with_depth : List Channel → ℕ → ℕ → List Channel
-with_depth channels c depth = slice_set channels c (record (channel_at channels c) { kind = Fifo depth })
+with_depth channels c depth = slice_set channels c (record (channel_at channels c) { kind = deepened (channel_at channels c).kind depth })

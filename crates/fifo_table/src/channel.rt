@@ -1,9 +1,9 @@
 //! A channel with its pushes and pops.
 ghost use Rattle.std.specs.Prelude.{◌≡◌, ◌≤◌, IfOk, OnOk};
-ghost use Rattle.fifo_table.specs.Channels.{unused};
+ghost use Rattle.fifo_table.specs.Channels.{unused, lag_of, deepened};
 ghost use Rattle.fifo_table.specs.Roomed.{channel_of};
 
-use flow_word::{List, OutOfMemory, Place, RoomyList, Words};
+use flow_word::{List, OutOfMemory, Place, RoomyList, Side, Words};
 use std::alloc::Global;
 
 /// What a channel is.
@@ -13,13 +13,14 @@ pub enum TableChannel {
     Source(Words),
     /// An output stream, which is never full.
     Sink,
-    /// A queue of this depth, from 1 to 1,000,000.
-    Fifo(u64),
+    /// A queue of this depth, from 1 to 1,000,000, and this delay, from 1 to 1,000: an element can be popped so many
+    /// clocks after its push.
+    Fifo(u64, u64),
 }
 
 /// One push: the step that made it, and its value.
 #[derive(Clone, Copy, Debug, PartialEq, Eq)]
-pub struct Push {
+pub struct Pushed {
     pub at: Place,
     pub value: u64,
 }
@@ -28,7 +29,7 @@ pub struct Push {
 #[derive(Drop)]
 pub struct RoomyChannel {
     pub kind: TableChannel,
-    pub pushes: RoomyList<Push>,
+    pub pushes: RoomyList<Pushed>,
     pub pops: RoomyList<Place>,
 }
 
@@ -55,6 +56,26 @@ impl RoomyChannel {
         self.pushes.reserve(pushes)?;
         self.pops.reserve(pops)
     }
+
+    /// How many clocks after the event that it waits for a pop, or a push, is possible.
+    pub fn lag(&self, side: Side) -> u64
+        ensures { result ≡ lag_of self.now.kind side }
+    {
+        match (&self.kind, side) {
+            (TableChannel::Fifo(_, delay), Side::Pop) => *delay,
+            (TableChannel::Fifo(_, _), Side::Push) => 1,
+            (TableChannel::Source(_) | TableChannel::Sink, _) => 1,
+        }
+    }
+
+    /// Sets the depth of a FIFO. Another channel stays as it is.
+    pub fn set_depth(&mut self, depth: u64)
+        ensures { self.new ≡ record self.old { kind = deepened self.old.kind depth } }
+    {
+        if let TableChannel::Fifo(current, _) = &mut self.kind {
+            *current = depth;
+        }
+    }
 }
 
 fn copied(alloc: Global, kind: &TableChannel) -> Result<TableChannel, OutOfMemory>
@@ -66,6 +87,6 @@ fn copied(alloc: Global, kind: &TableChannel) -> Result<TableChannel, OutOfMemor
             inputs.as_slice(),
         )?)),
         TableChannel::Sink => Ok(TableChannel::Sink),
-        TableChannel::Fifo(depth) => Ok(TableChannel::Fifo(*depth)),
+        TableChannel::Fifo(depth, delay) => Ok(TableChannel::Fifo(*depth, *delay)),
     }
 }

@@ -1,11 +1,12 @@
 //! The table of all channels.
 ghost use Rattle.std.specs.Prelude.{◌≡◌, ◌≢◌, ℕ, ◌+◌, ◌<◌, ◌≤◌, ◌^◌, length, map, slice_index, All, IsOk, IfOk, OnOk, OnErr};
-ghost use Rattle.fifo_table.specs.Channels.{IsSoundKind, IsSource, IsSink, IsFifo, unused, channel_at, nth, values_of, with_push, with_pop, with_depth};
-ghost use Rattle.fifo_table.specs.Enablers.{enabler_of_read as read_enabler, enabler_of_write as write_enabler, event_at};
+ghost use Rattle.flow_design.specs.declared.limits.TheConstants.{FIFO_DEPTH, FIFO_DELAY};
+ghost use Rattle.fifo_table.specs.Channels.{IsSoundKind, IsSource, IsSink, IsFifo, HasSide, depth_of, lag_of, unused, channel_at, nth, places_of, first_module, values_of, with_push, with_pop, with_depth};
+ghost use Rattle.fifo_table.specs.Enablers.{enabler_of, event_at};
 
-use crate::channel::{Push, RoomyChannel, TableChannel};
+use crate::channel::{Pushed, RoomyChannel, TableChannel};
 use crate::enabler::Enabler;
-use flow_word::{OutOfMemory, Place};
+use flow_word::{OutOfMemory, Place, Side};
 use std::alloc::Global;
 use std::marker::Model;
 
@@ -27,14 +28,14 @@ impl Model for FifoTable {
 
     ghost view = { λ t. record { channels = channels_of t.channels.items; push_rooms = push_rooms_of t.channels.items; pop_rooms = pop_rooms_of t.channels.items } };
 
-    ghost invariant = { λ t. All (λ c. IsSoundKind c.kind) (channels_of t.channels.items) };
+    ghost invariant = { λ t. All (λ c. IsSoundKind c.kind) (channels_of t.channels.items) × (length t.channels.items < 2 ^ 32) };
 }
 
 impl FifoTable {
     /// A table of these channels without a push and a pop.
     pub fn new(alloc: Global, channels: &[TableChannel]) -> Result<FifoTable, OutOfMemory>
         requires count { length channels.now < 2 ^ 32 }
-        requires depths { All IsSoundKind channels.now }
+        requires kinds { All IsSoundKind channels.now }
         ensures { IfOk result (λ table. table.channels ≡ map unused channels.now) }
     {
         let mut made = Vec::with_capacity(alloc, channels.len())?;
@@ -74,7 +75,7 @@ impl FifoTable {
     {
         self.channels[channel as usize]
             .pushes
-            .push(Push { at, value })
+            .push(Pushed { at, value })
     }
 
     /// Adds the next pop of a channel.
@@ -104,9 +105,64 @@ impl FifoTable {
         let at = (n - 1) as usize;
         match &channel.kind {
             TableChannel::Source(inputs) => inputs.as_slice().get(at).copied(),
-            TableChannel::Sink | TableChannel::Fifo(_) => {
+            TableChannel::Sink | TableChannel::Fifo(..) => {
                 channel.pushes.as_slice().get(at).map(|push| push.value)
             }
+        }
+    }
+
+    /// How many channels there are.
+    pub fn len(&self) -> u32
+        ensures { result ≡ length self.now.channels }
+    {
+        self.channels.len() as u32
+    }
+
+    /// How many pops of a channel were added.
+    pub fn pops(&self, channel: u32) -> u64
+        requires { channel < length self.now.channels }
+        ensures { result ≡ length (places_of Side.Pop (channel_at self.now.channels channel)) }
+    {
+        self.channels[channel as usize].pops.len()
+    }
+
+    /// How many pushes of a channel were added.
+    pub fn pushes(&self, channel: u32) -> u64
+        requires { channel < length self.now.channels }
+        ensures { result ≡ length (places_of Side.Push (channel_at self.now.channels channel)) }
+    {
+        self.channels[channel as usize].pushes.len()
+    }
+
+    /// The module of a channel's first pop. None where there is no pop yet.
+    pub fn popper(&self, channel: u32) -> Option<u32>
+        requires { channel < length self.now.channels }
+        ensures { result ≡ first_module (places_of Side.Pop (channel_at self.now.channels channel)) }
+    {
+        let pops = self.channels[channel as usize].pops.as_slice();
+        pops.first().map(|at| at.module)
+    }
+
+    /// The module of a channel's first push. None where there is no push yet.
+    pub fn pusher(&self, channel: u32) -> Option<u32>
+        requires { channel < length self.now.channels }
+        ensures { result ≡ first_module (places_of Side.Push (channel_at self.now.channels channel)) }
+    {
+        let pushes = self.channels[channel as usize].pushes.as_slice();
+        pushes.first().map(|push| push.at.module)
+    }
+
+    /// What the n-th pop of a channel, or its n-th push, waits for. `Never` comes only from a source.
+    pub fn enabler(&self, channel: u32, side: Side, n: u64) -> Enabler
+        requires channel { channel < length self.now.channels }
+        requires from_one { 1 ≤ n }
+        requires side { HasSide (channel_at self.now.channels channel).kind side }
+        ensures enabler { result ≡ enabler_of (channel_at self.now.channels channel) side n }
+        ensures never { result ≡ Enabler.Never → IsSource (channel_at self.now.channels channel).kind }
+    {
+        match side {
+            Side::Pop => self.enabler_of_read(channel, n),
+            Side::Push => self.enabler_of_write(channel, n),
         }
     }
 
@@ -115,7 +171,7 @@ impl FifoTable {
         requires channel { channel < length self.now.channels }
         requires from_one { 1 ≤ n }
         requires no_sink { ¬ IsSink (channel_at self.now.channels channel).kind }
-        ensures enabler { result ≡ read_enabler (channel_at self.now.channels channel) n }
+        ensures enabler { result ≡ enabler_of (channel_at self.now.channels channel) Side.Pop n }
         ensures never { result ≡ Enabler.Never → IsSource (channel_at self.now.channels channel).kind }
     {
         let channel = &self.channels[channel as usize];
@@ -123,7 +179,7 @@ impl FifoTable {
             TableChannel::Source(inputs) if n <= inputs.len() => Enabler::Free,
             TableChannel::Source(_) => Enabler::Never,
             TableChannel::Sink => Enabler::Missing,
-            TableChannel::Fifo(_) => {
+            TableChannel::Fifo(..) => {
                 let push = channel.pushes.as_slice().get((n - 1) as usize);
                 emitted(push.map(|push| push.at))
             }
@@ -135,15 +191,15 @@ impl FifoTable {
         requires channel { channel < length self.now.channels }
         requires from_one { 1 ≤ n }
         requires no_source { ¬ IsSource (channel_at self.now.channels channel).kind }
-        ensures enabler { result ≡ write_enabler (channel_at self.now.channels channel) n }
+        ensures enabler { result ≡ enabler_of (channel_at self.now.channels channel) Side.Push n }
         ensures never { result ≢ Enabler.Never }
     {
         let channel = &self.channels[channel as usize];
         match &channel.kind {
             TableChannel::Source(_) => Enabler::Missing,
             TableChannel::Sink => Enabler::Free,
-            TableChannel::Fifo(depth) if n <= *depth => Enabler::Free,
-            TableChannel::Fifo(depth) => {
+            TableChannel::Fifo(depth, _) if n <= *depth => Enabler::Free,
+            TableChannel::Fifo(depth, _) => {
                 let pop = channel.pops.as_slice().get((n - *depth - 1) as usize);
                 emitted(pop.copied())
             }
@@ -154,27 +210,38 @@ impl FifoTable {
     pub fn depth(&self, channel: u32) -> u64
         requires channel { channel < length self.now.channels }
         requires fifo { IsFifo (channel_at self.now.channels channel).kind }
-        ensures depth { (channel_at self.now.channels channel).kind ≡ TableChannel.Fifo result }
+        ensures depth { result ≡ depth_of (channel_at self.now.channels channel).kind }
         ensures least { 1 ≤ result }
-        ensures most { result ≤ 1000000 }
+        ensures most { result ≤ FIFO_DEPTH }
     {
         match &self.channels[channel as usize].kind {
-            TableChannel::Fifo(depth) => *depth,
+            TableChannel::Fifo(depth, _) => *depth,
             TableChannel::Source(_) | TableChannel::Sink => 0,
         }
     }
 
-    /// Sets the depth of a FIFO. All else stays.
+    /// How many clocks after the event that it waits for a pop, or a push, of a channel is possible: the delay for a pop
+    /// of a FIFO, and 1 otherwise. It takes no memory.
+    pub fn lag(&self, channel: u32, side: Side) -> u64
+        requires { channel < length self.now.channels }
+        ensures lag { result ≡ lag_of (channel_at self.now.channels channel).kind side }
+        ensures least { 1 ≤ result }
+        ensures most { result ≤ FIFO_DELAY }
+    {
+        self.channels[channel as usize].lag(side)
+    }
+
+    /// Sets the depth of a FIFO. All else stays, its delay too.
     pub fn set_depth(&mut self, channel: u32, depth: u64)
         requires channel { channel < length self.old.channels }
         requires fifo { IsFifo (channel_at self.old.channels channel).kind }
         requires least { 1 ≤ depth }
-        requires most { depth ≤ 1000000 }
+        requires most { depth ≤ FIFO_DEPTH }
         ensures channels { self.new.channels ≡ with_depth self.old.channels channel depth }
         ensures push_rooms { self.new.push_rooms ≡ self.old.push_rooms }
         ensures pop_rooms { self.new.pop_rooms ≡ self.old.pop_rooms }
     {
-        self.channels[channel as usize].kind = TableChannel::Fifo(depth);
+        self.channels[channel as usize].set_depth(depth);
     }
 }
 

@@ -1,6 +1,6 @@
 //! Every call of a table once.
 use crate::{Enabler, FifoTable, TableChannel};
-use flow_word::{List, Place};
+use flow_word::{List, Place, Side};
 use std::test::Fail;
 
 #[test]
@@ -9,7 +9,7 @@ fn accesses_are_enabled_by_ordinal_and_depth(rt: HostRuntime) -> Result<(), Fail
     let channels = [
         TableChannel::Source(inputs),
         TableChannel::Sink,
-        TableChannel::Fifo(2),
+        TableChannel::Fifo(2, 5),
     ];
     let mut table = FifoTable::new(rt.alloc(), &channels)?;
     table.reserve(2, 2, 1)?;
@@ -38,10 +38,23 @@ fn accesses_are_enabled_by_ordinal_and_depth(rt: HostRuntime) -> Result<(), Fail
         (table.enabler_of_write(2, 3), table.enabler_of_write(2, 4)),
         (Enabler::Event(pop), Enabler::Missing)
     );
+    assert_eq!(rt; (table.len(), table.pushes(2), table.pops(2)), (3, 2, 1));
+    assert_eq!(rt;
+        (table.pusher(2), table.popper(2), table.popper(0)),
+        (Some(0), Some(1), None)
+    );
     table.set_depth(2, 1);
     assert_eq!(rt;
-        (table.depth(2), table.enabler_of_write(2, 2)),
+        (table.depth(2), table.enabler(2, Side::Push, 2)),
         (1, Enabler::Event(pop))
+    );
+    assert_eq!(rt;
+        (
+            table.lag(0, Side::Pop),
+            table.lag(2, Side::Pop),
+            table.lag(2, Side::Push)
+        ),
+        (1, 5, 1)
     );
     Ok(())
 }

@@ -36,6 +36,14 @@ answered log outcome = record { outcomes = log.outcomes ++ outcome ∷ []; verif
 abbrev pub with_outcome : List Log → ℕ → Bool → List Log
 with_outcome logs owner outcome = slice_set logs owner (answered (log_at logs owner) outcome)
 
+-- a log with these outcomes more, all verified
+abbrev pub all_answered : Log → List Bool → Log
+all_answered log more = record { outcomes = log.outcomes ++ more; verified = length (log.outcomes ++ more) }
+
+-- the logs with these outcomes more in one of them
+abbrev pub with_outcomes : List Log → ℕ → List Bool → List Log
+with_outcomes logs owner more = slice_set logs owner (all_answered (log_at logs owner) more)
+
 -- the logs with so many verified outcomes in one of them
 abbrev pub with_verified : List Log → ℕ → ℕ → List Log
 with_verified logs owner verified = slice_set logs owner (record (log_at logs owner) { verified = verified })

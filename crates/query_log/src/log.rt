@@ -1,5 +1,5 @@
 //! The log of all modules.
-ghost use Rattle.std.specs.Prelude.{◌≡◌, ◌≢◌, ℕ, ◌+◌, ◌<◌, ◌≤◌, length, min, replicate, slice_index, All, IfOk, OnOk, OnErr};
+ghost use Rattle.std.specs.Prelude.{◌≡◌, ◌≢◌, ℕ, ◌+◌, ◌<◌, ◌≤◌, length, min, max, replicate, slice_index, All, IfOk, OnOk, OnErr};
 ghost use Rattle.query_log.specs.Logs.{no_log, log_at, outcome_of, IsSoundLog, with_outcome, with_verified};
 
 use crate::roomy::RoomyLog;
@@ -62,6 +62,14 @@ impl QueryLog {
         self.logs[owner as usize].add(yes);
     }
 
+    /// How many outcomes of a module there are.
+    pub fn len(&self, owner: u32) -> u64
+        requires { owner < length self.now.logs }
+        ensures { result ≡ length (log_at self.now.logs owner).outcomes }
+    {
+        self.logs[owner as usize].outcomes.len()
+    }
+
     /// The outcome of a module's query of this number, from 0, where there is one.
     pub fn outcome(&self, owner: u32, number: u64) -> Option<bool>
         requires { owner < length self.now.logs }
@@ -92,6 +100,17 @@ impl QueryLog {
         ensures rooms { self.new.rooms ≡ self.old.rooms }
     {
         self.logs[owner as usize].verify_next();
+    }
+
+    /// Verifies a module's outcomes below this number. Those that are verified stay so.
+    pub fn verify_up_to(&mut self, owner: u32, number: u64)
+        requires owner { owner < length self.old.logs }
+        requires recorded { number ≤ length (log_at self.old.logs owner).outcomes }
+        ensures logs { self.new.logs ≡ with_verified self.old.logs owner (max number (log_at self.old.logs owner).verified) }
+        ensures rooms { self.new.rooms ≡ self.old.rooms }
+    {
+        let log = &mut self.logs[owner as usize];
+        log.verified = number.max(log.verified);
     }
 
     /// Takes a module's outcomes from this number on as assumed. All outcomes stay.

@@ -17,5 +17,7 @@ fn verified_outcomes_are_a_prefix(rt: HostRuntime) -> Result<(), Fail> {
     assert_eq!(rt; (log.verified(1), log.outcome(1, 1)), (0, Some(false)));
     log.verify_next(1);
     assert_eq!(rt; log.verified(1), 1);
+    log.verify_up_to(1, 2);
+    assert_eq!(rt; (log.len(1), log.verified(1)), (2, 2));
     Ok(())
 }

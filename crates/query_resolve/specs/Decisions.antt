@@ -1,7 +1,7 @@
 -- What is decided of a query.
-use Rattle.std.specs.Prelude.{ℕ, ◌<◌, ◌≤◌, Bool, true, false}
+use Rattle.std.specs.Prelude.{ℕ, ◌<◌, ◌≤◌, Bool, not}
 use Rattle.flow_word.specs.declared.access.Kind.{Kind}
-use Rattle.flow_word.specs.declared.access.Kind.TheVariants.{Read, Write, TryRead, TryWrite, Empty, Full}
+use Rattle.flow_word.specs.Kinds.{is_taking}
 use Rattle.time_engine.specs.declared.known.Known.{Known}
 use Rattle.time_engine.specs.declared.known.Known.TheVariants.{From, Never, Unknown}
 
@@ -17,11 +17,7 @@ IsImpossible (From clock) cycle = cycle < clock
 IsImpossible Never cycle = Unit {0}
 IsImpossible Unknown cycle = ⊥
 
--- the outcome of a query that is not possible: its channel is empty or full, and nothing is done
+-- the outcome of a query where the access is not possible: yes, where it only tests whether the channel is empty or full, and no, where
+-- it would pop or push
 abbrev pub late_outcome : Kind → Bool
-late_outcome Read = false
-late_outcome Write = false
-late_outcome TryRead = false
-late_outcome TryWrite = false
-late_outcome Empty = true
-late_outcome Full = true
+late_outcome kind = not (is_taking kind)

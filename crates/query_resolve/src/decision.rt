@@ -33,9 +33,10 @@ pub fn decide(graph: &Graph, fifos: &FifoTable, access: &Access, cycle: u64) -> 
     }
 }
 
-/// The outcome of a query of this kind that is not possible: yes of `Empty` and `Full`, and no of the others.
+/// The outcome of a query of this kind where the access is not possible: yes of `Empty` and `Full`, and no of `TryRead`
+/// and `TryWrite`. It takes no memory.
 pub fn late(kind: Kind) -> bool
     ensures { result ≡ late_outcome kind }
 {
-    matches!(kind, Kind::Empty | Kind::Full)
+    !kind.takes()
 }

@@ -1,13 +1,12 @@
 -- A graph in which one step more has its cycle has the steps of before.
-use Rattle.std.proofs.Common.{◌≡◌, refl, ℕ, ◌<◌, List, length, inl, inr}
+use Rattle.std.proofs.Common.{◌≡◌, refl, ℕ, ◌<◌, List, length, get_or, inl, inr}
 use Rattle.std.specs.Prelude.{All}
 use Rattle.std.proofs.lemmas.Bool.Decides.{eqb_tells}
 use Rattle.std.proofs.lemmas.List.{length-set, get_or-set_same, get_or-set_other}
 use Rattle.std.proofs.lemmas.List.Elements.{All-set, All-weaker}
 use Rattle.flow_word.specs.declared.access.Place.{Place}
 use Rattle.flow_word.specs.declared.access.Step.{Step}
-use Rattle.fifo_table.specs.declared.channel.Push.{Push}
-use Rattle.fifo_table.specs.Channels.{Channel}
+use Rattle.fifo_table.specs.Channels.{Channel, places_of}
 use Rattle.event_graph.specs.Lanes.{Lane, HasStep, lane_at, no_lane, timed, with_cycle}
 use Rattle.time_engine.specs.Conditions.{IsAccess, HasAccesses, HasPlaces}
 
@@ -35,8 +34,6 @@ step_stays lanes owner cycle place inside has = record {
 pub places_stay : (lanes : List Lane) (owner cycle : ℕ) (channels : List Channel) → owner < length lanes → HasPlaces lanes channels
     → HasPlaces (with_cycle lanes owner cycle) channels
 places_stay lanes owner cycle channels inside all = record {
-  pushes = All-weaker (λ (channel : Channel). All (λ (push : Push). HasStep lanes push.at) channel.pushes) (λ (channel : Channel). All (λ (push : Push). HasStep (with_cycle lanes owner cycle) push.at) channel.pushes)
-      (λ channel. All-weaker (λ (push : Push). HasStep lanes push.at) (λ (push : Push). HasStep (with_cycle lanes owner cycle) push.at) (λ push. step_stays lanes owner cycle push.at inside) channel.pushes) channels all.pushes;
-  pops = All-weaker (λ (channel : Channel). All (HasStep lanes) channel.pops) (λ (channel : Channel). All (HasStep (with_cycle lanes owner cycle)) channel.pops)
-      (λ channel. All-weaker (HasStep lanes) (HasStep (with_cycle lanes owner cycle)) (λ place. step_stays lanes owner cycle place inside) channel.pops) channels all.pops;
+  each = λ c d there side.
+      All-weaker (HasStep lanes) (HasStep (with_cycle lanes owner cycle)) (λ place. step_stays lanes owner cycle place inside) (places_of side (get_or channels c d)) (all.each c d there side);
 }

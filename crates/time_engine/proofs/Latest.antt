@@ -8,7 +8,8 @@ use Rattle.flow_word.specs.declared.access.Access.{Access}
 use Rattle.event_graph.specs.Lanes.{Lane}
 use Rattle.fifo_table.specs.Channels.{Channel}
 use Rattle.time_engine.specs.declared.known.Known.TheVariants.{From}
-use Rattle.time_engine.specs.Possible.{is_blocking, when_possible}
+use Rattle.flow_word.specs.Kinds.{is_blocking}
+use Rattle.time_engine.specs.Possible.{when_possible}
 use Rattle.time_engine.specs.Cycles.{known_clock, clocks_of, latest}
 
 latest-append : (xs ys : List ℕ) → latest (xs ++ ys) ≡ max (latest xs) (latest ys)

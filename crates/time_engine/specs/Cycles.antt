@@ -4,11 +4,12 @@ use Rattle.std.specs.List.{filter_map}
 use Rattle.std.specs.Option.{ForSome}
 use Rattle.flow_word.specs.declared.access.Access.{Access}
 use Rattle.flow_word.specs.declared.access.Step.{Step}
+use Rattle.flow_word.specs.Kinds.{is_blocking}
 use Rattle.event_graph.specs.Lanes.{Lane, lane_at, last_cycle, cycle_bound}
 use Rattle.fifo_table.specs.Channels.{Channel}
 use Rattle.time_engine.specs.declared.known.Known.{Known}
 use Rattle.time_engine.specs.declared.known.Known.TheVariants.{From, Never, Unknown}
-use Rattle.time_engine.specs.Possible.{is_blocking, when_possible}
+use Rattle.time_engine.specs.Possible.{when_possible}
 
 -- ---- the accesses of a step
 

@@ -1,15 +1,14 @@
 //! The cycle of a module's first step without one.
 ghost use Rattle.std.specs.Prelude.{◌≡◌, ℕ, List, All, ◌+◌, ◌^◌, ◌<◌, ◌≤◌, ◌↔◌, ◌∷◌, [], length, slice_get, slice_index, position, unwrap_or, is_none, None, Some, IfSome, IfOk, OnOk, IfErr, IsSomeAnd};
-ghost use Rattle.event_graph.specs.Lanes.{lane_at, cycle_bound, with_cycle};
+ghost use Rattle.event_graph.specs.Lanes.{IsSoundLane, lane_at, cycle_bound, with_cycle};
 ghost use Rattle.event_graph.specs.Lanes.{last_cycle as last_of};
 ghost use Rattle.time_engine.specs.Conditions.{IsAccess, HasAccesses, HasPlaces};
-ghost use Rattle.time_engine.specs.Possible.{is_blocking};
 ghost use Rattle.time_engine.specs.Cycles.{is_waiting, clocks_of, open_step, first_waiting, determined, MayTake};
 ghost use Rattle.time_engine.specs.Cycles.{latest as latest_of};
 ghost use Rattle.fifo_table.specs.Channels.{Channel};
 
 use crate::known::{Known, known_of};
-use event_graph::{Access, Candidate, Graph, Kind, Place};
+use event_graph::{Access, Candidate, Graph, Place};
 use fifo_table::FifoTable;
 use flow_word::Steps;
 use std::sync::ledger::Ledger;
@@ -49,6 +48,7 @@ pub fn assign<L: Ledger>(graph: &mut Graph, owner: u32, cycle: u64, steps: &mut 
     requires { MayTake graph.old.lanes owner cycle }
     ensures lanes { graph.new.lanes ≡ with_cycle graph.old.lanes owner cycle }
     ensures kept { (k : ℕ) → slice_index graph.old.rooms k ≤ slice_index graph.new.rooms k }
+    ensures sound { All IsSoundLane graph.new.lanes }
     ensures ticks { steps.new ≡ steps.old + 1 }
     ensures accesses { (channels : List Channel) → HasAccesses graph.old.lanes channels → HasAccesses graph.new.lanes channels }
     ensures places { (channels : List Channel) → HasPlaces graph.old.lanes channels → HasPlaces graph.new.lanes channels }
@@ -100,21 +100,11 @@ fn later(graph: &Graph, fifos: &FifoTable, access: &Access, clock: u64) -> Optio
     ensures waits { is_none result ≡ is_waiting graph.now.lanes fifos.now.channels access.now }
     ensures later { IfSome result (λ later. later ≡ latest_of (clock ∷ clocks_of graph.now.lanes fifos.now.channels (access.now ∷ []))) }
 {
-    if !blocks(access.kind) {
+    if !access.kind.is_blocking() {
         return Some(clock);
     }
     match known_of(graph, fifos, access) {
         Known::From(possible) => Some(clock.max(possible)),
         Known::Never | Known::Unknown => None,
-    }
-}
-
-/// Whether an access of this kind blocks its module while it cannot be done.
-fn blocks(kind: Kind) -> bool
-    ensures { result ≡ is_blocking kind }
-{
-    match kind {
-        Kind::Read | Kind::Write => true,
-        Kind::TryRead | Kind::TryWrite | Kind::Empty | Kind::Full => false,
     }
 }

@@ -34,3 +34,6 @@ returns-clause-kept c =
 pub returns-clause-each : goal.returns-clause-each
 returns-clause-each c =
     rw (returns-clause-lanes c, ← c.self.view_is) (cycle_kept c.args.cycle (lanes_of c.self.inside.lanes.items) c.self.invariant.0)
+
+pub returns-clause-sound : goal.returns-clause-sound
+returns-clause-sound c = (invariant_of-self c).0

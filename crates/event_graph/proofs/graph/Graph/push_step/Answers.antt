@@ -28,3 +28,6 @@ returns-clause-own_room c =
 pub returns-clause-other_rooms : goal.returns-clause-other_rooms
 returns-clause-other_rooms c =
     rw (← c.self.view_is) (λ k apart. omega (arith, shown_other (λ (l : RoomedLane). l.room) c.self.inside.lanes.items c.args.owner k c.push_step.new.self apart))
+
+pub returns-clause-sound : goal.returns-clause-sound
+returns-clause-sound c = (invariant_of-self c).0

@@ -18,3 +18,6 @@ pub returns-clause-kept : goal.returns-clause-kept
 returns-clause-kept g c =
     let there : c.args.owner < length c.self.inside.lanes.items = rw (← c.self.view_is, length-map) at c.requires.owner in
     rw (← c.self.view_is) (shown_kept (λ (l : RoomedLane). l.room) _ c.args.owner c.index_mut.result.now c.set_cycle.new.self there c.index_mut.ensures.value c.set_cycle.ensures.kept)
+
+pub returns-clause-sound : goal.returns-clause-sound
+returns-clause-sound g c = (invariant_of-self g c).0

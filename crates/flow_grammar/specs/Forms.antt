@@ -1,4 +1,4 @@
--- The statement that the tokens of a line write, whatever its numbers are.
+-- The statement that the tokens of a line write under a version of the language, whatever its numbers are.
 use Rattle.std.specs.Prelude.{ℕ, Bool, List, [], ◌∷◌, ◌&&◌, map, codes, if◌then◌else◌, Option, None, Some, option_map}
 use Rattle.std.specs.List.{list_all}
 use Rattle.flow_design.specs.declared.expr.Expr.{Expr}
@@ -6,11 +6,16 @@ use Rattle.flow_design.specs.declared.session.Statement.{Statement}
 use Rattle.flow_design.specs.declared.session.Statement.TheVariants.{Flow, Source, Sink, Fifo, Module, Reg, Mem, Block, Loop, Temp, At, Goto, Branch, Stop, Input, Limits, Depth, End}
 use Rattle.flow_design.specs.declared.expr.Op.{Op}
 use Rattle.flow_design.specs.declared.expr.Op.TheVariants as op
+use Rattle.flow_grammar.specs.Before.{has_delays}
+use Rattle.flow_grammar.specs.Parts.{default_depth, default_delay}
 use Rattle.flow_grammar.specs.Tokens.{Token, is_number, is_name, number_of, is_word}
 use Rattle.flow_grammar.specs.Trees.{Trees, trees_of}
 
 abbrev pub only_if : {A : Type 0} → Bool → A → Option A
 only_if test x = if test then Some x else None
+
+abbrev pub if_then : {A : Type 0} → Bool → Option A → Option A
+if_then test x = if test then x else None
 
 unfoldable pub flow_of : List Token → Option Statement
 flow_of (n ∷ []) = only_if (is_number n) (Flow (number_of n))
@@ -20,10 +25,14 @@ abbrev pub name_width : (Token → ℕ → Statement) → List Token → Option 
 name_width make (n ∷ w ∷ []) = only_if (is_name n && is_number w) (make n (number_of w))
 name_width make ts = None
 
-unfoldable pub fifo_of : List Token → Option Statement
-fifo_of (n ∷ w ∷ []) = only_if (is_name n && is_number w) (Fifo n (number_of w) 2)
-fifo_of (n ∷ w ∷ d ∷ []) = only_if (is_name n && (is_number w && is_number d)) (Fifo n (number_of w) (number_of d))
-fifo_of ts = None
+-- a FIFO, with a delay in the version that has them alone
+unfoldable pub fifo_of : ℕ → List Token → Option Statement
+fifo_of version (n ∷ w ∷ []) = only_if (is_name n && is_number w) (Fifo n (number_of w) default_depth default_delay)
+fifo_of version (n ∷ w ∷ d ∷ []) = only_if (is_name n && (is_number w && is_number d)) (Fifo n (number_of w) (number_of d) default_delay)
+fifo_of version (n ∷ w ∷ d ∷ e ∷ []) =
+    if_then (has_delays version)
+    (only_if (is_name n && (is_number w && (is_number d && is_number e))) (Fifo n (number_of w) (number_of d) (number_of e)))
+fifo_of version ts = None
 
 abbrev pub one_name : (Token → Statement) → List Token → Option Statement
 one_name make (n ∷ []) = only_if (is_name n) (make n)
@@ -44,9 +53,6 @@ one_tree trees = None
 abbrev pub two_trees : (Expr Token → Expr Token → Op Token) → Option Trees → Option (Op Token)
 two_trees make (Some (e ∷ f ∷ [])) = Some (make e f)
 two_trees make trees = None
-
-abbrev pub if_then : {A : Type 0} → Bool → Option A → Option A
-if_then test x = if test then x else None
 
 abbrev pub set_of : List Token → Option (Op Token)
 set_of (r ∷ ts) = if_then (is_name r) (option_map (op.Set r) (one_tree (trees_of ts)))
@@ -117,13 +123,13 @@ bare statement [] = Some statement
 bare statement (t ∷ ts) = None
 
 -- the keyword and what stands behind it
-unfoldable pub statement_of : List Token → Option Statement
-statement_of [] = None
-statement_of (k ∷ ts) =
+unfoldable pub statement_of : ℕ → List Token → Option Statement
+statement_of version [] = None
+statement_of version (k ∷ ts) =
     if is_word k (codes "flow") then flow_of ts
     else if is_word k (codes "source") then name_width Source ts
     else if is_word k (codes "sink") then name_width Sink ts
-    else if is_word k (codes "fifo") then fifo_of ts
+    else if is_word k (codes "fifo") then fifo_of version ts
     else if is_word k (codes "module") then one_name Module ts
     else if is_word k (codes "reg") then name_width Reg ts
     else if is_word k (codes "mem") then mem_of ts

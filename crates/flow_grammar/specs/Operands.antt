@@ -1,5 +1,6 @@
 -- Expressions as the reader keeps them: one that fails a test is no more than the first test that it fails.
 use Rattle.std.specs.Prelude.{◌≡◌, ℕ, ◌+◌, ◌^◌, max, Bool, true, false, List, ◌∷◌, ◌&&◌, nat_le, nat_lt, if◌then◌else◌, not, Option, None, Some}
+use Rattle.flow_design.specs.declared.limits.TheConstants.{EXPRESSION_NODES, EXPRESSION_DEPTH}
 use Rattle.flow_design.specs.declared.expr.Expr.{Expr, fold-Expr}
 use Rattle.flow_design.specs.declared.expr.Expr.TheOpen.{Expr-F}
 use Rattle.flow_design.specs.declared.expr.Expr.TheVariants.{Number, Var, Unary, Binary, Sext, Pick}
@@ -28,7 +29,7 @@ earlier c d = d
 
 -- a tree with so many nodes, so deep
 abbrev pub sized : Expr (List ℕ) → ℕ → ℕ → Operand
-sized tree nodes depth = if nat_le nodes 256 && nat_le depth 32 then Whole tree nodes depth else Faulty TooMany
+sized tree nodes depth = if nat_le nodes EXPRESSION_NODES && nat_le depth EXPRESSION_DEPTH then Whole tree nodes depth else Faulty TooMany
 
 abbrev pub numbered : ℕ → Operand
 numbered n = if nat_lt n (2 ^ 64) then Whole (Number n) 1 1 else Faulty BadNumber

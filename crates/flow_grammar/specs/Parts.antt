@@ -1,5 +1,6 @@
 -- The parts of a statement, one for each token that writes it: the table of the language's forms.
 use Rattle.std.specs.Prelude.{ℕ, ◌-◌, ◌^◌, List, [], ◌∷◌, ◌++◌, map, codes, Option, None, Some}
+use Rattle.flow_design.specs.declared.limits.TheConstants.{MEMORY_WORDS, BLOCK_CLOCKS, FIFO_DEPTH, FIFO_DELAY}
 use Rattle.flow_design.specs.declared.session.Statement.{Statement}
 use Rattle.flow_design.specs.declared.session.Statement.TheVariants.{Flow, Source, Sink, Fifo, Module, Reg, Mem, Block, Loop, Temp, At, Goto, Branch, Stop, Input, Limits, Depth, End}
 use Rattle.flow_design.specs.declared.expr.Op.{Op}
@@ -40,13 +41,17 @@ abbrev width : ℕ → Part
 width n = Num 1 64 n
 
 abbrev capacity : ℕ → Part
-capacity n = Num 1 1000000 n
+capacity n = Num 1 FIFO_DEPTH n
+
+-- a FIFO's delay, in clocks
+abbrev latency : ℕ → Part
+latency n = Num 1 FIFO_DELAY n
 
 abbrev words : ℕ → Part
-words n = Num 1 4096 n
+words n = Num 1 MEMORY_WORDS n
 
 abbrev clocks : ℕ → Part
-clocks n = Num 1 1000000000000 n
+clocks n = Num 1 BLOCK_CLOCKS n
 
 abbrev pub plain : ℕ → Part
 plain n = Num 0 (2 ^ 64 - 1) n
@@ -98,13 +103,32 @@ abbrev pub guard_parts : Option Name → List Part
 guard_parts None = []
 guard_parts (Some r) = Word (codes "if") ∷ Use AVariable r ∷ []
 
+-- ---- FIFOs
+
+-- what stands for a depth and a delay that are not written
+abbrev pub default_depth : ℕ
+default_depth = 2
+
+abbrev pub default_delay : ℕ
+default_delay = 1
+
+-- a FIFO with neither, with its depth alone, and with both
+abbrev pub bare_parts : Name → ℕ → List Part
+bare_parts n w = Word (codes "fifo") ∷ New ChannelName n ∷ width w ∷ []
+
+abbrev pub depth_parts : Name → ℕ → ℕ → List Part
+depth_parts n w depth = Word (codes "fifo") ∷ New ChannelName n ∷ width w ∷ capacity depth ∷ []
+
+abbrev pub fifo_parts : Name → ℕ → ℕ → ℕ → List Part
+fifo_parts n w depth delay = Word (codes "fifo") ∷ New ChannelName n ∷ width w ∷ capacity depth ∷ latency delay ∷ []
+
 -- ---- statements
 
 abbrev pub parts : Statement → List Part
-parts (Flow n) = Word (codes "flow") ∷ Num 1 1 n ∷ []
+parts (Flow n) = Word (codes "flow") ∷ Num 1 2 n ∷ []
 parts (Source n w) = Word (codes "source") ∷ New ChannelName n ∷ width w ∷ []
 parts (Sink n w) = Word (codes "sink") ∷ New ChannelName n ∷ width w ∷ []
-parts (Fifo n w d) = Word (codes "fifo") ∷ New ChannelName n ∷ width w ∷ capacity d ∷ []
+parts (Fifo n w depth delay) = fifo_parts n w depth delay
 parts (Module n) = Word (codes "module") ∷ New ModuleName n ∷ []
 parts (Reg n w) = Word (codes "reg") ∷ New RegisterName n ∷ width w ∷ []
 parts (Mem n w l) = Word (codes "mem") ∷ New MemoryName n ∷ width w ∷ words l ∷ []
@@ -119,7 +143,3 @@ parts (Input n values) = Word (codes "input") ∷ Use ASource n ∷ map plain va
 parts (Limits c o) = Word (codes "limits") ∷ plain c ∷ plain o ∷ []
 parts (Depth n d) = Word (codes "depth") ∷ Use AFifo n ∷ capacity d ∷ []
 parts End = Word (codes "end") ∷ []
-
--- a FIFO of depth 2 in its short form, without its depth
-abbrev pub short_parts : Name → ℕ → List Part
-short_parts n w = Word (codes "fifo") ∷ New ChannelName n ∷ width w ∷ []

@@ -1,18 +1,19 @@
 -- The rules of reading for one statement: where it may stand, and the first rule that it breaks after the statements before
 -- it, which are given the latest first.
-use Rattle.std.specs.Prelude.{◌≡◌, ℕ, ◌+◌, Bool, true, false, List, [], ◌∷◌, ◌++◌, ◌&&◌, not, nat_le, nat_lt, reverse, take, slice_get, Option, None, Some, length, if◌then◌else◌}
+use Rattle.std.specs.Prelude.{◌≡◌, ℕ, ◌+◌, Bool, true, false, List, [], ◌∷◌, ◌++◌, ◌&&◌, ◌||◌, ◌==◌, not, nat_le, nat_lt, reverse, take, slice_get, Option, None, Some, length, if◌then◌else◌}
 use Rattle.std.specs.List.{list_all}
 use Rattle.flow_design.specs.declared.expr.Expr.{Expr}
 use Rattle.flow_design.specs.declared.expr.Op.{Op}
 use Rattle.flow_design.specs.declared.expr.Op.TheVariants as op
+use Rattle.flow_design.specs.declared.limits.TheConstants.{MODULES, CHANNELS, REGISTERS, TEMPS, MEMORIES, BLOCKS, OPERATIONS, EXPRESSION_NODES, EXPRESSION_DEPTH, INPUT_VALUES, EDITS}
 use Rattle.flow_design.specs.declared.session.Statement.{Statement}
 use Rattle.flow_design.specs.declared.session.Statement.TheVariants.{Flow, Source, Sink, Fifo, Module, Reg, Mem, Block, Loop, Temp, At, Goto, Branch, Stop, Input, Limits, Depth, End}
 use Rattle.flow_design.specs.Words.{nodes, depth}
 use Rattle.flow_grammar.specs.declared.fault.Code.{Code}
 use Rattle.flow_grammar.specs.declared.fault.Code.TheVariants.{BadNumber, DoubleName, UnknownName, TooMany}
 use Rattle.flow_grammar.specs.Tokens.{is_name}
-use Rattle.flow_grammar.specs.Parts.{Name, Part, New, Use, Label, Num, Space, ChannelName, ModuleName, RegisterName, MemoryName, TempName, BlockName, Sort, AnyChannel, ASource, AFifo, ARegister, AMemory, AVariable, parts}
-use Rattle.flow_grammar.specs.Before.{channels, sources, fifos, modules, registers, memories, blocks, temps, operations, inputs, input_values, edits, is_among}
+use Rattle.flow_grammar.specs.Parts.{Name, Part, New, Use, Label, Num, Space, ChannelName, ModuleName, RegisterName, MemoryName, TempName, BlockName, Sort, AnyChannel, ASource, AFifo, ARegister, AMemory, AVariable, default_delay, parts}
+use Rattle.flow_grammar.specs.Before.{version, has_delays, channels, sources, fifos, modules, registers, memories, blocks, temps, operations, inputs, input_values, edits, is_among}
 
 -- ---- which statement may stand where
 
@@ -25,7 +26,7 @@ abbrev pub place_after : Statement → Place
 place_after (Flow n) = AmongChannels
 place_after (Source n w) = AmongChannels
 place_after (Sink n w) = AmongChannels
-place_after (Fifo n w d) = AmongChannels
+place_after (Fifo n w depth delay) = AmongChannels
 place_after (Module n) = AmongRegisters
 place_after (Reg n w) = AmongRegisters
 place_after (Mem n w l) = AmongRegisters
@@ -53,7 +54,7 @@ may_stand (Flow n) AtStart = true
 -- after `flow`, `source`, `sink` and `fifo`
 may_stand (Source n w) AmongChannels = true
 may_stand (Sink n w) AmongChannels = true
-may_stand (Fifo n w d) AmongChannels = true
+may_stand (Fifo n w depth delay) AmongChannels = true
 may_stand (Module n) AmongChannels = true
 may_stand (Input n values) AmongChannels = true
 may_stand (Limits c o) AmongChannels = true
@@ -144,9 +145,9 @@ is_known earlier part = true
 
 -- ---- counts
 
--- an expression of at most 256 nodes, and at most 32 deep
+-- an expression within the limits of size and depth
 abbrev pub is_small : Expr Name → Bool
-is_small e = nat_le (nodes e) 256 && nat_le (depth e) 32
+is_small e = nat_le (nodes e) EXPRESSION_NODES && nat_le (depth e) EXPRESSION_DEPTH
 
 -- each expression for itself
 abbrev pub has_small_trees : Op Name → Bool
@@ -159,19 +160,26 @@ has_small_trees o = true
 
 -- with this statement there are not too many of its kind
 abbrev pub has_room : List Statement → Statement → Bool
-has_room earlier (Source n w) = nat_lt (length (channels earlier)) 256
-has_room earlier (Sink n w) = nat_lt (length (channels earlier)) 256
-has_room earlier (Fifo n w d) = nat_lt (length (channels earlier)) 256
-has_room earlier (Module n) = nat_lt (length (modules earlier)) 64
-has_room earlier (Reg n w) = nat_lt (length (registers earlier)) 256
-has_room earlier (Mem n w l) = nat_lt (length (memories earlier)) 16
-has_room earlier (Block n l) = nat_lt (length (blocks earlier)) 256
-has_room earlier (Loop n ii l r) = nat_lt (length (blocks earlier)) 256
-has_room earlier (Temp n w) = nat_lt (length (temps earlier)) 64
-has_room earlier (At off guard o) = nat_lt (operations earlier) 1024 && has_small_trees o
-has_room earlier (Input n values) = nat_le (input_values earlier + length values) 100000
-has_room earlier (Depth n d) = nat_lt (edits earlier) 1000
+has_room earlier (Source n w) = nat_lt (length (channels earlier)) CHANNELS
+has_room earlier (Sink n w) = nat_lt (length (channels earlier)) CHANNELS
+has_room earlier (Fifo n w depth delay) = nat_lt (length (channels earlier)) CHANNELS
+has_room earlier (Module n) = nat_lt (length (modules earlier)) MODULES
+has_room earlier (Reg n w) = nat_lt (length (registers earlier)) REGISTERS
+has_room earlier (Mem n w l) = nat_lt (length (memories earlier)) MEMORIES
+has_room earlier (Block n l) = nat_lt (length (blocks earlier)) BLOCKS
+has_room earlier (Loop n ii l r) = nat_lt (length (blocks earlier)) BLOCKS
+has_room earlier (Temp n w) = nat_lt (length (temps earlier)) TEMPS
+has_room earlier (At off guard o) = nat_lt (operations earlier) OPERATIONS && has_small_trees o
+has_room earlier (Input n values) = nat_le (input_values earlier + length values) INPUT_VALUES
+has_room earlier (Depth n d) = nat_lt (edits earlier) EDITS
 has_room earlier s = true
+
+-- ---- versions
+
+-- a statement of this version: before FIFOs had delays, each of them had the delay 1
+abbrev pub fits_version : ℕ → Statement → Bool
+fits_version v (Fifo n w depth delay) = has_delays v || (delay == default_delay)
+fits_version v s = true
 
 -- ---- the first rule that a statement breaks
 
@@ -197,6 +205,8 @@ is_over statements = is_end (place (reverse statements))
 pub record KeepsRules (before : List Statement) (s : Statement) : Type 0 where
   -- its names are names
   pub well_named : list_all is_well_named (parts s) ≡ true
+  -- it is a statement of the version that is declared before it
+  pub fits : fits_version (version (reverse before)) s ≡ true
   -- it may stand here
   pub permitted : may_follow (reverse before) s ≡ true
   -- its numbers, its new names, the names that it uses and the counts are in order

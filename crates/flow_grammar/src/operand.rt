@@ -5,6 +5,7 @@ ghost use Rattle.flow_grammar.specs.Tokens.{is_number, number_of};
 
 use crate::fault::Code;
 use crate::words::width_of;
+use flow_design::limits::{EXPRESSION_DEPTH, EXPRESSION_NODES};
 use flow_design::{BinOp, Expr, Name, UnOp};
 use flow_word::{Boxed, OutOfMemory, Width};
 use std::alloc::Global;
@@ -41,7 +42,7 @@ pub fn apply_one(alloc: Global, op: UnOp, a: Operand) -> Result<Operand, OutOfMe
     match a {
         Operand::Faulty(code) => Ok(Operand::Faulty(code)),
         Operand::Whole { tree, nodes, depth } => {
-            if nodes < 256 && depth < 32 {
+            if (nodes as u64) < EXPRESSION_NODES && (depth as u64) < EXPRESSION_DEPTH {
                 Ok(Operand::Whole {
                     tree: Expr::Unary(op, Boxed::new(alloc, tree)?),
                     nodes: nodes + 1,
@@ -77,7 +78,7 @@ pub fn apply_two(alloc: Global, op: BinOp, a: Operand, b: Operand) -> Result<Ope
         ) => {
             let nodes = n as u64 + m as u64 + 1;
             let depth = d.max(e) as u64 + 1;
-            if nodes <= 256 && depth <= 32 {
+            if nodes <= EXPRESSION_NODES && depth <= EXPRESSION_DEPTH {
                 Ok(Operand::Whole {
                     tree: Expr::Binary(op, Boxed::new(alloc, a)?, Boxed::new(alloc, b)?),
                     nodes: nodes as u32,
@@ -109,7 +110,7 @@ fn widen(alloc: Global, width: Width, a: Operand) -> Result<Operand, OutOfMemory
     match a {
         Operand::Faulty(code) => Ok(Operand::Faulty(code)),
         Operand::Whole { tree, nodes, depth } => {
-            if nodes < 256 && depth < 32 {
+            if (nodes as u64) < EXPRESSION_NODES && (depth as u64) < EXPRESSION_DEPTH {
                 Ok(Operand::Whole {
                     tree: Expr::Sext(width, Boxed::new(alloc, tree)?),
                     nodes: nodes + 1,
@@ -163,7 +164,7 @@ pub fn apply_choose(
             ) => {
                 let nodes = n as u64 + m as u64 + l as u64 + 1;
                 let depth = d.max(e.max(f)) as u64 + 1;
-                if nodes <= 256 && depth <= 32 {
+                if nodes <= EXPRESSION_NODES && depth <= EXPRESSION_DEPTH {
                     let a = Boxed::new(alloc, a)?;
                     let b = Boxed::new(alloc, b)?;
                     let c = Boxed::new(alloc, c)?;

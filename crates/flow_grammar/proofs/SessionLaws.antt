@@ -1,15 +1,16 @@
 -- A session that a text stands for keeps the rules of reading, and its line numbers rise.
 use Rattle.std.proofs.Common.{◌≡◌, ℕ, zero, suc, ◌+◌, ◌<◌, ◌≤◌, List, [], ◌∷◌, ◌++◌, length, take, None, Some, Bool, true, refl, sym, ap, subst, ◌∙◌, append_assoc, inl, inr, arith}
-use Rattle.std.specs.Prelude.{slice_get, ◌&&◌}
+use Rattle.std.specs.Prelude.{slice_get, reverse, false, ◌&&◌, ◌||◌, ◌==◌}
 use Rattle.std.specs.List.{list_all, All, AllPairs}
 use Rattle.std.proofs.lemmas.List.{append-nil}
 use Rattle.std.proofs.lemmas.List.Kept.{AllPairs-cons}
 use Rattle.flow_design.specs.declared.session.Statement.{Statement}
 use Rattle.flow_design.specs.declared.session.Statement.TheVariants.{Flow, Source, Sink, Fifo, Module, Reg, Mem, Block, Loop, Temp, At, Goto, Branch, Stop, Input, Limits, Depth, End}
 use Rattle.flow_grammar.specs.Tokens.{Line, Token, is_name, lines_of, tokens_of}
-use Rattle.flow_grammar.specs.Parts.{Part, Word, New, Use, Label, Num, parts, short_parts}
-use Rattle.flow_grammar.specs.Spelling.{Spells, Spelled, SpelledShort, Writes}
-use Rattle.flow_grammar.specs.Rules.{is_well_named, KeepsRules, KeepsReadingRules}
+use Rattle.flow_grammar.specs.Before.{version, has_delays}
+use Rattle.flow_grammar.specs.Parts.{Name, Part, Word, New, Use, Label, Num, parts, bare_parts, depth_parts, fifo_parts, default_delay}
+use Rattle.flow_grammar.specs.Spelling.{Spells, Spelled, WritesFifo, Writes}
+use Rattle.flow_grammar.specs.Rules.{is_well_named, fits_version, KeepsRules, KeepsReadingRules}
 use Rattle.flow_grammar.specs.Text.{statements_among, numbers_among, StandsFor}
 use Rattle.flow_grammar.proofs.TextLaws.{Words, InOrderFrom, ordered}
 
@@ -22,6 +23,10 @@ spelled_named t (Use sort n) s = subst (λ (x : Token). is_name x ≡ true) s.1 
 spelled_named t (Label n) s = subst (λ (x : Token). is_name x ≡ true) s.1 s.0
 spelled_named t (Num least most n) s = refl
 
+either_true : (a b : Bool) → b ≡ true → a || b ≡ true
+either_true true b h = refl
+either_true false b h = h
+
 both_named : (a b : Bool) → a ≡ true → b ≡ true → a && b ≡ true
 both_named a b h k = rw (h, k) refl
 
@@ -31,29 +36,57 @@ all_named [] (p ∷ ps) s = absurd s
 all_named (t ∷ ts) [] s = absurd s
 all_named (t ∷ ts) (p ∷ ps) s = both_named (is_well_named p) (list_all is_well_named ps) (spelled_named t p s.0) (all_named ts ps s.1)
 
-short_named : (ts : List Token) (s : Statement) → SpelledShort ts s → list_all is_well_named (parts s) ≡ true
-short_named ts (Flow n) h = absurd h
-short_named ts (Source n w) h = absurd h
-short_named ts (Sink n w) h = absurd h
-short_named ts (Fifo n w d) h = all_named ts (short_parts n w) h.1
-short_named ts (Module n) h = absurd h
-short_named ts (Reg n w) h = absurd h
-short_named ts (Mem n w l) h = absurd h
-short_named ts (Block n l) h = absurd h
-short_named ts (Loop n ii l r) h = absurd h
-short_named ts (Temp n w) h = absurd h
-short_named ts (At off guard o) h = absurd h
-short_named ts (Goto b) h = absurd h
-short_named ts (Branch r b c) h = absurd h
-short_named ts Stop h = absurd h
-short_named ts (Input n values) h = absurd h
-short_named ts (Limits c o) h = absurd h
-short_named ts (Depth n d) h = absurd h
-short_named ts End h = absurd h
+-- a written FIFO has names that are names
+fifo_named : (v : ℕ) (ts : List Token) (n : Name) (w depth delay : ℕ) → WritesFifo v ts n w depth delay → list_all is_well_named (fifo_parts n w depth delay) ≡ true
+fifo_named v ts n w depth delay (inl h) = all_named ts (fifo_parts n w depth delay) h.1
+fifo_named v ts n w depth delay (inr (inl h)) = all_named ts (depth_parts n w depth) h.1
+fifo_named v ts n w depth delay (inr (inr h)) = all_named ts (bare_parts n w) h.2
 
-written_named : (ts : List Token) (s : Statement) → Writes ts s → list_all is_well_named (parts s) ≡ true
-written_named ts s (inl h) = all_named ts (parts s) h
-written_named ts s (inr h) = short_named ts s h
+-- and is one of the version
+fifo_fits : (v : ℕ) (ts : List Token) (n : Name) (w depth delay : ℕ) → WritesFifo v ts n w depth delay → has_delays v || (delay == default_delay) ≡ true
+fifo_fits v ts n w depth delay (inl h) = rw h.0 refl
+fifo_fits v ts n w depth delay (inr (inl h)) = either_true (has_delays v) (delay == default_delay) (rw h.0 refl)
+fifo_fits v ts n w depth delay (inr (inr h)) = either_true (has_delays v) (delay == default_delay) (rw h.1 refl)
+
+written_named : (v : ℕ) (ts : List Token) (s : Statement) → Writes v ts s → list_all is_well_named (parts s) ≡ true
+written_named v ts (Flow n) h = all_named ts (parts (Flow n)) h
+written_named v ts (Source n w) h = all_named ts (parts (Source n w)) h
+written_named v ts (Sink n w) h = all_named ts (parts (Sink n w)) h
+written_named v ts (Fifo n w depth delay) h = fifo_named v ts n w depth delay h
+written_named v ts (Module n) h = all_named ts (parts (Module n)) h
+written_named v ts (Reg n w) h = all_named ts (parts (Reg n w)) h
+written_named v ts (Mem n w l) h = all_named ts (parts (Mem n w l)) h
+written_named v ts (Block n l) h = all_named ts (parts (Block n l)) h
+written_named v ts (Loop n ii l r) h = all_named ts (parts (Loop n ii l r)) h
+written_named v ts (Temp n w) h = all_named ts (parts (Temp n w)) h
+written_named v ts (At off guard o) h = all_named ts (parts (At off guard o)) h
+written_named v ts (Goto b) h = all_named ts (parts (Goto b)) h
+written_named v ts (Branch r b c) h = all_named ts (parts (Branch r b c)) h
+written_named v ts Stop h = all_named ts (parts Stop) h
+written_named v ts (Input n values) h = all_named ts (parts (Input n values)) h
+written_named v ts (Limits c o) h = all_named ts (parts (Limits c o)) h
+written_named v ts (Depth n d) h = all_named ts (parts (Depth n d)) h
+written_named v ts End h = all_named ts (parts End) h
+
+written_fits : (v : ℕ) (ts : List Token) (s : Statement) → Writes v ts s → fits_version v s ≡ true
+written_fits v ts (Flow n) h = refl
+written_fits v ts (Source n w) h = refl
+written_fits v ts (Sink n w) h = refl
+written_fits v ts (Fifo n w depth delay) h = fifo_fits v ts n w depth delay h
+written_fits v ts (Module n) h = refl
+written_fits v ts (Reg n w) h = refl
+written_fits v ts (Mem n w l) h = refl
+written_fits v ts (Block n l) h = refl
+written_fits v ts (Loop n ii l r) h = refl
+written_fits v ts (Temp n w) h = refl
+written_fits v ts (At off guard o) h = refl
+written_fits v ts (Goto b) h = refl
+written_fits v ts (Branch r b c) h = refl
+written_fits v ts Stop h = refl
+written_fits v ts (Input n values) h = refl
+written_fits v ts (Limits c o) h = refl
+written_fits v ts (Depth n d) h = refl
+written_fits v ts End h = refl
 
 -- ---- statements
 
@@ -68,7 +101,12 @@ keeps_from front (line ∷ lines) (Some st ∷ said) p zero s e =
     let same : st ≡ s = (cc) in
     subst (λ (b : List Statement). KeepsRules b s) (sym (append-nil front))
     (subst (λ (x : Statement). KeepsRules front x) same
-    (record { well_named = written_named (tokens_of line) st p.0.says; permitted = p.0.stands.permitted; faultless = p.0.stands.faultless }))
+    (record {
+      well_named = written_named (version (reverse front)) (tokens_of line) st p.0.says;
+      fits = written_fits (version (reverse front)) (tokens_of line) st p.0.says;
+      permitted = p.0.stands.permitted;
+      faultless = p.0.stands.faultless;
+    }))
 keeps_from front (line ∷ lines) (Some st ∷ said) p (suc i) s e =
     subst (λ (b : List Statement). KeepsRules b s) (append_assoc front (st ∷ []) (take i (statements_among said)))
     (keeps_from (front ++ st ∷ []) lines said p.1 i s e)

@@ -2,6 +2,7 @@
 use Rattle.std.proofs.Common.{◌≡◌, ℕ, zero, suc, ◌+◌, ◌≤◌, ◌<◌, ◌⊎◌, inl, inr, List, [], ◌∷◌, ◌++◌, length, take, get_or, Option, None, Some, Result, Ok, Err, Bool, true, false, refl, sym, ap, subst, ◌∙◌, append_assoc, arith}
 use Rattle.std.proofs.lemmas.List.{append-nil}
 use Rattle.std.proofs.lemmas.Bool.{cases_lt}
+use Rattle.flow_design.specs.declared.limits.TheConstants.{TEXT_BYTES}
 use Rattle.flow_design.specs.declared.session.Statement.{Statement}
 use Rattle.flow_design.specs.declared.session.Session.{Session}
 use Rattle.flow_grammar.specs.declared.fault.Code.{Code}
@@ -13,7 +14,7 @@ use Rattle.flow_grammar.specs.Tokens.{Line, lines_of}
 use Rattle.flow_grammar.specs.Rules.{is_over}
 use Rattle.flow_grammar.specs.Line.{statement_in, line_fault}
 use Rattle.flow_grammar.specs.Gives.{◌>>=◌, Read, reading, at_line, judged, line_reading, with_statement, in_front, ended, TextGives}
-use Rattle.flow_grammar.specs.Text.{statements_among, numbers_among, IsInOrder, AreInOrder, Fails, FailsFirst, HasNoEnd, StandsFor, HasFault, IsAnswer, Answers, limit, session_of, Said}
+use Rattle.flow_grammar.specs.Text.{statements_among, numbers_among, IsInOrder, AreInOrder, Fails, FailsFirst, HasNoEnd, StandsFor, HasFault, IsAnswer, Answers, session_of, Said}
 use Rattle.flow_grammar.proofs.LineLaws.{order_of_line, line_of_order, fails_of_line, line_of_fails}
 
 abbrev pub Words : Type 0
@@ -152,10 +153,10 @@ module _ (front : List Statement) (n : ℕ) (line : Line) (lines : List Line) (s
   tells_more (Err fault) (inr p) = inr (cut_more fault p)
 
 tells_line : (front : List Statement) (n : ℕ) (line : Line) (lines : List Line) (o : Option Code) → line_fault front line ≡ o
-    → Tells (with_statement front (statement_in line)) (n + 1) lines (reading (with_statement front (statement_in line)) (n + 1) lines)
-    → Tells front n (line ∷ lines) (at_line (n + 1) (judged o (statement_in line)) >>= λ s. reading (with_statement front s) (n + 1) lines >>= λ r. Ok (in_front (n + 1) s r))
+    → Tells (with_statement front (statement_in front line)) (n + 1) lines (reading (with_statement front (statement_in front line)) (n + 1) lines)
+    → Tells front n (line ∷ lines) (at_line (n + 1) (judged o (statement_in front line)) >>= λ s. reading (with_statement front s) (n + 1) lines >>= λ r. Ok (in_front (n + 1) s r))
 unfolding Tells InOrderFrom
-tells_line front n line lines None h rest = tells_more front n line lines (statement_in line) (order_of_line front line h) (reading (with_statement front (statement_in line)) (n + 1) lines) rest
+tells_line front n line lines None h rest = tells_more front n line lines (statement_in front line) (order_of_line front line h) (reading (with_statement front (statement_in front line)) (n + 1) lines) rest
 tells_line front n line lines (Some code) h rest = inl (record {
   said = [];
   some = omega arith;
@@ -167,7 +168,7 @@ tells_line front n line lines (Some code) h rest = inl (record {
 tells : (front : List Statement) (n : ℕ) (lines : List Line) → Tells front n lines (reading front n lines)
 unfolding reading line_reading
 tells front n [] = tells_end front n (is_over front) refl
-tells front n (line ∷ lines) = tells_line front n line lines (line_fault front line) refl (tells (with_statement front (statement_in line)) (n + 1) lines)
+tells front n (line ∷ lines) = tells_line front n line lines (line_fault front line) refl (tells (with_statement front (statement_in front line)) (n + 1) lines)
 
 -- ---- and nothing else is told
 
@@ -242,7 +243,7 @@ cut_only front n (line ∷ lines) fault (o ∷ said) p over c e =
 -- ---- texts
 
 -- the lines of a text give an answer to it
-pub answer_of_lines : (text : List ℕ) (read : Result Read TextFault) → length text ≤ limit → reading [] 0 (lines_of text) ≡ read → Said text read
+pub answer_of_lines : (text : List ℕ) (read : Result Read TextFault) → length text ≤ TEXT_BYTES → reading [] 0 (lines_of text) ≡ read → Said text read
 unfolding Tells
 answer_of_lines text read short e = go read (subst (Tells [] 0 (lines_of text)) e (tells [] 0 (lines_of text)))
   where
@@ -273,7 +274,7 @@ fault_is text fault (inr p) = cut_only [] 0 (lines_of text) fault p.said (ordere
 
 -- each text has an answer
 pub some_answer : (text : List ℕ) → (answer : Result Read TextFault) × Said text answer
-some_answer text = elim (cases_lt limit (length text)) [
+some_answer text = elim (cases_lt TEXT_BYTES (length text)) [
   | inl long ↦ (Err (record { line = 0; code = TooLong }), inl (long, refl))
   | inr short ↦ (reading [] 0 (lines_of text), answer_of_lines text (reading [] 0 (lines_of text)) short refl)
 ]
@@ -293,7 +294,7 @@ same_answer text (Err f) (Err g) (inr p) (inr s) = sym (fault_is text f p.1) ∙
 -- ---- what a reader answers
 
 -- a reader that gives what the lines give answers the text
-pub answer_given : (text : List ℕ) (result : Result (Session × List ℕ) ReadFail) → length text ≤ limit → TextGives (λ read. (read.0.statements, read.1)) result (reading [] 0 (lines_of text)) → IsAnswer text (session_of result)
+pub answer_given : (text : List ℕ) (result : Result (Session × List ℕ) ReadFail) → length text ≤ TEXT_BYTES → TextGives (λ read. (read.0.statements, read.1)) result (reading [] 0 (lines_of text)) → IsAnswer text (session_of result)
 answer_given text (Ok read) short h = answer_of_lines text (Ok (read.0.statements, read.1)) short h
 answer_given text (Err fails.OutOfMemory) short h = tt
 answer_given text (Err (fails.Text fault)) short h = answer_of_lines text (Err fault) short h

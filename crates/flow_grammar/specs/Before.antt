@@ -1,10 +1,27 @@
 -- What stands before a line, as functions of the statements before it, the latest first.
-use Rattle.std.specs.Prelude.{ℕ, Bool, true, false, List, length, count_by, sum_by, take_while, Option, None, Some}
+use Rattle.std.specs.Prelude.{ℕ, Bool, true, false, List, [], ◌∷◌, ◌==◌, length, count_by, sum_by, take_while, unwrap_or, Option, None, Some}
 use Rattle.std.specs.List.{filter_map, list_any}
 use Rattle.flow_design.specs.declared.session.Statement.{Statement}
-use Rattle.flow_design.specs.declared.session.Statement.TheVariants.{Source, Sink, Fifo, Module, Reg, Mem, Block, Loop, Temp, At, Input, Depth}
+use Rattle.flow_design.specs.declared.session.Statement.TheVariants.{Flow, Source, Sink, Fifo, Module, Reg, Mem, Block, Loop, Temp, At, Input, Depth}
 use Rattle.flow_grammar.specs.Tokens.{is_word}
 use Rattle.flow_grammar.specs.Parts.{Name}
+
+-- ---- the version of the language
+
+abbrev pub flow_number : Statement → Option ℕ
+flow_number (Flow v) = Some v
+flow_number s = None
+
+-- the version that is declared: 1 where there is no `flow`
+abbrev pub version : List Statement → ℕ
+version [] = 1
+version (s ∷ earlier) = unwrap_or (flow_number s) (version earlier)
+
+-- the version in which FIFOs have delays
+abbrev pub has_delays : ℕ → Bool
+has_delays v = v == 2
+
+-- ---- what is declared, and how much
 
 abbrev pub is_no_module : Statement → Bool
 is_no_module (Module n) = false
@@ -27,13 +44,13 @@ source_name (Source n w) = Some n
 source_name s = None
 
 abbrev pub fifo_name : Statement → Option Name
-fifo_name (Fifo n w d) = Some n
+fifo_name (Fifo n w depth delay) = Some n
 fifo_name s = None
 
 abbrev pub channel_name : Statement → Option Name
 channel_name (Source n w) = Some n
 channel_name (Sink n w) = Some n
-channel_name (Fifo n w d) = Some n
+channel_name (Fifo n w depth delay) = Some n
 channel_name s = None
 
 abbrev pub module_name : Statement → Option Name

@@ -1,4 +1,4 @@
--- The statement that the tokens of a line write, whatever its numbers are.
+-- The statement that the tokens of a line write under a version of the language, whatever its numbers are.
 use Rattle.std.specs.Prelude.{ℕ, Bool, List, [], ◌∷◌, ◌&&◌, map, codes, if◌then◌else◌, Option, None, Some, option_map}
 use Rattle.std.specs.List.{list_all}
 use Rattle.flow_design.specs.declared.expr.Expr.{Expr}
@@ -6,11 +6,21 @@ use Rattle.flow_design.specs.declared.session.Statement.{Statement}
 use Rattle.flow_design.specs.declared.session.Statement.TheVariants.{Flow, Source, Sink, Fifo, Module, Reg, Mem, Block, Loop, Temp, At, Goto, Branch, Stop, Input, Limits, Depth, End}
 use Rattle.flow_design.specs.declared.expr.Op.{Op}
 use Rattle.flow_design.specs.declared.expr.Op.TheVariants as op
+use Rattle.flow_grammar.specs.declared.keyword.Keyword.{Keyword}
+use Rattle.flow_grammar.specs.declared.keyword.Keyword.TheVariants as keyword
+use Rattle.flow_grammar.specs.declared.keyword.Verb.{Verb}
+use Rattle.flow_grammar.specs.declared.keyword.Verb.TheVariants as verb
+use Rattle.flow_grammar.specs.Before.{has_delays}
+use Rattle.flow_grammar.specs.Keywords.{keyword_of, verb_of}
+use Rattle.flow_grammar.specs.Parts.{default_depth, default_delay}
 use Rattle.flow_grammar.specs.Tokens.{Token, is_number, is_name, number_of, is_word}
 use Rattle.flow_grammar.specs.Trees.{Trees, trees_of}
 
 abbrev pub only_if : {A : Type 0} → Bool → A → Option A
 only_if test x = if test then Some x else None
+
+abbrev pub if_then : {A : Type 0} → Bool → Option A → Option A
+if_then test x = if test then x else None
 
 unfoldable pub flow_of : List Token → Option Statement
 flow_of (n ∷ []) = only_if (is_number n) (Flow (number_of n))
@@ -20,10 +30,14 @@ abbrev pub name_width : (Token → ℕ → Statement) → List Token → Option 
 name_width make (n ∷ w ∷ []) = only_if (is_name n && is_number w) (make n (number_of w))
 name_width make ts = None
 
-unfoldable pub fifo_of : List Token → Option Statement
-fifo_of (n ∷ w ∷ []) = only_if (is_name n && is_number w) (Fifo n (number_of w) 2)
-fifo_of (n ∷ w ∷ d ∷ []) = only_if (is_name n && (is_number w && is_number d)) (Fifo n (number_of w) (number_of d))
-fifo_of ts = None
+-- a FIFO, with a delay in the version that has them alone
+unfoldable pub fifo_of : ℕ → List Token → Option Statement
+fifo_of version (n ∷ w ∷ []) = only_if (is_name n && is_number w) (Fifo n (number_of w) default_depth default_delay)
+fifo_of version (n ∷ w ∷ d ∷ []) = only_if (is_name n && (is_number w && is_number d)) (Fifo n (number_of w) (number_of d) default_delay)
+fifo_of version (n ∷ w ∷ d ∷ e ∷ []) =
+    if_then (has_delays version)
+    (only_if (is_name n && (is_number w && (is_number d && is_number e))) (Fifo n (number_of w) (number_of d) (number_of e)))
+fifo_of version ts = None
 
 abbrev pub one_name : (Token → Statement) → List Token → Option Statement
 one_name make (n ∷ []) = only_if (is_name n) (make n)
@@ -44,9 +58,6 @@ one_tree trees = None
 abbrev pub two_trees : (Expr Token → Expr Token → Op Token) → Option Trees → Option (Op Token)
 two_trees make (Some (e ∷ f ∷ [])) = Some (make e f)
 two_trees make trees = None
-
-abbrev pub if_then : {A : Type 0} → Bool → Option A → Option A
-if_then test x = if test then x else None
 
 abbrev pub set_of : List Token → Option (Op Token)
 set_of (r ∷ ts) = if_then (is_name r) (option_map (op.Set r) (one_tree (trees_of ts)))
@@ -76,20 +87,26 @@ abbrev pub try_write_of : List Token → Option (Op Token)
 try_write_of (f ∷ ok ∷ ts) = if_then (is_name f && is_name ok) (option_map (op.TryWrite f ok) (one_tree (trees_of ts)))
 try_write_of ts = None
 
--- an operation
+-- the form of each operation
+abbrev pub op_form_of : Verb → List Token → Option (Op Token)
+op_form_of verb.Set ts = set_of ts
+op_form_of verb.Load ts = load_of ts
+op_form_of verb.Store ts = store_of ts
+op_form_of verb.Read ts = two_names op.Read ts
+op_form_of verb.Write ts = write_of ts
+op_form_of verb.TryRead ts = try_read_of ts
+op_form_of verb.TryWrite ts = try_write_of ts
+op_form_of verb.Empty ts = two_names op.Empty ts
+op_form_of verb.Full ts = two_names op.Full ts
+
+abbrev pub op_form_if : Option Verb → List Token → Option (Op Token)
+op_form_if None ts = None
+op_form_if (Some v) ts = op_form_of v ts
+
+-- the verb and what stands behind it
 unfoldable pub op_of : List Token → Option (Op Token)
 op_of [] = None
-op_of (k ∷ ts) =
-    if is_word k (codes "set") then set_of ts
-    else if is_word k (codes "load") then load_of ts
-    else if is_word k (codes "store") then store_of ts
-    else if is_word k (codes "read") then two_names op.Read ts
-    else if is_word k (codes "write") then write_of ts
-    else if is_word k (codes "tryread") then try_read_of ts
-    else if is_word k (codes "trywrite") then try_write_of ts
-    else if is_word k (codes "empty") then two_names op.Empty ts
-    else if is_word k (codes "full") then two_names op.Full ts
-    else None
+op_of (v ∷ ts) = op_form_if (verb_of v) ts
 
 -- an operation with a guard in front of it, where there is one
 abbrev pub guarded_of : ℕ → List Token → Option Statement
@@ -116,26 +133,32 @@ abbrev pub bare : Statement → List Token → Option Statement
 bare statement [] = Some statement
 bare statement (t ∷ ts) = None
 
+-- the form of each keyword
+abbrev pub form_of : ℕ → Keyword → List Token → Option Statement
+form_of version keyword.Flow ts = flow_of ts
+form_of version keyword.Source ts = name_width Source ts
+form_of version keyword.Sink ts = name_width Sink ts
+form_of version keyword.Fifo ts = fifo_of version ts
+form_of version keyword.Module ts = one_name Module ts
+form_of version keyword.Reg ts = name_width Reg ts
+form_of version keyword.Mem ts = mem_of ts
+form_of version keyword.Block ts = name_width Block ts
+form_of version keyword.Loop ts = loop_of ts
+form_of version keyword.Temp ts = name_width Temp ts
+form_of version keyword.At ts = at_of ts
+form_of version keyword.Goto ts = one_name Goto ts
+form_of version keyword.Branch ts = branch_of ts
+form_of version keyword.Stop ts = bare Stop ts
+form_of version keyword.Input ts = input_of ts
+form_of version keyword.Limits ts = limits_of ts
+form_of version keyword.Depth ts = name_width Depth ts
+form_of version keyword.End ts = bare End ts
+
+abbrev pub form_if : ℕ → Option Keyword → List Token → Option Statement
+form_if version None ts = None
+form_if version (Some k) ts = form_of version k ts
+
 -- the keyword and what stands behind it
-unfoldable pub statement_of : List Token → Option Statement
-statement_of [] = None
-statement_of (k ∷ ts) =
-    if is_word k (codes "flow") then flow_of ts
-    else if is_word k (codes "source") then name_width Source ts
-    else if is_word k (codes "sink") then name_width Sink ts
-    else if is_word k (codes "fifo") then fifo_of ts
-    else if is_word k (codes "module") then one_name Module ts
-    else if is_word k (codes "reg") then name_width Reg ts
-    else if is_word k (codes "mem") then mem_of ts
-    else if is_word k (codes "block") then name_width Block ts
-    else if is_word k (codes "loop") then loop_of ts
-    else if is_word k (codes "temp") then name_width Temp ts
-    else if is_word k (codes "at") then at_of ts
-    else if is_word k (codes "goto") then one_name Goto ts
-    else if is_word k (codes "branch") then branch_of ts
-    else if is_word k (codes "stop") then bare Stop ts
-    else if is_word k (codes "input") then input_of ts
-    else if is_word k (codes "limits") then limits_of ts
-    else if is_word k (codes "depth") then name_width Depth ts
-    else if is_word k (codes "end") then bare End ts
-    else None
+unfoldable pub statement_of : ℕ → List Token → Option Statement
+statement_of version [] = None
+statement_of version (k ∷ ts) = form_if version (keyword_of k) ts

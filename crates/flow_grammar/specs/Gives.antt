@@ -18,7 +18,7 @@ judged None value = Ok value
 judged (Some code) value = Err code
 
 unfoldable pub line_reading : List Statement → List ℕ → Result (Option Statement) Code
-line_reading before line = judged (line_fault before line) (statement_in line)
+line_reading before line = judged (line_fault before line) (statement_in before line)
 
 abbrev pub LineFails : {Y : Type 0} → LineFail → Result Y Code → Type 0
 LineFails line_fails.OutOfMemory read = Unit {0}

@@ -1,12 +1,15 @@
--- One line, worked out: its statement depends on that line alone, and the first test that it fails on the statements before it.
+-- One line, worked out: its statement depends on that line and on the version that is declared before it, and the first test that
+-- it fails on all statements before it.
 use Rattle.std.specs.Prelude.{List, [], ◌∷◌, reverse, Option, None, Some, if◌then◌else◌}
 use Rattle.std.specs.List.{list_all}
 use Rattle.flow_design.specs.declared.session.Statement.{Statement}
 use Rattle.flow_grammar.specs.declared.fault.Code.{Code}
 use Rattle.flow_grammar.specs.declared.fault.Code.TheVariants.{NotAscii, Syntax}
 use Rattle.flow_grammar.specs.Tokens.{Line, Token, tokens_of, is_permitted}
+use Rattle.flow_grammar.specs.Before.{version}
 use Rattle.flow_grammar.specs.Forms.{statement_of}
-use Rattle.flow_grammar.specs.Rules.{may_follow, statement_fault}
+use Rattle.flow_grammar.specs.Places.{may_follow}
+use Rattle.flow_grammar.specs.Rules.{statement_fault}
 
 -- the tests of a statement that is written at a place, `earlier` being those before it, the latest first
 abbrev pub form_fault : List Statement → Option Statement → Option Code
@@ -15,11 +18,11 @@ form_fault earlier (Some s) = if may_follow earlier s then statement_fault earli
 
 abbrev pub tokens_fault : List Statement → List Token → Option Code
 tokens_fault earlier [] = None
-tokens_fault earlier (t ∷ ts) = form_fault earlier (statement_of (t ∷ ts))
+tokens_fault earlier (t ∷ ts) = form_fault earlier (statement_of (version earlier) (t ∷ ts))
 
 -- the statement that the tokens of a line write, if there is one
-unfoldable pub statement_in : Line → Option Statement
-statement_in line = statement_of (tokens_of line)
+unfoldable pub statement_in : List Statement → Line → Option Statement
+statement_in before line = statement_of (version (reverse before)) (tokens_of line)
 
 -- the first test that a line fails, where these statements stand before it
 unfoldable pub line_fault : List Statement → Line → Option Code

@@ -1,102 +1,19 @@
--- The rules of reading for one statement: where it may stand, and the first rule that it breaks after the statements before
--- it, which are given the latest first.
-use Rattle.std.specs.Prelude.{◌≡◌, ℕ, ◌+◌, Bool, true, false, List, [], ◌∷◌, ◌++◌, ◌&&◌, not, nat_le, nat_lt, reverse, take, slice_get, Option, None, Some, length, if◌then◌else◌}
+-- The rules of reading for one statement: the first that it breaks after the statements before it, which are given the latest first.
+use Rattle.std.specs.Prelude.{◌≡◌, ℕ, ◌+◌, Bool, true, false, List, [], ◌∷◌, ◌++◌, ◌&&◌, ◌||◌, ◌==◌, not, nat_le, nat_lt, reverse, take, slice_get, Option, None, Some, length, if◌then◌else◌}
 use Rattle.std.specs.List.{list_all}
 use Rattle.flow_design.specs.declared.expr.Expr.{Expr}
 use Rattle.flow_design.specs.declared.expr.Op.{Op}
 use Rattle.flow_design.specs.declared.expr.Op.TheVariants as op
+use Rattle.flow_design.specs.declared.limits.TheConstants.{MODULES, CHANNELS, REGISTERS, TEMPS, MEMORIES, BLOCKS, OPERATIONS, EXPRESSION_NODES, EXPRESSION_DEPTH, INPUT_VALUES, EDITS}
 use Rattle.flow_design.specs.declared.session.Statement.{Statement}
 use Rattle.flow_design.specs.declared.session.Statement.TheVariants.{Flow, Source, Sink, Fifo, Module, Reg, Mem, Block, Loop, Temp, At, Goto, Branch, Stop, Input, Limits, Depth, End}
 use Rattle.flow_design.specs.Words.{nodes, depth}
 use Rattle.flow_grammar.specs.declared.fault.Code.{Code}
 use Rattle.flow_grammar.specs.declared.fault.Code.TheVariants.{BadNumber, DoubleName, UnknownName, TooMany}
 use Rattle.flow_grammar.specs.Tokens.{is_name}
-use Rattle.flow_grammar.specs.Parts.{Name, Part, New, Use, Label, Num, Space, ChannelName, ModuleName, RegisterName, MemoryName, TempName, BlockName, Sort, AnyChannel, ASource, AFifo, ARegister, AMemory, AVariable, parts}
-use Rattle.flow_grammar.specs.Before.{channels, sources, fifos, modules, registers, memories, blocks, temps, operations, inputs, input_values, edits, is_among}
-
--- ---- which statement may stand where
-
--- the places of a session
-pub data Place : Type 0 where
-  AtStart AmongChannels AmongRegisters AmongTemps AmongOperations AfterBody AmongInputs AmongEdits AtEnd : Place
-
--- where a statement leads
-abbrev pub place_after : Statement → Place
-place_after (Flow n) = AmongChannels
-place_after (Source n w) = AmongChannels
-place_after (Sink n w) = AmongChannels
-place_after (Fifo n w d) = AmongChannels
-place_after (Module n) = AmongRegisters
-place_after (Reg n w) = AmongRegisters
-place_after (Mem n w l) = AmongRegisters
-place_after (Block n l) = AmongTemps
-place_after (Loop n ii l r) = AmongTemps
-place_after (Temp n w) = AmongTemps
-place_after (At off guard o) = AmongOperations
-place_after (Goto b) = AfterBody
-place_after (Branch r b c) = AfterBody
-place_after Stop = AfterBody
-place_after (Input n values) = AmongInputs
-place_after (Limits c o) = AmongEdits
-place_after (Depth n d) = AmongEdits
-place_after End = AtEnd
-
--- the place behind these statements
-abbrev pub place : List Statement → Place
-place [] = AtStart
-place (s ∷ earlier) = place_after s
-
--- which statement may stand at a place
-abbrev pub may_stand : Statement → Place → Bool
--- at the start
-may_stand (Flow n) AtStart = true
--- after `flow`, `source`, `sink` and `fifo`
-may_stand (Source n w) AmongChannels = true
-may_stand (Sink n w) AmongChannels = true
-may_stand (Fifo n w d) AmongChannels = true
-may_stand (Module n) AmongChannels = true
-may_stand (Input n values) AmongChannels = true
-may_stand (Limits c o) AmongChannels = true
-may_stand (Depth n d) AmongChannels = true
-may_stand End AmongChannels = true
--- after `module`, `reg` and `mem`
-may_stand (Reg n w) AmongRegisters = true
-may_stand (Mem n w l) AmongRegisters = true
-may_stand (Block n l) AmongRegisters = true
-may_stand (Loop n ii l r) AmongRegisters = true
--- after `block`, `loop` and `temp`
-may_stand (Temp n w) AmongTemps = true
-may_stand (At off guard o) AmongTemps = true
-may_stand (Goto b) AmongTemps = true
-may_stand (Branch r b c) AmongTemps = true
-may_stand Stop AmongTemps = true
--- after `at`
-may_stand (At off guard o) AmongOperations = true
-may_stand (Goto b) AmongOperations = true
-may_stand (Branch r b c) AmongOperations = true
-may_stand Stop AmongOperations = true
--- after a terminator
-may_stand (Block n l) AfterBody = true
-may_stand (Loop n ii l r) AfterBody = true
-may_stand (Module n) AfterBody = true
-may_stand (Input n values) AfterBody = true
-may_stand (Limits c o) AfterBody = true
-may_stand (Depth n d) AfterBody = true
-may_stand End AfterBody = true
--- after `input`
-may_stand (Input n values) AmongInputs = true
-may_stand (Limits c o) AmongInputs = true
-may_stand (Depth n d) AmongInputs = true
-may_stand End AmongInputs = true
--- after `limits` and `depth`
-may_stand (Depth n d) AmongEdits = true
-may_stand End AmongEdits = true
--- and nowhere else, nothing after `end`
-may_stand s p = false
-
--- the statement may stand behind these
-unfoldable pub may_follow : List Statement → Statement → Bool
-may_follow earlier s = may_stand s (place earlier)
+use Rattle.flow_grammar.specs.Parts.{Name, Part, New, Use, Label, Num, Space, ChannelName, ModuleName, RegisterName, MemoryName, TempName, BlockName, Sort, AnyChannel, ASource, AFifo, ARegister, AMemory, AVariable, default_delay, parts}
+use Rattle.flow_grammar.specs.Places.{place, is_end, may_follow}
+use Rattle.flow_grammar.specs.Before.{version, has_delays, channels, sources, fifos, modules, registers, memories, blocks, temps, operations, inputs, input_values, edits, is_among}
 
 -- ---- names and numbers
 
@@ -144,9 +61,9 @@ is_known earlier part = true
 
 -- ---- counts
 
--- an expression of at most 256 nodes, and at most 32 deep
+-- an expression within the limits of size and depth
 abbrev pub is_small : Expr Name → Bool
-is_small e = nat_le (nodes e) 256 && nat_le (depth e) 32
+is_small e = nat_le (nodes e) EXPRESSION_NODES && nat_le (depth e) EXPRESSION_DEPTH
 
 -- each expression for itself
 abbrev pub has_small_trees : Op Name → Bool
@@ -159,19 +76,26 @@ has_small_trees o = true
 
 -- with this statement there are not too many of its kind
 abbrev pub has_room : List Statement → Statement → Bool
-has_room earlier (Source n w) = nat_lt (length (channels earlier)) 256
-has_room earlier (Sink n w) = nat_lt (length (channels earlier)) 256
-has_room earlier (Fifo n w d) = nat_lt (length (channels earlier)) 256
-has_room earlier (Module n) = nat_lt (length (modules earlier)) 64
-has_room earlier (Reg n w) = nat_lt (length (registers earlier)) 256
-has_room earlier (Mem n w l) = nat_lt (length (memories earlier)) 16
-has_room earlier (Block n l) = nat_lt (length (blocks earlier)) 256
-has_room earlier (Loop n ii l r) = nat_lt (length (blocks earlier)) 256
-has_room earlier (Temp n w) = nat_lt (length (temps earlier)) 64
-has_room earlier (At off guard o) = nat_lt (operations earlier) 1024 && has_small_trees o
-has_room earlier (Input n values) = nat_le (input_values earlier + length values) 100000
-has_room earlier (Depth n d) = nat_lt (edits earlier) 1000
+has_room earlier (Source n w) = nat_lt (length (channels earlier)) CHANNELS
+has_room earlier (Sink n w) = nat_lt (length (channels earlier)) CHANNELS
+has_room earlier (Fifo n w depth delay) = nat_lt (length (channels earlier)) CHANNELS
+has_room earlier (Module n) = nat_lt (length (modules earlier)) MODULES
+has_room earlier (Reg n w) = nat_lt (length (registers earlier)) REGISTERS
+has_room earlier (Mem n w l) = nat_lt (length (memories earlier)) MEMORIES
+has_room earlier (Block n l) = nat_lt (length (blocks earlier)) BLOCKS
+has_room earlier (Loop n ii l r) = nat_lt (length (blocks earlier)) BLOCKS
+has_room earlier (Temp n w) = nat_lt (length (temps earlier)) TEMPS
+has_room earlier (At off guard o) = nat_lt (operations earlier) OPERATIONS && has_small_trees o
+has_room earlier (Input n values) = nat_le (input_values earlier + length values) INPUT_VALUES
+has_room earlier (Depth n d) = nat_lt (edits earlier) EDITS
 has_room earlier s = true
+
+-- ---- versions
+
+-- a statement of this version: before FIFOs had delays, each of them had the delay 1
+abbrev pub fits_version : ℕ → Statement → Bool
+fits_version v (Fifo n w depth delay) = has_delays v || (delay == default_delay)
+fits_version v s = true
 
 -- ---- the first rule that a statement breaks
 
@@ -185,10 +109,6 @@ statement_fault earlier s =
 
 -- ---- sessions that keep the rules
 
-abbrev is_end : Place → Bool
-is_end AtEnd = true
-is_end p = false
-
 -- a session that is over: its last statement is `end`
 unfoldable pub is_over : List Statement → Bool
 is_over statements = is_end (place (reverse statements))
@@ -197,6 +117,8 @@ is_over statements = is_end (place (reverse statements))
 pub record KeepsRules (before : List Statement) (s : Statement) : Type 0 where
   -- its names are names
   pub well_named : list_all is_well_named (parts s) ≡ true
+  -- it is a statement of the version that is declared before it
+  pub fits : fits_version (version (reverse before)) s ≡ true
   -- it may stand here
   pub permitted : may_follow (reverse before) s ≡ true
   -- its numbers, its new names, the names that it uses and the counts are in order

@@ -1,9 +1,10 @@
--- When tokens write a statement: one token for each of its parts.
-use Rattle.std.specs.Prelude.{◌≡◌, ◌⊎◌, true, List, [], ◌∷◌}
+-- When tokens write a statement under a version of the language: one token for each of its parts.
+use Rattle.std.specs.Prelude.{◌≡◌, ◌⊎◌, ℕ, true, List, [], ◌∷◌}
 use Rattle.flow_design.specs.declared.session.Statement.{Statement}
 use Rattle.flow_design.specs.declared.session.Statement.TheVariants.{Fifo}
 use Rattle.flow_grammar.specs.Tokens.{Token, is_number, is_name, number_of}
-use Rattle.flow_grammar.specs.Parts.{Part, Word, New, Use, Label, Num, parts, short_parts}
+use Rattle.flow_grammar.specs.Before.{has_delays}
+use Rattle.flow_grammar.specs.Parts.{Name, Part, Word, New, Use, Label, Num, parts, bare_parts, depth_parts, fifo_parts, default_depth, default_delay}
 
 -- the token is this part: a number may have leading zeros
 abbrev pub Spells : Token → Part → Type 0
@@ -20,11 +21,14 @@ Spelled [] (p ∷ ps) = ⊥
 Spelled (t ∷ ts) [] = ⊥
 Spelled (t ∷ ts) (p ∷ ps) = Spells t p × Spelled ts ps
 
--- a FIFO of depth 2 may be written without its depth
-abbrev pub SpelledShort : List Token → Statement → Type 0
-SpelledShort tokens (Fifo n w d) = (d ≡ 2) × Spelled tokens (short_parts n w)
-SpelledShort tokens s = ⊥
+-- a FIFO with its delay, where the version has delays; without it where it is 1; without its depth too where that is 2
+abbrev pub WritesFifo : ℕ → List Token → Name → ℕ → ℕ → ℕ → Type 0
+WritesFifo version tokens n w depth delay =
+    ((has_delays version ≡ true) × Spelled tokens (fifo_parts n w depth delay))
+    ⊎ (((delay ≡ default_delay) × Spelled tokens (depth_parts n w depth))
+    ⊎ ((depth ≡ default_depth) × (delay ≡ default_delay) × Spelled tokens (bare_parts n w)))
 
--- the tokens write the statement, whatever its numbers are and whatever stands before it
-abbrev pub Writes : List Token → Statement → Type 0
-Writes tokens s = Spelled tokens (parts s) ⊎ SpelledShort tokens s
+-- the tokens write the statement under a version, whatever its numbers are and whatever else stands before it
+abbrev pub Writes : ℕ → List Token → Statement → Type 0
+Writes version tokens (Fifo n w depth delay) = WritesFifo version tokens n w depth delay
+Writes version tokens s = Spelled tokens (parts s)

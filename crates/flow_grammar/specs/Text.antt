@@ -1,6 +1,7 @@
 -- What a text stands for, and the fault that it has: all its lines at once.
 use Rattle.std.specs.Prelude.{◌≡◌, ℕ, ◌+◌, ◌<◌, ◌≤◌, ◌⊎◌, true, false, List, [], ◌∷◌, length, take, reverse, slice_index_or, Option, None, Some, IfSome, Result, Ok, Err}
 use Rattle.std.specs.List.{list_all, filter_map}
+use Rattle.flow_design.specs.declared.limits.TheConstants.{TEXT_BYTES}
 use Rattle.flow_design.specs.declared.session.Statement.{Statement}
 use Rattle.flow_design.specs.declared.session.Session.{Session}
 use Rattle.flow_grammar.specs.declared.fault.Code.{Code}
@@ -9,15 +10,17 @@ use Rattle.flow_grammar.specs.declared.fault.TextFault.{TextFault}
 use Rattle.flow_grammar.specs.declared.fault.ReadFail.{ReadFail}
 use Rattle.flow_grammar.specs.declared.fault.ReadFail.TheVariants as fails
 use Rattle.flow_grammar.specs.Tokens.{Line, lines_of, tokens_of, is_permitted}
+use Rattle.flow_grammar.specs.Before.{version}
 use Rattle.flow_grammar.specs.Spelling.{Writes}
-use Rattle.flow_grammar.specs.Rules.{may_follow, statement_fault, is_over}
+use Rattle.flow_grammar.specs.Places.{may_follow}
+use Rattle.flow_grammar.specs.Rules.{statement_fault, is_over}
 
 -- ---- one line
 
--- what a line says: nothing, or the statement that its tokens write
-abbrev pub Says : Line → Option Statement → Type 0
-Says line None = tokens_of line ≡ []
-Says line (Some s) = Writes (tokens_of line) s
+-- what a line says under a version: nothing, or the statement that its tokens write
+abbrev pub Says : ℕ → Line → Option Statement → Type 0
+Says v line None = tokens_of line ≡ []
+Says v line (Some s) = Writes v (tokens_of line) s
 
 -- the statements among what lines say
 abbrev pub statements_among : List (Option Statement) → List Statement
@@ -31,18 +34,18 @@ pub record StandsBehind (before : List Statement) (s : Statement) : Type 0 where
 -- the line is in order behind these statements, and says this
 pub record IsInOrder (before : List Statement) (line : Line) (said : Option Statement) : Type 0 where
   pub bytes : list_all is_permitted line ≡ true
-  pub says : Says line said
+  pub says : Says (version (reverse before)) line said
   pub stands : IfSome said (StandsBehind before)
 
 -- no statement that may stand behind these is written by the line
 pub record IsNoStatement (before : List Statement) (line : Line) : Type 0 where
   pub some_token : ¬ (tokens_of line ≡ [])
-  pub none : (s : Statement) → Writes (tokens_of line) s → may_follow (reverse before) s ≡ false
+  pub none : (s : Statement) → Writes (version (reverse before)) (tokens_of line) s → may_follow (reverse before) s ≡ false
 
 -- the line writes a statement that may stand here, and this is the first rule that it breaks
 pub record BreaksRule (before : List Statement) (line : Line) (code : Code) : Type 0 where
   pub statement : Statement
-  pub writes : Writes (tokens_of line) statement
+  pub writes : Writes (version (reverse before)) (tokens_of line) statement
   pub permitted : may_follow (reverse before) statement ≡ true
   pub fault : statement_fault (reverse before) statement ≡ Some code
 
@@ -68,13 +71,9 @@ numbers_among n [] = []
 numbers_among n (None ∷ said) = numbers_among (n + 1) said
 numbers_among n (Some s ∷ said) = n ∷ numbers_among (n + 1) said
 
--- the longest text that is read, in bytes
-abbrev pub limit : ℕ
-limit = 4194304
-
 -- the text stands for these statements, which are on the lines with these numbers
 pub record StandsFor (text : List ℕ) (statements : List Statement) (numbers : List ℕ) : Type 0 where
-  pub short : length text ≤ limit
+  pub short : length text ≤ TEXT_BYTES
   pub said : List (Option Statement)
   pub in_order : AreInOrder (lines_of text) said
   pub over : is_over (statements_among said) ≡ true
@@ -100,8 +99,8 @@ pub record HasNoEnd (lines : List Line) (fault : TextFault) : Type 0 where
 -- the text has this fault
 abbrev pub HasFault : List ℕ → TextFault → Type 0
 HasFault text fault =
-    ((limit < length text) × (fault ≡ record { line = 0; code = TooLong }))
-    ⊎ ((length text ≤ limit) × (FailsFirst (lines_of text) fault ⊎ HasNoEnd (lines_of text) fault))
+    ((TEXT_BYTES < length text) × (fault ≡ record { line = 0; code = TooLong }))
+    ⊎ ((length text ≤ TEXT_BYTES) × (FailsFirst (lines_of text) fault ⊎ HasNoEnd (lines_of text) fault))
 
 -- ---- what a reader answers
 

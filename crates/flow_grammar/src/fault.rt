@@ -7,7 +7,7 @@ use thiserror::Error;
 /// The first test that a text fails, with its number in the language.
 #[derive(Clone, Copy, Debug, PartialEq, Eq)]
 pub enum Code {
-    /// The text has more than 4,194,304 bytes.
+    /// The text has more than `TEXT_BYTES` bytes.
     TooLong = 1,
     /// A byte of the line is not 9, 13 or 32 to 126.
     NotAscii = 2,

@@ -8,14 +8,14 @@ ghost use Rattle.flow_grammar.specs.Tokens.{Token};
 ghost use Rattle.flow_grammar.specs.Forms.{statement_of};
 ghost use Rattle.flow_grammar.specs.Spelling.{Writes};
 
-/// What tokens write is what is worked out from them: they write at most one statement.
+/// What tokens write is what is worked out from them: under one version of the language they write at most one statement.
 pub fn written_is_read()
-    ensures { (tokens : List Token) (s : Statement) → Writes tokens s → statement_of tokens ≡ Some s }
+    ensures { (version : ℕ) (tokens : List Token) (s : Statement) → Writes version tokens s → statement_of version tokens ≡ Some s }
 {}
 
 /// What is worked out from tokens is what they write.
 pub fn read_is_written()
-    ensures { (tokens : List Token) (s : Statement) → statement_of tokens ≡ Some s → Writes tokens s }
+    ensures { (version : ℕ) (tokens : List Token) (s : Statement) → statement_of version tokens ≡ Some s → Writes version tokens s }
 {}
 
 /// Each text stands for exactly one session with its lines, or has exactly one fault.

@@ -1,7 +1,7 @@
 //! Channels with their inputs and depths, limits and edits.
-ghost use Rattle.std.specs.Prelude.{◌≡◌, map, replicate, [], length, IfOk, OnOk};
+ghost use Rattle.std.specs.Prelude.{◌≡◌, ◌≤◌, ◌^◌, map, replicate, [], length, IfOk, OnOk};
 ghost use Rattle.std.specs.List.{filter_map, enumerate_from};
-ghost use Rattle.session_plan.specs.Plans.{channel, depth_in, limits_of, edit, inputs_for};
+ghost use Rattle.session_plan.specs.Plans.{channel, channel_names, channels_of, depth_in, limits_of, edit, inputs_for};
 
 use crate::defaults;
 use crate::names::Names;
@@ -28,14 +28,17 @@ fn channel(alloc: Global, statement: &Statement) -> Result<Option<Channel>, OutO
     }))
 }
 
-/// The channels of a session.
+/// The channels of a session, from their names: at most 2^30, so that 32 bits hold the number of each.
 pub(crate) fn channels_of(
     alloc: Global,
+    names: &Names,
     statements: &[Statement],
 ) -> Result<List<Channel>, OutOfMemory>
-    ensures { IfOk result (λ channels. channels ≡ filter_map channel statements.now) }
+    requires { names.now ≡ channel_names statements.now }
+    ensures channels { IfOk result (λ channels. channels ≡ channels_of statements.now) }
+    ensures few { IfOk result (λ channels. length channels ≤ 2 ^ 30) }
 {
-    let mut channels = List::new(alloc);
+    let mut channels = List::with_room(alloc, names.len() as u64)?;
     for statement in statements {
         if let Some(found) = channel(alloc, statement)? {
             channels.push(found)?;

@@ -1,3 +1,4 @@
+pub mod Counts
 pub mod Giving
 pub mod NameLemmas
 pub mod Trees

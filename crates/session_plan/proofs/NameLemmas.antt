@@ -16,7 +16,8 @@ place_behind [] k n = by (bytes_eq n k)
 place_behind (m ∷ names) k n = by (bytes_eq n m) (bytes_eq n k) (place_of names n) (place_behind names k n)
   where
     by : (b c : Bool) (o : Option ℕ) → place_of (names ++ k ∷ []) n ≡ option_or o (cond c (Some (length names)) None)
-        → cond b (Some 0) (option_map (λ i. i + 1) (place_of (names ++ k ∷ []) n)) ≡ option_or (cond b (Some 0) (option_map (λ i. i + 1) o)) (cond c (Some (suc (length names))) None)
+        → cond b (Some 0) (option_map (λ i. i + 1) (place_of (names ++ k ∷ []) n))
+        ≡ option_or (cond b (Some 0) (option_map (λ i. i + 1) o)) (cond c (Some (suc (length names))) None)
     by true c o e = refl
     by false c (Some i) e = ap (option_map (λ i. i + 1)) e
     by false true None e = ap (option_map (λ i. i + 1)) e ∙ ap Some (omega arith)
@@ -58,16 +59,22 @@ number_among names more n h = by (place_of names n) refl
     by : (o : Option ℕ) → place_of names n ≡ o → number_of names n ≡ number_of (names ++ more) n
     by None p = let z : number_of names n ≡ length names = ap (λ (o : Option ℕ). unwrap_or o (length names)) p in absurd (omega arith)
     by (Some i) p = ap (λ (o : Option ℕ). unwrap_or o (length names)) p
-        ∙ sym (ap (λ (o : Option ℕ). unwrap_or o (length (names ++ more))) (place_append names more n ∙ ap (λ (o : Option ℕ). option_or o (option_map (λ i. length names + i) (place_of more n))) p))
+        ∙ sym (ap (λ (o : Option ℕ). unwrap_or o (length (names ++ more)))
+        (place_append names more n ∙ ap (λ (o : Option ℕ). option_or o (option_map (λ i. length names + i) (place_of more n))) p))
 
-pub number_behind : (names more : List Name) (n : Name) → length names ≤ number_of names n → length names + number_of more n ≡ number_of (names ++ more) n
+pub number_behind : (names more : List Name) (n : Name) → length names ≤ number_of names n
+    → length names + number_of more n ≡ number_of (names ++ more) n
 number_behind names more n h = by (place_of names n) (place_of more n) refl refl
   where
-    joined : (o p : Option ℕ) → place_of names n ≡ o → place_of more n ≡ p → place_of (names ++ more) n ≡ option_or o (option_map (λ i. length names + i) p)
-    joined o p e f = place_append names more n ∙ ap (λ (r : Option ℕ). option_or r (option_map (λ i. length names + i) (place_of more n))) e ∙ ap (λ (r : Option ℕ). option_or o (option_map (λ i. length names + i) r)) f
+    joined : (o p : Option ℕ) → place_of names n ≡ o → place_of more n ≡ p
+        → place_of (names ++ more) n ≡ option_or o (option_map (λ i. length names + i) p)
+    joined o p e f = place_append names more n
+        ∙ ap (λ (r : Option ℕ). option_or r (option_map (λ i. length names + i) (place_of more n))) e
+        ∙ ap (λ (r : Option ℕ). option_or o (option_map (λ i. length names + i) r)) f
 
     by : (o p : Option ℕ) → place_of names n ≡ o → place_of more n ≡ p → length names + number_of more n ≡ number_of (names ++ more) n
-    by (Some i) p e f = let z : number_of names n ≡ i = ap (λ (o : Option ℕ). unwrap_or o (length names)) e in absurd (omega (arith, place_below names n i e))
+    by (Some i) p e f = let z : number_of names n ≡ i = ap (λ (o : Option ℕ). unwrap_or o (length names)) e in
+        absurd (omega (arith, place_below names n i e))
     by None None e f = ap (λ (r : Option ℕ). length names + unwrap_or r (length more)) f ∙ sym (length-append names more)
         ∙ sym (ap (λ (r : Option ℕ). unwrap_or r (length (names ++ more))) (joined None None e f))
     by None (Some i) e f = ap (λ (r : Option ℕ). length names + unwrap_or r (length more)) f
@@ -75,11 +82,14 @@ number_behind names more n h = by (place_of names n) (place_of more n) refl refl
 
 -- a table in which a name that had no number gets one
 pub noted : (old new : Name → Option ℕ) (k : Name) (i : ℕ) → is_some (old k) ≡ false
-    → ((n : Name) → new n ≡ cond (bytes_eq k n) (Some i) (old n)) → (n : Name) → new n ≡ option_or (old n) (cond (bytes_eq n k) (Some i) None)
+    → ((n : Name) → new n ≡ cond (bytes_eq k n) (Some i) (old n)) → (n : Name)
+    → new n ≡ option_or (old n) (cond (bytes_eq n k) (Some i) None)
 noted old new k i none says n = says n ∙ by (bytes_eq k n) (bytes_eq n k) (old n) refl refl refl
   where
-    by : (b c : Bool) (o : Option ℕ) → bytes_eq k n ≡ b → bytes_eq n k ≡ c → old n ≡ o → cond b (Some i) o ≡ option_or o (cond c (Some i) None)
-    by true c (Some j) e f p = absurd (true≢false (sym (ap is_some p) ∙ ap (λ (m : Name). is_some (old m)) (sym ((bytes_eq-Decides k n).0 e)) ∙ none))
+    by : (b c : Bool) (o : Option ℕ) → bytes_eq k n ≡ b → bytes_eq n k ≡ c → old n ≡ o
+        → cond b (Some i) o ≡ option_or o (cond c (Some i) None)
+    by true c (Some j) e f p = absurd
+        (true≢false (sym (ap is_some p) ∙ ap (λ (m : Name). is_some (old m)) (sym ((bytes_eq-Decides k n).0 e)) ∙ none))
     by true true None e f p = refl
     by true false None e f p = absurd (true≢false (sym ((bytes_eq-Decides n k).1 (sym ((bytes_eq-Decides k n).0 e))) ∙ f))
     by false c (Some j) e f p = refl

@@ -18,6 +18,7 @@ use Rattle.flow_design.specs.Words.{cut_to}
 use Rattle.session_plan.specs.Names.{Name, number_of, Scope}
 use Rattle.session_plan.specs.Sections.{sections, declared, declared_width}
 use Rattle.session_plan.specs.Numbered.{timed, terminator}
+use Rattle.session_plan.specs.declared.defaults.TheConstants.{CYCLES, COUNTED_OPERATIONS}
 use Rattle.session_plan.specs.declared.section.Level.TheVariants as level
 use Rattle.session_plan.specs.declared.section.Sort.TheVariants as sort
 
@@ -26,14 +27,14 @@ use Rattle.session_plan.specs.declared.section.Sort.TheVariants as sort
 abbrev pub channel : Statement → Option Channel
 channel (Source n w) = Some (record { name = n; width = w; kind = kind.Source })
 channel (Sink n w) = Some (record { name = n; width = w; kind = kind.Sink })
-channel (Fifo n w depth) = Some (record { name = n; width = w; kind = kind.Fifo depth })
+channel (Fifo n w depth delay) = Some (record { name = n; width = w; kind = kind.Fifo depth delay })
 channel s = None
 
 -- the depth of a FIFO, and 0 for the other channels
 abbrev pub depth_in : ChannelKind → ℕ
 depth_in kind.Source = 0
 depth_in kind.Sink = 0
-depth_in (kind.Fifo depth) = depth
+depth_in (kind.Fifo depth delay) = depth
 
 -- ---- blocks
 
@@ -103,18 +104,19 @@ values_for names f s = []
 abbrev pub inputs_of : ChannelKind → ℕ → List ℕ → List ℕ
 inputs_of kind.Source width values = map (cut_to width) values
 inputs_of kind.Sink width values = []
-inputs_of (kind.Fifo depth) width values = []
+inputs_of (kind.Fifo depth delay) width values = []
 
 abbrev pub inputs_for : List Name → List Statement → ℕ × Channel → List ℕ
 inputs_for names statements (f, c) = inputs_of c.kind c.width (flat_map (values_for names f) statements)
 
--- the cycle limit and the operation limit
+-- the cycle limit and the operation limit of each module, as a statement gives them
 abbrev pub limits : Statement → Option (ℕ × ℕ)
 limits (Limits cycles ops) = Some (cycles, ops)
 limits s = None
 
+-- the same of a session: the defaults where no statement gives any
 abbrev pub limits_of : List Statement → ℕ × ℕ
-limits_of statements = first_or (1000000000, 100000) (filter_map limits statements)
+limits_of statements = first_or (CYCLES, COUNTED_OPERATIONS) (filter_map limits statements)
 
 abbrev pub edit : List Name → Statement → Option Edit
 edit names (Depth n depth) = Some (record { channel = number_of names n; depth = depth })

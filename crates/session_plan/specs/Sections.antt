@@ -28,7 +28,7 @@ sections level (s ∷ rest) = if begins level s then (s, body_of level rest) ∷
 abbrev pub declared : Sort → Statement → Option Name
 declared sort.Channels (Source n w) = Some n
 declared sort.Channels (Sink n w) = Some n
-declared sort.Channels (Fifo n w depth) = Some n
+declared sort.Channels (Fifo n w depth delay) = Some n
 declared sort.Registers (Reg n w) = Some n
 declared sort.Memories (Mem n w len) = Some n
 declared sort.Blocks (Block n len) = Some n

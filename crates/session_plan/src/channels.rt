@@ -1,8 +1,9 @@
 //! Channels with their inputs and depths, limits and edits.
-ghost use Rattle.std.specs.Prelude.{◌≡◌, map, replicate, [], length, IfOk, OnOk};
+ghost use Rattle.std.specs.Prelude.{◌≡◌, ◌≤◌, ◌^◌, map, replicate, [], length, IfOk, OnOk};
 ghost use Rattle.std.specs.List.{filter_map, enumerate_from};
-ghost use Rattle.session_plan.specs.Plans.{channel, depth_in, limits_of, edit, inputs_for};
+ghost use Rattle.session_plan.specs.Plans.{channel, channel_names, channels_of, depth_in, limits_of, edit, inputs_for};
 
+use crate::defaults;
 use crate::names::Names;
 use flow_design::{Channel, ChannelKind, Edit, Statement};
 use flow_word::{List, OutOfMemory, TryCopy, Width, Words, cut};
@@ -15,7 +16,9 @@ fn channel(alloc: Global, statement: &Statement) -> Result<Option<Channel>, OutO
     let (name, width, kind) = match statement {
         Statement::Source(name, width) => (name, *width, ChannelKind::Source),
         Statement::Sink(name, width) => (name, *width, ChannelKind::Sink),
-        Statement::Fifo(name, width, depth) => (name, *width, ChannelKind::Fifo(*depth)),
+        Statement::Fifo(name, width, depth, delay) => {
+            (name, *width, ChannelKind::Fifo(*depth, *delay))
+        }
         _ => return Ok(None),
     };
     Ok(Some(Channel {
@@ -25,14 +28,17 @@ fn channel(alloc: Global, statement: &Statement) -> Result<Option<Channel>, OutO
     }))
 }
 
-/// The channels of a session.
+/// The channels of a session, from their names: at most 2^30, so that 32 bits hold the number of each.
 pub(crate) fn channels_of(
     alloc: Global,
+    names: &Names,
     statements: &[Statement],
 ) -> Result<List<Channel>, OutOfMemory>
-    ensures { IfOk result (λ channels. channels ≡ filter_map channel statements.now) }
+    requires { names.now ≡ channel_names statements.now }
+    ensures channels { IfOk result (λ channels. channels ≡ channels_of statements.now) }
+    ensures few { IfOk result (λ channels. length channels ≤ 2 ^ 30) }
 {
-    let mut channels = List::new(alloc);
+    let mut channels = List::with_room(alloc, names.len() as u64)?;
     for statement in statements {
         if let Some(found) = channel(alloc, statement)? {
             channels.push(found)?;
@@ -47,7 +53,7 @@ fn depth_in(kind: ChannelKind) -> u64
 {
     match kind {
         ChannelKind::Source | ChannelKind::Sink => 0,
-        ChannelKind::Fifo(depth) => depth,
+        ChannelKind::Fifo(depth, _) => depth,
     }
 }
 
@@ -62,7 +68,7 @@ pub(crate) fn depths_of(alloc: Global, channels: &[Channel]) -> Result<Words, Ou
     Ok(depths)
 }
 
-/// The cycle limit and the operation limit.
+/// The cycle limit, in clocks, and the operation limit of each module.
 pub(crate) fn limits_of(statements: &[Statement]) -> (u64, u64)
     ensures { result ≡ limits_of statements.now }
 {
@@ -71,7 +77,7 @@ pub(crate) fn limits_of(statements: &[Statement]) -> (u64, u64)
             return (*cycles, *ops);
         }
     }
-    (1_000_000_000, 100_000)
+    (defaults::CYCLES, defaults::COUNTED_OPERATIONS)
 }
 
 /// The edits of a session.

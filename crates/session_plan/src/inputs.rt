@@ -26,7 +26,7 @@ fn give(channel: &Channel, values: &[u64], out: &mut Words) -> Result<(), OutOfM
 {
     match channel.kind {
         ChannelKind::Source => push_cut(channel.width, values, out),
-        ChannelKind::Sink | ChannelKind::Fifo(_) => Ok(()),
+        ChannelKind::Sink | ChannelKind::Fifo(_, _) => Ok(()),
     }
 }
 
@@ -40,7 +40,8 @@ fn add_values(
     requires { length inputs.old ≡ length channels.now }
     ensures long { OnOk result (length inputs.new ≡ length inputs.old) }
     ensures given { OnOk result ((f : ℕ) → f < length channels.now → slice_index_or inputs.new f []
-        ≡ slice_index_or inputs.old f [] ++ inputs_of (slice_index_or channels.now f no_channel).kind (slice_index_or channels.now f no_channel).width (values_for names.now f statement.now)) }
+        ≡ slice_index_or inputs.old f [] ++ inputs_of (slice_index_or channels.now f no_channel).kind
+        (slice_index_or channels.now f no_channel).width (values_for names.now f statement.now)) }
 {
     if let Statement::Input(name, values) = statement {
         let number = names.number(name.bytes()) as usize;

@@ -2,7 +2,9 @@
 #![tactic(auto)]
 
 mod channels;
+pub mod defaults;
 mod inputs;
+mod laws;
 mod modules;
 mod names;
 mod numbering;
@@ -10,5 +12,6 @@ mod scope;
 mod section;
 mod whole;
 
+pub use laws::versions_agree;
 pub use section::{Level, Sort};
 pub use whole::{Checked, elaborate};

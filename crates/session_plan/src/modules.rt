@@ -151,6 +151,20 @@ fn names_in<'a>(alloc: Global, body: &'a [Statement]) -> Result<ModuleNames<'a>,
     })
 }
 
+/// The blocks of a module, from what it declares.
+fn blocks_in(
+    alloc: Global,
+    channels: &Names,
+    body: &[Statement],
+) -> Result<List<Block>, OutOfMemory>
+    ensures { IfOk result (λ blocks. blocks ≡ map (block (scope_of channels.now body.now)) (sections level.Blocks body.now)) }
+{
+    let own = names_in(alloc, body)?;
+    let blocks = blocks_of(alloc, channels, &own, body);
+    drop(own);
+    blocks
+}
+
 /// The name of a module.
 fn name_of(alloc: Global, head: &Statement) -> Result<Name, OutOfMemory>
     ensures { IfOk result (λ name. name ≡ module_name head.now) }
@@ -171,12 +185,11 @@ fn module_of(
 ) -> Result<Module, OutOfMemory>
     ensures { IfOk result (λ m. m ≡ module_of channels.now (head.now, body.now)) }
 {
-    let own = names_in(alloc, body)?;
     Ok(Module {
         name: name_of(alloc, head)?,
         registers: widths_of(alloc, Sort::Registers, body)?,
         memories: memories_of(alloc, body)?,
-        blocks: blocks_of(alloc, channels, &own, body)?,
+        blocks: blocks_in(alloc, channels, body)?,
     })
 }
 

@@ -37,7 +37,8 @@ fn note<'a>(
     name: &'a [u8],
     number: u32,
 ) -> Result<(), OutOfMemory>
-    ensures ok { OnOk result ((n : Items ℕ) → number_at numbers.new n ≡ option_or (number_at numbers.old n) (if bytes_eq n name.now then Some number else None)) }
+    ensures ok { OnOk result ((n : Items ℕ)
+        → number_at numbers.new n ≡ option_or (number_at numbers.old n) (if bytes_eq n name.now then Some number else None)) }
     ensures err { OnErr result ((n : Items ℕ) → number_at numbers.new n ≡ number_at numbers.old n) }
 {
     if !numbers.contains_key(name) {

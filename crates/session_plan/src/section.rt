@@ -52,7 +52,7 @@ pub(crate) fn declared<'a>(sort: Sort, statement: &'a Statement) -> Option<&'a [
     match (sort, statement) {
         (
             Sort::Channels,
-            Statement::Source(name, _) | Statement::Sink(name, _) | Statement::Fifo(name, _, _),
+            Statement::Source(name, _) | Statement::Sink(name, _) | Statement::Fifo(name, _, _, _),
         ) => Some(name.bytes()),
         (Sort::Registers, Statement::Reg(name, _)) => Some(name.bytes()),
         (Sort::Memories, Statement::Mem(name, _, _)) => Some(name.bytes()),

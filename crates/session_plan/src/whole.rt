@@ -1,5 +1,5 @@
 //! The plan and the edits of a session.
-ghost use Rattle.std.specs.Prelude.{◌≡◌, IfOk};
+ghost use Rattle.std.specs.Prelude.{◌≡◌, ◌≤◌, ◌^◌, length, IfOk};
 ghost use Rattle.session_plan.specs.Plans.{plan_of, edits_of, channels_of, modules_of, channel_names};
 
 use crate::channels::{channels_of, depths_of, edits_of, limits_of};
@@ -27,10 +27,12 @@ pub struct Checked {
 pub fn elaborate(alloc: Global, statements: &[Statement]) -> Result<Checked, OutOfMemory>
     ensures plan { IfOk result (λ checked. checked.plan ≡ plan_of statements.now) }
     ensures edits { IfOk result (λ checked. checked.edits ≡ edits_of statements.now) }
+    // 32 bits hold the number of each channel.
+    ensures few { IfOk result (λ checked. length checked.plan.design.channels ≤ 2 ^ 30) }
 {
     let names = names_of(alloc, Sort::Channels, statements)?;
     let edits = edits_of(alloc, &names, statements)?;
-    let channels = channels_of(alloc, statements)?;
+    let channels = channels_of(alloc, &names, statements)?;
     let plan = plan_in(alloc, &names, channels, statements)?;
     Ok(Checked { plan, edits })
 }
@@ -45,7 +47,8 @@ fn plan_in(
 ) -> Result<Plan, OutOfMemory>
     requires channels { channels ≡ channels_of statements.now }
     requires names { names.now ≡ channel_names statements.now }
-    ensures { IfOk result (λ plan. plan ≡ plan_of statements.now) }
+    ensures plan { IfOk result (λ plan. plan ≡ plan_of statements.now) }
+    ensures channels { IfOk result (λ plan. plan.design.channels ≡ channels) }
 {
     let inputs = inputs_in(alloc, names, channels.as_slice(), statements)?;
     let depths = depths_of(alloc, channels.as_slice())?;

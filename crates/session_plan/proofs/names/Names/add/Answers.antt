@@ -15,7 +15,9 @@ invariant_of-self-else-is_err c =
     let all : List (Bor Name) = c.self.inside.all in
     let pushed : c.push.new.self ≡ all ++ c.args.name ∷ [] = search rules in
     let number : c.len-number.result ≡ length (map view all) = search (rules, length-map) in
-    let told : (n : Name) → number_at c.note.new.numbers n ≡ option_or (number_at c.self.inside.numbers n) (cond (bytes_eq n c.args.name.now) (Some c.len-number.result) None) = search rules in (
+    let told : (n : Name) → number_at c.note.new.numbers n
+    ≡ option_or (number_at c.self.inside.numbers n) (cond (bytes_eq n c.args.name.now) (Some c.len-number.result) None)
+    = search rules in (
       omega (arith, ap length pushed, length-append all (c.args.name ∷ [])),
       λ n. told n
           ∙ ap (λ (o : Option ℕ). option_or o (cond (bytes_eq n c.args.name.now) (Some c.len-number.result) None)) (c.self.invariant.1 n)

@@ -1,0 +1,7 @@
+use Rattle.std.proofs.Common.{refl}
+use Rattle.session_plan.specs.Plans.{plan_of, edits_of}
+use Rattle.session_plan.proofs.laws.versions_agree.Goals as goal
+
+pub returns : goal.returns
+unfolding plan_of edits_of
+returns c = record { plans = λ one other rest. refl; edits = λ one other rest. refl }

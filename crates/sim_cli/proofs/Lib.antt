@@ -1,6 +1,4 @@
 pub mod Answering
 pub mod Limits
-pub mod Reported
+pub mod Reports
 pub mod Sums
-pub mod Telling
-pub mod Told

@@ -1,7 +1,7 @@
 -- The whole answer to the program's words and the bytes of its input.
-use Rattle.std.specs.Prelude.{◌≡◌, ℕ, Bool, true, false, List, [], Option, Some, None}
+use Rattle.std.specs.Prelude.{◌≡◌, ◌≤◌, ℕ, Bool, true, false, List, Option, Some, None}
 use Rattle.std.specs.Io.KnownBytes.{Appends}
-use Rattle.sim_io.specs.Causes.{AppendsPrefix}
+use Rattle.sim_io.specs.Causes.{AppendsPrefix, Rose}
 use Rattle.flow_design.specs.declared.session.Statement.{Statement}
 use Rattle.flow_gen.specs.Generated.{session_text}
 use Rattle.flow_grammar.specs.declared.fault.TextFault.{TextFault}
@@ -10,7 +10,8 @@ use Rattle.flow_check.specs.Checked.{fault_of}
 use Rattle.cli_words.specs.CommandWords.{accepted, AreLimits}
 use Rattle.cli_words.specs.declared.Command.{Command}
 use Rattle.cli_words.specs.declared.Command.TheVariants.{Run, Alone, Clock, Check, Gen}
-use Rattle.sim_cli.specs.Made.{Answer, refused_words, refused, made}
+use Rattle.sim_cli.specs.declared.answer.Answer.{Answer}
+use Rattle.sim_cli.specs.Made.{refused_words, refused, made}
 use Rattle.sim_cli.specs.declared.task.Task.{Task}
 use Rattle.sim_cli.specs.declared.task.Task.TheVariants.{Simulate, Print, Summarize}
 use Rattle.sim_cli.specs.declared.status.Status.{Status}
@@ -23,7 +24,7 @@ pub data AnswersSession (task : Task) (statements : List Statement) (lines : Lis
   -- it has a checking fault, and is refused with it
   misfit : (fault : TextFault) → fault_of statements lines ≡ Some fault → answer ≡ refused fault → AnswersSession task statements lines answer
   -- it has none
-  fit : fault_of statements lines ≡ None → answer ≡ made task statements lines → AnswersSession task statements lines answer
+  fit : fault_of statements lines ≡ None → answer ≡ made task statements → AnswersSession task statements lines answer
 
 -- the answer to a text
 pub data AnswersText (task : Task) (text : List ℕ) (answer : Answer) : Type 0 where
@@ -74,7 +75,7 @@ IsAnswer WriteFault = ⊥
 IsAnswer Memory = ⊥
 IsAnswer _ = Unit {0}
 
--- what a result says of the sink, where this is the whole answer
+-- what a result says of what the sink held and holds, where this is the whole answer
 pub record Tells (whole : Answer) (result : Status) (old new : Option (List ℕ)) (finished : Bool) : Type 0 where
   -- an answer is this one, written whole and finished
   pub answered : IsAnswer result → (result ≡ whole.status) × Appends old new whole.text × (finished ≡ true)
@@ -82,14 +83,19 @@ pub record Tells (whole : Answer) (result : Status) (old new : Option (List ℕ)
   pub write : result ≡ WriteFault → AppendsPrefix old new whole.text
   pub memory : result ≡ Memory → AppendsPrefix old new whole.text
 
--- the result tells the answer to a command
-pub record TellsCommand (command : Option Command) (bytes : List ℕ) (result : Status) (old new : Option (List ℕ)) (finished : Bool) : Type 0 where
+-- the result tells the answer to the words, with these bytes as the input
+pub record TellsAnswer (words : List (List ℕ)) (bytes : List ℕ) (result : Status) (old new : Option (List ℕ)) (finished : Bool) : Type 0 where
   pub whole : Answer
-  pub answers : AnswersCommand command bytes whole
+  pub answers : Answers words bytes whole
   pub tells : Tells whole result old new finished
 
--- the result tells the answer to a text
-pub record TellsText (task : Task) (text : List ℕ) (result : Status) (old new : Option (List ℕ)) (finished : Bool) : Type 0 where
-  pub whole : Answer
-  pub answers : AnswersText task text whole
-  pub tells : Tells whole result old new finished
+-- what a result says of faults, by the counts of the source and of the sink, and by the sink before and after
+pub record TellsFaults {K : Type 0} (result : Status) (reads reads_now writes writes_now : ℕ) (sink sink_now : K) : Type 0 where
+  -- a fault of reading comes only where the source has counted one, and then nothing was written
+  pub read : result ≡ ReadFault → Rose reads reads_now
+  pub unwritten : result ≡ ReadFault → sink_now ≡ sink
+  -- a fault of writing comes only where the sink has counted one
+  pub write : result ≡ WriteFault → Rose writes writes_now
+  -- neither count falls
+  pub source : reads ≤ reads_now
+  pub sink : writes ≤ writes_now

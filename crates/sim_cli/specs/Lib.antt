@@ -1,2 +1,5 @@
 pub mod Answer
+pub mod Exit
+pub mod Going
+pub mod Job
 pub mod Made

@@ -1,92 +1,161 @@
-//! The answer to a session text.
-ghost use Rattle.std.specs.Prelude.{◌≡◌, ◌<◌, length, AllPairs, IfOk, IfSome};
-ghost use Rattle.std.specs.List.{position};
-ghost use Rattle.flow_design.specs.StaticRules.{FitsEngine};
-ghost use Rattle.flow_grammar.specs.Rules.{KeepsReadingRules};
-ghost use Rattle.session_plan.specs.Plans.{plan_of};
-ghost use Rattle.sim_cli.specs.Made.{is_depth, first_depth, made, told, refused, number_of};
-ghost use Rattle.sim_cli.specs.Answer.{AnswersSession, AnswersText, IsSound, IsAnswer};
+//! The whole answer: what the words ask for is read, checked, run and printed.
+ghost use Rattle.std.specs.Prelude.{◌≡◌, ◌≢◌, ◌≤◌, [], false, map, string_bytes, IfOk, IfSome, Some};
+ghost use Rattle.sim_io.specs.Causes.{Rose};
+ghost use Rattle.cli_words.specs.CommandWords.{accepted, IsInRange};
+ghost use Rattle.sim_cli.specs.Made.{refused, number_of};
+ghost use Rattle.sim_cli.specs.Answer.{Answers, AnswersCommand, AnswersText, takes_input, IsSound, IsAnswer};
 
-use crate::reply::{Reply, print, refuse, simulate, summarize};
+use crate::making::make;
+use crate::status::Status;
 use crate::task::Task;
+use cli_words::{Command, WordFault, read_words};
 use flow_check::check;
-use flow_design::{Plan, Session, Statement};
+use flow_design::limits;
+use flow_gen::generate;
 use flow_grammar::{Code, ReadFail, TextFault, keeps_rules};
 use flow_text::read_session;
-use flow_word::{OutOfMemory, Words};
+use flow_word::{List, OutOfMemory};
+use report_text::print_numbers;
+use sim_io::{Source, TakeFault, read_all};
 use std::alloc::Global;
 
-/// The code that stands for what is not built yet.
-const NOT_BUILT: u64 = 20;
+/// A text for the sink, and the status of the program.
+#[derive(Debug, Drop)]
+pub(crate) struct Answer {
+    pub text: List<u8>,
+    pub status: Status,
+}
 
-/// The answer to a session text.
-pub(crate) fn answer_text(alloc: Global, task: &Task, text: &[u8]) -> Result<Reply, OutOfMemory>
+/// Why there is no answer.
+#[derive(Clone, Copy, Debug, PartialEq, Eq)]
+pub(crate) enum Unanswered {
+    /// The source has failed.
+    ReadFault,
+    /// There was no memory.
+    OutOfMemory,
+}
+
+impl From<OutOfMemory> for Unanswered {
+    ghost from_gives = { λ _ unanswered. unanswered ≡ Unanswered.OutOfMemory };
+
+    fn from(_: OutOfMemory) -> Self {
+        Unanswered::OutOfMemory
+    }
+}
+
+/// What is wrong with a text that is too long: no line of it is read.
+const TOO_LONG: TextFault = TextFault {
+    line: 0,
+    code: Code::TooLong,
+};
+
+/// The answer to the words, with what the source gives as the input.
+pub(crate) fn answer<S: Source>(
+    alloc: Global,
+    words: &[String],
+    source: &mut S,
+) -> Result<Answer, Unanswered>
+    ensures answers { IfSome (S.left source.old) (λ bytes. IfOk result (λ whole. Answers (map string_bytes words.now) bytes whole)) }
+    ensures status { IfOk result (λ whole. IsAnswer whole.status) }
+    ensures read_fault { result ≡ Err Unanswered.ReadFault → Rose (S.faults source.old) (S.faults source.new) }
+    ensures source_faults { S.faults source.old ≤ S.faults source.new }
+
+    ensures without_input { takes_input (accepted (map string_bytes words.now)) ≡ false
+        → IfOk result (λ whole. Answers (map string_bytes words.now) [] whole) }
+    ensures unread { takes_input (accepted (map string_bytes words.now)) ≡ false → source.new ≡ source.old }
+    ensures reads_none { takes_input (accepted (map string_bytes words.now)) ≡ false → result ≢ Err Unanswered.ReadFault }
+{
+    match read_words(alloc, words) {
+        Ok(command) => obey(alloc, command, source),
+        Err(WordFault::Refused) => Ok(Answer {
+            text: List::from_slice(alloc, b"refused words\n")?,
+            status: Status::Words,
+        }),
+        Err(WordFault::OutOfMemory) => Err(Unanswered::OutOfMemory),
+    }
+}
+
+/// The answer to a command.
+fn obey<S: Source>(
+    alloc: Global,
+    command: Command,
+    source: &mut S,
+) -> Result<Answer, Unanswered>
+    requires { IsInRange command }
+    ensures answers { IfSome (S.left source.old) (λ bytes. IfOk result (λ whole. AnswersCommand (Some command) bytes whole)) }
+    ensures status { IfOk result (λ whole. IsAnswer whole.status) }
+    ensures read_fault { result ≡ Err Unanswered.ReadFault → Rose (S.faults source.old) (S.faults source.new) }
+    ensures source_faults { S.faults source.old ≤ S.faults source.new }
+
+    ensures without_input { takes_input (Some command) ≡ false → IfOk result (λ whole. AnswersCommand (Some command) [] whole) }
+    ensures unread { takes_input (Some command) ≡ false → source.new ≡ source.old }
+    ensures reads_none { takes_input (Some command) ≡ false → result ≢ Err Unanswered.ReadFault }
+{
+    match command {
+        Command::Run(options) => answer_source(alloc, &Task::Simulate(options), source),
+        Command::Clock(options) => answer_source(alloc, &Task::Simulate(options), source),
+        Command::Alone(_) => Ok(Answer {
+            text: List::from_slice(alloc, b"refused words\n")?,
+            status: Status::Words,
+        }),
+        Command::Check => answer_source(alloc, &Task::Print, source),
+        Command::Gen(seed, modules) => {
+            let text = generate(alloc, seed, modules)?;
+            Ok(answer_text(alloc, &Task::Summarize(seed, modules), text.as_slice())?)
+        }
+    }
+}
+
+/// The answer to the text that the source gives.
+fn answer_source<S: Source>(
+    alloc: Global,
+    task: &Task,
+    source: &mut S,
+) -> Result<Answer, Unanswered>
     requires { IsSound task.now }
-    ensures told { IfOk result (λ reply. AnswersText task.now text.now (told reply)) }
-    ensures answer { IfOk result (λ reply. IsAnswer reply.status) }
+    ensures answers { IfSome (S.left source.old) (λ bytes. IfOk result (λ whole. AnswersText task.now bytes whole)) }
+    ensures status { IfOk result (λ whole. IsAnswer whole.status) }
+    ensures read_fault { result ≡ Err Unanswered.ReadFault → Rose (S.faults source.old) (S.faults source.new) }
+    ensures source_faults { S.faults source.old ≤ S.faults source.new }
+{
+    match read_all(alloc, source, limits::TEXT_BYTES) {
+        Ok(text) => Ok(answer_text(alloc, task, text.as_slice())?),
+        Err(TakeFault::ReadFault) => Err(Unanswered::ReadFault),
+        Err(TakeFault::TooLong) => Ok(refuse(alloc, TOO_LONG)?),
+        Err(TakeFault::OutOfMemory) => Err(Unanswered::OutOfMemory),
+    }
+}
+
+/// The answer to a text: it is read to a session, the session is checked, and the task makes the answer of it.
+fn answer_text(alloc: Global, task: &Task, text: &[u8]) -> Result<Answer, OutOfMemory>
+    requires { IsSound task.now }
+    ensures answers { IfOk result (λ whole. AnswersText task.now text.now whole) }
+    ensures status { IfOk result (λ whole. IsAnswer whole.status) }
 {
     keeps_rules();
-    match read_session(alloc, text) {
-        Ok((session, lines)) => answer_session(alloc, task, &session, &lines),
-        Err(ReadFail::Text(fault)) => refuse_text(alloc, fault),
+    let (session, lines) = match read_session(alloc, text) {
+        Ok(read) => read,
+        Err(ReadFail::Text(fault)) => return refuse(alloc, fault),
+        Err(ReadFail::OutOfMemory) => return Err(OutOfMemory),
+    };
+    match check(alloc, &session, &lines) {
+        Ok(checked) => make(alloc, task, &session, checked),
+        Err(ReadFail::Text(fault)) => refuse(alloc, fault),
         Err(ReadFail::OutOfMemory) => Err(OutOfMemory),
     }
 }
 
-/// The answer to a session that was read.
-fn answer_session(
-    alloc: Global,
-    task: &Task,
-    session: &Session,
-    lines: &Words,
-) -> Result<Reply, OutOfMemory>
-    requires sound { IsSound task.now }
-    requires rules { KeepsReadingRules session.now.statements }
-    requires numbered { length lines.now ≡ length session.now.statements }
-    requires rising { AllPairs (λ a b. a < b) lines.now }
-    ensures told { IfOk result (λ reply. AnswersSession task.now session.now.statements lines.now (told reply)) }
-    ensures answer { IfOk result (λ reply. IsAnswer reply.status) }
+/// `refused LINE CODE`
+fn refuse(alloc: Global, fault: TextFault) -> Result<Answer, OutOfMemory>
+    ensures refused { IfOk result (λ whole. whole ≡ refused fault) }
+    ensures status { IfOk result (λ whole. IsAnswer whole.status) }
 {
-    match check(alloc, session, lines) {
-        Ok(checked) => make(alloc, task, session, lines, checked.plan),
-        Err(ReadFail::Text(fault)) => refuse_text(alloc, fault),
-        Err(ReadFail::OutOfMemory) => Err(OutOfMemory),
-    }
-}
-
-/// What the task makes of a session that passes the check.
-fn make(
-    alloc: Global,
-    task: &Task,
-    session: &Session,
-    lines: &Words,
-    plan: Plan,
-) -> Result<Reply, OutOfMemory>
-    requires sound { IsSound task.now }
-    requires numbered { length lines.now ≡ length session.now.statements }
-    requires fits { FitsEngine plan }
-    requires plan { plan ≡ plan_of session.now.statements }
-    ensures told { IfOk result (λ reply. told reply ≡ made task.now session.now.statements lines.now) }
-    ensures answer { IfOk result (λ reply. IsAnswer reply.status) }
-{
-    match task {
-        Task::Simulate(options) => {
-            match first_depth(session.statements.as_slice(), lines.as_slice()) {
-                Some(line) => refuse(alloc, line, NOT_BUILT),
-                None => simulate(alloc, options, plan),
-            }
-        }
-        Task::Print => print(alloc, session),
-        Task::Summarize(seed, modules) => summarize(alloc, *seed, *modules, &plan),
-    }
-}
-
-/// Refuses a text with its fault.
-pub(crate) fn refuse_text(alloc: Global, fault: TextFault) -> Result<Reply, OutOfMemory>
-    ensures told { IfOk result (λ reply. told reply ≡ refused fault) }
-    ensures answer { IfOk result (λ reply. IsAnswer reply.status) }
-{
-    refuse(alloc, fault.line, number_of(fault.code))
+    let mut text = List::new(alloc);
+    print_numbers(&mut text, b"refused", &[fault.line, number_of(fault.code)])?;
+    Ok(Answer {
+        text,
+        status: Status::Text,
+    })
 }
 
 /// The number of a code in the language.
@@ -94,29 +163,4 @@ fn number_of(code: Code) -> u64
     ensures { result ≡ number_of code }
 {
     code as u64
-}
-
-/// The line of the first `depth`.
-#[tactic(auto, unfolding(crate::specs::Made::first_depth))]
-fn first_depth(statements: &[Statement], lines: &[u64]) -> Option<u64>
-    requires { length lines.now ≡ length statements.now }
-    ensures { result ≡ first_depth statements.now lines.now }
-{
-    let at = depth_at(statements)?;
-    Some(lines[at])
-}
-
-/// The place of the first `depth`.
-fn depth_at(statements: &[Statement]) -> Option<usize>
-    ensures within { IfSome result (λ at. at < length statements.now) }
-    ensures first { result ≡ position is_depth statements.now }
-{
-    statements.iter().position(is_depth)
-}
-
-/// Whether a statement is a `depth`.
-fn is_depth(statement: &Statement) -> bool
-    ensures { result ≡ is_depth statement.now }
-{
-    matches!(statement, Statement::Depth(..))
 }

@@ -2,40 +2,35 @@
 #![tactic(auto)]
 
 mod answer;
+mod job;
 mod laws;
+mod making;
 mod program;
-mod reply;
 mod status;
 mod task;
+mod words;
 #[cfg(test)]
 mod tests;
 
 use program::omnisim;
 use sim_io::{StdSink, StdSource};
 use status::Status;
-use std::env::Env;
+use std::io;
 use std::process::ExitCode;
-use std::{env, io};
+use words::{arguments, behind_the_name};
 
 fn main(rt: HostRuntime) -> ExitCode {
     let mut source = StdSource::new(rt.reader());
     let mut sink = StdSink::new(io::writer(&rt));
-    let status = match words(&rt) {
-        Ok(words) => omnisim(&rt, rt.alloc(), words.as_slice(), &mut source, &mut sink),
-        Err(status) => status,
+    let status = match arguments(&rt) {
+        Ok(all) => omnisim(
+            &rt,
+            rt.alloc(),
+            behind_the_name(all.as_slice()),
+            &mut source,
+            &mut sink,
+        ),
+        Err(_) => Status::Memory,
     };
-    ExitCode::from(status as u8)
-}
-
-/// The words after the program's own name. Where they can't be read, there are none, and so they are refused.
-fn words(rt: &(impl Env + AllocGlobal)) -> Result<Vec<String>, Status> {
-    let mut words = Vec::new(rt.alloc());
-    if let Ok(args) = env::args(rt) {
-        for word in args.skip(1) {
-            if words.push(word).is_err() {
-                return Err(Status::Memory);
-            }
-        }
-    }
-    Ok(words)
+    ExitCode::from(status.number())
 }

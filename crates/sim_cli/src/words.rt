@@ -1,0 +1,25 @@
+//! The words that the program was started with.
+ghost use Rattle.std.specs.Prelude.{◌≡◌, drop};
+
+use flow_word::OutOfMemory;
+use std::env::Env;
+use std::{env, io};
+
+/// All arguments, the program's own name first. Arguments that can't be read as text count as none, and so are refused.
+pub(crate) fn arguments(rt: &(impl Env + AllocGlobal)) -> Result<Vec<String>, OutOfMemory> {
+    match env::args(rt) {
+        Ok(args) => Ok(args.collect(rt.alloc())?),
+        Err(error) if error.kind() == io::ErrorKind::OutOfMemory => Err(OutOfMemory),
+        Err(_) => Ok(Vec::new(rt.alloc())),
+    }
+}
+
+/// All but the first, which is the program's own name.
+pub(crate) fn behind_the_name(arguments: &[String]) -> &[String]
+    ensures { result.now ≡ drop 1 arguments.now }
+{
+    match arguments {
+        [] => arguments,
+        [_, words @ ..] => words,
+    }
+}

@@ -9,8 +9,8 @@ use Rattle.event_timing.specs.Actions.{Action, MayRun, MayAssign, Acts, ActsAll,
 use Rattle.event_timing.specs.Agreement.{AreOwnMarks, IsAgreed, IsBounded, AllVerified}
 use Rattle.event_timing.specs.Work.{first_one, over_one, work_of, sum_to, work}
 use Rattle.event_timing.proofs.Running.{emit, old_at, emit_more}
-use Rattle.event_timing.proofs.Answering.{first_emitted, put_at_both}
-use Rattle.event_timing.proofs.Assigning.{put_same, put_other, put_at_same, put_at_other, put_cases}
+use Rattle.event_timing.proofs.Answering.{first_emitted}
+use Rattle.event_timing.proofs.Assigning.{put_same, put_other, put_at_same, put_at_other, put_at_both, put_cases}
 use Rattle.event_timing.proofs.Agreement.{acts_agree, opening_agrees}
 
 sum_less : (f g : ℕ → ℕ) (n m : ℕ) → ((k : ℕ) → f k ≤ g k) → sum_to f n ≤ sum_to g n

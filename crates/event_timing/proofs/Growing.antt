@@ -1,13 +1,13 @@
 -- What stays as a core grows: the replies to its settled steps.
-use Rattle.std.proofs.Common.{◌≡◌, ℕ, zero, suc, ◌<◌, ◌≤◌, Bool, true, cond, not, ◌||◌, inl, inr, List, [], ◌∷◌, length, get_or, sym, refl, ap, ap₂, ◌∙◌, arith, ltb}
+use Rattle.std.proofs.Common.{◌≡◌, ℕ, zero, suc, ◌+◌, ◌<◌, ◌≤◌, Bool, true, cond, not, ◌||◌, inl, inr, List, [], ◌∷◌, length, get_or, sym, refl, ap, ap₂, ◌∙◌, arith, ltb}
 use Rattle.std.proofs.lemmas.Bool.{cases_Bool, cond-false, and_parts, and_from, cases_eq, lt-ltb, ltb-true, or_cases, or_left, or_right}
 use Rattle.flow_word.specs.declared.access.Side.{Side}
-use Rattle.flow_word.specs.declared.access.Side.TheVariants.{Pop}
+use Rattle.flow_word.specs.declared.access.Side.TheVariants.{Pop, Push}
 use Rattle.event_timing.specs.Machines.{Design, Access, Reply, ready, takes_in}
 use Rattle.event_timing.specs.Histories.{Trace}
 use Rattle.event_timing.specs.Views.{own, Begins}
 use Rattle.event_timing.specs.Core.{Core, bare_replies, core_accesses, core_tally, core_values, pops_now, replies_of, all_below, core_reply, values_there}
-use Rattle.event_timing.specs.Agreement.{AreOwnMarks, IsTimed}
+use Rattle.event_timing.specs.Agreement.{AreOwnMarks, IsTimed, elements_timed, pops_timed}
 use Rattle.event_timing.specs.Growth.{Grows, IsSettled}
 use Rattle.event_timing.proofs.OwnRuns.{own_0, own_more}
 use Rattle.event_timing.proofs.Values.{begins_get, begins_length}
@@ -75,6 +75,24 @@ own_grow {S} d x z g m (suc n) s =
     own_more d m (core_reply d z m) n
     ∙ (ap₂ (λ (p : S) (r : List Reply). d.move m (ready d m p) r) (own_grow d x z g m n (settled_less d x m (suc n) n (omega arith) s)) (reply_grow d x z g m n s)
     ∙ sym (own_more d m (core_reply d x m) n))
+
+-- how many elements have a push with a cycle stays, as long as no cycle is given
+pub elements_grow : {S : Type 0} → (d : Design S) (h : Trace S) (limit : ℕ) (x z : Core S) → IsTimed d h limit x → Grows d x z → (ch : ℕ)
+    → d.start Pop ch + core_tally d z (d.owner Push ch) Push ch (x.timed (d.owner Push ch)) ≡ elements_timed d x ch
+elements_grow {S} d h limit x z u g ch =
+    let w : ℕ = d.owner Push ch in
+    let emitted : (k : ℕ) → k < x.timed w → k < x.emitted w = λ k l. (omega (arith, u.within w)) in
+    ap (λ (n : ℕ). d.start Pop ch + n) (tally_grow d x z g w (x.timed w) emitted (u.answered_then w) Push ch)
+
+-- and pops that have their pushes among the steps with a cycle have them still
+pub pops_grow : {S : Type 0} → (d : Design S) (x z : Core S) → Grows d x z → ((ch : ℕ) → elements_timed d x ch ≤ elements_timed d z ch)
+    → (m k : ℕ) → k < x.emitted m → IsSettled d x m k → (flags : List Bool) → pops_timed d x m k flags ≡ true → pops_timed d z m k flags ≡ true
+pops_grow {S} d x z g up m k l s flags p =
+    let popped : Core S → ℕ → ℕ = λ c ch. core_tally d c m Pop ch k in
+    ap (λ (t : S). all_below (elements_timed d z) (popped z) (d.accesses m t) flags) (g.state_same m k l)
+    ∙ below_grow (elements_timed d x) (elements_timed d z) (popped x) (popped z) (core_accesses d x m k) flags up
+    (tally_grow d x z g m k s.emitted s.answered Pop)
+    p
 
 -- the steps before the newest are settled
 pub settled_old : {S : Type 0} → (d : Design S) (x : Core S) → AreOwnMarks d x → (m n : ℕ) → n < x.emitted m → IsSettled d x m n

@@ -9,7 +9,8 @@ use Rattle.event_timing.specs.Actions.{MayRun, after_assign, after_answer, IsSam
 use Rattle.event_timing.specs.Edits.{edited, after_edit}
 use Rattle.event_timing.specs.Growth.{Grows}
 use Rattle.event_timing.proofs.Running.{values_grow}
-use Rattle.event_timing.proofs.Answering.{answer_marks, put_at_both, first_emitted}
+use Rattle.event_timing.proofs.Assigning.{put_at_both}
+use Rattle.event_timing.proofs.Answering.{answer_marks, first_emitted}
 use Rattle.event_timing.proofs.RunningAhead.{stays}
 use Rattle.event_timing.proofs.Agreement.{acts_agree}
 use Rattle.event_timing.specs.Histories.{Trace, IsHistory}

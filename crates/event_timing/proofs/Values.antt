@@ -1,5 +1,5 @@
 -- The values pushed on a channel, in the history and in a view.
-use Rattle.std.proofs.Common.{◌≡◌, ℕ, zero, suc, ◌+◌, ◌-◌, ◌<◌, ◌≤◌, true, false, ◌&&◌, ◌⊎◌, inl, inr, List, [], ◌∷◌, ◌++◌, length, get_or, sym, refl, ap, ◌∙◌, arith, zero-add, append_assoc, append-nil, length-append, eqb}
+use Rattle.std.proofs.Common.{◌≡◌, ℕ, zero, suc, ◌+◌, ◌-◌, ◌<◌, ◌≤◌, Bool, true, false, ◌&&◌, ◌⊎◌, inl, inr, List, [], ◌∷◌, ◌++◌, length, get_or, sym, refl, ap, ◌∙◌, arith, zero-add, append_assoc, append-nil, length-append, eqb}
 use Rattle.std.proofs.lemmas.Bool.{cases_Bool, cond-true, cond-false, both_ways, false_from_ne_true, and_parts, and_from}
 use Rattle.std.proofs.lemmas.Grind.{common_steps}
 use Rattle.flow_word.specs.declared.access.Side.{Side}
@@ -71,6 +71,9 @@ begins_more xs ys = (ys, refl)
 pub begins_trans : (xs ys zs : List ℕ) → Begins xs ys → Begins ys zs → Begins xs zs
 begins_trans xs ys zs (a, e) (b, f) = (b ++ a, e ∙ (ap (λ (z : List ℕ). z ++ a) f ∙ append_assoc zs b a))
 
+pub begins_behind : (front xs ys : List ℕ) → Begins xs ys → Begins (front ++ xs) (front ++ ys)
+begins_behind front xs ys (a, e) = (a, ap (λ (z : List ℕ). front ++ z) e ∙ sym (append_assoc front ys a))
+
 pub begins_get : (xs ys : List ℕ) (i : ℕ) → Begins xs ys → i < length ys → get_or xs i 0 ≡ get_or ys i 0
 begins_get xs ys i (a, e) l = rw e (grind (arith, common_steps))
 
@@ -131,6 +134,15 @@ pushed_in_mono ch a r p q l =
     let g = pushed_in_later ch a r p (q - p) in
     rw e at g
 
+-- an access that does not take at a side takes nothing there, whatever it is replied
+pub not_taken : (side : Side) (ch : ℕ) (a : Access) (r : Reply) → takes_at side ch a ≡ false → took side ch a r ≡ false
+not_taken side ch a r k =
+    let here : Bool = same_side a.side side && eqb a.channel ch in
+    false_from_ne_true (took side ch a r) (λ (w : took side ch a r ≡ true).
+    let (takes, rest) = and_parts a.takes (r.possible && here) w in
+    let (possible, stands) = and_parts r.possible here rest in
+    both_ways _ k (and_from a.takes here takes stands))
+
 -- accesses take no more than those that take where it is possible
 pub takes_takers : (side : Side) (ch : ℕ) (xs : List Access) (rs : List Reply) → takes_in side ch xs rs ≤ takers side ch xs
 takes_takers side ch [] rs = omega arith
@@ -144,12 +156,8 @@ takes_takers side ch (a ∷ xs) (r ∷ rs) =
             | inr t ↦ rw (cond-false {A = ℕ} (took side ch a r) 1 0 t) (omega (arith, takes_takers side ch xs rs))
           ])
       | inr k ↦
-          let t : took side ch a r ≡ false =
-          false_from_ne_true (took side ch a r) (λ (w : took side ch a r ≡ true).
-          let (w1, w2) = and_parts a.takes (r.possible && (same_side a.side side && eqb a.channel ch)) w in
-          let (w3, w4) = and_parts r.possible (same_side a.side side && eqb a.channel ch) w2 in
-          both_ways _ k (and_from a.takes (same_side a.side side && eqb a.channel ch) w1 w4)) in
-          rw (cond-false {A = ℕ} (takes_at side ch a) 1 0 k, cond-false {A = ℕ} (took side ch a r) 1 0 t) (omega (arith, takes_takers side ch xs rs))
+          rw (cond-false {A = ℕ} (takes_at side ch a) 1 0 k, cond-false {A = ℕ} (took side ch a r) 1 0 (not_taken side ch a r k))
+          (omega (arith, takes_takers side ch xs rs))
     ]
 
 -- in one clock a side takes at most one

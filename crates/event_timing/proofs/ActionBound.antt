@@ -8,7 +8,7 @@ use Rattle.event_timing.specs.Enablers.{candidate}
 use Rattle.event_timing.specs.Actions.{Action, MayRun, MayAssign, Acts, ActsAll, after_run, after_assign, after_answer, emit_over, newest, put, IsSame}
 use Rattle.event_timing.specs.Agreement.{AreOwnMarks, IsAgreed, IsBounded, AllVerified}
 use Rattle.event_timing.specs.Work.{first_one, over_one, work_of, sum_to, work}
-use Rattle.event_timing.proofs.Running.{emit, old_at, emit_more}
+use Rattle.event_timing.proofs.Running.{emit, old_at, emit_more, emit_up, run_cases}
 use Rattle.event_timing.proofs.Answering.{first_emitted}
 use Rattle.event_timing.proofs.Assigning.{put_same, put_other, put_at_same, put_at_other, put_at_both, put_cases}
 use Rattle.event_timing.proofs.Agreement.{acts_agree, opening_agrees}
@@ -94,7 +94,7 @@ first_emit {S} d x m n w =
     elim (cases_lt (x.timed n) (x.emitted n)) [
       | inr l ↦ omega (arith, first_none x n l)
       | inl l ↦
-          let up : x.emitted n ≤ (emit d x m).emitted n = Rattle.event_timing.proofs.Running.emit_up x m n in
+          let up : x.emitted n ≤ (emit d x m).emitted n = emit_up x m n in
           let a = first_is (emit d x m) n (x.verified n (x.timed n)) (omega arith) (old_at x.verified x m _ n (x.timed n) l) in
           let b = first_is x n (x.verified n (x.timed n)) l refl in
           omega (arith, a, b)
@@ -106,7 +106,7 @@ emit_rises {S} d x m r w =
     record {
       who = m;
       inside = r.inside;
-      up = λ n. omega (arith, first_emit d x m n (w n), Rattle.event_timing.proofs.Running.emit_up x m n);
+      up = λ n. omega (arith, first_emit d x m n (w n), emit_up x m n);
       more = omega (arith, first_emit d x m m (w m), put_same x.emitted m (suc (x.emitted m)));
     }
 
@@ -147,15 +147,18 @@ answer_rises {S} d x m c i l v =
       more = omega arith;
     }
 
+-- the step that a Run emits has none
+abbrev no_query : {S : Type 0} → Design S → Core S → ℕ → Bool
+no_query {S} d x m = not (has_query (d.accesses m (ready d m (newest d x m))))
+
 run_none : {S : Type 0} → (d : Design S) (x : Core S) → AllVerified x → (m : ℕ) → AllVerified (after_run d x m)
 run_none {S} d x g m =
-    elim (cases_Bool (d.is_over m (ready d m (newest d x m)))) [
-      | inl e ↦ subst AllVerified (sym (cond-true (d.is_over m (ready d m (newest d x m))) (emit_over x m) (emit d x m) e)) g
-      | inr e ↦ subst AllVerified (sym (cond-false (d.is_over m (ready d m (newest d x m))) (emit_over x m) (emit d x m) e))
-          (emit_more x m (λ n k. (emit d x m).answered n k ≡ true → (emit d x m).verified n k ≡ true)
-          (λ n k l a. old_at x.verified x m _ n k l ∙ g n k l (sym (old_at x.answered x m _ n k l) ∙ a))
-          (λ a. put_at_same x.verified m (x.emitted m) (not (has_query (d.accesses m (ready d m (newest d x m))))) ∙ (sym (put_at_same x.answered m (x.emitted m) (not (has_query (d.accesses m (ready d m (newest d x m)))))) ∙ a)))
-    ]
+    run_cases d x m AllVerified
+    (λ e. g)
+    (λ e.
+    emit_more x m (λ n k. (emit d x m).answered n k ≡ true → (emit d x m).verified n k ≡ true)
+    (λ n k l a. old_at x.verified x m _ n k l ∙ g n k l (sym (old_at x.answered x m _ n k l) ∙ a))
+    (λ a. put_at_same x.verified m (x.emitted m) (no_query d x m) ∙ (sym (put_at_same x.answered m (x.emitted m) (no_query d x m)) ∙ a)))
 
 answer_none : {S : Type 0} → (d : Design S) (x : Core S) → AllVerified x → (m c : ℕ) → AllVerified (after_answer d x m c)
 answer_none {S} d x g m c =
@@ -170,11 +173,7 @@ inside_of : {S : Type 0} → (d : Design S) (x : Core S) → AreOwnMarks d x →
 inside_of {S} d x b m l = elim (cases_lt m d.modules) [ inl q ↦ q | inr q ↦ absurd (omega (arith, b.inside m q)) ]
 
 run_rises : {S : Type 0} → (d : Design S) (h : Trace S) (limit : ℕ) (x : Core S) → IsAgreed d h limit x → (m : ℕ) → MayRun d x m → Rises d x (after_run d x m)
-run_rises {S} d h limit x g m r =
-    elim (cases_Bool (d.is_over m (ready d m (newest d x m)))) [
-      | inl o ↦ subst (Rises d x) (sym (cond-true (d.is_over m (ready d m (newest d x m))) (emit_over x m) (emit d x m) o)) (over_rises d x m r)
-      | inr o ↦ subst (Rises d x) (sym (cond-false (d.is_over m (ready d m (newest d x m))) (emit_over x m) (emit d x m) o)) (emit_rises d x m r g.time.within)
-    ]
+run_rises {S} d h limit x g m r = run_cases d x m (Rises d x) (λ o. over_rises d x m r) (λ o. emit_rises d x m r g.time.within)
 
 given_rises : {S : Type 0} → (d : Design S) (h : Trace S) (limit : ℕ) (x : Core S) → IsAgreed d h limit x → (m c : ℕ) → MayAssign d limit x m c → Rises d x (after_assign x m c)
 given_rises {S} d h limit x g m c r =

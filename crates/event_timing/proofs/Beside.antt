@@ -1,13 +1,13 @@
 -- Actions let the core grow, and those without a Run of a module leave the module's marks as they were.
 use Rattle.std.proofs.Common.{◌≡◌, refl, sym, ap, ap₂, subst, ◌∙◌, ℕ, zero, suc, ◌⊎◌, inl, inr, true, Some, List, [], ◌∷◌, ◌++◌, arith, Bool, ◌<◌, ◌≤◌, not}
-use Rattle.std.proofs.lemmas.Bool.{cases_Bool, cases_eq, cond-true, cond-false}
+use Rattle.std.proofs.lemmas.Bool.{cases_eq, both_ways}
 use Rattle.flow_word.specs.declared.access.Side.TheVariants.{Push}
 use Rattle.event_timing.specs.Machines.{Design, IsDesign, ready, values_in}
 use Rattle.event_timing.specs.Histories.{Trace, IsHistory}
 use Rattle.event_timing.specs.Views.{Begins, pushed_in}
 use Rattle.event_timing.specs.Core.{Core, bare_replies, core_accesses, core_values, view, has_query, no_outcomes}
 use Rattle.event_timing.specs.Enablers.{candidate}
-use Rattle.event_timing.specs.Actions.{Action, Acts, ActsAll, MayRun, after_run, after_answer, emit_over, newest, IsSame, IsNoRunOf, put_at, runs}
+use Rattle.event_timing.specs.Actions.{Action, Acts, ActsAll, MayRun, after_run, after_assign, after_answer, emit_over, newest, IsSame, IsNoRunOf, put_at, runs}
 use Rattle.event_timing.specs.Agreement.{AreOwnMarks, IsAgreed}
 use Rattle.event_timing.specs.Growth.{Grows, GrowsBeside}
 use Rattle.event_timing.proofs.Agreement.{acts_agree, all_agree}
@@ -15,8 +15,8 @@ use Rattle.event_timing.proofs.Answering.{answer_grows, first_emitted}
 use Rattle.event_timing.proofs.Assigning.{put_same, put_other, put_at_same}
 use Rattle.event_timing.proofs.Fronts.{pushed_same}
 use Rattle.event_timing.proofs.Growing.{settled_all}
-use Rattle.event_timing.proofs.Running.{emit, emit_grows, emit_more, old_at, values_grow, run_marks}
-use Rattle.event_timing.proofs.RunningAhead.{stays, newest_stays, over_grows, assign_grows, no_run_parts}
+use Rattle.event_timing.proofs.Running.{emit, emit_grows, emit_more, old_at, values_grow, run_marks, run_cases}
+use Rattle.event_timing.proofs.RunningAhead.{stays, newest_stays}
 use Rattle.event_timing.proofs.Values.{begins_self, begins_trans}
 
 pub grows_self : {S : Type 0} → (d : Design S) (x : Core S) → Grows d x x
@@ -43,12 +43,30 @@ grows_trans {S} d x y z g k =
 
 -- ---- one action
 
+over_grows : {S : Type 0} → (d : Design S) (x : Core S) (n : ℕ) → Grows d x (emit_over x n)
+over_grows {S} d x n =
+    record {
+      emitted_up = λ m. omega arith;
+      state_same = λ m k l. refl;
+      wait_same = λ m k l. refl;
+      flags_same = λ m k l a. refl;
+      answered_up = λ m k l a. a;
+      values_up = λ ch. begins_self (core_values d x ch);
+    }
+
+pub assign_grows : {S : Type 0} → (d : Design S) (x : Core S) (n c : ℕ) → Grows d x (after_assign x n c)
+assign_grows {S} d x n c =
+    record {
+      emitted_up = λ m. omega arith;
+      state_same = λ m k l. refl;
+      wait_same = λ m k l. refl;
+      flags_same = λ m k l a. refl;
+      answered_up = λ m k l a. a;
+      values_up = λ ch. begins_self (core_values d x ch);
+    }
+
 pub run_grows : {S : Type 0} → (d : Design S) (x : Core S) (m : ℕ) → Grows d x (after_run d x m)
-run_grows {S} d x m =
-    elim (cases_Bool (d.is_over m (ready d m (newest d x m)))) [
-      | inl e ↦ subst (Grows d x) (sym (cond-true (d.is_over m (ready d m (newest d x m))) (emit_over x m) (emit d x m) e)) (over_grows d x m)
-      | inr e ↦ subst (Grows d x) (sym (cond-false (d.is_over m (ready d m (newest d x m))) (emit_over x m) (emit d x m) e)) (emit_grows d x m)
-    ]
+run_grows {S} d x m = run_cases d x m (Grows d x) (λ e. over_grows d x m) (λ e. emit_grows d x m)
 
 found_grows : {S : Type 0} → (d : Design S) → IsDesign d → (x : Core S) → AreOwnMarks d x → (n c : ℕ) → candidate d (view d x) n ≡ Some c → (z : Core S)
     → (IsSame d x n c × (z ≡ after_answer d x n c)) ⊎ ((IsSame d x n c → ⊥) × (z ≡ x)) → Grows d x z
@@ -72,12 +90,9 @@ same_self {S} x m = record { emitted = refl; over = refl }
 
 run_same : {S : Type 0} → (d : Design S) (x : Core S) (m n : ℕ) → (m ≡ n → ⊥) → SameMarks x (after_run d x n) m
 run_same {S} d x m n o =
-    elim (cases_Bool (d.is_over n (ready d n (newest d x n)))) [
-      | inl e ↦ subst (λ (z : Core S). SameMarks x z m) (sym (cond-true (d.is_over n (ready d n (newest d x n))) (emit_over x n) (emit d x n) e))
-          (record { emitted = refl; over = put_other x.over n true m o })
-      | inr e ↦ subst (λ (z : Core S). SameMarks x z m) (sym (cond-false (d.is_over n (ready d n (newest d x n))) (emit_over x n) (emit d x n) e))
-          (record { emitted = put_other x.emitted n (suc (x.emitted n)) m o; over = refl })
-    ]
+    run_cases d x n (λ z. SameMarks x z m)
+    (λ e. record { emitted = refl; over = put_other x.over n true m o })
+    (λ e. record { emitted = put_other x.emitted n (suc (x.emitted n)) m o; over = refl })
 
 found_same : {S : Type 0} → (d : Design S) (x : Core S) (m n c : ℕ) (z : Core S)
     → (IsSame d x n c × (z ≡ after_answer d x n c)) ⊎ ((IsSame d x n c → ⊥) × (z ≡ x)) → SameMarks x z m
@@ -105,6 +120,12 @@ acts_beside {S} d i limit x b m a o z s =
 
 -- ---- lists of actions
 
+no_run_parts : (m : ℕ) (a : Action) (more : List Action) → IsNoRunOf m (a ∷ more) → IsNoRunOf m (a ∷ []) × IsNoRunOf m more
+no_run_parts m (Action.Run n) more (o, os) = ((o, tt), os)
+no_run_parts m (Action.Assign n) more os = (tt, os)
+no_run_parts m (Action.Answer n) more os = (tt, os)
+no_run_parts m (Action.Earliest n) more os = (tt, os)
+
 module _ {S : Type 0} (d : Design S) (h : Trace S) (i : IsDesign d) (y : IsHistory d h) (limit : ℕ) where
   pub actions_grow : (x : Core S) → IsAgreed d h limit x → (actions : List Action) (z : Core S) → ActsAll d limit x actions z → Grows d x z
   actions_grow x g [] z e = subst (Grows d x) (sym e) (grows_self d x)
@@ -117,6 +138,14 @@ module _ {S : Type 0} (d : Design S) (h : Trace S) (i : IsDesign d) (y : IsHisto
   others_grow x g m (a ∷ more) o z (w, s, t) =
       let (o1, o2) = no_run_parts m a more o in
       beside_trans d x w z m (acts_beside d i limit x g.marks m a o1 w s) (others_grow w (acts_agree d h i y limit x g a w s) m more o2 z t)
+
+  -- so a Run that is permitted stays so, and emits the same
+  pub still_ahead : (x : Core S) → IsAgreed d h limit x → (m : ℕ) → MayRun d x m → (actions : List Action) → IsNoRunOf m actions → (z : Core S)
+      → ActsAll d limit x actions z → MayRun d z m × (newest d z m ≡ newest d x m)
+  still_ahead x g m r actions o z s =
+      let k = others_grow x g m actions o z s in
+      let marks = (all_agree d h i y limit x g actions z s).marks in
+      (stays d x z g.marks k.grows m k.emitted k.over r, newest_stays d x z g.marks marks k.grows m k.emitted r)
 
 -- ---- the same Run in a core and in one that grew beside it
 
@@ -236,14 +265,9 @@ module _ {S : Type 0} (d : Design S) (x z : Core S) (m : ℕ) (b : AreOwnMarks d
   run_both : GrowsBeside d (after_run d x m) (after_run d z m) m
   run_both =
       let same = ap (λ (s : S). d.is_over m (ready d m s)) same_state in
-      elim (cases_Bool (d.is_over m (ready d m (newest d x m)))) [
-        | inl e ↦
-            subst (λ (p : Core S). GrowsBeside d p (after_run d z m) m) (sym (cond-true (d.is_over m (ready d m (newest d x m))) (emit_over x m) (emit d x m) e))
-            (subst (λ (p : Core S). GrowsBeside d (emit_over x m) p m) (sym (cond-true (d.is_over m (ready d m (newest d z m))) (emit_over z m) (emit d z m) (same ∙ e))) over_both)
-        | inr e ↦
-            subst (λ (p : Core S). GrowsBeside d p (after_run d z m) m) (sym (cond-false (d.is_over m (ready d m (newest d x m))) (emit_over x m) (emit d x m) e))
-            (subst (λ (p : Core S). GrowsBeside d (emit d x m) p m) (sym (cond-false (d.is_over m (ready d m (newest d z m))) (emit_over z m) (emit d z m) (same ∙ e))) emit_both)
-      ]
+      run_cases d x m (λ p. GrowsBeside d p (after_run d z m) m)
+      (λ e. run_cases d z m (λ p. GrowsBeside d (emit_over x m) p m) (λ f. over_both) (λ f. absurd (both_ways _ f (same ∙ e))))
+      (λ e. run_cases d z m (λ p. GrowsBeside d (emit d x m) p m) (λ f. absurd (both_ways _ (same ∙ e) f)) (λ f. emit_both))
 
 -- Runs that are permitted in a core are so in one that grew beside it, and emit the same
 pub runs_both : {S : Type 0} → (d : Design S) (limit m n : ℕ) (x y z : Core S) → AreOwnMarks d x → AreOwnMarks d z → GrowsBeside d x z m

@@ -31,7 +31,8 @@ no_takers ch (a ∷ xs) (r ∷ rs) e =
       | inl k ↦ let e' = rw (cond-true {A = ℕ} (takes_at Push ch a) 1 0 k) at e in absurd (omega arith)
       | inr k ↦
           let e' = rw (cond-false {A = ℕ} (takes_at Push ch a) 1 0 k) at e in
-          ap (λ (z : List ℕ). z ++ values_in ch xs rs) (cond-false {A = List ℕ} (took Push ch a r) (a.value ∷ []) [] (not_taken Push ch a r k))
+          ap (λ (z : List ℕ). z ++ values_in ch xs rs)
+          (cond-false {A = List ℕ} (took Push ch a r) (a.value ∷ []) [] (not_taken Push ch a r k))
           ∙ no_takers ch xs rs (omega arith)
     ]
 
@@ -51,7 +52,8 @@ module _ (ch : ℕ) (know : Access → Known) (c : ℕ) where
   found a = a.blocks || answer (know a) c
 
   pushes_nothing : (a : Access) (is_done : Bool) → takes_at Push ch a ≡ false → pushed a is_done ≡ []
-  pushes_nothing a is_done none = cond-false {A = List ℕ} _ (a.value ∷ []) [] (not_taken Push ch a (record { possible = is_done; front = 0 }) none)
+  pushes_nothing a is_done none =
+      cond-false {A = List ℕ} _ (a.value ∷ []) [] (not_taken Push ch a (record { possible = is_done; front = 0 }) none)
 
   not_done : (a : Access) → a.blocks ≡ false → pushed a a.blocks ≡ []
   not_done a free =
@@ -89,7 +91,8 @@ module _ (ch : ℕ) (know : Access → Known) (c : ℕ) where
             behind_other a xs none (more_values xs (omega arith))
         | inl takes ↦
             let l' = rw (cond-true {A = ℕ} (takes_at Push ch a) 1 0 takes) at l in
-            the_push a xs (no_takers ch xs (bare_replies (flags_at know c xs)) (omega arith)) (no_takers ch xs (bare_replies (no_outcomes xs)) (omega arith))
+            the_push a xs (no_takers ch xs (bare_replies (flags_at know c xs)) (omega arith))
+            (no_takers ch xs (bare_replies (no_outcomes xs)) (omega arith))
       ]
 
 -- ---- the core behind it
@@ -141,40 +144,48 @@ module _ {S : Type 0} (d : Design S) (i : IsDesign d) (x : Core S) (b : AreOwnMa
 
     pushed_before : (ch : ℕ) → core_pushed d after m ch (x.timed m) ≡ core_pushed d x m ch (x.timed m)
     pushed_before ch =
-        pushed_same (core_accesses d after m) (core_accesses d x m) (λ j. bare_replies (after.flags m j)) (λ j. bare_replies (x.flags m j)) ch (x.timed m)
+        pushed_same (core_accesses d after m) (core_accesses d x m) (λ j. bare_replies (after.flags m j))
+        (λ j. bare_replies (x.flags m j)) ch (x.timed m)
         (λ k q.
         let other = flags_other d x m c m k (λ p w. omega arith) in
         ap (λ (f : List Bool). values_in ch (core_accesses d x m k) (bare_replies f)) other)
 
     pushed_now : (ch : ℕ)
-        → core_pushed d after m ch (suc (x.timed m)) ≡ core_pushed d x m ch (x.timed m) ++ values_in ch asked (bare_replies (new_flags d x m c))
+        → core_pushed d after m ch (suc (x.timed m)) ≡ core_pushed d x m ch (x.timed m)
+        ++ values_in ch asked (bare_replies (new_flags d x m c))
     pushed_now ch =
         pushed_in_more ch (core_accesses d after m) (λ j. bare_replies (after.flags m j)) (x.timed m)
-        ∙ ap₂ (λ (p : List ℕ) (f : List Bool). p ++ values_in ch asked (bare_replies f)) (pushed_before ch) (put_at_same x.flags m (x.timed m) (new_flags d x m c))
+        ∙ ap₂ (λ (p : List ℕ) (f : List Bool). p ++ values_in ch asked (bare_replies f)) (pushed_before ch)
+        (put_at_same x.flags m (x.timed m) (new_flags d x m c))
 
     pushed_then : (ch : ℕ)
         → core_pushed d x m ch (suc (x.timed m)) ≡ core_pushed d x m ch (x.timed m) ++ values_in ch asked (bare_replies (no_outcomes asked))
     pushed_then ch =
         pushed_in_more ch (core_accesses d x m) (λ j. bare_replies (x.flags m j)) (x.timed m)
-        ∙ ap (λ (f : List Bool). core_pushed d x m ch (x.timed m) ++ values_in ch asked (bare_replies f)) (b.unanswered m (x.timed m) l open_step)
+        ∙ ap (λ (f : List Bool). core_pushed d x m ch (x.timed m) ++ values_in ch asked (bare_replies f))
+        (b.unanswered m (x.timed m) l open_step)
 
     pushed_more : (ch : ℕ) → Begins (core_pushed d after m ch (suc (x.timed m))) (core_pushed d x m ch (suc (x.timed m)))
     pushed_more ch =
         let one = i.single Push m (x.state m (x.timed m)) ch in
         let before : List ℕ = core_pushed d x m ch (x.timed m) in
-        let (more, e) = begins_behind before (values_in ch asked (bare_replies (new_flags d x m c))) (values_in ch asked (bare_replies (no_outcomes asked)))
+        let (more, e) = begins_behind before (values_in ch asked (bare_replies (new_flags d x m c)))
+        (values_in ch asked (bare_replies (no_outcomes asked)))
         (more_values ch (known_of d (view d x) m) c asked one) in
         (more, pushed_now ch ∙ (e ∙ ap (λ (z : List ℕ). z ++ more) (sym (pushed_then ch))))
 
     values_here : (ch : ℕ) → d.owner Push ch ≡ m → Begins (core_values d after ch) (core_values d x ch)
     values_here ch owned =
         let grown : ℕ → Type 0 = λ w. Begins (core_pushed d after w ch (x.emitted w)) (core_pushed d x w ch (x.emitted w)) in
-        let all : grown m = subst (λ (k : ℕ). Begins (core_pushed d after m ch k) (core_pushed d x m ch k)) (sym is_newest) (pushed_more ch) in
+        let all : grown m = subst (λ (k : ℕ). Begins (core_pushed d after m ch k) (core_pushed d x m ch k)) (sym is_newest)
+        (pushed_more ch) in
         let w : ℕ = d.owner Push ch in
-        begins_behind (d.inputs ch) (core_pushed d after w ch (x.emitted w)) (core_pushed d x w ch (x.emitted w)) (subst grown (sym owned) all)
+        begins_behind (d.inputs ch) (core_pushed d after w ch (x.emitted w)) (core_pushed d x w ch (x.emitted w))
+        (subst grown (sym owned) all)
 
   -- where the flags are as they were, so are the values
-  values_still : (ch : ℕ) → ((k : ℕ) → after.flags (d.owner Push ch) k ≡ x.flags (d.owner Push ch) k) → Begins (core_values d after ch) (core_values d x ch)
+  values_still : (ch : ℕ) → ((k : ℕ) → after.flags (d.owner Push ch) k ≡ x.flags (d.owner Push ch) k)
+      → Begins (core_values d after ch) (core_values d x ch)
   values_still ch same = values_grow d x after ch (omega arith) (λ k q. refl) (λ k q. same k)
 
   answer_values : IsSame d x m c → (ch : ℕ) → Begins (core_values d after ch) (core_values d x ch)
@@ -252,7 +263,8 @@ module _ {S : Type 0} (d : Design S) (h : Trace S) (i : IsDesign d) (limit : ℕ
       → (n k : ℕ) → k ≡ x.timed n → RightFlags d h (after_answer d x m c) n k
   answer_right st dn right =
       put_at_both x.flags m (x.timed m) (new_flags d x m c)
-      (λ n k f. k ≡ x.timed n → k < x.emitted n → (after_answer d x m c).verified n k ≡ true → (z : ℕ) → steps d h z n ≡ true → done d h n z ≡ k
+      (λ n k f. k ≡ x.timed n → k < x.emitted n → (after_answer d x m c).verified n k ≡ true → (z : ℕ) → steps d h z n ≡ true
+      → done d h n z ≡ k
       → f ≡ possible_all d h z (core_accesses d x n k))
       (λ q l v z s k.
       let clock = same_clock d h m c z st s (dn ∙ sym k) in
@@ -298,7 +310,8 @@ answer_time {S} d h i y limit x b u m c e right same below =
           (λ q l v p. (c, below, (st, dn)))
           (λ n k w q l v p. subst (HappensFirst d h limit x n) (sym q) (u.first_happens n) l (sym (verified_other d x m c n k w) ∙ v) p)
           n (x.timed n) refl;
-      verified_then = put_at_both x.verified m (x.timed m) true (λ n k f. k < x.timed n → f ≡ true) (λ q. refl) (λ n k w q. u.verified_then n k q);
+      verified_then = put_at_both x.verified m (x.timed m) true (λ n k f. k < x.timed n → f ≡ true) (λ q. refl)
+          (λ n k w q. u.verified_then n k q);
       verified_answered = put_at_both x.verified m (x.timed m) true (λ n k f. k < x.emitted n → f ≡ true → z.answered n k ≡ true)
           (λ q v. put_at_same x.answered m (x.timed m) true)
           (λ n k w q v. answer_answered d x m c n k (u.verified_answered n k q v));

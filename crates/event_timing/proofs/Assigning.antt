@@ -72,7 +72,8 @@ plain_flags know c (a ∷ xs) [] e f = absurd f
 plain_flags know c (a ∷ xs) (b ∷ bs) e (f, fs) =
     let (first, rest) = or_parts (not a.blocks) (has_query xs) e in
     let blocks : a.blocks ≡ true = not-false _ first in
-    ap₂ (λ (z : Bool) (zs : List Bool). z ∷ zs) (f blocks ∙ sym (or_left a.blocks (answer (know a) c) blocks)) (plain_flags know c xs bs rest fs)
+    ap₂ (λ (z : Bool) (zs : List Bool). z ∷ zs) (f blocks ∙ sym (or_left a.blocks (answer (know a) c) blocks))
+    (plain_flags know c xs bs rest fs)
 
 -- and where all that block can be done, these are what is possible
 pub plain_possible : {S : Type 0} → (d : Design S) (h : Trace S) (c : ℕ) (xs : List Access) (bs : List Bool) → has_query xs ≡ false
@@ -172,7 +173,8 @@ module _ {S : Type 0} (d : Design S) (h : Trace S) (i : IsDesign d) (y : IsHisto
         done_now = k;
         reply_now = is_told s k;
         there_now =
-            below_grow (elements_timed d x) (λ ch. length (core_values d x ch)) popped popped asked found (sure_values d h i limit x u) (λ ch. refl)
+            below_grow (elements_timed d x) (λ ch. length (core_values d x ch)) popped popped asked found (sure_values d h i limit x u)
+            (λ ch. refl)
             pops_sure;
       }
 
@@ -221,7 +223,8 @@ step_more {S} x m c P old new n k l =
 timed_up : {S : Type 0} → (x : Core S) (m n : ℕ) → x.timed n ≤ put x.timed m (suc (x.timed m)) n
 timed_up {S} x m n = put_cases x.timed m (suc (x.timed m)) (λ (p q : ℕ). x.timed p ≤ q) (λ p e. omega arith) (omega arith) n
 
-module _ {S : Type 0} (d : Design S) (h : Trace S) (limit : ℕ) (x : Core S) (u : IsTimed d h limit x) (m c : ℕ) (w : Assigned d h limit x m c) where
+module _ {S : Type 0} (d : Design S) (h : Trace S) (limit : ℕ) (x : Core S) (u : IsTimed d h limit x) (m c : ℕ)
+    (w : Assigned d h limit x m c) where
   assign_within : (n : ℕ) → (after_assign x m c).timed n ≤ x.emitted n
   assign_within =
       let new : suc (x.timed m) ≤ x.emitted m = omega (arith, w.emitted) in
@@ -240,11 +243,13 @@ module _ {S : Type 0} (d : Design S) (h : Trace S) (limit : ℕ) (x : Core S) (u
   elements_up : (ch : ℕ) → elements_timed d x ch ≤ elements_timed d (after_assign x m c) ch
   elements_up ch =
       let o : ℕ = d.owner Push ch in
-      let up = tally_mono (core_accesses d x o) (λ j. bare_replies (x.flags o j)) Push ch (x.timed o) (put x.timed m (suc (x.timed m)) o) (timed_up x m o) in
+      let up = tally_mono (core_accesses d x o) (λ j. bare_replies (x.flags o j)) Push ch (x.timed o)
+      (put x.timed m (suc (x.timed m)) o) (timed_up x m o) in
       omega arith
 
   -- the step behind the new one, if it counts as verified, has no query
-  next_plain : suc (x.timed m) < x.emitted m → x.verified m (suc (x.timed m)) ≡ true → has_query (core_accesses d x m (suc (x.timed m))) ≡ false
+  next_plain : suc (x.timed m) < x.emitted m → x.verified m (suc (x.timed m)) ≡ true
+      → has_query (core_accesses d x m (suc (x.timed m))) ≡ false
   next_plain l v = u.later_plain m (suc (x.timed m)) (omega arith) l v
 
   sure_still : (n : ℕ) → SureFlags d (after_assign x m c) n ((after_assign x m c).timed n)
@@ -252,7 +257,8 @@ module _ {S : Type 0} (d : Design S) (h : Trace S) (limit : ℕ) (x : Core S) (u
       put_cases x.timed m (suc (x.timed m)) (SureFlags d (after_assign x m c))
       (λ n e l v q.
       let before = λ (ch : ℕ). core_tally d x n Pop ch (x.timed n) in
-      below_grow (elements_timed d x) (elements_timed d (after_assign x m c)) before before (core_accesses d x n (x.timed n)) (x.flags n (x.timed n))
+      below_grow (elements_timed d x) (elements_timed d (after_assign x m c)) before before (core_accesses d x n (x.timed n))
+      (x.flags n (x.timed n))
       elements_up (λ ch. refl) (u.first_sure n l v q))
       (λ l v q. absurd (both_ways _ (next_plain l v) q))
 

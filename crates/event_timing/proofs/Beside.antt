@@ -68,12 +68,14 @@ assign_grows {S} d x n c =
 pub run_grows : {S : Type 0} → (d : Design S) (x : Core S) (m : ℕ) → Grows d x (after_run d x m)
 run_grows {S} d x m = run_cases d x m (Grows d x) (λ e. over_grows d x m) (λ e. emit_grows d x m)
 
-found_grows : {S : Type 0} → (d : Design S) → IsDesign d → (x : Core S) → AreOwnMarks d x → (n c : ℕ) → candidate d (view d x) n ≡ Some c → (z : Core S)
+found_grows : {S : Type 0} → (d : Design S) → IsDesign d → (x : Core S) → AreOwnMarks d x → (n c : ℕ)
+    → candidate d (view d x) n ≡ Some c → (z : Core S)
     → (IsSame d x n c × (z ≡ after_answer d x n c)) ⊎ ((IsSame d x n c → ⊥) × (z ≡ x)) → Grows d x z
 found_grows {S} d i x b n c e z (inl (s, w)) = subst (Grows d x) (sym w) (answer_grows d i x b n c (first_emitted d x n c e) s)
 found_grows {S} d i x b n c e z (inr (s, w)) = subst (Grows d x) (sym w) (grows_self d x)
 
-pub acts_grow : {S : Type 0} → (d : Design S) → IsDesign d → (limit : ℕ) (x : Core S) → AreOwnMarks d x → (a : Action) (z : Core S) → Acts d limit x a z
+pub acts_grow : {S : Type 0} → (d : Design S) → IsDesign d → (limit : ℕ) (x : Core S) → AreOwnMarks d x → (a : Action) (z : Core S)
+    → Acts d limit x a z
     → Grows d x z
 acts_grow {S} d i limit x b (Action.Run n) z (p, e) = subst (Grows d x) (sym e) (run_grows d x n)
 acts_grow {S} d i limit x b (Action.Assign n) z (c, p, e) = subst (Grows d x) (sym e) (assign_grows d x n c)
@@ -99,10 +101,12 @@ found_same : {S : Type 0} → (d : Design S) (x : Core S) (m n c : ℕ) (z : Cor
 found_same {S} d x m n c z (inl (s, w)) = subst (λ (z : Core S). SameMarks x z m) (sym w) (record { emitted = refl; over = refl })
 found_same {S} d x m n c z (inr (s, w)) = subst (λ (z : Core S). SameMarks x z m) (sym w) (same_self x m)
 
-acts_same : {S : Type 0} → (d : Design S) (limit : ℕ) (x : Core S) (m : ℕ) (a : Action) → IsNoRunOf m (a ∷ []) → (z : Core S) → Acts d limit x a z
+acts_same : {S : Type 0} → (d : Design S) (limit : ℕ) (x : Core S) (m : ℕ) (a : Action) → IsNoRunOf m (a ∷ []) → (z : Core S)
+    → Acts d limit x a z
     → SameMarks x z m
 acts_same {S} d limit x m (Action.Run n) (o, u) z (p, e) = subst (λ (z : Core S). SameMarks x z m) (sym e) (run_same d x m n o)
-acts_same {S} d limit x m (Action.Assign n) o z (c, p, e) = subst (λ (z : Core S). SameMarks x z m) (sym e) (record { emitted = refl; over = refl })
+acts_same {S} d limit x m (Action.Assign n) o z (c, p, e) =
+    subst (λ (z : Core S). SameMarks x z m) (sym e) (record { emitted = refl; over = refl })
 acts_same {S} d limit x m (Action.Answer n) o z (c, p, e) = found_same d x m n c z e
 acts_same {S} d limit x m (Action.Earliest n) o z (c, p, e) = found_same d x m n c z e
 
@@ -110,9 +114,11 @@ pub beside_self : {S : Type 0} → (d : Design S) (x : Core S) (m : ℕ) → Gro
 beside_self {S} d x m = record { grows = grows_self d x; emitted = refl; over = refl }
 
 pub beside_trans : {S : Type 0} → (d : Design S) (x y z : Core S) (m : ℕ) → GrowsBeside d x y m → GrowsBeside d y z m → GrowsBeside d x z m
-beside_trans {S} d x y z m a c = record { grows = grows_trans d x y z a.grows c.grows; emitted = c.emitted ∙ a.emitted; over = c.over ∙ a.over }
+beside_trans {S} d x y z m a c =
+    record { grows = grows_trans d x y z a.grows c.grows; emitted = c.emitted ∙ a.emitted; over = c.over ∙ a.over }
 
-acts_beside : {S : Type 0} → (d : Design S) → IsDesign d → (limit : ℕ) (x : Core S) → AreOwnMarks d x → (m : ℕ) (a : Action) → IsNoRunOf m (a ∷ [])
+acts_beside : {S : Type 0} → (d : Design S) → IsDesign d → (limit : ℕ) (x : Core S) → AreOwnMarks d x → (m : ℕ) (a : Action)
+    → IsNoRunOf m (a ∷ [])
     → (z : Core S) → Acts d limit x a z → GrowsBeside d x z m
 acts_beside {S} d i limit x b m a o z s =
     let same = acts_same d limit x m a o z s in
@@ -140,7 +146,8 @@ module _ {S : Type 0} (d : Design S) (h : Trace S) (i : IsDesign d) (y : IsHisto
       beside_trans d x w z m (acts_beside d i limit x g.marks m a o1 w s) (others_grow w (acts_agree d h i y limit x g a w s) m more o2 z t)
 
   -- so a Run that is permitted stays so, and emits the same
-  pub still_ahead : (x : Core S) → IsAgreed d h limit x → (m : ℕ) → MayRun d x m → (actions : List Action) → IsNoRunOf m actions → (z : Core S)
+  pub still_ahead : (x : Core S) → IsAgreed d h limit x → (m : ℕ) → MayRun d x m → (actions : List Action) → IsNoRunOf m actions
+      → (z : Core S)
       → ActsAll d limit x actions z → MayRun d z m × (newest d z m ≡ newest d x m)
   still_ahead x g m r actions o z s =
       let k = others_grow x g m actions o z s in
@@ -150,16 +157,20 @@ module _ {S : Type 0} (d : Design S) (h : Trace S) (i : IsDesign d) (y : IsHisto
 -- ---- the same Run in a core and in one that grew beside it
 
 -- a module's new step pushes nothing for others
-emit_values_other : {S : Type 0} → (d : Design S) (x : Core S) (m ch : ℕ) → (d.owner Push ch ≡ m → ⊥) → core_values d (emit d x m) ch ≡ core_values d x ch
+emit_values_other : {S : Type 0} → (d : Design S) (x : Core S) (m ch : ℕ) → (d.owner Push ch ≡ m → ⊥)
+    → core_values d (emit d x m) ch ≡ core_values d x ch
 emit_values_other {S} d x m ch o =
     let w : ℕ = d.owner Push ch in
     let n = put_other x.emitted m (suc (x.emitted m)) w o in
     ap (λ (p : List ℕ). d.inputs ch ++ p)
     (ap (pushed_in ch (core_accesses d (emit d x m) w) (λ j. bare_replies ((emit d x m).flags w j))) n
-    ∙ pushed_same (core_accesses d (emit d x m) w) (core_accesses d x w) (λ j. bare_replies ((emit d x m).flags w j)) (λ j. bare_replies (x.flags w j)) ch (x.emitted w)
-    (λ k l. ap₂ (λ (s : S) (b : List Bool). values_in ch (d.accesses w s) (bare_replies b)) (old_at x.state x m _ w k l) (old_at x.flags x m _ w k l)))
+    ∙ pushed_same (core_accesses d (emit d x m) w) (core_accesses d x w) (λ j. bare_replies ((emit d x m).flags w j))
+    (λ j. bare_replies (x.flags w j)) ch (x.emitted w)
+    (λ k l. ap₂ (λ (s : S) (b : List Bool). values_in ch (d.accesses w s) (bare_replies b)) (old_at x.state x m _ w k l)
+    (old_at x.flags x m _ w k l)))
 
-module _ {S : Type 0} (d : Design S) (x z : Core S) (m : ℕ) (b : AreOwnMarks d x) (c : AreOwnMarks d z) (g : GrowsBeside d x z m) (r : MayRun d x m) where
+module _ {S : Type 0} (d : Design S) (x z : Core S) (m : ℕ) (b : AreOwnMarks d x) (c : AreOwnMarks d z) (g : GrowsBeside d x z m)
+    (r : MayRun d x m) where
   same_state : newest d z m ≡ newest d x m
   same_state = newest_stays d x z b c g.grows m g.emitted r
 
@@ -179,9 +190,11 @@ module _ {S : Type 0} (d : Design S) (x z : Core S) (m : ℕ) (b : AreOwnMarks d
       }
 
   -- what the new step has, in a field that is put at its place
-  new_at : {A : Type 0} → (f e : ℕ → ℕ → A) (u v : A) → u ≡ v → put_at f m (z.emitted m) u m (x.emitted m) ≡ put_at e m (x.emitted m) v m (x.emitted m)
+  new_at : {A : Type 0} → (f e : ℕ → ℕ → A) (u v : A) → u ≡ v
+      → put_at f m (z.emitted m) u m (x.emitted m) ≡ put_at e m (x.emitted m) v m (x.emitted m)
   new_at {A} f e u v w =
-      subst (λ (k : ℕ). put_at f m (z.emitted m) u m k ≡ u) g.emitted (put_at_same f m (z.emitted m) u) ∙ (w ∙ sym (put_at_same e m (x.emitted m) v))
+      subst (λ (k : ℕ). put_at f m (z.emitted m) u m k ≡ u) g.emitted (put_at_same f m (z.emitted m) u)
+      ∙ (w ∙ sym (put_at_same e m (x.emitted m) v))
 
   old_there : (n k : ℕ) → k < x.emitted n → k < z.emitted n
   old_there n k l = omega (arith, g.grows.emitted_up n)
@@ -191,7 +204,12 @@ module _ {S : Type 0} (d : Design S) (x z : Core S) (m : ℕ) (b : AreOwnMarks d
       elim (cases_eq n m) [
         | inl e ↦ subst (λ (k : ℕ). (emit d x m).emitted k ≤ (emit d z m).emitted k) (sym e)
             (omega (arith, put_same x.emitted m (suc (x.emitted m)), put_same z.emitted m (suc (z.emitted m)), g.emitted))
-        | inr e ↦ omega (arith, put_other x.emitted m (suc (x.emitted m)) n e, put_other z.emitted m (suc (z.emitted m)) n e, g.grows.emitted_up n)
+        | inr e ↦ omega (
+          arith,
+          put_other x.emitted m (suc (x.emitted m)) n e,
+          put_other z.emitted m (suc (z.emitted m)) n e,
+          g.grows.emitted_up n,
+        )
       ]
 
   emit_state_both : (n k : ℕ) → k < (emit d x m).emitted n → (emit d z m).state n k ≡ (emit d x m).state n k
@@ -211,11 +229,13 @@ module _ {S : Type 0} (d : Design S) (x z : Core S) (m : ℕ) (b : AreOwnMarks d
       new_at z.flags x.flags (no_outcomes (d.accesses m (ready d m (newest d z m)))) (no_outcomes (d.accesses m (ready d m (newest d x m))))
       (ap (λ (s : S). no_outcomes (d.accesses m (ready d m s))) same_state)
 
-  emit_flags_both : (n k : ℕ) → k < (emit d x m).emitted n → (emit d x m).answered n k ≡ true → (emit d z m).flags n k ≡ (emit d x m).flags n k
+  emit_flags_both : (n k : ℕ) → k < (emit d x m).emitted n → (emit d x m).answered n k ≡ true
+      → (emit d z m).flags n k ≡ (emit d x m).flags n k
   emit_flags_both =
       emit_more x m (λ n k. (emit d x m).answered n k ≡ true → (emit d z m).flags n k ≡ (emit d x m).flags n k)
       (λ n k l a.
-      old_at z.flags z m _ n k (old_there n k l) ∙ (g.grows.flags_same n k l (sym (old_at x.answered x m _ n k l) ∙ a) ∙ sym (old_at x.flags x m _ n k l)))
+      old_at z.flags z m _ n k (old_there n k l)
+      ∙ (g.grows.flags_same n k l (sym (old_at x.answered x m _ n k l) ∙ a) ∙ sym (old_at x.flags x m _ n k l)))
       (λ a. new_flags_both)
 
   emit_answered_both : (n k : ℕ) → k < (emit d x m).emitted n → (emit d x m).answered n k ≡ true → (emit d z m).answered n k ≡ true
@@ -223,7 +243,8 @@ module _ {S : Type 0} (d : Design S) (x z : Core S) (m : ℕ) (b : AreOwnMarks d
       emit_more x m (λ n k. (emit d x m).answered n k ≡ true → (emit d z m).answered n k ≡ true)
       (λ n k l a. old_at z.answered z m _ n k (old_there n k l) ∙ g.grows.answered_up n k l (sym (old_at x.answered x m _ n k l) ∙ a))
       (λ a.
-      new_at z.answered x.answered (not (has_query (d.accesses m (ready d m (newest d z m))))) (not (has_query (d.accesses m (ready d m (newest d x m)))))
+      new_at z.answered x.answered (not (has_query (d.accesses m (ready d m (newest d z m)))))
+      (not (has_query (d.accesses m (ready d m (newest d x m)))))
       (ap (λ (s : S). not (has_query (d.accesses m (ready d m s)))) same_state)
       ∙ a)
 
@@ -258,7 +279,8 @@ module _ {S : Type 0} (d : Design S) (x z : Core S) (m : ℕ) (b : AreOwnMarks d
           answered_up = emit_answered_both;
           values_up = emit_values_both;
         };
-        emitted = put_same z.emitted m (suc (z.emitted m)) ∙ (ap (λ (k : ℕ). suc k) g.emitted ∙ sym (put_same x.emitted m (suc (x.emitted m))));
+        emitted = put_same z.emitted m (suc (z.emitted m))
+            ∙ (ap (λ (k : ℕ). suc k) g.emitted ∙ sym (put_same x.emitted m (suc (x.emitted m))));
         over = g.over;
       }
 
@@ -276,11 +298,13 @@ runs_both {S} d limit m zero x y z b c g e = (z, refl, subst (λ (p : Core S). G
 runs_both {S} d limit m (suc n) x y z b c g (v, (r, e), t) =
     let r' = stays d x z b g.grows m g.emitted g.over r in
     let t' = subst (λ (p : Core S). ActsAll d limit p (runs n m) y) e t in
-    let (w, s, k) = runs_both d limit m n (after_run d x m) y (after_run d z m) (run_marks d x b m r) (run_marks d z c m r') (run_both d x z m b c g r) t' in
+    let (w, s, k) = runs_both d limit m n (after_run d x m) y (after_run d z m) (run_marks d x b m r) (run_marks d z c m r')
+    (run_both d x z m b c g r) t' in
     (w, (after_run d z m, (r', refl), s), k)
 
 -- so they stay permitted while others act
-pub runs_stay : {S : Type 0} → (d : Design S) (h : Trace S) → IsDesign d → IsHistory d h → (limit : ℕ) (x : Core S) → IsAgreed d h limit x → (m n : ℕ) (y : Core S)
+pub runs_stay : {S : Type 0} → (d : Design S) (h : Trace S) → IsDesign d → IsHistory d h → (limit : ℕ) (x : Core S)
+    → IsAgreed d h limit x → (m n : ℕ) (y : Core S)
     → ActsAll d limit x (runs n m) y → (actions : List Action) → IsNoRunOf m actions → (z : Core S) → ActsAll d limit x actions z
     → (w : Core S) × ActsAll d limit z (runs n m) w × GrowsBeside d y w m
 runs_stay {S} d h i y limit x g m n v t actions o z s =

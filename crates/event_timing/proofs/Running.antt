@@ -33,7 +33,8 @@ values_grow {S} d x z ch l states flags =
     let w : ℕ = d.owner Push ch in
     let (more, longer) = pushed_in_mono ch (core_accesses d z w) (λ j. bare_replies (z.flags w j)) (x.emitted w) (z.emitted w) l in
     let same : core_pushed d z w ch (x.emitted w) ≡ core_pushed d x w ch (x.emitted w) =
-    pushed_same (core_accesses d z w) (core_accesses d x w) (λ j. bare_replies (z.flags w j)) (λ j. bare_replies (x.flags w j)) ch (x.emitted w)
+    pushed_same (core_accesses d z w) (core_accesses d x w) (λ j. bare_replies (z.flags w j)) (λ j. bare_replies (x.flags w j)) ch
+    (x.emitted w)
     (λ k q. ap₂ (λ (p : S) (f : List Bool). values_in ch (d.accesses w p) (bare_replies f)) (states k q) (flags k q)) in
     begins_behind (d.inputs ch) (core_pushed d z w ch (z.emitted w)) (core_pushed d x w ch (x.emitted w))
     (more, longer ∙ ap (λ (p : List ℕ). p ++ more) same)
@@ -115,7 +116,8 @@ module _ {S : Type 0} (d : Design S) (x : Core S) (m : ℕ) where
         wait_same = λ n k l. old_at x.wait x m _ n k l;
         flags_same = λ n k l a. flags_old n k l;
         answered_up = λ n k l a. answered_old n k l ∙ a;
-        values_up = λ ch. values_grow d x after ch (emit_up x m (d.owner Push ch)) (state_old (d.owner Push ch)) (flags_old (d.owner Push ch));
+        values_up = λ ch. values_grow d x after ch (emit_up x m (d.owner Push ch)) (state_old (d.owner Push ch))
+            (flags_old (d.owner Push ch));
       }
 
 -- ---- its marks
@@ -182,8 +184,10 @@ module _ {S : Type 0} (d : Design S) (x : Core S) (b : AreOwnMarks d x) (m : ℕ
         lives = emit_more x m (λ n k. d.is_over n (z.state n k) ≡ false)
             (λ n k l. ap (d.is_over n) (g.state_same n k l) ∙ b.lives n k l)
             (ap (d.is_over m) (state_new d x m) ∙ lives);
-        ended = put_cases x.emitted m (suc (x.emitted m)) (λ n j. x.over n ≡ true → d.is_over n (ready d n (own d n (core_reply d z n) j)) ≡ true)
-            (λ n w o. ap (λ (p : S). d.is_over n (ready d n p)) (own_grow d x z g n (x.emitted n) (ended_settled d x b m n o)) ∙ b.ended n o)
+        ended = put_cases x.emitted m (suc (x.emitted m))
+            (λ n j. x.over n ≡ true → d.is_over n (ready d n (own d n (core_reply d z n) j)) ≡ true)
+            (λ n w o. ap (λ (p : S). d.is_over n (ready d n p)) (own_grow d x z g n (x.emitted n) (ended_settled d x b m n o))
+            ∙ b.ended n o)
             (λ o. absurd (both_ways _ r.lives o));
         replied = put_cases x.emitted m (suc (x.emitted m)) (λ n j. (k : ℕ) → suc k < j → z.answered n k ≡ true)
             (λ n w k l. g.answered_up n k (omega arith) (b.replied n k l))
@@ -216,7 +220,8 @@ module _ {S : Type 0} (d : Design S) (h : Trace S) (i : IsDesign d) (y : IsHisto
         within = λ n. omega (arith, u.within n, emit_up x m n);
         steps_then = u.steps_then;
         done_then = u.done_then;
-        reply_then = λ n k l. reply_grow d x (emit d x m) (emit_grows d x m) n k (settled_timed d h limit x u n (suc k) l) ∙ u.reply_then n k l;
+        reply_then = λ n k l. reply_grow d x (emit d x m) (emit_grows d x m) n k (settled_timed d h limit x u n (suc k) l)
+            ∙ u.reply_then n k l;
       }
 
   emit_right : AreOwnMarks d (emit d x m) → (n k : ℕ) → k < (emit d x m).emitted n → k ≡ x.timed n → RightFlags d h (emit d x m) n k
@@ -315,7 +320,8 @@ over_marks {S} d x b m r e =
       ];
     }
 
-over_time : {S : Type 0} → (d : Design S) (h : Trace S) (limit : ℕ) (x : Core S) → IsTimed d h limit x → (m : ℕ) → IsTimed d h limit (emit_over x m)
+over_time : {S : Type 0} → (d : Design S) (h : Trace S) (limit : ℕ) (x : Core S) → IsTimed d h limit x → (m : ℕ)
+    → IsTimed d h limit (emit_over x m)
 over_time {S} d h limit x u m =
     record {
       within = u.within;
@@ -337,7 +343,8 @@ over_time {S} d h limit x u m =
 
 -- what holds of the core with the end, where the module is over, and else of that with a step, holds behind the Run
 pub run_cases : {S : Type 0} → (d : Design S) (x : Core S) (m : ℕ) (P : Core S → Type 0)
-    → (d.is_over m (ready d m (newest d x m)) ≡ true → P (emit_over x m)) → (d.is_over m (ready d m (newest d x m)) ≡ false → P (emit d x m))
+    → (d.is_over m (ready d m (newest d x m)) ≡ true → P (emit_over x m))
+    → (d.is_over m (ready d m (newest d x m)) ≡ false → P (emit d x m))
     → P (after_run d x m)
 run_cases {S} d x m P over step =
     let is_over : Bool = d.is_over m (ready d m (newest d x m)) in

@@ -46,7 +46,8 @@ module _ {S : Type 0} (d : Design S) (v : View) (ch n p : ℕ) (limited : d.unli
             elim (cases_Bool (d.closed Pop ch)) [
               | inl shut ↦ let never = sym (known_never d v Pop ch n waits shut) ∙ e in cc
               | inr open_side ↦
-                  behind_event (enabler d v Pop ch n) (sym (known_event d v Pop ch n waits open_side) ∙ e) (ltb-false n (d.start Pop ch) no_input)
+                  behind_event (enabler d v Pop ch n) (sym (known_event d v Pop ch n waits open_side) ∙ e)
+                  (ltb-false n (d.start Pop ch) no_input)
                   (place_says (v.accesses writer) (v.reply writer) Push ch (v.timed writer) (n - d.start Pop ch))
             ]
       ]
@@ -96,11 +97,13 @@ module _ (know : Access → Known) (within before : ℕ → ℕ) (c : ℕ) where
             (lt-ltb (before a.channel) (within a.channel) (sure (same_side_is a.side Pop side) from.0 from.1))
       ]
 
-  flags_within : (xs : List Access) (u : ℕ) → bound know xs ≡ From u → Each (KnownWithin know within before) xs → all_below within before xs (flags_at know c xs) ≡ true
+  flags_within : (xs : List Access) (u : ℕ) → bound know xs ≡ From u → Each (KnownWithin know within before) xs
+      → all_below within before xs (flags_at know c xs) ≡ true
   flags_within [] u e sure = refl
   flags_within (a ∷ xs) u e (first, rest) =
       let (q, further, blocking) = bound_rest a xs u e in
-      and_from (is_within a) (all_below within before xs (flags_at know c xs)) (one_within a first blocking) (flags_within xs q further rest)
+      and_from (is_within a) (all_below within before xs (flags_at know c xs)) (one_within a first blocking)
+      (flags_within xs q further rest)
 
 -- ---- those of a core
 

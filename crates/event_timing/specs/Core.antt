@@ -70,7 +70,8 @@ pops_now a b = a.takes && (same_side a.side Pop && b)
 abbrev pub replies_of : (ℕ → List ℕ) → (ℕ → ℕ) → List Access → List Bool → List Reply
 replies_of V t [] bs = []
 replies_of V t (a ∷ xs) [] = []
-replies_of V t (a ∷ xs) (b ∷ bs) = record { possible = b; front = cond (pops_now a b) (get_or (V a.channel) (t a.channel) 0) 0 } ∷ replies_of V t xs bs
+replies_of V t (a ∷ xs) (b ∷ bs) =
+    record { possible = b; front = cond (pops_now a b) (get_or (V a.channel) (t a.channel) 0) 0 } ∷ replies_of V t xs bs
 
 -- each pop is among the first so many elements
 abbrev pub all_below : (ℕ → ℕ) → (ℕ → ℕ) → List Access → List Bool → Bool
@@ -84,7 +85,8 @@ core_reply {S} d x m k = replies_of (core_values d x) (λ ch. core_tally d x m P
 
 -- the values of its pops are there
 abbrev pub values_there : {S : Type 0} → Design S → Core S → ℕ → ℕ → Bool
-values_there {S} d x m k = all_below (λ ch. length (core_values d x ch)) (λ ch. core_tally d x m Pop ch k) (core_accesses d x m k) (x.flags m k)
+values_there {S} d x m k =
+    all_below (λ ch. length (core_values d x ch)) (λ ch. core_tally d x m Pop ch k) (core_accesses d x m k) (x.flags m k)
 
 -- ---- what it claims
 

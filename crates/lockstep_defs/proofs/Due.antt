@@ -205,6 +205,30 @@ due_once is m s h pos =
       residue_once is (interval b) ((s.control.clock - s.control.newest) % interval b) b.ops h,
     )
 
+residue_few : (is : Op ℕ → Bool) (ii r : ℕ) (ts : List Timed) → with_residue is ii r ts ≤ length (filter (λ t. is t.op) ts)
+residue_few is ii r [] = omega arith
+residue_few is ii r (t ∷ ts) = by_tests (is t.op) (t.offset % ii == r) (residue_few is ii r ts)
+  where
+    by_tests : (c q : Bool) → with_residue is ii r ts ≤ length (filter (λ t. is t.op) ts)
+        → cond (c && q) 1 0 + with_residue is ii r ts ≤ length (cond c (t ∷ filter (λ t. is t.op) ts) (filter (λ t. is t.op) ts))
+    by_tests false q rest = omega arith
+    by_tests true false rest = omega arith
+    by_tests true true rest = omega arith
+
+-- no operation is due more than once
+pub due_few : (is : Op ℕ → Bool) (m : Module) (s : ModuleState) → 0 < interval (block_of m s)
+    → how_many is (block_of m s) (due m s) ≤ length (filter (λ t. is t.op) (block_of m s).ops)
+unfolding due ages
+due_few is m s pos =
+    let b = block_of m s in
+    let age = s.control.clock - s.control.newest in
+    omega (
+      arith,
+      due_at_ages is b s 0 (ages_down (interval b) age (live_count b s.control)),
+      by_residue is (interval b) age (live_count b s.control) b.ops pos,
+      residue_few is (interval b) (age % interval b) b.ops,
+    )
+
 none_at_age : (is : Op ℕ → Bool) (a : ℕ) (ts : List Timed) → AllByRecursion (λ t. is t.op ≡ false) ts → at_age is a ts ≡ 0
 none_at_age is a [] h = refl
 none_at_age is a (t ∷ ts) h = let rest = none_at_age is a ts h.1 in rw (h.0, rest)

@@ -70,7 +70,7 @@ stalls_as p c contents r = by_kind r.kind
     by_kind Empty = refl
     by_kind Full = refl
 
-full_ready : (p : Plan) (contents : List (List Element)) (f : ℕ)
+pub full_ready : (p : Plan) (contents : List (List Element)) (f : ℕ)
     → is_full p f (contents_of (all_ready contents) f) ≡ is_full p f (contents_of contents f)
 full_ready p contents f = rw (ready_contents contents f, length-map) refl
 
@@ -133,7 +133,7 @@ unfolding moves
 moves_alike p b c now later same m =
     ap (λ (z : Bool). not (is_over p.ops m.1) && not z) (any_alike (stalls p b now) (stalls p c later) same (requests_of p m))
 
-some_alike : (p : Plan) (b c : ℕ) (now later : List (List Element)) → ((r : Request) → stalls p b now r ≡ stalls p c later r)
+pub some_alike : (p : Plan) (b c : ℕ) (now later : List (List Element)) → ((r : Request) → stalls p b now r ≡ stalls p c later r)
     → (st : ClockState) → some_moves p b now st ≡ some_moves p c later st
 some_alike p b c now later same st =
     ap (λ (f : ℕ × ModuleState → Bool). list_any f (numbered st)) (λ i m. moves_alike p b c now later same m i)

@@ -1,7 +1,10 @@
 -- The laws of the lockstep machine.
-use Rattle.std.specs.Prelude.{◌⊎◌, ℕ, zero, suc, if◌then◌else◌, ◌≡◌, ◌+◌, ◌*◌, ◌-◌, ◌<◌, ◌≤◌, true, IsTrue, IsFalse, List, ◌++◌, map, filter, length, All, nat_lt, slice_index, slice_index_or}
+use Rattle.std.specs.Prelude.{◌⊎◌, ℕ, zero, suc, if◌then◌else◌, ◌≡◌, ◌+◌, ◌*◌, ◌-◌, ◌<◌, ◌≤◌, true, IsTrue, IsFalse, Bool, false, not, Option, Some, None, List, ◌++◌, map, filter, length, count_by, All, nat_lt, slice_index, slice_index_or}
+use Rattle.flow_word.specs.declared.access.Kind.{Kind}
 use Rattle.flow_word.specs.declared.access.Side.{Side}
 use Rattle.flow_word.specs.declared.access.Side.TheVariants.{Pop, Push}
+use Rattle.flow_word.specs.Kinds.{is_blocking}
+use Rattle.flow_design.specs.declared.expr.Op.{Op}
 use Rattle.flow_design.specs.declared.design.Block.{Block}
 use Rattle.flow_design.specs.declared.plan.Plan.{Plan}
 use Rattle.flow_design.specs.declared.report.Report.{Report}
@@ -9,9 +12,10 @@ use Rattle.flow_design.specs.declared.state.Control.{Control}
 use Rattle.flow_design.specs.declared.state.Reply.{Reply}
 use Rattle.flow_design.specs.declared.state.ModuleState.{ModuleState}
 use Rattle.flow_design.specs.Plans.{is_fifo, is_sink, kind_at, delay_at}
-use Rattle.flow_design.specs.Module.{interval, live_count, ages}
+use Rattle.flow_design.specs.Operations.{access_of}
+use Rattle.flow_design.specs.Module.{block_of, interval, live_count, ages}
 use Rattle.lockstep_defs.specs.Channels.{HistoryStep, Exchange, is_possible, moved, values, contents_of}
-use Rattle.lockstep_defs.specs.Lockstep.{moves, state, history, state_at, steps_in}
+use Rattle.lockstep_defs.specs.Lockstep.{module_at, requests_of, moves, state, history, state_at, steps_in}
 use Rattle.lockstep_defs.specs.Verdict.{is_settled, some_moves}
 use Rattle.lockstep_defs.specs.Report.{steps_of}
 use Rattle.lockstep_defs.specs.OwnRun.{OwnStep, Own, own, paired}
@@ -100,6 +104,19 @@ pub record HasNumbersOf (p : Plan) (r : Report) : Type 0 where
   pub answers : length r.answers ≡ length p.design.modules
   pub held : All (λ h. (h.«module» < length p.design.modules) × (h.channel < length p.design.channels)) r.held
   pub events : All (λ e. (e.«module» < length p.design.modules) × (e.channel < length p.design.channels)) r.events
+
+-- an operation with such an access is a query
+abbrev pub asks : Option (Kind × ℕ) → Bool
+asks None = false
+asks (Some access) = not (is_blocking access.0)
+
+abbrev pub is_query : Op ℕ → Bool
+is_query op = asks (access_of op)
+
+-- a module makes at most as many queries in a local clock as its block has query operations
+abbrev pub AsksOnce : Plan → ℕ → ModuleState → Type 0
+AsksOnce p i s =
+    count_by (λ r. not (is_blocking r.kind)) (requests_of p (i, s)) ≤ count_by (λ t. is_query t.op) (block_of (module_at p i) s).ops
 
 -- after its quiet clocks the own run of module i rests, and not before
 pub record QuietClocksEnd (p : Plan) (i : ℕ) (s : ModuleState) : Type 0 where

@@ -21,7 +21,7 @@ ghost use Rattle.lockstep_defs.specs.Quiet.{rests, skip, own_later, fits};
 ghost use Rattle.lockstep_defs.specs.States.{IsStateOf, IsDueIn};
 ghost use Rattle.lockstep_defs.specs.Ports.{takers, StandsAtPort};
 ghost use Rattle.lockstep_defs.specs.Commits.{LastWins};
-ghost use Rattle.lockstep_defs.specs.Laws.{SettledStays, SomeoneMoves, NoneBefore, MovesOnce, IsConserved, PopsInOrder, IsCounted, IsBefore, IsOwnRun, IsLive, AreAges, HasNumbersOf, QuietClocksEnd};
+ghost use Rattle.lockstep_defs.specs.Laws.{SettledStays, SomeoneMoves, NoneBefore, MovesOnce, IsConserved, PopsInOrder, IsCounted, IsBefore, IsOwnRun, IsLive, AreAges, HasNumbersOf, AsksOnce, QuietClocksEnd};
 
 /// From a settled clock on nothing changes and nothing is done, and from one that is not settled some module moves in it or in
 /// a later one. The verdict is that of the first settled clock.
@@ -52,7 +52,8 @@ pub fn histories_are_own_runs()
     ensures own { (p : Plan) (i c : ℕ) → i < length p.design.modules → IsOwnRun p i c }
 {}
 
-/// In each clock each module stands in one of its states, and its due operations and requests are those of its design.
+/// In each clock each module stands in one of its states, and its due operations and requests are those of its design. It pops or
+/// pushes a channel at most once in a local clock, and makes each query of its block at most once.
 pub fn states_fit_modules()
     ensures opened { (channels : ℕ) (m : Module) → IsModuleSound channels m → IsStateOf m (opened m) }
     ensures moved { (channels : ℕ) (m : Module) → IsModuleSound channels m → (s : ModuleState) (replies : Items Reply)
@@ -61,6 +62,7 @@ pub fn states_fit_modules()
     ensures due { (m : Module) (s : ModuleState) → All (IsDueIn (block_of m s) (live_count (block_of m s) s.control)) (due m s) }
     ensures requests { (p : Plan) → FitsEngine p → (i : ℕ) → i < length p.design.modules → (s : ModuleState)
         → All (StandsAtPort p i) (requests_of p (i, s)) }
+    ensures queries { (p : Plan) → FitsEngine p → (i : ℕ) (s : ModuleState) → AsksOnce p i s }
     ensures takers { (p : Plan) → FitsEngine p → (a : Port) (i : ℕ) (s : ModuleState) → length (takers a (requests_of p (i, s))) ≤ 1 }
 {}
 

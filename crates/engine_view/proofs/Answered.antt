@@ -1,0 +1,650 @@
+-- Outcomes more in a log, with the pushes and pops that they decide, are the theory's Answer, and what is held stays sound.
+use Rattle.std.proofs.Common.{◌≡◌, refl, sym, ap, ap₂, subst, ◌∙◌, ℕ, zero, suc, ◌+◌, ◌<◌, ◌≤◌, ◌⊎◌, Bool, true, false, not, cond, eqb, ltb, ◌&&◌, List, [], ◌∷◌, ◌++◌, length, map, drop, get_or, arith, inl, inr, append-nil, append_assoc, length-append, drop_of_length-le}
+use Rattle.std.specs.Prelude.{All, slice_get, Some}
+use Rattle.flow_word.specs.Kinds.{is_blocking, side_of, same_side}
+use Rattle.flow_word.specs.declared.access.Side.{Side}
+use Rattle.flow_word.specs.declared.access.Side.TheVariants.{Push}
+use Rattle.flow_word.specs.declared.access.Kind.{Kind}
+use Rattle.std.proofs.lemmas.Bool.{leb-true, and_left, or_right, or_left, cases_lt, cases_Bool, and_parts, lt-ltb, le-ltb, le-leb, both_ways}
+use Rattle.std.proofs.lemmas.Bool.Decides.{eqb_tells}
+use Rattle.std.proofs.lemmas.List.{length-set, get_or-set_same, get_or-set_other, get_or_past}
+use Rattle.std.proofs.lemmas.List.Elements.{All-set, All-weaker}
+use Rattle.flow_word.specs.declared.access.Access.{Access}
+use Rattle.flow_word.specs.declared.access.Step.{Step}
+use Rattle.flow_word.specs.declared.access.Place.{Place}
+use Rattle.event_graph.specs.Lanes.{Lane, lane_at}
+use Rattle.fifo_table.specs.declared.channel.TableChannel.{TableChannel}
+use Rattle.fifo_table.specs.declared.channel.TableChannel.TheVariants.{Source, Sink, Fifo}
+use Rattle.fifo_table.specs.Channels.{Channel, channel_at, values_of, places_of, lag_of}
+use Rattle.query_log.specs.Logs.{IsSoundLog, Log, all_answered, log_at, no_log}
+use Rattle.fifo_table.specs.Channels.{HasSide}
+use Rattle.time_engine.specs.Conditions.{IsAccess, HasAccesses}
+use Rattle.event_timing.specs.Machines as theory
+use Rattle.event_timing.specs.Machines.{Design, IsDesign, Each, Reply, ready, takes_in, values_in}
+use Rattle.event_timing.specs.Views.{own, pushed_in}
+use Rattle.event_timing.specs.Core.{Core, core_accesses, core_tally, core_values, bare_replies, no_outcomes}
+use Rattle.event_timing.specs.Agreement.{AreOwnMarks}
+use Rattle.event_timing.specs.Actions.{put_at}
+use Rattle.event_timing.proofs.Assigning.{put_at_same, put_at_other}
+use Rattle.event_timing.proofs.Fronts.{tally_same, pushed_same}
+use Rattle.event_timing.proofs.OwnRuns.{tally_more, tally_mono}
+use Rattle.event_timing.proofs.Values.{pushed_in_more}
+use Rattle.engine_view.specs.Held.{Held, step_of, no_step, emitted_of, seen, queries_in, flags_by, flags_of, are_among, has_all, values_at, replies_at, core_of}
+use Rattle.engine_view.specs.Shown.{Shows, IsSound, AreTaken, IsTakenAt, AreWhole, IsKind, queries_before}
+use Rattle.engine_view.specs.Emitted.{done_at_once, place_of}
+use Rattle.engine_view.proofs.Taking.{copies, channel_after, all_length, all_channel, kind_after, places_after, values_on, values_after}
+use Rattle.engine_view.proofs.Assigned.{put_at_is}
+use Rattle.query_resolve.specs.Decisions.{late_outcome}
+use Rattle.event_timing.specs.Machines.{Access as Asked, takers, takes_at}
+use Rattle.event_timing.specs.Actions.{after_answer, new_flags}
+use Rattle.event_timing.proofs.Answering.{answer_marks}
+use Rattle.engine_view.specs.Answered.{outcome_by, outcomes_of, done_late, with_answered}
+use Rattle.engine_view.specs.Held.{possible_by}
+use Rattle.engine_view.proofs.Emitted.{no_outcomes_is, not_owner, no_values, source_values, longer_taken, queries_mono}
+use Rattle.event_timing.specs.Core.{view}
+use Rattle.event_timing.specs.Enablers.{Known, known_of, flags_at}
+use Rattle.engine_view.proofs.Knowing.{shown_inside}
+use Rattle.engine_view.proofs.Placing.{places_from}
+use Rattle.engine_view.proofs.Reading.{IsRead, read_sound}
+
+-- ---- flags and outcomes
+
+-- a flag for each access, true where it blocks
+abbrev pub AreFlags : List Access → List Bool → Type 0
+AreFlags [] [] = Unit {0}
+AreFlags [] (b ∷ bs) = ⊥
+AreFlags (a ∷ xs) [] = ⊥
+AreFlags (a ∷ xs) (b ∷ bs) = (is_blocking a.kind ≡ true → b ≡ true) × AreFlags xs bs
+
+possible_again : (k : Kind) (b : Bool) → possible_by k (Some (outcome_by k b)) ≡ b
+possible_again k b =
+    elim (cases_Bool (late_outcome k)) [
+      | inl e ↦ rw e (twice b)
+      | inr e ↦ rw e refl
+    ]
+  where
+    twice : (b : Bool) → not (not b) ≡ b
+    twice true = refl
+    twice false = refl
+
+-- the outcomes tell the flags
+flags_again : (xs : List Access) (bs : List Bool) → AreFlags xs bs → flags_by xs (outcomes_of xs bs) ≡ bs
+flags_again [] [] f = refl
+flags_again [] (b ∷ bs) f = absurd f
+flags_again (a ∷ xs) [] f = absurd f
+flags_again (a ∷ xs) (b ∷ bs) (f, fs) =
+    elim (cases_Bool (is_blocking a.kind)) [
+      | inl e ↦ rw (e, f e) (ap (λ (q : List Bool). true ∷ q) (flags_again xs bs fs))
+      | inr e ↦ rw (e, possible_again a.kind b) (ap (λ (q : List Bool). b ∷ q) (flags_again xs bs fs))
+    ]
+
+outcomes_length : (xs : List Access) (bs : List Bool) → AreFlags xs bs → length (outcomes_of xs bs) ≡ queries_in xs
+outcomes_length [] [] f = refl
+outcomes_length [] (b ∷ bs) f = absurd f
+outcomes_length (a ∷ xs) [] f = absurd f
+outcomes_length (a ∷ xs) (b ∷ bs) (f, fs) =
+    elim (cases_Bool (is_blocking a.kind)) [
+      | inl e ↦ rw e (outcomes_length xs bs fs)
+      | inr e ↦ rw e (ap (λ (n : ℕ). suc n) (outcomes_length xs bs fs))
+    ]
+
+-- what stands behind a step's own outcomes tells nothing of it
+flags_front : (xs : List Access) (ys zs : List Bool) → queries_in xs ≤ length ys → flags_by xs (ys ++ zs) ≡ flags_by xs ys
+flags_front [] ys zs l = refl
+flags_front (a ∷ xs) ys zs l =
+    elim (cases_Bool (is_blocking a.kind)) [
+      | inl e ↦ rw e (ap (λ (q : List Bool). true ∷ q) (flags_front xs ys zs (rw e at l)))
+      | inr e ↦ rw e (front a xs ys zs (rw e at l) (flags_front xs))
+    ]
+  where
+    front : (a : Access) (xs : List Access) (ys zs : List Bool) → suc (queries_in xs) ≤ length ys → ((ys zs : List Bool) → queries_in xs ≤ length ys → flags_by xs (ys ++ zs) ≡ flags_by xs ys)
+        → possible_by a.kind (slice_get (ys ++ zs) 0) ∷ flags_by xs (drop 1 (ys ++ zs)) ≡ possible_by a.kind (slice_get ys 0) ∷ flags_by xs (drop 1 ys)
+    front a xs [] zs l f = absurd (omega arith)
+    front a xs (y ∷ ys) zs l f = ap (λ (q : List Bool). possible_by a.kind (Some y) ∷ q) (f ys zs (omega arith))
+
+drop_front : (n : ℕ) (ys zs : List Bool) → n ≤ length ys → drop n (ys ++ zs) ≡ drop n ys ++ zs
+drop_front zero ys zs l = refl
+drop_front (suc n) [] zs l = absurd (omega arith)
+drop_front (suc n) (y ∷ ys) zs l = drop_front n ys zs (omega arith)
+
+drop_length : (n : ℕ) (ys : List Bool) → length (drop n ys) + n ≡ length ys ⊎ (length ys < n)
+drop_length zero ys = inl (omega arith)
+drop_length (suc n) [] = inr (omega arith)
+drop_length (suc n) (y ∷ ys) = elim (drop_length n ys) [ inl e ↦ inl (omega arith) | inr e ↦ inr (omega arith) ]
+
+-- ---- what is taken at once, and late
+
+takes_parts : (side : Side) (c : ℕ) (xs : List Access) (bs : List Bool) → AreFlags xs bs
+    → takes_in side c (map seen xs) (bare_replies bs) ≡ takes_in side c (map seen xs) (bare_replies (done_at_once xs)) + takes_in side c (map seen xs) (bare_replies (done_late xs bs))
+takes_parts side c [] [] f = refl
+takes_parts side c [] (b ∷ bs) f = absurd f
+takes_parts side c (a ∷ xs) [] f = absurd f
+takes_parts side c (a ∷ xs) (b ∷ bs) (f, fs) =
+    let rest = takes_parts side c xs bs fs in
+    let one = one_part (same_side (side_of a.kind) side && eqb a.channel c) (seen a).takes (is_blocking a.kind) b f in
+    omega arith
+  where
+    one_part : (e t k b : Bool) → (k ≡ true → b ≡ true) → cond {A = ℕ} (t && (b && e)) 1 0 ≡ cond (t && (k && e)) 1 0 + cond (t && ((not k && b) && e)) 1 0
+    one_part e t true false f = let q = f refl in cc
+    one_part true true true true f = refl
+    one_part true false true true f = refl
+    one_part false true true true f = refl
+    one_part false false true true f = refl
+    one_part true true false true f = refl
+    one_part true false false true f = refl
+    one_part false true false true f = refl
+    one_part false false false true f = refl
+    one_part true true false false f = refl
+    one_part true false false false f = refl
+    one_part false true false false f = refl
+    one_part false false false false f = refl
+
+none_takes : (c : ℕ) (xs : List Access) (bs : List Bool) → takers Push c (map seen xs) ≡ 0 → values_in c (map seen xs) (bare_replies bs) ≡ []
+none_takes c [] bs e = refl
+none_takes c (a ∷ xs) [] e = refl
+none_takes c (a ∷ xs) (b ∷ bs) e =
+    elim (cases_Bool (takes_at Push c (seen a))) [
+      | inl t ↦ let e' = rw t at e in absurd (omega arith)
+      | inr t ↦
+          let e' = rw t at e in
+          let z : takers Push c (map seen xs) ≡ 0 = omega arith in
+          let n : theory.took Push c (seen a) (record { possible = b; front = 0 }) ≡ false = off (seen a).takes b (same_side (side_of a.kind) Push && eqb a.channel c) t in
+          rw (n, none_takes c xs bs z) refl
+    ]
+  where
+    off : (t b e : Bool) → (t && e) ≡ false → (t && (b && e)) ≡ false
+    off true true e q = q
+    off true false e q = refl
+    off false b e q = refl
+
+values_parts : (c : ℕ) (xs : List Access) (bs : List Bool) → AreFlags xs bs → takers Push c (map seen xs) ≤ 1
+    → values_in c (map seen xs) (bare_replies bs) ≡ values_in c (map seen xs) (bare_replies (done_at_once xs)) ++ values_in c (map seen xs) (bare_replies (done_late xs bs))
+values_parts c [] [] f l = refl
+values_parts c [] (b ∷ bs) f l = absurd f
+values_parts c (a ∷ xs) [] f l = absurd f
+values_parts c (a ∷ xs) (b ∷ bs) (f, fs) l =
+    elim (cases_Bool (takes_at Push c (seen a))) [
+      | inl t ↦
+          let l' = rw t at l in
+          let z : takers Push c (map seen xs) ≡ 0 = omega arith in
+          rw (none_takes c xs bs z, none_takes c xs (done_at_once xs) z, none_takes c xs (done_late xs bs) z)
+          (one_value (seen a).takes (is_blocking a.kind) b (same_side (side_of a.kind) Push && eqb a.channel c) a.value f)
+      | inr t ↦
+          let l' = rw t at l in
+          none_value (seen a).takes (is_blocking a.kind) b (same_side (side_of a.kind) Push && eqb a.channel c) a.value t _ _ _ (values_parts c xs bs fs (omega arith))
+    ]
+  where
+    one_value : (t k b e : Bool) (v : ℕ) → (k ≡ true → b ≡ true)
+        → cond (t && (b && e)) (v ∷ []) [] ++ [] ≡ (cond (t && (k && e)) (v ∷ []) [] ++ []) ++ (cond (t && ((not k && b) && e)) (v ∷ []) [] ++ [])
+    one_value t true false e v f = let q = f refl in cc
+    one_value true true true true v f = refl
+    one_value true true true false v f = refl
+    one_value false true true e v f = refl
+    one_value true false true true v f = refl
+    one_value true false true false v f = refl
+    one_value false false true e v f = refl
+    one_value true false false e v f = refl
+    one_value false false false e v f = refl
+
+    none_value : (t k b e : Bool) (v : ℕ) → (t && e) ≡ false → (p q r : List ℕ) → p ≡ q ++ r
+        → cond (t && (b && e)) (v ∷ []) [] ++ p ≡ (cond (t && (k && e)) (v ∷ []) [] ++ q) ++ (cond (t && ((not k && b) && e)) (v ∷ []) [] ++ r)
+    none_value true k b true v z p q r y = cc
+    none_value true true true false v z p q r y = y
+    none_value true true false false v z p q r y = y
+    none_value true false true false v z p q r y = y
+    none_value true false false false v z p q r y = y
+    none_value false k b e v z p q r y = y
+
+-- ---- what is held
+
+pub steps_only : (g h : Held) → ((m : ℕ) → (lane_at g.lanes m).steps ≡ (lane_at h.lanes m).steps) → (m k : ℕ) → queries_before g m k ≡ queries_before h m k
+unfolding queries_before
+steps_only g h e m zero = refl
+steps_only g h e m (suc k) = rw (e m, steps_only g h e m k) refl
+
+pub queries_step : (h : Held) (m k : ℕ) → queries_before h m (suc k) ≡ queries_before h m k + queries_in (step_of h m k).accesses
+unfolding queries_before
+queries_step h m k = refl
+
+pub queries_zero : (h : Held) (m : ℕ) → queries_before h m 0 ≡ 0
+unfolding queries_before
+queries_zero h m = refl
+
+pub among_is : (t : Step) (n : ℕ) → are_among t n ≡ true → (queries_in t.accesses ≡ 0) ⊎ (t.first_query + queries_in t.accesses ≤ n)
+among_is t n e =
+    elim (eqb_tells (queries_in t.accesses) 0) [
+      | inl q ↦ inl q.1
+      | inr q ↦ let e' = rw q.0 at e in inr (leb-true (t.first_query + queries_in t.accesses) n e')
+    ]
+
+pub among_if : (t : Step) (n : ℕ) → t.first_query + queries_in t.accesses ≤ n → are_among t n ≡ true
+among_if t n l = or_right (eqb (queries_in t.accesses) 0) _ (le-leb (t.first_query + queries_in t.accesses) n l)
+
+-- the queries of steps that are all among so many are no more
+pub all_among : (h : Held) (m n q : ℕ) → ((k : ℕ) → k < n → (step_of h m k).first_query ≡ queries_before h m k) → ((k : ℕ) → k < n → are_among (step_of h m k) q ≡ true) → queries_before h m n ≤ q
+all_among h m zero q f g = rw (queries_zero h m) (omega arith)
+all_among h m (suc n) q f g =
+    let rest = all_among h m n q (λ k l. f k (omega arith)) (λ k l. g k (omega arith)) in
+    let step = queries_step h m n in
+    let first = f n (omega arith) in
+    elim (among_is (step_of h m n) q (g n (omega arith))) [
+      | inl e ↦ omega arith
+      | inr e ↦ omega arith
+    ]
+
+flags_fit : (know : theory.Access → Known) (c : ℕ) (xs : List Access) → AreFlags xs (flags_at know c (map seen xs))
+flags_fit know c [] = tt
+flags_fit know c (a ∷ xs) = ((λ e. or_left (is_blocking a.kind) _ e), flags_fit know c xs)
+
+module _ {S : Type 0} (d : Design S) (i : IsDesign d) (h : Held) (m c : ℕ) (inside : m < length h.lanes) (s : IsSound d h) (b : AreOwnMarks d (core_of d h))
+    (less : length (lane_at h.lanes m).cycles < emitted_of h m) (fresh : (core_of d h).answered m (length (lane_at h.lanes m).cycles) ≡ false)
+    (earlier : (k : ℕ) → k < length (lane_at h.lanes m).cycles → (core_of d h).verified m k ≡ true) where
+  abbrev x : Core S
+  x = core_of d h
+
+  abbrev k₀ : ℕ
+  k₀ = length (lane_at h.lanes m).cycles
+
+  abbrev z : Core S
+  z = after_answer d x m c
+
+  abbrev t : Step
+  t = step_of h m k₀
+
+  abbrev fs : List Bool
+  fs = new_flags d x m c
+
+  abbrev g : Held
+  g = with_answered h m k₀ fs
+
+  abbrev at : Place
+  at = place_of m k₀
+
+  -- the step is the module's newest
+  pub last : suc k₀ ≡ emitted_of h m
+  last =
+      elim (cases_lt (suc k₀) (emitted_of h m)) [
+        | inl q ↦ absurd (both_ways _ fresh (b.replied m k₀ q))
+        | inr q ↦ omega arith
+      ]
+
+  flags_ok : AreFlags t.accesses fs
+  flags_ok = subst (AreFlags t.accesses) (ap (flags_at (known_of d (view d x) m) c) (sym (s.accesses m k₀ less))) (flags_fit (known_of d (view d x) m) c t.accesses)
+
+  flags_before : x.flags m k₀ ≡ done_at_once t.accesses
+  flags_before = b.unanswered m k₀ less fresh ∙ (ap no_outcomes (s.accesses m k₀ less) ∙ no_outcomes_is t.accesses)
+
+  flags_now : z.flags m k₀ ≡ fs
+  flags_now = put_at_same x.flags m k₀ fs
+
+  flags_else : (n k : ℕ) → (n ≡ m → k ≡ k₀ → ⊥) → z.flags n k ≡ x.flags n k
+  flags_else n k f = put_at_other x.flags m k₀ fs n k f
+
+  -- ---- counts
+
+  tally_old : (n : ℕ) (side : Side) (ch k : ℕ) → (n ≡ m → k ≤ k₀) → core_tally d z n side ch k ≡ core_tally d x n side ch k
+  tally_old n side ch k l =
+      tally_same (core_accesses d z n) (core_accesses d x n) (λ j. bare_replies (z.flags n j)) (λ j. bare_replies (x.flags n j)) side ch k
+      (λ j q. ap (λ (v : List Bool). takes_in side ch (core_accesses d x n j) (bare_replies v)) (flags_else n j (λ e f. let w = l e in omega arith)))
+
+  late : Side → ℕ → ℕ
+  late side ch = takes_in side ch (map seen t.accesses) (bare_replies (done_late t.accesses fs))
+
+  tally_now : (side : Side) (ch : ℕ) → core_tally d z m side ch (suc k₀) ≡ core_tally d x m side ch (suc k₀) + late side ch
+  unfolding late
+  tally_now side ch =
+      let new = tally_more (core_accesses d z m) (λ j. bare_replies (z.flags m j)) side ch k₀ in
+      let old = tally_more (core_accesses d x m) (λ j. bare_replies (x.flags m j)) side ch k₀ in
+      let same = tally_old m side ch k₀ (λ e. omega arith) in
+      let now = ap₂ (λ (a : List theory.Access) (v : List Bool). takes_in side ch a (bare_replies v)) (s.accesses m k₀ less) flags_now in
+      let before = ap₂ (λ (a : List theory.Access) (v : List Bool). takes_in side ch a (bare_replies v)) (s.accesses m k₀ less) flags_before in
+      let parts = takes_parts side ch t.accesses fs flags_ok in
+      omega arith
+
+  owned : Each (λ a. d.owner a.side a.channel ≡ m) (map seen t.accesses)
+  owned = subst (Each (λ a. d.owner a.side a.channel ≡ m)) (s.accesses m k₀ less) (i.owned m (x.state m k₀))
+
+  none_late : (side : Side) (ch : ℕ) → (d.owner side ch ≡ m → ⊥) → late side ch ≡ 0
+  unfolding late
+  none_late side ch f = not_owner d m side ch (map seen t.accesses) (done_late t.accesses fs) owned f
+
+  total : (w : ℕ) (side : Side) (ch : ℕ) → ((w ≡ m → ⊥) → late side ch ≡ 0) → core_tally d z w side ch (emitted_of h w) ≡ core_tally d x w side ch (emitted_of h w) + late side ch
+  total w side ch none =
+      elim (eqb_tells w m) [
+        | inl q ↦ subst (λ (v : ℕ). core_tally d z v side ch (emitted_of h v) ≡ core_tally d x v side ch (emitted_of h v) + late side ch) (sym q.1)
+            (subst (λ (v : ℕ). core_tally d z m side ch v ≡ core_tally d x m side ch v + late side ch) last (tally_now side ch))
+        | inr q ↦ let e = none q.1 in let same = tally_old w side ch (emitted_of h w) (λ e. absurd (q.1 e)) in omega arith
+      ]
+
+  -- ---- the table
+
+  inside_t : All (IsAccess h.channels) t.accesses
+  inside_t = shown_inside d h x s m k₀ less
+
+  channel_now : (ch : ℕ) → channel_at g.channels ch ≡ channel_after at ch (channel_at h.channels ch) t.accesses (done_late t.accesses fs)
+  channel_now ch = all_channel at h.channels t.accesses (done_late t.accesses fs) ch (All-weaker (IsAccess h.channels) (λ (a : Access). a.channel < length h.channels) (λ a p. p.channel) t.accesses inside_t)
+
+  kind_now : (ch : ℕ) → (channel_at g.channels ch).kind ≡ (channel_at h.channels ch).kind
+  kind_now ch = ap (λ (q : Channel). q.kind) (channel_now ch) ∙ kind_after at ch (channel_at h.channels ch) t.accesses (done_late t.accesses fs)
+
+  count_now : length g.channels ≡ length h.channels
+  count_now = all_length at h.channels t.accesses (done_late t.accesses fs)
+
+  places_now : (side : Side) (ch : ℕ) → places_of side (channel_at g.channels ch) ≡ places_of side (channel_at h.channels ch) ++ copies (late side ch) at
+  unfolding late
+  places_now side ch = ap (places_of side) (channel_now ch) ∙ places_after side at ch (channel_at h.channels ch) t.accesses (done_late t.accesses fs)
+
+  tally_up : (w : ℕ) (side : Side) (ch k : ℕ) → ((w ≡ m → ⊥) → late side ch ≡ 0) → k ≤ emitted_of h w → core_tally d x w side ch k ≤ core_tally d z w side ch k
+  tally_up w side ch k none l =
+      elim (cases_lt k (emitted_of h w)) [
+        | inl q ↦ let same = tally_old w side ch k (λ e. let e' = ap (λ (v : ℕ). emitted_of h v) e in let z' = last in omega arith) in omega arith
+        | inr q ↦
+            let e : k ≡ emitted_of h w = omega arith in
+            let up = total w side ch none in
+            subst (λ (v : ℕ). core_tally d x w side ch v ≤ core_tally d z w side ch v) (sym e) (omega arith)
+      ]
+
+  old_taken : (side : Side) (ch j : ℕ) (y : Place) → IsTakenAt d x side ch j y → IsTakenAt d z side ch j y
+  old_taken side ch j y o = record {
+    owner = o.owner;
+    emitted = o.emitted;
+    from =
+        let f = o.from in
+        let l = o.emitted in
+        let e = tally_old (d.owner side ch) side ch y.step (λ q. let e' = ap (λ (v : ℕ). emitted_of h v) q in let z' = last in omega arith) in
+        omega arith;
+    to = let f = o.to in let l = o.emitted in let up = tally_up (d.owner side ch) side ch (suc y.step) (none_late side ch) (omega arith) in omega arith;
+  }
+
+  new_at : (side : Side) (ch : ℕ) → d.owner side ch ≡ m → (j : ℕ) → core_tally d x m side ch (suc k₀) ≤ j → j < core_tally d x m side ch (suc k₀) + late side ch → IsTakenAt d z side ch j at
+  new_at side ch o j l u =
+      let now = tally_now side ch in
+      let old = tally_old m side ch k₀ (λ e. omega arith) in
+      let up = tally_mono (core_accesses d x m) (λ q. bare_replies (x.flags m q)) side ch k₀ (suc k₀) (omega arith) in
+      record {
+        owner = sym o;
+        emitted = subst (λ (v : ℕ). k₀ < emitted_of h v) (sym o) less;
+        from = subst (λ (v : ℕ). core_tally d z v side ch k₀ ≤ j) (sym o) (omega arith);
+        to = subst (λ (v : ℕ). j < core_tally d z v side ch (suc k₀)) (sym o) (omega arith);
+      }
+
+  new_for : (w : ℕ) (side : Side) (ch : ℕ) → w ≡ d.owner side ch → ((w ≡ m → ⊥) → late side ch ≡ 0) → 0 < late side ch → (j : ℕ) → core_tally d x w side ch (emitted_of h w) ≤ j
+      → j < core_tally d x w side ch (emitted_of h w) + late side ch → IsTakenAt d z side ch j at
+  new_for w side ch o none p j l u =
+      elim (eqb_tells w m) [
+        | inl q ↦
+            new_at side ch (sym o ∙ q.1) j (subst (λ (v : ℕ). core_tally d x m side ch v ≤ j) (sym last) (subst (λ (v : ℕ). core_tally d x v side ch (emitted_of h v) ≤ j) q.1 l))
+            (subst (λ (v : ℕ). j < core_tally d x m side ch v + late side ch) (sym last) (subst (λ (v : ℕ). j < core_tally d x v side ch (emitted_of h v) + late side ch) q.1 u))
+        | inr q ↦ let e = none q.1 in absurd (omega arith)
+      ]
+
+  taken_now : (side : Side) (ch : ℕ) → AreTaken d x side ch (places_of side (channel_at h.channels ch)) → AreTaken d z side ch (places_of side (channel_at g.channels ch))
+  taken_now side ch o =
+      subst (AreTaken d z side ch) (sym (places_now side ch))
+      (longer_taken d z side ch (late side ch) (core_tally d x (d.owner side ch) side ch (emitted_of h (d.owner side ch))) (places_of side (channel_at h.channels ch)) at
+      o.count (λ j y l. old_taken side ch j _ (o.each j y l)) (total (d.owner side ch) side ch (none_late side ch)) (new_for (d.owner side ch) side ch refl (none_late side ch)))
+
+  -- ---- values
+
+  late_values : ℕ → List ℕ
+  late_values ch = values_in ch (map seen t.accesses) (bare_replies (done_late t.accesses fs))
+
+  abbrev pushed_by : Core S → ℕ → ℕ → ℕ → List ℕ
+  pushed_by y ch w k = pushed_in ch (core_accesses d y w) (λ j. bare_replies (y.flags w j)) k
+
+  pushed_old : (w ch k : ℕ) → (w ≡ m → k ≤ k₀) → pushed_by z ch w k ≡ pushed_by x ch w k
+  pushed_old w ch k l =
+      pushed_same (core_accesses d z w) (core_accesses d x w) (λ j. bare_replies (z.flags w j)) (λ j. bare_replies (x.flags w j)) ch k
+      (λ j q. ap (λ (v : List Bool). values_in ch (core_accesses d x w j) (bare_replies v)) (flags_else w j (λ e f. let r = l e in omega arith)))
+
+  single_t : (ch : ℕ) → takers Push ch (map seen t.accesses) ≤ 1
+  single_t ch = subst (λ (a : List theory.Access). takers Push ch a ≤ 1) (s.accesses m k₀ less) (i.single Push m (x.state m k₀) ch)
+
+  pushed_now : (ch : ℕ) → pushed_by z ch m (suc k₀) ≡ pushed_by x ch m (suc k₀) ++ late_values ch
+  unfolding late_values
+  pushed_now ch =
+      pushed_in_more ch (core_accesses d z m) (λ j. bare_replies (z.flags m j)) k₀
+      ∙ (ap₂ (λ (a v : List ℕ). a ++ v) (pushed_old m ch k₀ (λ e. omega arith))
+      (ap₂ (λ (a : List theory.Access) (v : List Bool). values_in ch a (bare_replies v)) (s.accesses m k₀ less) flags_now ∙ values_parts ch t.accesses fs flags_ok (single_t ch))
+      ∙ (sym (append_assoc (pushed_by x ch m k₀) _ _)
+      ∙ ap (λ (a : List ℕ). a ++ values_in ch (map seen t.accesses) (bare_replies (done_late t.accesses fs)))
+      (ap (λ (a : List ℕ). pushed_by x ch m k₀ ++ a) (sym (ap₂ (λ (a : List theory.Access) (v : List Bool). values_in ch a (bare_replies v)) (s.accesses m k₀ less) flags_before))
+      ∙ sym (pushed_in_more ch (core_accesses d x m) (λ j. bare_replies (x.flags m j)) k₀))))
+
+  no_late_values : (ch : ℕ) → (d.owner Push ch ≡ m → ⊥) → late_values ch ≡ []
+  unfolding late_values
+  no_late_values ch f = no_values d m ch (map seen t.accesses) (done_late t.accesses fs) owned f
+
+  source_now : (ch : ℕ) (inputs : List ℕ) → (channel_at h.channels ch).kind ≡ Source inputs → late_values ch ≡ []
+  unfolding late_values
+  source_now ch inputs k = source_values h.channels ch inputs k t.accesses (done_late t.accesses fs) inside_t
+
+  pushed_values : (ch : ℕ) → values_on (channel_at g.channels ch) ≡ values_on (channel_at h.channels ch) ++ late_values ch
+  unfolding late_values
+  pushed_values ch = ap values_on (channel_now ch) ∙ values_after at ch (channel_at h.channels ch) t.accesses (done_late t.accesses fs)
+
+  pushed_total : (w ch : ℕ) → ((w ≡ m → ⊥) → late_values ch ≡ []) → pushed_by z ch w (emitted_of h w) ≡ pushed_by x ch w (emitted_of h w) ++ late_values ch
+  pushed_total w ch none =
+      elim (eqb_tells w m) [
+        | inl q ↦
+            subst (λ (v : ℕ). pushed_by z ch v (emitted_of h v) ≡ pushed_by x ch v (emitted_of h v) ++ late_values ch) (sym q.1)
+            (subst (λ (v : ℕ). pushed_by z ch m v ≡ pushed_by x ch m v ++ late_values ch) last (pushed_now ch))
+        | inr q ↦ pushed_old w ch (emitted_of h w) (λ e. absurd (q.1 e)) ∙ (sym (append-nil _) ∙ ap (λ (a : List ℕ). pushed_by x ch w (emitted_of h w) ++ a) (sym (none q.1)))
+      ]
+
+  values_now : (ch : ℕ) → values_at h.channels ch ≡ core_values d x ch → values_at g.channels ch ≡ core_values d z ch
+  values_now ch o = by_kind (channel_at h.channels ch).kind refl
+      ∙ (ap (λ (a : List ℕ). a ++ late_values ch) o ∙ (append_assoc (d.inputs ch) _ _ ∙ ap (λ (a : List ℕ). d.inputs ch ++ a) (sym (pushed_total (d.owner Push ch) ch (no_late_values ch)))))
+    where
+      by_kind : (kind : TableChannel) → (channel_at h.channels ch).kind ≡ kind → values_at g.channels ch ≡ values_at h.channels ch ++ late_values ch
+      by_kind (Source inputs) k =
+          ap₂ values_of (kind_now ch ∙ k) refl ∙ (sym (append-nil inputs)
+          ∙ ap₂ (λ (a v : List ℕ). a ++ v) (sym (ap (λ (q : TableChannel). values_of q (channel_at h.channels ch).pushes) k)) (sym (source_now ch inputs k)))
+      by_kind Sink k = ap₂ values_of (kind_now ch ∙ k) refl ∙ (pushed_values ch ∙ ap (λ (a : List ℕ). a ++ late_values ch) (sym (ap (λ (q : TableChannel). values_of q (channel_at h.channels ch).pushes) k)))
+      by_kind (Fifo depth delay) k = ap₂ values_of (kind_now ch ∙ k) refl ∙ (pushed_values ch ∙ ap (λ (a : List ℕ). a ++ late_values ch) (sym (ap (λ (q : TableChannel). values_of q (channel_at h.channels ch).pushes) k)))
+
+  -- ---- outcomes
+
+  abbrev old_log : Log
+  old_log = log_at h.logs m
+
+  abbrev new : List Bool
+  new = outcomes_of t.accesses fs
+
+  m_logs : m < length h.logs
+  m_logs = let a = s.logs in let e = s.lanes in omega arith
+
+  pub log_now : log_at g.logs m ≡ all_answered old_log new
+  log_now = get_or-set_same h.logs m (all_answered old_log new) no_log m_logs
+
+  pub log_else : (n : ℕ) → (n ≡ m → ⊥) → log_at g.logs n ≡ log_at h.logs n
+  log_else n f = get_or-set_other h.logs m n (all_answered old_log new) no_log f
+
+  first_is : (k : ℕ) → k < emitted_of h m → (step_of h m k).first_query ≡ queries_before h m k
+  first_is k l = s.first_query m k l
+
+  pub recorded_least : queries_before h m k₀ ≤ length old_log.outcomes
+  recorded_least =
+      all_among h m k₀ (length old_log.outcomes) (λ k l. first_is k (omega arith))
+      (λ k l. (and_parts (ltb k (emitted_of h m)) (are_among (step_of h m k) (length old_log.outcomes)) (b.replied m k (let e = last in omega arith))).1)
+
+  pub verified_least : queries_before h m k₀ ≤ old_log.verified
+  verified_least =
+      all_among h m k₀ old_log.verified (λ k l. first_is k (omega arith))
+      (λ k l. (and_parts (ltb k (emitted_of h m)) (are_among (step_of h m k) old_log.verified) (earlier k l)).1)
+
+  pub recorded_most : length old_log.outcomes ≤ queries_before h m k₀
+  recorded_most = by_whole (s.recorded m m_logs)
+    where
+      not_all : (queries_before h m (suc k₀) ≤ length old_log.outcomes) → ⊥
+      not_all l =
+          let step = queries_step h m k₀ in
+          let first = first_is k₀ less in
+          let yes = ap₂ (λ (a e : Bool). a && e) (lt-ltb k₀ (emitted_of h m) less) (among_if t (length old_log.outcomes) (omega arith)) in
+          both_ways _ fresh yes
+
+      by_whole : AreWhole h m (length old_log.outcomes) → length old_log.outcomes ≤ queries_before h m k₀
+      by_whole w =
+          let e = w.all in
+          elim (cases_lt k₀ w.steps) [
+            | inl q ↦ absurd (not_all (let up = queries_mono h m (suc k₀) w.steps q in omega arith))
+            | inr q ↦ let up = queries_mono h m w.steps k₀ q in omega arith
+          ]
+
+  pub new_length : length (old_log.outcomes ++ new) ≡ queries_before h m (suc k₀)
+  new_length =
+      let a = length-append old_log.outcomes new in
+      let e = outcomes_length t.accesses fs flags_ok in
+      let step = queries_step h m k₀ in
+      let l = recorded_least in
+      let u = recorded_most in
+      omega arith
+
+  pub same_queries : (n k : ℕ) → queries_before g n k ≡ queries_before h n k
+  same_queries n k = steps_only g h (λ j. refl) n k
+
+  whole_now : (n q r : ℕ) → (n ≡ m → r ≡ queries_before h m (suc k₀)) → ((n ≡ m → ⊥) → r ≡ q) → AreWhole h n q → AreWhole g n r
+  whole_now n q r here else w =
+      elim (eqb_tells n m) [
+        | inl e ↦ subst (λ (v : ℕ). AreWhole g v r) (sym e.1) (record { steps = suc k₀; within = less; all = here e.1 ∙ sym (same_queries m (suc k₀)) })
+        | inr e ↦ record { steps = w.steps; within = w.within; all = else e.1 ∙ (w.all ∙ sym (same_queries n w.steps)) }
+      ]
+
+  has_if : (k q : ℕ) → k ≤ k₀ → queries_before h m (suc k₀) ≤ q → has_all h m k q ≡ true
+  has_if k q l u =
+      let up = queries_mono h m (suc k) (suc k₀) (omega arith) in
+      let step = queries_step h m k in
+      let first = first_is k (omega arith) in
+      ap₂ (λ (a e : Bool). a && e) (lt-ltb k (emitted_of h m) (omega arith)) (among_if (step_of h m k) q (omega arith))
+
+  has_not : (k q : ℕ) → k₀ < k → has_all h m k q ≡ false
+  has_not k q l = and_left (ltb k (emitted_of h m)) _ (le-ltb k (emitted_of h m) (let e = last in omega arith))
+
+  -- where so many queries are recorded, or verified, the step and those before it have theirs
+  has_now : (n k q r : ℕ) (y : ℕ → ℕ → Bool) → (n ≡ m → r ≡ queries_before h m (suc k₀)) → ((n ≡ m → ⊥) → r ≡ q) → has_all h n k q ≡ y n k → (n ≡ m → k < k₀ → y n k ≡ true)
+      → has_all g n k r ≡ put_at y m k₀ true n k
+  has_now n k q r y here else is before =
+      put_at_is y m k₀ n k true (has_all g n k r)
+      (λ e f. subst (λ (v : ℕ). has_all h v k r ≡ true) (sym e) (has_if k r (omega arith) (let w = here e in omega arith)))
+      (λ f. elsewhere f)
+    where
+      at_m : n ≡ m → (k ≡ k₀ → ⊥) → has_all h n k r ≡ y n k
+      at_m e f =
+          elim (cases_lt k k₀) [
+            | inl l ↦ subst (λ (v : ℕ). has_all h v k r ≡ true) (sym e) (has_if k r (omega arith) (let w = here e in omega arith)) ∙ sym (before e l)
+            | inr l ↦
+                let l' : k₀ < k = elim (eqb_tells k k₀) [ inl p ↦ absurd (f p.1) | inr p ↦ let w = p.1 in omega arith ] in
+                subst (λ (v : ℕ). has_all h v k r ≡ has_all h v k q) (sym e) (has_not k r l' ∙ sym (has_not k q l')) ∙ is
+          ]
+
+      elsewhere : (n ≡ m → k ≡ k₀ → ⊥) → has_all g n k r ≡ y n k
+      elsewhere f =
+          elim (eqb_tells n m) [
+            | inl e ↦ at_m e.1 (λ p. f e.1 p)
+            | inr e ↦ ap (has_all h n k) (else e.1) ∙ is
+          ]
+
+  -- ---- flags
+
+  pub flags_here : flags_of g m k₀ ≡ fs
+  flags_here =
+      let first = first_is k₀ less in
+      let u = recorded_most in
+      let l = recorded_least in
+      ap (λ (q : Log). flags_by t.accesses (drop t.first_query q.outcomes)) log_now
+      ∙ (ap (flags_by t.accesses) (drop_front t.first_query old_log.outcomes new (omega arith) ∙ ap (λ (q : List Bool). q ++ new) (drop_of_length-le old_log.outcomes (omega arith))) ∙ flags_again t.accesses fs flags_ok)
+
+  flags_earlier : (k : ℕ) → k < k₀ → flags_of g m k ≡ flags_of h m k
+  flags_earlier k l =
+      let first = first_is k (omega arith) in
+      let step = queries_step h m k in
+      let up = queries_mono h m (suc k) k₀ l in
+      let least = recorded_least in
+      let inside' : (step_of h m k).first_query ≤ length old_log.outcomes = omega arith in
+      let enough : queries_in (step_of h m k).accesses ≤ length (drop (step_of h m k).first_query old_log.outcomes) =
+      elim (drop_length (step_of h m k).first_query old_log.outcomes) [ inl e ↦ omega arith | inr e ↦ omega arith ] in
+      ap (λ (q : Log). flags_by (step_of h m k).accesses (drop (step_of h m k).first_query q.outcomes)) log_now
+      ∙ (ap (flags_by (step_of h m k).accesses) (drop_front (step_of h m k).first_query old_log.outcomes new inside')
+      ∙ flags_front (step_of h m k).accesses (drop (step_of h m k).first_query old_log.outcomes) new enough)
+
+  flags_past : (k : ℕ) → k₀ < k → flags_of g m k ≡ flags_of h m k
+  flags_past k l =
+      let none : step_of h m k ≡ no_step = get_or_past (lane_at h.lanes m).steps k no_step (let e = last in omega arith) in
+      ap (λ (q : Step). flags_by q.accesses (drop q.first_query (log_at g.logs m).outcomes)) none ∙ sym (ap (λ (q : Step). flags_by q.accesses (drop q.first_query old_log.outcomes)) none)
+
+  flags_rest : (n k : ℕ) → (n ≡ m → k ≡ k₀ → ⊥) → flags_of g n k ≡ flags_of h n k
+  flags_rest n k f =
+      elim (eqb_tells n m) [
+        | inl e ↦
+            subst (λ (v : ℕ). flags_of g v k ≡ flags_of h v k) (sym e.1)
+            (elim (cases_lt k k₀) [
+              | inl l ↦ flags_earlier k l
+              | inr l ↦ flags_past k (elim (eqb_tells k k₀) [ inl p ↦ absurd (f e.1 p.1) | inr p ↦ let w = p.1 in omega arith ])
+            ])
+        | inr e ↦ ap (λ (q : Log). flags_by (step_of h n k).accesses (drop (step_of h n k).first_query q.outcomes)) (log_else n e.1)
+      ]
+
+  -- ---- it is shown, and read off
+
+  access_kept : (a : Access) → IsAccess h.channels a → IsAccess g.channels a
+  access_kept a p = record {
+    channel = let e = count_now in let l = p.channel in omega arith;
+    ordinal = p.ordinal;
+    side = subst (λ (q : TableChannel). HasSide q (side_of a.kind)) (sym (kind_now a.channel)) p.side;
+  }
+
+  inside_now : HasAccesses h.lanes g.channels
+  inside_now =
+      All-weaker (λ (lane : Lane). All (λ (step : Step). All (IsAccess h.channels) step.accesses) lane.steps) (λ (lane : Lane). All (λ (step : Step). All (IsAccess g.channels) step.accesses) lane.steps)
+      (λ lane. All-weaker (λ (step : Step). All (IsAccess h.channels) step.accesses) (λ (step : Step). All (IsAccess g.channels) step.accesses) (λ step. All-weaker (IsAccess h.channels) (IsAccess g.channels) access_kept step.accesses) lane.steps)
+      h.lanes s.inside
+
+  log_length : (n : ℕ) → n ≡ m → length (log_at g.logs n).outcomes ≡ queries_before h m (suc k₀)
+  log_length n e = ap (λ (v : ℕ). length (log_at g.logs v).outcomes) e ∙ (ap (λ (q : Log). length q.outcomes) log_now ∙ new_length)
+
+  log_verified : (n : ℕ) → n ≡ m → (log_at g.logs n).verified ≡ queries_before h m (suc k₀)
+  log_verified n e = ap (λ (v : ℕ). (log_at g.logs v).verified) e ∙ (ap (λ (q : Log). q.verified) log_now ∙ new_length)
+
+  taken_shown : (side : Side) (ch : ℕ) → ch < length g.channels → AreTaken d z side ch (places_of side (channel_at g.channels ch))
+  taken_shown side ch l = let e = count_now in taken_now side ch (s.taken side ch (omega arith))
+
+  shown : Shows d g z
+  shown = record {
+    lanes = s.lanes;
+    logs = length-set h.logs m (all_answered old_log new) ∙ s.logs;
+    overs = s.overs;
+    sound_lanes = s.sound_lanes;
+    sound_logs = All-set IsSoundLog h.logs m (all_answered old_log new) (omega arith) s.sound_logs;
+    inside = inside_now;
+    places = places_from d g z (λ n. refl) taken_shown;
+    accesses = s.accesses;
+    ordinals = λ n k l j e q. s.ordinals n k l j e q ∙ ap (λ (v : ℕ). suc v) (sym (tally_old n (side_of (get_or (step_of h n k).accesses j e).kind) (get_or (step_of h n k).accesses j e).channel k
+        (λ r. let r' = ap (λ (v : ℕ). emitted_of h v) r in let w = last in omega arith)));
+    first_query = λ n k l. s.first_query n k l ∙ sym (same_queries n k);
+    kinds = λ ch l. let e = count_now in subst (IsKind d ch) (sym (kind_now ch)) (s.kinds ch (omega arith));
+    lags = λ side ch l. let e = count_now in s.lags side ch (omega arith) ∙ ap (λ (q : TableChannel). lag_of q side) (sym (kind_now ch));
+    taken = taken_shown;
+    values = λ ch l. let e = count_now in values_now ch (s.values ch (omega arith));
+    recorded = λ n l. whole_now n (length (log_at h.logs n).outcomes) (length (log_at g.logs n).outcomes) (log_length n) (λ f. ap (λ (q : Log). length q.outcomes) (log_else n f)) (s.recorded n (let e = length-set h.logs m (all_answered old_log new) in omega arith));
+    verified = λ n l. whole_now n (log_at h.logs n).verified (log_at g.logs n).verified (log_verified n) (λ f. ap (λ (q : Log). q.verified) (log_else n f)) (s.verified n (let e = length-set h.logs m (all_answered old_log new) in omega arith));
+  }
+
+  read : IsRead d g z
+  read = record {
+    emitted = λ n. refl;
+    over = λ n. refl;
+    past = λ n k l. sym (ap (λ (v : Bool). cond v (ready d n (own d n (replies_at h n) k)) (d.opening n)) (le-ltb k (emitted_of h n) l));
+    wait = λ n k. refl;
+    flags = λ n k. put_at_is x.flags m k₀ n k fs (flags_of g n k)
+        (λ e f. subst (λ (v : ℕ). flags_of g v k ≡ fs) (sym e) (subst (λ (v : ℕ). flags_of g m v ≡ fs) (sym f) flags_here)) (λ f. flags_rest n k f);
+    answered = λ n k. has_now n k (length (log_at h.logs n).outcomes) (length (log_at g.logs n).outcomes) x.answered (log_length n) (λ f. ap (λ (q : Log). length q.outcomes) (log_else n f)) refl
+        (λ e l. subst (λ (v : ℕ). x.answered v k ≡ true) (sym e) (b.replied m k (let w = last in omega arith)));
+    verified = λ n k. has_now n k (log_at h.logs n).verified (log_at g.logs n).verified x.verified (log_verified n) (λ f. ap (λ (q : Log). q.verified) (log_else n f)) refl
+        (λ e l. subst (λ (v : ℕ). x.verified v k ≡ true) (sym e) (earlier k l));
+    timed = λ n. refl;
+    cycle = λ n k. refl;
+  }
+
+  -- the core that is read off is the one behind the theory's Answer, and it is sound
+  pub answered_core : (core_of d g ≡ after_answer d x m c) × IsSound d g
+  answered_core = read_sound d g z (answer_marks d i x b m c less (λ e. absurd (both_ways _ fresh e))) shown read

@@ -1,0 +1,67 @@
+-- What is decided of queries, by the graph and the table, is what the theory answers.
+use Rattle.std.proofs.Common.{◌≡◌, refl, sym, ap, ap₂, ◌∙◌, ℕ, ◌<◌, Bool, true, false, ◌&&◌, ◌||◌, List, [], ◌∷◌, length, map}
+use Rattle.std.specs.Prelude.{◌↔◌, All}
+use Rattle.std.proofs.lemmas.Bool.{le-leb, lt-leb, leb-true, leb-false}
+use Rattle.std.proofs.lemmas.List.Elements.{All-head, All-tail}
+use Rattle.flow_word.specs.Kinds.{is_blocking}
+use Rattle.flow_word.specs.declared.access.Access.{Access}
+use Rattle.event_graph.specs.Lanes.{Lane, lane_at}
+use Rattle.fifo_table.specs.Channels.{Channel}
+use Rattle.time_engine.specs.declared.known.Known as of_code
+use Rattle.time_engine.specs.declared.known.Known.TheVariants as code
+use Rattle.time_engine.specs.Possible.{when_possible}
+use Rattle.query_resolve.specs.Decisions.{IsPossible, IsImpossible}
+use Rattle.event_timing.specs.Machines as theory
+use Rattle.event_timing.specs.Machines.{Design, IsDesign}
+use Rattle.event_timing.specs.Core.{view}
+use Rattle.event_timing.specs.Enablers.{Known, known_of, answer, is_decided, all_decided, flags_at}
+use Rattle.event_timing.specs.Views.{first_accesses}
+use Rattle.event_timing.specs.Actions.{new_flags}
+use Rattle.engine_view.specs.Held.{Held, step_of, emitted_of, seen, core_of}
+use Rattle.engine_view.specs.Shown.{IsSound}
+use Rattle.engine_view.specs.Known.{as_known, found_flags, are_decided}
+use Rattle.engine_view.proofs.Knowing.{access_known}
+
+pub possible_is : (k : of_code.Known) (c : ℕ) → IsPossible k c ↔ (answer (as_known k) c ≡ true)
+possible_is (code.From u) c = ((λ l. le-leb u c l), (λ e. leb-true u c e))
+possible_is code.Never c = ((λ l. absurd l), (λ e. cc))
+possible_is code.Unknown c = ((λ l. absurd l), (λ e. cc))
+
+pub impossible_is : (k : of_code.Known) (c : ℕ) → IsImpossible k c ↔ ((is_decided (as_known k) ≡ true) × (answer (as_known k) c ≡ false))
+impossible_is (code.From u) c = ((λ l. (refl, lt-leb u c l)), (λ e. leb-false u c e.1))
+impossible_is code.Never c = ((λ l. (refl, refl)), (λ e. tt))
+impossible_is code.Unknown c = ((λ l. absurd l), (λ e. cc))
+
+pub undecided_is : (k : of_code.Known) → (k ≡ code.Unknown) ↔ (is_decided (as_known k) ≡ false)
+undecided_is (code.From u) = ((λ l. cc), (λ e. cc))
+undecided_is code.Never = ((λ l. cc), (λ e. cc))
+undecided_is code.Unknown = ((λ l. refl), (λ e. refl))
+
+flags_found : (lanes : List Lane) (channels : List Channel) (know : theory.Access → Known) (c : ℕ) (xs : List Access) → All (λ (a : Access). as_known (when_possible lanes channels a) ≡ know (seen a)) xs
+    → flags_at know c (map seen xs) ≡ found_flags lanes channels c xs
+flags_found lanes channels know c [] all = refl
+flags_found lanes channels know c (a ∷ xs) all =
+    ap₂ (λ (k : Known) (bs : List Bool). (is_blocking a.kind || answer k c) ∷ bs) (sym (All-head (λ (a : Access). as_known (when_possible lanes channels a) ≡ know (seen a)) a xs all))
+    (flags_found lanes channels know c xs (All-tail (λ (a : Access). as_known (when_possible lanes channels a) ≡ know (seen a)) a xs all))
+
+decided_found : (lanes : List Lane) (channels : List Channel) (know : theory.Access → Known) (xs : List Access) → All (λ (a : Access). as_known (when_possible lanes channels a) ≡ know (seen a)) xs
+    → all_decided know (map seen xs) ≡ are_decided lanes channels xs
+decided_found lanes channels know [] all = refl
+decided_found lanes channels know (a ∷ xs) all =
+    ap₂ (λ (k : Known) (b : Bool). (is_blocking a.kind || is_decided k) && b) (sym (All-head (λ (a : Access). as_known (when_possible lanes channels a) ≡ know (seen a)) a xs all))
+    (decided_found lanes channels know xs (All-tail (λ (a : Access). as_known (when_possible lanes channels a) ≡ know (seen a)) a xs all))
+
+-- what is found for a module's first step without a cycle, and whether all is decided
+pub flags_are : {S : Type 0} → (d : Design S) → IsDesign d → (h : Held) → IsSound d h → (m c : ℕ) → length (lane_at h.lanes m).cycles < emitted_of h m
+    → new_flags d (core_of d h) m c ≡ found_flags h.lanes h.channels c (step_of h m (length (lane_at h.lanes m).cycles)).accesses
+flags_are {S} d i h y m c less =
+    let x = core_of d h in
+    ap (flags_at (known_of d (view d x) m) c) (y.accesses m (length (lane_at h.lanes m).cycles) less)
+    ∙ flags_found h.lanes h.channels (known_of d (view d x) m) c _ (access_known d i h y m less)
+
+pub decided_are : {S : Type 0} → (d : Design S) → IsDesign d → (h : Held) → IsSound d h → (m : ℕ) → length (lane_at h.lanes m).cycles < emitted_of h m
+    → all_decided (known_of d (view d (core_of d h)) m) (first_accesses (view d (core_of d h)) m) ≡ are_decided h.lanes h.channels (step_of h m (length (lane_at h.lanes m).cycles)).accesses
+decided_are {S} d i h y m less =
+    let x = core_of d h in
+    ap (all_decided (known_of d (view d x) m)) (y.accesses m (length (lane_at h.lanes m).cycles) less)
+    ∙ decided_found h.lanes h.channels (known_of d (view d x) m) _ (access_known d i h y m less)

@@ -1,0 +1,170 @@
+-- An Answer with no recorded outcomes: what the code needs, and what it leaves.
+use Rattle.std.proofs.Common.{◌≡◌, refl, sym, ap, subst, ◌∙◌, ℕ, suc, ◌+◌, ◌-◌, ◌^◌, ◌<◌, ◌≤◌, inl, inr, Bool, true, cond, List, length, drop, get_or, map, arith, eqb, ◌||◌, ap₂}
+use Rattle.std.specs.Prelude.{All, slice_get, Some}
+use Rattle.std.proofs.lemmas.Bool.{or_right, ne_eqb}
+use Rattle.std.proofs.lemmas.Bool.Decides.{eqb_tells}
+use Rattle.std.proofs.lemmas.Option.{get_or_from_slice_get}
+use Rattle.flow_word.specs.declared.access.Side.{Side}
+use Rattle.flow_word.specs.declared.access.Access.{Access}
+use Rattle.flow_word.specs.declared.access.Step.{Step}
+use Rattle.fifo_table.specs.Channels.{Channel}
+use Rattle.fifo_table.specs.Roomed.{RoomedChannels}
+use Rattle.event_graph.specs.Lanes.{lane_at, no_lane}
+use Rattle.query_log.specs.Logs.{Log, log_at, no_log, with_outcomes}
+use Rattle.time_engine.specs.Conditions.{IsAccess}
+use Rattle.event_timing.specs.Machines as theory
+use Rattle.event_timing.specs.Machines.{Design, IsDesign, Each, takers}
+use Rattle.event_timing.specs.Core.{Core}
+use Rattle.event_timing.specs.Actions.{after_answer, new_flags}
+use Rattle.event_timing.proofs.Assigning.{put_at_same, put_at_other}
+use Rattle.engine_view.specs.Held.{Held, step_of, no_step, emitted_of, seen, queries_in, core_of}
+use Rattle.engine_view.specs.Shown.{IsSound, queries_before}
+use Rattle.engine_view.specs.Known.{found_flags}
+use Rattle.engine_view.specs.Emitted.{place_of}
+use Rattle.engine_view.specs.Taking.{taken_all}
+use Rattle.engine_view.specs.Answered.{outcomes_of, done_late, with_answered}
+use Rattle.engine_view.specs.Rooms.{room_of, TakesAt, AreApart, HasRoomFor, done_by, pending, HasRoom, IsFresh}
+use Rattle.engine_view.proofs.Taking.{all_length}
+use Rattle.engine_view.proofs.Deciding.{flags_are}
+use Rattle.engine_view.proofs.Answered.{queries_step, answered_core, last, verified_least, recorded_most, new_length, same_queries, flags_here, log_now, log_else}
+use Rattle.engine_view.proofs.Adding.{done_later}
+use Rattle.engine_view.proofs.Roomy.{apart_of, room_for, free_side, pending_same}
+
+module _ {S : Type 0} (d : Design S) (h : Held) (m c : ℕ) (f : IsFresh d h m) where
+  abbrev x : Core S
+  x = core_of d h
+
+  abbrev k₀ : ℕ
+  k₀ = length (lane_at h.lanes m).cycles
+
+  abbrev t : Step
+  t = step_of h m k₀
+
+  abbrev g : Held
+  g = with_answered h m k₀ (new_flags d x m c)
+
+  newest : suc k₀ ≡ emitted_of h m
+  newest = last d f.design h m c f.inside f.sound f.marks f.less f.fresh f.earlier
+
+  m_logs : m < length h.logs
+  m_logs = let a = f.sound.logs in let b = f.sound.lanes in let l = f.inside in omega arith
+
+  pub fresh_inside : All (IsAccess h.channels) t.accesses
+  fresh_inside = f.sound.inside m no_lane f.inside k₀ no_step f.less
+
+  pub fresh_verified : (log_at h.logs m).verified ≡ length (log_at h.logs m).outcomes
+  fresh_verified =
+      let a = verified_least d f.design h m c f.inside f.sound f.marks f.less f.fresh f.earlier in
+      let b = recorded_most d f.design h m c f.inside f.sound f.marks f.less f.fresh f.earlier in
+      let l = f.sound.sound_logs m no_log m_logs in
+      omega arith
+
+  owned : Each (λ a. d.owner a.side a.channel ≡ m) (map seen t.accesses)
+  owned = subst (Each (λ a. d.owner a.side a.channel ≡ m)) (f.sound.accesses m k₀ f.less) (f.design.owned m (x.state m k₀))
+
+  pub fresh_apart : AreApart t.accesses
+  fresh_apart = apart_of t.accesses (λ side ch. subst (λ (xs : List theory.Access). takers side ch xs ≤ 1) (f.sound.accesses m k₀ f.less) (f.design.single side m (x.state m k₀) ch))
+
+  waits_one : pending x m ≡ 1
+  unfolding pending
+  waits_one =
+      let same : emitted_of h m - 1 ≡ k₀ = let n = newest in omega arith in
+      ap (λ (b : Bool). cond b 0 1) (ap₂ (λ (a b : Bool). a || b) (ne_eqb (emitted_of h m) 0 (λ e. let n = newest in omega arith)) (ap (x.answered m) same ∙ f.fresh))
+
+  module _ (lanes : List ℕ) (table : RoomedChannels) (logs credits : List ℕ) (r : HasRoom d h lanes table logs credits) where
+    pub fresh_room : HasRoomFor table t.accesses
+    fresh_room = room_for d h lanes table logs credits r m t.accesses (let n = waits_one in omega arith) fresh_inside owned
+
+    queries_are : queries_before h m (emitted_of h m) ≡ queries_before h m k₀ + queries_in t.accesses
+    queries_are = ap (queries_before h m) (sym newest) ∙ queries_step h m k₀
+
+    pub fresh_log_room : queries_in t.accesses ≤ get_or logs m 0
+    fresh_log_room =
+        let a = r.outcomes m in
+        let b = recorded_most d f.design h m c f.inside f.sound f.marks f.less f.fresh f.earlier in
+        let q = queries_are in
+        omega arith
+
+    pub fresh_few : t.first_query < 2 ^ 62
+    fresh_few = let a = r.few m in let e = f.sound.first_query m k₀ f.less in let q = queries_are in omega arith
+
+  -- what is left behind
+  pub fresh_core : (core_of d g ≡ after_answer d x m c) × IsSound d g
+  fresh_core = answered_core d f.design h m c f.inside f.sound f.marks f.less f.fresh f.earlier
+
+  pub fresh_logs : with_outcomes h.logs m (outcomes_of t.accesses (found_flags h.lanes h.channels c t.accesses)) ≡ g.logs
+  fresh_logs = ap (λ (bs : List Bool). with_outcomes h.logs m (outcomes_of t.accesses bs)) (sym (flags_are d f.design h f.sound m c f.less))
+
+  pub fresh_channels : taken_all (place_of m k₀) h.channels t.accesses (done_by true t.accesses (drop t.first_query (log_at g.logs m).outcomes)) ≡ g.channels
+  fresh_channels =
+      ap (taken_all (place_of m k₀) h.channels t.accesses)
+      (done_later t.accesses (drop t.first_query (log_at g.logs m).outcomes) ∙ ap (done_late t.accesses) (flags_here d f.design h m c f.inside f.sound f.marks f.less f.fresh f.earlier))
+
+  waits_none : pending (core_of d g) m ≡ 0
+  unfolding pending
+  waits_none =
+      let same : emitted_of h m - 1 ≡ k₀ = let n = newest in omega arith in
+      ap (λ (b : Bool). cond b 0 1) (or_right (eqb (emitted_of h m) 0) _ (ap (λ (y : Core S). y.answered m (emitted_of h m - 1)) fresh_core.0 ∙ (ap (λ (k : ℕ). (after_answer d x m c).answered m k) same ∙ put_at_same x.answered m k₀ true)))
+
+  pub room_answered : (lanes : List ℕ) (table table' : RoomedChannels) (logs logs' credits : List ℕ) → HasRoom d h lanes table logs credits
+      → ((side : Side) (ch : ℕ) → room_of table side ch ≤ room_of table' side ch + 1)
+      → ((side : Side) (ch : ℕ) → All (λ (a : Access). TakesAt side ch a → ⊥) t.accesses → room_of table side ch ≤ room_of table' side ch)
+      → ((n : ℕ) → (n ≡ m → ⊥) → get_or logs n 0 ≤ get_or logs' n 0) → HasRoom d g lanes table' logs' credits
+  room_answered lanes table table' logs logs' credits r one others other_logs = record {
+    ends = λ side ch l. let e = all_length (place_of m k₀) h.channels t.accesses (done_late t.accesses (new_flags d x m c)) in ends_now side ch (r.ends side ch (omega arith));
+    steps = r.steps;
+    outcomes = λ n.
+        elim (eqb_tells n m) [
+          | inl e ↦ subst (λ (k : ℕ). queries_before g k (emitted_of h k) ≤ get_or logs' k 0 + length (log_at g.logs k).outcomes) (sym e.1) all_new
+          | inr e ↦
+              let a = r.outcomes n in
+              let b = other_logs n e.1 in
+              let q = same_queries d f.design h m c f.inside f.sound f.marks f.less f.fresh f.earlier n (emitted_of h n) in
+              let o : length (log_at g.logs n).outcomes ≡ length (log_at h.logs n).outcomes =
+              ap (λ (log : Log). length log.outcomes) (log_else d f.design h m c f.inside f.sound f.marks f.less f.fresh f.earlier n e.1) in
+              omega arith
+        ];
+    few = λ n. let a = r.few n in let q = same_queries d f.design h m c f.inside f.sound f.marks f.less f.fresh f.earlier n (emitted_of h n) in omega arith;
+  }
+    where
+      all_new : queries_before g m (emitted_of h m) ≤ get_or logs' m 0 + length (log_at g.logs m).outcomes
+      all_new =
+          let q = same_queries d f.design h m c f.inside f.sound f.marks f.less f.fresh f.earlier m (emitted_of h m) in
+          let n : queries_before h m (emitted_of h m) ≡ queries_before h m (suc k₀) = ap (queries_before h m) (sym newest) in
+          let o : length (log_at g.logs m).outcomes ≡ queries_before h m (suc k₀) =
+          ap (λ (log : Log). length log.outcomes) (log_now d f.design h m c f.inside f.sound f.marks f.less f.fresh f.earlier) ∙ new_length d f.design h m c f.inside f.sound f.marks f.less f.fresh f.earlier in
+          omega arith
+
+      pending_other : (n : ℕ) → (n ≡ m → ⊥) → pending (core_of d g) n ≡ pending x n
+      pending_other n e = pending_same (core_of d g) x n refl (λ k. ap (λ (y : Core S). y.answered n k) fresh_core.0 ∙ put_at_other x.answered m k₀ true n k (λ p q. e p))
+
+      ends_now : (side : Side) (ch : ℕ) → get_or credits (d.owner side ch) 0 + pending x (d.owner side ch) ≤ room_of table side ch
+          → get_or credits (d.owner side ch) 0 + pending (core_of d g) (d.owner side ch) ≤ room_of table' side ch
+      ends_now side ch before =
+          elim (eqb_tells (d.owner side ch) m) [
+            | inl e ↦
+                let was : pending x (d.owner side ch) ≡ 1 = ap (pending x) e.1 ∙ waits_one in
+                let now : pending (core_of d g) (d.owner side ch) ≡ 0 = ap (pending (core_of d g)) e.1 ∙ waits_none in
+                let less = one side ch in
+                omega arith
+            | inr e ↦
+                let still = pending_other (d.owner side ch) e.1 in
+                let kept = others side ch (free_side d m t.accesses owned side ch e.1) in
+                omega arith
+          ]
+
+pub first_is : (h : Held) (m n : ℕ) (step : Step) → n ≡ length (lane_at h.lanes m).cycles → slice_get (lane_at h.lanes m).steps n ≡ Some step → step_of h m (length (lane_at h.lanes m).cycles) ≡ step
+first_is h m n step e there = get_or_from_slice_get (lane_at h.lanes m).steps (length (lane_at h.lanes m).cycles) step no_step (subst (λ (k : ℕ). slice_get (lane_at h.lanes m).steps k ≡ Some step) e there)
+
+pub channels_from : {S : Type 0} → (d : Design S) (h : Held) (m c : ℕ) (f : IsFresh d h m) (n : ℕ) (step : Step) (xs : List Access) (logs : List Log) (channels : List Channel)
+    → n ≡ length (lane_at h.lanes m).cycles → step_of h m (length (lane_at h.lanes m).cycles) ≡ step → xs ≡ step.accesses
+    → logs ≡ (with_answered h m (length (lane_at h.lanes m).cycles) (new_flags d (core_of d h) m c)).logs
+    → channels ≡ taken_all (place_of m n) h.channels xs (done_by true xs (drop step.first_query (log_at logs m).outcomes))
+    → channels ≡ (with_answered h m (length (lane_at h.lanes m).cycles) (new_flags d (core_of d h) m c)).channels
+channels_from {S} d h m c f n step xs logs channels en es ea el e =
+    let k = length (lane_at h.lanes m).cycles in
+    let F : ℕ → List Access → ℕ → List Log → List Channel = λ n as' q ls. taken_all (place_of m n) h.channels as' (done_by true as' (drop q (log_at ls m).outcomes)) in
+    e ∙ (ap (λ (n : ℕ). F n xs step.first_query logs) en
+    ∙ (ap (λ (as' : List Access). F k as' step.first_query logs) (ea ∙ ap (λ (t : Step). t.accesses) (sym es))
+    ∙ (ap (λ (q : ℕ). F k (step_of h m k).accesses q logs) (ap (λ (t : Step). t.first_query) (sym es))
+    ∙ (ap (λ (ls : List Log). F k (step_of h m k).accesses (step_of h m k).first_query ls) el ∙ fresh_channels d h m c f))))

@@ -1,0 +1,163 @@
+-- What the table has behind the accesses of a step.
+use Rattle.std.proofs.Common.{◌≡◌, refl, sym, ap, ◌∙◌, ℕ, zero, suc, ◌+◌, ◌<◌, Bool, true, false, cond, eqb, ◌&&◌, List, [], ◌∷◌, ◌++◌, length, map, set, arith, inl, inr, append-nil, append_assoc}
+use Rattle.std.specs.Prelude.{All}
+use Rattle.std.proofs.lemmas.Bool.{cases_Bool}
+use Rattle.std.proofs.lemmas.Bool.Decides.{eqb_tells}
+use Rattle.std.proofs.lemmas.List.{length-set, get_or-set_same, get_or-set_other, map-append}
+use Rattle.std.proofs.lemmas.List.Elements.{All-head, All-tail}
+use Rattle.flow_word.specs.Kinds.{is_taking, side_of, same_side}
+use Rattle.flow_word.specs.declared.access.Side.TheVariants.{Pop, Push}
+use Rattle.flow_word.specs.declared.access.Side.{Side}
+use Rattle.flow_word.specs.declared.access.Access.{Access}
+use Rattle.flow_word.specs.declared.access.Place.{Place}
+use Rattle.fifo_table.specs.declared.channel.Pushed.{Pushed}
+use Rattle.fifo_table.specs.declared.channel.TableChannel.TheVariants.{Sink}
+use Rattle.fifo_table.specs.Channels.{Channel, channel_at, unused, push_of, places_of}
+use Rattle.event_timing.specs.Machines.{takes_in, values_in}
+use Rattle.event_timing.specs.Core.{bare_replies}
+use Rattle.engine_view.specs.Held.{seen}
+use Rattle.engine_view.specs.Taking.{taken_by, taken_all}
+
+-- ---- one channel
+
+-- with a push or a pop of this one
+abbrev grown : Side → Place → Access → Channel → Channel
+grown Pop at a channel = record channel { pops = channel.pops ++ at ∷ [] }
+grown Push at a channel = record channel { pushes = channel.pushes ++ push_of at a.value ∷ [] }
+
+by_is : (side : Side) (at : Place) (channels : List Channel) (a : Access) → taken_by side at channels a ≡ set channels a.channel (grown side at a (channel_at channels a.channel))
+by_is Pop at channels a = refl
+by_is Push at channels a = refl
+
+abbrev after_one : Place → List Channel → Access → Bool → List Channel
+after_one at channels a b = cond (is_taking a.kind && b) (taken_by (side_of a.kind) at channels a) channels
+
+one_length : (at : Place) (channels : List Channel) (a : Access) (b : Bool) → length (after_one at channels a b) ≡ length channels
+one_length at channels a b =
+    elim (cases_Bool (is_taking a.kind && b)) [
+      | inl e ↦ rw (e, by_is (side_of a.kind) at channels a) (length-set channels a.channel _)
+      | inr e ↦ rw e refl
+    ]
+
+-- the channel of this number behind one access
+abbrev channel_behind : Place → Access → Bool → ℕ → Channel → Channel
+channel_behind at a b c channel = cond (is_taking a.kind && b && eqb a.channel c) (grown (side_of a.kind) at a channel) channel
+
+one_channel : (at : Place) (channels : List Channel) (a : Access) (b : Bool) (c : ℕ) → a.channel < length channels
+    → channel_at (after_one at channels a b) c ≡ channel_behind at a b c (channel_at channels c)
+one_channel at channels a b c inside =
+    elim (cases_Bool (is_taking a.kind && b)) [
+      | inl e ↦
+          elim (eqb_tells a.channel c) [
+            | inl same ↦ rw (e, same.0, by_is (side_of a.kind) at channels a, ← same.1) (get_or-set_same channels a.channel _ (unused Sink) inside)
+            | inr apart ↦ rw (e, apart.0, by_is (side_of a.kind) at channels a) (get_or-set_other channels a.channel c _ (unused Sink) (λ q. apart.1 (sym q)))
+          ]
+      | inr e ↦ rw e refl
+    ]
+
+-- ---- all accesses
+
+pub all_length : (at : Place) (channels : List Channel) (xs : List Access) (bs : List Bool) → length (taken_all at channels xs bs) ≡ length channels
+all_length at channels [] bs = refl
+all_length at channels (a ∷ xs) [] = refl
+all_length at channels (a ∷ xs) (b ∷ bs) = all_length at (after_one at channels a b) xs bs ∙ one_length at channels a b
+
+-- the channel of this number behind all of them
+abbrev pub channel_after : Place → ℕ → Channel → List Access → List Bool → Channel
+channel_after at c channel [] bs = channel
+channel_after at c channel (a ∷ xs) [] = channel
+channel_after at c channel (a ∷ xs) (b ∷ bs) = channel_after at c (channel_behind at a b c channel) xs bs
+
+pub all_channel : (at : Place) (channels : List Channel) (xs : List Access) (bs : List Bool) (c : ℕ) → All (λ (a : Access). a.channel < length channels) xs
+    → channel_at (taken_all at channels xs bs) c ≡ channel_after at c (channel_at channels c) xs bs
+all_channel at channels [] bs c inside = refl
+all_channel at channels (a ∷ xs) [] c inside = refl
+all_channel at channels (a ∷ xs) (b ∷ bs) c inside =
+    let here = All-head (λ (a : Access). a.channel < length channels) a xs inside in
+    let rest = All-tail (λ (a : Access). a.channel < length channels) a xs inside in
+    let same = one_length at channels a b in
+    all_channel at (after_one at channels a b) xs bs c (λ j e l. rw same (rest j e l))
+    ∙ ap (λ (z : Channel). channel_after at c z xs bs) (one_channel at channels a b c here)
+
+-- ---- what it has more
+
+-- so many times the place
+abbrev pub copies : ℕ → Place → List Place
+copies zero at = []
+copies (suc n) at = at ∷ copies n at
+
+kind_behind : (at : Place) (a : Access) (b : Bool) (c : ℕ) (channel : Channel) → (channel_behind at a b c channel).kind ≡ channel.kind
+kind_behind at a b c channel =
+    elim (cases_Bool (is_taking a.kind && b && eqb a.channel c)) [
+      | inl e ↦ rw e (grown_kind (side_of a.kind) at a channel)
+      | inr e ↦ rw e refl
+    ]
+  where
+    grown_kind : (side : Side) (at : Place) (a : Access) (channel : Channel) → (grown side at a channel).kind ≡ channel.kind
+    grown_kind Pop at a channel = refl
+    grown_kind Push at a channel = refl
+
+pub kind_after : (at : Place) (c : ℕ) (channel : Channel) (xs : List Access) (bs : List Bool) → (channel_after at c channel xs bs).kind ≡ channel.kind
+kind_after at c channel [] bs = refl
+kind_after at c channel (a ∷ xs) [] = refl
+kind_after at c channel (a ∷ xs) (b ∷ bs) = kind_after at c (channel_behind at a b c channel) xs bs ∙ kind_behind at a b c channel
+
+-- of one access: the place once more where it takes at this side
+places_behind : (side s : Side) (t b e : Bool) (at : Place) (a : Access) (channel : Channel)
+    → places_of side (cond (t && b && e) (grown s at a channel) channel) ≡ places_of side channel ++ copies (cond (t && (b && (same_side s side && e))) 1 0) at
+places_behind Pop Pop true true true at a channel = refl
+places_behind Pop Pop true true false at a channel = sym (append-nil channel.pops)
+places_behind Pop Pop true false e at a channel = sym (append-nil channel.pops)
+places_behind Pop Pop false b e at a channel = sym (append-nil channel.pops)
+places_behind Pop Push true true true at a channel = sym (append-nil channel.pops)
+places_behind Pop Push true true false at a channel = sym (append-nil channel.pops)
+places_behind Pop Push true false e at a channel = sym (append-nil channel.pops)
+places_behind Pop Push false b e at a channel = sym (append-nil channel.pops)
+places_behind Push Pop true true true at a channel = sym (append-nil (places_of Push channel))
+places_behind Push Pop true true false at a channel = sym (append-nil (places_of Push channel))
+places_behind Push Pop true false e at a channel = sym (append-nil (places_of Push channel))
+places_behind Push Pop false b e at a channel = sym (append-nil (places_of Push channel))
+places_behind Push Push true true true at a channel = map-append (λ (p : Pushed). p.at) channel.pushes (push_of at a.value ∷ [])
+places_behind Push Push true true false at a channel = sym (append-nil (places_of Push channel))
+places_behind Push Push true false e at a channel = sym (append-nil (places_of Push channel))
+places_behind Push Push false b e at a channel = sym (append-nil (places_of Push channel))
+
+copies_more : (m n : ℕ) (at : Place) → copies m at ++ copies n at ≡ copies (m + n) at
+copies_more zero n at = ap (λ (k : ℕ). copies k at) (omega arith)
+copies_more (suc m) n at = let e : suc m + n ≡ suc (m + n) = omega arith in rw e (ap (λ (ps : List Place). at ∷ ps) (copies_more m n at))
+
+-- of all of them: as often as they take at this side, as the theory counts
+pub places_after : (side : Side) (at : Place) (c : ℕ) (channel : Channel) (xs : List Access) (bs : List Bool)
+    → places_of side (channel_after at c channel xs bs) ≡ places_of side channel ++ copies (takes_in side c (map seen xs) (bare_replies bs)) at
+places_after side at c channel [] bs = sym (append-nil (places_of side channel))
+places_after side at c channel (a ∷ xs) [] = sym (append-nil (places_of side channel))
+places_after side at c channel (a ∷ xs) (b ∷ bs) =
+    places_after side at c (channel_behind at a b c channel) xs bs
+    ∙ (ap (λ (ps : List Place). ps ++ copies (takes_in side c (map seen xs) (bare_replies bs)) at) (places_behind side (side_of a.kind) (is_taking a.kind) b (eqb a.channel c) at a channel)
+    ∙ (append_assoc (places_of side channel) _ _
+    ∙ ap (λ (ps : List Place). places_of side channel ++ ps) (copies_more _ (takes_in side c (map seen xs) (bare_replies bs)) at)))
+
+-- ---- values
+
+abbrev pub values_on : Channel → List ℕ
+values_on channel = map (λ (p : Pushed). p.value) channel.pushes
+
+values_behind : (s : Side) (t b e : Bool) (at : Place) (a : Access) (channel : Channel)
+    → values_on (cond (t && b && e) (grown s at a channel) channel) ≡ values_on channel ++ cond (t && (b && (same_side s Push && e))) (a.value ∷ []) []
+values_behind Pop true true true at a channel = sym (append-nil (values_on channel))
+values_behind Pop true true false at a channel = sym (append-nil (values_on channel))
+values_behind Pop true false e at a channel = sym (append-nil (values_on channel))
+values_behind Pop false b e at a channel = sym (append-nil (values_on channel))
+values_behind Push true true true at a channel = map-append (λ (p : Pushed). p.value) channel.pushes (push_of at a.value ∷ [])
+values_behind Push true true false at a channel = sym (append-nil (values_on channel))
+values_behind Push true false e at a channel = sym (append-nil (values_on channel))
+values_behind Push false b e at a channel = sym (append-nil (values_on channel))
+
+pub values_after : (at : Place) (c : ℕ) (channel : Channel) (xs : List Access) (bs : List Bool)
+    → values_on (channel_after at c channel xs bs) ≡ values_on channel ++ values_in c (map seen xs) (bare_replies bs)
+values_after at c channel [] bs = sym (append-nil (values_on channel))
+values_after at c channel (a ∷ xs) [] = sym (append-nil (values_on channel))
+values_after at c channel (a ∷ xs) (b ∷ bs) =
+    values_after at c (channel_behind at a b c channel) xs bs
+    ∙ (ap (λ (vs : List ℕ). vs ++ values_in c (map seen xs) (bare_replies bs)) (values_behind (side_of a.kind) (is_taking a.kind) b (eqb a.channel c) at a channel)
+    ∙ append_assoc (values_on channel) _ _)

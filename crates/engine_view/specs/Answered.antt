@@ -1,0 +1,37 @@
+-- What an Answer adds to what is held, where the outcomes were not recorded before.
+use Rattle.std.specs.Prelude.{ℕ, Bool, cond, not, ◌&&◌, List, [], ◌∷◌, ◌++◌, length, slice_set}
+use Rattle.flow_word.specs.Kinds.{is_blocking}
+use Rattle.flow_word.specs.declared.access.Access.{Access}
+use Rattle.flow_word.specs.declared.access.Kind.{Kind}
+use Rattle.query_log.specs.Logs.{Log, log_at}
+use Rattle.query_resolve.specs.Decisions.{late_outcome}
+use Rattle.engine_view.specs.Held.{Held, step_of}
+use Rattle.engine_view.specs.Taking.{taken_all}
+use Rattle.engine_view.specs.Emitted.{place_of}
+
+-- the outcome of a query by whether it is possible
+abbrev pub outcome_by : Kind → Bool → Bool
+outcome_by kind possible = cond (late_outcome kind) (not possible) possible
+
+-- the outcomes of the queries among the accesses
+abbrev pub outcomes_of : List Access → List Bool → List Bool
+outcomes_of [] flags = []
+outcomes_of (a ∷ as') [] = []
+outcomes_of (a ∷ as') (b ∷ bs) = cond (is_blocking a.kind) (outcomes_of as' bs) (outcome_by a.kind b ∷ outcomes_of as' bs)
+
+-- the queries that are done now
+abbrev pub done_late : List Access → List Bool → List Bool
+done_late [] flags = []
+done_late (a ∷ as') [] = []
+done_late (a ∷ as') (b ∷ bs) = (not (is_blocking a.kind) && b) ∷ done_late as' bs
+
+-- with so many more outcomes, all verified
+abbrev pub all_answered : Log → List Bool → Log
+all_answered log more = record { outcomes = log.outcomes ++ more; verified = length (log.outcomes ++ more) }
+
+-- with these outcomes of the module's step of this number, and its pushes and pops that they decide
+abbrev pub with_answered : Held → ℕ → ℕ → List Bool → Held
+with_answered h m k flags = record h {
+  channels = taken_all (place_of m k) h.channels (step_of h m k).accesses (done_late (step_of h m k).accesses flags);
+  logs = slice_set h.logs m (all_answered (log_at h.logs m) (outcomes_of (step_of h m k).accesses flags));
+}

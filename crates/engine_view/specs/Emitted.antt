@@ -1,0 +1,38 @@
+-- What a Run adds to what is held.
+use Rattle.std.specs.Prelude.{◌≡◌, ℕ, suc, ◌<◌, ◌≤◌, Bool, List, map, All}
+use Rattle.flow_word.specs.Kinds.{is_blocking, side_of}
+use Rattle.flow_word.specs.declared.access.Access.{Access}
+use Rattle.flow_word.specs.declared.access.Step.{Step}
+use Rattle.flow_word.specs.declared.access.Place.{Place}
+use Rattle.event_graph.specs.Lanes.{IsSoundStep, with_step}
+use Rattle.time_engine.specs.Conditions.{IsAccess}
+use Rattle.event_timing.specs.Machines.{Design, ready}
+use Rattle.event_timing.specs.Core.{core_tally}
+use Rattle.event_timing.specs.Actions.{newest}
+use Rattle.engine_view.specs.Held.{Held, emitted_of, seen, waited, core_of}
+use Rattle.engine_view.specs.Shown.{queries_before}
+use Rattle.engine_view.specs.Taking.{taken_all}
+
+-- the accesses that are done as soon as they are emitted: those that block
+abbrev pub done_at_once : List Access → List Bool
+done_at_once accesses = map (λ a. is_blocking a.kind) accesses
+
+abbrev pub place_of : ℕ → ℕ → Place
+place_of m k = record { «module» = m; step = k }
+
+-- with the step in its module's lane, and its pushes and pops in the table
+abbrev pub with_emitted : Held → ℕ → Step → Held
+with_emitted h m step = record h {
+  lanes = with_step h.lanes m step;
+  channels = taken_all (place_of m (emitted_of h m)) h.channels step.accesses (done_at_once step.accesses);
+}
+
+-- the step is the next of the module's own run, with the ordinals and the number of queries of the steps before it
+pub record IsNextStep {S : Type 0} (d : Design S) (h : Held) (m : ℕ) (step : Step) : Type 0 where
+  pub sound : IsSoundStep step
+  pub inside : All (IsAccess h.channels) step.accesses
+  pub accesses : d.accesses m (ready d m (newest d (core_of d h) m)) ≡ map seen step.accesses
+  pub gap : waited (emitted_of h m) step.gap ≡ d.quiet m (newest d (core_of d h) m)
+  pub apart : 0 < emitted_of h m → 1 ≤ step.gap
+  pub ordinals : All (λ (a : Access). a.ordinal ≡ suc (core_tally d (core_of d h) m (side_of a.kind) a.channel (emitted_of h m))) step.accesses
+  pub first_query : step.first_query ≡ queries_before h m (emitted_of h m)

@@ -1,0 +1,112 @@
+-- What an engine holds, as contracts see it, and the theory's core that is read off it.
+use Rattle.std.specs.Prelude.{ℕ, zero, suc, ◌+◌, ◌-◌, Bool, true, false, cond, not, ◌&&◌, ◌||◌, eqb, leb, ltb, List, [], ◌∷◌, length, drop, filter, get_or, slice_get, slice_index_or, Option, None, Some}
+use Rattle.flow_word.specs.Kinds.{side_of, is_blocking, is_taking}
+use Rattle.flow_word.specs.declared.access.Access.{Access}
+use Rattle.flow_word.specs.declared.access.Kind.{Kind}
+use Rattle.flow_word.specs.declared.access.Step.{Step}
+use Rattle.event_graph.specs.Lanes.{Lane, lane_at}
+use Rattle.fifo_table.specs.Channels.{Channel, channel_at, values_of}
+use Rattle.query_log.specs.Logs.{Log, log_at}
+use Rattle.query_resolve.specs.Decisions.{late_outcome}
+use Rattle.event_timing.specs.Machines.{Design, ready}
+use Rattle.event_timing.specs.Machines as theory
+use Rattle.event_timing.specs.Views.{own}
+use Rattle.event_timing.specs.Core.{Core, pops_now}
+
+-- ---- what is held
+
+-- the lanes, the channels with their pushes and pops, the logs, and whether each module's end (or spent) mark was emitted
+pub record Held : Type 0 where
+  pub lanes : List Lane
+  pub channels : List Channel
+  pub logs : List Log
+  pub over : List Bool
+
+abbrev pub no_step : Step
+no_step = record { gap = 0; accesses = []; first_query = 0 }
+
+-- a module's step of this number
+abbrev pub step_of : Held → ℕ → ℕ → Step
+step_of h m k = slice_index_or (lane_at h.lanes m).steps k no_step
+
+abbrev pub emitted_of : Held → ℕ → ℕ
+emitted_of h m = length (lane_at h.lanes m).steps
+
+-- ---- accesses
+
+-- an access as the theory sees it
+abbrev pub seen : Access → theory.Access
+seen a = record {
+  side = side_of a.kind;
+  blocks = is_blocking a.kind;
+  takes = is_taking a.kind;
+  channel = a.channel;
+  value = a.value;
+}
+
+-- ---- outcomes
+
+-- how many of the accesses are queries
+abbrev pub queries_in : List Access → ℕ
+queries_in accesses = length (filter (λ a. not (is_blocking a.kind)) accesses)
+
+-- a query was possible where its outcome is not the one of a query that is not; it counts as not possible as long as it has none
+abbrev pub possible_by : Kind → Option Bool → Bool
+possible_by kind None = false
+possible_by kind (Some outcome) = cond (late_outcome kind) (not outcome) outcome
+
+-- whether each access is done or possible, where these are the outcomes from its step's first query on
+abbrev pub flags_by : List Access → List Bool → List Bool
+flags_by [] outcomes = []
+flags_by (a ∷ as') outcomes =
+    cond (is_blocking a.kind) (true ∷ flags_by as' outcomes)
+    (possible_by a.kind (slice_get outcomes 0) ∷ flags_by as' (drop 1 outcomes))
+
+abbrev pub flags_of : Held → ℕ → ℕ → List Bool
+flags_of h m k = flags_by (step_of h m k).accesses (drop (step_of h m k).first_query (log_at h.logs m).outcomes)
+
+-- the queries of the step are among its module's first so many
+abbrev pub are_among : Step → ℕ → Bool
+are_among step n = eqb (queries_in step.accesses) 0 || leb (step.first_query + queries_in step.accesses) n
+
+-- there is the step, and so many of the module's queries are recorded, or verified, that its own are among them
+abbrev pub has_all : Held → ℕ → ℕ → ℕ → Bool
+has_all h m k n = ltb k (emitted_of h m) && are_among (step_of h m k) n
+
+-- ---- replies
+
+-- the values that the pops of a channel find, in order
+abbrev pub values_at : List Channel → ℕ → List ℕ
+values_at channels c = values_of (channel_at channels c).kind (channel_at channels c).pushes
+
+-- the replies to accesses of which these are done or possible: the n-th pop takes the n-th value
+abbrev pub replies_by : List Channel → List Access → List Bool → List theory.Reply
+replies_by channels [] flags = []
+replies_by channels (a ∷ as') [] = []
+replies_by channels (a ∷ as') (b ∷ bs) =
+    record { possible = b; front = cond (pops_now (seen a) b) (get_or (values_at channels a.channel) (a.ordinal - 1) 0) 0 }
+    ∷ replies_by channels as' bs
+
+abbrev pub replies_at : Held → ℕ → ℕ → List theory.Reply
+replies_at h m k = replies_by h.channels (step_of h m k).accesses (flags_of h m k)
+
+-- ---- the core
+
+-- the quiet clocks before a step of this gap
+abbrev pub waited : ℕ → ℕ → ℕ
+waited zero gap = gap
+waited (suc k) gap = gap - 1
+
+-- the theory's core that is held: a module's states are those of its own run on the replies
+abbrev pub core_of : {S : Type 0} → Design S → Held → Core S
+core_of {S} d h = record {
+  emitted = λ m. emitted_of h m;
+  over = λ m. slice_index_or h.over m false;
+  state = λ m k. cond (ltb k (emitted_of h m)) (ready d m (own d m (replies_at h m) k)) (d.opening m);
+  wait = λ m k. waited k (step_of h m k).gap;
+  flags = λ m k. flags_of h m k;
+  answered = λ m k. has_all h m k (length (log_at h.logs m).outcomes);
+  verified = λ m k. has_all h m k (log_at h.logs m).verified;
+  timed = λ m. length (lane_at h.lanes m).cycles;
+  cycle = λ m k. slice_index_or (lane_at h.lanes m).cycles k 0;
+}

@@ -1,0 +1,19 @@
+-- The pushes and pops of a step's accesses, as the table takes them.
+use Rattle.std.specs.Prelude.{Bool, true, false, cond, ◌&&◌, List, [], ◌∷◌}
+use Rattle.flow_word.specs.Kinds.{is_taking, side_of}
+use Rattle.flow_word.specs.declared.access.Side.{Side}
+use Rattle.flow_word.specs.declared.access.Side.TheVariants.{Pop, Push}
+use Rattle.flow_word.specs.declared.access.Access.{Access}
+use Rattle.flow_word.specs.declared.access.Place.{Place}
+use Rattle.fifo_table.specs.Channels.{Channel, with_push, with_pop}
+
+-- an access at its side of its channel
+abbrev pub taken_by : Side → Place → List Channel → Access → List Channel
+taken_by Pop at channels a = with_pop channels a.channel at
+taken_by Push at channels a = with_push channels a.channel at a.value
+
+-- the accesses of the step at a place, in order, as far as they are done
+abbrev pub taken_all : Place → List Channel → List Access → List Bool → List Channel
+taken_all at channels [] done = channels
+taken_all at channels (a ∷ as') [] = channels
+taken_all at channels (a ∷ as') (b ∷ bs) = taken_all at (cond (is_taking a.kind && b) (taken_by (side_of a.kind) at channels a) channels) as' bs

@@ -44,6 +44,28 @@ pub no_flow_behind : (e : Statement) (earlier : List Statement) (v : ℕ) → ma
 unfolding may_follow
 no_flow_behind e earlier v h = no_flow_after e h
 
+-- so the version stays
+pub same_version : (e : Statement) (earlier : List Statement) (s : Statement) → may_follow (e ∷ earlier) s ≡ true
+    → version (s ∷ e ∷ earlier) ≡ version (e ∷ earlier)
+same_version e earlier (Flow v) h = absurd (no_flow_behind e earlier v h)
+same_version e earlier (Source n w) h = refl
+same_version e earlier (Sink n w) h = refl
+same_version e earlier (Fifo n w depth delay) h = refl
+same_version e earlier (Module n) h = refl
+same_version e earlier (Reg n w) h = refl
+same_version e earlier (Mem n w l) h = refl
+same_version e earlier (Block n l) h = refl
+same_version e earlier (Loop n ii l r) h = refl
+same_version e earlier (Temp n w) h = refl
+same_version e earlier (At off guard o) h = refl
+same_version e earlier (Goto b) h = refl
+same_version e earlier (Branch r b c) h = refl
+same_version e earlier Stop h = refl
+same_version e earlier (Input n values) h = refl
+same_version e earlier (Limits c o) h = refl
+same_version e earlier (Depth n d) h = refl
+same_version e earlier End h = refl
+
 not_behind : (x : Statement) (xs : List Statement) (v : ℕ) → may_follow (reverse (x ∷ xs)) (Flow v) ≡ true → ⊥
 not_behind x xs v h = go (reverse xs) (subst (λ (e : List Statement). may_follow e (Flow v) ≡ true) (reverse-append (x ∷ []) xs) h)
   where

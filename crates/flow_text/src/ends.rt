@@ -9,7 +9,7 @@ ghost use Rattle.name_tables.specs.TableTests.{reading_by};
 
 use flow_design::limits::{EDITS, FIFO_DEPTH};
 use flow_design::{Name, Statement};
-use flow_grammar::{Code, LineFail, Place, is_identifier, is_numeral, number_in};
+use flow_grammar::{Code, LineFail, NEWEST, Place, is_identifier, is_numeral, number_in};
 use name_tables::Tables;
 use std::alloc::Global;
 
@@ -22,7 +22,7 @@ fn new_flow<'a>(tables: &mut Tables<'a>, version: &[u8]) -> Result<Statement, Li
     if !tables.place.takes_flow() || !is_numeral(version) {
         return Err(LineFail::Fault(Code::Syntax));
     }
-    let Some(version) = number_in(version, 1, 2) else {
+    let Some(version) = number_in(version, 1, NEWEST) else {
         return Err(LineFail::Fault(Code::BadNumber));
     };
     tables.add_flow(version);

@@ -16,7 +16,7 @@ use Rattle.flow_grammar.specs.Text.{StandsBehind, IsInOrder, IsNoStatement, Brea
 use Rattle.flow_grammar.proofs.ReadAgain.{written_is_read}
 use Rattle.flow_grammar.proofs.Written.{read_is_written}
 
-no_tokens : (v : ℕ) (s : Statement) → statement_of v [] ≡ Some s → ⊥
+pub no_tokens : (v : ℕ) (s : Statement) → statement_of v [] ≡ Some s → ⊥
 unfolding statement_of
 no_tokens v s e = cc
 

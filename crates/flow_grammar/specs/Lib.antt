@@ -13,3 +13,4 @@ pub mod Spelling
 pub mod Text
 pub mod Tokens
 pub mod Trees
+pub mod Versions

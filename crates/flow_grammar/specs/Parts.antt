@@ -8,6 +8,7 @@ use Rattle.flow_design.specs.declared.expr.Op.TheVariants as op
 use Rattle.flow_design.specs.declared.expr.Expr.{Expr, fold-Expr}
 use Rattle.flow_design.specs.declared.expr.Expr.TheOpen.{Expr-F}
 use Rattle.flow_design.specs.declared.expr.UnOp.TheVariants.{Not}
+use Rattle.flow_grammar.specs.declared.version.TheConstants.{NEWEST}
 use Rattle.flow_grammar.specs.declared.keyword.Keyword.TheVariants as keyword
 use Rattle.flow_grammar.specs.declared.keyword.Verb.TheVariants as verb
 use Rattle.flow_grammar.specs.declared.operator.Operator.TheVariants.{One, Two, Extend, Choose}
@@ -112,7 +113,7 @@ fifo_parts n w depth delay = Word (keyword_word keyword.Fifo) ∷ New ChannelNam
 -- ---- statements
 
 abbrev pub parts : Statement → List Part
-parts (Flow n) = Word (keyword_word keyword.Flow) ∷ Num 1 2 n ∷ []
+parts (Flow n) = Word (keyword_word keyword.Flow) ∷ Num 1 NEWEST n ∷ []
 parts (Source n w) = Word (keyword_word keyword.Source) ∷ New ChannelName n ∷ width w ∷ []
 parts (Sink n w) = Word (keyword_word keyword.Sink) ∷ New ChannelName n ∷ width w ∷ []
 parts (Fifo n w depth delay) = fifo_parts n w depth delay

@@ -1,5 +1,5 @@
 //! Names that stand already.
-ghost use Rattle.std.specs.Prelude.{◌≡◌, false, [], ◌∷◌, length, OnOk, OnErr};
+ghost use Rattle.std.specs.Prelude.{◌≡◌, false, [], ◌∷◌, nat_lt, length, OnOk, OnErr};
 ghost use Rattle.flow_grammar.specs.Before.{is_among};
 
 use flow_word::OutOfMemory;
@@ -32,11 +32,11 @@ impl<'a> Names<'a> {
         }
     }
 
-    /// How many names there are.
-    pub fn len(&self) -> usize
-        ensures { result ≡ length self.now }
+    /// Whether there are less than so many names.
+    pub fn has_room(&self, most: u64) -> bool
+        ensures { result ≡ nat_lt (length self.now) most }
     {
-        self.names.len()
+        (self.names.len() as u64) < most
     }
 
     /// Whether a name is among them.

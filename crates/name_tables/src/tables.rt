@@ -8,7 +8,7 @@ ghost use Rattle.name_tables.specs.TableTests as tests;
 ghost use Rattle.name_tables.specs.TablesOf as given;
 
 use crate::names::Names;
-use flow_grammar::{Known, Place};
+use flow_grammar::{Known, Place, has_delays};
 use flow_word::OutOfMemory;
 use std::alloc::Global;
 
@@ -103,7 +103,7 @@ impl<'a> Tables<'a> {
     pub fn has_delays(&self) -> bool
         ensures { result ≡ before.has_delays self.now.version }
     {
-        self.version == 2
+        has_delays(self.version)
     }
 
     /// Declares the version of the language.

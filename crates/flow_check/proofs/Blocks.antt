@@ -1,6 +1,8 @@
 -- What the rules of reading give of the blocks of a module.
 use Rattle.std.proofs.Common.{◌≡◌, ℕ, ◌+◌, ◌<◌, ◌≤◌, List, [], ◌∷◌, ◌++◌, length, map, is_some, IfSome, Bool, true, false, cond, refl, sym, ap, subst, ◌∙◌, arith, length-append}
 use Rattle.std.specs.List.{All, filter_map}
+use Rattle.flow_word.specs.declared.access.Port.{Port}
+use Rattle.flow_design.specs.declared.limits.TheConstants.{TEMPS, OPERATIONS}
 use Rattle.flow_design.specs.declared.session.Statement.{Statement}
 use Rattle.flow_design.specs.declared.session.Statement.TheVariants as s
 use Rattle.flow_design.specs.declared.design.Timed.{Timed}
@@ -8,7 +10,7 @@ use Rattle.flow_design.specs.declared.design.Next.{Next}
 use Rattle.flow_design.specs.declared.design.Next.TheVariants as next
 use Rattle.flow_design.specs.declared.design.Block.{Block}
 use Rattle.flow_design.specs.declared.design.Module.{Module}
-use Rattle.flow_design.specs.Operations.{places_of, expressions_of, memory_of, end_of, End}
+use Rattle.flow_design.specs.Operations.{places_of, expressions_of, memory_of, port_of}
 use Rattle.flow_design.specs.StaticRules.{IsExpressionSound}
 use Rattle.flow_grammar.specs.Before.{temp_name, is_among}
 use Rattle.session_plan.specs.Names.{Name, Scope}
@@ -22,7 +24,8 @@ use Rattle.flow_check.proofs.Following.{Keeps, Follow, Plain, plain_body, follow
 use Rattle.flow_check.proofs.Numbers.{all_none, all_cons}
 use Rattle.flow_check.proofs.Bodies.{temp_same, found_same, Hears, hears_more, hears_body, plain_later, TimedRead, ops_read, next_read, temps_before, few_temps, few_operations, len_read, kind_read}
 
-hears_own : (scope : Scope) (names : List Name) (earlier rest : List Statement) → Hears scope earlier rest → Hears (record scope { temps = names }) earlier rest
+hears_own : (scope : Scope) (names : List Name) (earlier rest : List Statement) → Hears scope earlier rest
+    → Hears (record scope { temps = names }) earlier rest
 hears_own scope names earlier rest h = record {
   channels = h.channels;
   channels_later = h.channels_later;
@@ -34,26 +37,32 @@ hears_own scope names earlier rest h = record {
 
 -- so many temps have names as have widths
 temps_long : (body : List Statement) → length (filter_map (declared sort.Temps) body) ≡ length (filter_map (declared_width sort.Temps) body)
-temps_long body = length_found (declared sort.Temps) body ∙ tally_same _ temps_before by body ∙ sym (length_found (declared_width sort.Temps) body)
+temps_long body = length_found (declared sort.Temps) body ∙ tally_same _ temps_before by body
+    ∙ sym (length_found (declared_width sort.Temps) body)
   where
     by : (x : Statement) → is_some (declared sort.Temps x) ≡ temps_before x
     by (s.Temp n w) = refl
     by x = refl
 
-module _ (count : ℕ) (m : Module) (scope : Scope) (chans : length scope.channels ≡ count) (regs : length scope.registers ≡ length m.registers) (mems : length scope.memories ≡ length m.memories) where
-  timed_read : (names : List Name) (b : Block) → length names ≡ length b.temps → (t : Timed) → TimedRead (record scope { temps = names }) t → IsTimedRead count m b t
+module _ (count : ℕ) (m : Module) (scope : Scope) (chans : length scope.channels ≡ count)
+    (regs : length scope.registers ≡ length m.registers) (mems : length scope.memories ≡ length m.memories) where
+  timed_read : (names : List Name) (b : Block) → length names ≡ length b.temps → (t : Timed)
+      → TimedRead (record scope { temps = names }) t → IsTimedRead count m b t
   timed_read names b long t h =
-      let total : length (scope.registers ++ names) ≡ length m.registers + length b.temps = length-append scope.registers names ∙ omega arith in
+      let total : length (scope.registers ++ names) ≡ length m.registers + length b.temps = length-append scope.registers names
+      ∙ omega arith in
       record {
         guard = subst (λ (n : ℕ). IfSome t.guard (λ g. g < n)) total h.0;
         places = subst (λ (n : ℕ). All (λ x. x < n) (places_of t.op)) total h.1.at;
         expressions = subst (λ (n : ℕ). All (IsExpressionSound n) (expressions_of t.op)) total h.1.expressions;
         memory = subst (λ (n : ℕ). IfSome (memory_of t.op) (λ k. k < n)) mems h.1.memory;
-        channel = subst (λ (n : ℕ). IfSome (end_of t.op) (λ (e : End). e.1 < n)) chans h.1.channel;
+        channel = subst (λ (n : ℕ). IfSome (port_of t.op) (λ (a : Port). a.channel < n)) chans h.1.channel;
       }
 
-  block_read : (earlier : List Statement) (head : Statement) (rest : List Statement) → begins level.Blocks head ≡ true → begins level.Modules head ≡ false → Keeps earlier head
-      → Follow (head ∷ earlier) rest → Plain level.Modules rest → Hears scope earlier (head ∷ rest) → IsBlockRead count m (block scope (head, body_of level.Blocks rest))
+  block_read : (earlier : List Statement) (head : Statement) (rest : List Statement) → begins level.Blocks head ≡ true
+      → begins level.Modules head ≡ false → Keeps earlier head
+      → Follow (head ∷ earlier) rest → Plain level.Modules rest → Hears scope earlier (head ∷ rest)
+      → IsBlockRead count m (block scope (head, body_of level.Blocks rest))
   unfolding block
   block_read earlier head rest b plain keeps follow pm hears =
       let body : List Statement = body_of level.Blocks rest in
@@ -61,21 +70,26 @@ module _ (count : ℕ) (m : Module) (scope : Scope) (chans : length scope.channe
       let names : List Name = filter_map (declared sort.Temps) body in
       let own : Scope = record scope { temps = names } in
       let nothing : inside level.Blocks e0 ≡ [] = nothing_inside level.Blocks head b earlier in
-      let heard : Hears own e0 body = hears_own scope names e0 body (hears_body scope e0 level.Blocks rest (hears_more scope earlier head rest plain hears)) in
+      let heard : Hears own e0 body = hears_own scope names e0 body
+      (hears_body scope e0 level.Blocks rest (hears_more scope earlier head rest plain hears)) in
       let follows : Follow e0 body = follow_body level.Blocks e0 rest follow in
       let no_modules : Plain level.Modules body = plain_later level.Modules level.Blocks rest pm in
       let no_blocks : Plain level.Blocks body = plain_body level.Blocks rest in
-      let start : Heard temp_name names (inside level.Blocks e0) = subst (Heard temp_name names) (sym nothing) (heard_none temp_name names) in
-      let later : Heard temp_name names body = λ n h. sym (ap (λ (l : List Name). is_among l n) (found_same temp_name (declared sort.Temps) temp_same body)) ∙ h in
+      let start : Heard temp_name names (inside level.Blocks e0)
+      = subst (Heard temp_name names) (sym nothing) (heard_none temp_name names) in
+      let later : Heard temp_name names body
+      = λ n h. sym (ap (λ (l : List Name). is_among l n) (found_same temp_name (declared sort.Temps) temp_same body)) ∙ h in
       let ops : List Timed = filter_map (timed own) body in
       let all : All (TimedRead own) ops = ops_read own e0 body follows no_modules no_blocks heard start later in
       let no_temps : tally temps_before (inside level.Blocks e0) ≡ 0 = ap (tally temps_before) nothing in
       let no_ops : tally (λ y. is_some (timed own y)) (inside level.Blocks e0) ≡ 0 = ap (tally (λ y. is_some (timed own y))) nothing in
-      let few : tally temps_before (inside level.Blocks e0) + tally temps_before body ≤ 64
-      = within (inside level.Blocks) temps_before 64 few_temps e0 body follows (grows level.Blocks body no_blocks) (omega arith) in
-      let fewer : tally (λ y. is_some (timed own y)) (inside level.Blocks e0) + tally (λ y. is_some (timed own y)) body ≤ 1024
-      = within (inside level.Blocks) (λ y. is_some (timed own y)) 1024 (few_operations own) e0 body follows (grows level.Blocks body no_blocks) (omega arith) in
-      let long : length (filter_map (declared_width sort.Temps) body) ≡ tally temps_before body = length_found (declared_width sort.Temps) body in
+      let few : tally temps_before (inside level.Blocks e0) + tally temps_before body ≤ TEMPS
+      = within (inside level.Blocks) temps_before TEMPS few_temps e0 body follows (grows level.Blocks body no_blocks) (omega arith) in
+      let fewer : tally (λ y. is_some (timed own y)) (inside level.Blocks e0) + tally (λ y. is_some (timed own y)) body ≤ OPERATIONS
+      = within (inside level.Blocks) (λ y. is_some (timed own y)) OPERATIONS (few_operations own) e0 body follows
+      (grows level.Blocks body no_blocks) (omega arith) in
+      let long : length (filter_map (declared_width sort.Temps) body) ≡ tally temps_before body
+      = length_found (declared_width sort.Temps) body in
       let many : length ops ≡ tally (λ y. is_some (timed own y)) body = length_found (timed own) body in
       let after : Next = first_or next.Stop (filter_map (terminator own) body) in
       let leads : IsNextRead (length scope.registers) after = next_read own e0 body follows no_modules heard in
@@ -97,6 +111,8 @@ module _ (count : ℕ) (m : Module) (scope : Scope) (chans : length scope.channe
       by (begins level.Blocks x) refl (blocks_read (x ∷ earlier) body follow.1 pm.1 (hears_more scope earlier x body pm.0 hears))
     where
       by : (b : Bool) → begins level.Blocks x ≡ b → All (IsBlockRead count m) (map (block scope) (sections level.Blocks body))
-          → All (IsBlockRead count m) (map (block scope) (cond b ((x, body_of level.Blocks body) ∷ sections level.Blocks body) (sections level.Blocks body)))
-      by true e later = all_cons (IsBlockRead count m) _ (map (block scope) (sections level.Blocks body)) (block_read earlier x body e pm.0 follow.0 follow.1 pm.1 hears) later
+          → All (IsBlockRead count m) (map (block scope)
+          (cond b ((x, body_of level.Blocks body) ∷ sections level.Blocks body) (sections level.Blocks body)))
+      by true e later = all_cons (IsBlockRead count m) _ (map (block scope) (sections level.Blocks body))
+          (block_read earlier x body e pm.0 follow.0 follow.1 pm.1 hears) later
       by false e later = later

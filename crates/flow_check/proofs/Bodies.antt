@@ -2,8 +2,9 @@
 use Rattle.std.proofs.Common.{◌≡◌, ℕ, suc, ◌+◌, ◌<◌, ◌≤◌, List, [], ◌∷◌, ◌++◌, length, count_by, Option, None, Some, is_some, IfSome, option_map, Bool, true, false, not, cond, refl, sym, ap, subst, ◌∙◌, arith, true≢false}
 use Rattle.std.specs.Prelude.{◌&&◌, nat_lt, nat_le}
 use Rattle.std.specs.List.{All, list_all, filter_map, cons_option}
-use Rattle.std.proofs.lemmas.Bool.{and_parts, ltb-true, leb-true}
+use Rattle.std.proofs.lemmas.Bool.{and_parts, ltb-true}
 use Rattle.std.proofs.lemmas.List.Sums.{sum_by-cons}
+use Rattle.flow_design.specs.declared.limits.TheConstants.{TEMPS, OPERATIONS, BLOCK_CLOCKS}
 use Rattle.flow_design.specs.declared.expr.Op.{Op}
 use Rattle.flow_design.specs.declared.session.Statement.{Statement}
 use Rattle.flow_design.specs.declared.session.Statement.TheVariants as s
@@ -22,7 +23,7 @@ use Rattle.session_plan.specs.declared.section.Level.TheVariants as level
 use Rattle.session_plan.specs.declared.section.Sort.TheVariants as sort
 use Rattle.flow_check.specs.Read.{IsKindRead, IsNextRead}
 use Rattle.flow_check.proofs.Following.{Keeps, Follow, Plain, body_first, inside, no_beginning, tally, length_found, tally_same, number_below, Within, within_both, Heard, heard_none, heard_more, heard_later}
-use Rattle.flow_check.proofs.Numbers.{all_none, all_cons, OpRead, op_read}
+use Rattle.flow_check.proofs.Numbers.{in_range, all_none, all_cons, OpRead, op_read}
 
 -- ---- the same names and counts, by either function
 
@@ -41,12 +42,13 @@ temp_same x = refl
 pub channel_same : (x : Statement) → channel_name x ≡ declared sort.Channels x
 channel_same (s.Source n w) = refl
 channel_same (s.Sink n w) = refl
-channel_same (s.Fifo n w d) = refl
+channel_same (s.Fifo n w d l) = refl
 channel_same x = refl
 
 pub found_same : {X Y : Type 0} (f g : X → Option Y) → ((x : X) → f x ≡ g x) → (xs : List X) → filter_map f xs ≡ filter_map g xs
 found_same f g h [] = refl
-found_same {X} {Y} f g h (x ∷ xs) = ap (λ (o : Option Y). cons_option o (filter_map f xs)) (h x) ∙ ap (cons_option (g x)) (found_same f g h xs)
+found_same {X} {Y} f g h (x ∷ xs) = ap (λ (o : Option Y). cons_option o (filter_map f xs)) (h x)
+    ∙ ap (cons_option (g x)) (found_same f g h xs)
 
 pub count_tally : {X : Type 0} (p : X → Bool) (xs : List X) → count_by p xs ≡ tally p xs
 count_tally p [] = refl
@@ -58,9 +60,12 @@ count_tally {X} p (x ∷ xs) = sum_by-cons (λ y. cond (p y) 1 0) x xs ∙ by (p
 
 -- ---- the names that are heard at a statement
 
-pub heard_body : (f : Statement → Option Name) (names : List Name) (level : Level) (rest : List Statement) → Heard f names rest → Heard f names (body_of level rest)
+pub heard_body : (f : Statement → Option Name) (names : List Name) (level : Level) (rest : List Statement) → Heard f names rest
+    → Heard f names (body_of level rest)
 heard_body f names level [] h = h
-heard_body f names level (x ∷ rest) h = subst (Heard f names) (sym (body_first level x rest)) (by (begins level x) (heard_body f names level rest (heard_later f names x rest h)))
+heard_body f names level (x ∷ rest) h
+    = subst (Heard f names) (sym (body_first level x rest))
+    (by (begins level x) (heard_body f names level rest (heard_later f names x rest h)))
   where
     by : (b : Bool) → Heard f names (body_of level rest) → Heard f names (cond (not b) (x ∷ body_of level rest) [])
     by true later = heard_none f names
@@ -81,13 +86,16 @@ hears_more scope earlier x rest plain h =
     record {
       channels = heard_more channel_name scope.channels x earlier rest h.channels h.channels_later;
       channels_later = heard_later channel_name scope.channels x rest h.channels_later;
-      registers = subst (Heard register_name scope.registers) (sym e) (heard_more register_name scope.registers x (inside level.Modules earlier) rest h.registers h.registers_later);
+      registers = subst (Heard register_name scope.registers) (sym e)
+          (heard_more register_name scope.registers x (inside level.Modules earlier) rest h.registers h.registers_later);
       registers_later = heard_later register_name scope.registers x rest h.registers_later;
-      memories = subst (Heard memory_name scope.memories) (sym e) (heard_more memory_name scope.memories x (inside level.Modules earlier) rest h.memories h.memories_later);
+      memories = subst (Heard memory_name scope.memories) (sym e)
+          (heard_more memory_name scope.memories x (inside level.Modules earlier) rest h.memories h.memories_later);
       memories_later = heard_later memory_name scope.memories x rest h.memories_later;
     }
 
-pub hears_body : (scope : Scope) (earlier : List Statement) (level : Level) (rest : List Statement) → Hears scope earlier rest → Hears scope earlier (body_of level rest)
+pub hears_body : (scope : Scope) (earlier : List Statement) (level : Level) (rest : List Statement) → Hears scope earlier rest
+    → Hears scope earlier (body_of level rest)
 hears_body scope earlier level rest h = record {
   channels = h.channels;
   channels_later = heard_body channel_name scope.channels level rest h.channels_later;
@@ -108,38 +116,50 @@ plain_later one two (x ∷ rest) h = subst (Plain one) (sym (body_first two x re
 -- ---- operations of a body
 
 abbrev pub TimedRead : Scope → Timed → Type 0
-TimedRead own t = IfSome t.guard (λ g. g < length (places own)) × OpRead (length (places own)) (length own.memories) (length own.channels) t.op
+TimedRead own t = IfSome t.guard (λ g. g < length (places own))
+    × OpRead (length (places own)) (length own.memories) (length own.channels) t.op
 
-at_read : (earlier : List Statement) (own : Scope) → Within (registers earlier ++ temps earlier) (places own) → Within (memories earlier) own.memories → Within (channels earlier) own.channels
+at_read : (earlier : List Statement) (own : Scope) → Within (registers earlier ++ temps earlier) (places own)
+    → Within (memories earlier) own.memories → Within (channels earlier) own.channels
     → (offset : ℕ) (guard : Option Name) (o : Op Name) → Keeps earlier (s.At offset guard o)
     → TimedRead own (record { offset = offset; guard = option_map (number_of (places own)) guard; op = operation own o })
 at_read earlier own v m c offset None o keeps =
-    let small = and_parts (nat_lt (operations earlier) 1024) (has_small_trees o) keeps.room in
+    let small = and_parts (nat_lt (operations earlier) OPERATIONS) (has_small_trees o) keeps.room in
     (tt, op_read earlier own v m c o keeps.known small.1)
 at_read earlier own v m c offset (Some r) o keeps =
-    let small = and_parts (nat_lt (operations earlier) 1024) (has_small_trees o) keeps.room in
+    let small = and_parts (nat_lt (operations earlier) OPERATIONS) (has_small_trees o) keeps.room in
     let both = and_parts (is_among (registers earlier ++ temps earlier) r) (list_all (is_known earlier) (op_parts o)) keeps.known in
     (number_below (places own) r (v r both.0), op_read earlier own v m c o both.1 small.1)
 
-timed_more : (earlier : List Statement) (own : Scope) → Within (registers earlier ++ temps earlier) (places own) → Within (memories earlier) own.memories → Within (channels earlier) own.channels
-    → (x : Statement) → Keeps earlier x → (later : List Timed) → All (TimedRead own) later → All (TimedRead own) (cons_option (timed own x) later)
-timed_more earlier own v m c (s.At offset guard o) keeps later h = all_cons (TimedRead own) _ later (at_read earlier own v m c offset guard o keeps) h
+timed_more : (earlier : List Statement) (own : Scope) → Within (registers earlier ++ temps earlier) (places own)
+    → Within (memories earlier) own.memories → Within (channels earlier) own.channels
+    → (x : Statement) → Keeps earlier x → (later : List Timed) → All (TimedRead own) later
+    → All (TimedRead own) (cons_option (timed own x) later)
+timed_more earlier own v m c (s.At offset guard o) keeps later h
+    = all_cons (TimedRead own) _ later (at_read earlier own v m c offset guard o keeps) h
 timed_more earlier own v m c x keeps later h = h
 
-pub ops_read : (own : Scope) (earlier body : List Statement) → Follow earlier body → Plain level.Modules body → Plain level.Blocks body → Hears own earlier body
-    → Heard temp_name own.temps (inside level.Blocks earlier) → Heard temp_name own.temps body → All (TimedRead own) (filter_map (timed own) body)
+pub ops_read : (own : Scope) (earlier body : List Statement) → Follow earlier body → Plain level.Modules body → Plain level.Blocks body
+    → Hears own earlier body
+    → Heard temp_name own.temps (inside level.Blocks earlier) → Heard temp_name own.temps body
+    → All (TimedRead own) (filter_map (timed own) body)
 ops_read own earlier [] follow pm pb hears t tl = all_none (TimedRead own)
 ops_read own earlier (x ∷ body) follow pm pb hears t tl =
     let t' : Heard temp_name own.temps (inside level.Blocks (x ∷ earlier))
-    = subst (Heard temp_name own.temps) (sym (no_beginning level.Blocks x pb.0 earlier)) (heard_more temp_name own.temps x (inside level.Blocks earlier) body t tl) in
+    = subst (Heard temp_name own.temps) (sym (no_beginning level.Blocks x pb.0 earlier))
+    (heard_more temp_name own.temps x (inside level.Blocks earlier) body t tl) in
     let later : All (TimedRead own) (filter_map (timed own) body)
-    = ops_read own (x ∷ earlier) body follow.1 pm.1 pb.1 (hears_more own earlier x body pm.0 hears) t' (heard_later temp_name own.temps x body tl) in
-    timed_more earlier own (within_both (registers earlier) (temps earlier) own.registers own.temps hears.registers t) hears.memories hears.channels x follow.0 (filter_map (timed own) body) later
+    = ops_read own (x ∷ earlier) body follow.1 pm.1 pb.1 (hears_more own earlier x body pm.0 hears) t'
+    (heard_later temp_name own.temps x body tl) in
+    timed_more earlier own (within_both (registers earlier) (temps earlier) own.registers own.temps hears.registers t) hears.memories
+    hears.channels x follow.0 (filter_map (timed own) body) later
 
 -- ---- the terminator
 
-next_more : (own : Scope) (earlier : List Statement) (x : Statement) → Keeps earlier x → Within (registers earlier) own.registers → (later : List Next)
-    → IsNextRead (length own.registers) (first_or next.Stop later) → IsNextRead (length own.registers) (first_or next.Stop (cons_option (terminator own x) later))
+next_more : (own : Scope) (earlier : List Statement) (x : Statement) → Keeps earlier x → Within (registers earlier) own.registers
+    → (later : List Next)
+    → IsNextRead (length own.registers) (first_or next.Stop later)
+    → IsNextRead (length own.registers) (first_or next.Stop (cons_option (terminator own x) later))
 next_more own earlier (s.Goto b) keeps heard later h = tt
 next_more own earlier (s.Branch r b c) keeps heard later h =
     let known = and_parts (is_among (registers earlier) r) true keeps.known in
@@ -151,18 +171,22 @@ pub next_read : (own : Scope) (earlier body : List Statement) → Follow earlier
     → IsNextRead (length own.registers) (first_or next.Stop (filter_map (terminator own) body))
 next_read own earlier [] follow pm hears = tt
 next_read own earlier (x ∷ body) follow pm hears =
-    next_more own earlier x follow.0 hears.registers (filter_map (terminator own) body) (next_read own (x ∷ earlier) body follow.1 pm.1 (hears_more own earlier x body pm.0 hears))
+    next_more own earlier x follow.0 hears.registers (filter_map (terminator own) body)
+    (next_read own (x ∷ earlier) body follow.1 pm.1 (hears_more own earlier x body pm.0 hears))
 
 -- ---- blocks
 
 abbrev pub temps_before : (x : Statement) → Bool
 temps_before x = is_some (declared_width sort.Temps x)
 
-pub few_temps : (earlier : List Statement) (x : Statement) → Keeps earlier x → temps_before x ≡ true → tally temps_before (inside level.Blocks earlier) < 64
+pub few_temps : (earlier : List Statement) (x : Statement) → Keeps earlier x → temps_before x ≡ true
+    → tally temps_before (inside level.Blocks earlier) < TEMPS
 few_temps earlier (s.Temp n w) keeps h =
-    let e : length (temps earlier) ≡ tally (λ y. is_some (temp_name y)) (inside level.Blocks earlier) = length_found temp_name (inside level.Blocks earlier) in
-    let f : tally (λ y. is_some (temp_name y)) (inside level.Blocks earlier) ≡ tally temps_before (inside level.Blocks earlier) = tally_same _ temps_before by (inside level.Blocks earlier) in
-    let g : length (temps earlier) < 64 = ltb-true (length (temps earlier)) 64 keeps.room in
+    let e : length (temps earlier) ≡ tally (λ y. is_some (temp_name y)) (inside level.Blocks earlier)
+    = length_found temp_name (inside level.Blocks earlier) in
+    let f : tally (λ y. is_some (temp_name y)) (inside level.Blocks earlier) ≡ tally temps_before (inside level.Blocks earlier)
+    = tally_same _ temps_before by (inside level.Blocks earlier) in
+    let g : length (temps earlier) < TEMPS = ltb-true (length (temps earlier)) TEMPS keeps.room in
     omega arith
   where
     by : (y : Statement) → is_some (temp_name y) ≡ temps_before y
@@ -170,12 +194,15 @@ few_temps earlier (s.Temp n w) keeps h =
     by y = refl
 few_temps earlier x keeps h = absurd (true≢false (sym h))
 
-pub few_operations : (own : Scope) (earlier : List Statement) (x : Statement) → Keeps earlier x → is_some (timed own x) ≡ true → tally (λ y. is_some (timed own y)) (inside level.Blocks earlier) < 1024
+pub few_operations : (own : Scope) (earlier : List Statement) (x : Statement) → Keeps earlier x → is_some (timed own x) ≡ true
+    → tally (λ y. is_some (timed own y)) (inside level.Blocks earlier) < OPERATIONS
 few_operations own earlier (s.At offset guard o) keeps h =
-    let room = and_parts (nat_lt (operations earlier) 1024) (has_small_trees o) keeps.room in
-    let e : operations earlier ≡ tally is_operation (inside level.Blocks earlier) = count_tally is_operation (inside level.Blocks earlier) in
-    let f : tally is_operation (inside level.Blocks earlier) ≡ tally (λ y. is_some (timed own y)) (inside level.Blocks earlier) = tally_same is_operation _ by (inside level.Blocks earlier) in
-    let g : operations earlier < 1024 = ltb-true (operations earlier) 1024 room.0 in
+    let room = and_parts (nat_lt (operations earlier) OPERATIONS) (has_small_trees o) keeps.room in
+    let e : operations earlier ≡ tally is_operation (inside level.Blocks earlier)
+    = count_tally is_operation (inside level.Blocks earlier) in
+    let f : tally is_operation (inside level.Blocks earlier) ≡ tally (λ y. is_some (timed own y)) (inside level.Blocks earlier)
+    = tally_same is_operation _ by (inside level.Blocks earlier) in
+    let g : operations earlier < OPERATIONS = ltb-true (operations earlier) OPERATIONS room.0 in
     omega arith
   where
     by : (y : Statement) → is_operation y ≡ is_some (timed own y)
@@ -183,22 +210,22 @@ few_operations own earlier (s.At offset guard o) keeps h =
     by y = refl
 few_operations own earlier x keeps h = absurd (true≢false (sym h))
 
-pub len_read : (earlier : List Statement) (head : Statement) → begins level.Blocks head ≡ true → Keeps earlier head → (1 ≤ len_of head) × (len_of head ≤ 1000000000000)
+pub len_read : (earlier : List Statement) (head : Statement) → begins level.Blocks head ≡ true → Keeps earlier head → (1 ≤ len_of head)
+    × (len_of head ≤ BLOCK_CLOCKS)
 len_read earlier (s.Block n len) b keeps =
-    let range = and_parts (nat_le 1 len && nat_le len 1000000000000) true keeps.ranged in
-    let parts = and_parts (nat_le 1 len) (nat_le len 1000000000000) range.0 in
-    (leb-true 1 len parts.0, leb-true len 1000000000000 parts.1)
+    let range = and_parts (nat_le 1 len && nat_le len BLOCK_CLOCKS) true keeps.ranged in
+    in_range 1 len BLOCK_CLOCKS range.0
 len_read earlier (s.Loop n ii len again) b keeps =
-    let first = and_parts (nat_le 1 ii && nat_le ii 1000000000000) ((nat_le 1 len && nat_le len 1000000000000) && true) keeps.ranged in
-    let range = and_parts (nat_le 1 len && nat_le len 1000000000000) true first.1 in
-    let parts = and_parts (nat_le 1 len) (nat_le len 1000000000000) range.0 in
-    (leb-true 1 len parts.0, leb-true len 1000000000000 parts.1)
+    let first = and_parts (nat_le 1 ii && nat_le ii BLOCK_CLOCKS) ((nat_le 1 len && nat_le len BLOCK_CLOCKS) && true) keeps.ranged in
+    let range = and_parts (nat_le 1 len && nat_le len BLOCK_CLOCKS) true first.1 in
+    in_range 1 len BLOCK_CLOCKS range.0
 len_read earlier x b keeps = absurd (true≢false (sym b))
 
-pub kind_read : (scope : Scope) (earlier : List Statement) (head : Statement) → Keeps earlier head → Within (registers earlier) scope.registers → IsKindRead (length scope.registers) (kind_of scope head)
+pub kind_read : (scope : Scope) (earlier : List Statement) (head : Statement) → Keeps earlier head
+    → Within (registers earlier) scope.registers → IsKindRead (length scope.registers) (kind_of scope head)
 kind_read scope earlier (s.Loop n ii len again) keeps heard =
-    let first = and_parts (nat_le 1 ii && nat_le ii 1000000000000) ((nat_le 1 len && nat_le len 1000000000000) && true) keeps.ranged in
-    let parts = and_parts (nat_le 1 ii) (nat_le ii 1000000000000) first.0 in
+    let first = and_parts (nat_le 1 ii && nat_le ii BLOCK_CLOCKS) ((nat_le 1 len && nat_le len BLOCK_CLOCKS) && true) keeps.ranged in
+    let interval = in_range 1 ii BLOCK_CLOCKS first.0 in
     let known = and_parts (is_among (registers earlier) again) true keeps.known in
-    (leb-true 1 ii parts.0, number_below scope.registers again (heard again known.0))
+    (interval.0, number_below scope.registers again (heard again known.0))
 kind_read scope earlier x keeps heard = tt

@@ -3,9 +3,10 @@ use Rattle.std.proofs.Common.{◌≡◌, ℕ, suc, ◌+◌, ◌<◌, ◌≤◌, 
 use Rattle.std.specs.Prelude.{◌&&◌, ◌||◌, nat_le}
 use Rattle.std.specs.Str.{bytes_eq}
 use Rattle.std.specs.List.{All, filter_map, cons_option}
-use Rattle.std.proofs.lemmas.Bool.{and_parts, leb-true, not-true}
+use Rattle.std.proofs.lemmas.Bool.{and_parts, not-true}
 use Rattle.std.proofs.lemmas.List.{length-map}
 use Rattle.std.proofs.lemmas.Slice.Eq.{bytes_eq-Decides}
+use Rattle.flow_design.specs.declared.limits.TheConstants.{FIFO_DEPTH}
 use Rattle.flow_design.specs.declared.session.Statement.{Statement}
 use Rattle.flow_design.specs.declared.session.Statement.TheVariants as s
 use Rattle.flow_design.specs.declared.design.ChannelKind.{ChannelKind}
@@ -20,7 +21,7 @@ use Rattle.session_plan.specs.Plans.{channel, depth_in, edit, channels_of, chann
 use Rattle.session_plan.specs.Sections.{declared}
 use Rattle.session_plan.specs.declared.section.Sort.TheVariants as sort
 use Rattle.flow_check.proofs.Following.{Keeps, Follow, all_follow, Heard, heard_none, heard_more, heard_later}
-use Rattle.flow_check.proofs.Numbers.{all_none, all_cons}
+use Rattle.flow_check.proofs.Numbers.{in_range, all_none, all_cons}
 
 abbrev name : Channel → Name
 name c = c.name
@@ -36,9 +37,11 @@ kind_placed : (n : Name) (cs : List Channel) (k : ChannelKind) → first_kind n 
 kind_placed n [] k h = absurd cc
 kind_placed n (c ∷ cs) k h = by (bytes_eq n c.name) (kind_placed n cs k) h
   where
-    by : (b : Bool) → (first_kind n cs ≡ Some k → (i : ℕ) × (place_of (map name cs) n ≡ Some i) × (i < length cs) × ((get_or cs i no_channel).kind ≡ k))
+    by : (b : Bool) → (first_kind n cs ≡ Some k → (i : ℕ) × (place_of (map name cs) n ≡ Some i) × (i < length cs)
+        × ((get_or cs i no_channel).kind ≡ k))
         → cond b (Some c.kind) (first_kind n cs) ≡ Some k
-        → (i : ℕ) × (cond b (Some 0) (option_map (λ j. j + 1) (place_of (map name cs) n)) ≡ Some i) × (i < suc (length cs)) × ((get_or (c ∷ cs) i no_channel).kind ≡ k)
+        → (i : ℕ) × (cond b (Some 0) (option_map (λ j. j + 1) (place_of (map name cs) n)) ≡ Some i) × (i < suc (length cs))
+        × ((get_or (c ∷ cs) i no_channel).kind ≡ k)
     by true later q = (0, refl, omega arith, cc)
     by false later q =
         let p = later q in
@@ -53,7 +56,7 @@ names_are (x ∷ rest) = by x (names_are rest)
         → cons_option (declared sort.Channels y) (channel_names rest) ≡ map name (cons_option (channel y) (channels_of rest))
     by (s.Source n w) e = ap (λ (l : List Name). n ∷ l) e
     by (s.Sink n w) e = ap (λ (l : List Name). n ∷ l) e
-    by (s.Fifo n w d) e = ap (λ (l : List Name). n ∷ l) e
+    by (s.Fifo n w d l) e = ap (λ (l : List Name). n ∷ l) e
     by y e = e
 
 -- ---- a name stands for one channel
@@ -67,61 +70,71 @@ still n (Some m) names h = by (bytes_eq n m)
     by false = h
 
 -- no FIFO behind has the name of a channel before
-no_later : (n : Name) (earlier rest : List Statement) → Follow earlier rest → is_among (channels earlier) n ≡ true → is_among (filter_map fifo_name rest) n ≡ false
+no_later : (n : Name) (earlier rest : List Statement) → Follow earlier rest → is_among (channels earlier) n ≡ true
+    → is_among (filter_map fifo_name rest) n ≡ false
 no_later n earlier [] follow h = refl
-no_later n earlier (x ∷ rest) follow h = by x follow.0 (no_later n (x ∷ earlier) rest follow.1 (still n (channel_name x) (channels earlier) h))
+no_later n earlier (x ∷ rest) follow h
+    = by x follow.0 (no_later n (x ∷ earlier) rest follow.1 (still n (channel_name x) (channels earlier) h))
   where
-    by : (y : Statement) → Keeps earlier y → is_among (filter_map fifo_name rest) n ≡ false → is_among (cons_option (fifo_name y) (filter_map fifo_name rest)) n ≡ false
-    by (s.Fifo m w d) keeps later = other (bytes_eq n m) refl
+    by : (y : Statement) → Keeps earlier y → is_among (filter_map fifo_name rest) n ≡ false
+        → is_among (cons_option (fifo_name y) (filter_map fifo_name rest)) n ≡ false
+    by (s.Fifo m w d l) keeps later = other (bytes_eq n m) refl
       where
         other : (b : Bool) → bytes_eq n m ≡ b → b || is_among (filter_map fifo_name rest) n ≡ false
         other false e = later
         other true e =
-            let fresh : is_among (channels earlier) m ≡ false = not-true (is_among (channels earlier) m) (and_parts (not (is_among (channels earlier) m)) true keeps.fresh).0 in
+            let fresh : is_among (channels earlier) m ≡ false
+            = not-true (is_among (channels earlier) m) (and_parts (not (is_among (channels earlier) m)) true keeps.fresh).0 in
             absurd (true≢false (sym h ∙ ap (is_among (channels earlier)) ((bytes_eq-Decides n m).0 e) ∙ fresh))
     by y keeps later = later
 
 -- the first channel of a FIFO's name is a FIFO
 fifo_first : (n : Name) (earlier rest : List Statement) → Follow earlier rest → is_among (filter_map fifo_name rest) n ≡ true
-    → (d : ℕ) × (first_kind n (filter_map channel rest) ≡ Some (kind.Fifo d))
+    → (d l : ℕ) × (first_kind n (filter_map channel rest) ≡ Some (kind.Fifo d l))
 fifo_first n earlier [] follow h = absurd (true≢false (sym h))
 fifo_first n earlier (x ∷ rest) follow h = by x (λ q. no_later n (x ∷ earlier) rest follow.1 q) (fifo_first n (x ∷ earlier) rest follow.1) h
   where
-    by : (y : Statement) → (is_among (cons_option (channel_name y) (channels earlier)) n ≡ true → is_among (filter_map fifo_name rest) n ≡ false)
-        → (is_among (filter_map fifo_name rest) n ≡ true → (d : ℕ) × (first_kind n (filter_map channel rest) ≡ Some (kind.Fifo d)))
+    by : (y : Statement) → (is_among (cons_option (channel_name y) (channels earlier)) n ≡ true
+        → is_among (filter_map fifo_name rest) n ≡ false)
+        → (is_among (filter_map fifo_name rest) n ≡ true → (d l : ℕ) × (first_kind n (filter_map channel rest) ≡ Some (kind.Fifo d l)))
         → is_among (cons_option (fifo_name y) (filter_map fifo_name rest)) n ≡ true
-        → (d : ℕ) × (first_kind n (cons_option (channel y) (filter_map channel rest)) ≡ Some (kind.Fifo d))
-    by (s.Fifo m w d) none later q = one (bytes_eq n m) q
+        → (d l : ℕ) × (first_kind n (cons_option (channel y) (filter_map channel rest)) ≡ Some (kind.Fifo d l))
+    by (s.Fifo m w d l) none later q = one (bytes_eq n m) q
       where
-        one : (b : Bool) → b || is_among (filter_map fifo_name rest) n ≡ true → (e : ℕ) × (cond b (Some (kind.Fifo d)) (first_kind n (filter_map channel rest)) ≡ Some (kind.Fifo e))
-        one true p = (d, refl)
+        one : (b : Bool) → b || is_among (filter_map fifo_name rest) n ≡ true → (e k : ℕ)
+            × (cond b (Some (kind.Fifo d l)) (first_kind n (filter_map channel rest)) ≡ Some (kind.Fifo e k))
+        one true p = (d, l, refl)
         one false p = later p
     by (s.Source m w) none later q = one (bytes_eq n m) none
       where
         one : (b : Bool) → (b || is_among (channels earlier) n ≡ true → is_among (filter_map fifo_name rest) n ≡ false)
-            → (e : ℕ) × (cond b (Some kind.Source) (first_kind n (filter_map channel rest)) ≡ Some (kind.Fifo e))
+            → (e k : ℕ) × (cond b (Some kind.Source) (first_kind n (filter_map channel rest)) ≡ Some (kind.Fifo e k))
         one true p = absurd (true≢false (sym q ∙ p refl))
         one false p = later q
     by (s.Sink m w) none later q = one (bytes_eq n m) none
       where
         one : (b : Bool) → (b || is_among (channels earlier) n ≡ true → is_among (filter_map fifo_name rest) n ≡ false)
-            → (e : ℕ) × (cond b (Some kind.Sink) (first_kind n (filter_map channel rest)) ≡ Some (kind.Fifo e))
+            → (e k : ℕ) × (cond b (Some kind.Sink) (first_kind n (filter_map channel rest)) ≡ Some (kind.Fifo e k))
         one true p = absurd (true≢false (sym q ∙ p refl))
         one false p = later q
     by y none later q = later q
 
 -- ---- edits
 
-edit_fits : (statements : List Statement) → Follow [] statements → (n : Name) (depth : ℕ) → is_among (filter_map fifo_name statements) n ≡ true → 1 ≤ depth → depth ≤ 1000000
+edit_fits : (statements : List Statement) → Follow [] statements → (n : Name) (depth : ℕ)
+    → is_among (filter_map fifo_name statements) n ≡ true → 1 ≤ depth → depth ≤ FIFO_DEPTH
     → EditFits (plan_of statements) (record { channel = number_of (channel_names statements) n; depth = depth })
 unfolding plan_of
 edit_fits statements follow n depth there least most =
     let found = fifo_first n [] statements follow there in
-    let placed = kind_placed n (channels_of statements) (kind.Fifo found.0) found.1 in
-    let e : place_of (channel_names statements) n ≡ Some placed.0 = ap (λ (l : List Name). place_of l n) (names_are statements) ∙ placed.1 in
-    let number : number_of (channel_names statements) n ≡ placed.0 = ap (λ (o : Option ℕ). unwrap_or o (length (channel_names statements))) e in
+    let placed = kind_placed n (channels_of statements) (kind.Fifo found.0 found.1) found.2 in
+    let e : place_of (channel_names statements) n ≡ Some placed.0 = ap (λ (l : List Name). place_of l n) (names_are statements)
+    ∙ placed.1 in
+    let number : number_of (channel_names statements) n ≡ placed.0
+    = ap (λ (o : Option ℕ). unwrap_or o (length (channel_names statements))) e in
     let below : placed.0 < length (channels_of statements) = placed.2 in
-    let long : length (map (λ (c : Channel). depth_in c.kind) (channels_of statements)) ≡ length (channels_of statements) = simp length-map in
+    let long : length (map (λ (c : Channel). depth_in c.kind) (channels_of statements)) ≡ length (channels_of statements)
+    = simp length-map in
     record {
       fifo = ap (λ (i : ℕ). is_fifo (get_or (channels_of statements) i no_channel).kind) number ∙ ap is_fifo placed.3;
       entry = omega arith;
@@ -129,22 +142,28 @@ edit_fits statements follow n depth there least most =
       most = most;
     }
 
-edit_more : (statements earlier : List Statement) → Follow [] statements → Heard fifo_name (filter_map fifo_name statements) earlier → (x : Statement) → Keeps earlier x
-    → (later : List Edit) → All (EditFits (plan_of statements)) later → All (EditFits (plan_of statements)) (cons_option (edit (channel_names statements) x) later)
+edit_more : (statements earlier : List Statement) → Follow [] statements → Heard fifo_name (filter_map fifo_name statements) earlier
+    → (x : Statement) → Keeps earlier x
+    → (later : List Edit) → All (EditFits (plan_of statements)) later
+    → All (EditFits (plan_of statements)) (cons_option (edit (channel_names statements) x) later)
 edit_more statements earlier follow heard (s.Depth n depth) keeps later h =
     let known = and_parts (is_among (fifos earlier) n) true keeps.known in
-    let range = and_parts (nat_le 1 depth && nat_le depth 1000000) true keeps.ranged in
-    let parts = and_parts (nat_le 1 depth) (nat_le depth 1000000) range.0 in
+    let range = and_parts (nat_le 1 depth && nat_le depth FIFO_DEPTH) true keeps.ranged in
+    let within = in_range 1 depth FIFO_DEPTH range.0 in
     all_cons (EditFits (plan_of statements)) _ later
-    (edit_fits statements follow n depth (heard n known.0) (leb-true 1 depth parts.0) (leb-true depth 1000000 parts.1)) h
+    (edit_fits statements follow n depth (heard n known.0) within.0 within.1) h
 edit_more statements earlier follow heard x keeps later h = h
 
-edits_from : (statements earlier rest : List Statement) → Follow [] statements → Follow earlier rest → Heard fifo_name (filter_map fifo_name statements) earlier
-    → Heard fifo_name (filter_map fifo_name statements) rest → All (EditFits (plan_of statements)) (filter_map (edit (channel_names statements)) rest)
+edits_from : (statements earlier rest : List Statement) → Follow [] statements → Follow earlier rest
+    → Heard fifo_name (filter_map fifo_name statements) earlier
+    → Heard fifo_name (filter_map fifo_name statements) rest
+    → All (EditFits (plan_of statements)) (filter_map (edit (channel_names statements)) rest)
 edits_from statements earlier [] whole follow heard later = all_none (EditFits (plan_of statements))
 edits_from statements earlier (x ∷ rest) whole follow heard later =
     edit_more statements earlier whole heard x follow.0 (filter_map (edit (channel_names statements)) rest)
-    (edits_from statements (x ∷ earlier) rest whole follow.1 (heard_more fifo_name (filter_map fifo_name statements) x earlier rest heard later) (heard_later fifo_name (filter_map fifo_name statements) x rest later))
+    (edits_from statements (x ∷ earlier) rest whole follow.1
+    (heard_more fifo_name (filter_map fifo_name statements) x earlier rest heard later)
+    (heard_later fifo_name (filter_map fifo_name statements) x rest later))
 
 pub edits_fit : (statements : List Statement) → KeepsReadingRules statements → All (EditFits (plan_of statements)) (edits_of statements)
 unfolding edits_of

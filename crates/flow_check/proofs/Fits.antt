@@ -1,14 +1,17 @@
 -- A plan that was read, and breaks no rule of checking, is one that the engine takes.
-use Rattle.std.proofs.Common.{◌≡◌, ℕ, zero, suc, ◌+◌, ◌*◌, ◌%◌, ◌^◌, ◌<◌, List, [], ◌∷◌, ◌++◌, length, take, get_or, count_by, Option, None, Some, IfSome, option_map, Bool, true, false, cond, refl, sym, ap, ◌∙◌, arith, true≢false, append_assoc, append-nil}
-use Rattle.std.specs.Prelude.{◌&&◌, ◌==◌, nat_lt, nat_le, IsTrue}
-use Rattle.std.specs.List.{AllPairs, list_any, enumerate_from}
+use Rattle.std.proofs.Common.{◌≡◌, ℕ, zero, suc, ◌+◌, ◌*◌, ◌%◌, ◌<◌, List, [], ◌∷◌, ◌++◌, length, take, get_or, Option, None, Some, IfSome, option_map, Bool, true, false, cond, refl, sym, ap, ◌∙◌, arith, true≢false, append_assoc, append-nil}
+use Rattle.std.specs.Prelude.{◌&&◌, ◌==◌, nat_eq, nat_lt, nat_le, IsTrue}
+use Rattle.std.specs.List.{AllPairs, enumerate_from}
 use Rattle.std.proofs.Math.Nat.{mod-eq_of_lt}
 use Rattle.std.proofs.lemmas.Bool.{and_parts, ltb-true, leb-true, eqb-true, eq-eqb, not-false}
 use Rattle.std.proofs.lemmas.List.{get_or-take, length-take}
 use Rattle.std.proofs.lemmas.List.Folds.{list_any_at}
 use Rattle.std.proofs.lemmas.List.FromFn.{get_or-enumerate_from, length-enumerate_from}
-use Rattle.flow_design.specs.declared.expr.Op.{Op}
-use Rattle.flow_design.specs.declared.expr.Op.TheVariants as op
+use Rattle.flow_word.specs.declared.access.Side.{Side}
+use Rattle.flow_word.specs.declared.access.Side.TheVariants.{Pop, Push}
+use Rattle.flow_word.specs.Kinds.{same_side}
+use Rattle.flow_word.specs.declared.access.Port.{Port}
+use Rattle.flow_design.specs.declared.limits.TheConstants.{LIVE_ITERATIONS, CYCLES, COUNTED_OPERATIONS}
 use Rattle.flow_design.specs.declared.design.BlockKind.{BlockKind}
 use Rattle.flow_design.specs.declared.design.BlockKind.TheVariants.{Plain, Loop}
 use Rattle.flow_design.specs.declared.design.Next.{Next}
@@ -18,21 +21,22 @@ use Rattle.flow_design.specs.declared.design.Block.{Block}
 use Rattle.flow_design.specs.declared.design.Module.{Module}
 use Rattle.flow_design.specs.declared.plan.Plan.{Plan}
 use Rattle.flow_design.specs.Module.{interval, interval_of}
-use Rattle.flow_design.specs.Operations.{End, end_of, used_end}
+use Rattle.flow_design.specs.Operations.{port_of}
 use Rattle.flow_design.specs.Plans.{no_channel, kind_at}
-use Rattle.flow_design.specs.StaticRules.{same_end, is_end, uses, users_wanted, IsTimedSound, IsKindSound, IsNextSound, Clashes, IsBlockSound, IsModuleSound, IsChannelSound, FitsEngine}
+use Rattle.flow_design.specs.StaticRules.{same_port, uses, IsTimedSound, IsKindSound, IsNextSound, Clashes, IsBlockSound, IsModuleSound, IsChannelSound, FitsEngine}
 use Rattle.flow_grammar.specs.declared.fault.Code.{Code}
 use Rattle.flow_grammar.specs.declared.fault.Code.TheVariants as code
 use Rattle.flow_check.specs.declared.item.Spot.{Spot}
 use Rattle.flow_check.specs.declared.item.Spot.TheVariants.{Head, Operation, Terminator}
 use Rattle.flow_check.specs.declared.item.Item.{Item}
 use Rattle.flow_check.specs.First.{sooner, first_in, first_behind, first_for, or_later, place_where}
-use Rattle.flow_check.specs.Rules.{leads_out, breaks_limits, lacks_ends, has_ends, phase, slot, same_slot, is_slot, takes_again, clashes, is_bad_loop, is_too_late, tested_end, lacks_end, is_on_wrong_side, spot, spot_in, in_module, broken_by, checking_fault}
+use Rattle.flow_check.specs.Rules.{leads_out, breaks_limits, lacks_users, has_users, is_served, phase, slot, same_slot, is_slot, takes_again, clashes, is_bad_loop, is_too_late, lacks_port, is_on_wrong_side, spot, spot_in, in_module, broken_by, checking_fault}
 use Rattle.flow_check.specs.Read.{IsTimedRead, IsKindRead, IsNextRead, IsBlockRead, IsPlanRead}
 
 -- ---- where nothing is found
 
-pub none_for : {A B : Type 0} (f : A → Option B) (x : A) (xs : List A) → first_for f (x ∷ xs) ≡ None → (f x ≡ None) × (first_for f xs ≡ None)
+pub none_for : {A B : Type 0} (f : A → Option B) (x : A) (xs : List A) → first_for f (x ∷ xs) ≡ None → (f x ≡ None)
+    × (first_for f xs ≡ None)
 none_for {A} {B} f x xs h = by (f x) refl h
   where
     by : (o : Option B) → f x ≡ o → or_later x o (first_for f xs) ≡ None → (f x ≡ None) × (first_for f xs ≡ None)
@@ -44,18 +48,21 @@ none_mapped f None h = refl
 none_mapped f (Some x) h = absurd cc
 
 -- every item gives nothing
-pub none_in : {A B : Type 0} (f : A → Option B) (xs : List A) → first_in f xs ≡ None → (k : ℕ) (d : A) → k < length xs → f (get_or xs k d) ≡ None
+pub none_in : {A B : Type 0} (f : A → Option B) (xs : List A) → first_in f xs ≡ None → (k : ℕ) (d : A) → k < length xs
+    → f (get_or xs k d) ≡ None
 none_in f [] h k d l = absurd (omega arith)
 none_in {A} {B} f (x ∷ xs) h k d l = by (f x) refl h (none_in f xs) k l
   where
-    by : (o : Option B) → f x ≡ o → sooner o (first_in f xs) ≡ None → (first_in f xs ≡ None → (k : ℕ) (d : A) → k < length xs → f (get_or xs k d) ≡ None)
+    by : (o : Option B) → f x ≡ o → sooner o (first_in f xs) ≡ None
+        → (first_in f xs ≡ None → (k : ℕ) (d : A) → k < length xs → f (get_or xs k d) ≡ None)
         → (k : ℕ) → k < suc (length xs) → f (get_or (x ∷ xs) k d) ≡ None
     by (Some y) e q later k l = absurd cc
     by None e q later zero l = e
     by None e q later (suc k) l = later (none_mapped (λ p. (p.0 + 1, p.1)) (first_in f xs) q) k d (omega arith)
 
 -- no item passes
-pub none_where : {A : Type 0} (p : A → Bool) (xs : List A) → place_where p xs ≡ None → (k : ℕ) (d : A) → k < length xs → p (get_or xs k d) ≡ false
+pub none_where : {A : Type 0} (p : A → Bool) (xs : List A) → place_where p xs ≡ None → (k : ℕ) (d : A) → k < length xs
+    → p (get_or xs k d) ≡ false
 none_where p [] h k d l = absurd (omega arith)
 none_where {A} p (x ∷ xs) h k d l = by (p x) refl h (none_where p xs) k l
   where
@@ -73,7 +80,8 @@ none_behind fails before [] h k d l = absurd (omega arith)
 none_behind {A} fails before (x ∷ xs) h k d l = by (fails before x) refl h (none_behind fails (before ++ x ∷ []) xs) k l
   where
     by : (b : Bool) → fails before x ≡ b → cond b (Some 0) (option_map (λ k. k + 1) (first_behind fails (before ++ x ∷ []) xs)) ≡ None
-        → (first_behind fails (before ++ x ∷ []) xs ≡ None → (k : ℕ) (d : A) → k < length xs → fails ((before ++ x ∷ []) ++ take k xs) (get_or xs k d) ≡ false)
+        → (first_behind fails (before ++ x ∷ []) xs ≡ None → (k : ℕ) (d : A) → k < length xs
+        → fails ((before ++ x ∷ []) ++ take k xs) (get_or xs k d) ≡ false)
         → (k : ℕ) → k < suc (length xs) → fails (before ++ take k (x ∷ xs)) (get_or (x ∷ xs) k d) ≡ false
     by true e q later k l = absurd cc
     by false e q later zero l = ap (λ (l : List A). fails l x) (append-nil before) ∙ e
@@ -86,40 +94,31 @@ not_when : {A : Type 0} (b : Bool) (x : A) → cond b (Some x) None ≡ None →
 not_when true x h = absurd cc
 not_when false x h = refl
 
--- ---- ends
+-- ---- ports
 
-same_end_itself : (e : End) → same_end e e ≡ true
-same_end_itself (true, f) = eq-eqb f f refl
-same_end_itself (false, f) = eq-eqb f f refl
+same_port_itself : (a : Port) → same_port a a ≡ true
+same_port_itself a = by a.side
+  where
+    by : (s : Side) → same_side s s && nat_eq a.channel a.channel ≡ true
+    by Pop = eq-eqb a.channel a.channel refl
+    by Push = eq-eqb a.channel a.channel refl
 
--- a module uses the end that its operation uses
-uses_own : (m : Module) (k i : ℕ) (db : Block) (dt : Timed) (e : End) → k < length m.blocks → i < length (get_or m.blocks k db).ops
-    → used_end (get_or (get_or m.blocks k db).ops i dt).op ≡ Some e → uses e m ≡ true
-uses_own m k i db dt e block there is =
-    list_any_at (λ b. list_any (λ t. is_end e (used_end t.op)) b.ops) m.blocks k db block
-    (list_any_at (λ t. is_end e (used_end t.op)) (get_or m.blocks k db).ops i dt there (ap (is_end e) is ∙ same_end_itself e))
-
--- the end at which an operation stands is used by its module
-side_of : (m : Module) (o : Op ℕ) → ((e : End) → used_end o ≡ Some e → uses e m ≡ true) → lacks_end m (tested_end o) ≡ false → IfSome (end_of o) (λ e. IsTrue (uses e m))
-side_of m (op.Set x e) used tested = tt
-side_of m (op.Load x n e) used tested = tt
-side_of m (op.Store n e a) used tested = tt
-side_of m (op.Read f x) used tested = used (true, f) refl
-side_of m (op.Write f e) used tested = used (false, f) refl
-side_of m (op.TryRead f x ok) used tested = used (true, f) refl
-side_of m (op.TryWrite f ok e) used tested = used (false, f) refl
-side_of m (op.Empty f x) used tested = not-false (uses (true, f) m) tested
-side_of m (op.Full f x) used tested = not-false (uses (false, f) m) tested
+side_kept : (m : Module) (a : Option Port) → lacks_port m a ≡ false → IfSome a (λ p. IsTrue (uses p m))
+side_kept m None h = tt
+side_kept m (Some p) h = not-false (uses p m) h
 
 -- ---- blocks
 
-kind_sound : (registers len : ℕ) (kind : BlockKind) → IsKindRead registers kind → is_bad_loop len kind ≡ false → IsKindSound registers len kind
+kind_sound : (registers len : ℕ) (kind : BlockKind) → IsKindRead registers kind → is_bad_loop len kind ≡ false
+    → IsKindSound registers len kind
 kind_sound registers len Plain read h = tt
 kind_sound registers len (Loop ii again) read h =
-    let parts = and_parts (nat_le ii len) (nat_le len (64 * ii)) (not-false (nat_le ii len && nat_le len (64 * ii)) h) in
-    record { interval = read.0; least = leb-true ii len parts.0; most = leb-true len (64 * ii) parts.1; register = read.1 }
+    let parts = and_parts (nat_le ii len) (nat_le len (LIVE_ITERATIONS * ii))
+    (not-false (nat_le ii len && nat_le len (LIVE_ITERATIONS * ii)) h) in
+    record { interval = read.0; least = leb-true ii len parts.0; most = leb-true len (LIVE_ITERATIONS * ii) parts.1; register = read.1 }
 
-next_sound : (registers blocks : ℕ) (next : Next) → IsNextRead registers next → leads_out blocks next ≡ false → IsNextSound registers blocks next
+next_sound : (registers blocks : ℕ) (next : Next) → IsNextRead registers next → leads_out blocks next ≡ false
+    → IsNextSound registers blocks next
 next_sound registers blocks (Goto n) read h = ltb-true n blocks (not-false (nat_lt n blocks) h)
 next_sound registers blocks (Branch r n o) read h =
     let parts = and_parts (nat_lt n blocks) (nat_lt o blocks) (not-false (nat_lt n blocks && nat_lt o blocks) h) in
@@ -127,38 +126,45 @@ next_sound registers blocks (Branch r n o) read h =
 next_sound registers blocks Stop read h = tt
 
 -- offsets that are equal modulo the interval are equal phases
-same_phase : (len : ℕ) (kind : BlockKind) (a b : ℕ) → a < len → b < len → a % interval_of kind len ≡ b % interval_of kind len → phase kind a ≡ phase kind b
+same_phase : (len : ℕ) (kind : BlockKind) (a b : ℕ) → a < len → b < len → a % interval_of kind len ≡ b % interval_of kind len
+    → phase kind a ≡ phase kind b
 same_phase len Plain a b below above h = sym (mod-eq_of_lt below) ∙ h ∙ mod-eq_of_lt above
 same_phase len (Loop ii again) a b below above h = h
 
-apart : (b : Block) → first_behind (clashes b.kind) [] b.ops ≡ None → ((k : ℕ) (d : Timed) → k < length b.ops → (get_or b.ops k d).offset < b.len)
+apart : (b : Block) → first_behind (clashes b.kind) [] b.ops ≡ None
+    → ((k : ℕ) (d : Timed) → k < length b.ops → (get_or b.ops k d).offset < b.len)
     → AllPairs (λ t u. ¬ Clashes (interval b) t u) b.ops
 apart b h early i j d before there clash =
     let t : Timed = get_or b.ops i d in
     let u : Timed = get_or b.ops j d in
     let free : takes_again b.kind (take j b.ops) (slot b.kind u) ≡ false = none_behind (clashes b.kind) [] b.ops h j d there in
-    let first : slot b.kind t ≡ Some (clash.end, phase b.kind t.offset) = ap (option_map (λ e. (e, phase b.kind t.offset))) clash.first in
-    let second : slot b.kind u ≡ Some (clash.end, phase b.kind u.offset) = ap (option_map (λ e. (e, phase b.kind u.offset))) clash.second in
-    let phases : phase b.kind u.offset ≡ phase b.kind t.offset = sym (same_phase b.len b.kind t.offset u.offset (early i d (omega arith)) (early j d there) clash.offsets) in
-    let same : same_slot (clash.end, phase b.kind u.offset) (clash.end, phase b.kind t.offset) ≡ true
-    = ap (λ (x : Bool). x && (phase b.kind u.offset == phase b.kind t.offset)) (same_end_itself clash.end) ∙ eq-eqb _ _ phases in
-    let at_first : is_slot (clash.end, phase b.kind u.offset) (slot b.kind (get_or (take j b.ops) i d)) ≡ true
-    = ap (λ (x : Timed). is_slot (clash.end, phase b.kind u.offset) (slot b.kind x)) (get_or-take j b.ops i d before)
-    ∙ ap (is_slot (clash.end, phase b.kind u.offset)) first ∙ same in
-    let taken : takes_again b.kind (take j b.ops) (Some (clash.end, phase b.kind u.offset)) ≡ true
-    = list_any_at (λ x. is_slot (clash.end, phase b.kind u.offset) (slot b.kind x)) (take j b.ops) i d (rw length-take (omega arith)) at_first in
+    let first : slot b.kind t ≡ Some (clash.port, phase b.kind t.offset) = ap (option_map (λ a. (a, phase b.kind t.offset))) clash.first in
+    let second : slot b.kind u ≡ Some (clash.port, phase b.kind u.offset)
+    = ap (option_map (λ a. (a, phase b.kind u.offset))) clash.second in
+    let phases : phase b.kind u.offset ≡ phase b.kind t.offset
+    = sym (same_phase b.len b.kind t.offset u.offset (early i d (omega arith)) (early j d there) clash.offsets) in
+    let same : same_slot (clash.port, phase b.kind u.offset) (clash.port, phase b.kind t.offset) ≡ true
+    = ap (λ (x : Bool). x && (phase b.kind u.offset == phase b.kind t.offset)) (same_port_itself clash.port) ∙ eq-eqb _ _ phases in
+    let at_first : is_slot (clash.port, phase b.kind u.offset) (slot b.kind (get_or (take j b.ops) i d)) ≡ true
+    = ap (λ (x : Timed). is_slot (clash.port, phase b.kind u.offset) (slot b.kind x)) (get_or-take j b.ops i d before)
+    ∙ ap (is_slot (clash.port, phase b.kind u.offset)) first ∙ same in
+    let taken : takes_again b.kind (take j b.ops) (Some (clash.port, phase b.kind u.offset)) ≡ true
+    = list_any_at (λ x. is_slot (clash.port, phase b.kind u.offset) (slot b.kind x)) (take j b.ops) i d
+    (rw length-take (omega arith)) at_first in
     true≢false (sym taken ∙ sym (ap (takes_again b.kind (take j b.ops)) second) ∙ free)
 
 -- ---- modules and channels
 
 module _ (plan : Plan) (read : IsPlanRead plan) (faultless : (rule : Code) → first_in (spot_in rule) plan.design.modules ≡ None) where
-  none_at : (rule : Code) (m : ℕ) (dm : Module) → m < length plan.design.modules → (b : ℕ) (db : Block) → b < length (get_or plan.design.modules m dm).blocks
+  none_at : (rule : Code) (m : ℕ) (dm : Module) → m < length plan.design.modules → (b : ℕ) (db : Block)
+      → b < length (get_or plan.design.modules m dm).blocks
       → spot rule (get_or plan.design.modules m dm) (get_or (get_or plan.design.modules m dm).blocks b db) ≡ None
   none_at rule m dm lm b db lb =
       none_in (spot rule (get_or plan.design.modules m dm)) (get_or plan.design.modules m dm).blocks
       (none_in (spot_in rule) plan.design.modules (faultless rule) m dm lm) b db lb
 
-  timed_sound : (m : ℕ) (dm : Module) (lm : m < length plan.design.modules) (b : ℕ) (db : Block) (lb : b < length (get_or plan.design.modules m dm).blocks)
+  timed_sound : (m : ℕ) (dm : Module) (lm : m < length plan.design.modules) (b : ℕ) (db : Block)
+      (lb : b < length (get_or plan.design.modules m dm).blocks)
       → (i : ℕ) (d : Timed) → i < length (get_or (get_or plan.design.modules m dm).blocks b db).ops
       → IsTimedSound (length plan.design.channels) (get_or plan.design.modules m dm) (get_or (get_or plan.design.modules m dm).blocks b db)
       (get_or (get_or (get_or plan.design.modules m dm).blocks b db).ops i d)
@@ -179,11 +185,12 @@ module _ (plan : Plan) (read : IsPlanRead plan) (faultless : (rule : Code) → f
           expressions = was.expressions;
           memory = was.memory;
           channel = was.channel;
-          side = side_of own t.op (λ e is. uses_own own b i db d e lb there is) right;
+          side = side_kept own (port_of t.op) right;
         };
       }
 
-  block_sound : (m : ℕ) (dm : Module) (lm : m < length plan.design.modules) (b : ℕ) (db : Block) (lb : b < length (get_or plan.design.modules m dm).blocks)
+  block_sound : (m : ℕ) (dm : Module) (lm : m < length plan.design.modules) (b : ℕ) (db : Block)
+      (lb : b < length (get_or plan.design.modules m dm).blocks)
       → IsBlockSound (length plan.design.channels) (get_or plan.design.modules m dm) (get_or (get_or plan.design.modules m dm).blocks b db)
   block_sound m dm lm b db lb =
       let own : Module = get_or plan.design.modules m dm in
@@ -192,15 +199,19 @@ module _ (plan : Plan) (read : IsPlanRead plan) (faultless : (rule : Code) → f
       record {
         least = was.least;
         most = was.most;
-        kind = kind_sound (length own.registers) block.len block.kind was.kind (not_when (is_bad_loop block.len block.kind) Head (none_at code.BadLoop m dm lm b db lb));
+        kind = kind_sound (length own.registers) block.len block.kind was.kind
+            (not_when (is_bad_loop block.len block.kind) Head (none_at code.BadLoop m dm lm b db lb));
         temps = was.temps;
         count = was.count;
         operations = λ i d there. timed_sound m dm lm b db lb i d there;
-        apart = apart block (none_mapped Operation _ (none_at code.PortClash m dm lm b db lb)) (λ i d there. (timed_sound m dm lm b db lb i d there).offset);
-        next = next_sound (length own.registers) (length own.blocks) block.next was.next (not_when (leads_out (length own.blocks) block.next) Terminator (none_at code.UnknownName m dm lm b db lb));
+        apart = apart block (none_mapped Operation _ (none_at code.PortClash m dm lm b db lb))
+            (λ i d there. (timed_sound m dm lm b db lb i d there).offset);
+        next = next_sound (length own.registers) (length own.blocks) block.next was.next
+            (not_when (leads_out (length own.blocks) block.next) Terminator (none_at code.UnknownName m dm lm b db lb));
       }
 
-  module_sound : (m : ℕ) (dm : Module) → m < length plan.design.modules → IsModuleSound (length plan.design.channels) (get_or plan.design.modules m dm)
+  module_sound : (m : ℕ) (dm : Module) → m < length plan.design.modules
+      → IsModuleSound (length plan.design.channels) (get_or plan.design.modules m dm)
   module_sound m dm lm =
       let was = read.modules m dm lm in
       record {
@@ -213,16 +224,19 @@ module _ (plan : Plan) (read : IsPlanRead plan) (faultless : (rule : Code) → f
         blocks = λ b db lb. block_sound m dm lm b db lb;
       }
 
-channel_sound : (plan : Plan) → IsPlanRead plan → place_where (lacks_ends plan.design.modules) (enumerate_from 0 plan.design.channels) ≡ None
+channel_sound : (plan : Plan) → IsPlanRead plan
+    → place_where (lacks_users plan.design.modules) (enumerate_from 0 plan.design.channels) ≡ None
     → (f : ℕ) → f < length plan.design.channels → IsChannelSound plan f
 channel_sound plan read h f there =
     let at : (get_or (enumerate_from 0 plan.design.channels) f (0, no_channel)) ≡ (0 + f, get_or plan.design.channels f no_channel)
     = get_or-enumerate_from 0 plan.design.channels f (0, no_channel) there in
-    let kept : lacks_ends plan.design.modules (f, get_or plan.design.channels f no_channel) ≡ false
-    = sym (ap (lacks_ends plan.design.modules) (at ∙ ap (λ (k : ℕ). (k, get_or plan.design.channels f no_channel)) (omega arith)))
-    ∙ none_where (lacks_ends plan.design.modules) (enumerate_from 0 plan.design.channels) h f (0, no_channel) (rw length-enumerate_from there) in
-    let both = and_parts (count_by (uses (true, f)) plan.design.modules == users_wanted (kind_at plan f) true)
-    (count_by (uses (false, f)) plan.design.modules == users_wanted (kind_at plan f) false) (not-false (has_ends plan.design.modules f (kind_at plan f)) kept) in
+    let kept : lacks_users plan.design.modules (f, get_or plan.design.channels f no_channel) ≡ false
+    = sym (ap (lacks_users plan.design.modules) (at ∙ ap (λ (k : ℕ). (k, get_or plan.design.channels f no_channel)) (omega arith)))
+    ∙ none_where (lacks_users plan.design.modules) (enumerate_from 0 plan.design.channels) h f (0, no_channel)
+    (rw length-enumerate_from there) in
+    let modules : List Module = plan.design.modules in
+    let both = and_parts (has_users modules f (kind_at plan f) Pop) (has_users modules f (kind_at plan f) Push)
+    (not-false (is_served modules f (kind_at plan f)) kept) in
     record {
       name = read.names f there;
       popping = eqb-true _ _ both.0;
@@ -233,14 +247,16 @@ channel_sound plan read h f there =
 -- ---- the whole
 
 -- a rule that is not tried on blocks fails in none
-other_rule : (rule : Code) → ((m : Module) (b : Block) → spot rule m b ≡ None) → (modules : List Module) → first_in (spot_in rule) modules ≡ None
+pub other_rule : (rule : Code) → ((m : Module) (b : Block) → spot rule m b ≡ None) → (modules : List Module)
+    → first_in (spot_in rule) modules ≡ None
 other_rule rule never [] = refl
 other_rule rule never (m ∷ modules) = ap (λ (o : Option (ℕ × Spot)). sooner o (first_in (spot_in rule) modules)) (by m m.blocks)
     ∙ ap (option_map (λ (p : ℕ × (ℕ × Spot)). (p.0 + 1, p.1))) (other_rule rule never modules)
   where
     by : (own : Module) (blocks : List Block) → first_in (spot rule own) blocks ≡ None
     by own [] = refl
-    by own (b ∷ blocks) = ap (λ (o : Option Spot). sooner o (first_in (spot rule own) blocks)) (never own b) ∙ ap (option_map (λ (p : ℕ × Spot). (p.0 + 1, p.1))) (by own blocks)
+    by own (b ∷ blocks) = ap (λ (o : Option Spot). sooner o (first_in (spot rule own) blocks)) (never own b)
+        ∙ ap (option_map (λ (p : ℕ × Spot). (p.0 + 1, p.1))) (by own blocks)
 
 each_rule : (plan : Plan) → option_map in_module (first_in (spot_in code.UnknownName) plan.design.modules) ≡ None
     → option_map in_module (first_in (spot_in code.PortClash) plan.design.modules) ≡ None
@@ -267,7 +283,8 @@ pub fits : (plan : Plan) → IsPlanRead plan → checking_fault plan ≡ None �
 unfolding checking_fault
 fits plan read h =
     let f : Code → Option Item = broken_by plan in
-    let one = none_for f code.UnknownName (code.BadLimit ∷ code.Ends ∷ code.PortClash ∷ code.BadLoop ∷ code.BadOffset ∷ code.WrongSide ∷ []) h in
+    let one = none_for f code.UnknownName
+    (code.BadLimit ∷ code.Ends ∷ code.PortClash ∷ code.BadLoop ∷ code.BadOffset ∷ code.WrongSide ∷ []) h in
     let two = none_for f code.BadLimit (code.Ends ∷ code.PortClash ∷ code.BadLoop ∷ code.BadOffset ∷ code.WrongSide ∷ []) one.1 in
     let three = none_for f code.Ends (code.PortClash ∷ code.BadLoop ∷ code.BadOffset ∷ code.WrongSide ∷ []) two.1 in
     let four = none_for f code.PortClash (code.BadLoop ∷ code.BadOffset ∷ code.WrongSide ∷ []) three.1 in
@@ -275,10 +292,10 @@ fits plan read h =
     let six = none_for f code.BadOffset (code.WrongSide ∷ []) five.1 in
     let seven = none_for f code.WrongSide [] six.1 in
     let each : (rule : Code) → first_in (spot_in rule) plan.design.modules ≡ None = each_rule plan one.0 four.0 five.0 six.0 seven.0 in
-    let limits = and_parts (nat_le 1 plan.cycles && nat_le plan.cycles (10 ^ 15)) (nat_le 1 plan.ops && nat_le plan.ops 200000)
+    let limits = and_parts (nat_le 1 plan.cycles && nat_le plan.cycles CYCLES) (nat_le 1 plan.ops && nat_le plan.ops COUNTED_OPERATIONS)
     (not-false _ (not_when (breaks_limits plan.cycles plan.ops) _ two.0)) in
-    let cycles = and_parts (nat_le 1 plan.cycles) (nat_le plan.cycles (10 ^ 15)) limits.0 in
-    let ops = and_parts (nat_le 1 plan.ops) (nat_le plan.ops 200000) limits.1 in
+    let cycles = and_parts (nat_le 1 plan.cycles) (nat_le plan.cycles CYCLES) limits.0 in
+    let ops = and_parts (nat_le 1 plan.ops) (nat_le plan.ops COUNTED_OPERATIONS) limits.1 in
     record {
       channel_count = read.channel_count;
       module_count = read.module_count;

@@ -43,7 +43,16 @@ keeps before s rules =
     let two = passed (list_all (is_new (reverse before)) (parts s) && is_first_input (reverse before) s) _ _ one.1 in
     let three = passed (list_all (is_known (reverse before)) (parts s)) _ _ two.1 in
     let four = passed (has_room (reverse before) s) _ _ three.1 in
-    record { named = rules.well_named; permitted = rules.permitted; ranged = one.0; fresh = (and_parts (list_all (is_new (reverse before)) (parts s)) (is_first_input (reverse before) s) two.0).0; known = three.0; room = four.0 }
+    record {
+      named = rules.well_named;
+      permitted = rules.permitted;
+      ranged = one.0;
+      fresh
+          = (and_parts (list_all (is_new (reverse before)) (parts s)) (is_first_input (reverse before) s) two.0).0;
+      known = three.0;
+      room
+          = four.0;
+    }
 
 get_behind : {X : Type 0} (pre : List X) (x : X) (rest : List X) → slice_get (pre ++ x ∷ rest) (length pre) ≡ Some x
 get_behind [] x rest = refl
@@ -59,7 +68,8 @@ following statements pre [] e each = tt
 following statements pre (s ∷ rest) e each =
     let kept : KeepsRules pre s = subst (λ (l : List Statement). KeepsRules l s) (ap (take (length pre)) e ∙ take_front pre (s ∷ rest))
     (each (length pre) s (ap (λ (l : List Statement). slice_get l (length pre)) e ∙ get_behind pre s rest)) in
-    let next : Follow (reverse (pre ++ s ∷ [])) rest = following statements (pre ++ s ∷ []) rest (e ∙ sym (append_assoc pre (s ∷ []) rest)) each in
+    let next : Follow (reverse (pre ++ s ∷ [])) rest
+    = following statements (pre ++ s ∷ []) rest (e ∙ sym (append_assoc pre (s ∷ []) rest)) each in
     (keeps pre s kept, subst (λ (l : List Statement). Follow l rest) (reverse-append pre (s ∷ [])) next)
 
 pub all_follow : (statements : List Statement) → KeepsReadingRules statements → Follow [] statements
@@ -72,7 +82,8 @@ abbrev pub Plain : Level → List Statement → Type 0
 Plain level [] = Unit {0}
 Plain level (s ∷ rest) = (begins level s ≡ false) × Plain level rest
 
-pub body_first : (level : Level) (s : Statement) (rest : List Statement) → body_of level (s ∷ rest) ≡ cond (not (begins level s)) (s ∷ body_of level rest) []
+pub body_first : (level : Level) (s : Statement) (rest : List Statement)
+    → body_of level (s ∷ rest) ≡ cond (not (begins level s)) (s ∷ body_of level rest) []
 body_first level s rest = take_while-cons (λ t. not (begins level t)) s rest
 
 pub plain_body : (level : Level) (rest : List Statement) → Plain level (body_of level rest)
@@ -85,7 +96,8 @@ plain_body level (s ∷ rest) = subst (Plain level) (sym (body_first level s res
 
 pub follow_body : (level : Level) (earlier rest : List Statement) → Follow earlier rest → Follow earlier (body_of level rest)
 follow_body level earlier [] follow = tt
-follow_body level earlier (s ∷ rest) follow = subst (Follow earlier) (sym (body_first level s rest)) (by (begins level s) (follow_body level (s ∷ earlier) rest follow.1))
+follow_body level earlier (s ∷ rest) follow
+    = subst (Follow earlier) (sym (body_first level s rest)) (by (begins level s) (follow_body level (s ∷ earlier) rest follow.1))
   where
     by : (b : Bool) → Follow (s ∷ earlier) (body_of level rest) → Follow earlier (cond (not b) (s ∷ body_of level rest) [])
     by true h = tt
@@ -96,7 +108,8 @@ abbrev pub inside : Level → List Statement → List Statement
 inside level.Modules earlier = take_while is_no_module earlier
 inside level.Blocks earlier = take_while is_no_block earlier
 
-pub no_beginning : (level : Level) (s : Statement) → begins level s ≡ false → (earlier : List Statement) → inside level (s ∷ earlier) ≡ s ∷ inside level earlier
+pub no_beginning : (level : Level) (s : Statement) → begins level s ≡ false → (earlier : List Statement)
+    → inside level (s ∷ earlier) ≡ s ∷ inside level earlier
 no_beginning level.Modules (Module n) h earlier = absurd (true≢false h)
 no_beginning level.Modules s h earlier = take_while-cons is_no_module s earlier
 no_beginning level.Blocks (Block n len) h earlier = absurd (true≢false h)
@@ -136,7 +149,8 @@ length_found {X} {Y} f (x ∷ xs) = by (f x) (length_found f xs)
 
 pub tally_same : {X : Type 0} (p q : X → Bool) → ((x : X) → p x ≡ q x) → (xs : List X) → tally p xs ≡ tally q xs
 tally_same p q h [] = refl
-tally_same p q h (x ∷ xs) = ap (λ (b : Bool). cond b (suc (tally p xs)) (tally p xs)) (h x) ∙ ap (λ (n : ℕ). cond (q x) (suc n) n) (tally_same p q h xs)
+tally_same p q h (x ∷ xs) = ap (λ (b : Bool). cond b (suc (tally p xs)) (tally p xs)) (h x)
+    ∙ ap (λ (n : ℕ). cond (q x) (suc n) n) (tally_same p q h xs)
 
 -- where each counted statement finds fewer than the limit before it, there are at most as many as the limit
 pub within : (part : List Statement → List Statement) (p : Statement → Bool) (most : ℕ)
@@ -149,12 +163,14 @@ within part p most few earlier (s ∷ body) follow grown h = by (p s) refl (with
     by : (b : Bool) → p s ≡ b → (tally p (part (s ∷ earlier)) ≤ most → tally p (part (s ∷ earlier)) + tally p body ≤ most)
         → tally p (part earlier) + cond b (suc (tally p body)) (tally p body) ≤ most
     by true e later =
-        let one : tally p (part (s ∷ earlier)) ≡ suc (tally p (part earlier)) = ap (tally p) (grown.0 earlier) ∙ ap (λ (c : Bool). cond c (suc (tally p (part earlier))) (tally p (part earlier))) e in
+        let one : tally p (part (s ∷ earlier)) ≡ suc (tally p (part earlier)) = ap (tally p) (grown.0 earlier)
+        ∙ ap (λ (c : Bool). cond c (suc (tally p (part earlier))) (tally p (part earlier))) e in
         let room : tally p (part earlier) < most = few earlier s follow.0 e in
         let all : tally p (part (s ∷ earlier)) + tally p body ≤ most = later (omega arith) in
         omega arith
     by false e later =
-        let one : tally p (part (s ∷ earlier)) ≡ tally p (part earlier) = ap (tally p) (grown.0 earlier) ∙ ap (λ (c : Bool). cond c (suc (tally p (part earlier))) (tally p (part earlier))) e in
+        let one : tally p (part (s ∷ earlier)) ≡ tally p (part earlier) = ap (tally p) (grown.0 earlier)
+        ∙ ap (λ (c : Bool). cond c (suc (tally p (part earlier))) (tally p (part earlier))) e in
         let all : tally p (part (s ∷ earlier)) + tally p body ≤ most = later (omega arith) in
         omega arith
 
@@ -217,12 +233,14 @@ heard_more f names s before after was comes n = by (f s) (was n) (comes n)
     by None old new h = old h
     by (Some m) old new h = by_name (bytes_eq n m) old new h
       where
-        by_name : (b : Bool) → (is_among (filter_map f before) n ≡ true → is_among names n ≡ true) → (b || is_among (filter_map f after) n ≡ true → is_among names n ≡ true)
+        by_name : (b : Bool) → (is_among (filter_map f before) n ≡ true → is_among names n ≡ true)
+            → (b || is_among (filter_map f after) n ≡ true → is_among names n ≡ true)
             → b || is_among (filter_map f before) n ≡ true → is_among names n ≡ true
         by_name true old new h = new refl
         by_name false old new h = old h
 
-pub heard_later : (f : Statement → Option Name) (names : List Name) (s : Statement) (after : List Statement) → Heard f names (s ∷ after) → Heard f names after
+pub heard_later : (f : Statement → Option Name) (names : List Name) (s : Statement) (after : List Statement) → Heard f names (s ∷ after)
+    → Heard f names after
 heard_later f names s after comes n h = comes n (by (f s))
   where
     by : (o : Option Name) → is_among (cons_option o (filter_map f after)) n ≡ true

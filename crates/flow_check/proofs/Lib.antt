@@ -9,3 +9,4 @@ pub mod Numbers
 pub mod Reading
 pub mod Sets
 pub mod Slots
+pub mod Strict

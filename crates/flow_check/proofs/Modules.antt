@@ -2,8 +2,9 @@
 use Rattle.std.proofs.Common.{◌≡◌, suc, ◌<◌, ◌≤◌, List, [], ◌∷◌, ◌++◌, length, map, is_some, Bool, true, false, cond, refl, sym, ap, subst, ◌∙◌, arith, true≢false, append_assoc, append-nil}
 use Rattle.std.specs.Prelude.{◌&&◌, nat_le, IsTrue, reverse}
 use Rattle.std.specs.List.{All, filter_map, cons_option}
-use Rattle.std.proofs.lemmas.Bool.{and_parts, ltb-true, leb-true}
+use Rattle.std.proofs.lemmas.Bool.{and_parts, ltb-true}
 use Rattle.std.proofs.lemmas.List.{length-map, reverse-append}
+use Rattle.flow_design.specs.declared.limits.TheConstants.{REGISTERS, MEMORIES, MEMORY_WORDS, BLOCKS}
 use Rattle.flow_design.specs.declared.session.Statement.{Statement}
 use Rattle.flow_design.specs.declared.session.Statement.TheVariants as s
 use Rattle.flow_design.specs.declared.design.Memory.{Memory}
@@ -21,7 +22,7 @@ use Rattle.session_plan.specs.declared.section.Level.TheVariants as level
 use Rattle.session_plan.specs.declared.section.Sort.TheVariants as sort
 use Rattle.flow_check.specs.Read.{IsModuleRead}
 use Rattle.flow_check.proofs.Following.{Keeps, Follow, Plain, body_first, plain_body, follow_body, inside, nothing_inside, grows, tally, length_found, tally_same, within, Heard, heard_none, heard_more, heard_later}
-use Rattle.flow_check.proofs.Numbers.{all_none, all_cons}
+use Rattle.flow_check.proofs.Numbers.{in_range, all_none, all_cons}
 use Rattle.flow_check.proofs.Bodies.{register_same, memory_same, found_same, heard_body, Hears}
 use Rattle.flow_check.proofs.Blocks.{blocks_read}
 
@@ -34,7 +35,9 @@ Over earlier (x ∷ rest) = Over (x ∷ earlier) rest
 over_behind : (earlier rest : List Statement) → place (reverse rest ++ earlier) ≡ AtEnd → Over earlier rest
 over_behind earlier [] h = h
 over_behind earlier (x ∷ rest) h =
-    over_behind (x ∷ earlier) rest (ap place (sym (ap (λ (l : List Statement). l ++ earlier) (reverse-append (x ∷ []) rest) ∙ append_assoc (reverse rest) (x ∷ []) earlier)) ∙ h)
+    over_behind (x ∷ earlier) rest
+    (ap place (sym (ap (λ (l : List Statement). l ++ earlier) (reverse-append (x ∷ []) rest)
+    ∙ append_assoc (reverse rest) (x ∷ []) earlier)) ∙ h)
 
 ends : (statements : List Statement) → is_over statements ≡ true → place (reverse statements) ≡ AtEnd
 unfolding is_over
@@ -60,13 +63,16 @@ pub some_block : (earlier rest : List Statement) → place earlier ≡ AmongRegi
 unfolding may_follow
 some_block earlier [] here follow over = absurd cc
 some_block earlier (s.Reg n w ∷ rest) here follow over =
-    subst (λ (l : List Statement). 1 ≤ length (sections level.Blocks l)) (sym (body_first level.Modules (s.Reg n w) rest)) (some_block (s.Reg n w ∷ earlier) rest refl follow.1 over)
+    subst (λ (l : List Statement). 1 ≤ length (sections level.Blocks l)) (sym (body_first level.Modules (s.Reg n w) rest))
+    (some_block (s.Reg n w ∷ earlier) rest refl follow.1 over)
 some_block earlier (s.Mem n w len ∷ rest) here follow over =
-    subst (λ (l : List Statement). 1 ≤ length (sections level.Blocks l)) (sym (body_first level.Modules (s.Mem n w len) rest)) (some_block (s.Mem n w len ∷ earlier) rest refl follow.1 over)
+    subst (λ (l : List Statement). 1 ≤ length (sections level.Blocks l)) (sym (body_first level.Modules (s.Mem n w len) rest))
+    (some_block (s.Mem n w len ∷ earlier) rest refl follow.1 over)
 some_block earlier (s.Block n len ∷ rest) here follow over =
     subst (λ (l : List Statement). 1 ≤ length (sections level.Blocks l)) (sym (body_first level.Modules (s.Block n len) rest)) (omega arith)
 some_block earlier (s.Loop n ii len again ∷ rest) here follow over =
-    subst (λ (l : List Statement). 1 ≤ length (sections level.Blocks l)) (sym (body_first level.Modules (s.Loop n ii len again) rest)) (omega arith)
+    subst (λ (l : List Statement). 1 ≤ length (sections level.Blocks l)) (sym (body_first level.Modules (s.Loop n ii len again) rest))
+    (omega arith)
 some_block earlier (x ∷ rest) here follow over = absurd (true≢false (sym (sym (ap (may_stand x) here) ∙ follow.0.permitted)))
 
 -- ---- counts
@@ -83,11 +89,14 @@ sections_long l (x ∷ xs) = by (begins l x) (sections_long l xs)
 abbrev is_register : Statement → Bool
 is_register x = is_some (declared_width sort.Registers x)
 
-few_registers : (earlier : List Statement) (x : Statement) → Keeps earlier x → is_register x ≡ true → tally is_register (inside level.Modules earlier) < 256
+few_registers : (earlier : List Statement) (x : Statement) → Keeps earlier x → is_register x ≡ true
+    → tally is_register (inside level.Modules earlier) < REGISTERS
 few_registers earlier (s.Reg n w) keeps h =
-    let e : length (registers earlier) ≡ tally (λ y. is_some (register_name y)) (inside level.Modules earlier) = length_found register_name (inside level.Modules earlier) in
-    let f : tally (λ y. is_some (register_name y)) (inside level.Modules earlier) ≡ tally is_register (inside level.Modules earlier) = tally_same _ is_register by (inside level.Modules earlier) in
-    let g : length (registers earlier) < 256 = ltb-true (length (registers earlier)) 256 keeps.room in
+    let e : length (registers earlier) ≡ tally (λ y. is_some (register_name y)) (inside level.Modules earlier)
+    = length_found register_name (inside level.Modules earlier) in
+    let f : tally (λ y. is_some (register_name y)) (inside level.Modules earlier) ≡ tally is_register (inside level.Modules earlier)
+    = tally_same _ is_register by (inside level.Modules earlier) in
+    let g : length (registers earlier) < REGISTERS = ltb-true (length (registers earlier)) REGISTERS keeps.room in
     omega arith
   where
     by : (y : Statement) → is_some (register_name y) ≡ is_register y
@@ -98,11 +107,14 @@ few_registers earlier x keeps h = absurd (true≢false (sym h))
 abbrev is_memory : Statement → Bool
 is_memory x = is_some (memory x)
 
-few_memories : (earlier : List Statement) (x : Statement) → Keeps earlier x → is_memory x ≡ true → tally is_memory (inside level.Modules earlier) < 16
+few_memories : (earlier : List Statement) (x : Statement) → Keeps earlier x → is_memory x ≡ true
+    → tally is_memory (inside level.Modules earlier) < MEMORIES
 few_memories earlier (s.Mem n w len) keeps h =
-    let e : length (memories earlier) ≡ tally (λ y. is_some (memory_name y)) (inside level.Modules earlier) = length_found memory_name (inside level.Modules earlier) in
-    let f : tally (λ y. is_some (memory_name y)) (inside level.Modules earlier) ≡ tally is_memory (inside level.Modules earlier) = tally_same _ is_memory by (inside level.Modules earlier) in
-    let g : length (memories earlier) < 16 = ltb-true (length (memories earlier)) 16 keeps.room in
+    let e : length (memories earlier) ≡ tally (λ y. is_some (memory_name y)) (inside level.Modules earlier)
+    = length_found memory_name (inside level.Modules earlier) in
+    let f : tally (λ y. is_some (memory_name y)) (inside level.Modules earlier) ≡ tally is_memory (inside level.Modules earlier)
+    = tally_same _ is_memory by (inside level.Modules earlier) in
+    let g : length (memories earlier) < MEMORIES = ltb-true (length (memories earlier)) MEMORIES keeps.room in
     omega arith
   where
     by : (y : Statement) → is_some (memory_name y) ≡ is_memory y
@@ -115,35 +127,45 @@ block_named (s.Block m v) = refl
 block_named (s.Loop m v k r) = refl
 block_named y = refl
 
-few_blocks : (earlier : List Statement) (x : Statement) → Keeps earlier x → begins level.Blocks x ≡ true → tally (begins level.Blocks) (inside level.Modules earlier) < 256
+few_blocks : (earlier : List Statement) (x : Statement) → Keeps earlier x → begins level.Blocks x ≡ true
+    → tally (begins level.Blocks) (inside level.Modules earlier) < BLOCKS
 few_blocks earlier (s.Block n len) keeps h =
-    let e : length (blocks earlier) ≡ tally (λ y. is_some (block_name y)) (inside level.Modules earlier) = length_found block_name (inside level.Modules earlier) in
-    let f : tally (λ y. is_some (block_name y)) (inside level.Modules earlier) ≡ tally (begins level.Blocks) (inside level.Modules earlier) = tally_same _ (begins level.Blocks) block_named (inside level.Modules earlier) in
-    let g : length (blocks earlier) < 256 = ltb-true (length (blocks earlier)) 256 keeps.room in
+    let e : length (blocks earlier) ≡ tally (λ y. is_some (block_name y)) (inside level.Modules earlier)
+    = length_found block_name (inside level.Modules earlier) in
+    let f : tally (λ y. is_some (block_name y)) (inside level.Modules earlier)
+    ≡ tally (begins level.Blocks) (inside level.Modules earlier)
+    = tally_same _ (begins level.Blocks) block_named (inside level.Modules earlier) in
+    let g : length (blocks earlier) < BLOCKS = ltb-true (length (blocks earlier)) BLOCKS keeps.room in
     omega arith
 few_blocks earlier (s.Loop n ii len again) keeps h =
-    let e : length (blocks earlier) ≡ tally (λ y. is_some (block_name y)) (inside level.Modules earlier) = length_found block_name (inside level.Modules earlier) in
-    let f : tally (λ y. is_some (block_name y)) (inside level.Modules earlier) ≡ tally (begins level.Blocks) (inside level.Modules earlier) = tally_same _ (begins level.Blocks) block_named (inside level.Modules earlier) in
-    let g : length (blocks earlier) < 256 = ltb-true (length (blocks earlier)) 256 keeps.room in
+    let e : length (blocks earlier) ≡ tally (λ y. is_some (block_name y)) (inside level.Modules earlier)
+    = length_found block_name (inside level.Modules earlier) in
+    let f : tally (λ y. is_some (block_name y)) (inside level.Modules earlier)
+    ≡ tally (begins level.Blocks) (inside level.Modules earlier)
+    = tally_same _ (begins level.Blocks) block_named (inside level.Modules earlier) in
+    let g : length (blocks earlier) < BLOCKS = ltb-true (length (blocks earlier)) BLOCKS keeps.room in
     omega arith
 few_blocks earlier x keeps h = absurd (true≢false (sym h))
 
 -- ---- memories
 
-words_more : (earlier : List Statement) (x : Statement) → Keeps earlier x → (later : List Memory) → All IsMemorySound later → All IsMemorySound (cons_option (memory x) later)
+words_more : (earlier : List Statement) (x : Statement) → Keeps earlier x → (later : List Memory) → All IsMemorySound later
+    → All IsMemorySound (cons_option (memory x) later)
 words_more earlier (s.Mem n w len) keeps later h =
-    let first = and_parts (nat_le 1 w && nat_le w 64) ((nat_le 1 len && nat_le len 4096) && true) keeps.ranged in
-    let range = and_parts (nat_le 1 len && nat_le len 4096) true first.1 in
-    let parts = and_parts (nat_le 1 len) (nat_le len 4096) range.0 in
-    all_cons IsMemorySound (record { width = w; len = len }) later (record { least = leb-true 1 len parts.0; most = leb-true len 4096 parts.1 }) h
+    let first = and_parts (nat_le 1 w && nat_le w 64) ((nat_le 1 len && nat_le len MEMORY_WORDS) && true) keeps.ranged in
+    let range = and_parts (nat_le 1 len && nat_le len MEMORY_WORDS) true first.1 in
+    let words = in_range 1 len MEMORY_WORDS range.0 in
+    all_cons IsMemorySound (record { width = w; len = len }) later (record { least = words.0; most = words.1 }) h
 words_more earlier x keeps later h = h
 
 words_read : (earlier body : List Statement) → Follow earlier body → All IsMemorySound (filter_map memory body)
 words_read earlier [] follow = all_none IsMemorySound
 words_read earlier (x ∷ body) follow = words_more earlier x follow.0 (filter_map memory body) (words_read (x ∷ earlier) body follow.1)
 
-registers_long : (body : List Statement) → length (filter_map (declared sort.Registers) body) ≡ length (filter_map (declared_width sort.Registers) body)
-registers_long body = length_found (declared sort.Registers) body ∙ tally_same _ is_register by body ∙ sym (length_found (declared_width sort.Registers) body)
+registers_long : (body : List Statement)
+    → length (filter_map (declared sort.Registers) body) ≡ length (filter_map (declared_width sort.Registers) body)
+registers_long body = length_found (declared sort.Registers) body ∙ tally_same _ is_register by body
+    ∙ sym (length_found (declared_width sort.Registers) body)
   where
     by : (x : Statement) → is_some (declared sort.Registers x) ≡ is_register x
     by (s.Reg n w) = refl
@@ -162,7 +184,8 @@ name_read : (earlier : List Statement) (n : Name) → Keeps earlier (s.Module n)
 unfolding is_name_token
 name_read earlier n keeps = (and_parts (is_name n) true keeps.named).0
 
-module_read : (names : List Name) (earlier : List Statement) (n : Name) (rest : List Statement) → Keeps earlier (s.Module n) → Follow (s.Module n ∷ earlier) rest
+module_read : (names : List Name) (earlier : List Statement) (n : Name) (rest : List Statement) → Keeps earlier (s.Module n)
+    → Follow (s.Module n ∷ earlier) rest
     → Over (s.Module n ∷ earlier) rest → Heard channel_name names earlier → Heard channel_name names (s.Module n ∷ rest)
     → IsModuleRead (length names) (module_of names (s.Module n, body_of level.Modules rest))
 unfolding module_of
@@ -177,18 +200,23 @@ module_read names earlier n rest keeps follow over heard later =
       channels = heard_more channel_name names (s.Module n) earlier rest heard later;
       channels_later = heard_body channel_name names level.Modules rest (heard_later channel_name names (s.Module n) rest later);
       registers = subst (Heard register_name own.registers) (sym nothing) (heard_none register_name own.registers);
-      registers_later = λ k h. sym (ap (λ (l : List Name). is_among l k) (found_same register_name (declared sort.Registers) register_same body)) ∙ h;
+      registers_later = λ k h. sym (ap (λ (l : List Name). is_among l k)
+          (found_same register_name (declared sort.Registers) register_same body)) ∙ h;
       memories = subst (Heard memory_name own.memories) (sym nothing) (heard_none memory_name own.memories);
-      memories_later = λ k h. sym (ap (λ (l : List Name). is_among l k) (found_same memory_name (declared sort.Memories) memory_same body)) ∙ h;
+      memories_later = λ k h. sym (ap (λ (l : List Name). is_among l k)
+          (found_same memory_name (declared sort.Memories) memory_same body)) ∙ h;
     } in
     let m : Module = module_of names (s.Module n, body) in
     let no_registers : tally is_register (inside level.Modules e0) ≡ 0 = ap (tally is_register) nothing in
     let no_memories : tally is_memory (inside level.Modules e0) ≡ 0 = ap (tally is_memory) nothing in
     let no_blocks : tally (begins level.Blocks) (inside level.Modules e0) ≡ 0 = ap (tally (begins level.Blocks)) nothing in
-    let a = within (inside level.Modules) is_register 256 few_registers e0 body follows (grows level.Modules body plain) (omega arith) in
-    let b = within (inside level.Modules) is_memory 16 few_memories e0 body follows (grows level.Modules body plain) (omega arith) in
-    let c = within (inside level.Modules) (begins level.Blocks) 256 few_blocks e0 body follows (grows level.Modules body plain) (omega arith) in
-    let long_a : length (filter_map (declared_width sort.Registers) body) ≡ tally is_register body = length_found (declared_width sort.Registers) body in
+    let a = within (inside level.Modules) is_register REGISTERS few_registers e0 body follows (grows level.Modules body plain)
+    (omega arith) in
+    let b = within (inside level.Modules) is_memory MEMORIES few_memories e0 body follows (grows level.Modules body plain) (omega arith) in
+    let c = within (inside level.Modules) (begins level.Blocks) BLOCKS few_blocks e0 body follows (grows level.Modules body plain)
+    (omega arith) in
+    let long_a : length (filter_map (declared_width sort.Registers) body) ≡ tally is_register body
+    = length_found (declared_width sort.Registers) body in
     let long_b : length (filter_map memory body) ≡ tally is_memory body = length_found memory body in
     let long_c : length (sections level.Blocks body) ≡ tally (begins level.Blocks) body = sections_long level.Blocks body in
     let long_d : length (map (block own) (sections level.Blocks body)) ≡ length (sections level.Blocks body) = simp length-map in
@@ -203,15 +231,19 @@ module_read names earlier n rest keeps follow over heard later =
       blocks = blocks_read (length names) m own refl (registers_long body) (memories_long body) e0 body follows plain hears;
     }
 
-pub modules_read : (names : List Name) (earlier rest : List Statement) → Follow earlier rest → Over earlier rest → Heard channel_name names earlier → Heard channel_name names rest
+pub modules_read : (names : List Name) (earlier rest : List Statement) → Follow earlier rest → Over earlier rest
+    → Heard channel_name names earlier → Heard channel_name names rest
     → All (IsModuleRead (length names)) (map (module_of names) (sections level.Modules rest))
 modules_read names earlier [] follow over heard later = all_none (IsModuleRead (length names))
 modules_read names earlier (x ∷ rest) follow over heard later =
-    more x follow.0 follow.1 over later (modules_read names (x ∷ earlier) rest follow.1 over (heard_more channel_name names x earlier rest heard later) (heard_later channel_name names x rest later))
+    more x follow.0 follow.1 over later
+    (modules_read names (x ∷ earlier) rest follow.1 over (heard_more channel_name names x earlier rest heard later)
+    (heard_later channel_name names x rest later))
   where
     more : (x : Statement) → Keeps earlier x → Follow (x ∷ earlier) rest → Over (x ∷ earlier) rest → Heard channel_name names (x ∷ rest)
         → All (IsModuleRead (length names)) (map (module_of names) (sections level.Modules rest))
         → All (IsModuleRead (length names)) (map (module_of names) (sections level.Modules (x ∷ rest)))
     more (s.Module n) keeps follow over later h =
-        all_cons (IsModuleRead (length names)) _ (map (module_of names) (sections level.Modules rest)) (module_read names earlier n rest keeps follow over heard later) h
+        all_cons (IsModuleRead (length names)) _ (map (module_of names) (sections level.Modules rest))
+        (module_read names earlier n rest keeps follow over heard later) h
     more y keeps follow over later h = h

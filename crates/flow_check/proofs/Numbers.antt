@@ -4,6 +4,7 @@ use Rattle.std.specs.Prelude.{◌&&◌, nat_le, max}
 use Rattle.std.specs.List.{All, list_all}
 use Rattle.std.proofs.lemmas.Bool.{and_parts, leb-true}
 use Rattle.std.proofs.lemmas.List.Folds.{list_all-append}
+use Rattle.flow_design.specs.declared.limits.TheConstants.{EXPRESSION_NODES, EXPRESSION_DEPTH}
 use Rattle.flow_design.specs.declared.expr.Expr.{Expr}
 use Rattle.flow_design.specs.declared.expr.Expr.TheVariants.{Number, Var, Unary, Binary, Sext, Pick}
 use Rattle.flow_design.specs.declared.expr.UnOp.{UnOp}
@@ -13,7 +14,7 @@ use Rattle.flow_design.specs.declared.expr.Op.{Op}
 use Rattle.flow_design.specs.declared.expr.Op.TheVariants as op
 use Rattle.flow_design.specs.declared.session.Statement.{Statement}
 use Rattle.flow_design.specs.Words.{reach, nodes, depth, layer_reach, layer_nodes, layer_depth}
-use Rattle.flow_design.specs.Operations.{places_of, expressions_of, memory_of, end_of}
+use Rattle.flow_design.specs.Operations.{places_of, expressions_of, memory_of, port_of}
 use Rattle.flow_design.specs.StaticRules.{IsExpressionSound}
 use Rattle.flow_grammar.specs.Parts.{Part, expr_parts, op_parts}
 use Rattle.flow_grammar.specs.Before.{channels, registers, memories, temps, is_among}
@@ -25,6 +26,13 @@ use Rattle.session_plan.specs.Names.{Name, number_of, Scope}
 use Rattle.session_plan.specs.Numbered.{numbered, places, operation}
 use Rattle.session_plan.proofs.Trees.{numbered_number, numbered_var, numbered_unary, numbered_binary, numbered_sext, numbered_pick}
 use Rattle.flow_check.proofs.Following.{Within, number_below}
+
+-- ---- ranges
+
+pub in_range : (least n most : ℕ) → nat_le least n && nat_le n most ≡ true → (least ≤ n) × (n ≤ most)
+in_range least n most h =
+    let parts = and_parts (nat_le least n) (nat_le n most) h in
+    (leb-true least n parts.0, leb-true n most parts.1)
 
 -- ---- lists of one or two
 
@@ -43,12 +51,17 @@ module _ (names : List Name) where
   nodes_kept = by_cases Name (λ e. nodes (numbered names e) ≡ nodes e) (record {
     number = λ n. ap nodes (numbered_number names n) ∙ folded-Number ℕ ℕ layer_nodes n ∙ sym (folded-Number Name ℕ layer_nodes n);
     var = λ x. ap nodes (numbered_var names x) ∙ folded-Var ℕ ℕ layer_nodes (number_of names x) ∙ sym (folded-Var Name ℕ layer_nodes x);
-    unary = λ o a h. ap nodes (numbered_unary names o a) ∙ folded-Unary ℕ ℕ layer_nodes o (numbered names a) ∙ ap (λ (x : ℕ). 1 + x) h ∙ sym (folded-Unary Name ℕ layer_nodes o a);
+    unary = λ o a h. ap nodes (numbered_unary names o a) ∙ folded-Unary ℕ ℕ layer_nodes o (numbered names a) ∙ ap (λ (x : ℕ). 1 + x) h
+        ∙ sym (folded-Unary Name ℕ layer_nodes o a);
     binary = λ o a b h k. ap nodes (numbered_binary names o a b) ∙ folded-Binary ℕ ℕ layer_nodes o (numbered names a) (numbered names b)
-        ∙ ap (λ (x : ℕ). 1 + (x + nodes (numbered names b))) h ∙ ap (λ (x : ℕ). 1 + (nodes a + x)) k ∙ sym (folded-Binary Name ℕ layer_nodes o a b);
-    sext = λ w a h. ap nodes (numbered_sext names w a) ∙ folded-Sext ℕ ℕ layer_nodes w (numbered names a) ∙ ap (λ (x : ℕ). 1 + x) h ∙ sym (folded-Sext Name ℕ layer_nodes w a);
-    pick = λ a b c h k l. ap nodes (numbered_pick names a b c) ∙ folded-Pick ℕ ℕ layer_nodes (numbered names a) (numbered names b) (numbered names c)
-        ∙ ap (λ (x : ℕ). 1 + (x + (nodes (numbered names b) + nodes (numbered names c)))) h ∙ ap (λ (x : ℕ). 1 + (nodes a + (x + nodes (numbered names c)))) k
+        ∙ ap (λ (x : ℕ). 1 + (x + nodes (numbered names b))) h ∙ ap (λ (x : ℕ). 1 + (nodes a + x)) k
+        ∙ sym (folded-Binary Name ℕ layer_nodes o a b);
+    sext = λ w a h. ap nodes (numbered_sext names w a) ∙ folded-Sext ℕ ℕ layer_nodes w (numbered names a) ∙ ap (λ (x : ℕ). 1 + x) h
+        ∙ sym (folded-Sext Name ℕ layer_nodes w a);
+    pick = λ a b c h k l. ap nodes (numbered_pick names a b c)
+        ∙ folded-Pick ℕ ℕ layer_nodes (numbered names a) (numbered names b) (numbered names c)
+        ∙ ap (λ (x : ℕ). 1 + (x + (nodes (numbered names b) + nodes (numbered names c)))) h
+        ∙ ap (λ (x : ℕ). 1 + (nodes a + (x + nodes (numbered names c)))) k
         ∙ ap (λ (x : ℕ). 1 + (nodes a + (nodes b + x))) l ∙ sym (folded-Pick Name ℕ layer_nodes a b c);
   })
 
@@ -57,12 +70,17 @@ module _ (names : List Name) where
   depth_kept = by_cases Name (λ e. depth (numbered names e) ≡ depth e) (record {
     number = λ n. ap depth (numbered_number names n) ∙ folded-Number ℕ ℕ layer_depth n ∙ sym (folded-Number Name ℕ layer_depth n);
     var = λ x. ap depth (numbered_var names x) ∙ folded-Var ℕ ℕ layer_depth (number_of names x) ∙ sym (folded-Var Name ℕ layer_depth x);
-    unary = λ o a h. ap depth (numbered_unary names o a) ∙ folded-Unary ℕ ℕ layer_depth o (numbered names a) ∙ ap (λ (x : ℕ). 1 + x) h ∙ sym (folded-Unary Name ℕ layer_depth o a);
+    unary = λ o a h. ap depth (numbered_unary names o a) ∙ folded-Unary ℕ ℕ layer_depth o (numbered names a) ∙ ap (λ (x : ℕ). 1 + x) h
+        ∙ sym (folded-Unary Name ℕ layer_depth o a);
     binary = λ o a b h k. ap depth (numbered_binary names o a b) ∙ folded-Binary ℕ ℕ layer_depth o (numbered names a) (numbered names b)
-        ∙ ap (λ (x : ℕ). 1 + max x (depth (numbered names b))) h ∙ ap (λ (x : ℕ). 1 + max (depth a) x) k ∙ sym (folded-Binary Name ℕ layer_depth o a b);
-    sext = λ w a h. ap depth (numbered_sext names w a) ∙ folded-Sext ℕ ℕ layer_depth w (numbered names a) ∙ ap (λ (x : ℕ). 1 + x) h ∙ sym (folded-Sext Name ℕ layer_depth w a);
-    pick = λ a b c h k l. ap depth (numbered_pick names a b c) ∙ folded-Pick ℕ ℕ layer_depth (numbered names a) (numbered names b) (numbered names c)
-        ∙ ap (λ (x : ℕ). 1 + max x (max (depth (numbered names b)) (depth (numbered names c)))) h ∙ ap (λ (x : ℕ). 1 + max (depth a) (max x (depth (numbered names c)))) k
+        ∙ ap (λ (x : ℕ). 1 + max x (depth (numbered names b))) h ∙ ap (λ (x : ℕ). 1 + max (depth a) x) k
+        ∙ sym (folded-Binary Name ℕ layer_depth o a b);
+    sext = λ w a h. ap depth (numbered_sext names w a) ∙ folded-Sext ℕ ℕ layer_depth w (numbered names a) ∙ ap (λ (x : ℕ). 1 + x) h
+        ∙ sym (folded-Sext Name ℕ layer_depth w a);
+    pick = λ a b c h k l. ap depth (numbered_pick names a b c)
+        ∙ folded-Pick ℕ ℕ layer_depth (numbered names a) (numbered names b) (numbered names c)
+        ∙ ap (λ (x : ℕ). 1 + max x (max (depth (numbered names b)) (depth (numbered names c)))) h
+        ∙ ap (λ (x : ℕ). 1 + max (depth a) (max x (depth (numbered names c)))) k
         ∙ ap (λ (x : ℕ). 1 + max (depth a) (max (depth b) x)) l ∙ sym (folded-Pick Name ℕ layer_depth a b c);
   })
 
@@ -76,7 +94,8 @@ module _ (earlier : List Statement) (names : List Name) (heard : Within (registe
   Reaches e = Known (expr_parts e) → reach (numbered names e) ≤ length names
 
   halves : (ps qs : List Part) → Known (ps ++ qs) → Known ps × Known qs
-  halves ps qs h = and_parts (list_all (is_known earlier) ps) (list_all (is_known earlier) qs) (sym (list_all-append (is_known earlier) ps qs) ∙ h)
+  halves ps qs h = and_parts (list_all (is_known earlier) ps) (list_all (is_known earlier) qs)
+      (sym (list_all-append (is_known earlier) ps qs) ∙ h)
 
   pub variable_below : (x : Name) → is_among (registers earlier ++ temps earlier) x ≡ true → number_of names x < length names
   variable_below x h = number_below names x (heard x h)
@@ -84,7 +103,8 @@ module _ (earlier : List Statement) (names : List Name) (heard : Within (registe
   reach_unary : (o : UnOp) (a : Expr Name) → Reaches a → Reaches (Unary o a)
   unfolding reach
   reach_unary Not a h known =
-      let e : reach (numbered names (Unary Not a)) ≡ reach (numbered names a) = ap reach (numbered_unary names Not a) ∙ folded-Unary ℕ ℕ layer_reach Not (numbered names a) in
+      let e : reach (numbered names (Unary Not a)) ≡ reach (numbered names a) = ap reach (numbered_unary names Not a)
+      ∙ folded-Unary ℕ ℕ layer_reach Not (numbered names a) in
       let below : reach (numbered names a) ≤ length names = h (sym (ap (list_all (is_known earlier)) (parts_Unary Not a)) ∙ known) in
       omega arith
 
@@ -101,9 +121,11 @@ module _ (earlier : List Statement) (names : List Name) (heard : Within (registe
   reach_pick : (a b c : Expr Name) → Reaches a → Reaches b → Reaches c → Reaches (Pick a b c)
   unfolding reach
   reach_pick a b c h k l known =
-      let e : reach (numbered names (Pick a b c)) ≡ max (reach (numbered names a)) (max (reach (numbered names b)) (reach (numbered names c)))
+      let e : reach (numbered names (Pick a b c))
+      ≡ max (reach (numbered names a)) (max (reach (numbered names b)) (reach (numbered names c)))
       = ap reach (numbered_pick names a b c) ∙ folded-Pick ℕ ℕ layer_reach (numbered names a) (numbered names b) (numbered names c) in
-      let first = halves (expr_parts a) (expr_parts b ++ expr_parts c) (sym (ap (list_all (is_known earlier)) (parts_Pick a b c)) ∙ known) in
+      let first = halves (expr_parts a) (expr_parts b ++ expr_parts c)
+      (sym (ap (list_all (is_known earlier)) (parts_Pick a b c)) ∙ known) in
       let later = halves (expr_parts b) (expr_parts c) first.1 in
       let one : reach (numbered names a) ≤ length names = h first.0 in
       let two : reach (numbered names b) ≤ length names = k later.0 in
@@ -113,8 +135,10 @@ module _ (earlier : List Statement) (names : List Name) (heard : Within (registe
   reach_var : (x : Name) → Reaches (Var x)
   unfolding reach
   reach_var x known =
-      let e : reach (numbered names (Var x)) ≡ number_of names x + 1 = ap reach (numbered_var names x) ∙ folded-Var ℕ ℕ layer_reach (number_of names x) in
-      let there = and_parts (is_among (registers earlier ++ temps earlier) x) true (sym (ap (list_all (is_known earlier)) (parts_Var x)) ∙ known) in
+      let e : reach (numbered names (Var x)) ≡ number_of names x + 1 = ap reach (numbered_var names x)
+      ∙ folded-Var ℕ ℕ layer_reach (number_of names x) in
+      let there = and_parts (is_among (registers earlier ++ temps earlier) x) true
+      (sym (ap (list_all (is_known earlier)) (parts_Var x)) ∙ known) in
       let below : number_of names x < length names = variable_below x there.0 in
       omega arith
 
@@ -127,20 +151,22 @@ module _ (earlier : List Statement) (names : List Name) (heard : Within (registe
   reach_sext : (w : ℕ) (a : Expr Name) → Reaches a → Reaches (Sext w a)
   unfolding reach
   reach_sext w a h known =
-      let e : reach (numbered names (Sext w a)) ≡ reach (numbered names a) = ap reach (numbered_sext names w a) ∙ folded-Sext ℕ ℕ layer_reach w (numbered names a) in
+      let e : reach (numbered names (Sext w a)) ≡ reach (numbered names a) = ap reach (numbered_sext names w a)
+      ∙ folded-Sext ℕ ℕ layer_reach w (numbered names a) in
       let below : reach (numbered names a) ≤ length names = h (sym (ap (list_all (is_known earlier)) (parts_Sext w a)) ∙ known) in
       omega arith
 
   reached : (e : Expr Name) → Reaches e
-  reached = by_cases Name Reaches (record { number = reach_number; var = reach_var; unary = reach_unary; binary = reach_binary; sext = reach_sext; pick = reach_pick })
+  reached = by_cases Name Reaches
+      (record { number = reach_number; var = reach_var; unary = reach_unary; binary = reach_binary; sext = reach_sext; pick = reach_pick })
 
   sound : (e : Expr Name) → Known (expr_parts e) → is_small e ≡ true → IsExpressionSound (length names) (numbered names e)
   sound e known small =
-      let both = and_parts (nat_le (nodes e) 256) (nat_le (depth e) 32) small in
+      let both = and_parts (nat_le (nodes e) EXPRESSION_NODES) (nat_le (depth e) EXPRESSION_DEPTH) small in
       record {
         variables = reached e known;
-        size = subst (λ (n : ℕ). n ≤ 256) (sym (nodes_kept names e)) (leb-true (nodes e) 256 both.0);
-        height = subst (λ (n : ℕ). n ≤ 32) (sym (depth_kept names e)) (leb-true (depth e) 32 both.1);
+        size = subst (λ (n : ℕ). n ≤ EXPRESSION_NODES) (sym (nodes_kept names e)) (leb-true (nodes e) EXPRESSION_NODES both.0);
+        height = subst (λ (n : ℕ). n ≤ EXPRESSION_DEPTH) (sym (depth_kept names e)) (leb-true (depth e) EXPRESSION_DEPTH both.1);
       }
 
 -- ---- operations
@@ -150,7 +176,7 @@ pub record OpRead (places memories channels : ℕ) (o : Op ℕ) : Type 0 where
   pub at : All (λ x. x < places) (places_of o)
   pub expressions : All (IsExpressionSound places) (expressions_of o)
   pub memory : IfSome (memory_of o) (λ n. n < memories)
-  pub channel : IfSome (end_of o) (λ e. e.1 < channels)
+  pub channel : IfSome (port_of o) (λ a. a.channel < channels)
 
 module _ (earlier : List Statement) (scope : Scope) (heard : Within (registers earlier ++ temps earlier) (places scope))
     (heard_memories : Within (memories earlier) scope.memories) (heard_channels : Within (channels earlier) scope.channels) where
@@ -173,7 +199,13 @@ module _ (earlier : List Statement) (scope : Scope) (heard : Within (registers e
       → OpRead (length (places scope)) (length scope.memories) (length scope.channels) (operation scope o)
   op_read (op.Set x e) known small =
       let a = and_parts (V x) (list_all (is_known earlier) (expr_parts e)) known in
-      record { at = all_cons IsPlace _ [] (place x a.0) (all_none IsPlace); expressions = all_cons IsSound _ [] (tree e a.1 small) (all_none IsSound); memory = tt; channel = tt }
+      record {
+        at = all_cons IsPlace _ [] (place x a.0) (all_none IsPlace);
+        expressions
+            = all_cons IsSound _ [] (tree e a.1 small) (all_none IsSound);
+        memory = tt;
+        channel = tt;
+      }
   op_read (op.Load x m e) known small =
       let a = and_parts (V x) (is_among (memories earlier) m && list_all (is_known earlier) (expr_parts e)) known in
       let b = and_parts (is_among (memories earlier) m) (list_all (is_known earlier) (expr_parts e)) a.1 in
@@ -185,21 +217,35 @@ module _ (earlier : List Statement) (scope : Scope) (heard : Within (registers e
       }
   op_read (op.Store m e f) known small =
       let a = and_parts (is_among (memories earlier) m) (list_all (is_known earlier) (expr_parts e ++ expr_parts f)) known in
-      let b = and_parts (list_all (is_known earlier) (expr_parts e)) (list_all (is_known earlier) (expr_parts f)) (sym (list_all-append (is_known earlier) (expr_parts e) (expr_parts f)) ∙ a.1) in
+      let b = and_parts (list_all (is_known earlier) (expr_parts e)) (list_all (is_known earlier) (expr_parts f))
+      (sym (list_all-append (is_known earlier) (expr_parts e) (expr_parts f)) ∙ a.1) in
       let s = and_parts (is_small e) (is_small f) small in
       record {
         at = all_none IsPlace;
-        expressions = all_cons IsSound _ (numbered (places scope) f ∷ []) (tree e b.0 s.0) (all_cons IsSound _ [] (tree f b.1 s.1) (all_none IsSound));
+        expressions = all_cons IsSound _ (numbered (places scope) f ∷ []) (tree e b.0 s.0)
+            (all_cons IsSound _ [] (tree f b.1 s.1) (all_none IsSound));
         memory = number_below scope.memories m (heard_memories m a.0);
         channel = tt;
       }
   op_read (op.Read f x) known small =
       let a = and_parts (is_among (channels earlier) f) (V x && true) known in
       let b = and_parts (V x) true a.1 in
-      record { at = all_cons IsPlace _ [] (place x b.0) (all_none IsPlace); expressions = all_none IsSound; memory = tt; channel = number_below scope.channels f (heard_channels f a.0) }
+      record {
+        at = all_cons IsPlace _ [] (place x b.0) (all_none IsPlace);
+        expressions = all_none IsSound;
+        memory = tt;
+        channel
+            = number_below scope.channels f (heard_channels f a.0);
+      }
   op_read (op.Write f e) known small =
       let a = and_parts (is_among (channels earlier) f) (list_all (is_known earlier) (expr_parts e)) known in
-      record { at = all_none IsPlace; expressions = all_cons IsSound _ [] (tree e a.1 small) (all_none IsSound); memory = tt; channel = number_below scope.channels f (heard_channels f a.0) }
+      record {
+        at = all_none IsPlace;
+        expressions = all_cons IsSound _ [] (tree e a.1 small) (all_none IsSound);
+        memory = tt;
+        channel
+            = number_below scope.channels f (heard_channels f a.0);
+      }
   op_read (op.TryRead f x ok) known small =
       let a = and_parts (is_among (channels earlier) f) (V x && (V ok && true)) known in
       let b = and_parts (V x) (V ok && true) a.1 in
@@ -222,8 +268,20 @@ module _ (earlier : List Statement) (scope : Scope) (heard : Within (registers e
   op_read (op.Empty f x) known small =
       let a = and_parts (is_among (channels earlier) f) (V x && true) known in
       let b = and_parts (V x) true a.1 in
-      record { at = all_cons IsPlace _ [] (place x b.0) (all_none IsPlace); expressions = all_none IsSound; memory = tt; channel = number_below scope.channels f (heard_channels f a.0) }
+      record {
+        at = all_cons IsPlace _ [] (place x b.0) (all_none IsPlace);
+        expressions = all_none IsSound;
+        memory = tt;
+        channel
+            = number_below scope.channels f (heard_channels f a.0);
+      }
   op_read (op.Full f x) known small =
       let a = and_parts (is_among (channels earlier) f) (V x && true) known in
       let b = and_parts (V x) true a.1 in
-      record { at = all_cons IsPlace _ [] (place x b.0) (all_none IsPlace); expressions = all_none IsSound; memory = tt; channel = number_below scope.channels f (heard_channels f a.0) }
+      record {
+        at = all_cons IsPlace _ [] (place x b.0) (all_none IsPlace);
+        expressions = all_none IsSound;
+        memory = tt;
+        channel
+            = number_below scope.channels f (heard_channels f a.0);
+      }

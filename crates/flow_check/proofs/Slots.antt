@@ -1,7 +1,6 @@
 -- Slots that the operations so far have taken.
 use Rattle.std.proofs.Common.{◌≡◌, ℕ, suc, ◌+◌, ◌<◌, ◌≤◌, List, [], ◌∷◌, ◌++◌, length, take, drop, get_or, Option, None, Some, option_map, Bool, true, false, cond, refl, sym, ap, ◌∙◌, arith, add-one}
 use Rattle.std.specs.Prelude.{◌||◌, ◌&&◌, ◌==◌}
-use mathlib.Core.Bool.{beq}
 use Rattle.std.specs.List.{list_any}
 use Rattle.std.proofs.Math.Seq.{take-suc, drop-cons}
 use Rattle.std.proofs.Math.ListN.{drop_of_length-le}
@@ -9,8 +8,12 @@ use Rattle.std.proofs.lemmas.Bool.Decides.{nat_tests}
 use Rattle.indexmap.specs.IndexSet.{IndexSet, keys}
 use Rattle.flow_design.specs.declared.design.BlockKind.{BlockKind}
 use Rattle.flow_design.specs.declared.design.Timed.{Timed}
-use Rattle.flow_design.specs.Operations.{End}
-use Rattle.flow_design.specs.StaticRules.{same_end}
+use Rattle.flow_word.specs.declared.access.Side.{Side}
+use Rattle.flow_word.specs.declared.access.Side.TheVariants.{Pop, Push}
+use Rattle.flow_word.specs.declared.access.Port.{Port}
+use Rattle.flow_word.specs.Kinds.{same_side}
+use Rattle.flow_word.specs.contracts.access.PortPartialEq.TheImpl.{ghosts}
+use Rattle.flow_design.specs.StaticRules.{same_port}
 use Rattle.flow_check.specs.First.{first_behind}
 use Rattle.flow_check.specs.Ports.{has_slot, has_this}
 use Rattle.flow_check.specs.Rules.{Slot, slot, is_slot, same_slot, clashes, takes_again}
@@ -47,17 +50,23 @@ none_taken kind ops slots e = record {
   rest = option_zero (first_behind (clashes kind) [] ops);
 }
 
-module _ {S : Type 0} (kind : BlockKind) (ops : List Timed) (at : ℕ) (slots : IndexSet Slot S) (d : Timed) (there : at < length ops) (taken : AreTaken kind ops at slots) where
+module _ {S : Type 0} (kind : BlockKind) (ops : List Timed) (at : ℕ) (slots : IndexSet Slot S) (d : Timed) (there : at < length ops)
+    (taken : AreTaken kind ops at slots) where
   asked : (o : Option Slot) → takes_again kind (take at ops) o ≡ has_this slots o
   asked None = refl
   asked (Some s) = sym (taken.each s)
 
   opened : first_behind (clashes kind) (take at ops) (drop at ops)
-      ≡ cond (has_this slots (slot kind (get_or ops at d))) (Some 0) (option_map (λ k. k + 1) (first_behind (clashes kind) (take (at + 1) ops) (drop (at + 1) ops)))
+      ≡ cond (has_this slots (slot kind (get_or ops at d))) (Some 0)
+      (option_map (λ k. k + 1) (first_behind (clashes kind) (take (at + 1) ops) (drop (at + 1) ops)))
   opened = ap (first_behind (clashes kind) (take at ops)) (drop-cons ops at d there)
-      ∙ ap (λ (b : Bool). cond b (Some 0) (option_map (λ k. k + 1) (first_behind (clashes kind) (take at ops ++ get_or ops at d ∷ []) (drop (suc at) ops)))) (asked (slot kind (get_or ops at d)))
-      ∙ ap (λ (l : List Timed). cond (has_this slots (slot kind (get_or ops at d))) (Some 0) (option_map (λ k. k + 1) (first_behind (clashes kind) l (drop (suc at) ops)))) (sym (take-suc ops at d there))
-      ∙ ap (λ (n : ℕ). cond (has_this slots (slot kind (get_or ops at d))) (Some 0) (option_map (λ k. k + 1) (first_behind (clashes kind) (take n ops) (drop n ops)))) (sym (add-one at))
+      ∙ ap (λ (b : Bool). cond b (Some 0)
+      (option_map (λ k. k + 1) (first_behind (clashes kind) (take at ops ++ get_or ops at d ∷ []) (drop (suc at) ops))))
+      (asked (slot kind (get_or ops at d)))
+      ∙ ap (λ (l : List Timed). cond (has_this slots (slot kind (get_or ops at d))) (Some 0)
+      (option_map (λ k. k + 1) (first_behind (clashes kind) l (drop (suc at) ops)))) (sym (take-suc ops at d there))
+      ∙ ap (λ (n : ℕ). cond (has_this slots (slot kind (get_or ops at d))) (Some 0)
+      (option_map (λ k. k + 1) (first_behind (clashes kind) (take n ops) (drop n ops)))) (sym (add-one at))
 
   -- it is free, and the operation takes it
   pub taken_more : (new : IndexSet Slot S) → has_this slots (slot kind (get_or ops at d)) ≡ false
@@ -69,36 +78,51 @@ module _ {S : Type 0} (kind : BlockKind) (ops : List Timed) (at : ℕ) (slots : 
         ∙ ap (list_any (λ t. is_slot s (slot kind t))) (sym (take-suc ops at d there))
         ∙ ap (λ (n : ℕ). list_any (λ t. is_slot s (slot kind t)) (take n ops)) (sym (add-one at));
     rest = taken.rest
-        ∙ ap (option_map (λ k. at + k)) (opened ∙ ap (λ (b : Bool). cond b (Some 0) (option_map (λ k. k + 1) (first_behind (clashes kind) (take (at + 1) ops) (drop (at + 1) ops)))) free)
+        ∙ ap (option_map (λ k. at + k))
+        (opened ∙ ap (λ (b : Bool). cond b (Some 0)
+        (option_map (λ k. k + 1) (first_behind (clashes kind) (take (at + 1) ops) (drop (at + 1) ops)))) free)
         ∙ option_next at (first_behind (clashes kind) (take (at + 1) ops) (drop (at + 1) ops));
   }
 
 -- all have taken theirs
-pub all_taken : {S : Type 0} (kind : BlockKind) (ops : List Timed) (at : ℕ) (slots : IndexSet Slot S) → length ops ≤ at → AreTaken kind ops at slots
+pub all_taken : {S : Type 0} (kind : BlockKind) (ops : List Timed) (at : ℕ) (slots : IndexSet Slot S) → length ops ≤ at
+    → AreTaken kind ops at slots
     → None ≡ first_behind (clashes kind) [] ops
 all_taken kind ops at slots over taken =
-    sym (taken.rest ∙ ap (λ (l : List Timed). option_map (λ k. at + k) (first_behind (clashes kind) (take at ops) l)) (drop_of_length-le ops over))
+    sym (taken.rest ∙ ap (λ (l : List Timed). option_map (λ k. at + k) (first_behind (clashes kind) (take at ops) l))
+    (drop_of_length-le ops over))
 
--- ---- equal ends and slots
+-- ---- equal ports and slots
 
-pub ends_turn : (e f : End) → same_end e f ≡ same_end f e
-ends_turn (true, n) (true, m) = grind (arith, nat_tests)
-ends_turn (false, n) (false, m) = grind (arith, nat_tests)
-ends_turn (true, n) (false, m) = refl
-ends_turn (false, n) (true, m) = refl
+sides_turn : (a b : Side) → same_side a b ≡ same_side b a
+sides_turn Pop Pop = refl
+sides_turn Pop Push = refl
+sides_turn Push Pop = refl
+sides_turn Push Push = refl
+
+numbers_turn : (n m : ℕ) → (n == m) ≡ (m == n)
+numbers_turn n m = grind (arith, nat_tests)
+
+ports_turn : (a b : Port) → same_port a b ≡ same_port b a
+ports_turn a b = ap (λ (c : Bool). c && (a.channel == b.channel)) (sides_turn a.side b.side)
+    ∙ ap (λ (c : Bool). same_side b.side a.side && c) (numbers_turn a.channel b.channel)
 
 pub slots_turn : (s t : Slot) → same_slot s t ≡ same_slot t s
-slots_turn (e, n) (f, m) = ap (λ (b : Bool). b && (n == m)) (ends_turn e f) ∙ ap (λ (b : Bool). same_end f e && b) (grind (arith, nat_tests))
+slots_turn (a, n) (b, m) = ap (λ (c : Bool). c && (n == m)) (ports_turn a b) ∙ ap (λ (c : Bool). same_port b a && c) (numbers_turn n m)
 
 -- the test of a set's keys, which is the same
 abbrev pub plain : Slot → Slot → Bool
-plain s t = (beq (s.0).0 (t.0).0 && (s.0).1 == (t.0).1) && (s.1 == t.1)
+plain s t = ghosts.eq s.0 t.0 && (s.1 == t.1)
+
+plain_port : (x y : Side) (n m : ℕ)
+    → ghosts.eq (record { side = x; channel = n }) (record { side = y; channel = m }) ≡ same_side x y && (n == m)
+plain_port Pop Pop n m = refl
+plain_port Pop Push n m = refl
+plain_port Push Pop n m = refl
+plain_port Push Push n m = refl
 
 plain_is : (s t : Slot) → plain s t ≡ same_slot s t
-plain_is ((true, n), i) ((true, m), j) = refl
-plain_is ((true, n), i) ((false, m), j) = refl
-plain_is ((false, n), i) ((true, m), j) = refl
-plain_is ((false, n), i) ((false, m), j) = refl
+plain_is (a, i) (b, j) = ap (λ (c : Bool). c && (i == j)) (plain_port a.side b.side a.channel b.channel)
 
 pub any_same : {X : Type 0} (p q : X → Bool) → ((x : X) → p x ≡ q x) → (xs : List X) → list_any p xs ≡ list_any q xs
 any_same p q h [] = refl
@@ -122,7 +146,8 @@ slot_more old new own o is more s =
     by false false = refl
 
 -- the same of the operation as the code reads it
-pub taken_by : {S : Type 0} (kind : BlockKind) (ops : List Timed) (at : ℕ) (slots : IndexSet Slot S) (t : Timed) → at < length ops → AreTaken kind ops at slots
+pub taken_by : {S : Type 0} (kind : BlockKind) (ops : List Timed) (at : ℕ) (slots : IndexSet Slot S) (t : Timed) → at < length ops
+    → AreTaken kind ops at slots
     → t ≡ get_or ops at t → (new : IndexSet Slot S) → has_this slots (slot kind t) ≡ false
     → ((s : Slot) → has_slot new s ≡ has_slot slots s || is_slot s (slot kind t)) → AreTaken kind ops (at + 1) new
 taken_by kind ops at slots t there taken is new free more =

@@ -14,7 +14,7 @@ abbrev pub is_of : Form → Statement → Bool
 is_of form.Limits (s.Limits c o) = true
 is_of form.Channel (s.Source n w) = true
 is_of form.Channel (s.Sink n w) = true
-is_of form.Channel (s.Fifo n w d) = true
+is_of form.Channel (s.Fifo n w depth delay) = true
 is_of form.Module (s.Module n) = true
 is_of form.Block (s.Block n l) = true
 is_of form.Block (s.Loop n ii l r) = true

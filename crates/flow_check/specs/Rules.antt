@@ -1,8 +1,10 @@
 -- The rules that a session is checked by, on its plan: for each rule the first item that breaks it, in the order of the text.
-use Rattle.std.specs.Prelude.{ℕ, ◌*◌, ◌%◌, ◌^◌, ◌==◌, ◌&&◌, not, nat_lt, nat_le, Bool, true, false, List, [], ◌∷◌, length, count_by, Option, None, Some, option_map, if◌then◌else◌}
+use Rattle.std.specs.Prelude.{ℕ, ◌*◌, ◌%◌, ◌==◌, ◌&&◌, not, nat_lt, nat_le, Bool, false, List, [], ◌∷◌, length, count_by, Option, None, Some, option_map, if◌then◌else◌}
 use Rattle.std.specs.List.{list_any, enumerate_from}
-use Rattle.flow_design.specs.declared.expr.Op.{Op}
-use Rattle.flow_design.specs.declared.expr.Op.TheVariants.{Empty, Full}
+use Rattle.flow_word.specs.declared.access.Side.{Side}
+use Rattle.flow_word.specs.declared.access.Side.TheVariants.{Pop, Push}
+use Rattle.flow_word.specs.declared.access.Port.{Port}
+use Rattle.flow_design.specs.declared.limits.TheConstants.{LIVE_ITERATIONS, CYCLES, COUNTED_OPERATIONS}
 use Rattle.flow_design.specs.declared.design.ChannelKind.{ChannelKind}
 use Rattle.flow_design.specs.declared.design.Channel.{Channel}
 use Rattle.flow_design.specs.declared.design.BlockKind.{BlockKind}
@@ -13,8 +15,8 @@ use Rattle.flow_design.specs.declared.design.Timed.{Timed}
 use Rattle.flow_design.specs.declared.design.Block.{Block}
 use Rattle.flow_design.specs.declared.design.Module.{Module}
 use Rattle.flow_design.specs.declared.plan.Plan.{Plan}
-use Rattle.flow_design.specs.Operations.{End, used_end}
-use Rattle.flow_design.specs.StaticRules.{same_end, uses, users_wanted}
+use Rattle.flow_design.specs.Operations.{port_of, used_port}
+use Rattle.flow_design.specs.StaticRules.{same_port, uses, users_wanted}
 use Rattle.flow_grammar.specs.declared.fault.Code.{Code}
 use Rattle.flow_grammar.specs.declared.fault.Code.TheVariants as code
 use Rattle.flow_check.specs.declared.item.Spot.{Spot}
@@ -30,19 +32,21 @@ leads_out blocks (Goto b) = not (nat_lt b blocks)
 leads_out blocks (Branch r b c) = not (nat_lt b blocks && nat_lt c blocks)
 leads_out blocks Stop = false
 
--- ---- the cycle limit is 1 to 10^15, and the operation limit 1 to 200,000
+-- ---- the cycle limit and the operation limit are at least 1 and within the limits of the language
 
 abbrev pub breaks_limits : ℕ → ℕ → Bool
-breaks_limits cycles ops = not ((nat_le 1 cycles && nat_le cycles (10 ^ 15)) && (nat_le 1 ops && nat_le ops 200000))
+breaks_limits cycles ops = not ((nat_le 1 cycles && nat_le cycles CYCLES) && (nat_le 1 ops && nat_le ops COUNTED_OPERATIONS))
 
 -- ---- each channel has the readers and writers that its kind wants
 
-abbrev pub has_ends : List Module → ℕ → ChannelKind → Bool
-has_ends modules f kind =
-    (count_by (uses (true, f)) modules == users_wanted kind true) && (count_by (uses (false, f)) modules == users_wanted kind false)
+abbrev pub has_users : List Module → ℕ → ChannelKind → Side → Bool
+has_users modules f kind side = count_by (uses (record { side = side; channel = f })) modules == users_wanted kind side
 
-abbrev pub lacks_ends : List Module → ℕ × Channel → Bool
-lacks_ends modules (f, c) = not (has_ends modules f c.kind)
+abbrev pub is_served : List Module → ℕ → ChannelKind → Bool
+is_served modules f kind = has_users modules f kind Pop && has_users modules f kind Push
+
+abbrev pub lacks_users : List Module → ℕ × Channel → Bool
+lacks_users modules (f, c) = not (is_served modules f c.kind)
 
 -- ---- no two operations of a body pop, or push, one channel at offsets that are equal, in a loop modulo its II
 
@@ -51,15 +55,15 @@ abbrev pub phase : BlockKind → ℕ → ℕ
 phase Plain offset = offset
 phase (Loop ii again) offset = offset % ii
 
--- the port that an operation uses, and when: the end of a channel, and the offset
+-- the port that an operation uses, and when
 abbrev pub Slot : Type 0
-Slot = End × ℕ
+Slot = Port × ℕ
 
 abbrev pub slot : BlockKind → Timed → Option Slot
-slot kind t = option_map (λ e. (e, phase kind t.offset)) (used_end t.op)
+slot kind t = option_map (λ a. (a, phase kind t.offset)) (used_port t.op)
 
 abbrev pub same_slot : Slot → Slot → Bool
-same_slot (e, at) (f, by) = same_end e f && (at == by)
+same_slot (a, at) (b, by) = same_port a b && (at == by)
 
 abbrev pub is_slot : Slot → Option Slot → Bool
 is_slot s None = false
@@ -73,30 +77,25 @@ takes_again kind before (Some s) = list_any (λ t. is_slot s (slot kind t)) befo
 abbrev pub clashes : BlockKind → List Timed → Timed → Bool
 clashes kind before t = takes_again kind before (slot kind t)
 
--- ---- a loop's LEN is from II to 64*II
+-- ---- a loop's LEN is at least II, and not more than so many times II as iterations may be live at once
 
 abbrev pub is_bad_loop : ℕ → BlockKind → Bool
 is_bad_loop len Plain = false
-is_bad_loop len (Loop ii again) = not (nat_le ii len && nat_le len (64 * ii))
+is_bad_loop len (Loop ii again) = not (nat_le ii len && nat_le len (LIVE_ITERATIONS * ii))
 
 -- ---- an operation's offset is below its block's LEN
 
 abbrev pub is_too_late : ℕ → Timed → Bool
 is_too_late len t = not (nat_lt t.offset len)
 
--- ---- an `empty` stands in its channel's reader, and a `full` in its writer
+-- ---- an operation stands at a port that its module uses: an `empty` in the channel's reader, and a `full` in its writer
 
-abbrev pub tested_end : Op ℕ → Option End
-tested_end (Empty f x) = Some (true, f)
-tested_end (Full f x) = Some (false, f)
-tested_end op = None
-
-abbrev pub lacks_end : Module → Option End → Bool
-lacks_end m None = false
-lacks_end m (Some e) = not (uses e m)
+abbrev pub lacks_port : Module → Option Port → Bool
+lacks_port m None = false
+lacks_port m (Some a) = not (uses a m)
 
 abbrev pub is_on_wrong_side : Module → Timed → Bool
-is_on_wrong_side m t = lacks_end m (tested_end t.op)
+is_on_wrong_side m t = lacks_port m (port_of t.op)
 
 -- ---- the rules in blocks
 
@@ -120,7 +119,7 @@ in_module (m, place) = item.InModule m place
 -- the first of a plan that breaks a rule
 abbrev pub broken_by : Plan → Code → Option Item
 broken_by plan code.BadLimit = if breaks_limits plan.cycles plan.ops then Some item.Limits else None
-broken_by plan code.Ends = option_map item.Channel (place_where (lacks_ends plan.design.modules) (enumerate_from 0 plan.design.channels))
+broken_by plan code.Ends = option_map item.Channel (place_where (lacks_users plan.design.modules) (enumerate_from 0 plan.design.channels))
 broken_by plan rule = option_map in_module (first_in (spot_in rule) plan.design.modules)
 
 -- the rules in their order: each is tried on the whole plan, before the next

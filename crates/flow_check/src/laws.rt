@@ -1,10 +1,12 @@
 //! Laws of checked sessions.
-ghost use Rattle.std.specs.Prelude.{◌≡◌, List, None, All};
+ghost use Rattle.std.specs.Prelude.{◌≡◌, ℕ, List, None, All};
 ghost use Rattle.flow_design.specs.declared.session.Statement.{Statement};
+ghost use Rattle.flow_design.specs.declared.plan.Plan.{Plan};
 ghost use Rattle.flow_design.specs.Plans.{EditFits};
 ghost use Rattle.flow_design.specs.StaticRules.{FitsEngine};
 ghost use Rattle.flow_grammar.specs.Rules.{KeepsReadingRules};
 ghost use Rattle.session_plan.specs.Plans.{plan_of, edits_of};
+ghost use Rattle.flow_check.specs.Checked.{fault_of};
 ghost use Rattle.flow_check.specs.Read.{IsPlanRead};
 ghost use Rattle.flow_check.specs.Rules.{checking_fault};
 
@@ -15,7 +17,14 @@ pub fn read_sessions_have_plans()
 
 /// The plan of a session that was read and has no checking fault is one that the engine takes.
 pub fn checked_plans_fit()
-    ensures { (statements : List Statement) → KeepsReadingRules statements → checking_fault (plan_of statements) ≡ None → FitsEngine (plan_of statements) }
+    ensures { (statements : List Statement) → KeepsReadingRules statements → checking_fault (plan_of statements) ≡ None
+        → FitsEngine (plan_of statements) }
+{}
+
+/// The converse: a plan that the engine takes breaks no rule of checking. So `check` refuses no session whose plan fits.
+pub fn fitting_plans_are_checked()
+    ensures plans { (plan : Plan) → FitsEngine plan → checking_fault plan ≡ None }
+    ensures sessions { (statements : List Statement) (lines : List ℕ) → FitsEngine (plan_of statements) → fault_of statements lines ≡ None }
 {}
 
 /// Each edit of a session that was read is one that its plan takes.

@@ -8,6 +8,8 @@ mod ports;
 mod rules;
 mod session;
 
-pub use laws::{checked_plans_fit, read_edits_fit, read_sessions_have_plans};
+pub use laws::{
+    checked_plans_fit, fitting_plans_are_checked, read_edits_fit, read_sessions_have_plans,
+};
 pub use session::check;
 pub use session_plan::Checked;

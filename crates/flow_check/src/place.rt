@@ -28,7 +28,7 @@ fn is_of(form: Form, statement: &Statement) -> bool
         (Form::Limits, Statement::Limits(_, _)) => true,
         (
             Form::Channel,
-            Statement::Source(_, _) | Statement::Sink(_, _) | Statement::Fifo(_, _, _),
+            Statement::Source(_, _) | Statement::Sink(_, _) | Statement::Fifo(_, _, _, _),
         ) => true,
         (Form::Module, Statement::Module(_)) => true,
         (Form::Block, Statement::Block(_, _) | Statement::Loop(_, _, _, _)) => true,

@@ -1,76 +1,113 @@
-//! Which ends of channels a module uses, and when.
-ghost use Rattle.std.specs.Prelude.{◌≡◌, ◌||◌, [], map, if◌then◌else◌, IfOk, OnOk};
+//! Which ports a module uses, and when.
+ghost use Rattle.std.specs.Prelude.{◌≡◌, ◌||◌, [], map, option_map, if◌then◌else◌, IfOk, OnOk};
 ghost use Rattle.std.specs.List.{list_any};
-ghost use Rattle.flow_design.specs.Operations.{used_end, End as EndOf};
-ghost use Rattle.flow_design.specs.StaticRules.{uses, is_end};
-ghost use Rattle.flow_check.specs.Ports.{has, has_slot, has_this, HasEnds, HaveEnds};
+ghost use Rattle.flow_word.specs.declared.access.Port.{Port as PortOf};
+ghost use Rattle.flow_design.specs.Operations.{access_of, port, port_of, used_port};
+ghost use Rattle.flow_design.specs.StaticRules.{uses, is_port};
+ghost use Rattle.flow_check.specs.Ports.{has, has_slot, has_this, HasPorts, HavePorts};
 ghost use Rattle.flow_check.specs.Rules.{phase, slot, clashes, is_slot, Slot as SlotOf};
 ghost use Rattle.flow_check.specs.First.{first_behind};
 
 use flow_design::{BlockKind, Module, Op, Timed};
-use flow_word::{List, OutOfMemory};
+use flow_word::{Kind, List, OutOfMemory, Port};
 use indexmap::IndexSet;
 use std::alloc::Global;
 
-/// The popping end (true) or the pushing end (false) of a channel.
-pub(crate) type End = (bool, u64);
+/// A port that an operation uses, with the operation's offset, in a loop modulo its interval.
+type Slot = (Port, u64);
 
-/// An end that an operation uses, with the operation's offset, in a loop modulo its interval.
-type Slot = (End, u64);
-
-/// The end at which an operation pops or pushes.
-fn used_end(op: &Op<u32>) -> Option<End>
-    ensures { result ≡ used_end op.now }
+/// The kind of a FIFO operation, and its channel.
+fn access_of(op: &Op<u32>) -> Option<(Kind, u32)>
+    ensures { result ≡ access_of op.now }
 {
     match op {
-        Op::Read(channel, _) | Op::TryRead(channel, _, _) => Some((true, *channel as u64)),
-        Op::Write(channel, _) | Op::TryWrite(channel, _, _) => Some((false, *channel as u64)),
         Op::Set(_, _) | Op::Load(_, _, _) | Op::Store(_, _, _) => None,
-        Op::Empty(_, _) | Op::Full(_, _) => None,
+        Op::Read(channel, _) => Some((Kind::Read, *channel)),
+        Op::Write(channel, _) => Some((Kind::Write, *channel)),
+        Op::TryRead(channel, _, _) => Some((Kind::TryRead, *channel)),
+        Op::TryWrite(channel, _, _) => Some((Kind::TryWrite, *channel)),
+        Op::Empty(channel, _) => Some((Kind::Empty, *channel)),
+        Op::Full(channel, _) => Some((Kind::Full, *channel)),
     }
 }
 
-/// Adds the end that an operation uses.
-fn add_end(op: &Op<u32>, ends: &mut IndexSet<End>) -> Result<(), OutOfMemory>
-    ensures { OnOk result ((e : EndOf) → has ends.new e ≡ (has ends.old e || is_end e (used_end op.now))) }
+/// The port of an access of this kind.
+fn port(kind: Kind, channel: u32) -> Port
+    ensures { result ≡ port kind channel }
 {
-    if let Some(end) = used_end(op) {
-        ends.insert(end)?;
+    Port {
+        side: kind.side(),
+        channel,
+    }
+}
+
+/// The port at which an operation stands.
+pub(crate) fn port_of(op: &Op<u32>) -> Option<Port>
+    ensures { result ≡ port_of op.now }
+{
+    match access_of(op) {
+        Some((kind, channel)) => Some(port(kind, channel)),
+        None => None,
+    }
+}
+
+/// The port at which an operation pops or pushes.
+fn used_port(op: &Op<u32>) -> Option<Port>
+    ensures { result ≡ used_port op.now }
+{
+    match access_of(op) {
+        Some((kind, channel)) => {
+            if kind.takes() {
+                Some(port(kind, channel))
+            } else {
+                None
+            }
+        }
+        None => None,
+    }
+}
+
+/// Adds the port that an operation uses.
+fn add_port(op: &Op<u32>, ports: &mut IndexSet<Port>) -> Result<(), OutOfMemory>
+    ensures { OnOk result ((a : PortOf) → has ports.new a ≡ (has ports.old a || is_port a (used_port op.now))) }
+{
+    if let Some(port) = used_port(op) {
+        ports.insert(port)?;
     }
     Ok(())
 }
 
-/// Adds the ends that a body uses.
-fn add_ends(ops: &[Timed], ends: &mut IndexSet<End>) -> Result<(), OutOfMemory>
-    ensures { OnOk result ((e : EndOf) → has ends.new e ≡ (has ends.old e || list_any (λ t. is_end e (used_end t.op)) ops.now)) }
+/// Adds the ports that a body uses.
+fn add_ports(ops: &[Timed], ports: &mut IndexSet<Port>) -> Result<(), OutOfMemory>
+    ensures { OnOk result ((a : PortOf) → has ports.new a ≡ (has ports.old a || list_any (λ t. is_port a (used_port t.op)) ops.now)) }
 {
     for timed in ops {
-        add_end(&timed.op, ends)?;
+        add_port(&timed.op, ports)?;
     }
     Ok(())
 }
 
-/// The ends that a module uses.
-fn ends_of(alloc: Global, of: &Module) -> Result<IndexSet<End>, OutOfMemory>
-    ensures { IfOk result (λ ends. HasEnds ends of.now) }
+/// The ports that a module uses.
+fn ports_of(alloc: Global, of: &Module) -> Result<IndexSet<Port>, OutOfMemory>
+    ensures { IfOk result (λ ports. HasPorts ports of.now) }
 {
-    let mut ends = IndexSet::new(alloc);
+    let mut ports = IndexSet::new(alloc);
     for block in of.blocks.as_slice() {
-        add_ends(block.ops.as_slice(), &mut ends)?;
+        add_ports(block.ops.as_slice(), &mut ports)?;
     }
-    Ok(ends)
+    Ok(ports)
 }
 
-/// The ends that each module uses.
-pub(crate) fn ends_of_each(
+/// The ports that each module uses.
+pub(crate) fn ports_of_each(
     alloc: Global,
     modules: &[Module],
-) -> Result<List<IndexSet<End>>, OutOfMemory>
-    ensures { IfOk result (λ all. HaveEnds all modules.now) }
+) -> Result<List<IndexSet<Port>>, OutOfMemory>
+    ensures { IfOk result (λ all. HavePorts all modules.now) }
 {
     let mut all = List::with_room(alloc, modules.len() as u64)?;
     for of in modules {
-        all.push(ends_of(alloc, of)?)?;
+        all.push(ports_of(alloc, of)?)?;
     }
     Ok(all)
 }
@@ -89,8 +126,8 @@ fn phase(kind: BlockKind, offset: u64) -> u64
 fn slot(kind: BlockKind, timed: &Timed) -> Option<Slot>
     ensures { result ≡ slot kind timed.now }
 {
-    match used_end(&timed.op) {
-        Some(end) => Some((end, phase(kind, timed.offset))),
+    match used_port(&timed.op) {
+        Some(port) => Some((port, phase(kind, timed.offset))),
         None => None,
     }
 }

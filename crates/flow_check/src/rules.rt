@@ -1,18 +1,17 @@
 //! The rules, each on a whole plan.
-ghost use Rattle.std.specs.Prelude.{◌≡◌, ◌==◌, List as Items, count_by, if◌then◌else◌, option_map, IfOk};
+ghost use Rattle.std.specs.Prelude.{◌≡◌, ◌≤◌, ◌^◌, List as Items, length, count_by, if◌then◌else◌, option_map, IfOk};
 ghost use Rattle.std.specs.List.{enumerate_from};
-ghost use Rattle.flow_design.specs.Operations.{End as EndOf};
 ghost use Rattle.flow_design.specs.declared.design.Module.{Module as ModuleOf};
 ghost use Rattle.flow_design.specs.StaticRules.{uses, users_wanted};
 ghost use Rattle.flow_check.specs.First.{first_in, first_for, place_where};
-ghost use Rattle.flow_check.specs.Ports.{has, HasEnds, HaveEnds};
-ghost use Rattle.flow_check.specs.Rules.{leads_out, breaks_limits, has_ends, lacks_ends, is_bad_loop, is_too_late, tested_end, is_on_wrong_side, spot, spot_in, in_module, broken_by, rules, checking_fault};
+ghost use Rattle.flow_check.specs.Ports.{has, HasPorts, HavePorts};
+ghost use Rattle.flow_check.specs.Rules.{leads_out, breaks_limits, has_users, is_served, lacks_users, is_bad_loop, is_too_late, is_on_wrong_side, spot, spot_in, in_module, broken_by, rules, checking_fault};
 
 use crate::item::{Item, Spot};
-use crate::ports::{End, ends_of_each, first_clash};
-use flow_design::{Block, BlockKind, Channel, ChannelKind, Module, Next, Op, Plan, Timed};
+use crate::ports::{first_clash, port_of, ports_of_each};
+use flow_design::{Block, BlockKind, Channel, ChannelKind, Module, Next, Plan, Timed, limits};
 use flow_grammar::Code;
-use flow_word::OutOfMemory;
+use flow_word::{OutOfMemory, Port, Side};
 use indexmap::IndexSet;
 use std::alloc::Global;
 
@@ -31,49 +30,37 @@ fn leads_out(blocks: u64, next: Next) -> bool
 fn breaks_limits(cycles: u64, ops: u64) -> bool
     ensures { result ≡ breaks_limits cycles ops }
 {
-    cycles < 1 || cycles > 1_000_000_000_000_000 || ops < 1 || ops > 200_000
+    cycles < 1 || cycles > limits::CYCLES || ops < 1 || ops > limits::COUNTED_OPERATIONS
 }
 
-/// Whether a loop's length is less than its interval, or more than 64 times it.
+/// Whether a loop's length is less than its interval, or more iterations than may be live at once.
 fn is_bad_loop(len: u64, kind: BlockKind) -> bool
     ensures { result ≡ is_bad_loop len kind }
 {
     match kind {
         BlockKind::Plain => false,
-        BlockKind::Loop { ii, again: _ } => len < ii || len.div_ceil(64) > ii,
+        BlockKind::Loop { ii, again: _ } => len < ii || len.div_ceil(limits::LIVE_ITERATIONS) > ii,
     }
 }
 
-/// The end at which an operation tests its channel.
-fn tested_end(op: &Op<u32>) -> Option<End>
-    ensures { result ≡ tested_end op.now }
-{
-    match op {
-        Op::Empty(channel, _) => Some((true, *channel as u64)),
-        Op::Full(channel, _) => Some((false, *channel as u64)),
-        Op::Set(_, _) | Op::Load(_, _, _) | Op::Store(_, _, _) => None,
-        Op::Read(_, _) | Op::Write(_, _) | Op::TryRead(_, _, _) | Op::TryWrite(_, _, _) => None,
-    }
-}
-
-/// Whether an operation tests an end of a channel that its module does not use.
-fn is_on_wrong_side(of: &Module, ends: &IndexSet<End>, timed: &Timed) -> bool
-    requires { HasEnds ends.now of.now }
+/// Whether an operation stands at a port that its module does not use.
+fn is_on_wrong_side(of: &Module, ports: &IndexSet<Port>, timed: &Timed) -> bool
+    requires { HasPorts ports.now of.now }
     ensures { result ≡ is_on_wrong_side of.now timed.now }
 {
-    match tested_end(&timed.op) {
-        Some(end) => !has(ends, end),
+    match port_of(&timed.op) {
+        Some(port) => !has(ports, port),
         None => false,
     }
 }
 
-/// The number of the first operation that tests a channel from the wrong side.
-fn first_on_wrong_side(of: &Module, ends: &IndexSet<End>, ops: &[Timed]) -> Option<u64>
-    requires { HasEnds ends.now of.now }
+/// The number of the first operation that stands at a port that its module does not use.
+fn first_on_wrong_side(of: &Module, ports: &IndexSet<Port>, ops: &[Timed]) -> Option<u64>
+    requires { HasPorts ports.now of.now }
     ensures { result ≡ place_where (is_on_wrong_side of.now) ops.now }
 {
     for (at, timed) in ops.iter().enumerate() {
-        if is_on_wrong_side(of, ends, timed) {
+        if is_on_wrong_side(of, ports, timed) {
             return Some(at as u64);
         }
     }
@@ -97,10 +84,10 @@ fn spot(
     alloc: Global,
     rule: Code,
     of: &Module,
-    ends: &IndexSet<End>,
+    ports: &IndexSet<Port>,
     block: &Block,
 ) -> Result<Option<Spot>, OutOfMemory>
-    requires { HasEnds ends.now of.now }
+    requires { HasPorts ports.now of.now }
     ensures { IfOk result (λ s. s ≡ spot rule of.now block.now) }
 {
     let ops = block.ops.as_slice();
@@ -111,7 +98,7 @@ fn spot(
         Code::BadLoop => return Ok(when(is_bad_loop(block.len, block.kind), Spot::Head)),
         Code::PortClash => first_clash(alloc, block.kind, ops)?,
         Code::BadOffset => first_too_late(block.len, ops),
-        Code::WrongSide => first_on_wrong_side(of, ends, ops),
+        Code::WrongSide => first_on_wrong_side(of, ports, ops),
         _ => None,
     };
     Ok(match operation {
@@ -132,13 +119,13 @@ fn spot_in(
     alloc: Global,
     rule: Code,
     of: &Module,
-    ends: &IndexSet<End>,
+    ports: &IndexSet<Port>,
 ) -> Result<Option<(u64, Spot)>, OutOfMemory>
-    requires { HasEnds ends.now of.now }
+    requires { HasPorts ports.now of.now }
     ensures { IfOk result (λ s. s ≡ spot_in rule of.now) }
 {
     for (at, block) in of.blocks.as_slice().iter().enumerate() {
-        if let Some(found) = spot(alloc, rule, of, ends, block)? {
+        if let Some(found) = spot(alloc, rule, of, ports, block)? {
             return Ok(Some((at as u64, found)));
         }
     }
@@ -150,9 +137,9 @@ fn item_in(
     alloc: Global,
     rule: Code,
     modules: &[Module],
-    all: &[IndexSet<End>],
+    all: &[IndexSet<Port>],
 ) -> Result<Option<Item>, OutOfMemory>
-    requires { HaveEnds all.now modules.now }
+    requires { HavePorts all.now modules.now }
     ensures { IfOk result (λ i. i ≡ option_map in_module (first_in (spot_in rule) modules.now)) }
 {
     for (at, of) in modules.iter().enumerate() {
@@ -163,53 +150,54 @@ fn item_in(
     Ok(None)
 }
 
-/// Whether an end is among these.
-fn has(ends: &IndexSet<End>, end: End) -> bool
-    ensures { result ≡ has ends.now end }
+/// Whether a port is among these.
+fn has(ports: &IndexSet<Port>, port: Port) -> bool
+    ensures { result ≡ has ports.now port }
 {
-    ends.contains(&end)
+    ports.contains(&port)
 }
 
-/// How many of these have an end.
-fn count_users(all: &[IndexSet<End>], end: End) -> u64
-    ensures { result ≡ count_by (λ ends. has ends end) all.now }
+/// How many of these have a port.
+fn count_users(all: &[IndexSet<Port>], port: Port) -> u64
+    ensures { result ≡ count_by (λ ports. has ports port) all.now }
 {
-    all.iter().filter(|ends| has(ends, end)).count() as u64
+    all.iter().filter(|ports| has(ports, port)).count() as u64
 }
 
-/// How many modules pop (true) or push (false) a channel of this kind.
-fn users_wanted(kind: ChannelKind, pops: bool) -> u64
-    ensures { result ≡ users_wanted kind pops }
+/// How many modules pop or push a channel of this kind.
+fn users_wanted(kind: ChannelKind, side: Side) -> u64
+    ensures { result ≡ users_wanted kind side }
 {
-    match kind {
-        ChannelKind::Source => pops as u64,
-        ChannelKind::Sink => !pops as u64,
-        ChannelKind::Fifo(_) => 1,
+    match (kind, side) {
+        (ChannelKind::Source, Side::Push) | (ChannelKind::Sink, Side::Pop) => 0,
+        _ => 1,
     }
 }
 
-/// Whether so many of the modules use an end.
-fn has_users(all: &[IndexSet<End>], end: End, wanted: u64) -> bool
-    ensures { (modules : Items ModuleOf) → HaveEnds all.now modules → result ≡ (count_by (uses end) modules == wanted) }
+/// Whether a channel has as many users at a side as its kind wants.
+fn has_users(all: &[IndexSet<Port>], channel: u32, kind: ChannelKind, side: Side) -> bool
+    ensures { (modules : Items ModuleOf) → HavePorts all.now modules → result ≡ has_users modules channel kind side }
 {
-    count_users(all, end) == wanted
+    count_users(all, Port { side, channel }) == users_wanted(kind, side)
 }
 
 /// Whether a channel has the readers and writers that its kind wants.
-fn has_ends(all: &[IndexSet<End>], number: u64, kind: ChannelKind) -> bool
-    ensures { (modules : Items ModuleOf) → HaveEnds all.now modules → result ≡ has_ends modules number kind }
+fn is_served(all: &[IndexSet<Port>], channel: u32, kind: ChannelKind) -> bool
+    ensures { (modules : Items ModuleOf) → HavePorts all.now modules → result ≡ is_served modules channel kind }
 {
-    let popped = has_users(all, (true, number), users_wanted(kind, true));
-    let pushed = has_users(all, (false, number), users_wanted(kind, false));
+    let popped = has_users(all, channel, kind, Side::Pop);
+    let pushed = has_users(all, channel, kind, Side::Push);
     popped && pushed
 }
 
 /// The number of the first channel that lacks them.
-fn first_lacking(all: &[IndexSet<End>], channels: &[Channel]) -> Option<u64>
-    ensures { (modules : Items ModuleOf) → HaveEnds all.now modules → result ≡ place_where (lacks_ends modules) (enumerate_from 0 channels.now) }
+fn first_lacking(all: &[IndexSet<Port>], channels: &[Channel]) -> Option<u64>
+    requires { length channels.now ≤ 2 ^ 30 }
+    ensures { (modules : Items ModuleOf) → HavePorts all.now modules
+        → result ≡ place_where (lacks_users modules) (enumerate_from 0 channels.now) }
 {
     for (at, channel) in channels.iter().enumerate() {
-        if !has_ends(all, at as u64, channel.kind) {
+        if !is_served(all, at as u32, channel.kind) {
             return Some(at as u64);
         }
     }
@@ -220,10 +208,11 @@ fn first_lacking(all: &[IndexSet<End>], channels: &[Channel]) -> Option<u64>
 fn broken_by(
     alloc: Global,
     plan: &Plan,
-    all: &[IndexSet<End>],
+    all: &[IndexSet<Port>],
     rule: Code,
 ) -> Result<Option<Item>, OutOfMemory>
-    requires { HaveEnds all.now plan.now.design.modules }
+    requires ports { HavePorts all.now plan.now.design.modules }
+    requires few { length plan.now.design.channels ≤ 2 ^ 30 }
     ensures { IfOk result (λ i. i ≡ broken_by plan.now rule) }
 {
     match rule {
@@ -244,10 +233,11 @@ fn broken_by(
 fn first_broken(
     alloc: Global,
     plan: &Plan,
-    all: &[IndexSet<End>],
+    all: &[IndexSet<Port>],
     rules: &[Code],
 ) -> Result<Option<(Code, Item)>, OutOfMemory>
-    requires { HaveEnds all.now plan.now.design.modules }
+    requires ports { HavePorts all.now plan.now.design.modules }
+    requires few { length plan.now.design.channels ≤ 2 ^ 30 }
     ensures { IfOk result (λ fault. fault ≡ first_for (broken_by plan.now) rules.now) }
 {
     for rule in rules {
@@ -264,9 +254,10 @@ pub(crate) fn checking_fault(
     alloc: Global,
     plan: &Plan,
 ) -> Result<Option<(Code, Item)>, OutOfMemory>
+    requires { length plan.now.design.channels ≤ 2 ^ 30 }
     ensures { IfOk result (λ fault. fault ≡ checking_fault plan.now) }
 {
-    let all = ends_of_each(alloc, plan.design.modules.as_slice())?;
+    let all = ports_of_each(alloc, plan.design.modules.as_slice())?;
     let rules = [
         Code::UnknownName,
         Code::BadLimit,

@@ -1,5 +1,5 @@
 //! Checking a session.
-ghost use Rattle.std.specs.Prelude.{◌≡◌, None, All, IfOk, IfErr};
+ghost use Rattle.std.specs.Prelude.{◌≡◌, ◌≤◌, ◌^◌, None, All, length, IfOk, IfErr};
 ghost use Rattle.flow_design.specs.Plans.{EditFits};
 ghost use Rattle.flow_design.specs.StaticRules.{FitsEngine};
 ghost use Rattle.flow_grammar.specs.Rules.{KeepsReadingRules};
@@ -42,7 +42,8 @@ fn fault_of(
     statements: &[Statement],
     lines: &[u64],
 ) -> Result<Option<TextFault>, OutOfMemory>
-    requires { checked.now.plan ≡ plan_of statements.now }
+    requires plan { checked.now.plan ≡ plan_of statements.now }
+    requires few { length checked.now.plan.design.channels ≤ 2 ^ 30 }
     ensures { IfOk result (λ fault. fault ≡ fault_of statements.now lines.now) }
 {
     match checking_fault(alloc, &checked.plan)? {

@@ -6,7 +6,8 @@ pub loop-at-init : goal.loop-at-init
 loop-at-init c = none_taken c.args.kind c.args.ops.now c.new-slots.result c.new-slots.ensures.empty
 
 pub loop-at-preserved : goal.loop-at-preserved
-loop-at-preserved c = taken_by c.args.kind c.args.ops.now c.loop-at.at c.loop-at.slots c.index-ops-at.result c.loop-at-test.true c.loop-at.invariant c.index-ops-at.is c.take_slot.new.slots
+loop-at-preserved c = taken_by c.args.kind c.args.ops.now c.loop-at.at c.loop-at.slots c.index-ops-at.result c.loop-at-test.true
+    c.loop-at.invariant c.index-ops-at.is c.take_slot.new.slots
     (sym c.in_ok-take_slot.ensures.again ∙ c.if-branch.false) c.in_ok-take_slot.ensures.taken
 
 pub returns : goal.returns

@@ -19,7 +19,8 @@ returns-in-None-clause-engine c = λ rules.
     let statements : List Statement = c.as_slice-statements.result.now in
     let kept : KeepsReadingRules statements = subst KeepsReadingRules (sym c.as_slice-statements.ensures) rules in
     let told : fault_of statements c.as_slice.result.now ≡ None = sym c.in_ok-fault.ensures ∙ c.in-None.is in
-    let none : checking_fault (plan_of statements) ≡ None = none_mapped (at_line statements c.as_slice.result.now) (checking_fault (plan_of statements)) told in
+    let none : checking_fault (plan_of statements) ≡ None
+    = none_mapped (at_line statements c.as_slice.result.now) (checking_fault (plan_of statements)) told in
     subst FitsEngine (sym c.in_ok-checked.ensures.plan) (fits (plan_of statements) (plan_read statements kept) none)
 
 pub returns-in-None-clause-editable : goal.returns-in-None-clause-editable

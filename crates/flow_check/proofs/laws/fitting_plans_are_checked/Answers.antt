@@ -1,0 +1,12 @@
+use Rattle.std.proofs.Common.{ap}
+use Rattle.std.specs.Option.{option_map}
+use Rattle.session_plan.specs.Plans.{plan_of}
+use Rattle.flow_check.specs.Checked.{at_line}
+use Rattle.flow_check.proofs.Strict.{strict}
+use Rattle.flow_check.proofs.laws.fitting_plans_are_checked.Goals as goal
+
+pub returns : goal.returns
+returns c = record {
+  plans = strict;
+  sessions = λ statements lines fits. ap (option_map (at_line statements lines)) (strict (plan_of statements) fits);
+}

@@ -1,0 +1,8 @@
+use Rattle.std.proofs.Common.{◌≡◌, take, map}
+use Rattle.flow_word.specs.declared.access.Port.{Port}
+use Rattle.flow_design.specs.StaticRules.{uses}
+use Rattle.flow_check.specs.Ports.{has}
+use Rattle.flow_check.proofs.ports.ports_of_each.Given as goal
+
+abbrev pub invariant-loop-of : goal.invariant-loop-of
+invariant-loop-of l = (a : Port) → map (λ ports. has ports a) l.all ≡ map (uses a) (take l.of-index l.modules)

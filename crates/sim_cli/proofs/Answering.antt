@@ -13,7 +13,8 @@ use Rattle.cli_words.specs.declared.Command.TheVariants.{Run, Alone, Clock, Chec
 use Rattle.sim_cli.specs.declared.task.Task.{Task}
 use Rattle.sim_cli.specs.declared.task.Task.TheVariants.{Simulate, Print, Summarize}
 use Rattle.sim_cli.specs.declared.status.Status.TheVariants.{ReadFault, Memory}
-use Rattle.sim_cli.specs.Made.{Answer, refused_words, refused, made}
+use Rattle.sim_cli.specs.declared.answer.Answer.{Answer}
+use Rattle.sim_cli.specs.Made.{refused_words, refused, made}
 use Rattle.sim_cli.specs.Answer.{AnswersSession, AnswersText, AnswersCommand, Tells}
 use Rattle.sim_cli.specs.Answer.AnswersSession.{misfit, fit}
 use Rattle.sim_cli.specs.Answer.AnswersText.{misread, read}
@@ -22,7 +23,7 @@ use Rattle.sim_cli.specs.Answer.AnswersText.{misread, read}
 
 -- by its checking fault
 abbrev answer_by : Option TextFault → Task → List Statement → List ℕ → Answer
-answer_by None task s l = made task s l
+answer_by None task s l = made task s
 answer_by (Some fault) task s l = refused fault
 
 pub session_answer : (task : Task) (s : List Statement) (l : List ℕ) → AnswersSession task s l (answer_by (fault_of s l) task s l)

@@ -18,7 +18,7 @@ use Rattle.event_timing.proofs.Agreement.{final_complete}
 use Rattle.event_timing.proofs.Values.{taken_once}
 use Rattle.event_timing.proofs.OwnRuns.{taken_mono}
 
-kept_ge : (cycle : ℕ → ℕ) (t n b : ℕ) → n ≤ b → ((k : ℕ) → k < n → cycle k < t) → n ≤ kept cycle t b
+pub kept_ge : (cycle : ℕ → ℕ) (t n b : ℕ) → n ≤ b → ((k : ℕ) → k < n → cycle k < t) → n ≤ kept cycle t b
 unfolding kept
 kept_ge cycle t n zero l f = omega arith
 kept_ge cycle t n (suc b) l f =

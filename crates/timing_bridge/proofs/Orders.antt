@@ -20,4 +20,5 @@ pub reached_agrees : (p : Plan) → FitsEngine p → (limit : ℕ) (actions : Li
     → ActsAll (design p) limit (opening_core (design p)) actions x
     → IsAgreed (design p) (lockstep_run p) limit x
 reached_agrees p h limit actions x s =
-    agrees_on p h limit (opening_core (design p)) (opening_agrees (design p) (lockstep_run p) (plan_is_design p h) (run_is_history p h) limit) actions x s
+    agrees_on p h limit (opening_core (design p))
+    (opening_agrees (design p) (lockstep_run p) (plan_is_design p h) (run_is_history p h) limit) actions x s

@@ -25,7 +25,8 @@ told_none (r ∷ rs) = refl
 pub skip_same : (p : Plan) (i n : ℕ) (s : ModuleState) → skip (design p) i n s ≡ real.skip p i n s
 skip_same p i zero s = refl
 skip_same p i (suc n) s =
-    ap (λ (replies : List Reply). move (module_at p i) (skip (design p) i n s) replies) (told_none (requests_of p (i, skip (design p) i n s)))
+    ap (λ (replies : List Reply). move (module_at p i) (skip (design p) i n s) replies)
+    (told_none (requests_of p (i, skip (design p) i n s)))
     ∙ ap (λ (t : ModuleState). move (module_at p i) t []) (skip_same p i n s)
 
 -- where a request is, an access is

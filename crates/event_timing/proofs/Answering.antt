@@ -264,8 +264,7 @@ module _ {S : Type 0} (d : Design S) (h : Trace S) (i : IsDesign d) (limit : ℕ
   answer_right st dn right =
       put_at_both x.flags m (x.timed m) (new_flags d x m c)
       (λ n k f. k ≡ x.timed n → k < x.emitted n → (after_answer d x m c).verified n k ≡ true → (z : ℕ) → steps d h z n ≡ true
-      → done d h n z ≡ k
-      → f ≡ possible_all d h z (core_accesses d x n k))
+      → done d h n z ≡ k → f ≡ possible_all d h z (core_accesses d x n k))
       (λ q l v z s k.
       let clock = same_clock d h m c z st s (dn ∙ sym k) in
       right ∙ ap (λ (j : ℕ). possible_all d h j (core_accesses d x m (x.timed m))) clock)

@@ -166,8 +166,7 @@ module _ {S : Type 0} (d : Design S) (limit : ℕ) (x : Core S) (inside : IsInsi
 
   -- no open step comes before that of the module
   least_there : (m c : ℕ) → candidate d (view d x) m ≡ Some c
-      → no_module (is_open_before d limit x (candidate d (view d x) m)) d.modules ≡ true → (n e : ℕ)
-      → IsOpen d limit x n e → c ≤ e
+      → no_module (is_open_before d limit x (candidate d (view d x) m)) d.modules ≡ true → (n e : ℕ) → IsOpen d limit x n e → c ≤ e
   unfolding is_open_before
   least_there m c at p n e o =
       let f = none_passes (is_open_before d limit x (candidate d (view d x) m)) d.modules p n (determined_inside n e o.determined) in

@@ -26,8 +26,7 @@ get_grow : (V W : List ℕ) (t u : ℕ) → Begins W V → u ≡ t → t < lengt
 get_grow V W t u g e l = rw e (begins_get W V t g l)
 
 replies_grow : (V W : ℕ → List ℕ) (t u : ℕ → ℕ) (xs : List Access) (bs : List Bool) → ((ch : ℕ) → Begins (W ch) (V ch))
-    → ((ch : ℕ) → u ch ≡ t ch)
-    → all_below (λ ch. length (V ch)) t xs bs ≡ true → replies_of W u xs bs ≡ replies_of V t xs bs
+    → ((ch : ℕ) → u ch ≡ t ch) → all_below (λ ch. length (V ch)) t xs bs ≡ true → replies_of W u xs bs ≡ replies_of V t xs bs
 replies_grow V W t u [] bs g e l = refl
 replies_grow V W t u (a ∷ xs) [] g e l = refl
 replies_grow V W t u (a ∷ xs) (b ∷ bs) g e l =
@@ -45,8 +44,7 @@ replies_grow V W t u (a ∷ xs) (b ∷ bs) g e l =
     ap₂ (λ (z : ℕ) (zs : List Reply). record { possible = b; front = z } ∷ zs) f (replies_grow V W t u xs bs g e l2)
 
 pub below_grow : (s s' t u : ℕ → ℕ) (xs : List Access) (bs : List Bool) → ((ch : ℕ) → s ch ≤ s' ch) → ((ch : ℕ) → u ch ≡ t ch)
-    → all_below s t xs bs ≡ true
-    → all_below s' u xs bs ≡ true
+    → all_below s t xs bs ≡ true → all_below s' u xs bs ≡ true
 below_grow s s' t u [] bs l q e = refl
 below_grow s s' t u (a ∷ xs) [] l q e = refl
 below_grow s s' t u (a ∷ xs) (b ∷ bs) l q e =

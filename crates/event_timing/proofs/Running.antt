@@ -344,8 +344,7 @@ over_time {S} d h limit x u m =
 -- what holds of the core with the end, where the module is over, and else of that with a step, holds behind the Run
 pub run_cases : {S : Type 0} → (d : Design S) (x : Core S) (m : ℕ) (P : Core S → Type 0)
     → (d.is_over m (ready d m (newest d x m)) ≡ true → P (emit_over x m))
-    → (d.is_over m (ready d m (newest d x m)) ≡ false → P (emit d x m))
-    → P (after_run d x m)
+    → (d.is_over m (ready d m (newest d x m)) ≡ false → P (emit d x m)) → P (after_run d x m)
 run_cases {S} d x m P over step =
     let is_over : Bool = d.is_over m (ready d m (newest d x m)) in
     elim (cases_Bool is_over) [

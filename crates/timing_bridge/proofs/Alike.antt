@@ -124,8 +124,7 @@ abbrev pub counted_replies : Plan → ℕ → List Request → List theory.Reply
 counted_replies p c rs = map (reply_to (design p) (lockstep_run p) c) (map seen rs)
 
 pub told_same : (p : Plan) (c : ℕ) (rs : List Request) → AllByRecursion (Alike p c) rs
-    → list_any (stalls p c (state p c).contents) rs ≡ false
-    → told_all rs (counted_replies p c rs) ≡ map (reply p c (state p c).contents) rs
+    → list_any (stalls p c (state p c).contents) rs ≡ false → told_all rs (counted_replies p c rs) ≡ map (reply p c (state p c).contents) rs
 told_same p c [] h e = refl
 told_same p c (r ∷ rs) h e =
     let parts = or_parts (stalls p c (state p c).contents r) (list_any (stalls p c (state p c).contents) rs) e in

@@ -81,8 +81,7 @@ lives limit s h =
 
 -- so many steps, so much counted
 steps_count : (p : Plan) → FitsEngine p → (i : ℕ) (r : ℕ → List theory.Reply) (k : ℕ)
-    → ((j : ℕ) → j < k → is_over p.ops (ready (design p) i (own (design p) i r j)) ≡ false)
-    → k ≤ (own (design p) i r k).count
+    → ((j : ℕ) → j < k → is_over p.ops (ready (design p) i (own (design p) i r j)) ≡ false) → k ≤ (own (design p) i r k).count
 unfolding own
 steps_count p h i r zero f = omega arith
 steps_count p h i r (suc k) f =

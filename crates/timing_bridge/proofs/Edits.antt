@@ -31,8 +31,7 @@ use Rattle.timing_bridge.proofs.History.{plan_is_design, run_is_history}
 -- ---- the edited plan is one that the engine takes
 
 new_entries : (k : ChannelKind) (inputs : List ℕ) (old depth : ℕ) → AreEntriesSound k inputs old → is_fifo k ≡ true → 1 ≤ depth
-    → depth ≤ FIFO_DEPTH
-    → AreEntriesSound k inputs depth
+    → depth ≤ FIFO_DEPTH → AreEntriesSound k inputs depth
 new_entries Source inputs old depth h e a b = cc
 new_entries Sink inputs old depth h e a b = cc
 new_entries (Fifo declared delay) inputs old depth h e a b = let (none, least, most, some, few) = h in (none, a, b, some, few)
@@ -96,8 +95,7 @@ same_design p f depth h =
 
 -- the cycles below the first touched clock agree with the edited plan's lockstep run
 pub plan_edit : (p : Plan) → FitsEngine p → (e : Edit) → EditFits p e → (limit t : ℕ) (x : Core ModuleState)
-    → IsAgreed (design p) (lockstep_run p) limit x
-    → IsFinal (design p) limit x
+    → IsAgreed (design p) (lockstep_run p) limit x → IsFinal (design p) limit x
     → t ≤ limit → IsUntouchedByCycles (design p) x e.channel e.depth t
     → IsAgreed (design (with_depth p e.channel e.depth)) (lockstep_run (with_depth p e.channel e.depth)) limit (after_edit (design p) x t)
 plan_edit p h e fit limit t x g final below u =

@@ -63,9 +63,7 @@ abbrev pub StandsElsewhere : Plan → Side → ℕ → ℕ → Type 0
 StandsElsewhere p side f i = (r : Request) → StandsAtPort p i r → r.channel ≡ f → side_of r.kind ≢ side
 
 none_by : (p : Plan) (c : ℕ) (cs : List (List Element)) (side : Side) (f i : ℕ) → StandsElsewhere p side f i → (r : Request)
-    → StandsAtPort p i r → (b : Bool)
-    → (r.channel == f) ≡ b
-    → cond b (moved_value side (answered p c cs r)) [] ≡ []
+    → StandsAtPort p i r → (b : Bool) → (r.channel == f) ≡ b → cond b (moved_value side (answered p c cs r)) [] ≡ []
 unfolding reply
 none_by p c cs side f i never r h false e = refl
 none_by p c cs side f i never r h true e =
@@ -73,16 +71,14 @@ none_by p c cs side f i never r h true e =
     (never r h (eqb-true r.channel f e))
 
 none_moved : (p : Plan) (c : ℕ) (cs : List (List Element)) (side : Side) (f i : ℕ) → StandsElsewhere p side f i → (rs : List Request)
-    → AllByRecursion (StandsAtPort p i) rs
-    → moved_by side f (map (answered p c cs) rs) ≡ []
+    → AllByRecursion (StandsAtPort p i) rs → moved_by side f (map (answered p c cs) rs) ≡ []
 unfolding moved_by
 none_moved p c cs side f i never [] h = refl
 none_moved p c cs side f i never (r ∷ rs) h =
     ap₂ (λ (x y : List ℕ). x ++ y) (none_by p c cs side f i never r h.0 (r.channel == f) refl) (none_moved p c cs side f i never rs h.1)
 
 pub none_shared : (p : Plan) → FitsEngine p → (c : ℕ) (cs : List (List Element)) (side : Side) (f i : ℕ) → StandsElsewhere p side f i
-    → (s : ModuleState)
-    → share p c cs side f (i, s) ≡ []
+    → (s : ModuleState) → share p c cs side f (i, s) ≡ []
 none_shared p h c cs side f i never s = elim (cases_Bool (moves p c cs (i, s))) [
   | inl e ↦ share_moves p c cs side f (i, s) e ∙ none_moved p c cs side f i never (requests_of p (i, s)) (stand p h i s)
   | inr e ↦ share_stays p c cs side f (i, s) e

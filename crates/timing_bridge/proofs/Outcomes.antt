@@ -62,8 +62,7 @@ outcomes_same p c (r ∷ rs) h =
     by_kind (is_blocking r.kind) (answered p c cs r) (queries (map (answered p c cs) rs)) _ _ same rest
   where
     by_kind : (blocks : Bool) (x : Exchange) (xs : List Exchange) (b : Bool) (bs : List Bool) → is_yes x.reply ≡ b
-        → map (λ x. is_yes x.reply) xs ≡ bs
-        → map (λ x. is_yes x.reply) (cond (not blocks) (x ∷ xs) xs) ≡ cond blocks bs (b ∷ bs)
+        → map (λ x. is_yes x.reply) xs ≡ bs → map (λ x. is_yes x.reply) (cond (not blocks) (x ∷ xs) xs) ≡ cond blocks bs (b ∷ bs)
     by_kind true x xs b bs e f = f
     by_kind false x xs b bs e f = ap₂ (λ (y : Bool) (ys : List Bool). y ∷ ys) e f
 

@@ -25,8 +25,7 @@ use Rattle.timing_bridge.specs.OwnRuns.{AreTold, core_replies, clocks_of_steps, 
 use Rattle.timing_bridge.proofs.Quiet.{goes, ready_rests, first_fits, next_fits}
 
 steps_more : (p : Plan) (i : ℕ) (r : ℕ → List theory.Reply) (k n : ℕ) (ss : List OwnStep) (s : OwnStep) → k + length ss ≡ n
-    → AreOwnSteps p i r k ss
-    → IsOwnStep p i r n s → AreOwnSteps p i r k (ss ++ s ∷ [])
+    → AreOwnSteps p i r k ss → IsOwnStep p i r n s → AreOwnSteps p i r k (ss ++ s ∷ [])
 steps_more p i r k n [] s e h one = let z : k ≡ n = omega arith in (subst (λ (j : ℕ). IsOwnStep p i r j s) (sym z) one, tt)
 steps_more p i r k n (x ∷ ss) s e h one = (h.0, steps_more p i r (suc k) n ss s (omega arith) h.1 one)
 
@@ -51,8 +50,7 @@ at_rest p i n s l e = elim (cases_lt n (quiet p i s)) [
 ]
 
 not_at_rest : (p : Plan) → FitsEngine p → (i n : ℕ) (s : ModuleState) → fits p i s ≡ true → n ≤ quiet p i s
-    → rests p i (skip (design p) i n s) ≡ false
-    → n < quiet p i s
+    → rests p i (skip (design p) i n s) ≡ false → n < quiet p i s
 not_at_rest p h i n s f l e = elim (cases_lt n (quiet p i s)) [
   | inl q ↦ q
   | inr q ↦
@@ -63,9 +61,7 @@ not_at_rest p h i n s f l e = elim (cases_lt n (quiet p i s)) [
 -- ---- one local clock
 
 one_more : (p : Plan) → FitsEngine p → (i : ℕ) (r : ℕ → List theory.Reply) (replies : List (List Reply)) → AreTold p i r replies
-    → (o : Own) (t : ℕ)
-    → HasComeTo p i r o t → is_over p.ops o.state ≡ false
-    → (rs : List Request) → requests_of p (i, o.state) ≡ rs
+    → (o : Own) (t : ℕ) → HasComeTo p i r o t → is_over p.ops o.state ≡ false → (rs : List Request) → requests_of p (i, o.state) ≡ rs
     → length (own_after (module_at p i) o rs (get_or replies (length o.steps) [])).steps ≤ length replies
     → (u : ℕ) × HasComeTo p i r (own_after (module_at p i) o rs (get_or replies (length o.steps) [])) u
 one_more p h i r replies tells o t g lives [] e l =
@@ -109,8 +105,7 @@ one_more p h i r replies tells o t g lives (x ∷ rs) e l =
     )
 
 next_is : (p : Plan) → FitsEngine p → (i : ℕ) (r : ℕ → List theory.Reply) (replies : List (List Reply)) → AreTold p i r replies
-    → (o : Own) (t : ℕ)
-    → HasComeTo p i r o t
+    → (o : Own) (t : ℕ) → HasComeTo p i r o t
     → length (own_next p i replies o).steps ≤ length replies → (u : ℕ) × HasComeTo p i r (own_next p i replies o) u
 unfolding own_next
 next_is p h i r replies tells o t g = by_test (is_over p.ops o.state) (one_more p h i r replies tells o t g)

@@ -47,8 +47,7 @@ answers_are p h limit x g c all =
 -- ---- the report
 
 report_from : (p : Plan) → FitsEngine p → (limit : ℕ) (x : Core ModuleState) → IsAgreed (design p) (lockstep_run p) limit x
-    → (ss : List HistoryStep)
-    → AreInOrder p x ss → (v : Verdict) → verdict p ≡ v
+    → (ss : List HistoryStep) → AreInOrder p x ss → (v : Verdict) → verdict p ≡ v
     → ((i : ℕ) → done (design p) (lockstep_run p) i (clock_of v) ≡ x.timed i) → held p v (state p (clock_of v)) ≡ core_held p x v
     → report p ≡ core_report p x ss v
 unfolding report
@@ -70,11 +69,9 @@ clock_settled p c st =
 
 -- no step is determined: the verdict's clock is the last stop
 report_rested : (p : Plan) → FitsEngine p → (x : Core ModuleState) → IsAgreed (design p) (lockstep_run p) p.cycles x
-    → IsFinal (design p) p.cycles x
-    → IsUndetermined (design p) x
+    → IsFinal (design p) p.cycles x → IsUndetermined (design p) x
     → (last : ℕ) → ((i : ℕ) → stop (design p) x i ≤ last) → (m : ℕ) → stop (design p) x m ≡ last → last ≤ p.cycles
-    → (ss : List HistoryStep) → AreInOrder p x ss
-    → report p ≡ core_report p x ss (settled_verdict p last (core_states p x))
+    → (ss : List HistoryStep) → AreInOrder p x ss → report p ≡ core_report p x ss (settled_verdict p last (core_states p x))
 report_rested p h x g f u last top m e l ss o =
     let states = last_states p h p.cycles x g f u last top in
     let v = settled_verdict p last (core_states p x) in
@@ -99,8 +96,7 @@ report_rested p h x g f u last top m e l ss o =
 
 -- a step is determined, or the last stop is above the limit: the verdict is the limit's
 report_cut : (p : Plan) → FitsEngine p → (x : Core ModuleState) → IsAgreed (design p) (lockstep_run p) p.cycles x
-    → IsFinal (design p) p.cycles x
-    → verdict p ≡ Cycles p.cycles → (ss : List HistoryStep) → AreInOrder p x ss
+    → IsFinal (design p) p.cycles x → verdict p ≡ Cycles p.cycles → (ss : List HistoryStep) → AreInOrder p x ss
     → report p ≡ core_report p x ss (Cycles p.cycles)
 report_cut p h x g f e ss o =
     report_from p h p.cycles x g ss o (Cycles p.cycles) e
@@ -109,21 +105,18 @@ report_cut p h x g f e ss o =
 -- ---- numbers that name no module
 
 no_steps_beyond : (p : Plan) (limit : ℕ) (x : Core ModuleState) → IsAgreed (design p) (lockstep_run p) limit x → (i : ℕ)
-    → length p.design.modules ≤ i
-    → (x.emitted i ≡ 0) × (x.timed i ≡ 0)
+    → length p.design.modules ≤ i → (x.emitted i ≡ 0) × (x.timed i ≡ 0)
 no_steps_beyond p limit x g i l = let e = g.marks.inside i l in (e, omega (arith, g.time.within i))
 
 none_beyond : (p : Plan) (limit : ℕ) (x : Core ModuleState) → IsAgreed (design p) (lockstep_run p) limit x → (i : ℕ)
-    → length p.design.modules ≤ i
-    → candidate (design p) (view (design p) x) i ≡ None
+    → length p.design.modules ≤ i → candidate (design p) (view (design p) x) i ≡ None
 unfolding candidate
 none_beyond p limit x g i l =
     let (z, y) = no_steps_beyond p limit x g i l in
     cond-false (nat_lt (x.timed i) (x.emitted i)) _ None (le-ltb (x.timed i) (x.emitted i) (omega arith))
 
 stop_beyond : (p : Plan) (limit : ℕ) (x : Core ModuleState) → IsAgreed (design p) (lockstep_run p) limit x → (i : ℕ)
-    → length p.design.modules ≤ i
-    → stop (design p) x i ≡ 0
+    → length p.design.modules ≤ i → stop (design p) x i ≡ 0
 stop_beyond p limit x g i l =
     let e = no_steps_beyond p limit x g i l in
     let d = design p in
@@ -190,8 +183,7 @@ second_of false b h e = h
 
 -- the report of every final core is the plan's
 pub every_report : (p : Plan) → FitsEngine p → (x : Core ModuleState) → IsAgreed (design p) (lockstep_run p) p.cycles x
-    → IsFinal (design p) p.cycles x
-    → (ss : List HistoryStep) → AreInOrder p x ss → report p ≡ core_report p x ss (core_verdict p x)
+    → IsFinal (design p) p.cycles x → (ss : List HistoryStep) → AreInOrder p x ss → report p ≡ core_report p x ss (core_verdict p x)
 unfolding core_verdict
 every_report p h x g f ss o =
     let count = length p.design.modules in

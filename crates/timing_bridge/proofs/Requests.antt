@@ -59,8 +59,7 @@ stand p h i s = elim (cases_lt i (length p.design.modules)) [
 ]
 
 each_seen : (P : Request → Type 0) (Q : theory.Access → Type 0) → ((r : Request) → P r → Q (seen r)) → (rs : List Request)
-    → AllByRecursion P rs
-    → Each Q (map seen rs)
+    → AllByRecursion P rs → Each Q (map seen rs)
 each_seen P Q f [] h = tt
 each_seen P Q f (r ∷ rs) h = (f r h.0, each_seen P Q f rs h.1)
 

@@ -52,9 +52,7 @@ use Rattle.timing_bridge.proofs.History.{plan_is_design, run_is_history}
 
 -- from its stop on a module has the state behind its steps and quiet clocks
 last_state : (p : Plan) → FitsEngine p → (limit : ℕ) (x : Core ModuleState) → IsAgreed (design p) (lockstep_run p) limit x
-    → IsFinal (design p) limit x
-    → IsUndetermined (design p) x → (c i : ℕ) → stop (design p) x i ≤ c
-    → state_at p c i ≡ core_state p x i
+    → IsFinal (design p) limit x → IsUndetermined (design p) x → (c i : ℕ) → stop (design p) x i ≤ c → state_at p c i ≡ core_state p x i
 last_state p h limit x g f u c i l =
     let d = design p in
     let w = lockstep_run p in
@@ -69,8 +67,7 @@ last_state p h limit x g f u c i l =
 
 -- all states at once
 pub last_states : (p : Plan) → FitsEngine p → (limit : ℕ) (x : Core ModuleState) → IsAgreed (design p) (lockstep_run p) limit x
-    → IsFinal (design p) limit x
-    → IsUndetermined (design p) x → (c : ℕ) → ((i : ℕ) → stop (design p) x i ≤ c)
+    → IsFinal (design p) limit x → IsUndetermined (design p) x → (c : ℕ) → ((i : ℕ) → stop (design p) x i ≤ c)
     → (state p c).modules ≡ map (core_state p x) (modules_of p)
 last_states p h limit x g f u c top =
     let n = all_modules p c in
@@ -156,8 +153,7 @@ held_is p h limit x g f u c top i more =
     ∙ find_alike (stalls p c (all_ready cs)) (is_stuck p x i) asked alike_all)
 
 held_one : (p : Plan) → FitsEngine p → (limit : ℕ) (x : Core ModuleState) → IsAgreed (design p) (lockstep_run p) limit x
-    → IsFinal (design p) limit x
-    → IsUndetermined (design p) x → (c : ℕ) → ((i : ℕ) → stop (design p) x i ≤ c) → (i : ℕ)
+    → IsFinal (design p) limit x → IsUndetermined (design p) x → (c : ℕ) → ((i : ℕ) → stop (design p) x i ≤ c) → (i : ℕ)
     → held_by p c (all_ready (state p c).contents) (i, state_at p c i) ≡ core_held_by p x i
 held_one p h limit x g f u c top i = elim (cases_lt (x.timed i) (x.emitted i)) [
   | inl m ↦ held_is p h limit x g f u c top i m
@@ -180,8 +176,7 @@ by_number F G n (s ∷ ss) h =
     ap (λ (i : ℕ). F (i, get_or ss j nobody)) q ∙ (h (suc j) (omega arith) ∙ ap G (sym q))))
 
 pub held_all : (p : Plan) → FitsEngine p → (limit : ℕ) (x : Core ModuleState) → IsAgreed (design p) (lockstep_run p) limit x
-    → IsFinal (design p) limit x
-    → IsUndetermined (design p) x → (c : ℕ) → ((i : ℕ) → stop (design p) x i ≤ c)
+    → IsFinal (design p) limit x → IsUndetermined (design p) x → (c : ℕ) → ((i : ℕ) → stop (design p) x i ≤ c)
     → held_in p c (state p c) ≡ filter_map (core_held_by p x) (modules_of p)
 held_all p h limit x g f u c top =
     by_number (held_by p c (all_ready (state p c).contents)) (core_held_by p x) 0 (state p c).modules
@@ -221,8 +216,7 @@ sink_holds p h f l s c =
     ∙ ap (λ (vs : List ℕ). drop (length vs) (all_in p c f)) (none_popped p h f s c)
 
 sink_is : (p : Plan) → FitsEngine p → (limit : ℕ) (x : Core ModuleState) → IsAgreed (design p) (lockstep_run p) limit x → (c : ℕ)
-    → ((i : ℕ) → done (design p) (lockstep_run p) i c ≡ x.timed i)
-    → (f : ℕ) → f < length p.design.channels → is_sink (kind_at p f) ≡ true
+    → ((i : ℕ) → done (design p) (lockstep_run p) i c ≡ x.timed i) → (f : ℕ) → f < length p.design.channels → is_sink (kind_at p f) ≡ true
     → values (contents_of (state p c).contents f) ≡ sink_values p x f
 sink_is p h limit x g c all f l s =
     sink_holds p h f l s c ∙ outputs_right (design p) (lockstep_run p) (plan_is_design p h) (run_is_history p h) limit x g f c
@@ -241,8 +235,7 @@ map_chosen F G t n (suc k) h = by_test (t n) refl (map_chosen F G t (n + 1) k (�
 
 -- in a clock up to which the core has each step
 pub outputs_are : (p : Plan) → FitsEngine p → (limit : ℕ) (x : Core ModuleState) → IsAgreed (design p) (lockstep_run p) limit x → (c : ℕ)
-    → ((i : ℕ) → done (design p) (lockstep_run p) i c ≡ x.timed i)
-    → outputs_in p (state p c) ≡ map (sink_values p x) (sinks p)
+    → ((i : ℕ) → done (design p) (lockstep_run p) i c ≡ x.timed i) → outputs_in p (state p c) ≡ map (sink_values p x) (sinks p)
 outputs_are p h limit x g c all =
     map_chosen (λ f. values (contents_of (state p c).contents f)) (sink_values p x) (λ f. is_sink (kind_at p f)) 0
     (length p.design.channels)

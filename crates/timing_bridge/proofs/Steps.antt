@@ -115,8 +115,7 @@ range_more a (suc n) =
 
 -- a module's steps before a clock up to which the core has them all
 pub steps_are : (p : Plan) → FitsEngine p → (limit : ℕ) (x : Core ModuleState) → IsAgreed (design p) (lockstep_run p) limit x → (i : ℕ)
-    → i < length p.design.modules → (c : ℕ)
-    → done (design p) (lockstep_run p) i c ≤ x.timed i
+    → i < length p.design.modules → (c : ℕ) → done (design p) (lockstep_run p) i c ≤ x.timed i
     → steps_of i (history p c) ≡ map (core_step p x i) (range_with_len 0 (done (design p) (lockstep_run p) i c))
 steps_are p h limit x g i inside zero l = ap (steps_of i) (history-zero p)
     ∙ ap (λ (n : ℕ). map (core_step p x i) (range_with_len 0 n)) (sym (done_0 (design p) (lockstep_run p) i))
@@ -151,8 +150,7 @@ none_beyond i n (s ∷ ss) l h =
 
 -- where the core has all steps before clock c, all modules', and none beyond
 pub all_steps : (p : Plan) → FitsEngine p → (limit : ℕ) (x : Core ModuleState) → IsAgreed (design p) (lockstep_run p) limit x → (c : ℕ)
-    → ((i : ℕ) → done (design p) (lockstep_run p) i c ≡ x.timed i)
-    → (i : ℕ) → core_steps p x i ≡ steps_of i (history p c)
+    → ((i : ℕ) → done (design p) (lockstep_run p) i c ≡ x.timed i) → (i : ℕ) → core_steps p x i ≡ steps_of i (history p c)
 all_steps p h limit x g c all i = elim (cases_lt i (length p.design.modules)) [
   | inl l ↦
       let e = all i in
@@ -165,6 +163,5 @@ all_steps p h limit x g c all i = elim (cases_lt i (length p.design.modules)) [
 
 -- so the list in order of its steps is the history
 pub events_are : (p : Plan) → FitsEngine p → (limit : ℕ) (x : Core ModuleState) → IsAgreed (design p) (lockstep_run p) limit x → (c : ℕ)
-    → ((i : ℕ) → done (design p) (lockstep_run p) i c ≡ x.timed i)
-    → (ss : List HistoryStep) → AreInOrder p x ss → ss ≡ history p c
+    → ((i : ℕ) → done (design p) (lockstep_run p) i c ≡ x.timed i) → (ss : List HistoryStep) → AreInOrder p x ss → ss ≡ history p c
 events_are p h limit x g c all ss o = only_history p c ss o.rising (λ i. o.each i ∙ all_steps p h limit x g c all i)

@@ -23,8 +23,7 @@ use Rattle.timing_bridge.proofs.Moved.{nobody_moves}
 use Rattle.timing_bridge.proofs.History.{plan_is_design, run_is_history, moves_same}
 
 any_false : (test : ℕ × ModuleState → Bool) (n : ℕ) (xs : List ModuleState)
-    → ((k : ℕ) → k < length xs → test (n + k, get_or xs k nobody) ≡ false)
-    → list_any test (enumerate_from n xs) ≡ false
+    → ((k : ℕ) → k < length xs → test (n + k, get_or xs k nobody) ≡ false) → list_any test (enumerate_from n xs) ≡ false
 any_false test n [] h = refl
 any_false test n (x ∷ xs) h =
     let z : n + 0 ≡ n = omega arith in
@@ -34,8 +33,7 @@ any_false test n (x ∷ xs) h =
     ap (λ (i : ℕ). test (i, get_or xs k nobody)) e ∙ h (suc k) (omega arith)))
 
 each_false : (test : ℕ × ModuleState → Bool) (n : ℕ) (xs : List ModuleState) → list_any test (enumerate_from n xs) ≡ false → (k : ℕ)
-    → k < length xs
-    → test (n + k, get_or xs k nobody) ≡ false
+    → k < length xs → test (n + k, get_or xs k nobody) ≡ false
 each_false test n [] h k l = absurd (omega arith)
 each_false test n (x ∷ xs) h zero l =
     let z : n + 0 ≡ n = omega arith in
@@ -84,8 +82,7 @@ unsettled p h c i m e l = elim (cases_Bool (is_settled p e (state p e))) [
 
 -- no step is determined: the verdict is that of the last stop, where it is within the limit
 pub final_settled : (p : Plan) → FitsEngine p → (x : Core ModuleState) → IsAgreed (design p) (lockstep_run p) p.cycles x
-    → IsFinal (design p) p.cycles x
-    → IsUndetermined (design p) x
+    → IsFinal (design p) p.cycles x → IsUndetermined (design p) x
     → (last : ℕ) → ((i : ℕ) → stop (design p) x i ≤ last) → (m : ℕ) → stop (design p) x m ≡ last → last ≤ p.cycles
     → verdict p ≡ settled_verdict p last (state p last)
 final_settled p h x g f u last top m e l =
@@ -99,17 +96,14 @@ final_settled p h x g f u last top m e l =
 
 -- a step is determined: it moves at the limit or later, and no clock up to the limit is settled
 pub final_cut : (p : Plan) → FitsEngine p → (x : Core ModuleState) → IsAgreed (design p) (lockstep_run p) p.cycles x
-    → IsFinal (design p) p.cycles x
-    → (m c : ℕ) → candidate (design p) (view (design p) x) m ≡ Some c → verdict p ≡ Cycles p.cycles
+    → IsFinal (design p) p.cycles x → (m c : ℕ) → candidate (design p) (view (design p) x) m ≡ Some c → verdict p ≡ Cycles p.cycles
 final_cut p h x g f m c e =
     let late = determined_late (design p) (lockstep_run p) (plan_is_design p h) (run_is_history p h) p.cycles x g f m c e in
     verdict_none p (λ k l. unsettled p h c m late.1 k (omega (arith, late.0)))
 
 -- the last stop is above the limit
 pub final_late : (p : Plan) → FitsEngine p → (x : Core ModuleState) → IsAgreed (design p) (lockstep_run p) p.cycles x
-    → IsFinal (design p) p.cycles x
-    → IsUndetermined (design p) x
-    → (m : ℕ) → p.cycles < stop (design p) x m → verdict p ≡ Cycles p.cycles
+    → IsFinal (design p) p.cycles x → IsUndetermined (design p) x → (m : ℕ) → p.cycles < stop (design p) x m → verdict p ≡ Cycles p.cycles
 final_late p h x g f u m l =
     let n = stop (design p) x m in
     let moves_then = moved (design p) (lockstep_run p) (plan_is_design p h) (run_is_history p h) p.cycles x g f u m (n - 1) (omega arith) in

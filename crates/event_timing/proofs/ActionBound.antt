@@ -1,11 +1,13 @@
 -- From the opening core no list of permitted actions is long.
-use Rattle.std.proofs.Common.{◌≡◌, ℕ, zero, suc, ◌+◌, ◌*◌, ◌<◌, ◌≤◌, Bool, true, false, cond, not, ◌⊎◌, inl, inr, List, [], ◌∷◌, length, sym, refl, ap, ◌∙◌, subst, arith, ltb, Some}
+use Rattle.std.proofs.Common.{◌≡◌, ℕ, zero, suc, ◌+◌, ◌*◌, ◌<◌, ◌≤◌, Bool, true, false, cond, not, ◌⊎◌, inl, inr, List, [], ◌∷◌, length}
+use Rattle.std.proofs.Common.{sym, refl, ap, ◌∙◌, subst, arith, ltb, Some}
 use Rattle.std.proofs.lemmas.Bool.{cases_Bool, both_ways, cases_lt, cases_eq, lt-ltb, le-ltb, cond-true, cond-false}
 use Rattle.event_timing.specs.Machines.{Design, IsDesign, ready}
 use Rattle.event_timing.specs.Histories.{Trace, IsHistory}
 use Rattle.event_timing.specs.Core.{Core, opening_core, core_reply, has_query, view}
 use Rattle.event_timing.specs.Enablers.{candidate}
-use Rattle.event_timing.specs.Actions.{Action, MayRun, MayAssign, Acts, ActsAll, after_run, after_assign, after_answer, emit_over, newest, put, IsSame}
+use Rattle.event_timing.specs.Actions.{Action, MayRun, MayAssign, Acts, ActsAll, after_run, after_assign, after_answer, emit_over, newest}
+use Rattle.event_timing.specs.Actions.{put, IsSame}
 use Rattle.event_timing.specs.Agreement.{AreOwnMarks, IsAgreed, IsBounded, AllVerified}
 use Rattle.event_timing.specs.Work.{first_one, over_one, work_of, sum_to, work}
 use Rattle.event_timing.proofs.Running.{emit, old_at, emit_more, emit_up, run_cases}

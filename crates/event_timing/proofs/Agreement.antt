@@ -1,5 +1,6 @@
 -- Every list of permitted actions keeps agreement.
-use Rattle.std.proofs.Common.{◌≡◌, ℕ, zero, suc, ◌<◌, ◌≤◌, true, false, ◌⊎◌, inl, inr, List, [], ◌∷◌, sym, refl, ap, ◌∙◌, subst, arith, ltb, Some}
+use Rattle.std.proofs.Common.{◌≡◌, ℕ, zero, suc, ◌<◌, ◌≤◌, true, false, ◌⊎◌, inl, inr, List, [], ◌∷◌, sym, refl, ap, ◌∙◌, subst, arith, ltb}
+use Rattle.std.proofs.Common.{Some}
 use Rattle.std.proofs.lemmas.Bool.{cases_Bool, cases_lt, ltb-false}
 use Rattle.event_timing.specs.Machines.{Design, IsDesign, ready}
 use Rattle.event_timing.specs.Histories.{Trace, IsHistory}
@@ -7,7 +8,8 @@ use Rattle.event_timing.specs.Steps.{done}
 use Rattle.event_timing.specs.Views.{own, own_state, first_accesses}
 use Rattle.event_timing.specs.Enablers.{known_of, candidate, all_decided, IsStuck}
 use Rattle.event_timing.specs.Core.{Core, opening_core, core_accesses, core_reply, view}
-use Rattle.event_timing.specs.Actions.{Action, MayAnswer, MayEarliest, IsOpen, IsQuiet, IsDetermined, Acts, ActsAll, after_answer, IsSame, IsFinal, new_flags}
+use Rattle.event_timing.specs.Actions.{Action, MayAnswer, MayEarliest, IsOpen, IsQuiet, IsDetermined, Acts, ActsAll, after_answer, IsSame}
+use Rattle.event_timing.specs.Actions.{IsFinal, new_flags}
 use Rattle.event_timing.specs.Agreement.{AreOwnMarks, IsTimed, IsAgreed, possible_all}
 use Rattle.event_timing.proofs.OwnRuns.{own_0}
 use Rattle.event_timing.proofs.Fronts.{agrees}

@@ -1,5 +1,6 @@
 -- Actions let the core grow, and those without a Run of a module leave the module's marks as they were.
-use Rattle.std.proofs.Common.{◌≡◌, refl, sym, ap, ap₂, subst, ◌∙◌, ℕ, zero, suc, ◌⊎◌, inl, inr, true, Some, List, [], ◌∷◌, ◌++◌, arith, Bool, ◌<◌, ◌≤◌, not}
+use Rattle.std.proofs.Common.{◌≡◌, refl, sym, ap, ap₂, subst, ◌∙◌, ℕ, zero, suc, ◌⊎◌, inl, inr, true, Some, List, [], ◌∷◌, ◌++◌, arith}
+use Rattle.std.proofs.Common.{Bool, ◌<◌, ◌≤◌, not}
 use Rattle.std.proofs.lemmas.Bool.{cases_eq, both_ways}
 use Rattle.flow_word.specs.declared.access.Side.TheVariants.{Push}
 use Rattle.event_timing.specs.Machines.{Design, IsDesign, ready, values_in}
@@ -7,7 +8,8 @@ use Rattle.event_timing.specs.Histories.{Trace, IsHistory}
 use Rattle.event_timing.specs.Views.{Begins, pushed_in}
 use Rattle.event_timing.specs.Core.{Core, bare_replies, core_accesses, core_values, view, has_query, no_outcomes}
 use Rattle.event_timing.specs.Enablers.{candidate}
-use Rattle.event_timing.specs.Actions.{Action, Acts, ActsAll, MayRun, after_run, after_assign, after_answer, emit_over, newest, IsSame, IsNoRunOf, put_at, runs}
+use Rattle.event_timing.specs.Actions.{Action, Acts, ActsAll, MayRun, after_run, after_assign, after_answer, emit_over, newest, IsSame}
+use Rattle.event_timing.specs.Actions.{IsNoRunOf, put_at, runs}
 use Rattle.event_timing.specs.Agreement.{AreOwnMarks, IsAgreed}
 use Rattle.event_timing.specs.Growth.{Grows, GrowsBeside}
 use Rattle.event_timing.proofs.Agreement.{acts_agree, all_agree}

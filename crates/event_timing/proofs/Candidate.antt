@@ -1,6 +1,8 @@
 -- The determined cycle of a step is the clock in which the history does it.
-use Rattle.std.proofs.Common.{◌≡◌, ℕ, zero, suc, ◌+◌, ◌-◌, ◌<◌, ◌≤◌, max, Bool, true, false, not, ◌&&◌, ◌||◌, inl, inr, List, [], ◌∷◌, sym, refl, ap, ap₂, ◌∙◌, arith, zero-add, leb, Some, None}
-use Rattle.std.proofs.lemmas.Bool.{cases_Bool, cond-true, cond-false, and_parts, both_ways, cases_lt, false_from_ne_true, le-leb, lt-leb, leb-true}
+use Rattle.std.proofs.Common.{◌≡◌, ℕ, zero, suc, ◌+◌, ◌-◌, ◌<◌, ◌≤◌, max, Bool, true, false, not, ◌&&◌, ◌||◌, inl, inr, List, [], ◌∷◌, sym}
+use Rattle.std.proofs.Common.{refl, ap, ap₂, ◌∙◌, arith, zero-add, leb, Some, None}
+use Rattle.std.proofs.lemmas.Bool.{cases_Bool, cond-true, cond-false, and_parts, both_ways, cases_lt, false_from_ne_true, le-leb, lt-leb}
+use Rattle.std.proofs.lemmas.Bool.{leb-true}
 use Rattle.flow_word.specs.declared.access.Side.{Side}
 use Rattle.event_timing.specs.Machines.{Design, IsDesign, Access, Each, ready, is_some_access}
 use Rattle.event_timing.specs.Histories.{Trace, IsHistory, is_possible, can_all, can_do}

@@ -1,5 +1,6 @@
 -- Where nothing else can be done, no step without a cycle comes before the least determined one.
-use Rattle.std.proofs.Common.{◌≡◌, ℕ, zero, suc, ◌<◌, ◌≤◌, max, Bool, true, false, not, ◌||◌, ◌⊎◌, inl, inr, List, [], ◌∷◌, sym, refl, ap, ap₂, ◌∙◌, arith, Some}
+use Rattle.std.proofs.Common.{◌≡◌, ℕ, zero, suc, ◌<◌, ◌≤◌, max, Bool, true, false, not, ◌||◌, ◌⊎◌, inl, inr, List, [], ◌∷◌, sym, refl, ap}
+use Rattle.std.proofs.Common.{ap₂, ◌∙◌, arith, Some}
 use Rattle.std.proofs.lemmas.Bool.{cases_Bool, and_parts, both_ways, cases_eq}
 use Rattle.flow_word.specs.declared.access.Side.{Side}
 use Rattle.event_timing.specs.Machines.{Design, IsDesign, Access, ready}
@@ -13,7 +14,8 @@ use Rattle.event_timing.proofs.Steps.{done_more, done_same, done_less}
 use Rattle.event_timing.proofs.Standing.{step_ready, step_reached, moves_can, moves_lives, steps_moves}
 use Rattle.event_timing.proofs.OwnRuns.{done_0}
 use Rattle.event_timing.proofs.Threshold.{Means}
-use Rattle.event_timing.proofs.Candidate.{EachMeans, bound_found, first_means, candidate_from, candidate_done, candidate_steps, candidate_ready, reach_then, rest_first}
+use Rattle.event_timing.proofs.Candidate.{EachMeans, bound_found, first_means, candidate_from, candidate_done, candidate_steps}
+use Rattle.event_timing.proofs.Candidate.{candidate_ready, reach_then, rest_first}
 
 begin_passed : {S : Type 0} → (d : Design S) (h : Trace S) (v : View) → Agrees d h v → (m c n : ℕ) → n ≡ v.timed m → done d h m c ≡ n
     → from (v.cycle m) n ≤ c

@@ -1,6 +1,8 @@
 -- After an edit the cycles below the first touched clock stay.
-use Rattle.std.proofs.Common.{◌≡◌, ℕ, zero, suc, ◌+◌, ◌-◌, ◌<◌, ◌≤◌, Bool, true, false, not, ◌&&◌, ◌||◌, inl, inr, List, [], ◌∷◌, map, sym, refl, ap, ap₂, ◌∙◌, subst, arith, eqb, ltb}
-use Rattle.std.proofs.lemmas.Bool.{cases_Bool, both_ways, cases_eq, ltb-true, lt-ltb, cond-true, cond-false, and_parts, and_from, or_cases, or_left, eqb-true, not-true}
+use Rattle.std.proofs.Common.{◌≡◌, ℕ, zero, suc, ◌+◌, ◌-◌, ◌<◌, ◌≤◌, Bool, true, false, not, ◌&&◌, ◌||◌, inl, inr, List, [], ◌∷◌, map, sym}
+use Rattle.std.proofs.Common.{refl, ap, ap₂, ◌∙◌, subst, arith, eqb, ltb}
+use Rattle.std.proofs.lemmas.Bool.{cases_Bool, both_ways, cases_eq, ltb-true, lt-ltb, cond-true, cond-false, and_parts, and_from, or_cases}
+use Rattle.std.proofs.lemmas.Bool.{or_left, eqb-true, not-true}
 use mathlib.Core.Path.{fun_ext}
 use Rattle.flow_word.specs.declared.access.Side.{Side}
 use Rattle.flow_word.specs.declared.access.Side.TheVariants.{Pop, Push}

@@ -1,12 +1,14 @@
 -- What stays as a core grows: the replies to its settled steps.
-use Rattle.std.proofs.Common.{◌≡◌, ℕ, zero, suc, ◌+◌, ◌<◌, ◌≤◌, Bool, true, cond, not, ◌||◌, inl, inr, List, [], ◌∷◌, length, get_or, sym, refl, ap, ap₂, ◌∙◌, arith, ltb}
+use Rattle.std.proofs.Common.{◌≡◌, ℕ, zero, suc, ◌+◌, ◌<◌, ◌≤◌, Bool, true, cond, not, ◌||◌, inl, inr, List, [], ◌∷◌, length, get_or, sym}
+use Rattle.std.proofs.Common.{refl, ap, ap₂, ◌∙◌, arith, ltb}
 use Rattle.std.proofs.lemmas.Bool.{cases_Bool, cond-false, and_parts, and_from, cases_eq, lt-ltb, ltb-true, or_cases, or_left, or_right}
 use Rattle.flow_word.specs.declared.access.Side.{Side}
 use Rattle.flow_word.specs.declared.access.Side.TheVariants.{Pop, Push}
 use Rattle.event_timing.specs.Machines.{Design, Access, Reply, ready, takes_in}
 use Rattle.event_timing.specs.Histories.{Trace}
 use Rattle.event_timing.specs.Views.{own, Begins}
-use Rattle.event_timing.specs.Core.{Core, bare_replies, core_accesses, core_tally, core_values, pops_now, replies_of, all_below, core_reply, values_there}
+use Rattle.event_timing.specs.Core.{Core, bare_replies, core_accesses, core_tally, core_values, pops_now, replies_of, all_below, core_reply}
+use Rattle.event_timing.specs.Core.{values_there}
 use Rattle.event_timing.specs.Agreement.{AreOwnMarks, IsTimed, elements_timed, pops_timed}
 use Rattle.event_timing.specs.Growth.{Grows, IsSettled}
 use Rattle.event_timing.proofs.OwnRuns.{own_0, own_more}

@@ -1,6 +1,8 @@
 -- A module's steps in a history are its own run on the history's replies.
-use Rattle.std.proofs.Common.{ap, ◌≡◌, ℕ, zero, suc, ◌+◌, ◌-◌, ◌<◌, ◌≤◌, true, false, ◌⊎◌, inl, inr, List, [], ◌∷◌, refl, ◌∙◌, arith, zero-add, add-zero, Option, Some, None}
-use Rattle.std.proofs.lemmas.Bool.{cases_Bool, cond-false, and_parts, both_ways, cases_lt, false_from_ne_true, le-leb, lt-ltb, le-ltb, lt-leb, eqb-true, cases_order}
+use Rattle.std.proofs.Common.{ap, ◌≡◌, ℕ, zero, suc, ◌+◌, ◌-◌, ◌<◌, ◌≤◌, true, false, ◌⊎◌, inl, inr, List, [], ◌∷◌, refl, ◌∙◌, arith}
+use Rattle.std.proofs.Common.{zero-add, add-zero, Option, Some, None}
+use Rattle.std.proofs.lemmas.Bool.{cases_Bool, cond-false, and_parts, both_ways, cases_lt, false_from_ne_true, le-leb, lt-ltb, le-ltb}
+use Rattle.std.proofs.lemmas.Bool.{lt-leb, eqb-true, cases_order}
 use Rattle.flow_word.specs.declared.access.Side.{Side}
 use Rattle.flow_word.specs.declared.access.Side.TheVariants.{Pop, Push}
 use Rattle.flow_word.specs.Kinds.{other_side, same_side}

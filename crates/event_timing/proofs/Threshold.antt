@@ -1,6 +1,7 @@
 -- When an access of a module's first step without a cycle is possible.
 use Rattle.std.proofs.Common.{◌≡◌, ℕ, suc, ◌+◌, ◌-◌, ◌<◌, ◌≤◌, true, false, ◌||◌, inl, inr, refl, ◌∙◌, arith, ltb, leb, Option, Some, None}
-use Rattle.std.proofs.lemmas.Bool.{cases_Bool, cond-true, cond-false, cases_lt, le-leb, lt-ltb, le-ltb, lt-leb, ltb-true, ltb-false, or_cases, or_parts, or_right}
+use Rattle.std.proofs.lemmas.Bool.{cases_Bool, cond-true, cond-false, cases_lt, le-leb, lt-ltb, le-ltb, lt-leb, ltb-true, ltb-false}
+use Rattle.std.proofs.lemmas.Bool.{or_cases, or_parts, or_right}
 use Rattle.flow_word.specs.declared.access.Side.{Side}
 use Rattle.flow_word.specs.declared.access.Side.TheVariants.{Pop, Push}
 use Rattle.flow_word.specs.Kinds.{other_side}

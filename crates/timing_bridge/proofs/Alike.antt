@@ -1,5 +1,6 @@
 -- What is possible by the contents is possible by counts, and what is told and moved is the same.
-use Rattle.std.proofs.Common.{◌≡◌, ℕ, suc, ◌+◌, ◌-◌, ◌<◌, List, [], ◌∷◌, ◌++◌, map, length, get_or, Bool, true, false, ◌||◌, ◌&&◌, not, cond, refl, sym, ◌∙◌, ap, ap₂, arith, inl, inr, ◌==◌, ltb, length-append, add-zero}
+use Rattle.std.proofs.Common.{◌≡◌, ℕ, suc, ◌+◌, ◌-◌, ◌<◌, List, [], ◌∷◌, ◌++◌, map, length, get_or, Bool, true, false, ◌||◌, ◌&&◌, not}
+use Rattle.std.proofs.Common.{cond, refl, sym, ◌∙◌, ap, ap₂, arith, inl, inr, ◌==◌, ltb, length-append, add-zero}
 use Rattle.std.specs.List.{list_any, AllByRecursion}
 use Rattle.std.proofs.lemmas.Bool.{cases_Bool, or_parts}
 use Rattle.std.proofs.lemmas.List.{get_or-drop}
@@ -17,7 +18,8 @@ use Rattle.flow_design.specs.Plans.{is_fifo, kind_at, delay_at}
 use Rattle.flow_design.specs.StaticRules.{FitsEngine}
 use Rattle.lockstep_defs.specs.Machine.{is_yes, value_in}
 use Rattle.flow_word.specs.Kinds.{side_of, is_blocking, is_taking}
-use Rattle.lockstep_defs.specs.Channels.{front, values, is_possible, stalls, reply, reply_by, popped_value, pushed_value, moved_by, moved, contents_of}
+use Rattle.lockstep_defs.specs.Channels.{front, values, is_possible, stalls, reply, reply_by, popped_value, pushed_value, moved_by, moved}
+use Rattle.lockstep_defs.specs.Channels.{contents_of}
 use Rattle.lockstep_defs.specs.Lockstep.{requests_of, answered, state, history}
 use Rattle.lockstep_defs.specs.Ports.{StandsAtPort}
 use Rattle.lockstep_defs.specs.Laws.{all_in}

@@ -13,7 +13,8 @@ use Rattle.flow_design.specs.declared.state.ModuleState.{ModuleState}
 use Rattle.flow_design.specs.declared.state.Reply.{Reply}
 use Rattle.flow_design.specs.Module.{block_of, interval, due}
 use Rattle.flow_design.specs.StaticRules.{FitsEngine}
-use Rattle.lockstep_defs.specs.Machine.{requests, request_for, entered, ticked, started, decided, followed, is_block_over, finished, committed, move, again_of, is_over}
+use Rattle.lockstep_defs.specs.Machine.{requests, request_for, entered, ticked, started, decided, followed, is_block_over, finished}
+use Rattle.lockstep_defs.specs.Machine.{committed, move, again_of, is_over}
 use Rattle.lockstep_defs.specs.Lockstep.{module_at, requests_of}
 use Rattle.event_timing.specs.Machines.{skip, ready, is_some_access}
 use Rattle.event_timing.specs.Machines as theory

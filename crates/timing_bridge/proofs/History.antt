@@ -1,5 +1,6 @@
 -- The lockstep run of a plan is a history of its design.
-use Rattle.std.proofs.Common.{◌≡◌, ℕ, suc, ◌+◌, List, [], ◌++◌, map, length, Bool, true, false, ◌&&◌, not, ◌<◌, refl, sym, ◌∙◌, ap, arith, inl, inr, length-append, append_assoc}
+use Rattle.std.proofs.Common.{◌≡◌, ℕ, suc, ◌+◌, List, [], ◌++◌, map, length, Bool, true, false, ◌&&◌, not, ◌<◌, refl, sym, ◌∙◌, ap, arith}
+use Rattle.std.proofs.Common.{inl, inr, length-append, append_assoc}
 use Rattle.std.proofs.lemmas.Bool.{cases_lt, cond-true, cond-false}
 use Rattle.std.proofs.lemmas.List.{append-nil, get_or_past}
 use Rattle.flow_word.specs.declared.access.Side.{Side}

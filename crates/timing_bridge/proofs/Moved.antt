@@ -1,5 +1,6 @@
 -- In one clock a side of a channel is moved by its owner alone.
-use Rattle.std.proofs.Common.{◌≡◌, ◌≢◌, ℕ, suc, ◌+◌, ◌-◌, ◌≤◌, ◌<◌, List, [], ◌∷◌, ◌++◌, map, get_or, Bool, true, false, cond, refl, sym, ◌∙◌, ap, ap₂, arith, inl, inr, ◌==◌}
+use Rattle.std.proofs.Common.{◌≡◌, ◌≢◌, ℕ, suc, ◌+◌, ◌-◌, ◌≤◌, ◌<◌, List, [], ◌∷◌, ◌++◌, map, get_or, Bool, true, false, cond, refl, sym}
+use Rattle.std.proofs.Common.{◌∙◌, ap, ap₂, arith, inl, inr, ◌==◌}
 use Rattle.std.specs.List.{flat_map, enumerate_from, AllByRecursion}
 use Rattle.std.proofs.lemmas.Bool.{cases_Bool, cases_eq, eqb-true, cond-true, cond-false}
 use Rattle.std.proofs.lemmas.List.{append-nil}

@@ -1,5 +1,6 @@
 -- The ordinals of a core's accesses: how many elements its earlier steps moved at a side of a channel.
-use Rattle.std.proofs.Common.{◌≡◌, ℕ, zero, suc, ◌+◌, ◌≤◌, ◌<◌, List, [], ◌∷◌, ◌++◌, map, length, Bool, true, false, ◌&&◌, not, cond, refl, sym, ◌∙◌, ap, ap₂, arith, length-append, ◌==◌}
+use Rattle.std.proofs.Common.{◌≡◌, ℕ, zero, suc, ◌+◌, ◌≤◌, ◌<◌, List, [], ◌∷◌, ◌++◌, map, length, Bool, true, false, ◌&&◌, not, cond, refl}
+use Rattle.std.proofs.Common.{sym, ◌∙◌, ap, ap₂, arith, length-append, ◌==◌}
 use Rattle.std.specs.List.{range_with_len}
 use Rattle.std.proofs.lemmas.List.{append-nil, map-append}
 use Rattle.flow_word.specs.declared.access.Side.{Side}

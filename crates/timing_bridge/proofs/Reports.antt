@@ -1,5 +1,6 @@
 -- The report of a final core is the plan's.
-use Rattle.std.proofs.Common.{◌≡◌, ℕ, zero, suc, ◌+◌, ◌≤◌, ◌<◌, List, [], ◌∷◌, map, length, Bool, true, false, ◌||◌, refl, sym, ◌∙◌, ap, ap₂, subst, arith, inl, inr, Some, None, Option}
+use Rattle.std.proofs.Common.{◌≡◌, ℕ, zero, suc, ◌+◌, ◌≤◌, ◌<◌, List, [], ◌∷◌, map, length, Bool, true, false, ◌||◌, refl, sym, ◌∙◌, ap}
+use Rattle.std.proofs.Common.{ap₂, subst, arith, inl, inr, Some, None, Option}
 use Rattle.std.specs.Prelude.{nat_lt, is_some}
 use Rattle.std.specs.List.{filter_map, range_with_len, list_all, list_any}
 use Rattle.std.proofs.lemmas.Bool.{cases_lt, cases_eq, cases_Bool, cond-false, cond_both, le-ltb, ltb-true, ltb-false, or_parts, both_ways}
@@ -24,7 +25,8 @@ use Rattle.event_timing.proofs.OwnRuns.{own_0}
 use Rattle.event_timing.proofs.Verdict.{done_last}
 use Rattle.event_timing.proofs.FinalReport.{done_limit}
 use Rattle.timing_bridge.specs.Designs.{design, lockstep_run}
-use Rattle.timing_bridge.specs.CoreReports.{core_steps, AreInOrder, modules_of, core_states, last_stop, is_determined, core_verdict, core_held_by, core_held, core_report}
+use Rattle.timing_bridge.specs.CoreReports.{core_steps, AreInOrder, modules_of, core_states, last_stop, is_determined, core_verdict}
+use Rattle.timing_bridge.specs.CoreReports.{core_held_by, core_held, core_report}
 use Rattle.timing_bridge.proofs.Quiet.{nobody_quiet, opening_past}
 use Rattle.timing_bridge.proofs.History.{plan_is_design, run_is_history}
 use Rattle.timing_bridge.proofs.Steps.{all_steps, events_are}

@@ -1,5 +1,6 @@
 -- The requests of a module as accesses of the theory: whose they are, and how many take.
-use Rattle.std.proofs.Common.{◌≡◌, ℕ, ◌+◌, ◌≤◌, List, [], ◌∷◌, map, length, Bool, true, false, ◌&&◌, cond, refl, sym, ◌∙◌, ap, ap₂, subst, arith, inl, inr, eqb}
+use Rattle.std.proofs.Common.{◌≡◌, ℕ, ◌+◌, ◌≤◌, List, [], ◌∷◌, map, length, Bool, true, false, ◌&&◌, cond, refl, sym, ◌∙◌, ap, ap₂, subst}
+use Rattle.std.proofs.Common.{arith, inl, inr, eqb}
 use Rattle.std.specs.List.{AllByRecursion, filter_map}
 use Rattle.std.proofs.lemmas.Bool.{cases_lt, cases_eq, eq-eqb, ne_eqb}
 use Rattle.std.proofs.lemmas.List.{get_or_past}

@@ -1,5 +1,6 @@
 -- What the lockstep machine shows at a settled clock, read off a final core.
-use Rattle.std.proofs.Common.{◌≡◌, ℕ, zero, suc, ◌+◌, ◌≤◌, ◌<◌, List, [], ◌∷◌, ◌++◌, map, length, get_or, drop, Bool, true, false, ◌&&◌, not, cond, max, refl, sym, ◌∙◌, ap, ap₂, subst, arith, inl, inr, Some, None, Option, zero-add}
+use Rattle.std.proofs.Common.{◌≡◌, ℕ, zero, suc, ◌+◌, ◌≤◌, ◌<◌, List, [], ◌∷◌, ◌++◌, map, length, get_or, drop, Bool, true, false, ◌&&◌}
+use Rattle.std.proofs.Common.{not, cond, max, refl, sym, ◌∙◌, ap, ap₂, subst, arith, inl, inr, Some, None, Option, zero-add}
 use Rattle.std.specs.List.{find, filter, filter_map, enumerate_from, cons_option, AllByRecursion, range_with_len}
 use Rattle.std.specs.Prelude.{option_map, nat_lt}
 use Rattle.std.proofs.lemmas.Bool.{cases_lt, cond-true, cond-false, lt-ltb, le-ltb, le-leb}

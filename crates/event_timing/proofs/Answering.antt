@@ -1,6 +1,8 @@
 -- Verified outcomes keep agreement.
-use Rattle.std.proofs.Common.{◌≡◌, ℕ, suc, ◌<◌, ◌≤◌, Bool, true, false, cond, ◌&&◌, ◌||◌, inl, inr, List, [], ◌∷◌, ◌++◌, sym, refl, ap, ap₂, ◌∙◌, subst, arith, eqb, Some, append-nil}
-use Rattle.std.proofs.lemmas.Bool.{cases_Bool, cond-true, cond-false, and_parts, both_ways, cases_lt, cases_eq, false_from_ne_true, ltb-true, or_left}
+use Rattle.std.proofs.Common.{◌≡◌, ℕ, suc, ◌<◌, ◌≤◌, Bool, true, false, cond, ◌&&◌, ◌||◌, inl, inr, List, [], ◌∷◌, ◌++◌, sym, refl, ap, ap₂}
+use Rattle.std.proofs.Common.{◌∙◌, subst, arith, eqb, Some, append-nil}
+use Rattle.std.proofs.lemmas.Bool.{cases_Bool, cond-true, cond-false, and_parts, both_ways, cases_lt, cases_eq, false_from_ne_true}
+use Rattle.std.proofs.lemmas.Bool.{ltb-true, or_left}
 use Rattle.flow_word.specs.declared.access.Side.TheVariants.{Push}
 use Rattle.flow_word.specs.Kinds.{same_side}
 use Rattle.event_timing.specs.Machines.{Design, IsDesign, Access, Reply, ready, values_in, took, takes_at, takers}
@@ -16,7 +18,8 @@ use Rattle.event_timing.proofs.Steps.{same_clock}
 use Rattle.event_timing.proofs.Values.{begins_self, begins_behind, pushed_in_more, not_taken}
 use Rattle.event_timing.proofs.Candidate.{candidate_parts, candidate_steps, candidate_done}
 use Rattle.event_timing.proofs.Fronts.{agrees, pushed_same}
-use Rattle.event_timing.proofs.Growing.{settled_less, settled_old, settled_timed, settled_all, own_grow, reply_grow, there_grow, elements_grow, pops_grow}
+use Rattle.event_timing.proofs.Growing.{settled_less, settled_old, settled_timed, settled_all, own_grow, reply_grow, there_grow}
+use Rattle.event_timing.proofs.Growing.{elements_grow, pops_grow}
 use Rattle.event_timing.proofs.Assigning.{at_cases, put_at_same, put_at_other, put_at_both, RightFlags, SureFlags, HappensFirst}
 use Rattle.event_timing.proofs.Sure.{new_sure}
 use Rattle.event_timing.proofs.Running.{values_grow}
@@ -264,8 +267,7 @@ module _ {S : Type 0} (d : Design S) (h : Trace S) (i : IsDesign d) (limit : ℕ
   answer_right st dn right =
       put_at_both x.flags m (x.timed m) (new_flags d x m c)
       (λ n k f. k ≡ x.timed n → k < x.emitted n → (after_answer d x m c).verified n k ≡ true → (z : ℕ) → steps d h z n ≡ true
-      → done d h n z ≡ k
-      → f ≡ possible_all d h z (core_accesses d x n k))
+      → done d h n z ≡ k → f ≡ possible_all d h z (core_accesses d x n k))
       (λ q l v z s k.
       let clock = same_clock d h m c z st s (dn ∙ sym k) in
       right ∙ ap (λ (j : ℕ). possible_all d h j (core_accesses d x m (x.timed m))) clock)

@@ -1,19 +1,23 @@
 -- A Run keeps agreement.
-use Rattle.std.proofs.Common.{◌≡◌, ℕ, zero, suc, ◌<◌, ◌≤◌, Bool, true, false, not, ◌⊎◌, inl, inr, List, ◌++◌, sym, refl, ap, ap₂, ◌∙◌, subst, arith, [], ◌∷◌}
+use Rattle.std.proofs.Common.{◌≡◌, ℕ, zero, suc, ◌<◌, ◌≤◌, Bool, true, false, not, ◌⊎◌, inl, inr, List, ◌++◌, sym, refl, ap, ap₂, ◌∙◌}
+use Rattle.std.proofs.Common.{subst, arith, [], ◌∷◌}
 use Rattle.std.proofs.lemmas.Bool.{cases_Bool, cond-true, cond-false, both_ways, cases_eq, not-true}
 use Rattle.flow_word.specs.declared.access.Side.TheVariants.{Push}
 use Rattle.event_timing.specs.Machines.{Design, IsDesign, Access, ready, values_in}
 use Rattle.event_timing.specs.Histories.{Trace, IsHistory}
 use Rattle.event_timing.specs.Views.{own, Begins}
-use Rattle.event_timing.specs.Core.{Core, bare_replies, core_accesses, core_pushed, core_values, core_reply, values_there, has_query, no_outcomes}
+use Rattle.event_timing.specs.Core.{Core, bare_replies, core_accesses, core_pushed, core_values, core_reply, values_there, has_query}
+use Rattle.event_timing.specs.Core.{no_outcomes}
 use Rattle.event_timing.specs.Agreement.{AreOwnMarks, IsTimed, elements_timed, pops_timed, possible_all, FlagsFit}
 use Rattle.event_timing.specs.Growth.{Grows, IsSettled}
 use Rattle.event_timing.specs.Actions.{after_run, put, put_at, MayRun, newest, state_behind, emit_over, emit_step}
 use Rattle.event_timing.proofs.OwnRuns.{own_0, own_more}
 use Rattle.event_timing.proofs.Values.{pushed_in_mono, begins_behind}
 use Rattle.event_timing.proofs.Fronts.{pushed_same, IsDone}
-use Rattle.event_timing.proofs.Growing.{settled_less, settled_old, settled_timed, settled_all, own_grow, reply_grow, there_grow, elements_grow, pops_grow}
-use Rattle.event_timing.proofs.Assigning.{put_cases, put_other, put_at_same, put_at_other, plain_possible, can_emitted, RightFlags, SureFlags, HappensFirst}
+use Rattle.event_timing.proofs.Growing.{settled_less, settled_old, settled_timed, settled_all, own_grow, reply_grow, there_grow}
+use Rattle.event_timing.proofs.Growing.{elements_grow, pops_grow}
+use Rattle.event_timing.proofs.Assigning.{put_cases, put_other, put_at_same, put_at_other, plain_possible, can_emitted, RightFlags}
+use Rattle.event_timing.proofs.Assigning.{SureFlags, HappensFirst}
 
 -- ---- the state behind the newest step
 
@@ -344,8 +348,7 @@ over_time {S} d h limit x u m =
 -- what holds of the core with the end, where the module is over, and else of that with a step, holds behind the Run
 pub run_cases : {S : Type 0} → (d : Design S) (x : Core S) (m : ℕ) (P : Core S → Type 0)
     → (d.is_over m (ready d m (newest d x m)) ≡ true → P (emit_over x m))
-    → (d.is_over m (ready d m (newest d x m)) ≡ false → P (emit d x m))
-    → P (after_run d x m)
+    → (d.is_over m (ready d m (newest d x m)) ≡ false → P (emit d x m)) → P (after_run d x m)
 run_cases {S} d x m P over step =
     let is_over : Bool = d.is_over m (ready d m (newest d x m)) in
     elim (cases_Bool is_over) [

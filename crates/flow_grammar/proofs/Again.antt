@@ -16,8 +16,8 @@ use Rattle.flow_grammar.specs.declared.operator.Operator.TheVariants.{One, Two, 
 use Rattle.flow_grammar.specs.Tokens.{is_number, is_name, number_of}
 use Rattle.std.specs.Char.{is_ascii_alphabetic}
 use Rattle.std.specs.Prelude.{◌||◌, ◌==◌}
-use Rattle.flow_grammar.specs.Operators.{operator_of}
-use Rattle.flow_grammar.specs.Parts.{Part, expr_parts, binary_word}
+use Rattle.flow_grammar.specs.Operators.{operator_of, binary_word}
+use Rattle.flow_grammar.specs.Parts.{Part, expr_parts}
 use Rattle.flow_grammar.specs.Spelling.{Spelled}
 use Rattle.flow_grammar.specs.Trees.{Trees, trees_of, with_token, applied_if}
 use Rattle.flow_grammar.proofs.Induction.{by_cases}

@@ -12,4 +12,5 @@ pub mod TextLaws
 pub mod TokenLemmas
 pub mod Trees
 pub mod Verdicts
+pub mod VersionLaws
 pub mod Written

@@ -9,13 +9,14 @@ use Rattle.flow_grammar.specs.Tokens.{Line, Token, tokens_of, is_permitted}
 use Rattle.flow_grammar.specs.Before.{version}
 use Rattle.flow_grammar.specs.Forms.{statement_of}
 use Rattle.flow_grammar.specs.Spelling.{Writes}
-use Rattle.flow_grammar.specs.Rules.{may_follow, statement_fault}
+use Rattle.flow_grammar.specs.Places.{may_follow}
+use Rattle.flow_grammar.specs.Rules.{statement_fault}
 use Rattle.flow_grammar.specs.Line.{form_fault, tokens_fault, statement_in, line_fault}
 use Rattle.flow_grammar.specs.Text.{StandsBehind, IsInOrder, IsNoStatement, BreaksRule, Fails}
 use Rattle.flow_grammar.proofs.ReadAgain.{written_is_read}
 use Rattle.flow_grammar.proofs.Written.{read_is_written}
 
-no_tokens : (v : ℕ) (s : Statement) → statement_of v [] ≡ Some s → ⊥
+pub no_tokens : (v : ℕ) (s : Statement) → statement_of v [] ≡ Some s → ⊥
 unfolding statement_of
 no_tokens v s e = cc
 

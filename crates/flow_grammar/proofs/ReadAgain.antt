@@ -11,32 +11,33 @@ use Rattle.flow_grammar.specs.Tokens.{Token, is_number, number_of, is_word}
 use Rattle.flow_grammar.specs.Before.{has_delays}
 use Rattle.flow_grammar.specs.Parts.{Name, parts, bare_parts, depth_parts, fifo_parts, default_depth, default_delay, op_parts, guard_parts, plain}
 use Rattle.flow_grammar.specs.Spelling.{Spelled, Writes}
+use Rattle.flow_grammar.specs.Keywords.{keyword_of, verb_of}
 use Rattle.flow_grammar.specs.Forms.{statement_of, flow_of, fifo_of, mem_of, loop_of, at_of, branch_of, input_of, limits_of, op_of, guarded_of}
 use Rattle.flow_grammar.proofs.Again.{one_again, two_again}
 
 -- ---- operations
 
 set_again : (r : Name) (e : Expr Name) (ts : List Token) → Spelled ts (op_parts (op.Set r e)) → op_of ts ≡ Some (op.Set r e)
-unfolding op_of
+unfolding op_of verb_of
 set_again r e [] s = absurd s
 set_again r e (k ∷ []) s = absurd s.1
 set_again r e (k ∷ t1 ∷ ts) s = rw (s.0, s.1.0.0, one_again e ts s.1.1, s.1.0.1) refl
 
 load_again : (r : Name) (m : Name) (e : Expr Name) (ts : List Token) → Spelled ts (op_parts (op.Load r m e)) → op_of ts ≡ Some (op.Load r m e)
-unfolding op_of
+unfolding op_of verb_of
 load_again r m e [] s = absurd s
 load_again r m e (k ∷ []) s = absurd s.1
 load_again r m e (k ∷ t1 ∷ []) s = absurd s.1.1
 load_again r m e (k ∷ t1 ∷ t2 ∷ ts) s = rw (s.0, s.1.0.0, s.1.1.0.0, one_again e ts s.1.1.1, s.1.0.1, s.1.1.0.1) refl
 
 store_again : (m : Name) (e : Expr Name) (f : Expr Name) (ts : List Token) → Spelled ts (op_parts (op.Store m e f)) → op_of ts ≡ Some (op.Store m e f)
-unfolding op_of
+unfolding op_of verb_of
 store_again m e f [] s = absurd s
 store_again m e f (k ∷ []) s = absurd s.1
 store_again m e f (k ∷ t1 ∷ ts) s = rw (s.0, s.1.0.0, two_again e f ts s.1.1, s.1.0.1) refl
 
 read_again : (f : Name) (r : Name) (ts : List Token) → Spelled ts (op_parts (op.Read f r)) → op_of ts ≡ Some (op.Read f r)
-unfolding op_of
+unfolding op_of verb_of
 read_again f r [] s = absurd s
 read_again f r (k ∷ []) s = absurd s.1
 read_again f r (k ∷ t1 ∷ []) s = absurd s.1.1
@@ -44,13 +45,13 @@ read_again f r (k ∷ t1 ∷ t2 ∷ []) s = rw (s.0, s.1.0.0, s.1.1.0.0, s.1.0.1
 read_again f r (k ∷ t1 ∷ t2 ∷ u ∷ ts) s = absurd s.1.1.1
 
 write_again : (f : Name) (e : Expr Name) (ts : List Token) → Spelled ts (op_parts (op.Write f e)) → op_of ts ≡ Some (op.Write f e)
-unfolding op_of
+unfolding op_of verb_of
 write_again f e [] s = absurd s
 write_again f e (k ∷ []) s = absurd s.1
 write_again f e (k ∷ t1 ∷ ts) s = rw (s.0, s.1.0.0, one_again e ts s.1.1, s.1.0.1) refl
 
 try_read_again : (f : Name) (r : Name) (ok : Name) (ts : List Token) → Spelled ts (op_parts (op.TryRead f r ok)) → op_of ts ≡ Some (op.TryRead f r ok)
-unfolding op_of
+unfolding op_of verb_of
 try_read_again f r ok [] s = absurd s
 try_read_again f r ok (k ∷ []) s = absurd s.1
 try_read_again f r ok (k ∷ t1 ∷ []) s = absurd s.1.1
@@ -59,14 +60,14 @@ try_read_again f r ok (k ∷ t1 ∷ t2 ∷ t3 ∷ []) s = rw (s.0, s.1.0.0, s.1.
 try_read_again f r ok (k ∷ t1 ∷ t2 ∷ t3 ∷ u ∷ ts) s = absurd s.1.1.1.1
 
 try_write_again : (f : Name) (ok : Name) (e : Expr Name) (ts : List Token) → Spelled ts (op_parts (op.TryWrite f ok e)) → op_of ts ≡ Some (op.TryWrite f ok e)
-unfolding op_of
+unfolding op_of verb_of
 try_write_again f ok e [] s = absurd s
 try_write_again f ok e (k ∷ []) s = absurd s.1
 try_write_again f ok e (k ∷ t1 ∷ []) s = absurd s.1.1
 try_write_again f ok e (k ∷ t1 ∷ t2 ∷ ts) s = rw (s.0, s.1.0.0, s.1.1.0.0, one_again e ts s.1.1.1, s.1.0.1, s.1.1.0.1) refl
 
 empty_again : (f : Name) (r : Name) (ts : List Token) → Spelled ts (op_parts (op.Empty f r)) → op_of ts ≡ Some (op.Empty f r)
-unfolding op_of
+unfolding op_of verb_of
 empty_again f r [] s = absurd s
 empty_again f r (k ∷ []) s = absurd s.1
 empty_again f r (k ∷ t1 ∷ []) s = absurd s.1.1
@@ -74,7 +75,7 @@ empty_again f r (k ∷ t1 ∷ t2 ∷ []) s = rw (s.0, s.1.0.0, s.1.1.0.0, s.1.0.
 empty_again f r (k ∷ t1 ∷ t2 ∷ u ∷ ts) s = absurd s.1.1.1
 
 full_again : (f : Name) (r : Name) (ts : List Token) → Spelled ts (op_parts (op.Full f r)) → op_of ts ≡ Some (op.Full f r)
-unfolding op_of
+unfolding op_of verb_of
 full_again f r [] s = absurd s
 full_again f r (k ∷ []) s = absurd s.1
 full_again f r (k ∷ t1 ∷ []) s = absurd s.1.1
@@ -116,14 +117,14 @@ guarded_again off (Some r) o (k ∷ t ∷ ts) s = rw (s.0, s.1.0.0, op_again o t
 
 module _ (version : ℕ) where
   flow_again : (n : ℕ) (ts : List Token) → Spelled ts (parts (Flow n)) → statement_of version ts ≡ Some (Flow n)
-  unfolding statement_of flow_of
+  unfolding statement_of keyword_of flow_of
   flow_again n [] s = absurd s
   flow_again n (k ∷ []) s = absurd s.1
   flow_again n (k ∷ t1 ∷ []) s = rw (s.0, s.1.0.0, s.1.0.1) refl
   flow_again n (k ∷ t1 ∷ u ∷ ts) s = absurd s.1.1
 
   source_again : (n : Name) (w : ℕ) (ts : List Token) → Spelled ts (parts (Source n w)) → statement_of version ts ≡ Some (Source n w)
-  unfolding statement_of
+  unfolding statement_of keyword_of
   source_again n w [] s = absurd s
   source_again n w (k ∷ []) s = absurd s.1
   source_again n w (k ∷ t1 ∷ []) s = absurd s.1.1
@@ -131,7 +132,7 @@ module _ (version : ℕ) where
   source_again n w (k ∷ t1 ∷ t2 ∷ u ∷ ts) s = absurd s.1.1.1
 
   sink_again : (n : Name) (w : ℕ) (ts : List Token) → Spelled ts (parts (Sink n w)) → statement_of version ts ≡ Some (Sink n w)
-  unfolding statement_of
+  unfolding statement_of keyword_of
   sink_again n w [] s = absurd s
   sink_again n w (k ∷ []) s = absurd s.1
   sink_again n w (k ∷ t1 ∷ []) s = absurd s.1.1
@@ -139,7 +140,7 @@ module _ (version : ℕ) where
   sink_again n w (k ∷ t1 ∷ t2 ∷ u ∷ ts) s = absurd s.1.1.1
 
   reg_again : (n : Name) (w : ℕ) (ts : List Token) → Spelled ts (parts (Reg n w)) → statement_of version ts ≡ Some (Reg n w)
-  unfolding statement_of
+  unfolding statement_of keyword_of
   reg_again n w [] s = absurd s
   reg_again n w (k ∷ []) s = absurd s.1
   reg_again n w (k ∷ t1 ∷ []) s = absurd s.1.1
@@ -147,7 +148,7 @@ module _ (version : ℕ) where
   reg_again n w (k ∷ t1 ∷ t2 ∷ u ∷ ts) s = absurd s.1.1.1
 
   block_again : (n : Name) (w : ℕ) (ts : List Token) → Spelled ts (parts (Block n w)) → statement_of version ts ≡ Some (Block n w)
-  unfolding statement_of
+  unfolding statement_of keyword_of
   block_again n w [] s = absurd s
   block_again n w (k ∷ []) s = absurd s.1
   block_again n w (k ∷ t1 ∷ []) s = absurd s.1.1
@@ -155,7 +156,7 @@ module _ (version : ℕ) where
   block_again n w (k ∷ t1 ∷ t2 ∷ u ∷ ts) s = absurd s.1.1.1
 
   temp_again : (n : Name) (w : ℕ) (ts : List Token) → Spelled ts (parts (Temp n w)) → statement_of version ts ≡ Some (Temp n w)
-  unfolding statement_of
+  unfolding statement_of keyword_of
   temp_again n w [] s = absurd s
   temp_again n w (k ∷ []) s = absurd s.1
   temp_again n w (k ∷ t1 ∷ []) s = absurd s.1.1
@@ -163,7 +164,7 @@ module _ (version : ℕ) where
   temp_again n w (k ∷ t1 ∷ t2 ∷ u ∷ ts) s = absurd s.1.1.1
 
   edit_again : (n : Name) (w : ℕ) (ts : List Token) → Spelled ts (parts (Depth n w)) → statement_of version ts ≡ Some (Depth n w)
-  unfolding statement_of
+  unfolding statement_of keyword_of
   edit_again n w [] s = absurd s
   edit_again n w (k ∷ []) s = absurd s.1
   edit_again n w (k ∷ t1 ∷ []) s = absurd s.1.1
@@ -172,7 +173,7 @@ module _ (version : ℕ) where
 
   fifo_again : (n : Name) (w depth delay : ℕ) (ts : List Token) → has_delays version ≡ true → Spelled ts (fifo_parts n w depth delay)
       → statement_of version ts ≡ Some (Fifo n w depth delay)
-  unfolding statement_of fifo_of
+  unfolding statement_of keyword_of fifo_of
   fifo_again n w depth delay [] h s = absurd s
   fifo_again n w depth delay (k ∷ []) h s = absurd s.1
   fifo_again n w depth delay (k ∷ t1 ∷ []) h s = absurd s.1.1
@@ -185,7 +186,7 @@ module _ (version : ℕ) where
   -- without a delay
   depth_again : (n : Name) (w depth delay : ℕ) (ts : List Token) → delay ≡ default_delay → Spelled ts (depth_parts n w depth)
       → statement_of version ts ≡ Some (Fifo n w depth delay)
-  unfolding statement_of fifo_of
+  unfolding statement_of keyword_of fifo_of
   depth_again n w depth delay [] e s = absurd s
   depth_again n w depth delay (k ∷ []) e s = absurd s.1
   depth_again n w depth delay (k ∷ t1 ∷ []) e s = absurd s.1.1
@@ -196,7 +197,7 @@ module _ (version : ℕ) where
   -- and without a depth
   bare_again : (n : Name) (w depth delay : ℕ) (ts : List Token) → depth ≡ default_depth → delay ≡ default_delay → Spelled ts (bare_parts n w)
       → statement_of version ts ≡ Some (Fifo n w depth delay)
-  unfolding statement_of fifo_of
+  unfolding statement_of keyword_of fifo_of
   bare_again n w depth delay [] d e s = absurd s
   bare_again n w depth delay (k ∷ []) d e s = absurd s.1
   bare_again n w depth delay (k ∷ t1 ∷ []) d e s = absurd s.1.1
@@ -204,14 +205,14 @@ module _ (version : ℕ) where
   bare_again n w depth delay (k ∷ t1 ∷ t2 ∷ u ∷ ts) d e s = absurd s.1.1.1
 
   module_again : (n : Name) (ts : List Token) → Spelled ts (parts (Module n)) → statement_of version ts ≡ Some (Module n)
-  unfolding statement_of
+  unfolding statement_of keyword_of
   module_again n [] s = absurd s
   module_again n (k ∷ []) s = absurd s.1
   module_again n (k ∷ t1 ∷ []) s = rw (s.0, s.1.0.0, s.1.0.1) refl
   module_again n (k ∷ t1 ∷ u ∷ ts) s = absurd s.1.1
 
   mem_again : (n : Name) (w : ℕ) (l : ℕ) (ts : List Token) → Spelled ts (parts (Mem n w l)) → statement_of version ts ≡ Some (Mem n w l)
-  unfolding statement_of mem_of
+  unfolding statement_of keyword_of mem_of
   mem_again n w l [] s = absurd s
   mem_again n w l (k ∷ []) s = absurd s.1
   mem_again n w l (k ∷ t1 ∷ []) s = absurd s.1.1
@@ -220,7 +221,7 @@ module _ (version : ℕ) where
   mem_again n w l (k ∷ t1 ∷ t2 ∷ t3 ∷ u ∷ ts) s = absurd s.1.1.1.1
 
   loop_again : (n : Name) (ii : ℕ) (l : ℕ) (r : Name) (ts : List Token) → Spelled ts (parts (Loop n ii l r)) → statement_of version ts ≡ Some (Loop n ii l r)
-  unfolding statement_of loop_of
+  unfolding statement_of keyword_of loop_of
   loop_again n ii l r [] s = absurd s
   loop_again n ii l r (k ∷ []) s = absurd s.1
   loop_again n ii l r (k ∷ t1 ∷ []) s = absurd s.1.1
@@ -231,14 +232,14 @@ module _ (version : ℕ) where
   loop_again n ii l r (k ∷ t1 ∷ t2 ∷ t3 ∷ t4 ∷ t5 ∷ u ∷ ts) s = absurd s.1.1.1.1.1.1
 
   goto_again : (b : Name) (ts : List Token) → Spelled ts (parts (Goto b)) → statement_of version ts ≡ Some (Goto b)
-  unfolding statement_of
+  unfolding statement_of keyword_of
   goto_again b [] s = absurd s
   goto_again b (k ∷ []) s = absurd s.1
   goto_again b (k ∷ t1 ∷ []) s = rw (s.0, s.1.0.0, s.1.0.1) refl
   goto_again b (k ∷ t1 ∷ u ∷ ts) s = absurd s.1.1
 
   branch_again : (r : Name) (b : Name) (c : Name) (ts : List Token) → Spelled ts (parts (Branch r b c)) → statement_of version ts ≡ Some (Branch r b c)
-  unfolding statement_of branch_of
+  unfolding statement_of keyword_of branch_of
   branch_again r b c [] s = absurd s
   branch_again r b c (k ∷ []) s = absurd s.1
   branch_again r b c (k ∷ t1 ∷ []) s = absurd s.1.1
@@ -247,13 +248,13 @@ module _ (version : ℕ) where
   branch_again r b c (k ∷ t1 ∷ t2 ∷ t3 ∷ u ∷ ts) s = absurd s.1.1.1.1
 
   stop_again : (ts : List Token) → Spelled ts (parts Stop) → statement_of version ts ≡ Some Stop
-  unfolding statement_of
+  unfolding statement_of keyword_of
   stop_again [] s = absurd s
   stop_again (k ∷ []) s = rw (s.0) refl
   stop_again (k ∷ u ∷ ts) s = absurd s.1
 
   limits_again : (c : ℕ) (o : ℕ) (ts : List Token) → Spelled ts (parts (Limits c o)) → statement_of version ts ≡ Some (Limits c o)
-  unfolding statement_of limits_of
+  unfolding statement_of keyword_of limits_of
   limits_again c o [] s = absurd s
   limits_again c o (k ∷ []) s = absurd s.1
   limits_again c o (k ∷ t1 ∷ []) s = absurd s.1.1
@@ -261,7 +262,7 @@ module _ (version : ℕ) where
   limits_again c o (k ∷ t1 ∷ t2 ∷ u ∷ ts) s = absurd s.1.1.1
 
   end_again : (ts : List Token) → Spelled ts (parts End) → statement_of version ts ≡ Some End
-  unfolding statement_of
+  unfolding statement_of keyword_of
   end_again [] s = absurd s
   end_again (k ∷ []) s = rw (s.0) refl
   end_again (k ∷ u ∷ ts) s = absurd s.1
@@ -275,7 +276,7 @@ module _ (version : ℕ) where
       (rw (s.0.0, rest.0) refl, λ i. s.0.1 i ∷ rest.1 i)
 
   input_again : (n : Name) (values : List ℕ) (ts : List Token) → Spelled ts (parts (Input n values)) → statement_of version ts ≡ Some (Input n values)
-  unfolding statement_of input_of
+  unfolding statement_of keyword_of input_of
   input_again n values [] s = absurd s
   input_again n values (k ∷ []) s = absurd s.1
   input_again n values (k ∷ t ∷ ts) s =
@@ -283,7 +284,7 @@ module _ (version : ℕ) where
       rw (s.0, s.1.0.0, rest.0, s.1.0.1, rest.1) refl
 
   at_again : (off : ℕ) (guard : Option Name) (o : Op Name) (ts : List Token) → Spelled ts (parts (At off guard o)) → statement_of version ts ≡ Some (At off guard o)
-  unfolding statement_of at_of
+  unfolding statement_of keyword_of at_of
   at_again off guard o [] s = absurd s
   at_again off guard o (k ∷ []) s = absurd s.1
   at_again off guard o (k ∷ t ∷ ts) s = rw (s.0, s.1.0.0, s.1.0.1, guarded_again off guard o ts s.1.1) refl

@@ -1,6 +1,7 @@
 -- The expressions of some tokens are those whose parts the tokens spell.
 use Rattle.std.proofs.Common.{◌≡◌, ℕ, List, [], ◌∷◌, ◌++◌, Bool, true, false, cond, Option, None, Some, refl, subst, append_assoc}
 use Rattle.std.specs.Prelude.{codes, ◌==◌, ◌&&◌}
+use Rattle.std.specs.List.{find}
 use Rattle.std.specs.Option.{option_and_then}
 use Rattle.flow_design.specs.declared.expr.Expr.{Expr}
 use Rattle.flow_design.specs.declared.expr.Expr.TheOpen.{Expr-F}
@@ -14,8 +15,11 @@ use Rattle.flow_grammar.specs.declared.operator.Operator.TheVariants.{One, Two, 
 use Rattle.std.specs.Prelude.{if◌then◌else◌}
 use Rattle.std.proofs.lemmas.Bool.{eqb-true}
 use Rattle.flow_grammar.specs.Tokens.{is_word, is_number, is_name, number_of}
-use Rattle.flow_grammar.specs.Operators.{operator_of}
-use Rattle.flow_grammar.specs.Parts.{Part, expr_parts, layer_parts, binary_word}
+use Rattle.flow_grammar.specs.declared.keyword.Keyword.{Keyword}
+use Rattle.flow_grammar.specs.declared.keyword.Verb.{Verb}
+use Rattle.flow_grammar.specs.Keywords.{keyword_word, keywords, keyword_of, verb_word, verbs, verb_of}
+use Rattle.flow_grammar.specs.Operators.{operator_word, operators, operator_of}
+use Rattle.flow_grammar.specs.Parts.{Part, expr_parts, layer_parts}
 use Rattle.flow_grammar.specs.Spelling.{Spelled}
 use Rattle.flow_grammar.specs.Trees.{Trees, trees_of, with_token, extended, applied_if}
 use Rattle.flow_grammar.proofs.Trees.{folded-Number, folded-Var, folded-Unary, folded-Binary, folded-Sext, folded-Pick}
@@ -62,41 +66,30 @@ word_is [] (y ∷ ys) h = absurd cc
 word_is (x ∷ xs) [] h = absurd cc
 word_is (x ∷ xs) (y ∷ ys) h = let p = both_true (x == y) (is_word xs ys) h in λ i. eqb-true x y p.0 i ∷ word_is xs ys p.1 i
 
--- a word that an operator is
-abbrev IsWordOf : Option Operator → List ℕ → Type 0
-IsWordOf None t = Unit {0}
-IsWordOf (Some (One Not)) t = t ≡ codes "~"
-IsWordOf (Some (Two o)) t = t ≡ binary_word o
-IsWordOf (Some Extend) t = t ≡ codes "sext"
-IsWordOf (Some Choose) t = t ≡ codes "?:"
+-- ---- words
 
-word_if : (t w : List ℕ) (o : Operator) (rest : Option Operator) → (t ≡ w → IsWordOf (Some o) t) → IsWordOf rest t → IsWordOf (if is_word t w then Some o else rest) t
-word_if t w o rest here there = go (is_word t w) refl
+-- what is found in a list passes the test
+found_passes : {X : Type 0} (p : X → Bool) (xs : List X) (x : X) → find p xs ≡ Some x → p x ≡ true
+found_passes p [] x e = absurd cc
+found_passes {X} p (y ∷ ys) x e = go (p y) refl (found_passes p ys x) e
   where
-    go : (b : Bool) → is_word t w ≡ b → IsWordOf (cond b (Some o) rest) t
-    go true h = here (word_is t w h)
-    go false h = there
+    go : (b : Bool) → p y ≡ b → (find p ys ≡ Some x → p x ≡ true) → cond b (Some y) (find p ys) ≡ Some x → p x ≡ true
+    go true h rest f = let same : y ≡ x = (cc) in subst (λ (z : X). p z ≡ true) same h
+    go false h rest f = rest f
 
-operator_word : (t : List ℕ) → IsWordOf (operator_of t) t
+pub keyword_is : (t : List ℕ) (k : Keyword) → keyword_of t ≡ Some k → t ≡ keyword_word k
+unfolding keyword_of
+keyword_is t k e = word_is t (keyword_word k) (found_passes (λ (x : Keyword). is_word t (keyword_word x)) keywords k e)
+
+pub verb_is : (t : List ℕ) (v : Verb) → verb_of t ≡ Some v → t ≡ verb_word v
+unfolding verb_of
+verb_is t v e = word_is t (verb_word v) (found_passes (λ (x : Verb). is_word t (verb_word x)) verbs v e)
+
+operator_is : (t : List ℕ) (o : Operator) → operator_of t ≡ Some o → t ≡ operator_word o
 unfolding operator_of
-operator_word t =
-    word_if t (codes "~") (One Not) _ (λ e. e)
-    (word_if t (codes "+") (Two Add) _ (λ e. e)
-    (word_if t (codes "-") (Two Sub) _ (λ e. e)
-    (word_if t (codes "*") (Two Mul) _ (λ e. e)
-    (word_if t (codes "&") (Two And) _ (λ e. e)
-    (word_if t (codes "|") (Two Or) _ (λ e. e)
-    (word_if t (codes "^") (Two Xor) _ (λ e. e)
-    (word_if t (codes "<<") (Two Shl) _ (λ e. e)
-    (word_if t (codes ">>") (Two Shr) _ (λ e. e)
-    (word_if t (codes "==") (Two Eq) _ (λ e. e)
-    (word_if t (codes "!=") (Two Ne) _ (λ e. e)
-    (word_if t (codes "<u") (Two LtU) _ (λ e. e)
-    (word_if t (codes "<s") (Two LtS) _ (λ e. e)
-    (word_if t (codes "/") (Two Div) _ (λ e. e)
-    (word_if t (codes "%") (Two Rem) _ (λ e. e)
-    (word_if t (codes "?:") Choose _ (λ e. e)
-    (word_if t (codes "sext") Extend _ (λ e. e) tt))))))))))))))))
+operator_is t o e = word_is t (operator_word o) (found_passes (λ (x : Operator). is_word t (operator_word x)) operators o e)
+
+-- ---- tokens
 
 pub spelled_append : (ts us : List (List ℕ)) (ps qs : List Part) → Spelled ts ps → Spelled us qs → Spelled (ts ++ us) (ps ++ qs)
 spelled_append [] us [] qs s t = t
@@ -133,20 +126,21 @@ says_extended t (k ∷ behind) (number ∷ a ∷ es) w e s = go (is_number k) re
         let q = rw (parts_Number (number_of k)) at s' in
         rw (parts_Sext (number_of k) a) (w, ((h, refl), q.1))
 
-says_applied : (t : List ℕ) (behind : List (List ℕ)) (o : Option Operator) (es : Trees) → IsWordOf o t → trees_of behind ≡ Some es → Spelled behind (all_parts es) → Says (t ∷ behind) (applied_if o behind es)
+says_applied : (t : List ℕ) (behind : List (List ℕ)) (o : Option Operator) (es : Trees) → operator_of t ≡ o → trees_of behind ≡ Some es → Spelled behind (all_parts es) → Says (t ∷ behind) (applied_if o behind es)
 unfolding Says
 says_applied t behind None es w e s = tt
 says_applied t behind (Some (One Not)) [] w e s = tt
-says_applied t behind (Some (One Not)) (a ∷ es) w e s = rw (parts_Unary Not a) (w, s)
+says_applied t behind (Some (One Not)) (a ∷ es) w e s = rw (parts_Unary Not a) (operator_is t (One Not) w, s)
 says_applied t behind (Some (Two o)) [] w e s = tt
 says_applied t behind (Some (Two o)) (a ∷ []) w e s = tt
-says_applied t behind (Some (Two o)) (a ∷ b ∷ es) w e s = rw (parts_Binary o a b, append_assoc (expr_parts a) (expr_parts b) (all_parts es)) (w, s)
-says_applied t behind (Some Extend) es w e s = says_extended t behind es w e s
+says_applied t behind (Some (Two o)) (a ∷ b ∷ es) w e s = rw (parts_Binary o a b, append_assoc (expr_parts a) (expr_parts b) (all_parts es)) (operator_is t (Two o) w, s)
+says_applied t behind (Some Extend) es w e s = says_extended t behind es (operator_is t Extend w) e s
 says_applied t behind (Some Choose) [] w e s = tt
 says_applied t behind (Some Choose) (a ∷ []) w e s = tt
 says_applied t behind (Some Choose) (a ∷ b ∷ []) w e s = tt
 says_applied t behind (Some Choose) (a ∷ b ∷ c ∷ es) w e s =
-    rw (parts_Pick a b c, append_assoc (expr_parts a) (expr_parts b ++ expr_parts c) (all_parts es), append_assoc (expr_parts b) (expr_parts c) (all_parts es)) (w, s)
+    rw (parts_Pick a b c, append_assoc (expr_parts a) (expr_parts b ++ expr_parts c) (all_parts es), append_assoc (expr_parts b) (expr_parts c) (all_parts es))
+    (operator_is t Choose w, s)
 
 says_token : (t : List ℕ) (behind : List (List ℕ)) (es : Trees) → trees_of behind ≡ Some es → Spelled behind (all_parts es) → Says (t ∷ behind) (with_token t behind es)
 unfolding Says with_token
@@ -155,7 +149,7 @@ says_token t behind es e s = go (is_number t) (is_name t) refl refl
     go : (a b : Bool) → is_number t ≡ a → is_name t ≡ b → Says (t ∷ behind) (cond a (Some (Number (number_of t) ∷ es)) (cond b (Some (Var t ∷ es)) (applied_if (operator_of t) behind es)))
     go true b h k = rw (parts_Number (number_of t)) ((h, refl), s)
     go false true h k = rw (parts_Var t) ((k, refl), s)
-    go false false h k = says_applied t behind (operator_of t) es (operator_word t) e s
+    go false false h k = says_applied t behind (operator_of t) es refl e s
 
 says : (ts : List (List ℕ)) → Says ts (trees_of ts)
 unfolding Says trees_of

@@ -10,7 +10,7 @@ use Rattle.flow_grammar.specs.declared.fault.Code.{Code}
 use Rattle.flow_grammar.specs.declared.fault.Code.TheVariants.{BadNumber, UnknownName, TooMany}
 use Rattle.flow_grammar.specs.declared.operand.Operand.{Operand}
 use Rattle.flow_grammar.specs.declared.operand.Operand.TheVariants.{Whole, Faulty}
-use Rattle.flow_grammar.specs.Operands.{one, two, sized, earlier, extend, widened, widened_by, choose}
+use Rattle.flow_grammar.specs.Operands.{one, two, sized, earlier, earlier_of, extend, widened, widened_by, choose}
 
 -- by three tests
 abbrev pub verdict : Bool → Bool → Expr (List ℕ) → ℕ → ℕ → Operand
@@ -29,7 +29,7 @@ verdict_one o a n d false known = refl
 
 small_two : (o : BinOp) (a b : Expr (List ℕ)) (n d m e : ℕ) (s t : Bool) → nat_le n 256 && nat_le d 32 ≡ s → nat_le m 256 && nat_le e 32 ≡ t
     → two o (cond s (Whole a n d) (Faulty TooMany)) (cond t (Whole b m e) (Faulty TooMany)) ≡ sized (Binary o a b) (1 + (n + m)) (1 + max d e)
-unfolding two earlier
+unfolding two earlier earlier_of
 small_two o a b n d m e true true h k = refl
 small_two o a b n d m e true false h k = let z : nat_le (1 + (n + m)) 256 && nat_le (1 + max d e) 32 ≡ false = grind (arith, nat_tests) in rw z refl
 small_two o a b n d m e false true h k = let z : nat_le (1 + (n + m)) 256 && nat_le (1 + max d e) 32 ≡ false = grind (arith, nat_tests) in rw z refl
@@ -37,17 +37,17 @@ small_two o a b n d m e false false h k = let z : nat_le (1 + (n + m)) 256 && na
 
 -- an operand that is small or not, beside one that fails an earlier test
 first_small : (o : BinOp) (a : Expr (List ℕ)) (n d : ℕ) (b : Expr (List ℕ)) (s : Bool) (c : Code) → earlier TooMany c ≡ c → two o (cond s (Whole a n d) (Faulty TooMany)) (Faulty c) ≡ Faulty c
-unfolding two
+unfolding two earlier_of
 first_small o a n d b true c h = refl
 first_small o a n d b false c h = ap (λ (x : Code). Faulty x) h
 
 second_small : (o : BinOp) (a : Expr (List ℕ)) (n d : ℕ) (s : Bool) (c : Code) → earlier c TooMany ≡ c → two o (Faulty c) (cond s (Whole a n d) (Faulty TooMany)) ≡ Faulty c
-unfolding two
+unfolding two earlier_of
 second_small o a n d true c h = refl
 second_small o a n d false c h = ap (λ (x : Code). Faulty x) h
 
 pub verdict_two : (o : BinOp) (a b : Expr (List ℕ)) (n d m e : ℕ) (r k s l : Bool) → two o (verdict r k a n d) (verdict s l b m e) ≡ verdict (r && s) (k && l) (Binary o a b) (1 + (n + m)) (1 + max d e)
-unfolding two earlier
+unfolding two earlier earlier_of
 verdict_two o a b n d m e true true true true = small_two o a b n d m e (nat_le n 256 && nat_le d 32) (nat_le m 256 && nat_le e 32) refl refl
 verdict_two o a b n d m e true true true false = first_small o a n d b (nat_le n 256 && nat_le d 32) UnknownName refl
 verdict_two o a b n d m e true true false l = first_small o a n d b (nat_le n 256 && nat_le d 32) BadNumber refl
@@ -82,7 +82,7 @@ module _ (a b c : Expr (List ℕ)) (n d m e l h : ℕ) where
 
   pick_tested : (r f s r' f' s' r'' f'' s'' : Bool) → choose (tested r f s a n d) (tested r' f' s' b m e) (tested r'' f'' s'' c l h)
       ≡ cond (r && (r' && r'')) (cond (f && (f' && f'')) (cond (s && (s' && s'')) picked (Faulty TooMany)) (Faulty UnknownName)) (Faulty BadNumber)
-  unfolding choose earlier
+  unfolding choose earlier earlier_of
   pick_tested false f s false f' s' false f'' s'' = refl
   pick_tested false f s false f' s' true false s'' = refl
   pick_tested false f s false f' s' true true false = refl

@@ -9,12 +9,17 @@ use Rattle.flow_design.specs.declared.expr.Op.TheVariants as op
 use Rattle.flow_design.specs.declared.session.Statement.{Statement}
 use Rattle.flow_design.specs.declared.session.Statement.TheVariants.{Flow, Source, Sink, Fifo, Module, Reg, Mem, Block, Loop, Temp, At, Goto, Branch, Stop, Input, Limits, Depth, End}
 use Rattle.flow_grammar.specs.Tokens.{Token, is_number, is_name, number_of, is_word}
+use Rattle.flow_grammar.specs.declared.keyword.Keyword.{Keyword}
+use Rattle.flow_grammar.specs.declared.keyword.Keyword.TheVariants as keyword
+use Rattle.flow_grammar.specs.declared.keyword.Verb.{Verb}
+use Rattle.flow_grammar.specs.declared.keyword.Verb.TheVariants as verb
 use Rattle.flow_grammar.specs.Before.{has_delays}
+use Rattle.flow_grammar.specs.Keywords.{keyword_word, keyword_of, verb_word, verb_of}
 use Rattle.flow_grammar.specs.Parts.{Name, Part, default_depth, default_delay, op_parts, expr_parts, plain}
 use Rattle.flow_grammar.specs.Spelling.{Spelled, Writes}
 use Rattle.flow_grammar.specs.Trees.{Trees, trees_of}
-use Rattle.flow_grammar.specs.Forms.{only_if, if_then, one_tree, two_trees, statement_of, flow_of, name_width, fifo_of, one_name, mem_of, loop_of, at_of, branch_of, input_of, limits_of, bare, op_of, set_of, load_of, store_of, two_names, write_of, try_read_of, try_write_of, guarded_of}
-use Rattle.flow_grammar.proofs.SpellingLaws.{trees_spelled, word_is}
+use Rattle.flow_grammar.specs.Forms.{only_if, if_then, one_tree, two_trees, statement_of, flow_of, name_width, fifo_of, one_name, mem_of, loop_of, at_of, branch_of, input_of, limits_of, bare, form_of, form_if, op_form_of, op_form_if, op_of, set_of, load_of, store_of, two_names, write_of, try_read_of, try_write_of, guarded_of}
+use Rattle.flow_grammar.proofs.SpellingLaws.{trees_spelled, word_is, keyword_is, verb_is}
 
 both : (a b : Bool) → a && b ≡ true → (a ≡ true) × (b ≡ true)
 both true b h = (refl, h)
@@ -26,13 +31,6 @@ both false b h = absurd cc
 abbrev OpSpelled : List Token → Option (Op Name) → Type 0
 OpSpelled ts None = Unit {0}
 OpSpelled ts (Some o) = Spelled ts (op_parts o)
-
-op_branch : (k w : Token) (ts : List Token) (here rest : Option (Op Name)) → (k ≡ w → OpSpelled ts here) → OpSpelled ts rest → OpSpelled ts (if is_word k w then here else rest)
-op_branch k w ts here rest h r = go (is_word k w) refl
-  where
-    go : (b : Bool) → is_word k w ≡ b → OpSpelled ts (cond b here rest)
-    go true e = h (word_is k w e)
-    go false e = r
 
 op_only : (test : Bool) (ts : List Token) (o : Op Name) → (test ≡ true → Spelled ts (op_parts o)) → OpSpelled ts (only_if test o)
 op_only true ts o h = h refl
@@ -100,19 +98,25 @@ try_write_written k (f ∷ []) w = tt
 try_write_written k (f ∷ ok ∷ us) w = op_one (is_name f && is_name ok) (op.TryWrite f ok) us (k ∷ f ∷ ok ∷ us)
     (λ n e s. let p = both (is_name f) (is_name ok) n in (w, ((p.0, refl), ((p.1, refl), s))))
 
+form_written : (v : Verb) (k : Token) (ts : List Token) → k ≡ verb_word v → OpSpelled (k ∷ ts) (op_form_of v ts)
+form_written verb.Set k ts w = set_written k ts w
+form_written verb.Load k ts w = load_written k ts w
+form_written verb.Store k ts w = store_written k ts w
+form_written verb.Read k ts w = names_written op.Read k ts (λ f r p q. (w, ((p, refl), ((q, refl), tt))))
+form_written verb.Write k ts w = write_written k ts w
+form_written verb.TryRead k ts w = try_read_written k ts w
+form_written verb.TryWrite k ts w = try_write_written k ts w
+form_written verb.Empty k ts w = names_written op.Empty k ts (λ f r p q. (w, ((p, refl), ((q, refl), tt))))
+form_written verb.Full k ts w = names_written op.Full k ts (λ f r p q. (w, ((p, refl), ((q, refl), tt))))
+
 op_written : (ts : List Token) → OpSpelled ts (op_of ts)
 unfolding op_of
 op_written [] = tt
-op_written (k ∷ ts) =
-    op_branch k (codes "set") (k ∷ ts) _ _ (set_written k ts)
-    (op_branch k (codes "load") (k ∷ ts) _ _ (load_written k ts)
-    (op_branch k (codes "store") (k ∷ ts) _ _ (store_written k ts)
-    (op_branch k (codes "read") (k ∷ ts) _ _ (λ w. names_written op.Read k ts (λ f r p q. (w, ((p, refl), ((q, refl), tt)))))
-    (op_branch k (codes "write") (k ∷ ts) _ _ (write_written k ts)
-    (op_branch k (codes "tryread") (k ∷ ts) _ _ (try_read_written k ts)
-    (op_branch k (codes "trywrite") (k ∷ ts) _ _ (try_write_written k ts)
-    (op_branch k (codes "empty") (k ∷ ts) _ _ (λ w. names_written op.Empty k ts (λ f r p q. (w, ((p, refl), ((q, refl), tt)))))
-    (op_branch k (codes "full") (k ∷ ts) _ _ (λ w. names_written op.Full k ts (λ f r p q. (w, ((p, refl), ((q, refl), tt))))) tt))))))))
+op_written (k ∷ ts) = go (verb_of k) refl
+  where
+    go : (found : Option Verb) → verb_of k ≡ found → OpSpelled (k ∷ ts) (op_form_if found ts)
+    go None e = tt
+    go (Some v) e = form_written v k ts (verb_is k v e)
 
 -- ---- statements
 
@@ -266,28 +270,34 @@ module _ (version : ℕ) where
       go true n = guarded_written k off ts w n
       go false n = tt
 
+  statement_written : (keyword : Keyword) (k : Token) (ts : List Token) → k ≡ keyword_word keyword → IsWritten (k ∷ ts) (form_of version keyword ts)
+  statement_written keyword.Flow k ts w = flow_written k ts w
+  statement_written keyword.Source k ts w = width_written Source k ts (λ n v p q. (w, ((p, refl), ((q, refl), tt))))
+  statement_written keyword.Sink k ts w = width_written Sink k ts (λ n v p q. (w, ((p, refl), ((q, refl), tt))))
+  statement_written keyword.Fifo k ts w = fifo_written k ts w
+  statement_written keyword.Module k ts w = name_written Module k ts (λ n p. (w, ((p, refl), tt)))
+  statement_written keyword.Reg k ts w = width_written Reg k ts (λ n v p q. (w, ((p, refl), ((q, refl), tt))))
+  statement_written keyword.Mem k ts w = mem_written k ts w
+  statement_written keyword.Block k ts w = width_written Block k ts (λ n v p q. (w, ((p, refl), ((q, refl), tt))))
+  statement_written keyword.Loop k ts w = loop_written k ts w
+  statement_written keyword.Temp k ts w = width_written Temp k ts (λ n v p q. (w, ((p, refl), ((q, refl), tt))))
+  statement_written keyword.At k ts w = at_written k ts w
+  statement_written keyword.Goto k ts w = name_written Goto k ts (λ n p. (w, ((p, refl), tt)))
+  statement_written keyword.Branch k ts w = branch_written k ts w
+  statement_written keyword.Stop k ts w = bare_written Stop k ts (w, tt)
+  statement_written keyword.Input k ts w = input_written k ts w
+  statement_written keyword.Limits k ts w = limits_written k ts w
+  statement_written keyword.Depth k ts w = width_written Depth k ts (λ n v p q. (w, ((p, refl), ((q, refl), tt))))
+  statement_written keyword.End k ts w = bare_written End k ts (w, tt)
+
   written : (ts : List Token) → IsWritten ts (statement_of version ts)
   unfolding statement_of
   written [] = tt
-  written (k ∷ ts) =
-      branch k (codes "flow") (k ∷ ts) _ _ (flow_written k ts)
-      (branch k (codes "source") (k ∷ ts) _ _ (λ w. width_written Source k ts (λ n v p q. (w, ((p, refl), ((q, refl), tt)))))
-      (branch k (codes "sink") (k ∷ ts) _ _ (λ w. width_written Sink k ts (λ n v p q. (w, ((p, refl), ((q, refl), tt)))))
-      (branch k (codes "fifo") (k ∷ ts) _ _ (fifo_written k ts)
-      (branch k (codes "module") (k ∷ ts) _ _ (λ w. name_written Module k ts (λ n p. (w, ((p, refl), tt))))
-      (branch k (codes "reg") (k ∷ ts) _ _ (λ w. width_written Reg k ts (λ n v p q. (w, ((p, refl), ((q, refl), tt)))))
-      (branch k (codes "mem") (k ∷ ts) _ _ (mem_written k ts)
-      (branch k (codes "block") (k ∷ ts) _ _ (λ w. width_written Block k ts (λ n v p q. (w, ((p, refl), ((q, refl), tt)))))
-      (branch k (codes "loop") (k ∷ ts) _ _ (loop_written k ts)
-      (branch k (codes "temp") (k ∷ ts) _ _ (λ w. width_written Temp k ts (λ n v p q. (w, ((p, refl), ((q, refl), tt)))))
-      (branch k (codes "at") (k ∷ ts) _ _ (at_written k ts)
-      (branch k (codes "goto") (k ∷ ts) _ _ (λ w. name_written Goto k ts (λ n p. (w, ((p, refl), tt))))
-      (branch k (codes "branch") (k ∷ ts) _ _ (branch_written k ts)
-      (branch k (codes "stop") (k ∷ ts) _ _ (λ w. bare_written Stop k ts ((w, tt)))
-      (branch k (codes "input") (k ∷ ts) _ _ (input_written k ts)
-      (branch k (codes "limits") (k ∷ ts) _ _ (limits_written k ts)
-      (branch k (codes "depth") (k ∷ ts) _ _ (λ w. width_written Depth k ts (λ n v p q. (w, ((p, refl), ((q, refl), tt)))))
-      (branch k (codes "end") (k ∷ ts) _ _ (λ w. bare_written End k ts ((w, tt))) tt)))))))))))))))))
+  written (k ∷ ts) = go (keyword_of k) refl
+    where
+      go : (found : Option Keyword) → keyword_of k ≡ found → IsWritten (k ∷ ts) (form_if version found ts)
+      go None e = tt
+      go (Some keyword) e = statement_written keyword k ts (keyword_is k keyword e)
 
   -- the statement that is worked out is written
   pub read_is_written : (ts : List Token) (s : Statement) → statement_of version ts ≡ Some s → Writes version ts s

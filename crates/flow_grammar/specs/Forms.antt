@@ -6,7 +6,12 @@ use Rattle.flow_design.specs.declared.session.Statement.{Statement}
 use Rattle.flow_design.specs.declared.session.Statement.TheVariants.{Flow, Source, Sink, Fifo, Module, Reg, Mem, Block, Loop, Temp, At, Goto, Branch, Stop, Input, Limits, Depth, End}
 use Rattle.flow_design.specs.declared.expr.Op.{Op}
 use Rattle.flow_design.specs.declared.expr.Op.TheVariants as op
+use Rattle.flow_grammar.specs.declared.keyword.Keyword.{Keyword}
+use Rattle.flow_grammar.specs.declared.keyword.Keyword.TheVariants as keyword
+use Rattle.flow_grammar.specs.declared.keyword.Verb.{Verb}
+use Rattle.flow_grammar.specs.declared.keyword.Verb.TheVariants as verb
 use Rattle.flow_grammar.specs.Before.{has_delays}
+use Rattle.flow_grammar.specs.Keywords.{keyword_of, verb_of}
 use Rattle.flow_grammar.specs.Parts.{default_depth, default_delay}
 use Rattle.flow_grammar.specs.Tokens.{Token, is_number, is_name, number_of, is_word}
 use Rattle.flow_grammar.specs.Trees.{Trees, trees_of}
@@ -82,20 +87,26 @@ abbrev pub try_write_of : List Token → Option (Op Token)
 try_write_of (f ∷ ok ∷ ts) = if_then (is_name f && is_name ok) (option_map (op.TryWrite f ok) (one_tree (trees_of ts)))
 try_write_of ts = None
 
--- an operation
+-- the form of each operation
+abbrev pub op_form_of : Verb → List Token → Option (Op Token)
+op_form_of verb.Set ts = set_of ts
+op_form_of verb.Load ts = load_of ts
+op_form_of verb.Store ts = store_of ts
+op_form_of verb.Read ts = two_names op.Read ts
+op_form_of verb.Write ts = write_of ts
+op_form_of verb.TryRead ts = try_read_of ts
+op_form_of verb.TryWrite ts = try_write_of ts
+op_form_of verb.Empty ts = two_names op.Empty ts
+op_form_of verb.Full ts = two_names op.Full ts
+
+abbrev pub op_form_if : Option Verb → List Token → Option (Op Token)
+op_form_if None ts = None
+op_form_if (Some v) ts = op_form_of v ts
+
+-- the verb and what stands behind it
 unfoldable pub op_of : List Token → Option (Op Token)
 op_of [] = None
-op_of (k ∷ ts) =
-    if is_word k (codes "set") then set_of ts
-    else if is_word k (codes "load") then load_of ts
-    else if is_word k (codes "store") then store_of ts
-    else if is_word k (codes "read") then two_names op.Read ts
-    else if is_word k (codes "write") then write_of ts
-    else if is_word k (codes "tryread") then try_read_of ts
-    else if is_word k (codes "trywrite") then try_write_of ts
-    else if is_word k (codes "empty") then two_names op.Empty ts
-    else if is_word k (codes "full") then two_names op.Full ts
-    else None
+op_of (v ∷ ts) = op_form_if (verb_of v) ts
 
 -- an operation with a guard in front of it, where there is one
 abbrev pub guarded_of : ℕ → List Token → Option Statement
@@ -122,26 +133,32 @@ abbrev pub bare : Statement → List Token → Option Statement
 bare statement [] = Some statement
 bare statement (t ∷ ts) = None
 
+-- the form of each keyword
+abbrev pub form_of : ℕ → Keyword → List Token → Option Statement
+form_of version keyword.Flow ts = flow_of ts
+form_of version keyword.Source ts = name_width Source ts
+form_of version keyword.Sink ts = name_width Sink ts
+form_of version keyword.Fifo ts = fifo_of version ts
+form_of version keyword.Module ts = one_name Module ts
+form_of version keyword.Reg ts = name_width Reg ts
+form_of version keyword.Mem ts = mem_of ts
+form_of version keyword.Block ts = name_width Block ts
+form_of version keyword.Loop ts = loop_of ts
+form_of version keyword.Temp ts = name_width Temp ts
+form_of version keyword.At ts = at_of ts
+form_of version keyword.Goto ts = one_name Goto ts
+form_of version keyword.Branch ts = branch_of ts
+form_of version keyword.Stop ts = bare Stop ts
+form_of version keyword.Input ts = input_of ts
+form_of version keyword.Limits ts = limits_of ts
+form_of version keyword.Depth ts = name_width Depth ts
+form_of version keyword.End ts = bare End ts
+
+abbrev pub form_if : ℕ → Option Keyword → List Token → Option Statement
+form_if version None ts = None
+form_if version (Some k) ts = form_of version k ts
+
 -- the keyword and what stands behind it
 unfoldable pub statement_of : ℕ → List Token → Option Statement
 statement_of version [] = None
-statement_of version (k ∷ ts) =
-    if is_word k (codes "flow") then flow_of ts
-    else if is_word k (codes "source") then name_width Source ts
-    else if is_word k (codes "sink") then name_width Sink ts
-    else if is_word k (codes "fifo") then fifo_of version ts
-    else if is_word k (codes "module") then one_name Module ts
-    else if is_word k (codes "reg") then name_width Reg ts
-    else if is_word k (codes "mem") then mem_of ts
-    else if is_word k (codes "block") then name_width Block ts
-    else if is_word k (codes "loop") then loop_of ts
-    else if is_word k (codes "temp") then name_width Temp ts
-    else if is_word k (codes "at") then at_of ts
-    else if is_word k (codes "goto") then one_name Goto ts
-    else if is_word k (codes "branch") then branch_of ts
-    else if is_word k (codes "stop") then bare Stop ts
-    else if is_word k (codes "input") then input_of ts
-    else if is_word k (codes "limits") then limits_of ts
-    else if is_word k (codes "depth") then name_width Depth ts
-    else if is_word k (codes "end") then bare End ts
-    else None
+statement_of version (k ∷ ts) = form_if version (keyword_of k) ts

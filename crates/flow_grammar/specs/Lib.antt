@@ -1,13 +1,16 @@
 pub mod Before
 pub mod Forms
 pub mod Gives
+pub mod Keywords
 pub mod Line
 pub mod Numbers
 pub mod Operands
 pub mod Operators
 pub mod Parts
+pub mod Places
 pub mod Rules
 pub mod Spelling
 pub mod Text
 pub mod Tokens
 pub mod Trees
+pub mod Versions

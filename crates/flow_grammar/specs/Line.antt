@@ -8,7 +8,8 @@ use Rattle.flow_grammar.specs.declared.fault.Code.TheVariants.{NotAscii, Syntax}
 use Rattle.flow_grammar.specs.Tokens.{Line, Token, tokens_of, is_permitted}
 use Rattle.flow_grammar.specs.Before.{version}
 use Rattle.flow_grammar.specs.Forms.{statement_of}
-use Rattle.flow_grammar.specs.Rules.{may_follow, statement_fault}
+use Rattle.flow_grammar.specs.Places.{may_follow}
+use Rattle.flow_grammar.specs.Rules.{statement_fault}
 
 -- the tests of a statement that is written at a place, `earlier` being those before it, the latest first
 abbrev pub form_fault : List Statement → Option Statement → Option Code

@@ -38,11 +38,15 @@ unfoldable pub one : UnOp → Operand → Operand
 one o (Whole a n d) = sized (Unary o a) (1 + n) (1 + d)
 one o (Faulty c) = Faulty c
 
+-- the earlier of a test and of that which an operand fails, if any
+unfoldable pub earlier_of : Code → Operand → Code
+earlier_of c (Whole a n d) = c
+earlier_of c (Faulty d) = earlier c d
+
 unfoldable pub two : BinOp → Operand → Operand → Operand
 two o (Whole a n d) (Whole b m e) = sized (Binary o a b) (1 + (n + m)) (1 + max d e)
 two o (Whole a n d) (Faulty c) = Faulty c
-two o (Faulty c) (Whole b m e) = Faulty c
-two o (Faulty c) (Faulty d) = Faulty (earlier c d)
+two o (Faulty c) b = Faulty (earlier_of c b)
 
 abbrev pub named : (List ℕ → Bool) → List ℕ → Operand
 named known name = if known name then Whole (Var name) 1 1 else Faulty UnknownName
@@ -61,12 +65,8 @@ extend k a = widened_by (number_within 1 64 k) a
 unfoldable pub choose : Operand → Operand → Operand → Operand
 choose (Whole a n d) (Whole b m e) (Whole c l f) = sized (Pick a b c) (1 + (n + (m + l))) (1 + max d (max e f))
 choose (Whole a n d) (Whole b m e) (Faulty z) = Faulty z
-choose (Whole a n d) (Faulty y) (Whole c l f) = Faulty y
-choose (Whole a n d) (Faulty y) (Faulty z) = Faulty (earlier y z)
-choose (Faulty x) (Whole b m e) (Whole c l f) = Faulty x
-choose (Faulty x) (Whole b m e) (Faulty z) = Faulty (earlier x z)
-choose (Faulty x) (Faulty y) (Whole c l f) = Faulty (earlier x y)
-choose (Faulty x) (Faulty y) (Faulty z) = Faulty (earlier x (earlier y z))
+choose (Whole a n d) (Faulty y) c = Faulty (earlier_of y c)
+choose (Faulty x) b c = Faulty (earlier_of (earlier_of x b) c)
 
 -- what a layer is seen as, by what its operands are
 abbrev pub layer_seen : (List ℕ → Bool) → Expr-F (List ℕ) Operand → Operand

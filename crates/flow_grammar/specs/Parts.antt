@@ -8,8 +8,12 @@ use Rattle.flow_design.specs.declared.expr.Op.TheVariants as op
 use Rattle.flow_design.specs.declared.expr.Expr.{Expr, fold-Expr}
 use Rattle.flow_design.specs.declared.expr.Expr.TheOpen.{Expr-F}
 use Rattle.flow_design.specs.declared.expr.UnOp.TheVariants.{Not}
-use Rattle.flow_design.specs.declared.expr.BinOp.{BinOp}
-use Rattle.flow_design.specs.declared.expr.BinOp.TheVariants.{Add, Sub, Mul, And, Or, Xor, Shl, Shr, Eq, Ne, LtU, LtS, Div, Rem}
+use Rattle.flow_grammar.specs.declared.version.TheConstants.{NEWEST}
+use Rattle.flow_grammar.specs.declared.keyword.Keyword.TheVariants as keyword
+use Rattle.flow_grammar.specs.declared.keyword.Verb.TheVariants as verb
+use Rattle.flow_grammar.specs.declared.operator.Operator.TheVariants.{One, Two, Extend, Choose}
+use Rattle.flow_grammar.specs.Keywords.{keyword_word, verb_word}
+use Rattle.flow_grammar.specs.Operators.{operator_word}
 
 abbrev pub Name : Type 0
 Name = List ℕ
@@ -58,30 +62,14 @@ plain n = Num 0 (2 ^ 64 - 1) n
 
 -- ---- expressions, in prefix form
 
-abbrev pub binary_word : BinOp → List ℕ
-binary_word Add = codes "+"
-binary_word Sub = codes "-"
-binary_word Mul = codes "*"
-binary_word And = codes "&"
-binary_word Or = codes "|"
-binary_word Xor = codes "^"
-binary_word Shl = codes "<<"
-binary_word Shr = codes ">>"
-binary_word Eq = codes "=="
-binary_word Ne = codes "!="
-binary_word LtU = codes "<u"
-binary_word LtS = codes "<s"
-binary_word Div = codes "/"
-binary_word Rem = codes "%"
-
 -- a layer of an expression, whose operands have these parts
 abbrev pub layer_parts : Expr-F Name (List Part) → List Part
 layer_parts (Expr-F.Number n) = plain n ∷ []
 layer_parts (Expr-F.Var name) = Use AVariable name ∷ []
-layer_parts (Expr-F.Unary Not a) = Word (codes "~") ∷ a
-layer_parts (Expr-F.Binary o a b) = Word (binary_word o) ∷ a ++ b
-layer_parts (Expr-F.Sext k a) = Word (codes "sext") ∷ width k ∷ a
-layer_parts (Expr-F.Pick a b c) = Word (codes "?:") ∷ a ++ (b ++ c)
+layer_parts (Expr-F.Unary Not a) = Word (operator_word (One Not)) ∷ a
+layer_parts (Expr-F.Binary o a b) = Word (operator_word (Two o)) ∷ a ++ b
+layer_parts (Expr-F.Sext k a) = Word (operator_word Extend) ∷ width k ∷ a
+layer_parts (Expr-F.Pick a b c) = Word (operator_word Choose) ∷ a ++ (b ++ c)
 
 unfoldable pub expr_parts : Expr Name → List Part
 expr_parts = fold-Expr Name (List Part) layer_parts
@@ -89,15 +77,15 @@ expr_parts = fold-Expr Name (List Part) layer_parts
 -- ---- operations
 
 abbrev pub op_parts : Op Name → List Part
-op_parts (op.Set r e) = Word (codes "set") ∷ Use AVariable r ∷ expr_parts e
-op_parts (op.Load r m e) = Word (codes "load") ∷ Use AVariable r ∷ Use AMemory m ∷ expr_parts e
-op_parts (op.Store m e f) = Word (codes "store") ∷ Use AMemory m ∷ expr_parts e ++ expr_parts f
-op_parts (op.Read f r) = Word (codes "read") ∷ Use AnyChannel f ∷ Use AVariable r ∷ []
-op_parts (op.Write f e) = Word (codes "write") ∷ Use AnyChannel f ∷ expr_parts e
-op_parts (op.TryRead f r ok) = Word (codes "tryread") ∷ Use AnyChannel f ∷ Use AVariable r ∷ Use AVariable ok ∷ []
-op_parts (op.TryWrite f ok e) = Word (codes "trywrite") ∷ Use AnyChannel f ∷ Use AVariable ok ∷ expr_parts e
-op_parts (op.Empty f r) = Word (codes "empty") ∷ Use AnyChannel f ∷ Use AVariable r ∷ []
-op_parts (op.Full f r) = Word (codes "full") ∷ Use AnyChannel f ∷ Use AVariable r ∷ []
+op_parts (op.Set r e) = Word (verb_word verb.Set) ∷ Use AVariable r ∷ expr_parts e
+op_parts (op.Load r m e) = Word (verb_word verb.Load) ∷ Use AVariable r ∷ Use AMemory m ∷ expr_parts e
+op_parts (op.Store m e f) = Word (verb_word verb.Store) ∷ Use AMemory m ∷ expr_parts e ++ expr_parts f
+op_parts (op.Read f r) = Word (verb_word verb.Read) ∷ Use AnyChannel f ∷ Use AVariable r ∷ []
+op_parts (op.Write f e) = Word (verb_word verb.Write) ∷ Use AnyChannel f ∷ expr_parts e
+op_parts (op.TryRead f r ok) = Word (verb_word verb.TryRead) ∷ Use AnyChannel f ∷ Use AVariable r ∷ Use AVariable ok ∷ []
+op_parts (op.TryWrite f ok e) = Word (verb_word verb.TryWrite) ∷ Use AnyChannel f ∷ Use AVariable ok ∷ expr_parts e
+op_parts (op.Empty f r) = Word (verb_word verb.Empty) ∷ Use AnyChannel f ∷ Use AVariable r ∷ []
+op_parts (op.Full f r) = Word (verb_word verb.Full) ∷ Use AnyChannel f ∷ Use AVariable r ∷ []
 
 abbrev pub guard_parts : Option Name → List Part
 guard_parts None = []
@@ -114,32 +102,32 @@ default_delay = 1
 
 -- a FIFO with neither, with its depth alone, and with both
 abbrev pub bare_parts : Name → ℕ → List Part
-bare_parts n w = Word (codes "fifo") ∷ New ChannelName n ∷ width w ∷ []
+bare_parts n w = Word (keyword_word keyword.Fifo) ∷ New ChannelName n ∷ width w ∷ []
 
 abbrev pub depth_parts : Name → ℕ → ℕ → List Part
-depth_parts n w depth = Word (codes "fifo") ∷ New ChannelName n ∷ width w ∷ capacity depth ∷ []
+depth_parts n w depth = Word (keyword_word keyword.Fifo) ∷ New ChannelName n ∷ width w ∷ capacity depth ∷ []
 
 abbrev pub fifo_parts : Name → ℕ → ℕ → ℕ → List Part
-fifo_parts n w depth delay = Word (codes "fifo") ∷ New ChannelName n ∷ width w ∷ capacity depth ∷ latency delay ∷ []
+fifo_parts n w depth delay = Word (keyword_word keyword.Fifo) ∷ New ChannelName n ∷ width w ∷ capacity depth ∷ latency delay ∷ []
 
 -- ---- statements
 
 abbrev pub parts : Statement → List Part
-parts (Flow n) = Word (codes "flow") ∷ Num 1 2 n ∷ []
-parts (Source n w) = Word (codes "source") ∷ New ChannelName n ∷ width w ∷ []
-parts (Sink n w) = Word (codes "sink") ∷ New ChannelName n ∷ width w ∷ []
+parts (Flow n) = Word (keyword_word keyword.Flow) ∷ Num 1 NEWEST n ∷ []
+parts (Source n w) = Word (keyword_word keyword.Source) ∷ New ChannelName n ∷ width w ∷ []
+parts (Sink n w) = Word (keyword_word keyword.Sink) ∷ New ChannelName n ∷ width w ∷ []
 parts (Fifo n w depth delay) = fifo_parts n w depth delay
-parts (Module n) = Word (codes "module") ∷ New ModuleName n ∷ []
-parts (Reg n w) = Word (codes "reg") ∷ New RegisterName n ∷ width w ∷ []
-parts (Mem n w l) = Word (codes "mem") ∷ New MemoryName n ∷ width w ∷ words l ∷ []
-parts (Block n l) = Word (codes "block") ∷ New BlockName n ∷ clocks l ∷ []
-parts (Loop n ii l r) = Word (codes "loop") ∷ New BlockName n ∷ clocks ii ∷ clocks l ∷ Word (codes "while") ∷ Use ARegister r ∷ []
-parts (Temp n w) = Word (codes "temp") ∷ New TempName n ∷ width w ∷ []
-parts (At off guard o) = Word (codes "at") ∷ plain off ∷ guard_parts guard ++ op_parts o
-parts (Goto b) = Word (codes "goto") ∷ Label b ∷ []
-parts (Branch r b c) = Word (codes "branch") ∷ Use ARegister r ∷ Label b ∷ Label c ∷ []
-parts Stop = Word (codes "stop") ∷ []
-parts (Input n values) = Word (codes "input") ∷ Use ASource n ∷ map plain values
-parts (Limits c o) = Word (codes "limits") ∷ plain c ∷ plain o ∷ []
-parts (Depth n d) = Word (codes "depth") ∷ Use AFifo n ∷ capacity d ∷ []
-parts End = Word (codes "end") ∷ []
+parts (Module n) = Word (keyword_word keyword.Module) ∷ New ModuleName n ∷ []
+parts (Reg n w) = Word (keyword_word keyword.Reg) ∷ New RegisterName n ∷ width w ∷ []
+parts (Mem n w l) = Word (keyword_word keyword.Mem) ∷ New MemoryName n ∷ width w ∷ words l ∷ []
+parts (Block n l) = Word (keyword_word keyword.Block) ∷ New BlockName n ∷ clocks l ∷ []
+parts (Loop n ii l r) = Word (keyword_word keyword.Loop) ∷ New BlockName n ∷ clocks ii ∷ clocks l ∷ Word (codes "while") ∷ Use ARegister r ∷ []
+parts (Temp n w) = Word (keyword_word keyword.Temp) ∷ New TempName n ∷ width w ∷ []
+parts (At off guard o) = Word (keyword_word keyword.At) ∷ plain off ∷ guard_parts guard ++ op_parts o
+parts (Goto b) = Word (keyword_word keyword.Goto) ∷ Label b ∷ []
+parts (Branch r b c) = Word (keyword_word keyword.Branch) ∷ Use ARegister r ∷ Label b ∷ Label c ∷ []
+parts Stop = Word (keyword_word keyword.Stop) ∷ []
+parts (Input n values) = Word (keyword_word keyword.Input) ∷ Use ASource n ∷ map plain values
+parts (Limits c o) = Word (keyword_word keyword.Limits) ∷ plain c ∷ plain o ∷ []
+parts (Depth n d) = Word (keyword_word keyword.Depth) ∷ Use AFifo n ∷ capacity d ∷ []
+parts End = Word (keyword_word keyword.End) ∷ []

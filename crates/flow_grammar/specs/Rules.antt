@@ -1,5 +1,4 @@
--- The rules of reading for one statement: where it may stand, and the first rule that it breaks after the statements before
--- it, which are given the latest first.
+-- The rules of reading for one statement: the first that it breaks after the statements before it, which are given the latest first.
 use Rattle.std.specs.Prelude.{◌≡◌, ℕ, ◌+◌, Bool, true, false, List, [], ◌∷◌, ◌++◌, ◌&&◌, ◌||◌, ◌==◌, not, nat_le, nat_lt, reverse, take, slice_get, Option, None, Some, length, if◌then◌else◌}
 use Rattle.std.specs.List.{list_all}
 use Rattle.flow_design.specs.declared.expr.Expr.{Expr}
@@ -13,91 +12,8 @@ use Rattle.flow_grammar.specs.declared.fault.Code.{Code}
 use Rattle.flow_grammar.specs.declared.fault.Code.TheVariants.{BadNumber, DoubleName, UnknownName, TooMany}
 use Rattle.flow_grammar.specs.Tokens.{is_name}
 use Rattle.flow_grammar.specs.Parts.{Name, Part, New, Use, Label, Num, Space, ChannelName, ModuleName, RegisterName, MemoryName, TempName, BlockName, Sort, AnyChannel, ASource, AFifo, ARegister, AMemory, AVariable, default_delay, parts}
+use Rattle.flow_grammar.specs.Places.{place, is_end, may_follow}
 use Rattle.flow_grammar.specs.Before.{version, has_delays, channels, sources, fifos, modules, registers, memories, blocks, temps, operations, inputs, input_values, edits, is_among}
-
--- ---- which statement may stand where
-
--- the places of a session
-pub data Place : Type 0 where
-  AtStart AmongChannels AmongRegisters AmongTemps AmongOperations AfterBody AmongInputs AmongEdits AtEnd : Place
-
--- where a statement leads
-abbrev pub place_after : Statement → Place
-place_after (Flow n) = AmongChannels
-place_after (Source n w) = AmongChannels
-place_after (Sink n w) = AmongChannels
-place_after (Fifo n w depth delay) = AmongChannels
-place_after (Module n) = AmongRegisters
-place_after (Reg n w) = AmongRegisters
-place_after (Mem n w l) = AmongRegisters
-place_after (Block n l) = AmongTemps
-place_after (Loop n ii l r) = AmongTemps
-place_after (Temp n w) = AmongTemps
-place_after (At off guard o) = AmongOperations
-place_after (Goto b) = AfterBody
-place_after (Branch r b c) = AfterBody
-place_after Stop = AfterBody
-place_after (Input n values) = AmongInputs
-place_after (Limits c o) = AmongEdits
-place_after (Depth n d) = AmongEdits
-place_after End = AtEnd
-
--- the place behind these statements
-abbrev pub place : List Statement → Place
-place [] = AtStart
-place (s ∷ earlier) = place_after s
-
--- which statement may stand at a place
-abbrev pub may_stand : Statement → Place → Bool
--- at the start
-may_stand (Flow n) AtStart = true
--- after `flow`, `source`, `sink` and `fifo`
-may_stand (Source n w) AmongChannels = true
-may_stand (Sink n w) AmongChannels = true
-may_stand (Fifo n w depth delay) AmongChannels = true
-may_stand (Module n) AmongChannels = true
-may_stand (Input n values) AmongChannels = true
-may_stand (Limits c o) AmongChannels = true
-may_stand (Depth n d) AmongChannels = true
-may_stand End AmongChannels = true
--- after `module`, `reg` and `mem`
-may_stand (Reg n w) AmongRegisters = true
-may_stand (Mem n w l) AmongRegisters = true
-may_stand (Block n l) AmongRegisters = true
-may_stand (Loop n ii l r) AmongRegisters = true
--- after `block`, `loop` and `temp`
-may_stand (Temp n w) AmongTemps = true
-may_stand (At off guard o) AmongTemps = true
-may_stand (Goto b) AmongTemps = true
-may_stand (Branch r b c) AmongTemps = true
-may_stand Stop AmongTemps = true
--- after `at`
-may_stand (At off guard o) AmongOperations = true
-may_stand (Goto b) AmongOperations = true
-may_stand (Branch r b c) AmongOperations = true
-may_stand Stop AmongOperations = true
--- after a terminator
-may_stand (Block n l) AfterBody = true
-may_stand (Loop n ii l r) AfterBody = true
-may_stand (Module n) AfterBody = true
-may_stand (Input n values) AfterBody = true
-may_stand (Limits c o) AfterBody = true
-may_stand (Depth n d) AfterBody = true
-may_stand End AfterBody = true
--- after `input`
-may_stand (Input n values) AmongInputs = true
-may_stand (Limits c o) AmongInputs = true
-may_stand (Depth n d) AmongInputs = true
-may_stand End AmongInputs = true
--- after `limits` and `depth`
-may_stand (Depth n d) AmongEdits = true
-may_stand End AmongEdits = true
--- and nowhere else, nothing after `end`
-may_stand s p = false
-
--- the statement may stand behind these
-unfoldable pub may_follow : List Statement → Statement → Bool
-may_follow earlier s = may_stand s (place earlier)
 
 -- ---- names and numbers
 
@@ -192,10 +108,6 @@ statement_fault earlier s =
     else None
 
 -- ---- sessions that keep the rules
-
-abbrev is_end : Place → Bool
-is_end AtEnd = true
-is_end p = false
 
 -- a session that is over: its last statement is `end`
 unfoldable pub is_over : List Statement → Bool

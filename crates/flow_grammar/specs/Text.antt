@@ -12,7 +12,8 @@ use Rattle.flow_grammar.specs.declared.fault.ReadFail.TheVariants as fails
 use Rattle.flow_grammar.specs.Tokens.{Line, lines_of, tokens_of, is_permitted}
 use Rattle.flow_grammar.specs.Before.{version}
 use Rattle.flow_grammar.specs.Spelling.{Writes}
-use Rattle.flow_grammar.specs.Rules.{may_follow, statement_fault, is_over}
+use Rattle.flow_grammar.specs.Places.{may_follow}
+use Rattle.flow_grammar.specs.Rules.{statement_fault, is_over}
 
 -- ---- one line
 

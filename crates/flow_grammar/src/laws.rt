@@ -7,6 +7,7 @@ ghost use Rattle.flow_grammar.specs.Text.{Said, StandsFor};
 ghost use Rattle.flow_grammar.specs.Tokens.{Token};
 ghost use Rattle.flow_grammar.specs.Forms.{statement_of};
 ghost use Rattle.flow_grammar.specs.Spelling.{Writes};
+ghost use Rattle.flow_grammar.specs.Versions.{DifferInVersion, SameButVersion};
 
 /// What tokens write is what is worked out from them: under one version of the language they write at most one statement.
 pub fn written_is_read()
@@ -29,4 +30,11 @@ pub fn keeps_rules()
     ensures rules { (text : List ℕ) (s : List Statement) (l : List ℕ) → StandsFor text s l → KeepsReadingRules s }
     ensures numbered { (text : List ℕ) (s : List Statement) (l : List ℕ) → StandsFor text s l → length l ≡ length s }
     ensures rising { (text : List ℕ) (s : List Statement) (l : List ℕ) → StandsFor text s l → AllPairs (λ a b. a < b) l }
+{}
+
+/// Two texts that differ in `flow 1` and `flow 2` alone, and both stand for a session, stand for the same statements but the
+/// first, on the same lines. Neither writes a delay, since version 1 has none.
+pub fn versions_agree()
+    ensures { (first second : List ℕ) (s t : List Statement) (l m : List ℕ) → DifferInVersion first second → StandsFor first s l → StandsFor second t m
+        → SameButVersion s t × (l ≡ m) }
 {}

@@ -1,6 +1,7 @@
 //! Expressions while they are read.
 ghost use Rattle.std.specs.Prelude.{◌≡◌, true, IfOk};
-ghost use Rattle.flow_grammar.specs.Operands.{sized, one, two, earlier, extend, widened, choose};
+ghost use Rattle.flow_design.specs.declared.expr.Expr.TheVariants.{Binary, Pick};
+ghost use Rattle.flow_grammar.specs.Operands.{sized, one, two, earlier, earlier_of, extend, widened, choose};
 ghost use Rattle.flow_grammar.specs.Tokens.{is_number, number_of};
 
 use crate::fault::Code;
@@ -55,39 +56,72 @@ pub fn apply_one(alloc: Global, op: UnOp, a: Operand) -> Result<Operand, OutOfMe
     }
 }
 
+/// The earlier of a test and of that which an operand fails, if any.
+#[tactic(auto, unfolding(crate::specs::Operands::earlier_of))]
+fn earlier_of(code: Code, operand: &Operand) -> Code
+    ensures { result ≡ earlier_of code operand.now }
+{
+    match operand {
+        Operand::Whole { .. } => code,
+        Operand::Faulty(other) => earlier_test(code, *other),
+    }
+}
+
 /// An operator on two operands.
 #[tactic(auto, unfolding(crate::specs::Operands::two))]
 pub fn apply_two(alloc: Global, op: BinOp, a: Operand, b: Operand) -> Result<Operand, OutOfMemory>
     ensures { IfOk result (λ operand. operand ≡ two op a b) }
 {
-    match (a, b) {
-        (Operand::Faulty(a), Operand::Faulty(b)) => Ok(Operand::Faulty(earlier_test(a, b))),
-        (Operand::Faulty(a), Operand::Whole { .. }) => Ok(Operand::Faulty(a)),
-        (Operand::Whole { .. }, Operand::Faulty(b)) => Ok(Operand::Faulty(b)),
-        (
-            Operand::Whole {
-                tree: a,
-                nodes: n,
-                depth: d,
-            },
+    match a {
+        Operand::Faulty(code) => {
+            let code = earlier_of(code, &b);
+            // A call: a drop at the end of the block is proved field by field, which takes much longer.
+            drop(b);
+            Ok(Operand::Faulty(code))
+        }
+        Operand::Whole {
+            tree: a,
+            nodes: n,
+            depth: d,
+        } => match b {
+            Operand::Faulty(code) => {
+                drop(a);
+                Ok(Operand::Faulty(code))
+            }
             Operand::Whole {
                 tree: b,
                 nodes: m,
                 depth: e,
-            },
-        ) => {
-            let nodes = n as u64 + m as u64 + 1;
-            let depth = d.max(e) as u64 + 1;
-            if nodes <= EXPRESSION_NODES && depth <= EXPRESSION_DEPTH {
-                Ok(Operand::Whole {
-                    tree: Expr::Binary(op, Boxed::new(alloc, a)?, Boxed::new(alloc, b)?),
-                    nodes: nodes as u32,
-                    depth: depth as u32,
-                })
-            } else {
-                Ok(Operand::Faulty(Code::TooMany))
+            } => {
+                let nodes = n as u64 + m as u64 + 1;
+                let depth = d.max(e) as u64 + 1;
+                binary(alloc, op, a, b, nodes, depth)
             }
-        }
+        },
+    }
+}
+
+/// An operator on two expressions, which has so many nodes and is so deep.
+fn binary(
+    alloc: Global,
+    op: BinOp,
+    a: Expr<Name>,
+    b: Expr<Name>,
+    nodes: u64,
+    depth: u64,
+) -> Result<Operand, OutOfMemory>
+    ensures { IfOk result (λ operand. operand ≡ sized (Binary op a b) nodes depth) }
+{
+    if nodes <= EXPRESSION_NODES && depth <= EXPRESSION_DEPTH {
+        Ok(Operand::Whole {
+            tree: Expr::Binary(op, Boxed::new(alloc, a)?, Boxed::new(alloc, b)?),
+            nodes: nodes as u32,
+            depth: depth as u32,
+        })
+    } else {
+        drop(a);
+        drop(b);
+        Ok(Operand::Faulty(Code::TooMany))
     }
 }
 
@@ -134,49 +168,87 @@ pub fn apply_choose(
     ensures { IfOk result (λ operand. operand ≡ choose a b c) }
 {
     match a {
-        Operand::Faulty(x) => match (b, c) {
-            (Operand::Whole { .. }, Operand::Whole { .. }) => Ok(Operand::Faulty(x)),
-            (Operand::Whole { .. }, Operand::Faulty(z)) => Ok(Operand::Faulty(earlier_test(x, z))),
-            (Operand::Faulty(y), Operand::Whole { .. }) => Ok(Operand::Faulty(earlier_test(x, y))),
-            (Operand::Faulty(y), Operand::Faulty(z)) => {
-                Ok(Operand::Faulty(earlier_test(x, earlier_test(y, z))))
-            }
-        },
+        Operand::Faulty(code) => {
+            let code = earlier_of(earlier_of(code, &b), &c);
+            // Calls: a drop at the end of the block is proved field by field, which takes much longer.
+            drop(b);
+            drop(c);
+            Ok(Operand::Faulty(code))
+        }
         Operand::Whole {
             tree: a,
             nodes: n,
             depth: d,
-        } => match (b, c) {
-            (Operand::Whole { .. }, Operand::Faulty(z)) => Ok(Operand::Faulty(z)),
-            (Operand::Faulty(y), Operand::Whole { .. }) => Ok(Operand::Faulty(y)),
-            (Operand::Faulty(y), Operand::Faulty(z)) => Ok(Operand::Faulty(earlier_test(y, z))),
-            (
-                Operand::Whole {
-                    tree: b,
-                    nodes: m,
-                    depth: e,
-                },
-                Operand::Whole {
-                    tree: c,
-                    nodes: l,
-                    depth: f,
-                },
-            ) => {
+        } => choose_of(alloc, a, n, d, b, c),
+    }
+}
+
+/// A choice by an expression, which has so many nodes and is so deep, of two operands.
+#[tactic(auto, unfolding(crate::specs::Operands::choose))]
+fn choose_of(
+    alloc: Global,
+    a: Expr<Name>,
+    n: u32,
+    d: u32,
+    b: Operand,
+    c: Operand,
+) -> Result<Operand, OutOfMemory>
+    ensures { IfOk result (λ operand. operand ≡ choose (Operand.Whole a n d) b c) }
+{
+    match b {
+        Operand::Faulty(code) => {
+            let code = earlier_of(code, &c);
+            drop(a);
+            drop(c);
+            Ok(Operand::Faulty(code))
+        }
+        Operand::Whole {
+            tree: b,
+            nodes: m,
+            depth: e,
+        } => match c {
+            Operand::Faulty(code) => {
+                drop(a);
+                drop(b);
+                Ok(Operand::Faulty(code))
+            }
+            Operand::Whole {
+                tree: c,
+                nodes: l,
+                depth: f,
+            } => {
                 let nodes = n as u64 + m as u64 + l as u64 + 1;
                 let depth = d.max(e.max(f)) as u64 + 1;
-                if nodes <= EXPRESSION_NODES && depth <= EXPRESSION_DEPTH {
-                    let a = Boxed::new(alloc, a)?;
-                    let b = Boxed::new(alloc, b)?;
-                    let c = Boxed::new(alloc, c)?;
-                    Ok(Operand::Whole {
-                        tree: Expr::Pick(a, b, c),
-                        nodes: nodes as u32,
-                        depth: depth as u32,
-                    })
-                } else {
-                    Ok(Operand::Faulty(Code::TooMany))
-                }
+                pick(alloc, a, b, c, nodes, depth)
             }
         },
+    }
+}
+
+/// A choice of three expressions, which has so many nodes and is so deep.
+fn pick(
+    alloc: Global,
+    a: Expr<Name>,
+    b: Expr<Name>,
+    c: Expr<Name>,
+    nodes: u64,
+    depth: u64,
+) -> Result<Operand, OutOfMemory>
+    ensures { IfOk result (λ operand. operand ≡ sized (Pick a b c) nodes depth) }
+{
+    if nodes <= EXPRESSION_NODES && depth <= EXPRESSION_DEPTH {
+        let a = Boxed::new(alloc, a)?;
+        let b = Boxed::new(alloc, b)?;
+        let c = Boxed::new(alloc, c)?;
+        Ok(Operand::Whole {
+            tree: Expr::Pick(a, b, c),
+            nodes: nodes as u32,
+            depth: depth as u32,
+        })
+    } else {
+        drop(a);
+        drop(b);
+        drop(c);
+        Ok(Operand::Faulty(Code::TooMany))
     }
 }

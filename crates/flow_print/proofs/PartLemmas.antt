@@ -1,6 +1,6 @@
 -- The token of each part of a statement that keeps the rules is printed whole, and spells the part.
-use Rattle.std.proofs.Common.{◌≡◌, ℕ, ◌+◌, ◌<◌, ◌≤◌, ◌^◌, ◌%◌, List, [], ◌∷◌, ◌++◌, map, length, Bool, true, not, Option, None, Some, refl, arith}
-use Rattle.std.specs.Prelude.{◌&&◌, ◌==◌, nat_le, nat_lt}
+use Rattle.std.proofs.Common.{◌≡◌, ℕ, ◌+◌, ◌<◌, ◌≤◌, ◌^◌, ◌%◌, List, [], ◌∷◌, ◌++◌, map, length, Bool, true, false, not, Option, None, Some, refl, arith}
+use Rattle.std.specs.Prelude.{if◌then◌else◌, ◌&&◌, ◌==◌, nat_le, nat_lt}
 use Rattle.std.specs.Char.{is_ascii_digit}
 use Rattle.std.specs.Fmt.{decimal}
 use Rattle.std.specs.List.{list_all}
@@ -15,16 +15,19 @@ use Rattle.flow_design.specs.declared.expr.BinOp.{BinOp}
 use Rattle.flow_design.specs.declared.expr.BinOp.TheVariants.{Add, Sub, Mul, And, Or, Xor, Shl, Shr, Eq, Ne, LtU, LtS, Div, Rem}
 use Rattle.flow_design.specs.declared.expr.Op.{Op}
 use Rattle.flow_design.specs.declared.expr.Op.TheVariants as op
+use Rattle.flow_design.specs.declared.limits.TheConstants.{FIFO_DELAY}
 use Rattle.flow_design.specs.declared.session.Statement.{Statement}
 use Rattle.flow_design.specs.declared.session.Statement.TheVariants.{Flow, Source, Sink, Fifo, Module, Reg, Mem, Block, Loop, Temp, At, Goto, Branch, Stop, Input, Limits, Depth, End}
 use Rattle.flow_design.specs.Names.{is_name_byte, begins_with_letter}
 use Rattle.flow_grammar.specs.Tokens.{Token, is_filled, is_no_comment, is_number, is_name, number_of}
-use Rattle.flow_grammar.specs.Parts.{Name, Part, Word, New, Use, Label, Num, parts, op_parts, guard_parts, expr_parts, plain, binary_word}
+use Rattle.flow_grammar.specs.Parts.{Name, Part, Word, New, Use, Label, Num, parts, op_parts, guard_parts, expr_parts, plain, depth_parts}
+use Rattle.flow_grammar.specs.Before.{has_delays}
+use Rattle.flow_grammar.specs.Operators.{binary_word}
 use Rattle.flow_grammar.specs.Spelling.{Spells, Spelled}
 use Rattle.flow_grammar.specs.Rules.{is_well_named, is_in_range}
 use Rattle.flow_grammar.proofs.Induction.{by_cases}
 use Rattle.flow_grammar.proofs.SpellingLaws.{parts_Number, parts_Var, parts_Unary, parts_Binary, parts_Sext, parts_Pick}
-use Rattle.flow_print.specs.Canonical.{token_of}
+use Rattle.flow_print.specs.Canonical.{token_of, written_parts}
 use Rattle.flow_print.proofs.SplitLemmas.{is_visible, is_printed, all_of}
 
 and_true : (a b : Bool) → a ≡ true → b ≡ true → a && b ≡ true
@@ -184,23 +187,61 @@ fit_values : (values : List ℕ) → list_all is_fit (map plain values) ≡ true
 fit_values [] = refl
 fit_values (v ∷ values) = fit_values values
 
-pub fit_parts : (s : Statement) → list_all is_fit (parts s) ≡ true
-unfolding is_printed
-fit_parts (Flow n) = refl
-fit_parts (Source n w) = refl
-fit_parts (Sink n w) = refl
-fit_parts (Fifo n w d) = refl
-fit_parts (Module n) = refl
-fit_parts (Reg n w) = refl
-fit_parts (Mem n w l) = refl
-fit_parts (Block n l) = refl
-fit_parts (Loop n ii l r) = refl
-fit_parts (Temp n w) = refl
-fit_parts (At off guard o) = fit_append (guard_parts guard) (op_parts o) (fit_guard guard) (fit_op o)
-fit_parts (Goto b) = refl
-fit_parts (Branch r b c) = refl
-fit_parts Stop = refl
-fit_parts (Input n values) = fit_values values
-fit_parts (Limits c o) = refl
-fit_parts (Depth n d) = refl
-fit_parts End = refl
+-- what all parts pass, those in front pass
+all_front : (test : Part → Bool) (ps qs : List Part) → list_all test (ps ++ qs) ≡ true → list_all test ps ≡ true
+all_front test [] qs h = refl
+all_front test (p ∷ ps) qs h =
+    let q = and_parts (test p) (list_all test (ps ++ qs)) h in
+    and_true (test p) (list_all test ps) q.0 (all_front test ps qs q.1)
+
+-- what is written of a statement passes the tests that its parts pass
+module _ (version : ℕ) where
+  pub fit_parts : (s : Statement) → list_all is_fit (written_parts version s) ≡ true
+  unfolding is_printed
+  fit_parts (Flow n) = refl
+  fit_parts (Source n w) = refl
+  fit_parts (Sink n w) = refl
+  fit_parts (Fifo n w depth delay) = go (has_delays version)
+    where
+      go : (b : Bool) → list_all is_fit (if b then parts (Fifo n w depth delay) else depth_parts n w depth) ≡ true
+      go true = refl
+      go false = refl
+  fit_parts (Module n) = refl
+  fit_parts (Reg n w) = refl
+  fit_parts (Mem n w l) = refl
+  fit_parts (Block n l) = refl
+  fit_parts (Loop n ii l r) = refl
+  fit_parts (Temp n w) = refl
+  fit_parts (At off guard o) = fit_append (guard_parts guard) (op_parts o) (fit_guard guard) (fit_op o)
+  fit_parts (Goto b) = refl
+  fit_parts (Branch r b c) = refl
+  fit_parts Stop = refl
+  fit_parts (Input n values) = fit_values values
+  fit_parts (Limits c o) = refl
+  fit_parts (Depth n d) = refl
+  fit_parts End = refl
+
+  pub written_pass : (test : Part → Bool) (s : Statement) → list_all test (parts s) ≡ true → list_all test (written_parts version s) ≡ true
+  written_pass test (Flow n) h = h
+  written_pass test (Source n w) h = h
+  written_pass test (Sink n w) h = h
+  written_pass test (Fifo n w depth delay) h = go (has_delays version) h
+    where
+      go : (b : Bool) → list_all test (parts (Fifo n w depth delay)) ≡ true
+          → list_all test (if b then parts (Fifo n w depth delay) else depth_parts n w depth) ≡ true
+      go true k = k
+      go false k = all_front test (depth_parts n w depth) (Num 1 FIFO_DELAY delay ∷ []) k
+  written_pass test (Module n) h = h
+  written_pass test (Reg n w) h = h
+  written_pass test (Mem n w l) h = h
+  written_pass test (Block n l) h = h
+  written_pass test (Loop n ii l r) h = h
+  written_pass test (Temp n w) h = h
+  written_pass test (At off guard o) h = h
+  written_pass test (Goto b) h = h
+  written_pass test (Branch r b c) h = h
+  written_pass test Stop h = h
+  written_pass test (Input n values) h = h
+  written_pass test (Limits c o) h = h
+  written_pass test (Depth n d) h = h
+  written_pass test End h = h

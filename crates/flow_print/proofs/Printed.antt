@@ -11,7 +11,8 @@ use Rattle.flow_design.specs.declared.expr.Op.{Op}
 use Rattle.flow_design.specs.declared.expr.Op.TheVariants as op
 use Rattle.flow_design.specs.declared.session.Statement.{Statement}
 use Rattle.flow_design.specs.declared.session.Statement.TheVariants.{At, Input}
-use Rattle.flow_grammar.specs.Parts.{Part, Name, plain, expr_parts, op_parts, guard_parts, binary_word}
+use Rattle.flow_grammar.specs.Parts.{Part, Name, plain, expr_parts, op_parts, guard_parts, parts}
+use Rattle.flow_grammar.specs.Operators.{binary_word}
 use Rattle.flow_grammar.proofs.SpellingLaws.{parts_Number, parts_Var, parts_Unary, parts_Binary, parts_Sext, parts_Pick}
 use Rattle.report_text.specs.Lines.{line, text_of_lines}
 use Rattle.report_text.proofs.LineLemmas.{lines_more}
@@ -163,7 +164,7 @@ joined token (p ∷ ps) = ap (λ t. token ++ 32 ∷ t) (joined (token_of p) ps)
 -- the line of an operation
 pub timed_line : (text : List ℕ) (offset : ℕ) (guard : Option Name) (o : Op Name)
     → ((((text ++ codes "at") ++ 32 ∷ decimal offset) ++ spaced_parts (guard_parts guard)) ++ spaced_parts (op_parts o)) ++ 10 ∷ []
-    ≡ text ++ line (tokens_of (At offset guard o))
+    ≡ text ++ line (map token_of (parts (At offset guard o)))
 unfolding spaced_parts
 timed_line text offset guard o =
     let A : List ℕ = 32 ∷ decimal offset in
@@ -171,10 +172,10 @@ timed_line text offset guard o =
     let O : List ℕ = spaced_parts (op_parts o) in
     let now : ((((text ++ codes "at") ++ A) ++ G) ++ O) ++ 10 ∷ [] ≡ text ++ ((codes "at" ++ (A ++ (G ++ O))) ++ 10 ∷ []) =
     ap (λ x. x ++ 10 ∷ []) (four_more text (codes "at") A G O) ∙ append_assoc text (codes "at" ++ (A ++ (G ++ O))) (10 ∷ []) in
-    let parts : codes "at" ++ (A ++ (G ++ O)) ≡ join_with_byte 32 (codes "at" ∷ map token_of (plain offset ∷ guard_parts guard ++ op_parts o)) =
+    let written : codes "at" ++ (A ++ (G ++ O)) ≡ join_with_byte 32 (codes "at" ∷ map token_of (plain offset ∷ guard_parts guard ++ op_parts o)) =
     ap (λ x. codes "at" ++ (A ++ x)) (sym (spaced_append (guard_parts guard) (op_parts o)))
     ∙ sym (joined (codes "at") (plain offset ∷ guard_parts guard ++ op_parts o)) in
-    now ∙ ap (λ x. text ++ (x ++ 10 ∷ [])) parts
+    now ∙ ap (λ x. text ++ (x ++ 10 ∷ [])) written
 
 -- the line of a loop
 pub loop_line : (text a b c d e f : List ℕ)
@@ -193,10 +194,11 @@ plain_tokens (v ∷ vs) = ap (λ ts. decimal v ∷ ts) (plain_tokens vs)
 
 -- the line of the values of a source
 pub input_line : (text source : List ℕ) (values : List ℕ)
-    → text ++ line (codes "input" ∷ source ∷ map decimal values) ≡ text ++ line (tokens_of (Input source values))
+    → text ++ line (codes "input" ∷ source ∷ map decimal values) ≡ text ++ line (map token_of (parts (Input source values)))
 input_line text source values = ap (λ ts. text ++ line (codes "input" ∷ source ∷ ts)) (sym (plain_tokens values))
 
 -- the lines of the statements before one, and that one's line
-pub next_line : (statements : List Statement) (i : ℕ) (s : Statement) → i < length statements → s ≡ get_or statements i s
-    → text_of_lines (map tokens_of (take i statements)) ++ line (tokens_of s) ≡ text_of_lines (map tokens_of (take (i + 1) statements))
-next_line statements i s h e = lines_more tokens_of [] statements i s h e
+pub next_line : (version : ℕ) (statements : List Statement) (i : ℕ) (s : Statement) → i < length statements → s ≡ get_or statements i s
+    → text_of_lines (map (tokens_of version) (take i statements)) ++ line (tokens_of version s)
+    ≡ text_of_lines (map (tokens_of version) (take (i + 1) statements))
+next_line version statements i s h e = lines_more (tokens_of version) [] statements i s h e

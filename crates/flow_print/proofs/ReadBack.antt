@@ -1,19 +1,26 @@
 -- The canonical text of a session that keeps the rules stands for that session.
-use Rattle.std.proofs.Common.{◌≡◌, ℕ, suc, ◌+◌, ◌≤◌, List, [], ◌∷◌, ◌++◌, map, length, take, Bool, true, false, cond, not, Option, None, Some, refl, sym, ap, subst, ◌∙◌, append_assoc, append-nil, inl}
-use Rattle.std.specs.Prelude.{slice_get, reverse}
+use Rattle.std.proofs.Common.{◌≡◌, ℕ, suc, ◌+◌, ◌≤◌, List, [], ◌∷◌, ◌++◌, map, length, take, Bool, true, false, cond, not, Option, None, Some, refl, sym, ap, subst, ◌∙◌, append_assoc, append-nil, inl, inr}
+use Rattle.std.specs.Prelude.{slice_get, reverse, ◌==◌, ◌||◌, if◌then◌else◌}
+use Rattle.std.proofs.lemmas.Bool.{eqb-true}
+use Rattle.std.proofs.lemmas.List.{reverse-append}
+use Rattle.flow_design.specs.declared.limits.TheConstants.{TEXT_BYTES}
+use Rattle.flow_design.specs.declared.session.Statement.TheVariants.{Flow, Source, Sink, Fifo, Module, Reg, Mem, Block, Loop, Temp, At, Goto, Branch, Stop, Input, Limits, Depth, End}
 use Rattle.std.specs.List.{list_all, join_with_byte, range_with_len}
 use Rattle.flow_design.specs.declared.session.Statement.{Statement}
 use Rattle.flow_grammar.specs.declared.fault.Code.{Code}
 use Rattle.flow_grammar.specs.declared.fault.Code.TheVariants.{BadNumber}
 use Rattle.flow_grammar.specs.Tokens.{Line, Token, lines_of, tokens_of}
-use Rattle.flow_grammar.specs.Parts.{parts}
-use Rattle.flow_grammar.specs.Spelling.{Spelled}
-use Rattle.flow_grammar.specs.Rules.{is_in_range, statement_fault, is_over, KeepsRules, KeepsReadingRules}
-use Rattle.flow_grammar.specs.Text.{statements_among, numbers_among, IsInOrder, StandsFor, limit}
+use Rattle.flow_grammar.specs.Before.{version, has_delays}
+use Rattle.flow_grammar.specs.Places.{may_follow}
+use Rattle.flow_grammar.specs.Parts.{parts, depth_parts, fifo_parts, default_delay}
+use Rattle.flow_grammar.specs.Spelling.{Spelled, WritesFifo, Writes}
+use Rattle.flow_grammar.specs.Rules.{is_well_named, is_in_range, fits_version, statement_fault, is_over, KeepsRules, KeepsReadingRules}
+use Rattle.flow_grammar.specs.Text.{statements_among, numbers_among, IsInOrder, StandsFor}
 use Rattle.flow_grammar.proofs.TextLaws.{Words, InOrderFrom, in_order_of}
-use Rattle.flow_print.specs.Canonical.{tokens_of as printed_tokens, canonical_text}
+use Rattle.flow_grammar.proofs.VersionLaws.{same_version}
+use Rattle.flow_print.specs.Canonical.{written_parts, tokens_of as printed_tokens, version_of, canonical_text}
 use Rattle.flow_print.proofs.SplitLemmas.{is_printed, line_permitted, tokens_of_line, text_lines}
-use Rattle.flow_print.proofs.PartLemmas.{parts_printed, fit_parts}
+use Rattle.flow_print.proofs.PartLemmas.{parts_printed, fit_parts, written_pass}
 
 -- ---- one line
 
@@ -25,18 +32,50 @@ range_of earlier s h = go (list_all is_in_range (parts s)) _ h
     go true rest e = refl
     go false rest e = absurd cc
 
-abbrev printed_line : Statement → Line
-printed_line s = join_with_byte 32 (printed_tokens s)
+-- a statement of the version is written by what is printed of it
+writes_printed : (v : ℕ) (ts : List Token) (s : Statement) → fits_version v s ≡ true → Spelled ts (written_parts v s) → Writes v ts s
+writes_printed v ts (Flow n) f p = p
+writes_printed v ts (Source n w) f p = p
+writes_printed v ts (Sink n w) f p = p
+writes_printed v ts (Fifo n w depth delay) f p = go (has_delays v) refl f p
+  where
+    go : (b : Bool) → has_delays v ≡ b → b || (delay == default_delay) ≡ true
+        → Spelled ts (if b then fifo_parts n w depth delay else depth_parts n w depth) → WritesFifo v ts n w depth delay
+    go true h k q = inl (h, q)
+    go false h k q = inr (inl (eqb-true delay default_delay k, q))
+writes_printed v ts (Module n) f p = p
+writes_printed v ts (Reg n w) f p = p
+writes_printed v ts (Mem n w l) f p = p
+writes_printed v ts (Block n l) f p = p
+writes_printed v ts (Loop n ii l r) f p = p
+writes_printed v ts (Temp n w) f p = p
+writes_printed v ts (At off guard o) f p = p
+writes_printed v ts (Goto b) f p = p
+writes_printed v ts (Branch r b c) f p = p
+writes_printed v ts Stop f p = p
+writes_printed v ts (Input n values) f p = p
+writes_printed v ts (Limits c o) f p = p
+writes_printed v ts (Depth n d) f p = p
+writes_printed v ts End f p = p
 
-printed : (before : List Statement) (s : Statement) → KeepsRules before s → (list_all is_printed (printed_tokens s) ≡ true) × Spelled (printed_tokens s) (parts s)
-printed before s k = parts_printed (parts s) (fit_parts s) k.well_named (range_of (reverse before) s k.faultless)
+abbrev printed_line : ℕ → Statement → Line
+printed_line v s = join_with_byte 32 (printed_tokens v s)
 
-line_in_order : (before : List Statement) (s : Statement) → KeepsRules before s → IsInOrder before (printed_line s) (Some s)
-line_in_order before s k =
-    let p = printed before s k in
+printed : (v : ℕ) (before : List Statement) (s : Statement) → KeepsRules before s
+    → (list_all is_printed (printed_tokens v s) ≡ true) × Spelled (printed_tokens v s) (written_parts v s)
+printed v before s k =
+    parts_printed (written_parts v s) (fit_parts v s) (written_pass v is_well_named s k.well_named)
+    (written_pass v is_in_range s (range_of (reverse before) s k.faultless))
+
+-- in order, where the line writes the statement in the version that is declared before it
+line_in_order : (v : ℕ) (before : List Statement) (s : Statement) → KeepsRules before s
+    → ((ts : List Token) → Spelled ts (written_parts v s) → Writes (version (reverse before)) ts s) → IsInOrder before (printed_line v s) (Some s)
+line_in_order v before s k writes =
+    let p = printed v before s k in
     record {
-      bytes = line_permitted (printed_tokens s) p.0;
-      says = inl (subst (λ (ts : List Token). Spelled ts (parts s)) (sym (tokens_of_line (printed_tokens s) p.0)) p.1);
+      bytes = line_permitted (printed_tokens v s) p.0;
+      says = writes (tokens_of (printed_line v s))
+          (subst (λ (ts : List Token). Spelled ts (written_parts v s)) (sym (tokens_of_line (printed_tokens v s) p.0)) p.1);
       stands = record { permitted = k.permitted; faultless = k.faultless };
     }
 
@@ -56,25 +95,64 @@ keep_rest front s ss k i t e = subst (λ (b : List Statement). KeepsRules b t) (
 abbrev said_of : List Statement → Words
 said_of ss = map (λ s. Some s) ss ++ None ∷ []
 
-all_in_order : (front ss : List Statement) → Keep front ss → InOrderFrom front (map printed_line ss ++ [] ∷ []) (said_of ss)
+-- behind statements that declare the version
+all_in_order : (v : ℕ) (front ss : List Statement) (e : Statement) (earlier : List Statement)
+    → reverse front ≡ e ∷ earlier → version (e ∷ earlier) ≡ v → Keep front ss
+    → InOrderFrom front (map (printed_line v) ss ++ [] ∷ []) (said_of ss)
 unfolding InOrderFrom tokens_of
-all_in_order front [] k = (record { bytes = refl; says = refl; stands = tt }, tt)
-all_in_order front (s ∷ ss) k = (line_in_order front s (keep_first front s ss k), all_in_order (front ++ s ∷ []) ss (keep_rest front s ss k))
+all_in_order v front [] e earlier r h k = (record { bytes = refl; says = refl; stands = tt }, tt)
+all_in_order v front (s ∷ ss) e earlier r h k =
+    let here = keep_first front s ss k in
+    let declared : version (reverse front) ≡ v = ap version r ∙ h in
+    let fits : fits_version v s ≡ true = subst (λ (n : ℕ). fits_version n s ≡ true) declared here.fits in
+    let permitted : may_follow (e ∷ earlier) s ≡ true = subst (λ (es : List Statement). may_follow es s ≡ true) r here.permitted in
+    (
+      line_in_order v front s here (λ ts p. subst (λ (n : ℕ). Writes n ts s) (sym declared) (writes_printed v ts s fits p)),
+      all_in_order v (front ++ s ∷ []) ss s (e ∷ earlier) (reverse-append front (s ∷ []) ∙ ap (λ (es : List Statement). s ∷ es) r)
+      (same_version e earlier s permitted ∙ h) (keep_rest front s ss k),
+    )
 
-all_printed : (front ss : List Statement) → Keep front ss → list_all (list_all is_printed) (map printed_tokens ss) ≡ true
-all_printed front [] k = refl
-all_printed front (s ∷ ss) k =
-    let here = (printed front s (keep_first front s ss k)).0 in
-    let rest = all_printed (front ++ s ∷ []) ss (keep_rest front s ss k) in
+-- from the first statement on, which declares the version
+all_lines : (ss : List Statement) → Keep [] ss → InOrderFrom [] (map (printed_line (version_of ss)) ss ++ [] ∷ []) (said_of ss)
+unfolding InOrderFrom tokens_of may_follow
+all_lines [] k = (record { bytes = refl; says = refl; stands = tt }, tt)
+all_lines (Flow v ∷ ss) k =
+    let here = keep_first [] (Flow v) ss k in
+    (line_in_order v [] (Flow v) here (λ ts p. p), all_in_order v (Flow v ∷ []) ss (Flow v) [] refl refl (keep_rest [] (Flow v) ss k))
+all_lines (Source n w ∷ ss) k = absurd (let p = (keep_first [] (Source n w) ss k).permitted in cc)
+all_lines (Sink n w ∷ ss) k = absurd (let p = (keep_first [] (Sink n w) ss k).permitted in cc)
+all_lines (Fifo n w depth delay ∷ ss) k = absurd (let p = (keep_first [] (Fifo n w depth delay) ss k).permitted in cc)
+all_lines (Module n ∷ ss) k = absurd (let p = (keep_first [] (Module n) ss k).permitted in cc)
+all_lines (Reg n w ∷ ss) k = absurd (let p = (keep_first [] (Reg n w) ss k).permitted in cc)
+all_lines (Mem n w l ∷ ss) k = absurd (let p = (keep_first [] (Mem n w l) ss k).permitted in cc)
+all_lines (Block n l ∷ ss) k = absurd (let p = (keep_first [] (Block n l) ss k).permitted in cc)
+all_lines (Loop n ii l r ∷ ss) k = absurd (let p = (keep_first [] (Loop n ii l r) ss k).permitted in cc)
+all_lines (Temp n w ∷ ss) k = absurd (let p = (keep_first [] (Temp n w) ss k).permitted in cc)
+all_lines (At off guard o ∷ ss) k = absurd (let p = (keep_first [] (At off guard o) ss k).permitted in cc)
+all_lines (Goto b ∷ ss) k = absurd (let p = (keep_first [] (Goto b) ss k).permitted in cc)
+all_lines (Branch r b c ∷ ss) k = absurd (let p = (keep_first [] (Branch r b c) ss k).permitted in cc)
+all_lines (Stop ∷ ss) k = absurd (let p = (keep_first [] Stop ss k).permitted in cc)
+all_lines (Input n values ∷ ss) k = absurd (let p = (keep_first [] (Input n values) ss k).permitted in cc)
+all_lines (Limits c o ∷ ss) k = absurd (let p = (keep_first [] (Limits c o) ss k).permitted in cc)
+all_lines (Depth n d ∷ ss) k = absurd (let p = (keep_first [] (Depth n d) ss k).permitted in cc)
+all_lines (End ∷ ss) k = absurd (let p = (keep_first [] End ss k).permitted in cc)
+
+all_printed : (v : ℕ) (front ss : List Statement) → Keep front ss → list_all (list_all is_printed) (map (printed_tokens v) ss) ≡ true
+all_printed v front [] k = refl
+all_printed v front (s ∷ ss) k =
+    let here = (printed v front s (keep_first front s ss k)).0 in
+    let rest = all_printed v (front ++ s ∷ []) ss (keep_rest front s ss k) in
     rw (here, rest) refl
 
-lines_printed : (ss : List Statement) → map (join_with_byte 32) (map printed_tokens ss) ≡ map printed_line ss
-lines_printed [] = refl
-lines_printed (s ∷ ss) = ap (λ (r : List Line). printed_line s ∷ r) (lines_printed ss)
+lines_printed : (v : ℕ) (ss : List Statement) → map (join_with_byte 32) (map (printed_tokens v) ss) ≡ map (printed_line v) ss
+lines_printed v [] = refl
+lines_printed v (s ∷ ss) = ap (λ (r : List Line). printed_line v s ∷ r) (lines_printed v ss)
 
-lines_are : (ss : List Statement) → Keep [] ss → lines_of (canonical_text ss) ≡ map printed_line ss ++ [] ∷ []
+lines_are : (ss : List Statement) → Keep [] ss → lines_of (canonical_text ss) ≡ map (printed_line (version_of ss)) ss ++ [] ∷ []
 unfolding canonical_text
-lines_are ss k = text_lines (map printed_tokens ss) (all_printed [] ss k) ∙ ap (λ (r : List Line). r ++ [] ∷ []) (lines_printed ss)
+lines_are ss k =
+    text_lines (map (printed_tokens (version_of ss)) ss) (all_printed (version_of ss) [] ss k)
+    ∙ ap (λ (r : List Line). r ++ [] ∷ []) (lines_printed (version_of ss) ss)
 
 same_statements : (ss : List Statement) → ss ≡ statements_among (said_of ss)
 same_statements [] = refl
@@ -84,12 +162,12 @@ same_numbers : (n : ℕ) (ss : List Statement) → range_with_len n (length ss) 
 same_numbers n [] = refl
 same_numbers n (s ∷ ss) = ap (λ (r : List ℕ). n ∷ r) (same_numbers (n + 1) ss)
 
-pub reads_back : (ss : List Statement) → KeepsReadingRules ss → length (canonical_text ss) ≤ limit → StandsFor (canonical_text ss) ss (range_with_len 1 (length ss))
+pub reads_back : (ss : List Statement) → KeepsReadingRules ss → length (canonical_text ss) ≤ TEXT_BYTES → StandsFor (canonical_text ss) ss (range_with_len 1 (length ss))
 reads_back ss rules short = record {
   short = short;
   said = said_of ss;
   in_order = in_order_of (lines_of (canonical_text ss)) (said_of ss)
-      (subst (λ (lines : List Line). InOrderFrom [] lines (said_of ss)) (sym (lines_are ss rules.each)) (all_in_order [] ss rules.each));
+      (subst (λ (lines : List Line). InOrderFrom [] lines (said_of ss)) (sym (lines_are ss rules.each)) (all_lines ss rules.each));
   over = subst (λ (xs : List Statement). is_over xs ≡ true) (same_statements ss) rules.over;
   statements_are = same_statements ss;
   numbers_are = same_numbers 1 ss;

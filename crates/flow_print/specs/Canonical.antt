@@ -1,10 +1,12 @@
--- The canonical text of a session: one statement a line, one space between tokens, numbers without leading zeros, and each depth written
--- out.
-use Rattle.std.specs.Prelude.{ℕ, List, ◌∷◌, map}
+-- The canonical text of a session: one statement a line, one space between tokens, numbers without leading zeros, each FIFO's depth
+-- written out, and its delay in the version that has delays.
+use Rattle.std.specs.Prelude.{ℕ, List, [], ◌∷◌, map, if◌then◌else◌}
 use Rattle.std.specs.Fmt.{decimal}
 use Rattle.std.specs.List.{flat_map}
 use Rattle.flow_design.specs.declared.session.Statement.{Statement}
-use Rattle.flow_grammar.specs.Parts.{Part, Word, New, Use, Label, Num, parts}
+use Rattle.flow_design.specs.declared.session.Statement.TheVariants.{Flow, Fifo}
+use Rattle.flow_grammar.specs.Before.{has_delays}
+use Rattle.flow_grammar.specs.Parts.{Part, Word, New, Use, Label, Num, parts, depth_parts, fifo_parts}
 use Rattle.report_text.specs.Lines.{Token, text_of_lines}
 
 -- the token of a part
@@ -15,13 +17,23 @@ token_of (Use sort n) = n
 token_of (Label n) = n
 token_of (Num least most n) = decimal n
 
+-- the parts of a statement that are written in a version of the language
+abbrev pub written_parts : ℕ → Statement → List Part
+written_parts version (Fifo n w depth delay) = if has_delays version then fifo_parts n w depth delay else depth_parts n w depth
+written_parts version s = parts s
+
 -- the tokens of a statement
-abbrev pub tokens_of : Statement → List Token
-tokens_of s = map token_of (parts s)
+abbrev pub tokens_of : ℕ → Statement → List Token
+tokens_of version s = map token_of (written_parts version s)
+
+-- the version of a session, which its first statement declares
+abbrev pub version_of : List Statement → ℕ
+version_of (Flow v ∷ behind) = v
+version_of statements = 1
 
 -- the text of statements
 unfoldable pub canonical_text : List Statement → List ℕ
-canonical_text statements = text_of_lines (map tokens_of statements)
+canonical_text statements = text_of_lines (map (tokens_of (version_of statements)) statements)
 
 -- parts that stand behind others in a line: each with a space before it
 unfoldable pub spaced_parts : List Part → List ℕ

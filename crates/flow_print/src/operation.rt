@@ -5,6 +5,7 @@ ghost use Rattle.flow_print.specs.Canonical.{spaced_parts};
 
 use crate::expression::print_expression;
 use flow_design::{Name, Op};
+use flow_grammar::Verb;
 use flow_word::{List, OutOfMemory};
 use report_text::push_token;
 
@@ -26,33 +27,33 @@ pub fn print_operation(text: &mut List<u8>, op: &Op<Name>) -> Result<(), OutOfMe
 {
     match op {
         Op::Set(place, value) => {
-            push_two(text, b"set", place)?;
+            push_two(text, Verb::Set.word(), place)?;
             print_expression(text, value)
         }
         Op::Load(place, memory, address) => {
-            push_three(text, b"load", place, memory)?;
+            push_three(text, Verb::Load.word(), place, memory)?;
             print_expression(text, address)
         }
         Op::Store(memory, address, value) => {
-            push_two(text, b"store", memory)?;
+            push_two(text, Verb::Store.word(), memory)?;
             print_expression(text, address)?;
             print_expression(text, value)
         }
-        Op::Read(channel, place) => push_three(text, b"read", channel, place),
+        Op::Read(channel, place) => push_three(text, Verb::Read.word(), channel, place),
         Op::Write(channel, value) => {
-            push_two(text, b"write", channel)?;
+            push_two(text, Verb::Write.word(), channel)?;
             print_expression(text, value)
         }
         Op::TryRead(channel, place, done) => {
-            push_three(text, b"tryread", channel, place)?;
+            push_three(text, Verb::TryRead.word(), channel, place)?;
             push_token(text, done.bytes())
         }
         Op::TryWrite(channel, done, value) => {
-            push_three(text, b"trywrite", channel, done)?;
+            push_three(text, Verb::TryWrite.word(), channel, done)?;
             print_expression(text, value)
         }
-        Op::Empty(channel, place) => push_three(text, b"empty", channel, place),
-        Op::Full(channel, place) => push_three(text, b"full", channel, place),
+        Op::Empty(channel, place) => push_three(text, Verb::Empty.word(), channel, place),
+        Op::Full(channel, place) => push_three(text, Verb::Full.word(), channel, place),
     }
 }
 

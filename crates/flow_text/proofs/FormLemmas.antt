@@ -1,15 +1,38 @@
--- A FIFO that is written without its depth.
+-- FIFOs that are written without their delay, or without their depth too.
 use Rattle.std.proofs.Common.{◌≡◌, ℕ, List, Bool, true, false, refl}
 use Rattle.std.specs.Prelude.{codes, ◌&&◌}
+use Rattle.flow_design.specs.declared.session.Statement.{Statement}
 use Rattle.flow_design.specs.declared.session.Statement.TheVariants.{Fifo}
+use Rattle.flow_grammar.specs.Parts.{default_depth, default_delay}
 use Rattle.flow_grammar.specs.Tokens.{is_number, is_name, number_of}
 use Rattle.flow_grammar.specs.Forms.{only_if}
 
-pub default_depth : (n : List ℕ) (w : List ℕ) → only_if (is_name n && (is_number w && is_number (codes "2"))) (Fifo n (number_of w) (number_of (codes "2"))) ≡ only_if (is_name n && is_number w) (Fifo n (number_of w) 2)
-unfolding is_number
-default_depth n w = go (is_name n) (is_number w)
-  where
-    go : (a b : Bool) → only_if (a && (b && true)) (Fifo n (number_of w) 2) ≡ only_if (a && b) (Fifo n (number_of w) 2)
-    go true true = refl
-    go true false = refl
-    go false b = refl
+module _ (n w : List ℕ) where
+  -- the tests of a FIFO whose depth and delay are these tokens, and the FIFO
+  abbrev tests : List ℕ → List ℕ → Bool
+  tests depth delay = is_name n && (is_number w && (is_number depth && is_number delay))
+
+  abbrev fifo : List ℕ → List ℕ → Statement
+  fifo depth delay = Fifo n (number_of w) (number_of depth) (number_of delay)
+
+  pub without_delay : (depth : List ℕ) → only_if (tests depth (codes "1")) (fifo depth (codes "1"))
+      ≡ only_if (is_name n && (is_number w && is_number depth)) (Fifo n (number_of w) (number_of depth) default_delay)
+  unfolding is_number
+  without_delay depth = go (is_name n) (is_number w) (is_number depth)
+    where
+      go : (a b c : Bool) → only_if (a && (b && (c && true))) (Fifo n (number_of w) (number_of depth) 1)
+          ≡ only_if (a && (b && c)) (Fifo n (number_of w) (number_of depth) 1)
+      go true true true = refl
+      go true true false = refl
+      go true false c = refl
+      go false b c = refl
+
+  pub without_depth : only_if (tests (codes "2") (codes "1")) (fifo (codes "2") (codes "1"))
+      ≡ only_if (is_name n && is_number w) (Fifo n (number_of w) default_depth default_delay)
+  unfolding is_number
+  without_depth = go (is_name n) (is_number w)
+    where
+      go : (a b : Bool) → only_if (a && (b && true)) (Fifo n (number_of w) 2 1) ≡ only_if (a && b) (Fifo n (number_of w) 2 1)
+      go true true = refl
+      go true false = refl
+      go false b = refl

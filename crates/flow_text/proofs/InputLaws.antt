@@ -3,6 +3,7 @@ use Rattle.std.proofs.Common.{◌≡◌, ℕ, zero, suc, ◌+◌, ◌-◌, ◌^�
 use Rattle.std.specs.Prelude.{◌&&◌, not, if◌then◌else◌, nat_le}
 use Rattle.std.specs.List.{list_all}
 use Rattle.std.proofs.lemmas.List.{append-nil}
+use Rattle.flow_design.specs.declared.limits.TheConstants.{INPUT_VALUES}
 use Rattle.flow_design.specs.declared.session.Statement.{Statement}
 use Rattle.flow_design.specs.declared.session.Statement.TheVariants.{Input}
 use Rattle.flow_grammar.specs.declared.fault.Code.{Code}
@@ -16,7 +17,8 @@ use Rattle.flow_grammar.specs.Forms.{only_if}
 use Rattle.flow_grammar.specs.Gives.{LineGives, judged}
 use Rattle.flow_grammar.specs.Numbers.{number_within}
 use Rattle.name_tables.specs.declared.tables.Tables.{Tables}
-use Rattle.name_tables.specs.TableTests.{is_new, is_known, fault_by, reading_by, takes_inputs}
+use Rattle.flow_grammar.specs.Places.{takes_inputs}
+use Rattle.name_tables.specs.TableTests.{is_new, is_known, fault_by, reading_by}
 use Rattle.flow_text.specs.Inputs.{is_plain, words_within, input_of_words, input_reading}
 
 -- a list from one place on
@@ -84,20 +86,20 @@ module _ (t : Tables) where
   in_cases n values true true false true true = refl
   in_cases n values true true false true false = refl
 
-  given_is : (n : Name) (words : Option (List ℕ)) (values : List ℕ) → words ≡ words_within values → input_of_words t n words ≡ given_by (is_among t.inputs n) (is_among t.sources n) (nat_le (t.input_values + length values) 100000) n words
+  given_is : (n : Name) (words : Option (List ℕ)) (values : List ℕ) → words ≡ words_within values → input_of_words t n words ≡ given_by (is_among t.inputs n) (is_among t.sources n) (nat_le (t.input_values + length values) INPUT_VALUES) n words
   given_is n None values h = refl
   given_is n (Some ws) values h = go (list_all is_plain values) h
     where
-      go : (b : Bool) → Some ws ≡ words_if b values → input_of_words t n (Some ws) ≡ given_by (is_among t.inputs n) (is_among t.sources n) (nat_le (t.input_values + length values) 100000) n (Some ws)
-      go true k = let e : ws ≡ values = cc in ap (λ (x : List ℕ). given_by (is_among t.inputs n) (is_among t.sources n) (nat_le (t.input_values + length x) 100000) n (Some ws)) e
+      go : (b : Bool) → Some ws ≡ words_if b values → input_of_words t n (Some ws) ≡ given_by (is_among t.inputs n) (is_among t.sources n) (nat_le (t.input_values + length values) INPUT_VALUES) n (Some ws)
+      go true k = let e : ws ≡ values = cc in ap (λ (x : List ℕ). given_by (is_among t.inputs n) (is_among t.sources n) (nat_le (t.input_values + length x) INPUT_VALUES) n (Some ws)) e
       go false k = absurd cc
 
   input_is : (n : Name) (values : List ℕ) → input_reading t n (words_within values) ≡ reading_by t (Some (Input n values))
   unfolding fault_by
   input_is n values =
       (λ i. if takes_inputs t.place then given_is n (words_within values) values refl i else Err Syntax)
-      ∙ in_cases n values (takes_inputs t.place) (list_all is_plain values) (is_among t.inputs n) (is_among t.sources n) (nat_le (t.input_values + length values) 100000)
-      ∙ sym (λ i. judged (if takes_inputs t.place then input_fault (plain_ranged values i) (plain_new values i && not (is_among t.inputs n)) (is_among t.sources n && plain_known values i) (nat_le (t.input_values + length values) 100000) else Some Syntax) (Input n values))
+      ∙ in_cases n values (takes_inputs t.place) (list_all is_plain values) (is_among t.inputs n) (is_among t.sources n) (nat_le (t.input_values + length values) INPUT_VALUES)
+      ∙ sym (λ i. judged (if takes_inputs t.place then input_fault (plain_ranged values i) (plain_new values i && not (is_among t.inputs n)) (is_among t.sources n && plain_known values i) (nat_le (t.input_values + length values) INPUT_VALUES) else Some Syntax) (Input n values))
 
   fits : (b c : Bool) (s : Statement) → b ≡ true → c ≡ true → reading_by t (Some s) ≡ reading_by t (only_if (b && c) s)
   fits true true s h k = refl

@@ -1,6 +1,5 @@
 pub mod FormLemmas
 pub mod InputLaws
-pub mod KeywordLaws
 pub mod OperationLaws
 pub mod ReadingLaws
 pub mod TimedLaws

@@ -25,7 +25,9 @@ use Rattle.flow_grammar.proofs.Induction.{by_cases}
 use Rattle.flow_grammar.proofs.SpellingLaws.{parts_Number, parts_Var, parts_Unary, parts_Binary, parts_Sext, parts_Pick}
 use Rattle.name_tables.specs.declared.tables.Tables.{Tables}
 use Rattle.name_tables.specs.TableTests.{is_known}
-use Rattle.flow_text.specs.Operations.{tested, tree_judged, trees_judged, op_judged, tree_reading, trees_reading, op_reading, tree_kept, trees_kept, made, with_tree, store_op, named_op, is_variable}
+use Rattle.flow_text.specs.Operations.{tested, tree_judged, trees_judged, op_judged, tree_reading, trees_reading, op_reading, tree_kept, trees_kept, made, with_tree, store_op, op_of_names, named_op, is_variable}
+use Rattle.flow_text.specs.declared.operations.TwoNames.{TwoNames}
+use Rattle.flow_text.specs.declared.operations.TwoNames.TheVariants as two
 
 pub all_append : (p : Part → Bool) (xs ys : List Part) → list_all p (xs ++ ys) ≡ list_all p xs && list_all p ys
 all_append p [] ys = refl
@@ -277,17 +279,18 @@ module _ (t : Tables) where
   and_true true = refl
   and_true false = refl
 
-  pub read_is : (f r : Name) → op_judged t (op.Read f r) ≡ named_op (is_among t.channels f && is_variable t r) (op.Read f r)
+  pub two_names_is : (which : TwoNames) (f r : Name)
+      → op_judged t (op_of_names which f r) ≡ named_op (is_among t.channels f && is_variable t r) (op_of_names which f r)
   unfolding op_judged
-  read_is f r = (λ i. tested true (is_among t.channels f && and_true (is_variable t r) i) true (op.Read f r)) ∙ named_is (op.Read f r) (is_among t.channels f && is_variable t r)
-
-  pub empty_is : (f r : Name) → op_judged t (op.Empty f r) ≡ named_op (is_among t.channels f && is_variable t r) (op.Empty f r)
-  unfolding op_judged
-  empty_is f r = (λ i. tested true (is_among t.channels f && and_true (is_variable t r) i) true (op.Empty f r)) ∙ named_is (op.Empty f r) (is_among t.channels f && is_variable t r)
-
-  pub full_is : (f r : Name) → op_judged t (op.Full f r) ≡ named_op (is_among t.channels f && is_variable t r) (op.Full f r)
-  unfolding op_judged
-  full_is f r = (λ i. tested true (is_among t.channels f && and_true (is_variable t r) i) true (op.Full f r)) ∙ named_is (op.Full f r) (is_among t.channels f && is_variable t r)
+  two_names_is two.Read f r =
+      (λ i. tested true (is_among t.channels f && and_true (is_variable t r) i) true (op.Read f r))
+      ∙ named_is (op.Read f r) (is_among t.channels f && is_variable t r)
+  two_names_is two.Empty f r =
+      (λ i. tested true (is_among t.channels f && and_true (is_variable t r) i) true (op.Empty f r))
+      ∙ named_is (op.Empty f r) (is_among t.channels f && is_variable t r)
+  two_names_is two.Full f r =
+      (λ i. tested true (is_among t.channels f && and_true (is_variable t r) i) true (op.Full f r))
+      ∙ named_is (op.Full f r) (is_among t.channels f && is_variable t r)
 
   pub try_read_is : (f r ok : Name) → op_judged t (op.TryRead f r ok) ≡ named_op (is_among t.channels f && (is_variable t r && is_variable t ok)) (op.TryRead f r ok)
   unfolding op_judged

@@ -4,7 +4,6 @@ use Rattle.std.specs.Prelude.{reverse, if◌then◌else◌}
 use Rattle.std.specs.List.{list_all}
 use Rattle.std.proofs.lemmas.List.{append-nil, reverse-append}
 use Rattle.flow_design.specs.declared.session.Statement.{Statement}
-use Rattle.flow_design.specs.declared.session.Statement.TheVariants.{Flow, Source, Sink, Fifo, Module, Reg, Mem, Block, Loop, Temp, At, Goto, Branch, Stop, Input, Limits, Depth, End}
 use Rattle.flow_grammar.specs.declared.fault.Code.{Code}
 use Rattle.flow_grammar.specs.declared.fault.Code.TheVariants.{NotAscii}
 use Rattle.flow_grammar.specs.declared.fault.TextFault.{TextFault}
@@ -13,11 +12,12 @@ use Rattle.flow_grammar.specs.declared.fault.ReadFail.TheVariants as fails
 use Rattle.flow_grammar.specs.Tokens.{Line, Token, lines_of, tokens_of, is_permitted}
 use Rattle.flow_grammar.specs.Forms.{statement_of}
 use Rattle.flow_grammar.specs.Line.{form_fault, tokens_fault, statement_in, line_fault}
-use Rattle.flow_grammar.specs.Rules as rules
+use Rattle.flow_grammar.specs.Before.{version}
+use Rattle.flow_grammar.specs.Places.{is_end}
+use Rattle.flow_grammar.specs.Rules.{is_over}
 use Rattle.flow_grammar.specs.Gives.{◌>>=◌, Read, judged, reading, at_line, line_reading, with_statement, with_number, in_front, ended, TextFails}
 use Rattle.name_tables.specs.declared.tables.Tables.{Tables}
 use Rattle.name_tables.specs.TablesOf.{tables_of}
-use Rattle.name_tables.specs.TableTests as tests
 use Rattle.name_tables.specs.TableTests.{form_fault_by, reading_by}
 use Rattle.name_tables.proofs.TableLaws.{form_fault_same, accepted_same}
 use Rattle.flow_text.specs.Lines.{said_by, tokens_reading_by, line_reading_by, accepted_if, lines_left, bytes_left}
@@ -34,13 +34,15 @@ said_same : (s : Option Statement) (earlier : List Statement) → said_by (readi
 said_same None earlier = refl
 said_same (Some s) earlier = said_judged (form_fault_by (tables_of earlier) (Some s)) s ∙ ap (λ (c : Option Code). judged c (Some s)) (form_fault_same (Some s) earlier)
 
-tokens_same : (tokens : List Token) (earlier : List Statement) → tokens_reading_by (tables_of earlier) tokens ≡ judged (tokens_fault earlier tokens) (statement_of tokens)
-unfolding tokens_reading_by statement_of
+tokens_same : (tokens : List Token) (earlier : List Statement)
+    → tokens_reading_by (tables_of earlier) tokens ≡ judged (tokens_fault earlier tokens) (statement_of (version earlier) tokens)
+unfolding tokens_reading_by statement_of tables_of
 tokens_same [] earlier = refl
-tokens_same (x ∷ xs) earlier = said_same (statement_of (x ∷ xs)) earlier
+tokens_same (x ∷ xs) earlier = said_same (statement_of (version earlier) (x ∷ xs)) earlier
 
 permitted_same : (permitted : Bool) (tokens : List Token) (earlier : List Statement)
-    → (if permitted then tokens_reading_by (tables_of earlier) tokens else Err NotAscii) ≡ judged (if permitted then tokens_fault earlier tokens else Some NotAscii) (statement_of tokens)
+    → (if permitted then tokens_reading_by (tables_of earlier) tokens else Err NotAscii)
+    ≡ judged (if permitted then tokens_fault earlier tokens else Some NotAscii) (statement_of (version earlier) tokens)
 permitted_same true tokens earlier = tokens_same tokens earlier
 permitted_same false tokens earlier = refl
 
@@ -139,34 +141,16 @@ is_through text p n left r l = record { kept = r.kept; reads = (let k = rw l at 
 
 -- ---- the end
 
-over_at : (before earlier : List Statement) → reverse before ≡ earlier → tests.is_over (tables_of earlier).place ≡ rules.is_over before
-unfolding tables_of rules.is_over
-over_at before [] e = rw e refl
-over_at before (Flow n ∷ es) e = rw e refl
-over_at before (Source n w ∷ es) e = rw e refl
-over_at before (Sink n w ∷ es) e = rw e refl
-over_at before (Fifo n w d ∷ es) e = rw e refl
-over_at before (Module n ∷ es) e = rw e refl
-over_at before (Reg n w ∷ es) e = rw e refl
-over_at before (Mem n w l ∷ es) e = rw e refl
-over_at before (Block n l ∷ es) e = rw e refl
-over_at before (Loop n ii l r ∷ es) e = rw e refl
-over_at before (Temp n w ∷ es) e = rw e refl
-over_at before (At off guard o ∷ es) e = rw e refl
-over_at before (Goto b ∷ es) e = rw e refl
-over_at before (Branch r b c ∷ es) e = rw e refl
-over_at before (Stop ∷ es) e = rw e refl
-over_at before (Input n values ∷ es) e = rw e refl
-over_at before (Limits c o ∷ es) e = rw e refl
-over_at before (Depth n d ∷ es) e = rw e refl
-over_at before (End ∷ es) e = rw e refl
+over_at : (before : List Statement) → is_end (tables_of (reverse before)).place ≡ is_over before
+unfolding tables_of is_over
+over_at before = refl
 
-pub closes : (statements : List Statement) (numbers : List ℕ) (n : ℕ) → tests.is_over (tables_of (reverse statements)).place ≡ true
+pub closes : (statements : List Statement) (numbers : List ℕ) (n : ℕ) → is_end (tables_of (reverse statements)).place ≡ true
     → with_front statements numbers (reading statements n []) ≡ Ok (statements, numbers)
 unfolding reading
-closes statements numbers n h = rw (sym (over_at statements (reverse statements) refl) ∙ h, append-nil, append-nil) refl
+closes statements numbers n h = rw (sym (over_at statements) ∙ h, append-nil, append-nil) refl
 
-pub is_cut : (statements : List Statement) (numbers : List ℕ) (n : ℕ) → tests.is_over (tables_of (reverse statements)).place ≡ false
+pub is_cut : (statements : List Statement) (numbers : List ℕ) (n : ℕ) → is_end (tables_of (reverse statements)).place ≡ false
     → with_front statements numbers (reading statements n []) ≡ ended false n
 unfolding reading
-is_cut statements numbers n h = rw (sym (over_at statements (reverse statements) refl) ∙ h) refl
+is_cut statements numbers n h = rw (sym (over_at statements) ∙ h) refl

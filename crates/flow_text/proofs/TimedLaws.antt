@@ -2,6 +2,7 @@
 use Rattle.std.proofs.Common.{◌≡◌, ◌<◌, ◌≤◌, length, map, arith, ℕ, ◌-◌, ◌^◌, List, [], ◌∷◌, ◌++◌, Bool, true, false, Option, None, Some, Result, Ok, Err, refl, sym, ap, subst, ◌∙◌}
 use Rattle.std.specs.Prelude.{◌&&◌, not, option_map, if◌then◌else◌, nat_lt, nat_le}
 use Rattle.std.specs.List.{list_all}
+use Rattle.flow_design.specs.declared.limits.TheConstants.{OPERATIONS}
 use Rattle.flow_design.specs.declared.expr.Expr.{Expr}
 use Rattle.flow_design.specs.declared.expr.Expr.TheOpen.{Expr-F}
 use Rattle.flow_design.specs.declared.expr.UnOp.{UnOp}
@@ -23,7 +24,8 @@ use Rattle.flow_grammar.specs.Gives.{LineGives, LineFails, judged}
 use Rattle.flow_grammar.proofs.Induction.{by_cases}
 use Rattle.flow_grammar.proofs.SpellingLaws.{parts_Number, parts_Var, parts_Unary, parts_Binary, parts_Sext, parts_Pick}
 use Rattle.name_tables.specs.declared.tables.Tables.{Tables}
-use Rattle.name_tables.specs.TableTests.{is_new, is_known, fault_by, reading_by, takes_operations}
+use Rattle.flow_grammar.specs.Places.{takes_operations}
+use Rattle.name_tables.specs.TableTests.{is_new, is_known, fault_by, reading_by}
 use Rattle.flow_text.specs.Operations.{tested, op_judged, op_reading, is_variable, timed_by, timed_reading, guard_known, offset_there, with_tree}
 use Rattle.flow_text.proofs.OperationLaws.{all_append}
 
@@ -106,11 +108,11 @@ module _ (t : Tables) where
   timed_is : (n : ℕ) (g : Option Name) (o : Op Name) → timed_reading t (number_within 0 (2 ^ 64 - 1) n) g (guard_known t g) (op_judged t o) ≡ reading_by t (Some (At n g o))
   unfolding op_judged fault_by
   timed_is n None o =
-      in_cases n None o (takes_operations t.place) (ranged_offset n) (list_all is_in_range (op_parts o)) true (list_all (is_known t) (op_parts o)) (nat_lt t.operations 1024) (has_small_trees o)
-      ∙ ap (λ (b : Bool). judged (if takes_operations t.place then at_fault (ranged_offset n && list_all is_in_range (op_parts o)) (b && true) (list_all (is_known t) (op_parts o)) (nat_lt t.operations 1024 && has_small_trees o) else Some Syntax) (At n None o)) (sym (op_new o))
+      in_cases n None o (takes_operations t.place) (ranged_offset n) (list_all is_in_range (op_parts o)) true (list_all (is_known t) (op_parts o)) (nat_lt t.operations OPERATIONS) (has_small_trees o)
+      ∙ ap (λ (b : Bool). judged (if takes_operations t.place then at_fault (ranged_offset n && list_all is_in_range (op_parts o)) (b && true) (list_all (is_known t) (op_parts o)) (nat_lt t.operations OPERATIONS && has_small_trees o) else Some Syntax) (At n None o)) (sym (op_new o))
   timed_is n (Some r) o =
-      in_cases n (Some r) o (takes_operations t.place) (ranged_offset n) (list_all is_in_range (op_parts o)) (is_variable t r) (list_all (is_known t) (op_parts o)) (nat_lt t.operations 1024) (has_small_trees o)
-      ∙ ap (λ (b : Bool). judged (if takes_operations t.place then at_fault (ranged_offset n && list_all is_in_range (op_parts o)) (b && true) (is_variable t r && list_all (is_known t) (op_parts o)) (nat_lt t.operations 1024 && has_small_trees o) else Some Syntax) (At n (Some r) o)) (sym (op_new o))
+      in_cases n (Some r) o (takes_operations t.place) (ranged_offset n) (list_all is_in_range (op_parts o)) (is_variable t r) (list_all (is_known t) (op_parts o)) (nat_lt t.operations OPERATIONS) (has_small_trees o)
+      ∙ ap (λ (b : Bool). judged (if takes_operations t.place then at_fault (ranged_offset n && list_all is_in_range (op_parts o)) (b && true) (is_variable t r && list_all (is_known t) (op_parts o)) (nat_lt t.operations OPERATIONS && has_small_trees o) else Some Syntax) (At n (Some r) o)) (sym (op_new o))
 
   at_read : (n : ℕ) (g : Option Name) (found : Option (Op Name)) (o : Result (Op Name) Code)
       → op_reading t found ≡ Ok o → timed_reading t (number_within 0 (2 ^ 64 - 1) n) g (guard_known t g) o ≡ reading_by t (option_map (At n g) found)

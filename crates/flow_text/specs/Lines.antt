@@ -18,7 +18,7 @@ said_by (Err c) = Err c
 -- what the tokens of a line give: nothing where there is none, else the first test that they fail or their statement
 unfoldable pub tokens_reading_by : Tables → List Token → Result (Option Statement) Code
 tokens_reading_by t [] = Ok None
-tokens_reading_by t (x ∷ xs) = said_by (reading_by t (statement_of (x ∷ xs)))
+tokens_reading_by t (x ∷ xs) = said_by (reading_by t (statement_of t.version (x ∷ xs)))
 
 -- what a line gives
 unfoldable pub line_reading_by : Tables → Line → Result (Option Statement) Code

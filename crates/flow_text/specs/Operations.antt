@@ -4,6 +4,7 @@ use Rattle.std.specs.List.{list_all}
 use Rattle.flow_design.specs.declared.expr.Expr.{Expr}
 use Rattle.flow_design.specs.declared.expr.Op.{Op}
 use Rattle.flow_design.specs.declared.expr.Op.TheVariants as op
+use Rattle.flow_design.specs.declared.limits.TheConstants.{OPERATIONS}
 use Rattle.flow_design.specs.declared.session.Statement.{Statement}
 use Rattle.flow_design.specs.declared.session.Statement.TheVariants.{At}
 use Rattle.flow_grammar.specs.declared.fault.Code.{Code}
@@ -15,8 +16,11 @@ use Rattle.flow_grammar.specs.Before.{is_among}
 use Rattle.flow_grammar.specs.Rules.{is_in_range, is_small, has_small_trees}
 use Rattle.flow_grammar.specs.Operands.{is_known_by, earlier}
 use Rattle.flow_grammar.specs.Trees.{Trees}
+use Rattle.flow_text.specs.declared.operations.TwoNames.{TwoNames}
+use Rattle.flow_text.specs.declared.operations.TwoNames.TheVariants as two
 use Rattle.name_tables.specs.declared.tables.Tables.{Tables}
-use Rattle.name_tables.specs.TableTests.{named, is_known, takes_operations}
+use Rattle.flow_grammar.specs.Places.{takes_operations}
+use Rattle.name_tables.specs.TableTests.{named, is_known}
 
 -- the first of three tests that fails, or what passes them
 abbrev pub tested : {A : Type 0} → Bool → Bool → Bool → A → Result A Code
@@ -86,6 +90,12 @@ made f (Ok r) = Ok (with_tree f r)
 abbrev pub store_op : Name → Expr Name × Expr Name → Op Name
 store_op m p = op.Store m p.0 p.1
 
+-- the operation on a channel and a variable
+abbrev pub op_of_names : TwoNames → Name → Name → Op Name
+op_of_names two.Read = op.Read
+op_of_names two.Empty = op.Empty
+op_of_names two.Full = op.Full
+
 -- an operation on names alone
 abbrev pub named_op : Bool → Op Name → Result (Op Name) Code
 named_op known o = if known then Ok o else Err UnknownName
@@ -116,7 +126,7 @@ offset_there true false (Some off) true = Err TooMany
 
 -- what an offset, a guard that is known or not, and an operation give
 abbrev pub timed_reading : Tables → Option ℕ → Option Name → Bool → Result (Op Name) Code → Result Statement Code
-timed_reading t off guard known o = timed_by (takes_operations t.place) (nat_lt t.operations 1024) off guard known o
+timed_reading t off guard known o = timed_by (takes_operations t.place) (nat_lt t.operations OPERATIONS) off guard known o
 
 abbrev pub guard_known : Tables → Option Name → Bool
 guard_known t None = true

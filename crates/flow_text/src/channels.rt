@@ -4,9 +4,11 @@ ghost use Rattle.flow_design.specs.declared.session.Statement.TheVariants.{Sourc
 ghost use Rattle.flow_grammar.specs.Tokens.{is_number, is_name, number_of};
 ghost use Rattle.flow_grammar.specs.Forms.{only_if, name_width, fifo_of};
 ghost use Rattle.flow_grammar.specs.Gives.{LineGives};
+ghost use Rattle.flow_grammar.specs.Parts.{default_depth, default_delay};
 ghost use Rattle.name_tables.specs.TablesOf.{accepted, IsOfStatements};
 ghost use Rattle.name_tables.specs.TableTests.{reading_by};
 
+use flow_design::limits::{CHANNELS, FIFO_DELAY, FIFO_DEPTH};
 use flow_design::{Name, Statement};
 use flow_grammar::{Code, LineFail, is_identifier, is_numeral, number_in, width_of};
 use name_tables::Tables;
@@ -33,7 +35,7 @@ fn new_source<'a>(
     if tables.channels.has(name) {
         return Err(LineFail::Fault(Code::DoubleName));
     }
-    if tables.channels.len() >= 256 {
+    if !tables.channels.has_room(CHANNELS) {
         return Err(LineFail::Fault(Code::TooMany));
     }
     tables.add_source(name)?;
@@ -76,7 +78,7 @@ fn new_sink<'a>(
     if tables.channels.has(name) {
         return Err(LineFail::Fault(Code::DoubleName));
     }
-    if tables.channels.len() >= 256 {
+    if !tables.channels.has_room(CHANNELS) {
         return Err(LineFail::Fault(Code::TooMany));
     }
     tables.add_sink(name)?;
@@ -98,7 +100,7 @@ pub fn sink<'a>(
     }
 }
 
-/// The FIFO of this name, width and depth.
+/// The FIFO of this name, width, depth and delay.
 #[tactic(auto, unfolding(name_tables::specs::TableTests::fault_by))]
 fn new_fifo<'a>(
     alloc: Global,
@@ -106,49 +108,68 @@ fn new_fifo<'a>(
     name: &'a [u8],
     width: &[u8],
     depth: &[u8],
+    delay: &[u8],
 ) -> Result<Statement, LineFail>
     requires { IsOfStatements tables.old }
-    ensures given { LineGives (λ s. s) result (reading_by tables.old (only_if (is_name name.now && (is_number width.now && is_number depth.now)) (Fifo name.now (number_of width.now) (number_of depth.now)))) }
+    ensures given { LineGives (λ s. s) result (reading_by tables.old (only_if (is_name name.now && (is_number width.now && (is_number depth.now && is_number delay.now))) (Fifo name.now (number_of width.now) (number_of depth.now) (number_of delay.now)))) }
     ensures kept { IfOk result (λ s. tables.new ≡ accepted tables.old s) }
 {
-    if !tables.place.takes_channels() {
+    if !tables.place.takes_channels() || !is_identifier(name) {
         return Err(LineFail::Fault(Code::Syntax));
     }
-    if !is_identifier(name) || !is_numeral(width) || !is_numeral(depth) {
+    if !is_numeral(width) || !is_numeral(depth) || !is_numeral(delay) {
         return Err(LineFail::Fault(Code::Syntax));
     }
     let Some(width) = width_of(width) else {
         return Err(LineFail::Fault(Code::BadNumber));
     };
-    let Some(depth) = number_in(depth, 1, 1_000_000) else {
+    let Some(depth) = number_in(depth, 1, FIFO_DEPTH) else {
+        return Err(LineFail::Fault(Code::BadNumber));
+    };
+    let Some(delay) = number_in(delay, 1, FIFO_DELAY) else {
         return Err(LineFail::Fault(Code::BadNumber));
     };
     if tables.channels.has(name) {
         return Err(LineFail::Fault(Code::DoubleName));
     }
-    if tables.channels.len() >= 256 {
+    if !tables.channels.has_room(CHANNELS) {
         return Err(LineFail::Fault(Code::TooMany));
     }
     tables.add_fifo(name)?;
-    Ok(Statement::Fifo(Name::new(alloc, name)?, width, depth))
+    Ok(Statement::Fifo(Name::new(alloc, name)?, width, depth, delay))
 }
 
-/// The FIFO of this name and width, of depth 2.
-#[tactic(auto, using(crate::proofs::FormLemmas::default_depth))]
-fn new_short_fifo<'a>(
+/// The FIFO of this name, width and depth, of delay 1.
+fn new_depth_fifo<'a>(
+    alloc: Global,
+    tables: &mut Tables<'a>,
+    name: &'a [u8],
+    width: &[u8],
+    depth: &[u8],
+) -> Result<Statement, LineFail>
+    requires { IsOfStatements tables.old }
+    ensures given { LineGives (λ s. s) result (reading_by tables.old (only_if (is_name name.now && (is_number width.now && is_number depth.now)) (Fifo name.now (number_of width.now) (number_of depth.now) default_delay))) }
+    ensures kept { IfOk result (λ s. tables.new ≡ accepted tables.old s) }
+{
+    new_fifo(alloc, tables, name, width, depth, b"1")
+}
+
+/// The FIFO of this name and width, of depth 2 and delay 1.
+fn new_bare_fifo<'a>(
     alloc: Global,
     tables: &mut Tables<'a>,
     name: &'a [u8],
     width: &[u8],
 ) -> Result<Statement, LineFail>
     requires { IsOfStatements tables.old }
-    ensures given { LineGives (λ s. s) result (reading_by tables.old (only_if (is_name name.now && is_number width.now) (Fifo name.now (number_of width.now) 2))) }
+    ensures given { LineGives (λ s. s) result (reading_by tables.old (only_if (is_name name.now && is_number width.now) (Fifo name.now (number_of width.now) default_depth default_delay))) }
     ensures kept { IfOk result (λ s. tables.new ≡ accepted tables.old s) }
 {
-    new_fifo(alloc, tables, name, width, b"2")
+    new_fifo(alloc, tables, name, width, b"2", b"1")
 }
 
-/// `fifo N W` or `fifo N W DEPTH`, behind its keyword. Without a depth it is 2.
+/// `fifo N W`, `fifo N W DEPTH` or, in the version that has delays, `fifo N W DEPTH DELAY`, behind its keyword. A depth that
+/// is not written is 2, and a delay 1.
 #[tactic(auto, unfolding(flow_grammar::specs::Forms::fifo_of))]
 pub fn fifo<'a>(
     alloc: Global,
@@ -156,12 +177,18 @@ pub fn fifo<'a>(
     tokens: &[&'a [u8]],
 ) -> Result<Statement, LineFail>
     requires { IsOfStatements tables.old }
-    ensures given { LineGives (λ s. s) result (reading_by tables.old (fifo_of (map (λ t. t.now) tokens.now))) }
+    ensures given { LineGives (λ s. s) result (reading_by tables.old (fifo_of tables.old.version (map (λ t. t.now) tokens.now))) }
     ensures kept { IfOk result (λ s. tables.new ≡ accepted tables.old s) }
 {
     match tokens {
-        [name, width] => new_short_fifo(alloc, tables, *name, *width),
-        [name, width, depth] => new_fifo(alloc, tables, *name, *width, *depth),
+        [name, width] => new_bare_fifo(alloc, tables, *name, *width),
+        [name, width, depth] => new_depth_fifo(alloc, tables, *name, *width, *depth),
+        [name, width, depth, delay] => {
+            if !tables.has_delays() {
+                return Err(LineFail::Fault(Code::Syntax));
+            }
+            new_fifo(alloc, tables, *name, *width, *depth, *delay)
+        }
         _ => Err(LineFail::Fault(Code::Syntax)),
     }
 }

@@ -7,9 +7,10 @@ ghost use Rattle.flow_grammar.specs.Gives.{LineGives};
 ghost use Rattle.name_tables.specs.TablesOf.{accepted};
 ghost use Rattle.name_tables.specs.TableTests.{reading_by};
 
+use flow_design::limits::{EDITS, FIFO_DEPTH};
 use flow_design::{Name, Statement};
-use flow_grammar::{Code, LineFail, is_identifier, is_numeral, number_in};
-use name_tables::{Place, Tables};
+use flow_grammar::{Code, LineFail, NEWEST, Place, is_identifier, is_numeral, number_in};
+use name_tables::Tables;
 use std::alloc::Global;
 
 /// The first statement, with the language's version.
@@ -21,10 +22,10 @@ fn new_flow<'a>(tables: &mut Tables<'a>, version: &[u8]) -> Result<Statement, Li
     if !tables.place.takes_flow() || !is_numeral(version) {
         return Err(LineFail::Fault(Code::Syntax));
     }
-    let Some(version) = number_in(version, 1, 1) else {
+    let Some(version) = number_in(version, 1, NEWEST) else {
         return Err(LineFail::Fault(Code::BadNumber));
     };
-    tables.go_on(Place::Channels);
+    tables.add_flow(version);
     Ok(Statement::Flow(version))
 }
 
@@ -49,7 +50,7 @@ fn new_goto<'a>(alloc: Global, tables: &mut Tables<'a>, block: &[u8]) -> Result<
     if !tables.place.takes_operations() || !is_identifier(block) {
         return Err(LineFail::Fault(Code::Syntax));
     }
-    tables.go_on(Place::Bodies);
+    tables.go_on(Place::AfterBody);
     Ok(Statement::Goto(Name::new(alloc, block)?))
 }
 
@@ -89,7 +90,7 @@ fn new_branch<'a>(
     if !tables.registers.has(register) {
         return Err(LineFail::Fault(Code::UnknownName));
     }
-    tables.go_on(Place::Bodies);
+    tables.go_on(Place::AfterBody);
     let register = Name::new(alloc, register)?;
     let first = Name::new(alloc, first)?;
     Ok(Statement::Branch(register, first, Name::new(alloc, second)?))
@@ -122,7 +123,7 @@ pub fn stop<'a>(tables: &mut Tables<'a>, tokens: &[&'a [u8]]) -> Result<Statemen
             if !tables.place.takes_operations() {
                 return Err(LineFail::Fault(Code::Syntax));
             }
-            tables.go_on(Place::Bodies);
+            tables.go_on(Place::AfterBody);
             Ok(Statement::Stop)
         }
         _ => Err(LineFail::Fault(Code::Syntax)),
@@ -144,7 +145,7 @@ fn new_limits<'a>(tables: &mut Tables<'a>, cycles: &[u8], ops: &[u8]) -> Result<
     let Some(ops) = number_in(ops, 0, u64::MAX) else {
         return Err(LineFail::Fault(Code::BadNumber));
     };
-    tables.go_on(Place::Edits);
+    tables.go_on(Place::AmongEdits);
     Ok(Statement::Limits(cycles, ops))
 }
 
@@ -174,13 +175,13 @@ fn new_edit<'a>(
     if !tables.place.takes_edits() || !is_identifier(fifo) || !is_numeral(depth) {
         return Err(LineFail::Fault(Code::Syntax));
     }
-    let Some(depth) = number_in(depth, 1, 1_000_000) else {
+    let Some(depth) = number_in(depth, 1, FIFO_DEPTH) else {
         return Err(LineFail::Fault(Code::BadNumber));
     };
     if !tables.fifos.has(fifo) {
         return Err(LineFail::Fault(Code::UnknownName));
     }
-    if tables.edits >= 1000 {
+    if tables.edits >= EDITS {
         return Err(LineFail::Fault(Code::TooMany));
     }
     tables.add_edit();
@@ -213,7 +214,7 @@ pub fn end<'a>(tables: &mut Tables<'a>, tokens: &[&'a [u8]]) -> Result<Statement
             if !tables.place.takes_edits() {
                 return Err(LineFail::Fault(Code::Syntax));
             }
-            tables.go_on(Place::Over);
+            tables.go_on(Place::AtEnd);
             Ok(Statement::End)
         }
         _ => Err(LineFail::Fault(Code::Syntax)),

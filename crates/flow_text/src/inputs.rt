@@ -9,6 +9,7 @@ ghost use Rattle.flow_text.specs.Inputs.{words_within, input_reading};
 ghost use Rattle.name_tables.specs.TablesOf.{accepted};
 ghost use Rattle.name_tables.specs.TableTests.{reading_by};
 
+use flow_design::limits::INPUT_VALUES;
 use flow_design::{Name, Statement};
 use flow_grammar::{Code, LineFail, is_identifier, is_numeral, number_in};
 use flow_word::{List, OutOfMemory, Words};
@@ -66,7 +67,7 @@ fn given_input<'a>(
         return Err(LineFail::Fault(Code::UnknownName));
     }
     let count = words.len();
-    if count > 100_000 || tables.input_values > 100_000 - count {
+    if count > INPUT_VALUES || tables.input_values > INPUT_VALUES - count {
         return Err(LineFail::Fault(Code::TooMany));
     }
     tables.add_input(name, count)?;

@@ -4,7 +4,6 @@
 mod channels;
 mod ends;
 mod inputs;
-mod keyword;
 mod lines;
 mod modules;
 mod operations;
@@ -13,4 +12,4 @@ mod reading;
 mod timed;
 
 pub use flow_grammar::{Code, ReadFail, TextFault};
-pub use reading::{TEXT_LIMIT, read_session};
+pub use reading::read_session;

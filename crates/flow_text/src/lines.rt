@@ -2,9 +2,8 @@
 ghost use Rattle.std.specs.Prelude.{◌≡◌, ◌∷◌, map, IfOk, Ok};
 ghost use Rattle.std.specs.List.{list_all};
 ghost use Rattle.flow_grammar.specs.Tokens.{is_permitted};
-ghost use Rattle.flow_grammar.specs.Forms.{statement_of};
+ghost use Rattle.flow_grammar.specs.Forms.{form_of, statement_of};
 ghost use Rattle.flow_grammar.specs.Gives.{LineGives};
-ghost use Rattle.flow_text.specs.Keywords.{form_of};
 ghost use Rattle.flow_text.specs.Lines.{line_reading_by, tokens_reading_by, accepted_if};
 ghost use Rattle.name_tables.specs.TablesOf.{accepted, IsOfStatements};
 ghost use Rattle.name_tables.specs.TableTests.{reading_by};
@@ -12,11 +11,10 @@ ghost use Rattle.name_tables.specs.TableTests.{reading_by};
 use crate::channels::{fifo, sink, source};
 use crate::ends::{branch, edit, end, flow, goto, limits, stop};
 use crate::inputs::input;
-use crate::keyword::{Keyword, keyword_in};
 use crate::modules::{block, memory, module, pipelined_loop, register, temp};
 use crate::timed::at;
 use flow_design::Statement;
-use flow_grammar::{Code, LineFail, tokens_in};
+use flow_grammar::{Code, Keyword, LineFail, keyword_in, tokens_in};
 use name_tables::Tables;
 use std::alloc::Global;
 
@@ -28,7 +26,7 @@ fn form<'a>(
     tokens: &[&'a [u8]],
 ) -> Result<Statement, LineFail>
     requires { IsOfStatements tables.old }
-    ensures given { LineGives (λ s. s) result (reading_by tables.old (form_of keyword (map (λ t. t.now) tokens.now))) }
+    ensures given { LineGives (λ s. s) result (reading_by tables.old (form_of tables.old.version keyword (map (λ t. t.now) tokens.now))) }
     ensures kept { IfOk result (λ s. tables.new ≡ accepted tables.old s) }
 {
     match keyword {
@@ -54,6 +52,7 @@ fn form<'a>(
 }
 
 /// The statement that a keyword and the tokens behind it write.
+#[tactic(auto, unfolding(flow_grammar::specs::Forms::statement_of))]
 fn statement_behind<'a>(
     alloc: Global,
     tables: &mut Tables<'a>,
@@ -61,7 +60,7 @@ fn statement_behind<'a>(
     rest: &[&'a [u8]],
 ) -> Result<Statement, LineFail>
     requires { IsOfStatements tables.old }
-    ensures given { LineGives (λ s. s) result (reading_by tables.old (statement_of (keyword.now ∷ map (λ t. t.now) rest.now))) }
+    ensures given { LineGives (λ s. s) result (reading_by tables.old (statement_of tables.old.version (keyword.now ∷ map (λ t. t.now) rest.now))) }
     ensures kept { IfOk result (λ s. tables.new ≡ accepted tables.old s) }
 {
     match keyword_in(keyword) {

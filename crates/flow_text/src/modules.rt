@@ -7,6 +7,9 @@ ghost use Rattle.flow_grammar.specs.Gives.{LineGives};
 ghost use Rattle.name_tables.specs.TablesOf.{accepted};
 ghost use Rattle.name_tables.specs.TableTests.{reading_by};
 
+use flow_design::limits::{
+    BLOCK_CLOCKS, BLOCKS, MEMORIES, MEMORY_WORDS, MODULES, REGISTERS, TEMPS,
+};
 use flow_design::{Name, Statement};
 use flow_grammar::{Code, LineFail, is_identifier, is_numeral, is_word, number_in, width_of};
 use name_tables::Tables;
@@ -28,7 +31,7 @@ fn new_module<'a>(
     if tables.modules.has(name) {
         return Err(LineFail::Fault(Code::DoubleName));
     }
-    if tables.modules.len() >= 64 {
+    if !tables.modules.has_room(MODULES) {
         return Err(LineFail::Fault(Code::TooMany));
     }
     tables.add_module(name)?;
@@ -70,7 +73,7 @@ fn new_register<'a>(
     if tables.has_register_or_memory(name) {
         return Err(LineFail::Fault(Code::DoubleName));
     }
-    if tables.registers.len() >= 256 {
+    if !tables.registers.has_room(REGISTERS) {
         return Err(LineFail::Fault(Code::TooMany));
     }
     tables.add_register(name)?;
@@ -113,13 +116,13 @@ fn new_memory<'a>(
     let Some(width) = width_of(width) else {
         return Err(LineFail::Fault(Code::BadNumber));
     };
-    let Some(len) = number_in(len, 1, 4096) else {
+    let Some(len) = number_in(len, 1, MEMORY_WORDS) else {
         return Err(LineFail::Fault(Code::BadNumber));
     };
     if tables.has_register_or_memory(name) {
         return Err(LineFail::Fault(Code::DoubleName));
     }
-    if tables.memories.len() >= 16 {
+    if !tables.memories.has_room(MEMORIES) {
         return Err(LineFail::Fault(Code::TooMany));
     }
     tables.add_memory(name)?;
@@ -156,13 +159,13 @@ fn new_block<'a>(
     if !tables.place.takes_blocks() || !is_identifier(name) || !is_numeral(len) {
         return Err(LineFail::Fault(Code::Syntax));
     }
-    let Some(len) = number_in(len, 1, 1_000_000_000_000) else {
+    let Some(len) = number_in(len, 1, BLOCK_CLOCKS) else {
         return Err(LineFail::Fault(Code::BadNumber));
     };
     if tables.blocks.has(name) {
         return Err(LineFail::Fault(Code::DoubleName));
     }
-    if tables.blocks.len() >= 256 {
+    if !tables.blocks.has_room(BLOCKS) {
         return Err(LineFail::Fault(Code::TooMany));
     }
     tables.add_block(name)?;
@@ -207,10 +210,10 @@ fn new_loop<'a>(
     if !is_word(word, b"while") || !is_identifier(register) {
         return Err(LineFail::Fault(Code::Syntax));
     }
-    let Some(interval) = number_in(interval, 1, 1_000_000_000_000) else {
+    let Some(interval) = number_in(interval, 1, BLOCK_CLOCKS) else {
         return Err(LineFail::Fault(Code::BadNumber));
     };
-    let Some(len) = number_in(len, 1, 1_000_000_000_000) else {
+    let Some(len) = number_in(len, 1, BLOCK_CLOCKS) else {
         return Err(LineFail::Fault(Code::BadNumber));
     };
     if tables.blocks.has(name) {
@@ -219,7 +222,7 @@ fn new_loop<'a>(
     if !tables.registers.has(register) {
         return Err(LineFail::Fault(Code::UnknownName));
     }
-    if tables.blocks.len() >= 256 {
+    if !tables.blocks.has_room(BLOCKS) {
         return Err(LineFail::Fault(Code::TooMany));
     }
     tables.add_block(name)?;
@@ -265,7 +268,7 @@ fn new_temp<'a>(
     if tables.has_variable_or_memory(name) {
         return Err(LineFail::Fault(Code::DoubleName));
     }
-    if tables.temps.len() >= 64 {
+    if !tables.temps.has_room(TEMPS) {
         return Err(LineFail::Fault(Code::TooMany));
     }
     tables.add_temp(name)?;

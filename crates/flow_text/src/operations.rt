@@ -7,7 +7,7 @@ ghost use Rattle.flow_grammar.specs.Before.{is_among};
 ghost use Rattle.flow_grammar.specs.Trees.{trees_of};
 ghost use Rattle.flow_grammar.specs.Forms.{only_if, if_then, one_tree, two_trees, set_of, load_of, store_of, write_of, two_names, try_read_of, try_write_of};
 ghost use Rattle.flow_grammar.specs.Gives.{LineGives};
-ghost use Rattle.flow_text.specs.Operations.{tree_reading, trees_reading, op_reading, tree_kept, trees_kept, with_tree, store_op, is_variable};
+ghost use Rattle.flow_text.specs.Operations.{tree_reading, trees_reading, op_reading, tree_kept, trees_kept, with_tree, store_op, op_of_names, is_variable};
 
 use flow_design::{Expr, Name, Op};
 use flow_grammar::{Code, Known, LineFail, Operand, is_identifier, one_operand, two_operands};
@@ -129,7 +129,7 @@ fn new_set(
     }
 }
 
-/// `set R E`, behind its keyword.
+/// `set R E`, behind its verb.
 pub fn set(
     alloc: Global,
     tables: &Tables<'_>,
@@ -182,7 +182,7 @@ fn new_load(
     }
 }
 
-/// `load R M E`, behind its keyword.
+/// `load R M E`, behind its verb.
 pub fn load(
     alloc: Global,
     tables: &Tables<'_>,
@@ -228,7 +228,7 @@ fn new_store(
     }
 }
 
-/// `store M E E`, behind its keyword.
+/// `store M E E`, behind its verb.
 pub fn store(
     alloc: Global,
     tables: &Tables<'_>,
@@ -272,7 +272,7 @@ fn new_write(
     }
 }
 
-/// `write F E`, behind its keyword.
+/// `write F E`, behind its verb.
 pub fn write(
     alloc: Global,
     tables: &Tables<'_>,
@@ -329,7 +329,7 @@ fn new_try_write(
     }
 }
 
-/// `trywrite F OK E`, behind its keyword.
+/// `trywrite F OK E`, behind its verb.
 pub fn try_write(
     alloc: Global,
     tables: &Tables<'_>,
@@ -345,107 +345,57 @@ pub fn try_write(
     }
 }
 
-/// A read of this channel to this variable.
-#[tactic(auto, using(crate::proofs::OperationLaws::read_is))]
-fn new_read(
+/// An operation on a channel and a variable alone.
+#[derive(Clone, Copy, Debug, PartialEq, Eq)]
+pub enum TwoNames {
+    Read,
+    Empty,
+    Full,
+}
+
+/// The operation on this channel and this variable.
+fn op_of_names(which: TwoNames, channel: Name, register: Name) -> Op<Name>
+    ensures { result ≡ op_of_names which channel register }
+{
+    match which {
+        TwoNames::Read => Op::Read(channel, register),
+        TwoNames::Empty => Op::Empty(channel, register),
+        TwoNames::Full => Op::Full(channel, register),
+    }
+}
+
+/// A read of this channel to this variable, or a test of it.
+#[tactic(auto, using(crate::proofs::OperationLaws::two_names_is))]
+fn new_two_names(
     alloc: Global,
     tables: &Tables<'_>,
+    which: TwoNames,
     channel: &[u8],
     register: &[u8],
 ) -> Result<Result<Op<Name>, Code>, LineFail>
-    ensures { LineGives (λ o. o) result (op_reading tables.now (only_if (is_name channel.now && is_name register.now) (op.Read channel.now register.now))) }
+    ensures { LineGives (λ o. o) result (op_reading tables.now (only_if (is_name channel.now && is_name register.now) (op_of_names which channel.now register.now))) }
 {
     if !is_identifier(channel) || !is_identifier(register) {
         return Err(LineFail::Fault(Code::Syntax));
     }
-    let known = tables.channels.has(channel) && tables.is_known(register);
-    if !known {
+    if !knows_outcome(tables, channel, register) {
         return Ok(Err(Code::UnknownName));
     }
     let channel = Name::new(alloc, channel)?;
-    Ok(Ok(Op::Read(channel, Name::new(alloc, register)?)))
+    Ok(Ok(op_of_names(which, channel, Name::new(alloc, register)?)))
 }
 
-/// `read F R`, behind its keyword.
-pub fn read(
+/// `read F R`, `empty F R` or `full F R`, behind its verb.
+pub fn two_names(
     alloc: Global,
     tables: &Tables<'_>,
+    which: TwoNames,
     tokens: &[&[u8]],
 ) -> Result<Result<Op<Name>, Code>, LineFail>
-    ensures { LineGives (λ o. o) result (op_reading tables.now (two_names op.Read (map (λ t. t.now) tokens.now))) }
+    ensures { LineGives (λ o. o) result (op_reading tables.now (two_names (op_of_names which) (map (λ t. t.now) tokens.now))) }
 {
     match tokens {
-        [channel, register] => new_read(alloc, tables, *channel, *register),
-        _ => Err(LineFail::Fault(Code::Syntax)),
-    }
-}
-
-/// The test whether this channel is empty, to this variable.
-#[tactic(auto, using(crate::proofs::OperationLaws::empty_is))]
-fn new_empty(
-    alloc: Global,
-    tables: &Tables<'_>,
-    channel: &[u8],
-    register: &[u8],
-) -> Result<Result<Op<Name>, Code>, LineFail>
-    ensures { LineGives (λ o. o) result (op_reading tables.now (only_if (is_name channel.now && is_name register.now) (op.Empty channel.now register.now))) }
-{
-    if !is_identifier(channel) || !is_identifier(register) {
-        return Err(LineFail::Fault(Code::Syntax));
-    }
-    let known = tables.channels.has(channel) && tables.is_known(register);
-    if !known {
-        return Ok(Err(Code::UnknownName));
-    }
-    let channel = Name::new(alloc, channel)?;
-    Ok(Ok(Op::Empty(channel, Name::new(alloc, register)?)))
-}
-
-/// `empty F R`, behind its keyword.
-pub fn empty(
-    alloc: Global,
-    tables: &Tables<'_>,
-    tokens: &[&[u8]],
-) -> Result<Result<Op<Name>, Code>, LineFail>
-    ensures { LineGives (λ o. o) result (op_reading tables.now (two_names op.Empty (map (λ t. t.now) tokens.now))) }
-{
-    match tokens {
-        [channel, register] => new_empty(alloc, tables, *channel, *register),
-        _ => Err(LineFail::Fault(Code::Syntax)),
-    }
-}
-
-/// The test whether this channel is full, to this variable.
-#[tactic(auto, using(crate::proofs::OperationLaws::full_is))]
-fn new_full(
-    alloc: Global,
-    tables: &Tables<'_>,
-    channel: &[u8],
-    register: &[u8],
-) -> Result<Result<Op<Name>, Code>, LineFail>
-    ensures { LineGives (λ o. o) result (op_reading tables.now (only_if (is_name channel.now && is_name register.now) (op.Full channel.now register.now))) }
-{
-    if !is_identifier(channel) || !is_identifier(register) {
-        return Err(LineFail::Fault(Code::Syntax));
-    }
-    let known = tables.channels.has(channel) && tables.is_known(register);
-    if !known {
-        return Ok(Err(Code::UnknownName));
-    }
-    let channel = Name::new(alloc, channel)?;
-    Ok(Ok(Op::Full(channel, Name::new(alloc, register)?)))
-}
-
-/// `full F R`, behind its keyword.
-pub fn full(
-    alloc: Global,
-    tables: &Tables<'_>,
-    tokens: &[&[u8]],
-) -> Result<Result<Op<Name>, Code>, LineFail>
-    ensures { LineGives (λ o. o) result (op_reading tables.now (two_names op.Full (map (λ t. t.now) tokens.now))) }
-{
-    match tokens {
-        [channel, register] => new_full(alloc, tables, *channel, *register),
+        [channel, register] => new_two_names(alloc, tables, which, *channel, *register),
         _ => Err(LineFail::Fault(Code::Syntax)),
     }
 }
@@ -475,7 +425,7 @@ fn new_try_read(
     Ok(Ok(Op::TryRead(channel, register, Name::new(alloc, outcome)?)))
 }
 
-/// `tryread F R OK`, behind its keyword.
+/// `tryread F R OK`, behind its verb.
 pub fn try_read(
     alloc: Global,
     tables: &Tables<'_>,

@@ -11,14 +11,11 @@ ghost use Rattle.flow_text.specs.Progress.{IsKept, IsOpening, IsThrough, with_fr
 ghost use Rattle.name_tables.specs.TablesOf.{tables_of};
 
 use crate::progress::{Progress, read_line};
+use flow_design::limits::TEXT_BYTES;
 use flow_design::{Session, Statement};
-use flow_grammar::{Code, ReadFail, TextFault};
+use flow_grammar::{Code, Place, ReadFail, TextFault};
 use flow_word::{List, Words};
-use name_tables::Place;
 use std::alloc::Global;
-
-/// The longest text that is read, in bytes.
-pub const TEXT_LIMIT: usize = 4_194_304;
 
 fn line_feed_at(text: &[u8]) -> Option<usize>
     ensures { result ≡ position is_line_feed text.now }
@@ -71,7 +68,7 @@ fn closed(
     requires { place ≡ (tables_of (reverse statements)).place }
     ensures { TextGives (λ read. (read.0.statements, read.1)) result (with_front statements numbers (reading statements lines [])) }
 {
-    if !place.is_over() {
+    if !place.is_end() {
         return Err(ReadFail::Text(TextFault {
             line: lines,
             code: Code::Truncated,
@@ -116,7 +113,7 @@ fn read_lines(alloc: Global, text: &[u8]) -> Result<(Session, Words), ReadFail>
 fn answer(alloc: Global, text: &[u8]) -> Result<(Session, Words), ReadFail>
     ensures { IsAnswer text.now (session_of result) }
 {
-    if text.len() > TEXT_LIMIT {
+    if text.len() as u64 > TEXT_BYTES {
         return Err(ReadFail::Text(TextFault {
             line: 0,
             code: Code::TooLong,

@@ -2,46 +2,49 @@
 ghost use Rattle.std.specs.Prelude.{◌≡◌, ◌<◌, ◌∷◌, true, nat_lt, map, option_map, IfOk, Option, Some, None, Ok, Err};
 ghost use Rattle.flow_design.specs.declared.session.Statement.TheVariants.{At};
 ghost use Rattle.flow_grammar.specs.Tokens.{is_number, is_name, number_of};
-ghost use Rattle.flow_grammar.specs.Forms.{op_of, if_then, guarded_of, at_of};
+ghost use Rattle.flow_grammar.specs.Forms.{op_form_of, op_of, if_then, guarded_of, at_of};
 ghost use Rattle.flow_grammar.specs.Gives.{LineGives};
 ghost use Rattle.flow_grammar.specs.Parts.{Name as NameValue};
-ghost use Rattle.flow_text.specs.Keywords.{op_form_of};
 ghost use Rattle.flow_text.specs.Operations as operations;
 ghost use Rattle.flow_text.specs.Operations.{op_reading, timed_reading};
 ghost use Rattle.name_tables.specs.TablesOf.{accepted};
-ghost use Rattle.name_tables.specs.TableTests.{reading_by, takes_operations};
+ghost use Rattle.flow_grammar.specs.Places.{takes_operations};
+ghost use Rattle.flow_design.specs.declared.limits.TheConstants.{OPERATIONS};
+ghost use Rattle.name_tables.specs.TableTests.{reading_by};
 
-use crate::keyword::{OpWord, op_word_in};
-use crate::operations::{empty, full, load, read, set, store, try_read, try_write, write};
+use crate::operations::{TwoNames, load, set, store, try_read, try_write, two_names, write};
+use flow_design::limits::OPERATIONS;
 use flow_design::{Name, Op, Statement};
-use flow_grammar::{Code, Known, LineFail, is_identifier, is_numeral, is_word, number_in};
+use flow_grammar::{
+    Code, Known, LineFail, Verb, is_identifier, is_numeral, is_word, number_in, verb_in,
+};
 use name_tables::Tables;
 use std::alloc::Global;
 
-/// The operation of a word, behind that word.
-fn worded(
+/// The operation of a verb, behind that verb.
+fn form(
     alloc: Global,
     tables: &Tables<'_>,
-    word: OpWord,
+    verb: Verb,
     tokens: &[&[u8]],
 ) -> Result<Result<Op<Name>, Code>, LineFail>
-    ensures { LineGives (λ o. o) result (op_reading tables.now (op_form_of word (map (λ t. t.now) tokens.now))) }
+    ensures { LineGives (λ o. o) result (op_reading tables.now (op_form_of verb (map (λ t. t.now) tokens.now))) }
 {
-    match word {
-        OpWord::Set => set(alloc, tables, tokens),
-        OpWord::Load => load(alloc, tables, tokens),
-        OpWord::Store => store(alloc, tables, tokens),
-        OpWord::Read => read(alloc, tables, tokens),
-        OpWord::Write => write(alloc, tables, tokens),
-        OpWord::TryRead => try_read(alloc, tables, tokens),
-        OpWord::TryWrite => try_write(alloc, tables, tokens),
-        OpWord::Empty => empty(alloc, tables, tokens),
-        OpWord::Full => full(alloc, tables, tokens),
+    match verb {
+        Verb::Set => set(alloc, tables, tokens),
+        Verb::Load => load(alloc, tables, tokens),
+        Verb::Store => store(alloc, tables, tokens),
+        Verb::Read => two_names(alloc, tables, TwoNames::Read, tokens),
+        Verb::Write => write(alloc, tables, tokens),
+        Verb::TryRead => try_read(alloc, tables, tokens),
+        Verb::TryWrite => try_write(alloc, tables, tokens),
+        Verb::Empty => two_names(alloc, tables, TwoNames::Empty, tokens),
+        Verb::Full => two_names(alloc, tables, TwoNames::Full, tokens),
     }
 }
 
 /// An operation, or the first test that it fails.
-#[tactic(auto, unfolding(flow_grammar::specs::Forms::op_of), using(crate::proofs::KeywordLaws::op_by_word))]
+#[tactic(auto, unfolding(flow_grammar::specs::Forms::op_of))]
 fn operation(
     alloc: Global,
     tables: &Tables<'_>,
@@ -50,22 +53,23 @@ fn operation(
     ensures { LineGives (λ o. o) result (op_reading tables.now (op_of (map (λ t. t.now) tokens.now))) }
 {
     match tokens {
-        [word, rest @ ..] => operation_of(alloc, tables, *word, rest),
+        [verb, rest @ ..] => operation_behind(alloc, tables, *verb, rest),
         _ => Err(LineFail::Fault(Code::Syntax)),
     }
 }
 
-/// The operation that a word and the tokens behind it write, or the first test that it fails.
-fn operation_of(
+/// The operation that a verb and the tokens behind it write, or the first test that it fails.
+#[tactic(auto, unfolding(flow_grammar::specs::Forms::op_of))]
+fn operation_behind(
     alloc: Global,
     tables: &Tables<'_>,
-    word: &[u8],
+    verb: &[u8],
     rest: &[&[u8]],
 ) -> Result<Result<Op<Name>, Code>, LineFail>
-    ensures { LineGives (λ o. o) result (op_reading tables.now (op_of (word.now ∷ map (λ t. t.now) rest.now))) }
+    ensures { LineGives (λ o. o) result (op_reading tables.now (op_of (verb.now ∷ map (λ t. t.now) rest.now))) }
 {
-    match op_word_in(word) {
-        Some(word) => worded(alloc, tables, word, rest),
+    match verb_in(verb) {
+        Some(verb) => form(alloc, tables, verb, rest),
         None => Err(LineFail::Fault(Code::Syntax)),
     }
 }
@@ -105,14 +109,14 @@ fn refused(
     if offset.is_none() {
         return Err(LineFail::Fault(Code::BadNumber));
     }
-    let code = first_code(known, tables.operations < 1024, code);
+    let code = first_code(known, tables.operations < OPERATIONS, code);
     Err(LineFail::Fault(code))
 }
 
 /// The offset, where what stands beside a whole operation passes its tests.
 fn tested_offset(tables: &Tables<'_>, offset: Option<u64>, known: bool) -> Result<u64, Code>
-    ensures value { result ≡ operations.offset_there (takes_operations tables.now.place) (nat_lt tables.now.operations 1024) offset known }
-    ensures room { IfOk result (λ _. tables.now.operations < 1024) }
+    ensures value { result ≡ operations.offset_there (takes_operations tables.now.place) (nat_lt tables.now.operations OPERATIONS) offset known }
+    ensures room { IfOk result (λ _. tables.now.operations < OPERATIONS) }
 {
     if !tables.place.takes_operations() {
         return Err(Code::Syntax);
@@ -123,7 +127,7 @@ fn tested_offset(tables: &Tables<'_>, offset: Option<u64>, known: bool) -> Resul
     if !known {
         return Err(Code::UnknownName);
     }
-    if tables.operations >= 1024 {
+    if tables.operations >= OPERATIONS {
         return Err(Code::TooMany);
     }
     Ok(offset)

@@ -20,7 +20,7 @@ sources_are : IsPart source_name
 sources_are (Source m w) n e = e
 sources_are (Flow v) n e = absurd cc
 sources_are (Sink m w) n e = absurd cc
-sources_are (Fifo m w d) n e = absurd cc
+sources_are (Fifo m w depth delay) n e = absurd cc
 sources_are (Module m) n e = absurd cc
 sources_are (Reg m w) n e = absurd cc
 sources_are (Mem m w l) n e = absurd cc
@@ -37,7 +37,7 @@ sources_are (Depth m d) n e = absurd cc
 sources_are End n e = absurd cc
 
 fifos_are : IsPart fifo_name
-fifos_are (Fifo m w d) n e = e
+fifos_are (Fifo m w depth delay) n e = e
 fifos_are (Flow v) n e = absurd cc
 fifos_are (Sink m w) n e = absurd cc
 fifos_are (Source m w) n e = absurd cc

@@ -1,96 +1,20 @@
 -- The tests of a statement, by the tables of the statements before it.
 use Rattle.std.specs.Prelude.{◌≡◌, ℕ, ◌+◌, Bool, true, false, List, [], ◌∷◌, ◌++◌, ◌&&◌, ◌||◌, not, nat_le, nat_lt, length, if◌then◌else◌, Option, None, Some, Result, Ok, Err}
 use Rattle.std.specs.List.{list_all}
+use Rattle.flow_design.specs.declared.limits.TheConstants.{MODULES, CHANNELS, REGISTERS, TEMPS, MEMORIES, BLOCKS, OPERATIONS, INPUT_VALUES, EDITS}
 use Rattle.flow_design.specs.declared.session.Statement.{Statement}
 use Rattle.flow_design.specs.declared.session.Statement.TheVariants.{Flow, Source, Sink, Fifo, Module, Reg, Mem, Block, Loop, Temp, At, Goto, Branch, Stop, Input, Limits, Depth, End}
 use Rattle.flow_grammar.specs.declared.fault.Code.{Code}
 use Rattle.flow_grammar.specs.declared.fault.Code.TheVariants.{Syntax, BadNumber, DoubleName, UnknownName, TooMany}
+use Rattle.flow_grammar.specs.Places.{may_stand}
 use Rattle.flow_grammar.specs.Before.{is_among}
 use Rattle.flow_grammar.specs.Rules.{is_in_range, has_small_trees}
 use Rattle.flow_grammar.specs.Parts.{Part, Word, New, Use, Label, Num, Space, ChannelName, ModuleName, RegisterName, MemoryName, TempName, BlockName, Sort, AnyChannel, ASource, AFifo, ARegister, AMemory, AVariable, parts}
 use Rattle.flow_grammar.specs.Gives.{judged}
-use Rattle.name_tables.specs.declared.place.Place.{Place}
-use Rattle.name_tables.specs.declared.place.Place.TheVariants.{Start, Channels, Registers, Temps, Operations, Bodies, Inputs, Edits, Over}
 use Rattle.name_tables.specs.declared.tables.Tables.{Tables}
 
 abbrev Name : Type 0
 Name = List ℕ
-
--- where `flow` may stand
-abbrev pub takes_flow : Place → Bool
-takes_flow Start = true
-takes_flow p = false
-
--- where a source, a sink or a FIFO may stand
-abbrev pub takes_channels : Place → Bool
-takes_channels Channels = true
-takes_channels p = false
-
-abbrev pub takes_modules : Place → Bool
-takes_modules Channels = true
-takes_modules Bodies = true
-takes_modules p = false
-
--- where a register or a memory may stand
-abbrev pub takes_registers : Place → Bool
-takes_registers Registers = true
-takes_registers p = false
-
--- where a block or a loop may stand
-abbrev pub takes_blocks : Place → Bool
-takes_blocks Registers = true
-takes_blocks Bodies = true
-takes_blocks p = false
-
-abbrev pub takes_temps : Place → Bool
-takes_temps Temps = true
-takes_temps p = false
-
--- where an operation or a terminator may stand
-abbrev pub takes_operations : Place → Bool
-takes_operations Temps = true
-takes_operations Operations = true
-takes_operations p = false
-
--- where `input` and `limits` may stand
-abbrev pub takes_inputs : Place → Bool
-takes_inputs Channels = true
-takes_inputs Bodies = true
-takes_inputs Inputs = true
-takes_inputs p = false
-
--- where `depth` and `end` may stand
-abbrev pub takes_edits : Place → Bool
-takes_edits Channels = true
-takes_edits Bodies = true
-takes_edits Inputs = true
-takes_edits Edits = true
-takes_edits p = false
-
-abbrev pub is_over : Place → Bool
-is_over Over = true
-is_over p = false
-
--- whether a statement may stand at a place
-abbrev pub stands : Place → Statement → Bool
-stands p (Flow n) = takes_flow p
-stands p (Source n w) = takes_channels p
-stands p (Sink n w) = takes_channels p
-stands p (Fifo n w d) = takes_channels p
-stands p (Module n) = takes_modules p
-stands p (Reg n w) = takes_registers p
-stands p (Mem n w l) = takes_registers p
-stands p (Block n l) = takes_blocks p
-stands p (Loop n ii l r) = takes_blocks p
-stands p (Temp n w) = takes_temps p
-stands p (At off guard o) = takes_operations p
-stands p (Goto b) = takes_operations p
-stands p (Branch r b c) = takes_operations p
-stands p Stop = takes_operations p
-stands p (Input n values) = takes_inputs p
-stands p (Limits c o) = takes_inputs p
-stands p (Depth n d) = takes_edits p
-stands p End = takes_edits p
 
 -- the names of a space that stand already
 abbrev pub taken : Tables → Space → List Name
@@ -124,18 +48,18 @@ is_known t part = true
 
 -- one more of these is not too many
 abbrev pub has_room : Tables → Statement → Bool
-has_room t (Source n w) = nat_lt (length t.channels) 256
-has_room t (Sink n w) = nat_lt (length t.channels) 256
-has_room t (Fifo n w d) = nat_lt (length t.channels) 256
-has_room t (Module n) = nat_lt (length t.modules) 64
-has_room t (Reg n w) = nat_lt (length t.registers) 256
-has_room t (Mem n w l) = nat_lt (length t.memories) 16
-has_room t (Block n l) = nat_lt (length t.blocks) 256
-has_room t (Loop n ii l r) = nat_lt (length t.blocks) 256
-has_room t (Temp n w) = nat_lt (length t.temps) 64
-has_room t (At off guard o) = nat_lt t.operations 1024 && has_small_trees o
-has_room t (Input n values) = nat_le (t.input_values + length values) 100000
-has_room t (Depth n d) = nat_lt t.edits 1000
+has_room t (Source n w) = nat_lt (length t.channels) CHANNELS
+has_room t (Sink n w) = nat_lt (length t.channels) CHANNELS
+has_room t (Fifo n w depth delay) = nat_lt (length t.channels) CHANNELS
+has_room t (Module n) = nat_lt (length t.modules) MODULES
+has_room t (Reg n w) = nat_lt (length t.registers) REGISTERS
+has_room t (Mem n w l) = nat_lt (length t.memories) MEMORIES
+has_room t (Block n l) = nat_lt (length t.blocks) BLOCKS
+has_room t (Loop n ii l r) = nat_lt (length t.blocks) BLOCKS
+has_room t (Temp n w) = nat_lt (length t.temps) TEMPS
+has_room t (At off guard o) = nat_lt t.operations OPERATIONS && has_small_trees o
+has_room t (Input n values) = nat_le (t.input_values + length values) INPUT_VALUES
+has_room t (Depth n d) = nat_lt t.edits EDITS
 has_room t s = true
 
 -- the first rule that a statement breaks
@@ -150,7 +74,7 @@ fault_by t s =
 -- the first test that tokens fail that write this statement, or none
 abbrev pub form_fault_by : Tables → Option Statement → Option Code
 form_fault_by t None = Some Syntax
-form_fault_by t (Some s) = if stands t.place s then fault_by t s else Some Syntax
+form_fault_by t (Some s) = if may_stand s t.place then fault_by t s else Some Syntax
 
 -- what such tokens give: that fault, or the statement
 abbrev pub reading_by : Tables → Option Statement → Result Statement Code

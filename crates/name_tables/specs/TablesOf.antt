@@ -3,30 +3,19 @@ use Rattle.std.specs.Prelude.{◌≡◌, ℕ, ◌+◌, List, [], ◌∷◌, leng
 use Rattle.flow_design.specs.declared.session.Statement.{Statement}
 use Rattle.flow_design.specs.declared.session.Statement.TheVariants.{Flow, Source, Sink, Fifo, Module, Reg, Mem, Block, Loop, Temp, At, Goto, Branch, Stop, Input, Limits, Depth, End}
 use Rattle.flow_grammar.specs.Before as before
-use Rattle.flow_grammar.specs.Rules as rules
-use Rattle.name_tables.specs.declared.place.Place.{Place}
-use Rattle.name_tables.specs.declared.place.Place.TheVariants.{Start, Channels, Registers, Temps, Operations, Bodies, Inputs, Edits, Over}
+use Rattle.flow_grammar.specs.declared.place.Place.{Place}
+use Rattle.flow_grammar.specs.declared.place.Place.TheVariants.{AmongChannels, AmongRegisters, AmongTemps, AmongOperations, AfterBody, AmongInputs, AmongEdits, AtEnd}
+use Rattle.flow_grammar.specs.Places.{place}
 use Rattle.name_tables.specs.declared.tables.Tables.{Tables}
 
 abbrev Name : Type 0
 Name = List ℕ
 
--- a place as the tables keep it
-abbrev pub place_kept : rules.Place → Place
-place_kept rules.AtStart = Start
-place_kept rules.AmongChannels = Channels
-place_kept rules.AmongRegisters = Registers
-place_kept rules.AmongTemps = Temps
-place_kept rules.AmongOperations = Operations
-place_kept rules.AfterBody = Bodies
-place_kept rules.AmongInputs = Inputs
-place_kept rules.AmongEdits = Edits
-place_kept rules.AtEnd = Over
-
 -- the tables of some statements, the latest first
 unfoldable pub tables_of : List Statement → Tables
 tables_of earlier = record {
-  place = place_kept (rules.place earlier);
+  place = place earlier;
+  version = before.version earlier;
   channels = before.channels earlier;
   sources = before.sources earlier;
   fifos = before.fifos earlier;
@@ -41,50 +30,56 @@ tables_of earlier = record {
   edits = before.edits earlier;
 }
 
+abbrev pub with_flow : Tables → ℕ → Tables
+with_flow t v = record t { place = AmongChannels; version = v }
+
+abbrev pub with_channel : Tables → Name → Tables
+with_channel t n = record t { channels = n ∷ t.channels }
+
 abbrev pub with_source : Tables → Name → Tables
-with_source t n = record t { place = Channels; channels = n ∷ t.channels; sources = n ∷ t.sources }
+with_source t n = record t { place = AmongChannels; channels = n ∷ t.channels; sources = n ∷ t.sources }
 
 abbrev pub with_sink : Tables → Name → Tables
-with_sink t n = record t { place = Channels; channels = n ∷ t.channels }
+with_sink t n = record t { place = AmongChannels; channels = n ∷ t.channels }
 
 abbrev pub with_fifo : Tables → Name → Tables
-with_fifo t n = record t { place = Channels; channels = n ∷ t.channels; fifos = n ∷ t.fifos }
+with_fifo t n = record t { place = AmongChannels; channels = n ∷ t.channels; fifos = n ∷ t.fifos }
 
 -- a module begins with no register, memory and block
 abbrev pub with_module : Tables → Name → Tables
-with_module t n = record t { place = Registers; modules = n ∷ t.modules; registers = []; memories = []; blocks = [] }
+with_module t n = record t { place = AmongRegisters; modules = n ∷ t.modules; registers = []; memories = []; blocks = [] }
 
 abbrev pub with_register : Tables → Name → Tables
-with_register t n = record t { place = Registers; registers = n ∷ t.registers }
+with_register t n = record t { place = AmongRegisters; registers = n ∷ t.registers }
 
 abbrev pub with_memory : Tables → Name → Tables
-with_memory t n = record t { place = Registers; memories = n ∷ t.memories }
+with_memory t n = record t { place = AmongRegisters; memories = n ∷ t.memories }
 
 -- a body begins with no temp and no operation
 abbrev pub with_block : Tables → Name → Tables
-with_block t n = record t { place = Temps; blocks = n ∷ t.blocks; temps = []; operations = 0 }
+with_block t n = record t { place = AmongTemps; blocks = n ∷ t.blocks; temps = []; operations = 0 }
 
 abbrev pub with_temp : Tables → Name → Tables
-with_temp t n = record t { place = Temps; temps = n ∷ t.temps }
+with_temp t n = record t { place = AmongTemps; temps = n ∷ t.temps }
 
 abbrev pub with_operation : Tables → Tables
-with_operation t = record t { place = Operations; operations = t.operations + 1 }
+with_operation t = record t { place = AmongOperations; operations = t.operations + 1 }
 
 abbrev pub with_input : Tables → Name → ℕ → Tables
-with_input t n count = record t { place = Inputs; inputs = n ∷ t.inputs; input_values = t.input_values + count }
+with_input t n count = record t { place = AmongInputs; inputs = n ∷ t.inputs; input_values = t.input_values + count }
 
 abbrev pub with_edit : Tables → Tables
-with_edit t = record t { place = Edits; edits = t.edits + 1 }
+with_edit t = record t { place = AmongEdits; edits = t.edits + 1 }
 
 abbrev pub at_place : Tables → Place → Tables
 at_place t p = record t { place = p }
 
 -- the tables after one statement more
 abbrev pub accepted : Tables → Statement → Tables
-accepted t (Flow n) = at_place t Channels
+accepted t (Flow v) = with_flow t v
 accepted t (Source n w) = with_source t n
 accepted t (Sink n w) = with_sink t n
-accepted t (Fifo n w d) = with_fifo t n
+accepted t (Fifo n w depth delay) = with_fifo t n
 accepted t (Module n) = with_module t n
 accepted t (Reg n w) = with_register t n
 accepted t (Mem n w l) = with_memory t n
@@ -92,13 +87,13 @@ accepted t (Block n l) = with_block t n
 accepted t (Loop n ii l r) = with_block t n
 accepted t (Temp n w) = with_temp t n
 accepted t (At off guard o) = with_operation t
-accepted t (Goto b) = at_place t Bodies
-accepted t (Branch r b c) = at_place t Bodies
-accepted t Stop = at_place t Bodies
+accepted t (Goto b) = at_place t AfterBody
+accepted t (Branch r b c) = at_place t AfterBody
+accepted t Stop = at_place t AfterBody
 accepted t (Input n values) = with_input t n (length values)
-accepted t (Limits c o) = at_place t Edits
+accepted t (Limits c o) = at_place t AmongEdits
 accepted t (Depth n d) = with_edit t
-accepted t End = at_place t Over
+accepted t End = at_place t AtEnd
 
 -- they are the tables of some statements
 abbrev pub IsOfStatements : Tables → Type 0

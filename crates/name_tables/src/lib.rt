@@ -2,9 +2,7 @@
 #![tactic(auto)]
 
 mod names;
-mod place;
 mod tables;
 
 pub use names::Names;
-pub use place::Place;
 pub use tables::Tables;

@@ -1,5 +1,5 @@
 //! Names that stand already.
-ghost use Rattle.std.specs.Prelude.{◌≡◌, false, [], ◌∷◌, length, OnOk};
+ghost use Rattle.std.specs.Prelude.{◌≡◌, false, [], ◌∷◌, nat_lt, length, OnOk, OnErr};
 ghost use Rattle.flow_grammar.specs.Before.{is_among};
 
 use flow_word::OutOfMemory;
@@ -32,11 +32,11 @@ impl<'a> Names<'a> {
         }
     }
 
-    /// How many names there are.
-    pub fn len(&self) -> usize
-        ensures { result ≡ length self.now }
+    /// Whether there are less than so many names.
+    pub fn has_room(&self, most: u64) -> bool
+        ensures { result ≡ nat_lt (length self.now) most }
     {
-        self.names.len()
+        (self.names.len() as u64) < most
     }
 
     /// Whether a name is among them.
@@ -46,10 +46,11 @@ impl<'a> Names<'a> {
         self.names.contains(name)
     }
 
-    /// Adds a name that is not among them.
+    /// Adds a name that is not among them. After want of memory the names are as they were.
     pub fn add(&mut self, name: &'a [u8]) -> Result<(), OutOfMemory>
         requires { is_among self.old name.now ≡ false }
-        ensures { OnOk result (self.new ≡ name.now ∷ self.old) }
+        ensures ok { OnOk result (self.new ≡ name.now ∷ self.old) }
+        ensures err { OnErr result (self.new ≡ self.old) }
     {
         self.names.insert(name)?;
         Ok(())

@@ -1,14 +1,14 @@
 //! The tables of what is declared before a line.
-ghost use Rattle.std.specs.Prelude.{◌≡◌, ◌+◌, ◌<◌, ◌≤◌, ◌^◌, [], false, length, OnOk};
+ghost use Rattle.std.specs.Prelude.{◌≡◌, ◌+◌, ◌<◌, ◌≤◌, ◌^◌, [], false, length, OnOk, OnErr, ◌⊎◌};
+ghost use Rattle.flow_design.specs.declared.limits.TheConstants.{OPERATIONS, INPUT_VALUES, EDITS};
+ghost use Rattle.flow_grammar.specs.Before as before;
 ghost use Rattle.flow_grammar.specs.Before.{is_among};
 ghost use Rattle.flow_grammar.specs.Parts.{RegisterName, TempName, AVariable};
-ghost use Rattle.name_tables.specs.declared.place.Place.TheVariants as after;
 ghost use Rattle.name_tables.specs.TableTests as tests;
 ghost use Rattle.name_tables.specs.TablesOf as given;
 
 use crate::names::Names;
-use crate::place::Place;
-use flow_grammar::Known;
+use flow_grammar::{Known, Place, has_delays};
 use flow_word::OutOfMemory;
 use std::alloc::Global;
 
@@ -17,6 +17,8 @@ use std::alloc::Global;
 pub struct Tables<'a> {
     /// The sort of the statement before.
     pub place: Place,
+    /// The version of the language that is declared.
+    pub version: u64,
     pub channels: Names<'a>,
     /// The channels that are sources.
     pub sources: Names<'a>,
@@ -57,7 +59,8 @@ impl<'a> Tables<'a> {
         ensures { result ≡ given.tables_of [] }
     {
         Tables {
-            place: Place::Start,
+            place: Place::AtStart,
+            version: 1,
             channels: Names::new(alloc),
             sources: Names::new(alloc),
             fifos: Names::new(alloc),
@@ -96,127 +99,151 @@ impl<'a> Tables<'a> {
         self.place = place;
     }
 
-    /// Adds a source.
+    /// Whether the FIFOs of the declared version have delays.
+    pub fn has_delays(&self) -> bool
+        ensures { result ≡ before.has_delays self.now.version }
+    {
+        has_delays(self.version)
+    }
+
+    /// Declares the version of the language.
+    pub fn add_flow(&mut self, version: u64)
+        ensures { self.new ≡ given.with_flow self.old version }
+    {
+        self.version = version;
+        self.place = Place::AmongChannels;
+    }
+
+    /// Adds a source. After want of memory the tables are as they were, or have the channel alone.
     #[tactic(auto, using(crate::proofs::ChannelLemmas::new_source))]
     pub fn add_source(&mut self, name: &'a [u8]) -> Result<(), OutOfMemory>
         requires tables { given.IsOfStatements self.old }
         requires new { is_among self.old.channels name.now ≡ false }
-        ensures { OnOk result (self.new ≡ given.with_source self.old name.now) }
+        ensures ok { OnOk result (self.new ≡ given.with_source self.old name.now) }
+        ensures err { OnErr result ((self.new ≡ self.old) ⊎ (self.new ≡ given.with_channel self.old name.now)) }
     {
         self.channels.add(name)?;
         self.sources.add(name)?;
-        self.place = Place::Channels;
+        self.place = Place::AmongChannels;
         Ok(())
     }
 
-    /// Adds a sink.
+    /// Adds a sink. After want of memory the tables are as they were.
     pub fn add_sink(&mut self, name: &'a [u8]) -> Result<(), OutOfMemory>
         requires { is_among self.old.channels name.now ≡ false }
-        ensures { OnOk result (self.new ≡ given.with_sink self.old name.now) }
+        ensures ok { OnOk result (self.new ≡ given.with_sink self.old name.now) }
+        ensures err { OnErr result (self.new ≡ self.old) }
     {
         self.channels.add(name)?;
-        self.place = Place::Channels;
+        self.place = Place::AmongChannels;
         Ok(())
     }
 
-    /// Adds a FIFO.
+    /// Adds a FIFO. After want of memory the tables are as they were, or have the channel alone.
     #[tactic(auto, using(crate::proofs::ChannelLemmas::new_fifo))]
     pub fn add_fifo(&mut self, name: &'a [u8]) -> Result<(), OutOfMemory>
         requires tables { given.IsOfStatements self.old }
         requires new { is_among self.old.channels name.now ≡ false }
-        ensures { OnOk result (self.new ≡ given.with_fifo self.old name.now) }
+        ensures ok { OnOk result (self.new ≡ given.with_fifo self.old name.now) }
+        ensures err { OnErr result ((self.new ≡ self.old) ⊎ (self.new ≡ given.with_channel self.old name.now)) }
     {
         self.channels.add(name)?;
         self.fifos.add(name)?;
-        self.place = Place::Channels;
+        self.place = Place::AmongChannels;
         Ok(())
     }
 
-    /// Begins a module.
+    /// Begins a module. After want of memory the tables are as they were.
     pub fn add_module(&mut self, name: &'a [u8]) -> Result<(), OutOfMemory>
         requires { is_among self.old.modules name.now ≡ false }
-        ensures { OnOk result (self.new ≡ given.with_module self.old name.now) }
+        ensures ok { OnOk result (self.new ≡ given.with_module self.old name.now) }
+        ensures err { OnErr result (self.new ≡ self.old) }
     {
         self.modules.add(name)?;
         self.registers.clear();
         self.memories.clear();
         self.blocks.clear();
-        self.place = Place::Registers;
+        self.place = Place::AmongRegisters;
         Ok(())
     }
 
-    /// Adds a register.
+    /// Adds a register. After want of memory the tables are as they were.
     #[tactic(auto, using(crate::proofs::NameLemmas::absent_append))]
     pub fn add_register(&mut self, name: &'a [u8]) -> Result<(), OutOfMemory>
         requires { is_among (tests.taken self.old RegisterName) name.now ≡ false }
-        ensures { OnOk result (self.new ≡ given.with_register self.old name.now) }
+        ensures ok { OnOk result (self.new ≡ given.with_register self.old name.now) }
+        ensures err { OnErr result (self.new ≡ self.old) }
     {
         self.registers.add(name)?;
-        self.place = Place::Registers;
+        self.place = Place::AmongRegisters;
         Ok(())
     }
 
-    /// Adds a memory.
+    /// Adds a memory. After want of memory the tables are as they were.
     #[tactic(auto, using(crate::proofs::NameLemmas::absent_append))]
     pub fn add_memory(&mut self, name: &'a [u8]) -> Result<(), OutOfMemory>
         requires { is_among (tests.taken self.old RegisterName) name.now ≡ false }
-        ensures { OnOk result (self.new ≡ given.with_memory self.old name.now) }
+        ensures ok { OnOk result (self.new ≡ given.with_memory self.old name.now) }
+        ensures err { OnErr result (self.new ≡ self.old) }
     {
         self.memories.add(name)?;
-        self.place = Place::Registers;
+        self.place = Place::AmongRegisters;
         Ok(())
     }
 
-    /// Begins the body of a block or a loop.
+    /// Begins the body of a block or a loop. After want of memory the tables are as they were.
     pub fn add_block(&mut self, name: &'a [u8]) -> Result<(), OutOfMemory>
         requires { is_among self.old.blocks name.now ≡ false }
-        ensures { OnOk result (self.new ≡ given.with_block self.old name.now) }
+        ensures ok { OnOk result (self.new ≡ given.with_block self.old name.now) }
+        ensures err { OnErr result (self.new ≡ self.old) }
     {
         self.blocks.add(name)?;
         self.temps.clear();
         self.operations = 0;
-        self.place = Place::Temps;
+        self.place = Place::AmongTemps;
         Ok(())
     }
 
-    /// Adds a temp.
+    /// Adds a temp. After want of memory the tables are as they were.
     #[tactic(auto, using(crate::proofs::NameLemmas::absent_append))]
     pub fn add_temp(&mut self, name: &'a [u8]) -> Result<(), OutOfMemory>
         requires { is_among (tests.taken self.old TempName) name.now ≡ false }
-        ensures { OnOk result (self.new ≡ given.with_temp self.old name.now) }
+        ensures ok { OnOk result (self.new ≡ given.with_temp self.old name.now) }
+        ensures err { OnErr result (self.new ≡ self.old) }
     {
         self.temps.add(name)?;
-        self.place = Place::Temps;
+        self.place = Place::AmongTemps;
         Ok(())
     }
 
     /// Counts an operation.
     pub fn add_operation(&mut self)
-        requires { self.old.operations < 1024 }
+        requires { self.old.operations < OPERATIONS }
         ensures { self.new ≡ given.with_operation self.old }
     {
         self.operations += 1;
-        self.place = Place::Operations;
+        self.place = Place::AmongOperations;
     }
 
-    /// Adds an input of so many values.
+    /// Adds an input of so many values. After want of memory the tables are as they were.
     pub fn add_input(&mut self, name: &'a [u8], count: u64) -> Result<(), OutOfMemory>
         requires new { is_among self.old.inputs name.now ≡ false }
-        requires room { self.old.input_values + count ≤ 100000 }
-        ensures { OnOk result (self.new ≡ given.with_input self.old name.now count) }
+        requires room { self.old.input_values + count ≤ INPUT_VALUES }
+        ensures ok { OnOk result (self.new ≡ given.with_input self.old name.now count) }
+        ensures err { OnErr result (self.new ≡ self.old) }
     {
         self.inputs.add(name)?;
         self.input_values += count;
-        self.place = Place::Inputs;
+        self.place = Place::AmongInputs;
         Ok(())
     }
 
     /// Counts an edit.
     pub fn add_edit(&mut self)
-        requires { self.old.edits < 1000 }
+        requires { self.old.edits < EDITS }
         ensures { self.new ≡ given.with_edit self.old }
     {
         self.edits += 1;
-        self.place = Place::Edits;
+        self.place = Place::AmongEdits;
     }
 }

@@ -71,7 +71,8 @@ pub fn push_value(text: &mut List<u8>, number: u64) -> Result<(), OutOfMemory>
 
 /// Adds a space and a token.
 pub fn push_token(text: &mut List<u8>, token: &[u8]) -> Result<(), OutOfMemory>
-    ensures { OnOk result (text.new ≡ text.old ++ 32 ∷ token.now) }
+    ensures ok { OnOk result (text.new ≡ text.old ++ 32 ∷ token.now) }
+    ensures err { OnErr result (StartsWith text.new text.old) }
 {
     text.push(b' ')?;
     text.extend_from_slice(token)

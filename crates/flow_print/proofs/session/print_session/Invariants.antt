@@ -4,4 +4,4 @@ use Rattle.flow_print.specs.Canonical.{tokens_of}
 use Rattle.flow_print.proofs.session.print_session.Given as goal
 
 abbrev pub invariant-loop-statement : goal.invariant-loop-statement
-invariant-loop-statement l = l.text ≡ text_of_lines (map tokens_of (take l.statement-index l.statements))
+invariant-loop-statement l = l.text ≡ text_of_lines (map (tokens_of l.version) (take l.statement-index l.statements))

@@ -1,0 +1,222 @@
+-- The version is declared by the first statement, and what is written in version 1 is written in version 2 too.
+use Rattle.std.proofs.Common.{◌≡◌, ℕ, ◌+◌, List, [], ◌∷◌, ◌++◌, map, Bool, true, Option, None, Some, refl, sym, ap, subst, ◌∙◌, inl, inr}
+use Rattle.std.specs.Prelude.{reverse, unwrap_or}
+use Rattle.std.proofs.lemmas.List.{reverse-append}
+use Rattle.flow_design.specs.declared.session.Statement.{Statement}
+use Rattle.flow_design.specs.declared.session.Statement.TheVariants.{Flow, Source, Sink, Fifo, Module, Reg, Mem, Block, Loop, Temp, At, Goto, Branch, Stop, Input, Limits, Depth, End}
+use Rattle.flow_grammar.specs.Tokens.{Line, Token, lines_of, tokens_of}
+use Rattle.flow_grammar.specs.Before.{flow_number, version, has_delays}
+use Rattle.flow_grammar.specs.Places.{place, place_after, takes_flow, may_follow}
+use Rattle.flow_grammar.specs.Parts.{parts}
+use Rattle.flow_grammar.specs.Forms.{statement_of}
+use Rattle.flow_grammar.specs.Spelling.{Spelled, Writes}
+use Rattle.flow_grammar.specs.Gives.{with_statement}
+use Rattle.flow_grammar.specs.Text.{statements_among, numbers_among, IsInOrder, StandsFor}
+use Rattle.flow_grammar.specs.Versions.{DifferInVersion, SameButVersion}
+use Rattle.flow_grammar.proofs.ReadAgain.{written_is_read}
+use Rattle.flow_grammar.proofs.LineLaws.{no_tokens}
+use Rattle.flow_grammar.proofs.TextLaws.{Words, InOrderFrom, ordered}
+
+-- ---- `flow` stands at the start alone
+
+no_flow_after : (s : Statement) → takes_flow (place_after s) ≡ true → ⊥
+no_flow_after (Flow n) h = cc
+no_flow_after (Source n w) h = cc
+no_flow_after (Sink n w) h = cc
+no_flow_after (Fifo n w depth delay) h = cc
+no_flow_after (Module n) h = cc
+no_flow_after (Reg n w) h = cc
+no_flow_after (Mem n w l) h = cc
+no_flow_after (Block n l) h = cc
+no_flow_after (Loop n ii l r) h = cc
+no_flow_after (Temp n w) h = cc
+no_flow_after (At off guard o) h = cc
+no_flow_after (Goto b) h = cc
+no_flow_after (Branch r b c) h = cc
+no_flow_after Stop h = cc
+no_flow_after (Input n values) h = cc
+no_flow_after (Limits c o) h = cc
+no_flow_after (Depth n d) h = cc
+no_flow_after End h = cc
+
+-- behind other statements none declares a version
+pub no_flow_behind : (e : Statement) (earlier : List Statement) (v : ℕ) → may_follow (e ∷ earlier) (Flow v) ≡ true → ⊥
+unfolding may_follow
+no_flow_behind e earlier v h = no_flow_after e h
+
+-- so the version stays
+pub same_version : (e : Statement) (earlier : List Statement) (s : Statement) → may_follow (e ∷ earlier) s ≡ true
+    → version (s ∷ e ∷ earlier) ≡ version (e ∷ earlier)
+same_version e earlier (Flow v) h = absurd (no_flow_behind e earlier v h)
+same_version e earlier (Source n w) h = refl
+same_version e earlier (Sink n w) h = refl
+same_version e earlier (Fifo n w depth delay) h = refl
+same_version e earlier (Module n) h = refl
+same_version e earlier (Reg n w) h = refl
+same_version e earlier (Mem n w l) h = refl
+same_version e earlier (Block n l) h = refl
+same_version e earlier (Loop n ii l r) h = refl
+same_version e earlier (Temp n w) h = refl
+same_version e earlier (At off guard o) h = refl
+same_version e earlier (Goto b) h = refl
+same_version e earlier (Branch r b c) h = refl
+same_version e earlier Stop h = refl
+same_version e earlier (Input n values) h = refl
+same_version e earlier (Limits c o) h = refl
+same_version e earlier (Depth n d) h = refl
+same_version e earlier End h = refl
+
+not_behind : (x : Statement) (xs : List Statement) (v : ℕ) → may_follow (reverse (x ∷ xs)) (Flow v) ≡ true → ⊥
+not_behind x xs v h = go (reverse xs) (subst (λ (e : List Statement). may_follow e (Flow v) ≡ true) (reverse-append (x ∷ []) xs) h)
+  where
+    go : (ys : List Statement) → may_follow (ys ++ x ∷ []) (Flow v) ≡ true → ⊥
+    go [] k = no_flow_behind x [] v k
+    go (y ∷ ys) k = no_flow_behind y (ys ++ x ∷ []) v k
+
+-- ---- what is written in the earlier version is written in the later one
+
+later_writes : (v w : ℕ) → (has_delays v ≡ true → has_delays w ≡ true) → (ts : List Token) (s : Statement) → Writes v ts s → Writes w ts s
+later_writes v w up ts (Fifo n x depth delay) (inl h) = inl (up h.0, h.1)
+later_writes v w up ts (Fifo n x depth delay) (inr h) = inr h
+later_writes v w up ts (Flow n) h = h
+later_writes v w up ts (Source n x) h = h
+later_writes v w up ts (Sink n x) h = h
+later_writes v w up ts (Module n) h = h
+later_writes v w up ts (Reg n x) h = h
+later_writes v w up ts (Mem n x l) h = h
+later_writes v w up ts (Block n l) h = h
+later_writes v w up ts (Loop n ii l r) h = h
+later_writes v w up ts (Temp n x) h = h
+later_writes v w up ts (At off guard o) h = h
+later_writes v w up ts (Goto b) h = h
+later_writes v w up ts (Branch r b c) h = h
+later_writes v w up ts Stop h = h
+later_writes v w up ts (Input n values) h = h
+later_writes v w up ts (Limits c o) h = h
+later_writes v w up ts (Depth n d) h = h
+later_writes v w up ts End h = h
+
+delays_kept : (ys : List Statement) → has_delays (version (ys ++ Flow 1 ∷ [])) ≡ true → has_delays (version (ys ++ Flow 2 ∷ [])) ≡ true
+delays_kept [] h = refl
+delays_kept (y ∷ ys) h = go (flow_number y) (delays_kept ys) h
+  where
+    first : ℕ
+    first = version (ys ++ Flow 1 ∷ [])
+
+    second : ℕ
+    second = version (ys ++ Flow 2 ∷ [])
+
+    go : (o : Option ℕ) → (has_delays first ≡ true → has_delays second ≡ true) → has_delays (unwrap_or o first) ≡ true → has_delays (unwrap_or o second) ≡ true
+    go None rest k = rest k
+    go (Some n) rest k = k
+
+module _ (xs : List Statement) where
+  abbrev first : ℕ
+  first = version (reverse (Flow 1 ∷ xs))
+
+  abbrev second : ℕ
+  second = version (reverse (Flow 2 ∷ xs))
+
+  up : has_delays first ≡ true → has_delays second ≡ true
+  up h =
+      subst (λ (e : List Statement). has_delays (version e) ≡ true) (sym (reverse-append (Flow 2 ∷ []) xs))
+      (delays_kept (reverse xs) (subst (λ (e : List Statement). has_delays (version e) ≡ true) (reverse-append (Flow 1 ∷ []) xs) h))
+
+  no_word : (v : ℕ) (line : Line) (s : Statement) → tokens_of line ≡ [] → Writes v (tokens_of line) s → ⊥
+  no_word v line s e w = no_tokens v s (written_is_read v [] s (subst (λ (ts : List Token). Writes v ts s) e w))
+
+  -- a line says the same behind both
+  same_line : (line : Line) (o u : Option Statement) → IsInOrder (Flow 1 ∷ xs) line o → IsInOrder (Flow 2 ∷ xs) line u → o ≡ u
+  same_line line None None h k = refl
+  same_line line None (Some t) h k = absurd (no_word second line t h.says k.says)
+  same_line line (Some s) None h k = absurd (no_word first line s k.says h.says)
+  same_line line (Some s) (Some t) h k =
+      sym (written_is_read second (tokens_of line) s (later_writes first second up (tokens_of line) s h.says))
+      ∙ written_is_read second (tokens_of line) t k.says
+
+same_lines : (xs : List Statement) (lines : List Line) (said told : Words)
+    → InOrderFrom (Flow 1 ∷ xs) lines said → InOrderFrom (Flow 2 ∷ xs) lines told → said ≡ told
+unfolding InOrderFrom
+same_lines xs [] [] [] p q = refl
+same_lines xs [] (o ∷ said) told p q = absurd p
+same_lines xs [] [] (u ∷ told) p q = absurd q
+same_lines xs (line ∷ lines) [] told p q = absurd p
+same_lines xs (line ∷ lines) (o ∷ said) [] p q = absurd q
+same_lines xs (line ∷ lines) (None ∷ said) (None ∷ told) p q = ap (λ (r : Words). None ∷ r) (same_lines xs lines said told p.1 q.1)
+same_lines xs (line ∷ lines) (None ∷ said) (Some t ∷ told) p q = absurd (let e = same_line xs line None (Some t) p.0 q.0 in cc)
+same_lines xs (line ∷ lines) (Some s ∷ said) (None ∷ told) p q = absurd (let e = same_line xs line (Some s) None p.0 q.0 in cc)
+same_lines xs (line ∷ lines) (Some s ∷ said) (Some t ∷ told) p q =
+    let e : s ≡ t = (let o = same_line xs line (Some s) (Some t) p.0 q.0 in cc) in
+    let q' = subst (λ (x : Statement). InOrderFrom (Flow 2 ∷ (xs ++ x ∷ [])) lines told) (sym e) q.1 in
+    let rest = same_lines (xs ++ s ∷ []) lines said told p.1 q' in
+    λ i. Some (e i) ∷ rest i
+
+-- ---- the lines up to the first statement
+
+-- lines that say nothing
+abbrev nothing : List Line → Words
+nothing front = map (λ line. None) front
+
+record Opens (v : ℕ) (front behind : List Line) (said : Words) : Type 0 where
+  rest : Words
+  are : said ≡ nothing front ++ Some (Flow v) ∷ rest
+  in_order : InOrderFrom (Flow v ∷ []) behind rest
+
+module _ (v : ℕ) (line : Line) (behind : List Line) (says : Spelled (tokens_of line) (parts (Flow v))) where
+  is_flow : (before : List Statement) (o : Option Statement) → IsInOrder before line o → o ≡ Some (Flow v)
+  is_flow before None h = absurd (subst (λ (ts : List Token). Spelled ts (parts (Flow v))) h.says says)
+  is_flow before (Some s) h =
+      sym (written_is_read (version (reverse before)) (tokens_of line) s h.says)
+      ∙ written_is_read (version (reverse before)) (tokens_of line) (Flow v) says
+
+  no_later : (x : Statement) (xs : List Statement) (front : List Line) (said : Words) → InOrderFrom (x ∷ xs) (front ++ line ∷ behind) said → ⊥
+  unfolding InOrderFrom
+  no_later x xs [] [] p = p
+  no_later x xs [] (o ∷ said) p =
+      let h = subst (λ (u : Option Statement). IsInOrder (x ∷ xs) line u) (is_flow (x ∷ xs) o p.0) p.0 in
+      not_behind x xs v h.stands.permitted
+  no_later x xs (f ∷ front) [] p = p
+  no_later x xs (f ∷ front) (None ∷ said) p = no_later x xs front said p.1
+  no_later x xs (f ∷ front) (Some s ∷ said) p = no_later x (xs ++ s ∷ []) front said p.1
+
+  opens : (front : List Line) (said : Words) → InOrderFrom [] (front ++ line ∷ behind) said → Opens v front behind said
+  unfolding InOrderFrom
+  opens [] [] p = absurd p
+  opens [] (o ∷ said) p =
+      let e = is_flow [] o p.0 in
+      record { rest = said; are = λ i. e i ∷ said; in_order = subst (λ (u : Option Statement). InOrderFrom (with_statement [] u) behind said) e p.1 }
+  opens (f ∷ front) [] p = absurd p
+  opens (f ∷ front) (None ∷ said) p =
+      let r = opens front said p.1 in
+      record { rest = r.rest; are = ap (λ (ws : Words). None ∷ ws) r.are; in_order = r.in_order }
+  opens (f ∷ front) (Some s ∷ said) p = absurd (no_later s [] front said p.1)
+
+-- ---- texts that differ in the version alone
+
+first_among : (front : List Line) (v : ℕ) (rest : Words) → statements_among (nothing front ++ Some (Flow v) ∷ rest) ≡ Flow v ∷ statements_among rest
+first_among [] v rest = refl
+first_among (f ∷ front) v rest = first_among front v rest
+
+same_numbers : (n : ℕ) (front : List Line) (v w : ℕ) (rest : Words)
+    → numbers_among n (nothing front ++ Some (Flow v) ∷ rest) ≡ numbers_among n (nothing front ++ Some (Flow w) ∷ rest)
+same_numbers n [] v w rest = refl
+same_numbers n (f ∷ front) v w rest = same_numbers (n + 1) front v w rest
+
+pub versions_agree : (first second : List ℕ) (s t : List Statement) (l m : List ℕ)
+    → DifferInVersion first second → StandsFor first s l → StandsFor second t m → SameButVersion s t × (l ≡ m)
+versions_agree first second s t l m d p q =
+    let a = opens 1 d.one d.behind d.says_one d.front p.said
+        (subst (λ (lines : List Line). InOrderFrom [] lines p.said) d.first_lines (ordered (lines_of first) p.said p.in_order)) in
+    let b = opens 2 d.two d.behind d.says_two d.front q.said
+        (subst (λ (lines : List Line). InOrderFrom [] lines q.said) d.second_lines (ordered (lines_of second) q.said q.in_order)) in
+    let same : a.rest ≡ b.rest = same_lines [] d.behind a.rest b.rest a.in_order b.in_order in
+    let told : q.said ≡ nothing d.front ++ Some (Flow 2) ∷ a.rest =
+        b.are ∙ sym (ap (λ (rest : Words). nothing d.front ++ Some (Flow 2) ∷ rest) same) in
+    (
+      record {
+        behind = statements_among a.rest;
+        first_are = p.statements_are ∙ ap statements_among a.are ∙ first_among d.front 1 a.rest;
+        second_are = q.statements_are ∙ ap statements_among told ∙ first_among d.front 2 a.rest;
+      },
+      p.numbers_are ∙ ap (numbers_among 1) a.are ∙ same_numbers 1 d.front 1 2 a.rest ∙ sym (ap (numbers_among 1) told) ∙ sym q.numbers_are,
+    )

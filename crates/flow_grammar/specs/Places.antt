@@ -1,0 +1,113 @@
+-- Which statement may stand where.
+use Rattle.std.specs.Prelude.{Bool, true, false, List, [], ◌∷◌}
+use Rattle.flow_design.specs.declared.session.Statement.{Statement}
+use Rattle.flow_design.specs.declared.session.Statement.TheVariants.{Flow, Source, Sink, Fifo, Module, Reg, Mem, Block, Loop, Temp, At, Goto, Branch, Stop, Input, Limits, Depth, End}
+use Rattle.flow_grammar.specs.declared.place.Place.{Place}
+use Rattle.flow_grammar.specs.declared.place.Place.TheVariants.{AtStart, AmongChannels, AmongRegisters, AmongTemps, AmongOperations, AfterBody, AmongInputs, AmongEdits, AtEnd}
+
+-- where a statement leads
+abbrev pub place_after : Statement → Place
+place_after (Flow n) = AmongChannels
+place_after (Source n w) = AmongChannels
+place_after (Sink n w) = AmongChannels
+place_after (Fifo n w depth delay) = AmongChannels
+place_after (Module n) = AmongRegisters
+place_after (Reg n w) = AmongRegisters
+place_after (Mem n w l) = AmongRegisters
+place_after (Block n l) = AmongTemps
+place_after (Loop n ii l r) = AmongTemps
+place_after (Temp n w) = AmongTemps
+place_after (At off guard o) = AmongOperations
+place_after (Goto b) = AfterBody
+place_after (Branch r b c) = AfterBody
+place_after Stop = AfterBody
+place_after (Input n values) = AmongInputs
+place_after (Limits c o) = AmongEdits
+place_after (Depth n d) = AmongEdits
+place_after End = AtEnd
+
+-- the place behind these statements, the latest first
+abbrev pub place : List Statement → Place
+place [] = AtStart
+place (s ∷ earlier) = place_after s
+
+-- where `flow` may stand
+abbrev pub takes_flow : Place → Bool
+takes_flow AtStart = true
+takes_flow p = false
+
+-- where a source, a sink or a FIFO may stand
+abbrev pub takes_channels : Place → Bool
+takes_channels AmongChannels = true
+takes_channels p = false
+
+abbrev pub takes_modules : Place → Bool
+takes_modules AmongChannels = true
+takes_modules AfterBody = true
+takes_modules p = false
+
+-- where a register or a memory may stand
+abbrev pub takes_registers : Place → Bool
+takes_registers AmongRegisters = true
+takes_registers p = false
+
+-- where a block or a loop may stand
+abbrev pub takes_blocks : Place → Bool
+takes_blocks AmongRegisters = true
+takes_blocks AfterBody = true
+takes_blocks p = false
+
+abbrev pub takes_temps : Place → Bool
+takes_temps AmongTemps = true
+takes_temps p = false
+
+-- where an operation or a terminator may stand
+abbrev pub takes_operations : Place → Bool
+takes_operations AmongTemps = true
+takes_operations AmongOperations = true
+takes_operations p = false
+
+-- where `input` and `limits` may stand
+abbrev pub takes_inputs : Place → Bool
+takes_inputs AmongChannels = true
+takes_inputs AfterBody = true
+takes_inputs AmongInputs = true
+takes_inputs p = false
+
+-- where `depth` and `end` may stand
+abbrev pub takes_edits : Place → Bool
+takes_edits AmongChannels = true
+takes_edits AfterBody = true
+takes_edits AmongInputs = true
+takes_edits AmongEdits = true
+takes_edits p = false
+
+-- nothing may stand behind `end`
+abbrev pub is_end : Place → Bool
+is_end AtEnd = true
+is_end p = false
+
+-- which statement may stand at a place
+abbrev pub may_stand : Statement → Place → Bool
+may_stand (Flow n) p = takes_flow p
+may_stand (Source n w) p = takes_channels p
+may_stand (Sink n w) p = takes_channels p
+may_stand (Fifo n w depth delay) p = takes_channels p
+may_stand (Module n) p = takes_modules p
+may_stand (Reg n w) p = takes_registers p
+may_stand (Mem n w l) p = takes_registers p
+may_stand (Block n l) p = takes_blocks p
+may_stand (Loop n ii l r) p = takes_blocks p
+may_stand (Temp n w) p = takes_temps p
+may_stand (At off guard o) p = takes_operations p
+may_stand (Goto b) p = takes_operations p
+may_stand (Branch r b c) p = takes_operations p
+may_stand Stop p = takes_operations p
+may_stand (Input n values) p = takes_inputs p
+may_stand (Limits c o) p = takes_inputs p
+may_stand (Depth n d) p = takes_edits p
+may_stand End p = takes_edits p
+
+-- the statement may stand behind these
+unfoldable pub may_follow : List Statement → Statement → Bool
+may_follow earlier s = may_stand s (place earlier)

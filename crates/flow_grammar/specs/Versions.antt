@@ -1,0 +1,24 @@
+-- Texts that differ in the version of the language alone.
+use Rattle.std.specs.Prelude.{◌≡◌, ℕ, List, ◌∷◌, ◌++◌}
+use Rattle.flow_design.specs.declared.session.Statement.{Statement}
+use Rattle.flow_design.specs.declared.session.Statement.TheVariants.{Flow}
+use Rattle.flow_grammar.specs.Tokens.{Line, lines_of, tokens_of}
+use Rattle.flow_grammar.specs.Parts.{parts}
+use Rattle.flow_grammar.specs.Spelling.{Spelled}
+
+-- where the first text says `flow 1`, the second says `flow 2`, and all their other lines are the same
+pub record DifferInVersion (first second : List ℕ) : Type 0 where
+  pub front : List Line
+  pub one : Line
+  pub two : Line
+  pub behind : List Line
+  pub first_lines : lines_of first ≡ front ++ one ∷ behind
+  pub second_lines : lines_of second ≡ front ++ two ∷ behind
+  pub says_one : Spelled (tokens_of one) (parts (Flow 1))
+  pub says_two : Spelled (tokens_of two) (parts (Flow 2))
+
+-- the statements differ in the version alone
+pub record SameButVersion (first second : List Statement) : Type 0 where
+  pub behind : List Statement
+  pub first_are : first ≡ Flow 1 ∷ behind
+  pub second_are : second ≡ Flow 2 ∷ behind

@@ -1,0 +1,104 @@
+//! Places of a session.
+ghost use Rattle.std.specs.Prelude.{◌≡◌};
+ghost use Rattle.flow_grammar.specs.Places as places;
+
+/// What stands before a line, by the sort of the last statement: which statements may follow.
+#[derive(Clone, Copy, Debug, PartialEq, Eq)]
+pub enum Place {
+    /// No statement stands before.
+    AtStart,
+    /// `flow` or a channel.
+    AmongChannels,
+    /// A module, a register or a memory.
+    AmongRegisters,
+    /// A block, a loop or a temp.
+    AmongTemps,
+    /// An operation.
+    AmongOperations,
+    /// A terminator.
+    AfterBody,
+    /// An `input`.
+    AmongInputs,
+    /// `limits` or `depth`.
+    AmongEdits,
+    /// `end`.
+    AtEnd,
+}
+
+impl Place {
+    /// Whether `flow` may follow.
+    pub fn takes_flow(self) -> bool
+        ensures { result ≡ places.takes_flow self }
+    {
+        matches!(self, Place::AtStart)
+    }
+
+    /// Whether a source, a sink or a FIFO may follow.
+    pub fn takes_channels(self) -> bool
+        ensures { result ≡ places.takes_channels self }
+    {
+        matches!(self, Place::AmongChannels)
+    }
+
+    /// Whether a module may follow.
+    pub fn takes_modules(self) -> bool
+        ensures { result ≡ places.takes_modules self }
+    {
+        matches!(self, Place::AmongChannels | Place::AfterBody)
+    }
+
+    /// Whether a register or a memory may follow.
+    pub fn takes_registers(self) -> bool
+        ensures { result ≡ places.takes_registers self }
+    {
+        matches!(self, Place::AmongRegisters)
+    }
+
+    /// Whether a block or a loop may follow.
+    pub fn takes_blocks(self) -> bool
+        ensures { result ≡ places.takes_blocks self }
+    {
+        matches!(self, Place::AmongRegisters | Place::AfterBody)
+    }
+
+    /// Whether a temp may follow.
+    pub fn takes_temps(self) -> bool
+        ensures { result ≡ places.takes_temps self }
+    {
+        matches!(self, Place::AmongTemps)
+    }
+
+    /// Whether an operation or a terminator may follow.
+    pub fn takes_operations(self) -> bool
+        ensures { result ≡ places.takes_operations self }
+    {
+        matches!(self, Place::AmongTemps | Place::AmongOperations)
+    }
+
+    /// Whether `input` or `limits` may follow.
+    pub fn takes_inputs(self) -> bool
+        ensures { result ≡ places.takes_inputs self }
+    {
+        matches!(
+            self,
+            Place::AmongChannels | Place::AfterBody | Place::AmongInputs
+        )
+    }
+
+    /// Whether `depth` or `end` may follow.
+    pub fn takes_edits(self) -> bool
+        ensures { result ≡ places.takes_edits self }
+    {
+        matches!(
+            self,
+            Place::AmongChannels | Place::AfterBody | Place::AmongInputs | Place::AmongEdits
+        )
+    }
+
+    /// Whether the session is over.
+    pub fn is_end(self) -> bool
+        ensures { result ≡ places.is_end self }
+    {
+        matches!(self, Place::AtEnd)
+    }
+}

@@ -18,9 +18,23 @@ use Rattle.time_engine.specs.Conditions.{IsAccess}
 use Rattle.engine_view.specs.Held.{possible_by, flags_by}
 use Rattle.engine_view.specs.Emitted.{done_at_once}
 use Rattle.engine_view.specs.Answered.{done_late}
-use Rattle.engine_view.specs.Taking.{taken_by, taken_all}
-use Rattle.engine_view.specs.Rooms.{room_of, TakesAt, AreApart, HasRoomFor, done_by, TakesOn}
-use Rattle.engine_view.proofs.Taking.{all_length, all_channel, kind_after}
+use Rattle.engine_view.specs.Taking.{taken_by, taken_all, kinds_in}
+use Rattle.engine_view.specs.Rooms.{room_of, TakesAt, AreApart, HasRoomFor, done_by}
+use Rattle.engine_view.proofs.Taking.{all_length, all_channel, kind_after, kinds_behind}
+
+-- the accesses before this index were taken, the outcomes of which end before this number
+pub record TakesOn (at : Place) (late : Bool) (accesses : List Access) (outcomes : List Bool) (first : ℕ) (old now : RoomedChannels) (index number : ℕ) : Type 0 where
+  pub channels : taken_all at now.channels (drop index accesses) (done_by late (drop index accesses) (drop number outcomes))
+      ≡ taken_all at old.channels accesses (done_by late accesses (drop first outcomes))
+  pub kinds : kinds_in now.channels ≡ kinds_in old.channels
+  pub within : number ≤ first + index
+  pub inside : All (IsAccess now.channels) (drop index accesses)
+  pub apart : AreApart (drop index accesses)
+  pub rooms : HasRoomFor now (drop index accesses)
+  -- a side from which a place was taken is not taken from again
+  pub one : (side : Side) (c : ℕ) → (room_of old side c ≤ room_of now side c)
+      ⊎ ((room_of old side c ≤ room_of now side c + 1) × All (λ (a : Access). TakesAt side c a → ⊥) (drop index accesses))
+  pub others : (side : Side) (c : ℕ) → All (λ (a : Access). TakesAt side c a → ⊥) accesses → room_of old side c ≤ room_of now side c
 
 pub get_drop : {X : Type 0} → (n : ℕ) (xs : List X) → slice_get (drop n xs) 0 ≡ slice_get xs n
 get_drop {X} zero xs = refl
@@ -35,6 +49,7 @@ pub takes_init : (at : Place) (late : Bool) (xs : List Access) (outs : List Bool
     → TakesOn at late xs outs first t t 0 first
 takes_init at late xs outs first t inside apart rooms = record {
   channels = refl;
+  kinds = refl;
   within = omega arith;
   inside = inside;
   apart = apart;
@@ -104,6 +119,7 @@ module _ (at : Place) (late : Bool) (xs : List Access) (outs : List Bool) (first
   pub takes_step : TakesOn at late xs outs first old next (i + 1) (n + cond (is_blocking a.kind) 0 1)
   takes_step = record {
     channels = channels_now;
+    kinds = ap kinds_in channels ∙ (kinds_behind at now.channels a done ∙ r.kinds);
     within = let w = r.within in elim (cases_Bool (is_blocking a.kind)) [ inl e ↦ rw e (omega arith) | inr e ↦ rw e (omega arith) ];
     inside = subst (λ (cs : List Channel). All (IsAccess cs) (drop (i + 1) xs)) (sym channels)
         (All-weaker (IsAccess now.channels) _ (λ y k. one_kept at now.channels a done y (access_here at late xs outs first old now i n d r l).channel k) (drop (i + 1) xs)
@@ -153,10 +169,12 @@ module _ (at : Place) (late : Bool) (xs : List Access) (outs : List Bool) (first
 
 pub takes_end : (at : Place) (late : Bool) (xs : List Access) (outs : List Bool) (first : ℕ) (old now : RoomedChannels) (i n : ℕ) → TakesOn at late xs outs first old now i n → length xs ≤ i
     → (now.channels ≡ taken_all at old.channels xs (done_by late xs (drop first outs)))
+    × (kinds_in now.channels ≡ kinds_in old.channels)
     × ((side : Side) (c : ℕ) → room_of old side c ≤ room_of now side c + 1)
     × ((side : Side) (c : ℕ) → All (λ (q : Access). TakesAt side c q → ⊥) xs → room_of old side c ≤ room_of now side c)
 takes_end at late xs outs first old now i n r l = (
   sym (ap (λ (ys : List Access). taken_all at now.channels ys (done_by late ys (drop n outs))) (drop_all i xs l)) ∙ r.channels,
+  r.kinds,
   λ side c. elim (r.one side c) [ inl q ↦ omega arith | inr q ↦ q.0 ],
   r.others,
 )

@@ -13,11 +13,8 @@ use Rattle.event_timing.specs.Core.{Core}
 use Rattle.event_timing.specs.Actions.{put, put_at, after_assign}
 use Rattle.engine_view.specs.Held.{Held, step_of, replies_at, core_of}
 use Rattle.engine_view.specs.Shown.{Shows, IsSound, AreTaken, AreWhole, queries_before}
+use Rattle.engine_view.specs.Timed.{with_timed}
 use Rattle.engine_view.proofs.Cores.{same_core}
-
--- what is held with a cycle more
-abbrev pub timed_held : Held → ℕ → ℕ → Held
-timed_held h m c = record h { lanes = with_cycle h.lanes m c }
 
 pub steps_stay : (lanes : List Lane) (owner cycle k : ℕ) → owner < length lanes → (lane_at (with_cycle lanes owner cycle) k).steps ≡ (lane_at lanes k).steps
 steps_stay lanes owner cycle k inside =
@@ -76,7 +73,7 @@ put_at_is f m k n j y z e g =
       | inr apart ↦ rw apart.0 (g (λ p q. apart.1 p))
     ]
 
-pub timed_alike : (h : Held) (m c : ℕ) → m < length h.lanes → IsAlike (timed_held h m c) h
+pub timed_alike : (h : Held) (m c : ℕ) → m < length h.lanes → IsAlike (with_timed h m c) h
 timed_alike h m c inside = record { steps = λ n. steps_stay h.lanes m c n inside; channels = refl; logs = refl }
 
 get_push_below : (xs : List ℕ) (y k : ℕ) → (k ≡ length xs → ⊥) → get_or (xs ++ y ∷ []) k 0 ≡ get_or xs k 0
@@ -86,15 +83,15 @@ get_push_below (x ∷ xs) y zero f = refl
 get_push_below (x ∷ xs) y (suc k) f = get_push_below xs y k (λ e. f (ap (λ z. suc z) e))
 
 -- the core that is read off is the one behind the theory's Assign
-pub assigned_core : {S : Type 0} → (d : Design S) (h : Held) (m c : ℕ) → m < length h.lanes → core_of d (timed_held h m c) ≡ after_assign (core_of d h) m c
+pub assigned_core : {S : Type 0} → (d : Design S) (h : Held) (m c : ℕ) → m < length h.lanes → core_of d (with_timed h m c) ≡ after_assign (core_of d h) m c
 assigned_core {S} d h m c inside =
     let a = timed_alike h m c inside in
     let more : length (lane_at (with_cycle h.lanes m c) m).cycles ≡ suc (length (lane_at h.lanes m).cycles) =
     rw (cycles_there h.lanes m c inside) (omega (arith, length-append (lane_at h.lanes m).cycles (c ∷ []))) in
-    same_core (core_of d (timed_held h m c)) (after_assign (core_of d h) m c) (record {
+    same_core (core_of d (with_timed h m c)) (after_assign (core_of d h) m c) (record {
       emitted = λ n. ap length (a.steps n);
       over = λ n. refl;
-      state = λ n k. alike_state d (timed_held h m c) h a n k;
+      state = λ n k. alike_state d (with_timed h m c) h a n k;
       wait = λ n k. rw (a.steps n) refl;
       flags = λ n k. rw (a.steps n) refl;
       answered = λ n k. rw (a.steps n) refl;
@@ -125,7 +122,7 @@ whole_kept : (g h : Held) → IsAlike g h → (m n : ℕ) → AreWhole h m n →
 whole_kept g h a m n w = record { steps = w.steps; within = rw (a.steps m) w.within; all = w.all ∙ sym (alike_queries g h a m w.steps) }
 
 pub assigned_shows : {S : Type 0} → (d : Design S) (h : Held) (x : Core S) (m c : ℕ) → m < length h.lanes → All IsSoundLane (with_cycle h.lanes m c) → Shows d h x
-    → Shows d (timed_held h m c) (after_assign x m c)
+    → Shows d (with_timed h m c) (after_assign x m c)
 assigned_shows {S} d h x m c inside lanes s =
     let a = timed_alike h m c inside in
     record {
@@ -138,16 +135,16 @@ assigned_shows {S} d h x m c inside lanes s =
       places = places_stay h.lanes m c h.channels inside s.places;
       accesses = λ n k l. rw (a.steps n) (s.accesses n k l);
       ordinals = λ n k l. rw (a.steps n) (s.ordinals n k l);
-      first_query = λ n k l. rw (a.steps n) (s.first_query n k l) ∙ sym (alike_queries (timed_held h m c) h a n k);
+      first_query = λ n k l. rw (a.steps n) (s.first_query n k l) ∙ sym (alike_queries (with_timed h m c) h a n k);
       kinds = s.kinds;
       lags = s.lags;
       taken = λ side ch l. taken_kept d x m c side ch _ (s.taken side ch l);
       values = s.values;
-      recorded = λ n l. whole_kept (timed_held h m c) h a n _ (s.recorded n l);
-      verified = λ n l. whole_kept (timed_held h m c) h a n _ (s.verified n l);
+      recorded = λ n l. whole_kept (with_timed h m c) h a n _ (s.recorded n l);
+      verified = λ n l. whole_kept (with_timed h m c) h a n _ (s.verified n l);
     }
 
 -- what is held stays a core of the design
-pub assigned_sound : {S : Type 0} → (d : Design S) (h : Held) (m c : ℕ) → m < length h.lanes → All IsSoundLane (with_cycle h.lanes m c) → IsSound d h → IsSound d (timed_held h m c)
+pub assigned_sound : {S : Type 0} → (d : Design S) (h : Held) (m c : ℕ) → m < length h.lanes → All IsSoundLane (with_cycle h.lanes m c) → IsSound d h → IsSound d (with_timed h m c)
 assigned_sound {S} d h m c inside lanes s =
-    subst (Shows d (timed_held h m c)) (sym (assigned_core d h m c inside)) (assigned_shows d h (core_of d h) m c inside lanes s)
+    subst (Shows d (with_timed h m c)) (sym (assigned_core d h m c inside)) (assigned_shows d h (core_of d h) m c inside lanes s)

@@ -1,4 +1,4 @@
--- The loops that compare a step's outcomes, and verify them.
+-- The loop that compares a step's outcomes.
 use Rattle.std.proofs.Common.{◌≡◌, refl, sym, ap, ap₂, ◌∙◌, ℕ, zero, suc, ◌+◌, ◌<◌, ◌≤◌, Bool, true, false, cond, ◌||◌, List, [], ◌∷◌, ◌++◌, length, take, drop, get_or, set, arith, append_assoc, inl, inr, Option, Some, None}
 use Rattle.std.specs.Prelude.{slice_get}
 use Rattle.std.proofs.lemmas.Bool.{cases_Bool}
@@ -12,10 +12,17 @@ use Rattle.query_log.specs.Logs.{Log, RoomedLogs, log_at, no_log, with_verified}
 use Rattle.query_log.specs.declared.query.Query.{Query}
 use Rattle.time_engine.specs.Possible.{when_possible}
 use Rattle.event_timing.specs.Enablers.{answer}
-use Rattle.engine_view.specs.Held.{possible_by, queries_in, flags_by}
-use Rattle.engine_view.specs.Known.{as_known, found_flags}
-use Rattle.engine_view.specs.Compared.{flag_now, flag_found, IsOther, ComparesOn, VerifiesOn}
+use Rattle.engine_view.specs.Held.{possible_by, flag_now, queries_in, flags_by}
+use Rattle.engine_view.specs.Known.{as_known, flag_found, found_flags}
+use Rattle.engine_view.specs.Turns.{IsOther}
 use Rattle.engine_view.proofs.Adding.{get_drop, drop_next}
+
+-- the accesses before this index were found alike, whose queries end before this number
+pub record ComparesOn (lanes : List Lane) (channels : List Channel) (cycle : ℕ) (accesses : List Access) (outcomes : List Bool) (first index number : ℕ) : Type 0 where
+  pub numbered : number ≡ first + queries_in (take index accesses)
+  pub alike : flags_by accesses (drop first outcomes)
+      ≡ found_flags lanes channels cycle (take index accesses) ++ flags_by (drop index accesses) (drop number outcomes)
+  pub within : number ≤ first + index
 
 -- ---- lists that begin alike
 
@@ -139,60 +146,3 @@ module _ (lanes : List Lane) (channels : List Channel) (c : ℕ) where
 
         below : (j : ℕ) → j < i → (bs zs : List Bool) → zs ≡ found ++ bs → slice_get zs j ≡ slice_get found j
         below j u bs zs e = ap (λ (ys : List Bool). slice_get ys j) e ∙ front found bs j (let s = size in omega arith)
-
--- ---- the loop that verifies
-
-twice : (logs : List Log) (m v w : ℕ) → m < length logs → with_verified (with_verified logs m v) m w ≡ with_verified logs m w
-twice logs m v w l =
-    ap (λ (log : Log). set (with_verified logs m v) m (record log { verified = w })) (get_or-set_same logs m (record (log_at logs m) { verified = v }) no_log l)
-    ∙ set-set logs m (record (log_at logs m) { verified = v }) (record (log_at logs m) { verified = w })
-
-none_more : (logs : List Log) (m : ℕ) → with_verified logs m ((log_at logs m).verified) ≡ logs
-none_more logs m = set-get_or logs m no_log
-
-pub verifies_init : (xs : List Access) (m : ℕ) (old : RoomedLogs) → m < length old.logs → (log_at old.logs m).verified + queries_in xs ≤ length (log_at old.logs m).outcomes → VerifiesOn xs m old old 0
-verifies_init xs m old l u = record { logs = refl; inside = l; recorded = u; rooms = refl }
-
-pub verifies_all : (xs : List Access) (m : ℕ) (old now : RoomedLogs) (i : ℕ) → VerifiesOn xs m old now i → length xs ≤ i → now.logs ≡ with_verified old.logs m ((log_at old.logs m).verified + queries_in xs)
-verifies_all xs m old now i r l =
-    sym (ap (λ (k : ℕ). with_verified now.logs m k) (let e = ap queries_in (drop_all i xs l) in omega arith) ∙ none_more now.logs m) ∙ r.logs
-
-module _ (xs : List Access) (m : ℕ) (old now : RoomedLogs) (i : ℕ) (d : Access) (r : VerifiesOn xs m old now i) (l : i < length xs) where
-  abbrev b : Access
-  b = get_or xs i d
-
-  split : queries_in (drop i xs) ≡ cond (is_blocking b.kind) 0 1 + queries_in (drop (i + 1) xs)
-  split = ap queries_in (drop_more xs i d l) ∙ queries_cons b (drop (i + 1) xs)
-
-  pub verifies_not : is_blocking b.kind ≡ true → VerifiesOn xs m old now (i + 1)
-  verifies_not e =
-      let s' = split ∙ ap (λ (q : Bool). cond {A = ℕ} q 0 1 + queries_in (drop (i + 1) xs)) e in
-      let s : queries_in (drop i xs) ≡ queries_in (drop (i + 1) xs) = omega arith in
-      record {
-        logs = ap (λ (k : ℕ). with_verified now.logs m ((log_at now.logs m).verified + k)) (sym s) ∙ r.logs;
-        inside = r.inside;
-        recorded = let u = r.recorded in omega arith;
-        rooms = r.rooms;
-      }
-
-  one_more : is_blocking b.kind ≡ false → queries_in (drop i xs) ≡ 1 + queries_in (drop (i + 1) xs)
-  one_more e = split ∙ ap (λ (q : Bool). cond {A = ℕ} q 0 1 + queries_in (drop (i + 1) xs)) e
-
-  pub one_is_assumed : is_blocking b.kind ≡ false → (log_at now.logs m).verified < length (log_at now.logs m).outcomes
-  one_is_assumed e = let s = one_more e in let u = r.recorded in omega arith
-
-  pub verifies_one : (next : RoomedLogs) → is_blocking b.kind ≡ false → next.logs ≡ with_verified now.logs m ((log_at now.logs m).verified + 1) → next.rooms ≡ now.rooms → VerifiesOn xs m old next (i + 1)
-  verifies_one next e logs rooms =
-      let s = one_more e in
-      let log : log_at next.logs m ≡ record (log_at now.logs m) { verified = (log_at now.logs m).verified + 1 } =
-      ap (λ (ls : List Log). log_at ls m) logs ∙ get_or-set_same now.logs m _ no_log r.inside in
-      let v : (log_at next.logs m).verified ≡ (log_at now.logs m).verified + 1 = ap (λ (q : Log). q.verified) log in
-      let o : length (log_at next.logs m).outcomes ≡ length (log_at now.logs m).outcomes = ap (λ (q : Log). length q.outcomes) log in
-      record {
-        logs = ap (λ (ls : List Log). with_verified ls m ((log_at next.logs m).verified + queries_in (drop (i + 1) xs))) logs
-            ∙ (twice now.logs m ((log_at now.logs m).verified + 1) ((log_at next.logs m).verified + queries_in (drop (i + 1) xs)) r.inside
-            ∙ (ap (λ (k : ℕ). with_verified now.logs m k) (omega arith) ∙ r.logs));
-        inside = let n = ap (λ (ls : List Log). length ls) logs ∙ length-set now.logs m _ in let w = r.inside in omega arith;
-        recorded = let u = r.recorded in omega arith;
-        rooms = rooms ∙ r.rooms;
-      }

@@ -21,14 +21,11 @@ use Rattle.event_timing.proofs.Answering.{answer_marks}
 use Rattle.event_timing.proofs.Fronts.{tally_same, pushed_same}
 use Rattle.engine_view.specs.Held.{Held, step_of, emitted_of, queries_in, flags_by, are_among, has_all, replies_at, core_of}
 use Rattle.engine_view.specs.Shown.{Shows, IsSound, AreTaken, AreWhole, queries_before}
+use Rattle.engine_view.specs.Answered.{with_confirmed}
 use Rattle.engine_view.proofs.Assigned.{put_at_is}
 use Rattle.engine_view.proofs.Emitted.{queries_mono}
 use Rattle.engine_view.proofs.Answered.{queries_step, steps_only, among_is, among_if}
 use Rattle.engine_view.proofs.Reading.{IsRead, read_sound}
-
--- with so many verified outcomes of a module
-abbrev pub with_confirmed : Held → ℕ → ℕ → Held
-with_confirmed h m verified = record h { logs = set h.logs m (record (log_at h.logs m) { verified = verified }) }
 
 module _ {S : Type 0} (d : Design S) (i : IsDesign d) (h : Held) (m c : ℕ) (inside : m < length h.logs) (s : IsSound d h) (b : AreOwnMarks d (core_of d h))
     (less : length (lane_at h.lanes m).cycles < emitted_of h m) (there : (core_of d h).answered m (length (lane_at h.lanes m).cycles) ≡ true)

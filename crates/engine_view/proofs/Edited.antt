@@ -39,6 +39,7 @@ use Rattle.event_timing.specs.Agreement.{AreOwnMarks}
 use Rattle.event_timing.specs.Edits.{edited, after_edit}
 use Rattle.event_timing.proofs.Editing.{edit_marks, kept_le}
 use Rattle.engine_view.specs.Held.{no_step, seen, flags_by, has_all, values_at, replies_at, waited, core_of}
+use Rattle.engine_view.specs.Edited.{IsCut}
 use Rattle.engine_view.specs.Shown.{Shows, IsSound, IsKind, AreTaken}
 use Rattle.engine_view.proofs.Knowing.{timed_within}
 use Rattle.engine_view.proofs.Answered.{steps_only}
@@ -177,17 +178,6 @@ whole_kept g h m n q same e l w =
 not_not : (b : Bool) → not (not b) ≡ b
 not_not true = refl
 not_not false = refl
-
--- of each module as many cycles stay as the theory keeps; its outcomes stay, and those from its first step without a cycle on are assumed
-pub record IsCut {S : Type 0} (d : Design S) (h g : Held) (fifo depth t : ℕ) : Type 0 where
-  pub lanes : g.lanes ≡ map (timed_below t) h.lanes
-  pub sound : All IsSoundLane g.lanes
-  pub channels : g.channels ≡ with_depth h.channels fifo depth
-  pub over : g.over ≡ h.over
-  pub count : length g.logs ≡ length h.logs
-  pub sound_logs : All IsSoundLog g.logs
-  pub outcomes : (m : ℕ) → (log_at g.logs m).outcomes ≡ (log_at h.logs m).outcomes
-  pub verified : (m : ℕ) → (log_at g.logs m).verified ≡ min (queries_before h m (kept ((core_of d h).cycle m) t ((core_of d h).timed m))) (log_at h.logs m).verified
 
 module _ {S : Type 0} (d : Design S) (h g : Held) (fifo depth t : ℕ) (s : IsSound d h) (b : AreOwnMarks d (core_of d h)) (cut : IsCut d h g fifo depth t)
     (inside : fifo < length h.channels) (is_fifo : IsFifo (channel_at h.channels fifo).kind) where

@@ -12,12 +12,9 @@ use Rattle.event_timing.specs.Actions.{newest, emit_over, after_run, MayRun}
 use Rattle.event_timing.proofs.Running.{run_marks}
 use Rattle.engine_view.specs.Held.{Held, emitted_of, replies_at, core_of}
 use Rattle.engine_view.specs.Shown.{Shows, IsSound, AreTaken, AreWhole}
+use Rattle.engine_view.specs.Emitted.{with_over}
 use Rattle.engine_view.proofs.Assigned.{put_is, IsAlike, alike_queries}
 use Rattle.engine_view.proofs.Reading.{IsRead, read_sound}
-
--- with the mark of a module
-abbrev pub with_over : Held → ℕ → Held
-with_over h m = record h { over = set h.over m true }
 
 module _ {S : Type 0} (d : Design S) (h : Held) (m : ℕ) (inside : m < length h.over) (s : IsSound d h) where
   abbrev x : Core S

@@ -24,18 +24,9 @@ use Rattle.event_timing.proofs.OwnRuns.{tally_0}
 use Rattle.event_timing.proofs.Values.{pushed_in_0}
 use Rattle.engine_view.specs.Held.{Held, emitted_of, waited, core_of}
 use Rattle.engine_view.specs.Shown.{Shows, IsSound, IsKind, AreTaken, AreWhole, queries_before}
+use Rattle.engine_view.specs.Opened.{opening_held, AreKinds}
 use Rattle.engine_view.proofs.Placing.{places_from}
 use Rattle.engine_view.proofs.Reading.{IsRead, read_sound}
-
--- nothing is emitted yet
-abbrev pub opening_held : ℕ → List TableChannel → Held
-opening_held n kinds = record { lanes = replicate n no_lane; channels = map unused kinds; logs = replicate n no_log; over = replicate n false }
-
--- the channels are the design's
-pub record AreKinds {S : Type 0} (d : Design S) (kinds : List TableChannel) : Type 0 where
-  pub each : (c : ℕ) → c < length kinds → IsKind d c (get_or kinds c Sink)
-  pub values : (c : ℕ) → c < length kinds → values_of (get_or kinds c Sink) [] ≡ d.inputs c
-  pub lags : (side : Side) (c : ℕ) → c < length kinds → d.lag side c ≡ lag_of (get_or kinds c Sink) side
 
 copy_at : {X : Type 0} (n k : ℕ) (x : X) → get_or (replicate n x) k x ≡ x
 copy_at zero k x = refl

@@ -23,7 +23,8 @@ use Rattle.engine_view.specs.Known.{found_flags}
 use Rattle.engine_view.specs.Emitted.{place_of}
 use Rattle.engine_view.specs.Taking.{taken_all}
 use Rattle.engine_view.specs.Answered.{outcomes_of, done_late, with_answered}
-use Rattle.engine_view.specs.Rooms.{room_of, TakesAt, AreApart, HasRoomFor, done_by, pending, HasRoom, IsFresh}
+use Rattle.engine_view.specs.Rooms.{query_bound, room_of, TakesAt, AreApart, HasRoomFor, done_by, pending, HasRoom}
+use Rattle.engine_view.proofs.Unsure.{IsFresh}
 use Rattle.engine_view.proofs.Taking.{all_length}
 use Rattle.engine_view.proofs.Deciding.{flags_are}
 use Rattle.engine_view.proofs.Answered.{queries_step, answered_core, last, verified_least, recorded_most, new_length, same_queries, flags_here, log_now, log_else}
@@ -44,26 +45,29 @@ module _ {S : Type 0} (d : Design S) (h : Held) (m c : ℕ) (f : IsFresh d h m) 
   g = with_answered h m k₀ (new_flags d x m c)
 
   newest : suc k₀ ≡ emitted_of h m
-  newest = last d f.design h m c f.inside f.sound f.marks f.less f.fresh f.earlier
+  newest = last d f.unsure.design h m c f.unsure.inside f.unsure.kept.sound f.unsure.kept.marks f.unsure.less f.fresh (f.unsure.kept.earlier m)
 
   m_logs : m < length h.logs
-  m_logs = let a = f.sound.logs in let b = f.sound.lanes in let l = f.inside in omega arith
+  m_logs = let a = f.unsure.kept.sound.logs in let b = f.unsure.kept.sound.lanes in let l = f.unsure.inside in omega arith
+
+  pub fresh_owner : m < length h.logs
+  fresh_owner = m_logs
 
   pub fresh_inside : All (IsAccess h.channels) t.accesses
-  fresh_inside = f.sound.inside m no_lane f.inside k₀ no_step f.less
+  fresh_inside = f.unsure.kept.sound.inside m no_lane f.unsure.inside k₀ no_step f.unsure.less
 
   pub fresh_verified : (log_at h.logs m).verified ≡ length (log_at h.logs m).outcomes
   fresh_verified =
-      let a = verified_least d f.design h m c f.inside f.sound f.marks f.less f.fresh f.earlier in
-      let b = recorded_most d f.design h m c f.inside f.sound f.marks f.less f.fresh f.earlier in
-      let l = f.sound.sound_logs m no_log m_logs in
+      let a = verified_least d f.unsure.design h m c f.unsure.inside f.unsure.kept.sound f.unsure.kept.marks f.unsure.less f.fresh (f.unsure.kept.earlier m) in
+      let b = recorded_most d f.unsure.design h m c f.unsure.inside f.unsure.kept.sound f.unsure.kept.marks f.unsure.less f.fresh (f.unsure.kept.earlier m) in
+      let l = f.unsure.kept.sound.sound_logs m no_log m_logs in
       omega arith
 
   owned : Each (λ a. d.owner a.side a.channel ≡ m) (map seen t.accesses)
-  owned = subst (Each (λ a. d.owner a.side a.channel ≡ m)) (f.sound.accesses m k₀ f.less) (f.design.owned m (x.state m k₀))
+  owned = subst (Each (λ a. d.owner a.side a.channel ≡ m)) (f.unsure.kept.sound.accesses m k₀ f.unsure.less) (f.unsure.design.owned m (x.state m k₀))
 
   pub fresh_apart : AreApart t.accesses
-  fresh_apart = apart_of t.accesses (λ side ch. subst (λ (xs : List theory.Access). takers side ch xs ≤ 1) (f.sound.accesses m k₀ f.less) (f.design.single side m (x.state m k₀) ch))
+  fresh_apart = apart_of t.accesses (λ side ch. subst (λ (xs : List theory.Access). takers side ch xs ≤ 1) (f.unsure.kept.sound.accesses m k₀ f.unsure.less) (f.unsure.design.single side m (x.state m k₀) ch))
 
   waits_one : pending x m ≡ 1
   unfolding pending
@@ -81,24 +85,24 @@ module _ {S : Type 0} (d : Design S) (h : Held) (m c : ℕ) (f : IsFresh d h m) 
     pub fresh_log_room : queries_in t.accesses ≤ get_or logs m 0
     fresh_log_room =
         let a = r.outcomes m in
-        let b = recorded_most d f.design h m c f.inside f.sound f.marks f.less f.fresh f.earlier in
+        let b = recorded_most d f.unsure.design h m c f.unsure.inside f.unsure.kept.sound f.unsure.kept.marks f.unsure.less f.fresh (f.unsure.kept.earlier m) in
         let q = queries_are in
         omega arith
 
-    pub fresh_few : t.first_query < 2 ^ 62
-    fresh_few = let a = r.few m in let e = f.sound.first_query m k₀ f.less in let q = queries_are in omega arith
+    pub fresh_few : t.first_query < query_bound
+    fresh_few = let a = r.few m in let e = f.unsure.kept.sound.first_query m k₀ f.unsure.less in let q = queries_are in omega arith
 
   -- what is left behind
   pub fresh_core : (core_of d g ≡ after_answer d x m c) × IsSound d g
-  fresh_core = answered_core d f.design h m c f.inside f.sound f.marks f.less f.fresh f.earlier
+  fresh_core = answered_core d f.unsure.design h m c f.unsure.inside f.unsure.kept.sound f.unsure.kept.marks f.unsure.less f.fresh (f.unsure.kept.earlier m)
 
   pub fresh_logs : with_outcomes h.logs m (outcomes_of t.accesses (found_flags h.lanes h.channels c t.accesses)) ≡ g.logs
-  fresh_logs = ap (λ (bs : List Bool). with_outcomes h.logs m (outcomes_of t.accesses bs)) (sym (flags_are d f.design h f.sound m c f.less))
+  fresh_logs = ap (λ (bs : List Bool). with_outcomes h.logs m (outcomes_of t.accesses bs)) (sym (flags_are d f.unsure.design h f.unsure.kept.sound m c f.unsure.less))
 
   pub fresh_channels : taken_all (place_of m k₀) h.channels t.accesses (done_by true t.accesses (drop t.first_query (log_at g.logs m).outcomes)) ≡ g.channels
   fresh_channels =
       ap (taken_all (place_of m k₀) h.channels t.accesses)
-      (done_later t.accesses (drop t.first_query (log_at g.logs m).outcomes) ∙ ap (done_late t.accesses) (flags_here d f.design h m c f.inside f.sound f.marks f.less f.fresh f.earlier))
+      (done_later t.accesses (drop t.first_query (log_at g.logs m).outcomes) ∙ ap (done_late t.accesses) (flags_here d f.unsure.design h m c f.unsure.inside f.unsure.kept.sound f.unsure.kept.marks f.unsure.less f.fresh (f.unsure.kept.earlier m)))
 
   waits_none : pending (core_of d g) m ≡ 0
   unfolding pending
@@ -119,20 +123,20 @@ module _ {S : Type 0} (d : Design S) (h : Held) (m c : ℕ) (f : IsFresh d h m) 
           | inr e ↦
               let a = r.outcomes n in
               let b = other_logs n e.1 in
-              let q = same_queries d f.design h m c f.inside f.sound f.marks f.less f.fresh f.earlier n (emitted_of h n) in
+              let q = same_queries d f.unsure.design h m c f.unsure.inside f.unsure.kept.sound f.unsure.kept.marks f.unsure.less f.fresh (f.unsure.kept.earlier m) n (emitted_of h n) in
               let o : length (log_at g.logs n).outcomes ≡ length (log_at h.logs n).outcomes =
-              ap (λ (log : Log). length log.outcomes) (log_else d f.design h m c f.inside f.sound f.marks f.less f.fresh f.earlier n e.1) in
+              ap (λ (log : Log). length log.outcomes) (log_else d f.unsure.design h m c f.unsure.inside f.unsure.kept.sound f.unsure.kept.marks f.unsure.less f.fresh (f.unsure.kept.earlier m) n e.1) in
               omega arith
         ];
-    few = λ n. let a = r.few n in let q = same_queries d f.design h m c f.inside f.sound f.marks f.less f.fresh f.earlier n (emitted_of h n) in omega arith;
+    few = λ n. let a = r.few n in let q = same_queries d f.unsure.design h m c f.unsure.inside f.unsure.kept.sound f.unsure.kept.marks f.unsure.less f.fresh (f.unsure.kept.earlier m) n (emitted_of h n) in omega arith;
   }
     where
       all_new : queries_before g m (emitted_of h m) ≤ get_or logs' m 0 + length (log_at g.logs m).outcomes
       all_new =
-          let q = same_queries d f.design h m c f.inside f.sound f.marks f.less f.fresh f.earlier m (emitted_of h m) in
+          let q = same_queries d f.unsure.design h m c f.unsure.inside f.unsure.kept.sound f.unsure.kept.marks f.unsure.less f.fresh (f.unsure.kept.earlier m) m (emitted_of h m) in
           let n : queries_before h m (emitted_of h m) ≡ queries_before h m (suc k₀) = ap (queries_before h m) (sym newest) in
           let o : length (log_at g.logs m).outcomes ≡ queries_before h m (suc k₀) =
-          ap (λ (log : Log). length log.outcomes) (log_now d f.design h m c f.inside f.sound f.marks f.less f.fresh f.earlier) ∙ new_length d f.design h m c f.inside f.sound f.marks f.less f.fresh f.earlier in
+          ap (λ (log : Log). length log.outcomes) (log_now d f.unsure.design h m c f.unsure.inside f.unsure.kept.sound f.unsure.kept.marks f.unsure.less f.fresh (f.unsure.kept.earlier m)) ∙ new_length d f.unsure.design h m c f.unsure.inside f.unsure.kept.sound f.unsure.kept.marks f.unsure.less f.fresh (f.unsure.kept.earlier m) in
           omega arith
 
       pending_other : (n : ℕ) → (n ≡ m → ⊥) → pending (core_of d g) n ≡ pending x n

@@ -10,7 +10,9 @@ use Rattle.flow_word.specs.declared.access.Side.TheVariants.{Pop, Push}
 use Rattle.flow_word.specs.declared.access.Access.{Access}
 use Rattle.flow_word.specs.declared.access.Step.{Step}
 use Rattle.fifo_table.specs.Roomed.{RoomedChannels}
-use Rattle.query_log.specs.Logs.{log_at}
+use Rattle.event_graph.specs.Lanes.{Lane}
+use Rattle.fifo_table.specs.Channels.{Channel}
+use Rattle.query_log.specs.Logs.{Log, log_at}
 use Rattle.time_engine.specs.Conditions.{IsAccess}
 use Rattle.event_timing.specs.Machines as theory
 use Rattle.event_timing.specs.Machines.{Design, IsDesign, Each, ready, takers, takes_at}
@@ -21,7 +23,8 @@ use Rattle.event_timing.proofs.Assigning.{put_same, put_other, put_at_other}
 use Rattle.engine_view.specs.Held.{Held, step_of, emitted_of, seen, queries_in, are_among, core_of}
 use Rattle.engine_view.specs.Shown.{IsSound, queries_before}
 use Rattle.engine_view.specs.Emitted.{IsNextStep, with_emitted, place_of, done_at_once}
-use Rattle.engine_view.specs.Rooms.{room_of, TakesAt, AreApart, HasRoomFor, pending, HasRoom}
+use Rattle.engine_view.specs.Stored.{Stored, held_in}
+use Rattle.engine_view.specs.Rooms.{query_bound, room_of, TakesAt, AreApart, HasRoomFor, UsesRoom, pending, HasRoom, IsRoomy}
 use Rattle.engine_view.proofs.Taking.{all_length}
 use Rattle.engine_view.proofs.Emitted.{there, queries_same, emitted_core}
 use Rattle.engine_view.proofs.Answered.{queries_step, queries_zero, all_among}
@@ -103,6 +106,18 @@ all_there {S} d h s b m r =
 
 -- ---- a step more
 
+module _ {S : Type 0} (d : Design S) (i : IsDesign d) (h : Held) (m : ℕ) (t : Step) (next : IsNextStep d h m t) where
+  owned_next : Each (λ a. d.owner a.side a.channel ≡ m) (map seen t.accesses)
+  owned_next = subst (Each (λ a. d.owner a.side a.channel ≡ m)) next.accesses (i.owned m (ready d m (newest d (core_of d h) m)))
+
+  pub apart_next : AreApart t.accesses
+  apart_next = apart_of t.accesses (λ side c. subst (λ (xs : List theory.Access). takers side c xs ≤ 1) next.accesses
+      (i.single side m (ready d m (newest d (core_of d h) m)) c))
+
+  pub room_for_next : (lanes : List ℕ) (table : RoomedChannels) (logs credits : List ℕ) → HasRoom d h lanes table logs credits
+      → 0 < get_or credits m 0 + pending (core_of d h) m → HasRoomFor table t.accesses
+  room_for_next lanes table logs credits r some = room_for d h lanes table logs credits r m t.accesses some next.inside owned_next
+
 module _ {S : Type 0} (d : Design S) (i : IsDesign d) (h : Held) (m : ℕ) (t : Step) (inside : m < length h.lanes) (s : IsSound d h) (next : IsNextStep d h m t)
     (b : AreOwnMarks d (core_of d h)) (r : MayRun d (core_of d h) m) (lives : d.is_over m (ready d m (newest d (core_of d h) m)) ≡ false) where
   abbrev x : Core S
@@ -110,12 +125,6 @@ module _ {S : Type 0} (d : Design S) (i : IsDesign d) (h : Held) (m : ℕ) (t : 
 
   abbrev g : Held
   g = with_emitted h m t
-
-  pub owned_next : Each (λ a. d.owner a.side a.channel ≡ m) (map seen t.accesses)
-  owned_next = subst (Each (λ a. d.owner a.side a.channel ≡ m)) next.accesses (i.owned m (ready d m (newest d x m)))
-
-  pub apart_next : AreApart t.accesses
-  apart_next = apart_of t.accesses (λ side c. subst (λ (xs : List theory.Access). takers side c xs ≤ 1) next.accesses (i.single side m (ready d m (newest d x m)) c))
 
   is : core_of d g ≡ emit_step d x m (newest d x m)
   is = (emitted_core d i h m t inside s next b r lives).0 ∙ cond-false {A = Core S} (d.is_over m (ready d m (newest d x m))) _ _ lives
@@ -140,17 +149,14 @@ module _ {S : Type 0} (d : Design S) (i : IsDesign d) (h : Held) (m : ℕ) (t : 
   queries_else n f = ap (queries_before g n) (emitted_else n f) ∙ queries_same d i h m t inside n (emitted_of h n) (omega arith)
 
   pub room_emitted : (lanes lanes' : List ℕ) (table table' : RoomedChannels) (logs credits : List ℕ) → HasRoom d h lanes table logs credits → m < length credits → 2 ≤ get_or credits m 0
-      → get_or lanes m 0 ≤ get_or lanes' m 0 + 1 → ((n : ℕ) → (n ≡ m → ⊥) → get_or lanes n 0 ≤ get_or lanes' n 0)
-      → ((side : Side) (c : ℕ) → room_of table side c ≤ room_of table' side c + 1)
-      → ((side : Side) (c : ℕ) → All (λ (a : Access). TakesAt side c a → ⊥) t.accesses → room_of table side c ≤ room_of table' side c)
-      → queries_in t.accesses ≤ get_or logs m 0 → queries_in t.accesses ≤ 65536 → t.first_query < 2 ^ 40
+      → UsesRoom m t.accesses lanes lanes' table table' → queries_in t.accesses ≤ get_or logs m 0 → t.first_query + queries_in t.accesses < query_bound
       → HasRoom d g lanes' table' logs (set credits m (get_or credits m 0 - 2))
-  room_emitted lanes lanes' table table' logs credits old known rich own_lane other_lanes one others log_room few first = record {
+  room_emitted lanes lanes' table table' logs credits old known rich used log_room few = record {
     ends = λ side c l. let e = all_length (place_of m (emitted_of h m)) h.channels t.accesses (done_at_once t.accesses) in ends_now side c (omega arith);
     steps = λ n.
         elim (eqb_tells n m) [
-          | inl e ↦ subst (λ (k : ℕ). get_or (set credits m (get_or credits m 0 - 2)) k 0 ≤ get_or lanes' k 0) (sym e.1) (rw mine (let l = old.steps m in omega arith))
-          | inr e ↦ rw (rest n e.1) (let l = old.steps n in let k = other_lanes n e.1 in omega arith)
+          | inl e ↦ subst (λ (k : ℕ). get_or (set credits m (get_or credits m 0 - 2)) k 0 ≤ get_or lanes' k 0) (sym e.1) (rw mine (let l = old.steps m in let k = used.lane in omega arith))
+          | inr e ↦ rw (rest n e.1) (let l = old.steps n in let k = used.other_lanes n e.1 in omega arith)
         ];
     outcomes = λ n.
         elim (eqb_tells n m) [
@@ -160,7 +166,7 @@ module _ {S : Type 0} (d : Design S) (i : IsDesign d) (h : Held) (m : ℕ) (t : 
         ];
     few = λ n.
         elim (eqb_tells n m) [
-          | inl e ↦ subst (λ (k : ℕ). queries_before g k (emitted_of g k) < 2 ^ 62) (sym e.1) (rw queries_now (let q = next.first_query in omega arith))
+          | inl e ↦ subst (λ (k : ℕ). queries_before g k (emitted_of g k) < query_bound) (sym e.1) (rw queries_now (let q = next.first_query in omega arith))
           | inr e ↦ rw (queries_else n e.1) (old.few n)
         ];
   }
@@ -179,12 +185,12 @@ module _ {S : Type 0} (d : Design S) (i : IsDesign d) (h : Held) (m : ℕ) (t : 
                 let mine' : get_or (set credits m (get_or credits m 0 - 2)) (d.owner side c) 0 ≡ get_or credits m 0 - 2 = ap (λ (k : ℕ). get_or (set credits m (get_or credits m 0 - 2)) k 0) e.1 ∙ mine in
                 let same : get_or credits (d.owner side c) 0 ≡ get_or credits m 0 = ap (λ (k : ℕ). get_or credits k 0) e.1 in
                 let most = pending_most (core_of d g) (d.owner side c) in
-                let less = one side c in
+                let less = used.one side c in
                 omega arith
             | inr e ↦
                 let same = rest (d.owner side c) e.1 in
                 let still = pending_other (d.owner side c) e.1 in
-                let kept = others side c (free_side d m t.accesses owned_next side c e.1) in
+                let kept = used.others side c (free_side d m t.accesses (owned_next d i h m t next) side c e.1) in
                 omega arith
           ]
 
@@ -203,14 +209,13 @@ room_kept {S} d h lanes lanes' table table' logs logs' credits r f g q = record 
 
 -- a credit is set to what there is room for
 pub room_lent : {S : Type 0} → (d : Design S) (h : Held) (lanes : List ℕ) (table : RoomedChannels) (logs credits : List ℕ) (m n : ℕ) → HasRoom d h lanes table logs credits → m < length credits
-    → n ≤ get_or lanes m 0 → ((side : Side) (c : ℕ) → c < length h.channels → n + 1 ≤ room_of table side c) → HasRoom d h lanes table logs (set credits m n)
+    → n ≤ get_or lanes m 0 → ((side : Side) (c : ℕ) → c < length h.channels → d.owner side c ≡ m → n + 1 ≤ room_of table side c) → HasRoom d h lanes table logs (set credits m n)
 room_lent {S} d h lanes table logs credits m n r inside lane sides = record {
   ends = λ side c l.
       let before = r.ends side c l in
       let most = pending_most (core_of d h) (d.owner side c) in
-      let room = sides side c l in
       elim (eqb_tells (d.owner side c) m) [
-        | inl e ↦ let now : get_or (set credits m n) (d.owner side c) 0 ≡ n = ap (λ (k : ℕ). get_or (set credits m n) k 0) e.1 ∙ get_or-set_same credits m n 0 inside in omega arith
+        | inl e ↦ let room = sides side c l e.1 in let now : get_or (set credits m n) (d.owner side c) 0 ≡ n = ap (λ (k : ℕ). get_or (set credits m n) k 0) e.1 ∙ get_or-set_same credits m n 0 inside in omega arith
         | inr e ↦ let now = get_or-set_other credits m (d.owner side c) n 0 e.1 in omega arith
       ];
   steps = λ k.
@@ -250,3 +255,15 @@ room_opening {S} d h lanes table logs credits none empty = record {
   where
     few : (m : ℕ) → queries_before h m (emitted_of h m) ≡ 0
     few m = ap (queries_before h m) (none m) ∙ queries_zero h m
+
+-- ---- room of a graph, a table and a log
+
+-- where only the room is another, and none is less
+pub roomy_kept : {S : Type 0} → (d : Design S) (s t : Stored) (over : List Bool) (credits : List ℕ) → t.graph.lanes ≡ s.graph.lanes → t.table.channels ≡ s.table.channels → t.log.logs ≡ s.log.logs
+    → ((k : ℕ) → get_or s.graph.rooms k 0 ≤ get_or t.graph.rooms k 0) → ((side : Side) (c : ℕ) → room_of s.table side c ≤ room_of t.table side c)
+    → ((k : ℕ) → get_or s.log.rooms k 0 ≤ get_or t.log.rooms k 0) → IsRoomy d s over credits → IsRoomy d t over credits
+roomy_kept {S} d s t over credits el ec eo f g q r =
+    subst (λ (ls : List Lane). HasRoom d (record { lanes = ls; channels = t.table.channels; logs = t.log.logs; over = over }) t.graph.rooms t.table t.log.rooms credits) (sym el)
+    (subst (λ (cs : List Channel). HasRoom d (record { lanes = s.graph.lanes; channels = cs; logs = t.log.logs; over = over }) t.graph.rooms t.table t.log.rooms credits) (sym ec)
+    (subst (λ (os : List Log). HasRoom d (record { lanes = s.graph.lanes; channels = s.table.channels; logs = os; over = over }) t.graph.rooms t.table t.log.rooms credits) (sym eo)
+    (room_kept d (held_in s over) s.graph.rooms t.graph.rooms s.table t.table s.log.rooms t.log.rooms credits r f g q)))

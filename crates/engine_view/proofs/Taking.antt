@@ -1,6 +1,7 @@
 -- What the table has behind the accesses of a step.
 use Rattle.std.proofs.Common.{◌≡◌, refl, sym, ap, ◌∙◌, ℕ, zero, suc, ◌+◌, ◌<◌, Bool, true, false, cond, eqb, ◌&&◌, List, [], ◌∷◌, ◌++◌, length, map, set, arith, inl, inr, append-nil, append_assoc}
 use Rattle.std.specs.Prelude.{All}
+use Rattle.std.proofs.Math.Seq.{map-set_same}
 use Rattle.std.proofs.lemmas.Bool.{cases_Bool}
 use Rattle.std.proofs.lemmas.Bool.Decides.{eqb_tells}
 use Rattle.std.proofs.lemmas.List.{length-set, get_or-set_same, get_or-set_other, map-append}
@@ -16,7 +17,7 @@ use Rattle.fifo_table.specs.Channels.{Channel, channel_at, unused, push_of, plac
 use Rattle.event_timing.specs.Machines.{takes_in, values_in}
 use Rattle.event_timing.specs.Core.{bare_replies}
 use Rattle.engine_view.specs.Held.{seen}
-use Rattle.engine_view.specs.Taking.{taken_by, taken_all}
+use Rattle.engine_view.specs.Taking.{taken_by, taken_all, kinds_in}
 
 -- ---- one channel
 
@@ -52,6 +53,18 @@ one_channel at channels a b c inside =
             | inl same ↦ rw (e, same.0, by_is (side_of a.kind) at channels a, ← same.1) (get_or-set_same channels a.channel _ (unused Sink) inside)
             | inr apart ↦ rw (e, apart.0, by_is (side_of a.kind) at channels a) (get_or-set_other channels a.channel c _ (unused Sink) (λ q. apart.1 (sym q)))
           ]
+      | inr e ↦ rw e refl
+    ]
+
+one_kinds : (side : Side) (at : Place) (channels : List Channel) (a : Access) → kinds_in (taken_by side at channels a) ≡ kinds_in channels
+one_kinds Pop at channels a = map-set_same (λ (q : Channel). q.kind) channels a.channel _ (unused Sink) refl
+one_kinds Push at channels a = map-set_same (λ (q : Channel). q.kind) channels a.channel _ (unused Sink) refl
+
+-- each channel is what it was
+pub kinds_behind : (at : Place) (channels : List Channel) (a : Access) (b : Bool) → kinds_in (after_one at channels a b) ≡ kinds_in channels
+kinds_behind at channels a b =
+    elim (cases_Bool (is_taking a.kind && b)) [
+      | inl e ↦ rw e (one_kinds (side_of a.kind) at channels a)
       | inr e ↦ rw e refl
     ]
 

@@ -1,5 +1,5 @@
 -- What a Run adds to what is held.
-use Rattle.std.specs.Prelude.{◌≡◌, ℕ, suc, ◌<◌, ◌≤◌, Bool, List, map, All}
+use Rattle.std.specs.Prelude.{◌≡◌, ℕ, suc, ◌<◌, ◌≤◌, Bool, true, List, map, slice_set, All}
 use Rattle.flow_word.specs.Kinds.{is_blocking, side_of}
 use Rattle.flow_word.specs.declared.access.Access.{Access}
 use Rattle.flow_word.specs.declared.access.Step.{Step}
@@ -26,6 +26,10 @@ with_emitted h m step = record h {
   lanes = with_step h.lanes m step;
   channels = taken_all (place_of m (emitted_of h m)) h.channels step.accesses (done_at_once step.accesses);
 }
+
+-- with the mark of a module that is over
+abbrev pub with_over : Held → ℕ → Held
+with_over h m = record h { over = slice_set h.over m true }
 
 -- the step is the next of the module's own run, with the ordinals and the number of queries of the steps before it
 pub record IsNextStep {S : Type 0} (d : Design S) (h : Held) (m : ℕ) (step : Step) : Type 0 where

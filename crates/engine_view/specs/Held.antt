@@ -55,6 +55,10 @@ abbrev pub possible_by : Kind → Option Bool → Bool
 possible_by kind None = false
 possible_by kind (Some outcome) = cond (late_outcome kind) (not outcome) outcome
 
+-- whether an access is done or possible, where its query has this outcome
+abbrev pub flag_now : Kind → Option Bool → Bool
+flag_now kind outcome = cond (is_blocking kind) true (possible_by kind outcome)
+
 -- whether each access is done or possible, where these are the outcomes from its step's first query on
 abbrev pub flags_by : List Access → List Bool → List Bool
 flags_by [] outcomes = []

@@ -50,7 +50,7 @@ const TOO_LONG: TextFault = TextFault {
 };
 
 /// The answer to the words, with what the source gives as the input.
-pub(crate) fn answer<S: Source>(
+pub(crate) fn answer_words<S: Source>(
     alloc: Global,
     words: &[String],
     source: &mut S,

@@ -66,7 +66,8 @@ module _ (part : Statement → Option Name) (are : IsPart part) where
       → (is_among (channels earlier) n ≡ false → is_among (filter_map part earlier) n ≡ false)
       → is_among (channels (s ∷ earlier)) n ≡ false → is_among (filter_map part (s ∷ earlier)) n ≡ false
   absent_cons s earlier n None None e k rest h = rw e (rest (rw k at h))
-  absent_cons s earlier n None (Some m) e k rest h = rw e (rest ((or_none (pointwise nat_eq n m) (is_among (channels earlier) n) (rw k at h)).1))
+  absent_cons s earlier n None (Some m) e k rest h =
+      rw e (rest ((or_none (pointwise nat_eq n m) (is_among (channels earlier) n) (rw k at h)).1))
   absent_cons s earlier n (Some l) c e k rest h =
       let same : channel_name s ≡ Some l = are s l e in
       let both = or_none (pointwise nat_eq n l) (is_among (channels earlier) n) (rw same at h) in

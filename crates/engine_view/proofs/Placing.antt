@@ -1,12 +1,10 @@
 -- The places of what is taken are those of steps.
-use Rattle.std.proofs.Common.{◌≡◌, refl, sym, subst, ℕ, ◌<◌, Bool, true, false, List, length, get_or, arith, inl, inr}
+use Rattle.std.proofs.Common.{◌≡◌, refl, sym, subst, ℕ, ◌<◌, List, length, get_or, arith, inl, inr}
 use Rattle.std.specs.Prelude.{All}
 use Rattle.std.proofs.lemmas.Bool.{cases_lt}
-use Rattle.std.proofs.lemmas.List.{get_or_past, get_or_default, get_or-map, length-map}
+use Rattle.std.proofs.lemmas.List.{get_or_past, get_or_default}
 use Rattle.flow_word.specs.declared.access.Side.{Side}
-use Rattle.flow_word.specs.declared.access.Side.TheVariants.{Pop, Push}
 use Rattle.flow_word.specs.declared.access.Place.{Place}
-use Rattle.fifo_table.specs.declared.channel.Pushed.{Pushed}
 use Rattle.fifo_table.specs.declared.channel.TableChannel.TheVariants.{Sink}
 use Rattle.fifo_table.specs.Channels.{Channel, channel_at, unused, places_of}
 use Rattle.event_graph.specs.Lanes.{Lane, HasStep, no_lane, lane_at}

@@ -2,7 +2,7 @@ use Rattle.engine_view.proofs.Opened.{opening_core_is}
 use Rattle.engine_view.proofs.Emitted.{emitted_core}
 use Rattle.engine_view.proofs.Ended.{over_core}
 use Rattle.engine_view.proofs.Assigned.{assigned_core, assigned_sound}
-use Rattle.engine_view.proofs.Unsure.{IsFresh, unsure_of, answered_on}
+use Rattle.engine_view.proofs.Unsure.{unsure_of, answered_on}
 use Rattle.engine_view.proofs.Resolving.{fresh_core}
 use Rattle.engine_view.proofs.Confirming.{again_core}
 use Rattle.engine_view.proofs.Edited.{edited_core}
@@ -11,7 +11,7 @@ use Rattle.engine_view.specs.Held.{core_of}
 use Rattle.engine_view.specs.Shown.{queries_before}
 use Rattle.engine_view.specs.Answered.{with_answered, with_confirmed}
 use Rattle.event_timing.specs.Actions.{new_flags}
-use Rattle.std.proofs.Common.{suc, length}
+use Rattle.std.proofs.Common.{suc}
 use Rattle.std.proofs.lemmas.Bool.{both_ways}
 use Rattle.engine_view.proofs.laws.cores_are_held.Goals as goal
 

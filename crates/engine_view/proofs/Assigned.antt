@@ -1,5 +1,5 @@
 -- A step's cycle more is the theory's Assign, and what is held stays sound.
-use Rattle.std.proofs.Common.{◌≡◌, refl, sym, ap, subst, ◌∙◌, ℕ, zero, suc, ◌<◌, Bool, true, false, List, [], ◌∷◌, ◌++◌, length, get_or, arith, inl, inr}
+use Rattle.std.proofs.Common.{◌≡◌, refl, sym, ap, subst, ◌∙◌, ℕ, zero, suc, ◌<◌, List, [], ◌∷◌, ◌++◌, length, get_or, arith, inl, inr}
 use Rattle.std.specs.Prelude.{All}
 use mathlib.Core.Path.{fun_ext}
 use Rattle.std.proofs.lemmas.Bool.Decides.{eqb_tells}
@@ -15,6 +15,7 @@ use Rattle.engine_view.specs.Held.{Held, step_of, replies_at, core_of}
 use Rattle.engine_view.specs.Shown.{Shows, IsSound, AreTaken, AreWhole, queries_before}
 use Rattle.engine_view.specs.Timed.{with_timed}
 use Rattle.engine_view.proofs.Cores.{same_core}
+use Rattle.engine_view.proofs.Placing.{taken_stays}
 
 pub steps_stay : (lanes : List Lane) (owner cycle k : ℕ) → owner < length lanes → (lane_at (with_cycle lanes owner cycle) k).steps ≡ (lane_at lanes k).steps
 steps_stay lanes owner cycle k inside =
@@ -112,13 +113,7 @@ assigned_core {S} d h m c inside =
 
 -- ---- soundness
 
-taken_kept : {S : Type 0} → (d : Design S) (x : Core S) (m c : ℕ) (side : Side) (ch : ℕ) (places : List Place) → AreTaken d x side ch places → AreTaken d (after_assign x m c) side ch places
-taken_kept {S} d x m c side ch places t = record {
-  count = t.count;
-  each = λ i e l. let a = t.each i e l in record { owner = a.owner; emitted = a.emitted; from = a.from; to = a.to };
-}
-
-whole_kept : (g h : Held) → IsAlike g h → (m n : ℕ) → AreWhole h m n → AreWhole g m n
+pub whole_kept : (g h : Held) → IsAlike g h → (m n : ℕ) → AreWhole h m n → AreWhole g m n
 whole_kept g h a m n w = record { steps = w.steps; within = rw (a.steps m) w.within; all = w.all ∙ sym (alike_queries g h a m w.steps) }
 
 pub assigned_shows : {S : Type 0} → (d : Design S) (h : Held) (x : Core S) (m c : ℕ) → m < length h.lanes → All IsSoundLane (with_cycle h.lanes m c) → Shows d h x
@@ -138,7 +133,7 @@ assigned_shows {S} d h x m c inside lanes s =
       first_query = λ n k l. rw (a.steps n) (s.first_query n k l) ∙ sym (alike_queries (with_timed h m c) h a n k);
       kinds = s.kinds;
       lags = s.lags;
-      taken = λ side ch l. taken_kept d x m c side ch _ (s.taken side ch l);
+      taken = λ side ch l. taken_stays d x (after_assign x m c) (λ w side c k. refl) (λ w. refl) side ch _ (s.taken side ch l);
       values = s.values;
       recorded = λ n l. whole_kept (with_timed h m c) h a n _ (s.recorded n l);
       verified = λ n l. whole_kept (with_timed h m c) h a n _ (s.verified n l);

@@ -1,14 +1,13 @@
 -- The loop that compares a step's outcomes.
-use Rattle.std.proofs.Common.{◌≡◌, refl, sym, ap, ap₂, ◌∙◌, ℕ, zero, suc, ◌+◌, ◌<◌, ◌≤◌, Bool, true, false, cond, ◌||◌, List, [], ◌∷◌, ◌++◌, length, take, drop, get_or, set, arith, append_assoc, inl, inr, Option, Some, None}
+use Rattle.std.proofs.Common.{◌≡◌, refl, sym, ap, ap₂, ◌∙◌, ℕ, zero, suc, ◌+◌, ◌<◌, ◌≤◌, Bool, true, cond, ◌||◌, List, [], ◌∷◌, ◌++◌, length, take, drop, get_or, arith, append_assoc, inl, inr, Option, Some, None}
 use Rattle.std.specs.Prelude.{slice_get}
 use Rattle.std.proofs.lemmas.Bool.{cases_Bool}
-use Rattle.std.proofs.lemmas.List.{drop_more, drop_all, take_more, length-set, get_or-set_same, set-set, set-get_or}
+use Rattle.std.proofs.lemmas.List.{drop_more, drop_all, take_more}
 use Rattle.std.proofs.lemmas.Option.{slice_get-get_or}
 use Rattle.flow_word.specs.Kinds.{is_blocking}
 use Rattle.flow_word.specs.declared.access.Access.{Access}
 use Rattle.event_graph.specs.Lanes.{Lane}
 use Rattle.fifo_table.specs.Channels.{Channel}
-use Rattle.query_log.specs.Logs.{Log, RoomedLogs, log_at, no_log, with_verified}
 use Rattle.query_log.specs.declared.query.Query.{Query}
 use Rattle.time_engine.specs.Possible.{when_possible}
 use Rattle.event_timing.specs.Enablers.{answer}

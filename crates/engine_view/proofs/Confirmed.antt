@@ -1,5 +1,5 @@
 -- An Answer that finds the assumed outcomes again is the theory's, and what is held stays sound.
-use Rattle.std.proofs.Common.{◌≡◌, refl, sym, ap, ap₂, subst, ◌∙◌, ℕ, suc, ◌+◌, ◌<◌, ◌≤◌, Bool, true, false, cond, ltb, leb, eqb, ◌&&◌, ◌||◌, List, ◌++◌, drop, length, get_or, set, arith, inl, inr}
+use Rattle.std.proofs.Common.{◌≡◌, refl, sym, ap, ap₂, subst, ◌∙◌, ℕ, suc, ◌+◌, ◌<◌, ◌≤◌, Bool, true, false, cond, ltb, leb, eqb, ◌&&◌, ◌||◌, List, ◌++◌, drop, length, get_or, arith, inl, inr}
 use Rattle.std.proofs.lemmas.Bool.{cases_lt, lt-ltb, le-ltb, lt-leb, and_left, and_parts, both_ways}
 use Rattle.std.proofs.lemmas.Bool.Decides.{eqb_tells}
 use Rattle.std.proofs.lemmas.List.{length-set, get_or-set_same, get_or-set_other}
@@ -22,6 +22,7 @@ use Rattle.event_timing.proofs.Fronts.{tally_same, pushed_same}
 use Rattle.engine_view.specs.Held.{Held, step_of, emitted_of, queries_in, flags_by, are_among, has_all, replies_at, core_of}
 use Rattle.engine_view.specs.Shown.{Shows, IsSound, AreTaken, AreWhole, queries_before}
 use Rattle.engine_view.specs.Answered.{with_confirmed}
+use Rattle.engine_view.proofs.Placing.{taken_stays}
 use Rattle.engine_view.proofs.Assigned.{put_at_is}
 use Rattle.engine_view.proofs.Emitted.{queries_mono}
 use Rattle.engine_view.proofs.Answered.{queries_step, steps_only, among_is, among_if}
@@ -69,17 +70,6 @@ module _ {S : Type 0} (d : Design S) (i : IsDesign d) (h : Held) (m c : ℕ) (in
       let w = d.owner Push ch in
       ap (λ (v : List ℕ). d.inputs ch ++ v)
       (pushed_same (core_accesses d z w) (core_accesses d x w) (λ j. bare_replies (z.flags w j)) (λ j. bare_replies (x.flags w j)) ch (emitted_of h w) (λ j q. ap (λ (v : List Bool). values_in ch (core_accesses d x w j) (bare_replies v)) (flags_same w j)))
-
-  taken_kept : (side : Side) (ch : ℕ) (places : List Place) → AreTaken d x side ch places → AreTaken d z side ch places
-  taken_kept side ch places o = record {
-    count = o.count ∙ sym (tally_is (d.owner side ch) side ch (emitted_of h (d.owner side ch)));
-    each = λ j y l. let a = o.each j y l in record {
-      owner = a.owner;
-      emitted = a.emitted;
-      from = let e = tally_is (d.owner side ch) side ch (get_or places j y).step in let f = a.from in omega arith;
-      to = let e = tally_is (d.owner side ch) side ch (suc (get_or places j y).step) in let f = a.to in omega arith;
-    };
-  }
 
   log_now : log_at g.logs m ≡ record (log_at h.logs m) { verified = V }
   log_now = get_or-set_same h.logs m (record (log_at h.logs m) { verified = V }) no_log inside
@@ -185,7 +175,7 @@ module _ {S : Type 0} (d : Design S) (i : IsDesign d) (h : Held) (m c : ℕ) (in
     first_query = λ n k l. s.first_query n k l ∙ sym (same_queries n k);
     kinds = s.kinds;
     lags = s.lags;
-    taken = λ side ch l. taken_kept side ch _ (s.taken side ch l);
+    taken = λ side ch l. taken_stays d x z tally_is (λ w. refl) side ch _ (s.taken side ch l);
     values = λ ch l. s.values ch l ∙ sym (values_are ch);
     recorded = λ n l. let w = s.recorded n (let e = length-set h.logs m (record (log_at h.logs m) { verified = V }) in omega arith) in
         record { steps = w.steps; within = w.within; all = ap (λ (q : List Bool). length q) (outcomes_same n) ∙ (w.all ∙ sym (same_queries n w.steps)) };

@@ -11,9 +11,9 @@ use Rattle.flow_word.specs.Kinds.{side_of}
 use Rattle.flow_word.specs.declared.access.Side.{Side}
 use Rattle.flow_word.specs.declared.access.Side.TheVariants.{Pop, Push}
 use Rattle.flow_word.specs.declared.access.Step.{Step}
-use Rattle.event_graph.specs.Lanes.{Lane, IsSoundLane, no_lane, lane_at, timed_below}
+use Rattle.event_graph.specs.Lanes.{Lane, no_lane, lane_at, timed_below}
 use Rattle.event_graph.proofs.Growth.{none_pass}
-use Rattle.query_log.specs.Logs.{IsSoundLog, log_at}
+use Rattle.query_log.specs.Logs.{log_at}
 use Rattle.event_timing.specs.Edits.{kept, kept_cycle}
 use Rattle.engine_view.specs.Held.{Held, step_of, emitted_of, queries_in, are_among}
 use Rattle.engine_view.specs.Shown.{AreWhole, queries_before}
@@ -27,8 +27,7 @@ use Rattle.flow_word.specs.declared.access.Place.{Place}
 use Rattle.fifo_table.specs.declared.channel.Pushed.{Pushed}
 use Rattle.fifo_table.specs.declared.channel.TableChannel.{TableChannel}
 use Rattle.fifo_table.specs.declared.channel.TableChannel.TheVariants.{Source, Sink, Fifo}
-use Rattle.fifo_table.specs.Channels.{Channel, places_of, IsFifo, channel_at, unused, values_of, lag_of, deepened, with_depth}
-use Rattle.time_engine.specs.Possible.{lag}
+use Rattle.fifo_table.specs.Channels.{Channel, places_of, IsFifo, channel_at, unused, values_of, lag_of, deepened}
 use Rattle.fifo_table.specs.Channels.{HasSide}
 use Rattle.time_engine.specs.Conditions.{IsAccess, HasAccesses}
 use Rattle.event_timing.specs.Machines as theory

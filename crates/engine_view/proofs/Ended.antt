@@ -13,7 +13,8 @@ use Rattle.event_timing.proofs.Running.{run_marks}
 use Rattle.engine_view.specs.Held.{Held, emitted_of, replies_at, core_of}
 use Rattle.engine_view.specs.Shown.{Shows, IsSound, AreTaken, AreWhole}
 use Rattle.engine_view.specs.Emitted.{with_over}
-use Rattle.engine_view.proofs.Assigned.{put_is, IsAlike, alike_queries}
+use Rattle.engine_view.proofs.Assigned.{put_is, IsAlike, alike_queries, whole_kept}
+use Rattle.engine_view.proofs.Placing.{taken_stays}
 use Rattle.engine_view.proofs.Reading.{IsRead, read_sound}
 
 module _ {S : Type 0} (d : Design S) (h : Held) (m : ℕ) (inside : m < length h.over) (s : IsSound d h) where
@@ -29,15 +30,6 @@ module _ {S : Type 0} (d : Design S) (h : Held) (m : ℕ) (inside : m < length h
   alike : IsAlike g h
   alike = record { steps = λ n. refl; channels = refl; logs = refl }
 
-  taken_kept : (side : Side) (c : ℕ) (places : List Place) → AreTaken d x side c places → AreTaken d z side c places
-  taken_kept side c places o = record {
-    count = o.count;
-    each = λ i y l. let a = o.each i y l in record { owner = a.owner; emitted = a.emitted; from = a.from; to = a.to };
-  }
-
-  whole_kept : (n q : ℕ) → AreWhole h n q → AreWhole g n q
-  whole_kept n q w = record { steps = w.steps; within = w.within; all = w.all ∙ sym (alike_queries g h alike n w.steps) }
-
   over_shown : Shows d g z
   over_shown = record {
     lanes = s.lanes;
@@ -52,10 +44,10 @@ module _ {S : Type 0} (d : Design S) (h : Held) (m : ℕ) (inside : m < length h
     first_query = λ n k l. s.first_query n k l ∙ sym (alike_queries g h alike n k);
     kinds = s.kinds;
     lags = s.lags;
-    taken = λ side c l. taken_kept side c _ (s.taken side c l);
+    taken = λ side c l. taken_stays d x z (λ w side c k. refl) (λ w. refl) side c _ (s.taken side c l);
     values = s.values;
-    recorded = λ n l. whole_kept n _ (s.recorded n l);
-    verified = λ n l. whole_kept n _ (s.verified n l);
+    recorded = λ n l. whole_kept g h alike n _ (s.recorded n l);
+    verified = λ n l. whole_kept g h alike n _ (s.verified n l);
   }
 
   over_read : IsRead d g z

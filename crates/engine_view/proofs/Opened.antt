@@ -1,22 +1,18 @@
 -- What is held at first is the theory's opening core.
-use Rattle.std.proofs.Common.{◌≡◌, refl, sym, ap, subst, ◌∙◌, ℕ, zero, suc, ◌<◌, Bool, true, false, ltb, List, [], ◌++◌, length, map, get_or, replicate, arith, inl, inr, append-nil}
+use Rattle.std.proofs.Common.{◌≡◌, refl, sym, ap, subst, ◌∙◌, ℕ, zero, suc, false, ltb, List, [], ◌++◌, length, get_or, replicate, arith, inl, inr, append-nil}
 use Rattle.std.specs.Prelude.{All}
 use Rattle.std.proofs.lemmas.Bool.{cases_lt, and_left, le-ltb}
 use Rattle.std.proofs.lemmas.List.{get_or_past, get_or-map, length-map, length-replicate}
 use Rattle.std.proofs.lemmas.List.Elements.{All-replicate}
-use Rattle.flow_word.specs.Kinds.{side_of}
 use Rattle.flow_word.specs.declared.access.Side.{Side}
 use Rattle.flow_word.specs.declared.access.Side.TheVariants.{Pop, Push}
-use Rattle.flow_word.specs.declared.access.Access.{Access}
 use Rattle.flow_word.specs.declared.access.Place.{Place}
 use Rattle.event_graph.specs.Lanes.{Lane, IsSoundLane, no_lane, lane_at}
-use Rattle.fifo_table.specs.declared.channel.Pushed.{Pushed}
 use Rattle.fifo_table.specs.declared.channel.TableChannel.{TableChannel}
 use Rattle.fifo_table.specs.declared.channel.TableChannel.TheVariants.{Sink}
 use Rattle.fifo_table.specs.Channels.{Channel, channel_at, unused, values_of, places_of, lag_of}
 use Rattle.query_log.specs.Logs.{IsSoundLog, Log, log_at, no_log}
 use Rattle.time_engine.specs.Conditions.{IsAccess}
-use Rattle.time_engine.specs.Possible.{lag}
 use Rattle.event_timing.specs.Machines.{Design}
 use Rattle.event_timing.specs.Core.{Core, opening_core}
 use Rattle.event_timing.specs.Agreement.{AreOwnMarks}

@@ -1,5 +1,5 @@
 -- An Answer with no recorded outcomes: what the code needs, and what it leaves.
-use Rattle.std.proofs.Common.{◌≡◌, refl, sym, ap, subst, ◌∙◌, ℕ, suc, ◌+◌, ◌-◌, ◌^◌, ◌<◌, ◌≤◌, inl, inr, Bool, true, cond, List, length, drop, get_or, map, arith, eqb, ◌||◌, ap₂}
+use Rattle.std.proofs.Common.{◌≡◌, refl, sym, ap, subst, ◌∙◌, ℕ, suc, ◌+◌, ◌-◌, ◌<◌, ◌≤◌, inl, inr, Bool, true, cond, List, length, drop, get_or, map, arith, eqb, ◌||◌, ap₂}
 use Rattle.std.specs.Prelude.{All, slice_get, Some}
 use Rattle.std.proofs.lemmas.Bool.{or_right, ne_eqb}
 use Rattle.std.proofs.lemmas.Bool.Decides.{eqb_tells}

@@ -1,6 +1,6 @@
 -- When what is held is a core of a design: the lanes have the accesses of its states with their ordinals, the table has the pushes and
 -- pops of its steps, and the log has their outcomes.
-use Rattle.std.specs.Prelude.{◌≡◌, ℕ, zero, suc, ◌+◌, ◌<◌, ◌≤◌, Bool, true, false, List, map, length, get_or, All}
+use Rattle.std.specs.Prelude.{◌≡◌, ℕ, zero, suc, ◌+◌, ◌<◌, ◌≤◌, true, false, List, map, length, get_or, All}
 use Rattle.flow_word.specs.Kinds.{side_of}
 use Rattle.flow_word.specs.declared.access.Side.{Side}
 use Rattle.flow_word.specs.declared.access.Side.TheVariants.{Pop, Push}

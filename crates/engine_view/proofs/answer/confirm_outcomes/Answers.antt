@@ -1,9 +1,9 @@
-use Rattle.std.proofs.Common.{◌≡◌, refl, sym, ap, subst, ◌∙◌, ◌+◌, ◌≤◌, ℕ, List, length, arith}
+use Rattle.std.proofs.Common.{◌≡◌, refl, sym, ap, subst, ◌∙◌, ℕ, List, length, arith}
 use Rattle.std.specs.Prelude.{All}
 use Rattle.std.proofs.lemmas.List.{get_or-set_other}
 use Rattle.flow_word.specs.declared.access.Access.{Access}
 use Rattle.flow_word.specs.declared.access.Step.{Step}
-use Rattle.query_log.specs.Logs.{Log, log_at, no_log}
+use Rattle.query_log.specs.Logs.{Log, no_log}
 use Rattle.time_engine.specs.Conditions.{IsAccess}
 use Rattle.engine_view.specs.Held.{step_of, queries_in}
 use Rattle.engine_view.specs.Stored.{stored, held_in}

@@ -5,7 +5,7 @@ use Rattle.std.proofs.lemmas.List.{get_or-set_other}
 use Rattle.flow_word.specs.declared.access.Access.{Access}
 use Rattle.flow_word.specs.declared.access.Step.{Step}
 use Rattle.fifo_table.specs.Channels.{Channel}
-use Rattle.query_log.specs.Logs.{Log, log_at, no_log, with_outcomes}
+use Rattle.query_log.specs.Logs.{Log, no_log, with_outcomes}
 use Rattle.time_engine.specs.Conditions.{IsAccess}
 use Rattle.event_timing.specs.Actions.{new_flags}
 use Rattle.engine_view.specs.Held.{Held, step_of, queries_in, core_of}
@@ -14,7 +14,7 @@ use Rattle.engine_view.specs.Answered.{outcomes_of, with_answered}
 use Rattle.engine_view.specs.Stored.{stored, held_in}
 use Rattle.engine_view.specs.Rooms.{AreApart, HasRoomFor, HasRoom, TakesAt}
 use Rattle.engine_view.specs.Turns.{first_of}
-use Rattle.engine_view.proofs.Unsure.{unsure_of, answered_on}
+use Rattle.engine_view.proofs.Unsure.{answered_on}
 use Rattle.engine_view.proofs.Confirming.{fresh_in}
 use Rattle.engine_view.proofs.Resolving as resolving
 use Rattle.engine_view.proofs.answer.record_outcomes.Goals as goal

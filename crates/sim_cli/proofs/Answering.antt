@@ -1,6 +1,7 @@
 -- That each text has an answer, and what holds of what was read.
 use Rattle.std.proofs.Common.{◌≡◌, ◌∙◌, ap, subst, sym, refl, arith, ℕ, ◌<◌, ◌≤◌, Bool, List, ◌++◌, [], length, None, Some, IfSome, Result, Ok, Err, length-append, append-nil}
 use Rattle.std.specs.declared.option.Option.{Option}
+use Rattle.std.specs.Prelude.{IfOk}
 use Rattle.std.specs.Io.KnownBytes.{Appends, Consumes, IsAtEnd}
 use Rattle.sim_io.specs.Causes.{LosesCount}
 use Rattle.flow_design.specs.declared.session.Statement.{Statement}
@@ -53,6 +54,26 @@ pub text_only : (task : Task) (text : List ℕ) (r : Result (List Statement × L
     → (a : Answer) → AnswersText task text a → a ≡ answer_to r task
 text_only task text r only a (misread fault said h) = subst (λ x. a ≡ answer_to x task) (only (Err fault) said) h
 text_only task text r only a (read s l said h) = subst (λ x. a ≡ answer_to x task) (only (Ok (s, l)) said) (session_only task s l a h)
+
+-- ---- what the code makes
+
+-- a refusal with the reading fault of a text answers it
+pub refused_text : {E : Type 0} (task : Task) (text : List ℕ) (fault : TextFault) (r : Result Answer E) → HasFault text fault
+    → IfOk r (λ whole. whole ≡ refused fault) → IfOk r (λ whole. AnswersText task text whole)
+refused_text task text fault (Ok whole) e h = misread fault e h
+refused_text task text fault (Err e) f h = tt
+
+-- and so does one with the checking fault of the session that it stands for
+pub refused_session : {E : Type 0} (task : Task) (text : List ℕ) (s : List Statement) (l : List ℕ) (fault : TextFault) (r : Result Answer E)
+    → StandsFor text s l → fault_of s l ≡ Some fault → IfOk r (λ whole. whole ≡ refused fault) → IfOk r (λ whole. AnswersText task text whole)
+refused_session task text s l fault (Ok whole) stands e h = read s l stands (misfit fault e h)
+refused_session task text s l fault (Err e) stands f h = tt
+
+-- what is made of a session without a fault answers the text that stands for it
+pub made_text : {E : Type 0} (task : Task) (text : List ℕ) (s : List Statement) (l : List ℕ) (r : Result Answer E)
+    → StandsFor text s l → fault_of s l ≡ None → IfOk r (λ whole. whole ≡ made task s) → IfOk r (λ whole. AnswersText task text whole)
+made_text task text s l (Ok whole) stands e h = read s l stands (fit e h)
+made_text task text s l (Err e) stands f h = tt
 
 -- ---- what was read
 

@@ -96,6 +96,5 @@ pub record TellsFaults {K : Type 0} (result : Status) (reads reads_now writes wr
   pub unwritten : result ≡ ReadFault → sink_now ≡ sink
   -- a fault of writing comes only where the sink has counted one
   pub write : result ≡ WriteFault → Rose writes writes_now
-  -- neither count falls
-  pub source : reads ≤ reads_now
-  pub sink : writes ≤ writes_now
+  pub source_never_falls : reads ≤ reads_now
+  pub sink_never_falls : writes ≤ writes_now

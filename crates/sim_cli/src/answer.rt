@@ -36,7 +36,9 @@ pub(crate) enum Unanswered {
 }
 
 impl From<OutOfMemory> for Unanswered {
-    ghost from_gives = { λ _ unanswered. unanswered ≡ Unanswered.OutOfMemory };
+    ghost use Rattle.sim_cli.specs.declared.answer.Unanswered.TheVariants.{OutOfMemory as no_memory};
+
+    ghost from_gives = { λ _ unanswered. unanswered ≡ no_memory };
 
     fn from(_: OutOfMemory) -> Self {
         Unanswered::OutOfMemory

@@ -34,7 +34,7 @@ module_is_name k below = agree_below_at (λ i. is_name (codes "m" ++ decimal i))
 tail_is : (letter : ℕ) (a b : List ℕ) → letter ∷ a ≡ letter ∷ b → a ≡ b
 tail_is letter a b e = cc
 
-apart : (letter j k : ℕ) → j < 2 ^ 64 → k < 2 ^ 64 → (j ≡ k → ⊥) → bytes_eq (letter ∷ decimal j) (letter ∷ decimal k) ≡ false
+pub apart : (letter j k : ℕ) → j < 2 ^ 64 → k < 2 ^ 64 → (j ≡ k → ⊥) → bytes_eq (letter ∷ decimal j) (letter ∷ decimal k) ≡ false
 apart letter j k a b other = false_from_ne_true (bytes_eq (letter ∷ decimal j) (letter ∷ decimal k)) (λ h.
     other (decimal_injective j k a b
     (tail_is letter (decimal j) (decimal k) ((bytes_eq-Decides (letter ∷ decimal j) (letter ∷ decimal k)).0 h))))

@@ -58,7 +58,8 @@ loop_short ii most =
       arith,
       two (codes "loop l " ++ decimal ii ++ codes " " ++ decimal (ii + 1)) (codes " while g\n") 14 9
           (two (codes "loop l " ++ decimal ii ++ codes " ") (decimal (ii + 1)) 11 3
-          (two (codes "loop l " ++ decimal ii) (codes " ") 10 1 (two (codes "loop l ") (decimal ii) 7 3 (omega arith) (short ii (omega arith)))
+          (two (codes "loop l " ++ decimal ii) (codes " ") 10 1
+          (two (codes "loop l ") (decimal ii) 7 3 (omega arith) (short ii (omega arith)))
           (omega arith))
           (short (ii + 1) (omega arith))) (omega arith),
     )

@@ -37,7 +37,9 @@ pub fn make_room(
     ensures credits { length credits.new.items ≡ length credits.old.items }
     ensures credit { OnOk result (2 ≤ slice_index credits.new.items owner) }
     ensures queries { OnOk result (queries ≤ slice_index log.new.rooms owner) }
-    ensures room { (d : Design ModuleState) (over : List Bool) → AreAllPorts d owner (length fifos.old.channels) ports.now → IsRoomy d (stored graph.old fifos.old log.old) over credits.old.items → IsRoomy d (stored graph.new fifos.new log.new) over credits.new.items }
+    ensures room { (d : Design ModuleState) (over : List Bool) → AreAllPorts d owner (length fifos.old.channels) ports.now
+        → IsRoomy d (stored graph.old fifos.old log.old) over credits.old.items
+        → IsRoomy d (stored graph.new fifos.new log.new) over credits.new.items }
 {
     log.reserve(owner, queries)?;
     if credits[owner as usize] >= 2 {

@@ -32,7 +32,8 @@ compare_outcomes-requires-clause-inside c =
     let h = held_in s over in
     let f = unsure_in s c.args.owner c.requires.unsure d over i k in
     let step = first_is h c.args.owner c.frontier.result c.step-step.result.now c.frontier.ensures.count c.step-step.ensures.step in
-    let xs : (step_of h c.args.owner (first_of h c.args.owner)).accesses ≡ c.as_slice-accesses.result.now = ap (λ (t : Step). t.accesses) step ∙ sym c.as_slice-accesses.ensures in
+    let xs : (step_of h c.args.owner (first_of h c.args.owner)).accesses ≡ c.as_slice-accesses.result.now =
+    ap (λ (t : Step). t.accesses) step ∙ sym c.as_slice-accesses.ensures in
     subst (All (IsAccess c.args.fifos.now.channels)) xs (confirming.again_inside d h c.args.owner c.args.cycle f)
 
 pub compare_outcomes-requires-clause-places : goal.compare_outcomes-requires-clause-places
@@ -73,7 +74,8 @@ verify_up_to-requires-clause-recorded c =
     let h = held_in s over in
     let f = unsure_in s c.args.owner c.requires.unsure d over i k in
     let step = first_is h c.args.owner c.frontier.result c.step-step.result.now c.frontier.ensures.count c.step-step.ensures.step in
-    let xs : (step_of h c.args.owner (first_of h c.args.owner)).accesses ≡ c.as_slice-accesses.result.now = ap (λ (t : Step). t.accesses) step ∙ sym c.as_slice-accesses.ensures in
+    let xs : (step_of h c.args.owner (first_of h c.args.owner)).accesses ≡ c.as_slice-accesses.result.now =
+    ap (λ (t : Step). t.accesses) step ∙ sym c.as_slice-accesses.ensures in
     let there = recorded_in s c.args.owner c.requires.unsure d over i k c.requires.recorded in
     let first = ap (λ (t : Step). t.first_query) step in
     let count = c.count_queries.ensures.count ∙ ap queries_in (sym xs) in
@@ -87,7 +89,8 @@ overflow_add-first c =
     let h = held_in s over in
     let f = unsure_in s c.args.owner c.requires.unsure d over i k in
     let step = first_is h c.args.owner c.frontier.result c.step-step.result.now c.frontier.ensures.count c.step-step.ensures.step in
-    let xs : (step_of h c.args.owner (first_of h c.args.owner)).accesses ≡ c.as_slice-accesses.result.now = ap (λ (t : Step). t.accesses) step ∙ sym c.as_slice-accesses.ensures in
+    let xs : (step_of h c.args.owner (first_of h c.args.owner)).accesses ≡ c.as_slice-accesses.result.now =
+    ap (λ (t : Step). t.accesses) step ∙ sym c.as_slice-accesses.ensures in
     let few = confirming.again_few d h c.args.owner c.args.cycle f c.args.graph.now.rooms c.args.fifos.now c.args.log.now.rooms credits r in
     let first = ap (λ (t : Step). t.first_query) step in
     let count = c.count_queries.ensures.count in
@@ -102,12 +105,15 @@ returns-in-Same-clause-answered c = λ d over i k.
     let h = held_in s over in
     let f = unsure_in s c.args.owner c.requires.unsure d over i k in
     let step = first_is h c.args.owner c.frontier.result c.step-step.result.now c.frontier.ensures.count c.step-step.ensures.step in
-    let xs : (step_of h c.args.owner (first_of h c.args.owner)).accesses ≡ c.as_slice-accesses.result.now = ap (λ (t : Step). t.accesses) step ∙ sym c.as_slice-accesses.ensures in
+    let xs : (step_of h c.args.owner (first_of h c.args.owner)).accesses ≡ c.as_slice-accesses.result.now =
+    ap (λ (t : Step). t.accesses) step ∙ sym c.as_slice-accesses.ensures in
     let there = recorded_in s c.args.owner c.requires.unsure d over i k c.requires.recorded in
-    let again = confirming.flags_at_step d h c.args.owner c.args.cycle f c.as_slice-accesses.result.now c.step-step.result.now.first_query (sym xs)
+    let again = confirming.flags_at_step d h c.args.owner c.args.cycle f c.as_slice-accesses.result.now c.step-step.result.now.first_query
+    (sym xs)
     (sym (ap (λ (t : Step). t.first_query) step)) (c.in-Same.ensures.same refl) in
     let logs : c.verify_up_to.new.self.logs ≡ (confirming.g d h c.args.owner c.args.cycle f there again).logs =
-    c.verify_up_to.ensures.logs ∙ confirming.again_logs d h c.args.owner c.args.cycle f there again _ (let n = ap (λ (t : Step). t.first_query) step in let q = c.count_queries.ensures.count ∙ ap queries_in (sym xs) in omega arith) in
+    c.verify_up_to.ensures.logs ∙ confirming.again_logs d h c.args.owner c.args.cycle f there again _ (let n =
+    ap (λ (t : Step). t.first_query) step in let q = c.count_queries.ensures.count ∙ ap queries_in (sym xs) in omega arith) in
     rw logs (answered_on d h c.args.owner c.args.cycle _ f (λ e. again) (confirming.again_core d h c.args.owner c.args.cycle f there again))
 
 pub returns-in-Same-clause-room : goal.returns-in-Same-clause-room
@@ -116,18 +122,30 @@ returns-in-Same-clause-room c = λ credits d over i k r.
     let h = held_in s over in
     let f = unsure_in s c.args.owner c.requires.unsure d over i k in
     let step = first_is h c.args.owner c.frontier.result c.step-step.result.now c.frontier.ensures.count c.step-step.ensures.step in
-    let xs : (step_of h c.args.owner (first_of h c.args.owner)).accesses ≡ c.as_slice-accesses.result.now = ap (λ (t : Step). t.accesses) step ∙ sym c.as_slice-accesses.ensures in
+    let xs : (step_of h c.args.owner (first_of h c.args.owner)).accesses ≡ c.as_slice-accesses.result.now =
+    ap (λ (t : Step). t.accesses) step ∙ sym c.as_slice-accesses.ensures in
     let there = recorded_in s c.args.owner c.requires.unsure d over i k c.requires.recorded in
-    let again = confirming.flags_at_step d h c.args.owner c.args.cycle f c.as_slice-accesses.result.now c.step-step.result.now.first_query (sym xs)
+    let again = confirming.flags_at_step d h c.args.owner c.args.cycle f c.as_slice-accesses.result.now c.step-step.result.now.first_query
+    (sym xs)
     (sym (ap (λ (t : Step). t.first_query) step)) (c.in-Same.ensures.same refl) in
     let logs : c.verify_up_to.new.self.logs ≡ (confirming.g d h c.args.owner c.args.cycle f there again).logs =
-    c.verify_up_to.ensures.logs ∙ confirming.again_logs d h c.args.owner c.args.cycle f there again _ (let n = ap (λ (t : Step). t.first_query) step in let q = c.count_queries.ensures.count ∙ ap queries_in (sym xs) in omega arith) in
-    subst (λ (ls : List Log). HasRoom d (record { lanes = c.args.graph.now.lanes; channels = c.args.fifos.now.channels; logs = ls; over = over }) c.args.graph.now.rooms c.args.fifos.now c.verify_up_to.new.self.rooms credits) (sym logs)
-    (subst (λ (rooms : List ℕ). HasRoom d (confirming.g d h c.args.owner c.args.cycle f there again) c.args.graph.now.rooms c.args.fifos.now rooms credits) (sym c.verify_up_to.ensures.rooms)
-    (confirming.room_again d h c.args.owner c.args.cycle f there again c.args.graph.now.rooms c.args.fifos.now c.args.log.now.rooms credits r))
+    c.verify_up_to.ensures.logs ∙ confirming.again_logs d h c.args.owner c.args.cycle f there again _ (let n =
+    ap (λ (t : Step). t.first_query) step in let q = c.count_queries.ensures.count ∙ ap queries_in (sym xs) in omega arith) in
+    subst (λ (ls : List Log). HasRoom d (record {
+      lanes = c.args.graph.now.lanes;
+      channels = c.args.fifos.now.channels;
+      logs = ls;
+      over =
+          over;
+    }) c.args.graph.now.rooms c.args.fifos.now c.verify_up_to.new.self.rooms credits) (sym logs)
+    (subst (λ (rooms : List ℕ). HasRoom d (confirming.g d h c.args.owner c.args.cycle f there again) c.args.graph.now.rooms c.args.fifos.now
+    rooms credits) (sym c.verify_up_to.ensures.rooms)
+    (confirming.room_again d h c.args.owner c.args.cycle f there again c.args.graph.now.rooms c.args.fifos.now c.args.log.now.rooms credits
+    r))
 
 pub returns-in-Same-clause-others : goal.returns-in-Same-clause-others
-returns-in-Same-clause-others c = λ m apart. rw c.verify_up_to.ensures.logs (get_or-set_other c.args.log.now.logs c.args.owner m _ no_log apart)
+returns-in-Same-clause-others c = λ m apart. rw c.verify_up_to.ensures.logs (get_or-set_other c.args.log.now.logs c.args.owner m _ no_log
+    apart)
 
 pub returns-in-Differs-clause-answered : goal.returns-in-Differs-clause-answered
 returns-in-Differs-clause-answered c = (
@@ -137,10 +155,12 @@ returns-in-Differs-clause-answered c = (
       let h = held_in s over in
       let f = unsure_in s c.args.owner c.requires.unsure d over i k in
       let step = first_is h c.args.owner c.frontier.result c.step-step.result.now c.frontier.ensures.count c.step-step.ensures.step in
-      let xs : (step_of h c.args.owner (first_of h c.args.owner)).accesses ≡ c.as_slice-accesses.result.now = ap (λ (t : Step). t.accesses) step ∙ sym c.as_slice-accesses.ensures in
+      let xs : (step_of h c.args.owner (first_of h c.args.owner)).accesses ≡ c.as_slice-accesses.result.now =
+      ap (λ (t : Step). t.accesses) step ∙ sym c.as_slice-accesses.ensures in
       record {
         recorded = recorded_in s c.args.owner c.requires.unsure d over i k c.requires.recorded;
-        other = confirming.other_at_step d h c.args.owner c.args.cycle f c.as_slice-accesses.result.now c.step-step.result.now.first_query (sym xs)
+        other = confirming.other_at_step d h c.args.owner c.args.cycle f c.as_slice-accesses.result.now c.step-step.result.now.first_query
+            (sym xs)
             (sym (ap (λ (t : Step). t.first_query) step)) c.in-Differs.query (c.in-Differs.ensures.differs c.in-Differs.query refl);
       },
 )

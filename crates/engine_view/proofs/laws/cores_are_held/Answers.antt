@@ -23,6 +23,7 @@ returns g c = record {
       (fresh_core d h m c (record { unsure = unsure; fresh = none }));
   confirmed = λ d h k i m c u there same.
       let unsure = unsure_of d i h k m u in
-      answered_on d h m c (with_confirmed h m (queries_before h m (suc (first_of h m)))) unsure same (again_core d h m c unsure there (same there));
+      answered_on d h m c (with_confirmed h m (queries_before h m (suc (first_of h m)))) unsure same
+      (again_core d h m c unsure there (same there));
   cut = cut_now;
 }

@@ -8,7 +8,7 @@ use Rattle.fifo_table.specs.Roomed.{RoomedChannels}
 use Rattle.query_log.specs.Logs.{Log, RoomedLogs, log_at}
 use Rattle.event_timing.specs.Work.{sum_to}
 use Rattle.std.specs.Prelude.{slice_index_or}
-use Rattle.engine_view.specs.Held.{Held, step_of, no_step, emitted_of, are_among}
+use Rattle.engine_view.specs.Held.{Held, step_of, no_step, emitted_of, are_among, held}
 use Rattle.engine_view.specs.Timed.{with_timed}
 use Rattle.engine_view.specs.Stored.{Stored, stored, held_in}
 use Rattle.engine_view.specs.Turns.{HasUnsure, first_of, left_of, left}
@@ -90,7 +90,7 @@ pub less_assigned : (s : Stored) (graph : RoomedLanes) (m c : ℕ) → graph.lan
     → left (stored graph s.table s.log) < left s
 unfolding left
 less_assigned s graph m c e inside less among =
-    subst (λ (q : List Lane). left_in (record { lanes = q; channels = s.table.channels; logs = s.log.logs; over = [] }) < left_in
+    subst (λ (q : List Lane). left_in (held q s.table.channels s.log.logs []) < left_in
     (held_in s [])) (sym e)
     (left_assigned (held_in s []) m c inside less among)
 

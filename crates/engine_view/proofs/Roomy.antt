@@ -20,7 +20,7 @@ use Rattle.event_timing.specs.Core.{Core}
 use Rattle.event_timing.specs.Agreement.{AreOwnMarks}
 use Rattle.event_timing.specs.Actions.{MayRun, newest, emit_step}
 use Rattle.event_timing.proofs.Assigning.{put_same, put_other, put_at_other}
-use Rattle.engine_view.specs.Held.{Held, step_of, emitted_of, seen, queries_in, are_among, core_of}
+use Rattle.engine_view.specs.Held.{Held, step_of, emitted_of, seen, queries_in, are_among, core_of, held}
 use Rattle.engine_view.specs.Shown.{IsSound, queries_before}
 use Rattle.engine_view.specs.Emitted.{IsNextStep, with_emitted, place_of, done_at_once}
 use Rattle.engine_view.specs.Stored.{Stored, held_in}
@@ -120,7 +120,7 @@ all_there {S} d h s b m r =
 -- ---- a step more
 
 module _ {S : Type 0} (d : Design S) (i : IsDesign d) (h : Held) (m : ℕ) (t : Step) (next : IsNextStep d h m t) where
-  owned_next : Each (λ a. d.owner a.side a.channel ≡ m) (map seen t.accesses)
+  pub owned_next : Each (λ a. d.owner a.side a.channel ≡ m) (map seen t.accesses)
   owned_next = subst (Each (λ a. d.owner a.side a.channel ≡ m)) next.accesses (i.owned m (ready d m (newest d (core_of d h) m)))
 
   pub apart_next : AreApart t.accesses
@@ -302,10 +302,10 @@ pub roomy_kept : {S : Type 0} → (d : Design S) (s t : Stored) (over : List Boo
     → ((side : Side) (c : ℕ) → room_of s.table side c ≤ room_of t.table side c)
     → ((k : ℕ) → get_or s.log.rooms k 0 ≤ get_or t.log.rooms k 0) → IsRoomy d s over credits → IsRoomy d t over credits
 roomy_kept {S} d s t over credits el ec eo f g q r =
-    subst (λ (ls : List Lane). HasRoom d (record { lanes = ls; channels = t.table.channels; logs = t.log.logs; over = over }) t.graph.rooms
+    subst (λ (ls : List Lane). HasRoom d (held ls t.table.channels t.log.logs over) t.graph.rooms
     t.table t.log.rooms credits) (sym el)
-    (subst (λ (cs : List Channel). HasRoom d (record { lanes = s.graph.lanes; channels = cs; logs = t.log.logs; over = over }) t.graph.rooms
+    (subst (λ (cs : List Channel). HasRoom d (held s.graph.lanes cs t.log.logs over) t.graph.rooms
     t.table t.log.rooms credits) (sym ec)
-    (subst (λ (os : List Log). HasRoom d (record { lanes = s.graph.lanes; channels = s.table.channels; logs = os; over = over })
+    (subst (λ (os : List Log). HasRoom d (held s.graph.lanes s.table.channels os over)
     t.graph.rooms t.table t.log.rooms credits) (sym eo)
     (room_kept d (held_in s over) s.graph.rooms t.graph.rooms s.table t.table s.log.rooms t.log.rooms credits r f g q)))

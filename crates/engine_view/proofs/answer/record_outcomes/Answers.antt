@@ -8,7 +8,7 @@ use Rattle.fifo_table.specs.Channels.{Channel}
 use Rattle.query_log.specs.Logs.{Log, no_log, with_outcomes}
 use Rattle.time_engine.specs.Conditions.{IsAccess}
 use Rattle.event_timing.specs.Actions.{new_flags}
-use Rattle.engine_view.specs.Held.{Held, step_of, queries_in, core_of}
+use Rattle.engine_view.specs.Held.{Held, step_of, queries_in, core_of, held}
 use Rattle.engine_view.specs.Known.{found_flags}
 use Rattle.engine_view.specs.Answered.{outcomes_of, with_answered}
 use Rattle.engine_view.specs.Stored.{stored, held_in}
@@ -171,7 +171,7 @@ returns-clause-room c = λ credits d over i k r.
     c.write_outcomes.new.log.logs c.take_all.new.fifos.channels c.frontier.ensures.count step c.as_slice-2.ensures logs
     c.take_all.ensures.channels in
     subst (λ (q : Held). HasRoom d q c.args.graph.now.rooms c.take_all.new.fifos c.write_outcomes.new.log.rooms credits)
-    (sym (ap₂ (λ (cs : List Channel) (ls : List Log). record { lanes = c.args.graph.now.lanes; channels = cs; logs = ls; over = over })
+    (sym (ap₂ (λ (cs : List Channel) (ls : List Log). held c.args.graph.now.lanes cs ls over)
     channels logs))
     (resolving.room_answered d h c.args.owner c.args.cycle f c.args.graph.now.rooms c.args.fifos.now c.take_all.new.fifos
     c.args.log.now.rooms c.write_outcomes.new.log.rooms credits r

@@ -17,13 +17,14 @@ use Rattle.event_timing.specs.Machines.{Design, IsDesign, Each, takers}
 use Rattle.event_timing.specs.Core.{Core}
 use Rattle.event_timing.specs.Actions.{after_answer, new_flags}
 use Rattle.event_timing.proofs.Assigning.{put_at_same, put_at_other}
-use Rattle.engine_view.specs.Held.{Held, step_of, no_step, emitted_of, seen, queries_in, core_of}
+use Rattle.engine_view.specs.Held.{Held, held, step_of, no_step, emitted_of, seen, queries_in, core_of}
 use Rattle.engine_view.specs.Shown.{IsSound, queries_before}
 use Rattle.engine_view.specs.Known.{found_flags}
 use Rattle.engine_view.specs.Emitted.{place_of}
 use Rattle.engine_view.specs.Taking.{taken_all}
 use Rattle.engine_view.specs.Answered.{outcomes_of, done_late, with_answered}
 use Rattle.engine_view.specs.Rooms.{query_bound, room_of, TakesAt, AreApart, HasRoomFor, done_by, pending, HasRoom}
+use Rattle.engine_view.specs.Turns.{first_of}
 use Rattle.engine_view.proofs.Unsure.{IsFresh}
 use Rattle.engine_view.proofs.Taking.{all_length}
 use Rattle.engine_view.proofs.Deciding.{flags_are}
@@ -184,7 +185,7 @@ pub first_is : (h : Held) (m n : ℕ) (step : Step) → n ≡ length (lane_at h.
 first_is h m n step e there = get_or_from_slice_get (lane_at h.lanes m).steps (length (lane_at h.lanes m).cycles) step no_step
     (subst (λ (k : ℕ). slice_get (lane_at h.lanes m).steps k ≡ Some step) e there)
 
-pub channels_from : {S : Type 0} → (d : Design S) (h : Held) (m c : ℕ) (f : IsFresh d h m) (n : ℕ) (step : Step) (xs : List Access)
+channels_from : {S : Type 0} → (d : Design S) (h : Held) (m c : ℕ) (f : IsFresh d h m) (n : ℕ) (step : Step) (xs : List Access)
     (logs : List Log) (channels : List Channel)
     → n ≡ length (lane_at h.lanes m).cycles → step_of h m (length (lane_at h.lanes m).cycles) ≡ step → xs ≡ step.accesses
     → logs ≡ (with_answered h m (length (lane_at h.lanes m).cycles) (new_flags d (core_of d h) m c)).logs
@@ -198,3 +199,17 @@ channels_from {S} d h m c f n step xs logs channels en es ea el e =
     ∙ (ap (λ (as' : List Access). F k as' step.first_query logs) (ea ∙ ap (λ (t : Step). t.accesses) (sym es))
     ∙ (ap (λ (q : ℕ). F k (step_of h m k).accesses q logs) (ap (λ (t : Step). t.first_query) (sym es))
     ∙ (ap (λ (ls : List Log). F k (step_of h m k).accesses (step_of h m k).first_query ls) el ∙ fresh_channels d h m c f))))
+
+-- what is held behind the loops that add the outcomes and what they decide
+pub behind_is : {S : Type 0} → (d : Design S) (h : Held) (m c : ℕ) (f : IsFresh d h m) (n : ℕ) (step : Step) (xs ys : List Access) (logs : List Log)
+    (channels : List Channel) → n ≡ first_of h m → step_of h m (first_of h m) ≡ step → xs ≡ step.accesses → ys ≡ step.accesses
+    → logs ≡ with_outcomes h.logs m (outcomes_of xs (found_flags h.lanes h.channels c xs))
+    → channels ≡ taken_all (place_of m n) h.channels ys (done_by true ys (drop step.first_query (log_at logs m).outcomes))
+    → held h.lanes channels logs h.over ≡ with_answered h m (first_of h m) (new_flags d (core_of d h) m c)
+behind_is {S} d h m c f n step xs ys logs channels en es ex ey el ec =
+    ap₂ (λ (cs : List Channel) (ls : List Log). held h.lanes cs ls h.over) (channels_from d h m c f n step ys logs channels en es ey same ec) same
+  where
+    same : logs ≡ (with_answered h m (first_of h m) (new_flags d (core_of d h) m c)).logs
+    same =
+        el ∙ (ap (λ (as' : List Access). with_outcomes h.logs m (outcomes_of as' (found_flags h.lanes h.channels c as')))
+        (ex ∙ sym (ap (λ (t : Step). t.accesses) es)) ∙ fresh_logs d h m c f)

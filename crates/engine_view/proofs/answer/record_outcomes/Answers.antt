@@ -13,7 +13,7 @@ use Rattle.engine_view.specs.Known.{found_flags}
 use Rattle.engine_view.specs.Answered.{outcomes_of, with_answered}
 use Rattle.engine_view.specs.Stored.{stored, held_in}
 use Rattle.engine_view.specs.Rooms.{AreApart, HasRoomFor, HasRoom, TakesAt}
-use Rattle.engine_view.specs.Turns.{first_of}
+use Rattle.engine_view.specs.Turns.{IsAnswered, first_of}
 use Rattle.engine_view.proofs.Unsure.{answered_on}
 use Rattle.engine_view.proofs.Confirming.{fresh_in}
 use Rattle.engine_view.proofs.Resolving as resolving
@@ -130,53 +130,28 @@ returns-clause-answered c = λ d over i k.
     let s = stored c.args.graph.now c.args.fifos.now c.args.log.now in
     let h = held_in s over in
     let f = fresh_in s c.args.owner c.requires.unsure d over i k c.requires.fresh in
-    let step = resolving.first_is h c.args.owner c.frontier.result c.step-step.result.now c.frontier.ensures.count
-    c.step-step.ensures.step in
-    let xs : (step_of h c.args.owner (first_of h c.args.owner)).accesses ≡ c.as_slice.result.now = ap (λ (t : Step). t.accesses) step
-    ∙ sym c.as_slice.ensures in
-    let xs2 : (step_of h c.args.owner (first_of h c.args.owner)).accesses ≡ c.as_slice-2.result.now = ap (λ (t : Step). t.accesses) step
-    ∙ sym c.as_slice-2.ensures in
-    let g = with_answered h c.args.owner (first_of h c.args.owner) (new_flags d (core_of d h) c.args.owner c.args.cycle) in
-    let logs : c.write_outcomes.new.log.logs ≡ g.logs =
-    c.write_outcomes.ensures.logs
-    ∙ (ap (λ (as' : List Access). with_outcomes h.logs c.args.owner (outcomes_of as' (found_flags h.lanes h.channels c.args.cycle as')))
-    (sym xs)
-    ∙ resolving.fresh_logs d h c.args.owner c.args.cycle f) in
-    let channels : c.take_all.new.fifos.channels ≡ g.channels =
-    resolving.channels_from d h c.args.owner c.args.cycle f c.frontier.result c.step-step.result.now c.as_slice-2.result.now
-    c.write_outcomes.new.log.logs c.take_all.new.fifos.channels c.frontier.ensures.count step c.as_slice-2.ensures logs
-    c.take_all.ensures.channels in
-    rw (logs, channels) (answered_on d h c.args.owner c.args.cycle g f.unsure (λ e. absurd (both_ways _ f.fresh e))
-    (resolving.fresh_core d h c.args.owner c.args.cycle f))
+    let step = resolving.first_is h c.args.owner c.frontier.result c.step-step.result.now c.frontier.ensures.count c.step-step.ensures.step in
+    let behind = resolving.behind_is d h c.args.owner c.args.cycle f c.frontier.result c.step-step.result.now c.as_slice.result.now
+    c.as_slice-2.result.now c.write_outcomes.new.log.logs c.take_all.new.fifos.channels c.frontier.ensures.count step c.as_slice.ensures
+    c.as_slice-2.ensures c.write_outcomes.ensures.logs c.take_all.ensures.channels in
+    subst (IsAnswered d h c.args.owner c.args.cycle) (sym behind)
+    (answered_on d h c.args.owner c.args.cycle _ f.unsure (λ e. absurd (both_ways _ f.fresh e)) (resolving.fresh_core d h c.args.owner c.args.cycle f))
 
 pub returns-clause-room : goal.returns-clause-room
 returns-clause-room c = λ credits d over i k r.
     let s = stored c.args.graph.now c.args.fifos.now c.args.log.now in
     let h = held_in s over in
     let f = fresh_in s c.args.owner c.requires.unsure d over i k c.requires.fresh in
-    let step = resolving.first_is h c.args.owner c.frontier.result c.step-step.result.now c.frontier.ensures.count
-    c.step-step.ensures.step in
-    let xs : (step_of h c.args.owner (first_of h c.args.owner)).accesses ≡ c.as_slice.result.now = ap (λ (t : Step). t.accesses) step
-    ∙ sym c.as_slice.ensures in
-    let xs2 : (step_of h c.args.owner (first_of h c.args.owner)).accesses ≡ c.as_slice-2.result.now = ap (λ (t : Step). t.accesses) step
-    ∙ sym c.as_slice-2.ensures in
-    let g = with_answered h c.args.owner (first_of h c.args.owner) (new_flags d (core_of d h) c.args.owner c.args.cycle) in
-    let logs : c.write_outcomes.new.log.logs ≡ g.logs =
-    c.write_outcomes.ensures.logs
-    ∙ (ap (λ (as' : List Access). with_outcomes h.logs c.args.owner (outcomes_of as' (found_flags h.lanes h.channels c.args.cycle as')))
-    (sym xs)
-    ∙ resolving.fresh_logs d h c.args.owner c.args.cycle f) in
-    let channels : c.take_all.new.fifos.channels ≡ g.channels =
-    resolving.channels_from d h c.args.owner c.args.cycle f c.frontier.result c.step-step.result.now c.as_slice-2.result.now
-    c.write_outcomes.new.log.logs c.take_all.new.fifos.channels c.frontier.ensures.count step c.as_slice-2.ensures logs
-    c.take_all.ensures.channels in
-    subst (λ (q : Held). HasRoom d q c.args.graph.now.rooms c.take_all.new.fifos c.write_outcomes.new.log.rooms credits)
-    (sym (ap₂ (λ (cs : List Channel) (ls : List Log). held c.args.graph.now.lanes cs ls over)
-    channels logs))
-    (resolving.room_answered d h c.args.owner c.args.cycle f c.args.graph.now.rooms c.args.fifos.now c.take_all.new.fifos
-    c.args.log.now.rooms c.write_outcomes.new.log.rooms credits r
-    c.take_all.ensures.one (λ side ch q. c.take_all.ensures.others side ch (subst (All (λ (a : Access). TakesAt side ch a → ⊥)) xs2 q))
-    c.write_outcomes.ensures.other_rooms)
+    let step = resolving.first_is h c.args.owner c.frontier.result c.step-step.result.now c.frontier.ensures.count c.step-step.ensures.step in
+    let xs : (step_of h c.args.owner (first_of h c.args.owner)).accesses ≡ c.as_slice-2.result.now =
+    ap (λ (t : Step). t.accesses) step ∙ sym c.as_slice-2.ensures in
+    let behind = resolving.behind_is d h c.args.owner c.args.cycle f c.frontier.result c.step-step.result.now c.as_slice.result.now
+    c.as_slice-2.result.now c.write_outcomes.new.log.logs c.take_all.new.fifos.channels c.frontier.ensures.count step c.as_slice.ensures
+    c.as_slice-2.ensures c.write_outcomes.ensures.logs c.take_all.ensures.channels in
+    subst (λ (q : Held). HasRoom d q s.graph.rooms c.take_all.new.fifos c.write_outcomes.new.log.rooms credits) (sym behind)
+    (resolving.room_answered d h c.args.owner c.args.cycle f s.graph.rooms s.table c.take_all.new.fifos s.log.rooms
+    c.write_outcomes.new.log.rooms credits r c.take_all.ensures.one
+    (λ side ch q. c.take_all.ensures.others side ch (subst (All (λ (a : Access). TakesAt side ch a → ⊥)) xs q)) c.write_outcomes.ensures.other_rooms)
 
 pub returns-clause-others : goal.returns-clause-others
 returns-clause-others c = λ m apart.

@@ -54,7 +54,8 @@ module _ {S : Type 0} (d : Design S) (h : Held) (m : ℕ) (inside : m < length h
   over_read = record {
     emitted = λ n. refl;
     over = λ n. put_is x.over m n true (get_or (set h.over m true) n false)
-        (λ e. subst (λ (v : ℕ). get_or (set h.over m true) v false ≡ true) (sym e) (get_or-set_same h.over m true false inside)) (λ f. get_or-set_other h.over m n true false f);
+        (λ e. subst (λ (v : ℕ). get_or (set h.over m true) v false ≡ true) (sym e) (get_or-set_same h.over m true false inside))
+        (λ f. get_or-set_other h.over m n true false f);
     past = λ n k l. sym (ap (λ (v : Bool). cond v (ready d n (own d n (replies_at h n) k)) (d.opening n)) (le-ltb k (emitted_of h n) l));
     wait = λ n k. refl;
     flags = λ n k. refl;
@@ -64,7 +65,8 @@ module _ {S : Type 0} (d : Design S) (h : Held) (m : ℕ) (inside : m < length h
     cycle = λ n k. refl;
   }
 
-  pub over_core : AreOwnMarks d x → MayRun d x m → d.is_over m (ready d m (newest d x m)) ≡ true → (core_of d g ≡ after_run d x m) × IsSound d g
+  pub over_core : AreOwnMarks d x → MayRun d x m → d.is_over m (ready d m (newest d x m)) ≡ true
+      → (core_of d g ≡ after_run d x m) × IsSound d g
   over_core b r over =
       let is : after_run d x m ≡ z = cond-true {A = Core S} (d.is_over m (ready d m (newest d x m))) z _ over in
       let (e, sound) = read_sound d g z (subst (AreOwnMarks d) is (run_marks d x b m r)) over_shown over_read in

@@ -49,7 +49,8 @@ answered_on {S} d h m c g u same read = record {
         let x = core_of d h in
         elim (eqb_tells j m) [
           | inl s ↦
-              put_at_other x.verified m (first_of h m) true j p (λ a b. let b' = b in let l' = subst (λ (n : ℕ). p < first_of h n) s.1 l in omega arith)
+              put_at_other x.verified m (first_of h m) true j p (λ a b. let b' = b in let l' = subst (λ (n : ℕ). p < first_of h n) s.1 l in
+              omega arith)
               ∙ u.kept.earlier j p l
           | inr s ↦ put_at_other x.verified m (first_of h m) true j p (λ a b. s.1 a) ∙ u.kept.earlier j p l
         ]

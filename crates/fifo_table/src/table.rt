@@ -26,7 +26,12 @@ impl Model for FifoTable {
 
     ghost Value = { RoomedChannels };
 
-    ghost view = { λ t. record { channels = channels_of t.channels.items; push_rooms = push_rooms_of t.channels.items; pop_rooms = pop_rooms_of t.channels.items } };
+    ghost view = { λ t. record {
+      channels = channels_of t.channels.items;
+      push_rooms = push_rooms_of t.channels.items;
+      pop_rooms =
+          pop_rooms_of t.channels.items;
+    } };
 
     ghost invariant = { λ t. All (λ c. IsSoundKind c.kind) (channels_of t.channels.items) × (length t.channels.items < 2 ^ 32) };
 }

@@ -5,7 +5,8 @@ use Rattle.std.proofs.lemmas.Bool.{cases_lt}
 use Rattle.std.proofs.lemmas.List.{get_or_default}
 use Rattle.std.proofs.lemmas.List.Sums.{position_or_len_is}
 
-pub none_more : {X : Type 0} (p : X → Bool) (xs : List X) (i : ℕ) (d : X) → i < length xs → ((k : ℕ) (e : X) → k < i → p (get_or xs k e) ≡ false)
+pub none_more : {X : Type 0} (p : X → Bool) (xs : List X) (i : ℕ) (d : X) → i < length xs
+    → ((k : ℕ) (e : X) → k < i → p (get_or xs k e) ≡ false)
     → p (get_or xs i d) ≡ false → (k : ℕ) (e : X) → k < i + 1 → p (get_or xs k e) ≡ false
 none_more p xs i d inside before here k e h =
     elim (cases_lt k i) [
@@ -13,13 +14,15 @@ none_more p xs i d inside before here k e h =
       | inr more ↦ let at : k ≡ i = omega arith in rw (at) (ap p (get_or_default xs i e d inside) ∙ here)
     ]
 
-pub position_found : {X : Type 0} (p : X → Bool) (xs : List X) (i : ℕ) (d : X) → i < length xs → ((k : ℕ) (e : X) → k < i → p (get_or xs k e) ≡ false)
+pub position_found : {X : Type 0} (p : X → Bool) (xs : List X) (i : ℕ) (d : X) → i < length xs
+    → ((k : ℕ) (e : X) → k < i → p (get_or xs k e) ≡ false)
     → p (get_or xs i d) ≡ true → position p xs ≡ Some i
 position_found p xs i d inside before here =
     let e = position_or_len_is p xs i d (omega arith) (λ k h. before k d h) (λ h. here) in
     rw (e, lt-ltb i (length xs) inside) refl
 
-pub position_none : {X : Type 0} (p : X → Bool) (xs : List X) (n : ℕ) → n ≡ length xs → ((k : ℕ) (e : X) → k < n → p (get_or xs k e) ≡ false) → position p xs ≡ None
+pub position_none : {X : Type 0} (p : X → Bool) (xs : List X) (n : ℕ) → n ≡ length xs
+    → ((k : ℕ) (e : X) → k < n → p (get_or xs k e) ≡ false) → position p xs ≡ None
 position_none p [] n all none = refl
 position_none p (x ∷ xs) n all none =
     let e = position_or_len_is p (x ∷ xs) n x (omega arith) (λ k h. none k x h) (λ h. absurd (omega arith)) in

@@ -23,7 +23,8 @@ pub fn candidate(graph: &Graph, fifos: &FifoTable, owner: u32, limit: u64) -> Ca
     ensures nothing { (result ≡ Candidate.Nothing) ↔ (open_step (lane_at graph.now.lanes owner) ≡ None) }
     ensures waits { (i : ℕ) → (result ≡ Candidate.Waits i) ↔ (first_waiting graph.now.lanes fifos.now.channels owner ≡ Some i) }
     ensures beyond { (result ≡ Candidate.Beyond) ↔ IsSomeAnd (determined graph.now.lanes fifos.now.channels owner) (λ cycle. limit ≤ cycle) }
-    ensures at { (cycle : ℕ) → (result ≡ Candidate.At cycle) ↔ ((determined graph.now.lanes fifos.now.channels owner ≡ Some cycle) × (cycle < limit)) }
+    ensures at { (cycle : ℕ) → (result ≡ Candidate.At cycle) ↔ ((determined graph.now.lanes fifos.now.channels owner ≡ Some cycle)
+        × (cycle < limit)) }
     ensures may_take { (cycle : ℕ) → result ≡ Candidate.At cycle → MayTake graph.now.lanes owner cycle }
 {
     let first = graph.frontier(owner);

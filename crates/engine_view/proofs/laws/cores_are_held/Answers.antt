@@ -1,4 +1,5 @@
-use Rattle.std.proofs.Common.{suc}
+use Rattle.std.proofs.Common.{ap, suc, Bool, List}
+use Rattle.std.specs.Prelude.{slice_get}
 use Rattle.std.proofs.lemmas.Bool.{both_ways}
 use Rattle.event_timing.specs.Actions.{new_flags}
 use Rattle.engine_view.specs.Held.{core_of}
@@ -23,6 +24,8 @@ returns g c = record {
       (fresh_core d h m c (record { unsure = unsure; fresh = none }));
   confirmed = λ d h k i m c u there same.
       let unsure = unsure_of d i h k m u in
-      answered_on d h m c (with_confirmed h m (queries_before h m (suc (first_of h m)))) unsure same (again_core d h m c unsure there (same there));
+      answered_on d h m c (with_confirmed h m (queries_before h m (suc (first_of h m)))) unsure same
+      (again_core d h m c unsure there (same there));
+  differs = λ d h m c q o same. o.other.differs (ap (λ (flags : List Bool). slice_get flags o.other.place) (same o.recorded));
   cut = cut_now;
 }

@@ -15,7 +15,7 @@ use Rattle.sim_cli.specs.declared.task.Task.{Task}
 use Rattle.sim_cli.specs.declared.task.Task.TheVariants.{Simulate, Print, Summarize}
 use Rattle.sim_cli.specs.declared.status.Status.TheVariants.{ReadFault, Memory}
 use Rattle.sim_cli.specs.declared.answer.Answer.{Answer}
-use Rattle.sim_cli.specs.Made.{refused_words, refused, made}
+use Rattle.sim_cli.specs.Made.{refused_words, refused, made, generated}
 use Rattle.sim_cli.specs.Answer.{AnswersSession, AnswersText, AnswersCommand, Tells}
 use Rattle.sim_cli.specs.Answer.AnswersSession.{misfit, fit}
 use Rattle.sim_cli.specs.Answer.AnswersText.{misread, read}
@@ -75,6 +75,18 @@ pub made_text : {E : Type 0} (task : Task) (text : List ℕ) (s : List Statement
 made_text task text s l (Ok whole) stands e h = read s l stands (fit e h)
 made_text task text s l (Err e) stands f h = tt
 
+-- the answer to a text of which nothing else is said than that it stands for a session without a fault
+pub only_made : (task : Task) (text : List ℕ) (s : List Statement) (l : List ℕ)
+    → ((x : Result (List Statement × List ℕ) TextFault) → Said text x → x ≡ Ok (s, l)) → fault_of s l ≡ None
+    → (a : Answer) → AnswersText task text a → a ≡ made task s
+only_made task text s l only none a p = text_only task text (Ok (s, l)) only a p ∙ ap (λ (o : Option TextFault). answer_by o task s l) none
+
+pub generated_is : {E : Type 0} (task : Task) (text : List ℕ) (s : List Statement) (l : List ℕ)
+    → ((x : Result (List Statement × List ℕ) TextFault) → Said text x → x ≡ Ok (s, l)) → fault_of s l ≡ None
+    → (r : Result Answer E) → IfOk r (λ whole. AnswersText task text whole) → IfOk r (λ whole. whole ≡ made task s)
+generated_is task text s l only none (Ok whole) h = only_made task text s l only none whole h
+generated_is task text s l only none (Err e) h = tt
+
 -- ---- what was read
 
 -- what holds of each value
@@ -122,7 +134,7 @@ command_some some (Some (Run o)) bytes = some (Simulate o) bytes
 command_some some (Some (Clock o)) bytes = some (Simulate o) bytes
 command_some some (Some (Alone o)) bytes = (refused_words, refl)
 command_some some (Some Check) bytes = some Print bytes
-command_some some (Some (Gen seed modules)) bytes = some (Summarize seed modules) (session_text seed modules)
+command_some some (Some (Gen seed modules)) bytes = (generated seed modules, refl)
 
 pub command_only : ((task : Task) (text : List ℕ) (a b : Answer) → AnswersText task text a → AnswersText task text b → a ≡ b)
     → (command : Option Command) (bytes : List ℕ) (a b : Answer) → AnswersCommand command bytes a → AnswersCommand command bytes b → a ≡ b
@@ -131,4 +143,4 @@ command_only only (Some (Run o)) bytes a b p q = only (Simulate o) bytes a b p q
 command_only only (Some (Clock o)) bytes a b p q = only (Simulate o) bytes a b p q
 command_only only (Some (Alone o)) bytes a b p q = p ∙ sym q
 command_only only (Some Check) bytes a b p q = only Print bytes a b p q
-command_only only (Some (Gen seed modules)) bytes a b p q = only (Summarize seed modules) (session_text seed modules) a b p q
+command_only only (Some (Gen seed modules)) bytes a b p q = p ∙ sym q

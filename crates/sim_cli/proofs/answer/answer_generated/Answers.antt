@@ -1,4 +1,4 @@
-use Rattle.std.proofs.Common.{◌≡◌, ℕ, List, length, Result, Ok, subst}
+use Rattle.std.proofs.Common.{◌≡◌, ℕ, List, length, Result, Ok, IfOk, ◌∙◌, subst}
 use Rattle.std.specs.List.{range_with_len}
 use Rattle.flow_design.specs.declared.session.Statement.{Statement}
 use Rattle.flow_grammar.specs.declared.fault.TextFault.{TextFault}
@@ -20,4 +20,7 @@ returns-clause-generated c =
     let only : (x : Result (List Statement × List ℕ) TextFault) → Said text x → x ≡ Ok (s, l) =
         λ x said. c.one_answer.ensures.no_other text x (Ok (s, l)) said stands in
     let none = c.generated_sessions_are_checked.ensures c.args.seed c.args.modules l some most in
-    generated_is (Summarize c.args.seed c.args.modules) text s l only none c.answer_text.result c.answer_text.ensures.answers
+    let task = Summarize c.args.seed c.args.modules in
+    let answers = subst (λ (t : List ℕ). IfOk c.answer_text.result (λ whole. AnswersText task t whole))
+        (c.as_slice.ensures ∙ c.in_ok-text.ensures) c.answer_text.ensures.answers in
+    generated_is task text s l only none c.answer_text.result answers

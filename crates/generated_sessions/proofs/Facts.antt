@@ -15,10 +15,6 @@ use Rattle.generated_sessions.specs.Statements.{Name, module_name}
 abbrev pub fifo : ℕ → Name
 fifo k = name_of (channel.Fifo k)
 
--- a name that begins with a letter and goes on with a number
-abbrev pub numbered : ℕ → ℕ → Name
-numbered letter k = letter ∷ decimal k
-
 -- ---- they are names
 
 pub fifo_is_name : (k : ℕ) → k < 65 → is_name (fifo k) ≡ true

@@ -198,7 +198,7 @@ plain_range a zero most = refl
 plain_range a (suc n) most =
     and_from _ _ (and_from _ _ (le-leb 0 a (omega arith)) (le-leb a (2 ^ 64 - 1) (omega arith))) (plain_range (a + 1) n (omega arith))
 
-count_is : value_count ≡ 1000
+pub count_is : value_count ≡ 1000
 unfolding value_count
 count_is = refl
 

@@ -19,6 +19,7 @@ use Rattle.flow_grammar.specs.Parts.{Part, plain}
 use Rattle.report_text.specs.Lines.{Token, line, text_of_lines}
 use Rattle.flow_print.specs.Canonical.{token_of, tokens_of, canonical_text}
 use Rattle.generated_sessions.specs.Statements.{Name, fifo_statements, module_name, module_statements, each, value_count, session}
+use Rattle.generated_sessions.proofs.Rules.{count_is}
 use Rattle.generated_sessions.proofs.ModuleRules.{count_parts, guard_parts, write_parts}
 
 -- ---- the text of statements of version 1
@@ -64,17 +65,9 @@ cons_both {X} {x} {y} {xs} {ys} p q = ap (λ (z : X). z ∷ xs) p ∙ ap (λ (l 
 
 -- ---- numbers
 
-of_0 : decimal 0 ≡ codes "0"
-unfolding digits
-of_0 = refl
-
 of_1 : decimal 1 ≡ codes "1"
 unfolding digits
 of_1 = refl
-
-of_32 : decimal 32 ≡ codes "32"
-unfolding digits
-of_32 = refl
 
 -- ---- lines
 
@@ -237,10 +230,6 @@ tail_text n =
 head_text : text (Flow 1 ∷ Source (codes "a") 32 ∷ Sink (codes "y") 32 ∷ []) ≡ codes "flow 1\nsource a 32\nsink y 32\n"
 unfolding digits
 head_text = refl
-
-count_is : value_count ≡ 1000
-unfolding value_count
-count_is = refl
 
 whole_text : (ds : List Drawn) → text (session ds)
     ≡ codes "flow 1\nsource a 32\nsink y 32\n" ++ (each_module fifo_line 0 (take (length ds - 1) ds)

@@ -3,7 +3,7 @@ use Rattle.std.specs.Prelude.{All}
 use Rattle.std.proofs.lemmas.List.{get_or-set_other}
 use Rattle.flow_word.specs.declared.access.Access.{Access}
 use Rattle.flow_word.specs.declared.access.Step.{Step}
-use Rattle.query_log.specs.Logs.{Log, no_log}
+use Rattle.query_log.specs.Logs.{no_log}
 use Rattle.time_engine.specs.Conditions.{IsAccess}
 use Rattle.engine_view.specs.Held.{Held, step_of, queries_in}
 use Rattle.engine_view.specs.Stored.{stored, held_in}

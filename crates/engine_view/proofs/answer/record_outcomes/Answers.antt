@@ -1,16 +1,12 @@
-use Rattle.std.proofs.Common.{◌≡◌, ◌≤◌, sym, ap, ap₂, subst, ◌∙◌, List, length, get_or, arith}
+use Rattle.std.proofs.Common.{◌≡◌, ◌≤◌, sym, ap, subst, ◌∙◌, List, length, get_or, arith}
 use Rattle.std.specs.Prelude.{All}
 use Rattle.std.proofs.lemmas.Bool.{both_ways}
 use Rattle.std.proofs.lemmas.List.{get_or-set_other}
 use Rattle.flow_word.specs.declared.access.Access.{Access}
 use Rattle.flow_word.specs.declared.access.Step.{Step}
-use Rattle.fifo_table.specs.Channels.{Channel}
-use Rattle.query_log.specs.Logs.{Log, no_log, with_outcomes}
+use Rattle.query_log.specs.Logs.{no_log}
 use Rattle.time_engine.specs.Conditions.{IsAccess}
-use Rattle.event_timing.specs.Actions.{new_flags}
-use Rattle.engine_view.specs.Held.{Held, step_of, queries_in, core_of, held}
-use Rattle.engine_view.specs.Known.{found_flags}
-use Rattle.engine_view.specs.Answered.{outcomes_of, with_answered}
+use Rattle.engine_view.specs.Held.{Held, step_of, queries_in}
 use Rattle.engine_view.specs.Stored.{stored, held_in}
 use Rattle.engine_view.specs.Rooms.{AreApart, HasRoomFor, HasRoom, TakesAt}
 use Rattle.engine_view.specs.Turns.{IsAnswered, first_of}

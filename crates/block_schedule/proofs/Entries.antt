@@ -52,7 +52,8 @@ pub same_ties : (entries sorted : List (ℕ × ℕ)) → IsStableByKey (λ (e : 
 same_ties entries sorted stable offset =
     let tie = λ (e : ℕ × ℕ). not (is_lt (nat_cmp offset e.0)) && not (is_lt (nat_cmp e.0 offset)) in
     let test = λ (e : ℕ × ℕ). e.0 == offset in
-    sym (filter_agree tie test (λ e. tie_is offset e.0) sorted) ∙ (stable (offset, 0) ∙ filter_agree tie test (λ e. tie_is offset e.0) entries)
+    sym (filter_agree tie test (λ e. tie_is offset e.0) sorted)
+    ∙ (stable (offset, 0) ∙ filter_agree tie test (λ e. tie_is offset e.0) entries)
 
 -- the numbers beside an offset in text order
 in_text_order : (offset : ℕ) (ts : List (ℕ × Timed))
@@ -62,7 +63,8 @@ in_text_order offset (t ∷ ts) = by_test ((t.1).offset == offset) refl (in_text
   where
     by_test : (b : Bool) → ((t.1).offset == offset) ≡ b
         → map (λ e. e.1) (filter (λ e. e.0 == offset) (map entry_of ts)) ≡ map (λ t. t.0) (filter (λ t. (t.1).offset == offset) ts)
-        → map (λ e. e.1) (filter (λ e. e.0 == offset) (map entry_of (t ∷ ts))) ≡ map (λ t. t.0) (filter (λ t. (t.1).offset == offset) (t ∷ ts))
+        → map (λ e. e.1) (filter (λ e. e.0 == offset) (map entry_of (t ∷ ts)))
+        ≡ map (λ t. t.0) (filter (λ t. (t.1).offset == offset) (t ∷ ts))
     by_test true e rest = rw e (ap (λ (ns : List ℕ). t.0 ∷ ns) rest)
     by_test false e rest = rw e rest
 
@@ -83,7 +85,8 @@ offsets_of : (n : ℕ) (ts : List Timed) → map (λ e. e.0) (map entry_of (enum
 offsets_of n [] = refl
 offsets_of n (t ∷ ts) = ap (λ (os : List ℕ). t.offset ∷ os) (offsets_of (n + 1) ts)
 
-pub offsets_are : (b : Block) (entries sorted : List (ℕ × ℕ)) → entries ≡ map entry_of (enumerate_from 0 b.ops) → IsPermutation entries sorted
+pub offsets_are : (b : Block) (entries sorted : List (ℕ × ℕ)) → entries ≡ map entry_of (enumerate_from 0 b.ops)
+    → IsPermutation entries sorted
     → IsPermutation (map (λ t. t.offset) b.ops) (map (λ e. e.0) sorted)
 offsets_are b entries sorted made moved =
     let same : map (λ e. e.0) entries ≡ map (λ t. t.offset) b.ops = ap (map (λ (e : ℕ × ℕ). e.0)) made ∙ offsets_of 0 b.ops in
@@ -92,14 +95,17 @@ offsets_are b entries sorted made moved =
 pub in_order : (entries : List (ℕ × ℕ)) → IsNonDecreasingBy (λ (e : ℕ × ℕ). e.0) entries → IsNonDecreasing (map (λ e. e.0) entries)
 in_order entries up i j d le l =
     let inside : j < length entries = rw length-map at l in
-    let first : get_or (map (λ (e : ℕ × ℕ). e.0) entries) i d ≡ (get_or entries i (0, 0)).0 = get_or-map (λ (e : ℕ × ℕ). e.0) entries i (0, 0) d (omega arith) in
-    let second : get_or (map (λ (e : ℕ × ℕ). e.0) entries) j d ≡ (get_or entries j (0, 0)).0 = get_or-map (λ (e : ℕ × ℕ). e.0) entries j (0, 0) d inside in
+    let first : get_or (map (λ (e : ℕ × ℕ). e.0) entries) i d
+    ≡ (get_or entries i (0, 0)).0 = get_or-map (λ (e : ℕ × ℕ). e.0) entries i (0, 0) d (omega arith) in
+    let second : get_or (map (λ (e : ℕ × ℕ). e.0) entries) j d
+    ≡ (get_or entries j (0, 0)).0 = get_or-map (λ (e : ℕ × ℕ). e.0) entries j (0, 0) d inside in
     let le2 = up i j (0, 0) le inside in
     omega arith
 
 -- ---- looking up
 
-none_beside : (offset : ℕ) (offsets numbers : List ℕ) → ((k : ℕ) → k < length offsets → offset < get_or offsets k 0) → beside offset offsets numbers ≡ []
+none_beside : (offset : ℕ) (offsets numbers : List ℕ) → ((k : ℕ) → k < length offsets → offset < get_or offsets k 0)
+    → beside offset offsets numbers ≡ []
 none_beside offset [] numbers after = refl
 none_beside offset (x ∷ xs) [] after = refl
 none_beside offset (x ∷ xs) (n ∷ ns) after =
@@ -129,7 +135,8 @@ slice_is offset (x ∷ xs) (n ∷ ns) zero (suc to) pairs less least most more l
     rw (eq-eqb x offset (omega arith), size) (ap (λ (ms : List ℕ). n ∷ ms) rest)
 slice_is offset (x ∷ xs) (n ∷ ns) (suc from) (suc to) pairs less least most more le l =
     let here = less 0 (omega arith) in
-    let rest = slice_is offset xs ns from to (omega arith) (λ k h. less (suc k) (omega arith)) (λ k h i. least (suc k) (omega arith) (omega arith))
+    let rest = slice_is offset xs ns from to (omega arith) (λ k h. less (suc k) (omega arith))
+    (λ k h i. least (suc k) (omega arith) (omega arith))
     (λ k h. most (suc k) (omega arith)) (λ k h i. more (suc k) (omega arith) (omega arith)) (omega arith) (omega arith) in
     let size : suc to - suc from ≡ to - from = omega arith in
     rw (ne_eqb x offset (λ e. omega arith), size) rest

@@ -3,4 +3,3 @@ pub mod Limits
 pub mod Making
 pub mod Search
 pub mod Next
-pub mod TestBlocksFit

@@ -1,29 +1,21 @@
--- What a block that keeps the limits gives a schedule.
-use Rattle.std.proofs.Common.{arith, ℕ, ◌*◌, ◌≤◌}
+-- A sound block keeps the limits that a schedule needs.
+use Rattle.std.proofs.Common.{ℕ}
+use Rattle.std.specs.Prelude.{All}
 use Rattle.flow_design.specs.declared.design.Module.{Module}
 use Rattle.flow_design.specs.declared.design.Block.{Block}
-use Rattle.flow_design.specs.declared.design.BlockKind.{BlockKind}
-use Rattle.flow_design.specs.declared.design.BlockKind.TheVariants.{Plain, Loop}
-use Rattle.flow_design.specs.Module.{interval, interval_of}
-use Rattle.flow_design.specs.StaticRules.{IsBlockSound, IsKindSound}
+use Rattle.flow_design.specs.StaticRules.{IsBlockSound, IsModuleSound}
+use Rattle.lockstep_defs.proofs.Blocks.{some_interval, short_interval, span}
+use Rattle.block_schedule.specs.Schedules.{KeepsLimits}
 
-some_of : (registers len : ℕ) (kind : BlockKind) → IsKindSound registers len kind → 1 ≤ len → 1 ≤ interval_of kind len
-some_of registers len Plain h some = some
-some_of registers len (Loop ii again) h some = h.interval
+pub keeps_limits : (channels : ℕ) (m : Module) (b : Block) → IsBlockSound channels m b → KeepsLimits b
+keeps_limits channels m b sound = record {
+  some = some_interval channels m b sound;
+  short = short_interval channels m b sound;
+  span = span channels m b sound;
+  most = sound.most;
+  in_block = λ k d l. (sound.operations k d l).offset;
+  count = sound.count;
+}
 
-short_of : (registers len : ℕ) (kind : BlockKind) → IsKindSound registers len kind → interval_of kind len ≤ len
-short_of registers len Plain h = omega arith
-short_of registers len (Loop ii again) h = h.least
-
-span_of : (registers len : ℕ) (kind : BlockKind) → IsKindSound registers len kind → len ≤ 64 * interval_of kind len
-span_of registers len Plain h = omega arith
-span_of registers len (Loop ii again) h = h.most
-
-pub some_interval : (channels : ℕ) (m : Module) (b : Block) → IsBlockSound channels m b → 1 ≤ interval b
-some_interval channels m b h = some_of _ b.len b.kind h.kind h.least
-
-pub short_interval : (channels : ℕ) (m : Module) (b : Block) → IsBlockSound channels m b → interval b ≤ b.len
-short_interval channels m b h = short_of _ b.len b.kind h.kind
-
-pub span : (channels : ℕ) (m : Module) (b : Block) → IsBlockSound channels m b → b.len ≤ 64 * interval b
-span channels m b h = span_of _ b.len b.kind h.kind
+pub blocks_keep_limits : (channels : ℕ) (m : Module) → IsModuleSound channels m → All KeepsLimits m.blocks
+blocks_keep_limits channels m sound k d l = keeps_limits channels m _ (sound.blocks k d l)

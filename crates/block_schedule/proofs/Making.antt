@@ -6,28 +6,24 @@ use Rattle.std.specs.List.Sorted.{IsNonDecreasing, IsNonDecreasingBy, IsStableBy
 use Rattle.std.specs.Ordering.{nat_cmp}
 use Rattle.std.proofs.lemmas.List.{length-map}
 use Rattle.flow_design.specs.declared.design.Timed.{Timed}
-use Rattle.flow_design.specs.declared.design.Module.{Module}
 use Rattle.flow_design.specs.declared.design.Block.{Block}
 use Rattle.flow_design.specs.Module.{interval}
-use Rattle.flow_design.specs.StaticRules.{IsBlockSound}
 use Rattle.block_schedule.specs.declared.schedule.Schedule.{Schedule}
-use Rattle.block_schedule.specs.Schedules.{beside, IsScheduleOf}
+use Rattle.block_schedule.specs.Schedules.{beside, KeepsLimits, IsScheduleOf}
 use Rattle.block_schedule.proofs.Entries.{entry_of, beside_is, offsets_are, in_order}
-use Rattle.block_schedule.proofs.Limits.{some_interval, short_interval, span}
 
-pub made : (channels : ℕ) (m : Module) (b : Block) (s : Schedule) (entries sorted : List (ℕ × ℕ)) → IsBlockSound channels m b
+pub made : (b : Block) (s : Schedule) (entries sorted : List (ℕ × ℕ)) → KeepsLimits b
     → s.interval ≡ interval b → s.len ≡ b.len → entries ≡ map entry_of (enumerate_from 0 b.ops)
-    → IsPermutation entries sorted → IsNonDecreasingBy (λ (e : ℕ × ℕ). e.0) sorted → IsStableByKey (λ (e : ℕ × ℕ). e.0) nat_cmp entries sorted
+    → IsPermutation entries sorted → IsNonDecreasingBy (λ (e : ℕ × ℕ). e.0) sorted
+    → IsStableByKey (λ (e : ℕ × ℕ). e.0) nat_cmp entries sorted
     → s.offsets.items ≡ map (λ e. e.0) sorted → s.numbers.items ≡ map (λ e. e.1) sorted → IsScheduleOf b s
-made channels m b s entries sorted sound same_interval same_len listed moved rises stable offsets numbers = record {
+made b s entries sorted limits same_interval same_len listed moved rises stable offsets numbers = record {
   same_interval = same_interval;
   same_len = same_len;
-  some = some_interval channels m b sound;
-  in_block = λ k d l. (sound.operations k d l).offset;
-  most = sound.most;
-  short = short_interval channels m b sound;
-  span = span channels m b sound;
-  pairs = ap length numbers ∙ (length-map sorted (λ (e : ℕ × ℕ). e.1) ∙ (sym (length-map sorted (λ (e : ℕ × ℕ). e.0)) ∙ sym (ap length offsets)));
+  limits = limits;
+  pairs =
+      ap length numbers
+      ∙ (length-map sorted (λ (e : ℕ × ℕ). e.1) ∙ (sym (length-map sorted (λ (e : ℕ × ℕ). e.0)) ∙ sym (ap length offsets)));
   in_order = subst IsNonDecreasing (sym offsets) (in_order sorted rises);
   offsets = subst (IsPermutation (map (λ (t : Timed). t.offset) b.ops)) (sym offsets) (offsets_are b entries sorted listed moved);
   operations = λ offset. ap₂ (beside offset) offsets numbers ∙ beside_is b entries sorted listed stable offset;

@@ -22,7 +22,8 @@ age_of b k older = (k.clock - k.newest) + older * interval b
 -- ---- iterations with an operation
 
 -- each live iteration started so many intervals before the newest one
-from_ages : (b : Block) (k : Control) (age : ℕ) → Contains (ages b k) age → (older : ℕ) × ((older < live_count b k) × (age ≡ age_of b k older))
+from_ages : (b : Block) (k : Control) (age : ℕ) → Contains (ages b k) age
+    → (older : ℕ) × ((older < live_count b k) × (age ≡ age_of b k older))
 from_ages b k age (n, l, e) =
     let inside : n < live_count b k = omega (arith, (are_ages b k).count) in
     (live_count b k - 1 - n, (omega arith, sym e ∙ (are_ages b k).each n age inside))
@@ -42,12 +43,14 @@ in_len : (b : Block) (offset : ℕ) → All (λ t. t.offset < b.len) b.ops → H
 in_len b offset below (n, l, e) =
     let inside : n < length b.ops = rw length-map at l in
     let t : Timed = get_or b.ops n no_operation in
-    let read : get_or (map (λ (u : Timed). u.offset) b.ops) n offset ≡ t.offset = get_or-map (λ (u : Timed). u.offset) b.ops n no_operation offset inside in
+    let read : get_or (map (λ (u : Timed). u.offset) b.ops) n offset
+    ≡ t.offset = get_or-map (λ (u : Timed). u.offset) b.ops n no_operation offset inside in
     let small : t.offset < b.len = below n no_operation inside in
     omega arith
 
 -- an iteration that is live now has an operation at a later local clock, at which it is then still live
-has_later : (b : Block) (k : Control) (c older : ℕ) → 1 ≤ interval b → All (λ t. t.offset < b.len) b.ops → k.newest ≤ k.clock → k.clock ≤ c → older < live_count b k
+has_later : (b : Block) (k : Control) (c older : ℕ) → 1 ≤ interval b → All (λ t. t.offset < b.len) b.ops → k.newest ≤ k.clock → k.clock ≤ c
+    → older < live_count b k
     → HasOperationAt b (age_of b k older + (c - k.clock)) → HasOperation b (at_clock k c)
 has_later b k c older some below started later live has =
     let was : IsLive b k older = (live_iff b k older (omega arith)).0 live in
@@ -105,14 +108,16 @@ first_next b k clock stands is = rw is (by_kind k.looping refl)
           idle_before = λ older l. absurd (omega arith);
         }
 
-pub next_more : (b : Block) (s : Schedule) (k : Control) (older before age clock : ℕ) → IsScheduleOf b s → StandsIn b k → older < live_count b k
-    → age ≡ age_of b k older → IsSooner s.offsets.items k.clock age before clock → IsNextOf b k older before → IsNextOf b k (older + 1) clock
+pub next_more : (b : Block) (s : Schedule) (k : Control) (older before age clock : ℕ) → IsScheduleOf b s → StandsIn b k
+    → older < live_count b k
+    → age ≡ age_of b k older → IsSooner s.offsets.items k.clock age before clock → IsNextOf b k older before
+    → IsNextOf b k (older + 1) clock
 next_more b s k older before age clock is_schedule stands live aged sooner so_far = record {
   from = sooner.from;
   most = omega (arith, sooner.most, so_far.most);
   work = elim sooner.reached [
     | inl same ↦ subst (λ (c : ℕ). HasWork b (at_clock k c)) (sym same) so_far.work
-    | inr has ↦ inl (has_later b k clock older is_schedule.some is_schedule.in_block stands.has_started sooner.from live
+    | inr has ↦ inl (has_later b k clock older is_schedule.limits.some is_schedule.limits.in_block stands.has_started sooner.from live
         (subst (λ (a : ℕ). HasOperationAt b (a + (clock - k.clock))) aged (back has)))
   ];
   idle_before = idle;
@@ -126,10 +131,12 @@ next_more b s k older before age clock is_schedule stands live aged sooner so_fa
       | inl below ↦ so_far.idle_before j below c later (omega (arith, sooner.most)) has
       | inr last ↦
           let same : age_of b k j ≡ age = ap (age_of b k) (omega arith) ∙ sym aged in
-          sooner.idle_before c later earlier (Contains-permutation _ _ _ is_schedule.offsets (subst (λ (a : ℕ). HasOperationAt b (a + (c - k.clock))) same has))
+          sooner.idle_before c later earlier
+          (Contains-permutation _ _ _ is_schedule.offsets (subst (λ (a : ℕ). HasOperationAt b (a + (c - k.clock))) same has))
     ]
 
-pub all_next : (b : Block) (k : Control) (count clock : ℕ) → 1 ≤ interval b → StandsIn b k → count ≡ live_count b k → IsNextOf b k count clock → IsNextDue b k clock
+pub all_next : (b : Block) (k : Control) (count clock : ℕ) → 1 ≤ interval b → StandsIn b k → count ≡ live_count b k
+    → IsNextOf b k count clock → IsNextDue b k clock
 all_next b k count clock some stands all so_far = record { from = so_far.from; work = so_far.work; idle_before = idle }
   where
     idle : (c : ℕ) → k.clock ≤ c → c < clock → ¬ HasWork b (at_clock k c)
@@ -147,9 +154,10 @@ all_next b k count clock some stands all so_far = record { from = so_far.from; w
 
 pub small_offsets : (b : Block) (s : Schedule) → IsScheduleOf b s → All (λ offset. offset < 2 ^ 60) s.offsets.items
 small_offsets b s h = All-permutation (λ offset. offset < 2 ^ 60) _ _ h.offsets (λ n d l.
-    let has : HasOperationAt b (get_or (map (λ (t : Timed). t.offset) b.ops) n d) = Contains-get_or (map (λ (t : Timed). t.offset) b.ops) n d l in
-    let inside = in_len b _ h.in_block has in
-    omega (arith, h.most))
+    let has : HasOperationAt b (get_or (map (λ (t : Timed). t.offset) b.ops) n d) =
+    Contains-get_or (map (λ (t : Timed). t.offset) b.ops) n d l in
+    let inside = in_len b _ h.limits.in_block has in
+    omega (arith, h.limits.most))
 
 -- the age of a live iteration is below LEN
 pub small_age : (b : Block) (k : Control) (older : ℕ) → 1 ≤ interval b → older < live_count b k → age_of b k older < b.len

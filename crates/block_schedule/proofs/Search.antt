@@ -20,7 +20,8 @@ none_between offsets at age offset x up there read below from before (k, l, e) =
       | inr later ↦ let more = up at k 0 later l in omega arith
     ]
 
-pub sooner_some : (offsets : List ℕ) (now age next at offset clock : ℕ) → IsNonDecreasing offsets → at < length offsets → offset ≡ get_or offsets at 0
+pub sooner_some : (offsets : List ℕ) (now age next at offset clock : ℕ) → IsNonDecreasing offsets → at < length offsets
+    → offset ≡ get_or offsets at 0
     → Below offsets age at → age ≤ offset → now ≤ next → clock ≡ min next (now + (offset - age))
     → IsSooner offsets now age next clock
 sooner_some offsets now age next at offset clock up there read below found from is = record {
@@ -32,7 +33,8 @@ sooner_some offsets now age next at offset clock up there read below found from 
         inr (at, there, get_or_default offsets at (age + (clock - now)) 0 there ∙ (sym read ∙ sym same))
     | inr first ↦ inl (omega arith)
   ];
-  idle_before = λ c later earlier has. none_between offsets at age offset (age + (c - now)) up there read below (omega arith) (omega arith) has;
+  idle_before = λ c later earlier has. none_between offsets at age offset (age + (c - now)) up there read below (omega arith) (omega arith)
+      has;
 }
 
 pub sooner_none : (offsets : List ℕ) (now age next at : ℕ) → length offsets ≤ at → Below offsets age at → now ≤ next

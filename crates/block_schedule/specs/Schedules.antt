@@ -1,6 +1,7 @@
 -- What a schedule holds of its block.
 use Rattle.std.specs.Prelude.{ℕ, ◌≡◌, ◌⊎◌, ◌+◌, ◌-◌, ◌==◌, ◌*◌, ◌<◌, ◌≤◌, List, map, filter, zip, length, All, Contains, IsPermutation}
 use Rattle.std.specs.List.Sorted.{IsNonDecreasing}
+use Rattle.flow_design.specs.declared.limits.TheConstants.{BLOCK_CLOCKS, LIVE_ITERATIONS, OPERATIONS}
 use Rattle.flow_design.specs.declared.design.Block.{Block}
 use Rattle.flow_design.specs.Module.{interval, due_at}
 use Rattle.block_schedule.specs.declared.schedule.Schedule.{Schedule}
@@ -9,15 +10,20 @@ use Rattle.block_schedule.specs.declared.schedule.Schedule.{Schedule}
 abbrev pub beside : ℕ → List ℕ → List ℕ → List ℕ
 beside offset offsets numbers = map (λ e. e.1) (filter (λ e. e.0 == offset) (zip offsets numbers))
 
+-- the limits that a schedule needs of its block: those of II and LEN, of the offsets, and of the number of operations
+pub record KeepsLimits (b : Block) : Type 0 where
+  pub some : 1 ≤ interval b
+  pub short : interval b ≤ b.len
+  pub span : b.len ≤ LIVE_ITERATIONS * interval b
+  pub most : b.len ≤ BLOCK_CLOCKS
+  pub in_block : All (λ t. t.offset < b.len) b.ops
+  pub count : length b.ops ≤ OPERATIONS
+
 -- the schedule of a block that keeps the limits: its offsets in order, and beside each offset the operations there, in text order
 pub record IsScheduleOf (b : Block) (s : Schedule) : Type 0 where
   pub same_interval : s.interval ≡ interval b
   pub same_len : s.len ≡ b.len
-  pub some : 1 ≤ interval b
-  pub in_block : All (λ t. t.offset < b.len) b.ops
-  pub most : b.len ≤ 1000000000000
-  pub short : interval b ≤ b.len
-  pub span : b.len ≤ 64 * interval b
+  pub limits : KeepsLimits b
   pub pairs : length s.numbers.items ≡ length s.offsets.items
   pub in_order : IsNonDecreasing s.offsets.items
   pub offsets : IsPermutation (map (λ t. t.offset) b.ops) s.offsets.items

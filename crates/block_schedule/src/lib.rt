@@ -5,6 +5,7 @@ mod schedule;
 mod tables;
 
 pub use schedule::Schedule;
+pub use tables::interval;
 
 #[cfg(test)]
 mod tests;

@@ -2,10 +2,8 @@
 ghost use Rattle.std.specs.Prelude.{ℕ, ◌≡◌, ◌+◌, ◌^◌, ◌≤◌, ◌<◌, if◌then◌else◌, All, IfOk};
 ghost use Rattle.std.specs.List.Sorted.{IsNonDecreasing};
 ghost use Rattle.flow_design.specs.declared.design.Block.{Block as BlockOf};
-ghost use Rattle.flow_design.specs.declared.design.Module.{Module as ModuleOf};
-ghost use Rattle.flow_design.specs.StaticRules.{IsBlockSound};
 ghost use Rattle.flow_design.specs.Module.{due_at, live_count};
-ghost use Rattle.block_schedule.specs.Schedules.{IsScheduleOf, IsSooner};
+ghost use Rattle.block_schedule.specs.Schedules.{KeepsLimits, IsScheduleOf, IsSooner};
 ghost use Rattle.block_schedule.specs.Work.{StandsIn, IsNextDue};
 
 use crate::tables::{
@@ -27,9 +25,9 @@ pub struct Schedule {
 }
 
 impl Schedule {
-    /// The schedule of a block that keeps the limits.
+    /// The schedule of a block that keeps the limits of II and LEN, of offsets, and of the number of operations.
     pub fn new(alloc: Global, block: &Block) -> Result<Schedule, OutOfMemory>
-        requires { (channels : ℕ) × ((m : ModuleOf) × IsBlockSound channels m block.now) }
+        requires { KeepsLimits block.now }
         ensures { IfOk result (λ schedule. IsScheduleOf block.now schedule) }
     {
         let mut entries = entries_of(alloc, block.ops.as_slice())?;

@@ -3,14 +3,15 @@ ghost use Rattle.std.specs.Prelude.{ℕ, ◌≡◌, ◌<◌, ◌≤◌, length, 
 ghost use Rattle.std.specs.List.Sorted.{IsNonDecreasing, IsNonDecreasingBy, IsStableByKey};
 ghost use Rattle.std.specs.List.{enumerate_from};
 ghost use Rattle.std.specs.Ordering.{nat_cmp};
+ghost use Rattle.flow_design.specs.declared.limits.TheConstants.{OPERATIONS};
 ghost use Rattle.flow_design.specs.Module.{interval};
 
 use flow_design::{Block, BlockKind, Timed};
 use flow_word::OutOfMemory;
 use std::alloc::Global;
 
-/// The local clocks between the starts of two iterations.
-pub(crate) fn interval(block: &Block) -> u64
+/// The local clocks between the starts of two iterations: II of a loop, and LEN of a plain block.
+pub fn interval(block: &Block) -> u64
     ensures { result ≡ interval block.now }
 {
     match block.kind {
@@ -21,7 +22,7 @@ pub(crate) fn interval(block: &Block) -> u64
 
 /// The offset of each operation beside its number, in text order.
 pub(crate) fn entries_of(alloc: Global, ops: &[Timed]) -> Result<Vec<(u64, u32)>, OutOfMemory>
-    requires { length ops.now ≤ 1024 }
+    requires { length ops.now ≤ OPERATIONS }
     ensures { IfOk result (λ entries. entries.items ≡ map (λ t. ((t.1).offset, t.0)) (enumerate_from 0 ops.now)) }
 {
     let mut entries = Vec::with_capacity(alloc, ops.len())?;

@@ -1,10 +1,11 @@
 -- Loops that go over a list with the place of each item.
 use Rattle.std.proofs.Common.{◌≡◌, ℕ, ◌+◌, ◌<◌, ◌≤◌, List, [], ◌∷◌, ◌++◌, map, length, take, drop, get_or, refl, sym, ◌∙◌, ap, subst, arith, append_assoc, ⊎_elim, ◌⊎◌, inl, inr, Option, Bool, true, false, cond, zero-add, add-zero, suc}
-use Rattle.std.specs.List.{enumerate_from, flat_map, filter, filter_map, range_with_len, refill}
+use Rattle.std.specs.List.{list_any, enumerate_from, flat_map, filter, filter_map, range_with_len, refill}
 use Rattle.std.proofs.Math.ListN.{set}
 use Rattle.std.proofs.lemmas.Bool.{cases_lt}
 use Rattle.std.proofs.lemmas.List.{take_more, take_more_set, take_all, take_at, map-append, append-nil, length-map, get_or-map, get_or-set_other, get_or-set_same, get_or_append_left, get_or_push, map-id}
 use Rattle.std.proofs.lemmas.List.Concat.{flat_map-append}
+use Rattle.std.proofs.lemmas.List.Folds.{list_any-append, list_any_at}
 use Rattle.std.proofs.lemmas.List.Elements.{filter-append, filter_map-append}
 use Rattle.std.proofs.lemmas.List.FromFn.{length-enumerate_from, get_or-enumerate_from, map-range_with_len_more}
 
@@ -13,7 +14,8 @@ pub numbered_more : {X : Type 0} (xs : List X) (i : ℕ) (d : X) → i < length 
     → take (i + 1) (enumerate_from 0 xs) ≡ take i (enumerate_from 0 xs) ++ (i, get_or xs i d) ∷ []
 numbered_more xs i d h =
     let within : i < length (enumerate_from 0 xs) = omega (arith, length-enumerate_from 0 xs) in
-    take_more (enumerate_from 0 xs) i (0, d) within ∙ ap (λ m. take i (enumerate_from 0 xs) ++ m ∷ []) (rw zero-add at (get_or-enumerate_from 0 xs i (0, d) h))
+    take_more (enumerate_from 0 xs) i (0, d) within
+    ∙ ap (λ m. take i (enumerate_from 0 xs) ++ m ∷ []) (rw zero-add at (get_or-enumerate_from 0 xs i (0, d) h))
 
 pub numbered_all : {X : Type 0} (xs : List X) (i : ℕ) → length xs ≤ i → take i (enumerate_from 0 xs) ≡ enumerate_from 0 xs
 numbered_all xs i h = take_all i (enumerate_from 0 xs) (omega (arith, length-enumerate_from 0 xs))
@@ -43,7 +45,9 @@ pub grown_more : {X Y : Type 0} (f : ℕ × X → List Y) (xs : List X) (i : ℕ
     → next ≡ before ++ flat_map f (take (i + 1) (enumerate_from 0 xs))
 grown_more f xs i d before out next h so now =
     now ∙ (ap (λ l. l ++ f (i, get_or xs i d)) so ∙ (append_assoc before (flat_map f (take i (enumerate_from 0 xs))) (f (i, get_or xs i d))
-    ∙ ap (λ l. before ++ l) (sym (ap (flat_map f) (numbered_more xs i d h) ∙ (flat_map-append f (take i (enumerate_from 0 xs)) ((i, get_or xs i d) ∷ []) ∙ ap (λ l. flat_map f (take i (enumerate_from 0 xs)) ++ l) (append-nil _))))))
+    ∙ ap (λ l. before ++ l) (sym (ap (flat_map f) (numbered_more xs i d h)
+    ∙ (flat_map-append f (take i (enumerate_from 0 xs)) ((i, get_or xs i d) ∷ [])
+    ∙ ap (λ l. flat_map f (take i (enumerate_from 0 xs)) ++ l) (append-nil _))))))
 
 -- a list whose items were all written anew
 pub refilled : {X : Type 0} (xs ws : List X) → length ws ≡ length xs → refill (length xs) xs ws ≡ ws
@@ -52,21 +56,25 @@ refilled xs ws h = take_at ws (drop (length ws) xs) (length xs) h
 pub numbered_length : {X Y : Type 0} (f : ℕ × X → Y) (xs : List X) (ws : List Y) → ws ≡ map f (enumerate_from 0 xs) → length ws ≡ length xs
 numbered_length f xs ws h = ap length h ∙ (length-map (enumerate_from 0 xs) f ∙ length-enumerate_from 0 xs)
 
-from_place : {X Y : Type 0} (f g : ℕ × X → Y) (xs : List X) (n : ℕ) (d : X) → ((k : ℕ) → k < length xs → f (n + k, get_or xs k d) ≡ g (n + k, get_or xs k d))
+from_place : {X Y : Type 0} (f g : ℕ × X → Y) (xs : List X) (n : ℕ) (d : X)
+    → ((k : ℕ) → k < length xs → f (n + k, get_or xs k d) ≡ g (n + k, get_or xs k d))
     → map f (enumerate_from n xs) ≡ map g (enumerate_from n xs)
 from_place f g [] n d h = refl
 from_place f g (x ∷ xs) n d h =
     let here : f (n, x) ≡ g (n, x) = subst (λ (m : ℕ). f (m, x) ≡ g (m, x)) (add-zero n) (h 0 (omega arith)) in
-    let rest = from_place f g xs (n + 1) d (λ k l. subst (λ (m : ℕ). f (m, get_or xs k d) ≡ g (m, get_or xs k d)) (next_place n k) (h (suc k) (omega arith))) in
+    let rest = from_place f g xs (n + 1) d
+    (λ k l. subst (λ (m : ℕ). f (m, get_or xs k d) ≡ g (m, get_or xs k d)) (next_place n k) (h (suc k) (omega arith))) in
     rw (here, rest) refl
   where
     next_place : (n k : ℕ) → n + suc k ≡ n + 1 + k
     next_place n k = omega arith
 
 -- functions that agree at each place
-pub same_by_places : {X Y : Type 0} (f g : ℕ × X → Y) (xs : List X) (d : X) → ((k : ℕ) → k < length xs → f (k, get_or xs k d) ≡ g (k, get_or xs k d))
+pub same_by_places : {X Y : Type 0} (f g : ℕ × X → Y) (xs : List X) (d : X)
+    → ((k : ℕ) → k < length xs → f (k, get_or xs k d) ≡ g (k, get_or xs k d))
     → map f (enumerate_from 0 xs) ≡ map g (enumerate_from 0 xs)
-same_by_places f g xs d h = from_place f g xs 0 d (λ k l. subst (λ (n : ℕ). f (n, get_or xs k d) ≡ g (n, get_or xs k d)) (sym (zero-add k)) (h k l))
+same_by_places f g xs d h = from_place f g xs 0 d
+    (λ k l. subst (λ (n : ℕ). f (n, get_or xs k d) ≡ g (n, get_or xs k d)) (sym (zero-add k)) (h k l))
 
 -- one place written: the places behind it are as they were
 pub rest_more : {X : Type 0} (from to : List X) (i : ℕ) (y d : X) → ((k : ℕ) → i ≤ k → get_or to k d ≡ get_or from k d)
@@ -77,7 +85,8 @@ below_or_at : (k i : ℕ) → k < i + 1 → (k < i) ⊎ (k ≡ i)
 below_or_at k i l = ⊎_elim (λ h. inl h) (λ h. inr (omega arith)) (cases_lt k i)
 
 -- a fact of each place so far, also at the place that was written
-pub held_more : {X : Type 0} (P : ℕ → X → Type 0) (to : List X) (i : ℕ) (y d : X) → i < length to → ((k : ℕ) → k < i → P k (get_or to k d)) → P i y
+pub held_more : {X : Type 0} (P : ℕ → X → Type 0) (to : List X) (i : ℕ) (y d : X) → i < length to → ((k : ℕ) → k < i → P k (get_or to k d))
+    → P i y
     → (k : ℕ) → k < i + 1 → P k (get_or (set to i y) k d)
 held_more P to i y d within so now k l =
     ⊎_elim (λ below. subst (P k) (sym (get_or-set_other to i k y d (λ same. omega arith))) (so k below))
@@ -85,7 +94,8 @@ held_more P to i y d within so now k l =
     (below_or_at k i l)
 
 -- the same where an item is added at the end
-pub held_push : {X : Type 0} (P : ℕ → X → Type 0) (xs : List X) (i : ℕ) (y d : X) → length xs ≡ i → ((k : ℕ) → k < i → P k (get_or xs k d)) → P i y
+pub held_push : {X : Type 0} (P : ℕ → X → Type 0) (xs : List X) (i : ℕ) (y d : X) → length xs ≡ i → ((k : ℕ) → k < i → P k (get_or xs k d))
+    → P i y
     → (k : ℕ) → k < i + 1 → P k (get_or (xs ++ y ∷ []) k d)
 held_push P xs i y d count so now k l =
     ⊎_elim (λ below. subst (P k) (sym (get_or_append_left xs (y ∷ []) d k (omega arith))) (so k below))
@@ -110,7 +120,8 @@ pub passed_more : {Y : Type 0} (f g : ℕ → Y) (p : ℕ → Bool) (i : ℕ) (o
     → next ≡ out ++ map g (filter p (i ∷ [])) → g i ≡ f i → next ≡ map f (filter p (range_with_len 0 (i + 1)))
 passed_more f g p i out next so now same =
     now ∙ (ap (λ l. l ++ map g (filter p (i ∷ []))) so ∙ (ap (λ l. map f (filter p (range_with_len 0 i)) ++ l) (by_test (p i))
-    ∙ sym (ap (λ (l : List ℕ). map f (filter p l)) (range_more i) ∙ (ap (map f) (filter-append p (range_with_len 0 i) (i ∷ [])) ∙ map-append f (filter p (range_with_len 0 i)) (filter p (i ∷ []))))))
+    ∙ sym (ap (λ (l : List ℕ). map f (filter p l)) (range_more i)
+    ∙ (ap (map f) (filter-append p (range_with_len 0 i) (i ∷ [])) ∙ map-append f (filter p (range_with_len 0 i)) (filter p (i ∷ []))))))
   where
     by_test : (b : Bool) → map g (cond b (i ∷ []) []) ≡ map f (cond b (i ∷ []) [])
     by_test true = ap (λ y. y ∷ []) same
@@ -122,3 +133,19 @@ pub written_through : {X : Type 0} (f : ℕ × X → X) (xs lent ws : List X) �
 written_through {X} f xs lent ws e h =
     let now = h ∙ ap (λ (l : List X). map f (enumerate_from 0 l)) e in
     refilled xs ws (numbered_length f xs ws now) ∙ now
+
+-- ---- the first item that passes a test
+
+pub none_more : {X : Type 0} (f : ℕ × X → Bool) (xs : List X) (i : ℕ) (d : X) → i < length xs
+    → list_any f (take i (enumerate_from 0 xs)) ≡ false
+    → f (i, get_or xs i d) ≡ false → list_any f (take (i + 1) (enumerate_from 0 xs)) ≡ false
+none_more f xs i d h before now =
+    ap (list_any f) (numbered_more xs i d h)
+    ∙ (list_any-append f (take i (enumerate_from 0 xs)) ((i, get_or xs i d) ∷ []) ∙ rw (before, now) refl)
+
+pub some_at : {X : Type 0} (f : ℕ × X → Bool) (xs : List X) (i : ℕ) (d : X) → i < length xs → f (i, get_or xs i d) ≡ true
+    → list_any f (enumerate_from 0 xs) ≡ true
+some_at f xs i d h now =
+    let within : i < length (enumerate_from 0 xs) = omega (arith, length-enumerate_from 0 xs) in
+    let here : get_or (enumerate_from 0 xs) i (0, d) ≡ (i, get_or xs i d) = rw zero-add at (get_or-enumerate_from 0 xs i (0, d) h) in
+    list_any_at f (enumerate_from 0 xs) i (0, d) within (ap f here ∙ now)

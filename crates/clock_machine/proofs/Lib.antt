@@ -3,3 +3,4 @@ pub mod PartLemmas
 pub mod Queues
 pub mod Steps
 pub mod Tables
+pub mod Kept

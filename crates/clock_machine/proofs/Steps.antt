@@ -1,4 +1,5 @@
 -- The steps of a clock, by the modules' parts.
+use Rattle.flow_design.specs.declared.state.Element.{Element}
 use Rattle.std.proofs.Common.{◌≡◌, ℕ, suc, zero, ◌+◌, ◌<◌, ◌≢◌, List, [], ◌∷◌, ◌++◌, map, length, get_or, cond, not, Bool, true, false, refl, sym, ◌∙◌, ap, subst, arith, add-zero, zero-add}
 use Rattle.std.specs.List.{enumerate_from, flat_map, filter}
 use Rattle.std.proofs.lemmas.Bool.{false≢true}
@@ -9,8 +10,12 @@ use Rattle.flow_design.specs.declared.plan.Plan.{Plan}
 use Rattle.flow_design.specs.declared.state.ClockState.{ClockState}
 use Rattle.flow_design.specs.declared.state.ModuleState.{ModuleState}
 use Rattle.flow_design.specs.declared.state.Request.{Request}
+use Rattle.flow_word.specs.declared.access.Side.{Side}
+use Rattle.flow_word.specs.declared.access.Side.TheVariants.{Pop, Push}
+use Rattle.flow_word.specs.Kinds.{is_blocking}
+use Rattle.lockstep_defs.proofs.Queue.{moved-append, moved_by-append, moved-step}
 use Rattle.lockstep_defs.specs.Machine.{is_yes, nobody}
-use Rattle.lockstep_defs.specs.Channels.{HistoryStep, Exchange, is_blocking, moved_by, moved}
+use Rattle.lockstep_defs.specs.Channels.{HistoryStep, Exchange, moved_by, moved}
 use Rattle.lockstep_defs.specs.Lockstep.{requests_of, moves, numbered, answered, step_with, step_of, steps_in, next_state, contents_after, clock_step}
 use Rattle.lockstep_defs.specs.Report.{steps_of, queries, outcomes, event_of, events_of}
 use Rattle.clock_machine.specs.declared.part.Answered.{Answered}
@@ -18,24 +23,25 @@ use Rattle.clock_machine.specs.declared.part.Part.{Part}
 use Rattle.clock_machine.specs.Parts.{exchange, answered_as, no_part, part_of, after_part, IsReady, exchanges_of, all_exchanges, steps_from, event_by, events_from, outcomes_in, after_pops, after_pushes}
 use Rattle.clock_machine.proofs.PartLemmas.{part_when_moving, part_when_still, moves_when}
 use Rattle.clock_machine.proofs.Fronts.{same_by_places, numbered_read}
-use Rattle.clock_machine.proofs.Queues.{moved_by-append, same_place, other_place, twice}
+use Rattle.clock_machine.proofs.Queues.{same_place, other_place, twice}
 
 -- ---- the steps themselves
 
-same_exchanges : (p : Plan) (clock : ℕ) (contents : List (List ℕ)) (asked : List Request)
+same_exchanges : (p : Plan) (clock : ℕ) (contents : List (List Element)) (asked : List Request)
     → map exchange (map (answered_as p clock contents) asked) ≡ map (answered p clock contents) asked
 same_exchanges p clock contents [] = refl
 same_exchanges p clock contents (r ∷ asked) = ap (λ l. answered p clock contents r ∷ l) (same_exchanges p clock contents asked)
 
-step_by_part : (p : Plan) (clock : ℕ) (contents : List (List ℕ)) (m : ℕ × ModuleState)
+step_by_part : (p : Plan) (clock : ℕ) (contents : List (List Element)) (m : ℕ × ModuleState)
     → step_with clock m.0 (exchanges_of (part_of p clock contents m)) ≡ step_of p clock contents m
 step_by_part p clock contents m = by_test (moves p clock contents m) refl
   where
-    by_test : (b : Bool) → moves p clock contents m ≡ b → step_with clock m.0 (exchanges_of (part_of p clock contents m)) ≡ step_of p clock contents m
+    by_test : (b : Bool) → moves p clock contents m ≡ b
+        → step_with clock m.0 (exchanges_of (part_of p clock contents m)) ≡ step_of p clock contents m
     by_test true h = rw (part_when_moving p clock contents m h, h, same_exchanges p clock contents (requests_of p m)) refl
     by_test false h = rw (part_when_still p clock contents m h, h) refl
 
-steps_by_parts : (p : Plan) (clock : ℕ) (contents : List (List ℕ)) (n : ℕ) (states : List ModuleState)
+steps_by_parts : (p : Plan) (clock : ℕ) (contents : List (List Element)) (n : ℕ) (states : List ModuleState)
     → flat_map (λ m. step_with clock m.0 (exchanges_of m.1)) (enumerate_from n (map (part_of p clock contents) (enumerate_from n states)))
     ≡ flat_map (step_of p clock contents) (enumerate_from n states)
 steps_by_parts p clock contents n [] = refl
@@ -49,42 +55,39 @@ steps_told p clock st parts e = ap (steps_from clock) e ∙ steps_by_parts p clo
 
 -- ---- what they move
 
-moved-append : (side : Bool) (f : ℕ) (steps more : List HistoryStep) → moved side f (steps ++ more) ≡ moved side f steps ++ moved side f more
-unfolding moved
-moved-append side f steps more = flat_map-append _ steps more
-
-moved_in_step : (side : Bool) (f clock i : ℕ) (xs : List Exchange) → moved side f (step_with clock i xs) ≡ moved_by side f xs
-unfolding moved moved_by
-moved_in_step side f clock i [] = refl
-moved_in_step side f clock i (x ∷ xs) = append-nil _
-
-moved_in_none : (side : Bool) (f : ℕ) → moved side f [] ≡ moved_by side f []
+moved_in_none : (side : Side) (f : ℕ) → moved side f [] ≡ moved_by side f []
 unfolding moved moved_by
 moved_in_none side f = refl
 
-moved_in_steps : (side : Bool) (f clock n : ℕ) (parts : List Part)
+moved_in_steps : (side : Side) (f clock n : ℕ) (parts : List Part)
     → moved side f (flat_map (λ m. step_with clock m.0 (exchanges_of m.1)) (enumerate_from n parts)) ≡ moved_by side f (all_exchanges parts)
 moved_in_steps side f clock n [] = moved_in_none side f
 moved_in_steps side f clock n (part ∷ parts) =
-    moved-append side f (step_with clock n (exchanges_of part)) (flat_map (λ m. step_with clock m.0 (exchanges_of m.1)) (enumerate_from (n + 1) parts))
-    ∙ (ap (λ l. l ++ moved side f (flat_map (λ m. step_with clock m.0 (exchanges_of m.1)) (enumerate_from (n + 1) parts))) (moved_in_step side f clock n (exchanges_of part))
+    moved-append side f (step_with clock n (exchanges_of part))
+    (flat_map (λ m. step_with clock m.0 (exchanges_of m.1)) (enumerate_from (n + 1) parts))
+    ∙ (ap (λ l. l ++ moved side f (flat_map (λ m. step_with clock m.0 (exchanges_of m.1)) (enumerate_from (n + 1) parts)))
+    (moved-step clock n side f (exchanges_of part))
     ∙ (ap (λ l. moved_by side f (exchanges_of part) ++ l) (moved_in_steps side f clock (n + 1) parts)
     ∙ sym (moved_by-append side f (exchanges_of part) (all_exchanges parts))))
 
-after_clock : (clock : ℕ) (parts : List Part) (m : ℕ × List ℕ)
-    → after_pushes (all_exchanges parts) (m.0, after_pops (all_exchanges parts) m) ≡ contents_after (steps_from clock parts) m
-after_clock clock parts m = rw (moved_in_steps true m.0 clock 0 parts, moved_in_steps false m.0 clock 0 parts) refl
+after_clock : (p : Plan) (clock : ℕ) (parts : List Part) (m : ℕ × List Element)
+    → after_pushes p clock (all_exchanges parts) (m.0, after_pops (all_exchanges parts) m)
+    ≡ contents_after p clock (steps_from clock parts) m
+after_clock p clock parts m = rw (moved_in_steps Pop m.0 clock 0 parts, moved_in_steps Push m.0 clock 0 parts) refl
 
 -- first all pops, then all pushes
-contents_next : (clock : ℕ) (parts : List Part) (before now next : List (List ℕ)) → now ≡ map (after_pops (all_exchanges parts)) (enumerate_from 0 before)
-    → next ≡ map (after_pushes (all_exchanges parts)) (enumerate_from 0 now) → next ≡ map (contents_after (steps_from clock parts)) (enumerate_from 0 before)
-contents_next clock parts before now next e f =
-    f ∙ (ap (λ (contents : List (List ℕ)). map (after_pushes (all_exchanges parts)) (enumerate_from 0 contents)) e
-    ∙ twice (after_pushes (all_exchanges parts)) (after_pops (all_exchanges parts)) (contents_after (steps_from clock parts)) 0 before (after_clock clock parts))
+contents_next : (p : Plan) (clock : ℕ) (parts : List Part) (before now next : List (List Element))
+    → now ≡ map (after_pops (all_exchanges parts)) (enumerate_from 0 before)
+    → next ≡ map (after_pushes p clock (all_exchanges parts)) (enumerate_from 0 now)
+    → next ≡ map (contents_after p clock (steps_from clock parts)) (enumerate_from 0 before)
+contents_next p clock parts before now next e f =
+    f ∙ (ap (λ (contents : List (List Element)). map (after_pushes p clock (all_exchanges parts)) (enumerate_from 0 contents)) e
+    ∙ twice (after_pushes p clock (all_exchanges parts)) (after_pops (all_exchanges parts))
+    (contents_after p clock (steps_from clock parts)) 0 before (after_clock p clock parts))
 
 -- ---- the next states
 
-next_by_part : (p : Plan) (clock : ℕ) (contents : List (List ℕ)) (m : ℕ × ModuleState)
+next_by_part : (p : Plan) (clock : ℕ) (contents : List (List Element)) (m : ℕ × ModuleState)
     → after_part p m (part_of p clock contents m) ≡ next_state p clock contents m
 next_by_part p clock contents m = by_test (moves p clock contents m) refl
   where
@@ -98,13 +101,16 @@ pub part_at : (p : Plan) (clock : ℕ) (st : ClockState) (parts : List Part) (i 
 part_at p clock st parts i e h =
     ap (λ (all : List Part). get_or all i no_part) e ∙ numbered_read (part_of p clock st.contents) st.modules i nobody no_part h
 
-states_next : (p : Plan) (clock : ℕ) (st : ClockState) (parts : List Part) (next : List ModuleState) → parts ≡ map (part_of p clock st.contents) (numbered st)
-    → next ≡ map (λ m. after_part p m (get_or parts m.0 no_part)) (enumerate_from 0 st.modules) → next ≡ map (next_state p clock st.contents) (numbered st)
+states_next : (p : Plan) (clock : ℕ) (st : ClockState) (parts : List Part) (next : List ModuleState)
+    → parts ≡ map (part_of p clock st.contents) (numbered st)
+    → next ≡ map (λ m. after_part p m (get_or parts m.0 no_part)) (enumerate_from 0 st.modules)
+    → next ≡ map (next_state p clock st.contents) (numbered st)
 states_next p clock st parts next e f =
     f ∙ same_by_places (λ m. after_part p m (get_or parts m.0 no_part)) (next_state p clock st.contents) st.modules nobody
-    (λ k l. ap (after_part p (k, get_or st.modules k nobody)) (part_at p clock st parts k e l) ∙ next_by_part p clock st.contents (k, get_or st.modules k nobody))
+    (λ k l. ap (after_part p (k, get_or st.modules k nobody)) (part_at p clock st parts k e l)
+    ∙ next_by_part p clock st.contents (k, get_or st.modules k nobody))
 
-ready_part : (p : Plan) (clock : ℕ) (contents : List (List ℕ)) (m : ℕ × ModuleState) → IsReady p m (part_of p clock contents m)
+ready_part : (p : Plan) (clock : ℕ) (contents : List (List Element)) (m : ℕ × ModuleState) → IsReady p m (part_of p clock contents m)
 ready_part p clock contents m = by_test (moves p clock contents m) refl
   where
     by_test : (b : Bool) → moves p clock contents m ≡ b → IsReady p m (part_of p clock contents m)
@@ -117,24 +123,26 @@ ready_part p clock contents m = by_test (moves p clock contents m) refl
       due = λ k. absurd (false≢true (sym still ∙ k));
     }
 
-pub all_ready : (p : Plan) (clock : ℕ) (st : ClockState) (parts : List Part) → parts ≡ map (part_of p clock st.contents) (numbered st)
+pub parts_ready : (p : Plan) (clock : ℕ) (st : ClockState) (parts : List Part) → parts ≡ map (part_of p clock st.contents) (numbered st)
     → (i : ℕ) → i < length st.modules → IsReady p (i, get_or st.modules i nobody) (get_or parts i no_part)
-all_ready p clock st parts e i h =
+parts_ready p clock st parts e i h =
     subst (λ (part : Part). IsReady p (i, get_or st.modules i nobody) part) (sym (part_at p clock st parts i e h))
     (ready_part p clock st.contents (i, get_or st.modules i nobody))
 
 -- ---- the clock step
 
-pub stepped : (p : Plan) (clock : ℕ) (st next : ClockState) (parts : List Part) (popped : List (List ℕ)) → parts ≡ map (part_of p clock st.contents) (numbered st)
+pub stepped : (p : Plan) (clock : ℕ) (st next : ClockState) (parts : List Part) (popped : List (List Element))
+    → parts ≡ map (part_of p clock st.contents) (numbered st)
     → next.modules ≡ map (λ m. after_part p m (get_or parts m.0 no_part)) (enumerate_from 0 st.modules)
     → popped ≡ map (after_pops (all_exchanges parts)) (enumerate_from 0 st.contents)
-    → next.contents ≡ map (after_pushes (all_exchanges parts)) (enumerate_from 0 popped) → next ≡ clock_step p clock st
+    → next.contents ≡ map (after_pushes p clock (all_exchanges parts)) (enumerate_from 0 popped) → next ≡ clock_step p clock st
 unfolding clock_step
 stepped p clock st next parts popped e f g h =
     let states = states_next p clock st parts next.modules e f in
-    let held : next.contents ≡ map (contents_after (steps_in p clock st)) (enumerate_from 0 st.contents) =
-    contents_next clock parts st.contents popped next.contents g h
-    ∙ ap (λ (steps : List HistoryStep). map (contents_after steps) (enumerate_from 0 st.contents)) (steps_told p clock st parts e) in
+    let held : next.contents ≡ map (contents_after p clock (steps_in p clock st)) (enumerate_from 0 st.contents) =
+    contents_next p clock parts st.contents popped next.contents g h
+    ∙ ap (λ (steps : List HistoryStep). map (contents_after p clock steps) (enumerate_from 0 st.contents)) (steps_told p clock st parts e)
+    in
     λ i. record { modules = states i; contents = held i }
 
 -- ---- events and answers
@@ -143,16 +151,21 @@ same_events : (clock n : ℕ) (xs : List Answered) → events_of (step_with cloc
 same_events clock n [] = refl
 same_events clock n (x ∷ xs) = append-nil _ ∙ ap (λ l. event_by clock n x ∷ l) (all_same xs)
   where
-    all_same : (ys : List Answered) → map (event_of (record { clock = clock; «module» = n; exchanges = exchange x ∷ map exchange xs })) (map exchange ys) ≡ map (event_by clock n) ys
+    all_same : (ys : List Answered)
+        → map (event_of (record { clock = clock; «module» = n; exchanges = exchange x ∷ map exchange xs })) (map exchange ys)
+        ≡ map (event_by clock n) ys
     all_same [] = refl
     all_same (y ∷ ys) = ap (λ l. event_by clock n y ∷ l) (all_same ys)
 
 events_in_steps : (clock n : ℕ) (parts : List Part)
-    → events_of (flat_map (λ m. step_with clock m.0 (exchanges_of m.1)) (enumerate_from n parts)) ≡ flat_map (λ m. map (event_by clock m.0) m.1.answered) (enumerate_from n parts)
+    → events_of (flat_map (λ m. step_with clock m.0 (exchanges_of m.1)) (enumerate_from n parts))
+    ≡ flat_map (λ m. map (event_by clock m.0) m.1.answered) (enumerate_from n parts)
 events_in_steps clock n [] = refl
 events_in_steps clock n (part ∷ parts) =
-    flat_map-append _ (step_with clock n (exchanges_of part)) (flat_map (λ m. step_with clock m.0 (exchanges_of m.1)) (enumerate_from (n + 1) parts))
-    ∙ (ap (λ l. l ++ events_of (flat_map (λ m. step_with clock m.0 (exchanges_of m.1)) (enumerate_from (n + 1) parts))) (same_events clock n part.answered)
+    flat_map-append _ (step_with clock n (exchanges_of part))
+    (flat_map (λ m. step_with clock m.0 (exchanges_of m.1)) (enumerate_from (n + 1) parts))
+    ∙ (ap (λ l. l ++ events_of (flat_map (λ m. step_with clock m.0 (exchanges_of m.1)) (enumerate_from (n + 1) parts)))
+    (same_events clock n part.answered)
     ∙ ap (λ l. map (event_by clock n) part.answered ++ l) (events_in_steps clock (n + 1) parts))
 
 pub events_told : (p : Plan) (clock : ℕ) (st : ClockState) (parts : List Part) → parts ≡ map (part_of p clock st.contents) (numbered st)
@@ -171,21 +184,27 @@ no_steps_behind : (clock i n : ℕ) (parts : List Part) → i < n
     → steps_of i (flat_map (λ m. step_with clock m.0 (exchanges_of m.1)) (enumerate_from n parts)) ≡ []
 no_steps_behind clock i n [] h = refl
 no_steps_behind clock i n (part ∷ parts) h =
-    filter-append _ (step_with clock n (exchanges_of part)) (flat_map (λ m. step_with clock m.0 (exchanges_of m.1)) (enumerate_from (n + 1) parts))
-    ∙ (ap (λ l. l ++ steps_of i (flat_map (λ m. step_with clock m.0 (exchanges_of m.1)) (enumerate_from (n + 1) parts))) (other_step clock i n (exchanges_of part) (λ same. omega arith))
+    filter-append _ (step_with clock n (exchanges_of part))
+    (flat_map (λ m. step_with clock m.0 (exchanges_of m.1)) (enumerate_from (n + 1) parts))
+    ∙ (ap (λ l. l ++ steps_of i (flat_map (λ m. step_with clock m.0 (exchanges_of m.1)) (enumerate_from (n + 1) parts)))
+    (other_step clock i n (exchanges_of part) (λ same. omega arith))
     ∙ no_steps_behind clock i (n + 1) parts (omega arith))
 
 own_steps : (clock i n k : ℕ) (parts : List Part) → n + k ≡ i → k < length parts
-    → steps_of i (flat_map (λ m. step_with clock m.0 (exchanges_of m.1)) (enumerate_from n parts)) ≡ step_with clock i (exchanges_of (get_or parts k no_part))
+    → steps_of i (flat_map (λ m. step_with clock m.0 (exchanges_of m.1)) (enumerate_from n parts))
+    ≡ step_with clock i (exchanges_of (get_or parts k no_part))
 own_steps clock i n k [] e h = absurd (omega arith)
 own_steps clock i n zero (part ∷ parts) e h =
     let same : n ≡ i = sym (add-zero n) ∙ e in
-    filter-append _ (step_with clock n (exchanges_of part)) (flat_map (λ m. step_with clock m.0 (exchanges_of m.1)) (enumerate_from (n + 1) parts))
+    filter-append _ (step_with clock n (exchanges_of part))
+    (flat_map (λ m. step_with clock m.0 (exchanges_of m.1)) (enumerate_from (n + 1) parts))
     ∙ (ap (λ l. steps_of i (step_with clock n (exchanges_of part)) ++ l) (no_steps_behind clock i (n + 1) parts (omega arith))
     ∙ (append-nil _ ∙ (ap (λ (j : ℕ). steps_of i (step_with clock j (exchanges_of part))) same ∙ own_step clock i (exchanges_of part))))
 own_steps clock i n (suc k) (part ∷ parts) e h =
-    filter-append _ (step_with clock n (exchanges_of part)) (flat_map (λ m. step_with clock m.0 (exchanges_of m.1)) (enumerate_from (n + 1) parts))
-    ∙ (ap (λ l. l ++ steps_of i (flat_map (λ m. step_with clock m.0 (exchanges_of m.1)) (enumerate_from (n + 1) parts))) (other_step clock i n (exchanges_of part) (λ same. omega arith))
+    filter-append _ (step_with clock n (exchanges_of part))
+    (flat_map (λ m. step_with clock m.0 (exchanges_of m.1)) (enumerate_from (n + 1) parts))
+    ∙ (ap (λ l. l ++ steps_of i (flat_map (λ m. step_with clock m.0 (exchanges_of m.1)) (enumerate_from (n + 1) parts)))
+    (other_step clock i n (exchanges_of part) (λ same. omega arith))
     ∙ own_steps clock i (n + 1) k parts (omega arith) (omega arith))
 
 same_outcomes : (xs : List Answered) → map (λ (x : Exchange). is_yes x.reply) (queries (map exchange xs)) ≡ outcomes_in xs
@@ -194,7 +213,9 @@ same_outcomes (x ∷ xs) = by_test (not (is_blocking x.request.kind)) (same_outc
   where
     by_test : (b : Bool) → map (λ (x : Exchange). is_yes x.reply) (queries (map exchange xs)) ≡ outcomes_in xs
         → map (λ (x : Exchange). is_yes x.reply) (cond b (exchange x ∷ queries (map exchange xs)) (queries (map exchange xs)))
-        ≡ map (λ (a : Answered). is_yes a.reply) (cond b (x ∷ filter (λ (a : Answered). not (is_blocking a.request.kind)) xs) (filter (λ (a : Answered). not (is_blocking a.request.kind)) xs))
+        ≡ map (λ (a : Answered). is_yes a.reply)
+        (cond b (x ∷ filter (λ (a : Answered). not (is_blocking a.request.kind)) xs)
+        (filter (λ (a : Answered). not (is_blocking a.request.kind)) xs))
     by_test true rest = ap (λ l. is_yes x.reply ∷ l) rest
     by_test false rest = rest
 
@@ -202,8 +223,10 @@ outcomes_in_step : (clock i : ℕ) (xs : List Answered) → outcomes (step_with 
 outcomes_in_step clock i [] = refl
 outcomes_in_step clock i (x ∷ xs) = append-nil _ ∙ same_outcomes (x ∷ xs)
 
-pub outcomes_told : (p : Plan) (clock : ℕ) (st : ClockState) (parts : List Part) (i : ℕ) → parts ≡ map (part_of p clock st.contents) (numbered st)
+pub outcomes_told : (p : Plan) (clock : ℕ) (st : ClockState) (parts : List Part) (i : ℕ)
+    → parts ≡ map (part_of p clock st.contents) (numbered st)
     → i < length parts → outcomes_in (get_or parts i no_part).answered ≡ outcomes (steps_of i (steps_in p clock st))
 outcomes_told p clock st parts i e h =
     sym (outcomes_in_step clock i (get_or parts i no_part).answered)
-    ∙ (ap outcomes (sym (own_steps clock i 0 i parts (zero-add i) h)) ∙ ap (λ (steps : List HistoryStep). outcomes (steps_of i steps)) (steps_told p clock st parts e))
+    ∙ (ap outcomes (sym (own_steps clock i 0 i parts (zero-add i) h))
+    ∙ ap (λ (steps : List HistoryStep). outcomes (steps_of i steps)) (steps_told p clock st parts e))

@@ -1,7 +1,9 @@
 -- What the modules do in a clock, as the program holds it.
-use Rattle.std.specs.Prelude.{◌≡◌, ℕ, ◌≤◌, ◌<◌, Bool, true, false, not, if◌then◌else◌, List, [], ◌++◌, map, filter, flat_map, drop, length, slice_index_or}
+use Rattle.std.specs.Prelude.{◌+◌, ◌≡◌, ℕ, ◌≤◌, ◌<◌, Bool, true, false, not, if◌then◌else◌, List, [], ◌++◌, map, filter, flat_map, drop, length, slice_index_or}
 use Rattle.std.specs.List.{enumerate_from}
 use Rattle.flow_design.specs.declared.plan.Plan.{Plan}
+use Rattle.flow_design.specs.declared.state.Element.{Element}
+use Rattle.flow_design.specs.Plans.{delay_at}
 use Rattle.flow_design.specs.declared.report.EventLine.{EventLine}
 use Rattle.flow_design.specs.declared.report.Report.{Report}
 use Rattle.flow_design.specs.declared.report.Verdict.{Verdict}
@@ -10,7 +12,9 @@ use Rattle.flow_design.specs.declared.state.ModuleState.{ModuleState}
 use Rattle.flow_design.specs.declared.state.Request.{Request}
 use Rattle.flow_design.specs.Module.{due}
 use Rattle.lockstep_defs.specs.Machine.{is_yes, is_over, move, nobody}
-use Rattle.lockstep_defs.specs.Channels.{HistoryStep, Exchange, is_blocking, reply, moved_by}
+use Rattle.flow_word.specs.declared.access.Side.TheVariants.{Pop, Push}
+use Rattle.flow_word.specs.Kinds.{is_blocking}
+use Rattle.lockstep_defs.specs.Channels.{element_from, HistoryStep, Exchange, reply, moved_by}
 use Rattle.lockstep_defs.specs.Lockstep.{module_at, requests_of, moves, step_with}
 use Rattle.lockstep_defs.specs.Verdict.{held}
 use Rattle.lockstep_defs.specs.Report.{outputs_in}
@@ -27,7 +31,7 @@ abbrev pub exchange : Answered → Exchange
 exchange a = record { request = a.request; reply = a.reply }
 
 -- a request with its reply, as a part has it
-abbrev pub answered_as : Plan → ℕ → List (List ℕ) → Request → Answered
+abbrev pub answered_as : Plan → ℕ → List (List Element) → Request → Answered
 answered_as p clock contents r = record { request = r; reply = reply p clock contents r }
 
 -- the part of a module that does not move
@@ -35,7 +39,7 @@ abbrev pub no_part : Part
 no_part = record { moves = false; pending = []; replies = []; answered = [] }
 
 -- the part of a module that moves on these requests
-abbrev pub part_on : Plan → ℕ → List (List ℕ) → ℕ × ModuleState → List Request → Part
+abbrev pub part_on : Plan → ℕ → List (List Element) → ℕ × ModuleState → List Request → Part
 part_on p clock contents m asked = record {
   moves = true;
   pending = due (module_at p m.0) m.1;
@@ -44,7 +48,7 @@ part_on p clock contents m asked = record {
 }
 
 -- a module's part in a clock, by the contents from before it
-unfoldable pub part_of : Plan → ℕ → List (List ℕ) → ℕ × ModuleState → Part
+unfoldable pub part_of : Plan → ℕ → List (List Element) → ℕ × ModuleState → Part
 part_of p clock contents m = if moves p clock contents m then part_on p clock contents m (requests_of p m) else no_part
 
 -- a module after its part: it has moved on the replies, or stayed
@@ -78,6 +82,10 @@ event_by clock i a = record { «module» = i; kind = a.request.kind; channel = a
 abbrev pub events_from : ℕ → List Part → List EventLine
 events_from clock parts = flat_map (λ m. map (event_by clock m.0) m.1.answered) (enumerate_from 0 parts)
 
+-- these events where events are kept, and none else
+abbrev pub kept : Bool → List EventLine → List EventLine
+kept keep events = if keep then events else []
+
 -- the outcomes of the queries among these operations
 abbrev pub outcomes_in : List Answered → List Bool
 outcomes_in xs = map (λ a. is_yes a.reply) (filter (λ a. not (is_blocking a.request.kind)) xs)
@@ -89,12 +97,12 @@ answers_with parts m = m.1 ++ outcomes_in (slice_index_or parts m.0 no_part).ans
 -- ---- what the operations leave in the channels
 
 -- a channel's contents when these operations have taken off what they pop
-abbrev pub after_pops : List Exchange → ℕ × List ℕ → List ℕ
-after_pops xs f = drop (length (moved_by true f.0 xs)) f.1
+abbrev pub after_pops : List Exchange → ℕ × List Element → List Element
+after_pops xs f = drop (length (moved_by Pop f.0 xs)) f.1
 
--- a channel's contents when these operations have put in what they push
-abbrev pub after_pushes : List Exchange → ℕ × List ℕ → List ℕ
-after_pushes xs f = f.1 ++ moved_by false f.0 xs
+-- a channel's contents when these operations of a clock have put in what they push
+abbrev pub after_pushes : Plan → ℕ → List Exchange → ℕ × List Element → List Element
+after_pushes p clock xs f = f.1 ++ map (element_from (clock + delay_at p f.0)) (moved_by Push f.0 xs)
 
 -- ---- states that can come up
 
@@ -107,6 +115,12 @@ pub record IsFit (p : Plan) (clock : ℕ) (m : ℕ × ModuleState) : Type 0 wher
 pub record AreFit (p : Plan) (clock : ℕ) (states : List ModuleState) : Type 0 where
   pub count : length states ≡ length p.design.modules
   pub each : (i : ℕ) → i < length states → IsFit p clock (i, slice_index_or states i nobody)
+
+-- in some clock up to the cycle limit
+pub record AreFitInTime (p : Plan) (states : List ModuleState) : Type 0 where
+  pub clock : ℕ
+  pub early : clock ≤ p.cycles
+  pub fit : AreFit p clock states
 
 -- the schedules of all blocks, module by module
 pub record AreSchedules (p : Plan) (tables : List (List Schedule)) : Type 0 where

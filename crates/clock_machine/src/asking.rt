@@ -1,36 +1,21 @@
 //! Each module's part in a clock, by the contents from before it.
-ghost use Rattle.std.specs.Prelude.{◌≡◌, ◌<◌, ◌≤◌, ◌^◌, not, IfOk, OnOk, length, map, ◌++◌, slice_index_or};
+ghost use Rattle.std.specs.Prelude.{◌≡◌, ◌<◌, ◌≤◌, ◌^◌, IfOk, OnOk, length, map, ◌++◌, slice_index_or};
 ghost use Rattle.std.specs.List.{list_any};
 ghost use Rattle.flow_design.specs.StaticRules.{FitsEngine};
-ghost use Rattle.lockstep_defs.specs.Machine.{is_spent, is_over, nobody, requests};
-ghost use Rattle.lockstep_defs.specs.Channels.{reply};
-ghost use Rattle.lockstep_defs.specs.Lockstep.{module_at, numbered};
-ghost use Rattle.lockstep_defs.specs.Verdict.{is_settled};
-ghost use Rattle.clock_machine.specs.Parts.{part_of, answered_as, AreFit, AreSchedules};
+ghost use Rattle.lockstep_defs.specs.Machine.{nobody, requests};
+ghost use Rattle.lockstep_defs.specs.Channels.{all_ready, reply};
+ghost use Rattle.lockstep_defs.specs.Lockstep.{module_at, numbered, moves};
+ghost use Rattle.lockstep_defs.specs.Verdict.{is_settled, some_moves};
+ghost use Rattle.clock_machine.specs.Parts.{part_of, answered_as, AreFit, AreFitInTime, AreSchedules};
 ghost use Rattle.module_move.specs.Sound.{IsStateSound};
 ghost use Rattle.flow_design.specs.Module.{due};
 
-use crate::channels::{any_stalls, reply_to};
+use crate::channels::{any_stalls, any_stalls_ever, reply_to};
 use crate::part::{Answered, Part, Scratch};
 use block_schedule::Schedule;
-use flow_design::{ClockState, Due, Module, ModuleState, Plan, Request};
+use flow_design::{ClockState, Due, Element, Module, ModuleState, Plan, Request};
 use flow_word::{List, OutOfMemory, Queue};
-use module_move::ask;
-
-/// Whether a module is spent: not ended, and its count is at least the operation limit.
-pub fn is_spent(ops: u64, state: &ModuleState) -> bool
-    ensures { result ≡ is_spent ops state.now }
-{
-    !state.ended && ops <= state.count
-}
-
-/// Whether a module is ended or spent, so that it moves no more.
-#[tactic(auto, unfolding(lockstep_defs::specs::Machine::is_over))]
-pub fn is_over(ops: u64, state: &ModuleState) -> bool
-    ensures { result ≡ is_over ops state.now }
-{
-    state.ended || is_spent(ops, state)
-}
+use module_move::{ask, is_over};
 
 /// Module number i of a plan.
 pub fn module_at(plan: &Plan, i: usize) -> &Module
@@ -83,7 +68,7 @@ pub fn ask_one(
 fn answer(
     plan: &Plan,
     clock: u64,
-    contents: &[Queue<u64>],
+    contents: &[Queue<Element>],
     requests: &[Request],
     part: &mut Part,
 ) -> Result<(), OutOfMemory>
@@ -158,6 +143,52 @@ fn take_parts(
     Ok(())
 }
 
+/// Whether module number i would move if every element could be popped.
+fn would_move(
+    plan: &Plan,
+    schedules: &[List<Schedule>],
+    state: &ClockState,
+    i: usize,
+    pending: &mut List<Due>,
+    requests: &mut List<Request>,
+) -> Result<bool, OutOfMemory>
+    requires fits { FitsEngine plan.now }
+    requires schedules { AreSchedules plan.now schedules.now }
+    requires fit { AreFitInTime plan.now state.now.modules }
+    requires within { i < length state.now.modules }
+    ensures { IfOk result (λ moving. moving ≡ moves plan.now 0 (all_ready state.now.contents) (i, slice_index_or state.now.modules i nobody)) }
+{
+    let module = state_at(state, i);
+    if is_over(plan.ops, module) {
+        return Ok(false);
+    }
+    ask_one(plan, schedules, i, module, pending, requests)?;
+    let contents = state.contents.as_slice();
+    Ok(!any_stalls_ever(plan, contents, requests.as_slice()))
+}
+
+/// Whether a module would move if every element could be popped.
+fn any_would_move(
+    plan: &Plan,
+    schedules: &[List<Schedule>],
+    state: &ClockState,
+    pending: &mut List<Due>,
+    requests: &mut List<Request>,
+) -> Result<bool, OutOfMemory>
+    requires fits { FitsEngine plan.now }
+    requires schedules { AreSchedules plan.now schedules.now }
+    requires fit { AreFitInTime plan.now state.now.modules }
+    ensures { IfOk result (λ moving. moving ≡ some_moves plan.now 0 (all_ready state.now.contents) state.now) }
+{
+    let count = state.modules.as_slice().len();
+    for i in 0..count {
+        if would_move(plan, schedules, state, i, pending, requests)? {
+            return Ok(true);
+        }
+    }
+    Ok(false)
+}
+
 /// Whether a module moves.
 fn any_moves(parts: &[Part]) -> bool
     ensures { result ≡ list_any (λ part. part.moves) parts.now }
@@ -165,7 +196,8 @@ fn any_moves(parts: &[Part]) -> bool
     parts.iter().any(|part| part.moves)
 }
 
-/// Fills in the parts of all modules, and says whether one moves.
+/// Fills in the parts of all modules, and says whether the clock is settled: whether none moves, and none would if every
+/// element could be popped.
 pub fn ask_all(
     plan: &Plan,
     schedules: &[List<Schedule>],
@@ -178,7 +210,7 @@ pub fn ask_all(
     requires fit { AreFit plan.now clock state.now.modules }
     requires early { clock ≤ plan.now.cycles }
     requires count { length scratch.old.parts ≡ length state.now.modules }
-    ensures moving { IfOk result (λ moving. is_settled plan.now clock state.now ≡ not moving) }
+    ensures settled { IfOk result (λ settled. settled ≡ is_settled plan.now clock state.now) }
     ensures parts { OnOk result (scratch.new.parts ≡ map (part_of plan.now clock state.now.contents) (numbered state.now)) }
 {
     take_parts(
@@ -189,5 +221,15 @@ pub fn ask_all(
         &mut scratch.requests,
         scratch.parts.as_mut_slice(),
     )?;
-    Ok(any_moves(scratch.parts.as_slice()))
+    if any_moves(scratch.parts.as_slice()) {
+        return Ok(false);
+    }
+    let moving = any_would_move(
+        plan,
+        schedules,
+        state,
+        &mut scratch.pending,
+        &mut scratch.requests,
+    )?;
+    Ok(!moving)
 }

@@ -1,35 +1,14 @@
 //! What can be done on the channels as they stand.
 ghost use Rattle.std.specs.Prelude.{◌≡◌, length, slice_index, slice_index_or, []};
 ghost use Rattle.std.specs.List.{list_any};
-ghost use Rattle.flow_design.specs.StaticRules.{FitsEngine};
-ghost use Rattle.flow_design.specs.Plans.{is_fifo, kind_at};
-ghost use Rattle.lockstep_defs.specs.Channels.{side_of, is_blocking, contents_of, is_full, is_possible, stalls, reply};
+ghost use Rattle.flow_design.specs.Plans.{is_fifo, kind_at, delay_at};
+ghost use Rattle.lockstep_defs.specs.Channels.{contents_of, front, is_empty, all_ready, is_full, is_possible, stalls, reply};
 
-use flow_design::{ChannelKind, Plan, Reply, Request};
-use flow_word::{Kind, Queue};
+use flow_design::{ChannelKind, Element, Plan, Reply, Request};
+use flow_word::{Kind, Queue, Side};
 
-/// Whether an operation stands at the popping side of its channel, or else at the pushing side.
-pub fn is_popping(kind: Kind) -> bool
-    ensures { result ≡ side_of kind }
-{
-    match kind {
-        Kind::Read | Kind::TryRead | Kind::Empty => true,
-        Kind::Write | Kind::TryWrite | Kind::Full => false,
-    }
-}
-
-/// Whether an operation blocks its module while it cannot be done.
-pub fn is_blocking(kind: Kind) -> bool
-    ensures { result ≡ is_blocking kind }
-{
-    match kind {
-        Kind::Read | Kind::Write => true,
-        Kind::TryRead | Kind::TryWrite | Kind::Empty | Kind::Full => false,
-    }
-}
-
-/// How many values a channel holds.
-fn held(contents: &[Queue<u64>], channel: u32) -> u64
+/// How many elements a channel holds.
+fn held(contents: &[Queue<Element>], channel: u32) -> u64
     ensures { result ≡ length (contents_of contents.now channel) }
 {
     let channel = channel as usize;
@@ -41,14 +20,48 @@ fn held(contents: &[Queue<u64>], channel: u32) -> u64
 }
 
 /// The value at a channel's front, or 0 where it holds none.
-fn front(contents: &[Queue<u64>], channel: u32) -> u64
-    ensures { result ≡ slice_index (contents_of contents.now channel) 0 }
+fn front(contents: &[Queue<Element>], channel: u32) -> u64
+    ensures { result ≡ front (contents_of contents.now channel) }
 {
     let channel = channel as usize;
     if channel < contents.len() {
-        contents[channel].front().unwrap_or(0)
+        match contents[channel].front() {
+            Some(element) => element.value,
+            None => 0,
+        }
     } else {
         0
+    }
+}
+
+/// Whether a channel holds nothing that can be popped in this clock.
+fn is_empty(clock: u64, contents: &[Queue<Element>], channel: u32) -> bool
+    ensures { result ≡ is_empty clock (contents_of contents.now channel) }
+{
+    let channel = channel as usize;
+    if channel < contents.len() {
+        match contents[channel].front() {
+            Some(element) => clock < element.since,
+            None => true,
+        }
+    } else {
+        true
+    }
+}
+
+/// The delay of a channel: 1 where it is no FIFO, or a number names none.
+pub fn delay(plan: &Plan, channel: u32) -> u64
+    ensures { result ≡ delay_at plan.now channel }
+{
+    let channels = plan.design.channels.as_slice();
+    let channel = channel as usize;
+    if channel < channels.len() {
+        match channels[channel].kind {
+            ChannelKind::Fifo(_, delay) => delay,
+            ChannelKind::Source | ChannelKind::Sink => 1,
+        }
+    } else {
+        1
     }
 }
 
@@ -60,7 +73,7 @@ fn is_fifo(plan: &Plan, channel: u32) -> bool
     let channel = channel as usize;
     channel < channels.len()
         && match channels[channel].kind {
-            ChannelKind::Fifo(_) => true,
+            ChannelKind::Fifo(_, _) => true,
             ChannelKind::Source | ChannelKind::Sink => false,
         }
 }
@@ -78,46 +91,62 @@ fn depth(plan: &Plan, channel: u32) -> u64
     }
 }
 
-/// Whether a channel is a FIFO that holds as many values as its depth.
-fn is_full(plan: &Plan, contents: &[Queue<u64>], channel: u32) -> bool
+/// Whether a channel is a FIFO that holds as many elements as its depth.
+fn is_full(plan: &Plan, contents: &[Queue<Element>], channel: u32) -> bool
     ensures { result ≡ is_full plan.now channel (contents_of contents.now channel) }
 {
     is_fifo(plan, channel) && depth(plan, channel) <= held(contents, channel)
 }
 
-/// Whether a channel has a value to pop, or else a place to push. No channel has a delay, so the clock does not matter.
+/// Whether a channel has an element to pop in this clock, or else a place to push.
 fn is_possible(
     plan: &Plan,
-    _clock: u64,
-    contents: &[Queue<u64>],
-    popping: bool,
+    clock: u64,
+    contents: &[Queue<Element>],
+    side: Side,
     channel: u32,
 ) -> bool
-    ensures { result ≡ is_possible plan.now _clock contents.now popping channel }
+    ensures { result ≡ is_possible plan.now clock contents.now side channel }
 {
-    if popping {
-        0 < held(contents, channel)
-    } else {
-        !is_full(plan, contents, channel)
+    match side {
+        Side::Pop => !is_empty(clock, contents, channel),
+        Side::Push => !is_full(plan, contents, channel),
+    }
+}
+
+/// Whether that were so if every element could be popped, which the clock does not matter to.
+fn is_possible_ever(plan: &Plan, contents: &[Queue<Element>], side: Side, channel: u32) -> bool
+    ensures { result ≡ is_possible plan.now 0 (all_ready contents.now) side channel }
+{
+    match side {
+        Side::Pop => 0 < held(contents, channel),
+        Side::Push => !is_full(plan, contents, channel),
     }
 }
 
 /// Whether an operation blocks and cannot be done.
-pub fn stalls(plan: &Plan, clock: u64, contents: &[Queue<u64>], request: &Request) -> bool
+pub fn stalls(plan: &Plan, clock: u64, contents: &[Queue<Element>], request: &Request) -> bool
     ensures { result ≡ stalls plan.now clock contents.now request.now }
 {
-    is_blocking(request.kind)
-        && !is_possible(
-            plan,
-            clock,
-            contents,
-            is_popping(request.kind),
-            request.channel,
-        )
+    let kind = request.kind;
+    kind.is_blocking() && !is_possible(plan, clock, contents, kind.side(), request.channel)
+}
+
+/// Whether an operation blocks and could not be done even if every element could be popped.
+pub fn stalls_ever(plan: &Plan, contents: &[Queue<Element>], request: &Request) -> bool
+    ensures { result ≡ stalls plan.now 0 (all_ready contents.now) request.now }
+{
+    let kind = request.kind;
+    kind.is_blocking() && !is_possible_ever(plan, contents, kind.side(), request.channel)
 }
 
 /// Whether one of these operations blocks and cannot be done.
-pub fn any_stalls(plan: &Plan, clock: u64, contents: &[Queue<u64>], requests: &[Request]) -> bool
+pub fn any_stalls(
+    plan: &Plan,
+    clock: u64,
+    contents: &[Queue<Element>],
+    requests: &[Request],
+) -> bool
     ensures { result ≡ list_any (stalls plan.now clock contents.now) requests.now }
 {
     requests
@@ -125,19 +154,22 @@ pub fn any_stalls(plan: &Plan, clock: u64, contents: &[Queue<u64>], requests: &[
         .any(|request| stalls(plan, clock, contents, request))
 }
 
+/// Whether one of these operations blocks and could not be done even if every element could be popped.
+pub fn any_stalls_ever(plan: &Plan, contents: &[Queue<Element>], requests: &[Request]) -> bool
+    ensures { result ≡ list_any (stalls plan.now 0 (all_ready contents.now)) requests.now }
+{
+    requests
+        .iter()
+        .any(|request| stalls_ever(plan, contents, request))
+}
+
 /// The reply to an operation whose module moves.
 #[tactic(auto, unfolding(lockstep_defs::specs::Channels::reply))]
-pub fn reply_to(plan: &Plan, clock: u64, contents: &[Queue<u64>], request: &Request) -> Reply
+pub fn reply_to(plan: &Plan, clock: u64, contents: &[Queue<Element>], request: &Request) -> Reply
     ensures { result ≡ reply plan.now clock contents.now request.now }
 {
     let front = front(contents, request.channel);
-    let possible = is_possible(
-        plan,
-        clock,
-        contents,
-        is_popping(request.kind),
-        request.channel,
-    );
+    let possible = is_possible(plan, clock, contents, request.kind.side(), request.channel);
     match request.kind {
         Kind::Read => Reply::Value(front),
         Kind::Write => Reply::Done,

@@ -1,16 +1,20 @@
 //! What a clock leaves in the channels.
 ghost use Rattle.std.specs.Prelude.{◌≡◌, ◌==◌, if◌then◌else◌, [], ◌∷◌, ◌++◌, map, drop, length, OnOk};
 ghost use Rattle.std.specs.List.{enumerate_from};
-ghost use Rattle.lockstep_defs.specs.Machine.{is_yes};
+ghost use Rattle.std.specs.Prelude.{◌≤◌};
+ghost use Rattle.flow_design.specs.StaticRules.{FitsEngine};
+ghost use Rattle.lockstep_defs.specs.Machine.{is_yes, value_in};
 ghost use Rattle.lockstep_defs.specs.Channels.{popped_value, pushed_value};
 ghost use Rattle.clock_machine.specs.Parts.{exchange, exchanges_of, all_exchanges, after_pops, after_pushes};
 
+use crate::channels::delay;
 use crate::part::{Answered, Part};
-use flow_design::Reply;
+use flow_design::{Element, Plan, Reply};
 use flow_word::{Kind, OutOfMemory, Queue};
+use module_move::is_yes;
 
 /// Takes the front off a channel.
-fn pop_front(contents: &mut [Queue<u64>], channel: u32)
+fn pop_front(contents: &mut [Queue<Element>], channel: u32)
     ensures { contents.new ≡ map (λ f. if channel == f.0 then drop 1 f.1 else f.1) (enumerate_from 0 contents.old) }
 {
     let channel = channel as usize;
@@ -19,35 +23,29 @@ fn pop_front(contents: &mut [Queue<u64>], channel: u32)
     }
 }
 
-/// Puts a value in at a channel's back.
-fn push_back(contents: &mut [Queue<u64>], channel: u32, value: u64) -> Result<(), OutOfMemory>
-    ensures { OnOk result (contents.new ≡ map (λ f. if channel == f.0 then f.1 ++ value ∷ [] else f.1) (enumerate_from 0 contents.old)) }
+/// Puts an element in at a channel's back.
+fn push_back(
+    contents: &mut [Queue<Element>],
+    channel: u32,
+    element: Element,
+) -> Result<(), OutOfMemory>
+    ensures { OnOk result (contents.new ≡ map (λ f. if channel == f.0 then f.1 ++ element ∷ [] else f.1) (enumerate_from 0 contents.old)) }
 {
     let channel = channel as usize;
     if channel < contents.len() {
-        contents[channel].push(value)?;
+        contents[channel].push(element)?;
     }
     Ok(())
 }
 
-/// Whether an operation was done, or the test held.
-pub fn is_yes(reply: Reply) -> bool
-    ensures { result ≡ is_yes reply }
+/// Whether an operation took a value off its channel.
+fn is_popped(kind: Kind, reply: Reply) -> bool
+    ensures { length (popped_value kind (is_yes reply) (value_in reply)) ≡ (if result then 1 else 0) }
 {
-    match reply {
-        Reply::Done | Reply::Value(_) | Reply::Took(_) => true,
-        Reply::Flag(outcome) => outcome,
-        Reply::Missed => false,
-    }
-}
-
-/// Whether an operation with this reply took a value off its channel.
-fn is_popped(reply: Reply) -> bool
-    ensures { length (popped_value reply) ≡ (if result then 1 else 0) }
-{
-    match reply {
-        Reply::Value(_) | Reply::Took(_) => true,
-        Reply::Done | Reply::Flag(_) | Reply::Missed => false,
+    match kind {
+        Kind::Read => true,
+        Kind::TryRead => is_yes(reply),
+        Kind::Write | Kind::TryWrite | Kind::Empty | Kind::Full => false,
     }
 }
 
@@ -63,27 +61,39 @@ fn is_pushed(kind: Kind, reply: Reply, value: u64) -> bool
 }
 
 /// Takes off what one operation pops.
-fn pop_one(contents: &mut [Queue<u64>], done: &Answered)
+fn pop_one(contents: &mut [Queue<Element>], done: &Answered)
     ensures { contents.new ≡ map (after_pops (exchange done.now ∷ [])) (enumerate_from 0 contents.old) }
 {
-    if is_popped(done.reply) {
+    if is_popped(done.request.kind, done.reply) {
         pop_front(contents, done.request.channel);
     }
 }
 
 /// Puts in what one operation pushes.
-fn push_one(contents: &mut [Queue<u64>], done: &Answered) -> Result<(), OutOfMemory>
-    ensures { OnOk result (contents.new ≡ map (after_pushes (exchange done.now ∷ [])) (enumerate_from 0 contents.old)) }
+fn push_one(
+    plan: &Plan,
+    clock: u64,
+    contents: &mut [Queue<Element>],
+    done: &Answered,
+) -> Result<(), OutOfMemory>
+    requires fits { FitsEngine plan.now }
+    requires early { clock ≤ plan.now.cycles }
+    ensures { OnOk result (contents.new ≡ map (after_pushes plan.now clock (exchange done.now ∷ [])) (enumerate_from 0 contents.old)) }
 {
     let request = done.request;
     if is_pushed(request.kind, done.reply, request.value) {
-        push_back(contents, request.channel, request.value)?;
+        let since = clock + delay(plan, request.channel);
+        let element = Element {
+            value: request.value,
+            since,
+        };
+        push_back(contents, request.channel, element)?;
     }
     Ok(())
 }
 
 /// Takes off what a module pops.
-fn pop_part(contents: &mut [Queue<u64>], part: &Part)
+fn pop_part(contents: &mut [Queue<Element>], part: &Part)
     ensures { contents.new ≡ map (after_pops (exchanges_of part.now)) (enumerate_from 0 contents.old) }
 {
     for done in part.answered.as_slice() {
@@ -92,17 +102,24 @@ fn pop_part(contents: &mut [Queue<u64>], part: &Part)
 }
 
 /// Puts in what a module pushes.
-fn push_part(contents: &mut [Queue<u64>], part: &Part) -> Result<(), OutOfMemory>
-    ensures { OnOk result (contents.new ≡ map (after_pushes (exchanges_of part.now)) (enumerate_from 0 contents.old)) }
+fn push_part(
+    plan: &Plan,
+    clock: u64,
+    contents: &mut [Queue<Element>],
+    part: &Part,
+) -> Result<(), OutOfMemory>
+    requires fits { FitsEngine plan.now }
+    requires early { clock ≤ plan.now.cycles }
+    ensures { OnOk result (contents.new ≡ map (after_pushes plan.now clock (exchanges_of part.now)) (enumerate_from 0 contents.old)) }
 {
     for done in part.answered.as_slice() {
-        push_one(contents, done)?;
+        push_one(plan, clock, contents, done)?;
     }
     Ok(())
 }
 
 /// Takes off what all modules pop.
-pub fn pop_all(contents: &mut [Queue<u64>], parts: &[Part])
+pub fn pop_all(contents: &mut [Queue<Element>], parts: &[Part])
     ensures { contents.new ≡ map (after_pops (all_exchanges parts.now)) (enumerate_from 0 contents.old) }
 {
     for part in parts {
@@ -111,11 +128,18 @@ pub fn pop_all(contents: &mut [Queue<u64>], parts: &[Part])
 }
 
 /// Puts in what all modules push.
-pub fn push_all(contents: &mut [Queue<u64>], parts: &[Part]) -> Result<(), OutOfMemory>
-    ensures { OnOk result (contents.new ≡ map (after_pushes (all_exchanges parts.now)) (enumerate_from 0 contents.old)) }
+pub fn push_all(
+    plan: &Plan,
+    clock: u64,
+    contents: &mut [Queue<Element>],
+    parts: &[Part],
+) -> Result<(), OutOfMemory>
+    requires fits { FitsEngine plan.now }
+    requires early { clock ≤ plan.now.cycles }
+    ensures { OnOk result (contents.new ≡ map (after_pushes plan.now clock (all_exchanges parts.now)) (enumerate_from 0 contents.old)) }
 {
     for part in parts {
-        push_part(contents, part)?;
+        push_part(plan, clock, contents, part)?;
     }
     Ok(())
 }

@@ -4,19 +4,21 @@ ghost use Rattle.std.specs.List.{list_any, list_all};
 ghost use Rattle.flow_design.specs.StaticRules.{FitsEngine};
 ghost use Rattle.flow_design.specs.Plans.{kind_at};
 ghost use Rattle.lockstep_defs.specs.Machine.{is_spent, nobody};
-ghost use Rattle.lockstep_defs.specs.Channels.{stalls, contents_of};
-ghost use Rattle.lockstep_defs.specs.Verdict.{settled_verdict, held_by, held_in, held, clock_of};
+ghost use Rattle.lockstep_defs.specs.Channels.{stalls, all_ready, values, contents_of};
+ghost use Rattle.lockstep_defs.specs.Verdict.{settled_verdict, held_at, held_by, held_in, held, clock_of};
 ghost use Rattle.lockstep_defs.specs.Report.{sinks, outputs_in};
 ghost use Rattle.flow_design.specs.Plans.{is_sink};
-ghost use Rattle.clock_machine.specs.Parts.{AreFit, AreSchedules, report_from};
+ghost use Rattle.clock_machine.specs.Parts.{AreFit, AreFitInTime, AreSchedules, report_from};
 
-use crate::asking::{ask_one, is_over, is_spent, state_at};
-use crate::channels::{is_popping, stalls};
+use crate::asking::{ask_one, state_at};
+use crate::channels::stalls_ever;
 use block_schedule::Schedule;
 use flow_design::{
-    ChannelKind, ClockState, Due, EventLine, Held, ModuleState, Plan, Report, Request, Verdict,
+    ChannelKind, ClockState, Due, Element, EventLine, Held, ModuleState, Plan, Report, Request,
+    Verdict,
 };
-use flow_word::{Flags, List, OutOfMemory, Queue, Words};
+use flow_word::{Flags, List, OutOfMemory, Queue, Side, Words};
+use module_move::{is_over, is_spent};
 use std::alloc::Global;
 
 /// Whether all modules are ended.
@@ -46,26 +48,35 @@ fn settled_verdict(plan: &Plan, clock: u64, state: &ClockState) -> Verdict
     }
 }
 
-/// The first of these operations that blocks and cannot be done.
-fn first_stall(
-    plan: &Plan,
-    clock: u64,
-    contents: &[Queue<u64>],
-    requests: &[Request],
-) -> Option<Request>
-    ensures { result ≡ find (stalls plan.now clock contents.now) requests.now }
+/// The first of these operations that blocks and could not be done even if every element could be popped.
+fn first_stall(plan: &Plan, contents: &[Queue<Element>], requests: &[Request]) -> Option<Request>
+    ensures { result ≡ find (stalls plan.now 0 (all_ready contents.now)) requests.now }
 {
     requests
         .iter()
         .copied()
-        .find(|request| stalls(plan, clock, contents, request))
+        .find(|request| stalls_ever(plan, contents, request))
+}
+
+/// How a module is held by a request.
+fn hold_by(i: u32, request: Request) -> Held
+    ensures { result ≡ held_at i request }
+{
+    let full = match request.kind.side() {
+        Side::Pop => false,
+        Side::Push => true,
+    };
+    Held {
+        module: i,
+        full,
+        channel: request.channel,
+    }
 }
 
 /// Adds how module number i is held, if it is neither ended nor spent.
 fn hold_one(
     plan: &Plan,
     schedules: &[List<Schedule>],
-    clock: u64,
     state: &ClockState,
     i: usize,
     pending: &mut List<Due>,
@@ -74,10 +85,9 @@ fn hold_one(
 ) -> Result<(), OutOfMemory>
     requires fits { FitsEngine plan.now }
     requires schedules { AreSchedules plan.now schedules.now }
-    requires fit { AreFit plan.now clock state.now.modules }
-    requires early { clock ≤ plan.now.cycles }
+    requires fit { AreFitInTime plan.now state.now.modules }
     requires within { i < length state.now.modules }
-    ensures { OnOk result (held.new ≡ held.old ++ filter_map (held_by plan.now clock state.now.contents) ((i, slice_index_or state.now.modules i nobody) ∷ [])) }
+    ensures { OnOk result (held.new ≡ held.old ++ filter_map (held_by plan.now 0 (all_ready state.now.contents)) ((i, slice_index_or state.now.modules i nobody) ∷ [])) }
 {
     let module = state_at(state, i);
     if is_over(plan.ops, module) {
@@ -85,29 +95,23 @@ fn hold_one(
     }
     ask_one(plan, schedules, i, module, pending, requests)?;
     let contents = state.contents.as_slice();
-    if let Some(request) = first_stall(plan, clock, contents, requests.as_slice()) {
-        held.push(Held {
-            module: i as u32,
-            full: !is_popping(request.kind),
-            channel: request.channel,
-        })?;
+    if let Some(request) = first_stall(plan, contents, requests.as_slice()) {
+        held.push(hold_by(i as u32, request))?;
     }
     Ok(())
 }
 
-/// How the modules are held, in order.
+/// How the modules are held, in order, in whatever clock that is.
 fn hold_all(
     alloc: Global,
     plan: &Plan,
     schedules: &[List<Schedule>],
-    clock: u64,
     state: &ClockState,
 ) -> Result<List<Held>, OutOfMemory>
     requires fits { FitsEngine plan.now }
     requires schedules { AreSchedules plan.now schedules.now }
-    requires fit { AreFit plan.now clock state.now.modules }
-    requires early { clock ≤ plan.now.cycles }
-    ensures { IfOk result (λ list. list ≡ held_in plan.now clock state.now) }
+    requires fit { AreFitInTime plan.now state.now.modules }
+    ensures { IfOk result (λ list. (clock : ℕ) → list ≡ held_in plan.now clock state.now) }
 {
     let mut held = List::new(alloc);
     let mut pending = List::new(alloc);
@@ -117,7 +121,6 @@ fn hold_all(
         hold_one(
             plan,
             schedules,
-            clock,
             state,
             i,
             &mut pending,
@@ -129,7 +132,7 @@ fn hold_all(
 }
 
 /// How the modules are held at a verdict: not at all where all are ended or the cycle limit was reached.
-fn held_at(
+fn held_with(
     alloc: Global,
     plan: &Plan,
     schedules: &[List<Schedule>],
@@ -144,26 +147,31 @@ fn held_at(
 {
     match verdict {
         Verdict::Done(_) | Verdict::Cycles(_) => Ok(List::new(alloc)),
-        Verdict::Deadlock(clock) | Verdict::Ops(clock) => hold_all(
-            alloc, plan, schedules, clock, state,
-        ),
+        Verdict::Deadlock(_) | Verdict::Ops(_) => {
+            let held = hold_all(alloc, plan, schedules, state)?;
+            Ok(held)
+        }
     }
 }
 
-/// The values of a queue, moved into a list.
-fn drain(alloc: Global, queue: &mut Queue<u64>) -> Result<Words, OutOfMemory>
-    ensures { IfOk result (λ words. words ≡ queue.old) }
+/// The values of a queue's elements, moved into a list.
+fn drain(alloc: Global, queue: &mut Queue<Element>) -> Result<Words, OutOfMemory>
+    ensures { IfOk result (λ words. words ≡ values queue.old) }
 {
     let mut words = List::with_room(alloc, queue.len())?;
-    while let Some(value) = queue.pop() {
-        words.push(value)?;
+    while let Some(element) = queue.pop() {
+        words.push(element.value)?;
     }
     Ok(words)
 }
 
 /// The values that channel number i holds, moved into a list. The other channels keep theirs.
-fn drain_channel(alloc: Global, contents: &mut [Queue<u64>], i: usize) -> Result<Words, OutOfMemory>
-    ensures values { IfOk result (λ words. words ≡ contents_of contents.old i) }
+fn drain_channel(
+    alloc: Global,
+    contents: &mut [Queue<Element>],
+    i: usize,
+) -> Result<Words, OutOfMemory>
+    ensures values { IfOk result (λ words. words ≡ values (contents_of contents.old i)) }
     ensures others { (k : ℕ) → i < k → contents_of contents.new k ≡ contents_of contents.old k }
 {
     if i < contents.len() {
@@ -179,7 +187,7 @@ fn is_sink(kind: ChannelKind) -> bool
 {
     match kind {
         ChannelKind::Sink => true,
-        ChannelKind::Source | ChannelKind::Fifo(_) => false,
+        ChannelKind::Source | ChannelKind::Fifo(_, _) => false,
     }
 }
 
@@ -187,12 +195,12 @@ fn is_sink(kind: ChannelKind) -> bool
 fn output_one(
     alloc: Global,
     plan: &Plan,
-    contents: &mut [Queue<u64>],
+    contents: &mut [Queue<Element>],
     i: usize,
     outputs: &mut List<Words>,
 ) -> Result<(), OutOfMemory>
     requires within { i < length plan.now.design.channels }
-    ensures values { OnOk result (outputs.new ≡ outputs.old ++ map (contents_of contents.old) (filter (λ f. is_sink (kind_at plan.now f)) (i ∷ []))) }
+    ensures values { OnOk result (outputs.new ≡ outputs.old ++ map (λ f. values (contents_of contents.old f)) (filter (λ f. is_sink (kind_at plan.now f)) (i ∷ []))) }
     ensures others { OnOk result ((k : ℕ) → i < k → contents_of contents.new k ≡ contents_of contents.old k) }
 {
     if is_sink(kind_of(plan, i)) {
@@ -214,9 +222,9 @@ fn kind_of(plan: &Plan, i: usize) -> ChannelKind
 fn outputs(
     alloc: Global,
     plan: &Plan,
-    contents: &mut [Queue<u64>],
+    contents: &mut [Queue<Element>],
 ) -> Result<List<Words>, OutOfMemory>
-    ensures { IfOk result (λ outputs. outputs ≡ map (contents_of contents.old) (sinks plan.now)) }
+    ensures { IfOk result (λ outputs. outputs ≡ map (λ f. values (contents_of contents.old f)) (sinks plan.now)) }
 {
     let mut outputs = List::new(alloc);
     let count = plan.design.channels.as_slice().len();
@@ -242,7 +250,7 @@ pub fn report_at(
     requires early { clock_of verdict ≤ plan.now.cycles }
     ensures { IfOk result (λ report. report ≡ report_from plan.now verdict state events answers) }
 {
-    let held = held_at(alloc, plan, schedules, verdict, &state)?;
+    let held = held_with(alloc, plan, schedules, verdict, &state)?;
     let outputs = outputs(alloc, plan, state.contents.as_mut_slice())?;
     Ok(Report {
         verdict,

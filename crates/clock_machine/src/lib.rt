@@ -11,4 +11,4 @@ mod part;
 mod run;
 mod telling;
 
-pub use run::clock_run;
+pub use run::{clock_run, clock_run_without_events};

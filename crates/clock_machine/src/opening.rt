@@ -4,12 +4,13 @@ ghost use Rattle.std.specs.List.{range_with_len};
 ghost use Rattle.flow_design.specs.StaticRules.{FitsEngine};
 ghost use Rattle.flow_design.specs.Words.{cut_to};
 ghost use Rattle.lockstep_defs.specs.Machine.{opened};
+ghost use Rattle.lockstep_defs.specs.Channels.{element_from};
 ghost use Rattle.lockstep_defs.specs.Lockstep.{module_at, inputs_of, opening};
 ghost use Rattle.clock_machine.specs.Parts.{IsFit, AreFit, AreSchedules};
 
 use crate::asking::module_at;
 use block_schedule::Schedule;
-use flow_design::{ClockState, ModuleState, Plan};
+use flow_design::{ClockState, Element, ModuleState, Plan};
 use flow_word::{Flags, List, OutOfMemory, Queue, Width, cut};
 use module_move::{open, schedules_of};
 use std::alloc::Global;
@@ -39,19 +40,22 @@ fn open_modules(alloc: Global, plan: &Plan) -> Result<List<ModuleState>, OutOfMe
     Ok(states)
 }
 
-/// Values in a queue, each cut to a width.
-fn queue_of(alloc: Global, width: Width, values: &[u64]) -> Result<Queue<u64>, OutOfMemory>
-    ensures { IfOk result (λ queue. queue ≡ map (cut_to width) values.now) }
+/// Values in a queue, each cut to a width, as elements that can be popped from clock 0 on.
+fn queue_of(alloc: Global, width: Width, values: &[u64]) -> Result<Queue<Element>, OutOfMemory>
+    ensures { IfOk result (λ queue. queue ≡ map (λ v. element_from 0 (cut_to width v)) values.now) }
 {
     let mut queue = Queue::new(alloc);
     for value in values {
-        queue.push(cut(*value, width))?;
+        queue.push(Element {
+            value: cut(*value, width),
+            since: 0,
+        })?;
     }
     Ok(queue)
 }
 
 /// What channel number i holds at first: the inputs of a source, and nothing else.
-fn fill_one(alloc: Global, plan: &Plan, i: usize) -> Result<Queue<u64>, OutOfMemory>
+fn fill_one(alloc: Global, plan: &Plan, i: usize) -> Result<Queue<Element>, OutOfMemory>
     requires fits { FitsEngine plan.now }
     requires within { i < length plan.now.design.channels }
     ensures { IfOk result (λ queue. queue ≡ inputs_of plan.now i) }
@@ -62,7 +66,7 @@ fn fill_one(alloc: Global, plan: &Plan, i: usize) -> Result<Queue<u64>, OutOfMem
 }
 
 /// What the channels hold at first.
-fn fill_channels(alloc: Global, plan: &Plan) -> Result<List<Queue<u64>>, OutOfMemory>
+fn fill_channels(alloc: Global, plan: &Plan) -> Result<List<Queue<Element>>, OutOfMemory>
     requires fits { FitsEngine plan.now }
     ensures { IfOk result (λ contents. contents ≡ map (inputs_of plan.now) (range_with_len 0 (length plan.now.design.channels))) }
 {

@@ -31,6 +31,7 @@ pub struct Part {
 pub struct Scratch {
     /// One part per module.
     pub parts: List<Part>,
+    pub pending: List<Due>,
     pub requests: List<Request>,
     pub room: MoveRoom,
 }
@@ -69,6 +70,7 @@ pub fn new_scratch(alloc: Global, modules: u64) -> Result<Scratch, OutOfMemory>
     }
     Ok(Scratch {
         parts,
+        pending: List::new(alloc),
         requests: List::new(alloc),
         room: MoveRoom::new(alloc),
     })

@@ -3,7 +3,7 @@ ghost use Rattle.std.specs.Prelude.{◌≡◌, ℕ, ◌+◌, ◌<◌, ◌≤◌,
 ghost use Rattle.flow_design.specs.StaticRules.{FitsEngine};
 ghost use Rattle.lockstep_defs.specs.Lockstep.{numbered, steps_in, clock_step};
 ghost use Rattle.lockstep_defs.specs.Report.{steps_of, outcomes, events_of, report};
-ghost use Rattle.clock_machine.specs.Parts.{part_of, AreFit};
+ghost use Rattle.clock_machine.specs.Parts.{part_of, kept, AreFit};
 
 use crate::asking::ask_all;
 use crate::contents::{pop_all, push_all};
@@ -11,7 +11,7 @@ use crate::ending::{report_at, settled_report};
 use crate::moving::move_all;
 use crate::opening::{no_answers, open_all, schedules_of_all};
 use crate::part::{Part, Scratch, new_scratch};
-use crate::telling::{tell_all_events, tell_all_outcomes};
+use crate::telling::{tell_all_outcomes, tell_kept_events};
 use flow_design::{ClockState, EventLine, Plan, Report, Verdict};
 use flow_word::{Flags, List, OutOfMemory};
 use module_move::MoveRoom;
@@ -42,15 +42,16 @@ fn step(
         room,
     )?;
     pop_all(state.contents.as_mut_slice(), parts);
-    push_all(state.contents.as_mut_slice(), parts)?;
+    push_all(plan, clock, state.contents.as_mut_slice(), parts)?;
     Ok(())
 }
 
-/// One clock, with its events and answers.
+/// One clock, with its answers, and with its events where they are kept.
 fn next_clock(
     alloc: Global,
     plan: &Plan,
     clock: u64,
+    keep: bool,
     scratch: &mut Scratch,
     state: &mut ClockState,
     events: &mut List<EventLine>,
@@ -64,23 +65,21 @@ fn next_clock(
     ensures state { OnOk result (state.new ≡ clock_step plan.now clock state.old) }
     ensures fit { OnOk result (AreFit plan.now (clock + 1) state.new.modules) }
     ensures parts { OnOk result (scratch.new.parts ≡ scratch.old.parts) }
-    ensures events { OnOk result (events.new ≡ events.old ++ events_of (steps_in plan.now clock state.old)) }
+    ensures events { OnOk result (events.new ≡ events.old ++ kept keep (events_of (steps_in plan.now clock state.old))) }
     ensures count { OnOk result (length answers.new ≡ length answers.old) }
     ensures answers { OnOk result ((i : ℕ) → i < length plan.now.design.modules → slice_index_or answers.new i [] ≡ slice_index_or answers.old i [] ++ outcomes (steps_of i (steps_in plan.now clock state.old))) }
 {
     let parts = scratch.parts.as_slice();
-    tell_all_events(events, clock, parts)?;
+    tell_kept_events(keep, events, clock, parts)?;
     tell_all_outcomes(answers.as_mut_slice(), parts)?;
     step(alloc, plan, clock, parts, state, &mut scratch.room)?;
     Ok(())
 }
 
-/// The report of a plan, by going through its clocks one at a time.
-///
-/// A run takes as many clocks as its verdict says, and each clock time for the modules and for what is done in it.
-pub fn clock_run(alloc: Global, plan: &Plan) -> Result<Report, OutOfMemory>
+/// The report of a plan, with its events where they are kept.
+fn run(alloc: Global, plan: &Plan, keep: bool) -> Result<Report, OutOfMemory>
     requires fits { FitsEngine plan.now }
-    ensures { IfOk result (λ r. r ≡ report plan.now) }
+    ensures { IfOk result (λ r. r ≡ record (report plan.now) { events = kept keep (report plan.now).events }) }
 {
     let modules = plan.design.modules.len();
     let mut state = open_all(alloc, plan)?;
@@ -90,7 +89,7 @@ pub fn clock_run(alloc: Global, plan: &Plan) -> Result<Report, OutOfMemory>
     let mut events = List::new(alloc);
     let mut answers = no_answers(alloc, modules)?;
     for clock in 0..plan.cycles {
-        if !ask_all(plan, schedules, clock, &state, &mut scratch)? {
+        if ask_all(plan, schedules, clock, &state, &mut scratch)? {
             let report = settled_report(alloc, plan, schedules, clock, state, events, answers)?;
             return Ok(report);
         }
@@ -98,17 +97,36 @@ pub fn clock_run(alloc: Global, plan: &Plan) -> Result<Report, OutOfMemory>
             alloc,
             plan,
             clock,
+            keep,
             &mut scratch,
             &mut state,
             &mut events,
             &mut answers,
         )?;
     }
-    if !ask_all(plan, schedules, plan.cycles, &state, &mut scratch)? {
+    if ask_all(plan, schedules, plan.cycles, &state, &mut scratch)? {
         let report = settled_report(alloc, plan, schedules, plan.cycles, state, events, answers)?;
         return Ok(report);
     }
     let verdict = Verdict::Cycles(plan.cycles);
     let report = report_at(alloc, plan, schedules, verdict, state, events, answers)?;
     Ok(report)
+}
+
+/// The report of a plan, by going through its clocks one at a time.
+///
+/// A run takes as many clocks as its verdict says, and each clock time for the modules and for what is done in it.
+pub fn clock_run(alloc: Global, plan: &Plan) -> Result<Report, OutOfMemory>
+    requires fits { FitsEngine plan.now }
+    ensures { IfOk result (λ r. r ≡ report plan.now) }
+{
+    run(alloc, plan, true)
+}
+
+/// The report of a plan without its events, which take the most memory. All else is as in `clock_run`.
+pub fn clock_run_without_events(alloc: Global, plan: &Plan) -> Result<Report, OutOfMemory>
+    requires fits { FitsEngine plan.now }
+    ensures { IfOk result (λ r. r ≡ record (report plan.now) { events = [] }) }
+{
+    run(alloc, plan, false)
 }

@@ -1,13 +1,12 @@
 //! What a clock adds to the events and answers.
 ghost use Rattle.std.specs.Prelude.{◌≡◌, ◌<◌, ◌^◌, ◌++◌, map, length, OnOk};
 ghost use Rattle.std.specs.List.{enumerate_from};
-ghost use Rattle.clock_machine.specs.Parts.{event_by, events_from, outcomes_in, answers_with};
+ghost use Rattle.clock_machine.specs.Parts.{event_by, events_from, kept, outcomes_in, answers_with};
 
-use crate::channels::is_blocking;
-use crate::contents::is_yes;
 use crate::part::{Answered, Part};
 use flow_design::EventLine;
 use flow_word::{Flags, List, OutOfMemory};
+use module_move::is_yes;
 
 /// Adds the events of one module's operations in a clock.
 fn tell_events(
@@ -30,7 +29,7 @@ fn tell_events(
 }
 
 /// Adds the events of a clock, in order of modules.
-pub fn tell_all_events(
+fn tell_all_events(
     events: &mut List<EventLine>,
     clock: u64,
     parts: &[Part],
@@ -44,12 +43,29 @@ pub fn tell_all_events(
     Ok(())
 }
 
+/// Adds the events of a clock where they are kept.
+pub fn tell_kept_events(
+    keep: bool,
+    events: &mut List<EventLine>,
+    clock: u64,
+    parts: &[Part],
+) -> Result<(), OutOfMemory>
+    requires few { length parts.now < 2 ^ 32 }
+    ensures { OnOk result (events.new ≡ events.old ++ kept keep (events_from clock parts.now)) }
+{
+    if keep {
+        tell_all_events(events, clock, parts)
+    } else {
+        Ok(())
+    }
+}
+
 /// Adds the outcomes of the queries among one module's operations.
 fn tell_outcomes(answers: &mut Flags, answered: &[Answered]) -> Result<(), OutOfMemory>
     ensures { OnOk result (answers.new ≡ answers.old ++ outcomes_in answered.now) }
 {
     for done in answered {
-        if !is_blocking(done.request.kind) {
+        if !done.request.kind.is_blocking() {
             answers.push(is_yes(done.reply))?;
         }
     }

@@ -1,16 +1,18 @@
 -- From the opening core no list of permitted actions is long.
-use Rattle.std.proofs.Common.{◌≡◌, ℕ, zero, suc, ◌+◌, ◌*◌, ◌<◌, ◌≤◌, Bool, true, false, cond, not, ◌⊎◌, inl, inr, List, [], ◌∷◌, length, sym, refl, ap, ◌∙◌, subst, arith, ltb, Some}
+use Rattle.std.proofs.Common.{◌≡◌, ℕ, zero, suc, ◌+◌, ◌*◌, ◌<◌, ◌≤◌, Bool, true, false, cond, not, ◌⊎◌, inl, inr, List, [], ◌∷◌, length}
+use Rattle.std.proofs.Common.{sym, refl, ap, ◌∙◌, subst, arith, ltb, Some}
 use Rattle.std.proofs.lemmas.Bool.{cases_Bool, both_ways, cases_lt, cases_eq, lt-ltb, le-ltb, cond-true, cond-false}
 use Rattle.event_timing.specs.Machines.{Design, IsDesign, ready}
 use Rattle.event_timing.specs.Histories.{Trace, IsHistory}
 use Rattle.event_timing.specs.Core.{Core, opening_core, core_reply, has_query, view}
 use Rattle.event_timing.specs.Enablers.{candidate}
-use Rattle.event_timing.specs.Actions.{Action, MayRun, MayAssign, Acts, ActsAll, after_run, after_assign, after_answer, emit_over, newest, put, IsSame}
+use Rattle.event_timing.specs.Actions.{Action, MayRun, MayAssign, Acts, ActsAll, after_run, after_assign, after_answer, emit_over, newest}
+use Rattle.event_timing.specs.Actions.{put, IsSame}
 use Rattle.event_timing.specs.Agreement.{AreOwnMarks, IsAgreed, IsBounded, AllVerified}
 use Rattle.event_timing.specs.Work.{first_one, over_one, work_of, sum_to, work}
-use Rattle.event_timing.proofs.Running.{emit, old_at, emit_more}
-use Rattle.event_timing.proofs.Answering.{first_emitted, put_at_both}
-use Rattle.event_timing.proofs.Assigning.{put_same, put_other, put_at_same, put_at_other, put_cases}
+use Rattle.event_timing.proofs.Running.{emit, old_at, emit_more, emit_up, run_cases}
+use Rattle.event_timing.proofs.Answering.{first_emitted}
+use Rattle.event_timing.proofs.Assigning.{put_same, put_other, put_at_same, put_at_other, put_at_both, put_cases}
 use Rattle.event_timing.proofs.Agreement.{acts_agree, opening_agrees}
 
 sum_less : (f g : ℕ → ℕ) (n m : ℕ) → ((k : ℕ) → f k ≤ g k) → sum_to f n ≤ sum_to g n
@@ -46,22 +48,35 @@ first_le {S} x m =
 
 first_none : {S : Type 0} → (x : Core S) (m : ℕ) → x.emitted m ≤ x.timed m → first_one x m ≡ 0
 unfolding first_one
-first_none {S} x m l = cond-false {A = ℕ} (ltb (x.timed m) (x.emitted m)) (cond (x.verified m (x.timed m)) 1 0) 0 (le-ltb (x.timed m) (x.emitted m) l)
+first_none {S} x m l = cond-false {A = ℕ} (ltb (x.timed m) (x.emitted m)) (cond (x.verified m (x.timed m)) 1 0) 0
+    (le-ltb (x.timed m) (x.emitted m) l)
 
-first_is : {S : Type 0} → (x : Core S) (m : ℕ) (b : Bool) → x.timed m < x.emitted m → x.verified m (x.timed m) ≡ b → first_one x m ≡ cond b 1 0
+first_is : {S : Type 0} → (x : Core S) (m : ℕ) (b : Bool) → x.timed m < x.emitted m → x.verified m (x.timed m) ≡ b
+    → first_one x m ≡ cond b 1 0
 unfolding first_one
-first_is {S} x m b l e = cond-true {A = ℕ} (ltb (x.timed m) (x.emitted m)) (cond (x.verified m (x.timed m)) 1 0) 0 (lt-ltb (x.timed m) (x.emitted m) l) ∙ ap (λ (z : Bool). cond {A = ℕ} z 1 0) e
+first_is {S} x m b l e =
+    cond-true {A = ℕ} (ltb (x.timed m) (x.emitted m)) (cond (x.verified m (x.timed m)) 1 0) 0 (lt-ltb (x.timed m) (x.emitted m) l)
+    ∙ ap (λ (z : Bool). cond {A = ℕ} z 1 0) e
 
-work_bound : {S : Type 0} → (d : Design S) (x : Core S) → AreOwnMarks d x → (most : ℕ) → IsBounded d most → ((m : ℕ) → x.timed m ≤ x.emitted m) → (m : ℕ)
-    → work_of x m ≤ 3 * most + 1
+work_bound : {S : Type 0} → (d : Design S) (x : Core S) → AreOwnMarks d x → (most : ℕ) → IsBounded d most
+    → ((m : ℕ) → x.timed m ≤ x.emitted m) → (m : ℕ) → work_of x m ≤ 3 * most + 1
 unfolding work_of over_one
 work_bound {S} d x b most u w m =
     let e : x.emitted m ≤ most =
     elim (cases_lt most (x.emitted m)) [
       | inr l ↦ l
-      | inl l ↦ absurd (omega (arith, u m (core_reply d x m) most (λ j q. sym (ap (d.is_over m) (b.own_step m j (omega arith))) ∙ b.lives m j (omega arith))))
+      | inl l ↦ absurd (omega (
+        arith,
+        u m (core_reply d x m) most
+            (λ j q. sym (ap (d.is_over m) (b.own_step m j (omega arith))) ∙ b.lives m j (omega arith)),
+      ))
     ] in
-    let o : cond {A = ℕ} (x.over m) 1 0 ≤ 1 = elim (cases_Bool (x.over m)) [ inl v ↦ rw (cond-true {A = ℕ} (x.over m) 1 0 v) (omega arith) | inr v ↦ rw (cond-false {A = ℕ} (x.over m) 1 0 v) (omega arith) ] in
+    let o : cond {A = ℕ} (x.over m) 1 0 ≤ 1 =
+    elim (cases_Bool (x.over m)) [
+      | inl v ↦ rw (cond-true {A = ℕ} (x.over m) 1 0 v) (omega arith)
+      | inr v ↦
+          rw (cond-false {A = ℕ} (x.over m) 1 0 v) (omega arith)
+    ] in
     elim (cases_lt (x.timed m) (x.emitted m)) [
       | inl l ↦ omega (arith, first_le x m)
       | inr l ↦ omega (arith, first_none x m l, w m)
@@ -94,39 +109,42 @@ first_emit {S} d x m n w =
     elim (cases_lt (x.timed n) (x.emitted n)) [
       | inr l ↦ omega (arith, first_none x n l)
       | inl l ↦
-          let up : x.emitted n ≤ (emit d x m).emitted n = Rattle.event_timing.proofs.Running.emit_up x m n in
+          let up : x.emitted n ≤ (emit d x m).emitted n = emit_up x m n in
           let a = first_is (emit d x m) n (x.verified n (x.timed n)) (omega arith) (old_at x.verified x m _ n (x.timed n) l) in
           let b = first_is x n (x.verified n (x.timed n)) l refl in
           omega (arith, a, b)
     ]
 
-emit_rises : {S : Type 0} → (d : Design S) (x : Core S) (m : ℕ) → MayRun d x m → ((n : ℕ) → x.timed n ≤ x.emitted n) → Rises d x (emit d x m)
+emit_rises : {S : Type 0} → (d : Design S) (x : Core S) (m : ℕ) → MayRun d x m → ((n : ℕ) → x.timed n ≤ x.emitted n)
+    → Rises d x (emit d x m)
 unfolding work_of over_one
 emit_rises {S} d x m r w =
     record {
       who = m;
       inside = r.inside;
-      up = λ n. omega (arith, first_emit d x m n (w n), Rattle.event_timing.proofs.Running.emit_up x m n);
+      up = λ n. omega (arith, first_emit d x m n (w n), emit_up x m n);
       more = omega (arith, first_emit d x m m (w m), put_same x.emitted m (suc (x.emitted m)));
     }
 
 first_at : {S : Type 0} → Core S → ℕ → ℕ → ℕ
 first_at {S} x n t = cond (ltb t (x.emitted n)) (cond (x.verified n t) 1 0) 0
 
-assign_rises : {S : Type 0} → (d : Design S) (x : Core S) (m c : ℕ) → m < d.modules → x.timed m < x.emitted m → x.verified m (x.timed m) ≡ true
-    → Rises d x (after_assign x m c)
+assign_rises : {S : Type 0} → (d : Design S) (x : Core S) (m c : ℕ) → m < d.modules → x.timed m < x.emitted m
+    → x.verified m (x.timed m) ≡ true → Rises d x (after_assign x m c)
 unfolding work_of over_one first_one first_at
 assign_rises {S} d x m c i l v =
     let a = first_is x m true l v in
     let a' : first_one x m ≡ 1 = a in
     let raise : (n : ℕ) → (n ≡ m → work_of x n < work_of (after_assign x m c) n) × (work_of x n ≤ work_of (after_assign x m c) n) =
-    put_cases x.timed m (suc (x.timed m)) (λ n t. (n ≡ m → work_of x n < x.emitted n + over_one x n + (t + (t + first_at x n t))) × (work_of x n ≤ x.emitted n + over_one x n + (t + (t + first_at x n t))))
+    put_cases x.timed m (suc (x.timed m))
+    (λ n t. (n ≡ m → work_of x n < x.emitted n + over_one x n + (t + (t + first_at x n t)))
+    × (work_of x n ≤ x.emitted n + over_one x n + (t + (t + first_at x n t))))
     (λ n e. (λ p. absurd (e p), omega arith))
     (λ p. omega arith, omega arith) in
     record { who = m; inside = i; up = λ n. (raise n).1; more = (raise m).0 refl }
 
-answer_rises : {S : Type 0} → (d : Design S) (x : Core S) (m c : ℕ) → m < d.modules → x.timed m < x.emitted m → x.verified m (x.timed m) ≡ false
-    → Rises d x (after_answer d x m c)
+answer_rises : {S : Type 0} → (d : Design S) (x : Core S) (m c : ℕ) → m < d.modules → x.timed m < x.emitted m
+    → x.verified m (x.timed m) ≡ false → Rises d x (after_answer d x m c)
 unfolding work_of over_one
 answer_rises {S} d x m c i l v =
     let z : Core S = after_answer d x m c in
@@ -135,7 +153,12 @@ answer_rises {S} d x m c i l v =
     let same : (n : ℕ) → (n ≡ m → ⊥) → first_one x n ≤ first_one z n = λ n e.
     elim (cases_lt (x.timed n) (x.emitted n)) [
       | inr q ↦ omega (arith, first_none x n q)
-      | inl q ↦ omega (arith, first_is z n (x.verified n (x.timed n)) q (put_at_other x.verified m (x.timed m) true n (x.timed n) (λ p w. e p)), first_is x n (x.verified n (x.timed n)) q refl)
+      | inl q ↦ omega (
+        arith,
+        first_is z n (x.verified n (x.timed n)) q
+            (put_at_other x.verified m (x.timed m) true n (x.timed n) (λ p w. e p)),
+        first_is x n (x.verified n (x.timed n)) q refl,
+      )
     ] in
     record {
       who = m;
@@ -147,15 +170,18 @@ answer_rises {S} d x m c i l v =
       more = omega arith;
     }
 
+-- the step that a Run emits has none
+abbrev no_query : {S : Type 0} → Design S → Core S → ℕ → Bool
+no_query {S} d x m = not (has_query (d.accesses m (ready d m (newest d x m))))
+
 run_none : {S : Type 0} → (d : Design S) (x : Core S) → AllVerified x → (m : ℕ) → AllVerified (after_run d x m)
 run_none {S} d x g m =
-    elim (cases_Bool (d.is_over m (ready d m (newest d x m)))) [
-      | inl e ↦ subst AllVerified (sym (cond-true (d.is_over m (ready d m (newest d x m))) (emit_over x m) (emit d x m) e)) g
-      | inr e ↦ subst AllVerified (sym (cond-false (d.is_over m (ready d m (newest d x m))) (emit_over x m) (emit d x m) e))
-          (emit_more x m (λ n k. (emit d x m).answered n k ≡ true → (emit d x m).verified n k ≡ true)
-          (λ n k l a. old_at x.verified x m _ n k l ∙ g n k l (sym (old_at x.answered x m _ n k l) ∙ a))
-          (λ a. put_at_same x.verified m (x.emitted m) (not (has_query (d.accesses m (ready d m (newest d x m))))) ∙ (sym (put_at_same x.answered m (x.emitted m) (not (has_query (d.accesses m (ready d m (newest d x m)))))) ∙ a)))
-    ]
+    run_cases d x m AllVerified
+    (λ e. g)
+    (λ e.
+    emit_more x m (λ n k. (emit d x m).answered n k ≡ true → (emit d x m).verified n k ≡ true)
+    (λ n k l a. old_at x.verified x m _ n k l ∙ g n k l (sym (old_at x.answered x m _ n k l) ∙ a))
+    (λ a. put_at_same x.verified m (x.emitted m) (no_query d x m) ∙ (sym (put_at_same x.answered m (x.emitted m) (no_query d x m)) ∙ a)))
 
 answer_none : {S : Type 0} → (d : Design S) (x : Core S) → AllVerified x → (m c : ℕ) → AllVerified (after_answer d x m c)
 answer_none {S} d x g m c =
@@ -169,29 +195,29 @@ assign_none {S} x m c f = f
 inside_of : {S : Type 0} → (d : Design S) (x : Core S) → AreOwnMarks d x → (m : ℕ) → x.timed m < x.emitted m → m < d.modules
 inside_of {S} d x b m l = elim (cases_lt m d.modules) [ inl q ↦ q | inr q ↦ absurd (omega (arith, b.inside m q)) ]
 
-run_rises : {S : Type 0} → (d : Design S) (h : Trace S) (limit : ℕ) (x : Core S) → IsAgreed d h limit x → (m : ℕ) → MayRun d x m → Rises d x (after_run d x m)
-run_rises {S} d h limit x g m r =
-    elim (cases_Bool (d.is_over m (ready d m (newest d x m)))) [
-      | inl o ↦ subst (Rises d x) (sym (cond-true (d.is_over m (ready d m (newest d x m))) (emit_over x m) (emit d x m) o)) (over_rises d x m r)
-      | inr o ↦ subst (Rises d x) (sym (cond-false (d.is_over m (ready d m (newest d x m))) (emit_over x m) (emit d x m) o)) (emit_rises d x m r g.time.within)
-    ]
+run_rises : {S : Type 0} → (d : Design S) (h : Trace S) (limit : ℕ) (x : Core S) → IsAgreed d h limit x → (m : ℕ) → MayRun d x m
+    → Rises d x (after_run d x m)
+run_rises {S} d h limit x g m r = run_cases d x m (Rises d x) (λ o. over_rises d x m r) (λ o. emit_rises d x m r g.time.within)
 
-given_rises : {S : Type 0} → (d : Design S) (h : Trace S) (limit : ℕ) (x : Core S) → IsAgreed d h limit x → (m c : ℕ) → MayAssign d limit x m c → Rises d x (after_assign x m c)
+given_rises : {S : Type 0} → (d : Design S) (h : Trace S) (limit : ℕ) (x : Core S) → IsAgreed d h limit x → (m c : ℕ)
+    → MayAssign d limit x m c → Rises d x (after_assign x m c)
 given_rises {S} d h limit x g m c r =
     let l = first_emitted d x m c r.determined.at in
     assign_rises d x m c (inside_of d x g.marks m l) l r.verified
 
-found_rises : {S : Type 0} → (d : Design S) (h : Trace S) (limit : ℕ) (x : Core S) → IsAgreed d h limit x → (m c : ℕ) → candidate d (view d x) m ≡ Some c
-    → x.verified m (x.timed m) ≡ false → Rises d x (after_answer d x m c)
+found_rises : {S : Type 0} → (d : Design S) (h : Trace S) (limit : ℕ) (x : Core S) → IsAgreed d h limit x → (m c : ℕ)
+    → candidate d (view d x) m ≡ Some c → x.verified m (x.timed m) ≡ false → Rises d x (after_answer d x m c)
 found_rises {S} d h limit x g m c at v =
     let l = first_emitted d x m c at in
     answer_rises d x m c (inside_of d x g.marks m l) l v
 
 -- a permitted action that changes the core raises some module's work
-acts_rise : {S : Type 0} → (d : Design S) (h : Trace S) (limit : ℕ) (x : Core S) → IsAgreed d h limit x → (a : Action) (z : Core S) → Acts d limit x a z → (z ≡ x) ⊎ Rises d x z
+acts_rise : {S : Type 0} → (d : Design S) (h : Trace S) (limit : ℕ) (x : Core S) → IsAgreed d h limit x → (a : Action) (z : Core S)
+    → Acts d limit x a z → (z ≡ x) ⊎ Rises d x z
 acts_rise {S} d h limit x g (Action.Run m) z (r, e) = inr (subst (Rises d x) (sym e) (run_rises d h limit x g m r))
 acts_rise {S} d h limit x g (Action.Assign m) z (c, r, e) = inr (subst (Rises d x) (sym e) (given_rises d h limit x g m c r))
-acts_rise {S} d h limit x g (Action.Answer m) z (c, r, inl (s, e)) = inr (subst (Rises d x) (sym e) (found_rises d h limit x g m c r.determined.at r.open_query))
+acts_rise {S} d h limit x g (Action.Answer m) z (c, r, inl (s, e)) =
+    inr (subst (Rises d x) (sym e) (found_rises d h limit x g m c r.determined.at r.open_query))
 acts_rise {S} d h limit x g (Action.Answer m) z (c, r, inr (s, e)) = inl e
 acts_rise {S} d h limit x g (Action.Earliest m) z (c, r, inl (s, e)) =
     inr (subst (Rises d x) (sym e) (found_rises d h limit x g m c r.open_step.determined.at r.open_step.open_query))
@@ -200,30 +226,44 @@ acts_rise {S} d h limit x g (Action.Earliest m) z (c, r, inr (s, e)) = inl e
 all_more : {S : Type 0} → (d : Design S) (x z : Core S) → Rises d x z → work d x < work d z
 all_more {S} d x z p = sum_grows (work_of x) (work_of z) d.modules p.who p.inside p.up p.more
 
-pub more_work : {S : Type 0} → (d : Design S) (h : Trace S) (limit : ℕ) (x : Core S) → IsAgreed d h limit x → (a : Action) (z : Core S) → Acts d limit x a z → (z ≡ x) ⊎ (work d x < work d z)
+pub more_work : {S : Type 0} → (d : Design S) (h : Trace S) (limit : ℕ) (x : Core S) → IsAgreed d h limit x → (a : Action) (z : Core S)
+    → Acts d limit x a z → (z ≡ x) ⊎ (work d x < work d z)
 more_work {S} d h limit x g a z s = elim (acts_rise d h limit x g a z s) [ inl e ↦ inl e | inr p ↦ inr (all_more d x z p) ]
 
-pub most_work : {S : Type 0} → (d : Design S) (h : Trace S) (limit : ℕ) (x : Core S) → IsAgreed d h limit x → (most : ℕ) → IsBounded d most → work d x ≤ d.modules * (3 * most + 1)
+pub most_work : {S : Type 0} → (d : Design S) (h : Trace S) (limit : ℕ) (x : Core S) → IsAgreed d h limit x → (most : ℕ)
+    → IsBounded d most → work d x ≤ d.modules * (3 * most + 1)
 most_work {S} d h limit x g most u = sum_most (work_of x) d.modules (3 * most + 1) (work_bound d x g.marks most u g.time.within)
 
 -- ---- where no outcome is assumed
 
-pub never_found : {S : Type 0} → (d : Design S) (x : Core S) → AllVerified x → (m c : ℕ) → candidate d (view d x) m ≡ Some c → x.verified m (x.timed m) ≡ false → IsSame d x m c
+pub never_found : {S : Type 0} → (d : Design S) (x : Core S) → AllVerified x → (m c : ℕ) → candidate d (view d x) m ≡ Some c
+    → x.verified m (x.timed m) ≡ false → IsSame d x m c
 never_found {S} d x f m c at v a = absurd (both_ways _ v (f m (x.timed m) (first_emitted d x m c at) a))
 
 -- each permitted action raises some module's work, and assumes nothing
-acts_plainly : {S : Type 0} → (d : Design S) (h : Trace S) (limit : ℕ) (x : Core S) → IsAgreed d h limit x → AllVerified x → (a : Action) (z : Core S) → Acts d limit x a z → Rises d x z × AllVerified z
-acts_plainly {S} d h limit x g f (Action.Run m) z (r, e) = (subst (Rises d x) (sym e) (run_rises d h limit x g m r), subst AllVerified (sym e) (run_none d x f m))
-acts_plainly {S} d h limit x g f (Action.Assign m) z (c, r, e) = (subst (Rises d x) (sym e) (given_rises d h limit x g m c r), subst AllVerified (sym e) (assign_none x m c f))
-acts_plainly {S} d h limit x g f (Action.Answer m) z (c, r, inl (s, e)) =
-    (subst (Rises d x) (sym e) (found_rises d h limit x g m c r.determined.at r.open_query), subst AllVerified (sym e) (answer_none d x f m c))
+acts_plainly : {S : Type 0} → (d : Design S) (h : Trace S) (limit : ℕ) (x : Core S) → IsAgreed d h limit x → AllVerified x
+    → (a : Action) (z : Core S) → Acts d limit x a z → Rises d x z × AllVerified z
+acts_plainly {S} d h limit x g f (Action.Run m) z (r, e) =
+    (subst (Rises d x) (sym e) (run_rises d h limit x g m r), subst AllVerified (sym e) (run_none d x f m))
+acts_plainly {S} d h limit x g f (Action.Assign m) z (c, r, e) =
+    (subst (Rises d x) (sym e) (given_rises d h limit x g m c r), subst AllVerified (sym e) (assign_none x m c f))
+acts_plainly {S} d h limit x g f (Action.Answer m) z (c, r, inl (s, e)) = (
+  subst (Rises d x) (sym e) (found_rises d h limit x g m c r.determined.at r.open_query),
+  subst AllVerified (sym e)
+      (answer_none d x f m c),
+)
 acts_plainly {S} d h limit x g f (Action.Answer m) z (c, r, inr (s, e)) = absurd (s (never_found d x f m c r.determined.at r.open_query))
-acts_plainly {S} d h limit x g f (Action.Earliest m) z (c, r, inl (s, e)) =
-    (subst (Rises d x) (sym e) (found_rises d h limit x g m c r.open_step.determined.at r.open_step.open_query), subst AllVerified (sym e) (answer_none d x f m c))
-acts_plainly {S} d h limit x g f (Action.Earliest m) z (c, r, inr (s, e)) = absurd (s (never_found d x f m c r.open_step.determined.at r.open_step.open_query))
+acts_plainly {S} d h limit x g f (Action.Earliest m) z (c, r, inl (s, e)) = (
+  subst (Rises d x) (sym e) (found_rises d h limit x g m c r.open_step.determined.at r.open_step.open_query),
+  subst AllVerified
+      (sym e) (answer_none d x f m c),
+)
+acts_plainly {S} d h limit x g f (Action.Earliest m) z (c, r, inr (s, e)) =
+    absurd (s (never_found d x f m c r.open_step.determined.at r.open_step.open_query))
 
-pub all_rise : {S : Type 0} → (d : Design S) (h : Trace S) → IsDesign d → IsHistory d h → (limit : ℕ) (x : Core S) → IsAgreed d h limit x → AllVerified x
-    → (actions : List Action) (z : Core S) → ActsAll d limit x actions z → (length actions + work d x ≤ work d z) × IsAgreed d h limit z × AllVerified z
+pub all_rise : {S : Type 0} → (d : Design S) (h : Trace S) → IsDesign d → IsHistory d h → (limit : ℕ) (x : Core S)
+    → IsAgreed d h limit x → AllVerified x → (actions : List Action) (z : Core S) → ActsAll d limit x actions z
+    → (length actions + work d x ≤ work d z) × IsAgreed d h limit z × AllVerified z
 all_rise {S} d h i y limit x g f [] z e =
     let p : work d x ≤ work d z = subst (λ (w : Core S). work d x ≤ work d w) (sym e) (omega arith) in
     (omega arith, subst (IsAgreed d h limit) (sym e) g, subst AllVerified (sym e) f)

@@ -1,13 +1,15 @@
 -- Actions let the core grow, and those without a Run of a module leave the module's marks as they were.
-use Rattle.std.proofs.Common.{◌≡◌, refl, sym, ap, ap₂, subst, ◌∙◌, ℕ, zero, suc, ◌⊎◌, inl, inr, true, Some, List, [], ◌∷◌, ◌++◌, arith, Bool, ◌<◌, ◌≤◌, not}
-use Rattle.std.proofs.lemmas.Bool.{cases_Bool, cases_eq, cond-true, cond-false}
+use Rattle.std.proofs.Common.{◌≡◌, refl, sym, ap, ap₂, subst, ◌∙◌, ℕ, zero, suc, ◌⊎◌, inl, inr, true, Some, List, [], ◌∷◌, ◌++◌, arith}
+use Rattle.std.proofs.Common.{Bool, ◌<◌, ◌≤◌, not}
+use Rattle.std.proofs.lemmas.Bool.{cases_eq, both_ways}
 use Rattle.flow_word.specs.declared.access.Side.TheVariants.{Push}
 use Rattle.event_timing.specs.Machines.{Design, IsDesign, ready, values_in}
 use Rattle.event_timing.specs.Histories.{Trace, IsHistory}
 use Rattle.event_timing.specs.Views.{Begins, pushed_in}
 use Rattle.event_timing.specs.Core.{Core, bare_replies, core_accesses, core_values, view, has_query, no_outcomes}
 use Rattle.event_timing.specs.Enablers.{candidate}
-use Rattle.event_timing.specs.Actions.{Action, Acts, ActsAll, MayRun, after_run, after_answer, emit_over, newest, IsSame, IsNoRunOf, put_at, runs}
+use Rattle.event_timing.specs.Actions.{Action, Acts, ActsAll, MayRun, after_run, after_assign, after_answer, emit_over, newest, IsSame}
+use Rattle.event_timing.specs.Actions.{IsNoRunOf, put_at, runs}
 use Rattle.event_timing.specs.Agreement.{AreOwnMarks, IsAgreed}
 use Rattle.event_timing.specs.Growth.{Grows, GrowsBeside}
 use Rattle.event_timing.proofs.Agreement.{acts_agree, all_agree}
@@ -15,8 +17,8 @@ use Rattle.event_timing.proofs.Answering.{answer_grows, first_emitted}
 use Rattle.event_timing.proofs.Assigning.{put_same, put_other, put_at_same}
 use Rattle.event_timing.proofs.Fronts.{pushed_same}
 use Rattle.event_timing.proofs.Growing.{settled_all}
-use Rattle.event_timing.proofs.Running.{emit, emit_grows, emit_more, old_at, values_grow, run_marks}
-use Rattle.event_timing.proofs.RunningAhead.{stays, newest_stays, over_grows, assign_grows, no_run_parts}
+use Rattle.event_timing.proofs.Running.{emit, emit_grows, emit_more, old_at, values_grow, run_marks, run_cases}
+use Rattle.event_timing.proofs.RunningAhead.{stays, newest_stays}
 use Rattle.event_timing.proofs.Values.{begins_self, begins_trans}
 
 pub grows_self : {S : Type 0} → (d : Design S) (x : Core S) → Grows d x x
@@ -43,20 +45,39 @@ grows_trans {S} d x y z g k =
 
 -- ---- one action
 
-pub run_grows : {S : Type 0} → (d : Design S) (x : Core S) (m : ℕ) → Grows d x (after_run d x m)
-run_grows {S} d x m =
-    elim (cases_Bool (d.is_over m (ready d m (newest d x m)))) [
-      | inl e ↦ subst (Grows d x) (sym (cond-true (d.is_over m (ready d m (newest d x m))) (emit_over x m) (emit d x m) e)) (over_grows d x m)
-      | inr e ↦ subst (Grows d x) (sym (cond-false (d.is_over m (ready d m (newest d x m))) (emit_over x m) (emit d x m) e)) (emit_grows d x m)
-    ]
+over_grows : {S : Type 0} → (d : Design S) (x : Core S) (n : ℕ) → Grows d x (emit_over x n)
+over_grows {S} d x n =
+    record {
+      emitted_up = λ m. omega arith;
+      state_same = λ m k l. refl;
+      wait_same = λ m k l. refl;
+      flags_same = λ m k l a. refl;
+      answered_up = λ m k l a. a;
+      values_up = λ ch. begins_self (core_values d x ch);
+    }
 
-found_grows : {S : Type 0} → (d : Design S) → IsDesign d → (x : Core S) → AreOwnMarks d x → (n c : ℕ) → candidate d (view d x) n ≡ Some c → (z : Core S)
+pub assign_grows : {S : Type 0} → (d : Design S) (x : Core S) (n c : ℕ) → Grows d x (after_assign x n c)
+assign_grows {S} d x n c =
+    record {
+      emitted_up = λ m. omega arith;
+      state_same = λ m k l. refl;
+      wait_same = λ m k l. refl;
+      flags_same = λ m k l a. refl;
+      answered_up = λ m k l a. a;
+      values_up = λ ch. begins_self (core_values d x ch);
+    }
+
+pub run_grows : {S : Type 0} → (d : Design S) (x : Core S) (m : ℕ) → Grows d x (after_run d x m)
+run_grows {S} d x m = run_cases d x m (Grows d x) (λ e. over_grows d x m) (λ e. emit_grows d x m)
+
+found_grows : {S : Type 0} → (d : Design S) → IsDesign d → (x : Core S) → AreOwnMarks d x → (n c : ℕ)
+    → candidate d (view d x) n ≡ Some c → (z : Core S)
     → (IsSame d x n c × (z ≡ after_answer d x n c)) ⊎ ((IsSame d x n c → ⊥) × (z ≡ x)) → Grows d x z
 found_grows {S} d i x b n c e z (inl (s, w)) = subst (Grows d x) (sym w) (answer_grows d i x b n c (first_emitted d x n c e) s)
 found_grows {S} d i x b n c e z (inr (s, w)) = subst (Grows d x) (sym w) (grows_self d x)
 
-pub acts_grow : {S : Type 0} → (d : Design S) → IsDesign d → (limit : ℕ) (x : Core S) → AreOwnMarks d x → (a : Action) (z : Core S) → Acts d limit x a z
-    → Grows d x z
+pub acts_grow : {S : Type 0} → (d : Design S) → IsDesign d → (limit : ℕ) (x : Core S) → AreOwnMarks d x → (a : Action) (z : Core S)
+    → Acts d limit x a z → Grows d x z
 acts_grow {S} d i limit x b (Action.Run n) z (p, e) = subst (Grows d x) (sym e) (run_grows d x n)
 acts_grow {S} d i limit x b (Action.Assign n) z (c, p, e) = subst (Grows d x) (sym e) (assign_grows d x n c)
 acts_grow {S} d i limit x b (Action.Answer n) z (c, p, e) = found_grows d i x b n c p.determined.at z e
@@ -72,22 +93,20 @@ same_self {S} x m = record { emitted = refl; over = refl }
 
 run_same : {S : Type 0} → (d : Design S) (x : Core S) (m n : ℕ) → (m ≡ n → ⊥) → SameMarks x (after_run d x n) m
 run_same {S} d x m n o =
-    elim (cases_Bool (d.is_over n (ready d n (newest d x n)))) [
-      | inl e ↦ subst (λ (z : Core S). SameMarks x z m) (sym (cond-true (d.is_over n (ready d n (newest d x n))) (emit_over x n) (emit d x n) e))
-          (record { emitted = refl; over = put_other x.over n true m o })
-      | inr e ↦ subst (λ (z : Core S). SameMarks x z m) (sym (cond-false (d.is_over n (ready d n (newest d x n))) (emit_over x n) (emit d x n) e))
-          (record { emitted = put_other x.emitted n (suc (x.emitted n)) m o; over = refl })
-    ]
+    run_cases d x n (λ z. SameMarks x z m)
+    (λ e. record { emitted = refl; over = put_other x.over n true m o })
+    (λ e. record { emitted = put_other x.emitted n (suc (x.emitted n)) m o; over = refl })
 
 found_same : {S : Type 0} → (d : Design S) (x : Core S) (m n c : ℕ) (z : Core S)
     → (IsSame d x n c × (z ≡ after_answer d x n c)) ⊎ ((IsSame d x n c → ⊥) × (z ≡ x)) → SameMarks x z m
 found_same {S} d x m n c z (inl (s, w)) = subst (λ (z : Core S). SameMarks x z m) (sym w) (record { emitted = refl; over = refl })
 found_same {S} d x m n c z (inr (s, w)) = subst (λ (z : Core S). SameMarks x z m) (sym w) (same_self x m)
 
-acts_same : {S : Type 0} → (d : Design S) (limit : ℕ) (x : Core S) (m : ℕ) (a : Action) → IsNoRunOf m (a ∷ []) → (z : Core S) → Acts d limit x a z
-    → SameMarks x z m
+acts_same : {S : Type 0} → (d : Design S) (limit : ℕ) (x : Core S) (m : ℕ) (a : Action) → IsNoRunOf m (a ∷ []) → (z : Core S)
+    → Acts d limit x a z → SameMarks x z m
 acts_same {S} d limit x m (Action.Run n) (o, u) z (p, e) = subst (λ (z : Core S). SameMarks x z m) (sym e) (run_same d x m n o)
-acts_same {S} d limit x m (Action.Assign n) o z (c, p, e) = subst (λ (z : Core S). SameMarks x z m) (sym e) (record { emitted = refl; over = refl })
+acts_same {S} d limit x m (Action.Assign n) o z (c, p, e) =
+    subst (λ (z : Core S). SameMarks x z m) (sym e) (record { emitted = refl; over = refl })
 acts_same {S} d limit x m (Action.Answer n) o z (c, p, e) = found_same d x m n c z e
 acts_same {S} d limit x m (Action.Earliest n) o z (c, p, e) = found_same d x m n c z e
 
@@ -95,15 +114,22 @@ pub beside_self : {S : Type 0} → (d : Design S) (x : Core S) (m : ℕ) → Gro
 beside_self {S} d x m = record { grows = grows_self d x; emitted = refl; over = refl }
 
 pub beside_trans : {S : Type 0} → (d : Design S) (x y z : Core S) (m : ℕ) → GrowsBeside d x y m → GrowsBeside d y z m → GrowsBeside d x z m
-beside_trans {S} d x y z m a c = record { grows = grows_trans d x y z a.grows c.grows; emitted = c.emitted ∙ a.emitted; over = c.over ∙ a.over }
+beside_trans {S} d x y z m a c =
+    record { grows = grows_trans d x y z a.grows c.grows; emitted = c.emitted ∙ a.emitted; over = c.over ∙ a.over }
 
-acts_beside : {S : Type 0} → (d : Design S) → IsDesign d → (limit : ℕ) (x : Core S) → AreOwnMarks d x → (m : ℕ) (a : Action) → IsNoRunOf m (a ∷ [])
-    → (z : Core S) → Acts d limit x a z → GrowsBeside d x z m
+acts_beside : {S : Type 0} → (d : Design S) → IsDesign d → (limit : ℕ) (x : Core S) → AreOwnMarks d x → (m : ℕ) (a : Action)
+    → IsNoRunOf m (a ∷ []) → (z : Core S) → Acts d limit x a z → GrowsBeside d x z m
 acts_beside {S} d i limit x b m a o z s =
     let same = acts_same d limit x m a o z s in
     record { grows = acts_grow d i limit x b a z s; emitted = same.emitted; over = same.over }
 
 -- ---- lists of actions
+
+no_run_parts : (m : ℕ) (a : Action) (more : List Action) → IsNoRunOf m (a ∷ more) → IsNoRunOf m (a ∷ []) × IsNoRunOf m more
+no_run_parts m (Action.Run n) more (o, os) = ((o, tt), os)
+no_run_parts m (Action.Assign n) more os = (tt, os)
+no_run_parts m (Action.Answer n) more os = (tt, os)
+no_run_parts m (Action.Earliest n) more os = (tt, os)
 
 module _ {S : Type 0} (d : Design S) (h : Trace S) (i : IsDesign d) (y : IsHistory d h) (limit : ℕ) where
   pub actions_grow : (x : Core S) → IsAgreed d h limit x → (actions : List Action) (z : Core S) → ActsAll d limit x actions z → Grows d x z
@@ -118,19 +144,31 @@ module _ {S : Type 0} (d : Design S) (h : Trace S) (i : IsDesign d) (y : IsHisto
       let (o1, o2) = no_run_parts m a more o in
       beside_trans d x w z m (acts_beside d i limit x g.marks m a o1 w s) (others_grow w (acts_agree d h i y limit x g a w s) m more o2 z t)
 
+  -- so a Run that is permitted stays so, and emits the same
+  pub still_ahead : (x : Core S) → IsAgreed d h limit x → (m : ℕ) → MayRun d x m → (actions : List Action) → IsNoRunOf m actions
+      → (z : Core S) → ActsAll d limit x actions z → MayRun d z m × (newest d z m ≡ newest d x m)
+  still_ahead x g m r actions o z s =
+      let k = others_grow x g m actions o z s in
+      let marks = (all_agree d h i y limit x g actions z s).marks in
+      (stays d x z g.marks k.grows m k.emitted k.over r, newest_stays d x z g.marks marks k.grows m k.emitted r)
+
 -- ---- the same Run in a core and in one that grew beside it
 
 -- a module's new step pushes nothing for others
-emit_values_other : {S : Type 0} → (d : Design S) (x : Core S) (m ch : ℕ) → (d.owner Push ch ≡ m → ⊥) → core_values d (emit d x m) ch ≡ core_values d x ch
+emit_values_other : {S : Type 0} → (d : Design S) (x : Core S) (m ch : ℕ) → (d.owner Push ch ≡ m → ⊥)
+    → core_values d (emit d x m) ch ≡ core_values d x ch
 emit_values_other {S} d x m ch o =
     let w : ℕ = d.owner Push ch in
     let n = put_other x.emitted m (suc (x.emitted m)) w o in
     ap (λ (p : List ℕ). d.inputs ch ++ p)
     (ap (pushed_in ch (core_accesses d (emit d x m) w) (λ j. bare_replies ((emit d x m).flags w j))) n
-    ∙ pushed_same (core_accesses d (emit d x m) w) (core_accesses d x w) (λ j. bare_replies ((emit d x m).flags w j)) (λ j. bare_replies (x.flags w j)) ch (x.emitted w)
-    (λ k l. ap₂ (λ (s : S) (b : List Bool). values_in ch (d.accesses w s) (bare_replies b)) (old_at x.state x m _ w k l) (old_at x.flags x m _ w k l)))
+    ∙ pushed_same (core_accesses d (emit d x m) w) (core_accesses d x w) (λ j. bare_replies ((emit d x m).flags w j))
+    (λ j. bare_replies (x.flags w j)) ch (x.emitted w)
+    (λ k l. ap₂ (λ (s : S) (b : List Bool). values_in ch (d.accesses w s) (bare_replies b)) (old_at x.state x m _ w k l)
+    (old_at x.flags x m _ w k l)))
 
-module _ {S : Type 0} (d : Design S) (x z : Core S) (m : ℕ) (b : AreOwnMarks d x) (c : AreOwnMarks d z) (g : GrowsBeside d x z m) (r : MayRun d x m) where
+module _ {S : Type 0} (d : Design S) (x z : Core S) (m : ℕ) (b : AreOwnMarks d x) (c : AreOwnMarks d z) (g : GrowsBeside d x z m)
+    (r : MayRun d x m) where
   same_state : newest d z m ≡ newest d x m
   same_state = newest_stays d x z b c g.grows m g.emitted r
 
@@ -150,9 +188,11 @@ module _ {S : Type 0} (d : Design S) (x z : Core S) (m : ℕ) (b : AreOwnMarks d
       }
 
   -- what the new step has, in a field that is put at its place
-  new_at : {A : Type 0} → (f e : ℕ → ℕ → A) (u v : A) → u ≡ v → put_at f m (z.emitted m) u m (x.emitted m) ≡ put_at e m (x.emitted m) v m (x.emitted m)
+  new_at : {A : Type 0} → (f e : ℕ → ℕ → A) (u v : A) → u ≡ v
+      → put_at f m (z.emitted m) u m (x.emitted m) ≡ put_at e m (x.emitted m) v m (x.emitted m)
   new_at {A} f e u v w =
-      subst (λ (k : ℕ). put_at f m (z.emitted m) u m k ≡ u) g.emitted (put_at_same f m (z.emitted m) u) ∙ (w ∙ sym (put_at_same e m (x.emitted m) v))
+      subst (λ (k : ℕ). put_at f m (z.emitted m) u m k ≡ u) g.emitted (put_at_same f m (z.emitted m) u)
+      ∙ (w ∙ sym (put_at_same e m (x.emitted m) v))
 
   old_there : (n k : ℕ) → k < x.emitted n → k < z.emitted n
   old_there n k l = omega (arith, g.grows.emitted_up n)
@@ -162,7 +202,12 @@ module _ {S : Type 0} (d : Design S) (x z : Core S) (m : ℕ) (b : AreOwnMarks d
       elim (cases_eq n m) [
         | inl e ↦ subst (λ (k : ℕ). (emit d x m).emitted k ≤ (emit d z m).emitted k) (sym e)
             (omega (arith, put_same x.emitted m (suc (x.emitted m)), put_same z.emitted m (suc (z.emitted m)), g.emitted))
-        | inr e ↦ omega (arith, put_other x.emitted m (suc (x.emitted m)) n e, put_other z.emitted m (suc (z.emitted m)) n e, g.grows.emitted_up n)
+        | inr e ↦ omega (
+          arith,
+          put_other x.emitted m (suc (x.emitted m)) n e,
+          put_other z.emitted m (suc (z.emitted m)) n e,
+          g.grows.emitted_up n,
+        )
       ]
 
   emit_state_both : (n k : ℕ) → k < (emit d x m).emitted n → (emit d z m).state n k ≡ (emit d x m).state n k
@@ -182,11 +227,13 @@ module _ {S : Type 0} (d : Design S) (x z : Core S) (m : ℕ) (b : AreOwnMarks d
       new_at z.flags x.flags (no_outcomes (d.accesses m (ready d m (newest d z m)))) (no_outcomes (d.accesses m (ready d m (newest d x m))))
       (ap (λ (s : S). no_outcomes (d.accesses m (ready d m s))) same_state)
 
-  emit_flags_both : (n k : ℕ) → k < (emit d x m).emitted n → (emit d x m).answered n k ≡ true → (emit d z m).flags n k ≡ (emit d x m).flags n k
+  emit_flags_both : (n k : ℕ) → k < (emit d x m).emitted n → (emit d x m).answered n k ≡ true
+      → (emit d z m).flags n k ≡ (emit d x m).flags n k
   emit_flags_both =
       emit_more x m (λ n k. (emit d x m).answered n k ≡ true → (emit d z m).flags n k ≡ (emit d x m).flags n k)
       (λ n k l a.
-      old_at z.flags z m _ n k (old_there n k l) ∙ (g.grows.flags_same n k l (sym (old_at x.answered x m _ n k l) ∙ a) ∙ sym (old_at x.flags x m _ n k l)))
+      old_at z.flags z m _ n k (old_there n k l)
+      ∙ (g.grows.flags_same n k l (sym (old_at x.answered x m _ n k l) ∙ a) ∙ sym (old_at x.flags x m _ n k l)))
       (λ a. new_flags_both)
 
   emit_answered_both : (n k : ℕ) → k < (emit d x m).emitted n → (emit d x m).answered n k ≡ true → (emit d z m).answered n k ≡ true
@@ -194,7 +241,8 @@ module _ {S : Type 0} (d : Design S) (x z : Core S) (m : ℕ) (b : AreOwnMarks d
       emit_more x m (λ n k. (emit d x m).answered n k ≡ true → (emit d z m).answered n k ≡ true)
       (λ n k l a. old_at z.answered z m _ n k (old_there n k l) ∙ g.grows.answered_up n k l (sym (old_at x.answered x m _ n k l) ∙ a))
       (λ a.
-      new_at z.answered x.answered (not (has_query (d.accesses m (ready d m (newest d z m))))) (not (has_query (d.accesses m (ready d m (newest d x m)))))
+      new_at z.answered x.answered (not (has_query (d.accesses m (ready d m (newest d z m)))))
+      (not (has_query (d.accesses m (ready d m (newest d x m)))))
       (ap (λ (s : S). not (has_query (d.accesses m (ready d m s)))) same_state)
       ∙ a)
 
@@ -229,21 +277,17 @@ module _ {S : Type 0} (d : Design S) (x z : Core S) (m : ℕ) (b : AreOwnMarks d
           answered_up = emit_answered_both;
           values_up = emit_values_both;
         };
-        emitted = put_same z.emitted m (suc (z.emitted m)) ∙ (ap (λ (k : ℕ). suc k) g.emitted ∙ sym (put_same x.emitted m (suc (x.emitted m))));
+        emitted = put_same z.emitted m (suc (z.emitted m))
+            ∙ (ap (λ (k : ℕ). suc k) g.emitted ∙ sym (put_same x.emitted m (suc (x.emitted m))));
         over = g.over;
       }
 
   run_both : GrowsBeside d (after_run d x m) (after_run d z m) m
   run_both =
       let same = ap (λ (s : S). d.is_over m (ready d m s)) same_state in
-      elim (cases_Bool (d.is_over m (ready d m (newest d x m)))) [
-        | inl e ↦
-            subst (λ (p : Core S). GrowsBeside d p (after_run d z m) m) (sym (cond-true (d.is_over m (ready d m (newest d x m))) (emit_over x m) (emit d x m) e))
-            (subst (λ (p : Core S). GrowsBeside d (emit_over x m) p m) (sym (cond-true (d.is_over m (ready d m (newest d z m))) (emit_over z m) (emit d z m) (same ∙ e))) over_both)
-        | inr e ↦
-            subst (λ (p : Core S). GrowsBeside d p (after_run d z m) m) (sym (cond-false (d.is_over m (ready d m (newest d x m))) (emit_over x m) (emit d x m) e))
-            (subst (λ (p : Core S). GrowsBeside d (emit d x m) p m) (sym (cond-false (d.is_over m (ready d m (newest d z m))) (emit_over z m) (emit d z m) (same ∙ e))) emit_both)
-      ]
+      run_cases d x m (λ p. GrowsBeside d p (after_run d z m) m)
+      (λ e. run_cases d z m (λ p. GrowsBeside d (emit_over x m) p m) (λ f. over_both) (λ f. absurd (both_ways _ f (same ∙ e))))
+      (λ e. run_cases d z m (λ p. GrowsBeside d (emit d x m) p m) (λ f. absurd (both_ways _ (same ∙ e) f)) (λ f. emit_both))
 
 -- Runs that are permitted in a core are so in one that grew beside it, and emit the same
 pub runs_both : {S : Type 0} → (d : Design S) (limit m n : ℕ) (x y z : Core S) → AreOwnMarks d x → AreOwnMarks d z → GrowsBeside d x z m
@@ -252,11 +296,13 @@ runs_both {S} d limit m zero x y z b c g e = (z, refl, subst (λ (p : Core S). G
 runs_both {S} d limit m (suc n) x y z b c g (v, (r, e), t) =
     let r' = stays d x z b g.grows m g.emitted g.over r in
     let t' = subst (λ (p : Core S). ActsAll d limit p (runs n m) y) e t in
-    let (w, s, k) = runs_both d limit m n (after_run d x m) y (after_run d z m) (run_marks d x b m r) (run_marks d z c m r') (run_both d x z m b c g r) t' in
+    let (w, s, k) = runs_both d limit m n (after_run d x m) y (after_run d z m) (run_marks d x b m r) (run_marks d z c m r')
+    (run_both d x z m b c g r) t' in
     (w, (after_run d z m, (r', refl), s), k)
 
 -- so they stay permitted while others act
-pub runs_stay : {S : Type 0} → (d : Design S) (h : Trace S) → IsDesign d → IsHistory d h → (limit : ℕ) (x : Core S) → IsAgreed d h limit x → (m n : ℕ) (y : Core S)
+pub runs_stay : {S : Type 0} → (d : Design S) (h : Trace S) → IsDesign d → IsHistory d h → (limit : ℕ) (x : Core S)
+    → IsAgreed d h limit x → (m n : ℕ) (y : Core S)
     → ActsAll d limit x (runs n m) y → (actions : List Action) → IsNoRunOf m actions → (z : Core S) → ActsAll d limit x actions z
     → (w : Core S) × ActsAll d limit z (runs n m) w × GrowsBeside d y w m
 runs_stay {S} d h i y limit x g m n v t actions o z s =

@@ -13,17 +13,19 @@ use Rattle.event_timing.proofs.Editing.{kept_le}
 use Rattle.event_timing.proofs.Agreement.{all_agree}
 
 run_timed : {S : Type 0} → (d : Design S) (x : Core S) (n m : ℕ) → (after_run d x n).timed m ≡ x.timed m
-run_timed {S} d x n m = cond_both (d.is_over n (ready d n (newest d x n))) (emit_over x n) (emit d x n) (λ (z : Core S). z.timed m ≡ x.timed m) (λ e. refl) (λ e. refl)
+run_timed {S} d x n m = cond_both (d.is_over n (ready d n (newest d x n))) (emit_over x n) (emit d x n)
+    (λ (z : Core S). z.timed m ≡ x.timed m) (λ e. refl) (λ e. refl)
 
-answer_timed : {S : Type 0} → (d : Design S) (x z : Core S) (n c m : ℕ) → (IsSame d x n c × (z ≡ after_answer d x n c)) ⊎ ((IsSame d x n c → ⊥) × (z ≡ x))
-    → z.timed m ≡ x.timed m
+answer_timed : {S : Type 0} → (d : Design S) (x z : Core S) (n c m : ℕ)
+    → (IsSame d x n c × (z ≡ after_answer d x n c)) ⊎ ((IsSame d x n c → ⊥) × (z ≡ x)) → z.timed m ≡ x.timed m
 answer_timed {S} d x z n c m (inl (s, e)) = ap (λ (w : Core S). w.timed m) e
 answer_timed {S} d x z n c m (inr (s, e)) = ap (λ (w : Core S). w.timed m) e
 
 assign_timed : (f : ℕ → ℕ) (n m : ℕ) → put f n (suc (f n)) m ≡ cond (eqb m n) 1 0 + f m
 assign_timed f n m = elim (cases_eq m n) [
   | inl e ↦
-      let here : put f n (suc (f n)) m ≡ suc (f m) = ap (put f n (suc (f n))) e ∙ (put_same f n (suc (f n)) ∙ ap (λ (k : ℕ). suc (f k)) (sym e)) in
+      let here : put f n (suc (f n)) m ≡ suc (f m) = ap (put f n (suc (f n))) e
+      ∙ (put_same f n (suc (f n)) ∙ ap (λ (k : ℕ). suc (f k)) (sym e)) in
       let one = cond-true {A = ℕ} (eqb m n) 1 0 (eq-eqb m n e) in
       omega arith
   | inr e ↦
@@ -33,8 +35,8 @@ assign_timed f n m = elim (cases_eq m n) [
 ]
 
 -- each Assign of a module gives one of its steps a cycle, and nothing else does
-pub cycles_given : {S : Type 0} → (d : Design S) (limit : ℕ) (x : Core S) (actions : List Action) (y : Core S) → ActsAll d limit x actions y → (m : ℕ)
-    → assigns m actions + x.timed m ≡ y.timed m
+pub cycles_given : {S : Type 0} → (d : Design S) (limit : ℕ) (x : Core S) (actions : List Action) (y : Core S)
+    → ActsAll d limit x actions y → (m : ℕ) → assigns m actions + x.timed m ≡ y.timed m
 cycles_given {S} d limit x [] y e m = let same = ap (λ (z : Core S). z.timed m) (sym e) in omega arith
 cycles_given {S} d limit x (Action.Run n ∷ more) y (w, (r, e), t) m =
     let rest = cycles_given d limit w more y t m in
@@ -56,8 +58,14 @@ cycles_given {S} d limit x (Action.Earliest n ∷ more) y (w, (c, r, e), t) m =
 -- after an edit these are no more than the steps that had no cycle, those whose cycle was forgotten, and those emitted meanwhile
 pub edit_cost : {S : Type 0} → (d : Design S) (g : Trace S) (fifo depth t limit : ℕ) (x : Core S) → IsDesign (edited d fifo depth)
     → IsHistory (edited d fifo depth) g → IsAgreed (edited d fifo depth) g limit (after_edit d x t)
-    → (actions : List Action) (y : Core S) → ActsAll (edited d fifo depth) limit (after_edit d x t) actions y → (m : ℕ) → x.timed m ≤ x.emitted m
+    → (actions : List Action) (y : Core S) → ActsAll (edited d fifo depth) limit (after_edit d x t) actions y → (m : ℕ)
+    → x.timed m ≤ x.emitted m
     → assigns m actions ≤ (x.emitted m - x.timed m) + (x.timed m - kept (x.cycle m) t (x.timed m)) + (y.emitted m - x.emitted m)
 edit_cost {S} d g fifo depth t limit x i z a actions y s m l =
     let b = all_agree (edited d fifo depth) g i z limit (after_edit d x t) a actions y s in
-    omega (arith, cycles_given (edited d fifo depth) limit (after_edit d x t) actions y s m, kept_le (x.cycle m) t (x.timed m), b.time.within m)
+    omega (
+      arith,
+      cycles_given (edited d fifo depth) limit (after_edit d x t) actions y s m,
+      kept_le (x.cycle m) t (x.timed m),
+      b.time.within m,
+    )

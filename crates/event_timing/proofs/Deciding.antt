@@ -1,11 +1,14 @@
 -- The tests of the permissions decide them.
-use Rattle.std.proofs.Common.{◌≡◌, ℕ, zero, suc, ◌<◌, ◌≤◌, ◌↔◌, Bool, true, false, not, ◌&&◌, ltb, inl, inr, refl, sym, ap, ◌∙◌, subst, arith, Option, Some, None}
-use Rattle.std.proofs.lemmas.Bool.{cases_Bool, cases_lt, cases_eq, and_parts, and_from, both_ways, ltb-true, lt-ltb, not-true, not_from_false}
+use Rattle.std.proofs.Common.{◌≡◌, ℕ, zero, suc, ◌<◌, ◌≤◌, ◌↔◌, Bool, true, false, not, ◌&&◌, ltb, inl, inr, refl, sym, ap, ◌∙◌, subst}
+use Rattle.std.proofs.Common.{arith, Option, Some, None}
+use Rattle.std.proofs.lemmas.Bool.{cases_Bool, cases_lt, cases_eq, and_parts, and_from, both_ways, ltb-true, lt-ltb, not-true}
+use Rattle.std.proofs.lemmas.Bool.{not_from_false}
 use Rattle.event_timing.specs.Machines.{Design}
 use Rattle.event_timing.specs.Enablers.{candidate}
 use Rattle.event_timing.specs.Core.{Core, values_there, view}
 use Rattle.event_timing.specs.Actions.{MayRun, IsDetermined, MayAssign, MayAnswer, IsOpen, IsQuiet, MayEarliest, IsFinal}
-use Rattle.event_timing.specs.Permitted.{IsInside, has_replies, may_run, is_before, is_determined, may_assign, decides, may_answer, is_open, no_module, is_quiet, is_open_before, may_earliest, is_final}
+use Rattle.event_timing.specs.Permitted.{IsInside, has_replies, may_run, is_before, is_determined, may_assign, decides, may_answer, is_open}
+use Rattle.event_timing.specs.Permitted.{no_module, is_quiet, is_open_before, may_earliest, is_final}
 use Rattle.event_timing.proofs.Agreement.{final_closed}
 use Rattle.event_timing.proofs.Answering.{first_emitted}
 
@@ -64,7 +67,11 @@ module _ {S : Type 0} (d : Design S) (limit : ℕ) (x : Core S) (m : ℕ) where
 
   pub assign_decided : (may_assign d limit x m ≡ true) ↔ ((c : ℕ) × MayAssign d limit x m c)
   unfolding may_assign
-  assign_decided = (there, λ w. and_from (is_determined d limit x m) (x.verified m (x.timed m)) (determined_is w.0 w.1.determined) w.1.verified)
+  assign_decided = (
+    there,
+    λ w. and_from (is_determined d limit x m) (x.verified m (x.timed m))
+        (determined_is w.0 w.1.determined) w.1.verified,
+  )
     where
       there : may_assign d limit x m ≡ true → (c : ℕ) × MayAssign d limit x m c
       there e =
@@ -121,7 +128,8 @@ none_found : (test : ℕ → Bool) (n : ℕ) → ((m : ℕ) → test m ≡ true 
 unfolding no_module
 none_found test zero f = refl
 none_found test (suc n) f =
-    and_from (not (test n)) (no_module test n) (elim (cases_Bool (test n)) [ inl e ↦ absurd (f n e) | inr e ↦ not_from_false (test n) e ]) (none_found test n f)
+    and_from (not (test n)) (no_module test n)
+    (elim (cases_Bool (test n)) [ inl e ↦ absurd (f n e) | inr e ↦ not_from_false (test n) e ]) (none_found test n f)
 
 module _ {S : Type 0} (d : Design S) (limit : ℕ) (x : Core S) (inside : IsInside d x) where
   determined_inside : (m c : ℕ) → IsDetermined d limit x m c → m < d.modules
@@ -137,34 +145,41 @@ module _ {S : Type 0} (d : Design S) (limit : ℕ) (x : Core S) (inside : IsInsi
     where
       there : is_quiet d limit x ≡ true → IsQuiet d limit x
       there e =
-          let (e1, e2) = and_parts (no_module (may_run d x) d.modules) (no_module (may_assign d limit x) d.modules && no_module (may_answer d limit x) d.modules) e in
+          let (e1, e2) = and_parts (no_module (may_run d x) d.modules)
+          (no_module (may_assign d limit x) d.modules && no_module (may_answer d limit x) d.modules) e in
           let (e3, e4) = and_parts (no_module (may_assign d limit x) d.modules) (no_module (may_answer d limit x) d.modules) e2 in
           record {
             no_run = λ n r. both_ways _ (none_passes (may_run d x) d.modules e1 n r.inside) ((run_decided d x n).1 r);
             no_assign = λ n c w.
-                both_ways _ (none_passes (may_assign d limit x) d.modules e3 n (determined_inside n c w.determined)) ((assign_decided d limit x n).1 (c, w));
+                both_ways _ (none_passes (may_assign d limit x) d.modules e3 n (determined_inside n c w.determined))
+                ((assign_decided d limit x n).1 (c, w));
             no_answer = λ n c w.
-                both_ways _ (none_passes (may_answer d limit x) d.modules e4 n (determined_inside n c w.determined)) ((answer_decided d limit x n).1 (c, w));
+                both_ways _ (none_passes (may_answer d limit x) d.modules e4 n (determined_inside n c w.determined))
+                ((answer_decided d limit x n).1 (c, w));
           }
 
       back : IsQuiet d limit x → is_quiet d limit x ≡ true
       back q =
-          and_from (no_module (may_run d x) d.modules) (no_module (may_assign d limit x) d.modules && no_module (may_answer d limit x) d.modules)
+          and_from (no_module (may_run d x) d.modules)
+          (no_module (may_assign d limit x) d.modules && no_module (may_answer d limit x) d.modules)
           (none_found (may_run d x) d.modules (λ m e. q.no_run m ((run_decided d x m).0 e)))
           (and_from (no_module (may_assign d limit x) d.modules) (no_module (may_answer d limit x) d.modules)
           (none_found (may_assign d limit x) d.modules (λ m e. let w = (assign_decided d limit x m).0 e in q.no_assign m w.0 w.1))
           (none_found (may_answer d limit x) d.modules (λ m e. let w = (answer_decided d limit x m).0 e in q.no_answer m w.0 w.1)))
 
   -- no open step comes before that of the module
-  least_there : (m c : ℕ) → candidate d (view d x) m ≡ Some c → no_module (is_open_before d limit x (candidate d (view d x) m)) d.modules ≡ true → (n e : ℕ)
-      → IsOpen d limit x n e → c ≤ e
+  least_there : (m c : ℕ) → candidate d (view d x) m ≡ Some c
+      → no_module (is_open_before d limit x (candidate d (view d x) m)) d.modules ≡ true → (n e : ℕ) → IsOpen d limit x n e → c ≤ e
   unfolding is_open_before
   least_there m c at p n e o =
       let f = none_passes (is_open_before d limit x (candidate d (view d x) m)) d.modules p n (determined_inside n e o.determined) in
-      let f' : (is_open d limit x n && is_before c (candidate d (view d x) n)) ≡ false = sym (ap (λ (z : Option ℕ). is_open_before d limit x z n) at) ∙ f in
+      let f' : (is_open d limit x n && is_before c (candidate d (view d x) n)) ≡ false =
+      sym (ap (λ (z : Option ℕ). is_open_before d limit x z n) at) ∙ f in
       elim (cases_lt e c) [
         | inr l ↦ l
-        | inl l ↦ absurd (both_ways _ f' (and_from (is_open d limit x n) (is_before c (candidate d (view d x) n)) ((open_decided d limit x n).1 (e, o)) (ap (is_before c) o.determined.at ∙ lt-ltb e c l)))
+        | inl l ↦ absurd (both_ways _ f'
+            (and_from (is_open d limit x n) (is_before c (candidate d (view d x) n)) ((open_decided d limit x n).1 (e, o))
+            (ap (is_before c) o.determined.at ∙ lt-ltb e c l)))
       ]
 
   least_back : (m c : ℕ) → candidate d (view d x) m ≡ Some c → ((n e : ℕ) → IsOpen d limit x n e → c ≤ e)
@@ -172,7 +187,8 @@ module _ {S : Type 0} (d : Design S) (limit : ℕ) (x : Core S) (inside : IsInsi
   unfolding is_open_before
   least_back m c at f =
       none_found (is_open_before d limit x (candidate d (view d x) m)) d.modules (λ n p.
-      let p' : (is_open d limit x n && is_before c (candidate d (view d x) n)) ≡ true = sym (ap (λ (z : Option ℕ). is_open_before d limit x z n) at) ∙ p in
+      let p' : (is_open d limit x n && is_before c (candidate d (view d x) n)) ≡ true =
+      sym (ap (λ (z : Option ℕ). is_open_before d limit x z n) at) ∙ p in
       let (p1, p2) = and_parts (is_open d limit x n) (is_before c (candidate d (view d x) n)) p' in
       let (e, o) = (open_decided d limit x n).0 p1 in
       let (k, k1, k2) = before_found c (candidate d (view d x) n) p2 in
@@ -188,7 +204,8 @@ module _ {S : Type 0} (d : Design S) (limit : ℕ) (x : Core S) (inside : IsInsi
     where
       there : may_earliest d limit x m ≡ true → (c : ℕ) × MayEarliest d limit x m c
       there e =
-          let (e1, e2) = and_parts (is_open d limit x m) (is_quiet d limit x && no_module (is_open_before d limit x (candidate d (view d x) m)) d.modules) e in
+          let (e1, e2) = and_parts (is_open d limit x m)
+          (is_quiet d limit x && no_module (is_open_before d limit x (candidate d (view d x) m)) d.modules) e in
           let (e3, e4) = and_parts (is_quiet d limit x) (no_module (is_open_before d limit x (candidate d (view d x) m)) d.modules) e2 in
           let (c, o) = (open_decided d limit x m).0 e1 in
           (c, record { open_step = o; quiet = quiet_decided.0 e3; least = least_there m c o.determined.at e4 })
@@ -197,7 +214,8 @@ module _ {S : Type 0} (d : Design S) (limit : ℕ) (x : Core S) (inside : IsInsi
       back (c, w) =
           and_from (is_open d limit x m) (is_quiet d limit x && no_module (is_open_before d limit x (candidate d (view d x) m)) d.modules)
           ((open_decided d limit x m).1 (c, w.open_step))
-          (and_from (is_quiet d limit x) (no_module (is_open_before d limit x (candidate d (view d x) m)) d.modules) (quiet_decided.1 w.quiet)
+          (and_from (is_quiet d limit x) (no_module (is_open_before d limit x (candidate d (view d x) m)) d.modules)
+          (quiet_decided.1 w.quiet)
           (least_back m c w.open_step.determined.at w.least))
 
   pub final_decided : (is_final d limit x ≡ true) ↔ IsFinal d limit x
@@ -210,10 +228,12 @@ module _ {S : Type 0} (d : Design S) (limit : ℕ) (x : Core S) (inside : IsInsi
           record {
             quiet = quiet_decided.0 e1;
             no_earliest = λ n c w.
-                both_ways _ (none_passes (is_open d limit x) d.modules e2 n (determined_inside n c w.open_step.determined)) ((open_decided d limit x n).1 (c, w.open_step));
+                both_ways _ (none_passes (is_open d limit x) d.modules e2 n (determined_inside n c w.open_step.determined))
+                ((open_decided d limit x n).1 (c, w.open_step));
           }
 
       back : IsFinal d limit x → is_final d limit x ≡ true
       back f =
           and_from (is_quiet d limit x) (no_module (is_open d limit x) d.modules) (quiet_decided.1 f.quiet)
-          (none_found (is_open d limit x) d.modules (λ m e. let (c, o) = (open_decided d limit x m).0 e in final_closed d limit x f (suc c) c (omega arith) m o))
+          (none_found (is_open d limit x) d.modules (λ m e. let (c, o) = (open_decided d limit x m).0 e in
+          final_closed d limit x f (suc c) c (omega arith) m o))

@@ -1,5 +1,6 @@
 -- The values that a core hands to a module are those of the history.
-use Rattle.std.proofs.Common.{◌≡◌, ℕ, zero, suc, ◌+◌, ◌-◌, ◌<◌, ◌≤◌, Bool, true, false, inl, inr, List, [], ◌∷◌, ◌++◌, length, get_or, sym, refl, ap, ◌∙◌, subst, arith, append_assoc}
+use Rattle.std.proofs.Common.{◌≡◌, ℕ, zero, suc, ◌+◌, ◌-◌, ◌<◌, ◌≤◌, Bool, true, false, inl, inr, List, [], ◌∷◌, ◌++◌, length, get_or, sym}
+use Rattle.std.proofs.Common.{refl, ap, ◌∙◌, subst, arith, append_assoc}
 use Rattle.std.proofs.lemmas.Bool.{cases_lt, ltb-true}
 use Rattle.flow_word.specs.declared.access.Side.{Side}
 use Rattle.flow_word.specs.declared.access.Side.TheVariants.{Pop, Push}
@@ -30,11 +31,14 @@ agrees_done {S} d h x b t =
       accesses_then = λ m k l. ap (d.accesses m) (b.own_step m k (omega (arith, t.within m)));
       accesses_first = λ m o. ap (d.accesses m) (b.own_step m (x.timed m) (ltb-true _ _ o));
       wait_first = λ m o. b.own_wait m (x.timed m) (ltb-true _ _ o);
-      lives_first = λ m o. subst (λ (s : S). d.is_over m s ≡ false) (b.own_step m (x.timed m) (ltb-true _ _ o)) (b.lives m (x.timed m) (ltb-true _ _ o));
+      lives_first = λ m o. subst (λ (s : S). d.is_over m s ≡ false) (b.own_step m (x.timed m) (ltb-true _ _ o))
+          (b.lives m (x.timed m) (ltb-true _ _ o));
     }
 
-pub agrees : {S : Type 0} → (d : Design S) (h : Trace S) (limit : ℕ) (x : Core S) → AreOwnMarks d x → IsTimed d h limit x → Agrees d h (view d x)
-agrees {S} d h limit x b t = agrees_done d h x b (record { within = t.within; steps_then = t.steps_then; done_then = t.done_then; reply_then = t.reply_then })
+pub agrees : {S : Type 0} → (d : Design S) (h : Trace S) (limit : ℕ) (x : Core S) → AreOwnMarks d x → IsTimed d h limit x
+    → Agrees d h (view d x)
+agrees {S} d h limit x b t =
+    agrees_done d h x b (record { within = t.within; steps_then = t.steps_then; done_then = t.done_then; reply_then = t.reply_then })
 
 -- counts do not read the values
 takes_plain : (side : Side) (ch : ℕ) (V : ℕ → List ℕ) (t : ℕ → ℕ) (xs : List Access) (bs : List Bool)
@@ -55,8 +59,8 @@ tally_same a b r s side ch zero f = rw (tally_0 a r side ch, tally_0 b s side ch
 tally_same a b r s side ch (suc n) f =
     rw (tally_more a r side ch n, tally_more b s side ch n, f n (omega arith), tally_same a b r s side ch n (λ k l. f k (omega arith))) refl
 
-pub pushed_same : (a b : ℕ → List Access) (r s : ℕ → List Reply) (ch n : ℕ) → ((k : ℕ) → k < n → values_in ch (a k) (r k) ≡ values_in ch (b k) (s k))
-    → pushed_in ch a r n ≡ pushed_in ch b s n
+pub pushed_same : (a b : ℕ → List Access) (r s : ℕ → List Reply) (ch n : ℕ)
+    → ((k : ℕ) → k < n → values_in ch (a k) (r k) ≡ values_in ch (b k) (s k)) → pushed_in ch a r n ≡ pushed_in ch b s n
 pushed_same a b r s ch zero f = rw (pushed_in_0 ch a r, pushed_in_0 ch b s) refl
 pushed_same a b r s ch (suc n) f =
     rw (pushed_in_more ch a r n, pushed_in_more ch b s n, f n (omega arith), pushed_same a b r s ch n (λ k l. f k (omega arith))) refl
@@ -64,16 +68,18 @@ pushed_same a b r s ch (suc n) f =
 pub core_tally_is : {S : Type 0} → (d : Design S) (x : Core S) (m : ℕ) (side : Side) (ch n : ℕ)
     → tally (core_accesses d x m) (core_reply d x m) side ch n ≡ core_tally d x m side ch n
 core_tally_is {S} d x m side ch n =
-    tally_same (core_accesses d x m) (core_accesses d x m) (core_reply d x m) (λ j. bare_replies (x.flags m j)) side ch n (λ k l. takes_plain side ch (core_values d x) (λ q. core_tally d x m Pop q k) (core_accesses d x m k) (x.flags m k))
+    tally_same (core_accesses d x m) (core_accesses d x m) (core_reply d x m) (λ j. bare_replies (x.flags m j)) side ch n
+    (λ k l. takes_plain side ch (core_values d x) (λ q. core_tally d x m Pop q k) (core_accesses d x m k) (x.flags m k))
 
 pub core_pushed_is : {S : Type 0} → (d : Design S) (x : Core S) (m ch n : ℕ)
     → pushed_in ch (core_accesses d x m) (core_reply d x m) n ≡ pushed_in ch (core_accesses d x m) (λ j. bare_replies (x.flags m j)) n
 core_pushed_is {S} d x m ch n =
-    pushed_same (core_accesses d x m) (core_accesses d x m) (core_reply d x m) (λ j. bare_replies (x.flags m j)) ch n (λ k l. values_plain ch (core_values d x) (λ q. core_tally d x m Pop q k) (core_accesses d x m k) (x.flags m k))
+    pushed_same (core_accesses d x m) (core_accesses d x m) (core_reply d x m) (λ j. bare_replies (x.flags m j)) ch n
+    (λ k l. values_plain ch (core_values d x) (λ q. core_tally d x m Pop q k) (core_accesses d x m k) (x.flags m k))
 
 -- the value at a place that is known to be pushed, in the core and in the history
-pub get_right : {S : Type 0} → (d : Design S) (h : Trace S) → IsDesign d → IsHistory d h → (limit : ℕ) (x : Core S) → AreOwnMarks d x → IsTimed d h limit x
-    → (ch c t : ℕ) → h.taken c Pop ch ≡ t → t < elements_timed d x ch → is_possible d h c Pop ch ≡ true
+pub get_right : {S : Type 0} → (d : Design S) (h : Trace S) → IsDesign d → IsHistory d h → (limit : ℕ) (x : Core S) → AreOwnMarks d x
+    → IsTimed d h limit x → (ch c t : ℕ) → h.taken c Pop ch ≡ t → t < elements_timed d x ch → is_possible d h c Pop ch ≡ true
     → get_or (core_values d x ch) t 0 ≡ get_or (h.pushed c ch) t 0
 get_right {S} d h i y limit x b u ch c t e l p =
     let g = agrees d h limit x b u in
@@ -83,7 +89,12 @@ get_right {S} d h i y limit x b u ch c t e l p =
     let q = pushed_view d h i y (view d x) g ch c1 (omega arith) in
     let q' = rw (k, core_pushed_is d x w ch (x.timed w)) at q in
     let (more, f) = pushed_in_mono ch (core_accesses d x w) (λ j. bare_replies (x.flags w j)) (x.timed w) (x.emitted w) (u.within w) in
-    let z : Begins (core_values d x ch) (h.pushed c1 ch) = (more, ap (λ (s : List ℕ). d.inputs ch ++ s) f ∙ (sym (append_assoc (d.inputs ch) (pushed_in ch (core_accesses d x w) (λ j. bare_replies (x.flags w j)) (x.timed w)) more) ∙ ap (λ (s : List ℕ). s ++ more) (sym q'))) in
+    let z : Begins (core_values d x ch) (h.pushed c1 ch) = (
+      more,
+      ap (λ (s : List ℕ). d.inputs ch ++ s) f
+          ∙ (sym (append_assoc (d.inputs ch) (pushed_in ch (core_accesses d x w) (λ j. bare_replies (x.flags w j)) (x.timed w)) more)
+          ∙ ap (λ (s : List ℕ). s ++ more) (sym q')),
+    ) in
     let n = taken_view d h i y (view d x) g Push ch c1 (omega arith) in
     let n' = rw (k, core_tally_is d x w Push ch (x.timed w)) at n in
     let len = length_pushed d h i y ch c1 in

@@ -6,10 +6,13 @@ pub mod Candidate
 pub mod Earliest
 pub mod Values
 pub mod Fronts
-pub mod Assigning
 pub mod Growing
+pub mod Replying
+pub mod Sure
+pub mod Assigning
 pub mod Running
 pub mod Answering
+pub mod Marking
 pub mod Agreement
 pub mod Verdict
 pub mod Editing

@@ -1,6 +1,8 @@
 -- A module's steps in a history are its own run on the history's replies.
-use Rattle.std.proofs.Common.{ap, ◌≡◌, ℕ, zero, suc, ◌+◌, ◌-◌, ◌<◌, ◌≤◌, true, false, ◌⊎◌, inl, inr, List, [], ◌∷◌, refl, ◌∙◌, arith, zero-add, add-zero, Option, Some, None}
-use Rattle.std.proofs.lemmas.Bool.{cases_Bool, cond-false, and_parts, both_ways, cases_lt, false_from_ne_true, le-leb, lt-ltb, le-ltb, lt-leb, eqb-true, cases_order}
+use Rattle.std.proofs.Common.{ap, ◌≡◌, ℕ, zero, suc, ◌+◌, ◌-◌, ◌<◌, ◌≤◌, true, false, ◌⊎◌, inl, inr, List, [], ◌∷◌, refl, ◌∙◌, arith}
+use Rattle.std.proofs.Common.{zero-add, add-zero, Option, Some, None}
+use Rattle.std.proofs.lemmas.Bool.{cases_Bool, cond-false, and_parts, both_ways, cases_lt, false_from_ne_true, le-leb, lt-ltb, le-ltb}
+use Rattle.std.proofs.lemmas.Bool.{lt-leb, eqb-true, cases_order}
 use Rattle.flow_word.specs.declared.access.Side.{Side}
 use Rattle.flow_word.specs.declared.access.Side.TheVariants.{Pop, Push}
 use Rattle.flow_word.specs.Kinds.{other_side, same_side}
@@ -19,7 +21,8 @@ pub own_0 : {S : Type 0} → (d : Design S) (m : ℕ) (r : ℕ → List Reply) �
 unfolding own
 own_0 {S} d m r = refl
 
-pub own_more : {S : Type 0} → (d : Design S) (m : ℕ) (r : ℕ → List Reply) (k : ℕ) → own d m r (suc k) ≡ d.move m (ready d m (own d m r k)) (r k)
+pub own_more : {S : Type 0} → (d : Design S) (m : ℕ) (r : ℕ → List Reply) (k : ℕ)
+    → own d m r (suc k) ≡ d.move m (ready d m (own d m r k)) (r k)
 unfolding own
 own_more {S} d m r k = refl
 
@@ -30,7 +33,9 @@ skip_fits {S} d i m (suc n) s f = i.fits_move m (skip d m n s) [] (skip_fits d i
 -- every state of an own run fits
 pub own_fits : {S : Type 0} → (d : Design S) → (i : IsDesign d) → (m : ℕ) (r : ℕ → List Reply) (k : ℕ) → i.fits m (own d m r k) ≡ true
 own_fits {S} d i m r zero = rw (own_0 d m r) (i.fits_opening m)
-own_fits {S} d i m r (suc k) = rw (own_more d m r k) (i.fits_move m (ready d m (own d m r k)) (r k) (skip_fits d i m (d.quiet m (own d m r k)) (own d m r k) (own_fits d i m r k)))
+own_fits {S} d i m r (suc k) =
+    rw (own_more d m r k) (i.fits_move m (ready d m (own d m r k)) (r k)
+    (skip_fits d i m (d.quiet m (own d m r k)) (own d m r k) (own_fits d i m r k)))
 
 pub tally_0 : (a : ℕ → List Access) (r : ℕ → List Reply) (side : Side) (ch : ℕ) → tally a r side ch 0 ≡ 0
 unfolding tally
@@ -45,15 +50,17 @@ tally_more a r side ch k = refl
 abbrev pub Follows : {S : Type 0} → Design S → Trace S → ℕ → (ℕ → List Reply) → ℕ → Type 0
 Follows {S} d h m r c = (e : ℕ) → e < c → steps d h e m ≡ true → r (done d h m e) ≡ replies d h e m
 
-pub follows_less : {S : Type 0} → (d : Design S) (h : Trace S) (m : ℕ) (r : ℕ → List Reply) (c : ℕ) → Follows d h m r (suc c) → Follows d h m r c
+pub follows_less : {S : Type 0} → (d : Design S) (h : Trace S) (m : ℕ) (r : ℕ → List Reply) (c : ℕ) → Follows d h m r (suc c)
+    → Follows d h m r c
 follows_less {S} d h m r c f e l s = f e (omega arith) s
 
-pub rest_own : {S : Type 0} → (d : Design S) (h : Trace S) → IsDesign d → IsHistory d h → (m : ℕ) (r : ℕ → List Reply) (c : ℕ) → Follows d h m r c
-    → rest d h m c ≡ own d m r (done d h m c)
+pub rest_own : {S : Type 0} → (d : Design S) (h : Trace S) → IsDesign d → IsHistory d h → (m : ℕ) (r : ℕ → List Reply) (c : ℕ)
+    → Follows d h m r c → rest d h m c ≡ own d m r (done d h m c)
 rest_own {S} d h i y m r zero f = rest_0 d h m ∙ (y.state_0 m ∙ (rw (done_0 d h m, own_0 d m r) refl))
 rest_own {S} d h i y m r (suc c) f = later (cases_Bool (steps d h c m)) (rest_own d h i y m r c (follows_less d h m r c f))
   where
-    later : (steps d h c m ≡ true) ⊎ (steps d h c m ≡ false) → rest d h m c ≡ own d m r (done d h m c) → rest d h m (suc c) ≡ own d m r (done d h m (suc c))
+    later : (steps d h c m ≡ true) ⊎ (steps d h c m ≡ false) → rest d h m c ≡ own d m r (done d h m c)
+        → rest d h m (suc c) ≡ own d m r (done d h m (suc c))
     later (inl e) g =
         let a = y.state_moves c m (steps_moves d h c m e) in
         let b = step_ready d h i y m c e in
@@ -65,14 +72,17 @@ none_taken : (side : Side) (ch : ℕ) (xs : List Access) (rs : List Reply) → i
 none_taken side ch [] rs e = refl
 none_taken side ch (a ∷ xs) rs e = cc
 
-taken_still : {S : Type 0} → (d : Design S) (h : Trace S) → IsHistory d h → (c : ℕ) (side : Side) (ch : ℕ) → steps d h c (d.owner side ch) ≡ false
-    → h.taken (suc c) side ch ≡ h.taken c side ch
+taken_still : {S : Type 0} → (d : Design S) (h : Trace S) → IsHistory d h → (c : ℕ) (side : Side) (ch : ℕ)
+    → steps d h c (d.owner side ch) ≡ false → h.taken (suc c) side ch ≡ h.taken c side ch
 taken_still {S} d h y c side ch e =
     elim (cases_Bool (moves d h c (d.owner side ch))) [
       | inl w ↦
           let s : is_some_access (d.accesses (d.owner side ch) (h.state c (d.owner side ch))) ≡ false =
-          false_from_ne_true _ (λ (t : is_some_access (d.accesses (d.owner side ch) (h.state c (d.owner side ch))) ≡ true). both_ways _ e (steps_from d h c (d.owner side ch) w t)) in
-          y.taken_moves c side ch w ∙ (rw (none_taken side ch (d.accesses (d.owner side ch) (h.state c (d.owner side ch))) (replies d h c (d.owner side ch)) s) (add-zero _))
+          false_from_ne_true _ (λ (t : is_some_access (d.accesses (d.owner side ch) (h.state c (d.owner side ch))) ≡ true). both_ways _
+          e (steps_from d h c (d.owner side ch) w t)) in
+          y.taken_moves c side ch w
+          ∙ (rw (none_taken side ch (d.accesses (d.owner side ch) (h.state c (d.owner side ch)))
+          (replies d h c (d.owner side ch)) s) (add-zero _))
       | inr w ↦ y.taken_stays c side ch w
     ]
 
@@ -82,10 +92,13 @@ OwnAccesses {S} d m a r n = (k : ℕ) → k < n → a k ≡ own_accesses d m r k
 
 pub taken_own : {S : Type 0} → (d : Design S) (h : Trace S) → IsDesign d → IsHistory d h
     → (side : Side) (ch : ℕ) (a : ℕ → List Access) (r : ℕ → List Reply) (c : ℕ) → Follows d h (d.owner side ch) r c
-    → OwnAccesses d (d.owner side ch) a r (done d h (d.owner side ch) c) → h.taken c side ch ≡ tally a r side ch (done d h (d.owner side ch) c)
+    → OwnAccesses d (d.owner side ch) a r (done d h (d.owner side ch) c)
+    → h.taken c side ch ≡ tally a r side ch (done d h (d.owner side ch) c)
 taken_own {S} d h i y side ch a r zero f x = y.taken_0 side ch ∙ (rw (done_0 d h (d.owner side ch), tally_0 a r side ch) refl)
 taken_own {S} d h i y side ch a r (suc c) f x =
-    later (cases_Bool (steps d h c (d.owner side ch))) (taken_own d h i y side ch a r c (follows_less d h (d.owner side ch) r c f) (λ k l. x k (omega (arith, done_up d h (d.owner side ch) c))))
+    later (cases_Bool (steps d h c (d.owner side ch)))
+    (taken_own d h i y side ch a r c (follows_less d h (d.owner side ch) r c f)
+    (λ k l. x k (omega (arith, done_up d h (d.owner side ch) c))))
   where
     later : (steps d h c (d.owner side ch) ≡ true) ⊎ (steps d h c (d.owner side ch) ≡ false)
         → h.taken c side ch ≡ tally a r side ch (done d h (d.owner side ch) c)
@@ -101,7 +114,8 @@ taken_own {S} d h i y side ch a r (suc c) f x =
     later (inr e) g = taken_still d h y c side ch e ∙ (rw (done_same d h (d.owner side ch) c e) g)
 
 -- the replies of a view that agrees are followed as long as no other step is done
-pub follows : {S : Type 0} → (d : Design S) (h : Trace S) (v : View) → Agrees d h v → (m c : ℕ) → done d h m c ≤ v.timed m → Follows d h m (v.reply m) c
+pub follows : {S : Type 0} → (d : Design S) (h : Trace S) (v : View) → Agrees d h v → (m c : ℕ) → done d h m c ≤ v.timed m
+    → Follows d h m (v.reply m) c
 follows {S} d h v g m c l e b s =
     let k : done d h m e < v.timed m = omega (arith, done_past d h m e c s b) in
     let t = same_clock d h m (v.cycle m (done d h m e)) e (g.steps_then m (done d h m e) k) s (g.done_then m (done d h m e) k) in
@@ -120,20 +134,23 @@ tally_mono a r side ch p q l =
     let g = tally_up a r side ch p (q - p) in
     rw e at g
 
-taken_up : {S : Type 0} → (d : Design S) (h : Trace S) → IsHistory d h → (side : Side) (ch c : ℕ) → h.taken c side ch ≤ h.taken (suc c) side ch
+taken_up : {S : Type 0} → (d : Design S) (h : Trace S) → IsHistory d h → (side : Side) (ch c : ℕ)
+    → h.taken c side ch ≤ h.taken (suc c) side ch
 taken_up {S} d h y side ch c =
     elim (cases_Bool (moves d h c (d.owner side ch))) [
       | inl e ↦ omega (arith, y.taken_moves c side ch e)
       | inr e ↦ omega (arith, y.taken_stays c side ch e)
     ]
 
-taken_later : {S : Type 0} → (d : Design S) (h : Trace S) → IsHistory d h → (side : Side) (ch a n : ℕ) → h.taken a side ch ≤ h.taken (n + a) side ch
+taken_later : {S : Type 0} → (d : Design S) (h : Trace S) → IsHistory d h → (side : Side) (ch a n : ℕ)
+    → h.taken a side ch ≤ h.taken (n + a) side ch
 taken_later {S} d h y side ch a zero = rw zero-add (omega arith)
 taken_later {S} d h y side ch a (suc n) =
     let e : suc n + a ≡ suc (n + a) = omega arith in
     rw e (omega (arith, taken_later d h y side ch a n, taken_up d h y side ch (n + a)))
 
-pub taken_mono : {S : Type 0} → (d : Design S) (h : Trace S) → IsHistory d h → (side : Side) (ch a b : ℕ) → a ≤ b → h.taken a side ch ≤ h.taken b side ch
+pub taken_mono : {S : Type 0} → (d : Design S) (h : Trace S) → IsHistory d h → (side : Side) (ch a b : ℕ) → a ≤ b
+    → h.taken a side ch ≤ h.taken b side ch
 taken_mono {S} d h y side ch a b l =
     let e : (b - a) + a ≡ b = omega arith in
     let g = taken_later d h y side ch a (b - a) in
@@ -154,13 +171,15 @@ place_wider a r side ch n i (Some j) l (p, q, e) = (omega arith, q, e)
 pub place_says : (a : ℕ → List Access) (r : ℕ → List Reply) (side : Side) (ch n i : ℕ) → IsPlace a r side ch n i (place a r side ch n i)
 unfolding place
 place_says a r side ch zero i = omega (arith, tally_0 a r side ch)
-place_says a r side ch (suc n) i = later (cases_lt i (tally a r side ch n)) (cases_lt i (tally a r side ch (suc n))) (place_says a r side ch n i)
+place_says a r side ch (suc n) i =
+    later (cases_lt i (tally a r side ch n)) (cases_lt i (tally a r side ch (suc n))) (place_says a r side ch n i)
   where
     later : (i < tally a r side ch n) ⊎ (tally a r side ch n ≤ i) → (i < tally a r side ch (suc n)) ⊎ (tally a r side ch (suc n) ≤ i)
         → IsPlace a r side ch n i (place a r side ch n i) → IsPlace a r side ch (suc n) i (place a r side ch (suc n) i)
     later (inl p) q g = rw (lt-leb (tally a r side ch n) i p) (place_wider a r side ch n i _ (inl p) g)
     later (inr p) (inl q) g = rw (le-leb (tally a r side ch n) i p, lt-ltb i (tally a r side ch (suc n)) q) (omega arith, p, q)
-    later (inr p) (inr q) g = rw (le-leb (tally a r side ch n) i p, le-ltb i (tally a r side ch (suc n)) q) (place_wider a r side ch n i _ (inr q) g)
+    later (inr p) (inr q) g =
+        rw (le-leb (tally a r side ch n) i p, le-ltb i (tally a r side ch (suc n)) q) (place_wider a r side ch n i _ (inr q) g)
 
 pub same_side_is : (a b : Side) → same_side a b ≡ true → a ≡ b
 same_side_is Pop Pop e = refl
@@ -183,20 +202,21 @@ closed_takes {S} d o ch (a ∷ xs) (r ∷ rs) e (g, gs) =
     both_ways _ g' e) in
     rw (cond-false {A = ℕ} (took o ch a r) 1 0 t, closed_takes d o ch xs rs e gs) refl
 
-pub closed_taken : {S : Type 0} → (d : Design S) (h : Trace S) → IsDesign d → IsHistory d h → (o : Side) (ch c : ℕ) → d.closed (other_side o) ch ≡ true
-    → h.taken c o ch ≡ 0
+pub closed_taken : {S : Type 0} → (d : Design S) (h : Trace S) → IsDesign d → IsHistory d h → (o : Side) (ch c : ℕ)
+    → d.closed (other_side o) ch ≡ true → h.taken c o ch ≡ 0
 closed_taken {S} d h i y o ch zero e = y.taken_0 o ch
 closed_taken {S} d h i y o ch (suc c) e =
     elim (cases_Bool (moves d h c (d.owner o ch))) [
       | inl w ↦
-          let z = closed_takes d o ch (d.accesses (d.owner o ch) (h.state c (d.owner o ch))) (replies d h c (d.owner o ch)) e (i.open_sides _ _) in
+          let z = closed_takes d o ch (d.accesses (d.owner o ch) (h.state c (d.owner o ch))) (replies d h c (d.owner o ch)) e
+          (i.open_sides _ _) in
           omega (arith, y.taken_moves c o ch w, closed_taken d h i y o ch c e, z)
       | inr w ↦ y.taken_stays c o ch w ∙ closed_taken d h i y o ch c e
     ]
 
 -- there is one such step
-pub place_unique : (a : ℕ → List Access) (r : ℕ → List Reply) (side : Side) (ch n i j : ℕ) → j < n → tally a r side ch j ≤ i → i < tally a r side ch (suc j)
-    → place a r side ch n i ≡ Some j
+pub place_unique : (a : ℕ → List Access) (r : ℕ → List Reply) (side : Side) (ch n i j : ℕ) → j < n → tally a r side ch j ≤ i
+    → i < tally a r side ch (suc j) → place a r side ch n i ≡ Some j
 place_unique a r side ch n i j l p q = later (place a r side ch n i) (place_says a r side ch n i)
   where
     later : (o : Option ℕ) → IsPlace a r side ch n i o → o ≡ Some j

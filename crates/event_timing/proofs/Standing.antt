@@ -20,12 +20,13 @@ pub moves_lives : {S : Type 0} → (d : Design S) (h : Trace S) (c m : ℕ) → 
 unfolding moves
 moves_lives {S} d h c m e = not-true _ (and_parts _ _ e).0
 
-pub moves_can : {S : Type 0} → (d : Design S) (h : Trace S) (c m : ℕ) → moves d h c m ≡ true → can_all d h c (d.accesses m (h.state c m)) ≡ true
+pub moves_can : {S : Type 0} → (d : Design S) (h : Trace S) (c m : ℕ) → moves d h c m ≡ true
+    → can_all d h c (d.accesses m (h.state c m)) ≡ true
 unfolding moves
 moves_can {S} d h c m e = (and_parts _ _ e).1
 
-pub moves_from : {S : Type 0} → (d : Design S) (h : Trace S) (c m : ℕ) → d.is_over m (h.state c m) ≡ false → can_all d h c (d.accesses m (h.state c m)) ≡ true
-    → moves d h c m ≡ true
+pub moves_from : {S : Type 0} → (d : Design S) (h : Trace S) (c m : ℕ) → d.is_over m (h.state c m) ≡ false
+    → can_all d h c (d.accesses m (h.state c m)) ≡ true → moves d h c m ≡ true
 unfolding moves
 moves_from {S} d h c m o a = and_from _ _ (not_from_false _ o) a
 
@@ -33,12 +34,13 @@ pub steps_moves : {S : Type 0} → (d : Design S) (h : Trace S) (c m : ℕ) → 
 unfolding steps
 steps_moves {S} d h c m e = (and_parts _ _ e).0
 
-pub steps_some : {S : Type 0} → (d : Design S) (h : Trace S) (c m : ℕ) → steps d h c m ≡ true → is_some_access (d.accesses m (h.state c m)) ≡ true
+pub steps_some : {S : Type 0} → (d : Design S) (h : Trace S) (c m : ℕ) → steps d h c m ≡ true
+    → is_some_access (d.accesses m (h.state c m)) ≡ true
 unfolding steps
 steps_some {S} d h c m e = (and_parts _ _ e).1
 
-pub steps_from : {S : Type 0} → (d : Design S) (h : Trace S) (c m : ℕ) → moves d h c m ≡ true → is_some_access (d.accesses m (h.state c m)) ≡ true
-    → steps d h c m ≡ true
+pub steps_from : {S : Type 0} → (d : Design S) (h : Trace S) (c m : ℕ) → moves d h c m ≡ true
+    → is_some_access (d.accesses m (h.state c m)) ≡ true → steps d h c m ≡ true
 unfolding steps
 steps_from {S} d h c m e s = and_from _ _ e s
 
@@ -52,8 +54,8 @@ since_le {S} d h m (suc c) =
     ]
 
 -- in clocks with no access it moves on
-young : {S : Type 0} → (d : Design S) (h : Trace S) → IsDesign d → IsHistory d h → (m c t j : ℕ) (s : S) → j < d.quiet m s → h.state c m ≡ skip d m j s
-    → h.state (suc c) m ≡ skip d m (suc j) s
+young : {S : Type 0} → (d : Design S) (h : Trace S) → IsDesign d → IsHistory d h → (m c t j : ℕ) (s : S) → j < d.quiet m s
+    → h.state c m ≡ skip d m j s → h.state (suc c) m ≡ skip d m (suc j) s
 young {S} d h i y m c t j s l e =
     let o = i.quiet_lives m s j l in
     let a = i.quiet_idle m s j l in
@@ -62,8 +64,8 @@ young {S} d h i y m c t j s l e =
     y.state_moves c m (idle_moves d h c m o' a') ∙ (rw (idle_replies d h c m a', e) refl)
 
 -- then it stays till it steps
-old : {S : Type 0} → (d : Design S) (h : Trace S) → (i : IsDesign d) → IsHistory d h → (m c : ℕ) (s : S) → i.fits m s ≡ true → h.state c m ≡ ready d m s
-    → steps d h c m ≡ false → h.state (suc c) m ≡ ready d m s
+old : {S : Type 0} → (d : Design S) (h : Trace S) → (i : IsDesign d) → IsHistory d h → (m c : ℕ) (s : S) → i.fits m s ≡ true
+    → h.state c m ≡ ready d m s → steps d h c m ≡ false → h.state (suc c) m ≡ ready d m s
 old {S} d h i y m c s f e n =
     let stays : moves d h c m ≡ false =
     false_from_ne_true _ (λ (w : moves d h c m ≡ true).
@@ -104,7 +106,8 @@ unfolding rest
 rest_0 {S} d h m = refl
 
 -- every state of a run fits
-pub history_fits : {S : Type 0} → (d : Design S) (h : Trace S) → (i : IsDesign d) → IsHistory d h → (m c : ℕ) → i.fits m (h.state c m) ≡ true
+pub history_fits : {S : Type 0} → (d : Design S) (h : Trace S) → (i : IsDesign d) → IsHistory d h → (m c : ℕ)
+    → i.fits m (h.state c m) ≡ true
 history_fits {S} d h i y m zero = rw (y.state_0 m) (i.fits_opening m)
 history_fits {S} d h i y m (suc c) =
     let before = history_fits d h i y m c in
@@ -126,18 +129,20 @@ pub since_0 : {S : Type 0} → (d : Design S) (h : Trace S) (m : ℕ) → since 
 unfolding since
 since_0 {S} d h m = refl
 
-pub where_now : {S : Type 0} → (d : Design S) (h : Trace S) → IsDesign d → IsHistory d h → (m c : ℕ) → Stands d h m c (since d h m c) (rest d h m c)
+pub where_now : {S : Type 0} → (d : Design S) (h : Trace S) → IsDesign d → IsHistory d h → (m c : ℕ)
+    → Stands d h m c (since d h m c) (rest d h m c)
 where_now {S} d h i y m zero = rw (rest_0 d h m, since_0 d h m) (stands_fresh d h m 0)
 where_now {S} d h i y m (suc c) = later (cases_Bool (steps d h c m)) (where_now d h i y m c)
   where
     later : (steps d h c m ≡ true) ⊎ (steps d h c m ≡ false) → Stands d h m c (since d h m c) (rest d h m c)
         → Stands d h m (suc c) (since d h m (suc c)) (rest d h m (suc c))
     later (inl e) g = rw (rest_more d h m c e, since_more d h m c e) (stands_fresh d h m (suc c))
-    later (inr e) g = rw (rest_same d h m c e, since_same d h m c e) (stands_on d h i y m c (since d h m c) (rest d h m c) (rest_fits d h i y m c) (since_le d h m c) e g)
+    later (inr e) g = rw (rest_same d h m c e, since_same d h m c e)
+        (stands_on d h i y m c (since d h m c) (rest d h m c) (rest_fits d h i y m c) (since_le d h m c) e g)
 
 -- before its next accesses are reached a module does no step
-pub early_no_step : {S : Type 0} → (d : Design S) (h : Trace S) → IsDesign d → IsHistory d h → (m c : ℕ) → c < since d h m c + d.quiet m (rest d h m c)
-    → steps d h c m ≡ false
+pub early_no_step : {S : Type 0} → (d : Design S) (h : Trace S) → IsDesign d → IsHistory d h → (m c : ℕ)
+    → c < since d h m c + d.quiet m (rest d h m c) → steps d h c m ≡ false
 early_no_step {S} d h i y m c l =
     false_from_ne_true _ (λ (w : steps d h c m ≡ true).
     let j : min (c - since d h m c) (d.quiet m (rest d h m c)) ≡ c - since d h m c = omega (arith, since_le d h m c) in
@@ -150,8 +155,8 @@ early_no_step {S} d h i y m c l =
     cc)
 
 -- then it stands at them
-pub late_ready : {S : Type 0} → (d : Design S) (h : Trace S) → IsDesign d → IsHistory d h → (m c : ℕ) → since d h m c + d.quiet m (rest d h m c) ≤ c
-    → h.state c m ≡ ready d m (rest d h m c)
+pub late_ready : {S : Type 0} → (d : Design S) (h : Trace S) → IsDesign d → IsHistory d h → (m c : ℕ)
+    → since d h m c + d.quiet m (rest d h m c) ≤ c → h.state c m ≡ ready d m (rest d h m c)
 late_ready {S} d h i y m c l =
     let j : min (c - since d h m c) (d.quiet m (rest d h m c)) ≡ d.quiet m (rest d h m c) = omega arith in
     rw j at (where_now d h i y m c)

@@ -62,7 +62,8 @@ done_less {S} d h m a b l =
     ]
 
 -- the step of a number is in one clock
-pub same_clock : {S : Type 0} → (d : Design S) (h : Trace S) (m a b : ℕ) → steps d h a m ≡ true → steps d h b m ≡ true → done d h m a ≡ done d h m b → a ≡ b
+pub same_clock : {S : Type 0} → (d : Design S) (h : Trace S) (m a b : ℕ) → steps d h a m ≡ true → steps d h b m ≡ true
+    → done d h m a ≡ done d h m b → a ≡ b
 same_clock {S} d h m a b s t e =
     elim (cases_order a b) [
       | inl g ↦ g

@@ -1,6 +1,7 @@
 -- When an access of a module's first step without a cycle is possible.
 use Rattle.std.proofs.Common.{◌≡◌, ℕ, suc, ◌+◌, ◌-◌, ◌<◌, ◌≤◌, true, false, ◌||◌, inl, inr, refl, ◌∙◌, arith, ltb, leb, Option, Some, None}
-use Rattle.std.proofs.lemmas.Bool.{cases_Bool, cond-true, cond-false, cases_lt, le-leb, lt-ltb, le-ltb, lt-leb, ltb-true, ltb-false, or_cases, or_parts, or_right}
+use Rattle.std.proofs.lemmas.Bool.{cases_Bool, cond-true, cond-false, cases_lt, le-leb, lt-ltb, le-ltb, lt-leb, ltb-true, ltb-false}
+use Rattle.std.proofs.lemmas.Bool.{or_cases, or_parts, or_right}
 use Rattle.flow_word.specs.declared.access.Side.{Side}
 use Rattle.flow_word.specs.declared.access.Side.TheVariants.{Pop, Push}
 use Rattle.flow_word.specs.Kinds.{other_side}
@@ -14,15 +15,18 @@ use Rattle.event_timing.proofs.Steps.{done_more, done_mono}
 use Rattle.event_timing.proofs.OwnRuns.{follows, taken_own, taken_mono, tally_mono, IsPlace, place_says, closed_taken}
 
 -- the history's counts are the view's, as long as no other step is done
-pub taken_view : {S : Type 0} → (d : Design S) (h : Trace S) → IsDesign d → IsHistory d h → (v : View) → Agrees d h v → (side : Side) (ch c : ℕ)
-    → done d h (d.owner side ch) c ≤ v.timed (d.owner side ch)
+pub taken_view : {S : Type 0} → (d : Design S) (h : Trace S) → IsDesign d → IsHistory d h → (v : View) → Agrees d h v
+    → (side : Side) (ch c : ℕ) → done d h (d.owner side ch) c ≤ v.timed (d.owner side ch)
     → h.taken c side ch ≡ tally (v.accesses (d.owner side ch)) (v.reply (d.owner side ch)) side ch (done d h (d.owner side ch) c)
-taken_view {S} d h i y v g side ch c l = taken_own d h i y side ch (v.accesses (d.owner side ch)) (v.reply (d.owner side ch)) c (follows d h v g (d.owner side ch) c l) (λ k q. g.accesses_then (d.owner side ch) k (omega arith))
+taken_view {S} d h i y v g side ch c l =
+    taken_own d h i y side ch (v.accesses (d.owner side ch)) (v.reply (d.owner side ch)) c (follows d h v g (d.owner side ch) c l)
+    (λ k q. g.accesses_then (d.owner side ch) k (omega arith))
 
 -- a pop (push) is in the count from the clock behind its cycle on
 pub counted : {S : Type 0} → (d : Design S) (h : Trace S) → IsDesign d → IsHistory d h → (v : View) → Agrees d h v → (o : Side) (ch j n : ℕ)
     → j < v.timed (d.owner o ch) → tally (v.accesses (d.owner o ch)) (v.reply (d.owner o ch)) o ch j ≤ n
-    → n < tally (v.accesses (d.owner o ch)) (v.reply (d.owner o ch)) o ch (suc j) → (c : ℕ) → ltb n (h.taken c o ch) ≡ ltb (v.cycle (d.owner o ch) j) c
+    → n < tally (v.accesses (d.owner o ch)) (v.reply (d.owner o ch)) o ch (suc j) → (c : ℕ)
+    → ltb n (h.taken c o ch) ≡ ltb (v.cycle (d.owner o ch) j) c
 counted {S} d h i y v g o ch j n l a b c =
     let w : ℕ = d.owner o ch in
     let e : ℕ = v.cycle w j in
@@ -37,36 +41,42 @@ counted {S} d h i y v g o ch j n l a b c =
       | inr q ↦
           let p = done_mono d h w c e q in
           let t = taken_view d h i y v g o ch c (omega arith) in
-          rw (le-ltb e c q) (le-ltb n (h.taken c o ch) (omega (arith, t, tally_mono (v.accesses w) (v.reply w) o ch (done d h w c) j (omega arith))))
+          rw (le-ltb e c q) (le-ltb n (h.taken c o ch)
+          (omega (arith, t, tally_mono (v.accesses w) (v.reply w) o ch (done d h w c) j (omega arith))))
     ]
 
 -- what is known means this in clock c
 abbrev pub Means : {S : Type 0} → Design S → Trace S → View → ℕ → Side → ℕ → Known → Type 0
 Means {S} d h v c side ch (From u) = is_possible d h c side ch ≡ leb u c
 Means {S} d h v c side ch Never = is_possible d h c side ch ≡ false
-Means {S} d h v c side ch Unknown = done d h (d.owner (other_side side) ch) c ≤ v.timed (d.owner (other_side side) ch) → is_possible d h c side ch ≡ false
+Means {S} d h v c side ch Unknown = done d h (d.owner (other_side side) ch) c ≤ v.timed (d.owner (other_side side) ch)
+    → is_possible d h c side ch ≡ false
 
 pub known_free : {S : Type 0} → (d : Design S) (v : View) (side : Side) (ch n : ℕ) → (d.unlimited side ch || ltb n (d.start side ch)) ≡ true
     → known d v side ch n ≡ From 0
 unfolding known
 known_free {S} d v side ch n e = cond-true _ _ _ e
 
-pub known_never : {S : Type 0} → (d : Design S) (v : View) (side : Side) (ch n : ℕ) → (d.unlimited side ch || ltb n (d.start side ch)) ≡ false
-    → d.closed side ch ≡ true → known d v side ch n ≡ Never
+pub known_never : {S : Type 0} → (d : Design S) (v : View) (side : Side) (ch n : ℕ)
+    → (d.unlimited side ch || ltb n (d.start side ch)) ≡ false → d.closed side ch ≡ true → known d v side ch n ≡ Never
 unfolding known
 known_never {S} d v side ch n e f = cond-false _ _ _ e ∙ cond-true _ _ _ f
 
 unfoldable pub enabler : {S : Type 0} → Design S → View → Side → ℕ → ℕ → Option ℕ
-enabler {S} d v side ch n = place (v.accesses (d.owner (other_side side) ch)) (v.reply (d.owner (other_side side) ch)) (other_side side) ch (v.timed (d.owner (other_side side) ch)) (n - d.start side ch)
+enabler {S} d v side ch n =
+    place (v.accesses (d.owner (other_side side) ch)) (v.reply (d.owner (other_side side) ch)) (other_side side) ch
+    (v.timed (d.owner (other_side side) ch)) (n - d.start side ch)
 
-pub known_event : {S : Type 0} → (d : Design S) (v : View) (side : Side) (ch n : ℕ) → (d.unlimited side ch || ltb n (d.start side ch)) ≡ false
-    → d.closed side ch ≡ false → known d v side ch n ≡ from_step (v.cycle (d.owner (other_side side) ch)) (d.lag side ch) (enabler d v side ch n)
+pub known_event : {S : Type 0} → (d : Design S) (v : View) (side : Side) (ch n : ℕ)
+    → (d.unlimited side ch || ltb n (d.start side ch)) ≡ false → d.closed side ch ≡ false
+    → known d v side ch n ≡ from_step (v.cycle (d.owner (other_side side) ch)) (d.lag side ch) (enabler d v side ch n)
 unfolding known enabler
 known_event {S} d v side ch n e f = cond-false _ _ _ e ∙ cond-false _ _ _ f
 
-event_means : {S : Type 0} → (d : Design S) (h : Trace S) → IsDesign d → IsHistory d h → (v : View) → Agrees d h v → (side : Side) (ch c n : ℕ)
-    → h.taken c side ch ≡ n → d.unlimited side ch ≡ false → d.start side ch ≤ n → (o : Option ℕ)
-    → IsPlace (v.accesses (d.owner (other_side side) ch)) (v.reply (d.owner (other_side side) ch)) (other_side side) ch (v.timed (d.owner (other_side side) ch)) (n - d.start side ch) o
+event_means : {S : Type 0} → (d : Design S) (h : Trace S) → IsDesign d → IsHistory d h → (v : View) → Agrees d h v
+    → (side : Side) (ch c n : ℕ) → h.taken c side ch ≡ n → d.unlimited side ch ≡ false → d.start side ch ≤ n → (o : Option ℕ)
+    → IsPlace (v.accesses (d.owner (other_side side) ch)) (v.reply (d.owner (other_side side) ch)) (other_side side) ch
+    (v.timed (d.owner (other_side side) ch)) (n - d.start side ch) o
     → Means d h v c side ch (from_step (v.cycle (d.owner (other_side side) ch)) (d.lag side ch) o)
 event_means {S} d h i y v g side ch c n t u l None p = λ q.
     let z = i.lag_positive side ch in
@@ -83,11 +93,13 @@ event_means {S} d h i y v g side ch c n t u l (Some j) (p1, p2, p3) =
       | inl q ↦
           let k' = k ∙ le-ltb e (suc c - d.lag side ch) (omega arith) in
           let k'' = ltb-false _ _ k' in
-          rw (u, t, lt-leb (e + d.lag side ch) c q) (le-ltb n (d.start side ch + h.taken (suc c - d.lag side ch) (other_side side) ch) (omega arith))
+          rw (u, t, lt-leb (e + d.lag side ch) c q)
+          (le-ltb n (d.start side ch + h.taken (suc c - d.lag side ch) (other_side side) ch) (omega arith))
       | inr q ↦
           let k' = k ∙ lt-ltb e (suc c - d.lag side ch) (omega arith) in
           let k'' = ltb-true _ _ k' in
-          rw (u, t, le-leb (e + d.lag side ch) c q) (lt-ltb n (d.start side ch + h.taken (suc c - d.lag side ch) (other_side side) ch) (omega arith))
+          rw (u, t, le-leb (e + d.lag side ch) c q)
+          (lt-ltb n (d.start side ch + h.taken (suc c - d.lag side ch) (other_side side) ch) (omega arith))
     ]
 
 free_possible : {S : Type 0} → (d : Design S) (h : Trace S) (c : ℕ) (side : Side) (ch n : ℕ) → h.taken c side ch ≡ n
@@ -97,14 +109,20 @@ free_possible {S} d h c side ch n t e =
       | inl u ↦ rw (u, le-leb 0 c (omega arith)) refl
       | inr l ↦
           let l' = ltb-true n (d.start side ch) l in
-          rw (t, le-leb 0 c (omega arith), lt-ltb n (d.start side ch + h.taken (suc c - d.lag side ch) (other_side side) ch) (omega arith)) (or_right _ _ refl)
+          rw (
+            t,
+            le-leb 0 c (omega arith),
+            lt-ltb n (d.start side ch + h.taken (suc c - d.lag side ch) (other_side side) ch)
+                (omega arith),
+          ) (or_right _ _ refl)
     ]
 
 other_other : (side : Side) → other_side (other_side side) ≡ side
 other_other Pop = refl
 other_other Push = refl
 
-never_possible : {S : Type 0} → (d : Design S) (h : Trace S) → IsDesign d → IsHistory d h → (c : ℕ) (side : Side) (ch n : ℕ) → h.taken c side ch ≡ n
+never_possible : {S : Type 0} → (d : Design S) (h : Trace S) → IsDesign d → IsHistory d h → (c : ℕ) (side : Side) (ch n : ℕ)
+    → h.taken c side ch ≡ n
     → (d.unlimited side ch || ltb n (d.start side ch)) ≡ false → d.closed side ch ≡ true → is_possible d h c side ch ≡ false
 never_possible {S} d h i y c side ch n t e f =
     let f' : d.closed (other_side (other_side side)) ch ≡ true = rw (other_other side) f in
@@ -114,8 +132,8 @@ never_possible {S} d h i y c side ch n t e f =
     rw (p.0, t) (le-ltb n (d.start side ch + h.taken (suc c - d.lag side ch) (other_side side) ch) (omega arith))
 
 -- what is known of an access is true in each clock in which n are before it
-pub known_means : {S : Type 0} → (d : Design S) (h : Trace S) → IsDesign d → IsHistory d h → (v : View) → Agrees d h v → (side : Side) (ch c n : ℕ)
-    → h.taken c side ch ≡ n → Means d h v c side ch (known d v side ch n)
+pub known_means : {S : Type 0} → (d : Design S) (h : Trace S) → IsDesign d → IsHistory d h → (v : View) → Agrees d h v
+    → (side : Side) (ch c n : ℕ) → h.taken c side ch ≡ n → Means d h v c side ch (known d v side ch n)
 unfolding enabler
 known_means {S} d h i y v g side ch c n t =
     elim (cases_Bool (d.unlimited side ch || ltb n (d.start side ch))) [
@@ -125,6 +143,9 @@ known_means {S} d h i y v g side ch c n t =
             | inl f ↦ rw (known_never d v side ch n e f) (never_possible d h i y c side ch n t e f)
             | inr f ↦
                 let p = or_parts (d.unlimited side ch) (ltb n (d.start side ch)) e in
-                rw (known_event d v side ch n e f) (event_means d h i y v g side ch c n t p.0 (ltb-false n (d.start side ch) p.1) (enabler d v side ch n) (place_says (v.accesses (d.owner (other_side side) ch)) (v.reply (d.owner (other_side side) ch)) (other_side side) ch (v.timed (d.owner (other_side side) ch)) (n - d.start side ch)))
+                rw (known_event d v side ch n e f)
+                (event_means d h i y v g side ch c n t p.0 (ltb-false n (d.start side ch) p.1) (enabler d v side ch n)
+                (place_says (v.accesses (d.owner (other_side side) ch)) (v.reply (d.owner (other_side side) ch))
+                (other_side side) ch (v.timed (d.owner (other_side side) ch)) (n - d.start side ch)))
           ]
     ]

@@ -119,8 +119,10 @@ pub data Action : Type 0 where
 abbrev pub Acts : {S : Type 0} → Design S → ℕ → Core S → Action → Core S → Type 0
 Acts {S} d limit x (Run m) y = MayRun d x m × (y ≡ after_run d x m)
 Acts {S} d limit x (Assign m) y = (c : ℕ) × MayAssign d limit x m c × (y ≡ after_assign x m c)
-Acts {S} d limit x (Answer m) y = (c : ℕ) × MayAnswer d limit x m c × (IsSame d x m c × (y ≡ after_answer d x m c) ⊎ (IsSame d x m c → ⊥) × (y ≡ x))
-Acts {S} d limit x (Earliest m) y = (c : ℕ) × MayEarliest d limit x m c × (IsSame d x m c × (y ≡ after_answer d x m c) ⊎ (IsSame d x m c → ⊥) × (y ≡ x))
+Acts {S} d limit x (Answer m) y =
+    (c : ℕ) × MayAnswer d limit x m c × (IsSame d x m c × (y ≡ after_answer d x m c) ⊎ (IsSame d x m c → ⊥) × (y ≡ x))
+Acts {S} d limit x (Earliest m) y =
+    (c : ℕ) × MayEarliest d limit x m c × (IsSame d x m c × (y ≡ after_answer d x m c) ⊎ (IsSame d x m c → ⊥) × (y ≡ x))
 
 -- permitted actions, one after the other
 abbrev pub ActsAll : {S : Type 0} → Design S → ℕ → Core S → List Action → Core S → Type 0

@@ -40,6 +40,10 @@ pub record AreOwnMarks {S : Type 0} (d : Design S) (x : Core S) : Type 0 where
 abbrev pub elements_timed : {S : Type 0} → Design S → Core S → ℕ → ℕ
 elements_timed {S} d x ch = d.start Pop ch + core_tally d x (d.owner Push ch) Push ch (x.timed (d.owner Push ch))
 
+-- each pop of step k, by these flags, has its push among the steps with a cycle, or pops an input
+abbrev pub pops_timed : {S : Type 0} → Design S → Core S → ℕ → ℕ → List Bool → Bool
+pops_timed {S} d x m k flags = all_below (elements_timed d x) (λ ch. core_tally d x m Pop ch k) (core_accesses d x m k) flags
+
 -- the history does the module's step of this number in clock c
 abbrev pub IsStepAt : {S : Type 0} → Design S → Trace S → ℕ → ℕ → ℕ → Type 0
 IsStepAt {S} d h m k c = (steps d h c m ≡ true) × (done d h m c ≡ k)
@@ -58,12 +62,12 @@ pub record IsTimed {S : Type 0} (d : Design S) (h : Trace S) (limit : ℕ) (x : 
   pub there_then : (m k : ℕ) → k < x.timed m → values_there d x m k ≡ true
   pub below : (m k : ℕ) → k < x.timed m → x.cycle m k < limit
   -- of the first step without a cycle: verified outcomes are the history's, and each pop in it has its push among the timed steps
-  pub first_flags : (m : ℕ) → x.timed m < x.emitted m → x.verified m (x.timed m) ≡ true → (c : ℕ) → steps d h c m ≡ true → done d h m c ≡ x.timed m
-      → x.flags m (x.timed m) ≡ possible_all d h c (core_accesses d x m (x.timed m))
+  pub first_flags : (m : ℕ) → x.timed m < x.emitted m → x.verified m (x.timed m) ≡ true → (c : ℕ) → steps d h c m ≡ true
+      → done d h m c ≡ x.timed m → x.flags m (x.timed m) ≡ possible_all d h c (core_accesses d x m (x.timed m))
   pub first_sure : (m : ℕ) → x.timed m < x.emitted m → x.verified m (x.timed m) ≡ true → has_query (core_accesses d x m (x.timed m)) ≡ true
-      → all_below (elements_timed d x) (λ ch. core_tally d x m Pop ch (x.timed m)) (core_accesses d x m (x.timed m)) (x.flags m (x.timed m)) ≡ true
-  pub first_happens : (m : ℕ) → x.timed m < x.emitted m → x.verified m (x.timed m) ≡ true → has_query (core_accesses d x m (x.timed m)) ≡ true
-      → HappensBefore d h limit m (x.timed m)
+      → pops_timed d x m (x.timed m) (x.flags m (x.timed m)) ≡ true
+  pub first_happens : (m : ℕ) → x.timed m < x.emitted m → x.verified m (x.timed m) ≡ true
+      → has_query (core_accesses d x m (x.timed m)) ≡ true → HappensBefore d h limit m (x.timed m)
   pub verified_then : (m k : ℕ) → k < x.timed m → x.verified m k ≡ true
   pub verified_answered : (m k : ℕ) → k < x.emitted m → x.verified m k ≡ true → x.answered m k ≡ true
   -- behind it nothing but steps without a query counts as verified

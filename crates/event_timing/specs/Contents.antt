@@ -50,11 +50,15 @@ replies_in {S} d w c m = map (reply_in d w c) (d.accesses m (w.state m))
 
 -- how many elements leave the channel (are popped) or come (are pushed) in this clock
 unfoldable pub flow : {S : Type 0} → Design S → World S → ℕ → Side → ℕ → ℕ
-flow {S} d w c side ch = cond (moves_in d w c (d.owner side ch)) (takes_in side ch (d.accesses (d.owner side ch) (w.state (d.owner side ch))) (replies_in d w c (d.owner side ch))) 0
+flow {S} d w c side ch =
+    let m : ℕ = d.owner side ch in
+    cond (moves_in d w c m) (takes_in side ch (d.accesses m (w.state m)) (replies_in d w c m)) 0
 
 -- the values that come
 unfoldable pub coming : {S : Type 0} → Design S → World S → ℕ → ℕ → List ℕ
-coming {S} d w c ch = cond (moves_in d w c (d.owner Push ch)) (values_in ch (d.accesses (d.owner Push ch) (w.state (d.owner Push ch))) (replies_in d w c (d.owner Push ch))) []
+coming {S} d w c ch =
+    let m : ℕ = d.owner Push ch in
+    cond (moves_in d w c m) (values_in ch (d.accesses m (w.state m)) (replies_in d w c m)) []
 
 -- values as elements that can be popped from clock c on
 abbrev pub seen_from : ℕ → List ℕ → List Element

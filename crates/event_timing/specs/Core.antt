@@ -54,9 +54,13 @@ core_accesses {S} d x m k = d.accesses m (x.state m k)
 abbrev pub core_tally : {S : Type 0} → Design S → Core S → ℕ → Side → ℕ → ℕ → ℕ
 core_tally {S} d x m side ch k = tally (core_accesses d x m) (λ j. bare_replies (x.flags m j)) side ch k
 
+-- the values that module m pushed on a channel in its first k steps
+abbrev pub core_pushed : {S : Type 0} → Design S → Core S → ℕ → ℕ → ℕ → List ℕ
+core_pushed {S} d x m ch k = pushed_in ch (core_accesses d x m) (λ j. bare_replies (x.flags m j)) k
+
 -- the values pushed on a channel in emitted steps, inputs first
 abbrev pub core_values : {S : Type 0} → Design S → Core S → ℕ → List ℕ
-core_values {S} d x ch = d.inputs ch ++ pushed_in ch (core_accesses d x (d.owner Push ch)) (λ j. bare_replies (x.flags (d.owner Push ch) j)) (x.emitted (d.owner Push ch))
+core_values {S} d x ch = d.inputs ch ++ core_pushed d x (d.owner Push ch) ch (x.emitted (d.owner Push ch))
 
 -- whether the access pops an element
 abbrev pub pops_now : Access → Bool → Bool
@@ -66,7 +70,8 @@ pops_now a b = a.takes && (same_side a.side Pop && b)
 abbrev pub replies_of : (ℕ → List ℕ) → (ℕ → ℕ) → List Access → List Bool → List Reply
 replies_of V t [] bs = []
 replies_of V t (a ∷ xs) [] = []
-replies_of V t (a ∷ xs) (b ∷ bs) = record { possible = b; front = cond (pops_now a b) (get_or (V a.channel) (t a.channel) 0) 0 } ∷ replies_of V t xs bs
+replies_of V t (a ∷ xs) (b ∷ bs) =
+    record { possible = b; front = cond (pops_now a b) (get_or (V a.channel) (t a.channel) 0) 0 } ∷ replies_of V t xs bs
 
 -- each pop is among the first so many elements
 abbrev pub all_below : (ℕ → ℕ) → (ℕ → ℕ) → List Access → List Bool → Bool
@@ -80,7 +85,8 @@ core_reply {S} d x m k = replies_of (core_values d x) (λ ch. core_tally d x m P
 
 -- the values of its pops are there
 abbrev pub values_there : {S : Type 0} → Design S → Core S → ℕ → ℕ → Bool
-values_there {S} d x m k = all_below (λ ch. length (core_values d x ch)) (λ ch. core_tally d x m Pop ch k) (core_accesses d x m k) (x.flags m k)
+values_there {S} d x m k =
+    all_below (λ ch. length (core_values d x ch)) (λ ch. core_tally d x m Pop ch k) (core_accesses d x m k) (x.flags m k)
 
 -- ---- what it claims
 

@@ -16,13 +16,17 @@ abbrev pub from_step : (ℕ → ℕ) → ℕ → Option ℕ → Known
 from_step cycle lag None = Unknown
 from_step cycle lag (Some j) = From (cycle j + lag)
 
+-- among module w's steps with a cycle, the one whose access at this side of the channel has i before it
+abbrev pub timed_place : View → ℕ → Side → ℕ → ℕ → Option ℕ
+timed_place v w side ch i = place (v.accesses w) (v.reply w) side ch (v.timed w) i
+
 -- what is known of the access with i earlier ones of its side
 unfoldable pub known : {S : Type 0} → Design S → View → Side → ℕ → ℕ → Known
 known {S} d v side ch i =
     cond (d.unlimited side ch || ltb i (d.start side ch)) (From 0)
     (cond (d.closed side ch) Never
     (from_step (v.cycle (d.owner (other_side side) ch)) (d.lag side ch)
-    (place (v.accesses (d.owner (other_side side) ch)) (v.reply (d.owner (other_side side) ch)) (other_side side) ch (v.timed (d.owner (other_side side) ch)) (i - d.start side ch))))
+    (timed_place v (d.owner (other_side side) ch) (other_side side) ch (i - d.start side ch))))
 
 -- of an access of the first step without a cycle
 abbrev pub known_of : {S : Type 0} → Design S → View → ℕ → Access → Known

@@ -17,15 +17,17 @@ pub record Trace (S : Type 0) : Type 0 where
 -- whether a pop (or a push) of the channel is possible in clock c: fewer were done than the start and the other side's together,
 -- as far as those are seen
 abbrev pub is_possible : {S : Type 0} → Design S → Trace S → ℕ → Side → ℕ → Bool
-is_possible {S} d h c side ch = d.unlimited side ch || ltb (h.taken c side ch) (d.start side ch + h.taken (suc c - d.lag side ch) (other_side side) ch)
+is_possible {S} d h c side ch =
+    d.unlimited side ch || ltb (h.taken c side ch) (d.start side ch + h.taken (suc c - d.lag side ch) (other_side side) ch)
 
--- the n-th pop gives the n-th value that went in
+-- the n-th pop gives the n-th value that went in, where the access pops
+abbrev pub front_for : {S : Type 0} → Design S → Trace S → ℕ → Access → ℕ
+front_for {S} d h c a =
+    cond (a.takes && (same_side a.side Pop && is_possible d h c a.side a.channel))
+    (get_or (h.pushed c a.channel) (h.taken c Pop a.channel) 0) 0
+
 abbrev pub reply_to : {S : Type 0} → Design S → Trace S → ℕ → Access → Reply
-reply_to {S} d h c a =
-    record {
-      possible = is_possible d h c a.side a.channel;
-      front = cond (a.takes && (same_side a.side Pop && is_possible d h c a.side a.channel)) (get_or (h.pushed c a.channel) (h.taken c Pop a.channel) 0) 0;
-    }
+reply_to {S} d h c a = record { possible = is_possible d h c a.side a.channel; front = front_for d h c a }
 
 abbrev pub can_do : {S : Type 0} → Design S → Trace S → ℕ → Access → Bool
 can_do {S} d h c a = not a.blocks || is_possible d h c a.side a.channel
@@ -41,6 +43,13 @@ moves {S} d h c m = not (d.is_over m (h.state c m)) && can_all d h c (d.accesses
 unfoldable pub replies : {S : Type 0} → Design S → Trace S → ℕ → ℕ → List Reply
 replies {S} d h c m = map (reply_to d h c) (d.accesses m (h.state c m))
 
+-- what module m takes at a side of the channel if it moves in clock c, and what it pushes
+abbrev pub taken_by : {S : Type 0} → Design S → Trace S → ℕ → ℕ → Side → ℕ → ℕ
+taken_by {S} d h c m side ch = takes_in side ch (d.accesses m (h.state c m)) (replies d h c m)
+
+abbrev pub pushed_by : {S : Type 0} → Design S → Trace S → ℕ → ℕ → ℕ → List ℕ
+pushed_by {S} d h c m ch = values_in ch (d.accesses m (h.state c m)) (replies d h c m)
+
 -- the laws: how all starts, and what one clock changes for a module that moves, and for one that stays
 pub record IsHistory {S : Type 0} (d : Design S) (h : Trace S) : Type 0 where
   pub state_0 : (m : ℕ) → h.state 0 m ≡ d.opening m
@@ -49,8 +58,8 @@ pub record IsHistory {S : Type 0} (d : Design S) (h : Trace S) : Type 0 where
   pub state_moves : (c m : ℕ) → moves d h c m ≡ true → h.state (suc c) m ≡ d.move m (h.state c m) (replies d h c m)
   pub state_stays : (c m : ℕ) → moves d h c m ≡ false → h.state (suc c) m ≡ h.state c m
   pub taken_moves : (c : ℕ) (side : Side) (ch : ℕ) → moves d h c (d.owner side ch) ≡ true
-      → h.taken (suc c) side ch ≡ h.taken c side ch + takes_in side ch (d.accesses (d.owner side ch) (h.state c (d.owner side ch))) (replies d h c (d.owner side ch))
+      → h.taken (suc c) side ch ≡ h.taken c side ch + taken_by d h c (d.owner side ch) side ch
   pub taken_stays : (c : ℕ) (side : Side) (ch : ℕ) → moves d h c (d.owner side ch) ≡ false → h.taken (suc c) side ch ≡ h.taken c side ch
   pub pushed_moves : (c ch : ℕ) → moves d h c (d.owner Push ch) ≡ true
-      → h.pushed (suc c) ch ≡ h.pushed c ch ++ values_in ch (d.accesses (d.owner Push ch) (h.state c (d.owner Push ch))) (replies d h c (d.owner Push ch))
+      → h.pushed (suc c) ch ≡ h.pushed c ch ++ pushed_by d h c (d.owner Push ch) ch
   pub pushed_stays : (c ch : ℕ) → moves d h c (d.owner Push ch) ≡ false → h.pushed (suc c) ch ≡ h.pushed c ch

@@ -79,7 +79,8 @@ pub record IsDesign {S : Type 0} (d : Design S) : Type 0 where
   pub fits_opening : (m : ℕ) → fits m (d.opening m) ≡ true
   pub fits_move : (m : ℕ) (s : S) (rs : List Reply) → fits m s ≡ true → fits m (d.move m s rs) ≡ true
   -- the quiet clocks end: then the module is over, or has an access
-  pub quiet_ends : (m : ℕ) (s : S) → fits m s ≡ true → d.is_over m (ready d m s) ≡ false → is_some_access (d.accesses m (ready d m s)) ≡ true
+  pub quiet_ends : (m : ℕ) (s : S) → fits m s ≡ true → d.is_over m (ready d m s) ≡ false
+      → is_some_access (d.accesses m (ready d m s)) ≡ true
   -- each side of a channel has one module
   pub owned : (m : ℕ) (s : S) → Each (λ a. d.owner a.side a.channel ≡ m) (d.accesses m s)
   -- nobody pushes a source

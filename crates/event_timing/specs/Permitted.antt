@@ -44,7 +44,8 @@ no_module test zero = true
 no_module test (suc n) = not (test n) && no_module test n
 
 unfoldable pub is_quiet : {S : Type 0} → Design S → ℕ → Core S → Bool
-is_quiet {S} d limit x = no_module (may_run d x) d.modules && (no_module (may_assign d limit x) d.modules && no_module (may_answer d limit x) d.modules)
+is_quiet {S} d limit x =
+    no_module (may_run d x) d.modules && (no_module (may_assign d limit x) d.modules && no_module (may_answer d limit x) d.modules)
 
 -- its open step comes before that clock
 unfoldable pub is_open_before : {S : Type 0} → Design S → ℕ → Core S → Option ℕ → ℕ → Bool

@@ -6,11 +6,15 @@ ghost use Rattle.event_timing.specs.Machines.{Design, IsDesign, Access, Reply, H
 ghost use Rattle.event_timing.specs.Histories.{Trace, IsHistory, moves, is_possible};
 ghost use Rattle.event_timing.specs.Contents.{trace};
 ghost use Rattle.event_timing.specs.Steps.{steps, done};
-ghost use Rattle.event_timing.specs.Views.{own, pushed_in, tally, place};
+ghost use Rattle.event_timing.specs.Views.{own, tally, place};
 ghost use Rattle.event_timing.specs.Enablers.{candidate, known_of, answer};
-ghost use Rattle.event_timing.specs.Core.{Core, opening_core, view, core_accesses, core_reply, core_tally, bare_replies, has_query, values_there};
-ghost use Rattle.event_timing.specs.Actions.{Action, Acts, ActsAll, MayRun, MayAssign, MayAnswer, MayEarliest, IsOpen, IsQuiet, IsFinal, IsSame, IsNoRunOf, ActsRecorded, newest, new_flags, assigns, runs, after_run, after_assign, after_answer};
-ghost use Rattle.event_timing.specs.Agreement.{IsAgreed, AreOwnMarks, AllVerified, HappensBefore, IsAtRest, IsStepAt, IsUndetermined, IsBounded, possible_all, stop};
+ghost use Rattle.event_timing.specs.Core.{Core, opening_core, view, core_accesses, core_reply, core_tally, core_pushed, has_query};
+ghost use Rattle.event_timing.specs.Core.{values_there};
+ghost use Rattle.event_timing.specs.Actions.{Action, Acts, ActsAll, MayRun, MayAssign, MayAnswer, MayEarliest, IsOpen, IsQuiet, IsFinal};
+ghost use Rattle.event_timing.specs.Actions.{IsSame, IsNoRunOf, ActsRecorded, newest, new_flags, assigns, runs, after_run, after_assign};
+ghost use Rattle.event_timing.specs.Actions.{after_answer};
+ghost use Rattle.event_timing.specs.Agreement.{IsAgreed, AreOwnMarks, AllVerified, HappensBefore, IsAtRest, IsStepAt, IsUndetermined};
+ghost use Rattle.event_timing.specs.Agreement.{IsBounded, possible_all, stop};
 ghost use Rattle.event_timing.specs.Growth.{Grows, GrowsBeside, IsSettled};
 ghost use Rattle.event_timing.specs.Permitted.{IsInside, may_run, may_assign, may_answer, is_open, is_quiet, may_earliest, is_final};
 ghost use Rattle.event_timing.specs.Work.{work};
@@ -34,7 +38,10 @@ pub fn marks_stay<S>()
     ensures assign { (d : Design S) (x : Core S) → AreOwnMarks d x → (m c : ℕ) → AreOwnMarks d (after_assign x m c) }
     ensures answer { (d : Design S) → IsDesign d → (x : Core S) → AreOwnMarks d x → (m c : ℕ) → x.timed m < x.emitted m → IsSame d x m c
         → AreOwnMarks d (after_answer d x m c) }
-    ensures edit { (d : Design S) (x : Core S) → AreOwnMarks d x → (fifo depth t : ℕ) → AreOwnMarks (edited d fifo depth) (after_edit d x t) }
+    ensures edit { (d : Design S) (x : Core S) → AreOwnMarks d x → (fifo depth t : ℕ)
+        → AreOwnMarks (edited d fifo depth) (after_edit d x t) }
+    ensures actions { (d : Design S) → IsDesign d → (limit : ℕ) (x : Core S) → AreOwnMarks d x → (actions : List Action) (y : Core S)
+        → ActsAll d limit x actions y → AreOwnMarks d y }
     ensures newest { (d : Design S) (x : Core S) → AreOwnMarks d x → (m : ℕ) → newest d x m ≡ own d m (core_reply d x m) (x.emitted m) }
 {}
 
@@ -54,7 +61,8 @@ pub fn cores_grow<S>()
     ensures settled_all { (d : Design S) (x : Core S) → AreOwnMarks d x → (m : ℕ) → MayRun d x m → IsSettled d x m (x.emitted m) }
     ensures counts { (d : Design S) (x y : Core S) → Grows d x y → (m n : ℕ) → IsSettled d x m n → (side : Side) (ch : ℕ)
         → core_tally d y m side ch n ≡ core_tally d x m side ch n }
-    ensures replies { (d : Design S) (x y : Core S) → Grows d x y → (m n : ℕ) → IsSettled d x m (suc n) → core_reply d y m n ≡ core_reply d x m n }
+    ensures replies { (d : Design S) (x y : Core S) → Grows d x y → (m n : ℕ) → IsSettled d x m (suc n)
+        → core_reply d y m n ≡ core_reply d x m n }
     ensures there { (d : Design S) (x y : Core S) → Grows d x y → (m n : ℕ) → IsSettled d x m (suc n) → values_there d y m n ≡ true }
     ensures rests { (d : Design S) (x y : Core S) → Grows d x y → (m n : ℕ) → IsSettled d x m n
         → own d m (core_reply d y m) n ≡ own d m (core_reply d x m) n }
@@ -78,14 +86,15 @@ pub fn found_by_counts<S>()
 /// edit alone makes outcomes assumed. A verified outcome is that of a step which the history does before the limit.
 pub fn verified_outcomes<S>()
     ensures opening { (d : Design S) → AllVerified (opening_core d) }
-    ensures kept { (d : Design S) (h : Trace S) → IsDesign d → IsHistory d h → (limit : ℕ) (x : Core S) → IsAgreed d h limit x → AllVerified x
-        → (actions : List Action) (y : Core S) → ActsAll d limit x actions y → AllVerified y }
+    ensures kept { (d : Design S) (h : Trace S) → IsDesign d → IsHistory d h → (limit : ℕ) (x : Core S) → IsAgreed d h limit x
+        → AllVerified x → (actions : List Action) (y : Core S) → ActsAll d limit x actions y → AllVerified y }
     ensures never_differs { (d : Design S) (x : Core S) → AllVerified x → (m c : ℕ) → x.verified m (x.timed m) ≡ false
         → candidate d (view d x) m ≡ Some c → IsSame d x m c }
-    ensures happens { (d : Design S) (h : Trace S) (limit : ℕ) (x : Core S) → IsAgreed d h limit x → (m k : ℕ) → k < x.emitted m → x.verified m k ≡ true
-        → has_query (core_accesses d x m k) ≡ true → HappensBefore d h limit m k }
+    ensures happens { (d : Design S) (h : Trace S) (limit : ℕ) (x : Core S) → IsAgreed d h limit x → (m k : ℕ) → k < x.emitted m
+        → x.verified m k ≡ true → has_query (core_accesses d x m k) ≡ true → HappensBefore d h limit m k }
     ensures found { (d : Design S) (h : Trace S) (limit : ℕ) (x : Core S) → IsAgreed d h limit x → (m c : ℕ) → x.timed m < x.emitted m
-        → x.verified m (x.timed m) ≡ true → IsStepAt d h m (x.timed m) c → x.flags m (x.timed m) ≡ possible_all d h c (core_accesses d x m (x.timed m)) }
+        → x.verified m (x.timed m) ≡ true → IsStepAt d h m (x.timed m) c
+        → x.flags m (x.timed m) ≡ possible_all d h c (core_accesses d x m (x.timed m)) }
 {}
 
 /// A final core has each step of the history below the limit. Where none of its steps is determined, nobody moves from the
@@ -113,7 +122,7 @@ pub fn final_reports<S>()
         → (m k : ℕ) → k < x.timed m → x.cycle m k < stop d x m }
     ensures outputs { (d : Design S) (h : Trace S) → IsDesign d → IsHistory d h → (limit : ℕ) (x : Core S) → IsAgreed d h limit x
         → (ch c : ℕ) → done d h (d.owner Push ch) c ≡ x.timed (d.owner Push ch)
-        → h.pushed c ch ≡ d.inputs ch ++ pushed_in ch (core_accesses d x (d.owner Push ch)) (λ k. bare_replies (x.flags (d.owner Push ch) k)) (x.timed (d.owner Push ch)) }
+        → h.pushed c ch ≡ d.inputs ch ++ core_pushed d x (d.owner Push ch) ch (x.timed (d.owner Push ch)) }
     ensures held { (d : Design S) (h : Trace S) → IsDesign d → IsHistory d h → (limit : ℕ) (x : Core S) → IsAgreed d h limit x
         → IsFinal d limit x → IsUndetermined d x → (m c : ℕ) → x.timed m < x.emitted m → stop d x m ≤ c
         → (h.state c m ≡ x.state m (x.timed m))
@@ -123,10 +132,11 @@ pub fn final_reports<S>()
 /// The first touched clock is the least in which the FIFO holds as many elements as the lesser of both depths, by a final core's
 /// cycles. Up to it, and up to the limit where there is none, it holds fewer; and at the limit no cycle is forgotten.
 pub fn first_touched<S>()
-    ensures below { (d : Design S) (h : Trace S) → IsDesign d → IsHistory d h → (limit : ℕ) (x : Core S) → IsAgreed d h limit x → IsFinal d limit x
-        → (fifo depth t : ℕ) → t ≤ limit → 0 < d.start Push fifo → 0 < depth
+    ensures below { (d : Design S) (h : Trace S) → IsDesign d → IsHistory d h → (limit : ℕ) (x : Core S) → IsAgreed d h limit x
+        → IsFinal d limit x → (fifo depth t : ℕ) → t ≤ limit → 0 < d.start Push fifo → 0 < depth
         → ((c : ℕ) → c < t → held_by_cycles d x fifo c ≡ min (d.start Push fifo) depth → ⊥) → IsUntouchedByCycles d x fifo depth t }
-    ensures none { (d : Design S) (h : Trace S) (limit : ℕ) (x : Core S) → IsAgreed d h limit x → (m : ℕ) → kept (x.cycle m) limit (x.timed m) ≡ x.timed m }
+    ensures none { (d : Design S) (h : Trace S) (limit : ℕ) (x : Core S) → IsAgreed d h limit x → (m : ℕ)
+        → kept (x.cycle m) limit (x.timed m) ≡ x.timed m }
 {}
 
 /// A final core that is cut back to the cycles below the first touched clock agrees with the edited design. `g` is a history of that one.
@@ -134,8 +144,8 @@ pub fn first_touched<S>()
 pub fn edited_cores<S>()
     ensures same_depth { (d : Design S) (fifo : ℕ) → edited d fifo (d.start Push fifo) ≡ d }
     ensures design { (d : Design S) → IsDesign d → (fifo depth : ℕ) → IsDesign (edited d fifo depth) }
-    ensures cut { (d : Design S) (h : Trace S) → IsDesign d → IsHistory d h → ((ch : ℕ) → d.lag Push ch ≡ 1) → (limit : ℕ) (x : Core S) → IsAgreed d h limit x
-        → IsFinal d limit x → (fifo depth t : ℕ) → t ≤ limit → IsUntouchedByCycles d x fifo depth t
+    ensures cut { (d : Design S) (h : Trace S) → IsDesign d → IsHistory d h → ((ch : ℕ) → d.lag Push ch ≡ 1) → (limit : ℕ) (x : Core S)
+        → IsAgreed d h limit x → IsFinal d limit x → (fifo depth t : ℕ) → t ≤ limit → IsUntouchedByCycles d x fifo depth t
         → (g : Trace S) → IsHistory (edited d fifo depth) g → IsAgreed (edited d fifo depth) g limit (after_edit d x t) }
 {}
 
@@ -144,8 +154,10 @@ pub fn edited_cores<S>()
 pub fn cycles_given<S>()
     ensures given { (d : Design S) (limit : ℕ) (x : Core S) (actions : List Action) (y : Core S) → ActsAll d limit x actions y
         → (m : ℕ) → assigns m actions + x.timed m ≡ y.timed m }
-    ensures edited { (d : Design S) (h : Trace S) → IsDesign d → IsHistory d h → ((ch : ℕ) → d.lag Push ch ≡ 1) → (limit : ℕ) (x : Core S) → IsAgreed d h limit x
-        → IsFinal d limit x → (fifo depth t : ℕ) → t ≤ limit → IsUntouchedByCycles d x fifo depth t → (g : Trace S) → IsHistory (edited d fifo depth) g
+    ensures edited { (d : Design S) (h : Trace S) → IsDesign d → IsHistory d h → ((ch : ℕ) → d.lag Push ch ≡ 1)
+        → (limit : ℕ) (x : Core S) → IsAgreed d h limit x
+        → IsFinal d limit x → (fifo depth t : ℕ) → t ≤ limit → IsUntouchedByCycles d x fifo depth t → (g : Trace S)
+        → IsHistory (edited d fifo depth) g
         → (actions : List Action) (y : Core S) → ActsAll (edited d fifo depth) limit (after_edit d x t) actions y → (m : ℕ)
         → assigns m actions ≤ (x.emitted m - x.timed m) + (x.timed m - kept (x.cycle m) t (x.timed m)) + (y.emitted m - x.emitted m) }
 {}
@@ -166,23 +178,27 @@ pub fn running_ahead<S>()
     ensures several { (d : Design S) (h : Trace S) → IsDesign d → IsHistory d h → (limit : ℕ) (x : Core S) → IsAgreed d h limit x
         → (m n : ℕ) (y : Core S) → ActsAll d limit x (runs n m) y → (actions : List Action) → IsNoRunOf m actions → (z : Core S)
         → ActsAll d limit x actions z → (w : Core S) × ActsAll d limit z (runs n m) w × GrowsBeside d y w m }
-    ensures one { (d : Design S) (h : Trace S) → IsDesign d → IsHistory d h → (limit : ℕ) (x : Core S) → IsAgreed d h limit x → (m : ℕ) → MayRun d x m
-        → (actions : List Action) → IsNoRunOf m actions → (y : Core S) → ActsAll d limit x actions y → MayRun d y m × (newest d y m ≡ newest d x m) }
+    ensures one { (d : Design S) (h : Trace S) → IsDesign d → IsHistory d h → (limit : ℕ) (x : Core S) → IsAgreed d h limit x → (m : ℕ)
+        → MayRun d x m → (actions : List Action) → IsNoRunOf m actions → (y : Core S) → ActsAll d limit x actions y
+        → MayRun d y m × (newest d y m ≡ newest d x m) }
 {}
 
 /// An edit permits no Run, and neither do actions that meet only queries whose outcomes are recorded and found again.
 pub fn recorded_outcomes<S>()
     ensures edited { (d : Design S) (x : Core S) (fifo depth t m : ℕ) → MayRun (edited d fifo depth) (after_edit d x t) m → MayRun d x m }
     ensures kept { (d : Design S) (h : Trace S) → IsDesign d → IsHistory d h → (limit : ℕ) (x : Core S) → IsAgreed d h limit x
-        → ((m : ℕ) → MayRun d x m → ⊥) → (actions : List Action) (y : Core S) → ActsRecorded d limit x actions y → (m : ℕ) → MayRun d y m → ⊥ }
+        → ((m : ℕ) → MayRun d x m → ⊥) → (actions : List Action) (y : Core S) → ActsRecorded d limit x actions y → (m : ℕ)
+        → MayRun d y m → ⊥ }
 {}
 
 /// The tests decide: each is true exactly where its action is permitted. Those that ask all modules want a core that has emitted
 /// steps of the design's modules alone.
 pub fn tests_decide<S>()
     ensures run { (d : Design S) (x : Core S) (m : ℕ) → (may_run d x m ≡ true) ↔ MayRun d x m }
-    ensures assign { (d : Design S) (limit : ℕ) (x : Core S) (m : ℕ) → (may_assign d limit x m ≡ true) ↔ ((c : ℕ) × MayAssign d limit x m c) }
-    ensures answer { (d : Design S) (limit : ℕ) (x : Core S) (m : ℕ) → (may_answer d limit x m ≡ true) ↔ ((c : ℕ) × MayAnswer d limit x m c) }
+    ensures assign { (d : Design S) (limit : ℕ) (x : Core S) (m : ℕ)
+        → (may_assign d limit x m ≡ true) ↔ ((c : ℕ) × MayAssign d limit x m c) }
+    ensures answer { (d : Design S) (limit : ℕ) (x : Core S) (m : ℕ)
+        → (may_answer d limit x m ≡ true) ↔ ((c : ℕ) × MayAnswer d limit x m c) }
     ensures open_step { (d : Design S) (limit : ℕ) (x : Core S) (m : ℕ) → (is_open d limit x m ≡ true) ↔ ((c : ℕ) × IsOpen d limit x m c) }
     ensures quiet { (d : Design S) (limit : ℕ) (x : Core S) → IsInside d x → (is_quiet d limit x ≡ true) ↔ IsQuiet d limit x }
     ensures earliest { (d : Design S) (limit : ℕ) (x : Core S) → IsInside d x → (m : ℕ)

@@ -4,7 +4,7 @@ use Rattle.std.specs.List.{enumerate_from, flat_map}
 use Rattle.std.proofs.lemmas.List.{append-nil, length-map, get_or-map, get_or_push, map-append}
 use Rattle.std.proofs.lemmas.List.Elements.{filter-append}
 use Rattle.std.proofs.lemmas.List.FromFn.{get_or-enumerate_from, length-enumerate_from}
-use Rattle.std.proofs.lemmas.Bool.{ne_eqb, eq-eqb}
+use Rattle.std.proofs.lemmas.Bool.{ne_eqb, eq-eqb, or_parts, leb-false}
 use Rattle.std.proofs.Math.ListN.{get_or-append}
 use Rattle.flow_design.specs.declared.plan.Plan.{Plan}
 use Rattle.flow_design.specs.declared.state.Element.{Element}
@@ -12,7 +12,7 @@ use Rattle.flow_design.specs.declared.state.ClockState.{ClockState}
 use Rattle.flow_design.specs.declared.state.ModuleState.{ModuleState}
 use Rattle.flow_design.specs.declared.state.Request.{Request}
 use Rattle.flow_design.specs.declared.state.Reply.{Reply}
-use Rattle.lockstep_defs.specs.Machine.{requests, move, opened, is_over, nobody}
+use Rattle.lockstep_defs.specs.Machine.{requests, move, opened, is_spent, is_over, nobody}
 use Rattle.lockstep_defs.specs.Channels.{HistoryStep, Exchange, reply}
 use Rattle.lockstep_defs.specs.Lockstep.{no_module, module_at, numbered, requests_of, moves, next_state, answered, step_with, step_of, steps_in, clock_step, opening, moment, state, history, state_at}
 use Rattle.lockstep_defs.specs.Report.{steps_of}
@@ -22,7 +22,8 @@ use Rattle.lockstep_defs.proofs.Settled.{state-suc, history-suc}
 
 -- ---- the own run looks at no more replies than it has made steps
 
-length_own_after : (p : Plan) (i : ℕ) (o : Own) (rs : List Request) (qs : List Reply) → length o.steps ≤ length (own_after (module_at p i) o rs qs).steps
+length_own_after : (p : Plan) (i : ℕ) (o : Own) (rs : List Request) (qs : List Reply)
+    → length o.steps ≤ length (own_after (module_at p i) o rs qs).steps
 length_own_after p i o [] qs = omega arith
 length_own_after p i o (r ∷ rs) qs = omega (arith, length-append {A = OwnStep})
 
@@ -30,7 +31,7 @@ length_own_after p i o (r ∷ rs) qs = omega (arith, length-append {A = OwnStep}
 abbrev goes_on : Plan → ℕ → List (List Reply) → Own → Own
 goes_on p i qss o = own_after (module_at p i) o (requests p.design.channels (module_at p i) o.state) (get_or qss (length o.steps) [])
 
-next_grows : (p : Plan) (i : ℕ) (qss : List (List Reply)) (o : Own) → length o.steps ≤ length (own_next p i qss o).steps
+pub next_grows : (p : Plan) (i : ℕ) (qss : List (List Reply)) (o : Own) → length o.steps ≤ length (own_next p i qss o).steps
 unfolding own_next
 next_grows p i qss o = grows (is_over p.ops o.state)
   where
@@ -46,7 +47,8 @@ after_same : (p : Plan) (i : ℕ) (qss rss : List (List Reply)) (o : Own) (rs : 
     → own_after (module_at p i) o rs (get_or qss (length o.steps) []) ≡ own_after (module_at p i) o rs (get_or rss (length o.steps) [])
 after_same p i qss rss o [] h = refl
 after_same p i qss rss o (r ∷ rs) h =
-    let below : length o.steps < length (o.steps ++ record { gap = o.since; requests = r ∷ rs; replies = get_or qss (length o.steps) [] } ∷ []) =
+    let below : length o.steps < length
+    (o.steps ++ record { gap = o.since; requests = r ∷ rs; replies = get_or qss (length o.steps) [] } ∷ []) =
     omega (arith, length-append {A = OwnStep}) in
     ap (own_after (module_at p i) o (r ∷ rs)) (h (length o.steps) below)
 
@@ -55,11 +57,13 @@ next_same : (p : Plan) (i : ℕ) (qss rss : List (List Reply)) (o : Own) → Sam
 unfolding own_next
 next_same p i qss rss o = same (is_over p.ops o.state)
   where
-    same : (b : Bool) → SameBelow qss rss (length (cond b o (goes_on p i qss o)).steps) → cond b o (goes_on p i qss o) ≡ cond b o (goes_on p i rss o)
+    same : (b : Bool) → SameBelow qss rss (length (cond b o (goes_on p i qss o)).steps)
+        → cond b o (goes_on p i qss o) ≡ cond b o (goes_on p i rss o)
     same true h = refl
     same false h = after_same p i qss rss o (requests p.design.channels (module_at p i) o.state) h
 
-pub own_same : (p : Plan) (i : ℕ) (qss rss : List (List Reply)) (n : ℕ) → SameBelow qss rss (length (own p i qss n).steps) → own p i qss n ≡ own p i rss n
+pub own_same : (p : Plan) (i : ℕ) (qss rss : List (List Reply)) (n : ℕ) → SameBelow qss rss (length (own p i qss n).steps)
+    → own p i qss n ≡ own p i rss n
 unfolding own
 own_same p i qss rss zero h = refl
 own_same p i qss rss (suc n) h =
@@ -83,7 +87,8 @@ of_other p c contents i m false h = refl
 of_other p c contents i m true h = own_of_other c i m.0 (map (answered p c contents) (requests_of p m)) h
 
 of_self : (p : Plan) (c : ℕ) (contents : List (List Element)) (i : ℕ) (s : ModuleState) (b : Bool)
-    → steps_of i (cond b (step_with c i (map (answered p c contents) (requests_of p (i, s)))) []) ≡ cond b (step_with c i (map (answered p c contents) (requests_of p (i, s)))) []
+    → steps_of i (cond b (step_with c i (map (answered p c contents) (requests_of p (i, s)))) [])
+    ≡ cond b (step_with c i (map (answered p c contents) (requests_of p (i, s)))) []
 of_self p c contents i s false = refl
 of_self p c contents i s true = own_of_self c i (map (answered p c contents) (requests_of p (i, s))) (eq-eqb i i refl)
 
@@ -95,13 +100,15 @@ none_of p c contents i n (s ∷ ss) h =
     let rest = none_of p c contents i (n + 1) ss (omega arith) in
     rw (filter-append, of_other p c contents i (n, s) (moves p c contents (n, s)) (ne_eqb n i other), rest)
 
-picked : (p : Plan) (c : ℕ) (contents : List (List Element)) (n k i : ℕ) (d : ModuleState) (ss : List ModuleState) → i ≡ n + k → k < length ss
+picked : (p : Plan) (c : ℕ) (contents : List (List Element)) (n k i : ℕ) (d : ModuleState) (ss : List ModuleState) → i ≡ n + k
+    → k < length ss
     → steps_of i (flat_map (step_of p c contents) (enumerate_from n ss)) ≡ step_of p c contents (i, get_or ss k d)
 picked p c contents n k i d [] e h = absurd (omega arith)
 picked p c contents n zero i d (s ∷ ss) e h =
     let here : n ≡ i = omega arith in
     rw here
-    (rw (filter-append, none_of p c contents i (i + 1) ss (omega arith), of_self p c contents i s (moves p c contents (i, s))) (append-nil _))
+    (rw (filter-append, none_of p c contents i (i + 1) ss (omega arith), of_self p c contents i s (moves p c contents (i, s)))
+    (append-nil _))
 picked p c contents n (suc k) i d (s ∷ ss) e h =
     let other : n ≢ i = omega arith in
     let rest = picked p c contents (n + 1) k i d ss (omega arith) (omega arith) in
@@ -134,7 +141,8 @@ pub state_at-zero : (p : Plan) (i : ℕ) → i < length p.design.modules → sta
 unfolding moment opening
 state_at-zero p i h = get_or-map opened p.design.modules i no_module nobody h
 
-pub state_at-suc : (p : Plan) (c i : ℕ) → i < length p.design.modules → state_at p (suc c) i ≡ next_state p c (state p c).contents (i, state_at p c i)
+pub state_at-suc : (p : Plan) (c i : ℕ) → i < length p.design.modules
+    → state_at p (suc c) i ≡ next_state p c (state p c).contents (i, state_at p c i)
 state_at-suc p c i h =
     let inside : i < length (state p c).modules = omega (arith, all_modules p c) in
     rw state-suc (modules-step p c (state p c) i nobody inside)
@@ -145,7 +153,8 @@ unfolding steps_in
 steps_of-suc p c i h =
     let inside : i < length (state p c).modules = omega (arith, all_modules p c) in
     rw (history-suc, filter-append)
-    (ap (λ (l : List HistoryStep). steps_of i (history p c) ++ l) (picked p c (state p c).contents 0 i i nobody (state p c).modules (sym (zero-add i)) inside))
+    (ap (λ (l : List HistoryStep). steps_of i (history p c) ++ l)
+    (picked p c (state p c).contents 0 i i nobody (state p c).modules (sym (zero-add i)) inside))
 
 -- ---- one local clock of both
 
@@ -154,11 +163,13 @@ pub record Agrees (o : Own) (s : ModuleState) (steps : List HistoryStep) : Type 
   pub state_is : o.state ≡ s
   pub steps_are : exchanges_in o.steps ≡ map (λ t. t.exchanges) steps
 
-replies_of_answered : (p : Plan) (c : ℕ) (contents : List (List Element)) (rs : List Request) → map (λ x. x.reply) (map (answered p c contents) rs) ≡ map (reply p c contents) rs
+replies_of_answered : (p : Plan) (c : ℕ) (contents : List (List Element)) (rs : List Request)
+    → map (λ x. x.reply) (map (answered p c contents) rs) ≡ map (reply p c contents) rs
 replies_of_answered p c contents [] = refl
 replies_of_answered p c contents (r ∷ rs) = ap (λ (l : List Reply). reply p c contents r ∷ l) (replies_of_answered p c contents rs)
 
-paired_answered : (p : Plan) (c : ℕ) (contents : List (List Element)) (rs : List Request) → paired rs (map (reply p c contents) rs) ≡ map (answered p c contents) rs
+pub paired_answered : (p : Plan) (c : ℕ) (contents : List (List Element)) (rs : List Request)
+    → paired rs (map (reply p c contents) rs) ≡ map (answered p c contents) rs
 paired_answered p c contents [] = refl
 paired_answered p c contents (r ∷ rs) = ap (λ (l : List Exchange). answered p c contents r ∷ l) (paired_answered p c contents rs)
 
@@ -168,15 +179,19 @@ lengths_agree o s steps h =
     ∙ (ap length h.steps_are ∙ (length-map steps (λ t. t.exchanges) ∙ sym (length-map steps (λ t. map (λ x. x.reply) t.exchanges))))
 
 -- the replies to the step that comes next
-next_replies : (p : Plan) (c i : ℕ) (contents : List (List Element)) (o : Own) (s : ModuleState) (steps : List HistoryStep) (r : Request) (rs : List Request)
+next_replies : (p : Plan) (c i : ℕ) (contents : List (List Element)) (o : Own) (s : ModuleState) (steps : List HistoryStep) (r : Request)
+    (rs : List Request)
     → Agrees o s steps
-    → get_or (replies_in (steps ++ step_with c i (map (answered p c contents) (r ∷ rs)))) (length o.steps) [] ≡ map (reply p c contents) (r ∷ rs)
+    → get_or (replies_in (steps ++ step_with c i (map (answered p c contents) (r ∷ rs)))) (length o.steps) []
+    ≡ map (reply p c contents) (r ∷ rs)
 next_replies p c i contents o s steps r rs h =
     rw (map-append, lengths_agree o s steps h)
     (get_or_push (replies_in steps) _ [] (length (replies_in steps)) refl ∙ replies_of_answered p c contents (r ∷ rs))
 
-agrees_after : (p : Plan) (c i : ℕ) (contents : List (List Element)) (o : Own) (s : ModuleState) (steps : List HistoryStep) (rs : List Request) → Agrees o s steps
-    → Agrees (own_after (module_at p i) o rs (get_or (replies_in (steps ++ step_with c i (map (answered p c contents) rs))) (length o.steps) []))
+agrees_after : (p : Plan) (c i : ℕ) (contents : List (List Element)) (o : Own) (s : ModuleState) (steps : List HistoryStep)
+    (rs : List Request) → Agrees o s steps
+    → Agrees (own_after (module_at p i) o rs
+    (get_or (replies_in (steps ++ step_with c i (map (answered p c contents) rs))) (length o.steps) []))
     (move (module_at p i) s (map (reply p c contents) rs)) (steps ++ step_with c i (map (answered p c contents) rs))
 agrees_after p c i contents o s steps [] h = rw (append-nil steps) (record {
   state_is = ap (λ (t : ModuleState). move (module_at p i) t []) h.state_is;
@@ -192,7 +207,8 @@ agrees_after p c i contents o s steps (r ∷ rs) h =
 
 -- ---- the whole history
 
-own_first : (p : Plan) (i : ℕ) (qss : List (List Reply)) (s : ModuleState) (steps : List HistoryStep) → opened (module_at p i) ≡ s → steps ≡ []
+own_first : (p : Plan) (i : ℕ) (qss : List (List Reply)) (s : ModuleState) (steps : List HistoryStep) → opened (module_at p i) ≡ s
+    → steps ≡ []
     → Agrees (own p i qss 0) s steps
 unfolding own
 own_first p i qss s steps e none = rw (← e, none) (record { state_is = refl; steps_are = refl })
@@ -209,8 +225,20 @@ next_on : (p : Plan) (i : ℕ) (qss : List (List Reply)) (o : Own) → is_over p
 unfolding own_next
 next_on p i qss o e = ap (λ (b : Bool). cond b o (goes_on p i qss o)) e
 
+-- a module that is not over
+pub not_ended : (limit : ℕ) (s : ModuleState) → is_over limit s ≡ false → s.ended ≡ false
+unfolding is_over
+not_ended limit s h = (or_parts s.ended (is_spent limit s) h).0
+
+pub below_limit : (limit : ℕ) (s : ModuleState) → is_over limit s ≡ false → s.count < limit
+unfolding is_over
+below_limit limit s h =
+    let parts = or_parts s.ended (is_spent limit s) h in
+    leb-false limit s.count (rw parts.0 at parts.1)
+
 -- a module that moves is not over
-pub is_on : (p : Plan) (c : ℕ) (contents : List (List Element)) (m : ℕ × ModuleState) → moves p c contents m ≡ true → is_over p.ops m.1 ≡ false
+pub is_on : (p : Plan) (c : ℕ) (contents : List (List Element)) (m : ℕ × ModuleState) → moves p c contents m ≡ true
+    → is_over p.ops m.1 ≡ false
 unfolding moves
 is_on p c contents m h = by_tests (is_over p.ops m.1) _ h
   where
@@ -218,12 +246,15 @@ is_on p c contents m h = by_tests (is_over p.ops m.1) _ h
     by_tests true b e = cc
     by_tests false b e = refl
 
-longer : (steps now : List HistoryStep) (k : ℕ) → k < length (replies_in steps) → get_or (replies_in steps) k [] ≡ get_or (replies_in (steps ++ now)) k []
+longer : (steps now : List HistoryStep) (k : ℕ) → k < length (replies_in steps)
+    → get_or (replies_in steps) k [] ≡ get_or (replies_in (steps ++ now)) k []
 longer steps now k l = rw map-append (sym (get_or-append (replies_in steps) (replies_in now) [] k l))
 
-one_more : (p : Plan) (c i : ℕ) (contents : List (List Element)) (n : ℕ) (s : ModuleState) (steps : List HistoryStep) (b : Bool) → moves p c contents (i, s) ≡ b
+one_more : (p : Plan) (c i : ℕ) (contents : List (List Element)) (n : ℕ) (s : ModuleState) (steps : List HistoryStep) (b : Bool)
+    → moves p c contents (i, s) ≡ b
     → Agrees (own p i (replies_in steps) n) s steps
-    → Agrees (own p i (replies_in (steps ++ cond b (step_with c i (map (answered p c contents) (requests_of p (i, s)))) [])) (cond b (suc n) n))
+    → Agrees (own p i (replies_in (steps ++ cond b (step_with c i (map (answered p c contents) (requests_of p (i, s)))) []))
+    (cond b (suc n) n))
     (cond b (move (module_at p i) s (map (reply p c contents) (requests_of p (i, s)))) s)
     (steps ++ cond b (step_with c i (map (answered p c contents) (requests_of p (i, s)))) [])
 one_more p c i contents n s steps false e h = rw (append-nil steps) h
@@ -235,14 +266,16 @@ one_more p c i contents n s steps true e h =
     let o = own p i qss n in
     let also : Agrees o s steps = subst (λ (x : Own). Agrees x s steps) same h in
     let on : is_over p.ops o.state ≡ false = ap (is_over p.ops) also.state_is ∙ is_on p c contents (i, s) e in
-    let same_requests = ap (λ (t : ModuleState). own_after (module_at p i) o (requests p.design.channels (module_at p i) t) (get_or qss (length o.steps) [])) also.state_is in
+    let same_requests = ap (λ (t : ModuleState). own_after (module_at p i) o (requests p.design.channels (module_at p i) t)
+    (get_or qss (length o.steps) [])) also.state_is in
     rw (own_suc p i qss n ∙ (next_on p i qss o on ∙ same_requests))
     (agrees_after p c i contents o s steps (requests_of p (i, s)) also)
 
 agrees : (p : Plan) (i : ℕ) → i < length p.design.modules → (c : ℕ) → Agrees (own_at p i c) (state_at p c i) (steps_of i (history p c))
 unfolding clocks_made
 agrees p i h zero =
-    own_first p i (replies_in (steps_of i (history p 0))) (state_at p 0 i) (steps_of i (history p 0)) (sym (state_at-zero p i h)) (first_steps p i)
+    own_first p i (replies_in (steps_of i (history p 0))) (state_at p 0 i) (steps_of i (history p 0)) (sym (state_at-zero p i h))
+    (first_steps p i)
 agrees p i h (suc c) =
     rw (steps_of-suc p c i h, state_at-suc p c i h)
     (one_more p c i (state p c).contents (clocks_made p i c) (state_at p c i) (steps_of i (history p c))

@@ -35,10 +35,12 @@ no_entries Sink inputs depth h e = cc
 no_entries (Fifo declared delay) inputs depth h e = h.0
 
 -- a FIFO is empty
-pub fifo_opens_empty : (p : Plan) → FitsEngine p → (f : ℕ) → f < length p.design.channels → is_fifo (kind_at p f) ≡ true → contents_of (state p 0).contents f ≡ []
+pub fifo_opens_empty : (p : Plan) → FitsEngine p → (f : ℕ) → f < length p.design.channels → is_fifo (kind_at p f) ≡ true
+    → contents_of (state p 0).contents f ≡ []
 fifo_opens_empty p h f l e =
     first_contents p f l
-    ∙ ap (map (λ v. element_from 0 (cut_to (width_of p.design.channels f) v))) (no_entries (kind_at p f) (slice_index_or p.inputs f []) (slice_index p.depths f) (h.channels f l).entries e)
+    ∙ ap (map (λ v. element_from 0 (cut_to (width_of p.design.channels f) v)))
+    (no_entries (kind_at p f) (slice_index_or p.inputs f []) (slice_index p.depths f) (h.channels f l).entries e)
 
 -- ---- every element that came, with the clock from which it can be popped
 
@@ -51,13 +53,15 @@ values-append xs ys = map-append (λ (e : Element). e.value) xs ys
 
 elements_values : (p : Plan) (f c : ℕ) → values (elements p f c) ≡ all_in p c f
 unfolding elements
-elements_values p f zero = sym (ap (λ (l : List ℕ). values (contents_of (state p 0).contents f) ++ l) (ap (moved Push f) (history-zero p) ∙ moved-nil Push f) ∙ append-nil _)
+elements_values p f zero = sym (ap (λ (l : List ℕ). values (contents_of (state p 0).contents f) ++ l)
+    (ap (moved Push f) (history-zero p) ∙ moved-nil Push f) ∙ append-nil _)
 elements_values p f (suc c) =
     let now = moved Push f (steps_in p c (state p c)) in
     values-append (elements p f c) (map (element_from (c + delay_at p f)) now)
     ∙ (ap₂ (λ (x y : List ℕ). x ++ y) (elements_values p f c) (values_from (c + delay_at p f) now)
     ∙ (append_assoc (values (contents_of (state p 0).contents f)) (moved Push f (history p c)) now
-    ∙ ap (λ (l : List ℕ). values (contents_of (state p 0).contents f) ++ l) (sym (ap (moved Push f) (history-suc p c) ∙ moved-append Push f (history p c) (steps_in p c (state p c))))))
+    ∙ ap (λ (l : List ℕ). values (contents_of (state p 0).contents f) ++ l)
+    (sym (ap (moved Push f) (history-suc p c) ∙ moved-append Push f (history p c) (steps_in p c (state p c))))))
 
 elements_count : (p : Plan) (f c : ℕ) → length (elements p f c) ≡ length (all_in p c f)
 elements_count p f c = sym (length-map (elements p f c) (λ (e : Element). e.value)) ∙ ap length (elements_values p f c)
@@ -86,7 +90,8 @@ counts p k f h c =
 elements_held : (p : Plan) → KeepsPorts p → (f : ℕ) → f < length (state p 0).contents → (c : ℕ)
     → contents_of (state p c).contents f ≡ drop (length (moved Pop f (history p c))) (elements p f c)
 unfolding elements
-elements_held p k f h zero = ap (λ (l : List ℕ). drop (length l) (contents_of (state p 0).contents f)) (sym (ap (moved Pop f) (history-zero p) ∙ moved-nil Pop f))
+elements_held p k f h zero = ap (λ (l : List ℕ). drop (length l) (contents_of (state p 0).contents f))
+    (sym (ap (moved Pop f) (history-zero p) ∙ moved-nil Pop f))
 elements_held p k f h (suc c) =
     let inside : f < length (state p c).contents = omega (arith, same_channels p c) in
     let steps = steps_in p c (state p c) in
@@ -94,11 +99,13 @@ elements_held p k f h (suc c) =
     let new = map (element_from (c + delay_at p f)) (moved Push f steps) in
     let within = popped_within p k c (state p c) f in
     let popped : length (moved Pop f (history p (suc c))) ≡ length (moved Pop f (history p c)) + length (moved Pop f steps) =
-    ap length (ap (moved Pop f) (history-suc p c) ∙ moved-append Pop f (history p c) steps) ∙ length-append (moved Pop f (history p c)) (moved Pop f steps) in
+    ap length (ap (moved Pop f) (history-suc p c) ∙ moved-append Pop f (history p c) steps)
+    ∙ length-append (moved Pop f (history p c)) (moved Pop f steps) in
     ap (λ (st : ClockState). contents_of st.contents f) (state-suc p c)
     ∙ (contents-step p c (state p c) f inside
     ∙ (ap (λ (l : List Element). drop (length (moved Pop f steps)) l ++ new) before
-    ∙ (drop_more (length (moved Pop f (history p c))) (length (moved Pop f steps)) (elements p f c) new (omega (arith, within, elements_count p f c, counts p k f h c))
+    ∙ (drop_more (length (moved Pop f (history p c))) (length (moved Pop f steps)) (elements p f c) new
+    (omega (arith, within, elements_count p f c, counts p k f h c))
     ∙ ap (λ (n : ℕ). drop n (elements p f c ++ new)) (sym popped))))
 
 -- ---- which of them can be popped
@@ -115,12 +122,14 @@ first_since p f t l = subst (AllByRecursion (λ e. e.since ≤ t)) (sym (first_c
     by_inputs (v ∷ vs) = (omega arith, by_inputs vs)
 
 -- those that came as many clocks ago as the delay
-early : (p : Plan) (f t : ℕ) → f < length p.design.channels → (b : ℕ) → b + delay_at p f ≤ suc t ⊎ (b ≡ 0) → AllByRecursion (λ e. e.since ≤ t) (elements p f b)
+early : (p : Plan) (f t : ℕ) → f < length p.design.channels → (b : ℕ) → b + delay_at p f ≤ suc t ⊎ (b ≡ 0)
+    → AllByRecursion (λ e. e.since ≤ t) (elements p f b)
 unfolding elements
 early p f t l zero h = first_since p f t l
 early p f t l (suc b) (inr h) = absurd (omega arith)
 early p f t l (suc b) (inl h) =
-    all-append (λ (e : Element). e.since ≤ t) (elements p f b) (map (element_from (b + delay_at p f)) (moved Push f (steps_in p b (state p b))))
+    all-append (λ (e : Element). e.since ≤ t) (elements p f b)
+    (map (element_from (b + delay_at p f)) (moved Push f (steps_in p b (state p b))))
     (early p f t l b (inl (omega arith)))
     (all-from (b + delay_at p f) (λ (e : Element). e.since ≤ t) (moved Push f (steps_in p b (state p b))) (λ v. omega arith))
 
@@ -134,7 +143,9 @@ late p f t b h (suc k) =
     let new = map (element_from ((k + b) + delay_at p f)) (moved Push f (steps_in p (k + b) (state p (k + b)))) in (
       rest ++ new,
       ap (elements p f) (suc-add k b) ∙ (ap (λ (l : List Element). l ++ new) is ∙ append_assoc (elements p f b) rest new),
-      all-append (λ (e : Element). t < e.since) rest new all (all-from ((k + b) + delay_at p f) (λ (e : Element). t < e.since) (moved Push f (steps_in p (k + b) (state p (k + b)))) (λ v. omega arith)),
+      all-append (λ (e : Element). t < e.since) rest new all
+          (all-from ((k + b) + delay_at p f) (λ (e : Element). t < e.since) (moved Push f (steps_in p (k + b) (state p (k + b))))
+          (λ v. omega arith)),
     )
 
 late_none : (t n : ℕ) (ys : List Element) → AllByRecursion (λ e. t < e.since) ys → not (is_empty t (drop n ys)) ≡ false
@@ -166,7 +177,8 @@ pub delay_positive : (p : Plan) → FitsEngine p → (f : ℕ) → f < length p.
 delay_positive p h f l = some_delay (kind_at p f) (slice_index_or p.inputs f []) (slice_index p.depths f) (h.channels f l).entries
 
 pops_counted : (p : Plan) → FitsEngine p → (c f : ℕ) → f < length p.design.channels
-    → not (is_empty c (contents_of (state p c).contents f)) ≡ nat_lt (length (moved Pop f (history p c))) (length (all_in p (suc c - delay_at p f) f))
+    → not (is_empty c (contents_of (state p c).contents f))
+    ≡ nat_lt (length (moved Pop f (history p c))) (length (all_in p (suc c - delay_at p f) f))
 pops_counted p h c f l =
     let some = delay_positive p h f l in
     let b = suc c - delay_at p f in
@@ -181,7 +193,8 @@ pops_counted p h c f l =
     early_enough : (a d : ℕ) → ((a - d) + d ≤ a) ⊎ (a - d ≡ 0)
     early_enough a d = elim (cases_lt a d) [ inl l ↦ inr (omega arith) | inr l ↦ inl (omega arith) ]
 
-place_free : (t : Bool) (depth held popped pushed : ℕ) → t ≡ true → pushed ≡ popped + held → not (t && nat_le depth held) ≡ nat_lt pushed (depth + popped)
+place_free : (t : Bool) (depth held popped pushed : ℕ) → t ≡ true → pushed ≡ popped + held
+    → not (t && nat_le depth held) ≡ nat_lt pushed (depth + popped)
 place_free false depth held popped pushed h e = cc
 place_free true depth held popped pushed h e = by_test (nat_le depth held) refl
   where
@@ -199,9 +212,11 @@ is_counted p h c f l =
     record {
       pops = pops_counted p h c f l;
       pushes = λ fifo.
-          let empty : length (values (contents_of (state p 0).contents f)) ≡ 0 = ap (λ (held : List Element). length (values held)) (fifo_opens_empty p h f l fifo) in
+          let empty : length (values (contents_of (state p 0).contents f))
+          ≡ 0 = ap (λ (held : List Element). length (values held)) (fifo_opens_empty p h f l fifo) in
           let all = length-append (values (contents_of (state p 0).contents f)) (moved Push f (history p c)) in
-          place_free (is_fifo (kind_at p f)) (slice_index p.depths f) (length (contents_of (state p c).contents f)) (length (moved Pop f (history p c)))
+          place_free (is_fifo (kind_at p f)) (slice_index p.depths f) (length (contents_of (state p c).contents f))
+          (length (moved Pop f (history p c)))
           (length (moved Push f (history p c))) fifo (omega arith);
       unlimited = always_free (is_fifo (kind_at p f)) _;
     }

@@ -51,22 +51,27 @@ counted is b a k [] h = refl
 counted is b a k (t ∷ ts) h =
     let here : operation_at b k ≡ t = subst (λ (n : ℕ). operation_at b n ≡ t) (add-zero k) (h 0 (omega arith)) in
     let rest : numbered is b (map (λ t. t.0) (filter (λ t. (t.1).offset == a) (enumerate_from (k + 1) ts))) ≡ at_age is a ts =
-    counted is b a (k + 1) ts (λ j l. subst (λ (n : ℕ). operation_at b n ≡ get_or ts j no_operation) (omega arith) (h (suc j) (omega arith))) in
+    counted is b a (k + 1) ts (λ j l. subst (λ (n : ℕ). operation_at b n ≡ get_or ts j no_operation) (omega arith)
+    (h (suc j) (omega arith))) in
     by_test (t.offset == a) here rest
   where
     by_test : (e : Bool) → operation_at b k ≡ t
         → numbered is b (map (λ t. t.0) (filter (λ t. (t.1).offset == a) (enumerate_from (k + 1) ts))) ≡ at_age is a ts
-        → numbered is b (map (λ t. t.0) (cond e ((k, t) ∷ filter (λ t. (t.1).offset == a) (enumerate_from (k + 1) ts)) (filter (λ t. (t.1).offset == a) (enumerate_from (k + 1) ts))))
+        → numbered is b (map (λ t. t.0)
+        (cond e ((k, t) ∷ filter (λ t. (t.1).offset == a) (enumerate_from (k + 1) ts))
+        (filter (λ t. (t.1).offset == a) (enumerate_from (k + 1) ts))))
         ≡ cond (is t.op && e) 1 0 + at_age is a ts
     by_test true here rest = same (is t.op) refl
       where
         same : (q : Bool) → is t.op ≡ q
-            → cond (is (operation_at b k).op) 1 0 + numbered is b (map (λ t. t.0) (filter (λ t. (t.1).offset == a) (enumerate_from (k + 1) ts))) ≡ cond (q && true) 1 0 + at_age is a ts
+            → cond (is (operation_at b k).op) 1 0 + numbered is b
+            (map (λ t. t.0) (filter (λ t. (t.1).offset == a) (enumerate_from (k + 1) ts))) ≡ cond (q && true) 1 0 + at_age is a ts
         same true e = rw (here, e, rest)
         same false e = rw (here, e, rest)
     by_test false here rest = none (is t.op)
       where
-        none : (q : Bool) → numbered is b (map (λ t. t.0) (filter (λ t. (t.1).offset == a) (enumerate_from (k + 1) ts))) ≡ cond (q && false) 1 0 + at_age is a ts
+        none : (q : Bool) → numbered is b (map (λ t. t.0) (filter (λ t. (t.1).offset == a) (enumerate_from (k + 1) ts)))
+            ≡ cond (q && false) 1 0 + at_age is a ts
         none true = omega arith
         none false = omega arith
 
@@ -77,7 +82,8 @@ passing is b test i [] = omega arith
 passing is b test i (n ∷ ns) = by_test (test n) (passing is b test i ns)
   where
     by_test : (e : Bool) → how_many is b (map (λ n. record { iteration = i; op = n }) (filter test ns)) ≤ numbered is b ns
-        → how_many is b (map (λ n. record { iteration = i; op = n }) (cond e (n ∷ filter test ns) (filter test ns))) ≤ cond (is (operation_at b n).op) 1 0 + numbered is b ns
+        → how_many is b (map (λ n. record { iteration = i; op = n }) (cond e (n ∷ filter test ns) (filter test ns)))
+        ≤ cond (is (operation_at b n).op) 1 0 + numbered is b ns
     by_test true h = omega arith
     by_test false h = omega arith
 
@@ -114,9 +120,11 @@ no_ages true = omega arith
 no_ages false = omega arith
 
 -- counted by ages or by operations it is the same
-exchanged : (is : Op ℕ → Bool) (as' : List ℕ) (t : Timed) (ts : List Timed) → at_ages is as' (t ∷ ts) ≡ cond (is t.op) (hits t.offset as') 0 + at_ages is as' ts
+exchanged : (is : Op ℕ → Bool) (as' : List ℕ) (t : Timed) (ts : List Timed)
+    → at_ages is as' (t ∷ ts) ≡ cond (is t.op) (hits t.offset as') 0 + at_ages is as' ts
 exchanged is [] t ts = no_ages (is t.op)
-exchanged is (a ∷ as') t ts = exchange_sum (is t.op) (t.offset == a) (hits t.offset as') (at_age is a ts) (at_ages is as' ts) (at_ages is as' (t ∷ ts)) (exchanged is as' t ts)
+exchanged is (a ∷ as') t ts = exchange_sum (is t.op) (t.offset == a) (hits t.offset as') (at_age is a ts) (at_ages is as' ts)
+    (at_ages is as' (t ∷ ts)) (exchanged is as' t ts)
 
 no_operations : (is : Op ℕ → Bool) (as' : List ℕ) → at_ages is as' [] ≡ 0
 no_operations is [] = refl
@@ -135,7 +143,8 @@ hits_once : (ii a n x : ℕ) → 0 < ii → hits x (ages_down ii a n) ≤ cond (
 hits_once ii a zero x pos = omega arith
 hits_once ii a (suc n) x pos = by_test (hits_once ii a n x pos) (x == a + n * ii) refl
   where
-    by_test : hits x (ages_down ii a n) ≤ cond (x % ii == a % ii) 1 0 → (e : Bool) → (x == a + n * ii) ≡ e → cond e 1 0 + hits x (ages_down ii a n) ≤ cond (x % ii == a % ii) 1 0
+    by_test : hits x (ages_down ii a n) ≤ cond (x % ii == a % ii) 1 0 → (e : Bool) → (x == a + n * ii) ≡ e
+        → cond e 1 0 + hits x (ages_down ii a n) ≤ cond (x % ii == a % ii) 1 0
     by_test rest false e = omega arith
     by_test rest true e =
         let same : x ≡ a + n * ii = eqb-true x (a + n * ii) e in
@@ -158,11 +167,13 @@ by_residue is ii a n (t ∷ ts) pos =
     rw (exchanged is (ages_down ii a n) t ts)
     (one_operation (is t.op) (t.offset % ii == a % ii) _ _ _ (hits_once ii a n t.offset pos) (by_residue is ii a n ts pos))
 
-none_left : (is : Op ℕ → Bool) (ii x r : ℕ) (ts : List Timed) → x % ii ≡ r → AllByRecursion (λ u. (is u.op ≡ true) → x % ii ≢ u.offset % ii) ts → with_residue is ii r ts ≡ 0
+none_left : (is : Op ℕ → Bool) (ii x r : ℕ) (ts : List Timed) → x % ii ≡ r
+    → AllByRecursion (λ u. (is u.op ≡ true) → x % ii ≢ u.offset % ii) ts → with_residue is ii r ts ≡ 0
 none_left is ii x r [] e h = refl
 none_left is ii x r (u ∷ ts) e h = by_tests (is u.op) (u.offset % ii == r) refl refl (none_left is ii x r ts e h.1)
   where
-    by_tests : (c q : Bool) → is u.op ≡ c → (u.offset % ii == r) ≡ q → with_residue is ii r ts ≡ 0 → cond (c && q) 1 0 + with_residue is ii r ts ≡ 0
+    by_tests : (c q : Bool) → is u.op ≡ c → (u.offset % ii == r) ≡ q → with_residue is ii r ts ≡ 0
+        → cond (c && q) 1 0 + with_residue is ii r ts ≡ 0
     by_tests false q f g rest = omega arith
     by_tests true false f g rest = omega arith
     by_tests true true f g rest = absurd (h.0 f (e ∙ sym (eqb-true (u.offset % ii) r g)))
@@ -171,7 +182,8 @@ residue_once : (is : Op ℕ → Bool) (ii r : ℕ) (ts : List Timed) → AreApar
 residue_once is ii r [] h = omega arith
 residue_once is ii r (t ∷ ts) h = by_tests (is t.op) (t.offset % ii == r) refl refl (residue_once is ii r ts h.1)
   where
-    by_tests : (c q : Bool) → is t.op ≡ c → (t.offset % ii == r) ≡ q → with_residue is ii r ts ≤ 1 → cond (c && q) 1 0 + with_residue is ii r ts ≤ 1
+    by_tests : (c q : Bool) → is t.op ≡ c → (t.offset % ii == r) ≡ q → with_residue is ii r ts ≤ 1
+        → cond (c && q) 1 0 + with_residue is ii r ts ≤ 1
     by_tests false q f g rest = omega arith
     by_tests true false f g rest = omega arith
     by_tests true true f g rest = omega (arith, none_left is ii t.offset r ts (eqb-true (t.offset % ii) r g) (h.0 f))
@@ -179,7 +191,8 @@ residue_once is ii r (t ∷ ts) h = by_tests (is t.op) (t.offset % ii == r) refl
 -- ---- all due operations
 
 -- of operations that are apart at most one is due
-pub due_once : (is : Op ℕ → Bool) (m : Module) (s : ModuleState) → AreApart is (interval (block_of m s)) (block_of m s).ops → 0 < interval (block_of m s)
+pub due_once : (is : Op ℕ → Bool) (m : Module) (s : ModuleState) → AreApart is (interval (block_of m s)) (block_of m s).ops
+    → 0 < interval (block_of m s)
     → how_many is (block_of m s) (due m s) ≤ 1
 unfolding due ages
 due_once is m s h pos =
@@ -190,6 +203,30 @@ due_once is m s h pos =
       due_at_ages is b s 0 as',
       by_residue is (interval b) (s.control.clock - s.control.newest) (live_count b s.control) b.ops pos,
       residue_once is (interval b) ((s.control.clock - s.control.newest) % interval b) b.ops h,
+    )
+
+residue_few : (is : Op ℕ → Bool) (ii r : ℕ) (ts : List Timed) → with_residue is ii r ts ≤ length (filter (λ t. is t.op) ts)
+residue_few is ii r [] = omega arith
+residue_few is ii r (t ∷ ts) = by_tests (is t.op) (t.offset % ii == r) (residue_few is ii r ts)
+  where
+    by_tests : (c q : Bool) → with_residue is ii r ts ≤ length (filter (λ t. is t.op) ts)
+        → cond (c && q) 1 0 + with_residue is ii r ts ≤ length (cond c (t ∷ filter (λ t. is t.op) ts) (filter (λ t. is t.op) ts))
+    by_tests false q rest = omega arith
+    by_tests true false rest = omega arith
+    by_tests true true rest = omega arith
+
+-- no operation is due more than once
+pub due_few : (is : Op ℕ → Bool) (m : Module) (s : ModuleState) → 0 < interval (block_of m s)
+    → how_many is (block_of m s) (due m s) ≤ length (filter (λ t. is t.op) (block_of m s).ops)
+unfolding due ages
+due_few is m s pos =
+    let b = block_of m s in
+    let age = s.control.clock - s.control.newest in
+    omega (
+      arith,
+      due_at_ages is b s 0 (ages_down (interval b) age (live_count b s.control)),
+      by_residue is (interval b) age (live_count b s.control) b.ops pos,
+      residue_few is (interval b) (age % interval b) b.ops,
     )
 
 none_at_age : (is : Op ℕ → Bool) (a : ℕ) (ts : List Timed) → AllByRecursion (λ t. is t.op ≡ false) ts → at_age is a ts ≡ 0
@@ -205,4 +242,9 @@ pub none_due : (is : Op ℕ → Bool) (m : Module) (s : ModuleState) → AllByRe
     → how_many is (block_of m s) (due m s) ≡ 0
 unfolding due
 none_due is m s h =
-    omega (arith, due_at_ages is (block_of m s) s 0 (ages (block_of m s) s.control), none_at_ages is (ages (block_of m s) s.control) (block_of m s).ops h)
+    omega (
+      arith,
+      due_at_ages is (block_of m s) s 0 (ages (block_of m s) s.control),
+      none_at_ages is (ages (block_of m s) s.control)
+          (block_of m s).ops h,
+    )

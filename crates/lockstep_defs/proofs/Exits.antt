@@ -43,7 +43,8 @@ run_report p v st events answers =
 
 -- ---- beginning and going on
 
-outcomes-append : (i : ℕ) (steps more : List HistoryStep) → outcomes (steps_of i (steps ++ more)) ≡ outcomes (steps_of i steps) ++ outcomes (steps_of i more)
+outcomes-append : (i : ℕ) (steps more : List HistoryStep)
+    → outcomes (steps_of i (steps ++ more)) ≡ outcomes (steps_of i steps) ++ outcomes (steps_of i more)
 outcomes-append i steps more = rw filter-append (flat_map-append _ (steps_of i steps) (steps_of i more))
 
 pub first_at : (p : Plan) (st : ClockState) (answers : List (List Bool)) → st ≡ opening p → length answers ≡ length p.design.modules
@@ -90,8 +91,8 @@ next_at p c st next events events' answers answers' h moves e f grow = rw add-on
 
 -- ---- ending
 
-clock_of-settled_verdict : (p : Plan) (c : ℕ) (st : ClockState) → clock_of (settled_verdict p c st) ≡ c
-clock_of-settled_verdict p c st = by_tests _ _
+pub clock_settled : (p : Plan) (c : ℕ) (st : ClockState) → clock_of (settled_verdict p c st) ≡ c
+clock_settled p c st = by_tests _ _
   where
     by_tests : (a b : Bool) → clock_of (cond a (Done c) (cond b (Ops c) (Deadlock c))) ≡ c
     by_tests true b = refl
@@ -102,7 +103,8 @@ all_answers : (p : Plan) (steps : List HistoryStep) (answers : List (List Bool))
 all_answers p steps answers h = sym (fill_by_all (λ i. outcomes (steps_of i steps)) answers (length p.design.modules) [] h.count h.each)
 
 -- where the run stands at the verdict's clock
-ends_at : (p : Plan) (c : ℕ) (v : Verdict) (st : ClockState) (events : List EventLine) (answers : List (List Bool)) → IsAt p c st events answers
+ends_at : (p : Plan) (c : ℕ) (v : Verdict) (st : ClockState) (events : List EventLine) (answers : List (List Bool))
+    → IsAt p c st events answers
     → clock_of v ≡ c → verdict p ≡ v → report p ≡ run_report p v st events answers
 unfolding report
 ends_at p c v st events answers h clock e =
@@ -117,7 +119,7 @@ pub settled_exit : (p : Plan) (c : ℕ) (st : ClockState) (events : List EventLi
     → report p ≡ run_report p v st events answers
 settled_exit p c st events answers v h l settled e =
     let found = verdict_found p c l h.none_settled (now_settled p c st true h.is_state settled) in
-    ends_at p c v st events answers h (ap clock_of e ∙ clock_of-settled_verdict p c st)
+    ends_at p c v st events answers h (ap clock_of e ∙ clock_settled p c st)
     (found ∙ (ap (settled_verdict p c) (sym h.is_state) ∙ sym e))
 
 pub cycles_exit : (p : Plan) (st : ClockState) (events : List EventLine) (answers : List (List Bool)) → IsAt p p.cycles st events answers

@@ -1,3 +1,4 @@
+pub mod Blocks
 pub mod Settled
 pub mod Found
 pub mod Exits
@@ -13,3 +14,5 @@ pub mod States
 pub mod Standing
 pub mod Order
 pub mod Counts
+pub mod Commits
+pub mod Reported

@@ -31,7 +31,7 @@ live_iff b k j pos =
       λ h. both.1 (h.has_started, h.is_young),
     )
 
-length-ages_down : (ii age n : ℕ) → length (ages_down ii age n) ≡ n
+pub length-ages_down : (ii age n : ℕ) → length (ages_down ii age n) ≡ n
 length-ages_down ii age zero = refl
 length-ages_down ii age (suc n) = let rest = length-ages_down ii age n in omega arith
 

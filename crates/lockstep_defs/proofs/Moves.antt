@@ -23,7 +23,8 @@ abbrev pub Keeps : ModuleState → ModuleState → Type 0
 Keeps s t = (t.control ≡ s.control) × (t.count ≡ s.count) × (t.ended ≡ s.ended)
 
 stored_keeps : (m : Module) (b : Block) (s : ModuleState) (e : Effect) → Keeps s (stored m b s e)
-stored_keeps m b s (Variable i x v) = cond_both (nat_lt x (length m.registers)) _ _ (Keeps s) (λ e. (refl, refl, refl)) (λ e. (refl, refl, refl))
+stored_keeps m b s (Variable i x v) =
+    cond_both (nat_lt x (length m.registers)) _ _ (Keeps s) (λ e. (refl, refl, refl)) (λ e. (refl, refl, refl))
 stored_keeps m b s (Word n a v) = (refl, refl, refl)
 
 pub all_keep : (m : Module) (b : Block) (s : ModuleState) (es : List Effect) → Keeps s (fold (stored m b) s es)
@@ -43,10 +44,12 @@ left m s = clocks_left (block_of m s) s.control
 
 -- the module ends, or the count goes up, or the next decision or the block's end comes nearer
 abbrev Falls : Module → ModuleState → ModuleState → Type 0
-Falls m s t = (t.ended ≡ true) ⊎ (((suc s.count ≤ t.count) × (left m t ≤ left m s + span m.blocks)) ⊎ ((t.count ≡ s.count) × (left m t < left m s)))
+Falls m s t = (t.ended ≡ true) ⊎ (((suc s.count ≤ t.count) × (left m t ≤ left m s + span m.blocks))
+    ⊎ ((t.count ≡ s.count) × (left m t < left m s)))
 
 first_left : (bs : List Block) (n : ℕ)
-    → cond (is_loop (get_or bs n no_block).kind) (interval (get_or bs n no_block) + (get_or bs n no_block).len + 1) (get_or bs n no_block).len ≤ span bs
+    → cond (is_loop (get_or bs n no_block).kind) (interval (get_or bs n no_block) + (get_or bs n no_block).len + 1)
+    (get_or bs n no_block).len ≤ span bs
 first_left [] n = omega arith
 first_left (b ∷ bs) zero = cond_both (is_loop b.kind) _ _ (λ (x : ℕ). x ≤ span (b ∷ bs)) (λ e. omega arith) (λ e. omega arith)
 first_left (b ∷ bs) (suc n) = let rest = first_left bs n in omega arith
@@ -114,20 +117,26 @@ decided_between m t f =
     cond_both (k.looping && (k.clock + 1 - k.newest == interval b)) _ u (Between m b t)
     (λ d. cond_both (slice_index u.registers (again_of b.kind) == 0) _ _ (Between m b t)
     (λ z. (omega arith, λ e. inr (inr (refl, no_less k.looping (interval b) b.len k.clock k.newest f d))))
-    (λ z. (omega arith, λ e. inr (inl (omega arith, yes_less k.looping (interval b) b.len k.clock k.newest (span m.blocks) (interval_within m.blocks k.block) d)))))
+    (λ z. (
+      omega arith,
+      λ e. inr (inl
+          (omega arith, yes_less k.looping (interval b) b.len k.clock k.newest (span m.blocks) (interval_within m.blocks k.block) d)),
+    )))
     (λ d. (omega arith, λ e. inr (inr (refl, tick_less k.looping (interval b) b.len k.clock k.newest f d e))))
 
 -- the rest of a move, after the commits
 abbrev pub rest_of_move : Module → Block → ModuleState → ModuleState
 rest_of_move m b t = finished m b (decided b (ticked b t))
 
-rest_falls : (m : Module) (t : ModuleState) → goes_on t.control (interval (block_of m t)) ≡ true → Falls m t (rest_of_move m (block_of m t) t)
+rest_falls : (m : Module) (t : ModuleState) → goes_on t.control (interval (block_of m t)) ≡ true
+    → Falls m t (rest_of_move m (block_of m t) t)
 rest_falls m t f = finished_falls m (block_of m t) t _ (decided_between m t f)
 
 -- ---- a whole move
 
 abbrev pub Fallen : Module → ModuleState → ModuleState → Type 0
-Fallen m s t = (t.ended ≡ true) ⊎ (((suc s.count ≤ t.count) × (left m t ≤ left m s + span m.blocks)) ⊎ ((s.count ≤ t.count) × (left m t < left m s)))
+Fallen m s t = (t.ended ≡ true)
+    ⊎ (((suc s.count ≤ t.count) × (left m t ≤ left m s + span m.blocks)) ⊎ ((s.count ≤ t.count) × (left m t < left m s)))
 
 weaken : (m : Module) (s t u : ModuleState) → left m t ≡ left m s → s.count ≤ t.count → Falls m t u → Fallen m s u
 weaken m s t u e h (inl over) = inl over
@@ -145,7 +154,8 @@ pub same_block : (m : Module) (s : ModuleState) (replies : List Reply) → block
 same_block m s replies = ap (λ (k : Control). block_at m k.block) (same_control m s replies)
 
 -- a move ends the module, raises the count, or lowers the local clocks that are left
-pub move_falls : (m : Module) (s : ModuleState) (replies : List Reply) → goes_on s.control (interval (block_of m s)) ≡ true → Fallen m s (move m s replies)
+pub move_falls : (m : Module) (s : ModuleState) (replies : List Reply) → goes_on s.control (interval (block_of m s)) ≡ true
+    → Fallen m s (move m s replies)
 unfolding move
 move_falls m s replies f =
     let t = counted m s replies in
@@ -185,7 +195,8 @@ tick_goes true i c s f d =
     and_from _ _ parts.0 (lt-ltb (c + 1) (s + i) (omega arith))
 tick_goes false i c s f d = refl
 
-yes_goes : (l : Bool) (i c s : ℕ) → (not l || (nat_lt 0 i && nat_lt c (s + i))) ≡ true → (not l || (nat_lt 0 i && nat_lt (c + 1) ((c + 1) + i))) ≡ true
+yes_goes : (l : Bool) (i c s : ℕ) → (not l || (nat_lt 0 i && nat_lt c (s + i))) ≡ true
+    → (not l || (nat_lt 0 i && nat_lt (c + 1) ((c + 1) + i))) ≡ true
 yes_goes true i c s f =
     let parts = and_parts _ _ f in
     let some = ltb-true 0 i parts.0 in
@@ -199,7 +210,8 @@ decided_goes m t f =
     let k = t.control in
     let u = ticked b t in
     cond_both (k.looping && (k.clock + 1 - k.newest == interval b)) _ u (Goes m)
-    (λ d. cond_both (slice_index u.registers (again_of b.kind) == 0) _ _ (Goes m) (λ z. refl) (λ z. yes_goes k.looping (interval b) k.clock k.newest f))
+    (λ d. cond_both (slice_index u.registers (again_of b.kind) == 0) _ _ (Goes m) (λ z. refl)
+    (λ z. yes_goes k.looping (interval b) k.clock k.newest f))
     (λ d. tick_goes k.looping (interval b) k.clock k.newest f d)
 
 finished_goes : (m : Module) → HasIntervals m → (b : Block) (v : ModuleState) → Goes m v → Goes m (finished m b v)

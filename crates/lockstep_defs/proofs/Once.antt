@@ -1,6 +1,8 @@
 -- The static rules: one module at each port of a channel, and at most one pop and one push of a channel in a clock.
-use Rattle.std.proofs.Common.{◌≡◌, ℕ, zero, suc, ◌+◌, ◌≤◌, ◌<◌, List, [], ◌∷◌, length, get_or, Bool, true, false, cond, refl, ◌∙◌, ap, arith, ◌⊎◌, inl, inr}
-use Rattle.std.specs.List.{filter_map, AllByRecursion, cons_option, list_any}
+use Rattle.std.proofs.Common.{◌≡◌, ℕ, zero, suc, ◌+◌, ◌≤◌, ◌<◌, List, [], ◌∷◌, length, get_or, Bool, true, false, cond, not, refl, ◌∙◌, ap, arith, ◌⊎◌, inl, inr}
+use Rattle.std.proofs.lemmas.List.Sums.{length-filter}
+use Rattle.flow_word.specs.Kinds.{is_blocking}
+use Rattle.std.specs.List.{filter, filter_map, AllByRecursion, cons_option, list_any}
 use Rattle.flow_design.specs.declared.expr.Op.{Op}
 use Rattle.flow_design.specs.declared.expr.Op.TheVariants.{Set, Load, Store, Read, Write, TryRead, TryWrite, Empty, Full}
 use Rattle.flow_design.specs.declared.design.Timed.{Timed}
@@ -19,9 +21,10 @@ use Rattle.flow_design.specs.StaticRules.{same_port, is_port, uses}
 use Rattle.flow_design.specs.declared.design.Channel.{Channel}
 use Rattle.lockstep_defs.specs.Machine.{request_of, request_for, requests}
 use Rattle.lockstep_defs.specs.Lockstep.{module_at, requests_of}
+use Rattle.lockstep_defs.specs.Laws.{is_query, AsksOnce}
 use Rattle.lockstep_defs.specs.Ports.{takes, owner, takers}
 use Rattle.std.proofs.lemmas.Bool.{or_parts}
-use Rattle.lockstep_defs.proofs.Due.{AreApart, how_many, due_once, none_due}
+use Rattle.lockstep_defs.proofs.Due.{AreApart, how_many, due_once, due_few, none_due}
 
 abbrev pub port_on : Side → ℕ → Port
 port_on side f = record { side = side; channel = f }
@@ -73,11 +76,61 @@ none_in is (t ∷ ts) e = cc
 pub takers_once : (p : Plan) → KeepsPorts p → (e : Port) (i : ℕ) (s : ModuleState) → length (takers e (requests_of p (i, s))) ≤ 1
 takers_once p h e i s = by_case (h.intervals i s.control.block)
   where
-    by_case : ((block_of (module_at p i) s).ops ≡ []) ⊎ (0 < interval (block_of (module_at p i) s)) → length (takers e (requests_of p (i, s))) ≤ 1
+    by_case : ((block_of (module_at p i) s).ops ≡ []) ⊎ (0 < interval (block_of (module_at p i) s))
+        → length (takers e (requests_of p (i, s))) ≤ 1
     by_case (inl none) =
         omega (arith, takers_due p.design.channels (module_at p i) s e, none_due (takes e) (module_at p i) s (none_in (takes e) _ none))
     by_case (inr pos) =
-        omega (arith, takers_due p.design.channels (module_at p i) s e, due_once (takes e) (module_at p i) s (h.apart e i s.control.block) pos)
+        omega (
+          arith,
+          takers_due p.design.channels (module_at p i) s e,
+          due_once (takes e) (module_at p i) s (h.apart e i s.control.block)
+              pos,
+        )
+
+-- ---- queries
+
+query_of : (channels : List Channel) (s : ModuleState) (i : ℕ) (op : Op ℕ) (rs : List Request)
+    → length (filter (λ r. not (is_blocking r.kind)) (cons_option (request_of channels s i op) rs))
+    ≡ cond (is_query op) 1 0 + length (filter (λ r. not (is_blocking r.kind)) rs)
+query_of channels s i (Set x a) rs = omega arith
+query_of channels s i (Load x n a) rs = omega arith
+query_of channels s i (Store n a b) rs = omega arith
+query_of channels s i (Read f x) rs = omega arith
+query_of channels s i (Write f a) rs = omega arith
+query_of channels s i (TryRead f x ok) rs = omega arith
+query_of channels s i (TryWrite f ok a) rs = omega arith
+query_of channels s i (Empty f x) rs = omega arith
+query_of channels s i (Full f x) rs = omega arith
+
+queries_counted : (channels : List Channel) (m : Module) (s : ModuleState) (ds : List Due)
+    → length (filter (λ r. not (is_blocking r.kind)) (filter_map (request_for channels m s) ds)) ≡ how_many is_query (block_of m s) ds
+queries_counted channels m s [] = refl
+queries_counted channels m s (d ∷ ds) =
+    query_of channels s d.iteration (operation_at (block_of m s) d.op).op (filter_map (request_for channels m s) ds)
+    ∙ ap (λ (n : ℕ). cond (is_query (operation_at (block_of m s) d.op).op) 1 0 + n) (queries_counted channels m s ds)
+
+queries_due : (channels : List Channel) (m : Module) (s : ModuleState)
+    → length (filter (λ r. not (is_blocking r.kind)) (requests channels m s)) ≡ how_many is_query (block_of m s) (due m s)
+unfolding requests
+queries_due channels m s = queries_counted channels m s (due m s)
+
+-- a module makes each query of its block at most once in a local clock
+pub asks_once : (p : Plan) → KeepsPorts p → (i : ℕ) (s : ModuleState) → AsksOnce p i s
+asks_once p h i s =
+    omega (
+      arith,
+      length-filter (λ (r : Request). not (is_blocking r.kind)) (requests_of p (i, s)),
+      length-filter (λ (t : Timed). is_query t.op) (block_of (module_at p i) s).ops,
+      queries_due p.design.channels (module_at p i) s,
+      by_case (h.intervals i s.control.block),
+    )
+  where
+    by_case : ((block_of (module_at p i) s).ops ≡ []) ⊎ (0 < interval (block_of (module_at p i) s))
+        → how_many is_query (block_of (module_at p i) s) (due (module_at p i) s)
+        ≤ length (filter (λ t. is_query t.op) (block_of (module_at p i) s).ops)
+    by_case (inl none) = omega (arith, none_due is_query (module_at p i) s (none_in is_query _ none))
+    by_case (inr pos) = due_few is_query (module_at p i) s pos
 
 -- ---- a module that doesn't use a port has no such request
 
@@ -91,7 +144,8 @@ uses_none e [] n h = tt
 uses_none e (b ∷ bs) zero h = any_false (λ t. takes e t.op) b.ops (or_parts _ _ h).0
 uses_none e (b ∷ bs) (suc n) h = uses_none e bs n (or_parts _ _ h).1
 
-pub no_takers : (p : Plan) (e : Port) (i : ℕ) (s : ModuleState) → uses e (module_at p i) ≡ false → length (takers e (requests_of p (i, s))) ≡ 0
+pub no_takers : (p : Plan) (e : Port) (i : ℕ) (s : ModuleState) → uses e (module_at p i) ≡ false
+    → length (takers e (requests_of p (i, s))) ≡ 0
 no_takers p e i s h =
     takers_due p.design.channels (module_at p i) s e
     ∙ none_due (takes e) (module_at p i) s (uses_none e (module_at p i).blocks s.control.block h)

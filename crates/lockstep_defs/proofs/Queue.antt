@@ -34,7 +34,8 @@ pub moved-nil : (side : Side) (f : ℕ) → moved side f [] ≡ []
 unfolding moved
 moved-nil side f = refl
 
-pub moved-append : (side : Side) (f : ℕ) (steps more : List HistoryStep) → moved side f (steps ++ more) ≡ moved side f steps ++ moved side f more
+pub moved-append : (side : Side) (f : ℕ) (steps more : List HistoryStep)
+    → moved side f (steps ++ more) ≡ moved side f steps ++ moved side f more
 unfolding moved
 moved-append side f steps more = flat_map-append _ steps more
 
@@ -51,7 +52,8 @@ moved-step c i side f (x ∷ xs) = append-nil _
 
 -- a request moves nothing, or it pops or pushes at this port
 one_moves : (kind : Kind) (q : Bool) (channel value front : ℕ) (side : Side) (f : ℕ)
-    → length (cond (channel == f) (moved_value side (record { request = record { kind = kind; channel = channel; value = value }; reply = reply_by kind q front })) [])
+    → length (cond (channel == f) (moved_value side
+    (record { request = record { kind = kind; channel = channel; value = value }; reply = reply_by kind q front })) [])
     ≤ cond (is_taker (port_on side f) (record { kind = kind; channel = channel; value = value })) 1 0
 one_moves kind q channel value front side f = by_test (channel == f) refl
   where
@@ -74,7 +76,8 @@ one_moves kind q channel value front side f = by_test (channel == f) refl
     by_kind Full t Push = omega arith
 
     by_test : (b : Bool) → (channel == f) ≡ b
-        → length (cond b (moved_value side (record { request = record { kind = kind; channel = channel; value = value }; reply = reply_by kind q front })) [])
+        → length (cond b (moved_value side
+        (record { request = record { kind = kind; channel = channel; value = value }; reply = reply_by kind q front })) [])
         ≤ cond (is_taker (port_on side f) (record { kind = kind; channel = channel; value = value })) 1 0
     by_test false e = omega arith
     by_test true e = rw (eqb-true channel f e) (by_kind kind q side)
@@ -88,7 +91,8 @@ moved_counted : (p : Plan) (c : ℕ) (contents : List (List Element)) (side : Si
 unfolding moved_by reply
 moved_counted p c contents side f [] = omega arith
 moved_counted p c contents side f (r ∷ rs) =
-    let here = one_moves r.kind (is_possible p c contents (side_of r.kind) r.channel) r.channel r.value (front (contents_of contents r.channel)) side f in
+    let here = one_moves r.kind (is_possible p c contents (side_of r.kind) r.channel) r.channel r.value
+    (front (contents_of contents r.channel)) side f in
     let rest = moved_counted p c contents side f rs in
     rw (length-append, count_more (is_taker (port_on side f) r) r (takers (port_on side f) rs)) (omega arith)
 
@@ -96,7 +100,8 @@ step_moves : (p : Plan) (c : ℕ) (contents : List (List Element)) (side : Side)
     → length (moved side f (step_of p c contents m)) ≤ length (takers (port_on side f) (requests_of p m))
 step_moves p c contents side f m = by_test (moves p c contents m)
   where
-    by_test : (b : Bool) → length (moved side f (cond b (step_with c m.0 (map (answered p c contents) (requests_of p m))) [])) ≤ length (takers (port_on side f) (requests_of p m))
+    by_test : (b : Bool) → length (moved side f (cond b (step_with c m.0 (map (answered p c contents) (requests_of p m))) []))
+        ≤ length (takers (port_on side f) (requests_of p m))
     by_test true = rw moved-step (moved_counted p c contents side f (requests_of p m))
     by_test false = rw moved-nil (omega arith)
 
@@ -113,12 +118,14 @@ later_moves p h c contents side f n (s ∷ ss) =
     by_case total rest (cases_Bool (uses (port_on side f) (module_at p n)))
   where
     by_case : length (moved side f (step_of p c contents (n, s) ++ flat_map (step_of p c contents) (enumerate_from (n + 1) ss)))
-        ≡ length (moved side f (step_of p c contents (n, s))) + length (moved side f (flat_map (step_of p c contents) (enumerate_from (n + 1) ss)))
+        ≡ length (moved side f (step_of p c contents (n, s))) + length
+        (moved side f (flat_map (step_of p c contents) (enumerate_from (n + 1) ss)))
         → (length (moved side f (flat_map (step_of p c contents) (enumerate_from (n + 1) ss))) ≤ 1)
         × (owner p (port_on side f) < n + 1 → length (moved side f (flat_map (step_of p c contents) (enumerate_from (n + 1) ss))) ≤ 0)
         → (uses (port_on side f) (module_at p n) ≡ true) ⊎ (uses (port_on side f) (module_at p n) ≡ false)
         → (length (moved side f (step_of p c contents (n, s) ++ flat_map (step_of p c contents) (enumerate_from (n + 1) ss))) ≤ 1)
-        × (owner p (port_on side f) < n → length (moved side f (step_of p c contents (n, s) ++ flat_map (step_of p c contents) (enumerate_from (n + 1) ss))) ≤ 0)
+        × (owner p (port_on side f) < n
+        → length (moved side f (step_of p c contents (n, s) ++ flat_map (step_of p c contents) (enumerate_from (n + 1) ss))) ≤ 0)
     by_case total rest (inl used) =
         let owned = h.owned (port_on side f) n used in
         let one = takers_once p h (port_on side f) n s in
@@ -170,12 +177,14 @@ pops_front p c contents TryWrite f h = tt
 pops_front p c contents Empty f h = tt
 pops_front p c contents Full f h = tt
 
-front_at : (p : Plan) (c : ℕ) (contents : List (List Element)) (f : ℕ) (r : Request) (b : Bool) → (r.channel == f) ≡ b → stalls p c contents r ≡ false
+front_at : (p : Plan) (c : ℕ) (contents : List (List Element)) (f : ℕ) (r : Request) (b : Bool) → (r.channel == f) ≡ b
+    → stalls p c contents r ≡ false
     → AllByRecursion (IsFront (contents_of contents f)) (cond b (moved_value Pop (answered p c contents r)) [])
 unfolding reply
 front_at p c contents f r false e h = tt
 front_at p c contents f r true e h =
-    subst (λ (g : ℕ). AllByRecursion (IsFront (contents_of contents g)) (moved_value Pop (answered p c contents r))) (eqb-true r.channel f e)
+    subst (λ (g : ℕ). AllByRecursion (IsFront (contents_of contents g)) (moved_value Pop (answered p c contents r)))
+    (eqb-true r.channel f e)
     (pops_front p c contents r.kind r.channel h)
 
 fronts_of : (p : Plan) (c : ℕ) (contents : List (List Element)) (f : ℕ) (rs : List Request) → list_any (stalls p c contents) rs ≡ false
@@ -193,7 +202,8 @@ unfolding moves
 nothing_stalls p c contents m h = not-true _ (and_parts (not (is_over p.ops m.1)) _ h).1
 
 fronts_by : (p : Plan) (c : ℕ) (contents : List (List Element)) (f : ℕ) (m : ℕ × ModuleState) (b : Bool) → moves p c contents m ≡ b
-    → AllByRecursion (IsFront (contents_of contents f)) (moved Pop f (cond b (step_with c m.0 (map (answered p c contents) (requests_of p m))) []))
+    → AllByRecursion (IsFront (contents_of contents f))
+    (moved Pop f (cond b (step_with c m.0 (map (answered p c contents) (requests_of p m))) []))
 fronts_by p c contents f m false e = rw moved-nil tt
 fronts_by p c contents f m true e = rw moved-step (fronts_of p c contents f (requests_of p m) (nothing_stalls p c contents m e))
 
@@ -203,12 +213,14 @@ fronts p c contents f [] = rw moved-nil tt
 fronts p c contents f (m ∷ ms) =
     rw moved-append (all-append _ _ _ (fronts_by p c contents f m (moves p c contents m) refl) (fronts p c contents f ms))
 
-fronts_in : (p : Plan) (c : ℕ) (st : ClockState) (f : ℕ) → AllByRecursion (IsFront (contents_of st.contents f)) (moved Pop f (steps_in p c st))
+fronts_in : (p : Plan) (c : ℕ) (st : ClockState) (f : ℕ)
+    → AllByRecursion (IsFront (contents_of st.contents f)) (moved Pop f (steps_in p c st))
 unfolding steps_in
 fronts_in p c st f = fronts p c st.contents f (numbered st)
 
 -- at most one value, which is the front, is a beginning of the contents
-front_is_prefix : (held : List Element) (vs : List ℕ) → AllByRecursion (IsFront held) vs → length vs ≤ 1 → values held ≡ vs ++ values (drop (length vs) held)
+front_is_prefix : (held : List Element) (vs : List ℕ) → AllByRecursion (IsFront held) vs → length vs ≤ 1
+    → values held ≡ vs ++ values (drop (length vs) held)
 front_is_prefix held [] a h = refl
 front_is_prefix held (v ∷ []) a h = let (e, rest, is, same) = a.0 in rw (is, same) refl
 front_is_prefix held (v ∷ w ∷ vs) a h = absurd (omega arith)
@@ -219,8 +231,10 @@ front_within held [] a h = omega arith
 front_within held (v ∷ []) a h = let (e, rest, is, same) = a.0 in rw is (omega arith)
 front_within held (v ∷ w ∷ vs) a h = absurd (omega arith)
 
-pub popped_within : (p : Plan) → KeepsPorts p → (c : ℕ) (st : ClockState) (f : ℕ) → length (moved Pop f (steps_in p c st)) ≤ length (contents_of st.contents f)
-popped_within p k c st f = front_within (contents_of st.contents f) (moved Pop f (steps_in p c st)) (fronts_in p c st f) (moves_once p k c st Pop f)
+pub popped_within : (p : Plan) → KeepsPorts p → (c : ℕ) (st : ClockState) (f : ℕ)
+    → length (moved Pop f (steps_in p c st)) ≤ length (contents_of st.contents f)
+popped_within p k c st f = front_within (contents_of st.contents f) (moved Pop f (steps_in p c st)) (fronts_in p c st f)
+    (moves_once p k c st Pop f)
 
 -- ---- one clock of one channel
 
@@ -230,17 +244,20 @@ unfolding clock_step
 contents-step p c st f h =
     let steps = steps_in p c st in
     let inside : f < length (enumerate_from 0 st.contents) = omega (arith, length-enumerate_from 0 st.contents) in
-    let here : (0 + f, contents_of st.contents f) ≡ (f, contents_of st.contents f) = ap (λ (n : ℕ). (n, contents_of st.contents f)) (zero-add f) in
+    let here : (0 + f, contents_of st.contents f)
+    ≡ (f, contents_of st.contents f) = ap (λ (n : ℕ). (n, contents_of st.contents f)) (zero-add f) in
     get_or-map (contents_after p c steps) (enumerate_from 0 st.contents) f (0, []) [] inside
     ∙ ap (contents_after p c steps) (get_or-enumerate_from 0 st.contents f (0, []) h ∙ here)
 
 length-contents : (p : Plan) (c : ℕ) (st : ClockState) → length (clock_step p c st).contents ≡ length st.contents
 unfolding clock_step
-length-contents p c st = length-map (enumerate_from 0 st.contents) (contents_after p c (steps_in p c st)) ∙ length-enumerate_from 0 st.contents
+length-contents p c st = length-map (enumerate_from 0 st.contents) (contents_after p c (steps_in p c st))
+    ∙ length-enumerate_from 0 st.contents
 
 pub same_channels : (p : Plan) (c : ℕ) → length (state p c).contents ≡ length (state p 0).contents
 same_channels p zero = refl
-same_channels p (suc c) = ap (λ (st : ClockState). length st.contents) (state-suc p c) ∙ (length-contents p c (state p c) ∙ same_channels p c)
+same_channels p (suc c) = ap (λ (st : ClockState). length st.contents) (state-suc p c)
+    ∙ (length-contents p c (state p c) ∙ same_channels p c)
 
 -- elements that are made of values have these values
 pub values_from : (t : ℕ) (vs : List ℕ) → values (map (element_from t) vs) ≡ vs
@@ -248,15 +265,18 @@ values_from t [] = refl
 values_from t (v ∷ vs) = ap (λ (l : List ℕ). v ∷ l) (values_from t vs)
 
 poured : (p : Plan) → KeepsPorts p → (c : ℕ) (st : ClockState) (f : ℕ) → f < length st.contents
-    → values (contents_of st.contents f) ++ moved Push f (steps_in p c st) ≡ moved Pop f (steps_in p c st) ++ values (contents_of (clock_step p c st).contents f)
+    → values (contents_of st.contents f) ++ moved Push f (steps_in p c st) ≡ moved Pop f (steps_in p c st)
+    ++ values (contents_of (clock_step p c st).contents f)
 poured p k c st f h =
     let steps = steps_in p c st in
     let begins = front_is_prefix (contents_of st.contents f) (moved Pop f steps) (fronts_in p c st f) (moves_once p k c st Pop f) in
     ap (λ (l : List ℕ). l ++ moved Push f steps) begins
     ∙ (append_assoc (moved Pop f steps) (values (drop (length (moved Pop f steps)) (contents_of st.contents f))) (moved Push f steps)
     ∙ ap (λ (l : List ℕ). moved Pop f steps ++ l) (sym (ap values (contents-step p c st f h)
-    ∙ (map-append (λ (e : Element). e.value) (drop (length (moved Pop f steps)) (contents_of st.contents f)) (map (element_from (c + delay_at p f)) (moved Push f steps))
-    ∙ ap (λ (l : List ℕ). values (drop (length (moved Pop f steps)) (contents_of st.contents f)) ++ l) (values_from (c + delay_at p f) (moved Push f steps))))))
+    ∙ (map-append (λ (e : Element). e.value) (drop (length (moved Pop f steps)) (contents_of st.contents f))
+    (map (element_from (c + delay_at p f)) (moved Push f steps))
+    ∙ ap (λ (l : List ℕ). values (drop (length (moved Pop f steps)) (contents_of st.contents f)) ++ l)
+    (values_from (c + delay_at p f) (moved Push f steps))))))
 
 -- ---- all clocks
 
@@ -274,13 +294,15 @@ conserved p k f h zero = conserved_first p f
 conserved p k f h (suc c) =
     let inside : f < length (state p c).contents = omega (arith, same_channels p c) in
     rw (history-suc, state-suc, moved-append Push f, moved-append Pop f)
-    (regroup (values (contents_of (state p 0).contents f)) (moved Push f (history p c)) _ (moved Pop f (history p c)) _ (values (contents_of (state p c).contents f)) _
+    (regroup (values (contents_of (state p 0).contents f)) (moved Push f (history p c)) _ (moved Pop f (history p c)) _
+    (values (contents_of (state p c).contents f)) _
     (conserved p k f h c) (poured p k c (state p c) f inside))
 
 -- the contents are what went in without as many as were popped
 pub contents_are : (p : Plan) → KeepsPorts p → (f : ℕ) → f < length (state p 0).contents → (c : ℕ)
     → values (contents_of (state p c).contents f) ≡ drop (length (moved Pop f (history p c))) (all_in p c f)
-contents_are p k f h c = rw (conserved p k f h c) (sym (drop-append_seam (moved Pop f (history p c)) (values (contents_of (state p c).contents f))))
+contents_are p k f h c = rw (conserved p k f h c)
+    (sym (drop-append_seam (moved Pop f (history p c)) (values (contents_of (state p c).contents f))))
 
 pub pops_in_order : (p : Plan) → KeepsPorts p → (f : ℕ) → f < length (state p 0).contents → (c : ℕ) → PopsInOrder p c f
 pops_in_order p k f h c n d below =

@@ -1,6 +1,6 @@
 -- Quiet clocks end.
 use Rattle.std.proofs.Common.{◌≡◌, ℕ, zero, suc, ◌+◌, ◌*◌, ◌-◌, ◌≤◌, ◌<◌, List, [], ◌∷◌, length, Bool, true, false, ◌||◌, refl, sym, ap, subst, arith, ◌∙◌, zero-add, add-zero, suc-add, ◌⊎◌, inl, inr, mul-le-mul_right, suc-mul}
-use Rattle.std.proofs.lemmas.Bool.{leb-false, cases_Bool, or_parts}
+use Rattle.std.proofs.lemmas.Bool.{cases_Bool, or_parts}
 use Rattle.flow_design.specs.declared.design.BlockKind.{BlockKind}
 use Rattle.flow_design.specs.declared.design.BlockKind.TheVariants.{Plain, Loop}
 use Rattle.flow_design.specs.declared.design.Block.{Block}
@@ -10,11 +10,11 @@ use Rattle.flow_design.specs.declared.state.Reply.{Reply}
 use Rattle.flow_design.specs.declared.state.Request.{Request}
 use Rattle.flow_design.specs.StaticRules.{IsBlockSound, IsKindSound, FitsEngine}
 use Rattle.flow_design.specs.Module.{no_block, block_at, is_loop, interval, interval_of}
-use Rattle.lockstep_defs.specs.Machine.{is_spent, is_over, move, opened}
+use Rattle.lockstep_defs.specs.Machine.{is_over, move, opened}
 use Rattle.lockstep_defs.specs.Lockstep.{module_at, requests_of}
 use Rattle.lockstep_defs.specs.OwnRun.{Own, own_next, own}
 use Rattle.lockstep_defs.specs.Quiet.{own_later, is_some_request, rests, skip, quiet_below, span, measure, quiet, fits}
-use Rattle.lockstep_defs.proofs.Agrees.{own_suc}
+use Rattle.lockstep_defs.proofs.Agrees.{own_suc, below_limit}
 use Rattle.lockstep_defs.proofs.Moves.{left, Fallen, move_falls, HasIntervals, move_goes, opened_goes}
 use Rattle.lockstep_defs.proofs.Rules.{sound_block}
 
@@ -27,7 +27,8 @@ loop_interval registers len (Loop ii again) s l = s.interval
 pub has_intervals : (p : Plan) → FitsEngine p → (i : ℕ) → HasIntervals (module_at p i)
 has_intervals p h i b l = by_block (sound_block p h i b) l
   where
-    by_block : IsBlockSound (length p.design.channels) (module_at p i) (block_at (module_at p i) b) ⊎ (block_at (module_at p i) b ≡ no_block)
+    by_block : IsBlockSound (length p.design.channels) (module_at p i) (block_at (module_at p i) b)
+        ⊎ (block_at (module_at p i) b ≡ no_block)
         → is_loop (block_at (module_at p i) b).kind ≡ true → 0 < interval (block_at (module_at p i) b)
     by_block (inl s) l = loop_interval _ _ (block_at (module_at p i) b).kind s.kind l
     by_block (inr none) l = let no : is_loop no_block.kind ≡ true = subst (λ (c : Block). is_loop c.kind ≡ true) none l in cc
@@ -41,12 +42,6 @@ fits_move p h i s replies f = move_goes (module_at p i) (has_intervals p h i) s 
 
 -- ---- the measure falls
 
-lives : (p : Plan) (s : ModuleState) → is_over p.ops s ≡ false → s.count < p.ops
-unfolding is_over
-lives p s h =
-    let parts = or_parts s.ended (is_spent p.ops s) h in
-    leb-false p.ops s.count (rw parts.0 at parts.1)
-
 more_done : (r q w l k : ℕ) → suc q ≤ r → k ≤ l + w → q * (w + 1) + k < r * (w + 1) + l
 more_done r q w l k h n =
     let a = mul-le-mul_right (w + 1) h in
@@ -59,21 +54,24 @@ nearer r q w l k h n = let a = mul-le-mul_right (w + 1) h in omega arith
 measure_falls : (p : Plan) (i : ℕ) (s : ModuleState) → fits p i s ≡ true → is_over p.ops s ≡ false
     → ((move (module_at p i) s []).ended ≡ true) ⊎ (measure p i (move (module_at p i) s []) < measure p i s)
 unfolding measure
-measure_falls p i s f h = by_case (move_falls (module_at p i) s [] f) (lives p s h)
+measure_falls p i s f h = by_case (move_falls (module_at p i) s [] f) (below_limit p.ops s h)
   where
     by_case : Fallen (module_at p i) s (move (module_at p i) s []) → s.count < p.ops
         → ((move (module_at p i) s []).ended ≡ true)
-        ⊎ (((p.ops - (move (module_at p i) s []).count) * (span (module_at p i).blocks + 1) + left (module_at p i) (move (module_at p i) s []))
+        ⊎ (((p.ops - (move (module_at p i) s []).count) * (span (module_at p i).blocks + 1) + left (module_at p i)
+        (move (module_at p i) s []))
         < ((p.ops - s.count) * (span (module_at p i).blocks + 1) + left (module_at p i) s))
     by_case (inl over) below = inl over
     by_case (inr (inl up)) below =
-        inr (more_done (p.ops - s.count) (p.ops - (move (module_at p i) s []).count) (span (module_at p i).blocks) _ _ (omega (arith, up.0)) up.1)
+        inr (more_done (p.ops - s.count) (p.ops - (move (module_at p i) s []).count) (span (module_at p i).blocks) _ _ (omega (arith, up.0))
+        up.1)
     by_case (inr (inr near)) below =
-        inr (nearer (p.ops - s.count) (p.ops - (move (module_at p i) s []).count) (span (module_at p i).blocks) _ _ (omega (arith, near.0)) near.1)
+        inr (nearer (p.ops - s.count) (p.ops - (move (module_at p i) s []).count) (span (module_at p i).blocks) _ _ (omega (arith, near.0))
+        near.1)
 
 -- ---- the first state in which it rests
 
-skip_front : (p : Plan) (i n : ℕ) (s : ModuleState) → skip p i (suc n) s ≡ skip p i n (move (module_at p i) s [])
+pub skip_front : (p : Plan) (i n : ℕ) (s : ModuleState) → skip p i (suc n) s ≡ skip p i n (move (module_at p i) s [])
 skip_front p i zero s = refl
 skip_front p i (suc n) s = ap (λ (z : ModuleState). move (module_at p i) z []) (skip_front p i n s)
 
@@ -129,7 +127,8 @@ reaches p r i (suc n) s f h = by_test (reaches p r i n (move (module_at p i) s [
           | inl over ↦ inl (over_rests p i (move (module_at p i) s []) over)
           | inr less ↦ inr (omega arith)
         ] in
-        rw q (subst (λ (z : ModuleState). rests p i z ≡ true) (sym (skip_front p i (quiet_below p i n (move (module_at p i) s [])) s)) (rest next))
+        rw q (subst (λ (z : ModuleState). rests p i z ≡ true) (sym (skip_front p i (quiet_below p i n (move (module_at p i) s [])) s))
+        (rest next))
 
 -- ---- the quiet clocks
 
@@ -158,7 +157,8 @@ one_quiet p i replies o n h =
     rw (parts.0, none) (ap (λ (c : ℕ). record { state = move (module_at p i) s []; steps = o.steps; since = c }) later)
 
 -- where it does not rest, nothing but the clock and the state goes on
-pub own_goes : (p : Plan) (i : ℕ) (replies : List (List Reply)) (n q : ℕ) → ((j : ℕ) → j < q → rests p i (skip p i j (own p i replies n).state) ≡ false)
+pub own_goes : (p : Plan) (i : ℕ) (replies : List (List Reply)) (n q : ℕ)
+    → ((j : ℕ) → j < q → rests p i (skip p i j (own p i replies n).state) ≡ false)
     → own p i replies (q + n) ≡ own_later p i q (own p i replies n)
 own_goes p i replies n zero h = rw (zero-add, add-zero) refl
 own_goes p i replies n (suc q) h =

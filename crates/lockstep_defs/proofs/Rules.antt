@@ -8,30 +8,30 @@ use Rattle.std.proofs.lemmas.List.Folds.{Any-from_list_any}
 use Rattle.std.proofs.lemmas.List.Sums.{length-filter}
 use Rattle.flow_design.specs.declared.expr.Op.{Op}
 use Rattle.flow_design.specs.declared.expr.Op.TheVariants.{Set, Load, Store, Read, Write, TryRead, TryWrite, Empty, Full}
-use Rattle.flow_design.specs.declared.design.BlockKind.{BlockKind}
-use Rattle.flow_design.specs.declared.design.BlockKind.TheVariants.{Plain, Loop}
 use Rattle.flow_design.specs.declared.design.ChannelKind.{ChannelKind}
 use Rattle.flow_design.specs.declared.design.ChannelKind.TheVariants.{Source, Sink, Fifo}
 use Rattle.flow_design.specs.declared.design.Timed.{Timed}
 use Rattle.flow_design.specs.declared.design.Block.{Block}
 use Rattle.flow_design.specs.declared.design.Module.{Module}
 use Rattle.flow_design.specs.declared.plan.Plan.{Plan}
-use Rattle.flow_design.specs.Module.{no_block, no_operation, block_at, interval, interval_of}
+use Rattle.flow_design.specs.Module.{no_block, no_operation, block_at, interval}
 use Rattle.flow_word.specs.declared.access.Port.{Port}
 use Rattle.flow_word.specs.declared.access.Side.{Side}
 use Rattle.flow_word.specs.declared.access.Side.TheVariants.{Pop, Push}
 use Rattle.flow_word.specs.Kinds.{same_side}
 use Rattle.flow_design.specs.Operations.{port_of, used_port}
 use Rattle.flow_design.specs.Plans.{kind_at}
-use Rattle.flow_design.specs.StaticRules.{same_port, is_port, uses, users_wanted, Clashes, IsKindSound, IsTimedSound, IsBlockSound, IsModuleSound, FitsEngine}
+use Rattle.flow_design.specs.StaticRules.{same_port, is_port, uses, users_wanted, Clashes, IsTimedSound, IsBlockSound, IsModuleSound, FitsEngine}
 use Rattle.lockstep_defs.specs.Lockstep.{no_module, module_at}
 use Rattle.lockstep_defs.specs.Ports.{takes, owner}
+use Rattle.lockstep_defs.proofs.Blocks.{some_interval}
 use Rattle.lockstep_defs.proofs.Due.{AreApart}
 use Rattle.lockstep_defs.proofs.Once.{KeepsPorts, port_on}
 
 -- ---- one module at each port
 
-pub some_pass : {X : Type 0} (f : X → Bool) (xs : List X) (i : ℕ) (d : X) → i < length xs → f (get_or xs i d) ≡ true → 1 ≤ length (filter f xs)
+pub some_pass : {X : Type 0} (f : X → Bool) (xs : List X) (i : ℕ) (d : X) → i < length xs → f (get_or xs i d) ≡ true
+    → 1 ≤ length (filter f xs)
 some_pass f [] i d l h = absurd (omega arith)
 some_pass f (x ∷ xs) zero d l h = rw h (omega arith)
 some_pass f (x ∷ xs) (suc i) d l h = by_head (f x) (some_pass f xs i d (omega arith) h)
@@ -105,8 +105,20 @@ used_once : (p : Plan) → FitsEngine p → (e : Port) → e.channel < length p.
 used_once p h e l = by_side e.side e.channel l
   where
     by_side : (side : Side) (f : ℕ) → f < length p.design.channels → length (filter (uses (port_on side f)) p.design.modules) ≤ 1
-    by_side Pop f l = omega (arith, length-filter (uses (port_on Pop f)) p.design.modules, (h.channels f l).popping, wanted_once (kind_at p f) Pop)
-    by_side Push f l = omega (arith, length-filter (uses (port_on Push f)) p.design.modules, (h.channels f l).pushing, wanted_once (kind_at p f) Push)
+    by_side Pop f l = omega (
+      arith,
+      length-filter (uses (port_on Pop f)) p.design.modules,
+      (h.channels f l).popping,
+      wanted_once
+          (kind_at p f) Pop,
+    )
+    by_side Push f l = omega (
+      arith,
+      length-filter (uses (port_on Push f)) p.design.modules,
+      (h.channels f l).pushing,
+      wanted_once
+          (kind_at p f) Push,
+    )
 
 -- ---- sound modules and blocks
 
@@ -135,13 +147,10 @@ sound_block p h i b = by_module (sound_module p h i)
     by_module (inl s) = by_range s.1 _ refl
     by_module (inr none) = inr (ap (λ (m : Module). block_at m b) none)
 
-some_interval : (registers len : ℕ) (k : BlockKind) → 1 ≤ len → IsKindSound registers len k → 0 < interval_of k len
-some_interval registers len Plain l s = l
-some_interval registers len (Loop ii again) l s = s.interval
-
 -- ---- pops and pushes that are apart
 
-apart_from : (e : Port) (ii : ℕ) (t : Timed) (ts : List Timed) → takes e t.op ≡ true → ((k : ℕ) → k < length ts → ¬ Clashes ii t (get_or ts k no_operation))
+apart_from : (e : Port) (ii : ℕ) (t : Timed) (ts : List Timed) → takes e t.op ≡ true
+    → ((k : ℕ) → k < length ts → ¬ Clashes ii t (get_or ts k no_operation))
     → AllByRecursion (λ u. (takes e u.op ≡ true) → t.offset % ii ≢ u.offset % ii) ts
 apart_from e ii t [] used h = tt
 apart_from e ii t (u ∷ us) used h = (
@@ -154,7 +163,8 @@ apart_from e ii t (u ∷ us) used h = (
   apart_from e ii t us used (λ k l. h (suc k) (omega arith)),
 )
 
-are_apart : (e : Port) (ii : ℕ) (ts : List Timed) → ((j k : ℕ) → j < k → k < length ts → ¬ Clashes ii (get_or ts j no_operation) (get_or ts k no_operation))
+are_apart : (e : Port) (ii : ℕ) (ts : List Timed)
+    → ((j k : ℕ) → j < k → k < length ts → ¬ Clashes ii (get_or ts j no_operation) (get_or ts k no_operation))
     → AreApart (takes e) ii ts
 are_apart e ii [] h = tt
 are_apart e ii (t ∷ ts) h = (
@@ -179,7 +189,8 @@ apart_in : (p : Plan) → FitsEngine p → (e : Port) (i b : ℕ)
     → AreApart (takes e) (interval (block_at (module_at p i) b)) (block_at (module_at p i) b).ops
 apart_in p h e i b = by_block (sound_block p h i b)
   where
-    by_block : IsBlockSound (length p.design.channels) (module_at p i) (block_at (module_at p i) b) ⊎ (block_at (module_at p i) b ≡ no_block)
+    by_block : IsBlockSound (length p.design.channels) (module_at p i) (block_at (module_at p i) b)
+        ⊎ (block_at (module_at p i) b ≡ no_block)
         → AreApart (takes e) (interval (block_at (module_at p i) b)) (block_at (module_at p i) b).ops
     by_block (inl s) = are_apart e _ (block_at (module_at p i) b).ops (λ j k l m. s.apart j k no_operation l m)
     by_block (inr none) = subst (λ (c : Block). AreApart (takes e) (interval c) c.ops) (sym none) tt
@@ -187,9 +198,10 @@ apart_in p h e i b = by_block (sound_block p h i b)
 intervals_in : (p : Plan) → FitsEngine p → (i b : ℕ) → ((block_at (module_at p i) b).ops ≡ []) ⊎ (0 < interval (block_at (module_at p i) b))
 intervals_in p h i b = by_block (sound_block p h i b)
   where
-    by_block : IsBlockSound (length p.design.channels) (module_at p i) (block_at (module_at p i) b) ⊎ (block_at (module_at p i) b ≡ no_block)
+    by_block : IsBlockSound (length p.design.channels) (module_at p i) (block_at (module_at p i) b)
+        ⊎ (block_at (module_at p i) b ≡ no_block)
         → ((block_at (module_at p i) b).ops ≡ []) ⊎ (0 < interval (block_at (module_at p i) b))
-    by_block (inl s) = inr (some_interval _ _ (block_at (module_at p i) b).kind s.least s.kind)
+    by_block (inl s) = inr (some_interval (length p.design.channels) (module_at p i) (block_at (module_at p i) b) s)
     by_block (inr none) = inl (ap (λ (c : Block). c.ops) none)
 
 -- each plan that the engine takes keeps the rules

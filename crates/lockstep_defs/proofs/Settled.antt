@@ -1,5 +1,5 @@
 -- A settled state stays, and from a clock that is not settled some module moves.
-use Rattle.std.proofs.Common.{◌≡◌, ℕ, zero, suc, ◌+◌, ◌≤◌, ◌<◌, max, List, [], ◌∷◌, ◌++◌, map, Bool, true, false, ◌&&◌, ◌||◌, not, cond, refl, sym, ◌∙◌, ap, ap₂, arith, zero-add, suc-add, below_more, ◌⊎◌, inl, inr}
+use Rattle.std.proofs.Common.{◌≡◌, ℕ, zero, suc, ◌+◌, ◌≤◌, ◌<◌, max, List, [], ◌∷◌, ◌++◌, map, Bool, true, false, ◌&&◌, ◌||◌, not, refl, sym, ◌∙◌, ap, ap₂, arith, zero-add, suc-add, below_more, ◌⊎◌, inl, inr}
 use Rattle.std.specs.List.{list_any, enumerate_from, flat_map}
 use Rattle.std.proofs.lemmas.Bool.{or_parts, or_from, and_parts, not-true, cases_Bool, both_ways}
 use Rattle.std.proofs.lemmas.List.{append-nil, length-map}
@@ -57,7 +57,8 @@ abbrev stalls_by : (k : Kind) → Bool → Bool → Bool
 stalls_by k e f = is_blocking k && at_side (side_of k) e f
 
 stalls_as : (p : Plan) (c : ℕ) (contents : List (List Element)) (r : Request)
-    → stalls p c contents r ≡ stalls_by r.kind (is_empty c (contents_of contents r.channel)) (is_full p r.channel (contents_of contents r.channel))
+    → stalls p c contents r ≡ stalls_by r.kind (is_empty c (contents_of contents r.channel))
+    (is_full p r.channel (contents_of contents r.channel))
 stalls_as p c contents r = by_kind r.kind
   where
     by_kind : (k : Kind) → (is_blocking k && not (is_possible p c contents (side_of k) r.channel))
@@ -69,21 +70,24 @@ stalls_as p c contents r = by_kind r.kind
     by_kind Empty = refl
     by_kind Full = refl
 
-full_ready : (p : Plan) (contents : List (List Element)) (f : ℕ)
+pub full_ready : (p : Plan) (contents : List (List Element)) (f : ℕ)
     → is_full p f (contents_of (all_ready contents) f) ≡ is_full p f (contents_of contents f)
 full_ready p contents f = rw (ready_contents contents f, length-map) refl
 
 ready_stalls : (p : Plan) (c : ℕ) (contents : List (List Element)) (r : Request)
-    → stalls p c (all_ready contents) r ≡ stalls_by r.kind (is_empty c (ready (contents_of contents r.channel))) (is_full p r.channel (contents_of contents r.channel))
+    → stalls p c (all_ready contents) r
+    ≡ stalls_by r.kind (is_empty c (ready (contents_of contents r.channel))) (is_full p r.channel (contents_of contents r.channel))
 ready_stalls p c contents r =
     stalls_as p c (all_ready contents) r
     ∙ ap₂ (λ (e f : Bool). stalls_by r.kind e f) (ap (is_empty c) (ready_contents contents r.channel)) (full_ready p contents r.channel)
 
 -- on such contents a request stalls in each clock or in none
-pub same_stalls : (p : Plan) (b c : ℕ) (contents : List (List Element)) (r : Request) → stalls p b (all_ready contents) r ≡ stalls p c (all_ready contents) r
+pub same_stalls : (p : Plan) (b c : ℕ) (contents : List (List Element)) (r : Request)
+    → stalls p b (all_ready contents) r ≡ stalls p c (all_ready contents) r
 same_stalls p b c contents r =
     ready_stalls p b contents r
-    ∙ (ap (λ (e : Bool). stalls_by r.kind e (is_full p r.channel (contents_of contents r.channel))) (ready_empty b c (contents_of contents r.channel))
+    ∙ (ap (λ (e : Bool). stalls_by r.kind e (is_full p r.channel (contents_of contents r.channel)))
+    (ready_empty b c (contents_of contents r.channel))
     ∙ sym (ready_stalls p c contents r))
 
 -- ---- what can be done could be done if every element could be popped
@@ -101,11 +105,13 @@ ready_more : (c : ℕ) (held : List Element) → is_empty c held ≡ false → i
 ready_more c [] h = h
 ready_more c (e ∷ held) h = grind arith
 
-ready_never_stalls : (p : Plan) (c : ℕ) (contents : List (List Element)) (r : Request) → stalls p c contents r ≡ false → stalls p c (all_ready contents) r ≡ false
+ready_never_stalls : (p : Plan) (c : ℕ) (contents : List (List Element)) (r : Request) → stalls p c contents r ≡ false
+    → stalls p c (all_ready contents) r ≡ false
 ready_never_stalls p c contents r h =
     let held = contents_of contents r.channel in
     ready_stalls p c contents r
-    ∙ fewer_stall r.kind (is_empty c held) (is_empty c (ready held)) (is_full p r.channel held) (ready_more c held) (sym (stalls_as p c contents r) ∙ h)
+    ∙ fewer_stall r.kind (is_empty c held) (is_empty c (ready held)) (is_full p r.channel held) (ready_more c held)
+    (sym (stalls_as p c contents r) ∙ h)
 
 none_stall : (p : Plan) (c : ℕ) (contents : List (List Element)) (rs : List Request) → list_any (stalls p c contents) rs ≡ false
     → list_any (stalls p c (all_ready contents)) rs ≡ false
@@ -127,16 +133,18 @@ unfolding moves
 moves_alike p b c now later same m =
     ap (λ (z : Bool). not (is_over p.ops m.1) && not z) (any_alike (stalls p b now) (stalls p c later) same (requests_of p m))
 
-some_alike : (p : Plan) (b c : ℕ) (now later : List (List Element)) → ((r : Request) → stalls p b now r ≡ stalls p c later r)
+pub some_alike : (p : Plan) (b c : ℕ) (now later : List (List Element)) → ((r : Request) → stalls p b now r ≡ stalls p c later r)
     → (st : ClockState) → some_moves p b now st ≡ some_moves p c later st
-some_alike p b c now later same st = ap (λ (f : ℕ × ModuleState → Bool). list_any f (numbered st)) (λ i m. moves_alike p b c now later same m i)
+some_alike p b c now later same st =
+    ap (λ (f : ℕ × ModuleState → Bool). list_any f (numbered st)) (λ i m. moves_alike p b c now later same m i)
 
 still_by : (a x y : Bool) → (x ≡ false → y ≡ false) → (not a && not y) ≡ false → (not a && not x) ≡ false
 still_by true x y more h = refl
 still_by false true y more h = refl
 still_by false false y more h = let now = more refl in rw now at h
 
-keeps_still : (p : Plan) (c : ℕ) (contents : List (List Element)) (m : ℕ × ModuleState) → moves p c (all_ready contents) m ≡ false → moves p c contents m ≡ false
+keeps_still : (p : Plan) (c : ℕ) (contents : List (List Element)) (m : ℕ × ModuleState) → moves p c (all_ready contents) m ≡ false
+    → moves p c contents m ≡ false
 unfolding moves
 keeps_still p c contents m h = still_by (is_over p.ops m.1) _ _ (none_stall p c contents (requests_of p m)) h
 
@@ -146,7 +154,8 @@ pub none_ever : (p : Plan) (b c : ℕ) (contents : List (List Element)) (st : Cl
 none_ever p b c contents st h =
     by_modules (numbered st) (some_alike p c b (all_ready contents) (all_ready contents) (same_stalls p c b contents) st ∙ h)
   where
-    by_modules : (ms : List (ℕ × ModuleState)) → list_any (moves p c (all_ready contents)) ms ≡ false → list_any (moves p c contents) ms ≡ false
+    by_modules : (ms : List (ℕ × ModuleState)) → list_any (moves p c (all_ready contents)) ms ≡ false
+        → list_any (moves p c contents) ms ≡ false
     by_modules [] e = refl
     by_modules (m ∷ ms) e =
         let parts = or_parts (moves p c (all_ready contents) m) (list_any (moves p c (all_ready contents)) ms) e in
@@ -169,7 +178,8 @@ settled_from p c st h = settled_both _ _ (none_ever p c c st.contents st h) h
 -- a settled state is settled in each clock
 pub settled_at : (p : Plan) (b c : ℕ) (st : ClockState) → is_settled p b st ≡ true → is_settled p c st ≡ true
 settled_at p b c st h =
-    settled_from p c st (some_alike p c b (all_ready st.contents) (all_ready st.contents) (same_stalls p c b st.contents) st ∙ (settled_parts p b st h).1)
+    settled_from p c st (some_alike p c b (all_ready st.contents) (all_ready st.contents) (same_stalls p c b st.contents) st
+    ∙ (settled_parts p b st h).1)
 
 -- ---- where no module moves
 
@@ -267,14 +277,16 @@ late_stalls p c contents l r =
     ∙ sym (ready_stalls p c contents r))
 
 -- no module moves in so many clocks from c on
-stays_while : (p : Plan) (c n : ℕ) → ((k : ℕ) → k < n → some_moves p (k + c) (state p (k + c)).contents (state p (k + c)) ≡ false) → state p (n + c) ≡ state p c
+stays_while : (p : Plan) (c n : ℕ) → ((k : ℕ) → k < n → some_moves p (k + c) (state p (k + c)).contents (state p (k + c)) ≡ false)
+    → state p (n + c) ≡ state p c
 stays_while p c zero h = rw zero-add
 stays_while p c (suc n) h =
     rw suc-add (state-suc p (n + c)
     ∙ (still_step p (n + c) (state p (n + c)) (h n (omega arith)) ∙ stays_while p c n (λ k l. h k (omega arith))))
 
 -- where no module moves in a clock and those after it, the clock is settled
-pub rests_settled : (p : Plan) (c : ℕ) → ((k : ℕ) → some_moves p (k + c) (state p (k + c)).contents (state p (k + c)) ≡ false) → is_settled p c (state p c) ≡ true
+pub rests_settled : (p : Plan) (c : ℕ) → ((k : ℕ) → some_moves p (k + c) (state p (k + c)).contents (state p (k + c)) ≡ false)
+    → is_settled p c (state p c) ≡ true
 rests_settled p c h =
     let st = state p c in
     let n = latest_all st.contents in
@@ -292,7 +304,8 @@ look p c (suc n) = elim (look p c n) [
   | inl found ↦ inl found
   | inr none ↦ elim (cases_Bool (some_moves p (n + c) (state p (n + c)).contents (state p (n + c)))) [
     | inl e ↦ inl (n, e)
-    | inr e ↦ inr (λ k l. below_more (λ j. some_moves p (j + c) (state p (j + c)).contents (state p (j + c)) ≡ false) n none e k (omega arith))
+    | inr e ↦ inr (λ k l. below_more (λ j. some_moves p (j + c) (state p (j + c)).contents (state p (j + c)) ≡ false) n none e k
+        (omega arith))
   ]
 ]
 
@@ -304,9 +317,11 @@ someone_moves p c h = elim (look p c (suc (latest_all (state p c).contents))) [
       let st = state p c in
       let n = latest_all st.contents in
       let same = stays_while p c n (λ k l. none k (omega arith)) in
-      let still : some_moves p (n + c) st.contents st ≡ false = sym (ap (λ (s : ClockState). some_moves p (n + c) s.contents s) same) ∙ none n (omega arith) in
+      let still : some_moves p (n + c) st.contents st ≡ false = sym (ap (λ (s : ClockState). some_moves p (n + c) s.contents s) same)
+      ∙ none n (omega arith) in
       let late = some_alike p (n + c) (n + c) st.contents (all_ready st.contents) (late_stalls p (n + c) st.contents (omega arith)) st in
       let settled = settled_from p c st
-      (some_alike p c (n + c) (all_ready st.contents) (all_ready st.contents) (same_stalls p c (n + c) st.contents) st ∙ (sym late ∙ still)) in
+      (some_alike p c (n + c) (all_ready st.contents) (all_ready st.contents) (same_stalls p c (n + c) st.contents) st ∙ (sym late ∙ still))
+      in
       absurd (both_ways _ h settled)
 ]

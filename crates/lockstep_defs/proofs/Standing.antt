@@ -1,5 +1,5 @@
 -- What is due in a state of a module of a plan that the engine takes, and where its requests stand.
-use Rattle.std.proofs.Common.{◌≡◌, ℕ, ◌+◌, ◌≤◌, ◌<◌, List, [], ◌∷◌, map, length, Bool, true, false, ◌==◌, refl, sym, subst, arith, ◌⊎◌, inl, inr}
+use Rattle.std.proofs.Common.{◌≡◌, ℕ, ◌+◌, ◌≤◌, ◌<◌, List, [], ◌∷◌, map, length, Bool, true, ◌==◌, refl, sym, subst, arith, ◌⊎◌, inl, inr}
 use Rattle.std.specs.List.{flat_map, filter, filter_map, enumerate_from, cons_option, AllByRecursion, All}
 use Rattle.std.specs.Prelude.{IfSome}
 use Rattle.std.proofs.lemmas.Bool.{cond_both}
@@ -25,7 +25,6 @@ use Rattle.flow_design.specs.Operations.{port, port_of}
 use Rattle.flow_design.specs.Plans.{kind_at}
 use Rattle.flow_design.specs.StaticRules.{uses, users_wanted, IsBlockSound, FitsEngine}
 use Rattle.lockstep_defs.specs.Machine.{request_of, request_for, requests}
-use Rattle.flow_word.specs.Kinds.{side_of}
 use Rattle.lockstep_defs.specs.Lockstep.{module_at, requests_of}
 use Rattle.lockstep_defs.specs.Ports.{has_port, StandsAtPort}
 use Rattle.lockstep_defs.specs.States.{IsDueIn}
@@ -36,12 +35,13 @@ use Rattle.lockstep_defs.proofs.Rules.{some_pass, sound_block, owned_by}
 
 -- ---- due operations are in range
 
-due_numbers : (b : Block) (a k : ℕ) (ts : List Timed) → k + length ts ≤ length b.ops
+pub due_numbers : (b : Block) (a k : ℕ) (ts : List Timed) → k + length ts ≤ length b.ops
     → AllByRecursion (λ n. n < length b.ops) (map (λ t. t.0) (filter (λ t. (t.1).offset == a) (enumerate_from k ts)))
 due_numbers b a k [] h = tt
 due_numbers b a k (t ∷ ts) h =
     let rest = due_numbers b a (k + 1) ts (omega arith) in
-    cond_both (t.offset == a) ((k, t) ∷ filter (λ t. (t.1).offset == a) (enumerate_from (k + 1) ts)) (filter (λ t. (t.1).offset == a) (enumerate_from (k + 1) ts))
+    cond_both (t.offset == a) ((k, t) ∷ filter (λ t. (t.1).offset == a) (enumerate_from (k + 1) ts))
+    (filter (λ t. (t.1).offset == a) (enumerate_from (k + 1) ts))
     (λ (l : List (ℕ × Timed)). AllByRecursion (λ n. n < length b.ops) (map (λ t. t.0) l))
     (λ e. (omega arith, rest)) (λ e. rest)
 
@@ -54,7 +54,8 @@ passing_in b iterations i test (n ∷ ns) l h =
     (λ (l : List ℕ). AllByRecursion (IsDueIn b iterations) (map (λ n. record { iteration = i; op = n }) l))
     (λ e. (record { iteration = l; op = h.0 }, rest)) (λ e. rest)
 
-due_in_iteration : (b : Block) (s : ModuleState) (iterations : ℕ) (it : ℕ × ℕ) → it.0 < iterations → AllByRecursion (IsDueIn b iterations) (due_in b s it)
+due_in_iteration : (b : Block) (s : ModuleState) (iterations : ℕ) (it : ℕ × ℕ) → it.0 < iterations
+    → AllByRecursion (IsDueIn b iterations) (due_in b s it)
 unfolding due_at
 due_in_iteration b s iterations it l = passing_in b iterations it.0 _ (due_at b it.1) l (due_numbers b it.1 0 b.ops (omega arith))
 
@@ -85,7 +86,8 @@ none_wanted Sink Push h = refl
 none_wanted (Fifo depth delay) side h = refl
 
 -- a port that a module uses is there
-port_there : (p : Plan) → FitsEngine p → (i : ℕ) (e : Port) → i < length p.design.modules → e.channel < length p.design.channels → uses e (module_at p i) ≡ true
+port_there : (p : Plan) → FitsEngine p → (i : ℕ) (e : Port) → i < length p.design.modules → e.channel < length p.design.channels
+    → uses e (module_at p i) ≡ true
     → has_port (kind_at p e.channel) e.side ≡ true
 port_there p h i e l in_range used = by_side e.side e.channel in_range used
   where
@@ -94,11 +96,23 @@ port_there p h i e l in_range used = by_side e.side e.channel in_range used
     by_side Pop f in_range used =
         let popping = (h.channels f in_range).popping in
         none_wanted (kind_at p f) Pop
-        (omega (arith, length-filter (uses (port_on Pop f)) p.design.modules, popping, some_pass (uses (port_on Pop f)) p.design.modules i _ l used))
+        (omega (
+          arith,
+          length-filter (uses (port_on Pop f)) p.design.modules,
+          popping,
+          some_pass (uses (port_on Pop f)) p.design.modules i _
+              l used,
+        ))
     by_side Push f in_range used =
         let pushing = (h.channels f in_range).pushing in
         none_wanted (kind_at p f) Push
-        (omega (arith, length-filter (uses (port_on Push f)) p.design.modules, pushing, some_pass (uses (port_on Push f)) p.design.modules i _ l used))
+        (omega (
+          arith,
+          length-filter (uses (port_on Push f)) p.design.modules,
+          pushing,
+          some_pass (uses (port_on Push f)) p.design.modules i
+              _ l used,
+        ))
 
 stands : (p : Plan) → FitsEngine p → (i : ℕ) → i < length p.design.modules → (r : Request) → r.channel < length p.design.channels
     → uses (port r.kind r.channel) (module_at p i) ≡ true → StandsAtPort p i r
@@ -109,9 +123,11 @@ stands p h i l r in_range used = record {
 }
 
 -- an operation of a module makes a request that stands at a port, or none
-operation_stands : (p : Plan) → FitsEngine p → (i : ℕ) → i < length p.design.modules → (channels : List Channel) (s : ModuleState) (n : ℕ) (op : Op ℕ)
+operation_stands : (p : Plan) → FitsEngine p → (i : ℕ) → i < length p.design.modules
+    → (channels : List Channel) (s : ModuleState) (n : ℕ) (op : Op ℕ)
     → IfSome (port_of op) (λ e. e.channel < length p.design.channels) → IfSome (port_of op) (λ e. uses e (module_at p i) ≡ true)
-    → (rs : List Request) → AllByRecursion (StandsAtPort p i) rs → AllByRecursion (StandsAtPort p i) (cons_option (request_of channels s n op) rs)
+    → (rs : List Request) → AllByRecursion (StandsAtPort p i) rs
+    → AllByRecursion (StandsAtPort p i) (cons_option (request_of channels s n op) rs)
 operation_stands p h i l channels s n (Set x a) c u rs rest = rest
 operation_stands p h i l channels s n (Load x k a) c u rs rest = rest
 operation_stands p h i l channels s n (Store k a b) c u rs rest = rest
@@ -124,25 +140,29 @@ operation_stands p h i l channels s n (Full f x) c u rs rest = (stands p h i l _
 
 all_stand : (p : Plan) → FitsEngine p → (i : ℕ) → i < length p.design.modules → (channels : List Channel) (s : ModuleState)
     → IsBlockSound (length p.design.channels) (module_at p i) (block_of (module_at p i) s) → (n : ℕ) (ds : List Due)
-    → AllByRecursion (IsDueIn (block_of (module_at p i) s) n) ds → AllByRecursion (StandsAtPort p i) (filter_map (request_for channels (module_at p i) s) ds)
+    → AllByRecursion (IsDueIn (block_of (module_at p i) s) n) ds
+    → AllByRecursion (StandsAtPort p i) (filter_map (request_for channels (module_at p i) s) ds)
 all_stand p h i l channels s sound n [] d = tt
 all_stand p h i l channels s sound n (x ∷ ds) d =
     let here = (sound.operations x.op no_operation (d.0).op).operation in
     operation_stands p h i l channels s x.iteration (operation_at (block_of (module_at p i) s) x.op).op here.channel here.side
     (filter_map (request_for channels (module_at p i) s) ds) (all_stand p h i l channels s sound n ds d.1)
 
-nothing_due : (m : Module) (s : ModuleState) → block_of m s ≡ no_block → AllByRecursion (IsDueIn (block_of m s) (live_count (block_of m s) s.control)) (due m s) → due m s ≡ []
+nothing_due : (m : Module) (s : ModuleState) → block_of m s ≡ no_block
+    → AllByRecursion (IsDueIn (block_of m s) (live_count (block_of m s) s.control)) (due m s) → due m s ≡ []
 nothing_due m s e h = none (due m s) (subst (λ (b : Block). AllByRecursion (IsDueIn b (live_count (block_of m s) s.control)) (due m s)) e h)
   where
     none : (ds : List Due) → AllByRecursion (IsDueIn no_block (live_count (block_of m s) s.control)) ds → ds ≡ []
     none [] d = refl
     none (x ∷ ds) d = let l = (d.0).op in absurd (omega arith)
 
-stand_by_recursion : (p : Plan) → FitsEngine p → (i : ℕ) → i < length p.design.modules → (s : ModuleState) → AllByRecursion (StandsAtPort p i) (requests_of p (i, s))
+stand_by_recursion : (p : Plan) → FitsEngine p → (i : ℕ) → i < length p.design.modules → (s : ModuleState)
+    → AllByRecursion (StandsAtPort p i) (requests_of p (i, s))
 unfolding requests
 stand_by_recursion p h i l s = by_block (sound_block p h i s.control.block)
   where
-    by_block : IsBlockSound (length p.design.channels) (module_at p i) (block_of (module_at p i) s) ⊎ (block_of (module_at p i) s ≡ no_block)
+    by_block : IsBlockSound (length p.design.channels) (module_at p i) (block_of (module_at p i) s)
+        ⊎ (block_of (module_at p i) s ≡ no_block)
         → AllByRecursion (StandsAtPort p i) (filter_map (request_for p.design.channels (module_at p i) s) (due (module_at p i) s))
     by_block (inl sound) = all_stand p h i l p.design.channels s sound _ (due (module_at p i) s) (due_by_recursion (module_at p i) s)
     by_block (inr none) =
@@ -150,5 +170,6 @@ stand_by_recursion p h i l s = by_block (sound_block p h i s.control.block)
         (sym (nothing_due (module_at p i) s none (due_by_recursion (module_at p i) s))) tt
 
 -- each request of a module stands at a port of a channel of the plan, and the module is the one at that port
-pub requests_stand : (p : Plan) → FitsEngine p → (i : ℕ) → i < length p.design.modules → (s : ModuleState) → All (StandsAtPort p i) (requests_of p (i, s))
+pub requests_stand : (p : Plan) → FitsEngine p → (i : ℕ) → i < length p.design.modules → (s : ModuleState)
+    → All (StandsAtPort p i) (requests_of p (i, s))
 requests_stand p h i l s = All-from_recursion (StandsAtPort p i) (requests_of p (i, s)) (stand_by_recursion p h i l s)

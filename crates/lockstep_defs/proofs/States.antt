@@ -2,12 +2,10 @@
 use Rattle.std.proofs.Common.{◌≡◌, ℕ, zero, suc, ◌+◌, ◌-◌, ◌≤◌, ◌<◌, List, [], ◌∷◌, ◌++◌, length, get_or, set, replicate, map, Bool, true, false, ◌||◌, ◌&&◌, not, cond, refl, sym, ◌∙◌, ap, subst, arith, ◌==◌, nat_lt, length-append}
 use Rattle.std.specs.Prelude.{nat_le, slice_index}
 use Rattle.std.specs.List.{fold}
-use Rattle.std.proofs.lemmas.Bool.{leb-false, ltb-true, ltb-false, lt-ltb, eqb-true, and_from, cond_both, and_parts, or_parts}
+use Rattle.std.proofs.lemmas.Bool.{leb-false, ltb-true, ltb-false, lt-ltb, eqb-true, and_from, cond_both, and_parts}
 use Rattle.std.proofs.lemmas.List.{length-set, length-map, length-drop, get_or-drop, length-replicate, get_or_push}
 use Rattle.std.proofs.Math.Nat.{suc-mul}
 use Rattle.std.proofs.Math.ListN.{get_or-append}
-use Rattle.flow_design.specs.declared.design.BlockKind.{BlockKind}
-use Rattle.flow_design.specs.declared.design.BlockKind.TheVariants.{Plain, Loop}
 use Rattle.flow_design.specs.declared.design.Block.{Block}
 use Rattle.flow_design.specs.declared.design.Memory.{Memory}
 use Rattle.flow_design.specs.declared.design.Module.{Module}
@@ -19,13 +17,14 @@ use Rattle.flow_design.specs.declared.state.Effect.{Effect}
 use Rattle.flow_design.specs.declared.state.Effect.TheVariants.{Variable, Word}
 use Rattle.flow_design.specs.declared.state.ModuleState.{ModuleState}
 use Rattle.flow_design.specs.declared.state.Reply.{Reply}
-use Rattle.flow_design.specs.Module.{no_block, block_at, block_of, is_loop, interval, interval_of, live_count, due}
-use Rattle.flow_design.specs.StaticRules.{IsKindSound, IsNextSound, IsBlockSound, IsModuleSound, FitsEngine}
-use Rattle.lockstep_defs.specs.Machine.{effects, stored, entered, ticked, decided, fresh_temps, started, finished, followed, again_of, is_block_over, move, opened, is_spent, is_over}
+use Rattle.flow_design.specs.Module.{no_block, block_at, block_of, is_loop, interval, live_count, due}
+use Rattle.flow_design.specs.StaticRules.{IsNextSound, IsBlockSound, IsModuleSound, FitsEngine}
+use Rattle.lockstep_defs.specs.Machine.{effects, stored, entered, ticked, decided, fresh_temps, started, finished, followed, again_of, is_block_over, move, opened}
 use Rattle.lockstep_defs.specs.Channels.{reply}
 use Rattle.lockstep_defs.specs.Lockstep.{no_module, module_at, requests_of, moves, state, state_at}
 use Rattle.lockstep_defs.specs.States.{HasPlaces, IsWithin, IsStateOf}
-use Rattle.lockstep_defs.proofs.Agrees.{state_at-zero, state_at-suc, is_on}
+use Rattle.lockstep_defs.proofs.Agrees.{state_at-zero, state_at-suc, is_on, not_ended}
+use Rattle.lockstep_defs.proofs.Blocks.{some_interval, short_interval}
 use Rattle.lockstep_defs.proofs.Live.{live_iff}
 use Rattle.lockstep_defs.proofs.Moves.{commits_keep, counted, same_control, same_block as kept_block, first_goes, tick_goes, rest_of_move}
 
@@ -45,10 +44,12 @@ live_first b k pos some clock newest =
     omega (arith, at_most (live_count b k) 1 (λ more. let live = (live_iff b k 1 pos).0 more in omega (arith, live.has_started)))
 
 -- a local clock later no more are live
-live_ticks : (b : Block) (k j : Control) → 0 < interval b → j.clock ≡ k.clock + 1 → k.newest ≤ k.clock → j.newest ≡ k.newest → live_count b j ≤ live_count b k
+live_ticks : (b : Block) (k j : Control) → 0 < interval b → j.clock ≡ k.clock + 1 → k.newest ≤ k.clock → j.newest ≡ k.newest
+    → live_count b j ≤ live_count b k
 live_ticks b k j pos clock begun newest = at_most (live_count b j) (live_count b k) (λ more.
     let live = (live_iff b j (live_count b k) pos).0 more in
-    let still = (live_iff b k (live_count b k) pos).1 (record { has_started = omega (arith, live.has_started); is_young = omega (arith, live.is_young) }) in
+    let still = (live_iff b k (live_count b k) pos).1
+    (record { has_started = omega (arith, live.has_started); is_young = omega (arith, live.is_young) }) in
     omega arith)
 
 one_more : (a b : ℕ) → 0 < a → ((j : ℕ) → suc j < a → j < b) → ((j : ℕ) → j < b → suc j < a) → a ≡ suc b
@@ -61,7 +62,8 @@ one_more a b some down up =
     low (suc b) up high = omega (arith, up b (omega arith))
 
 -- where an iteration starts II after the newest one, one more is live
-live_starts : (b : Block) (k j : Control) → 0 < interval b → 0 < b.len → j.clock ≡ k.clock → j.newest ≡ k.clock → k.clock ≡ k.newest + interval b
+live_starts : (b : Block) (k j : Control) → 0 < interval b → 0 < b.len → j.clock ≡ k.clock → j.newest ≡ k.clock
+    → k.clock ≡ k.newest + interval b
     → live_count b j ≡ suc (live_count b k)
 live_starts b k j pos some clock newest old = one_more (live_count b j) (live_count b k)
     ((live_iff b j 0 pos).1 (record { has_started = omega arith; is_young = omega arith }))
@@ -77,7 +79,8 @@ live_starts b k j pos some clock newest old = one_more (live_count b j) (live_co
 -- ---- commits keep the places
 
 -- a list in a list is written at one place
-length-set_within : (xss : List (List ℕ)) (k n a v : ℕ) → length (get_or (set xss k (set (get_or xss k []) a v)) n []) ≡ length (get_or xss n [])
+length-set_within : (xss : List (List ℕ)) (k n a v : ℕ)
+    → length (get_or (set xss k (set (get_or xss k []) a v)) n []) ≡ length (get_or xss n [])
 length-set_within [] k n a v = refl
 length-set_within (xs ∷ xss) zero zero a v = length-set xs a v
 length-set_within (xs ∷ xss) zero (suc n) a v = refl
@@ -108,21 +111,10 @@ stored_places m b n s (Word k a v) h = record {
   each_temps = h.each_temps;
 }
 
-all_places : (m : Module) (b : Block) (n : ℕ) (s : ModuleState) (es : List Effect) → HasPlaces m b n s → HasPlaces m b n (fold (stored m b) s es)
+all_places : (m : Module) (b : Block) (n : ℕ) (s : ModuleState) (es : List Effect) → HasPlaces m b n s
+    → HasPlaces m b n (fold (stored m b) s es)
 all_places m b n s [] h = h
 all_places m b n s (e ∷ es) h = all_places m b n (stored m b s e) es (stored_places m b n s e h)
-
--- ---- sound blocks
-
-some_interval : (registers len : ℕ) (k : BlockKind) → 1 ≤ len → IsKindSound registers len k → (0 < interval_of k len) × (interval_of k len ≤ len)
-some_interval registers len Plain l s = (l, omega arith)
-some_interval registers len (Loop ii again) l s = (s.interval, s.least)
-
-positive : (n : ℕ) (m : Module) (b : Block) → IsBlockSound n m b → 0 < interval b
-positive n m b h = (some_interval _ _ b.kind h.least h.kind).0
-
-within_len : (n : ℕ) (m : Module) (b : Block) → IsBlockSound n m b → interval b ≤ b.len
-within_len n m b h = (some_interval _ _ b.kind h.least h.kind).1
 
 -- ---- entering a block
 
@@ -136,7 +128,7 @@ unfolding entered
 entered_state c m sound b iterations n s h l =
     let to = block_at m n in
     let here = sound.blocks n no_block l in
-    let pos = positive c m to here in
+    let pos = some_interval c m to here in
     let k : Control = record { block = n; clock = 0; newest = 0; looping = is_loop to.kind } in
     let one : live_count to k ≡ 1 = live_first to k pos here.least refl refl in
     record {
@@ -226,7 +218,8 @@ start_goes : (l : Bool) (i c : ℕ) → 0 < i → (not l || (nat_lt 0 i && nat_l
 start_goes true i c pos = and_from _ _ (lt-ltb 0 i pos) (lt-ltb c (c + i) (omega arith))
 start_goes false i c pos = refl
 
-decided_passed : (c : ℕ) (m : Module) (t : ModuleState) → t.control.block < length m.blocks → IsBlockSound c m (block_of m t) → t.ended ≡ false
+decided_passed : (c : ℕ) (m : Module) (t : ModuleState) → t.control.block < length m.blocks → IsBlockSound c m (block_of m t)
+    → t.ended ≡ false
     → HasPlaces m (block_of m t) (live_count (block_of m t) t.control) t → IsWithin (block_of m t) t.control
     → Passed m (block_of m t) (decided (block_of m t) (ticked (block_of m t) t))
 unfolding decided ticked
@@ -234,14 +227,20 @@ decided_passed c m t l sound alive h w =
     let b = block_of m t in
     let k = t.control in
     let u = ticked b t in
-    let pos = positive c m b sound in
+    let pos = some_interval c m b sound in
     let gone = ticked_places m b t pos w.has_started h in
     cond_both (k.looping && (k.clock + 1 - k.newest == interval b)) _ u (Passed m b)
     (λ d. cond_both (slice_index u.registers (again_of b.kind) == 0) _ _ (Passed m b)
     (λ z. record {
       at_block = l;
       same_block = refl;
-      places = record { registers = gone.registers; memories = gone.memories; words = gone.words; temps = gone.temps; each_temps = gone.each_temps };
+      places = record {
+        registers = gone.registers;
+        memories = gone.memories;
+        words = gone.words;
+        temps = gone.temps;
+        each_temps = gone.each_temps;
+      };
       control = record { has_started = omega (arith, w.has_started); is_loop_going = λ e. cc; goes = refl };
       not_past = λ e. cc;
       alive = alive;
@@ -265,13 +264,14 @@ decided_passed c m t l sound alive h w =
       same_block = refl;
       places = gone;
       control = record { has_started = omega (arith, w.has_started); is_loop_going = w.is_loop_going; goes = goes };
-      not_past = still_young k.looping (interval b) (k.clock + 1) k.newest b.len (within_len c m b sound) goes;
+      not_past = still_young k.looping (interval b) (k.clock + 1) k.newest b.len (short_interval c m b sound) goes;
       alive = alive;
     })
 
 -- ---- the end of a move
 
-on_block : (m : Module) (b : Block) (v : ModuleState) → v.control.block < length m.blocks → block_of m v ≡ b → HasPlaces m b (live_count b v.control) v
+on_block : (m : Module) (b : Block) (v : ModuleState) → v.control.block < length m.blocks → block_of m v ≡ b
+    → HasPlaces m b (live_count b v.control) v
     → IsWithin b v.control → (v.ended ≡ false → v.control.clock < v.control.newest + b.len) → IsStateOf m v
 on_block m b v l same h w y = record {
   block = l;
@@ -284,13 +284,20 @@ ended_state : (m : Module) (b : Block) (v : ModuleState) → Passed m b v → Is
 ended_state m b v h =
     let places = h.places in
     on_block m b (record v { ended = true }) h.at_block h.same_block
-    (record { registers = places.registers; memories = places.memories; words = places.words; temps = places.temps; each_temps = places.each_temps })
+    (record {
+      registers = places.registers;
+      memories = places.memories;
+      words = places.words;
+      temps = places.temps;
+      each_temps = places.each_temps;
+    })
     h.control (λ e. cc)
 
 followed_state : (c : ℕ) (m : Module) → IsModuleSound c m → (b : Block) (x : Next) → IsNextSound (length m.registers) (length m.blocks) x
     → (v : ModuleState) → Passed m b v → IsStateOf m (followed m x v)
 followed_state c m sound b (Goto n) l v h = entered_state c m sound b (live_count b v.control) n v h.places l
-followed_state c m sound b (Branch r n other) l v h = cond_both (slice_index v.registers r == 0) other n (λ (to : ℕ). IsStateOf m (entered m to v))
+followed_state c m sound b (Branch r n other) l v h =
+    cond_both (slice_index v.registers r == 0) other n (λ (to : ℕ). IsStateOf m (entered m to v))
     (λ e. entered_state c m sound b (live_count b v.control) other v h.places l.2)
     (λ e. entered_state c m sound b (live_count b v.control) n v h.places l.1)
 followed_state c m sound b Stop l v h = ended_state m b v h
@@ -299,16 +306,19 @@ going_on : (l : Bool) (n c s : ℕ) → (not l && nat_le n (c - s)) ≡ false �
 going_on true n c s e h = h refl
 going_on false n c s e h = let young = leb-false n (c - s) e in omega arith
 
-finished_state : (c : ℕ) (m : Module) → IsModuleSound c m → (b : Block) → IsBlockSound c m b → (v : ModuleState) → Passed m b v → IsStateOf m (finished m b v)
+finished_state : (c : ℕ) (m : Module) → IsModuleSound c m → (b : Block) → IsBlockSound c m b → (v : ModuleState) → Passed m b v
+    → IsStateOf m (finished m b v)
 unfolding finished
 finished_state c m sound b here v h = cond_both (is_block_over b v.control) _ v (IsStateOf m)
     (λ e. followed_state c m sound b b.next here.next v h)
-    (λ e. on_block m b v h.at_block h.same_block h.places h.control (λ _. going_on v.control.looping b.len v.control.clock v.control.newest e h.not_past))
+    (λ e. on_block m b v h.at_block h.same_block h.places h.control
+    (λ _. going_on v.control.looping b.len v.control.clock v.control.newest e h.not_past))
 
 -- ---- a whole move
 
 moved_on : (c : ℕ) (m : Module) → IsModuleSound c m → (t : ModuleState) → t.control.block < length m.blocks → t.ended ≡ false
-    → HasPlaces m (block_of m t) (live_count (block_of m t) t.control) t → IsWithin (block_of m t) t.control → IsStateOf m (rest_of_move m (block_of m t) t)
+    → HasPlaces m (block_of m t) (live_count (block_of m t) t.control) t → IsWithin (block_of m t) t.control
+    → IsStateOf m (rest_of_move m (block_of m t) t)
 moved_on c m sound t l alive h w =
     let here = sound.blocks t.control.block no_block l in
     finished_state c m sound (block_of m t) here _ (decided_passed c m t l here alive h w)
@@ -320,7 +330,8 @@ unfolding move
 move_state c m sound s replies h alive =
     let t = counted m s replies in
     let control = same_control m s replies in
-    let places = all_places m (block_of m s) (live_count (block_of m s) s.control) s (effects (block_of m s) s (due m s) replies) h.places in
+    let places = all_places m (block_of m s) (live_count (block_of m s) s.control) s (effects (block_of m s) s (due m s) replies) h.places
+    in
     let placed : HasPlaces m (block_of m s) (live_count (block_of m s) s.control) t = record {
       registers = places.registers;
       memories = places.memories;
@@ -345,24 +356,24 @@ opened_state c m sound = entered_state c m sound no_block 0 0 _ (record {
   each_temps = λ i l. absurd (omega arith);
 }) sound.some
   where
-    words : (ms : List Memory) (n : ℕ) → length {A = ℕ} (get_or (map (λ memory. replicate memory.len 0) ms) n []) ≡ slice_index (map (λ memory. memory.len) ms) n
+    words : (ms : List Memory) (n : ℕ)
+        → length {A = ℕ} (get_or (map (λ memory. replicate memory.len 0) ms) n []) ≡ slice_index (map (λ memory. memory.len) ms) n
     words [] n = refl
     words (memory ∷ ms) zero = length-replicate {A = ℕ} memory.len 0
     words (memory ∷ ms) (suc n) = words ms n
 
 -- ---- the states of the history
 
-not_ended : (limit : ℕ) (s : ModuleState) → is_over limit s ≡ false → s.ended ≡ false
-unfolding is_over
-not_ended limit s h = (or_parts s.ended (is_spent limit s) h).0
-
 -- each module of a plan that the engine takes stands in one of its states in every clock
 pub history_state : (p : Plan) → FitsEngine p → (c i : ℕ) → i < length p.design.modules → IsStateOf (module_at p i) (state_at p c i)
 history_state p h zero i l = rw (state_at-zero p i l) (opened_state (length p.design.channels) (module_at p i) (h.modules i no_module l))
-history_state p h (suc c) i l = rw (state_at-suc p c i l) (by_test (moves p c (state p c).contents (i, state_at p c i)) refl (history_state p h c i l))
+history_state p h (suc c) i l =
+    rw (state_at-suc p c i l) (by_test (moves p c (state p c).contents (i, state_at p c i)) refl (history_state p h c i l))
   where
     by_test : (b : Bool) → moves p c (state p c).contents (i, state_at p c i) ≡ b → IsStateOf (module_at p i) (state_at p c i)
-        → IsStateOf (module_at p i) (cond b (move (module_at p i) (state_at p c i) (map (reply p c (state p c).contents) (requests_of p (i, state_at p c i)))) (state_at p c i))
+        → IsStateOf (module_at p i) (cond b
+        (move (module_at p i) (state_at p c i) (map (reply p c (state p c).contents) (requests_of p (i, state_at p c i))))
+        (state_at p c i))
     by_test false e now = now
     by_test true e now =
         move_state (length p.design.channels) (module_at p i) (h.modules i no_module l) (state_at p c i) _ now

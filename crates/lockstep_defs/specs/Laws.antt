@@ -1,16 +1,21 @@
 -- The laws of the lockstep machine.
-use Rattle.std.specs.Prelude.{◌⊎◌, ℕ, zero, suc, if◌then◌else◌, ◌≡◌, ◌+◌, ◌*◌, ◌-◌, ◌<◌, ◌≤◌, Bool, true, false, IsTrue, IsFalse, List, ◌++◌, map, length, nat_lt, slice_index, slice_index_or}
+use Rattle.std.specs.Prelude.{◌⊎◌, ℕ, zero, suc, if◌then◌else◌, ◌≡◌, ◌+◌, ◌*◌, ◌-◌, ◌<◌, ◌≤◌, true, IsTrue, IsFalse, Bool, false, not, Option, Some, None, List, ◌++◌, map, filter, length, count_by, All, nat_lt, slice_index, slice_index_or}
+use Rattle.flow_word.specs.declared.access.Kind.{Kind}
 use Rattle.flow_word.specs.declared.access.Side.{Side}
 use Rattle.flow_word.specs.declared.access.Side.TheVariants.{Pop, Push}
+use Rattle.flow_word.specs.Kinds.{is_blocking}
+use Rattle.flow_design.specs.declared.expr.Op.{Op}
 use Rattle.flow_design.specs.declared.design.Block.{Block}
 use Rattle.flow_design.specs.declared.plan.Plan.{Plan}
+use Rattle.flow_design.specs.declared.report.Report.{Report}
 use Rattle.flow_design.specs.declared.state.Control.{Control}
 use Rattle.flow_design.specs.declared.state.Reply.{Reply}
 use Rattle.flow_design.specs.declared.state.ModuleState.{ModuleState}
-use Rattle.flow_design.specs.Plans.{is_fifo, kind_at, delay_at}
-use Rattle.flow_design.specs.Module.{interval, live_count, ages}
+use Rattle.flow_design.specs.Plans.{is_fifo, is_sink, kind_at, delay_at}
+use Rattle.flow_design.specs.Operations.{access_of}
+use Rattle.flow_design.specs.Module.{block_of, interval, live_count, ages}
 use Rattle.lockstep_defs.specs.Channels.{HistoryStep, Exchange, is_possible, moved, values, contents_of}
-use Rattle.lockstep_defs.specs.Lockstep.{moves, state, history, state_at, steps_in}
+use Rattle.lockstep_defs.specs.Lockstep.{module_at, requests_of, moves, state, history, state_at, steps_in}
 use Rattle.lockstep_defs.specs.Verdict.{is_settled, some_moves}
 use Rattle.lockstep_defs.specs.Report.{steps_of}
 use Rattle.lockstep_defs.specs.OwnRun.{OwnStep, Own, own, paired}
@@ -22,7 +27,8 @@ SettledStays p c = IsTrue (is_settled p c (state p c)) → (n : ℕ) → (state 
 
 -- from a clock that is not settled some module moves in it or in a later one
 abbrev pub SomeoneMoves : Plan → ℕ → Type 0
-SomeoneMoves p c = IsFalse (is_settled p c (state p c)) → (n : ℕ) × IsTrue (some_moves p (n + c) (state p (n + c)).contents (state p (n + c)))
+SomeoneMoves p c = IsFalse (is_settled p c (state p c))
+    → (n : ℕ) × IsTrue (some_moves p (n + c) (state p (n + c)).contents (state p (n + c)))
 
 -- no clock before this one is settled
 abbrev pub NoneBefore : Plan → ℕ → Type 0
@@ -49,9 +55,11 @@ PopsInOrder p c f = (n d : ℕ) → n < length (moved Pop f (history p c))
 -- channel's delay, and a FIFO has a place
 -- where fewer were pushed than its depth and the pops together; a source or a sink always has one
 pub record IsCounted (p : Plan) (c f : ℕ) : Type 0 where
-  pub pops : is_possible p c (state p c).contents Pop f ≡ nat_lt (length (moved Pop f (history p c))) (length (all_in p (suc c - delay_at p f) f))
+  pub pops : is_possible p c (state p c).contents Pop f
+      ≡ nat_lt (length (moved Pop f (history p c))) (length (all_in p (suc c - delay_at p f) f))
   pub pushes : IsTrue (is_fifo (kind_at p f))
-      → is_possible p c (state p c).contents Push f ≡ nat_lt (length (moved Push f (history p c))) (slice_index p.depths f + length (moved Pop f (history p c)))
+      → is_possible p c (state p c).contents Push f
+      ≡ nat_lt (length (moved Push f (history p c))) (slice_index p.depths f + length (moved Pop f (history p c)))
   pub unlimited : IsFalse (is_fifo (kind_at p f)) → is_possible p c (state p c).contents Push f ≡ true
 
 -- the replies to the steps of a module
@@ -89,6 +97,26 @@ pub record IsLive (b : Block) (k : Control) (j : ℕ) : Type 0 where
 pub record AreAges (b : Block) (k : Control) : Type 0 where
   pub count : length (ages b k) ≡ live_count b k
   pub each : (n d : ℕ) → n < live_count b k → slice_index_or (ages b k) n d ≡ (k.clock - k.newest) + (live_count b k - 1 - n) * interval b
+
+-- a report's numbers are those of the plan's modules and channels; it has one output for each sink, and the answers of each module
+pub record HasNumbersOf (p : Plan) (r : Report) : Type 0 where
+  pub outputs : length r.outputs ≡ length (filter (λ c. is_sink c.kind) p.design.channels)
+  pub answers : length r.answers ≡ length p.design.modules
+  pub held : All (λ h. (h.«module» < length p.design.modules) × (h.channel < length p.design.channels)) r.held
+  pub events : All (λ e. (e.«module» < length p.design.modules) × (e.channel < length p.design.channels)) r.events
+
+-- an operation with such an access is a query
+abbrev pub asks : Option (Kind × ℕ) → Bool
+asks None = false
+asks (Some access) = not (is_blocking access.0)
+
+abbrev pub is_query : Op ℕ → Bool
+is_query op = asks (access_of op)
+
+-- a module makes at most as many queries in a local clock as its block has query operations
+abbrev pub AsksOnce : Plan → ℕ → ModuleState → Type 0
+AsksOnce p i s =
+    count_by (λ r. not (is_blocking r.kind)) (requests_of p (i, s)) ≤ count_by (λ t. is_query t.op) (block_of (module_at p i) s).ops
 
 -- after its quiet clocks the own run of module i rests, and not before
 pub record QuietClocksEnd (p : Plan) (i : ℕ) (s : ModuleState) : Type 0 where

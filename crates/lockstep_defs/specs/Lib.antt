@@ -7,4 +7,5 @@ pub mod OwnRun
 pub mod Quiet
 pub mod States
 pub mod Ports
+pub mod Commits
 pub mod Laws

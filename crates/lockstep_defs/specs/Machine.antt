@@ -1,6 +1,6 @@
 -- A module as a machine: what it asks of the channels, one move on the replies, and when it is over. Proofs about clocks open none of
 -- `requests`, `move`, `is_over` and `opened`.
-use Rattle.std.specs.Prelude.{ℕ, ◌+◌, ◌-◌, ◌%◌, ◌==◌, nat_lt, nat_le, Bool, true, false, not, ◌&&◌, ◌||◌, if◌then◌else◌, Option, Some, None, List, [], ◌∷◌, ◌++◌, map, length, drop, replicate, fold, filter_map, option_map, slice_index, slice_index_or, slice_set}
+use Rattle.std.specs.Prelude.{ℕ, ◌+◌, ◌-◌, ◌%◌, ◌==◌, nat_lt, nat_le, Bool, true, false, not, ◌&&◌, ◌||◌, if◌then◌else◌, Option, List, [], ◌∷◌, ◌++◌, map, length, drop, replicate, fold, filter_map, option_map, slice_index, slice_index_or, slice_set}
 use Rattle.std.specs.Int.{from_bool}
 use Rattle.std.specs.Option.{is_some}
 use Rattle.flow_design.specs.declared.expr.Expr.{Expr}
@@ -107,7 +107,10 @@ stored m b s (Variable i x v) =
     else (let t = x - length m.registers in
     record s { temps = slice_set s.temps i (slice_set (temps_of s i) t (cut_to (slice_index b.temps t) v)) })
 stored m b s (Word n address v) =
-    record s { memories = slice_set s.memories n (slice_set (memory_of s n) address (cut_to (slice_index (map (λ memory. memory.width) m.memories) n) v)) }
+    record s {
+      memories = slice_set s.memories n
+          (slice_set (memory_of s n) address (cut_to (slice_index (map (λ memory. memory.width) m.memories) n) v));
+    }
 
 -- all due operations commit together on the values from before, and the last write to a place wins
 abbrev pub committed : Module → ModuleState → List Reply → ModuleState

@@ -11,16 +11,17 @@ ghost use Rattle.std.specs.Prelude.{List as Items};
 ghost use Rattle.flow_design.specs.Module.{block_of, interval, live_count, due};
 ghost use Rattle.flow_word.specs.declared.access.Port.{Port};
 ghost use Rattle.flow_design.specs.StaticRules.{IsModuleSound, FitsEngine};
-ghost use Rattle.lockstep_defs.specs.Machine.{opened, move};
+ghost use Rattle.lockstep_defs.specs.Machine.{effects, committed, opened, move};
 ghost use Rattle.lockstep_defs.specs.Channels.{HistoryStep};
-ghost use Rattle.lockstep_defs.specs.Report.{steps_of};
+ghost use Rattle.lockstep_defs.specs.Report.{steps_of, report};
 ghost use Rattle.lockstep_defs.specs.Lockstep.{module_at, requests_of, state, state_at, history};
 ghost use Rattle.lockstep_defs.specs.Verdict.{is_settled, settled_verdict, verdict};
 ghost use Rattle.lockstep_defs.specs.OwnRun.{own};
 ghost use Rattle.lockstep_defs.specs.Quiet.{rests, skip, own_later, fits};
 ghost use Rattle.lockstep_defs.specs.States.{IsStateOf, IsDueIn};
 ghost use Rattle.lockstep_defs.specs.Ports.{takers, StandsAtPort};
-ghost use Rattle.lockstep_defs.specs.Laws.{SettledStays, SomeoneMoves, NoneBefore, MovesOnce, IsConserved, PopsInOrder, IsCounted, IsBefore, IsOwnRun, IsLive, AreAges, QuietClocksEnd};
+ghost use Rattle.lockstep_defs.specs.Commits.{LastWins};
+ghost use Rattle.lockstep_defs.specs.Laws.{SettledStays, SomeoneMoves, NoneBefore, MovesOnce, IsConserved, PopsInOrder, IsCounted, IsBefore, IsOwnRun, IsLive, AreAges, HasNumbersOf, AsksOnce, QuietClocksEnd};
 
 /// From a settled clock on nothing changes and nothing is done, and from one that is not settled some module moves in it or in
 /// a later one. The verdict is that of the first settled clock.
@@ -51,7 +52,8 @@ pub fn histories_are_own_runs()
     ensures own { (p : Plan) (i c : ℕ) → i < length p.design.modules → IsOwnRun p i c }
 {}
 
-/// In each clock each module stands in one of its states, and its due operations and requests are those of its design.
+/// In each clock each module stands in one of its states, and its due operations and requests are those of its design. It pops or
+/// pushes a channel at most once in a local clock, and makes each query of its block at most once.
 pub fn states_fit_modules()
     ensures opened { (channels : ℕ) (m : Module) → IsModuleSound channels m → IsStateOf m (opened m) }
     ensures moved { (channels : ℕ) (m : Module) → IsModuleSound channels m → (s : ModuleState) (replies : Items Reply)
@@ -60,7 +62,19 @@ pub fn states_fit_modules()
     ensures due { (m : Module) (s : ModuleState) → All (IsDueIn (block_of m s) (live_count (block_of m s) s.control)) (due m s) }
     ensures requests { (p : Plan) → FitsEngine p → (i : ℕ) → i < length p.design.modules → (s : ModuleState)
         → All (StandsAtPort p i) (requests_of p (i, s)) }
+    ensures queries { (p : Plan) → FitsEngine p → (i : ℕ) (s : ModuleState) → AsksOnce p i s }
     ensures takers { (p : Plan) → FitsEngine p → (a : Port) (i : ℕ) (s : ModuleState) → length (takers a (requests_of p (i, s))) ≤ 1 }
+{}
+
+/// The due operations of a local clock commit together in commit order: the last write to a place wins.
+pub fn last_write_wins()
+    ensures { (m : Module) (s : ModuleState) (replies : Items Reply) → IsStateOf m s
+        → LastWins m (block_of m s) (effects (block_of m s) s (due m s) replies) s (committed m s replies) }
+{}
+
+/// A report names modules and channels of its plan alone, and has one output for each sink.
+pub fn reports_name_their_plans()
+    ensures { (p : Plan) → FitsEngine p → HasNumbersOf p (report p) }
 {}
 
 /// The live iterations of a block whose interval is at least 1 started at the newest one's start and at each interval before it,

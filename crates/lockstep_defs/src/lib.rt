@@ -5,6 +5,6 @@
 mod laws;
 
 pub use laws::{
-    channels_are_queues, histories_are_own_runs, live_iterations, quiet_clocks_end, settled_clocks,
-    states_fit_modules,
+    channels_are_queues, histories_are_own_runs, last_write_wins, live_iterations,
+    quiet_clocks_end, reports_name_their_plans, settled_clocks, states_fit_modules,
 };

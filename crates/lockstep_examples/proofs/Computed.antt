@@ -11,5 +11,7 @@ use Rattle.lockstep_defs.specs.OwnRun.{own_next, own, marks}
 
 -- naming this on an `unfolding` line opens every definition
 unfoldable pub all_open : Unit {0}
-unfolding shape-the_row-Expr-0 hidden-the_row-Expr-0 denote.Hole.Carrier.hidden report verdict first_settled is_settled moment opening clock_step steps_in moves reply moved moved_by is_over opened move finished decided ticked entered requests due due_at ages value own_next own marks
+unfolding shape-the_row-Expr-0 hidden-the_row-Expr-0 denote.Hole.Carrier.hidden report verdict first_settled is_settled moment opening
+    clock_step steps_in moves reply moved moved_by is_over opened move finished decided ticked entered requests due due_at ages value
+    own_next own marks
 all_open = tt

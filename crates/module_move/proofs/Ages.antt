@@ -4,40 +4,36 @@ use Rattle.std.proofs.Math.Nat.{div-mul-le_self, mul-le-mul_right}
 use Rattle.std.specs.List.{flat_map, enumerate_from}
 use Rattle.flow_design.specs.declared.design.Module.{Module}
 use Rattle.flow_design.specs.declared.design.Block.{Block}
-use Rattle.flow_design.specs.declared.design.BlockKind.{BlockKind}
-use Rattle.flow_design.specs.declared.design.BlockKind.TheVariants.{Plain, Loop}
 use Rattle.flow_design.specs.declared.state.Control.{Control}
 use Rattle.flow_design.specs.declared.state.ModuleState.{ModuleState}
 use Rattle.flow_design.specs.declared.state.Due.{Due}
-use Rattle.flow_design.specs.Module.{block_of, interval, interval_of, live_count, ages_down, ages, temps_of, due_in, due}
-use Rattle.flow_design.specs.StaticRules.{IsModuleSound, IsBlockSound, IsKindSound}
+use Rattle.flow_design.specs.Module.{block_of, interval, live_count, ages_down, ages, temps_of, due_in, due}
+use Rattle.flow_design.specs.StaticRules.{IsModuleSound}
+use Rattle.lockstep_defs.proofs.Blocks.{block_sound}
 use Rattle.module_move.specs.Sound.{IsStateSound, AreGuardsSound}
-use Rattle.module_move.proofs.Begins.{block_sound, live_count_is}
+use Rattle.module_move.proofs.Begins.{live_count_is}
 
 -- ---- bounds
 
-span_from : (registers len : ℕ) (kind : BlockKind) → IsKindSound registers len kind → len ≤ 64 * interval_of kind len
-span_from registers len Plain h = omega arith
-span_from registers len (Loop ii again) h = h.most
-
-pub span : (channels : ℕ) (m : Module) (b : Block) → IsBlockSound channels m b → b.len ≤ 64 * interval b
-span channels m b h = span_from (length m.registers) b.len b.kind h.kind
-
 -- the age of the n-th iteration before the newest is below LEN
-pub older_age : (b : Block) (k : Control) (n : ℕ) → k.clock - k.newest < b.len → n < live_count b k → (k.clock - k.newest) + n * interval b < b.len
+pub older_age : (b : Block) (k : Control) (n : ℕ) → k.clock - k.newest < b.len → n < live_count b k
+    → (k.clock - k.newest) + n * interval b < b.len
 older_age b k n live below =
     let count = live_count_is b k live in
     let many : n ≤ (b.len - 1 - (k.clock - k.newest)) / interval b = omega (arith, count) in
     let product : n * interval b ≤ (b.len - 1 - (k.clock - k.newest)) / interval b * interval b = mul-le-mul_right (interval b) many in
-    let whole : (b.len - 1 - (k.clock - k.newest)) / interval b * interval b ≤ b.len - 1 - (k.clock - k.newest) = div-mul-le_self (b.len - 1 - (k.clock - k.newest)) (interval b) in
+    let whole : (b.len - 1 - (k.clock - k.newest)) / interval b * interval b
+    ≤ b.len - 1 - (k.clock - k.newest) = div-mul-le_self (b.len - 1 - (k.clock - k.newest)) (interval b) in
     omega arith
 
 -- the guards of a block's operations, over the temps of a live iteration
-pub guards_sound : (channels : ℕ) (m : Module) (s : ModuleState) (place : ℕ) → IsModuleSound channels m → IsStateSound m s → place < length s.temps
+pub guards_sound : (channels : ℕ) (m : Module) (s : ModuleState) (place : ℕ) → IsModuleSound channels m → IsStateSound m s
+    → place < length s.temps
     → AreGuardsSound (length s.registers + length (temps_of s place)) (block_of m s).ops
 guards_sound channels m s place h sound there =
     let block = block_sound channels m s.control.block h sound.state.block in
-    let temps : length (temps_of s place) ≡ length (block_of m s).temps = sound.state.places.each_temps place (rw sound.state.places.temps at there) in
+    let temps : length (temps_of s place)
+    ≡ length (block_of m s).temps = sound.state.places.each_temps place (rw sound.state.places.temps at there) in
     λ i d within. rw (sound.state.places.registers, temps) (block.operations i d within).guard
 
 -- ---- one iteration after another

@@ -1,31 +1,34 @@
 -- Looking up the due operations, iteration by iteration.
-use Rattle.std.proofs.Common.{◌≡◌, refl, sym, ◌∙◌, ap, arith, ℕ, ◌+◌, ◌<◌, ◌≤◌, ◌==◌, Bool, true, false, cond, List, [], ◌∷◌, ◌++◌, map, length, take, get_or, append_assoc}
+use Rattle.std.proofs.Common.{◌≡◌, refl, sym, ◌∙◌, ap, arith, ℕ, ◌+◌, ◌<◌, ◌≤◌, Bool, true, false, cond, List, [], ◌∷◌, ◌++◌, map, length, take, get_or, append_assoc}
 use Rattle.std.specs.Prelude.{filter, flat_map, All}
-use Rattle.std.specs.List.{enumerate_from, AllByRecursion}
-use Rattle.std.proofs.lemmas.Bool.{cond_both}
+use Rattle.std.specs.List.{enumerate_from}
 use Rattle.std.proofs.lemmas.List.{map-append, take_more, take_all}
 use Rattle.std.proofs.lemmas.List.Elements.{filter-append, All-from_recursion}
 use Rattle.flow_design.specs.declared.design.Block.{Block}
 use Rattle.flow_design.specs.declared.design.Module.{Module}
-use Rattle.flow_design.specs.declared.design.Timed.{Timed}
 use Rattle.flow_design.specs.declared.state.Due.{Due}
 use Rattle.flow_design.specs.declared.state.ModuleState.{ModuleState}
 use Rattle.flow_design.specs.Module.{operation_at, temps_of, passes, live_count, ages_down, due_at, due_in, due}
+use Rattle.lockstep_defs.proofs.Standing.{due_numbers}
 
 -- those of these operations of an iteration that pass
 abbrev pub passing : Block → ModuleState → ℕ → List ℕ → List Due
-passing b s place ns = map (λ n. record { iteration = place; op = n }) (filter (λ n. passes s.registers (temps_of s place) (operation_at b n).guard) ns)
+passing b s place ns = map (λ n. record { iteration = place; op = n })
+    (filter (λ n. passes s.registers (temps_of s place) (operation_at b n).guard) ns)
 
 passing_one : (b : Block) (s : ModuleState) (place n : ℕ)
-    → passing b s place (n ∷ []) ≡ cond (passes s.registers (temps_of s place) (operation_at b n).guard) (record { iteration = place; op = n } ∷ []) []
+    → passing b s place (n ∷ []) ≡ cond (passes s.registers (temps_of s place) (operation_at b n).guard)
+    (record { iteration = place; op = n } ∷ []) []
 passing_one b s place n = by_test (passes s.registers (temps_of s place) (operation_at b n).guard) refl
   where
     by_test : (t : Bool) → passes s.registers (temps_of s place) (operation_at b n).guard ≡ t
-        → passing b s place (n ∷ []) ≡ cond (passes s.registers (temps_of s place) (operation_at b n).guard) (record { iteration = place; op = n } ∷ []) []
+        → passing b s place (n ∷ []) ≡ cond (passes s.registers (temps_of s place) (operation_at b n).guard)
+        (record { iteration = place; op = n } ∷ []) []
     by_test true e = rw e refl
     by_test false e = rw e refl
 
-passing-append : (b : Block) (s : ModuleState) (place : ℕ) (ms ns : List ℕ) → passing b s place (ms ++ ns) ≡ passing b s place ms ++ passing b s place ns
+passing-append : (b : Block) (s : ModuleState) (place : ℕ) (ms ns : List ℕ)
+    → passing b s place (ms ++ ns) ≡ passing b s place ms ++ passing b s place ns
 passing-append b s place ms ns = rw (filter-append, map-append) refl
 
 -- one operation more
@@ -35,13 +38,15 @@ pub passing_more : (b : Block) (s : ModuleState) (place i n : ℕ) (numbers : Li
     → before ≡ initial ++ passing b s place (take i numbers)
     → now ≡ initial ++ passing b s place (take (i + 1) numbers)
 passing_more b s place i n numbers test initial before now inside read is added so_far =
-    let more : take (i + 1) numbers ≡ take i numbers ++ n ∷ [] = take_more numbers i n inside ∙ ap (λ (k : ℕ). take i numbers ++ k ∷ []) (sym read) in
+    let more : take (i + 1) numbers ≡ take i numbers ++ n ∷ [] = take_more numbers i n inside
+    ∙ ap (λ (k : ℕ). take i numbers ++ k ∷ []) (sym read) in
     let one : cond test (record { iteration = place; op = n } ∷ []) [] ≡ passing b s place (n ∷ []) =
     ap (λ (t : Bool). cond t (record { iteration = place; op = n } ∷ []) []) is ∙ sym (passing_one b s place n) in
     added ∙ (rw (so_far, one) (append_assoc initial (passing b s place (take i numbers)) (passing b s place (n ∷ [])))
     ∙ ap (λ (ds : List Due). initial ++ ds) (sym (ap (passing b s place) more ∙ passing-append b s place (take i numbers) (n ∷ []))))
 
-pub passing_all : (b : Block) (s : ModuleState) (place i : ℕ) (numbers : List ℕ) → length numbers ≤ i → passing b s place (take i numbers) ≡ passing b s place numbers
+pub passing_all : (b : Block) (s : ModuleState) (place i : ℕ) (numbers : List ℕ) → length numbers ≤ i
+    → passing b s place (take i numbers) ≡ passing b s place numbers
 passing_all b s place i numbers all = ap (passing b s place) (take_all i numbers all)
 
 -- what was added, and then the due operations of the iterations left, are all
@@ -51,15 +56,6 @@ pub record IsAdding (m : Module) (b : Block) (s : ModuleState) (pending : List D
 
 -- ---- numbers in range
 
-numbers_in : (b : Block) (a k : ℕ) (ts : List Timed) → k + length ts ≤ length b.ops
-    → AllByRecursion (λ n. n < length b.ops) (map (λ t. t.0) (filter (λ t. (t.1).offset == a) (enumerate_from k ts)))
-numbers_in b a k [] h = tt
-numbers_in b a k (t ∷ ts) h =
-    let rest = numbers_in b a (k + 1) ts (omega arith) in
-    cond_both (t.offset == a) ((k, t) ∷ filter (λ t. (t.1).offset == a) (enumerate_from (k + 1) ts)) (filter (λ t. (t.1).offset == a) (enumerate_from (k + 1) ts))
-    (λ (l : List (ℕ × Timed)). AllByRecursion (λ n. n < length b.ops) (map (λ t. t.0) l))
-    (λ e. (omega arith, rest)) (λ e. rest)
-
 pub numbers_inside : (b : Block) (offset : ℕ) → All (λ n. n < length b.ops) (due_at b offset)
 unfolding due_at
-numbers_inside b offset = All-from_recursion (λ n. n < length b.ops) _ (numbers_in b offset 0 b.ops (omega arith))
+numbers_inside b offset = All-from_recursion (λ n. n < length b.ops) _ (due_numbers b offset 0 b.ops (omega arith))

@@ -15,13 +15,16 @@ use Rattle.lockstep_defs.proofs.Moves.{same_block, rest_of_move}
 use Rattle.module_move.specs.Moves.{counted, ticked_to, gone_on}
 
 -- the commits of the effects of the due operations
-pub counted_is : (m : Module) (s : ModuleState) (replies : List Reply) (w : ModuleState) (es : List Effect) (pending : List Due) → pending ≡ due m s
+pub counted_is : (m : Module) (s : ModuleState) (replies : List Reply) (w : ModuleState) (es : List Effect) (pending : List Due)
+    → pending ≡ due m s
     → es ≡ effects (block_of m s) s pending replies → w ≡ fold (stored m (block_of m s)) s es → w.count ≡ s.count
     → record w { count = w.count + length pending } ≡ counted m s replies
 counted_is m s replies w es pending listed written committed_is kept =
-    let effects_are : es ≡ effects (block_of m s) s (due m s) replies = written ∙ ap (λ (ds : List Due). effects (block_of m s) s ds replies) listed in
+    let effects_are : es ≡ effects (block_of m s) s (due m s) replies = written
+    ∙ ap (λ (ds : List Due). effects (block_of m s) s ds replies) listed in
     let commits : w ≡ committed m s replies = committed_is ∙ ap (fold (stored m (block_of m s)) s) effects_are in
-    let number : w.count + length pending ≡ s.count + length (due m s) = ap (λ (n : ℕ). n + length pending) kept ∙ ap (λ (ds : List Due). s.count + length ds) listed in
+    let number : w.count + length pending ≡ s.count + length (due m s) = ap (λ (n : ℕ). n + length pending) kept
+    ∙ ap (λ (ds : List Due). s.count + length ds) listed in
     ap (λ (n : ℕ). record w { count = n }) number ∙ ap (λ (v : ModuleState). record v { count = s.count + length (due m s) }) commits
 
 -- the clock and the control make up the rest of a move
@@ -33,12 +36,14 @@ moved_is m s t u replies commits ticks =
     ∙ ap (λ (b : Block). rest_of_move m b (counted m s replies)) (same_block m s replies))
 
 -- where nothing is to be decided
-not_again : (b : Block) (s : ModuleState) → (s.control.looping && (s.control.clock - s.control.newest == interval b)) ≡ false → decided b s ≡ s
+not_again : (b : Block) (s : ModuleState) → (s.control.looping && (s.control.clock - s.control.newest == interval b)) ≡ false
+    → decided b s ≡ s
 unfolding decided
 not_again b s none = rw none refl
 
 decided_is : (b : Block) (s : ModuleState) → decided b s
-    ≡ cond (s.control.looping && (s.control.clock - s.control.newest == interval b)) (cond (slice_index s.registers (again_of b.kind) == 0) (stopped s) (started b s)) s
+    ≡ cond (s.control.looping && (s.control.clock - s.control.newest == interval b))
+    (cond (slice_index s.registers (again_of b.kind) == 0) (stopped s) (started b s)) s
 unfolding decided
 decided_is b s = refl
 
@@ -49,18 +54,22 @@ decided_once b s some =
     (cond_both (s.control.looping && (s.control.clock - s.control.newest == interval b)) _ s (λ (t : ModuleState). decided b t ≡ t)
     (λ e. cond_both (slice_index s.registers (again_of b.kind) == 0) (stopped s) (started b s) (λ (t : ModuleState). decided b t ≡ t)
     (λ z. not_again b (stopped s) refl)
-    (λ z. not_again b (started b s) (and_right s.control.looping _ (ne_eqb (s.control.clock - s.control.clock) (interval b) (λ same. omega arith)))))
+    (λ z. not_again b (started b s)
+    (and_right s.control.looping _ (ne_eqb (s.control.clock - s.control.clock) (interval b) (λ same. omega arith)))))
     (λ e. not_again b s e))
 
 kept_block : (b : Block) (s : ModuleState) → (decided b s).control.block ≡ s.control.block
 kept_block b s =
     subst (λ (t : ModuleState). t.control.block ≡ s.control.block) (sym (decided_is b s))
-    (cond_both (s.control.looping && (s.control.clock - s.control.newest == interval b)) _ s (λ (t : ModuleState). t.control.block ≡ s.control.block)
-    (λ e. cond_both (slice_index s.registers (again_of b.kind) == 0) (stopped s) (started b s) (λ (t : ModuleState). t.control.block ≡ s.control.block) (λ z. refl) (λ z. refl))
+    (cond_both (s.control.looping && (s.control.clock - s.control.newest == interval b)) _ s
+    (λ (t : ModuleState). t.control.block ≡ s.control.block)
+    (λ e. cond_both (slice_index s.registers (again_of b.kind) == 0) (stopped s) (started b s)
+    (λ (t : ModuleState). t.control.block ≡ s.control.block) (λ z. refl) (λ z. refl))
     (λ e. refl))
 
 -- where the decision was made and the block didn't end yet, what is left to do is the same
-pub gone_on_again : (m : Module) (s t : ModuleState) → 1 ≤ interval (block_of m s) → t ≡ decided (block_of m s) s → gone_on m t ≡ gone_on m s
+pub gone_on_again : (m : Module) (s t : ModuleState) → 1 ≤ interval (block_of m s) → t ≡ decided (block_of m s) s
+    → gone_on m t ≡ gone_on m s
 gone_on_again m s t some is =
     let same : block_of m t ≡ block_of m s = ap (block_of m) is ∙ ap (block_at m) (kept_block (block_of m s) s) in
     ap (λ (b : Block). finished m b (decided b t)) same

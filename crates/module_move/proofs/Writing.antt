@@ -25,7 +25,8 @@ none_there replies n over =
     rw empty refl
 
 -- one operation more
-pub writing_more : (b : Block) (s : ModuleState) (pending : List Due) (replies : List Reply) (i taken after : ℕ) (d e : Due) (out now goal : List Effect)
+pub writing_more : (b : Block) (s : ModuleState) (pending : List Due) (replies : List Reply) (i taken after : ℕ) (d e : Due)
+    (out now goal : List Effect)
     → i < length pending → d ≡ get_or pending i e
     → now ≡ out ++ effects_of s d.iteration (operation_at b d.op).op (get_or replies taken Done)
     → drop after replies ≡ cond (is_fifo_operation (operation_at b d.op).op) (drop 1 (drop taken replies)) (drop taken replies)
@@ -33,10 +34,15 @@ pub writing_more : (b : Block) (s : ModuleState) (pending : List Due) (replies :
     → now ++ effects b s (drop (i + 1) pending) (drop after replies) ≡ goal
 writing_more b s pending replies i taken after d e out now goal within read added next so_far =
     let op = (operation_at b d.op).op in
-    let front : drop i pending ≡ d ∷ drop (i + 1) pending = drop_more pending i e within ∙ ap (λ (x : Due). x ∷ drop (i + 1) pending) (sym read) in
-    let reply : get_or (drop taken replies) 0 Done ≡ get_or replies taken Done = get_or-drop taken replies 0 Done ∙ ap (λ (k : ℕ). get_or replies k Done) (omega arith) in
-    let step : effects b s (drop i pending) (drop taken replies) ≡ effects_of s d.iteration op (get_or replies taken Done) ++ effects b s (drop (i + 1) pending) (drop after replies) =
+    let front : drop i pending ≡ d ∷ drop (i + 1) pending = drop_more pending i e within
+    ∙ ap (λ (x : Due). x ∷ drop (i + 1) pending) (sym read) in
+    let reply : get_or (drop taken replies) 0 Done ≡ get_or replies taken Done = get_or-drop taken replies 0 Done
+    ∙ ap (λ (k : ℕ). get_or replies k Done) (omega arith) in
+    let step : effects b s (drop i pending) (drop taken replies) ≡ effects_of s d.iteration op (get_or replies taken Done)
+    ++ effects b s (drop (i + 1) pending) (drop after replies) =
     ap (λ (ds : List Due). effects b s ds (drop taken replies)) front
-    ∙ (ap (λ (r : Reply). effects_of s d.iteration op r ++ effects b s (drop (i + 1) pending) (cond (is_fifo_operation op) (drop 1 (drop taken replies)) (drop taken replies))) reply
-    ∙ ap (λ (rs : List Reply). effects_of s d.iteration op (get_or replies taken Done) ++ effects b s (drop (i + 1) pending) rs) (sym next)) in
+    ∙ (ap (λ (r : Reply). effects_of s d.iteration op r
+    ++ effects b s (drop (i + 1) pending) (cond (is_fifo_operation op) (drop 1 (drop taken replies)) (drop taken replies))) reply
+    ∙ ap (λ (rs : List Reply). effects_of s d.iteration op (get_or replies taken Done) ++ effects b s (drop (i + 1) pending) rs) (sym next))
+    in
     rw (added, append_assoc, ← step) so_far

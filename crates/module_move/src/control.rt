@@ -8,13 +8,14 @@ ghost use Rattle.module_move.specs.Moves.{ticked_to, gone_on};
 
 use crate::opening::enter;
 use crate::room::MoveRoom;
-use crate::standing::{block_of, interval, live_count};
+use crate::standing::{block_of, live_count};
+use block_schedule::interval;
 use flow_design::{Block, BlockKind, Module, ModuleState, Next};
 use flow_word::OutOfMemory;
 use std::alloc::Global;
 
 /// The local clock goes up to a later one, and the temps of the iterations that are then no longer live go.
-#[tactic(auto, using(crate::proofs::Begins::block_sound, crate::proofs::Begins::interval_some, crate::proofs::Ages::span))]
+#[tactic(auto, using(lockstep_defs::proofs::Blocks::block_sound, lockstep_defs::proofs::Blocks::some_interval, lockstep_defs::proofs::Blocks::span))]
 pub fn tick_to(of: &Module, state: &mut ModuleState, clock: u64, room: &mut MoveRoom)
     requires module { (channels : ℕ) × IsModuleSound channels of.now }
     requires there { state.old.control.block < length of.now.blocks }
@@ -32,7 +33,7 @@ pub fn tick_to(of: &Module, state: &mut ModuleState, clock: u64, room: &mut Move
 /// The loop decides, and the block may end, in the local clock that has begun.
 ///
 /// After want of memory the call may be made again: what it does then is what is left to do.
-#[tactic(auto, using(crate::proofs::Begins::block_sound, crate::proofs::Begins::interval_some))]
+#[tactic(auto, using(lockstep_defs::proofs::Blocks::block_sound, lockstep_defs::proofs::Blocks::some_interval))]
 pub fn go_on(
     alloc: Global,
     of: &Module,

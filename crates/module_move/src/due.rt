@@ -5,8 +5,8 @@ ghost use Rattle.flow_design.specs.Module.{block_of, operation_at, temps_of, pas
 ghost use Rattle.module_move.specs.Sound.{IsStateSound, AreGuardsSound};
 ghost use Rattle.block_schedule.specs.Schedules.{IsScheduleOf};
 
-use crate::standing::{block_of, interval, temps_of};
-use block_schedule::Schedule;
+use crate::standing::{block_of, temps_of};
+use block_schedule::{Schedule, interval};
 use flow_design::{Block, Due, Module, ModuleState};
 use flow_expr::variable;
 use flow_word::{List, OutOfMemory};

@@ -7,6 +7,7 @@ ghost use Rattle.flow_design.specs.declared.state.Effect.TheVariants.{Variable};
 ghost use Rattle.lockstep_defs.specs.Machine.{is_yes, value_in, value_of, memory_of, address_in, is_fifo_operation, effects_of, effects};
 ghost use Rattle.module_move.specs.Sound.{IsStateSound, IsDueSound, IsReady, places_in};
 
+use crate::replies::{is_yes, value_in};
 use crate::standing::{block_of, operation, temps_of};
 use flow_design::{Due, Effect, Expr, Module, ModuleState, Op, Reply};
 use flow_expr::eval;
@@ -65,27 +66,6 @@ fn is_fifo_operation(op: &Op<u32>) -> bool
         Op::Set(_, _) | Op::Load(_, _, _) | Op::Store(_, _, _) => false,
         Op::Read(_, _) | Op::Write(_, _) | Op::TryRead(_, _, _) => true,
         Op::TryWrite(_, _, _) | Op::Empty(_, _) | Op::Full(_, _) => true,
-    }
-}
-
-/// Whether the operation was done, or the test held.
-fn is_yes(reply: Reply) -> bool
-    ensures { result ≡ is_yes reply }
-{
-    match reply {
-        Reply::Done | Reply::Value(_) | Reply::Took(_) => true,
-        Reply::Flag(yes) => yes,
-        Reply::Missed => false,
-    }
-}
-
-/// The value that was popped, or 0.
-fn value_in(reply: Reply) -> u64
-    ensures { result ≡ value_in reply }
-{
-    match reply {
-        Reply::Value(value) | Reply::Took(value) => value,
-        Reply::Done | Reply::Flag(_) | Reply::Missed => 0,
     }
 }
 

@@ -1,5 +1,6 @@
 //! One move of a module.
-ghost use Rattle.std.specs.Prelude.{◌≡◌, ℕ, ◌+◌, ◌<◌, ◌≤◌, ◌^◌, length, OnOk, OnErr};
+ghost use Rattle.std.specs.Prelude.{◌≡◌, ℕ, ◌+◌, ◌<◌, ◌≤◌, ◌*◌, ◌^◌, length, OnOk, OnErr};
+ghost use Rattle.flow_design.specs.declared.limits.TheConstants.{LIVE_ITERATIONS, OPERATIONS};
 ghost use Rattle.flow_design.specs.StaticRules.{IsModuleSound};
 ghost use Rattle.flow_design.specs.Module.{due};
 ghost use Rattle.lockstep_defs.specs.Machine.{move};
@@ -32,7 +33,7 @@ pub fn commit(
     ensures unchanged { OnErr result (state.new ≡ state.old) }
     ensures control { state.new.control ≡ state.old.control }
     ensures count { OnOk result (state.new.count ≡ state.old.count + length pending.now) }
-    ensures few { length pending.now ≤ 65536 }
+    ensures few { length pending.now ≤ LIVE_ITERATIONS * OPERATIONS }
 {
     room.effects.truncate(0);
     add_effects(of, state, pending, replies, &mut room.effects)?;

@@ -1,7 +1,6 @@
 //! The schedules of a module's blocks.
-ghost use Rattle.std.specs.Prelude.{ℕ, All, IfOk};
-ghost use Rattle.flow_design.specs.declared.design.Module.{Module as ModuleOf};
-ghost use Rattle.flow_design.specs.StaticRules.{IsBlockSound};
+ghost use Rattle.std.specs.Prelude.{All, IfOk};
+ghost use Rattle.block_schedule.specs.Schedules.{KeepsLimits};
 ghost use Rattle.module_move.specs.Scheduled.{AreSchedulesOf};
 
 use block_schedule::Schedule;
@@ -9,9 +8,9 @@ use flow_design::Block;
 use flow_word::{List, OutOfMemory};
 use std::alloc::Global;
 
-/// The schedule of each block.
+/// The schedule of each block. Each block keeps the limits that a schedule needs.
 pub fn schedules_of(alloc: Global, blocks: &[Block]) -> Result<List<Schedule>, OutOfMemory>
-    requires { (channels : ℕ) × ((m : ModuleOf) × All (IsBlockSound channels m) blocks.now) }
+    requires { All KeepsLimits blocks.now }
     ensures { IfOk result (AreSchedulesOf blocks.now) }
 {
     let mut schedules = List::with_room(alloc, blocks.len() as u64)?;

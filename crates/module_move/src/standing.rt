@@ -1,11 +1,14 @@
-//! Where a module stands: its block, and the iterations that are live.
+//! Where a module stands: its block, the iterations that are live, and whether it is over.
 ghost use Rattle.std.specs.Prelude.{◌≡◌, ◌*◌, ◌<◌, ◌≤◌, length};
+ghost use Rattle.flow_design.specs.declared.limits.TheConstants.{LIVE_ITERATIONS};
 ghost use Rattle.flow_design.specs.Module.{block_of, operation_at, interval, live_count, temps_of};
+ghost use Rattle.lockstep_defs.specs.Machine.{is_spent, is_over};
 
-use flow_design::{Block, BlockKind, Control, Due, Module, ModuleState, Op};
+use block_schedule::interval;
+use flow_design::{Block, Control, Due, Module, ModuleState, Op};
 
 /// The block in which the module stands.
-pub fn block_of<'a>(of: &'a Module, state: &ModuleState) -> &'a Block
+pub(crate) fn block_of<'a>(of: &'a Module, state: &ModuleState) -> &'a Block
     requires { state.now.control.block < length of.now.blocks }
     ensures { result.now ≡ block_of of.now state.now }
 {
@@ -20,24 +23,14 @@ pub(crate) fn operation<'a>(block: &'a Block, due: &Due) -> &'a Op<u32>
     &block.ops.as_slice()[due.op as usize].op
 }
 
-/// The local clocks between the starts of two iterations.
-pub fn interval(block: &Block) -> u64
-    ensures { result ≡ interval block.now }
-{
-    match block.kind {
-        BlockKind::Plain => block.len,
-        BlockKind::Loop { ii, again: _ } => ii,
-    }
-}
-
 /// How many iterations are live.
 #[tactic(auto, using(crate::proofs::Begins::live_count_is, crate::proofs::Begins::few_live))]
-pub fn live_count(block: &Block, control: &Control) -> u64
+pub(crate) fn live_count(block: &Block, control: &Control) -> u64
     requires some { 1 ≤ interval block.now }
-    requires span { block.now.len ≤ 64 * interval block.now }
+    requires span { block.now.len ≤ LIVE_ITERATIONS * interval block.now }
     requires started { control.now.newest ≤ control.now.clock }
     ensures count { result ≡ live_count block.now control.now }
-    ensures few { result ≤ 64 }
+    ensures few { result ≤ LIVE_ITERATIONS }
 {
     let age = control.clock - control.newest;
     if age >= block.len {
@@ -48,11 +41,26 @@ pub fn live_count(block: &Block, control: &Control) -> u64
 }
 
 /// The temps of a live iteration, or none.
-pub fn temps_of(state: &ModuleState, iteration: u32) -> &[u64]
+pub(crate) fn temps_of(state: &ModuleState, iteration: u32) -> &[u64]
     ensures { result.now ≡ temps_of state.now iteration }
 {
     match state.temps.as_slice().get(iteration as usize) {
         Some(temps) => temps.as_slice(),
         None => &[],
     }
+}
+
+/// Whether a module is spent: not ended, and its count is at least the operation limit.
+pub fn is_spent(limit: u64, state: &ModuleState) -> bool
+    ensures { result ≡ is_spent limit state.now }
+{
+    !state.ended && limit <= state.count
+}
+
+/// Whether a module is ended or spent, so that it moves no more.
+#[tactic(auto, unfolding(lockstep_defs::specs::Machine::is_over))]
+pub fn is_over(limit: u64, state: &ModuleState) -> bool
+    ensures { result ≡ is_over limit state.now }
+{
+    state.ended || is_spent(limit, state)
 }

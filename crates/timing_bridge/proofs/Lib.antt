@@ -12,3 +12,6 @@ pub mod Settling
 pub mod Reports
 pub mod OwnRuns
 pub mod Ordinals
+pub mod Outcomes
+pub mod Places
+pub mod InOrder

@@ -1,5 +1,6 @@
 -- The report that is read off a final core.
-use Rattle.std.specs.Prelude.{ℕ, zero, suc, max, is_some, Bool, true, false, not, ◌&&◌, ◌||◌, ◌≡◌, nat_lt, if◌then◌else◌, List, [], ◌++◌, map, length, filter_map, find, Option, None, option_map, AllPairs}
+use Rattle.std.specs.Prelude.{ℕ, zero, suc, max, is_some, Bool, true, false, not, ◌&&◌, ◌||◌, ◌≡◌, nat_lt, if◌then◌else◌, List, [], ◌++◌}
+use Rattle.std.specs.Prelude.{map, length, filter_map, find, Option, None, option_map, AllPairs, flat_map, ◌==◌, IsPermutation, IsSortedBy}
 use Rattle.std.specs.List.{range_with_len, list_any}
 use Rattle.flow_word.specs.declared.access.Side.TheVariants.{Push}
 use Rattle.flow_design.specs.declared.plan.Plan.{Plan}
@@ -44,10 +45,26 @@ pub record AreInOrder (p : Plan) (x : Core ModuleState) (steps : List HistorySte
   pub rising : AllPairs IsBefore steps
   pub each : (i : ℕ) → steps_of i steps ≡ core_steps p x i
 
--- ---- the verdict
-
 abbrev pub modules_of : Plan → List ℕ
 modules_of p = range_with_len 0 (length p.design.modules)
+
+-- all steps with a cycle, each by its module and its number, module by module
+abbrev pub core_places : Plan → Core ModuleState → List (ℕ × ℕ)
+core_places p x = flat_map (λ i. map (λ k. (i, k)) (range_with_len 0 (x.timed i))) (modules_of p)
+
+-- one comes before the other: its cycle is less, or it is the same and its module's number is less
+abbrev pub comes_before : Core ModuleState → ℕ × ℕ → ℕ × ℕ → Bool
+comes_before x a b = nat_lt (x.cycle a.0 a.1) (x.cycle b.0 b.1) || (x.cycle a.0 a.1 == x.cycle b.0 b.1 && nat_lt a.0 b.0)
+
+-- these are those places, sorted
+pub record AreSorted (p : Plan) (x : Core ModuleState) (places : List (ℕ × ℕ)) : Type 0 where
+  pub all : IsPermutation (core_places p x) places
+  pub sorted : IsSortedBy (comes_before x) places
+
+abbrev pub steps_at : Plan → Core ModuleState → List (ℕ × ℕ) → List HistoryStep
+steps_at p x places = map (λ a. core_step p x a.0 a.1) places
+
+-- ---- the verdict
 
 -- the state of a module behind its steps with a cycle and its quiet clocks
 abbrev pub core_state : Plan → Core ModuleState → ℕ → ModuleState

@@ -1,3 +1,4 @@
 pub mod Designs
 pub mod CoreReports
 pub mod OwnRuns
+pub mod Outcomes

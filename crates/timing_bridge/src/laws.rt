@@ -1,5 +1,5 @@
 //! The laws, for any plan `p` that the engine takes.
-ghost use Rattle.std.specs.Prelude.{ℕ, ◌≡◌, ◌+◌, ◌*◌, ◌<◌, ◌≤◌, List, map, length};
+ghost use Rattle.std.specs.Prelude.{ℕ, true, ◌≡◌, suc, ◌+◌, ◌*◌, ◌<◌, ◌≤◌, List, [], ◌∷◌, Some, map, length, slice_index};
 ghost use Rattle.std.specs.List.{range_with_len};
 ghost use Rattle.flow_word.specs.declared.access.Side.{Side};
 ghost use Rattle.flow_design.specs.declared.plan.Edit.{Edit};
@@ -10,19 +10,22 @@ ghost use Rattle.flow_design.specs.Plans.{with_depth, EditFits};
 ghost use Rattle.flow_design.specs.StaticRules.{FitsEngine};
 ghost use Rattle.lockstep_defs.specs.Channels.{HistoryStep, moved};
 ghost use Rattle.lockstep_defs.specs.Lockstep.{history};
-ghost use Rattle.lockstep_defs.specs.Report.{report, steps_of};
+ghost use Rattle.lockstep_defs.specs.Verdict.{verdict, clock_of};
+ghost use Rattle.lockstep_defs.specs.Report.{report, steps_of, outcomes};
 ghost use Rattle.lockstep_defs.specs.OwnRun.{own};
 ghost use Rattle.event_timing.specs.Machines.{IsDesign};
 ghost use Rattle.event_timing.specs.Machines as theory;
 ghost use Rattle.event_timing.specs.Histories.{IsHistory};
 ghost use Rattle.event_timing.specs.Steps.{done};
-ghost use Rattle.event_timing.specs.Core.{Core, opening_core, core_tally, core_reply};
-ghost use Rattle.event_timing.specs.Actions.{Action, ActsAll, IsFinal};
+ghost use Rattle.event_timing.specs.Core.{Core, opening_core, core_accesses, core_tally, core_reply, has_query, view};
+ghost use Rattle.event_timing.specs.Enablers.{candidate};
+ghost use Rattle.event_timing.specs.Actions.{Action, ActsAll, MayAnswer, MayEarliest, IsFinal, new_flags};
 ghost use Rattle.event_timing.specs.Agreement.{AreOwnMarks, IsAgreed, IsBounded};
-ghost use Rattle.event_timing.specs.Edits.{after_edit, IsUntouchedByCycles};
+ghost use Rattle.event_timing.specs.Edits.{edited, after_edit, IsUntouchedByCycles};
 ghost use Rattle.timing_bridge.specs.Designs.{design, lockstep_run};
 ghost use Rattle.timing_bridge.specs.OwnRuns.{AreTold, HasComeTo, core_replies};
-ghost use Rattle.timing_bridge.specs.CoreReports.{core_step, core_report, core_verdict, AreInOrder};
+ghost use Rattle.timing_bridge.specs.Outcomes.{outcomes_by, first_requests, IsNextStep};
+ghost use Rattle.timing_bridge.specs.CoreReports.{core_step, core_report, core_verdict, AreInOrder, AreSorted, steps_at};
 
 /// The plan's modules are machines of the theory, its lockstep run obeys the laws of counting, and no module's own run has more
 /// steps than the operation limit.
@@ -57,6 +60,22 @@ pub fn cores_show_history()
         → steps_of i (history p c) ≡ map (core_step p x i) (range_with_len 0 (done (design p) (lockstep_run p) i c)) }
 {}
 
+/// The step of a determined candidate is the module's next step in the history, in that clock. Its outcomes there are what an Answer
+/// and an Earliest find, and what is recorded where they are verified.
+pub fn outcomes_are_history()
+    ensures determined { (p : Plan) → FitsEngine p → (limit : ℕ) (x : Core ModuleState) → IsAgreed (design p) (lockstep_run p) limit x
+        → (i c : ℕ) → candidate (design p) (view (design p) x) i ≡ Some c → (s : HistoryStep) × (s.clock ≡ c) × IsNextStep p x i (suc c) s }
+    ensures answered { (p : Plan) → FitsEngine p → (limit : ℕ) (x : Core ModuleState) → IsAgreed (design p) (lockstep_run p) limit x
+        → (i c : ℕ) → MayAnswer (design p) limit x i c → (s : HistoryStep) × (s.clock ≡ c) × IsNextStep p x i limit s
+        × (outcomes (s ∷ []) ≡ outcomes_by (first_requests p x i) (new_flags (design p) x i c)) }
+    ensures earliest { (p : Plan) → FitsEngine p → (limit : ℕ) (x : Core ModuleState) → IsAgreed (design p) (lockstep_run p) limit x
+        → (i c : ℕ) → MayEarliest (design p) limit x i c → (s : HistoryStep) × (s.clock ≡ c) × IsNextStep p x i limit s
+        × (outcomes (s ∷ []) ≡ outcomes_by (first_requests p x i) (new_flags (design p) x i c)) }
+    ensures verified { (p : Plan) → FitsEngine p → (limit : ℕ) (x : Core ModuleState) → IsAgreed (design p) (lockstep_run p) limit x
+        → (i : ℕ) → x.timed i < x.emitted i → x.verified i (x.timed i) ≡ true → has_query (core_accesses (design p) x i (x.timed i)) ≡ true
+        → (s : HistoryStep) × IsNextStep p x i limit s × (outcomes (s ∷ []) ≡ outcomes_by (first_requests p x i) (x.flags i (x.timed i))) }
+{}
+
 /// The theory's count of a module's pops, or pushes, of a channel before its step `k` is how many elements its earlier steps
 /// moved there. So the ordinal of an access is one more.
 pub fn ordinals_are_counts()
@@ -74,19 +93,36 @@ pub fn every_report()
         → (steps : List HistoryStep) → AreInOrder p x steps → report p ≡ core_report p x steps (core_verdict p x) }
 {}
 
-/// An edit that the plan takes gives a plan that the engine takes. A final core that is cut back to the cycles below the first
-/// touched clock agrees with the edited plan; and after every list of actions that are permitted from there, the report that is
-/// read off a final core is the edited plan's.
+/// The steps with a cycle of a final core, in order of cycles and in one cycle of modules, are the history before the limit, and no
+/// other list is. They can be had by sorting, also those of a core that is not final. From the verdict's clock up to the cycle limit
+/// nothing is done, so the history before that limit is the one that the report tells.
+pub fn steps_in_order()
+    ensures history { (p : Plan) → FitsEngine p → (limit : ℕ) (x : Core ModuleState) → IsAgreed (design p) (lockstep_run p) limit x
+        → IsFinal (design p) limit x → AreInOrder p x (history p limit) }
+    ensures only { (p : Plan) → FitsEngine p → (limit : ℕ) (x : Core ModuleState) → IsAgreed (design p) (lockstep_run p) limit x
+        → IsFinal (design p) limit x → (steps : List HistoryStep) → AreInOrder p x steps → steps ≡ history p limit }
+    ensures sorted { (p : Plan) (limit : ℕ) (x : Core ModuleState) → IsAgreed (design p) (lockstep_run p) limit x
+        → (places : List (ℕ × ℕ)) → AreSorted p x places → AreInOrder p x (steps_at p x places) }
+    ensures reported { (p : Plan) → history p p.cycles ≡ history p (clock_of (verdict p)) }
+{}
+
+/// An edit that the plan takes gives a plan that the engine takes, whose design is the edited one; an edit to the depth that stands
+/// gives the plan itself. A final core that is cut back to the cycles below the first touched clock agrees with the edited plan; and
+/// after every list of actions that are permitted from there, the report that is read off a final core is the edited plan's.
 pub fn edited_plans_agree()
     ensures fits { (p : Plan) → FitsEngine p → (e : Edit) → EditFits p e → FitsEngine (with_depth p e.channel e.depth) }
+    ensures same_depth { (p : Plan) (f : ℕ) → with_depth p f (slice_index p.depths f) ≡ p }
+    ensures design { (p : Plan) (f depth : ℕ) → f < length p.depths → design (with_depth p f depth) ≡ edited (design p) f depth }
     ensures agrees { (p : Plan) → FitsEngine p → (e : Edit) → EditFits p e → (limit t : ℕ) (x : Core ModuleState)
-        → IsAgreed (design p) (lockstep_run p) limit x → IsFinal (design p) limit x → t ≤ limit → IsUntouchedByCycles (design p) x e.channel e.depth t
-        → IsAgreed (design (with_depth p e.channel e.depth)) (lockstep_run (with_depth p e.channel e.depth)) limit (after_edit (design p) x t) }
+        → IsAgreed (design p) (lockstep_run p) limit x → IsFinal (design p) limit x → t ≤ limit
+        → IsUntouchedByCycles (design p) x e.channel e.depth t
+        → let q : Plan = with_depth p e.channel e.depth in IsAgreed (design q) (lockstep_run q) limit (after_edit (design p) x t) }
     ensures reports { (p : Plan) → FitsEngine p → (e : Edit) → EditFits p e → (t : ℕ) (x : Core ModuleState)
-        → IsAgreed (design p) (lockstep_run p) p.cycles x → IsFinal (design p) p.cycles x → t ≤ p.cycles → IsUntouchedByCycles (design p) x e.channel e.depth t
-        → (actions : List Action) (y : Core ModuleState) → ActsAll (design (with_depth p e.channel e.depth)) p.cycles (after_edit (design p) x t) actions y
-        → IsFinal (design (with_depth p e.channel e.depth)) p.cycles y → (steps : List HistoryStep) → AreInOrder (with_depth p e.channel e.depth) y steps
-        → report (with_depth p e.channel e.depth) ≡ core_report (with_depth p e.channel e.depth) y steps (core_verdict (with_depth p e.channel e.depth) y) }
+        → IsAgreed (design p) (lockstep_run p) p.cycles x → IsFinal (design p) p.cycles x → t ≤ p.cycles
+        → IsUntouchedByCycles (design p) x e.channel e.depth t
+        → let q : Plan = with_depth p e.channel e.depth in (actions : List Action) (y : Core ModuleState)
+        → ActsAll (design q) p.cycles (after_edit (design p) x t) actions y → IsFinal (design q) p.cycles y
+        → (steps : List HistoryStep) → AreInOrder q y steps → report q ≡ core_report q y steps (core_verdict q y) }
 {}
 
 /// From the opening core no list of permitted actions is longer than three for each operation of each module, and one for each module.

@@ -7,5 +7,6 @@ mod laws;
 
 pub use laws::{
     cores_show_history, edited_plans_agree, every_order_agrees, every_report, few_actions,
-    ordinals_are_counts, own_runs_are_the_same, plans_are_designs,
+    ordinals_are_counts, outcomes_are_history, own_runs_are_the_same, plans_are_designs,
+    steps_in_order,
 };

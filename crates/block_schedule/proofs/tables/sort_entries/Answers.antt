@@ -3,7 +3,8 @@ use Rattle.std.proofs.lemmas.List.Sorted.{IsNonDecreasingBy-from_sort_by_key, an
 use Rattle.block_schedule.proofs.tables.sort_entries.Goals as goal
 
 pub returns-clause-sorted : goal.returns-clause-sorted
-returns-clause-sorted c = IsNonDecreasingBy-from_sort_by_key (λ (e : ℕ × ℕ). e.0) _ c.in_ok-sort_by_key.ensures.sorted (λ a r q k. search rules)
+returns-clause-sorted c = IsNonDecreasingBy-from_sort_by_key (λ (e : ℕ × ℕ). e.0) _ c.in_ok-sort_by_key.ensures.sorted
+    (λ a r q k. search rules)
 
 pub returns-clause-stable : goal.returns-clause-stable
 returns-clause-stable c = c.in_ok-sort_by_key.ensures.stable (λ (e : ℕ × ℕ). e.0) (answers_always _ _ _ (λ f a r q k. search rules))

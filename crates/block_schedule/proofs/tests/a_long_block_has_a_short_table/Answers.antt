@@ -1,16 +1,20 @@
-use Rattle.std.proofs.Common.{◌<◌, zero, suc, get_or, arith, ℕ, [], ◌∷◌}
+use Rattle.std.proofs.Common.{arith, ◌<◌, map, [], ◌∷◌}
+use Rattle.std.proofs.lemmas.List.Elements.{All-from_recursion}
 use Rattle.flow_design.specs.declared.design.BlockKind.TheVariants.{Plain}
-use Rattle.flow_design.specs.StaticRules.{IsBlockSound}
-use Rattle.block_schedule.specs.TestBlocks.{tests_at, reader}
-use Rattle.block_schedule.proofs.TestBlocksFit.{tests_sound}
+use Rattle.flow_design.specs.declared.design.Timed.{Timed}
+use Rattle.block_schedule.specs.Schedules.{KeepsLimits}
+use Rattle.block_schedule.specs.TestBlocks.{test_at, tests_at}
 use Rattle.block_schedule.proofs.tests.a_long_block_has_a_short_table.Goals as goal
 
-below : (k : ℕ) → k < 1 → get_or (999999999999 ∷ []) k 0 < 1000000000000
-below zero l = omega arith
-below (suc k) l = absurd (omega arith)
-
-sound : IsBlockSound 1 reader (tests_at Plain 1000000000000 (999999999999 ∷ []))
-sound = tests_sound Plain 1000000000000 (999999999999 ∷ []) (omega arith) (omega arith) tt (omega arith) below
+limits : KeepsLimits (tests_at Plain 1000000000000 (999999999999 ∷ []))
+limits = record {
+  some = omega arith;
+  short = omega arith;
+  span = omega arith;
+  most = omega arith;
+  in_block = All-from_recursion (λ (t : Timed). t.offset < 1000000000000) (map test_at (999999999999 ∷ [])) (omega arith, tt);
+  count = omega arith;
+}
 
 pub new-requires : goal.new-requires
-new-requires g c = (1, (reader, rw (c.in_ok-block.ensures, c.as_slice.ensures) sound))
+new-requires g c = rw (c.in_ok-block.ensures, c.as_slice.ensures) limits

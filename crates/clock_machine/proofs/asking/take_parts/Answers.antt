@@ -6,9 +6,11 @@ use Rattle.clock_machine.proofs.asking.take_parts.Goals as goal
 
 pub loop-i-preserved : goal.loop-i-preserved
 loop-i-preserved c =
-    written_more (part_of c.args.plan.now c.args.clock c.args.state.now.contents) c.args.state.now.modules c.loop-i.parts c.loop-i.i c.take_part.new.part nobody
+    written_more (part_of c.args.plan.now c.args.clock c.args.state.now.contents) c.args.state.now.modules c.loop-i.parts c.loop-i.i
+    c.take_part.new.part nobody
     (omega arith) (omega arith) c.loop-i.invariant c.in_ok-take_part.ensures
 
 pub returns : goal.returns
 returns c =
-    written_all (part_of c.args.plan.now c.args.clock c.args.state.now.contents) c.args.state.now.modules c.loop-i.parts c.loop-i.i (omega arith) (omega arith) c.loop-i.invariant
+    written_all (part_of c.args.plan.now c.args.clock c.args.state.now.contents) c.args.state.now.modules c.loop-i.parts c.loop-i.i
+    (omega arith) (omega arith) c.loop-i.invariant

@@ -7,5 +7,6 @@ loop-part-init c = no_pops c.args.contents.now
 
 pub loop-part-preserved : goal.loop-part-preserved
 loop-part-preserved c =
-    part_more after_pops pops_go_on c.args.contents.now c.loop-part.contents c.pop_part.new.contents c.args.parts.now c.loop-part.part-index c.part-item.result
+    part_more after_pops pops_go_on c.args.contents.now c.loop-part.contents c.pop_part.new.contents c.args.parts.now c.loop-part.part-index
+    c.part-item.result
     c.loop-part-test.true c.part-item.is c.loop-part.invariant c.pop_part.ensures

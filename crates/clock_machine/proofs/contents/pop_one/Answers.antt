@@ -5,7 +5,9 @@ use Rattle.clock_machine.proofs.contents.pop_one.Goals as goal
 
 pub returns-then-is_popped : goal.returns-then-is_popped
 returns-then-is_popped c =
-    c.pop_front.ensures ∙ popped_once (exchange c.args.done.now) c.args.contents.now (c.is_popped.ensures ∙ ap (λ b. cond b 1 0) c.if-is_popped.true)
+    c.pop_front.ensures ∙ popped_once (exchange c.args.done.now) c.args.contents.now
+    (c.is_popped.ensures ∙ ap (λ b. cond b 1 0) c.if-is_popped.true)
 
 pub returns-else-is_popped : goal.returns-else-is_popped
-returns-else-is_popped c = not_popped (exchange c.args.done.now) c.args.contents.now (c.is_popped.ensures ∙ ap (λ b. cond b 1 0) c.if-is_popped.false)
+returns-else-is_popped c = not_popped (exchange c.args.done.now) c.args.contents.now
+    (c.is_popped.ensures ∙ ap (λ b. cond b 1 0) c.if-is_popped.false)

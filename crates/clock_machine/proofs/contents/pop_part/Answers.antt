@@ -9,6 +9,7 @@ loop-done-init c = no_pops c.args.contents.now
 
 pub loop-done-preserved : goal.loop-done-preserved
 loop-done-preserved c =
-    one_more after_pops pops_go_on c.args.contents.now c.loop-done.contents c.pop_one.new.contents c.as_slice-done-items.result.now c.loop-done.done-index
+    one_more after_pops pops_go_on c.args.contents.now c.loop-done.contents c.pop_one.new.contents c.as_slice-done-items.result.now
+    c.loop-done.done-index
     (record { request = record { kind = Read; channel = 0; value = 0 }; reply = Done })
     c.loop-done-test.true c.loop-done.invariant c.pop_one.ensures

@@ -1,8 +1,9 @@
 use Rattle.std.proofs.Common.{◌≡◌, ◌++◌, length}
+use Rattle.lockstep_defs.specs.Channels.{values}
 use Rattle.clock_machine.proofs.ending.drain.Given as goal
 
-abbrev pub invariant-loop-value : goal.invariant-loop-value
-invariant-loop-value l = l.words ++ l.queue ≡ l.initial.queue
+abbrev pub invariant-loop-element : goal.invariant-loop-element
+invariant-loop-element l = l.words ++ values l.queue ≡ values l.initial.queue
 
-abbrev pub decreases-loop-value : goal.decreases-loop-value
-decreases-loop-value l = length l.queue
+abbrev pub decreases-loop-element : goal.decreases-loop-element
+decreases-loop-element l = length l.queue

@@ -1,15 +1,21 @@
 use Rattle.std.proofs.Common.{ap, length, ◌∙◌, arith}
 use Rattle.std.specs.List.{filter_map}
 use Rattle.lockstep_defs.specs.Machine.{nobody}
+use Rattle.lockstep_defs.specs.Channels.{all_ready}
+use Rattle.lockstep_defs.specs.Lockstep.{numbered}
 use Rattle.lockstep_defs.specs.Verdict.{held_by}
 use Rattle.clock_machine.proofs.Fronts.{kept_more, numbered_all}
+use Rattle.clock_machine.proofs.PartLemmas.{held_ever}
 use Rattle.clock_machine.proofs.ending.hold_all.Goals as goal
 
 pub loop-i-preserved : goal.loop-i-preserved
 loop-i-preserved c =
-    kept_more (held_by c.args.plan.now c.args.clock c.args.state.now.contents) c.args.state.now.modules c.loop-i.i nobody c.loop-i.held c.hold_one.new.held
-    (omega (arith, ap length c.as_slice-count.ensures)) c.loop-i.invariant c.in_ok-hold_one.ensures
+    kept_more (held_by c.args.plan.now 0 (all_ready c.args.state.now.contents)) c.args.state.now.modules c.loop-i.i nobody c.loop-i.held
+    c.hold_one.new.held (omega (arith, ap length c.as_slice-count.ensures)) c.loop-i.invariant c.in_ok-hold_one.ensures
 
 pub returns : goal.returns
-returns c =
-    c.loop-i.invariant ∙ ap (filter_map (held_by c.args.plan.now c.args.clock c.args.state.now.contents)) (numbered_all c.args.state.now.modules c.loop-i.i (omega (arith, ap length c.as_slice-count.ensures)))
+returns c clock =
+    c.loop-i.invariant
+    ∙ (ap (filter_map (held_by c.args.plan.now 0 (all_ready c.args.state.now.contents)))
+    (numbered_all c.args.state.now.modules c.loop-i.i (omega (arith, ap length c.as_slice-count.ensures)))
+    ∙ held_ever c.args.plan.now clock c.args.state.now.contents (numbered c.args.state.now))

@@ -1,7 +1,8 @@
 use Rattle.std.proofs.Common.{◌≡◌, take}
 use Rattle.std.specs.List.{enumerate_from, filter_map}
+use Rattle.lockstep_defs.specs.Channels.{all_ready}
 use Rattle.lockstep_defs.specs.Verdict.{held_by}
 use Rattle.clock_machine.proofs.ending.hold_all.Given as goal
 
 abbrev pub invariant-loop-i : goal.invariant-loop-i
-invariant-loop-i l = l.held ≡ filter_map (held_by l.plan l.clock l.state.contents) (take l.i (enumerate_from 0 l.state.modules))
+invariant-loop-i l = l.held ≡ filter_map (held_by l.plan 0 (all_ready l.state.contents)) (take l.i (enumerate_from 0 l.state.modules))

@@ -1,7 +1,7 @@
 use Rattle.std.proofs.Common.{arith, sym, subst}
 use Rattle.flow_design.specs.declared.design.Module.{Module}
 use Rattle.module_move.specs.Sound.{IsStateSound}
-use Rattle.clock_machine.proofs.PartLemmas.{not_ended, below_limit}
+use Rattle.lockstep_defs.proofs.Agrees.{not_ended, below_limit}
 use Rattle.clock_machine.proofs.moving.move_one.Goals as goal
 
 pub make_move-requires-clause-sound : goal.make_move-requires-clause-sound

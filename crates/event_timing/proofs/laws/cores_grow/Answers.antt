@@ -1,7 +1,6 @@
 use Rattle.event_timing.proofs.Answering.{answer_grows}
-use Rattle.event_timing.proofs.Beside.{run_grows, actions_grow, others_grow}
+use Rattle.event_timing.proofs.Beside.{run_grows, assign_grows, actions_grow, others_grow}
 use Rattle.event_timing.proofs.Growing.{settled_old, settled_all, tally_grow, reply_grow, there_grow, own_grow}
-use Rattle.event_timing.proofs.RunningAhead.{assign_grows}
 use Rattle.event_timing.proofs.laws.cores_grow.Goals as goal
 
 pub returns-clause-run : goal.returns-clause-run

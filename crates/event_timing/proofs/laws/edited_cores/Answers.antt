@@ -9,4 +9,6 @@ pub returns-clause-design : goal.returns-clause-design
 returns-clause-design g c = λ d i fifo depth. edit_design d fifo depth i
 
 pub returns-clause-cut : goal.returns-clause-cut
-returns-clause-cut g c = λ d h i y one limit x a f fifo depth t l u b z. edit_agrees d h b i y fifo depth t z one (untouched d h i y limit x a f fifo depth t l u) limit x a
+returns-clause-cut g c =
+    λ d h i y one limit x a f fifo depth t l u b z. edit_agrees d h b i y fifo depth t z one
+    (untouched d h i y limit x a f fifo depth t l u) limit x a

@@ -6,7 +6,12 @@ use Rattle.event_timing.specs.Core.{view}
 use Rattle.event_timing.proofs.laws.found_by_counts.Goals as goal
 
 pub returns-clause-cycle : goal.returns-clause-cycle
-returns-clause-cycle g c = λ d h i y limit x a m k e. (candidate_steps d h i y (view d x) (agrees d h limit x a.marks a.time) m k e, candidate_done d h i y (view d x) (agrees d h limit x a.marks a.time) m k e)
+returns-clause-cycle g c =
+    λ d h i y limit x a m k e. (
+      candidate_steps d h i y (view d x) (agrees d h limit x a.marks a.time) m k e,
+      candidate_done d h i y (view d x)
+          (agrees d h limit x a.marks a.time) m k e,
+    )
 
 pub returns-clause-answered : goal.returns-clause-answered
 returns-clause-answered g c = λ d h i y limit x a m k r. answer_found d h i y limit x a m k r

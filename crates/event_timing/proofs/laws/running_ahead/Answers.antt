@@ -1,5 +1,4 @@
-use Rattle.event_timing.proofs.Beside.{runs_stay}
-use Rattle.event_timing.proofs.RunningAhead.{still_ahead}
+use Rattle.event_timing.proofs.Beside.{runs_stay, still_ahead}
 use Rattle.event_timing.proofs.laws.running_ahead.Goals as goal
 
 pub returns-clause-several : goal.returns-clause-several

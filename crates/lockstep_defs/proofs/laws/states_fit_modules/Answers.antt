@@ -1,4 +1,4 @@
-use Rattle.lockstep_defs.proofs.Once.{takers_once}
+use Rattle.lockstep_defs.proofs.Once.{takers_once, asks_once}
 use Rattle.lockstep_defs.proofs.Rules.{keeps_ports}
 use Rattle.lockstep_defs.proofs.Standing.{due_in_range, requests_stand}
 use Rattle.lockstep_defs.proofs.States.{opened_state, move_state, history_state}
@@ -18,6 +18,9 @@ returns-clause-due c = due_in_range
 
 pub returns-clause-requests : goal.returns-clause-requests
 returns-clause-requests c = requests_stand
+
+pub returns-clause-queries : goal.returns-clause-queries
+returns-clause-queries c = λ p h. asks_once p (keeps_ports p h)
 
 pub returns-clause-takers : goal.returns-clause-takers
 returns-clause-takers c = λ p h. takers_once p (keeps_ports p h)

@@ -15,7 +15,8 @@ pub loop-effect-init : goal.loop-effect-init
 loop-effect-init c = record { rest = refl; places = rw c.block_of-block.ensures c.requires.places }
 
 pub store-requires : goal.store-requires
-store-requires c = subst (λ (n : ℕ). HasPlaces c.args.of.now c.block_of-block.result.now n c.loop-effect.state) (sym c.loop-effect.invariant.places.temps) c.loop-effect.invariant.places
+store-requires c = subst (λ (n : ℕ). HasPlaces c.args.of.now c.block_of-block.result.now n c.loop-effect.state)
+    (sym c.loop-effect.invariant.places.temps) c.loop-effect.invariant.places
 
 abbrev none : Effect
 none = Variable 0 0 0
@@ -31,21 +32,26 @@ loop-effect-preserved c =
     ≡ fold (stored m b) (stored m b c.loop-effect.state e) (drop (c.loop-effect.effect-index + 1) c.args.effects.now) =
     ap (λ (es : List Effect). fold (stored m b) c.loop-effect.state es) front in
     record {
-      rest = ap (λ (s : ModuleState). fold (stored m b) s (drop (c.loop-effect.effect-index + 1) c.args.effects.now)) c.store.ensures ∙ (sym next ∙ c.loop-effect.invariant.rest);
+      rest = ap (λ (s : ModuleState). fold (stored m b) s (drop (c.loop-effect.effect-index + 1) c.args.effects.now)) c.store.ensures
+          ∙ (sym next ∙ c.loop-effect.invariant.rest);
       places = subst (λ (s : ModuleState). HasPlaces m b (length c.args.state.now.temps) s) (sym c.store.ensures)
           (stored_places m b (length c.args.state.now.temps) c.loop-effect.state e c.loop-effect.invariant.places);
     }
 
-all_written : (c : goal.After-loop-effect) → c.loop-effect.state ≡ fold (stored c.args.of.now c.block_of-block.result.now) c.args.state.now c.args.effects.now
+all_written : (c : goal.After-loop-effect)
+    → c.loop-effect.state ≡ fold (stored c.args.of.now c.block_of-block.result.now) c.args.state.now c.args.effects.now
 all_written c =
     let none_left : drop c.loop-effect.effect-index c.args.effects.now ≡ [] = grind (arith, common_steps) in
-    subst (λ (es : List Effect). fold (stored c.args.of.now c.block_of-block.result.now) c.loop-effect.state es ≡ fold (stored c.args.of.now c.block_of-block.result.now) c.args.state.now c.args.effects.now)
+    subst (λ (es : List Effect). fold (stored c.args.of.now c.block_of-block.result.now) c.loop-effect.state es
+    ≡ fold (stored c.args.of.now c.block_of-block.result.now) c.args.state.now c.args.effects.now)
     none_left c.loop-effect.invariant.rest
 
 pub returns-clause-control : goal.returns-clause-control
 returns-clause-control c =
-    ap (λ (s : ModuleState). s.control) (all_written c) ∙ (all_keep c.args.of.now c.block_of-block.result.now c.args.state.now c.args.effects.now).0
+    ap (λ (s : ModuleState). s.control) (all_written c)
+    ∙ (all_keep c.args.of.now c.block_of-block.result.now c.args.state.now c.args.effects.now).0
 
 pub returns-clause-count : goal.returns-clause-count
 returns-clause-count c =
-    ap (λ (s : ModuleState). s.count) (all_written c) ∙ (all_keep c.args.of.now c.block_of-block.result.now c.args.state.now c.args.effects.now).1
+    ap (λ (s : ModuleState). s.count) (all_written c)
+    ∙ (all_keep c.args.of.now c.block_of-block.result.now c.args.state.now c.args.effects.now).1

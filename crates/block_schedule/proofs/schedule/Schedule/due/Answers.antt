@@ -9,9 +9,11 @@ returns c b is_schedule =
     let from = c.first_from-from.result in
     let to = c.first_above-to.result in
     let below : (k : ℕ) → k < from → get_or offsets k 0 < c.args.offset = rw c.as_slice.ensures.value at c.first_from-from.ensures.below in
-    let rest : (k : ℕ) → from ≤ k → k < length offsets → c.args.offset ≤ get_or offsets k 0 = rw c.as_slice.ensures.value at c.first_from-from.ensures.rest in
+    let rest : (k : ℕ) → from ≤ k → k < length offsets
+    → c.args.offset ≤ get_or offsets k 0 = rw c.as_slice.ensures.value at c.first_from-from.ensures.rest in
     let most : (k : ℕ) → k < to → get_or offsets k 0 ≤ c.args.offset = rw c.as_slice-2.ensures.value at c.first_above-to.ensures.below in
-    let above : (k : ℕ) → to ≤ k → k < length offsets → c.args.offset < get_or offsets k 0 = rw c.as_slice-2.ensures.value at c.first_above-to.ensures.rest in
+    let above : (k : ℕ) → to ≤ k → k < length offsets
+    → c.args.offset < get_or offsets k 0 = rw c.as_slice-2.ensures.value at c.first_above-to.ensures.rest in
     let inside : from ≤ length offsets = rw c.as_slice.ensures.value at c.first_from-from.ensures.bound in
     let end_ : to ≤ length offsets = rw c.as_slice-2.ensures.value at c.first_above-to.ensures.bound in
     ap (λ (ns : List ℕ). take (to - from) (drop from ns)) c.deref.ensures.value

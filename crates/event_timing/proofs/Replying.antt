@@ -1,0 +1,83 @@
+-- A module is told what the history tells it: where its flags say what is possible, and each of its pops has its push among the steps
+-- with a cycle.
+use Rattle.std.proofs.Common.{◌≡◌, ℕ, ◌<◌, Bool, true, cond, not, ◌&&◌, ◌||◌, inl, inr, List, [], ◌∷◌, map, get_or, sym, ap, ap₂, ◌∙◌, refl}
+use Rattle.std.proofs.Common.{arith, ltb}
+use Rattle.std.proofs.lemmas.Bool.{cases_Bool, cond-false, and_parts, ltb-true}
+use Rattle.flow_word.specs.declared.access.Side.{Side}
+use Rattle.flow_word.specs.declared.access.Side.TheVariants.{Pop}
+use Rattle.flow_word.specs.Kinds.{same_side}
+use Rattle.event_timing.specs.Machines.{Design, IsDesign, Access, Reply, Each}
+use Rattle.event_timing.specs.Histories.{Trace, IsHistory, is_possible, reply_to}
+use Rattle.event_timing.specs.Steps.{done}
+use Rattle.event_timing.specs.Core.{Core, core_tally, core_values, pops_now, replies_of, all_below, view}
+use Rattle.event_timing.specs.Agreement.{AreOwnMarks, IsTimed, elements_timed, possible_all}
+use Rattle.event_timing.proofs.OwnRuns.{same_side_is}
+use Rattle.event_timing.proofs.Threshold.{taken_view}
+use Rattle.event_timing.proofs.Fronts.{agrees, get_right, core_tally_is}
+
+-- ---- any values and counts
+
+module _ {S : Type 0} (d : Design S) (h : Trace S) (c : ℕ) (within : ℕ → ℕ) (values : ℕ → List ℕ) (before : ℕ → ℕ) where
+  -- a pop that is possible, and within the first so many elements, gets the history's front
+  abbrev pub HasFront : Access → Type 0
+  HasFront a =
+      a.side ≡ Pop → is_possible d h c Pop a.channel ≡ true → before a.channel < within a.channel
+      → get_or (values a.channel) (before a.channel) 0 ≡ get_or (h.pushed c a.channel) (h.taken c Pop a.channel) 0
+
+  -- the access pops an element in this clock
+  abbrev popping : Access → Bool
+  popping a = pops_now a (is_possible d h c a.side a.channel)
+
+  -- if it does, it is within them
+  abbrev is_within : Access → Bool
+  is_within a = not (popping a) || ltb (before a.channel) (within a.channel)
+
+  pop_front : (a : Access) → HasFront a → is_within a ≡ true → popping a ≡ true
+      → get_or (values a.channel) (before a.channel) 0 ≡ get_or (h.pushed c a.channel) (h.taken c Pop a.channel) 0
+  pop_front a front there pops =
+      let (takes, rest) = and_parts a.takes (same_side a.side Pop && is_possible d h c a.side a.channel) pops in
+      let (side, possible) = and_parts (same_side a.side Pop) (is_possible d h c a.side a.channel) rest in
+      let pop = same_side_is a.side Pop side in
+      let possible_pop : is_possible d h c Pop a.channel ≡ true = sym (ap (λ (z : Side). is_possible d h c z a.channel) pop) ∙ possible in
+      let less = sym (ap (λ (z : Bool). not z || ltb (before a.channel) (within a.channel)) pops) ∙ there in
+      front pop possible_pop (ltb-true (before a.channel) (within a.channel) less)
+
+  front_same : (a : Access) → HasFront a → is_within a ≡ true
+      → cond {A = ℕ} (popping a) (get_or (values a.channel) (before a.channel) 0) 0
+      ≡ cond {A = ℕ} (popping a) (get_or (h.pushed c a.channel) (h.taken c Pop a.channel) 0) 0
+  front_same a front there =
+      elim (cases_Bool (popping a)) [
+        | inl pops ↦ ap (λ (z : ℕ). cond {A = ℕ} (popping a) z 0) (pop_front a front there pops)
+        | inr idle ↦ cond-false {A = ℕ} _ _ _ idle ∙ sym (cond-false {A = ℕ} _ _ _ idle)
+      ]
+
+  pub replies_right : (xs : List Access) → Each HasFront xs → all_below within before xs (possible_all d h c xs) ≡ true
+      → replies_of values before xs (possible_all d h c xs) ≡ map (reply_to d h c) xs
+  replies_right [] fronts there = refl
+  replies_right (a ∷ xs) (front, fronts) there =
+      let (first, rest) = and_parts (is_within a) (all_below within before xs (possible_all d h c xs)) there in
+      ap₂ (λ (z : ℕ) (zs : List Reply). record { possible = is_possible d h c a.side a.channel; front = z } ∷ zs)
+      (front_same a front first)
+      (replies_right xs fronts rest)
+
+-- ---- those of an agreeing core
+
+module _ {S : Type 0} (d : Design S) (h : Trace S) (i : IsDesign d) (y : IsHistory d h) (limit : ℕ) (x : Core S) (b : AreOwnMarks d x)
+    (u : IsTimed d h limit x) (m c : ℕ) (k : done d h m c ≡ x.timed m) where
+  -- the fronts of an access of the step that the module does after those with a cycle
+  abbrev pub HasCoreFront : Access → Type 0
+  HasCoreFront = HasFront d h c (elements_timed d x) (core_values d x) (λ ch. core_tally d x m Pop ch (x.timed m))
+
+  core_front : (a : Access) → d.owner a.side a.channel ≡ m → HasCoreFront a
+  core_front a owned side possible less =
+      let popped : ℕ = core_tally d x m Pop a.channel (x.timed m) in
+      let owner : d.owner Pop a.channel ≡ m = sym (ap (λ (z : Side). d.owner z a.channel) side) ∙ owned in
+      let count = taken_view d h i y (view d x) (agrees d h limit x b u) Pop a.channel c (rw owner (omega arith)) in
+      let by_steps = rw (owner, k) at count in
+      let taken : h.taken c Pop a.channel ≡ popped = by_steps ∙ core_tally_is d x m Pop a.channel (x.timed m) in
+      get_right d h i y limit x b u a.channel c popped taken less possible
+      ∙ ap (λ (z : ℕ). get_or (h.pushed c a.channel) z 0) (sym taken)
+
+  pub core_fronts : (xs : List Access) → Each (λ a. d.owner a.side a.channel ≡ m) xs → Each HasCoreFront xs
+  core_fronts [] owned = tt
+  core_fronts (a ∷ xs) (first, rest) = (core_front a first, core_fronts xs rest)

@@ -1,0 +1,33 @@
+-- The outcomes of queries, by what is possible, and a module's next step in the history.
+use Rattle.std.specs.Prelude.{ℕ, Bool, ◌≡◌, if◌then◌else◌, List, [], ◌∷◌, ◌++◌, map}
+use Rattle.flow_word.specs.declared.access.Kind.{Kind}
+use Rattle.flow_word.specs.Kinds.{is_blocking}
+use Rattle.flow_design.specs.declared.plan.Plan.{Plan}
+use Rattle.flow_design.specs.declared.state.ModuleState.{ModuleState}
+use Rattle.flow_design.specs.declared.state.Request.{Request}
+use Rattle.lockstep_defs.specs.Machine.{is_yes}
+use Rattle.lockstep_defs.specs.Channels.{HistoryStep, reply_by}
+use Rattle.lockstep_defs.specs.Lockstep.{requests_of, history}
+use Rattle.lockstep_defs.specs.Report.{steps_of}
+use Rattle.event_timing.specs.Core.{Core}
+use Rattle.timing_bridge.specs.CoreReports.{core_steps}
+
+-- the outcome of a query, by whether it is possible; `empty` and `full` report the negation
+abbrev pub outcome_of : Kind → Bool → Bool
+outcome_of k possible = is_yes (reply_by k possible 0)
+
+-- the outcomes of the queries among these requests, by whether each request is possible
+abbrev pub outcomes_by : List Request → List Bool → List Bool
+outcomes_by [] flags = []
+outcomes_by (r ∷ rs) [] = []
+outcomes_by (r ∷ rs) (b ∷ bs) = if is_blocking r.kind then outcomes_by rs bs else outcome_of r.kind b ∷ outcomes_by rs bs
+
+-- what the core has emitted as the first step of module i without a cycle
+abbrev pub first_requests : Plan → Core ModuleState → ℕ → List Request
+first_requests p x i = requests_of p (i, x.state i (x.timed i))
+
+-- the steps of module i in the history before clock c are those with a cycle, then s, which asks what that first step asks, and others
+pub record IsNextStep (p : Plan) (x : Core ModuleState) (i c : ℕ) (s : HistoryStep) : Type 0 where
+  pub later : List HistoryStep
+  pub there : steps_of i (history p c) ≡ core_steps p x i ++ s ∷ later
+  pub requests : map (λ e. e.request) s.exchanges ≡ first_requests p x i

@@ -1,11 +1,14 @@
 -- Outcomes more in a log, with the pushes and pops that they decide, are the theory's Answer, and what is held stays sound.
-use Rattle.std.proofs.Common.{◌≡◌, refl, sym, ap, ap₂, subst, ◌∙◌, ℕ, zero, suc, ◌+◌, ◌<◌, ◌≤◌, ◌⊎◌, Bool, true, false, not, cond, eqb, ltb, ◌&&◌, List, [], ◌∷◌, ◌++◌, length, map, drop, get_or, arith, inl, inr, append-nil, append_assoc, length-append, drop_of_length-le}
+use Rattle.std.proofs.Common.{◌≡◌, refl, sym, ap, ap₂, subst, ◌∙◌, ℕ, zero, suc, ◌+◌, ◌<◌, ◌≤◌, ◌⊎◌, Bool, true, false, not, cond, eqb, ltb}
+use Rattle.std.proofs.Common.{◌&&◌, List, [], ◌∷◌, ◌++◌, length, map, drop, get_or, arith, inl, inr, append-nil, append_assoc}
+use Rattle.std.proofs.Common.{length-append, drop_of_length-le}
 use Rattle.std.specs.Prelude.{All, slice_get, Some}
 use Rattle.flow_word.specs.Kinds.{is_blocking, side_of, same_side}
 use Rattle.flow_word.specs.declared.access.Side.{Side}
 use Rattle.flow_word.specs.declared.access.Side.TheVariants.{Push}
 use Rattle.flow_word.specs.declared.access.Kind.{Kind}
-use Rattle.std.proofs.lemmas.Bool.{leb-true, and_left, or_right, or_left, cases_lt, cases_Bool, and_parts, lt-ltb, le-ltb, le-leb, both_ways}
+use Rattle.std.proofs.lemmas.Bool.{leb-true, and_left, or_right, or_left, cases_lt, cases_Bool, and_parts, lt-ltb, le-ltb, le-leb}
+use Rattle.std.proofs.lemmas.Bool.{both_ways}
 use Rattle.std.proofs.lemmas.Bool.Decides.{eqb_tells}
 use Rattle.std.proofs.lemmas.List.{length-set, get_or-set_same, get_or-set_other, get_or_past}
 use Rattle.std.proofs.lemmas.List.Elements.{All-set, All-weaker}
@@ -29,7 +32,8 @@ use Rattle.event_timing.proofs.Assigning.{put_at_same, put_at_other}
 use Rattle.event_timing.proofs.Fronts.{tally_same, pushed_same}
 use Rattle.event_timing.proofs.OwnRuns.{tally_more, tally_mono}
 use Rattle.event_timing.proofs.Values.{pushed_in_more}
-use Rattle.engine_view.specs.Held.{Held, step_of, no_step, emitted_of, seen, queries_in, flags_by, flags_of, are_among, has_all, values_at, replies_at, core_of}
+use Rattle.engine_view.specs.Held.{Held, step_of, no_step, emitted_of, seen, queries_in, flags_by, flags_of, are_among, has_all, values_at}
+use Rattle.engine_view.specs.Held.{replies_at, core_of}
 use Rattle.engine_view.specs.Shown.{Shows, IsSound, AreTaken, IsTakenAt, AreWhole, IsKind, queries_before}
 use Rattle.engine_view.specs.Emitted.{done_at_once, place_of}
 use Rattle.engine_view.proofs.Taking.{copies, channel_after, all_length, all_channel, kind_after, places_after, values_on, values_after}

@@ -4,15 +4,13 @@ use Rattle.std.specs.Prelude.{All}
 use mathlib.Core.Path.{fun_ext}
 use Rattle.std.proofs.lemmas.Bool.Decides.{eqb_tells}
 use Rattle.std.proofs.lemmas.List.{length-set, get_or-set_same, get_or-set_other, length-append, get_or_push}
-use Rattle.flow_word.specs.declared.access.Side.{Side}
-use Rattle.flow_word.specs.declared.access.Place.{Place}
 use Rattle.event_graph.specs.Lanes.{Lane, IsSoundLane, no_lane, lane_at, timed, with_cycle}
 use Rattle.time_engine.proofs.Given.{accesses_stay, places_stay}
 use Rattle.event_timing.specs.Machines.{Design}
 use Rattle.event_timing.specs.Core.{Core}
 use Rattle.event_timing.specs.Actions.{put, put_at, after_assign}
 use Rattle.engine_view.specs.Held.{Held, step_of, replies_at, core_of}
-use Rattle.engine_view.specs.Shown.{Shows, IsSound, AreTaken, AreWhole, queries_before}
+use Rattle.engine_view.specs.Shown.{Shows, IsSound, AreWhole, queries_before}
 use Rattle.engine_view.specs.Timed.{with_timed}
 use Rattle.engine_view.proofs.Cores.{same_core}
 use Rattle.engine_view.proofs.Placing.{taken_stays}

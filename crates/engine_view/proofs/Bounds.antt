@@ -1,5 +1,7 @@
 -- The determined cycle of a step, access by access, is the theory's.
-use Rattle.std.proofs.Common.{◌≡◌, refl, sym, ap₂, subst, drop, ◌∙◌, ℕ, zero, suc, ◌+◌, ◌-◌, ◌<◌, ◌≤◌, ◌⊎◌, max, Bool, true, false, cond, ltb, List, [], ◌∷◌, length, map, get_or, Option, None, Some, is_some, is_none, arith, inl, inr, unwrap_or, position}
+use Rattle.std.proofs.Common.{◌≡◌, refl, sym, ap₂, subst, drop, ◌∙◌, ℕ, zero, suc, ◌+◌, ◌-◌, ◌<◌, ◌≤◌, ◌⊎◌, max, Bool, true, false, cond}
+use Rattle.std.proofs.Common.{ltb, List, [], ◌∷◌, length, map, get_or, Option, None, Some, is_some, is_none, arith, inl, inr, unwrap_or}
+use Rattle.std.proofs.Common.{position}
 use Rattle.std.specs.Prelude.{All, option_and_then}
 use Rattle.std.specs.List.{position_or_len}
 use Rattle.std.proofs.lemmas.Bool.{cases_lt, cases_Bool, lt-ltb, le-ltb}
@@ -14,7 +16,8 @@ use Rattle.fifo_table.specs.Channels.{Channel}
 use Rattle.time_engine.specs.declared.known.Known as of_code
 use Rattle.time_engine.specs.declared.known.Known.TheVariants as code
 use Rattle.time_engine.specs.Possible.{when_possible}
-use Rattle.time_engine.specs.Cycles.{known_clock, is_waiting, clocks_of, latest, open_step, arrival, first_waiting, cycle_unless, determined}
+use Rattle.time_engine.specs.Cycles.{known_clock, is_waiting, clocks_of, latest, open_step, arrival, first_waiting, cycle_unless}
+use Rattle.time_engine.specs.Cycles.{determined}
 use Rattle.time_engine.proofs.Latest.{clocks_of-append, clocks_of_query, clocks_of_known, clocks_of-none}
 use Rattle.event_timing.specs.Machines as theory
 use Rattle.event_timing.specs.Machines.{Design, IsDesign}

@@ -1,5 +1,6 @@
 -- An Answer that finds the assumed outcomes again is the theory's, and what is held stays sound.
-use Rattle.std.proofs.Common.{◌≡◌, refl, sym, ap, ap₂, subst, ◌∙◌, ℕ, suc, ◌+◌, ◌<◌, ◌≤◌, Bool, true, false, cond, ltb, leb, eqb, ◌&&◌, ◌||◌, List, ◌++◌, drop, length, get_or, arith, inl, inr}
+use Rattle.std.proofs.Common.{◌≡◌, refl, sym, ap, ap₂, subst, ◌∙◌, ℕ, suc, ◌+◌, ◌<◌, ◌≤◌, Bool, true, false, cond, ltb, leb, eqb, ◌&&◌}
+use Rattle.std.proofs.Common.{◌||◌, List, ◌++◌, drop, length, get_or, arith, inl, inr}
 use Rattle.std.proofs.lemmas.Bool.{cases_lt, lt-ltb, le-ltb, lt-leb, and_left, and_parts, both_ways}
 use Rattle.std.proofs.lemmas.Bool.Decides.{eqb_tells}
 use Rattle.std.proofs.lemmas.List.{length-set, get_or-set_same, get_or-set_other}
@@ -8,7 +9,6 @@ use Rattle.flow_word.specs.Kinds.{side_of}
 use Rattle.flow_word.specs.declared.access.Side.{Side}
 use Rattle.flow_word.specs.declared.access.Side.TheVariants.{Push}
 use Rattle.flow_word.specs.declared.access.Step.{Step}
-use Rattle.flow_word.specs.declared.access.Place.{Place}
 use Rattle.event_graph.specs.Lanes.{lane_at}
 use Rattle.query_log.specs.Logs.{IsSoundLog, Log, log_at, no_log}
 use Rattle.event_timing.specs.Machines.{Design, IsDesign, ready, takes_in, values_in}
@@ -20,7 +20,7 @@ use Rattle.event_timing.proofs.Assigning.{put_at_same, put_at_other}
 use Rattle.event_timing.proofs.Answering.{answer_marks}
 use Rattle.event_timing.proofs.Fronts.{tally_same, pushed_same}
 use Rattle.engine_view.specs.Held.{Held, step_of, emitted_of, queries_in, flags_by, are_among, has_all, replies_at, core_of}
-use Rattle.engine_view.specs.Shown.{Shows, IsSound, AreTaken, AreWhole, queries_before}
+use Rattle.engine_view.specs.Shown.{Shows, IsSound, AreWhole, queries_before}
 use Rattle.engine_view.specs.Answered.{with_confirmed}
 use Rattle.engine_view.proofs.Placing.{taken_stays}
 use Rattle.engine_view.proofs.Assigned.{put_at_is}

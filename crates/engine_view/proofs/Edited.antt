@@ -1,5 +1,6 @@
 -- With cycles forgotten, another depth and outcomes assumed, what is held is the core from which a retiming begins.
-use Rattle.std.proofs.Common.{◌≡◌, refl, sym, ap, ap₂, subst, ◌∙◌, ℕ, zero, suc, ◌+◌, ◌<◌, ◌≤◌, min, Bool, true, false, not, cond, eqb, ltb, leb, nat_lt, ◌&&◌, ◌||◌, List, [], ◌∷◌, length, map, filter, drop, get_or, arith, inl, inr}
+use Rattle.std.proofs.Common.{◌≡◌, refl, sym, ap, ap₂, subst, ◌∙◌, ℕ, zero, suc, ◌+◌, ◌<◌, ◌≤◌, min, Bool, true, false, not, cond, eqb, ltb}
+use Rattle.std.proofs.Common.{leb, nat_lt, ◌&&◌, ◌||◌, List, [], ◌∷◌, length, map, filter, drop, get_or, arith, inl, inr}
 use Rattle.std.specs.Prelude.{All, AllPairs}
 use Rattle.std.specs.List.Sorted.{IsStrictlyIncreasing}
 use Rattle.std.proofs.lemmas.Bool.{cases_lt, lt-ltb, le-ltb, le-leb, lt-leb}

@@ -1,9 +1,7 @@
 -- An end (or spent) mark is the theory's Run of a module that is over.
-use Rattle.std.proofs.Common.{◌≡◌, refl, sym, ap, subst, ◌∙◌, ℕ, ◌<◌, Bool, true, false, cond, List, length, get_or, set}
+use Rattle.std.proofs.Common.{◌≡◌, refl, sym, ap, subst, ◌∙◌, ℕ, ◌<◌, Bool, true, false, cond, length, get_or, set}
 use Rattle.std.proofs.lemmas.Bool.{cond-true, le-ltb}
 use Rattle.std.proofs.lemmas.List.{length-set, get_or-set_same, get_or-set_other}
-use Rattle.flow_word.specs.declared.access.Side.{Side}
-use Rattle.flow_word.specs.declared.access.Place.{Place}
 use Rattle.event_timing.specs.Machines.{Design, ready}
 use Rattle.event_timing.specs.Views.{own}
 use Rattle.event_timing.specs.Core.{Core}
@@ -11,7 +9,7 @@ use Rattle.event_timing.specs.Agreement.{AreOwnMarks}
 use Rattle.event_timing.specs.Actions.{newest, emit_over, after_run, MayRun}
 use Rattle.event_timing.proofs.Running.{run_marks}
 use Rattle.engine_view.specs.Held.{Held, emitted_of, replies_at, core_of}
-use Rattle.engine_view.specs.Shown.{Shows, IsSound, AreTaken, AreWhole}
+use Rattle.engine_view.specs.Shown.{Shows, IsSound}
 use Rattle.engine_view.specs.Emitted.{with_over}
 use Rattle.engine_view.proofs.Assigned.{put_is, IsAlike, alike_queries, whole_kept}
 use Rattle.engine_view.proofs.Placing.{taken_stays}

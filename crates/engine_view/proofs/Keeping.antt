@@ -1,5 +1,6 @@
 -- What is held stays kept, whatever the theory does to its core.
-use Rattle.std.proofs.Common.{◌≡◌, refl, sym, subst, ◌∙◌, ℕ, suc, ◌+◌, ◌<◌, ◌≤◌, get_or, Bool, true, false, not, cond, ltb, ap, ◌||◌, ◌&&◌, List, length, arith, inl, inr}
+use Rattle.std.proofs.Common.{◌≡◌, refl, sym, subst, ◌∙◌, ℕ, suc, ◌<◌, ◌≤◌, get_or, Bool, true, false, not, cond, ltb, ap, ◌||◌, List}
+use Rattle.std.proofs.Common.{length, arith, inl, inr}
 use Rattle.std.specs.Prelude.{All}
 use Rattle.std.proofs.lemmas.Bool.{cases_lt, cond-true, cond-false, and_from, or_left, lt-ltb}
 use Rattle.std.proofs.lemmas.Bool.Decides.{eqb_tells}

@@ -1,5 +1,6 @@
 -- An Answer with no recorded outcomes: what the code needs, and what it leaves.
-use Rattle.std.proofs.Common.{◌≡◌, refl, sym, ap, subst, ◌∙◌, ℕ, suc, ◌+◌, ◌-◌, ◌<◌, ◌≤◌, inl, inr, Bool, true, cond, List, length, drop, get_or, map, arith, eqb, ◌||◌, ap₂}
+use Rattle.std.proofs.Common.{◌≡◌, refl, sym, ap, subst, ◌∙◌, ℕ, suc, ◌+◌, ◌-◌, ◌<◌, ◌≤◌, inl, inr, Bool, true, cond, List, length, drop}
+use Rattle.std.proofs.Common.{get_or, map, arith, eqb, ◌||◌, ap₂}
 use Rattle.std.specs.Prelude.{All, slice_get, Some}
 use Rattle.std.proofs.lemmas.Bool.{or_right, ne_eqb}
 use Rattle.std.proofs.lemmas.Bool.Decides.{eqb_tells}
@@ -28,7 +29,8 @@ use Rattle.engine_view.specs.Turns.{first_of}
 use Rattle.engine_view.proofs.Unsure.{IsFresh}
 use Rattle.engine_view.proofs.Taking.{all_length}
 use Rattle.engine_view.proofs.Deciding.{flags_are}
-use Rattle.engine_view.proofs.Answered.{queries_step, answered_core, last, verified_least, recorded_most, new_length, same_queries, flags_here, log_now, log_else}
+use Rattle.engine_view.proofs.Answered.{queries_step, answered_core, last, verified_least, recorded_most, new_length, same_queries}
+use Rattle.engine_view.proofs.Answered.{flags_here, log_now, log_else}
 use Rattle.engine_view.proofs.Adding.{done_later}
 use Rattle.engine_view.proofs.Roomy.{apart_of, room_for, free_side, pending_same}
 
@@ -201,13 +203,15 @@ channels_from {S} d h m c f n step xs logs channels en es ea el e =
     ∙ (ap (λ (ls : List Log). F k (step_of h m k).accesses (step_of h m k).first_query ls) el ∙ fresh_channels d h m c f))))
 
 -- what is held behind the loops that add the outcomes and what they decide
-pub behind_is : {S : Type 0} → (d : Design S) (h : Held) (m c : ℕ) (f : IsFresh d h m) (n : ℕ) (step : Step) (xs ys : List Access) (logs : List Log)
+pub behind_is : {S : Type 0} → (d : Design S) (h : Held) (m c : ℕ) (f : IsFresh d h m) (n : ℕ) (step : Step) (xs ys : List Access)
+    (logs : List Log)
     (channels : List Channel) → n ≡ first_of h m → step_of h m (first_of h m) ≡ step → xs ≡ step.accesses → ys ≡ step.accesses
     → logs ≡ with_outcomes h.logs m (outcomes_of xs (found_flags h.lanes h.channels c xs))
     → channels ≡ taken_all (place_of m n) h.channels ys (done_by true ys (drop step.first_query (log_at logs m).outcomes))
     → held h.lanes channels logs h.over ≡ with_answered h m (first_of h m) (new_flags d (core_of d h) m c)
 behind_is {S} d h m c f n step xs ys logs channels en es ex ey el ec =
-    ap₂ (λ (cs : List Channel) (ls : List Log). held h.lanes cs ls h.over) (channels_from d h m c f n step ys logs channels en es ey same ec) same
+    ap₂ (λ (cs : List Channel) (ls : List Log). held h.lanes cs ls h.over) (channels_from d h m c f n step ys logs channels en es ey same
+    ec) same
   where
     same : logs ≡ (with_answered h m (first_of h m) (new_flags d (core_of d h) m c)).logs
     same =

@@ -1,7 +1,8 @@
 //! The table of all channels.
 ghost use Rattle.std.specs.Prelude.{◌≡◌, ◌≢◌, ℕ, ◌+◌, ◌<◌, ◌≤◌, ◌^◌, length, map, slice_index, All, IsOk, IfOk, OnOk, OnErr};
 ghost use Rattle.flow_design.specs.declared.limits.TheConstants.{FIFO_DEPTH, FIFO_DELAY};
-ghost use Rattle.fifo_table.specs.Channels.{IsSoundKind, IsSource, IsSink, IsFifo, HasSide, depth_of, lag_of, unused, channel_at, nth, places_of, first_module, values_of, with_push, with_pop, with_depth};
+ghost use Rattle.fifo_table.specs.Channels.{IsSoundKind, IsSource, IsSink, IsFifo, HasSide, depth_of, lag_of, unused, channel_at, nth};
+ghost use Rattle.fifo_table.specs.Channels.{places_of, first_module, values_of, with_push, with_pop, with_depth};
 ghost use Rattle.fifo_table.specs.Enablers.{enabler_of, event_at};
 
 use crate::channel::{Pushed, RoomyChannel, TableChannel};

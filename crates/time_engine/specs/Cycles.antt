@@ -1,5 +1,6 @@
 -- The cycle of a module's first step without one.
-use Rattle.std.specs.Prelude.{ℕ, ◌+◌, ◌<◌, max, Bool, ◌&&◌, if◌then◌else◌, List, [], ◌∷◌, length, filter, position, Option, None, Some, unwrap_or, is_some, is_none, option_and_then, slice_get}
+use Rattle.std.specs.Prelude.{ℕ, ◌+◌, ◌<◌, max, Bool, ◌&&◌, if◌then◌else◌, List, [], ◌∷◌, length, filter, position, Option, None, Some}
+use Rattle.std.specs.Prelude.{unwrap_or, is_some, is_none, option_and_then, slice_get}
 use Rattle.std.specs.List.{filter_map}
 use Rattle.std.specs.Option.{ForSome}
 use Rattle.flow_word.specs.declared.access.Access.{Access}

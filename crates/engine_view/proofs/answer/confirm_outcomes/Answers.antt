@@ -3,7 +3,7 @@ use Rattle.std.specs.Prelude.{All}
 use Rattle.std.proofs.lemmas.List.{get_or-set_other}
 use Rattle.flow_word.specs.declared.access.Access.{Access}
 use Rattle.flow_word.specs.declared.access.Step.{Step}
-use Rattle.query_log.specs.Logs.{Log, no_log}
+use Rattle.query_log.specs.Logs.{no_log}
 use Rattle.time_engine.specs.Conditions.{IsAccess}
 use Rattle.engine_view.specs.Held.{Held, step_of, queries_in}
 use Rattle.engine_view.specs.Stored.{stored, held_in}
@@ -132,7 +132,8 @@ returns-in-Same-clause-room c = λ credits d over i k r.
     (let count = c.count_queries.ensures.count ∙ ap queries_in (sym xs) in omega arith) c.verify_up_to.ensures.logs in
     subst (λ (q : Held). HasRoom d q s.graph.rooms s.table c.verify_up_to.new.self.rooms credits) (sym behind)
     (subst (λ (rooms : List ℕ). HasRoom d (confirming.g d h c.args.owner c.args.cycle f there again) s.graph.rooms s.table rooms credits)
-    (sym c.verify_up_to.ensures.rooms) (confirming.room_again d h c.args.owner c.args.cycle f there again s.graph.rooms s.table s.log.rooms credits r))
+    (sym c.verify_up_to.ensures.rooms) (confirming.room_again d h c.args.owner c.args.cycle f there again s.graph.rooms s.table s.log.rooms
+    credits r))
 
 pub returns-in-Same-clause-others : goal.returns-in-Same-clause-others
 returns-in-Same-clause-others c = λ m apart. rw c.verify_up_to.ensures.logs (get_or-set_other c.args.log.now.logs c.args.owner m _ no_log

@@ -1,16 +1,12 @@
-use Rattle.std.proofs.Common.{◌≡◌, ◌≤◌, sym, ap, ap₂, subst, ◌∙◌, List, length, get_or, arith}
+use Rattle.std.proofs.Common.{◌≡◌, ◌≤◌, sym, ap, subst, ◌∙◌, List, length, get_or, arith}
 use Rattle.std.specs.Prelude.{All}
 use Rattle.std.proofs.lemmas.Bool.{both_ways}
 use Rattle.std.proofs.lemmas.List.{get_or-set_other}
 use Rattle.flow_word.specs.declared.access.Access.{Access}
 use Rattle.flow_word.specs.declared.access.Step.{Step}
-use Rattle.fifo_table.specs.Channels.{Channel}
-use Rattle.query_log.specs.Logs.{Log, no_log, with_outcomes}
+use Rattle.query_log.specs.Logs.{no_log}
 use Rattle.time_engine.specs.Conditions.{IsAccess}
-use Rattle.event_timing.specs.Actions.{new_flags}
-use Rattle.engine_view.specs.Held.{Held, step_of, queries_in, core_of, held}
-use Rattle.engine_view.specs.Known.{found_flags}
-use Rattle.engine_view.specs.Answered.{outcomes_of, with_answered}
+use Rattle.engine_view.specs.Held.{Held, step_of, queries_in}
 use Rattle.engine_view.specs.Stored.{stored, held_in}
 use Rattle.engine_view.specs.Rooms.{AreApart, HasRoomFor, HasRoom, TakesAt}
 use Rattle.engine_view.specs.Turns.{IsAnswered, first_of}
@@ -130,19 +126,22 @@ returns-clause-answered c = λ d over i k.
     let s = stored c.args.graph.now c.args.fifos.now c.args.log.now in
     let h = held_in s over in
     let f = fresh_in s c.args.owner c.requires.unsure d over i k c.requires.fresh in
-    let step = resolving.first_is h c.args.owner c.frontier.result c.step-step.result.now c.frontier.ensures.count c.step-step.ensures.step in
+    let step = resolving.first_is h c.args.owner c.frontier.result c.step-step.result.now c.frontier.ensures.count
+    c.step-step.ensures.step in
     let behind = resolving.behind_is d h c.args.owner c.args.cycle f c.frontier.result c.step-step.result.now c.as_slice.result.now
     c.as_slice-2.result.now c.write_outcomes.new.log.logs c.take_all.new.fifos.channels c.frontier.ensures.count step c.as_slice.ensures
     c.as_slice-2.ensures c.write_outcomes.ensures.logs c.take_all.ensures.channels in
     subst (IsAnswered d h c.args.owner c.args.cycle) (sym behind)
-    (answered_on d h c.args.owner c.args.cycle _ f.unsure (λ e. absurd (both_ways _ f.fresh e)) (resolving.fresh_core d h c.args.owner c.args.cycle f))
+    (answered_on d h c.args.owner c.args.cycle _ f.unsure (λ e. absurd (both_ways _ f.fresh e))
+    (resolving.fresh_core d h c.args.owner c.args.cycle f))
 
 pub returns-clause-room : goal.returns-clause-room
 returns-clause-room c = λ credits d over i k r.
     let s = stored c.args.graph.now c.args.fifos.now c.args.log.now in
     let h = held_in s over in
     let f = fresh_in s c.args.owner c.requires.unsure d over i k c.requires.fresh in
-    let step = resolving.first_is h c.args.owner c.frontier.result c.step-step.result.now c.frontier.ensures.count c.step-step.ensures.step in
+    let step = resolving.first_is h c.args.owner c.frontier.result c.step-step.result.now c.frontier.ensures.count
+    c.step-step.ensures.step in
     let xs : (step_of h c.args.owner (first_of h c.args.owner)).accesses ≡ c.as_slice-2.result.now =
     ap (λ (t : Step). t.accesses) step ∙ sym c.as_slice-2.ensures in
     let behind = resolving.behind_is d h c.args.owner c.args.cycle f c.frontier.result c.step-step.result.now c.as_slice.result.now
@@ -151,7 +150,8 @@ returns-clause-room c = λ credits d over i k r.
     subst (λ (q : Held). HasRoom d q s.graph.rooms c.take_all.new.fifos c.write_outcomes.new.log.rooms credits) (sym behind)
     (resolving.room_answered d h c.args.owner c.args.cycle f s.graph.rooms s.table c.take_all.new.fifos s.log.rooms
     c.write_outcomes.new.log.rooms credits r c.take_all.ensures.one
-    (λ side ch q. c.take_all.ensures.others side ch (subst (All (λ (a : Access). TakesAt side ch a → ⊥)) xs q)) c.write_outcomes.ensures.other_rooms)
+    (λ side ch q. c.take_all.ensures.others side ch (subst (All (λ (a : Access). TakesAt side ch a → ⊥)) xs q))
+    c.write_outcomes.ensures.other_rooms)
 
 pub returns-clause-others : goal.returns-clause-others
 returns-clause-others c = λ m apart.

@@ -7,7 +7,7 @@ use Rattle.engine_view.specs.Shown.{queries_before}
 use Rattle.engine_view.specs.Answered.{with_answered, with_confirmed}
 use Rattle.engine_view.specs.Turns.{first_of}
 use Rattle.engine_view.proofs.Keeping.{opening_now, emitted_now, over_now, assigned_now, cut_now}
-use Rattle.engine_view.proofs.Unsure.{IsFresh, unsure_of, answered_on}
+use Rattle.engine_view.proofs.Unsure.{unsure_of, answered_on}
 use Rattle.engine_view.proofs.Resolving.{fresh_core}
 use Rattle.engine_view.proofs.Confirming.{again_core}
 use Rattle.engine_view.proofs.laws.cores_are_held.Goals as goal

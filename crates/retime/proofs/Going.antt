@@ -14,7 +14,7 @@ use Rattle.engine_view.specs.Held.{Held, core_of}
 use Rattle.engine_view.specs.Stored.{Stored, held_in}
 use Rattle.engine_view.specs.Taking.{kinds_in}
 use Rattle.engine_view.specs.Turns.{IsKept, IsIdle, IsSomeCore, KeepsRoom, Leads, OfEach, left}
-use Rattle.retime.specs.Rounds.{AreTimings, LeadsAll, HasGone, only_steps, cycles_in, IsVisited, IsGoingRound}
+use Rattle.retime.specs.Rounds.{AreTimings, HasGone, only_steps, cycles_in, IsVisited, IsGoingRound}
 
 -- ---- one action more
 

@@ -10,3 +10,6 @@ pub use laws::{cycles_are_counted, edits_agree};
 pub use retimed::retime;
 pub use rounds::time_all;
 pub use touched::first_touched;
+
+#[cfg(test)]
+mod tests;

@@ -140,6 +140,14 @@ impl FifoTable {
         self.channels[channel as usize].pushes.len()
     }
 
+    /// The pushes of a channel, in order.
+    pub fn pushed(&self, channel: u32) -> &[Pushed]
+        requires { channel < length self.now.channels }
+        ensures { result.now ≡ (channel_at self.now.channels channel).pushes }
+    {
+        self.channels[channel as usize].pushes.as_slice()
+    }
+
     /// The module of a channel's first pop. None where there is no pop yet.
     pub fn popper(&self, channel: u32) -> Option<u32>
         requires { channel < length self.now.channels }

@@ -60,7 +60,7 @@ pub fn assign<L: Ledger>(graph: &mut Graph, owner: u32, cycle: u64, steps: &mut 
 }
 
 /// A module's last cycle, and 0 where it has none.
-fn last_cycle(graph: &Graph, owner: u32) -> u64
+pub fn last_cycle(graph: &Graph, owner: u32) -> u64
     requires { owner < length graph.now.lanes }
     ensures cycle { result ≡ unwrap_or (last_of (lane_at graph.now.lanes owner)) 0 }
     ensures below { result < cycle_bound }

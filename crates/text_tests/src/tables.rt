@@ -8,6 +8,6 @@ fn names_once(rt: HostRuntime) -> Result<(), Fail> {
     assert_eq!(rt; names.has(b"b"), true);
     assert_eq!(rt; names.has(b"B"), false);
     names.clear();
-    assert_eq!(rt; names.len(), 0);
+    assert_eq!(rt; names.has_room(1), true);
     Ok(())
 }

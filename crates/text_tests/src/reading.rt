@@ -29,7 +29,7 @@ fn plain_case(rt: HostRuntime) -> Result<(), Fail> {
     assert_eq!(rt; lines.as_slice(), [1, 4, 5, 6].as_slice());
     let short = matches!(
         session.statements.as_slice(),
-        [_, Statement::Fifo(_, _, 2), _, _]
+        [_, Statement::Fifo(_, _, 2, 1), _, _]
     );
     assert_eq!(rt; short, true);
     Ok(())
@@ -42,7 +42,8 @@ fn ends_of_texts(rt: HostRuntime) -> Result<(), Fail> {
         ("", (1, 12)),
         ("\n", (2, 12)),
         ("flow 0\nend", (1, 4)),
-        ("flow 2\nend", (1, 4)),
+        ("flow 2\nend", (0, 0)),
+        ("flow 3\nend", (1, 4)),
         ("flow 1", (1, 12)),
         ("flow 1\n", (2, 12)),
         ("flow 1\n\n# end", (3, 12)),
@@ -51,6 +52,22 @@ fn ends_of_texts(rt: HostRuntime) -> Result<(), Fail> {
         ("flow 1\nend\n\n# end\n", (0, 0)),
         ("flow 1\nend\nend", (3, 3)),
         ("flow 1\nend\n# \x0b", (3, 2)),
+    ];
+    for (text, wanted) in rows {
+        assert_eq!(rt; fault(rt.alloc(), text.as_bytes())?, wanted, "{text}");
+    }
+    Ok(())
+}
+
+/// Delays, which FIFOs have in version 2 alone.
+#[test]
+fn delays_of_fifos(rt: HostRuntime) -> Result<(), Fail> {
+    let rows = [
+        ("flow 1\nfifo b 8 2 1\nend", (2, 3)),
+        ("flow 2\nfifo b 8 2 0\nend", (2, 4)),
+        ("flow 2\nfifo b 8 2 1000\nend", (0, 0)),
+        ("flow 2\nfifo b 8 2 1001\nend", (2, 4)),
+        ("flow 2\nfifo b 8 2 1 1\nend", (2, 3)),
     ];
     for (text, wanted) in rows {
         assert_eq!(rt; fault(rt.alloc(), text.as_bytes())?, wanted, "{text}");

@@ -79,11 +79,7 @@ pub(crate) fn answer_words<S: Source>(
 }
 
 /// The answer to a command.
-fn obey<S: Source>(
-    alloc: Global,
-    command: Command,
-    source: &mut S,
-) -> Result<Answer, Unanswered>
+fn obey<S: Source>(alloc: Global, command: Command, source: &mut S) -> Result<Answer, Unanswered>
     requires { IsInRange command }
     ensures answers { IfSome (S.left source.old) (λ bytes. IfOk result (λ whole. AnswersCommand (Some command) bytes whole)) }
     ensures status { IfOk result (λ whole. IsAnswer whole.status) }

@@ -23,6 +23,9 @@ fn depths_and_delays_are_written_out(rt: HostRuntime) -> Result<(), Fail> {
     let first = with_fifo(alloc, 1, width)?;
     assert_eq!(rt; first.as_slice(), b"flow 1\nfifo b 8 2\nend\n".as_slice());
     let second = with_fifo(alloc, 2, width)?;
-    assert_eq!(rt; second.as_slice(), b"flow 2\nfifo b 8 2 1\nend\n".as_slice());
+    assert_eq!(rt;
+        second.as_slice(),
+        b"flow 2\nfifo b 8 2 1\nend\n".as_slice()
+    );
     Ok(())
 }

@@ -18,9 +18,9 @@ returns-clause-generated c =
     let text = session_text c.args.seed c.args.modules in
     let stands = c.generated_texts_are_read.ensures.read c.args.seed c.args.modules some most in
     let only : (x : Result (List Statement × List ℕ) TextFault) → Said text x → x ≡ Ok (s, l) =
-        λ x said. c.one_answer.ensures.no_other text x (Ok (s, l)) said stands in
+    λ x said. c.one_answer.ensures.no_other text x (Ok (s, l)) said stands in
     let none = c.generated_sessions_are_checked.ensures c.args.seed c.args.modules l some most in
     let task = Summarize c.args.seed c.args.modules in
     let answers = subst (λ (t : List ℕ). IfOk c.answer_text.result (λ whole. AnswersText task t whole))
-        (c.as_slice.ensures ∙ c.in_ok-text.ensures) c.answer_text.ensures.answers in
+    (c.as_slice.ensures ∙ c.in_ok-text.ensures) c.answer_text.ensures.answers in
     generated_is task text s l only none c.answer_text.result answers

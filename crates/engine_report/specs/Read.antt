@@ -1,5 +1,6 @@
 -- What is read off the graph, the table and the log.
-use Rattle.std.specs.Prelude.{◌≡◌, ℕ, nat_lt, ◌==◌, is_some, Bool, ◌&&◌, ◌||◌, List, [], map, filter_map, find, flat_map, take, length, slice_index_or, option_map, option_and_then, Option, Some, None, IsPermutation, IsSortedBy}
+use Rattle.std.specs.Prelude.{◌≡◌, ℕ, nat_lt, ◌==◌, is_some, Bool, ◌&&◌, ◌||◌, List, [], map, filter_map, find, flat_map, take, length}
+use Rattle.std.specs.Prelude.{slice_index_or, option_map, option_and_then, Option, Some, None, IsPermutation, IsSortedBy}
 use Rattle.std.specs.List.{range_with_len, take_while}
 use Rattle.flow_word.specs.declared.access.Access.{Access}
 use Rattle.flow_word.specs.declared.access.Side.TheVariants.{Push}
@@ -78,7 +79,8 @@ event_of i cycle access = record { «module» = i; kind = access.kind; channel =
 
 -- the events of a step
 unfoldable pub events_at : List Lane → ℕ × ℕ → List EventLine
-events_at lanes place = map (event_of place.0 (cycle_at lanes place)) (slice_index_or (lane_at lanes place.0).steps place.1 no_step).accesses
+events_at lanes place = map (event_of place.0 (cycle_at lanes place))
+    (slice_index_or (lane_at lanes place.0).steps place.1 no_step).accesses
 
 -- these are the events of all steps with a cycle, in order
 pub record AreEvents (lanes : List Lane) (events : List EventLine) : Type 0 where

@@ -1,9 +1,9 @@
--- What an Answer adds to what is held, where the outcomes were not recorded before.
-use Rattle.std.specs.Prelude.{ℕ, Bool, cond, not, ◌&&◌, List, [], ◌∷◌, ◌++◌, length, slice_set}
+-- What an Answer adds to what is held: outcomes, where none was recorded, and else that they are verified.
+use Rattle.std.specs.Prelude.{ℕ, Bool, cond, not, ◌&&◌, List, [], ◌∷◌}
 use Rattle.flow_word.specs.Kinds.{is_blocking}
 use Rattle.flow_word.specs.declared.access.Access.{Access}
 use Rattle.flow_word.specs.declared.access.Kind.{Kind}
-use Rattle.query_log.specs.Logs.{Log, log_at}
+use Rattle.query_log.specs.Logs.{with_outcomes, with_verified}
 use Rattle.query_resolve.specs.Decisions.{late_outcome}
 use Rattle.engine_view.specs.Held.{Held, step_of}
 use Rattle.engine_view.specs.Taking.{taken_all}
@@ -25,13 +25,13 @@ done_late [] flags = []
 done_late (a ∷ as') [] = []
 done_late (a ∷ as') (b ∷ bs) = (not (is_blocking a.kind) && b) ∷ done_late as' bs
 
--- with so many more outcomes, all verified
-abbrev pub all_answered : Log → List Bool → Log
-all_answered log more = record { outcomes = log.outcomes ++ more; verified = length (log.outcomes ++ more) }
-
 -- with these outcomes of the module's step of this number, and its pushes and pops that they decide
 abbrev pub with_answered : Held → ℕ → ℕ → List Bool → Held
 with_answered h m k flags = record h {
   channels = taken_all (place_of m k) h.channels (step_of h m k).accesses (done_late (step_of h m k).accesses flags);
-  logs = slice_set h.logs m (all_answered (log_at h.logs m) (outcomes_of (step_of h m k).accesses flags));
+  logs = with_outcomes h.logs m (outcomes_of (step_of h m k).accesses flags);
 }
+
+-- with so many verified outcomes of the module
+abbrev pub with_confirmed : Held → ℕ → ℕ → Held
+with_confirmed h m verified = record h { logs = with_verified h.logs m verified }

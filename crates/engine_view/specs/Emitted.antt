@@ -1,5 +1,5 @@
 -- What a Run adds to what is held.
-use Rattle.std.specs.Prelude.{◌≡◌, ℕ, suc, ◌<◌, ◌≤◌, Bool, List, map, All}
+use Rattle.std.specs.Prelude.{◌≡◌, ℕ, suc, ◌<◌, ◌≤◌, Bool, true, List, map, slice_set, All}
 use Rattle.flow_word.specs.Kinds.{is_blocking, side_of}
 use Rattle.flow_word.specs.declared.access.Access.{Access}
 use Rattle.flow_word.specs.declared.access.Step.{Step}
@@ -27,6 +27,10 @@ with_emitted h m step = record h {
   channels = taken_all (place_of m (emitted_of h m)) h.channels step.accesses (done_at_once step.accesses);
 }
 
+-- with the mark of a module that is over
+abbrev pub with_over : Held → ℕ → Held
+with_over h m = record h { over = slice_set h.over m true }
+
 -- the step is the next of the module's own run, with the ordinals and the number of queries of the steps before it
 pub record IsNextStep {S : Type 0} (d : Design S) (h : Held) (m : ℕ) (step : Step) : Type 0 where
   pub sound : IsSoundStep step
@@ -34,5 +38,6 @@ pub record IsNextStep {S : Type 0} (d : Design S) (h : Held) (m : ℕ) (step : S
   pub accesses : d.accesses m (ready d m (newest d (core_of d h) m)) ≡ map seen step.accesses
   pub gap : waited (emitted_of h m) step.gap ≡ d.quiet m (newest d (core_of d h) m)
   pub apart : 0 < emitted_of h m → 1 ≤ step.gap
-  pub ordinals : All (λ (a : Access). a.ordinal ≡ suc (core_tally d (core_of d h) m (side_of a.kind) a.channel (emitted_of h m))) step.accesses
+  pub ordinals : All (λ (a : Access). a.ordinal ≡ suc (core_tally d (core_of d h) m (side_of a.kind) a.channel (emitted_of h m)))
+      step.accesses
   pub first_query : step.first_query ≡ queries_before h m (emitted_of h m)

@@ -1,5 +1,6 @@
 -- What an engine holds, as contracts see it, and the theory's core that is read off it.
-use Rattle.std.specs.Prelude.{ℕ, zero, suc, ◌+◌, ◌-◌, Bool, true, false, cond, not, ◌&&◌, ◌||◌, eqb, leb, ltb, List, [], ◌∷◌, length, drop, filter, get_or, slice_get, slice_index_or, Option, None, Some}
+use Rattle.std.specs.Prelude.{ℕ, zero, suc, ◌+◌, ◌-◌, Bool, true, false, cond, not, ◌&&◌, ◌||◌, eqb, leb, ltb, List, [], ◌∷◌, length, drop}
+use Rattle.std.specs.Prelude.{filter, get_or, slice_get, slice_index_or, Option, None, Some}
 use Rattle.flow_word.specs.Kinds.{side_of, is_blocking, is_taking}
 use Rattle.flow_word.specs.declared.access.Access.{Access}
 use Rattle.flow_word.specs.declared.access.Kind.{Kind}
@@ -21,6 +22,9 @@ pub record Held : Type 0 where
   pub channels : List Channel
   pub logs : List Log
   pub over : List Bool
+
+abbrev pub held : List Lane → List Channel → List Log → List Bool → Held
+held lanes channels logs over = record { lanes = lanes; channels = channels; logs = logs; over = over }
 
 abbrev pub no_step : Step
 no_step = record { gap = 0; accesses = []; first_query = 0 }
@@ -54,6 +58,10 @@ queries_in accesses = length (filter (λ a. not (is_blocking a.kind)) accesses)
 abbrev pub possible_by : Kind → Option Bool → Bool
 possible_by kind None = false
 possible_by kind (Some outcome) = cond (late_outcome kind) (not outcome) outcome
+
+-- whether an access is done or possible, where its query has this outcome
+abbrev pub flag_now : Kind → Option Bool → Bool
+flag_now kind outcome = cond (is_blocking kind) true (possible_by kind outcome)
 
 -- whether each access is done or possible, where these are the outcomes from its step's first query on
 abbrev pub flags_by : List Access → List Bool → List Bool

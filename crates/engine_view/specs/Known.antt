@@ -1,8 +1,8 @@
 -- What the code knows of an access, as the theory says it.
-use Rattle.flow_word.specs.Kinds.{is_blocking}
 use Rattle.time_engine.specs.declared.known.Known as of_code
 use Rattle.time_engine.specs.declared.known.Known.TheVariants as code
 use Rattle.std.specs.Prelude.{ℕ, Bool, true, ◌&&◌, ◌||◌, List, [], ◌∷◌, map}
+use Rattle.flow_word.specs.Kinds.{is_blocking}
 use Rattle.flow_word.specs.declared.access.Access.{Access}
 use Rattle.event_graph.specs.Lanes.{Lane}
 use Rattle.fifo_table.specs.Channels.{Channel}
@@ -15,11 +15,15 @@ as_known (code.From u) = From u
 as_known code.Never = Never
 as_known code.Unknown = Unknown
 
--- by the graph and the table: whether each access is done or possible in this clock, an undecided query counting as not possible
+-- by the graph and the table: whether an access is done or possible in this clock, an undecided query counting as not possible
+abbrev pub flag_found : List Lane → List Channel → ℕ → Access → Bool
+flag_found lanes channels c a = is_blocking a.kind || answer (as_known (when_possible lanes channels a)) c
+
 abbrev pub found_flags : List Lane → List Channel → ℕ → List Access → List Bool
-found_flags lanes channels c accesses = map (λ a. is_blocking a.kind || answer (as_known (when_possible lanes channels a)) c) accesses
+found_flags lanes channels c accesses = map (flag_found lanes channels c) accesses
 
 -- and whether each query is decided
 abbrev pub are_decided : List Lane → List Channel → List Access → Bool
 are_decided lanes channels [] = true
-are_decided lanes channels (a ∷ as') = (is_blocking a.kind || is_decided (as_known (when_possible lanes channels a))) && are_decided lanes channels as'
+are_decided lanes channels (a ∷ as') =
+    (is_blocking a.kind || is_decided (as_known (when_possible lanes channels a))) && are_decided lanes channels as'

@@ -1,11 +1,16 @@
 -- The pushes and pops of a step's accesses, as the table takes them.
-use Rattle.std.specs.Prelude.{Bool, true, false, cond, ◌&&◌, List, [], ◌∷◌}
+use Rattle.std.specs.Prelude.{Bool, cond, ◌&&◌, List, [], ◌∷◌, map}
 use Rattle.flow_word.specs.Kinds.{is_taking, side_of}
 use Rattle.flow_word.specs.declared.access.Side.{Side}
 use Rattle.flow_word.specs.declared.access.Side.TheVariants.{Pop, Push}
 use Rattle.flow_word.specs.declared.access.Access.{Access}
 use Rattle.flow_word.specs.declared.access.Place.{Place}
+use Rattle.fifo_table.specs.declared.channel.TableChannel.{TableChannel}
 use Rattle.fifo_table.specs.Channels.{Channel, with_push, with_pop}
+
+-- of each channel what it is
+abbrev pub kinds_in : List Channel → List TableChannel
+kinds_in channels = map (λ c. c.kind) channels
 
 -- an access at its side of its channel
 abbrev pub taken_by : Side → Place → List Channel → Access → List Channel
@@ -16,4 +21,5 @@ taken_by Push at channels a = with_push channels a.channel at a.value
 abbrev pub taken_all : Place → List Channel → List Access → List Bool → List Channel
 taken_all at channels [] done = channels
 taken_all at channels (a ∷ as') [] = channels
-taken_all at channels (a ∷ as') (b ∷ bs) = taken_all at (cond (is_taking a.kind && b) (taken_by (side_of a.kind) at channels a) channels) as' bs
+taken_all at channels (a ∷ as') (b ∷ bs) = taken_all at (cond (is_taking a.kind && b) (taken_by (side_of a.kind) at channels a) channels)
+    as' bs

@@ -1,11 +1,10 @@
 //! A step more, with its pushes and pops.
-ghost use Rattle.std.specs.Prelude.{◌≡◌, ◌≢◌, ℕ, ◌+◌, ◌<◌, ◌≤◌, ◌^◌, Bool, length, slice_index, All};
-ghost use Rattle.flow_word.specs.declared.access.Side.{Side};
-ghost use Rattle.event_graph.specs.Lanes.{lane_at, with_step, IsSoundStep};
+ghost use Rattle.std.specs.Prelude.{◌≡◌, ◌<◌, ◌≤◌, length, slice_index, All};
+ghost use Rattle.event_graph.specs.Lanes.{lane_at, with_step, IsSoundStep, IsSoundLane};
 ghost use Rattle.time_engine.specs.Conditions.{IsAccess};
-ghost use Rattle.engine_view.specs.Taking.{taken_all};
+ghost use Rattle.engine_view.specs.Taking.{taken_all, kinds_in};
 ghost use Rattle.engine_view.specs.Emitted.{done_at_once, place_of};
-ghost use Rattle.engine_view.specs.Rooms.{room_of, TakesAt, AreApart, HasRoomFor};
+ghost use Rattle.engine_view.specs.Rooms.{AreApart, HasRoomFor, UsesRoom, query_bound};
 
 use crate::take::take_all;
 use event_graph::{Graph, Place, Step};
@@ -22,13 +21,13 @@ pub fn emit_step(graph: &mut Graph, fifos: &mut FifoTable, log: &QueryLog, owner
     requires inside { All (IsAccess fifos.old.channels) step.accesses }
     requires apart { AreApart step.accesses }
     requires room { HasRoomFor fifos.old step.accesses }
-    requires few { step.first_query < 2 ^ 62 }
+    requires few { step.first_query < query_bound }
     ensures lanes { graph.new.lanes ≡ with_step graph.old.lanes owner step }
-    ensures channels { fifos.new.channels ≡ taken_all (place_of owner (length (lane_at graph.old.lanes owner).steps)) fifos.old.channels step.accesses (done_at_once step.accesses) }
-    ensures own_room { slice_index graph.old.rooms owner ≤ slice_index graph.new.rooms owner + 1 }
-    ensures other_rooms { (k : ℕ) → k ≢ owner → slice_index graph.old.rooms k ≤ slice_index graph.new.rooms k }
-    ensures one { (side : Side) (c : ℕ) → room_of fifos.old side c ≤ room_of fifos.new side c + 1 }
-    ensures others { (side : Side) (c : ℕ) → All (λ a. TakesAt side c a → ⊥) step.accesses → room_of fifos.old side c ≤ room_of fifos.new side c }
+    ensures channels { fifos.new.channels ≡ taken_all (place_of owner (length (lane_at graph.old.lanes owner).steps)) fifos.old.channels
+        step.accesses (done_at_once step.accesses) }
+    ensures kinds { kinds_in fifos.new.channels ≡ kinds_in fifos.old.channels }
+    ensures sound { All IsSoundLane graph.new.lanes }
+    ensures room { UsesRoom owner step.accesses graph.old.rooms graph.new.rooms fifos.old fifos.new }
 {
     let at = Place {
         module: owner,

@@ -1,66 +1,79 @@
 //! Room for the steps to come.
-ghost use Rattle.std.specs.Prelude.{◌≡◌, ℕ, ◌+◌, ◌<◌, ◌≤◌, Bool, List, length, slice_index, OnOk};
-ghost use Rattle.flow_word.specs.declared.access.Side.{Side};
+ghost use Rattle.std.specs.Prelude.{◌≡◌, ◌≢◌, ℕ, ◌+◌, ◌<◌, ◌≤◌, Bool, List, length, slice_index, All, OnOk};
+ghost use Rattle.flow_word.specs.declared.access.Side.{Side as side_type};
 ghost use Rattle.flow_design.specs.declared.state.ModuleState.{ModuleState};
 ghost use Rattle.event_timing.specs.Machines.{Design};
-ghost use Rattle.engine_view.specs.Timed.{held};
-ghost use Rattle.engine_view.specs.Rooms.{room_of, HasRoom};
+ghost use Rattle.engine_view.specs.Stored.{stored};
+ghost use Rattle.engine_view.specs.Rooms.{room_of, credit_given, IsRoomy, AreAllPorts};
 
 use event_graph::Graph;
 use fifo_table::FifoTable;
-use flow_word::OutOfMemory;
+use flow_word::{OutOfMemory, Port, Side};
 use query_log::QueryLog;
 
-/// Makes room for a module's next step, and for others beside it, so that this seldom takes time. All else stays.
+/// The places at each end that a module is given at once: those of 16 Runs, of which each takes two at most.
+const CREDIT: u64 = 32;
+
+/// Makes room for a module's next step, and for others beside it, so that this seldom takes time.
+///
+/// `ports` are those at which the module stands, and `queries` is how many queries a step of it may have. All else
+/// stays, also after want of memory.
 pub fn make_room(
     graph: &mut Graph,
     fifos: &mut FifoTable,
     log: &mut QueryLog,
     credits: &mut Vec<u64>,
-    channels: u32,
     owner: u32,
+    ports: &[Port],
+    queries: u64,
 ) -> Result<(), OutOfMemory>
     requires lanes { owner < length graph.old.lanes }
     requires logs { owner < length log.old.logs }
     requires credits { owner < length credits.old.items }
-    requires channels { channels ≡ length fifos.old.channels }
+    requires ports { All (λ port. port.channel < length fifos.old.channels) ports.now }
     ensures lanes { graph.new.lanes ≡ graph.old.lanes }
     ensures channels { fifos.new.channels ≡ fifos.old.channels }
     ensures logs { log.new.logs ≡ log.old.logs }
     ensures credits { length credits.new.items ≡ length credits.old.items }
+    ensures other_credits { (m : ℕ) → m ≢ owner → slice_index credits.new.items m ≡ slice_index credits.old.items m }
     ensures credit { OnOk result (2 ≤ slice_index credits.new.items owner) }
-    ensures queries { OnOk result (65536 ≤ slice_index log.new.rooms owner) }
-    ensures room { (d : Design ModuleState) (over : List Bool) → HasRoom d (held graph.old.lanes fifos.old.channels log.old.logs over) graph.old.rooms fifos.old log.old.rooms credits.old.items → HasRoom d (held graph.old.lanes fifos.old.channels log.old.logs over) graph.new.rooms fifos.new log.new.rooms credits.new.items }
+    ensures queries { OnOk result (queries ≤ slice_index log.new.rooms owner) }
+    ensures room { (d : Design ModuleState) (over : List Bool) → AreAllPorts d owner (length fifos.old.channels) ports.now
+        → IsRoomy d (stored graph.old fifos.old log.old) over credits.old.items
+        → IsRoomy d (stored graph.new fifos.new log.new) over credits.new.items }
 {
-    log.reserve(owner, 65536)?;
+    log.reserve(owner, queries)?;
     if credits[owner as usize] >= 2 {
         return Ok(());
     }
-    graph.reserve(owner, 32)?;
-    reserve_ends(fifos, channels)?;
-    credits[owner as usize] = 32;
+    graph.reserve(owner, CREDIT)?;
+    reserve_ports(fifos, ports)?;
+    credits[owner as usize] = CREDIT;
     Ok(())
 }
 
-/// Makes room at each end of each channel.
-fn reserve_ends(fifos: &mut FifoTable, channels: u32) -> Result<(), OutOfMemory>
-    requires { channels ≡ length fifos.old.channels }
+/// Makes room at each of the ports.
+fn reserve_ports(fifos: &mut FifoTable, ports: &[Port]) -> Result<(), OutOfMemory>
+    requires { All (λ port. port.channel < length fifos.old.channels) ports.now }
     ensures channels { fifos.new.channels ≡ fifos.old.channels }
-    ensures kept { (side : Side) (c : ℕ) → room_of fifos.old side c ≤ room_of fifos.new side c }
-    ensures room { OnOk result ((side : Side) (c : ℕ) → c < channels → 33 ≤ room_of fifos.new side c) }
+    ensures kept { (side : side_type) (c : ℕ) → room_of fifos.old side c ≤ room_of fifos.new side c }
+    ensures room { OnOk result (All (λ port. credit_given + 1 ≤ room_of fifos.new port.side port.channel) ports.now) }
 {
-    for channel in 0..channels {
-        reserve_end(fifos, channel)?;
+    for port in ports {
+        reserve_port(fifos, *port)?;
     }
     Ok(())
 }
 
-/// Makes room at both ends of a channel.
-fn reserve_end(fifos: &mut FifoTable, channel: u32) -> Result<(), OutOfMemory>
-    requires { channel < length fifos.old.channels }
+/// Makes room at a port: for as many places as the credit, and one that the newest step may still take.
+fn reserve_port(fifos: &mut FifoTable, port: Port) -> Result<(), OutOfMemory>
+    requires { port.channel < length fifos.old.channels }
     ensures channels { fifos.new.channels ≡ fifos.old.channels }
-    ensures kept { (side : Side) (c : ℕ) → room_of fifos.old side c ≤ room_of fifos.new side c }
-    ensures room { OnOk result ((side : Side) → 33 ≤ room_of fifos.new side channel) }
+    ensures kept { (side : side_type) (c : ℕ) → room_of fifos.old side c ≤ room_of fifos.new side c }
+    ensures room { OnOk result (credit_given + 1 ≤ room_of fifos.new port.side port.channel) }
 {
-    fifos.reserve(channel, 33, 33)
+    match port.side {
+        Side::Pop => fifos.reserve(port.channel, 0, CREDIT + 1),
+        Side::Push => fifos.reserve(port.channel, CREDIT + 1, 0),
+    }
 }

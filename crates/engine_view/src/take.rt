@@ -1,21 +1,21 @@
 //! The pushes and pops of a step's accesses.
-ghost use Rattle.std.specs.Prelude.{◌≡◌, ℕ, ◌+◌, ◌<◌, ◌≤◌, ◌^◌, Bool, true, false, cond, not, ◌&&◌, length, drop, slice_get, All};
-ghost use Rattle.flow_word.specs.Kinds.{is_blocking, is_taking, side_of};
-ghost use Rattle.flow_word.specs.declared.access.Side.{Side};
-ghost use Rattle.fifo_table.specs.Channels.{channel_at};
+ghost use Rattle.std.specs.Prelude.{◌≡◌, ℕ, ◌+◌, ◌<◌, ◌≤◌, ◌^◌, Bool, true, cond, not, ◌&&◌, length, drop, All};
+ghost use Rattle.flow_word.specs.Kinds.{side_of, is_blocking, is_taking};
+ghost use Rattle.flow_word.specs.declared.access.Side.{Side as side_type};
 ghost use Rattle.query_log.specs.Logs.{log_at, outcome_of};
 ghost use Rattle.time_engine.specs.Conditions.{IsAccess};
 ghost use Rattle.engine_view.specs.Held.{possible_by};
-ghost use Rattle.engine_view.specs.Taking.{taken_by, taken_all};
+ghost use Rattle.engine_view.specs.Taking.{taken_by, taken_all, kinds_in};
 ghost use Rattle.engine_view.specs.Rooms.{room_of, TakesAt, AreApart, HasRoomFor, done_by};
 
 use event_graph::{Access, Kind, Place};
 use fifo_table::FifoTable;
+use flow_word::Side;
 use query_log::QueryLog;
 use query_resolve::late;
 
-/// Adds the pushes and pops of a step: where it is only emitted those of the accesses that block, and later those of the queries that
-/// were possible. There is room for them.
+/// Adds the pushes and pops of a step: where it is only emitted those of the accesses that block, and later those of the
+/// queries that were possible by their recorded outcomes. There is room for them.
 pub fn take_all(
     fifos: &mut FifoTable,
     log: &QueryLog,
@@ -29,9 +29,12 @@ pub fn take_all(
     requires apart { AreApart accesses.now }
     requires room { HasRoomFor fifos.old accesses.now }
     requires few { first_query + length accesses.now < 2 ^ 64 }
-    ensures channels { fifos.new.channels ≡ taken_all at fifos.old.channels accesses.now (done_by later accesses.now (drop first_query (log_at log.now.logs at.module).outcomes)) }
-    ensures one { (side : Side) (c : ℕ) → room_of fifos.old side c ≤ room_of fifos.new side c + 1 }
-    ensures others { (side : Side) (c : ℕ) → All (λ a. TakesAt side c a → ⊥) accesses.now → room_of fifos.old side c ≤ room_of fifos.new side c }
+    ensures channels { fifos.new.channels ≡ taken_all at fifos.old.channels accesses.now
+        (done_by later accesses.now (drop first_query (log_at log.now.logs at.module).outcomes)) }
+    ensures kinds { kinds_in fifos.new.channels ≡ kinds_in fifos.old.channels }
+    ensures one { (side : side_type) (c : ℕ) → room_of fifos.old side c ≤ room_of fifos.new side c + 1 }
+    ensures others { (side : side_type) (c : ℕ) → All (λ a. TakesAt side c a → ⊥) accesses.now
+        → room_of fifos.old side c ≤ room_of fifos.new side c }
 {
     let mut number = first_query;
     for access in accesses {
@@ -46,12 +49,18 @@ fn is_done(log: &QueryLog, owner: u32, number: u64, kind: Kind, later: bool) -> 
     requires { owner < length log.now.logs }
     ensures { result ≡ cond (is_blocking kind) (not later) (later && possible_by kind (outcome_of log.now.logs owner number)) }
 {
-    if blocks(kind) {
-        return !later;
+    if kind.is_blocking() {
+        !later
+    } else {
+        later && was_possible(log, owner, number, kind)
     }
-    if !later {
-        return false;
-    }
+}
+
+/// Whether a query was possible by its recorded outcome. Without one it counts as not possible.
+pub fn was_possible(log: &QueryLog, owner: u32, number: u64, kind: Kind) -> bool
+    requires { owner < length log.now.logs }
+    ensures { result ≡ possible_by kind (outcome_of log.now.logs owner number) }
+{
     match log.outcome(owner, number) {
         Some(outcome) => outcome != late(kind),
         None => false,
@@ -62,33 +71,29 @@ fn is_done(log: &QueryLog, owner: u32, number: u64, kind: Kind, later: bool) -> 
 fn take_if(fifos: &mut FifoTable, at: Place, access: &Access, done: bool)
     requires access { IsAccess fifos.old.channels access.now }
     requires room { is_taking access.now.kind ≡ true → 0 < room_of fifos.old (side_of access.now.kind) access.now.channel }
-    ensures channels { fifos.new.channels ≡ cond (is_taking access.now.kind && done) (taken_by (side_of access.now.kind) at fifos.old.channels access.now) fifos.old.channels }
-    ensures one { (side : Side) (c : ℕ) → room_of fifos.old side c ≤ room_of fifos.new side c + 1 }
-    ensures others { (side : Side) (c : ℕ) → (TakesAt side c access.now → ⊥) → room_of fifos.old side c ≤ room_of fifos.new side c }
+    ensures channels { fifos.new.channels ≡ cond (is_taking access.now.kind && done)
+        (taken_by (side_of access.now.kind) at fifos.old.channels access.now) fifos.old.channels }
+    ensures one { (side : side_type) (c : ℕ) → room_of fifos.old side c ≤ room_of fifos.new side c + 1 }
+    ensures others { (side : side_type) (c : ℕ) → (TakesAt side c access.now → ⊥) → room_of fifos.old side c ≤ room_of fifos.new side c }
 {
-    if !done {
-        return;
-    }
-    // There is room for it.
-    match access.kind {
-        Kind::Read | Kind::TryRead => {
-            let _ = fifos.add_pop(access.channel, at);
-        }
-        Kind::Write | Kind::TryWrite => {
-            let _ = fifos.add_push(access.channel, at, access.value);
-        }
-        Kind::Empty | Kind::Full => {}
+    if access.kind.takes() && done {
+        add(fifos, at, access);
     }
 }
 
-/// Whether an access of this kind blocks its module while it cannot be done.
-pub fn blocks(kind: Kind) -> bool
-    ensures { result ≡ is_blocking kind }
+/// Adds the push or the pop of an access. There is room for it.
+fn add(fifos: &mut FifoTable, at: Place, access: &Access)
+    requires access { IsAccess fifos.old.channels access.now }
+    requires taking { is_taking access.now.kind ≡ true }
+    requires room { 0 < room_of fifos.old (side_of access.now.kind) access.now.channel }
+    ensures channels { fifos.new.channels ≡ taken_by (side_of access.now.kind) at fifos.old.channels access.now }
+    ensures one { (side : side_type) (c : ℕ) → room_of fifos.old side c ≤ room_of fifos.new side c + 1 }
+    ensures others { (side : side_type) (c : ℕ) → (TakesAt side c access.now → ⊥) → room_of fifos.old side c ≤ room_of fifos.new side c }
 {
-    match kind {
-        Kind::Read | Kind::Write => true,
-        Kind::TryRead | Kind::TryWrite | Kind::Empty | Kind::Full => false,
-    }
+    let _ = match access.kind.side() {
+        Side::Pop => fifos.add_pop(access.channel, at),
+        Side::Push => fifos.add_push(access.channel, at, access.value),
+    };
 }
 
 /// How many queries an access of this kind is.
@@ -96,5 +101,5 @@ pub fn query_count(kind: Kind) -> u64
     ensures count { result ≡ cond (is_blocking kind) 0 1 }
     ensures most { result ≤ 1 }
 {
-    if blocks(kind) { 0 } else { 1 }
+    if kind.is_blocking() { 0 } else { 1 }
 }

@@ -1,21 +1,17 @@
 //! One turn at a module.
-ghost use Rattle.std.specs.Prelude.{◌≡◌, ℕ, ◌+◌, ◌<◌, ◌≤◌, ◌||◌, Bool, List, length, All};
-ghost use Rattle.flow_word.specs.Kinds.{is_blocking};
-ghost use Rattle.flow_design.specs.declared.state.ModuleState.{ModuleState};
+ghost use Rattle.std.specs.Prelude.{◌≡◌, ℕ, ◌+◌, ◌<◌, ◌≤◌, true, length, All};
 ghost use Rattle.event_graph.specs.Lanes.{cycle_bound};
-ghost use Rattle.time_engine.specs.Conditions.{IsAccess, HasAccesses, HasPlaces};
+ghost use Rattle.time_engine.specs.Conditions.{IsAccess, HasPlaces};
 ghost use Rattle.time_engine.specs.Possible.{when_possible};
-ghost use Rattle.event_timing.specs.Machines.{Design, IsDesign};
 ghost use Rattle.event_timing.specs.Enablers.{is_decided as decided};
+ghost use Rattle.engine_view.specs.Held.{queries_in, are_among};
 ghost use Rattle.engine_view.specs.Known.{as_known, are_decided};
-ghost use Rattle.engine_view.specs.Timed.{held};
-ghost use Rattle.engine_view.specs.Rooms.{HasRoom};
-ghost use Rattle.engine_view.specs.Turns.{IsKept, HasTimed, lanes_behind, ticks_of};
+ghost use Rattle.engine_view.specs.Stored.{stored};
+ghost use Rattle.engine_view.specs.Taking.{kinds_in};
+ghost use Rattle.engine_view.specs.Turns.{IsSomeCore, HasTimed, KeepsRoom, lanes_behind, ticks_of, is_progress, left};
 
-use crate::again::answer_first;
-use crate::take::blocks;
-use crate::timing::are_first;
-use event_graph::{Access, Candidate, Graph, Place};
+use crate::answer::answer_first;
+use event_graph::{Access, Candidate, Graph, Place, Step};
 use fifo_table::FifoTable;
 use flow_word::Steps;
 use outcome_guard::Guard;
@@ -49,14 +45,13 @@ pub fn time_first<L: Ledger>(
     steps: &mut Steps<L>,
 ) -> Timing
     requires owner { owner < length graph.old.lanes }
-    requires logs { owner < length log.old.logs }
-    requires accesses { HasAccesses graph.old.lanes fifos.old.channels }
-    requires places { HasPlaces graph.old.lanes fifos.old.channels }
     requires limit { limit ≤ cycle_bound }
-    requires kept { (d : Design ModuleState) × ((over : List Bool) × ((credits : List ℕ) × (IsDesign d × (IsKept d (held graph.old.lanes fifos.old.channels log.old.logs over) × HasRoom d (held graph.old.lanes fifos.old.channels log.old.logs over) graph.old.rooms fifos.old log.old.rooms credits)))) }
-    ensures done { HasTimed result limit owner (λ over. held graph.old.lanes fifos.old.channels log.old.logs over) (λ over. held graph.new.lanes fifos.new.channels log.new.logs over) }
-    ensures room { (d : Design ModuleState) (over : List Bool) (credits : List ℕ) → IsDesign d → IsKept d (held graph.old.lanes fifos.old.channels log.old.logs over) → HasRoom d (held graph.old.lanes fifos.old.channels log.old.logs over) graph.old.rooms fifos.old log.old.rooms credits → HasRoom d (held graph.new.lanes fifos.new.channels log.new.logs over) graph.new.rooms fifos.new log.new.rooms credits }
+    requires core { IsSomeCore (stored graph.old fifos.old log.old) }
+    ensures done { HasTimed result limit owner (stored graph.old fifos.old log.old) (stored graph.new fifos.new log.new) }
+    ensures room { KeepsRoom (stored graph.old fifos.old log.old) (stored graph.new fifos.new log.new) }
     ensures lanes { graph.new.lanes ≡ lanes_behind result owner graph.old.lanes }
+    ensures kinds { kinds_in fifos.new.channels ≡ kinds_in fifos.old.channels }
+    ensures less { is_progress result ≡ true → left (stored graph.new fifos.new log.new) < left (stored graph.old fifos.old log.old) }
     ensures ticks { steps.new ≡ steps.old + ticks_of result }
 {
     let Candidate::At(cycle) = candidate(graph, fifos, owner, limit) else {
@@ -68,8 +63,6 @@ pub fn time_first<L: Ledger>(
     });
     if are_first(first, log.verified(owner)) {
         assign(graph, owner, cycle, steps);
-        // The lanes are sound as ever.
-        let _count = graph.modules();
         return Timing::Assigned(cycle);
     }
     if !all_decided(graph, fifos, first.accesses.as_slice()) {
@@ -81,6 +74,30 @@ pub fn time_first<L: Ledger>(
     }
 }
 
+/// Whether all queries of a step are among its module's first so many.
+fn are_first(step: &Step, verified: u64) -> bool
+    ensures { result ≡ are_among step.now verified }
+{
+    let queries = count_queries(step.accesses.as_slice());
+    if queries == 0 {
+        return true;
+    }
+    match verified.checked_sub(step.first_query) {
+        Some(rest) => queries <= rest,
+        None => false,
+    }
+}
+
+/// How many of the accesses are queries.
+pub fn count_queries(accesses: &[Access]) -> u64
+    ensures count { result ≡ queries_in accesses.now }
+{
+    accesses
+        .iter()
+        .filter(|access| !access.kind.is_blocking())
+        .count() as u64
+}
+
 /// Whether each query among the accesses is decided.
 fn all_decided(graph: &Graph, fifos: &FifoTable, accesses: &[Access]) -> bool
     requires inside { All (IsAccess fifos.now.channels) accesses.now }
@@ -88,7 +105,7 @@ fn all_decided(graph: &Graph, fifos: &FifoTable, accesses: &[Access]) -> bool
     ensures { result ≡ are_decided graph.now.lanes fifos.now.channels accesses.now }
 {
     for access in accesses {
-        if !blocks(access.kind) && !is_decided(graph, fifos, access) {
+        if !access.kind.is_blocking() && !is_decided(graph, fifos, access) {
             return false;
         }
     }

@@ -1,11 +1,13 @@
 -- From the opening core no list of permitted actions is long.
-use Rattle.std.proofs.Common.{◌≡◌, ℕ, zero, suc, ◌+◌, ◌*◌, ◌<◌, ◌≤◌, Bool, true, false, cond, not, ◌⊎◌, inl, inr, List, [], ◌∷◌, length, sym, refl, ap, ◌∙◌, subst, arith, ltb, Some}
+use Rattle.std.proofs.Common.{◌≡◌, ℕ, zero, suc, ◌+◌, ◌*◌, ◌<◌, ◌≤◌, Bool, true, false, cond, not, ◌⊎◌, inl, inr, List, [], ◌∷◌, length}
+use Rattle.std.proofs.Common.{sym, refl, ap, ◌∙◌, subst, arith, ltb, Some}
 use Rattle.std.proofs.lemmas.Bool.{cases_Bool, both_ways, cases_lt, cases_eq, lt-ltb, le-ltb, cond-true, cond-false}
 use Rattle.event_timing.specs.Machines.{Design, IsDesign, ready}
 use Rattle.event_timing.specs.Histories.{Trace, IsHistory}
 use Rattle.event_timing.specs.Core.{Core, opening_core, core_reply, has_query, view}
 use Rattle.event_timing.specs.Enablers.{candidate}
-use Rattle.event_timing.specs.Actions.{Action, MayRun, MayAssign, Acts, ActsAll, after_run, after_assign, after_answer, emit_over, newest, put, IsSame}
+use Rattle.event_timing.specs.Actions.{Action, MayRun, MayAssign, Acts, ActsAll, after_run, after_assign, after_answer, emit_over, newest}
+use Rattle.event_timing.specs.Actions.{put, IsSame}
 use Rattle.event_timing.specs.Agreement.{AreOwnMarks, IsAgreed, IsBounded, AllVerified}
 use Rattle.event_timing.specs.Work.{first_one, over_one, work_of, sum_to, work}
 use Rattle.event_timing.proofs.Running.{emit, old_at, emit_more, emit_up, run_cases}
@@ -57,8 +59,7 @@ first_is {S} x m b l e =
     ∙ ap (λ (z : Bool). cond {A = ℕ} z 1 0) e
 
 work_bound : {S : Type 0} → (d : Design S) (x : Core S) → AreOwnMarks d x → (most : ℕ) → IsBounded d most
-    → ((m : ℕ) → x.timed m ≤ x.emitted m) → (m : ℕ)
-    → work_of x m ≤ 3 * most + 1
+    → ((m : ℕ) → x.timed m ≤ x.emitted m) → (m : ℕ) → work_of x m ≤ 3 * most + 1
 unfolding work_of over_one
 work_bound {S} d x b most u w m =
     let e : x.emitted m ≤ most =
@@ -129,8 +130,7 @@ first_at : {S : Type 0} → Core S → ℕ → ℕ → ℕ
 first_at {S} x n t = cond (ltb t (x.emitted n)) (cond (x.verified n t) 1 0) 0
 
 assign_rises : {S : Type 0} → (d : Design S) (x : Core S) (m c : ℕ) → m < d.modules → x.timed m < x.emitted m
-    → x.verified m (x.timed m) ≡ true
-    → Rises d x (after_assign x m c)
+    → x.verified m (x.timed m) ≡ true → Rises d x (after_assign x m c)
 unfolding work_of over_one first_one first_at
 assign_rises {S} d x m c i l v =
     let a = first_is x m true l v in
@@ -144,8 +144,7 @@ assign_rises {S} d x m c i l v =
     record { who = m; inside = i; up = λ n. (raise n).1; more = (raise m).0 refl }
 
 answer_rises : {S : Type 0} → (d : Design S) (x : Core S) (m c : ℕ) → m < d.modules → x.timed m < x.emitted m
-    → x.verified m (x.timed m) ≡ false
-    → Rises d x (after_answer d x m c)
+    → x.verified m (x.timed m) ≡ false → Rises d x (after_answer d x m c)
 unfolding work_of over_one
 answer_rises {S} d x m c i l v =
     let z : Core S = after_answer d x m c in
@@ -207,8 +206,7 @@ given_rises {S} d h limit x g m c r =
     assign_rises d x m c (inside_of d x g.marks m l) l r.verified
 
 found_rises : {S : Type 0} → (d : Design S) (h : Trace S) (limit : ℕ) (x : Core S) → IsAgreed d h limit x → (m c : ℕ)
-    → candidate d (view d x) m ≡ Some c
-    → x.verified m (x.timed m) ≡ false → Rises d x (after_answer d x m c)
+    → candidate d (view d x) m ≡ Some c → x.verified m (x.timed m) ≡ false → Rises d x (after_answer d x m c)
 found_rises {S} d h limit x g m c at v =
     let l = first_emitted d x m c at in
     answer_rises d x m c (inside_of d x g.marks m l) l v
@@ -264,8 +262,7 @@ acts_plainly {S} d h limit x g f (Action.Earliest m) z (c, r, inr (s, e)) =
     absurd (s (never_found d x f m c r.open_step.determined.at r.open_step.open_query))
 
 pub all_rise : {S : Type 0} → (d : Design S) (h : Trace S) → IsDesign d → IsHistory d h → (limit : ℕ) (x : Core S)
-    → IsAgreed d h limit x → AllVerified x
-    → (actions : List Action) (z : Core S) → ActsAll d limit x actions z
+    → IsAgreed d h limit x → AllVerified x → (actions : List Action) (z : Core S) → ActsAll d limit x actions z
     → (length actions + work d x ≤ work d z) × IsAgreed d h limit z × AllVerified z
 all_rise {S} d h i y limit x g f [] z e =
     let p : work d x ≤ work d z = subst (λ (w : Core S). work d x ≤ work d w) (sym e) (omega arith) in

@@ -1,5 +1,6 @@
 -- Every list of permitted actions keeps agreement.
-use Rattle.std.proofs.Common.{◌≡◌, ℕ, zero, suc, ◌<◌, ◌≤◌, true, false, ◌⊎◌, inl, inr, List, [], ◌∷◌, sym, refl, ap, ◌∙◌, subst, arith, ltb, Some}
+use Rattle.std.proofs.Common.{◌≡◌, ℕ, zero, suc, ◌<◌, ◌≤◌, true, false, ◌⊎◌, inl, inr, List, [], ◌∷◌, sym, refl, ap, ◌∙◌, subst, arith, ltb}
+use Rattle.std.proofs.Common.{Some}
 use Rattle.std.proofs.lemmas.Bool.{cases_Bool, cases_lt, ltb-false}
 use Rattle.event_timing.specs.Machines.{Design, IsDesign, ready}
 use Rattle.event_timing.specs.Histories.{Trace, IsHistory}
@@ -7,7 +8,8 @@ use Rattle.event_timing.specs.Steps.{done}
 use Rattle.event_timing.specs.Views.{own, own_state, first_accesses}
 use Rattle.event_timing.specs.Enablers.{known_of, candidate, all_decided, IsStuck}
 use Rattle.event_timing.specs.Core.{Core, opening_core, core_accesses, core_reply, view}
-use Rattle.event_timing.specs.Actions.{Action, MayAnswer, MayEarliest, IsOpen, IsQuiet, IsDetermined, Acts, ActsAll, after_answer, IsSame, IsFinal, new_flags}
+use Rattle.event_timing.specs.Actions.{Action, MayAnswer, MayEarliest, IsOpen, IsQuiet, IsDetermined, Acts, ActsAll, after_answer, IsSame}
+use Rattle.event_timing.specs.Actions.{IsFinal, new_flags}
 use Rattle.event_timing.specs.Agreement.{AreOwnMarks, IsTimed, IsAgreed, possible_all}
 use Rattle.event_timing.proofs.OwnRuns.{own_0}
 use Rattle.event_timing.proofs.Fronts.{agrees}
@@ -46,8 +48,7 @@ stuck_ended {S} d h i limit x b u q m o =
     ])
 
 stuck_later : {S : Type 0} → (d : Design S) (limit : ℕ) (x : Core S) → IsQuiet d limit x → (t : ℕ) → t ≤ limit
-    → ((n e : ℕ) → IsOpen d limit x n e → t ≤ e)
-    → (m c : ℕ) → candidate d (view d x) m ≡ Some c → t ≤ c
+    → ((n e : ℕ) → IsOpen d limit x n e → t ≤ e) → (m c : ℕ) → candidate d (view d x) m ≡ Some c → t ≤ c
 stuck_later {S} d limit x q t l f m c e =
     elim (cases_lt c t) [
       | inr w ↦ w
@@ -64,15 +65,13 @@ stuck_later {S} d limit x q t l f m c e =
     ]
 
 pub stuck : {S : Type 0} → (d : Design S) (h : Trace S) → IsDesign d → (limit : ℕ) (x : Core S) → AreOwnMarks d x → IsTimed d h limit x
-    → IsQuiet d limit x
-    → (t : ℕ) → t ≤ limit → ((n e : ℕ) → IsOpen d limit x n e → t ≤ e) → IsStuck d (view d x) t
+    → IsQuiet d limit x → (t : ℕ) → t ≤ limit → ((n e : ℕ) → IsOpen d limit x n e → t ≤ e) → IsStuck d (view d x) t
 stuck {S} d h i limit x b u q t l f = record { ended = stuck_ended d h i limit x b u q; later = stuck_later d limit x q t l f }
 
 answered_agrees : {S : Type 0} → (d : Design S) (h : Trace S) → IsDesign d → IsHistory d h → (limit : ℕ) (x : Core S)
     → IsAgreed d h limit x → (m c : ℕ)
     → c < limit → candidate d (view d x) m ≡ Some c → new_flags d x m c ≡ possible_all d h c (core_accesses d x m (x.timed m))
-    → (y : Core S)
-    → (IsSame d x m c × (y ≡ after_answer d x m c)) ⊎ ((IsSame d x m c → ⊥) × (y ≡ x)) → IsAgreed d h limit y
+    → (y : Core S) → (IsSame d x m c × (y ≡ after_answer d x m c)) ⊎ ((IsSame d x m c → ⊥) × (y ≡ x)) → IsAgreed d h limit y
 answered_agrees {S} d h i y limit x g m c l e r z (inl w) =
     subst (IsAgreed d h limit) (sym w.1)
     (record {
@@ -84,8 +83,7 @@ answered_agrees {S} d h i y limit x g m c l e r z (inr w) = subst (IsAgreed d h 
 
 -- what an Answer finds is the history's
 pub answer_found : {S : Type 0} → (d : Design S) (h : Trace S) → IsDesign d → IsHistory d h → (limit : ℕ) (x : Core S)
-    → IsAgreed d h limit x → (m c : ℕ)
-    → MayAnswer d limit x m c → new_flags d x m c ≡ possible_all d h c (core_accesses d x m (x.timed m))
+    → IsAgreed d h limit x → (m c : ℕ) → MayAnswer d limit x m c → new_flags d x m c ≡ possible_all d h c (core_accesses d x m (x.timed m))
 answer_found {S} d h i y limit x g m c r =
     let at = r.determined.at in
     let (o, u, p, q) = candidate_parts d (view d x) m c at in
@@ -169,14 +167,12 @@ final_closed {S} d limit x f (suc b) e l n o =
     })
 
 pub final_stuck : {S : Type 0} → (d : Design S) (h : Trace S) → IsDesign d → (limit : ℕ) (x : Core S) → IsAgreed d h limit x
-    → IsFinal d limit x
-    → IsStuck d (view d x) limit
+    → IsFinal d limit x → IsStuck d (view d x) limit
 final_stuck {S} d h i limit x g f =
     stuck d h i limit x g.marks g.time f.quiet limit (omega arith) (λ n e o. absurd (final_closed d limit x f (suc e) e (omega arith) n o))
 
 -- in a final core every step of the history below the limit has its cycle
 pub final_complete : {S : Type 0} → (d : Design S) (h : Trace S) → IsDesign d → IsHistory d h → (limit : ℕ) (x : Core S)
-    → IsAgreed d h limit x
-    → IsFinal d limit x → (m c : ℕ) → c ≤ limit → done d h m c ≤ x.timed m
+    → IsAgreed d h limit x → IsFinal d limit x → (m c : ℕ) → c ≤ limit → done d h m c ≤ x.timed m
 final_complete {S} d h i y limit x g f m c l =
     nobody_ahead d h i y (view d x) (agrees d h limit x g.marks g.time) limit (final_stuck d h i limit x g f) c l m

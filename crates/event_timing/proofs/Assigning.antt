@@ -1,12 +1,15 @@
 -- Giving a cycle keeps agreement.
-use Rattle.std.proofs.Common.{◌≡◌, ℕ, suc, ◌<◌, ◌≤◌, Bool, true, false, not, ◌&&◌, ◌⊎◌, inl, inr, List, [], ◌∷◌, map, length, sym, refl, ap, ap₂, ◌∙◌, subst, arith, eqb}
-use Rattle.std.proofs.lemmas.Bool.{cases_Bool, cond-true, cond-false, and_parts, and_from, both_ways, cases_eq, not-false, false_from_ne_true, eqb-true, ltb-true, or_parts, or_left, eq-eqb, ne_eqb}
+use Rattle.std.proofs.Common.{◌≡◌, ℕ, suc, ◌<◌, ◌≤◌, Bool, true, false, not, ◌&&◌, ◌⊎◌, inl, inr, List, [], ◌∷◌, map, length, sym, refl, ap}
+use Rattle.std.proofs.Common.{ap₂, ◌∙◌, subst, arith, eqb}
+use Rattle.std.proofs.lemmas.Bool.{cases_Bool, cond-true, cond-false, and_parts, and_from, both_ways, cases_eq, not-false}
+use Rattle.std.proofs.lemmas.Bool.{false_from_ne_true, eqb-true, ltb-true, or_parts, or_left, eq-eqb, ne_eqb}
 use Rattle.flow_word.specs.declared.access.Side.TheVariants.{Pop, Push}
 use Rattle.event_timing.specs.Machines.{Design, IsDesign, Access, ready}
 use Rattle.event_timing.specs.Histories.{Trace, IsHistory, replies, reply_to, can_all, can_do}
 use Rattle.event_timing.specs.Steps.{steps, done}
 use Rattle.event_timing.specs.Enablers.{Known, known_of, answer, flags_at}
-use Rattle.event_timing.specs.Core.{Core, bare_replies, core_accesses, core_tally, core_values, all_below, replies_of, core_reply, values_there, view, has_query}
+use Rattle.event_timing.specs.Core.{Core, bare_replies, core_accesses, core_tally, core_values, all_below, replies_of, core_reply}
+use Rattle.event_timing.specs.Core.{values_there, view, has_query}
 use Rattle.event_timing.specs.Agreement.{AreOwnMarks, IsTimed, elements_timed, pops_timed, possible_all, FlagsFit, HappensBefore}
 use Rattle.event_timing.specs.Actions.{after_assign, put, put_at, MayAssign}
 use Rattle.event_timing.proofs.Standing.{step_ready, moves_can, steps_moves}

@@ -1,5 +1,6 @@
 -- Actions let the core grow, and those without a Run of a module leave the module's marks as they were.
-use Rattle.std.proofs.Common.{◌≡◌, refl, sym, ap, ap₂, subst, ◌∙◌, ℕ, zero, suc, ◌⊎◌, inl, inr, true, Some, List, [], ◌∷◌, ◌++◌, arith, Bool, ◌<◌, ◌≤◌, not}
+use Rattle.std.proofs.Common.{◌≡◌, refl, sym, ap, ap₂, subst, ◌∙◌, ℕ, zero, suc, ◌⊎◌, inl, inr, true, Some, List, [], ◌∷◌, ◌++◌, arith}
+use Rattle.std.proofs.Common.{Bool, ◌<◌, ◌≤◌, not}
 use Rattle.std.proofs.lemmas.Bool.{cases_eq, both_ways}
 use Rattle.flow_word.specs.declared.access.Side.TheVariants.{Push}
 use Rattle.event_timing.specs.Machines.{Design, IsDesign, ready, values_in}
@@ -7,7 +8,8 @@ use Rattle.event_timing.specs.Histories.{Trace, IsHistory}
 use Rattle.event_timing.specs.Views.{Begins, pushed_in}
 use Rattle.event_timing.specs.Core.{Core, bare_replies, core_accesses, core_values, view, has_query, no_outcomes}
 use Rattle.event_timing.specs.Enablers.{candidate}
-use Rattle.event_timing.specs.Actions.{Action, Acts, ActsAll, MayRun, after_run, after_assign, after_answer, emit_over, newest, IsSame, IsNoRunOf, put_at, runs}
+use Rattle.event_timing.specs.Actions.{Action, Acts, ActsAll, MayRun, after_run, after_assign, after_answer, emit_over, newest, IsSame}
+use Rattle.event_timing.specs.Actions.{IsNoRunOf, put_at, runs}
 use Rattle.event_timing.specs.Agreement.{AreOwnMarks, IsAgreed}
 use Rattle.event_timing.specs.Growth.{Grows, GrowsBeside}
 use Rattle.event_timing.proofs.Agreement.{acts_agree, all_agree}
@@ -75,8 +77,7 @@ found_grows {S} d i x b n c e z (inl (s, w)) = subst (Grows d x) (sym w) (answer
 found_grows {S} d i x b n c e z (inr (s, w)) = subst (Grows d x) (sym w) (grows_self d x)
 
 pub acts_grow : {S : Type 0} → (d : Design S) → IsDesign d → (limit : ℕ) (x : Core S) → AreOwnMarks d x → (a : Action) (z : Core S)
-    → Acts d limit x a z
-    → Grows d x z
+    → Acts d limit x a z → Grows d x z
 acts_grow {S} d i limit x b (Action.Run n) z (p, e) = subst (Grows d x) (sym e) (run_grows d x n)
 acts_grow {S} d i limit x b (Action.Assign n) z (c, p, e) = subst (Grows d x) (sym e) (assign_grows d x n c)
 acts_grow {S} d i limit x b (Action.Answer n) z (c, p, e) = found_grows d i x b n c p.determined.at z e
@@ -102,8 +103,7 @@ found_same {S} d x m n c z (inl (s, w)) = subst (λ (z : Core S). SameMarks x z 
 found_same {S} d x m n c z (inr (s, w)) = subst (λ (z : Core S). SameMarks x z m) (sym w) (same_self x m)
 
 acts_same : {S : Type 0} → (d : Design S) (limit : ℕ) (x : Core S) (m : ℕ) (a : Action) → IsNoRunOf m (a ∷ []) → (z : Core S)
-    → Acts d limit x a z
-    → SameMarks x z m
+    → Acts d limit x a z → SameMarks x z m
 acts_same {S} d limit x m (Action.Run n) (o, u) z (p, e) = subst (λ (z : Core S). SameMarks x z m) (sym e) (run_same d x m n o)
 acts_same {S} d limit x m (Action.Assign n) o z (c, p, e) =
     subst (λ (z : Core S). SameMarks x z m) (sym e) (record { emitted = refl; over = refl })
@@ -118,8 +118,7 @@ beside_trans {S} d x y z m a c =
     record { grows = grows_trans d x y z a.grows c.grows; emitted = c.emitted ∙ a.emitted; over = c.over ∙ a.over }
 
 acts_beside : {S : Type 0} → (d : Design S) → IsDesign d → (limit : ℕ) (x : Core S) → AreOwnMarks d x → (m : ℕ) (a : Action)
-    → IsNoRunOf m (a ∷ [])
-    → (z : Core S) → Acts d limit x a z → GrowsBeside d x z m
+    → IsNoRunOf m (a ∷ []) → (z : Core S) → Acts d limit x a z → GrowsBeside d x z m
 acts_beside {S} d i limit x b m a o z s =
     let same = acts_same d limit x m a o z s in
     record { grows = acts_grow d i limit x b a z s; emitted = same.emitted; over = same.over }
@@ -147,8 +146,7 @@ module _ {S : Type 0} (d : Design S) (h : Trace S) (i : IsDesign d) (y : IsHisto
 
   -- so a Run that is permitted stays so, and emits the same
   pub still_ahead : (x : Core S) → IsAgreed d h limit x → (m : ℕ) → MayRun d x m → (actions : List Action) → IsNoRunOf m actions
-      → (z : Core S)
-      → ActsAll d limit x actions z → MayRun d z m × (newest d z m ≡ newest d x m)
+      → (z : Core S) → ActsAll d limit x actions z → MayRun d z m × (newest d z m ≡ newest d x m)
   still_ahead x g m r actions o z s =
       let k = others_grow x g m actions o z s in
       let marks = (all_agree d h i y limit x g actions z s).marks in

@@ -1,6 +1,8 @@
 -- The determined cycle of a step is the clock in which the history does it.
-use Rattle.std.proofs.Common.{◌≡◌, ℕ, zero, suc, ◌+◌, ◌-◌, ◌<◌, ◌≤◌, max, Bool, true, false, not, ◌&&◌, ◌||◌, inl, inr, List, [], ◌∷◌, sym, refl, ap, ap₂, ◌∙◌, arith, zero-add, leb, Some, None}
-use Rattle.std.proofs.lemmas.Bool.{cases_Bool, cond-true, cond-false, and_parts, both_ways, cases_lt, false_from_ne_true, le-leb, lt-leb, leb-true}
+use Rattle.std.proofs.Common.{◌≡◌, ℕ, zero, suc, ◌+◌, ◌-◌, ◌<◌, ◌≤◌, max, Bool, true, false, not, ◌&&◌, ◌||◌, inl, inr, List, [], ◌∷◌, sym}
+use Rattle.std.proofs.Common.{refl, ap, ap₂, ◌∙◌, arith, zero-add, leb, Some, None}
+use Rattle.std.proofs.lemmas.Bool.{cases_Bool, cond-true, cond-false, and_parts, both_ways, cases_lt, false_from_ne_true, le-leb, lt-leb}
+use Rattle.std.proofs.lemmas.Bool.{leb-true}
 use Rattle.flow_word.specs.declared.access.Side.{Side}
 use Rattle.event_timing.specs.Machines.{Design, IsDesign, Access, Each, ready, is_some_access}
 use Rattle.event_timing.specs.Histories.{Trace, IsHistory, is_possible, can_all, can_do}
@@ -51,8 +53,7 @@ bound_free know a xs b = cond-false a.blocks (both (know a) (bound know xs)) (bo
 
 exact_more : {S : Type 0} → (d : Design S) (h : Trace S) (v : View) (c : ℕ) (know : Access → Known) (a : Access) (xs : List Access) (u : ℕ)
     → Means d h v c a.side a.channel (know a) → bound know (a ∷ xs) ≡ From u
-    → ((q : ℕ) → bound know xs ≡ From q → can_all d h c xs ≡ leb q c)
-    → can_all d h c (a ∷ xs) ≡ leb u c
+    → ((q : ℕ) → bound know xs ≡ From q → can_all d h c xs ≡ leb q c) → can_all d h c (a ∷ xs) ≡ leb u c
 exact_more {S} d h v c know a xs u g e ih =
     elim (cases_Bool a.blocks) [
       | inl b ↦
@@ -64,22 +65,19 @@ exact_more {S} d h v c know a xs u g e ih =
 
 -- all of them can be done from the bound on
 pub bound_exact : {S : Type 0} → (d : Design S) (h : Trace S) (v : View) (c : ℕ) (know : Access → Known) (xs : List Access) (u : ℕ)
-    → EachMeans d h v c know xs
-    → bound know xs ≡ From u → can_all d h c xs ≡ leb u c
+    → EachMeans d h v c know xs → bound know xs ≡ From u → can_all d h c xs ≡ leb u c
 bound_exact {S} d h v c know [] u g e = sym (le-leb u c (let k : u ≡ 0 = cc in omega arith))
 bound_exact {S} d h v c know (a ∷ xs) u (g, gs) e = exact_more d h v c know a xs u g e (λ q k. bound_exact d h v c know xs q gs k)
 
 found_one : {S : Type 0} → (d : Design S) (h : Trace S) (v : View) (c : ℕ) (side : Side) (ch : ℕ) → ((m : ℕ) → done d h m c ≤ v.timed m)
-    → (k : Known)
-    → Means d h v c side ch k → is_possible d h c side ch ≡ true → (u : ℕ) × (k ≡ From u) × (u ≤ c)
+    → (k : Known) → Means d h v c side ch k → is_possible d h c side ch ≡ true → (u : ℕ) × (k ≡ From u) × (u ≤ c)
 found_one {S} d h v c side ch n (From u) z p = (u, refl, leb-true u c (sym z ∙ p))
 found_one {S} d h v c side ch n Never z p = absurd (both_ways _ z p)
 found_one {S} d h v c side ch n Unknown z p = absurd (both_ways _ (z (n _)) p)
 
 found_more : {S : Type 0} → (d : Design S) (h : Trace S) (v : View) (c : ℕ) (know : Access → Known) (a : Access) (xs : List Access)
     → ((m : ℕ) → done d h m c ≤ v.timed m) → Means d h v c a.side a.channel (know a) → can_do d h c a ≡ true
-    → (u : ℕ) × (bound know xs ≡ From u) × (u ≤ c)
-    → (u : ℕ) × (bound know (a ∷ xs) ≡ From u) × (u ≤ c)
+    → (u : ℕ) × (bound know xs ≡ From u) × (u ≤ c) → (u : ℕ) × (bound know (a ∷ xs) ≡ From u) × (u ≤ c)
 found_more {S} d h v c know a xs n g e (u, k, l) =
     elim (cases_Bool a.blocks) [
       | inl b ↦
@@ -98,8 +96,7 @@ bound_found {S} d h v c know (a ∷ xs) n (g, gs) e =
     found_more d h v c know a xs n g e1 (bound_found d h v c know xs n gs e2)
 
 access_means : {S : Type 0} → (d : Design S) (h : Trace S) → IsDesign d → IsHistory d h → (v : View) → Agrees d h v
-    → (m c : ℕ) (side : Side) (ch : ℕ)
-    → done d h m c ≡ v.timed m → d.owner side ch ≡ m
+    → (m c : ℕ) (side : Side) (ch : ℕ) → done d h m c ≡ v.timed m → d.owner side ch ≡ m
     → Means d h v c side ch (known d v side ch (tally (v.accesses m) (v.reply m) side ch (v.timed m)))
 access_means {S} d h i y v g m c side ch k o =
     let l : done d h (d.owner side ch) c ≤ v.timed (d.owner side ch) = rw o (omega arith) in
@@ -108,14 +105,12 @@ access_means {S} d h i y v g m c side ch k o =
     known_means d h i y v g side ch c (tally (v.accesses m) (v.reply m) side ch (v.timed m)) t'
 
 each_means : {S : Type 0} → (d : Design S) (h : Trace S) → IsDesign d → IsHistory d h → (v : View) → Agrees d h v → (m c : ℕ)
-    → done d h m c ≡ v.timed m
-    → (xs : List Access) → Each (λ a. d.owner a.side a.channel ≡ m) xs → EachMeans d h v c (known_of d v m) xs
+    → done d h m c ≡ v.timed m → (xs : List Access) → Each (λ a. d.owner a.side a.channel ≡ m) xs → EachMeans d h v c (known_of d v m) xs
 each_means {S} d h i y v g m c k [] o = tt
 each_means {S} d h i y v g m c k (a ∷ xs) (o, os) = (access_means d h i y v g m c a.side a.channel k o, each_means d h i y v g m c k xs os)
 
 pub first_means : {S : Type 0} → (d : Design S) (h : Trace S) → IsDesign d → IsHistory d h → (v : View) → Agrees d h v → (m c : ℕ)
-    → v.more m ≡ true
-    → done d h m c ≡ v.timed m → EachMeans d h v c (known_of d v m) (first_accesses v m)
+    → v.more m ≡ true → done d h m c ≡ v.timed m → EachMeans d h v c (known_of d v m) (first_accesses v m)
 first_means {S} d h i y v g m c o k =
     let w : Each (λ a. d.owner a.side a.channel ≡ m) (first_accesses v m) = rw (g.accesses_first m o) (i.owned m _) in
     each_means d h i y v g m c k (first_accesses v m) w
@@ -150,8 +145,7 @@ since_stays {S} d h m a (suc n) e =
 
 -- from then on, as long as no other step is done, the module stands so many clocks behind that clock
 pub since_first : {S : Type 0} → (d : Design S) (h : Trace S) (v : View) → Agrees d h v → (m c : ℕ) → begin v m ≤ c
-    → done d h m c ≡ v.timed m
-    → since d h m c ≡ begin v m
+    → done d h m c ≡ v.timed m → since d h m c ≡ begin v m
 since_first {S} d h v g m c l k =
     let b = done_begin d h v g m (v.timed m) refl in
     let q : (c - begin v m) + begin v m ≡ c = omega arith in
@@ -160,8 +154,7 @@ since_first {S} d h v g m c l k =
     s' ∙ since_begin d h v g m (v.timed m) refl
 
 pub rest_first : {S : Type 0} → (d : Design S) (h : Trace S) → IsDesign d → IsHistory d h → (v : View) → Agrees d h v → (m c : ℕ)
-    → done d h m c ≡ v.timed m
-    → rest d h m c ≡ own d m (v.reply m) (v.timed m)
+    → done d h m c ≡ v.timed m → rest d h m c ≡ own d m (v.reply m) (v.timed m)
 rest_first {S} d h i y v g m c k =
     let e = rest_own d h i y m (v.reply m) c (follows d h v g m c (omega arith)) in
     rw k at e
@@ -185,21 +178,18 @@ candidate_parts {S} d v m c e =
     parts Unknown f = cc
 
 pub candidate_from : {S : Type 0} → (d : Design S) (v : View) (m u : ℕ) → v.more m ≡ true
-    → bound (known_of d v m) (first_accesses v m) ≡ From u
-    → candidate d v m ≡ Some (max (reach v m) u)
+    → bound (known_of d v m) (first_accesses v m) ≡ From u → candidate d v m ≡ Some (max (reach v m) u)
 unfolding candidate
 candidate_from {S} d v m u o b = cond-true (v.more m) (to_clock (reach v m) (bound (known_of d v m) (first_accesses v m))) None o
     ∙ ap (to_clock (reach v m)) b
 
 pub reach_then : {S : Type 0} → (d : Design S) (h : Trace S) → IsDesign d → IsHistory d h → (v : View) → Agrees d h v → (m c : ℕ)
-    → v.more m ≡ true
-    → begin v m ≤ c → done d h m c ≡ v.timed m → since d h m c + d.quiet m (rest d h m c) ≡ reach v m
+    → v.more m ≡ true → begin v m ≤ c → done d h m c ≡ v.timed m → since d h m c + d.quiet m (rest d h m c) ≡ reach v m
 reach_then {S} d h i y v g m c o l k = rw (since_first d h v g m c l k, rest_first d h i y v g m c k, g.wait_first m o) refl
 
 -- behind its reach, a module that did no further step stands at its first step without a cycle
 pub first_ready : {S : Type 0} → (d : Design S) (h : Trace S) → IsDesign d → IsHistory d h → (v : View) → Agrees d h v → (m c : ℕ)
-    → v.more m ≡ true
-    → reach v m ≤ c → done d h m c ≡ v.timed m → h.state c m ≡ own_state d v m (v.timed m)
+    → v.more m ≡ true → reach v m ≤ c → done d h m c ≡ v.timed m → h.state c m ≡ own_state d v m (v.timed m)
 first_ready {S} d h i y v g m c o l k =
     let s = late_ready d h i y m c (rw (reach_then d h i y v g m c o (omega arith) k) l) in
     s ∙ ap (ready d m) (rest_first d h i y v g m c k)
@@ -221,8 +211,7 @@ no_step_before {S} d h i y v g m c u o b l k q =
     ]
 
 still_first : {S : Type 0} → (d : Design S) (h : Trace S) → IsDesign d → IsHistory d h → (v : View) → Agrees d h v → (m u : ℕ)
-    → v.more m ≡ true
-    → bound (known_of d v m) (first_accesses v m) ≡ From u → (n : ℕ) → n + begin v m ≤ max (reach v m) u
+    → v.more m ≡ true → bound (known_of d v m) (first_accesses v m) ≡ From u → (n : ℕ) → n + begin v m ≤ max (reach v m) u
     → done d h m (n + begin v m) ≡ v.timed m
 still_first {S} d h i y v g m u o b zero l = rw zero-add (done_begin d h v g m (v.timed m) refl)
 still_first {S} d h i y v g m u o b (suc n) l =
@@ -233,8 +222,7 @@ still_first {S} d h i y v g m u o b (suc n) l =
 
 -- the determined cycle is the clock of the step in the history
 pub candidate_done : {S : Type 0} → (d : Design S) (h : Trace S) → IsDesign d → IsHistory d h → (v : View) → Agrees d h v → (m c : ℕ)
-    → candidate d v m ≡ Some c
-    → done d h m c ≡ v.timed m
+    → candidate d v m ≡ Some c → done d h m c ≡ v.timed m
 candidate_done {S} d h i y v g m c e =
     let (o, u, b, k) = candidate_parts d v m c e in
     let q : (c - begin v m) + begin v m ≡ c = omega arith in

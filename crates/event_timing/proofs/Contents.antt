@@ -1,6 +1,9 @@
 -- The lockstep machine's run is a history.
-use Rattle.std.proofs.Common.{◌≡◌, ℕ, zero, suc, ◌+◌, ◌-◌, ◌<◌, ◌≤◌, Bool, true, false, cond, not, ◌&&◌, ◌||◌, inl, inr, List, [], ◌∷◌, ◌++◌, map, length, drop, get_or, sym, refl, ap, ap₂, ◌∙◌, arith, zero-add, add-zero, eqb, ltb, leb, length-append, length-drop, drop-cons, drop-drop, append-nil, drop_of_length-le}
-use Rattle.std.proofs.lemmas.Bool.{cases_Bool, both_ways, cases_lt, ltb-true, lt-ltb, le-ltb, le-leb, lt-leb, false_from_ne_true, cond-true, cond-false, and_parts, eqb-true}
+use Rattle.std.proofs.Common.{◌≡◌, ℕ, zero, suc, ◌+◌, ◌-◌, ◌<◌, ◌≤◌, Bool, true, false, cond, not, ◌&&◌, ◌||◌, inl, inr, List, [], ◌∷◌}
+use Rattle.std.proofs.Common.{◌++◌, map, length, drop, get_or, sym, refl, ap, ap₂, ◌∙◌, arith, zero-add, add-zero, eqb, ltb, leb}
+use Rattle.std.proofs.Common.{length-append, length-drop, drop-cons, drop-drop, append-nil, drop_of_length-le}
+use Rattle.std.proofs.lemmas.Bool.{cases_Bool, both_ways, cases_lt, ltb-true, lt-ltb, le-ltb, le-leb, lt-leb, false_from_ne_true, cond-true}
+use Rattle.std.proofs.lemmas.Bool.{cond-false, and_parts, eqb-true}
 use Rattle.std.proofs.lemmas.List.{get_or_append_left, get_or-append_right}
 use Rattle.flow_word.specs.declared.access.Side.{Side}
 use Rattle.flow_word.specs.declared.access.Side.TheVariants.{Pop, Push}
@@ -9,7 +12,8 @@ use Rattle.event_timing.specs.Machines.{Design, IsDesign, Access, Reply, takes_i
 use Rattle.event_timing.specs.Histories.{IsHistory, is_possible, can_all, moves, replies, reply_to}
 use Rattle.event_timing.proofs.Values.{length_values, takes_takers}
 use Rattle.event_timing.proofs.OwnRuns.{same_side_is}
-use Rattle.event_timing.specs.Contents.{Element, World, is_empty, front_of, can_take, reply_in, can_all_in, moves_in, replies_in, flow, coming, seen_from, tick, world, flowed, came, elements, trace}
+use Rattle.event_timing.specs.Contents.{Element, World, is_empty, front_of, can_take, reply_in, can_all_in, moves_in, replies_in, flow}
+use Rattle.event_timing.specs.Contents.{coming, seen_from, tick, world, flowed, came, elements, trace}
 
 -- definitions, step by step
 flowed_0 : {S : Type 0} → (d : Design S) (side : Side) (ch : ℕ) → flowed d side ch 0 ≡ 0

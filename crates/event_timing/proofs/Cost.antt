@@ -17,8 +17,7 @@ run_timed {S} d x n m = cond_both (d.is_over n (ready d n (newest d x n))) (emit
     (λ (z : Core S). z.timed m ≡ x.timed m) (λ e. refl) (λ e. refl)
 
 answer_timed : {S : Type 0} → (d : Design S) (x z : Core S) (n c m : ℕ)
-    → (IsSame d x n c × (z ≡ after_answer d x n c)) ⊎ ((IsSame d x n c → ⊥) × (z ≡ x))
-    → z.timed m ≡ x.timed m
+    → (IsSame d x n c × (z ≡ after_answer d x n c)) ⊎ ((IsSame d x n c → ⊥) × (z ≡ x)) → z.timed m ≡ x.timed m
 answer_timed {S} d x z n c m (inl (s, e)) = ap (λ (w : Core S). w.timed m) e
 answer_timed {S} d x z n c m (inr (s, e)) = ap (λ (w : Core S). w.timed m) e
 
@@ -37,8 +36,7 @@ assign_timed f n m = elim (cases_eq m n) [
 
 -- each Assign of a module gives one of its steps a cycle, and nothing else does
 pub cycles_given : {S : Type 0} → (d : Design S) (limit : ℕ) (x : Core S) (actions : List Action) (y : Core S)
-    → ActsAll d limit x actions y → (m : ℕ)
-    → assigns m actions + x.timed m ≡ y.timed m
+    → ActsAll d limit x actions y → (m : ℕ) → assigns m actions + x.timed m ≡ y.timed m
 cycles_given {S} d limit x [] y e m = let same = ap (λ (z : Core S). z.timed m) (sym e) in omega arith
 cycles_given {S} d limit x (Action.Run n ∷ more) y (w, (r, e), t) m =
     let rest = cycles_given d limit w more y t m in

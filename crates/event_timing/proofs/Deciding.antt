@@ -1,11 +1,14 @@
 -- The tests of the permissions decide them.
-use Rattle.std.proofs.Common.{◌≡◌, ℕ, zero, suc, ◌<◌, ◌≤◌, ◌↔◌, Bool, true, false, not, ◌&&◌, ltb, inl, inr, refl, sym, ap, ◌∙◌, subst, arith, Option, Some, None}
-use Rattle.std.proofs.lemmas.Bool.{cases_Bool, cases_lt, cases_eq, and_parts, and_from, both_ways, ltb-true, lt-ltb, not-true, not_from_false}
+use Rattle.std.proofs.Common.{◌≡◌, ℕ, zero, suc, ◌<◌, ◌≤◌, ◌↔◌, Bool, true, false, not, ◌&&◌, ltb, inl, inr, refl, sym, ap, ◌∙◌, subst}
+use Rattle.std.proofs.Common.{arith, Option, Some, None}
+use Rattle.std.proofs.lemmas.Bool.{cases_Bool, cases_lt, cases_eq, and_parts, and_from, both_ways, ltb-true, lt-ltb, not-true}
+use Rattle.std.proofs.lemmas.Bool.{not_from_false}
 use Rattle.event_timing.specs.Machines.{Design}
 use Rattle.event_timing.specs.Enablers.{candidate}
 use Rattle.event_timing.specs.Core.{Core, values_there, view}
 use Rattle.event_timing.specs.Actions.{MayRun, IsDetermined, MayAssign, MayAnswer, IsOpen, IsQuiet, MayEarliest, IsFinal}
-use Rattle.event_timing.specs.Permitted.{IsInside, has_replies, may_run, is_before, is_determined, may_assign, decides, may_answer, is_open, no_module, is_quiet, is_open_before, may_earliest, is_final}
+use Rattle.event_timing.specs.Permitted.{IsInside, has_replies, may_run, is_before, is_determined, may_assign, decides, may_answer, is_open}
+use Rattle.event_timing.specs.Permitted.{no_module, is_quiet, is_open_before, may_earliest, is_final}
 use Rattle.event_timing.proofs.Agreement.{final_closed}
 use Rattle.event_timing.proofs.Answering.{first_emitted}
 
@@ -166,8 +169,7 @@ module _ {S : Type 0} (d : Design S) (limit : ℕ) (x : Core S) (inside : IsInsi
 
   -- no open step comes before that of the module
   least_there : (m c : ℕ) → candidate d (view d x) m ≡ Some c
-      → no_module (is_open_before d limit x (candidate d (view d x) m)) d.modules ≡ true → (n e : ℕ)
-      → IsOpen d limit x n e → c ≤ e
+      → no_module (is_open_before d limit x (candidate d (view d x) m)) d.modules ≡ true → (n e : ℕ) → IsOpen d limit x n e → c ≤ e
   unfolding is_open_before
   least_there m c at p n e o =
       let f = none_passes (is_open_before d limit x (candidate d (view d x) m)) d.modules p n (determined_inside n e o.determined) in

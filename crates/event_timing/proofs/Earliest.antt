@@ -1,5 +1,6 @@
 -- Where nothing else can be done, no step without a cycle comes before the least determined one.
-use Rattle.std.proofs.Common.{◌≡◌, ℕ, zero, suc, ◌<◌, ◌≤◌, max, Bool, true, false, not, ◌||◌, ◌⊎◌, inl, inr, List, [], ◌∷◌, sym, refl, ap, ap₂, ◌∙◌, arith, Some}
+use Rattle.std.proofs.Common.{◌≡◌, ℕ, zero, suc, ◌<◌, ◌≤◌, max, Bool, true, false, not, ◌||◌, ◌⊎◌, inl, inr, List, [], ◌∷◌, sym, refl, ap}
+use Rattle.std.proofs.Common.{ap₂, ◌∙◌, arith, Some}
 use Rattle.std.proofs.lemmas.Bool.{cases_Bool, and_parts, both_ways, cases_eq}
 use Rattle.flow_word.specs.declared.access.Side.{Side}
 use Rattle.event_timing.specs.Machines.{Design, IsDesign, Access, ready}
@@ -13,7 +14,8 @@ use Rattle.event_timing.proofs.Steps.{done_more, done_same, done_less}
 use Rattle.event_timing.proofs.Standing.{step_ready, step_reached, moves_can, moves_lives, steps_moves}
 use Rattle.event_timing.proofs.OwnRuns.{done_0}
 use Rattle.event_timing.proofs.Threshold.{Means}
-use Rattle.event_timing.proofs.Candidate.{EachMeans, bound_found, first_means, candidate_from, candidate_done, candidate_steps, candidate_ready, reach_then, rest_first}
+use Rattle.event_timing.proofs.Candidate.{EachMeans, bound_found, first_means, candidate_from, candidate_done, candidate_steps}
+use Rattle.event_timing.proofs.Candidate.{candidate_ready, reach_then, rest_first}
 
 begin_passed : {S : Type 0} → (d : Design S) (h : Trace S) (v : View) → Agrees d h v → (m c n : ℕ) → n ≡ v.timed m → done d h m c ≡ n
     → from (v.cycle m) n ≤ c
@@ -36,8 +38,7 @@ step_determined {S} d h i y v g m c n w k o =
     (max (reach v m) u, candidate_from d v m u o f, omega arith)
 
 ahead_never : {S : Type 0} → (d : Design S) (h : Trace S) → IsDesign d → IsHistory d h → (v : View) → Agrees d h v → (t : ℕ)
-    → IsStuck d v t → (m c : ℕ) → c < t
-    → ((n : ℕ) → done d h n c ≤ v.timed n) → steps d h c m ≡ true → done d h m c ≡ v.timed m → ⊥
+    → IsStuck d v t → (m c : ℕ) → c < t → ((n : ℕ) → done d h n c ≤ v.timed n) → steps d h c m ≡ true → done d h m c ≡ v.timed m → ⊥
 ahead_never {S} d h i y v g t z m c l n w k =
     elim (cases_Bool (v.more m)) [
       | inl o ↦
@@ -53,8 +54,7 @@ ahead_never {S} d h i y v g t z m c l n w k =
 
 -- no step without a cycle is done before clock t
 pub nobody_ahead : {S : Type 0} → (d : Design S) (h : Trace S) → IsDesign d → IsHistory d h → (v : View) → Agrees d h v → (t : ℕ)
-    → IsStuck d v t → (c : ℕ)
-    → c ≤ t → (m : ℕ) → done d h m c ≤ v.timed m
+    → IsStuck d v t → (c : ℕ) → c ≤ t → (m : ℕ) → done d h m c ≤ v.timed m
 nobody_ahead {S} d h i y v g t z zero l m = omega (arith, done_0 d h m)
 nobody_ahead {S} d h i y v g t z (suc c) l m = later (nobody_ahead d h i y v g t z c (omega arith)) (cases_Bool (steps d h c m))
   where
@@ -67,15 +67,13 @@ nobody_ahead {S} d h i y v g t z (suc c) l m = later (nobody_ahead d h i y v g t
         ]
 
 answer_known : {S : Type 0} → (d : Design S) (h : Trace S) (v : View) (c : ℕ) (side : Side) (ch : ℕ) (k : Known) → is_decided k ≡ true
-    → Means d h v c side ch k
-    → is_possible d h c side ch ≡ answer k c
+    → Means d h v c side ch k → is_possible d h c side ch ≡ answer k c
 answer_known {S} d h v c side ch (From u) e g = g
 answer_known {S} d h v c side ch Never e g = g
 answer_known {S} d h v c side ch Unknown e g = cc
 
 pub answer_late : {S : Type 0} → (d : Design S) (h : Trace S) (v : View) (c : ℕ) (side : Side) (ch : ℕ) (k : Known)
-    → ((m : ℕ) → done d h m c ≤ v.timed m)
-    → Means d h v c side ch k → is_possible d h c side ch ≡ answer k c
+    → ((m : ℕ) → done d h m c ≤ v.timed m) → Means d h v c side ch k → is_possible d h c side ch ≡ answer k c
 answer_late {S} d h v c side ch (From u) n g = g
 answer_late {S} d h v c side ch Never n g = g
 answer_late {S} d h v c side ch Unknown n g = g (n _)
@@ -92,8 +90,7 @@ flag_one {S} d h c a b e f =
     ]
 
 flags_decided : {S : Type 0} → (d : Design S) (h : Trace S) (v : View) (c : ℕ) (know : Access → Known) (xs : List Access)
-    → EachMeans d h v c know xs
-    → can_all d h c xs ≡ true → all_decided know xs ≡ true → flags_at know c xs ≡ possible_all d h c xs
+    → EachMeans d h v c know xs → can_all d h c xs ≡ true → all_decided know xs ≡ true → flags_at know c xs ≡ possible_all d h c xs
 flags_decided {S} d h v c know [] g e f = refl
 flags_decided {S} d h v c know (a ∷ xs) (g, gs) e f =
     let (e1, e2) = and_parts (can_do d h c a) (can_all d h c xs) e in
@@ -114,8 +111,7 @@ flags_late {S} d h v c know (a ∷ xs) n (g, gs) e =
     (flags_late d h v c know xs n gs e2)
 
 pub candidate_can : {S : Type 0} → (d : Design S) (h : Trace S) → IsDesign d → IsHistory d h → (v : View) → Agrees d h v → (m c : ℕ)
-    → v.more m ≡ true
-    → candidate d v m ≡ Some c → can_all d h c (first_accesses v m) ≡ true
+    → v.more m ≡ true → candidate d v m ≡ Some c → can_all d h c (first_accesses v m) ≡ true
 candidate_can {S} d h i y v g m c o e =
     let s = candidate_ready d h i y v g m c e in
     let a = moves_can d h c m (steps_moves d h c m (candidate_steps d h i y v g m c e)) in
@@ -123,8 +119,7 @@ candidate_can {S} d h i y v g m c o e =
 
 -- Answer: where all queries are decided, the answers are the history's
 pub answers_right : {S : Type 0} → (d : Design S) (h : Trace S) → IsDesign d → IsHistory d h → (v : View) → Agrees d h v → (m c : ℕ)
-    → v.more m ≡ true
-    → candidate d v m ≡ Some c → all_decided (known_of d v m) (first_accesses v m) ≡ true
+    → v.more m ≡ true → candidate d v m ≡ Some c → all_decided (known_of d v m) (first_accesses v m) ≡ true
     → flags_at (known_of d v m) c (first_accesses v m) ≡ possible_all d h c (first_accesses v m)
 answers_right {S} d h i y v g m c o e f =
     flags_decided d h v c (known_of d v m) (first_accesses v m) (first_means d h i y v g m c o (candidate_done d h i y v g m c e))

@@ -1,6 +1,8 @@
 -- After an edit the cycles below the first touched clock stay.
-use Rattle.std.proofs.Common.{◌≡◌, ℕ, zero, suc, ◌+◌, ◌-◌, ◌<◌, ◌≤◌, Bool, true, false, not, ◌&&◌, ◌||◌, inl, inr, List, [], ◌∷◌, map, sym, refl, ap, ap₂, ◌∙◌, subst, arith, eqb, ltb}
-use Rattle.std.proofs.lemmas.Bool.{cases_Bool, both_ways, cases_eq, ltb-true, lt-ltb, cond-true, cond-false, and_parts, and_from, or_cases, or_left, eqb-true, not-true}
+use Rattle.std.proofs.Common.{◌≡◌, ℕ, zero, suc, ◌+◌, ◌-◌, ◌<◌, ◌≤◌, Bool, true, false, not, ◌&&◌, ◌||◌, inl, inr, List, [], ◌∷◌, map, sym}
+use Rattle.std.proofs.Common.{refl, ap, ap₂, ◌∙◌, subst, arith, eqb, ltb}
+use Rattle.std.proofs.lemmas.Bool.{cases_Bool, both_ways, cases_eq, ltb-true, lt-ltb, cond-true, cond-false, and_parts, and_from, or_cases}
+use Rattle.std.proofs.lemmas.Bool.{or_left, eqb-true, not-true}
 use mathlib.Core.Path.{fun_ext}
 use Rattle.flow_word.specs.declared.access.Side.{Side}
 use Rattle.flow_word.specs.declared.access.Side.TheVariants.{Pop, Push}
@@ -127,15 +129,13 @@ alike_more {S} d h g i y fifo depth t c z one u l a =
 
 -- up to the first touched clock both runs are one
 pub alike : {S : Type 0} → (d : Design S) (h g : Trace S) → IsDesign d → IsHistory d h → (fifo depth t : ℕ)
-    → IsHistory (edited d fifo depth) g
-    → ((ch : ℕ) → d.lag Push ch ≡ 1) → IsUntouched d h fifo depth t → (c : ℕ) → c ≤ t → Alike h g c
+    → IsHistory (edited d fifo depth) g → ((ch : ℕ) → d.lag Push ch ≡ 1) → IsUntouched d h fifo depth t → (c : ℕ) → c ≤ t → Alike h g c
 alike {S} d h g i y fifo depth t z one u zero l = alike_0 d h g fifo depth y z
 alike {S} d h g i y fifo depth t z one u (suc c) l =
     alike_more d h g i y fifo depth t c z one u l (alike d h g i y fifo depth t z one u c (omega arith))
 
 steps_alike : {S : Type 0} → (d : Design S) (h g : Trace S) → IsDesign d → IsHistory d h → (fifo depth t : ℕ)
-    → IsHistory (edited d fifo depth) g
-    → ((ch : ℕ) → d.lag Push ch ≡ 1) → IsUntouched d h fifo depth t → (c : ℕ) → c < t → (m : ℕ)
+    → IsHistory (edited d fifo depth) g → ((ch : ℕ) → d.lag Push ch ≡ 1) → IsUntouched d h fifo depth t → (c : ℕ) → c < t → (m : ℕ)
     → steps (edited d fifo depth) g c m ≡ steps d h c m
 unfolding steps
 steps_alike {S} d h g i y fifo depth t z one u c l m =
@@ -183,14 +183,12 @@ kept_below cycle t (suc n) f k l =
     ]
 
 pub cycles_rise : {S : Type 0} → (d : Design S) (h : Trace S) (limit : ℕ) (x : Core S) → IsTimed d h limit x → (m j k : ℕ) → j < k
-    → k < x.timed m
-    → x.cycle m j < x.cycle m k
+    → k < x.timed m → x.cycle m j < x.cycle m k
 cycles_rise {S} d h limit x u m j k l q =
     done_less d h m (x.cycle m j) (x.cycle m k) (omega (arith, u.done_then m j (omega arith), u.done_then m k q))
 
 edit_kept : {S : Type 0} → (d : Design S) (h : Trace S) (limit : ℕ) (x : Core S) → IsTimed d h limit x → (t m k : ℕ)
-    → k < kept (x.cycle m) t (x.timed m)
-    → x.cycle m k < t
+    → k < kept (x.cycle m) t (x.timed m) → x.cycle m k < t
 edit_kept {S} d h limit x u t m k l = kept_below (x.cycle m) t (x.timed m) (λ j k p q. cycles_rise d h limit x u m j k p q) k l
 
 pub edit_marks : {S : Type 0} → (d : Design S) (x : Core S) (fifo depth t : ℕ) → AreOwnMarks d x
@@ -257,8 +255,7 @@ edit_done {S} d h g i y fifo depth t z one u limit x v =
 
 -- behind the steps that stay, what counts as verified has no query
 edit_plain : {S : Type 0} → (d : Design S) (x : Core S) (t m k : ℕ) → kept (x.cycle m) t (x.timed m) ≤ k
-    → (after_edit d x t).verified m k ≡ true
-    → has_query (core_accesses d x m k) ≡ false
+    → (after_edit d x t).verified m k ≡ true → has_query (core_accesses d x m k) ≡ false
 edit_plain {S} d x t m k l v =
     let (v1, v2) = and_parts (x.verified m k) (ltb k (kept (x.cycle m) t (x.timed m)) || not (has_query (core_accesses d x m k))) v in
     elim (or_cases (ltb k (kept (x.cycle m) t (x.timed m))) (not (has_query (core_accesses d x m k))) v2) [

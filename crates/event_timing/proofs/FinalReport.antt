@@ -20,8 +20,7 @@ use Rattle.event_timing.proofs.Agreement.{final_complete}
 
 -- in a clock up to which the core has every step, and behind all its cycles
 pub done_all : {S : Type 0} → (d : Design S) (h : Trace S) (limit : ℕ) (x : Core S) → IsAgreed d h limit x → (m c : ℕ)
-    → begin (view d x) m ≤ c
-    → done d h m c ≤ x.timed m → done d h m c ≡ x.timed m
+    → begin (view d x) m ≤ c → done d h m c ≤ x.timed m → done d h m c ≡ x.timed m
 done_all {S} d h limit x g m c l n =
     omega (
       arith,
@@ -38,16 +37,13 @@ limit_begin {S} d h limit x g m zero e = omega arith
 limit_begin {S} d h limit x g m (suc n) e = g.time.below m n (omega arith)
 
 pub done_limit : {S : Type 0} → (d : Design S) (h : Trace S) → IsDesign d → IsHistory d h → (limit : ℕ) (x : Core S)
-    → IsAgreed d h limit x → IsFinal d limit x
-    → (m : ℕ) → done d h m limit ≡ x.timed m
+    → IsAgreed d h limit x → IsFinal d limit x → (m : ℕ) → done d h m limit ≡ x.timed m
 done_limit {S} d h i y limit x g f m =
     done_all d h limit x g m limit (limit_begin d h limit x g m (x.timed m) refl) (final_complete d h i y limit x g f m limit (omega arith))
 
 -- what a sink holds there
 pub outputs_right : {S : Type 0} → (d : Design S) (h : Trace S) → IsDesign d → IsHistory d h → (limit : ℕ) (x : Core S)
-    → IsAgreed d h limit x → (ch c : ℕ)
-    → done d h (d.owner Push ch) c ≡ x.timed (d.owner Push ch)
-    → h.pushed c ch ≡ d.inputs ch
+    → IsAgreed d h limit x → (ch c : ℕ) → done d h (d.owner Push ch) c ≡ x.timed (d.owner Push ch) → h.pushed c ch ≡ d.inputs ch
     ++ pushed_in ch (core_accesses d x (d.owner Push ch)) (λ j. bare_replies (x.flags (d.owner Push ch) j)) (x.timed (d.owner Push ch))
 outputs_right {S} d h i y limit x g ch c k =
     let q = pushed_view d h i y (view d x) (agrees d h limit x g.marks g.time) ch c (omega arith) in
@@ -93,8 +89,7 @@ each_late {S} d h x m c n know (a ∷ xs) (g, gs) =
 -- where no step is determined, a module that is not over stands at its first step without a cycle from its stop on,
 -- and of each access there, what is known says whether it is possible
 pub held_right : {S : Type 0} → (d : Design S) (h : Trace S) → IsDesign d → IsHistory d h → (limit : ℕ) (x : Core S)
-    → IsAgreed d h limit x → IsFinal d limit x
-    → IsUndetermined d x → (m c : ℕ) → x.timed m < x.emitted m → stop d x m ≤ c
+    → IsAgreed d h limit x → IsFinal d limit x → IsUndetermined d x → (m c : ℕ) → x.timed m < x.emitted m → stop d x m ≤ c
     → (h.state c m ≡ x.state m (x.timed m))
     × Each (λ a. is_possible d h c a.side a.channel ≡ answer (known_of d (view d x) m a) c) (core_accesses d x m (x.timed m))
 held_right {S} d h i y limit x g f u m c l s =

@@ -1,5 +1,6 @@
 -- The values that a core hands to a module are those of the history.
-use Rattle.std.proofs.Common.{◌≡◌, ℕ, zero, suc, ◌+◌, ◌-◌, ◌<◌, ◌≤◌, Bool, true, false, inl, inr, List, [], ◌∷◌, ◌++◌, length, get_or, sym, refl, ap, ◌∙◌, subst, arith, append_assoc}
+use Rattle.std.proofs.Common.{◌≡◌, ℕ, zero, suc, ◌+◌, ◌-◌, ◌<◌, ◌≤◌, Bool, true, false, inl, inr, List, [], ◌∷◌, ◌++◌, length, get_or, sym}
+use Rattle.std.proofs.Common.{refl, ap, ◌∙◌, subst, arith, append_assoc}
 use Rattle.std.proofs.lemmas.Bool.{cases_lt, ltb-true}
 use Rattle.flow_word.specs.declared.access.Side.{Side}
 use Rattle.flow_word.specs.declared.access.Side.TheVariants.{Pop, Push}
@@ -59,8 +60,7 @@ tally_same a b r s side ch (suc n) f =
     rw (tally_more a r side ch n, tally_more b s side ch n, f n (omega arith), tally_same a b r s side ch n (λ k l. f k (omega arith))) refl
 
 pub pushed_same : (a b : ℕ → List Access) (r s : ℕ → List Reply) (ch n : ℕ)
-    → ((k : ℕ) → k < n → values_in ch (a k) (r k) ≡ values_in ch (b k) (s k))
-    → pushed_in ch a r n ≡ pushed_in ch b s n
+    → ((k : ℕ) → k < n → values_in ch (a k) (r k) ≡ values_in ch (b k) (s k)) → pushed_in ch a r n ≡ pushed_in ch b s n
 pushed_same a b r s ch zero f = rw (pushed_in_0 ch a r, pushed_in_0 ch b s) refl
 pushed_same a b r s ch (suc n) f =
     rw (pushed_in_more ch a r n, pushed_in_more ch b s n, f n (omega arith), pushed_same a b r s ch n (λ k l. f k (omega arith))) refl
@@ -79,8 +79,7 @@ core_pushed_is {S} d x m ch n =
 
 -- the value at a place that is known to be pushed, in the core and in the history
 pub get_right : {S : Type 0} → (d : Design S) (h : Trace S) → IsDesign d → IsHistory d h → (limit : ℕ) (x : Core S) → AreOwnMarks d x
-    → IsTimed d h limit x
-    → (ch c t : ℕ) → h.taken c Pop ch ≡ t → t < elements_timed d x ch → is_possible d h c Pop ch ≡ true
+    → IsTimed d h limit x → (ch c t : ℕ) → h.taken c Pop ch ≡ t → t < elements_timed d x ch → is_possible d h c Pop ch ≡ true
     → get_or (core_values d x ch) t 0 ≡ get_or (h.pushed c ch) t 0
 get_right {S} d h i y limit x b u ch c t e l p =
     let g = agrees d h limit x b u in

@@ -1,12 +1,14 @@
 -- What stays as a core grows: the replies to its settled steps.
-use Rattle.std.proofs.Common.{◌≡◌, ℕ, zero, suc, ◌+◌, ◌<◌, ◌≤◌, Bool, true, cond, not, ◌||◌, inl, inr, List, [], ◌∷◌, length, get_or, sym, refl, ap, ap₂, ◌∙◌, arith, ltb}
+use Rattle.std.proofs.Common.{◌≡◌, ℕ, zero, suc, ◌+◌, ◌<◌, ◌≤◌, Bool, true, cond, not, ◌||◌, inl, inr, List, [], ◌∷◌, length, get_or, sym}
+use Rattle.std.proofs.Common.{refl, ap, ap₂, ◌∙◌, arith, ltb}
 use Rattle.std.proofs.lemmas.Bool.{cases_Bool, cond-false, and_parts, and_from, cases_eq, lt-ltb, ltb-true, or_cases, or_left, or_right}
 use Rattle.flow_word.specs.declared.access.Side.{Side}
 use Rattle.flow_word.specs.declared.access.Side.TheVariants.{Pop, Push}
 use Rattle.event_timing.specs.Machines.{Design, Access, Reply, ready, takes_in}
 use Rattle.event_timing.specs.Histories.{Trace}
 use Rattle.event_timing.specs.Views.{own, Begins}
-use Rattle.event_timing.specs.Core.{Core, bare_replies, core_accesses, core_tally, core_values, pops_now, replies_of, all_below, core_reply, values_there}
+use Rattle.event_timing.specs.Core.{Core, bare_replies, core_accesses, core_tally, core_values, pops_now, replies_of, all_below, core_reply}
+use Rattle.event_timing.specs.Core.{values_there}
 use Rattle.event_timing.specs.Agreement.{AreOwnMarks, IsTimed, elements_timed, pops_timed}
 use Rattle.event_timing.specs.Growth.{Grows, IsSettled}
 use Rattle.event_timing.proofs.OwnRuns.{own_0, own_more}
@@ -26,8 +28,7 @@ get_grow : (V W : List ℕ) (t u : ℕ) → Begins W V → u ≡ t → t < lengt
 get_grow V W t u g e l = rw e (begins_get W V t g l)
 
 replies_grow : (V W : ℕ → List ℕ) (t u : ℕ → ℕ) (xs : List Access) (bs : List Bool) → ((ch : ℕ) → Begins (W ch) (V ch))
-    → ((ch : ℕ) → u ch ≡ t ch)
-    → all_below (λ ch. length (V ch)) t xs bs ≡ true → replies_of W u xs bs ≡ replies_of V t xs bs
+    → ((ch : ℕ) → u ch ≡ t ch) → all_below (λ ch. length (V ch)) t xs bs ≡ true → replies_of W u xs bs ≡ replies_of V t xs bs
 replies_grow V W t u [] bs g e l = refl
 replies_grow V W t u (a ∷ xs) [] g e l = refl
 replies_grow V W t u (a ∷ xs) (b ∷ bs) g e l =
@@ -45,8 +46,7 @@ replies_grow V W t u (a ∷ xs) (b ∷ bs) g e l =
     ap₂ (λ (z : ℕ) (zs : List Reply). record { possible = b; front = z } ∷ zs) f (replies_grow V W t u xs bs g e l2)
 
 pub below_grow : (s s' t u : ℕ → ℕ) (xs : List Access) (bs : List Bool) → ((ch : ℕ) → s ch ≤ s' ch) → ((ch : ℕ) → u ch ≡ t ch)
-    → all_below s t xs bs ≡ true
-    → all_below s' u xs bs ≡ true
+    → all_below s t xs bs ≡ true → all_below s' u xs bs ≡ true
 below_grow s s' t u [] bs l q e = refl
 below_grow s s' t u (a ∷ xs) [] l q e = refl
 below_grow s s' t u (a ∷ xs) (b ∷ bs) l q e =
@@ -140,3 +140,7 @@ settled_all {S} d x b m f g =
       answered = λ k q. elim (cases_eq (suc k) (x.emitted m)) [ inl e ↦ f k e | inr e ↦ b.replied m k (omega arith) ];
       there = λ k q. elim (cases_eq (suc k) (x.emitted m)) [ inl e ↦ g k e | inr e ↦ b.there m k (omega arith) ];
     }
+
+-- and of a module whose end is emitted
+pub ended_settled : {S : Type 0} → (d : Design S) (x : Core S) → AreOwnMarks d x → (m : ℕ) → x.over m ≡ true → IsSettled d x m (x.emitted m)
+ended_settled {S} d x b m o = settled_all d x b m (λ k q. b.ended_replied m k o q) (λ k q. b.ended_there m k o q)

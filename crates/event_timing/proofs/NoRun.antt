@@ -48,15 +48,13 @@ answer_no_run {S} d i x b m n c e a s r =
 answered_no_run : {S : Type 0} → (d : Design S) → IsDesign d → (x : Core S) → AreOwnMarks d x → (n c : ℕ)
     → candidate d (view d x) n ≡ Some c
     → x.answered n (x.timed n) ≡ true → (z : Core S) → (IsSame d x n c × (z ≡ after_answer d x n c)) ⊎ ((IsSame d x n c → ⊥) × (z ≡ x))
-    → (m : ℕ) → MayRun d z m
-    → MayRun d x m
+    → (m : ℕ) → MayRun d z m → MayRun d x m
 answered_no_run {S} d i x b n c e a z (inl (s, w)) m r = answer_no_run d i x b m n c e a s (subst (λ (z : Core S). MayRun d z m) w r)
 answered_no_run {S} d i x b n c e a z (inr (s, w)) m r = subst (λ (z : Core S). MayRun d z m) w r
 
 -- an action that meets recorded outcomes permits no Run that was not permitted
 acts_no_run : {S : Type 0} → (d : Design S) → IsDesign d → (limit : ℕ) (x : Core S) → AreOwnMarks d x → ((m : ℕ) → MayRun d x m → ⊥)
-    → (a : Action)
-    → IsRecorded x a → (z : Core S) → Acts d limit x a z → (m : ℕ) → MayRun d z m → ⊥
+    → (a : Action) → IsRecorded x a → (z : Core S) → Acts d limit x a z → (m : ℕ) → MayRun d z m → ⊥
 acts_no_run {S} d i limit x b f (Action.Run n) o z (p, e) m r = f n p
 acts_no_run {S} d i limit x b f (Action.Assign n) o z (c, p, e) m r =
     f m (assign_no_run d x m n c (subst (λ (z : Core S). MayRun d z m) e r))

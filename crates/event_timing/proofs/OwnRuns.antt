@@ -1,6 +1,8 @@
 -- A module's steps in a history are its own run on the history's replies.
-use Rattle.std.proofs.Common.{ap, ◌≡◌, ℕ, zero, suc, ◌+◌, ◌-◌, ◌<◌, ◌≤◌, true, false, ◌⊎◌, inl, inr, List, [], ◌∷◌, refl, ◌∙◌, arith, zero-add, add-zero, Option, Some, None}
-use Rattle.std.proofs.lemmas.Bool.{cases_Bool, cond-false, and_parts, both_ways, cases_lt, false_from_ne_true, le-leb, lt-ltb, le-ltb, lt-leb, eqb-true, cases_order}
+use Rattle.std.proofs.Common.{ap, ◌≡◌, ℕ, zero, suc, ◌+◌, ◌-◌, ◌<◌, ◌≤◌, true, false, ◌⊎◌, inl, inr, List, [], ◌∷◌, refl, ◌∙◌, arith}
+use Rattle.std.proofs.Common.{zero-add, add-zero, Option, Some, None}
+use Rattle.std.proofs.lemmas.Bool.{cases_Bool, cond-false, and_parts, both_ways, cases_lt, false_from_ne_true, le-leb, lt-ltb, le-ltb}
+use Rattle.std.proofs.lemmas.Bool.{lt-leb, eqb-true, cases_order}
 use Rattle.flow_word.specs.declared.access.Side.{Side}
 use Rattle.flow_word.specs.declared.access.Side.TheVariants.{Pop, Push}
 use Rattle.flow_word.specs.Kinds.{other_side, same_side}
@@ -53,8 +55,7 @@ pub follows_less : {S : Type 0} → (d : Design S) (h : Trace S) (m : ℕ) (r : 
 follows_less {S} d h m r c f e l s = f e (omega arith) s
 
 pub rest_own : {S : Type 0} → (d : Design S) (h : Trace S) → IsDesign d → IsHistory d h → (m : ℕ) (r : ℕ → List Reply) (c : ℕ)
-    → Follows d h m r c
-    → rest d h m c ≡ own d m r (done d h m c)
+    → Follows d h m r c → rest d h m c ≡ own d m r (done d h m c)
 rest_own {S} d h i y m r zero f = rest_0 d h m ∙ (y.state_0 m ∙ (rw (done_0 d h m, own_0 d m r) refl))
 rest_own {S} d h i y m r (suc c) f = later (cases_Bool (steps d h c m)) (rest_own d h i y m r c (follows_less d h m r c f))
   where
@@ -72,8 +73,7 @@ none_taken side ch [] rs e = refl
 none_taken side ch (a ∷ xs) rs e = cc
 
 taken_still : {S : Type 0} → (d : Design S) (h : Trace S) → IsHistory d h → (c : ℕ) (side : Side) (ch : ℕ)
-    → steps d h c (d.owner side ch) ≡ false
-    → h.taken (suc c) side ch ≡ h.taken c side ch
+    → steps d h c (d.owner side ch) ≡ false → h.taken (suc c) side ch ≡ h.taken c side ch
 taken_still {S} d h y c side ch e =
     elim (cases_Bool (moves d h c (d.owner side ch))) [
       | inl w ↦
@@ -203,8 +203,7 @@ closed_takes {S} d o ch (a ∷ xs) (r ∷ rs) e (g, gs) =
     rw (cond-false {A = ℕ} (took o ch a r) 1 0 t, closed_takes d o ch xs rs e gs) refl
 
 pub closed_taken : {S : Type 0} → (d : Design S) (h : Trace S) → IsDesign d → IsHistory d h → (o : Side) (ch c : ℕ)
-    → d.closed (other_side o) ch ≡ true
-    → h.taken c o ch ≡ 0
+    → d.closed (other_side o) ch ≡ true → h.taken c o ch ≡ 0
 closed_taken {S} d h i y o ch zero e = y.taken_0 o ch
 closed_taken {S} d h i y o ch (suc c) e =
     elim (cases_Bool (moves d h c (d.owner o ch))) [
@@ -217,8 +216,7 @@ closed_taken {S} d h i y o ch (suc c) e =
 
 -- there is one such step
 pub place_unique : (a : ℕ → List Access) (r : ℕ → List Reply) (side : Side) (ch n i j : ℕ) → j < n → tally a r side ch j ≤ i
-    → i < tally a r side ch (suc j)
-    → place a r side ch n i ≡ Some j
+    → i < tally a r side ch (suc j) → place a r side ch n i ≡ Some j
 place_unique a r side ch n i j l p q = later (place a r side ch n i) (place_says a r side ch n i)
   where
     later : (o : Option ℕ) → IsPlace a r side ch n i o → o ≡ Some j

@@ -1,6 +1,7 @@
 -- A module is told what the history tells it: where its flags say what is possible, and each of its pops has its push among the steps
 -- with a cycle.
-use Rattle.std.proofs.Common.{◌≡◌, ℕ, ◌<◌, Bool, true, cond, not, ◌&&◌, ◌||◌, inl, inr, List, [], ◌∷◌, map, get_or, sym, ap, ap₂, ◌∙◌, refl, arith, ltb}
+use Rattle.std.proofs.Common.{◌≡◌, ℕ, ◌<◌, Bool, true, cond, not, ◌&&◌, ◌||◌, inl, inr, List, [], ◌∷◌, map, get_or, sym, ap, ap₂, ◌∙◌, refl}
+use Rattle.std.proofs.Common.{arith, ltb}
 use Rattle.std.proofs.lemmas.Bool.{cases_Bool, cond-false, and_parts, ltb-true}
 use Rattle.flow_word.specs.declared.access.Side.{Side}
 use Rattle.flow_word.specs.declared.access.Side.TheVariants.{Pop}

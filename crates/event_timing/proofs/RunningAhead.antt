@@ -10,8 +10,7 @@ use Rattle.event_timing.proofs.Growing.{settled_less, settled_all, there_grow, o
 use Rattle.event_timing.proofs.Running.{newest_own}
 
 pub stays : {S : Type 0} → (d : Design S) (x z : Core S) → AreOwnMarks d x → Grows d x z → (m : ℕ) → z.emitted m ≡ x.emitted m
-    → z.over m ≡ x.over m
-    → MayRun d x m → MayRun d z m
+    → z.over m ≡ x.over m → MayRun d x m → MayRun d z m
 stays {S} d x z b g m e o r =
     let s = settled_all d x b m r.answered r.there in
     record {
@@ -23,8 +22,7 @@ stays {S} d x z b g m e o r =
 
 -- what a Run emits is the same, whatever else was done meanwhile
 pub newest_stays : {S : Type 0} → (d : Design S) (x z : Core S) → AreOwnMarks d x → AreOwnMarks d z → Grows d x z → (m : ℕ)
-    → z.emitted m ≡ x.emitted m
-    → MayRun d x m → newest d z m ≡ newest d x m
+    → z.emitted m ≡ x.emitted m → MayRun d x m → newest d z m ≡ newest d x m
 newest_stays {S} d x z b b' g m e r =
     newest_own d z b' m (z.emitted m) (omega arith)
     ∙ (ap (own d m (core_reply d z m)) e

@@ -26,8 +26,7 @@ unfolding moves
 moves_can {S} d h c m e = (and_parts _ _ e).1
 
 pub moves_from : {S : Type 0} → (d : Design S) (h : Trace S) (c m : ℕ) → d.is_over m (h.state c m) ≡ false
-    → can_all d h c (d.accesses m (h.state c m)) ≡ true
-    → moves d h c m ≡ true
+    → can_all d h c (d.accesses m (h.state c m)) ≡ true → moves d h c m ≡ true
 unfolding moves
 moves_from {S} d h c m o a = and_from _ _ (not_from_false _ o) a
 
@@ -41,8 +40,7 @@ unfolding steps
 steps_some {S} d h c m e = (and_parts _ _ e).1
 
 pub steps_from : {S : Type 0} → (d : Design S) (h : Trace S) (c m : ℕ) → moves d h c m ≡ true
-    → is_some_access (d.accesses m (h.state c m)) ≡ true
-    → steps d h c m ≡ true
+    → is_some_access (d.accesses m (h.state c m)) ≡ true → steps d h c m ≡ true
 unfolding steps
 steps_from {S} d h c m e s = and_from _ _ e s
 
@@ -57,8 +55,7 @@ since_le {S} d h m (suc c) =
 
 -- in clocks with no access it moves on
 young : {S : Type 0} → (d : Design S) (h : Trace S) → IsDesign d → IsHistory d h → (m c t j : ℕ) (s : S) → j < d.quiet m s
-    → h.state c m ≡ skip d m j s
-    → h.state (suc c) m ≡ skip d m (suc j) s
+    → h.state c m ≡ skip d m j s → h.state (suc c) m ≡ skip d m (suc j) s
 young {S} d h i y m c t j s l e =
     let o = i.quiet_lives m s j l in
     let a = i.quiet_idle m s j l in
@@ -68,8 +65,7 @@ young {S} d h i y m c t j s l e =
 
 -- then it stays till it steps
 old : {S : Type 0} → (d : Design S) (h : Trace S) → (i : IsDesign d) → IsHistory d h → (m c : ℕ) (s : S) → i.fits m s ≡ true
-    → h.state c m ≡ ready d m s
-    → steps d h c m ≡ false → h.state (suc c) m ≡ ready d m s
+    → h.state c m ≡ ready d m s → steps d h c m ≡ false → h.state (suc c) m ≡ ready d m s
 old {S} d h i y m c s f e n =
     let stays : moves d h c m ≡ false =
     false_from_ne_true _ (λ (w : moves d h c m ≡ true).
@@ -146,8 +142,7 @@ where_now {S} d h i y m (suc c) = later (cases_Bool (steps d h c m)) (where_now 
 
 -- before its next accesses are reached a module does no step
 pub early_no_step : {S : Type 0} → (d : Design S) (h : Trace S) → IsDesign d → IsHistory d h → (m c : ℕ)
-    → c < since d h m c + d.quiet m (rest d h m c)
-    → steps d h c m ≡ false
+    → c < since d h m c + d.quiet m (rest d h m c) → steps d h c m ≡ false
 early_no_step {S} d h i y m c l =
     false_from_ne_true _ (λ (w : steps d h c m ≡ true).
     let j : min (c - since d h m c) (d.quiet m (rest d h m c)) ≡ c - since d h m c = omega (arith, since_le d h m c) in
@@ -161,8 +156,7 @@ early_no_step {S} d h i y m c l =
 
 -- then it stands at them
 pub late_ready : {S : Type 0} → (d : Design S) (h : Trace S) → IsDesign d → IsHistory d h → (m c : ℕ)
-    → since d h m c + d.quiet m (rest d h m c) ≤ c
-    → h.state c m ≡ ready d m (rest d h m c)
+    → since d h m c + d.quiet m (rest d h m c) ≤ c → h.state c m ≡ ready d m (rest d h m c)
 late_ready {S} d h i y m c l =
     let j : min (c - since d h m c) (d.quiet m (rest d h m c)) ≡ d.quiet m (rest d h m c) = omega arith in
     rw j at (where_now d h i y m c)

@@ -1,6 +1,8 @@
 -- Where a step's cycle is determined, each of its known pops has its push among the steps with a cycle.
-use Rattle.std.proofs.Common.{◌≡◌, ℕ, suc, ◌+◌, ◌-◌, ◌<◌, ◌≤◌, Bool, true, false, not, ◌&&◌, ◌||◌, inl, inr, List, [], ◌∷◌, length, sym, refl, ap, ◌∙◌, arith, ltb, Option, Some, None, length-append}
-use Rattle.std.proofs.lemmas.Bool.{cases_Bool, and_parts, and_from, both_ways, not_from_false, lt-ltb, ltb-true, ltb-false, or_cases, or_left, or_right}
+use Rattle.std.proofs.Common.{◌≡◌, ℕ, suc, ◌+◌, ◌-◌, ◌<◌, ◌≤◌, Bool, true, false, not, ◌&&◌, ◌||◌, inl, inr, List, [], ◌∷◌, length, sym}
+use Rattle.std.proofs.Common.{refl, ap, ◌∙◌, arith, ltb, Option, Some, None, length-append}
+use Rattle.std.proofs.lemmas.Bool.{cases_Bool, and_parts, and_from, both_ways, not_from_false, lt-ltb, ltb-true, ltb-false, or_cases}
+use Rattle.std.proofs.lemmas.Bool.{or_left, or_right}
 use Rattle.flow_word.specs.declared.access.Side.{Side}
 use Rattle.flow_word.specs.declared.access.Side.TheVariants.{Pop, Push}
 use Rattle.flow_word.specs.Kinds.{same_side}
@@ -9,7 +11,8 @@ use Rattle.event_timing.specs.Histories.{Trace}
 use Rattle.event_timing.specs.Views.{tally, View}
 use Rattle.event_timing.specs.Enablers.{Known, known, known_of, bound, answer, flags_at, from_step, candidate}
 use Rattle.event_timing.specs.Enablers.Known.{From, Never, Unknown}
-use Rattle.event_timing.specs.Core.{Core, bare_replies, core_accesses, core_tally, core_pushed, core_values, core_reply, pops_now, all_below, view}
+use Rattle.event_timing.specs.Core.{Core, bare_replies, core_accesses, core_tally, core_pushed, core_values, core_reply, pops_now}
+use Rattle.event_timing.specs.Core.{all_below, view}
 use Rattle.event_timing.specs.Agreement.{IsTimed, elements_timed, pops_timed}
 use Rattle.event_timing.specs.Actions.{new_flags}
 use Rattle.event_timing.proofs.OwnRuns.{tally_mono, IsPlace, place_says, same_side_is}

@@ -1,6 +1,7 @@
 -- When an access of a module's first step without a cycle is possible.
 use Rattle.std.proofs.Common.{◌≡◌, ℕ, suc, ◌+◌, ◌-◌, ◌<◌, ◌≤◌, true, false, ◌||◌, inl, inr, refl, ◌∙◌, arith, ltb, leb, Option, Some, None}
-use Rattle.std.proofs.lemmas.Bool.{cases_Bool, cond-true, cond-false, cases_lt, le-leb, lt-ltb, le-ltb, lt-leb, ltb-true, ltb-false, or_cases, or_parts, or_right}
+use Rattle.std.proofs.lemmas.Bool.{cases_Bool, cond-true, cond-false, cases_lt, le-leb, lt-ltb, le-ltb, lt-leb, ltb-true, ltb-false}
+use Rattle.std.proofs.lemmas.Bool.{or_cases, or_parts, or_right}
 use Rattle.flow_word.specs.declared.access.Side.{Side}
 use Rattle.flow_word.specs.declared.access.Side.TheVariants.{Pop, Push}
 use Rattle.flow_word.specs.Kinds.{other_side}
@@ -15,8 +16,7 @@ use Rattle.event_timing.proofs.OwnRuns.{follows, taken_own, taken_mono, tally_mo
 
 -- the history's counts are the view's, as long as no other step is done
 pub taken_view : {S : Type 0} → (d : Design S) (h : Trace S) → IsDesign d → IsHistory d h → (v : View) → Agrees d h v
-    → (side : Side) (ch c : ℕ)
-    → done d h (d.owner side ch) c ≤ v.timed (d.owner side ch)
+    → (side : Side) (ch c : ℕ) → done d h (d.owner side ch) c ≤ v.timed (d.owner side ch)
     → h.taken c side ch ≡ tally (v.accesses (d.owner side ch)) (v.reply (d.owner side ch)) side ch (done d h (d.owner side ch) c)
 taken_view {S} d h i y v g side ch c l =
     taken_own d h i y side ch (v.accesses (d.owner side ch)) (v.reply (d.owner side ch)) c (follows d h v g (d.owner side ch) c l)
@@ -58,8 +58,7 @@ unfolding known
 known_free {S} d v side ch n e = cond-true _ _ _ e
 
 pub known_never : {S : Type 0} → (d : Design S) (v : View) (side : Side) (ch n : ℕ)
-    → (d.unlimited side ch || ltb n (d.start side ch)) ≡ false
-    → d.closed side ch ≡ true → known d v side ch n ≡ Never
+    → (d.unlimited side ch || ltb n (d.start side ch)) ≡ false → d.closed side ch ≡ true → known d v side ch n ≡ Never
 unfolding known
 known_never {S} d v side ch n e f = cond-false _ _ _ e ∙ cond-true _ _ _ f
 
@@ -69,15 +68,13 @@ enabler {S} d v side ch n =
     (v.timed (d.owner (other_side side) ch)) (n - d.start side ch)
 
 pub known_event : {S : Type 0} → (d : Design S) (v : View) (side : Side) (ch n : ℕ)
-    → (d.unlimited side ch || ltb n (d.start side ch)) ≡ false
-    → d.closed side ch ≡ false
+    → (d.unlimited side ch || ltb n (d.start side ch)) ≡ false → d.closed side ch ≡ false
     → known d v side ch n ≡ from_step (v.cycle (d.owner (other_side side) ch)) (d.lag side ch) (enabler d v side ch n)
 unfolding known enabler
 known_event {S} d v side ch n e f = cond-false _ _ _ e ∙ cond-false _ _ _ f
 
 event_means : {S : Type 0} → (d : Design S) (h : Trace S) → IsDesign d → IsHistory d h → (v : View) → Agrees d h v
-    → (side : Side) (ch c n : ℕ)
-    → h.taken c side ch ≡ n → d.unlimited side ch ≡ false → d.start side ch ≤ n → (o : Option ℕ)
+    → (side : Side) (ch c n : ℕ) → h.taken c side ch ≡ n → d.unlimited side ch ≡ false → d.start side ch ≤ n → (o : Option ℕ)
     → IsPlace (v.accesses (d.owner (other_side side) ch)) (v.reply (d.owner (other_side side) ch)) (other_side side) ch
     (v.timed (d.owner (other_side side) ch)) (n - d.start side ch) o
     → Means d h v c side ch (from_step (v.cycle (d.owner (other_side side) ch)) (d.lag side ch) o)
@@ -136,8 +133,7 @@ never_possible {S} d h i y c side ch n t e f =
 
 -- what is known of an access is true in each clock in which n are before it
 pub known_means : {S : Type 0} → (d : Design S) (h : Trace S) → IsDesign d → IsHistory d h → (v : View) → Agrees d h v
-    → (side : Side) (ch c n : ℕ)
-    → h.taken c side ch ≡ n → Means d h v c side ch (known d v side ch n)
+    → (side : Side) (ch c n : ℕ) → h.taken c side ch ≡ n → Means d h v c side ch (known d v side ch n)
 unfolding enabler
 known_means {S} d h i y v g side ch c n t =
     elim (cases_Bool (d.unlimited side ch || ltb n (d.start side ch))) [

@@ -18,7 +18,7 @@ use Rattle.event_timing.proofs.Agreement.{final_complete}
 use Rattle.event_timing.proofs.Values.{taken_once}
 use Rattle.event_timing.proofs.OwnRuns.{taken_mono}
 
-kept_ge : (cycle : ℕ → ℕ) (t n b : ℕ) → n ≤ b → ((k : ℕ) → k < n → cycle k < t) → n ≤ kept cycle t b
+pub kept_ge : (cycle : ℕ → ℕ) (t n b : ℕ) → n ≤ b → ((k : ℕ) → k < n → cycle k < t) → n ≤ kept cycle t b
 unfolding kept
 kept_ge cycle t n zero l f = omega arith
 kept_ge cycle t n (suc b) l f =
@@ -31,8 +31,7 @@ kept_ge cycle t n (suc b) l f =
     ]
 
 pub kept_done : {S : Type 0} → (d : Design S) (h : Trace S) (limit : ℕ) (x : Core S) → IsTimed d h limit x → (m c : ℕ)
-    → done d h m c ≤ x.timed m
-    → kept (x.cycle m) c (x.timed m) ≡ done d h m c
+    → done d h m c ≤ x.timed m → kept (x.cycle m) c (x.timed m) ≡ done d h m c
 kept_done {S} d h limit x u m c l =
     let up = kept_ge (x.cycle m) c (done d h m c) (x.timed m) l
     (λ k q. done_less d h m (x.cycle m k) c (omega (arith, u.done_then m k (omega arith)))) in
@@ -54,8 +53,7 @@ counts_right {S} d h i y limit x g side ch c l =
     ∙ (core_tally_is d x w side ch (done d h w c) ∙ ap (core_tally d x w side ch) (sym (kept_done d h limit x g.time w c l)))
 
 final_counts : {S : Type 0} → (d : Design S) (h : Trace S) → IsDesign d → IsHistory d h → (limit : ℕ) (x : Core S)
-    → IsAgreed d h limit x → IsFinal d limit x
-    → (side : Side) (ch c : ℕ) → c ≤ limit → h.taken c side ch ≡ by_cycles d x side ch c
+    → IsAgreed d h limit x → IsFinal d limit x → (side : Side) (ch c : ℕ) → c ≤ limit → h.taken c side ch ≡ by_cycles d x side ch c
 final_counts {S} d h i y limit x g f side ch c l =
     counts_right d h i y limit x g side ch c (final_complete d h i y limit x g f (d.owner side ch) c l)
 
@@ -89,11 +87,8 @@ never_reached {S} d h i y limit x g f fifo most t l some never (suc c) q =
 
 -- a clock up to which the FIFO never holds the lesser of both depths is untouched
 pub before_first : {S : Type 0} → (d : Design S) (h : Trace S) → IsDesign d → IsHistory d h → (limit : ℕ) (x : Core S)
-    → IsAgreed d h limit x
-    → IsFinal d limit x
-    → (fifo depth t : ℕ) → t ≤ limit → 0 < d.start Push fifo → 0 < depth
-    → ((c : ℕ) → c < t → held_by_cycles d x fifo c ≡ min (d.start Push fifo) depth → ⊥)
-    → IsUntouchedByCycles d x fifo depth t
+    → IsAgreed d h limit x → IsFinal d limit x → (fifo depth t : ℕ) → t ≤ limit → 0 < d.start Push fifo → 0 < depth
+    → ((c : ℕ) → c < t → held_by_cycles d x fifo c ≡ min (d.start Push fifo) depth → ⊥) → IsUntouchedByCycles d x fifo depth t
 before_first {S} d h i y limit x g f fifo depth t l old new never =
     let count = λ (side : Side) (c : ℕ) (q : c < t). final_counts d h i y limit x g f side fifo c (omega arith) in
     let below = never_reached d h i y limit x g f fifo (min (d.start Push fifo) depth) t l (omega arith) never in

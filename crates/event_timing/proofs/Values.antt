@@ -1,5 +1,6 @@
 -- The values pushed on a channel, in the history and in a view.
-use Rattle.std.proofs.Common.{◌≡◌, ℕ, zero, suc, ◌+◌, ◌-◌, ◌<◌, ◌≤◌, Bool, true, false, ◌&&◌, ◌⊎◌, inl, inr, List, [], ◌∷◌, ◌++◌, length, get_or, sym, refl, ap, ◌∙◌, arith, zero-add, append_assoc, append-nil, length-append, eqb}
+use Rattle.std.proofs.Common.{◌≡◌, ℕ, zero, suc, ◌+◌, ◌-◌, ◌<◌, ◌≤◌, Bool, true, false, ◌&&◌, ◌⊎◌, inl, inr, List, [], ◌∷◌, ◌++◌, length}
+use Rattle.std.proofs.Common.{get_or, sym, refl, ap, ◌∙◌, arith, zero-add, append_assoc, append-nil, length-append, eqb}
 use Rattle.std.proofs.lemmas.Bool.{cases_Bool, cond-true, cond-false, both_ways, false_from_ne_true, and_parts, and_from}
 use Rattle.std.proofs.lemmas.Grind.{common_steps}
 use Rattle.flow_word.specs.declared.access.Side.{Side}

@@ -1,5 +1,6 @@
 -- The verdict of a final core is that of the history.
-use Rattle.std.proofs.Common.{◌≡◌, ℕ, zero, suc, ◌+◌, ◌-◌, ◌<◌, ◌≤◌, min, true, false, inl, inr, sym, refl, ap, ap₂, ◌∙◌, subst, arith, Some}
+use Rattle.std.proofs.Common.{◌≡◌, ℕ, zero, suc, ◌+◌, ◌-◌, ◌<◌, ◌≤◌, min, true, false, inl, inr, sym, refl, ap, ap₂, ◌∙◌, subst, arith}
+use Rattle.std.proofs.Common.{Some}
 use Rattle.std.proofs.lemmas.Bool.{cases_lt, false_from_ne_true}
 use Rattle.event_timing.specs.Machines.{Design, IsDesign, is_some_access}
 use Rattle.event_timing.specs.Histories.{Trace, IsHistory, moves}
@@ -17,8 +18,7 @@ use Rattle.event_timing.proofs.Earliest.{nobody_ahead}
 use Rattle.event_timing.proofs.Agreement.{final_stuck, stuck_ended}
 
 early_moves : {S : Type 0} → (d : Design S) (h : Trace S) → IsDesign d → IsHistory d h → (m c : ℕ)
-    → c < since d h m c + d.quiet m (rest d h m c)
-    → moves d h c m ≡ true
+    → c < since d h m c + d.quiet m (rest d h m c) → moves d h c m ≡ true
 early_moves {S} d h i y m c l =
     let j : min (c - since d h m c) (d.quiet m (rest d h m c)) ≡ c - since d h m c = omega (arith, since_le d h m c) in
     let e = rw j at (where_now d h i y m c) in
@@ -28,23 +28,20 @@ early_moves {S} d h i y m c l =
     idle_moves d h c m (ap (d.is_over m) e ∙ o) (ap (d.accesses m) e ∙ a)
 
 stop_then : {S : Type 0} → (d : Design S) (h : Trace S) → IsDesign d → IsHistory d h → (limit : ℕ) (x : Core S) → IsAgreed d h limit x
-    → (m c : ℕ)
-    → begin (view d x) m ≤ c → done d h m c ≡ x.timed m → since d h m c + d.quiet m (rest d h m c) ≡ stop d x m
+    → (m c : ℕ) → begin (view d x) m ≤ c → done d h m c ≡ x.timed m → since d h m c + d.quiet m (rest d h m c) ≡ stop d x m
 stop_then {S} d h i y limit x g m c l k =
     let a = agrees d h limit x g.marks g.time in
     ap₂ (λ (p : ℕ) (s : S). p + d.quiet m s) (since_first d h (view d x) a m c l k) (rest_first d h i y (view d x) a m c k)
 
 -- before its stop a module moves
 before_stop : {S : Type 0} → (d : Design S) (h : Trace S) → IsDesign d → IsHistory d h → (limit : ℕ) (x : Core S) → IsAgreed d h limit x
-    → (m c : ℕ)
-    → begin (view d x) m ≤ c → done d h m c ≡ x.timed m → c < stop d x m → moves d h c m ≡ true
+    → (m c : ℕ) → begin (view d x) m ≤ c → done d h m c ≡ x.timed m → c < stop d x m → moves d h c m ≡ true
 before_stop {S} d h i y limit x g m c l k q =
     early_moves d h i y m c (subst (λ (z : ℕ). c < z) (sym (stop_then d h i y limit x g m c l k)) q)
 
 -- from then on it keeps still, unless it does its next step
 behind_stop : {S : Type 0} → (d : Design S) (h : Trace S) → IsDesign d → IsHistory d h → (limit : ℕ) (x : Core S) → IsAgreed d h limit x
-    → (m c : ℕ)
-    → stop d x m ≤ c → done d h m c ≡ x.timed m → done d h m (suc c) ≤ x.timed m → moves d h c m ≡ false
+    → (m c : ℕ) → stop d x m ≤ c → done d h m c ≡ x.timed m → done d h m (suc c) ≤ x.timed m → moves d h c m ≡ false
 behind_stop {S} d h i y limit x g m c l k n =
     false_from_ne_true _ (λ (w : moves d h c m ≡ true).
     let e = late_ready d h i y m c (subst (λ (z : ℕ). z ≤ c) (sym (stop_then d h i y limit x g m c (omega arith) k)) l) in
@@ -53,20 +50,17 @@ behind_stop {S} d h i y limit x g m c l k n =
     omega (arith, done_more d h m c (steps_from d h c m w s)))
 
 undetermined_stuck : {S : Type 0} → (d : Design S) (h : Trace S) → IsDesign d → (limit : ℕ) (x : Core S) → IsAgreed d h limit x
-    → IsFinal d limit x
-    → IsUndetermined d x → (t : ℕ) → IsStuck d (view d x) t
+    → IsFinal d limit x → IsUndetermined d x → (t : ℕ) → IsStuck d (view d x) t
 undetermined_stuck {S} d h i limit x g f u t =
     record { ended = stuck_ended d h i limit x g.marks g.time f.quiet; later = λ m c e. absurd (u m c e) }
 
 pub never_more : {S : Type 0} → (d : Design S) (h : Trace S) → IsDesign d → IsHistory d h → (limit : ℕ) (x : Core S)
-    → IsAgreed d h limit x → IsFinal d limit x
-    → IsUndetermined d x → (m c : ℕ) → done d h m c ≤ x.timed m
+    → IsAgreed d h limit x → IsFinal d limit x → IsUndetermined d x → (m c : ℕ) → done d h m c ≤ x.timed m
 never_more {S} d h i y limit x g f u m c =
     nobody_ahead d h i y (view d x) (agrees d h limit x g.marks g.time) c (undetermined_stuck d h i limit x g f u c) c (omega arith) m
 
 pub done_last : {S : Type 0} → (d : Design S) (h : Trace S) → IsDesign d → IsHistory d h → (limit : ℕ) (x : Core S)
-    → IsAgreed d h limit x → IsFinal d limit x
-    → IsUndetermined d x → (m c : ℕ) → begin (view d x) m ≤ c → done d h m c ≡ x.timed m
+    → IsAgreed d h limit x → IsFinal d limit x → IsUndetermined d x → (m c : ℕ) → begin (view d x) m ≤ c → done d h m c ≡ x.timed m
 done_last {S} d h i y limit x g f u m c l =
     omega (
       arith,
@@ -78,16 +72,14 @@ done_last {S} d h i y limit x g f u m c l =
 
 -- where no step is determined, nobody moves from the last stop on
 pub rests : {S : Type 0} → (d : Design S) (h : Trace S) → IsDesign d → IsHistory d h → (limit : ℕ) (x : Core S) → IsAgreed d h limit x
-    → IsFinal d limit x
-    → IsUndetermined d x → (last : ℕ) → ((m : ℕ) → stop d x m ≤ last) → IsAtRest d h last
+    → IsFinal d limit x → IsUndetermined d x → (last : ℕ) → ((m : ℕ) → stop d x m ≤ last) → IsAtRest d h last
 rests {S} d h i y limit x g f u last s e l m =
     behind_stop d h i y limit x g m e (omega (arith, s m)) (done_last d h i y limit x g f u m e (omega (arith, s m)))
     (never_more d h i y limit x g f u m (suc e))
 
 -- and the module of a stop moves in the clock before it
 pub moved : {S : Type 0} → (d : Design S) (h : Trace S) → IsDesign d → IsHistory d h → (limit : ℕ) (x : Core S) → IsAgreed d h limit x
-    → IsFinal d limit x
-    → IsUndetermined d x → (m c : ℕ) → suc c ≡ stop d x m → moves d h c m ≡ true
+    → IsFinal d limit x → IsUndetermined d x → (m c : ℕ) → suc c ≡ stop d x m → moves d h c m ≡ true
 moved {S} d h i y limit x g f u m c e =
     elim (cases_lt c (begin (view d x) m)) [
       | inr w ↦ before_stop d h i y limit x g m c w (done_last d h i y limit x g f u m c w) (omega arith)
@@ -103,8 +95,7 @@ moved {S} d h i y limit x g f u m c e =
 
 -- a determined step moves at the limit or later
 pub determined_late : {S : Type 0} → (d : Design S) (h : Trace S) → IsDesign d → IsHistory d h → (limit : ℕ) (x : Core S)
-    → IsAgreed d h limit x
-    → IsFinal d limit x → (m c : ℕ) → candidate d (view d x) m ≡ Some c → (limit ≤ c) × (moves d h c m ≡ true)
+    → IsAgreed d h limit x → IsFinal d limit x → (m c : ℕ) → candidate d (view d x) m ≡ Some c → (limit ≤ c) × (moves d h c m ≡ true)
 determined_late {S} d h i y limit x g f m c e = (
   (final_stuck d h i limit x g f).later m c e,
   steps_moves d h c m

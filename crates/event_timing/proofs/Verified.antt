@@ -8,8 +8,7 @@ use Rattle.event_timing.specs.Agreement.{IsAgreed, HappensBefore}
 use Rattle.event_timing.proofs.Assigning.{HappensFirst}
 
 pub verified_happens : {S : Type 0} → (d : Design S) (h : Trace S) (limit : ℕ) (x : Core S) → IsAgreed d h limit x → (m k : ℕ)
-    → k < x.emitted m
-    → x.verified m k ≡ true → has_query (core_accesses d x m k) ≡ true → HappensBefore d h limit m k
+    → k < x.emitted m → x.verified m k ≡ true → has_query (core_accesses d x m k) ≡ true → HappensBefore d h limit m k
 verified_happens {S} d h limit x a m k l v q =
     let u = a.time in
     elim (cases_order k (x.timed m)) [

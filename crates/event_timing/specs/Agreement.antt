@@ -63,13 +63,11 @@ pub record IsTimed {S : Type 0} (d : Design S) (h : Trace S) (limit : ℕ) (x : 
   pub below : (m k : ℕ) → k < x.timed m → x.cycle m k < limit
   -- of the first step without a cycle: verified outcomes are the history's, and each pop in it has its push among the timed steps
   pub first_flags : (m : ℕ) → x.timed m < x.emitted m → x.verified m (x.timed m) ≡ true → (c : ℕ) → steps d h c m ≡ true
-      → done d h m c ≡ x.timed m
-      → x.flags m (x.timed m) ≡ possible_all d h c (core_accesses d x m (x.timed m))
+      → done d h m c ≡ x.timed m → x.flags m (x.timed m) ≡ possible_all d h c (core_accesses d x m (x.timed m))
   pub first_sure : (m : ℕ) → x.timed m < x.emitted m → x.verified m (x.timed m) ≡ true → has_query (core_accesses d x m (x.timed m)) ≡ true
       → pops_timed d x m (x.timed m) (x.flags m (x.timed m)) ≡ true
   pub first_happens : (m : ℕ) → x.timed m < x.emitted m → x.verified m (x.timed m) ≡ true
-      → has_query (core_accesses d x m (x.timed m)) ≡ true
-      → HappensBefore d h limit m (x.timed m)
+      → has_query (core_accesses d x m (x.timed m)) ≡ true → HappensBefore d h limit m (x.timed m)
   pub verified_then : (m k : ℕ) → k < x.timed m → x.verified m k ≡ true
   pub verified_answered : (m k : ℕ) → k < x.emitted m → x.verified m k ≡ true → x.answered m k ≡ true
   -- behind it nothing but steps without a query counts as verified

@@ -8,9 +8,13 @@ ghost use Rattle.event_timing.specs.Contents.{trace};
 ghost use Rattle.event_timing.specs.Steps.{steps, done};
 ghost use Rattle.event_timing.specs.Views.{own, tally, place};
 ghost use Rattle.event_timing.specs.Enablers.{candidate, known_of, answer};
-ghost use Rattle.event_timing.specs.Core.{Core, opening_core, view, core_accesses, core_reply, core_tally, core_pushed, has_query, values_there};
-ghost use Rattle.event_timing.specs.Actions.{Action, Acts, ActsAll, MayRun, MayAssign, MayAnswer, MayEarliest, IsOpen, IsQuiet, IsFinal, IsSame, IsNoRunOf, ActsRecorded, newest, new_flags, assigns, runs, after_run, after_assign, after_answer};
-ghost use Rattle.event_timing.specs.Agreement.{IsAgreed, AreOwnMarks, AllVerified, HappensBefore, IsAtRest, IsStepAt, IsUndetermined, IsBounded, possible_all, stop};
+ghost use Rattle.event_timing.specs.Core.{Core, opening_core, view, core_accesses, core_reply, core_tally, core_pushed, has_query};
+ghost use Rattle.event_timing.specs.Core.{values_there};
+ghost use Rattle.event_timing.specs.Actions.{Action, Acts, ActsAll, MayRun, MayAssign, MayAnswer, MayEarliest, IsOpen, IsQuiet, IsFinal};
+ghost use Rattle.event_timing.specs.Actions.{IsSame, IsNoRunOf, ActsRecorded, newest, new_flags, assigns, runs, after_run, after_assign};
+ghost use Rattle.event_timing.specs.Actions.{after_answer};
+ghost use Rattle.event_timing.specs.Agreement.{IsAgreed, AreOwnMarks, AllVerified, HappensBefore, IsAtRest, IsStepAt, IsUndetermined};
+ghost use Rattle.event_timing.specs.Agreement.{IsBounded, possible_all, stop};
 ghost use Rattle.event_timing.specs.Growth.{Grows, GrowsBeside, IsSettled};
 ghost use Rattle.event_timing.specs.Permitted.{IsInside, may_run, may_assign, may_answer, is_open, is_quiet, may_earliest, is_final};
 ghost use Rattle.event_timing.specs.Work.{work};
@@ -36,6 +40,8 @@ pub fn marks_stay<S>()
         → AreOwnMarks d (after_answer d x m c) }
     ensures edit { (d : Design S) (x : Core S) → AreOwnMarks d x → (fifo depth t : ℕ)
         → AreOwnMarks (edited d fifo depth) (after_edit d x t) }
+    ensures actions { (d : Design S) → IsDesign d → (limit : ℕ) (x : Core S) → AreOwnMarks d x → (actions : List Action) (y : Core S)
+        → ActsAll d limit x actions y → AreOwnMarks d y }
     ensures newest { (d : Design S) (x : Core S) → AreOwnMarks d x → (m : ℕ) → newest d x m ≡ own d m (core_reply d x m) (x.emitted m) }
 {}
 
@@ -81,13 +87,11 @@ pub fn found_by_counts<S>()
 pub fn verified_outcomes<S>()
     ensures opening { (d : Design S) → AllVerified (opening_core d) }
     ensures kept { (d : Design S) (h : Trace S) → IsDesign d → IsHistory d h → (limit : ℕ) (x : Core S) → IsAgreed d h limit x
-        → AllVerified x
-        → (actions : List Action) (y : Core S) → ActsAll d limit x actions y → AllVerified y }
+        → AllVerified x → (actions : List Action) (y : Core S) → ActsAll d limit x actions y → AllVerified y }
     ensures never_differs { (d : Design S) (x : Core S) → AllVerified x → (m c : ℕ) → x.verified m (x.timed m) ≡ false
         → candidate d (view d x) m ≡ Some c → IsSame d x m c }
     ensures happens { (d : Design S) (h : Trace S) (limit : ℕ) (x : Core S) → IsAgreed d h limit x → (m k : ℕ) → k < x.emitted m
-        → x.verified m k ≡ true
-        → has_query (core_accesses d x m k) ≡ true → HappensBefore d h limit m k }
+        → x.verified m k ≡ true → has_query (core_accesses d x m k) ≡ true → HappensBefore d h limit m k }
     ensures found { (d : Design S) (h : Trace S) (limit : ℕ) (x : Core S) → IsAgreed d h limit x → (m c : ℕ) → x.timed m < x.emitted m
         → x.verified m (x.timed m) ≡ true → IsStepAt d h m (x.timed m) c
         → x.flags m (x.timed m) ≡ possible_all d h c (core_accesses d x m (x.timed m)) }
@@ -129,8 +133,7 @@ pub fn final_reports<S>()
 /// cycles. Up to it, and up to the limit where there is none, it holds fewer; and at the limit no cycle is forgotten.
 pub fn first_touched<S>()
     ensures below { (d : Design S) (h : Trace S) → IsDesign d → IsHistory d h → (limit : ℕ) (x : Core S) → IsAgreed d h limit x
-        → IsFinal d limit x
-        → (fifo depth t : ℕ) → t ≤ limit → 0 < d.start Push fifo → 0 < depth
+        → IsFinal d limit x → (fifo depth t : ℕ) → t ≤ limit → 0 < d.start Push fifo → 0 < depth
         → ((c : ℕ) → c < t → held_by_cycles d x fifo c ≡ min (d.start Push fifo) depth → ⊥) → IsUntouchedByCycles d x fifo depth t }
     ensures none { (d : Design S) (h : Trace S) (limit : ℕ) (x : Core S) → IsAgreed d h limit x → (m : ℕ)
         → kept (x.cycle m) limit (x.timed m) ≡ x.timed m }
@@ -142,8 +145,7 @@ pub fn edited_cores<S>()
     ensures same_depth { (d : Design S) (fifo : ℕ) → edited d fifo (d.start Push fifo) ≡ d }
     ensures design { (d : Design S) → IsDesign d → (fifo depth : ℕ) → IsDesign (edited d fifo depth) }
     ensures cut { (d : Design S) (h : Trace S) → IsDesign d → IsHistory d h → ((ch : ℕ) → d.lag Push ch ≡ 1) → (limit : ℕ) (x : Core S)
-        → IsAgreed d h limit x
-        → IsFinal d limit x → (fifo depth t : ℕ) → t ≤ limit → IsUntouchedByCycles d x fifo depth t
+        → IsAgreed d h limit x → IsFinal d limit x → (fifo depth t : ℕ) → t ≤ limit → IsUntouchedByCycles d x fifo depth t
         → (g : Trace S) → IsHistory (edited d fifo depth) g → IsAgreed (edited d fifo depth) g limit (after_edit d x t) }
 {}
 
@@ -177,8 +179,7 @@ pub fn running_ahead<S>()
         → (m n : ℕ) (y : Core S) → ActsAll d limit x (runs n m) y → (actions : List Action) → IsNoRunOf m actions → (z : Core S)
         → ActsAll d limit x actions z → (w : Core S) × ActsAll d limit z (runs n m) w × GrowsBeside d y w m }
     ensures one { (d : Design S) (h : Trace S) → IsDesign d → IsHistory d h → (limit : ℕ) (x : Core S) → IsAgreed d h limit x → (m : ℕ)
-        → MayRun d x m
-        → (actions : List Action) → IsNoRunOf m actions → (y : Core S) → ActsAll d limit x actions y
+        → MayRun d x m → (actions : List Action) → IsNoRunOf m actions → (y : Core S) → ActsAll d limit x actions y
         → MayRun d y m × (newest d y m ≡ newest d x m) }
 {}
 

@@ -11,7 +11,8 @@ use Rattle.flow_design.specs.declared.session.Statement.TheVariants.{Module, Blo
 use Rattle.flow_grammar.specs.declared.fault.Code.{Code}
 use Rattle.flow_grammar.specs.Parts.{parts}
 use Rattle.flow_grammar.specs.Before.{is_among, is_no_module, is_no_block}
-use Rattle.flow_grammar.specs.Rules.{is_well_named, is_in_range, is_new, is_first_input, is_known, has_room, may_follow, statement_fault, KeepsRules, KeepsReadingRules}
+use Rattle.flow_grammar.specs.Places.{may_follow}
+use Rattle.flow_grammar.specs.Rules.{is_well_named, is_in_range, is_new, is_first_input, is_known, has_room, statement_fault, KeepsRules, KeepsReadingRules}
 use Rattle.session_plan.specs.Names.{Name, place_of, number_of}
 use Rattle.session_plan.specs.Sections.{begins, body_of}
 use Rattle.session_plan.specs.declared.section.Level.{Level}

@@ -1,12 +1,17 @@
 pub mod Amounts
 pub mod Blocks
 pub mod Bodies
+pub mod Counting
 pub mod Edits
+pub mod Existing
+pub mod Firsts
 pub mod Fits
 pub mod Following
 pub mod Modules
+pub mod Order
 pub mod Numbers
 pub mod Reading
 pub mod Sets
 pub mod Slots
 pub mod Strict
+pub mod Telling

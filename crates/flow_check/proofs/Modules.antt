@@ -13,7 +13,10 @@ use Rattle.flow_design.specs.Names.{is_name}
 use Rattle.flow_design.specs.StaticRules.{IsMemorySound}
 use Rattle.flow_grammar.specs.Tokens.{is_name as is_name_token}
 use Rattle.flow_grammar.specs.Before.{channel_name, register_name, memory_name, block_name, registers, memories, blocks, is_among}
-use Rattle.flow_grammar.specs.Rules.{Place, AtStart, AmongChannels, AmongRegisters, AmongTemps, AmongOperations, AfterBody, AmongInputs, AmongEdits, AtEnd, place, may_stand, may_follow, is_over}
+use Rattle.flow_grammar.specs.declared.place.Place.{Place}
+use Rattle.flow_grammar.specs.declared.place.Place.TheVariants.{AtStart, AmongChannels, AmongRegisters, AmongTemps, AmongOperations, AfterBody, AmongInputs, AmongEdits, AtEnd}
+use Rattle.flow_grammar.specs.Places.{place, may_stand, may_follow}
+use Rattle.flow_grammar.specs.Rules.{is_over}
 use Rattle.session_plan.specs.Names.{Name, Scope}
 use Rattle.session_plan.specs.Plans.{block, memory, scope_of, module_of}
 use Rattle.session_plan.specs.Sections.{begins, body_of, sections, declared, declared_width}

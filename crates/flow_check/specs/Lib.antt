@@ -1,3 +1,4 @@
+pub mod Broken
 pub mod Checked
 pub mod First
 pub mod Places

@@ -10,6 +10,7 @@ mod session;
 
 pub use laws::{
     checked_plans_fit, fitting_plans_are_checked, read_edits_fit, read_sessions_have_plans,
+    refusals_tell_the_first,
 };
 pub use session::check;
 pub use session_plan::Checked;

@@ -1,100 +1,147 @@
 //! Where an item of a plan stands among the statements.
-ghost use Rattle.std.specs.Prelude.{◌≡◌, ◌≤◌, ◌+◌, ◌-◌, length};
-ghost use Rattle.flow_check.specs.Places.{is_of, nth, nth_behind, spot_at, place_of, line_of};
+ghost use Rattle.std.specs.Prelude.{◌≡◌, ◌<◌, ◌^◌, []};
+ghost use Rattle.flow_check.specs.Places.{counts, counts_more, in_last_module, in_last_block, item_behind, same_spot, same_item, is_item, place_of, line_of};
 
 use crate::item::{Item, Spot};
 use flow_design::Statement;
 
-/// Forms of statements.
+/// What stands before a statement: how many channels and modules of the session, how many blocks of its module and how many
+/// operations of its body.
 #[derive(Clone, Copy, Debug, PartialEq, Eq)]
-pub enum Form {
-    Limits,
-    /// `source`, `sink` and `fifo`.
-    Channel,
-    Module,
-    /// `block` and `loop`.
-    Block,
-    /// `at`.
-    Operation,
-    /// `goto`, `branch` and `stop`.
-    Terminator,
+pub struct Counts {
+    pub channels: u64,
+    pub modules: u64,
+    pub blocks: u64,
+    pub operations: u64,
 }
 
-/// Whether a statement is of a form.
-fn is_of(form: Form, statement: &Statement) -> bool
-    ensures { result ≡ is_of form statement.now }
+/// Nothing stands before the first statement.
+fn nothing() -> Counts
+    ensures { result ≡ counts [] }
 {
-    match (form, statement) {
-        (Form::Limits, Statement::Limits(_, _)) => true,
-        (
-            Form::Channel,
-            Statement::Source(_, _) | Statement::Sink(_, _) | Statement::Fifo(_, _, _, _),
-        ) => true,
-        (Form::Module, Statement::Module(_)) => true,
-        (Form::Block, Statement::Block(_, _) | Statement::Loop(_, _, _, _)) => true,
-        (Form::Operation, Statement::At(_, _, _)) => true,
-        (Form::Terminator, Statement::Goto(_) | Statement::Branch(_, _, _) | Statement::Stop) => {
-            true
+    Counts {
+        channels: 0,
+        modules: 0,
+        blocks: 0,
+        operations: 0,
+    }
+}
+
+/// What stands before the next statement.
+fn behind(before: Counts, statement: &Statement) -> Counts
+    requires channels { before.channels < 2 ^ 63 }
+    requires modules { before.modules < 2 ^ 63 }
+    requires blocks { before.blocks < 2 ^ 63 }
+    requires operations { before.operations < 2 ^ 63 }
+    ensures { result ≡ counts_more before statement.now }
+{
+    let mut after = before;
+    match statement {
+        Statement::Source(_, _) | Statement::Sink(_, _) | Statement::Fifo(_, _, _, _) => {
+            after.channels += 1;
+        }
+        Statement::Module(_) => {
+            after.modules += 1;
+            after.blocks = 0;
+        }
+        Statement::Block(_, _) | Statement::Loop(_, _, _, _) => {
+            after.blocks += 1;
+            after.operations = 0;
+        }
+        Statement::At(_, _, _) => after.operations += 1,
+        _ => {}
+    }
+    after
+}
+
+/// Something of a block of the last module.
+fn in_last_module(before: Counts, block: u64, spot: Spot) -> Option<Item>
+    ensures { result ≡ in_last_module before block spot }
+{
+    if before.modules == 0 {
+        return None;
+    }
+    Some(Item::InModule(before.modules - 1, (block, spot)))
+}
+
+/// Something of the last block.
+fn in_last_block(before: Counts, spot: Spot) -> Option<Item>
+    ensures { result ≡ in_last_block before spot }
+{
+    if before.blocks == 0 {
+        return None;
+    }
+    in_last_module(before, before.blocks - 1, spot)
+}
+
+/// The item for which a statement stands.
+fn item_behind(before: Counts, statement: &Statement) -> Option<Item>
+    ensures { result ≡ item_behind before statement.now }
+{
+    match statement {
+        Statement::Limits(_, _) => Some(Item::Limits),
+        Statement::Source(_, _) | Statement::Sink(_, _) | Statement::Fifo(_, _, _, _) => {
+            Some(Item::Channel(before.channels))
+        }
+        Statement::Block(_, _) | Statement::Loop(_, _, _, _) => {
+            in_last_module(before, before.blocks, Spot::Head)
+        }
+        Statement::At(_, _, _) => in_last_block(before, Spot::Operation(before.operations)),
+        Statement::Goto(_) | Statement::Branch(_, _, _) | Statement::Stop => {
+            in_last_block(before, Spot::Terminator)
+        }
+        _ => None,
+    }
+}
+
+/// Whether two spots are one.
+fn same_spot(a: Spot, b: Spot) -> bool
+    ensures { result ≡ same_spot a b }
+{
+    match (a, b) {
+        (Spot::Head, Spot::Head) | (Spot::Terminator, Spot::Terminator) => true,
+        (Spot::Operation(j), Spot::Operation(k)) => j == k,
+        _ => false,
+    }
+}
+
+/// Whether two items are one.
+fn same_item(a: &Item, b: &Item) -> bool
+    ensures { result ≡ same_item a.now b.now }
+{
+    match (a, b) {
+        (Item::Limits, Item::Limits) => true,
+        (Item::Channel(f), Item::Channel(g)) => *f == *g,
+        (Item::InModule(m, (b, spot)), Item::InModule(n, (c, other))) => {
+            *m == *n && *b == *c && same_spot(*spot, *other)
         }
         _ => false,
     }
 }
 
-/// The place of the statement of this number among those of a form, or how many statements there are.
-fn nth(form: Form, number: u64, statements: &[Statement]) -> usize
-    ensures place { result ≡ nth form number statements.now }
-    ensures within { result ≤ length statements.now }
+/// Whether a statement stands for an item.
+fn is_item(item: &Item, stands: &Option<Item>) -> bool
+    ensures { result ≡ is_item item.now stands.now }
 {
-    let mut left = number;
-    for (at, statement) in statements.iter().enumerate() {
-        if is_of(form, statement) {
-            if left == 0 {
-                return at;
-            }
-            left -= 1;
-        }
-    }
-    statements.len()
-}
-
-/// The place of the statement of this number among those of a form behind a place.
-fn nth_behind(statements: &[Statement], at: usize, form: Form, number: u64) -> usize
-    requires { at ≤ length statements.now + 1 }
-    ensures place { result ≡ nth_behind statements.now at form number }
-    ensures within { result ≤ length statements.now + ((at + 1) - length statements.now) }
-{
-    if at < statements.len() {
-        at + 1 + nth(form, number, &statements[at + 1..])
-    } else {
-        at + 1
+    match stands {
+        Some(other) => same_item(item, other),
+        None => false,
     }
 }
 
-/// Where something of a block stands, the block beginning at a place.
-fn spot_at(statements: &[Statement], at: usize, spot: Spot) -> usize
-    requires { at ≤ length statements.now + 1 }
-    ensures { result ≡ spot_at statements.now at spot }
-{
-    match spot {
-        Spot::Head => at,
-        Spot::Operation(number) => nth_behind(statements, at, Form::Operation, number),
-        Spot::Terminator => nth_behind(statements, at, Form::Terminator, 0),
-    }
-}
-
-/// Where an item stands.
+/// The place of the first statement that stands for an item, or how many statements there are.
 fn place_of(statements: &[Statement], item: &Item) -> usize
     ensures { result ≡ place_of statements.now item.now }
 {
-    match item {
-        Item::Limits => nth(Form::Limits, 0, statements),
-        Item::Channel(number) => nth(Form::Channel, *number, statements),
-        Item::InModule(module, (block, spot)) => {
-            let at = nth(Form::Module, *module, statements);
-            let at = nth_behind(statements, at, Form::Block, *block);
-            spot_at(statements, at, *spot)
+    let mut before = nothing();
+    for (at, statement) in statements.iter().enumerate() {
+        let stands = item_behind(before, statement);
+        if is_item(item, &stands) {
+            return at;
         }
+        before = behind(before, statement);
     }
+    statements.len()
 }
 
 /// The line of an item.

@@ -69,12 +69,14 @@ unfolding operator_of is_number is_name
 choose_token = (refl, refl, refl)
 
 -- an operator in front
-applies : (o : Operator) (t : List ℕ) (us : List (List ℕ)) (found : Trees) → operator_token o t → trees_of us ≡ Some found → trees_of (t ∷ us) ≡ applied_if (Some o) us found
+applies : (o : Operator) (t : List ℕ) (us : List (List ℕ)) (found : Trees) → operator_token o t → trees_of us ≡ Some found
+    → trees_of (t ∷ us) ≡ applied_if (Some o) us found
 unfolding trees_of with_token
 applies o t us found k e = rw (e, k.1, k.2, k.0) refl
 
 -- a number in front
-numeral : (t : List ℕ) (us : List (List ℕ)) (found : Trees) → is_number t ≡ true → trees_of us ≡ Some found → trees_of (t ∷ us) ≡ Some (Number (number_of t) ∷ found)
+numeral : (t : List ℕ) (us : List (List ℕ)) (found : Trees) → is_number t ≡ true → trees_of us ≡ Some found
+    → trees_of (t ∷ us) ≡ Some (Number (number_of t) ∷ found)
 unfolding trees_of with_token
 numeral t us found h e = rw (e, h) refl
 
@@ -105,7 +107,12 @@ again_unary Not a ih [] ps s = absurd (let q = rw (parts_Unary Not a) at s in q)
 again_unary Not a ih (t ∷ us) ps s =
     let q = rw (parts_Unary Not a) at s in
     let r = ih us ps q.1 in
-    record { rest = r.rest; spelled = r.spelled; reads = λ es e. subst (λ (w : List ℕ). trees_of (w ∷ us) ≡ Some (Unary Not a ∷ es)) (sym q.0) (applies (One Not) (codes "~") us (a ∷ es) one_token (r.reads es e)) }
+    record {
+      rest = r.rest;
+      spelled = r.spelled;
+      reads = λ es e. subst (λ (w : List ℕ). trees_of (w ∷ us) ≡ Some (Unary Not a ∷ es)) (sym q.0)
+          (applies (One Not) (codes "~") us (a ∷ es) one_token (r.reads es e));
+    }
 
 again_binary : (o : BinOp) (a b : Expr (List ℕ)) → Again a → Again b → Again (Binary o a b)
 again_binary o a b ia ib [] ps s = absurd (let q = rw (parts_Binary o a b) at s in q)
@@ -113,16 +120,28 @@ again_binary o a b ia ib (t ∷ us) ps s =
     let q = rw (parts_Binary o a b, append_assoc (expr_parts a) (expr_parts b) ps) at s in
     let ra = ia us (expr_parts b ++ ps) q.1 in
     let rb = ib ra.rest ps ra.spelled in
-    record { rest = rb.rest; spelled = rb.spelled; reads = λ es e. subst (λ (w : List ℕ). trees_of (w ∷ us) ≡ Some (Binary o a b ∷ es)) (sym q.0) (applies (Two o) (binary_word o) us (a ∷ b ∷ es) (two_token o) (ra.reads (b ∷ es) (rb.reads es e))) }
+    record {
+      rest = rb.rest;
+      spelled = rb.spelled;
+      reads = λ es e. subst (λ (w : List ℕ). trees_of (w ∷ us) ≡ Some (Binary o a b ∷ es)) (sym q.0)
+          (applies (Two o) (binary_word o) us (a ∷ b ∷ es) (two_token o) (ra.reads (b ∷ es) (rb.reads es e)));
+    }
 
 again_pick : (a b c : Expr (List ℕ)) → Again a → Again b → Again c → Again (Pick a b c)
 again_pick a b c ia ib ic [] ps s = absurd (let q = rw (parts_Pick a b c) at s in q)
 again_pick a b c ia ib ic (t ∷ us) ps s =
-    let q = rw (parts_Pick a b c, append_assoc (expr_parts a) (expr_parts b ++ expr_parts c) ps, append_assoc (expr_parts b) (expr_parts c) ps) at s in
+    let q =
+    rw (parts_Pick a b c, append_assoc (expr_parts a) (expr_parts b ++ expr_parts c) ps, append_assoc (expr_parts b) (expr_parts c) ps) at s
+    in
     let ra = ia us (expr_parts b ++ (expr_parts c ++ ps)) q.1 in
     let rb = ib ra.rest (expr_parts c ++ ps) ra.spelled in
     let rc = ic rb.rest ps rb.spelled in
-    record { rest = rc.rest; spelled = rc.spelled; reads = λ es e. subst (λ (w : List ℕ). trees_of (w ∷ us) ≡ Some (Pick a b c ∷ es)) (sym q.0) (applies Choose (codes "?:") us (a ∷ b ∷ c ∷ es) choose_token (ra.reads (b ∷ c ∷ es) (rb.reads (c ∷ es) (rc.reads es e)))) }
+    record {
+      rest = rc.rest;
+      spelled = rc.spelled;
+      reads = λ es e. subst (λ (w : List ℕ). trees_of (w ∷ us) ≡ Some (Pick a b c ∷ es)) (sym q.0)
+          (applies Choose (codes "?:") us (a ∷ b ∷ c ∷ es) choose_token (ra.reads (b ∷ c ∷ es) (rb.reads (c ∷ es) (rc.reads es e))));
+    }
 
 again_sext : (k : ℕ) (a : Expr (List ℕ)) → Again a → Again (Sext k a)
 again_sext k a ih [] ps s = absurd (let q = rw (parts_Sext k a) at s in q)
@@ -135,11 +154,14 @@ again_sext k a ih (t ∷ u ∷ vs) ps s =
       spelled = r.spelled;
       reads = λ es e.
           let number = numeral u vs (a ∷ es) q.1.0.0 (r.reads es e) in
-          subst (λ (w : List ℕ). trees_of (w ∷ u ∷ vs) ≡ Some (Sext k a ∷ es)) (sym q.0) (applies Extend (codes "sext") (u ∷ vs) (Number (number_of u) ∷ a ∷ es) extend_token number ∙ rw (q.1.0.0, q.1.0.1) refl);
+          subst (λ (w : List ℕ). trees_of (w ∷ u ∷ vs) ≡ Some (Sext k a ∷ es)) (sym q.0)
+          (applies Extend (codes "sext") (u ∷ vs) (Number (number_of u) ∷ a ∷ es) extend_token number ∙ rw (q.1.0.0, q.1.0.1) refl);
     }
 
 pub again : (e : Expr (List ℕ)) → Again e
-again = by_cases (List ℕ) Again (record { number = again_number; var = again_var; unary = again_unary; binary = again_binary; sext = again_sext; pick = again_pick })
+again =
+    by_cases (List ℕ) Again
+    (record { number = again_number; var = again_var; unary = again_unary; binary = again_binary; sext = again_sext; pick = again_pick })
 
 none_left : (ts : List (List ℕ)) → Spelled ts [] → ts ≡ []
 none_left [] s = refl

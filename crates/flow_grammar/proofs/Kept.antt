@@ -46,11 +46,12 @@ depth_Number : (n : ℕ) → depth {N = List ℕ} (Number n) ≡ 1
 unfolding depth
 depth_Number n = folded-Number (List ℕ) ℕ layer_depth n
 
-all_append : (p : Part → Bool) (xs ys : List Part) → list_all p (xs ++ ys) ≡ list_all p xs && list_all p ys
+pub all_append : (p : Part → Bool) (xs ys : List Part) → list_all p (xs ++ ys) ≡ list_all p xs && list_all p ys
 all_append p [] ys = refl
 all_append p (x ∷ xs) ys = go (p x) (all_append p xs ys)
   where
-    go : (b : Bool) → list_all p (xs ++ ys) ≡ list_all p xs && list_all p ys → b && list_all p (xs ++ ys) ≡ (b && list_all p xs) && list_all p ys
+    go : (b : Bool) → list_all p (xs ++ ys) ≡ list_all p xs && list_all p ys
+        → b && list_all p (xs ++ ys) ≡ (b && list_all p xs) && list_all p ys
     go true e = e
     go false e = refl
 
@@ -81,7 +82,8 @@ depth_Pick : (a b c : Expr (List ℕ)) → depth (Pick a b c) ≡ 1 + max (depth
 unfolding depth
 depth_Pick a b c = folded-Pick (List ℕ) ℕ layer_depth a b c
 
-all_append_two : (p : Part → Bool) (xs ys zs : List Part) → list_all p (xs ++ (ys ++ zs)) ≡ list_all p xs && (list_all p ys && list_all p zs)
+all_append_two : (p : Part → Bool) (xs ys zs : List Part)
+    → list_all p (xs ++ (ys ++ zs)) ≡ list_all p xs && (list_all p ys && list_all p zs)
 all_append_two p xs ys zs = all_append p xs (ys ++ zs) ∙ ap (λ (b : Bool). list_all p xs && b) (all_append p ys zs)
 
 module _ (known : List ℕ → Bool) where
@@ -97,7 +99,8 @@ module _ (known : List ℕ → Bool) where
   told_number : (n : ℕ) → Told (Number n)
   told_number n = rw (seen_Number known n, parts_Number n, nodes_Number n, depth_Number n, word_test n) refl
 
-  named_so : (x : List ℕ) (b : Bool) → cond b (Whole (Var x) 1 1) (Faulty UnknownName) ≡ cond (b && true) (Whole (Var x) 1 1) (Faulty UnknownName)
+  named_so : (x : List ℕ) (b : Bool)
+      → cond b (Whole (Var x) 1 1) (Faulty UnknownName) ≡ cond (b && true) (Whole (Var x) 1 1) (Faulty UnknownName)
   named_so x true = refl
   named_so x false = refl
 
@@ -105,29 +108,57 @@ module _ (known : List ℕ → Bool) where
   told_var x = rw (seen_Var known x, parts_Var x, nodes_Var x, depth_Var x) (named_so x (known x))
 
   told_unary : (o : UnOp) (a : Expr (List ℕ)) → Told a → Told (Unary o a)
-  told_unary Not a h = rw (seen_Unary known Not a, h, parts_Unary Not a, nodes_Unary Not a, depth_Unary Not a) (verdict_one Not a (nodes a) (depth a) (ranged a) (familiar a))
+  told_unary Not a h =
+      rw (seen_Unary known Not a, h, parts_Unary Not a, nodes_Unary Not a, depth_Unary Not a)
+      (verdict_one Not a (nodes a) (depth a) (ranged a) (familiar a))
 
   told_binary : (o : BinOp) (a b : Expr (List ℕ)) → Told a → Told b → Told (Binary o a b)
   told_binary o a b h k =
-      seen_Binary known o a b ∙ (λ i. two o (h i) (k i)) ∙ verdict_two o a b (nodes a) (depth a) (nodes b) (depth b) (ranged a) (familiar a) (ranged b) (familiar b)
-      ∙ sym (rw (parts_Binary o a b, nodes_Binary o a b, depth_Binary o a b, all_append is_in_range (expr_parts a) (expr_parts b), all_append (is_known_by known) (expr_parts a) (expr_parts b)) refl)
+      seen_Binary known o a b ∙ (λ i. two o (h i) (k i))
+      ∙ verdict_two o a b (nodes a) (depth a) (nodes b) (depth b) (ranged a) (familiar a) (ranged b) (familiar b)
+      ∙ sym
+      (rw (
+        parts_Binary o a b,
+        nodes_Binary o a b,
+        depth_Binary o a b,
+        all_append is_in_range (expr_parts a) (expr_parts b),
+        all_append
+            (is_known_by known) (expr_parts a) (expr_parts b),
+      ) refl)
 
   told_sext : (k : ℕ) (a : Expr (List ℕ)) → Told a → Told (Sext k a)
-  told_sext k a h = rw (seen_Sext known k a, h, parts_Sext k a, nodes_Sext k a, depth_Sext k a) (verdict_sext k a (nodes a) (depth a) (ranged a) (familiar a))
+  told_sext k a h =
+      rw (seen_Sext known k a, h, parts_Sext k a, nodes_Sext k a, depth_Sext k a)
+      (verdict_sext k a (nodes a) (depth a) (ranged a) (familiar a))
 
   told_pick : (a b c : Expr (List ℕ)) → Told a → Told b → Told c → Told (Pick a b c)
   told_pick a b c h k l =
-      seen_Pick known a b c ∙ (λ i. choose (h i) (k i) (l i)) ∙ verdict_pick a b c (nodes a) (depth a) (nodes b) (depth b) (nodes c) (depth c) (ranged a) (familiar a) (ranged b) (familiar b) (ranged c) (familiar c)
-      ∙ sym (rw (parts_Pick a b c, nodes_Pick a b c, depth_Pick a b c, all_append_two is_in_range (expr_parts a) (expr_parts b) (expr_parts c), all_append_two (is_known_by known) (expr_parts a) (expr_parts b) (expr_parts c)) refl)
+      seen_Pick known a b c ∙ (λ i. choose (h i) (k i) (l i))
+      ∙ verdict_pick a b c (nodes a) (depth a) (nodes b) (depth b) (nodes c) (depth c) (ranged a) (familiar a) (ranged b) (familiar b)
+      (ranged c) (familiar c)
+      ∙ sym
+      (rw (
+        parts_Pick a b c,
+        nodes_Pick a b c,
+        depth_Pick a b c,
+        all_append_two is_in_range (expr_parts a) (expr_parts b)
+            (expr_parts c),
+        all_append_two (is_known_by known) (expr_parts a) (expr_parts b) (expr_parts c),
+      ) refl)
 
   told : (e : Expr (List ℕ)) → Told e
-  told = by_cases (List ℕ) Told (record { number = told_number; var = told_var; unary = told_unary; binary = told_binary; sext = told_sext; pick = told_pick })
+  told =
+      by_cases (List ℕ) Told
+      (record { number = told_number; var = told_var; unary = told_unary; binary = told_binary; sext = told_sext; pick = told_pick })
 
   pub kept_of : (e : Expr (List ℕ)) → seen known e ≡ kept known e
   unfolding kept
   kept_of e = told e ∙ go (ranged e) (familiar e) (is_small e) refl
     where
-      go : (r f s : Bool) → is_small e ≡ s → verdict r f e (nodes e) (depth e) ≡ cond (not r) (Faulty BadNumber) (cond (not f) (Faulty UnknownName) (cond (not s) (Faulty TooMany) (Whole e (nodes e) (depth e))))
+      go : (r f s : Bool) → is_small e ≡ s
+          → verdict r f e (nodes e) (depth e)
+          ≡ cond (not r) (Faulty BadNumber)
+          (cond (not f) (Faulty UnknownName) (cond (not s) (Faulty TooMany) (Whole e (nodes e) (depth e))))
       go true true true h = rw h refl
       go true true false h = rw h refl
       go true false s h = refl
@@ -145,7 +176,9 @@ module _ (earlier : List Statement) where
   Variables e = Agrees (expr_parts e)
 
   agrees_append : (xs ys : List Part) → Agrees xs → Agrees ys → Agrees (xs ++ ys)
-  agrees_append xs ys h k = all_append (is_known earlier) xs ys ∙ (λ i. h i && k i) ∙ sym (all_append (is_known_by (λ n. is_among (named earlier AVariable) n)) xs ys)
+  agrees_append xs ys h k =
+      all_append (is_known earlier) xs ys ∙ (λ i. h i && k i)
+      ∙ sym (all_append (is_known_by (λ n. is_among (named earlier AVariable) n)) xs ys)
 
   pub variables : (e : Expr (List ℕ)) → Variables e
   variables = by_cases (List ℕ) Variables (record {
@@ -154,7 +187,8 @@ module _ (earlier : List Statement) where
     unary = λ o a h. rw (parts_Unary o a) (of_unary o (expr_parts a) h);
     binary = λ o a b h k. rw (parts_Binary o a b) (agrees_append (expr_parts a) (expr_parts b) h k);
     sext = λ k a h. rw (parts_Sext k a) h;
-    pick = λ a b c h k l. rw (parts_Pick a b c) (agrees_append (expr_parts a) (expr_parts b ++ expr_parts c) h (agrees_append (expr_parts b) (expr_parts c) k l));
+    pick = λ a b c h k l. rw (parts_Pick a b c)
+        (agrees_append (expr_parts a) (expr_parts b ++ expr_parts c) h (agrees_append (expr_parts b) (expr_parts c) k l));
   })
     where
       of_unary : (o : UnOp) (ps : List Part) → Agrees ps → Agrees (layer_parts (Expr-F.Unary o ps))

@@ -33,11 +33,13 @@ module _ (before : List Statement) (line : Line) where
   sound_form None h = absurd cc
   sound_form (Some s) h = go (may_follow earlier s) refl h
     where
-      go : (b : Bool) → may_follow earlier s ≡ b → cond b (statement_fault earlier s) (Some Syntax) ≡ None → (x : Statement) × (Some s ≡ Some x) × StandsBehind before x
+      go : (b : Bool) → may_follow earlier s ≡ b → cond b (statement_fault earlier s) (Some Syntax) ≡ None
+          → (x : Statement) × (Some s ≡ Some x) × StandsBehind before x
       go true p f = (s, refl, record { permitted = p; faultless = f })
       go false p f = absurd cc
 
-  sound_tokens : (ts : List Token) → tokens_of line ≡ ts → list_all is_permitted line ≡ true → tokens_fault earlier ts ≡ None → IsInOrder before line (statement_of declared ts)
+  sound_tokens : (ts : List Token) → tokens_of line ≡ ts → list_all is_permitted line ≡ true → tokens_fault earlier ts ≡ None
+      → IsInOrder before line (statement_of declared ts)
   unfolding statement_of
   sound_tokens [] t b h = record { bytes = b; says = t; stands = tt }
   sound_tokens (x ∷ xs) t b h =
@@ -49,7 +51,8 @@ module _ (before : List Statement) (line : Line) where
   unfolding line_fault statement_in
   order_of_line h = go (list_all is_permitted line) refl h
     where
-      go : (b : Bool) → list_all is_permitted line ≡ b → cond b (tokens_fault earlier (tokens_of line)) (Some NotAscii) ≡ None → IsInOrder before line (statement_of declared (tokens_of line))
+      go : (b : Bool) → list_all is_permitted line ≡ b → cond b (tokens_fault earlier (tokens_of line)) (Some NotAscii) ≡ None
+          → IsInOrder before line (statement_of declared (tokens_of line))
       go true b f = sound_tokens (tokens_of line) refl b f
       go false b f = absurd cc
 
@@ -58,13 +61,15 @@ module _ (before : List Statement) (line : Line) where
   line_of_order None p = (rw (p.bytes, p.says) refl, rw p.says refl)
   line_of_order (Some s) p = go (tokens_of line) refl (written_is_read declared (tokens_of line) s p.says)
     where
-      go : (ts : List Token) → tokens_of line ≡ ts → statement_of declared (tokens_of line) ≡ Some s → (line_fault before line ≡ None) × (statement_of declared (tokens_of line) ≡ Some s)
+      go : (ts : List Token) → tokens_of line ≡ ts → statement_of declared (tokens_of line) ≡ Some s
+          → (line_fault before line ≡ None) × (statement_of declared (tokens_of line) ≡ Some s)
       go [] t e = absurd (no_tokens declared s (rw t at e))
       go (x ∷ xs) t e = let q = rw t at e in (rw (p.bytes, t, q, p.stands.permitted, p.stands.faultless) refl, e)
 
   -- ---- a line with a fault
 
-  form_fails : (ts : List Token) → tokens_of line ≡ ts → (ts ≡ [] → ⊥) → (o : Option Statement) → statement_of declared ts ≡ o → (code : Code) → form_fault earlier o ≡ Some code
+  form_fails : (ts : List Token) → tokens_of line ≡ ts → (ts ≡ [] → ⊥) → (o : Option Statement) → statement_of declared ts ≡ o
+      → (code : Code) → form_fault earlier o ≡ Some code
       → (IsNoStatement before line × (code ≡ Syntax)) ⊎ BreaksRule before line code
   form_fails ts t some None e code h =
       inl (
@@ -79,7 +84,8 @@ module _ (before : List Statement) (line : Line) where
       wrote : Writes declared (tokens_of line) s
       wrote = rw t (read_is_written declared ts s e)
 
-      go : (b : Bool) → may_follow earlier s ≡ b → cond b (statement_fault earlier s) (Some Syntax) ≡ Some code → (IsNoStatement before line × (code ≡ Syntax)) ⊎ BreaksRule before line code
+      go : (b : Bool) → may_follow earlier s ≡ b → cond b (statement_fault earlier s) (Some Syntax) ≡ Some code
+          → (IsNoStatement before line × (code ≡ Syntax)) ⊎ BreaksRule before line code
       go true p f = inr (record { statement = s; writes = wrote; permitted = p; fault = f })
       go false p f = inl (
         record {
@@ -93,7 +99,8 @@ module _ (before : List Statement) (line : Line) where
         (cc),
       )
 
-  tokens_fails : (ts : List Token) → tokens_of line ≡ ts → (code : Code) → tokens_fault earlier ts ≡ Some code → (IsNoStatement before line × (code ≡ Syntax)) ⊎ BreaksRule before line code
+  tokens_fails : (ts : List Token) → tokens_of line ≡ ts → (code : Code) → tokens_fault earlier ts ≡ Some code
+      → (IsNoStatement before line × (code ≡ Syntax)) ⊎ BreaksRule before line code
   tokens_fails [] t code h = absurd cc
   tokens_fails (x ∷ xs) t code h = form_fails (x ∷ xs) t (λ e. absurd cc) (statement_of declared (x ∷ xs)) refl code h
 
@@ -101,7 +108,8 @@ module _ (before : List Statement) (line : Line) where
   unfolding line_fault
   fails_of_line code h = go (list_all is_permitted line) refl h
     where
-      go : (b : Bool) → list_all is_permitted line ≡ b → cond b (tokens_fault earlier (tokens_of line)) (Some NotAscii) ≡ Some code → Fails before line code
+      go : (b : Bool) → list_all is_permitted line ≡ b → cond b (tokens_fault earlier (tokens_of line)) (Some NotAscii) ≡ Some code
+          → Fails before line code
       go true b f = inr (b, tokens_fails (tokens_of line) refl code f)
       go false b f = inl (b, (cc))
 
@@ -114,7 +122,8 @@ module _ (before : List Statement) (line : Line) where
       go (Some s) e = let f = p.none s (rw t (read_is_written declared (x ∷ xs) s e)) in rw f refl
 
   broken_rule : (ts : List Token) → tokens_of line ≡ ts → (code : Code) → BreaksRule before line code → tokens_fault earlier ts ≡ Some code
-  broken_rule [] t code p = absurd (no_tokens declared p.statement (let q = written_is_read declared (tokens_of line) p.statement p.writes in rw t at q))
+  broken_rule [] t code p =
+      absurd (no_tokens declared p.statement (let q = written_is_read declared (tokens_of line) p.statement p.writes in rw t at q))
   broken_rule (x ∷ xs) t code p =
       let q = written_is_read declared (tokens_of line) p.statement p.writes in
       let r = rw t at q in

@@ -23,25 +23,32 @@ no_front zero texts h = h
 no_front (suc k) [] h = h
 no_front (suc k) (t ∷ texts) h = ap (option_and_then (with_token t texts)) (no_front k texts h)
 
-module _ {A : Type 0} (f : A → List ℕ) (known : List ℕ → Bool) (xs : List A) (n k : ℕ) (d : A) (rest behind : List A) (stack : List Operand) where
-  module _ (next : n ≡ k + 1) (within : n ≤ length xs) (sofar : Some stack ≡ views known (trees_of (drop n (map f xs)))) (r : rest ≡ drop k xs) (b : behind ≡ drop 1 rest) where
-    left : drop n xs ≡ behind
-    left = sym (b ∙ ap (drop 1) (r ∙ cell xs k n d next within))
+module _ {A : Type 0} (f : A → List ℕ) (known : List ℕ → Bool) (xs : List A) (n k : ℕ) (d : A) (rest behind : List A) (stack : List Operand)
+  where
+    module _ (next : n ≡ k + 1) (within : n ≤ length xs) (sofar : Some stack ≡ views known (trees_of (drop n (map f xs))))
+        (r : rest ≡ drop k xs) (b : behind ≡ drop 1 rest) where
+      left : drop n xs ≡ behind
+      left = sym (b ∙ ap (drop 1) (r ∙ cell xs k n d next within))
 
-    cells : drop k (map f xs) ≡ f (get_or rest 0 d) ∷ map f behind
-    cells = drop_map f k xs ∙ ap (map f) (cell xs k n d next within) ∙ (λ i. f (get_or (sym r i) 0 d) ∷ map f (left i))
+      cells : drop k (map f xs) ≡ f (get_or rest 0 d) ∷ map f behind
+      cells = drop_map f k xs ∙ ap (map f) (cell xs k n d next within) ∙ (λ i. f (get_or (sym r i) 0 d) ∷ map f (left i))
 
-    later : drop n (map f xs) ≡ map f behind
-    later = drop_map f n xs ∙ ap (map f) left
+      later : drop n (map f xs) ≡ map f behind
+      later = drop_map f n xs ∙ ap (map f) left
 
-    pub taken : (stack' : List Operand) → take_token known (f (get_or rest 0 d)) (map f behind) stack ≡ Some stack' → Some stack' ≡ views known (trees_of (drop k (map f xs)))
-    taken stack' h = rw cells (sym h ∙ more_trees known (f (get_or rest 0 d)) (map f behind) stack (rw (← later) sofar))
+      pub taken : (stack' : List Operand) → take_token known (f (get_or rest 0 d)) (map f behind) stack ≡ Some stack'
+          → Some stack' ≡ views known (trees_of (drop k (map f xs)))
+      taken stack' h = rw cells (sym h ∙ more_trees known (f (get_or rest 0 d)) (map f behind) stack (rw (← later) sofar))
 
-    pub refused : take_token known (f (get_or rest 0 d)) (map f behind) stack ≡ None → None ≡ views known (trees_of (map f xs))
-    refused h = sym (ap (views known) (no_front k (map f xs) (rw cells (no_trees known (f (get_or rest 0 d)) (map f behind) stack (rw (← later) sofar) h))))
+      pub refused : take_token known (f (get_or rest 0 d)) (map f behind) stack ≡ None → None ≡ views known (trees_of (map f xs))
+      refused h =
+          sym
+          (ap (views known)
+          (no_front k (map f xs) (rw cells (no_trees known (f (get_or rest 0 d)) (map f behind) stack (rw (← later) sofar) h))))
 
 -- before the loop no token is taken
-pub at_end : {A : Type 0} (f : A → List ℕ) (known : List ℕ → Bool) (xs : List A) (stack : List Operand) → stack ≡ [] → Some stack ≡ views known (trees_of (drop (length xs) (map f xs)))
+pub at_end : {A : Type 0} (f : A → List ℕ) (known : List ℕ → Bool) (xs : List A) (stack : List Operand) → stack ≡ []
+    → Some stack ≡ views known (trees_of (drop (length xs) (map f xs)))
 unfolding trees_of
 at_end f known [] stack e = rw e refl
 at_end f known (x ∷ xs) stack e = at_end f known xs stack e

@@ -23,14 +23,16 @@ set_again r e [] s = absurd s
 set_again r e (k ∷ []) s = absurd s.1
 set_again r e (k ∷ t1 ∷ ts) s = rw (s.0, s.1.0.0, one_again e ts s.1.1, s.1.0.1) refl
 
-load_again : (r : Name) (m : Name) (e : Expr Name) (ts : List Token) → Spelled ts (op_parts (op.Load r m e)) → op_of ts ≡ Some (op.Load r m e)
+load_again : (r : Name) (m : Name) (e : Expr Name) (ts : List Token) → Spelled ts (op_parts (op.Load r m e))
+    → op_of ts ≡ Some (op.Load r m e)
 unfolding op_of verb_of
 load_again r m e [] s = absurd s
 load_again r m e (k ∷ []) s = absurd s.1
 load_again r m e (k ∷ t1 ∷ []) s = absurd s.1.1
 load_again r m e (k ∷ t1 ∷ t2 ∷ ts) s = rw (s.0, s.1.0.0, s.1.1.0.0, one_again e ts s.1.1.1, s.1.0.1, s.1.1.0.1) refl
 
-store_again : (m : Name) (e : Expr Name) (f : Expr Name) (ts : List Token) → Spelled ts (op_parts (op.Store m e f)) → op_of ts ≡ Some (op.Store m e f)
+store_again : (m : Name) (e : Expr Name) (f : Expr Name) (ts : List Token) → Spelled ts (op_parts (op.Store m e f))
+    → op_of ts ≡ Some (op.Store m e f)
 unfolding op_of verb_of
 store_again m e f [] s = absurd s
 store_again m e f (k ∷ []) s = absurd s.1
@@ -50,7 +52,8 @@ write_again f e [] s = absurd s
 write_again f e (k ∷ []) s = absurd s.1
 write_again f e (k ∷ t1 ∷ ts) s = rw (s.0, s.1.0.0, one_again e ts s.1.1, s.1.0.1) refl
 
-try_read_again : (f : Name) (r : Name) (ok : Name) (ts : List Token) → Spelled ts (op_parts (op.TryRead f r ok)) → op_of ts ≡ Some (op.TryRead f r ok)
+try_read_again : (f : Name) (r : Name) (ok : Name) (ts : List Token) → Spelled ts (op_parts (op.TryRead f r ok))
+    → op_of ts ≡ Some (op.TryRead f r ok)
 unfolding op_of verb_of
 try_read_again f r ok [] s = absurd s
 try_read_again f r ok (k ∷ []) s = absurd s.1
@@ -59,7 +62,8 @@ try_read_again f r ok (k ∷ t1 ∷ t2 ∷ []) s = absurd s.1.1.1
 try_read_again f r ok (k ∷ t1 ∷ t2 ∷ t3 ∷ []) s = rw (s.0, s.1.0.0, s.1.1.0.0, s.1.1.1.0.0, s.1.0.1, s.1.1.0.1, s.1.1.1.0.1) refl
 try_read_again f r ok (k ∷ t1 ∷ t2 ∷ t3 ∷ u ∷ ts) s = absurd s.1.1.1.1
 
-try_write_again : (f : Name) (ok : Name) (e : Expr Name) (ts : List Token) → Spelled ts (op_parts (op.TryWrite f ok e)) → op_of ts ≡ Some (op.TryWrite f ok e)
+try_write_again : (f : Name) (ok : Name) (e : Expr Name) (ts : List Token) → Spelled ts (op_parts (op.TryWrite f ok e))
+    → op_of ts ≡ Some (op.TryWrite f ok e)
 unfolding op_of verb_of
 try_write_again f ok e [] s = absurd s
 try_write_again f ok e (k ∷ []) s = absurd s.1
@@ -105,7 +109,8 @@ no_guard (op.TryWrite f ok e) k ts s = rw s.0 refl
 no_guard (op.Empty f r) k ts s = rw s.0 refl
 no_guard (op.Full f r) k ts s = rw s.0 refl
 
-guarded_again : (off : ℕ) (guard : Option Name) (o : Op Name) (ts : List Token) → Spelled ts (guard_parts guard ++ op_parts o) → guarded_of off ts ≡ Some (At off guard o)
+guarded_again : (off : ℕ) (guard : Option Name) (o : Op Name) (ts : List Token) → Spelled ts (guard_parts guard ++ op_parts o)
+    → guarded_of off ts ≡ Some (At off guard o)
 guarded_again off None o [] s = ap (option_map (At off None)) (op_again o [] s)
 guarded_again off None o (k ∷ []) s = ap (option_map (At off None)) (op_again o (k ∷ []) s)
 guarded_again off None o (k ∷ t ∷ ts) s = rw (no_guard o k (t ∷ ts) s) (ap (option_map (At off None)) (op_again o (k ∷ t ∷ ts) s))
@@ -191,11 +196,13 @@ module _ (version : ℕ) where
   depth_again n w depth delay (k ∷ []) e s = absurd s.1
   depth_again n w depth delay (k ∷ t1 ∷ []) e s = absurd s.1.1
   depth_again n w depth delay (k ∷ t1 ∷ t2 ∷ []) e s = absurd s.1.1.1
-  depth_again n w depth delay (k ∷ t1 ∷ t2 ∷ t3 ∷ []) e s = rw (s.0, s.1.0.0, s.1.1.0.0, s.1.1.1.0.0, e, s.1.0.1, s.1.1.0.1, s.1.1.1.0.1) refl
+  depth_again n w depth delay (k ∷ t1 ∷ t2 ∷ t3 ∷ []) e s =
+      rw (s.0, s.1.0.0, s.1.1.0.0, s.1.1.1.0.0, e, s.1.0.1, s.1.1.0.1, s.1.1.1.0.1) refl
   depth_again n w depth delay (k ∷ t1 ∷ t2 ∷ t3 ∷ u ∷ ts) e s = absurd s.1.1.1.1
 
   -- and without a depth
-  bare_again : (n : Name) (w depth delay : ℕ) (ts : List Token) → depth ≡ default_depth → delay ≡ default_delay → Spelled ts (bare_parts n w)
+  bare_again : (n : Name) (w depth delay : ℕ) (ts : List Token) → depth ≡ default_depth → delay ≡ default_delay
+      → Spelled ts (bare_parts n w)
       → statement_of version ts ≡ Some (Fifo n w depth delay)
   unfolding statement_of keyword_of fifo_of
   bare_again n w depth delay [] d e s = absurd s
@@ -220,7 +227,8 @@ module _ (version : ℕ) where
   mem_again n w l (k ∷ t1 ∷ t2 ∷ t3 ∷ []) s = rw (s.0, s.1.0.0, s.1.1.0.0, s.1.1.1.0.0, s.1.0.1, s.1.1.0.1, s.1.1.1.0.1) refl
   mem_again n w l (k ∷ t1 ∷ t2 ∷ t3 ∷ u ∷ ts) s = absurd s.1.1.1.1
 
-  loop_again : (n : Name) (ii : ℕ) (l : ℕ) (r : Name) (ts : List Token) → Spelled ts (parts (Loop n ii l r)) → statement_of version ts ≡ Some (Loop n ii l r)
+  loop_again : (n : Name) (ii : ℕ) (l : ℕ) (r : Name) (ts : List Token) → Spelled ts (parts (Loop n ii l r))
+      → statement_of version ts ≡ Some (Loop n ii l r)
   unfolding statement_of keyword_of loop_of
   loop_again n ii l r [] s = absurd s
   loop_again n ii l r (k ∷ []) s = absurd s.1
@@ -228,7 +236,8 @@ module _ (version : ℕ) where
   loop_again n ii l r (k ∷ t1 ∷ t2 ∷ []) s = absurd s.1.1.1
   loop_again n ii l r (k ∷ t1 ∷ t2 ∷ t3 ∷ []) s = absurd s.1.1.1.1
   loop_again n ii l r (k ∷ t1 ∷ t2 ∷ t3 ∷ t4 ∷ []) s = absurd s.1.1.1.1.1
-  loop_again n ii l r (k ∷ t1 ∷ t2 ∷ t3 ∷ t4 ∷ t5 ∷ []) s = rw (s.0, s.1.0.0, s.1.1.0.0, s.1.1.1.0.0, s.1.1.1.1.0, s.1.1.1.1.1.0.0, s.1.0.1, s.1.1.0.1, s.1.1.1.0.1, s.1.1.1.1.1.0.1) refl
+  loop_again n ii l r (k ∷ t1 ∷ t2 ∷ t3 ∷ t4 ∷ t5 ∷ []) s =
+      rw (s.0, s.1.0.0, s.1.1.0.0, s.1.1.1.0.0, s.1.1.1.1.0, s.1.1.1.1.1.0.0, s.1.0.1, s.1.1.0.1, s.1.1.1.0.1, s.1.1.1.1.1.0.1) refl
   loop_again n ii l r (k ∷ t1 ∷ t2 ∷ t3 ∷ t4 ∷ t5 ∷ u ∷ ts) s = absurd s.1.1.1.1.1.1
 
   goto_again : (b : Name) (ts : List Token) → Spelled ts (parts (Goto b)) → statement_of version ts ≡ Some (Goto b)
@@ -238,7 +247,8 @@ module _ (version : ℕ) where
   goto_again b (k ∷ t1 ∷ []) s = rw (s.0, s.1.0.0, s.1.0.1) refl
   goto_again b (k ∷ t1 ∷ u ∷ ts) s = absurd s.1.1
 
-  branch_again : (r : Name) (b : Name) (c : Name) (ts : List Token) → Spelled ts (parts (Branch r b c)) → statement_of version ts ≡ Some (Branch r b c)
+  branch_again : (r : Name) (b : Name) (c : Name) (ts : List Token) → Spelled ts (parts (Branch r b c))
+      → statement_of version ts ≡ Some (Branch r b c)
   unfolding statement_of keyword_of branch_of
   branch_again r b c [] s = absurd s
   branch_again r b c (k ∷ []) s = absurd s.1
@@ -267,7 +277,8 @@ module _ (version : ℕ) where
   end_again (k ∷ []) s = rw (s.0) refl
   end_again (k ∷ u ∷ ts) s = absurd s.1
 
-  values_again : (values : List ℕ) (ts : List Token) → Spelled ts (map plain values) → (list_all is_number ts ≡ true) × (map number_of ts ≡ values)
+  values_again : (values : List ℕ) (ts : List Token) → Spelled ts (map plain values)
+      → (list_all is_number ts ≡ true) × (map number_of ts ≡ values)
   values_again [] [] s = (refl, refl)
   values_again [] (t ∷ ts) s = absurd s
   values_again (v ∷ vs) [] s = absurd s
@@ -275,7 +286,8 @@ module _ (version : ℕ) where
       let rest = values_again vs ts s.1 in
       (rw (s.0.0, rest.0) refl, λ i. s.0.1 i ∷ rest.1 i)
 
-  input_again : (n : Name) (values : List ℕ) (ts : List Token) → Spelled ts (parts (Input n values)) → statement_of version ts ≡ Some (Input n values)
+  input_again : (n : Name) (values : List ℕ) (ts : List Token) → Spelled ts (parts (Input n values))
+      → statement_of version ts ≡ Some (Input n values)
   unfolding statement_of keyword_of input_of
   input_again n values [] s = absurd s
   input_again n values (k ∷ []) s = absurd s.1
@@ -283,7 +295,8 @@ module _ (version : ℕ) where
       let rest = values_again values ts s.1.1 in
       rw (s.0, s.1.0.0, rest.0, s.1.0.1, rest.1) refl
 
-  at_again : (off : ℕ) (guard : Option Name) (o : Op Name) (ts : List Token) → Spelled ts (parts (At off guard o)) → statement_of version ts ≡ Some (At off guard o)
+  at_again : (off : ℕ) (guard : Option Name) (o : Op Name) (ts : List Token) → Spelled ts (parts (At off guard o))
+      → statement_of version ts ≡ Some (At off guard o)
   unfolding statement_of keyword_of at_of
   at_again off guard o [] s = absurd s
   at_again off guard o (k ∷ []) s = absurd s.1

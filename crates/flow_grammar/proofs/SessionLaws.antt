@@ -37,13 +37,15 @@ all_named (t ∷ ts) [] s = absurd s
 all_named (t ∷ ts) (p ∷ ps) s = both_named (is_well_named p) (list_all is_well_named ps) (spelled_named t p s.0) (all_named ts ps s.1)
 
 -- a written FIFO has names that are names
-fifo_named : (v : ℕ) (ts : List Token) (n : Name) (w depth delay : ℕ) → WritesFifo v ts n w depth delay → list_all is_well_named (fifo_parts n w depth delay) ≡ true
+fifo_named : (v : ℕ) (ts : List Token) (n : Name) (w depth delay : ℕ) → WritesFifo v ts n w depth delay
+    → list_all is_well_named (fifo_parts n w depth delay) ≡ true
 fifo_named v ts n w depth delay (inl h) = all_named ts (fifo_parts n w depth delay) h.1
 fifo_named v ts n w depth delay (inr (inl h)) = all_named ts (depth_parts n w depth) h.1
 fifo_named v ts n w depth delay (inr (inr h)) = all_named ts (bare_parts n w) h.2
 
 -- and is one of the version
-fifo_fits : (v : ℕ) (ts : List Token) (n : Name) (w depth delay : ℕ) → WritesFifo v ts n w depth delay → has_delays v || (delay == default_delay) ≡ true
+fifo_fits : (v : ℕ) (ts : List Token) (n : Name) (w depth delay : ℕ) → WritesFifo v ts n w depth delay
+    → has_delays v || (delay == default_delay) ≡ true
 fifo_fits v ts n w depth delay (inl h) = rw h.0 refl
 fifo_fits v ts n w depth delay (inr (inl h)) = either_true (has_delays v) (delay == default_delay) (rw h.0 refl)
 fifo_fits v ts n w depth delay (inr (inr h)) = either_true (has_delays v) (delay == default_delay) (rw h.1 refl)
@@ -138,7 +140,9 @@ at_least n m (Some s ∷ said) h = in_front_of n m (numbers_among (m + 1) said) 
 rising_from : (n : ℕ) (said : Words) → AllPairs (λ a b. a < b) (numbers_among n said)
 rising_from n [] = λ i j d l m. absurd (omega arith)
 rising_from n (None ∷ said) = rising_from (n + 1) said
-rising_from n (Some s ∷ said) = AllPairs-cons (λ a b. a < b) n (numbers_among (n + 1) said) (λ k d l. let h = at_least (n + 1) (n + 1) said (omega arith) k d l in omega arith) (rising_from (n + 1) said)
+rising_from n (Some s ∷ said) =
+    AllPairs-cons (λ a b. a < b) n (numbers_among (n + 1) said)
+    (λ k d l. let h = at_least (n + 1) (n + 1) said (omega arith) k d l in omega arith) (rising_from (n + 1) said)
 
 pub rising : (text : List ℕ) (s : List Statement) (l : List ℕ) → StandsFor text s l → AllPairs (λ a b. a < b) l
 rising text s l p = subst (AllPairs (λ a b. a < b)) (sym p.numbers_are) (rising_from 1 p.said)

@@ -9,10 +9,8 @@ use Rattle.flow_design.specs.declared.expr.Expr.TheVariants.{Number, Var, Unary,
 use Rattle.flow_design.specs.declared.expr.UnOp.{UnOp}
 use Rattle.flow_design.specs.declared.expr.UnOp.TheVariants.{Not}
 use Rattle.flow_design.specs.declared.expr.BinOp.{BinOp}
-use Rattle.flow_design.specs.declared.expr.BinOp.TheVariants.{Add, Sub, Mul, And, Or, Xor, Shl, Shr, Eq, Ne, LtU, LtS, Div, Rem}
 use Rattle.flow_grammar.specs.declared.operator.Operator.{Operator}
 use Rattle.flow_grammar.specs.declared.operator.Operator.TheVariants.{One, Two, Extend, Choose}
-use Rattle.std.specs.Prelude.{if◌then◌else◌}
 use Rattle.std.proofs.lemmas.Bool.{eqb-true}
 use Rattle.flow_grammar.specs.Tokens.{is_word, is_number, is_name, number_of}
 use Rattle.flow_grammar.specs.declared.keyword.Keyword.{Keyword}
@@ -44,7 +42,8 @@ pub parts_Var : (n : List ℕ) → expr_parts (Var n) ≡ layer_parts (Expr-F.Va
 unfolding expr_parts
 parts_Var n = folded-Var (List ℕ) (List Part) layer_parts n
 
-pub parts_Binary : (o : BinOp) (a b : Expr (List ℕ)) → expr_parts (Binary o a b) ≡ layer_parts (Expr-F.Binary o (expr_parts a) (expr_parts b))
+pub parts_Binary : (o : BinOp) (a b : Expr (List ℕ))
+    → expr_parts (Binary o a b) ≡ layer_parts (Expr-F.Binary o (expr_parts a) (expr_parts b))
 unfolding expr_parts
 parts_Binary o a b = folded-Binary (List ℕ) (List Part) layer_parts o a b
 
@@ -103,15 +102,22 @@ Says ts None = Unit {0}
 Says ts (Some es) = Spelled ts (all_parts es)
 
 -- a number in front is a tree of its own
-number_top : (k : List ℕ) (behind : List (List ℕ)) (e : Expr (List ℕ)) (es : Trees) → is_number k ≡ true → trees_of (k ∷ behind) ≡ Some (e ∷ es) → e ≡ Number (number_of k)
+number_top : (k : List ℕ) (behind : List (List ℕ)) (e : Expr (List ℕ)) (es : Trees) → is_number k ≡ true
+    → trees_of (k ∷ behind) ≡ Some (e ∷ es) → e ≡ Number (number_of k)
 unfolding trees_of with_token
 number_top k behind e es h t = go (trees_of behind) t
   where
-    go : (found : Option Trees) → option_and_then (λ (x : Trees). cond (is_number k) (Some (Number (number_of k) ∷ x)) (cond (is_name k) (Some (Var k ∷ x)) (applied_if (operator_of k) behind x))) found ≡ Some (e ∷ es) → e ≡ Number (number_of k)
+    go : (found : Option Trees)
+        → option_and_then
+        (λ (x : Trees). cond (is_number k) (Some (Number (number_of k) ∷ x))
+        (cond (is_name k) (Some (Var k ∷ x)) (applied_if (operator_of k) behind x))) found
+        ≡ Some (e ∷ es)
+        → e ≡ Number (number_of k)
     go None f = absurd cc
     go (Some x) f = let g = rw h at f in cc
 
-says_extended : (t : List ℕ) (behind : List (List ℕ)) (es : Trees) → t ≡ codes "sext" → trees_of behind ≡ Some es → Spelled behind (all_parts es) → Says (t ∷ behind) (extended behind es)
+says_extended : (t : List ℕ) (behind : List (List ℕ)) (es : Trees) → t ≡ codes "sext" → trees_of behind ≡ Some es
+    → Spelled behind (all_parts es) → Says (t ∷ behind) (extended behind es)
 unfolding Says
 says_extended t [] es w e s = tt
 says_extended t (k ∷ behind) [] w e s = tt
@@ -122,31 +128,41 @@ says_extended t (k ∷ behind) (number ∷ a ∷ es) w e s = go (is_number k) re
     go false h = tt
     go true h =
         let n : number ≡ Number (number_of k) = number_top k behind number (a ∷ es) h e in
-        let s' : Spelled (k ∷ behind) (expr_parts (Number (number_of k)) ++ all_parts (a ∷ es)) = subst (λ (x : Expr (List ℕ)). Spelled (k ∷ behind) (expr_parts x ++ all_parts (a ∷ es))) n s in
+        let s' : Spelled (k ∷ behind) (expr_parts (Number (number_of k)) ++ all_parts (a ∷ es)) =
+        subst (λ (x : Expr (List ℕ)). Spelled (k ∷ behind) (expr_parts x ++ all_parts (a ∷ es))) n s in
         let q = rw (parts_Number (number_of k)) at s' in
         rw (parts_Sext (number_of k) a) (w, ((h, refl), q.1))
 
-says_applied : (t : List ℕ) (behind : List (List ℕ)) (o : Option Operator) (es : Trees) → operator_of t ≡ o → trees_of behind ≡ Some es → Spelled behind (all_parts es) → Says (t ∷ behind) (applied_if o behind es)
+says_applied : (t : List ℕ) (behind : List (List ℕ)) (o : Option Operator) (es : Trees) → operator_of t ≡ o → trees_of behind ≡ Some es
+    → Spelled behind (all_parts es) → Says (t ∷ behind) (applied_if o behind es)
 unfolding Says
 says_applied t behind None es w e s = tt
 says_applied t behind (Some (One Not)) [] w e s = tt
 says_applied t behind (Some (One Not)) (a ∷ es) w e s = rw (parts_Unary Not a) (operator_is t (One Not) w, s)
 says_applied t behind (Some (Two o)) [] w e s = tt
 says_applied t behind (Some (Two o)) (a ∷ []) w e s = tt
-says_applied t behind (Some (Two o)) (a ∷ b ∷ es) w e s = rw (parts_Binary o a b, append_assoc (expr_parts a) (expr_parts b) (all_parts es)) (operator_is t (Two o) w, s)
+says_applied t behind (Some (Two o)) (a ∷ b ∷ es) w e s =
+    rw (parts_Binary o a b, append_assoc (expr_parts a) (expr_parts b) (all_parts es)) (operator_is t (Two o) w, s)
 says_applied t behind (Some Extend) es w e s = says_extended t behind es (operator_is t Extend w) e s
 says_applied t behind (Some Choose) [] w e s = tt
 says_applied t behind (Some Choose) (a ∷ []) w e s = tt
 says_applied t behind (Some Choose) (a ∷ b ∷ []) w e s = tt
 says_applied t behind (Some Choose) (a ∷ b ∷ c ∷ es) w e s =
-    rw (parts_Pick a b c, append_assoc (expr_parts a) (expr_parts b ++ expr_parts c) (all_parts es), append_assoc (expr_parts b) (expr_parts c) (all_parts es))
+    rw (
+      parts_Pick a b c,
+      append_assoc (expr_parts a) (expr_parts b ++ expr_parts c) (all_parts es),
+      append_assoc (expr_parts b) (expr_parts c)
+          (all_parts es),
+    )
     (operator_is t Choose w, s)
 
-says_token : (t : List ℕ) (behind : List (List ℕ)) (es : Trees) → trees_of behind ≡ Some es → Spelled behind (all_parts es) → Says (t ∷ behind) (with_token t behind es)
+says_token : (t : List ℕ) (behind : List (List ℕ)) (es : Trees) → trees_of behind ≡ Some es → Spelled behind (all_parts es)
+    → Says (t ∷ behind) (with_token t behind es)
 unfolding Says with_token
 says_token t behind es e s = go (is_number t) (is_name t) refl refl
   where
-    go : (a b : Bool) → is_number t ≡ a → is_name t ≡ b → Says (t ∷ behind) (cond a (Some (Number (number_of t) ∷ es)) (cond b (Some (Var t ∷ es)) (applied_if (operator_of t) behind es)))
+    go : (a b : Bool) → is_number t ≡ a → is_name t ≡ b
+        → Says (t ∷ behind) (cond a (Some (Number (number_of t) ∷ es)) (cond b (Some (Var t ∷ es)) (applied_if (operator_of t) behind es)))
     go true b h k = rw (parts_Number (number_of t)) ((h, refl), s)
     go false true h k = rw (parts_Var t) ((k, refl), s)
     go false false h k = says_applied t behind (operator_of t) es refl e s
@@ -156,7 +172,8 @@ unfolding Says trees_of
 says [] = tt
 says (t ∷ behind) = go (trees_of behind) refl (says behind)
   where
-    go : (found : Option Trees) → trees_of behind ≡ found → Says behind found → Says (t ∷ behind) (option_and_then (with_token t behind) found)
+    go : (found : Option Trees) → trees_of behind ≡ found → Says behind found
+        → Says (t ∷ behind) (option_and_then (with_token t behind) found)
     go None h s = tt
     go (Some es) h s = says_token t behind es h s
 

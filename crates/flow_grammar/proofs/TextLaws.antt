@@ -28,7 +28,8 @@ InOrderFrom front [] (o ∷ said) = ⊥
 InOrderFrom front (line ∷ lines) [] = ⊥
 InOrderFrom front (line ∷ lines) (o ∷ said) = IsInOrder front line o × InOrderFrom (with_statement front o) lines said
 
-among_more : (front : List Statement) (o : Option Statement) (said : Words) → with_statement front o ++ statements_among said ≡ front ++ statements_among (o ∷ said)
+among_more : (front : List Statement) (o : Option Statement) (said : Words)
+    → with_statement front o ++ statements_among said ≡ front ++ statements_among (o ∷ said)
 among_more front None said = refl
 among_more front (Some s) said = append_assoc front (s ∷ []) (statements_among said)
 
@@ -50,7 +51,8 @@ each_of front (line ∷ lines) (o ∷ said) p (suc i) l =
     (each_of (with_statement front o) lines said p.1 i (omega arith))
 
 order_from : (front : List Statement) (lines : List Line) (said : Words) → length said ≡ length lines
-    → ((i : ℕ) → i < length lines → IsInOrder (front ++ statements_among (take i said)) (get_or lines i []) (get_or said i None)) → InOrderFrom front lines said
+    → ((i : ℕ) → i < length lines → IsInOrder (front ++ statements_among (take i said)) (get_or lines i []) (get_or said i None))
+    → InOrderFrom front lines said
 unfolding InOrderFrom
 order_from front [] [] e each = tt
 order_from front [] (o ∷ said) e each = absurd (omega arith)
@@ -58,7 +60,8 @@ order_from front (line ∷ lines) [] e each = absurd (omega arith)
 order_from front (line ∷ lines) (o ∷ said) e each = (
   subst (λ (b : List Statement). IsInOrder b line o) (append-nil front) (each 0 (omega arith)),
   order_from (with_statement front o) lines said (omega arith)
-      (λ i l. subst (λ (b : List Statement). IsInOrder b (get_or lines i []) (get_or said i None)) (sym (among_more front o (take i said))) (each (suc i) (omega arith))),
+      (λ i l. subst (λ (b : List Statement). IsInOrder b (get_or lines i []) (get_or said i None)) (sym (among_more front o (take i said)))
+      (each (suc i) (omega arith))),
 )
 
 pub ordered : (lines : List Line) (said : Words) → AreInOrder lines said → InOrderFrom [] lines said
@@ -108,11 +111,13 @@ module _ (front : List Statement) (n : ℕ) (line : Line) (lines : List Line) (s
   over_more : (b : Bool) (said : Words) → is_over (next ++ statements_among said) ≡ b → is_over (front ++ statements_among (s ∷ said)) ≡ b
   over_more b said h = sym (ap is_over (among_more front s said)) ∙ h
 
-  firsts : (o : Option Statement) (r : Read) (said : Words) → r.0 ≡ statements_among said → (in_front (n + 1) o r).0 ≡ statements_among (o ∷ said)
+  firsts : (o : Option Statement) (r : Read) (said : Words) → r.0 ≡ statements_among said
+      → (in_front (n + 1) o r).0 ≡ statements_among (o ∷ said)
   firsts None r said h = h
   firsts (Some st) r said h = ap (λ (xs : List Statement). st ∷ xs) h
 
-  seconds : (o : Option Statement) (r : Read) (said : Words) → r.1 ≡ numbers_among (n + 1 + 1) said → (in_front (n + 1) o r).1 ≡ numbers_among (n + 1) (o ∷ said)
+  seconds : (o : Option Statement) (r : Read) (said : Words) → r.1 ≡ numbers_among (n + 1 + 1) said
+      → (in_front (n + 1) o r).1 ≡ numbers_among (n + 1) (o ∷ said)
   seconds None r said h = h
   seconds (Some st) r said h = ap (λ (xs : List ℕ). (n + 1) ∷ xs) h
 
@@ -146,17 +151,23 @@ module _ (front : List Statement) (n : ℕ) (line : Line) (lines : List Line) (s
     line = (let l = p.line in omega arith);
   }
 
-  tells_more : (read : Result Read TextFault) → Tells next (n + 1) lines read → Tells front n (line ∷ lines) (read >>= λ r. Ok (in_front (n + 1) s r))
+  tells_more : (read : Result Read TextFault) → Tells next (n + 1) lines read
+      → Tells front n (line ∷ lines) (read >>= λ r. Ok (in_front (n + 1) s r))
   unfolding Tells
   tells_more (Ok r) p = stands_more r p
   tells_more (Err fault) (inl p) = inl (fails_more fault p)
   tells_more (Err fault) (inr p) = inr (cut_more fault p)
 
 tells_line : (front : List Statement) (n : ℕ) (line : Line) (lines : List Line) (o : Option Code) → line_fault front line ≡ o
-    → Tells (with_statement front (statement_in front line)) (n + 1) lines (reading (with_statement front (statement_in front line)) (n + 1) lines)
-    → Tells front n (line ∷ lines) (at_line (n + 1) (judged o (statement_in front line)) >>= λ s. reading (with_statement front s) (n + 1) lines >>= λ r. Ok (in_front (n + 1) s r))
+    → Tells (with_statement front (statement_in front line)) (n + 1) lines
+    (reading (with_statement front (statement_in front line)) (n + 1) lines)
+    → Tells front n (line ∷ lines)
+    (at_line (n + 1) (judged o (statement_in front line)) >>= λ s. reading (with_statement front s) (n + 1) lines
+    >>= λ r. Ok (in_front (n + 1) s r))
 unfolding Tells InOrderFrom
-tells_line front n line lines None h rest = tells_more front n line lines (statement_in front line) (order_of_line front line h) (reading (with_statement front (statement_in front line)) (n + 1) lines) rest
+tells_line front n line lines None h rest =
+    tells_more front n line lines (statement_in front line) (order_of_line front line h)
+    (reading (with_statement front (statement_in front line)) (n + 1) lines) rest
 tells_line front n line lines (Some code) h rest = inl (record {
   said = [];
   some = omega arith;
@@ -168,7 +179,8 @@ tells_line front n line lines (Some code) h rest = inl (record {
 tells : (front : List Statement) (n : ℕ) (lines : List Line) → Tells front n lines (reading front n lines)
 unfolding reading line_reading
 tells front n [] = tells_end front n (is_over front) refl
-tells front n (line ∷ lines) = tells_line front n line lines (line_fault front line) refl (tells (with_statement front (statement_in front line)) (n + 1) lines)
+tells front n (line ∷ lines) =
+    tells_line front n line lines (line_fault front line) refl (tells (with_statement front (statement_in front line)) (n + 1) lines)
 
 -- ---- and nothing else is told
 
@@ -190,7 +202,8 @@ end_reads : (front : List Statement) (n : ℕ) (over : Bool) → is_over (front 
 unfolding reading
 end_reads front n over h = let o = rw (append-nil front) at h in rw o refl
 
-stands_only : (front : List Statement) (n : ℕ) (lines : List Line) (said : Words) → InOrderFrom front lines said → is_over (front ++ statements_among said) ≡ true
+stands_only : (front : List Statement) (n : ℕ) (lines : List Line) (said : Words) → InOrderFrom front lines said
+    → is_over (front ++ statements_among said) ≡ true
     → reading front n lines ≡ Ok (statements_among said, numbers_among (n + 1) said)
 unfolding InOrderFrom
 stands_only front n [] [] p over = end_reads front n true over
@@ -198,10 +211,13 @@ stands_only front n [] (o ∷ said) p over = absurd p
 stands_only front n (line ∷ lines) [] p over = absurd p
 stands_only front n (line ∷ lines) (o ∷ said) p over =
     goes_on front n line lines o p.0
-    ∙ ap (λ (read : Result Read TextFault). read >>= λ r. Ok (in_front (n + 1) o r)) (stands_only (with_statement front o) (n + 1) lines said p.1 (ap is_over (among_more front o said) ∙ over))
+    ∙ ap (λ (read : Result Read TextFault). read >>= λ r. Ok (in_front (n + 1) o r))
+    (stands_only (with_statement front o) (n + 1) lines said p.1 (ap is_over (among_more front o said) ∙ over))
     ∙ put o
   where
-    put : (x : Option Statement) → good (in_front (n + 1) x (statements_among said, numbers_among (n + 1 + 1) said)) ≡ good (statements_among (x ∷ said), numbers_among (n + 1) (x ∷ said))
+    put : (x : Option Statement)
+        → good (in_front (n + 1) x (statements_among said, numbers_among (n + 1 + 1) said))
+        ≡ good (statements_among (x ∷ said), numbers_among (n + 1) (x ∷ said))
     put None = refl
     put (Some s) = refl
 
@@ -211,15 +227,18 @@ same_fault a b l c = λ i. record { line = l i; code = c i }
 err_is : (a : TextFault) (l : ℕ) (c : Code) → a.line ≡ l → a.code ≡ c → bad (record { line = l; code = c }) ≡ bad a
 err_is a l c e f = λ i. Err (same_fault (record { line = l; code = c }) a (sym e) (sym f) i)
 
-first_fails : (front : List Statement) (n : ℕ) (line : Line) (lines : List Line) (fault : TextFault) → Fails (front ++ []) line fault.code → fault.line ≡ n + (0 + 1)
+first_fails : (front : List Statement) (n : ℕ) (line : Line) (lines : List Line) (fault : TextFault) → Fails (front ++ []) line fault.code
+    → fault.line ≡ n + (0 + 1)
     → reading front n (line ∷ lines) ≡ Err fault
 unfolding reading line_reading
 first_fails front n line lines fault f e =
     let h = line_of_fails front line fault.code (subst (λ (b : List Statement). Fails b line fault.code) (append-nil front) f) in
     rw h (err_is fault (n + 1) fault.code (omega arith) refl)
 
-fails_only : (front : List Statement) (n : ℕ) (lines : List Line) (fault : TextFault) (said : Words) → length said < length lines → InOrderFrom front (take (length said) lines) said
-    → Fails (front ++ statements_among said) (get_or lines (length said) []) fault.code → fault.line ≡ n + (length said + 1) → reading front n lines ≡ Err fault
+fails_only : (front : List Statement) (n : ℕ) (lines : List Line) (fault : TextFault) (said : Words) → length said < length lines
+    → InOrderFrom front (take (length said) lines) said
+    → Fails (front ++ statements_among said) (get_or lines (length said) []) fault.code → fault.line ≡ n + (length said + 1)
+    → reading front n lines ≡ Err fault
 unfolding InOrderFrom
 fails_only front n [] fault said l p f e = absurd (omega arith)
 fails_only front n (line ∷ lines) fault [] l p f e = first_fails front n line lines fault f e
@@ -229,7 +248,8 @@ fails_only front n (line ∷ lines) fault (o ∷ said) l p f e =
     (fails_only (with_statement front o) (n + 1) lines fault said (omega arith) p.1
     (subst (λ (b : List Statement). Fails b (get_or lines (length said) []) fault.code) (sym (among_more front o said)) f) (omega arith))
 
-cut_only : (front : List Statement) (n : ℕ) (lines : List Line) (fault : TextFault) (said : Words) → InOrderFrom front lines said → is_over (front ++ statements_among said) ≡ false
+cut_only : (front : List Statement) (n : ℕ) (lines : List Line) (fault : TextFault) (said : Words) → InOrderFrom front lines said
+    → is_over (front ++ statements_among said) ≡ false
     → fault.code ≡ Truncated → fault.line ≡ n + length lines → reading front n lines ≡ Err fault
 unfolding InOrderFrom
 cut_only front n [] fault [] p over c e = end_reads front n false over ∙ err_is fault n Truncated (omega arith) c
@@ -243,12 +263,21 @@ cut_only front n (line ∷ lines) fault (o ∷ said) p over c e =
 -- ---- texts
 
 -- the lines of a text give an answer to it
-pub answer_of_lines : (text : List ℕ) (read : Result Read TextFault) → length text ≤ TEXT_BYTES → reading [] 0 (lines_of text) ≡ read → Said text read
+pub answer_of_lines : (text : List ℕ) (read : Result Read TextFault) → length text ≤ TEXT_BYTES → reading [] 0 (lines_of text) ≡ read
+    → Said text read
 unfolding Tells
 answer_of_lines text read short e = go read (subst (Tells [] 0 (lines_of text)) e (tells [] 0 (lines_of text)))
   where
     go : (read : Result Read TextFault) → Tells [] 0 (lines_of text) read → Said text read
-    go (Ok r) p = record { short = short; said = p.said; in_order = in_order_of (lines_of text) p.said p.in_order; over = p.over; statements_are = p.statements_are; numbers_are = p.numbers_are }
+    go (Ok r) p =
+        record {
+          short = short;
+          said = p.said;
+          in_order = in_order_of (lines_of text) p.said p.in_order;
+          over = p.over;
+          statements_are = p.statements_are;
+          numbers_are = p.numbers_are;
+        }
     go (Err fault) (inl p) = inr (
       short,
       inl (record {
@@ -259,7 +288,18 @@ answer_of_lines text read short e = go read (subst (Tells [] 0 (lines_of text)) 
         line = (let l = p.line in omega arith);
       }),
     )
-    go (Err fault) (inr p) = inr (short, inr (record { said = p.said; in_order = in_order_of (lines_of text) p.said p.in_order; not_over = p.not_over; code = p.code; line = (let l = p.line in omega arith) }))
+    go (Err fault) (inr p) =
+        inr (
+          short,
+          inr
+              (record {
+                said = p.said;
+                in_order = in_order_of (lines_of text) p.said p.in_order;
+                not_over = p.not_over;
+                code = p.code;
+                line = (let l = p.line in omega arith);
+              }),
+        )
 
 -- what a text stands for, its lines give
 pub session_is : (text : List ℕ) (s : List Statement) (l : List ℕ) → StandsFor text s l → reading [] 0 (lines_of text) ≡ Ok (s, l)
@@ -268,9 +308,13 @@ session_is text s l p =
     ∙ sym (same_read (s, l) (statements_among p.said) (numbers_among 1 p.said) p.statements_are p.numbers_are)
 
 -- and its fault too
-pub fault_is : (text : List ℕ) (fault : TextFault) → FailsFirst (lines_of text) fault ⊎ HasNoEnd (lines_of text) fault → reading [] 0 (lines_of text) ≡ Err fault
-fault_is text fault (inl p) = fails_only [] 0 (lines_of text) fault p.said p.some (ordered (take (length p.said) (lines_of text)) p.said p.in_order) p.fails (let l = p.line in omega arith)
-fault_is text fault (inr p) = cut_only [] 0 (lines_of text) fault p.said (ordered (lines_of text) p.said p.in_order) p.not_over p.code (let l = p.line in omega arith)
+pub fault_is : (text : List ℕ) (fault : TextFault) → FailsFirst (lines_of text) fault ⊎ HasNoEnd (lines_of text) fault
+    → reading [] 0 (lines_of text) ≡ Err fault
+fault_is text fault (inl p) =
+    fails_only [] 0 (lines_of text) fault p.said p.some (ordered (take (length p.said) (lines_of text)) p.said p.in_order) p.fails
+    (let l = p.line in omega arith)
+fault_is text fault (inr p) =
+    cut_only [] 0 (lines_of text) fault p.said (ordered (lines_of text) p.said p.in_order) p.not_over p.code (let l = p.line in omega arith)
 
 -- each text has an answer
 pub some_answer : (text : List ℕ) → (answer : Result Read TextFault) × Said text answer
@@ -294,19 +338,23 @@ same_answer text (Err f) (Err g) (inr p) (inr s) = sym (fault_is text f p.1) ∙
 -- ---- what a reader answers
 
 -- a reader that gives what the lines give answers the text
-pub answer_given : (text : List ℕ) (result : Result (Session × List ℕ) ReadFail) → length text ≤ TEXT_BYTES → TextGives (λ read. (read.0.statements, read.1)) result (reading [] 0 (lines_of text)) → IsAnswer text (session_of result)
+pub answer_given : (text : List ℕ) (result : Result (Session × List ℕ) ReadFail) → length text ≤ TEXT_BYTES
+    → TextGives (λ read. (read.0.statements, read.1)) result (reading [] 0 (lines_of text)) → IsAnswer text (session_of result)
 answer_given text (Ok read) short h = answer_of_lines text (Ok (read.0.statements, read.1)) short h
 answer_given text (Err fails.OutOfMemory) short h = tt
 answer_given text (Err (fails.Text fault)) short h = answer_of_lines text (Err fault) short h
 
 -- an answer is the one answer
-pub only_answer : (text : List ℕ) (result : Result Read ReadFail) (wanted : Result Read TextFault) → IsAnswer text result → Said text wanted → Answers result wanted
+pub only_answer : (text : List ℕ) (result : Result Read ReadFail) (wanted : Result Read TextFault) → IsAnswer text result → Said text wanted
+    → Answers result wanted
 only_answer text (Ok r) wanted a p = same_answer text wanted (Ok r) p a
 only_answer text (Err fails.OutOfMemory) wanted a p = tt
 only_answer text (Err (fails.Text fault)) wanted a p = same_answer text wanted (Err fault) p a
 
-pub only_session : (text : List ℕ) (result : Result Read ReadFail) (s : List Statement) (l : List ℕ) → IsAnswer text result → StandsFor text s l → Answers result (Ok (s, l))
+pub only_session : (text : List ℕ) (result : Result Read ReadFail) (s : List Statement) (l : List ℕ) → IsAnswer text result
+    → StandsFor text s l → Answers result (Ok (s, l))
 only_session text result s l a p = only_answer text result (Ok (s, l)) a p
 
-pub only_fault : (text : List ℕ) (result : Result Read ReadFail) (fault : TextFault) → IsAnswer text result → HasFault text fault → Answers result (Err fault)
+pub only_fault : (text : List ℕ) (result : Result Read ReadFail) (fault : TextFault) → IsAnswer text result → HasFault text fault
+    → Answers result (Err fault)
 only_fault text result fault a p = only_answer text result (Err fault) a p

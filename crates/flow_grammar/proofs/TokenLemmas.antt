@@ -20,9 +20,11 @@ pub tokens-separator : (b : ℕ) (bs : List ℕ) → is_separator b ≡ true →
 unfolding tokens_of
 tokens-separator b bs h = rw (slice_split-cons_yes is_separator b bs h) refl
 
-tokens-start_at : (b : ℕ) (bs : List ℕ) (sep : Bool) → is_separator b ≡ sep → tokens_of (drop (position_or_len is_filler bs) bs) ≡ tokens_of bs
+tokens-start_at : (b : ℕ) (bs : List ℕ) (sep : Bool) → is_separator b ≡ sep
+    → tokens_of (drop (position_or_len is_filler bs) bs) ≡ tokens_of bs
     → tokens_of (drop (cond (not (not sep)) (1 + position_or_len is_filler bs) 0) (b ∷ bs)) ≡ tokens_of (b ∷ bs)
-tokens-start_at b bs true h e = let k : 1 + position_or_len is_filler bs ≡ suc (position_or_len is_filler bs) = omega arith in rw k (e ∙ sym (tokens-separator b bs h))
+tokens-start_at b bs true h e =
+    let k : 1 + position_or_len is_filler bs ≡ suc (position_or_len is_filler bs) = omega arith in rw k (e ∙ sym (tokens-separator b bs h))
 tokens-start_at b bs false h e = refl
 
 -- nor do the separators before the first token
@@ -55,8 +57,10 @@ tokens_among parts = take_while is_no_comment (filter is_filled parts)
 abbrev end_of : List ℕ → ℕ
 end_of line = position_or_len is_separator line
 
-cut_at : (b : ℕ) (bs : List ℕ) (sep : Bool) → is_separator b ≡ sep → slice_split is_separator bs ≡ take (end_of bs) bs ∷ parts_behind (drop (end_of bs) bs)
-    → slice_split is_separator (b ∷ bs) ≡ take (cond (not sep) (1 + end_of bs) 0) (b ∷ bs) ∷ parts_behind (drop (cond (not sep) (1 + end_of bs) 0) (b ∷ bs))
+cut_at : (b : ℕ) (bs : List ℕ) (sep : Bool) → is_separator b ≡ sep
+    → slice_split is_separator bs ≡ take (end_of bs) bs ∷ parts_behind (drop (end_of bs) bs)
+    → slice_split is_separator (b ∷ bs)
+    ≡ take (cond (not sep) (1 + end_of bs) 0) (b ∷ bs) ∷ parts_behind (drop (cond (not sep) (1 + end_of bs) 0) (b ∷ bs))
 unfolding parts_behind
 cut_at b bs true h e = slice_split-cons_yes is_separator b bs h
 cut_at b bs false h e = let k : 1 + end_of bs ≡ suc (end_of bs) = omega arith in rw (slice_split-cons_no is_separator b bs h, e, k) refl
@@ -66,8 +70,10 @@ unfolding parts_behind
 cut [] = refl
 cut (b ∷ bs) = cut_at b bs (is_separator b) refl (cut bs)
 
-behind_at : (b : ℕ) (bs : List ℕ) (sep : Bool) → is_separator b ≡ sep → tokens_of (drop (end_of bs) bs) ≡ tokens_among (parts_behind (drop (end_of bs) bs))
-    → tokens_of (drop (cond (not sep) (1 + end_of bs) 0) (b ∷ bs)) ≡ tokens_among (parts_behind (drop (cond (not sep) (1 + end_of bs) 0) (b ∷ bs)))
+behind_at : (b : ℕ) (bs : List ℕ) (sep : Bool) → is_separator b ≡ sep
+    → tokens_of (drop (end_of bs) bs) ≡ tokens_among (parts_behind (drop (end_of bs) bs))
+    → tokens_of (drop (cond (not sep) (1 + end_of bs) 0) (b ∷ bs))
+    ≡ tokens_among (parts_behind (drop (cond (not sep) (1 + end_of bs) 0) (b ∷ bs)))
 unfolding parts_behind tokens_among tokens_of
 behind_at b bs true h e = tokens-separator b bs h
 behind_at b bs false h e = let k : 1 + end_of bs ≡ suc (end_of bs) = omega arith in rw k e
@@ -93,7 +99,9 @@ joined token parts false h = rw h refl
 
 pub first_word : (line : List ℕ) → tokens_of line ≡ tokens_from (take (end_of line) line) (drop (end_of line) line)
 unfolding tokens_from
-first_word line = rw (behind line) (whole line ∙ joined (take (end_of line) line) (parts_behind (drop (end_of line) line)) (is_filled (take (end_of line) line)) refl)
+first_word line =
+    rw (behind line)
+    (whole line ∙ joined (take (end_of line) line) (parts_behind (drop (end_of line) line)) (is_filled (take (end_of line) line)) refl)
 
 pub first_end : (p : ℕ → Bool) (xs : List ℕ) → position_or_len p xs ≤ length xs
 first_end p xs = prefix_len-le-length (λ x. not (p x)) xs
@@ -103,8 +111,11 @@ pub ruleset first_places = (position-or_length, first_end)
 abbrev start_of : List ℕ → List ℕ
 start_of line = drop (position_or_len is_filler line) line
 
-pub finds : (line token rest : List ℕ) → token ≡ take (end_of (start_of line)) (start_of line) → rest ≡ drop (end_of (start_of line)) (start_of line) → tokens_of line ≡ tokens_from token rest
-finds line token rest t r = sym (tokens-from_start line) ∙ first_word (start_of line) ∙ sym (ap (λ (x : List ℕ). tokens_from x rest) t ∙ ap (λ (x : List ℕ). tokens_from (take (end_of (start_of line)) (start_of line)) x) r)
+pub finds : (line token rest : List ℕ) → token ≡ take (end_of (start_of line)) (start_of line)
+    → rest ≡ drop (end_of (start_of line)) (start_of line) → tokens_of line ≡ tokens_from token rest
+finds line token rest t r =
+    sym (tokens-from_start line) ∙ first_word (start_of line)
+    ∙ sym (ap (λ (x : List ℕ). tokens_from x rest) t ∙ ap (λ (x : List ℕ). tokens_from (take (end_of (start_of line)) (start_of line)) x) r)
 
 no_start : (start : List ℕ) → Begins start → take (end_of start) start ≡ [] → tokens_of start ≡ []
 unfolding tokens_of
@@ -135,9 +146,11 @@ one_line text h =
     ]
 
 -- the first line, and the lines behind its line feed
-pub first_of_lines : (text : List ℕ) (at : ℕ) → position is_line_feed text ≡ Some at → lines_of text ≡ take at text ∷ lines_of (drop (at + 1) text)
+pub first_of_lines : (text : List ℕ) (at : ℕ) → position is_line_feed text ≡ Some at
+    → lines_of text ≡ take at text ∷ lines_of (drop (at + 1) text)
 first_of_lines text at h =
     elim (cases_lt (position_or_len is_line_feed text) (length text)) [
-      | inl lt ↦ let e : position_or_len is_line_feed text ≡ at = (let f = rw (lt-ltb _ _ lt) at h in cc) in rw (← e) (slice_split_first is_line_feed text 0 lt)
+      | inl lt ↦ let e : position_or_len is_line_feed text ≡ at =
+          (let f = rw (lt-ltb _ _ lt) at h in cc) in rw (← e) (slice_split_first is_line_feed text 0 lt)
       | inr le ↦ absurd (let f = rw (le-ltb _ _ le) at h in cc)
     ]

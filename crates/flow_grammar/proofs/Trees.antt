@@ -70,7 +70,8 @@ module _ (known : List ℕ → Bool) where
   on_top trees o = Some (o ∷ map (seen known) trees)
 
   extended_if : (k : List ℕ) (a : Expr (List ℕ)) (trees : Trees) (b : Bool)
-      → views (cond b (Some (Sext (number_of k) a ∷ trees)) None) ≡ cond b (Some (extend (number_of k) (seen known a) ∷ map (seen known) trees)) None
+      → views (cond b (Some (Sext (number_of k) a ∷ trees)) None)
+      ≡ cond b (Some (extend (number_of k) (seen known a) ∷ map (seen known) trees)) None
   extended_if k a trees true = ap (on_top trees) (seen_Sext (number_of k) a)
   extended_if k a trees false = refl
 
@@ -80,7 +81,8 @@ module _ (known : List ℕ → Bool) where
   seen_extended (k ∷ behind) (number ∷ []) = refl
   seen_extended (k ∷ behind) (number ∷ a ∷ trees) = extended_if k a trees (is_number k)
 
-  seen_applied : (o : Option Operator) (behind : List (List ℕ)) (trees : Trees) → views (applied_if o behind trees) ≡ apply_if o behind (map (seen known) trees)
+  seen_applied : (o : Option Operator) (behind : List (List ℕ)) (trees : Trees)
+      → views (applied_if o behind trees) ≡ apply_if o behind (map (seen known) trees)
   seen_applied None behind trees = refl
   seen_applied (Some Extend) behind trees = seen_extended behind trees
   seen_applied (Some (One o)) behind [] = refl
@@ -94,27 +96,34 @@ module _ (known : List ℕ → Bool) where
   seen_applied (Some Choose) behind (a ∷ b ∷ c ∷ trees) = ap (on_top trees) (seen_Pick a b c)
 
   token_if : (token : List ℕ) (behind : List (List ℕ)) (trees : Trees) (is_num is_nam : Bool)
-      → views (cond is_num (Some (Number (number_of token) ∷ trees)) (cond is_nam (Some (Var token ∷ trees)) (applied_if (operator_of token) behind trees)))
-      ≡ cond is_num (Some (numbered (number_of token) ∷ map (seen known) trees)) (cond is_nam (Some (named known token ∷ map (seen known) trees)) (apply_if (operator_of token) behind (map (seen known) trees)))
+      → views (cond is_num (Some (Number (number_of token) ∷ trees))
+      (cond is_nam (Some (Var token ∷ trees)) (applied_if (operator_of token) behind trees)))
+      ≡ cond is_num (Some (numbered (number_of token) ∷ map (seen known) trees))
+      (cond is_nam (Some (named known token ∷ map (seen known) trees)) (apply_if (operator_of token) behind (map (seen known) trees)))
   token_if token behind trees true b = ap (on_top trees) (seen_Number (number_of token))
   token_if token behind trees false true = ap (on_top trees) (seen_Var token)
   token_if token behind trees false false = seen_applied (operator_of token) behind trees
 
-  pub seen_token : (token : List ℕ) (behind : List (List ℕ)) (trees : Trees) → views (with_token token behind trees) ≡ take_token known token behind (map (seen known) trees)
+  pub seen_token : (token : List ℕ) (behind : List (List ℕ)) (trees : Trees)
+      → views (with_token token behind trees) ≡ take_token known token behind (map (seen known) trees)
   unfolding with_token take_token
   seen_token token behind trees = token_if token behind trees (is_number token) (is_name token)
 
   -- one token more in front
-  pub more_trees : (token : List ℕ) (behind : List (List ℕ)) (stack : List Operand) → Some stack ≡ views (trees_of behind) → take_token known token behind stack ≡ views (trees_of (token ∷ behind))
+  pub more_trees : (token : List ℕ) (behind : List (List ℕ)) (stack : List Operand) → Some stack ≡ views (trees_of behind)
+      → take_token known token behind stack ≡ views (trees_of (token ∷ behind))
   unfolding trees_of
   more_trees token behind stack e = go (trees_of behind) e
     where
-      go : (found : Option Trees) → Some stack ≡ views found → take_token known token behind stack ≡ views (option_and_then (with_token token behind) found)
+      go : (found : Option Trees) → Some stack ≡ views found
+          → take_token known token behind stack ≡ views (option_and_then (with_token token behind) found)
       go None h = absurd cc
-      go (Some trees) h = let k : stack ≡ map (seen known) trees = cc in ap (take_token known token behind) k ∙ sym (seen_token token behind trees)
+      go (Some trees) h =
+          let k : stack ≡ map (seen known) trees = cc in ap (take_token known token behind) k ∙ sym (seen_token token behind trees)
 
   -- where no more is made of the tokens
-  pub no_trees : (token : List ℕ) (behind : List (List ℕ)) (stack : List Operand) → Some stack ≡ views (trees_of behind) → take_token known token behind stack ≡ None → trees_of (token ∷ behind) ≡ None
+  pub no_trees : (token : List ℕ) (behind : List (List ℕ)) (stack : List Operand) → Some stack ≡ views (trees_of behind)
+      → take_token known token behind stack ≡ None → trees_of (token ∷ behind) ≡ None
   no_trees token behind stack e h = go (trees_of (token ∷ behind)) (sym (more_trees token behind stack e) ∙ h)
     where
       go : (found : Option Trees) → views found ≡ None → found ≡ None

@@ -1,14 +1,13 @@
 -- The version is declared by the first statement, and what is written in version 1 is written in version 2 too.
-use Rattle.std.proofs.Common.{◌≡◌, ℕ, ◌+◌, List, [], ◌∷◌, ◌++◌, map, Bool, true, Option, None, Some, refl, sym, ap, subst, ◌∙◌, inl, inr}
+use Rattle.std.proofs.Common.{◌≡◌, ℕ, ◌+◌, List, [], ◌∷◌, ◌++◌, map, true, Option, None, Some, refl, sym, ap, subst, ◌∙◌, inl, inr}
 use Rattle.std.specs.Prelude.{reverse, unwrap_or}
 use Rattle.std.proofs.lemmas.List.{reverse-append}
 use Rattle.flow_design.specs.declared.session.Statement.{Statement}
 use Rattle.flow_design.specs.declared.session.Statement.TheVariants.{Flow, Source, Sink, Fifo, Module, Reg, Mem, Block, Loop, Temp, At, Goto, Branch, Stop, Input, Limits, Depth, End}
 use Rattle.flow_grammar.specs.Tokens.{Line, Token, lines_of, tokens_of}
 use Rattle.flow_grammar.specs.Before.{flow_number, version, has_delays}
-use Rattle.flow_grammar.specs.Places.{place, place_after, takes_flow, may_follow}
+use Rattle.flow_grammar.specs.Places.{place_after, takes_flow, may_follow}
 use Rattle.flow_grammar.specs.Parts.{parts}
-use Rattle.flow_grammar.specs.Forms.{statement_of}
 use Rattle.flow_grammar.specs.Spelling.{Spelled, Writes}
 use Rattle.flow_grammar.specs.Gives.{with_statement}
 use Rattle.flow_grammar.specs.Text.{statements_among, numbers_among, IsInOrder, StandsFor}
@@ -106,7 +105,8 @@ delays_kept (y ∷ ys) h = go (flow_number y) (delays_kept ys) h
     second : ℕ
     second = version (ys ++ Flow 2 ∷ [])
 
-    go : (o : Option ℕ) → (has_delays first ≡ true → has_delays second ≡ true) → has_delays (unwrap_or o first) ≡ true → has_delays (unwrap_or o second) ≡ true
+    go : (o : Option ℕ) → (has_delays first ≡ true → has_delays second ≡ true) → has_delays (unwrap_or o first) ≡ true
+        → has_delays (unwrap_or o second) ≡ true
     go None rest k = rest k
     go (Some n) rest k = k
 
@@ -169,7 +169,8 @@ module _ (v : ℕ) (line : Line) (behind : List Line) (says : Spelled (tokens_of
       sym (written_is_read (version (reverse before)) (tokens_of line) s h.says)
       ∙ written_is_read (version (reverse before)) (tokens_of line) (Flow v) says
 
-  no_later : (x : Statement) (xs : List Statement) (front : List Line) (said : Words) → InOrderFrom (x ∷ xs) (front ++ line ∷ behind) said → ⊥
+  no_later : (x : Statement) (xs : List Statement) (front : List Line) (said : Words) → InOrderFrom (x ∷ xs) (front ++ line ∷ behind) said
+      → ⊥
   unfolding InOrderFrom
   no_later x xs [] [] p = p
   no_later x xs [] (o ∷ said) p =
@@ -184,7 +185,11 @@ module _ (v : ℕ) (line : Line) (behind : List Line) (says : Spelled (tokens_of
   opens [] [] p = absurd p
   opens [] (o ∷ said) p =
       let e = is_flow [] o p.0 in
-      record { rest = said; are = λ i. e i ∷ said; in_order = subst (λ (u : Option Statement). InOrderFrom (with_statement [] u) behind said) e p.1 }
+      record {
+        rest = said;
+        are = λ i. e i ∷ said;
+        in_order = subst (λ (u : Option Statement). InOrderFrom (with_statement [] u) behind said) e p.1;
+      }
   opens (f ∷ front) [] p = absurd p
   opens (f ∷ front) (None ∷ said) p =
       let r = opens front said p.1 in
@@ -193,7 +198,8 @@ module _ (v : ℕ) (line : Line) (behind : List Line) (says : Spelled (tokens_of
 
 -- ---- texts that differ in the version alone
 
-first_among : (front : List Line) (v : ℕ) (rest : Words) → statements_among (nothing front ++ Some (Flow v) ∷ rest) ≡ Flow v ∷ statements_among rest
+first_among : (front : List Line) (v : ℕ) (rest : Words)
+    → statements_among (nothing front ++ Some (Flow v) ∷ rest) ≡ Flow v ∷ statements_among rest
 first_among [] v rest = refl
 first_among (f ∷ front) v rest = first_among front v rest
 
@@ -206,13 +212,12 @@ pub versions_agree : (first second : List ℕ) (s t : List Statement) (l m : Lis
     → DifferInVersion first second → StandsFor first s l → StandsFor second t m → SameButVersion s t × (l ≡ m)
 versions_agree first second s t l m d p q =
     let a = opens 1 d.one d.behind d.says_one d.front p.said
-        (subst (λ (lines : List Line). InOrderFrom [] lines p.said) d.first_lines (ordered (lines_of first) p.said p.in_order)) in
+    (subst (λ (lines : List Line). InOrderFrom [] lines p.said) d.first_lines (ordered (lines_of first) p.said p.in_order)) in
     let b = opens 2 d.two d.behind d.says_two d.front q.said
-        (subst (λ (lines : List Line). InOrderFrom [] lines q.said) d.second_lines (ordered (lines_of second) q.said q.in_order)) in
+    (subst (λ (lines : List Line). InOrderFrom [] lines q.said) d.second_lines (ordered (lines_of second) q.said q.in_order)) in
     let same : a.rest ≡ b.rest = same_lines [] d.behind a.rest b.rest a.in_order b.in_order in
     let told : q.said ≡ nothing d.front ++ Some (Flow 2) ∷ a.rest =
-        b.are ∙ sym (ap (λ (rest : Words). nothing d.front ++ Some (Flow 2) ∷ rest) same) in
-    (
+    b.are ∙ sym (ap (λ (rest : Words). nothing d.front ++ Some (Flow 2) ∷ rest) same) in (
       record {
         behind = statements_among a.rest;
         first_are = p.statements_are ∙ ap statements_among a.are ∙ first_among d.front 1 a.rest;

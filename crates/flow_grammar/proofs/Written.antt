@@ -36,7 +36,8 @@ op_only : (test : Bool) (ts : List Token) (o : Op Name) → (test ≡ true → S
 op_only true ts o h = h refl
 op_only false ts o h = tt
 
-op_one : (test : Bool) (make : Expr Name → Op Name) (us ts : List Token) → (test ≡ true → (e : Expr Name) → Spelled us (expr_parts e) → Spelled ts (op_parts (make e)))
+op_one : (test : Bool) (make : Expr Name → Op Name) (us ts : List Token)
+    → (test ≡ true → (e : Expr Name) → Spelled us (expr_parts e) → Spelled ts (op_parts (make e)))
     → OpSpelled ts (if_then test (option_map make (one_tree (trees_of us))))
 op_one false make us ts h = tt
 op_one true make us ts h = go (trees_of us) refl
@@ -47,7 +48,8 @@ op_one true make us ts h = go (trees_of us) refl
     go (Some (x ∷ [])) e = h refl x (let s = trees_spelled us (x ∷ []) e in rw (← append-nil (expr_parts x)) s)
     go (Some (x ∷ y ∷ es)) e = tt
 
-op_two : (test : Bool) (make : Expr Name → Expr Name → Op Name) (us ts : List Token) → (test ≡ true → (e f : Expr Name) → Spelled us (expr_parts e ++ expr_parts f) → Spelled ts (op_parts (make e f)))
+op_two : (test : Bool) (make : Expr Name → Expr Name → Op Name) (us ts : List Token)
+    → (test ≡ true → (e f : Expr Name) → Spelled us (expr_parts e ++ expr_parts f) → Spelled ts (op_parts (make e f)))
     → OpSpelled ts (if_then test (two_trees make (trees_of us)))
 op_two false make us ts h = tt
 op_two true make us ts h = go (trees_of us) refl
@@ -56,7 +58,9 @@ op_two true make us ts h = go (trees_of us) refl
     go None e = tt
     go (Some []) e = tt
     go (Some (x ∷ [])) e = tt
-    go (Some (x ∷ y ∷ [])) e = h refl x y (subst (λ (ps : List Part). Spelled us (expr_parts x ++ ps)) (append-nil (expr_parts y)) (trees_spelled us (x ∷ y ∷ []) e))
+    go (Some (x ∷ y ∷ [])) e =
+        h refl x y
+        (subst (λ (ps : List Part). Spelled us (expr_parts x ++ ps)) (append-nil (expr_parts y)) (trees_spelled us (x ∷ y ∷ []) e))
     go (Some (x ∷ y ∷ z ∷ es)) e = tt
 
 set_written : (k : Token) (ts : List Token) → k ≡ codes "set" → OpSpelled (k ∷ ts) (set_of ts)
@@ -74,10 +78,12 @@ store_written k [] w = tt
 store_written k (m ∷ us) w = op_two (is_name m) (op.Store m) us (k ∷ m ∷ us) (λ n e f s. (w, ((n, refl), s)))
 
 names_written : (make : Token → Token → Op Name) (k : Token) (ts : List Token)
-    → ((f r : Token) → is_name f ≡ true → is_name r ≡ true → Spelled (k ∷ f ∷ r ∷ []) (op_parts (make f r))) → OpSpelled (k ∷ ts) (two_names make ts)
+    → ((f r : Token) → is_name f ≡ true → is_name r ≡ true → Spelled (k ∷ f ∷ r ∷ []) (op_parts (make f r)))
+    → OpSpelled (k ∷ ts) (two_names make ts)
 names_written make k [] h = tt
 names_written make k (f ∷ []) h = tt
-names_written make k (f ∷ r ∷ []) h = op_only (is_name f && is_name r) (k ∷ f ∷ r ∷ []) (make f r) (λ n. let p = both (is_name f) (is_name r) n in h f r p.0 p.1)
+names_written make k (f ∷ r ∷ []) h =
+    op_only (is_name f && is_name r) (k ∷ f ∷ r ∷ []) (make f r) (λ n. let p = both (is_name f) (is_name r) n in h f r p.0 p.1)
 names_written make k (f ∷ r ∷ u ∷ us) h = tt
 
 write_written : (k : Token) (ts : List Token) → k ≡ codes "write" → OpSpelled (k ∷ ts) (write_of ts)
@@ -89,7 +95,8 @@ try_read_written k [] w = tt
 try_read_written k (f ∷ []) w = tt
 try_read_written k (f ∷ r ∷ []) w = tt
 try_read_written k (f ∷ r ∷ ok ∷ []) w = op_only (is_name f && (is_name r && is_name ok)) (k ∷ f ∷ r ∷ ok ∷ []) (op.TryRead f r ok)
-    (λ n. let p = both (is_name f) (is_name r && is_name ok) n in let q = both (is_name r) (is_name ok) p.1 in (w, ((p.0, refl), ((q.0, refl), ((q.1, refl), tt)))))
+    (λ n. let p = both (is_name f) (is_name r && is_name ok) n in
+    let q = both (is_name r) (is_name ok) p.1 in (w, ((p.0, refl), ((q.0, refl), ((q.1, refl), tt)))))
 try_read_written k (f ∷ r ∷ ok ∷ u ∷ us) w = tt
 
 try_write_written : (k : Token) (ts : List Token) → k ≡ codes "trywrite" → OpSpelled (k ∷ ts) (try_write_of ts)
@@ -125,7 +132,8 @@ module _ (version : ℕ) where
   IsWritten ts None = Unit {0}
   IsWritten ts (Some s) = Writes version ts s
 
-  branch : (k w : Token) (ts : List Token) (here rest : Option Statement) → (k ≡ w → IsWritten ts here) → IsWritten ts rest → IsWritten ts (if is_word k w then here else rest)
+  branch : (k w : Token) (ts : List Token) (here rest : Option Statement) → (k ≡ w → IsWritten ts here) → IsWritten ts rest
+      → IsWritten ts (if is_word k w then here else rest)
   branch k w ts here rest h r = go (is_word k w) refl
     where
       go : (b : Bool) → is_word k w ≡ b → IsWritten ts (cond b here rest)
@@ -143,13 +151,17 @@ module _ (version : ℕ) where
   flow_written k (n ∷ u ∷ us) w = tt
 
   width_written : (make : Token → ℕ → Statement) (k : Token) (ts : List Token)
-      → ((n v : Token) → is_name n ≡ true → is_number v ≡ true → Writes version (k ∷ n ∷ v ∷ []) (make n (number_of v))) → IsWritten (k ∷ ts) (name_width make ts)
+      → ((n v : Token) → is_name n ≡ true → is_number v ≡ true → Writes version (k ∷ n ∷ v ∷ []) (make n (number_of v)))
+      → IsWritten (k ∷ ts) (name_width make ts)
   width_written make k [] h = tt
   width_written make k (n ∷ []) h = tt
-  width_written make k (n ∷ v ∷ []) h = only (is_name n && is_number v) (k ∷ n ∷ v ∷ []) (make n (number_of v)) (λ t. let p = both (is_name n) (is_number v) t in h n v p.0 p.1)
+  width_written make k (n ∷ v ∷ []) h =
+      only (is_name n && is_number v) (k ∷ n ∷ v ∷ []) (make n (number_of v))
+      (λ t. let p = both (is_name n) (is_number v) t in h n v p.0 p.1)
   width_written make k (n ∷ v ∷ u ∷ us) h = tt
 
-  name_written : (make : Token → Statement) (k : Token) (ts : List Token) → ((n : Token) → is_name n ≡ true → Writes version (k ∷ n ∷ []) (make n)) → IsWritten (k ∷ ts) (one_name make ts)
+  name_written : (make : Token → Statement) (k : Token) (ts : List Token)
+      → ((n : Token) → is_name n ≡ true → Writes version (k ∷ n ∷ []) (make n)) → IsWritten (k ∷ ts) (one_name make ts)
   name_written make k [] h = tt
   name_written make k (n ∷ []) h = only (is_name n) (k ∷ n ∷ []) (make n) (h n)
   name_written make k (n ∷ u ∷ us) h = tt
@@ -187,8 +199,10 @@ module _ (version : ℕ) where
   mem_written k [] w = tt
   mem_written k (n ∷ []) w = tt
   mem_written k (n ∷ v ∷ []) w = tt
-  mem_written k (n ∷ v ∷ l ∷ []) w = only (is_name n && (is_number v && is_number l)) (k ∷ n ∷ v ∷ l ∷ []) (Mem n (number_of v) (number_of l))
-      (λ t. let p = both (is_name n) (is_number v && is_number l) t in let q = both (is_number v) (is_number l) p.1 in (w, ((p.0, refl), ((q.0, refl), ((q.1, refl), tt)))))
+  mem_written k (n ∷ v ∷ l ∷ []) w =
+      only (is_name n && (is_number v && is_number l)) (k ∷ n ∷ v ∷ l ∷ []) (Mem n (number_of v) (number_of l))
+      (λ t. let p = both (is_name n) (is_number v && is_number l) t in
+      let q = both (is_number v) (is_number l) p.1 in (w, ((p.0, refl), ((q.0, refl), ((q.1, refl), tt)))))
   mem_written k (n ∷ v ∷ l ∷ u ∷ us) w = tt
 
   loop_written : (k : Token) (ts : List Token) → k ≡ codes "loop" → IsWritten (k ∷ ts) (loop_of ts)
@@ -198,7 +212,9 @@ module _ (version : ℕ) where
   loop_written k (n ∷ i ∷ []) w = tt
   loop_written k (n ∷ i ∷ l ∷ []) w = tt
   loop_written k (n ∷ i ∷ l ∷ x ∷ []) w = tt
-  loop_written k (n ∷ i ∷ l ∷ x ∷ r ∷ []) w = only (is_name n && (is_number i && (is_number l && (is_word x (codes "while") && is_name r)))) (k ∷ n ∷ i ∷ l ∷ x ∷ r ∷ []) (Loop n (number_of i) (number_of l) r)
+  loop_written k (n ∷ i ∷ l ∷ x ∷ r ∷ []) w =
+      only (is_name n && (is_number i && (is_number l && (is_word x (codes "while") && is_name r)))) (k ∷ n ∷ i ∷ l ∷ x ∷ r ∷ [])
+      (Loop n (number_of i) (number_of l) r)
       (λ t. let p = both (is_name n) (is_number i && (is_number l && (is_word x (codes "while") && is_name r))) t in
       let q = both (is_number i) (is_number l && (is_word x (codes "while") && is_name r)) p.1 in
       let o = both (is_number l) (is_word x (codes "while") && is_name r) q.1 in
@@ -212,7 +228,8 @@ module _ (version : ℕ) where
   branch_written k (r ∷ []) w = tt
   branch_written k (r ∷ b ∷ []) w = tt
   branch_written k (r ∷ b ∷ c ∷ []) w = only (is_name r && (is_name b && is_name c)) (k ∷ r ∷ b ∷ c ∷ []) (Branch r b c)
-      (λ t. let p = both (is_name r) (is_name b && is_name c) t in let q = both (is_name b) (is_name c) p.1 in (w, ((p.0, refl), ((q.0, refl), ((q.1, refl), tt)))))
+      (λ t. let p = both (is_name r) (is_name b && is_name c) t in
+      let q = both (is_name b) (is_name c) p.1 in (w, ((p.0, refl), ((q.0, refl), ((q.1, refl), tt)))))
   branch_written k (r ∷ b ∷ c ∷ u ∷ us) w = tt
 
   limits_written : (k : Token) (ts : List Token) → k ≡ codes "limits" → IsWritten (k ∷ ts) (limits_of ts)
@@ -237,7 +254,8 @@ module _ (version : ℕ) where
   input_written k (n ∷ us) w = only (is_name n && list_all is_number us) (k ∷ n ∷ us) (Input n (map number_of us))
       (λ t. let p = both (is_name n) (list_all is_number us) t in (w, ((p.0, refl), values_written us p.1)))
 
-  plain_written : (k off : Token) (ts : List Token) → k ≡ codes "at" → is_number off ≡ true → IsWritten (k ∷ off ∷ ts) (option_map (At (number_of off) None) (op_of ts))
+  plain_written : (k off : Token) (ts : List Token) → k ≡ codes "at" → is_number off ≡ true
+      → IsWritten (k ∷ off ∷ ts) (option_map (At (number_of off) None) (op_of ts))
   plain_written k off ts w n = go (op_of ts) (op_written ts)
     where
       go : (found : Option (Op Name)) → OpSpelled ts found → IsWritten (k ∷ off ∷ ts) (option_map (At (number_of off) None) found)
@@ -248,7 +266,8 @@ module _ (version : ℕ) where
       → IsWritten (k ∷ off ∷ i ∷ r ∷ ts) (if_then (is_name r) (option_map (At (number_of off) (Some r)) (op_of ts)))
   guard_written k off i r ts w n x = test (is_name r) refl
     where
-      go : (found : Option (Op Name)) → is_name r ≡ true → OpSpelled ts found → IsWritten (k ∷ off ∷ i ∷ r ∷ ts) (option_map (At (number_of off) (Some r)) found)
+      go : (found : Option (Op Name)) → is_name r ≡ true → OpSpelled ts found
+          → IsWritten (k ∷ off ∷ i ∷ r ∷ ts) (option_map (At (number_of off) (Some r)) found)
       go None m s = tt
       go (Some o) m s = (w, ((n, refl), (x, ((m, refl), s))))
 
@@ -256,10 +275,12 @@ module _ (version : ℕ) where
       test true m = go (op_of ts) m (op_written ts)
       test false m = tt
 
-  guarded_written : (k off : Token) (ts : List Token) → k ≡ codes "at" → is_number off ≡ true → IsWritten (k ∷ off ∷ ts) (guarded_of (number_of off) ts)
+  guarded_written : (k off : Token) (ts : List Token) → k ≡ codes "at" → is_number off ≡ true
+      → IsWritten (k ∷ off ∷ ts) (guarded_of (number_of off) ts)
   guarded_written k off [] w n = plain_written k off [] w n
   guarded_written k off (i ∷ []) w n = plain_written k off (i ∷ []) w n
-  guarded_written k off (i ∷ r ∷ ts) w n = branch i (codes "if") (k ∷ off ∷ i ∷ r ∷ ts) _ _ (guard_written k off i r ts w n) (plain_written k off (i ∷ r ∷ ts) w n)
+  guarded_written k off (i ∷ r ∷ ts) w n =
+      branch i (codes "if") (k ∷ off ∷ i ∷ r ∷ ts) _ _ (guard_written k off i r ts w n) (plain_written k off (i ∷ r ∷ ts) w n)
 
   at_written : (k : Token) (ts : List Token) → k ≡ codes "at" → IsWritten (k ∷ ts) (at_of ts)
   unfolding at_of
@@ -270,7 +291,8 @@ module _ (version : ℕ) where
       go true n = guarded_written k off ts w n
       go false n = tt
 
-  statement_written : (keyword : Keyword) (k : Token) (ts : List Token) → k ≡ keyword_word keyword → IsWritten (k ∷ ts) (form_of version keyword ts)
+  statement_written : (keyword : Keyword) (k : Token) (ts : List Token) → k ≡ keyword_word keyword
+      → IsWritten (k ∷ ts) (form_of version keyword ts)
   statement_written keyword.Flow k ts w = flow_written k ts w
   statement_written keyword.Source k ts w = width_written Source k ts (λ n v p q. (w, ((p, refl), ((q, refl), tt))))
   statement_written keyword.Sink k ts w = width_written Sink k ts (λ n v p q. (w, ((p, refl), ((q, refl), tt))))

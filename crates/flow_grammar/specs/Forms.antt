@@ -48,7 +48,9 @@ mem_of (n ∷ w ∷ l ∷ []) = only_if (is_name n && (is_number w && is_number 
 mem_of ts = None
 
 unfoldable pub loop_of : List Token → Option Statement
-loop_of (n ∷ ii ∷ l ∷ w ∷ r ∷ []) = only_if (is_name n && (is_number ii && (is_number l && (is_word w (codes "while") && is_name r)))) (Loop n (number_of ii) (number_of l) r)
+loop_of (n ∷ ii ∷ l ∷ w ∷ r ∷ []) =
+    only_if (is_name n && (is_number ii && (is_number l && (is_word w (codes "while") && is_name r))))
+    (Loop n (number_of ii) (number_of l) r)
 loop_of ts = None
 
 abbrev pub one_tree : Option Trees → Option (Expr Token)
@@ -110,7 +112,9 @@ op_of (v ∷ ts) = op_form_if (verb_of v) ts
 
 -- an operation with a guard in front of it, where there is one
 abbrev pub guarded_of : ℕ → List Token → Option Statement
-guarded_of off (i ∷ r ∷ ts) = if is_word i (codes "if") then if_then (is_name r) (option_map (At off (Some r)) (op_of ts)) else option_map (At off None) (op_of (i ∷ r ∷ ts))
+guarded_of off (i ∷ r ∷ ts) =
+    if is_word i (codes "if") then if_then (is_name r) (option_map (At off (Some r)) (op_of ts))
+    else option_map (At off None) (op_of (i ∷ r ∷ ts))
 guarded_of off ts = option_map (At off None) (op_of ts)
 
 unfoldable pub at_of : List Token → Option Statement

@@ -68,7 +68,9 @@ ended false n = Err (record { line = n; code = Truncated })
 -- the lines one after the other: `before` are the statements before them, and n lines stand before them
 unfoldable pub reading : List Statement → ℕ → List (List ℕ) → Result Read TextFault
 reading before n [] = ended (is_over before) n
-reading before n (line ∷ lines) = at_line (n + 1) (line_reading before line) >>= λ statement. reading (with_statement before statement) (n + 1) lines >>= λ r. Ok (in_front (n + 1) statement r)
+reading before n (line ∷ lines) =
+    at_line (n + 1) (line_reading before line) >>= λ statement. reading (with_statement before statement) (n + 1) lines >>= λ r. Ok
+    (in_front (n + 1) statement r)
 
 -- what tokens give that write this statement, or none: the first test that it fails behind the earlier ones, or the statement
 abbrev pub form_reading : List Statement → Option Statement → Result Statement Code

@@ -31,7 +31,8 @@ keyword_word keyword.End = codes "end"
 abbrev pub keywords : List Keyword
 keywords =
     keyword.Flow ∷ keyword.Source ∷ keyword.Sink ∷ keyword.Fifo ∷ keyword.Module ∷ keyword.Reg ∷ keyword.Mem ∷ keyword.Block ∷ keyword.Loop
-    ∷ keyword.Temp ∷ keyword.At ∷ keyword.Goto ∷ keyword.Branch ∷ keyword.Stop ∷ keyword.Input ∷ keyword.Limits ∷ keyword.Depth ∷ keyword.End
+    ∷ keyword.Temp ∷ keyword.At ∷ keyword.Goto ∷ keyword.Branch ∷ keyword.Stop ∷ keyword.Input ∷ keyword.Limits ∷ keyword.Depth ∷
+    keyword.End
     ∷ []
 
 -- the keyword that a token is

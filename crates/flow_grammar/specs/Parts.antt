@@ -121,7 +121,8 @@ parts (Module n) = Word (keyword_word keyword.Module) ∷ New ModuleName n ∷ [
 parts (Reg n w) = Word (keyword_word keyword.Reg) ∷ New RegisterName n ∷ width w ∷ []
 parts (Mem n w l) = Word (keyword_word keyword.Mem) ∷ New MemoryName n ∷ width w ∷ words l ∷ []
 parts (Block n l) = Word (keyword_word keyword.Block) ∷ New BlockName n ∷ clocks l ∷ []
-parts (Loop n ii l r) = Word (keyword_word keyword.Loop) ∷ New BlockName n ∷ clocks ii ∷ clocks l ∷ Word (codes "while") ∷ Use ARegister r ∷ []
+parts (Loop n ii l r) =
+    Word (keyword_word keyword.Loop) ∷ New BlockName n ∷ clocks ii ∷ clocks l ∷ Word (codes "while") ∷ Use ARegister r ∷ []
 parts (Temp n w) = Word (keyword_word keyword.Temp) ∷ New TempName n ∷ width w ∷ []
 parts (At off guard o) = Word (keyword_word keyword.At) ∷ plain off ∷ guard_parts guard ++ op_parts o
 parts (Goto b) = Word (keyword_word keyword.Goto) ∷ Label b ∷ []

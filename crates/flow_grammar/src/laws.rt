@@ -35,6 +35,7 @@ pub fn keeps_rules()
 /// Two texts that differ in `flow 1` and `flow 2` alone, and both stand for a session, stand for the same statements but the
 /// first, on the same lines. Neither writes a delay, since version 1 has none.
 pub fn versions_agree()
-    ensures { (first second : List ℕ) (s t : List Statement) (l m : List ℕ) → DifferInVersion first second → StandsFor first s l → StandsFor second t m
+    ensures { (first second : List ℕ) (s t : List Statement) (l m : List ℕ) → DifferInVersion first second → StandsFor first s l
+        → StandsFor second t m
         → SameButVersion s t × (l ≡ m) }
 {}

@@ -150,7 +150,8 @@ fn take<K: Known>(
     behind: &[&[u8]],
     stack: &mut Stack<Operand>,
 ) -> Result<bool, OutOfMemory>
-    ensures { IfOk result (λ taken. Takes taken stack.new (take_token (K.knows known.now) token.now (map (λ t. t.now) behind.now) stack.old)) }
+    ensures { IfOk result
+        (λ taken. Takes taken stack.new (take_token (K.knows known.now) token.now (map (λ t. t.now) behind.now) stack.old)) }
 {
     if is_numeral(token) {
         stack.push(number_operand(token))?;
@@ -210,7 +211,8 @@ pub fn one_operand<K: Known>(
     known: &K,
     tokens: &[&[u8]],
 ) -> Result<Operand, LineFail>
-    ensures { LineGives (λ o. o) result (only_operand (option_map (map (kept (K.knows known.now))) (trees_of (map (λ t. t.now) tokens.now)))) }
+    ensures { LineGives (λ o. o) result
+        (only_operand (option_map (map (kept (K.knows known.now))) (trees_of (map (λ t. t.now) tokens.now)))) }
 {
     let Some(mut stack) = operands(alloc, known, tokens)? else {
         return Err(LineFail::Fault(Code::Syntax));
@@ -230,7 +232,8 @@ pub fn two_operands<K: Known>(
     known: &K,
     tokens: &[&[u8]],
 ) -> Result<(Operand, Operand), LineFail>
-    ensures { LineGives (λ o. o) result (both_operands (option_map (map (kept (K.knows known.now))) (trees_of (map (λ t. t.now) tokens.now)))) }
+    ensures { LineGives (λ o. o) result
+        (both_operands (option_map (map (kept (K.knows known.now))) (trees_of (map (λ t. t.now) tokens.now)))) }
 {
     let Some(mut stack) = operands(alloc, known, tokens)? else {
         return Err(LineFail::Fault(Code::Syntax));

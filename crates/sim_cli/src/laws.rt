@@ -1,6 +1,6 @@
 //! The law of the whole answer.
 ghost use Rattle.std.specs.Prelude.{◌≡◌, ℕ, List};
-ghost use Rattle.sim_cli.specs.Made.{Answer};
+ghost use Rattle.sim_cli.specs.declared.answer.Answer.{Answer};
 ghost use Rattle.sim_cli.specs.Answer.{Answers, AnswersText};
 ghost use Rattle.sim_cli.specs.declared.task.Task.{Task as TaskOf};
 

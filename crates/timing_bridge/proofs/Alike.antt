@@ -1,5 +1,6 @@
 -- What is possible by the contents is possible by counts, and what is told and moved is the same.
-use Rattle.std.proofs.Common.{◌≡◌, ℕ, suc, ◌+◌, ◌-◌, ◌<◌, List, [], ◌∷◌, ◌++◌, map, length, get_or, Bool, true, false, ◌||◌, ◌&&◌, not, cond, refl, sym, ◌∙◌, ap, ap₂, arith, inl, inr, ◌==◌, ltb, length-append, add-zero}
+use Rattle.std.proofs.Common.{◌≡◌, ℕ, suc, ◌+◌, ◌-◌, ◌<◌, List, [], ◌∷◌, ◌++◌, map, length, get_or, Bool, true, false, ◌||◌, ◌&&◌, not}
+use Rattle.std.proofs.Common.{cond, refl, sym, ◌∙◌, ap, ap₂, arith, inl, inr, ◌==◌, ltb, length-append, add-zero}
 use Rattle.std.specs.List.{list_any, AllByRecursion}
 use Rattle.std.proofs.lemmas.Bool.{cases_Bool, or_parts}
 use Rattle.std.proofs.lemmas.List.{get_or-drop}
@@ -17,7 +18,8 @@ use Rattle.flow_design.specs.Plans.{is_fifo, kind_at, delay_at}
 use Rattle.flow_design.specs.StaticRules.{FitsEngine}
 use Rattle.lockstep_defs.specs.Machine.{is_yes, value_in}
 use Rattle.flow_word.specs.Kinds.{side_of, is_blocking, is_taking}
-use Rattle.lockstep_defs.specs.Channels.{front, values, is_possible, stalls, reply, reply_by, popped_value, pushed_value, moved_by, moved, contents_of}
+use Rattle.lockstep_defs.specs.Channels.{front, values, is_possible, stalls, reply, reply_by, popped_value, pushed_value, moved_by, moved}
+use Rattle.lockstep_defs.specs.Channels.{contents_of}
 use Rattle.lockstep_defs.specs.Lockstep.{requests_of, answered, state, history}
 use Rattle.lockstep_defs.specs.Ports.{StandsAtPort}
 use Rattle.lockstep_defs.specs.Laws.{all_in}
@@ -44,10 +46,12 @@ possible_same p h c Push f l =
     rw now
     (elim (cases_Bool (is_fifo (kind_at p f))) [
       | inl e ↦
-          ap (λ (b : Bool). not b || ltb (length (moved Push f (history p c))) ((design p).start Push f + length (moved Pop f (history p c)))) e
+          ap (λ (b : Bool). not b || ltb (length (moved Push f (history p c)))
+          ((design p).start Push f + length (moved Pop f (history p c)))) e
           ∙ sym ((is_counted p h c f l).pushes e)
       | inr e ↦
-          ap (λ (b : Bool). not b || ltb (length (moved Push f (history p c))) ((design p).start Push f + length (moved Pop f (history p c)))) e
+          ap (λ (b : Bool). not b || ltb (length (moved Push f (history p c)))
+          ((design p).start Push f + length (moved Pop f (history p c)))) e
           ∙ sym ((is_counted p h c f l).unlimited e)
     ])
 
@@ -61,14 +65,17 @@ front_same p h c f l =
     let n = length (moved Pop f (history p c)) in
     ap (λ (i : ℕ). get_or (all_in p c f) i 0) (sym (add-zero n))
     ∙ (sym (get_or-drop n (all_in p c f) 0 0)
-    ∙ (ap (λ (xs : List ℕ). get_or xs 0 0) (sym (contents_are p (keeps_ports p h) f (omega (arith, channel_count p)) c)) ∙ first_value (contents_of (state p c).contents f)))
+    ∙ (ap (λ (xs : List ℕ). get_or xs 0 0) (sym (contents_are p (keeps_ports p h) f (omega (arith, channel_count p)) c))
+    ∙ first_value (contents_of (state p c).contents f)))
 
 -- ---- requests
 
 -- the theory finds this request as possible as the contents do, and the same front
 pub record Alike (p : Plan) (c : ℕ) (r : Request) : Type 0 where
-  pub possible : counted.is_possible (design p) (lockstep_run p) c (side_of r.kind) r.channel ≡ is_possible p c (state p c).contents (side_of r.kind) r.channel
-  pub front : get_or (all_in p c r.channel) (length (moved Pop r.channel (history p c))) 0 ≡ front (contents_of (state p c).contents r.channel)
+  pub possible : counted.is_possible (design p) (lockstep_run p) c (side_of r.kind) r.channel
+      ≡ is_possible p c (state p c).contents (side_of r.kind) r.channel
+  pub front : get_or (all_in p c r.channel) (length (moved Pop r.channel (history p c))) 0
+      ≡ front (contents_of (state p c).contents r.channel)
 
 alike_all : (p : Plan) → FitsEngine p → (c i : ℕ) (rs : List Request) → AllByRecursion (StandsAtPort p i) rs → AllByRecursion (Alike p c) rs
 alike_all p h c i [] e = tt
@@ -90,11 +97,13 @@ pub can_same : (p : Plan) (c : ℕ) (rs : List Request) → AllByRecursion (Alik
 can_same p c [] h = refl
 can_same p c (r ∷ rs) h =
     ap₂ (λ (q x : Bool). (not (is_blocking r.kind) || q) && x) (h.0).possible (can_same p c rs h.1)
-    ∙ can_both (is_blocking r.kind) (is_possible p c (state p c).contents (side_of r.kind) r.channel) (list_any (stalls p c (state p c).contents) rs)
+    ∙ can_both (is_blocking r.kind) (is_possible p c (state p c).contents (side_of r.kind) r.channel)
+    (list_any (stalls p c (state p c).contents) rs)
 
 -- ---- replies
 
-told_kind : (k : Kind) (q : Bool) (v : ℕ) → (is_blocking k && not q) ≡ false → reply_by k q (cond (is_taking k && (same_side (side_of k) Pop && q)) v 0) ≡ reply_by k q v
+told_kind : (k : Kind) (q : Bool) (v : ℕ) → (is_blocking k && not q) ≡ false
+    → reply_by k q (cond (is_taking k && (same_side (side_of k) Pop && q)) v 0) ≡ reply_by k q v
 told_kind Read true v h = refl
 told_kind Read false v h = cc
 told_kind Write q v h = refl
@@ -109,14 +118,15 @@ told_one : (p : Plan) (c : ℕ) (r : Request) → Alike p c r → stalls p c (st
 unfolding reply
 told_one p c r h e =
     ap₂ (λ (q : Bool) (v : ℕ). reply_by r.kind q (cond (is_taking r.kind && (same_side (side_of r.kind) Pop && q)) v 0)) h.possible h.front
-    ∙ told_kind r.kind (is_possible p c (state p c).contents (side_of r.kind) r.channel) (front (contents_of (state p c).contents r.channel)) e
+    ∙ told_kind r.kind (is_possible p c (state p c).contents (side_of r.kind) r.channel)
+    (front (contents_of (state p c).contents r.channel)) e
 
 -- the theory's replies to these requests
 abbrev pub counted_replies : Plan → ℕ → List Request → List theory.Reply
 counted_replies p c rs = map (reply_to (design p) (lockstep_run p) c) (map seen rs)
 
-pub told_same : (p : Plan) (c : ℕ) (rs : List Request) → AllByRecursion (Alike p c) rs → list_any (stalls p c (state p c).contents) rs ≡ false
-    → told_all rs (counted_replies p c rs) ≡ map (reply p c (state p c).contents) rs
+pub told_same : (p : Plan) (c : ℕ) (rs : List Request) → AllByRecursion (Alike p c) rs
+    → list_any (stalls p c (state p c).contents) rs ≡ false → told_all rs (counted_replies p c rs) ≡ map (reply p c (state p c).contents) rs
 told_same p c [] h e = refl
 told_same p c (r ∷ rs) h e =
     let parts = or_parts (stalls p c (state p c).contents r) (list_any (stalls p c (state p c).contents) rs) e in
@@ -125,7 +135,8 @@ told_same p c (r ∷ rs) h e =
 -- ---- what is popped and pushed
 
 pub pop_kind : (k : Kind) (q t : Bool) (v : ℕ) → (is_blocking k && not q) ≡ false
-    → cond (is_taking k && (q && (same_side (side_of k) Pop && t))) 1 0 ≡ length (cond t (popped_value k (is_yes (reply_by k q v)) (value_in (reply_by k q v))) [])
+    → cond (is_taking k && (q && (same_side (side_of k) Pop && t))) 1 0
+    ≡ length (cond t (popped_value k (is_yes (reply_by k q v)) (value_in (reply_by k q v))) [])
 pop_kind Read true true v h = refl
 pop_kind Read true false v h = refl
 pop_kind Read false t v h = cc
@@ -173,19 +184,25 @@ pops_same p c f [] h e = refl
 pops_same p c f (r ∷ rs) h e =
     let cs = (state p c).contents in
     let parts = or_parts (stalls p c cs r) (list_any (stalls p c cs) rs) e in
-    ap₂ (λ (q : Bool) (n : ℕ). cond (is_taking r.kind && (q && (same_side (side_of r.kind) Pop && (r.channel == f)))) 1 0 + n) (h.0).possible (pops_same p c f rs h.1 parts.1)
-    ∙ (ap (λ (n : ℕ). n + length (moved_by Pop f (map (answered p c cs) rs))) (pop_kind r.kind (is_possible p c cs (side_of r.kind) r.channel) (r.channel == f) (front (contents_of cs r.channel)) parts.0)
+    ap₂ (λ (q : Bool) (n : ℕ). cond (is_taking r.kind && (q && (same_side (side_of r.kind) Pop && (r.channel == f)))) 1 0 + n)
+    (h.0).possible (pops_same p c f rs h.1 parts.1)
+    ∙ (ap (λ (n : ℕ). n + length (moved_by Pop f (map (answered p c cs) rs)))
+    (pop_kind r.kind (is_possible p c cs (side_of r.kind) r.channel) (r.channel == f) (front (contents_of cs r.channel)) parts.0)
     ∙ sym (length-append _ _))
 
-pub pushes_same : (p : Plan) (c f : ℕ) (rs : List Request) → AllByRecursion (Alike p c) rs → list_any (stalls p c (state p c).contents) rs ≡ false
+pub pushes_same : (p : Plan) (c f : ℕ) (rs : List Request) → AllByRecursion (Alike p c) rs
+    → list_any (stalls p c (state p c).contents) rs ≡ false
     → values_in f (map seen rs) (counted_replies p c rs) ≡ moved_by Push f (map (answered p c (state p c).contents) rs)
 unfolding moved_by reply
 pushes_same p c f [] h e = refl
 pushes_same p c f (r ∷ rs) h e =
     let cs = (state p c).contents in
     let parts = or_parts (stalls p c cs r) (list_any (stalls p c cs) rs) e in
-    ap₂ (λ (q : Bool) (vs : List ℕ). cond (is_taking r.kind && (q && (same_side (side_of r.kind) Push && (r.channel == f)))) (r.value ∷ []) [] ++ vs) (h.0).possible (pushes_same p c f rs h.1 parts.1)
-    ∙ ap (λ (vs : List ℕ). vs ++ moved_by Push f (map (answered p c cs) rs)) (push_kind r.kind (is_possible p c cs (side_of r.kind) r.channel) (r.channel == f) (front (contents_of cs r.channel)) r.value parts.0)
+    ap₂ (λ (q : Bool) (vs : List ℕ). cond (is_taking r.kind && (q && (same_side (side_of r.kind) Push && (r.channel == f))))
+    (r.value ∷ []) [] ++ vs) (h.0).possible (pushes_same p c f rs h.1 parts.1)
+    ∙ ap (λ (vs : List ℕ). vs ++ moved_by Push f (map (answered p c cs) rs))
+    (push_kind r.kind (is_possible p c cs (side_of r.kind) r.channel) (r.channel == f)
+    (front (contents_of cs r.channel)) r.value parts.0)
 
 pub one_long : (b : Bool) (v : ℕ) → cond b 1 0 ≡ length (cond b (v ∷ []) [])
 one_long true v = refl

@@ -13,7 +13,8 @@ use Rattle.flow_design.specs.declared.state.ModuleState.{ModuleState}
 use Rattle.flow_design.specs.declared.state.Reply.{Reply}
 use Rattle.flow_design.specs.Module.{block_of, interval, due}
 use Rattle.flow_design.specs.StaticRules.{FitsEngine}
-use Rattle.lockstep_defs.specs.Machine.{requests, request_for, entered, ticked, started, decided, followed, is_block_over, finished, committed, move, again_of, is_over}
+use Rattle.lockstep_defs.specs.Machine.{requests, request_for, entered, ticked, started, decided, followed, is_block_over, finished}
+use Rattle.lockstep_defs.specs.Machine.{committed, move, again_of, is_over}
 use Rattle.lockstep_defs.specs.Lockstep.{module_at, requests_of}
 use Rattle.event_timing.specs.Machines.{skip, ready, is_some_access}
 use Rattle.event_timing.specs.Machines as theory
@@ -35,12 +36,14 @@ decided_counts : (b : Block) (n : ℕ) (u : ModuleState) → n ≤ u.count → n
 unfolding decided
 decided_counts b n u h =
     cond_both (u.control.looping && (u.control.clock - u.control.newest == interval b)) _ u (λ (v : ModuleState). n ≤ v.count)
-    (λ e. cond_both (slice_index u.registers (again_of b.kind) == 0) _ (started b u) (λ (v : ModuleState). n ≤ v.count) (λ z. h) (λ z. omega arith))
+    (λ e. cond_both (slice_index u.registers (again_of b.kind) == 0) _ (started b u) (λ (v : ModuleState). n ≤ v.count) (λ z. h)
+    (λ z. omega arith))
     (λ e. h)
 
 finished_counts : (m : Module) (b : Block) (n : ℕ) (v : ModuleState) → n ≤ v.count → n ≤ (finished m b v).count
 unfolding finished
-finished_counts m b n v h = cond_both (is_block_over b v.control) _ v (λ (w : ModuleState). n ≤ w.count) (λ e. followed_counts m b.next n v h) (λ e. h)
+finished_counts m b n v h =
+    cond_both (is_block_over b v.control) _ v (λ (w : ModuleState). n ≤ w.count) (λ e. followed_counts m b.next n v h) (λ e. h)
 
 ticked_counts : (b : Block) (n : ℕ) (u : ModuleState) → n ≤ u.count → n ≤ (ticked b u).count
 unfolding ticked
@@ -65,7 +68,8 @@ some_due : (p : Plan) (i : ℕ) (s : ModuleState) → is_some_access (accesses_i
 unfolding requests
 some_due p i s h = by_list (due (module_at p i) s) h
   where
-    by_list : (ds : List Due) → is_some_access (map seen (filter_map (request_for p.design.channels (module_at p i) s) ds)) ≡ true → 0 < length ds
+    by_list : (ds : List Due) → is_some_access (map seen (filter_map (request_for p.design.channels (module_at p i) s) ds)) ≡ true
+        → 0 < length ds
     by_list [] h = cc
     by_list (d ∷ ds) h = omega arith
 
@@ -78,8 +82,7 @@ lives limit s h =
 
 -- so many steps, so much counted
 steps_count : (p : Plan) → FitsEngine p → (i : ℕ) (r : ℕ → List theory.Reply) (k : ℕ)
-    → ((j : ℕ) → j < k → is_over p.ops (ready (design p) i (own (design p) i r j)) ≡ false)
-    → k ≤ (own (design p) i r k).count
+    → ((j : ℕ) → j < k → is_over p.ops (ready (design p) i (own (design p) i r j)) ≡ false) → k ≤ (own (design p) i r k).count
 unfolding own
 steps_count p h i r zero f = omega arith
 steps_count p h i r (suc k) f =

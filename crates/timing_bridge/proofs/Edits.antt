@@ -2,7 +2,7 @@
 use Rattle.std.proofs.Common.{◌≡◌, ℕ, ◌≤◌, ◌<◌, List, length, true, ◌&&◌, cond, refl, sym, ◌∙◌, ap, subst, inl, inr, eqb}
 use Rattle.std.specs.Prelude.{slice_index}
 use Rattle.std.proofs.lemmas.Bool.{cases_eq, eq-eqb, ne_eqb}
-use Rattle.std.proofs.lemmas.List.{get_or-set_same, get_or-set_other, length-set}
+use Rattle.std.proofs.lemmas.List.{get_or-set_same, get_or-set_other, length-set, set-get_or}
 use Rattle.flow_word.specs.declared.access.Side.{Side}
 use Rattle.flow_word.specs.Kinds.{same_side}
 use Rattle.flow_word.specs.declared.access.Side.TheVariants.{Pop, Push}
@@ -30,8 +30,8 @@ use Rattle.timing_bridge.proofs.History.{plan_is_design, run_is_history}
 
 -- ---- the edited plan is one that the engine takes
 
-new_entries : (k : ChannelKind) (inputs : List ℕ) (old depth : ℕ) → AreEntriesSound k inputs old → is_fifo k ≡ true → 1 ≤ depth → depth ≤ FIFO_DEPTH
-    → AreEntriesSound k inputs depth
+new_entries : (k : ChannelKind) (inputs : List ℕ) (old depth : ℕ) → AreEntriesSound k inputs old → is_fifo k ≡ true → 1 ≤ depth
+    → depth ≤ FIFO_DEPTH → AreEntriesSound k inputs depth
 new_entries Source inputs old depth h e a b = cc
 new_entries Sink inputs old depth h e a b = cc
 new_entries (Fifo declared delay) inputs old depth h e a b = let (none, least, most, some, few) = h in (none, a, b, some, few)
@@ -44,9 +44,11 @@ channel_kept p e fit f h =
       pushing = h.pushing;
       entries = elim (cases_eq f e.channel) [
         | inl k ↦
-            let at : slice_index (with_depth p e.channel e.depth).depths f ≡ e.depth = ap (slice_index (with_depth p e.channel e.depth).depths) k ∙ get_or-set_same p.depths e.channel e.depth 0 fit.entry in
+            let at : slice_index (with_depth p e.channel e.depth).depths f ≡ e.depth =
+            ap (slice_index (with_depth p e.channel e.depth).depths) k ∙ get_or-set_same p.depths e.channel e.depth 0 fit.entry in
             let fifo : is_fifo (kind_at p f) ≡ true = ap (λ (g : ℕ). is_fifo (kind_at p g)) k ∙ fit.fifo in
-            subst (AreEntriesSound (kind_at p f) _) (sym at) (new_entries (kind_at p f) _ (slice_index p.depths f) e.depth h.entries fifo fit.least fit.most)
+            subst (AreEntriesSound (kind_at p f) _) (sym at)
+            (new_entries (kind_at p f) _ (slice_index p.depths f) e.depth h.entries fifo fit.least fit.most)
         | inr n ↦ subst (AreEntriesSound (kind_at p f) _) (sym (get_or-set_other p.depths e.channel f e.depth 0 n)) h.entries
       ];
     }
@@ -67,6 +69,10 @@ edited_fits p h e fit =
       operations = h.operations;
     }
 
+-- an edit to the depth that stands is none
+pub same_depth : (p : Plan) (f : ℕ) → with_depth p f (slice_index p.depths f) ≡ p
+same_depth p f = ap (λ (ds : List ℕ). record p { depths = ds }) (set-get_or p.depths f 0)
+
 -- ---- its design
 
 same_start : (p : Plan) (f depth : ℕ) → f < length p.depths → (side : Side) (g : ℕ)
@@ -84,11 +90,16 @@ same_lag p f depth Push g = refl
 
 pub same_design : (p : Plan) (f depth : ℕ) → f < length p.depths → edited (design p) f depth ≡ design (with_depth p f depth)
 unfolding moment opening owner quiet quiet_below measure
-same_design p f depth h = λ i. record (design (with_depth p f depth)) { start = λ side g. same_start p f depth h side g i; lag = λ side g. same_lag p f depth side g i }
+same_design p f depth h =
+    λ i. record (design (with_depth p f depth)) {
+      start = λ side g. same_start p f depth h side g i;
+      lag = λ side g. same_lag p f depth
+          side g i;
+    }
 
 -- the cycles below the first touched clock agree with the edited plan's lockstep run
-pub plan_edit : (p : Plan) → FitsEngine p → (e : Edit) → EditFits p e → (limit t : ℕ) (x : Core ModuleState) → IsAgreed (design p) (lockstep_run p) limit x
-    → IsFinal (design p) limit x
+pub plan_edit : (p : Plan) → FitsEngine p → (e : Edit) → EditFits p e → (limit t : ℕ) (x : Core ModuleState)
+    → IsAgreed (design p) (lockstep_run p) limit x → IsFinal (design p) limit x
     → t ≤ limit → IsUntouchedByCycles (design p) x e.channel e.depth t
     → IsAgreed (design (with_depth p e.channel e.depth)) (lockstep_run (with_depth p e.channel e.depth)) limit (after_edit (design p) x t)
 plan_edit p h e fit limit t x g final below u =

@@ -18,7 +18,7 @@ use Rattle.event_timing.proofs.FinalReport.{done_limit}
 use Rattle.timing_bridge.specs.Designs.{design, lockstep_run}
 use Rattle.timing_bridge.specs.CoreReports.{AreInOrder}
 use Rattle.timing_bridge.proofs.History.{plan_is_design, run_is_history}
-use Rattle.timing_bridge.proofs.Reports.{clock_settled}
+use Rattle.lockstep_defs.proofs.Exits.{clock_settled}
 use Rattle.timing_bridge.proofs.Steps.{all_steps, events_are}
 
 module _ (p : Plan) (fits : FitsEngine p) (limit : ℕ) (x : Core ModuleState) (g : IsAgreed (design p) (lockstep_run p) limit x)
@@ -27,11 +27,13 @@ module _ (p : Plan) (fits : FitsEngine p) (limit : ℕ) (x : Core ModuleState) (
   history_in_order =
       record {
         rising = in_order p limit;
-        each = λ i. sym (all_steps p fits limit x g limit (done_limit (design p) (lockstep_run p) (plan_is_design p fits) (run_is_history p fits) limit x g f) i);
+        each = λ i. sym (all_steps p fits limit x g limit
+            (done_limit (design p) (lockstep_run p) (plan_is_design p fits) (run_is_history p fits) limit x g f) i);
       }
 
   pub only_in_order : (steps : List HistoryStep) → AreInOrder p x steps → steps ≡ history p limit
-  only_in_order = events_are p fits limit x g limit (done_limit (design p) (lockstep_run p) (plan_is_design p fits) (run_is_history p fits) limit x g f)
+  only_in_order = events_are p fits limit x g limit
+      (done_limit (design p) (lockstep_run p) (plan_is_design p fits) (run_is_history p fits) limit x g f)
 
 -- ---- the history behind the verdict's clock
 
@@ -45,7 +47,8 @@ search p (suc n) = found (search p n) (cases_Bool (is_settled p n (state p n)))
         → NoneBefore p (suc n) ⊎ ((c : ℕ) × (c < suc n) × (is_settled p c (state p c) ≡ true) × NoneBefore p c)
     found (inr (c, l, s, none)) e = inr (c, omega arith, s, none)
     found (inl none) (inl s) = inr (n, omega arith, s, none)
-    found (inl none) (inr s) = inl (λ b l. elim (cases_eq b n) [ inl e ↦ ap (λ (c : ℕ). is_settled p c (state p c)) e ∙ s | inr e ↦ none b (omega arith) ])
+    found (inl none) (inr s) =
+        inl (λ b l. elim (cases_eq b n) [ inl e ↦ ap (λ (c : ℕ). is_settled p c (state p c)) e ∙ s | inr e ↦ none b (omega arith) ])
 
 -- nothing is done from the verdict's clock up to the cycle limit
 pub reported_history : (p : Plan) → history p p.cycles ≡ history p (clock_of (verdict p))
@@ -56,5 +59,6 @@ reported_history p =
           let z : (p.cycles - c) + c ≡ p.cycles = omega arith in
           sym (ap (history p) z)
           ∙ (history_stays p c (p.cycles - c) s
-          ∙ sym (ap (λ v. history p (clock_of v)) (verdict_found p c (omega arith) none s) ∙ ap (history p) (clock_settled p c (state p c))))
+          ∙ sym (ap (λ v. history p (clock_of v)) (verdict_found p c (omega arith) none s)
+          ∙ ap (history p) (clock_settled p c (state p c))))
     ]

@@ -17,7 +17,7 @@ agrees_on p h limit x g actions y s = all_agree (design p) (lockstep_run p) (pla
 
 -- so does each that is reached from the opening core
 pub reached_agrees : (p : Plan) → FitsEngine p → (limit : ℕ) (actions : List Action) (x : Core ModuleState)
-    → ActsAll (design p) limit (opening_core (design p)) actions x
-    → IsAgreed (design p) (lockstep_run p) limit x
+    → ActsAll (design p) limit (opening_core (design p)) actions x → IsAgreed (design p) (lockstep_run p) limit x
 reached_agrees p h limit actions x s =
-    agrees_on p h limit (opening_core (design p)) (opening_agrees (design p) (lockstep_run p) (plan_is_design p h) (run_is_history p h) limit) actions x s
+    agrees_on p h limit (opening_core (design p))
+    (opening_agrees (design p) (lockstep_run p) (plan_is_design p h) (run_is_history p h) limit) actions x s

@@ -1,5 +1,6 @@
 -- The ordinals of a core's accesses: how many elements its earlier steps moved at a side of a channel.
-use Rattle.std.proofs.Common.{◌≡◌, ℕ, zero, suc, ◌+◌, ◌≤◌, ◌<◌, List, [], ◌∷◌, ◌++◌, map, length, Bool, true, false, ◌&&◌, not, cond, refl, sym, ◌∙◌, ap, ap₂, arith, length-append, ◌==◌}
+use Rattle.std.proofs.Common.{◌≡◌, ℕ, zero, suc, ◌+◌, ◌≤◌, ◌<◌, List, [], ◌∷◌, ◌++◌, map, length, Bool, true, false, ◌&&◌, not, cond, refl}
+use Rattle.std.proofs.Common.{sym, ◌∙◌, ap, ap₂, arith, length-append, ◌==◌}
 use Rattle.std.specs.List.{range_with_len}
 use Rattle.std.proofs.lemmas.List.{append-nil, map-append}
 use Rattle.flow_word.specs.declared.access.Side.{Side}
@@ -37,7 +38,8 @@ moves_one : (side : Side) (k : Kind) (q t : Bool) (channel v w : ℕ) → (is_bl
     → cond (is_taking k && (q && (same_side (side_of k) side && t))) 1 0
     ≡ length (cond t (moved_value side (record { request = record { kind = k; channel = channel; value = w }; reply = reply_by k q v })) [])
 moves_one Pop k q t channel v w h = pop_kind k q t v h
-moves_one Push k q t channel v w h = one_long (is_taking k && (q && (same_side (side_of k) Push && t))) w ∙ ap length (push_kind k q t v w h)
+moves_one Push k q t channel v w h = one_long (is_taking k && (q && (same_side (side_of k) Push && t))) w
+    ∙ ap length (push_kind k q t v w h)
 
 moves_all : (values : ℕ → List ℕ) (before : ℕ → ℕ) (side : Side) (f : ℕ) (rs : List Request) (bs : List Bool) → FlagsFit (map seen rs) bs
     → takes_in side f (map seen rs) (replies_of values before (map seen rs) bs)
@@ -53,9 +55,11 @@ moves_all values before side f (r ∷ rs) (b ∷ bs) (h, hs) =
     ∙ sym (length-append _ _)
 
 step_moves : (p : Plan) (x : Core ModuleState) → AreOwnMarks (design p) x → (i k : ℕ) → k < x.emitted i → (side : Side) (f : ℕ)
-    → takes_in side f (core_accesses (design p) x i k) (core_reply (design p) x i k) ≡ length (moved_by side f (core_step p x i k).exchanges)
+    → takes_in side f (core_accesses (design p) x i k) (core_reply (design p) x i k)
+    ≡ length (moved_by side f (core_step p x i k).exchanges)
 step_moves p x b i k l side f =
-    moves_all (core_values (design p) x) (λ g. core_tally (design p) x i Pop g k) side f (requests_of p (i, x.state i k)) (x.flags i k) (b.fit i k l)
+    moves_all (core_values (design p) x) (λ g. core_tally (design p) x i Pop g k) side f (requests_of p (i, x.state i k)) (x.flags i k)
+    (b.fit i k l)
 
 -- ---- all earlier steps
 
@@ -64,16 +68,20 @@ unfolding moved
 one_step side f s = append-nil _
 
 counted : (p : Plan) (x : Core ModuleState) → AreOwnMarks (design p) x → (i : ℕ) (side : Side) (f k : ℕ) → k ≤ x.emitted i
-    → tally (core_accesses (design p) x i) (core_reply (design p) x i) side f k ≡ length (moved side f (map (core_step p x i) (range_with_len 0 k)))
-counted p x b i side f zero l = tally_0 (core_accesses (design p) x i) (core_reply (design p) x i) side f ∙ sym (ap length (moved-nil side f))
+    → tally (core_accesses (design p) x i) (core_reply (design p) x i) side f k
+    ≡ length (moved side f (map (core_step p x i) (range_with_len 0 k)))
+counted p x b i side f zero l = tally_0 (core_accesses (design p) x i) (core_reply (design p) x i) side f
+    ∙ sym (ap length (moved-nil side f))
 counted p x b i side f (suc k) l =
     let before = map (core_step p x i) (range_with_len 0 k) in
     let z : 0 + k ≡ k = omega arith in
     let now : HistoryStep = core_step p x i k in
     let steps : map (core_step p x i) (range_with_len 0 (suc k)) ≡ before ++ now ∷ [] =
-    ap (map (core_step p x i)) (range_more 0 k ∙ ap (λ (j : ℕ). range_with_len 0 k ++ j ∷ []) z) ∙ map-append (core_step p x i) (range_with_len 0 k) (k ∷ []) in
+    ap (map (core_step p x i)) (range_more 0 k ∙ ap (λ (j : ℕ). range_with_len 0 k ++ j ∷ []) z)
+    ∙ map-append (core_step p x i) (range_with_len 0 k) (k ∷ []) in
     tally_more (core_accesses (design p) x i) (core_reply (design p) x i) side f k
-    ∙ (ap₂ (λ (m n : ℕ). m + n) (counted p x b i side f k (omega arith)) (step_moves p x b i k (omega arith) side f ∙ sym (ap length (one_step side f now)))
+    ∙ (ap₂ (λ (m n : ℕ). m + n) (counted p x b i side f k (omega arith))
+    (step_moves p x b i k (omega arith) side f ∙ sym (ap length (one_step side f now)))
     ∙ (sym (length-append (moved side f before) (moved side f (now ∷ [])))
     ∙ ap length (sym (moved-append side f before (now ∷ [])) ∙ ap (moved side f) (sym steps))))
 

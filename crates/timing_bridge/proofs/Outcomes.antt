@@ -1,5 +1,6 @@
 -- A module's next step in the history, and the outcomes of its queries there.
-use Rattle.std.proofs.Common.{◌≡◌, ℕ, zero, suc, ◌+◌, ◌-◌, ◌<◌, Bool, true, false, not, cond, inl, inr, List, [], ◌∷◌, ◌++◌, map, length, refl, sym, ◌∙◌, ap, ap₂, arith, append_assoc, Some}
+use Rattle.std.proofs.Common.{◌≡◌, ℕ, zero, suc, ◌+◌, ◌-◌, ◌<◌, Bool, true, false, not, cond, inl, inr, List, [], ◌∷◌, ◌++◌, map, length}
+use Rattle.std.proofs.Common.{refl, sym, ◌∙◌, ap, ap₂, arith, append_assoc, Some}
 use Rattle.std.specs.List.{AllByRecursion, range_with_len}
 use Rattle.std.proofs.lemmas.Bool.{cases_lt}
 use Rattle.std.proofs.lemmas.List.{append-nil}
@@ -50,7 +51,8 @@ outcome_same Full q v = refl
 
 -- the outcomes in a step of the history are those by what is possible in its clock
 outcomes_same : (p : Plan) (c : ℕ) (rs : List Request) → AllByRecursion (Alike p c) rs
-    → map (λ x. is_yes x.reply) (queries (map (answered p c (state p c).contents) rs)) ≡ outcomes_by rs (possible_all (design p) (lockstep_run p) c (map seen rs))
+    → map (λ x. is_yes x.reply) (queries (map (answered p c (state p c).contents) rs))
+    ≡ outcomes_by rs (possible_all (design p) (lockstep_run p) c (map seen rs))
 unfolding reply
 outcomes_same p c [] h = refl
 outcomes_same p c (r ∷ rs) h =
@@ -60,8 +62,8 @@ outcomes_same p c (r ∷ rs) h =
     let same = outcome_same r.kind q (front (contents_of cs r.channel)) ∙ ap (outcome_of r.kind) (sym (h.0).possible) in
     by_kind (is_blocking r.kind) (answered p c cs r) (queries (map (answered p c cs) rs)) _ _ same rest
   where
-    by_kind : (blocks : Bool) (x : Exchange) (xs : List Exchange) (b : Bool) (bs : List Bool) → is_yes x.reply ≡ b → map (λ x. is_yes x.reply) xs ≡ bs
-        → map (λ x. is_yes x.reply) (cond (not blocks) (x ∷ xs) xs) ≡ cond blocks bs (b ∷ bs)
+    by_kind : (blocks : Bool) (x : Exchange) (xs : List Exchange) (b : Bool) (bs : List Bool) → is_yes x.reply ≡ b
+        → map (λ x. is_yes x.reply) xs ≡ bs → map (λ x. is_yes x.reply) (cond (not blocks) (x ∷ xs) xs) ≡ cond blocks bs (b ∷ bs)
     by_kind true x xs b bs e f = f
     by_kind false x xs b bs e f = ap₂ (λ (y : Bool) (ys : List Bool). y ∷ ys) e f
 
@@ -77,8 +79,11 @@ history_more p c zero = let z : 0 + c ≡ c = omega arith in ([], ap (history p)
 history_more p c (suc n) =
     let (more, e) = history_more p c n in
     let z : suc n + c ≡ suc (n + c) = omega arith in
-    let new = steps_in p (n + c) (state p (n + c)) in
-    (more ++ new, ap (history p) z ∙ (history-suc p (n + c) ∙ (ap (λ (l : List HistoryStep). l ++ new) e ∙ append_assoc (history p c) more new)))
+    let new = steps_in p (n + c) (state p (n + c)) in (
+      more ++ new,
+      ap (history p) z
+          ∙ (history-suc p (n + c) ∙ (ap (λ (l : List HistoryStep). l ++ new) e ∙ append_assoc (history p c) more new)),
+    )
 
 module _ (p : Plan) (fits : FitsEngine p) (limit : ℕ) (x : Core ModuleState) (g : IsAgreed (design p) (lockstep_run p) limit x) (i : ℕ)
     (first : x.timed i < x.emitted i) where
@@ -98,7 +103,8 @@ module _ (p : Plan) (fits : FitsEngine p) (limit : ℕ) (x : Core ModuleState) (
       ∙ (ap (ready d i) (rested ∙ ap (own d i (core_reply d x i)) s.1)
       ∙ sym (g.marks.own_step i (x.timed i) first))
 
-  next_at : (c : ℕ) → IsStepAt (design p) (lockstep_run p) i (x.timed i) c → steps_of i (history p (suc c)) ≡ core_steps p x i ++ done_at p c i ∷ []
+  next_at : (c : ℕ) → IsStepAt (design p) (lockstep_run p) i (x.timed i) c
+      → steps_of i (history p (suc c)) ≡ core_steps p x i ++ done_at p c i ∷ []
   next_at c s =
       steps_of-suc p c i inside
       ∙ ap₂ (λ (a b : List HistoryStep). a ++ b)
@@ -117,52 +123,77 @@ module _ (p : Plan) (fits : FitsEngine p) (limit : ℕ) (x : Core ModuleState) (
             ∙ (filter-append _ (history p (suc c)) more
             ∙ (ap (λ (a : List HistoryStep). a ++ steps_of i more) (next_at c s)
             ∙ append_assoc (core_steps p x i) (done_at p c i ∷ []) (steps_of i more)));
-        requests = requests_asked p c (state p c).contents (requests_of p (i, state_at p c i)) ∙ ap (λ (t : ModuleState). requests_of p (i, t)) (stands c s);
+        requests = requests_asked p c (state p c).contents (requests_of p (i, state_at p c i))
+            ∙ ap (λ (t : ModuleState). requests_of p (i, t)) (stands c s);
       }
 
   -- and its outcomes are those by what is possible then
   pub next_outcomes : (c : ℕ) → IsStepAt (design p) (lockstep_run p) i (x.timed i) c
-      → outcomes (done_at p c i ∷ []) ≡ outcomes_by (first_requests p x i) (possible_all (design p) (lockstep_run p) c (core_accesses (design p) x i (x.timed i)))
+      → outcomes (done_at p c i ∷ [])
+      ≡ outcomes_by (first_requests p x i) (possible_all (design p) (lockstep_run p) c (core_accesses (design p) x i (x.timed i)))
   next_outcomes c s =
       append-nil _
       ∙ (outcomes_same p c (requests_of p (i, state_at p c i)) (alike p fits c i (state_at p c i))
-      ∙ ap (λ (t : ModuleState). outcomes_by (requests_of p (i, t)) (possible_all (design p) (lockstep_run p) c (map seen (requests_of p (i, t))))) (stands c s))
+      ∙ ap (λ (t : ModuleState). outcomes_by (requests_of p (i, t))
+      (possible_all (design p) (lockstep_run p) c (map seen (requests_of p (i, t))))) (stands c s))
 
   -- the verified outcomes of the first step without a cycle
   pub verified_outcomes : x.verified i (x.timed i) ≡ true → has_query (core_accesses (design p) x i (x.timed i)) ≡ true
       → (s : HistoryStep) × IsNextStep p x i limit s × (outcomes (s ∷ []) ≡ outcomes_by (first_requests p x i) (x.flags i (x.timed i)))
   verified_outcomes v q =
-      let (c, l, s) = g.time.first_happens i first v q in
-      (done_at p c i, next_step c limit s l, next_outcomes c s ∙ ap (outcomes_by (first_requests p x i)) (sym (g.time.first_flags i first v c s.0 s.1)))
+      let (c, l, s) = g.time.first_happens i first v q in (
+        done_at p c i,
+        next_step c limit s l,
+        next_outcomes c s
+            ∙ ap (outcomes_by (first_requests p x i)) (sym (g.time.first_flags i first v c s.0 s.1)),
+      )
 
-module _ (p : Plan) (fits : FitsEngine p) (limit : ℕ) (x : Core ModuleState) (g : IsAgreed (design p) (lockstep_run p) limit x) (i c : ℕ) where
+module _ (p : Plan) (fits : FitsEngine p) (limit : ℕ) (x : Core ModuleState) (g : IsAgreed (design p) (lockstep_run p) limit x)
+    (i c : ℕ) where
   found_at : candidate (design p) (view (design p) x) i ≡ Some c → IsStepAt (design p) (lockstep_run p) i (x.timed i) c
   found_at e =
       let d = design p in
       let w = lockstep_run p in
-      let a = agrees d w limit x g.marks g.time in
-      (candidate_steps d w (plan_is_design p fits) (run_is_history p fits) (view d x) a i c e, candidate_done d w (plan_is_design p fits) (run_is_history p fits) (view d x) a i c e)
+      let a = agrees d w limit x g.marks g.time in (
+        candidate_steps d w (plan_is_design p fits) (run_is_history p fits) (view d x) a i c e,
+        candidate_done d w
+            (plan_is_design p fits) (run_is_history p fits) (view d x) a i c e,
+      )
 
   -- the step of a determined candidate
   pub determined_step : candidate (design p) (view (design p) x) i ≡ Some c → (s : HistoryStep) × (s.clock ≡ c) × IsNextStep p x i (suc c) s
-  determined_step e = (done_at p c i, refl, next_step p fits limit x g i (first_emitted (design p) x i c e) c (suc c) (found_at e) (omega arith))
+  determined_step e = (
+    done_at p c i,
+    refl,
+    next_step p fits limit x g i (first_emitted (design p) x i c e) c (suc c) (found_at e)
+        (omega arith),
+  )
 
   -- what is found for its queries, by an Answer or by an Earliest
   found_outcomes : candidate (design p) (view (design p) x) i ≡ Some c → c < limit
       → new_flags (design p) x i c ≡ possible_all (design p) (lockstep_run p) c (core_accesses (design p) x i (x.timed i))
-      → (s : HistoryStep) × (s.clock ≡ c) × IsNextStep p x i limit s × (outcomes (s ∷ []) ≡ outcomes_by (first_requests p x i) (new_flags (design p) x i c))
+      → (s : HistoryStep) × (s.clock ≡ c) × IsNextStep p x i limit s
+      × (outcomes (s ∷ []) ≡ outcomes_by (first_requests p x i) (new_flags (design p) x i c))
   found_outcomes e l f =
       let first = first_emitted (design p) x i c e in
-      let s = found_at e in
-      (done_at p c i, refl, next_step p fits limit x g i first c limit s l, next_outcomes p fits limit x g i first c s ∙ ap (outcomes_by (first_requests p x i)) (sym f))
+      let s = found_at e in (
+        done_at p c i,
+        refl,
+        next_step p fits limit x g i first c limit s l,
+        next_outcomes p fits limit x g i first c s
+            ∙ ap (outcomes_by (first_requests p x i)) (sym f),
+      )
 
   pub answered_outcomes : MayAnswer (design p) limit x i c
-      → (s : HistoryStep) × (s.clock ≡ c) × IsNextStep p x i limit s × (outcomes (s ∷ []) ≡ outcomes_by (first_requests p x i) (new_flags (design p) x i c))
+      → (s : HistoryStep) × (s.clock ≡ c) × IsNextStep p x i limit s
+      × (outcomes (s ∷ []) ≡ outcomes_by (first_requests p x i) (new_flags (design p) x i c))
   answered_outcomes r =
-      found_outcomes r.determined.at r.determined.below (answer_found (design p) (lockstep_run p) (plan_is_design p fits) (run_is_history p fits) limit x g i c r)
+      found_outcomes r.determined.at r.determined.below
+      (answer_found (design p) (lockstep_run p) (plan_is_design p fits) (run_is_history p fits) limit x g i c r)
 
   pub earliest_outcomes : MayEarliest (design p) limit x i c
-      → (s : HistoryStep) × (s.clock ≡ c) × IsNextStep p x i limit s × (outcomes (s ∷ []) ≡ outcomes_by (first_requests p x i) (new_flags (design p) x i c))
+      → (s : HistoryStep) × (s.clock ≡ c) × IsNextStep p x i limit s
+      × (outcomes (s ∷ []) ≡ outcomes_by (first_requests p x i) (new_flags (design p) x i c))
   earliest_outcomes r =
       found_outcomes r.open_step.determined.at r.open_step.determined.below
       (earliest_found (design p) (lockstep_run p) (plan_is_design p fits) (run_is_history p fits) limit x g i c r)

@@ -1,6 +1,7 @@
 -- A module's own run, local clock by local clock, is the theory's own run: its steps come after the quiet clocks.
-use Rattle.std.proofs.Common.{◌≡◌, ℕ, zero, suc, ◌+◌, ◌≤◌, ◌<◌, List, [], ◌∷◌, ◌++◌, length, get_or, Bool, true, false, cond, refl, sym, ◌∙◌, ap, ap₂, subst, arith, inl, inr, length-append, zero-add}
-use Rattle.std.proofs.lemmas.Bool.{cases_lt, both_ways, or_from, or_right, cond_both}
+use Rattle.std.proofs.Common.{◌≡◌, ℕ, zero, suc, ◌+◌, ◌≤◌, ◌<◌, List, [], ◌∷◌, ◌++◌, length, get_or, Bool, true, false, cond, refl, sym}
+use Rattle.std.proofs.Common.{◌∙◌, ap, ap₂, subst, arith, inl, inr, length-append, zero-add}
+use Rattle.std.proofs.lemmas.Bool.{cases_lt, both_ways, or_from, or_right}
 use Rattle.std.proofs.lemmas.List.{get_or-map}
 use Rattle.std.proofs.lemmas.List.FromFn.{length-map-range_with_len, get_or-map-range_with_len}
 use Rattle.flow_design.specs.declared.plan.Plan.{Plan}
@@ -13,7 +14,7 @@ use Rattle.lockstep_defs.specs.Lockstep.{no_module, module_at, requests_of}
 use Rattle.lockstep_defs.specs.OwnRun.{Own, OwnStep, own_after, own_next}
 use Rattle.lockstep_defs.specs.OwnRun as real
 use Rattle.lockstep_defs.specs.Quiet.{is_some_request, rests, quiet, fits}
-use Rattle.lockstep_defs.proofs.Agrees.{own_suc}
+use Rattle.lockstep_defs.proofs.Agrees.{own_suc, next_grows}
 use Rattle.event_timing.specs.Machines.{skip, ready}
 use Rattle.event_timing.specs.Machines as theory
 use Rattle.event_timing.specs.Views.{own}
@@ -24,8 +25,8 @@ use Rattle.timing_bridge.specs.Designs.{design, told_all, move_in}
 use Rattle.timing_bridge.specs.OwnRuns.{AreTold, core_replies, clocks_of_steps, IsOwnStep, AreOwnSteps, HasComeTo}
 use Rattle.timing_bridge.proofs.Quiet.{goes, ready_rests, first_fits, next_fits}
 
-steps_more : (p : Plan) (i : ℕ) (r : ℕ → List theory.Reply) (k n : ℕ) (ss : List OwnStep) (s : OwnStep) → k + length ss ≡ n → AreOwnSteps p i r k ss
-    → IsOwnStep p i r n s → AreOwnSteps p i r k (ss ++ s ∷ [])
+steps_more : (p : Plan) (i : ℕ) (r : ℕ → List theory.Reply) (k n : ℕ) (ss : List OwnStep) (s : OwnStep) → k + length ss ≡ n
+    → AreOwnSteps p i r k ss → IsOwnStep p i r n s → AreOwnSteps p i r k (ss ++ s ∷ [])
 steps_more p i r k n [] s e h one = let z : k ≡ n = omega arith in (subst (λ (j : ℕ). IsOwnStep p i r j s) (sym z) one, tt)
 steps_more p i r k n (x ∷ ss) s e h one = (h.0, steps_more p i r (suc k) n ss s (omega arith) h.1 one)
 
@@ -38,7 +39,8 @@ own_fits : (p : Plan) → FitsEngine p → (i : ℕ) (r : ℕ → List theory.Re
 own_fits p h i r zero = ap (fits p i) (own_0 (design p) i r) ∙ first_fits p h i
 own_fits p h i r (suc k) =
     let s = own (design p) i r k in
-    ap (fits p i) (own_more (design p) i r k) ∙ next_fits p h i (ready (design p) i s) (r k) (skip_fits p h i (quiet p i s) s (own_fits p h i r k))
+    ap (fits p i) (own_more (design p) i r k)
+    ∙ next_fits p h i (ready (design p) i s) (r k) (skip_fits p h i (quiet p i s) s (own_fits p h i r k))
 
 -- ---- where it rests, the quiet clocks are over
 
@@ -48,8 +50,8 @@ at_rest p i n s l e = elim (cases_lt n (quiet p i s)) [
   | inr q ↦ omega arith
 ]
 
-not_at_rest : (p : Plan) → FitsEngine p → (i n : ℕ) (s : ModuleState) → fits p i s ≡ true → n ≤ quiet p i s → rests p i (skip (design p) i n s) ≡ false
-    → n < quiet p i s
+not_at_rest : (p : Plan) → FitsEngine p → (i n : ℕ) (s : ModuleState) → fits p i s ≡ true → n ≤ quiet p i s
+    → rests p i (skip (design p) i n s) ≡ false → n < quiet p i s
 not_at_rest p h i n s f l e = elim (cases_lt n (quiet p i s)) [
   | inl q ↦ q
   | inr q ↦
@@ -59,19 +61,21 @@ not_at_rest p h i n s f l e = elim (cases_lt n (quiet p i s)) [
 
 -- ---- one local clock
 
-one_more : (p : Plan) → FitsEngine p → (i : ℕ) (r : ℕ → List theory.Reply) (replies : List (List Reply)) → AreTold p i r replies → (o : Own) (t : ℕ)
-    → HasComeTo p i r o t → is_over p.ops o.state ≡ false
-    → (rs : List Request) → requests_of p (i, o.state) ≡ rs → length (own_after (module_at p i) o rs (get_or replies (length o.steps) [])).steps ≤ length replies
+one_more : (p : Plan) → FitsEngine p → (i : ℕ) (r : ℕ → List theory.Reply) (replies : List (List Reply)) → AreTold p i r replies
+    → (o : Own) (t : ℕ) → HasComeTo p i r o t → is_over p.ops o.state ≡ false → (rs : List Request) → requests_of p (i, o.state) ≡ rs
+    → length (own_after (module_at p i) o rs (get_or replies (length o.steps) [])).steps ≤ length replies
     → (u : ℕ) × HasComeTo p i r (own_after (module_at p i) o rs (get_or replies (length o.steps) [])) u
 one_more p h i r replies tells o t g lives [] e l =
     let s = own (design p) i r (length o.steps) in
     let none : rests p i o.state ≡ false = or_from _ _ lives (ap is_some_request e) in
-    let less = not_at_rest p h i t s (own_fits p h i r (length o.steps)) g.within (subst (λ (z : ModuleState). rests p i z ≡ false) g.state_is none) in
+    let less = not_at_rest p h i t s (own_fits p h i r (length o.steps)) g.within
+    (subst (λ (z : ModuleState). rests p i z ≡ false) g.state_is none) in
     let since = g.since_is in (
       suc t,
       record {
         steps_are = g.steps_are;
-        state_is = ap (λ (l : List Request). move (module_at p i) o.state (told_all l [])) (sym e) ∙ ap (λ (z : ModuleState). move_in p i z []) g.state_is;
+        state_is = ap (λ (l : List Request). move (module_at p i) o.state (told_all l [])) (sym e)
+            ∙ ap (λ (z : ModuleState). move_in p i z []) g.state_is;
         since_is = omega arith;
         within = omega arith;
       },
@@ -90,7 +94,8 @@ one_more p h i r replies tells o t g lives (x ∷ rs) e l =
     } in
     let n : length (o.steps ++ step ∷ []) ≡ suc k = omega (arith, length-append o.steps (step ∷ [])) in
     let moved : move (module_at p i) o.state (get_or replies k []) ≡ own (design p) i r (suc k) =
-    ap₂ (λ (z : ModuleState) (qs : List Reply). move (module_at p i) z qs) here (sym (tells k (omega arith))) ∙ sym (own_more (design p) i r k) in (
+    ap₂ (λ (z : ModuleState) (qs : List Reply). move (module_at p i) z qs) here (sym (tells k (omega arith)))
+    ∙ sym (own_more (design p) i r k) in (
       0,
       record {
         steps_are = steps_more p i r 0 k o.steps step (zero-add k) g.steps_are one;
@@ -100,8 +105,8 @@ one_more p h i r replies tells o t g lives (x ∷ rs) e l =
       },
     )
 
-next_is : (p : Plan) → FitsEngine p → (i : ℕ) (r : ℕ → List theory.Reply) (replies : List (List Reply)) → AreTold p i r replies → (o : Own) (t : ℕ)
-    → HasComeTo p i r o t
+next_is : (p : Plan) → FitsEngine p → (i : ℕ) (r : ℕ → List theory.Reply) (replies : List (List Reply)) → AreTold p i r replies
+    → (o : Own) (t : ℕ) → HasComeTo p i r o t
     → length (own_next p i replies o).steps ≤ length replies → (u : ℕ) × HasComeTo p i r (own_next p i replies o) u
 unfolding own_next
 next_is p h i r replies tells o t g = by_test (is_over p.ops o.state) (one_more p h i r replies tells o t g)
@@ -110,20 +115,12 @@ next_is p h i r replies tells o t g = by_test (is_over p.ops o.state) (one_more 
     goes_on = own_after (module_at p i) o (requests p.design.channels (module_at p i) o.state) (get_or replies (length o.steps) [])
 
     by_test : (b : Bool)
-        → (b ≡ false → (rs : List Request) → requests_of p (i, o.state) ≡ rs → length (own_after (module_at p i) o rs (get_or replies (length o.steps) [])).steps ≤ length replies
+        → (b ≡ false → (rs : List Request) → requests_of p (i, o.state) ≡ rs
+        → length (own_after (module_at p i) o rs (get_or replies (length o.steps) [])).steps ≤ length replies
         → (u : ℕ) × HasComeTo p i r (own_after (module_at p i) o rs (get_or replies (length o.steps) [])) u)
         → length (cond b o goes_on).steps ≤ length replies → (u : ℕ) × HasComeTo p i r (cond b o goes_on) u
     by_test true f l = (t, g)
     by_test false f l = f refl (requests_of p (i, o.state)) refl l
-
-after_grows : (p : Plan) (i : ℕ) (o : Own) (rs : List Request) (qs : List Reply) → length o.steps ≤ length (own_after (module_at p i) o rs qs).steps
-after_grows p i o [] qs = omega arith
-after_grows p i o (x ∷ rs) qs = omega (arith, length-append {A = OwnStep})
-
-next_grows : (p : Plan) (i : ℕ) (replies : List (List Reply)) (o : Own) → length o.steps ≤ length (own_next p i replies o).steps
-unfolding own_next
-next_grows p i replies o =
-    cond_both (is_over p.ops o.state) o _ (λ (z : Own). length o.steps ≤ length z.steps) (λ e. omega arith) (λ e. after_grows p i o (requests_of p (i, o.state)) (get_or replies (length o.steps) []))
 
 -- ---- the whole run
 
@@ -143,7 +140,8 @@ pub own_is : (p : Plan) → FitsEngine p → (i : ℕ) → i < length p.design.m
 own_is p h i inside r replies tells zero l = (0, first_is p i inside r replies)
 own_is p h i inside r replies tells (suc n) l =
     let o = real.own p i replies n in
-    let more : length (own_next p i replies o).steps ≤ length replies = subst (λ (z : Own). length z.steps ≤ length replies) (own_suc p i replies n) l in
+    let more : length (own_next p i replies o).steps ≤ length replies =
+    subst (λ (z : Own). length z.steps ≤ length replies) (own_suc p i replies n) l in
     let (t, g) = own_is p h i inside r replies tells n (omega (arith, next_grows p i replies o)) in
     let (u, z) = next_is p h i r replies tells o t g more in
     (u, subst (λ (w : Own). HasComeTo p i r w u) (sym (own_suc p i replies n)) z)

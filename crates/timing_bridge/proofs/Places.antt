@@ -1,8 +1,10 @@
 -- The steps of a core that are sorted by cycles and modules stand in order.
-use Rattle.std.proofs.Common.{◌≡◌, ℕ, zero, suc, ◌+◌, ◌≤◌, ◌<◌, Bool, false, cond, ◌&&◌, ◌⊎◌, inl, inr, List, [], ◌∷◌, ◌++◌, map, length, get_or, eqb, ltb, refl, sym, ◌∙◌, ap, ap₂, subst, arith, zero-add}
+use Rattle.std.proofs.Common.{◌≡◌, ℕ, zero, suc, ◌+◌, ◌≤◌, ◌<◌, Bool, false, cond, ◌&&◌, ◌⊎◌, inl, inr, List, [], ◌∷◌, ◌++◌, map, length}
+use Rattle.std.proofs.Common.{get_or, eqb, ltb, refl, sym, ◌∙◌, ap, ap₂, subst, arith, zero-add}
 use Rattle.std.specs.Prelude.{IsSortedBy, AllPairs, flat_map, sum_by, ⊤}
 use Rattle.std.specs.List.{AllByRecursion, range_with_len}
-use Rattle.std.proofs.lemmas.Bool.{cases_eq, cases_lt, cases_order, eq-eqb, ne_eqb, ltb-false, lt-ltb, or_parts, and_from, both_ways, cond-true, cond-false}
+use Rattle.std.proofs.lemmas.Bool.{cases_eq, cases_lt, cases_order, eq-eqb, ne_eqb, ltb-false, lt-ltb, or_parts, and_from, both_ways}
+use Rattle.std.proofs.lemmas.Bool.{cond-true, cond-false}
 use Rattle.std.proofs.lemmas.List.Elements.{All-from_recursion}
 use Rattle.std.proofs.lemmas.List.Kept.{AllPairs-cons}
 use Rattle.std.proofs.lemmas.List.Sorted.{sum_by-IsPermutation}
@@ -117,7 +119,13 @@ no_row count i k b zero l = refl
 no_row count i k b (suc c) l =
     let apart : b ≡ i → ⊥ = λ e. elim l [ inl p ↦ omega arith | inr p ↦ omega arith ] in
     let further : (i < b + 1) ⊎ ((b + 1) + c ≤ i) = elim l [ inl p ↦ inl (omega arith) | inr p ↦ inr (omega arith) ] in
-    omega (arith, at_place_append i k (row count b) (flat_map (row count) (range_with_len (b + 1) c)), row_other i k b (range_with_len 0 (count b)) apart, no_row count i k (b + 1) c further)
+    omega (
+      arith,
+      at_place_append i k (row count b) (flat_map (row count) (range_with_len (b + 1) c)),
+      row_other i k b
+          (range_with_len 0 (count b)) apart,
+      no_row count i k (b + 1) c further,
+    )
 
 one_row : (count : ℕ → ℕ) (i k b c : ℕ) → b ≤ i → i < b + c
     → at_place i k (flat_map (row count) (range_with_len b c)) ≡ times k (range_with_len 0 (count i))
@@ -172,10 +180,12 @@ module _ (x : Core ModuleState) where
   up (a ∷ []) h = (tt, tt)
   up (a ∷ b ∷ places) h =
       let one : 0 + 1 ≡ 1 = omega arith in
-      let first = at_most a b (subst (λ (n : ℕ). comes_before x (get_or (a ∷ b ∷ places) n a) a ≡ false) one (h 0 a (omega arith) (omega arith))) in
+      let first = at_most a b (subst (λ (n : ℕ). comes_before x (get_or (a ∷ b ∷ places) n a) a ≡ false) one
+      (h 0 a (omega arith) (omega arith))) in
       let rest = up (b ∷ places) (λ k d l m.
       let next : suc k + 1 ≡ suc (k + 1) = omega arith in
-      subst (λ (n : ℕ). comes_before x (get_or (a ∷ b ∷ places) n d) (get_or (b ∷ places) k d) ≡ false) next (h (suc k) d (omega arith) (omega arith))) in
+      subst (λ (n : ℕ). comes_before x (get_or (a ∷ b ∷ places) n d) (get_or (b ∷ places) k d) ≡ false) next
+      (h (suc k) d (omega arith) (omega arith))) in
       ((first, after_first a b first places rest.0), rest)
 
 -- the numbers of a module's steps among the places
@@ -199,7 +209,8 @@ numbers_times i k (a ∷ places) =
     ]
 
 -- each of these places stands in the list
-all_there : (all places : List (ℕ × ℕ)) → ((i k : ℕ) → at_place i k places ≤ at_place i k all) → AllByRecursion (λ a. 1 ≤ at_place a.0 a.1 all) places
+all_there : (all places : List (ℕ × ℕ)) → ((i k : ℕ) → at_place i k places ≤ at_place i k all)
+    → AllByRecursion (λ a. 1 ≤ at_place a.0 a.1 all) places
 all_there all [] f = tt
 all_there all (a ∷ places) f = (
   omega (arith, f a.0 a.1, is_at_here a.0 a.1 a refl refl),
@@ -280,7 +291,8 @@ module _ (p : Plan) (limit : ℕ) (x : Core ModuleState) (g : IsAgreed (design p
         | inr e ↦
             let other = ne_eqb a.0 i e in
             cond-false (eqb a.0 i) (step ∷ rest) rest other
-            ∙ (steps_numbers i places ∙ ap (map (core_step p x i)) (sym (cond-false (eqb a.0 i) (a.1 ∷ numbers i places) (numbers i places) other)))
+            ∙ (steps_numbers i places
+            ∙ ap (map (core_step p x i)) (sym (cond-false (eqb a.0 i) (a.1 ∷ numbers i places) (numbers i places) other)))
       ]
 
   numbers_above : (i : ℕ) (a : ℕ × ℕ) → a.0 ≡ i → a.1 < x.timed a.0 → (places : List (ℕ × ℕ)) → AllByRecursion (AtMost x a) places
@@ -289,8 +301,10 @@ module _ (p : Plan) (limit : ℕ) (x : Core ModuleState) (g : IsAgreed (design p
   numbers_above i a e l (b ∷ places) u =
       let rest = numbers_above i a e l places u.1 in
       elim (cases_eq b.0 i) [
-        | inl f ↦ subst (AllByRecursion (λ m. a.1 ≤ m)) (sym (cond-true (eqb b.0 i) (b.1 ∷ numbers i places) (numbers i places) (eq-eqb b.0 i f))) (not_less (f ∙ sym e) u.0, rest)
-        | inr f ↦ subst (AllByRecursion (λ m. a.1 ≤ m)) (sym (cond-false (eqb b.0 i) (b.1 ∷ numbers i places) (numbers i places) (ne_eqb b.0 i f))) rest
+        | inl f ↦ subst (AllByRecursion (λ m. a.1 ≤ m))
+            (sym (cond-true (eqb b.0 i) (b.1 ∷ numbers i places) (numbers i places) (eq-eqb b.0 i f))) (not_less (f ∙ sym e) u.0, rest)
+        | inr f ↦ subst (AllByRecursion (λ m. a.1 ≤ m))
+            (sym (cond-false (eqb b.0 i) (b.1 ∷ numbers i places) (numbers i places) (ne_eqb b.0 i f))) rest
       ]
     where
       no_earlier : AtMost x a b → x.cycle a.0 a.1 ≤ x.cycle b.0 b.1
@@ -312,7 +326,8 @@ module _ (p : Plan) (limit : ℕ) (x : Core ModuleState) (g : IsAgreed (design p
       let rest = numbers_climb i places u.1 (λ j k. omega (arith, t j k)) in
       let l = timed_there (a ∷ places) t a.0 a.1 (omega (arith, is_at_here a.0 a.1 a refl refl)) in
       elim (cases_eq a.0 i) [
-        | inl e ↦ subst Climbs (sym (cond-true (eqb a.0 i) (a.1 ∷ numbers i places) (numbers i places) (eq-eqb a.0 i e))) (numbers_above i a e l places u.0, rest)
+        | inl e ↦ subst Climbs (sym (cond-true (eqb a.0 i) (a.1 ∷ numbers i places) (numbers i places) (eq-eqb a.0 i e)))
+            (numbers_above i a e l places u.0, rest)
         | inr e ↦ subst Climbs (sym (cond-false (eqb a.0 i) (a.1 ∷ numbers i places) (numbers i places) (ne_eqb a.0 i e))) rest
       ]
 
@@ -321,9 +336,12 @@ module _ (p : Plan) (limit : ℕ) (x : Core ModuleState) (g : IsAgreed (design p
   sorted_steps places s =
       let u = up x places s.sorted in
       let same : (i k : ℕ) → at_place i k places ≡ times k (range_with_len 0 (x.timed i)) = λ i k.
-      sym (at_place_is i k places) ∙ (sum_by-IsPermutation (is_at i k) (core_places p x) places s.all ∙ (at_place_is i k (core_places p x) ∙ counted i k)) in
+      sym (at_place_is i k places)
+      ∙ (sum_by-IsPermutation (is_at i k) (core_places p x) places s.all ∙ (at_place_is i k (core_places p x) ∙ counted i k)) in
       let t : AreTimed places = λ i k. omega (arith, same i k) in
       record {
         rising = rising places u t;
-        each = λ i. steps_numbers i places ∙ ap (map (core_step p x i)) (only_range (numbers i places) 0 (x.timed i) (numbers_climb i places u t) (λ k. numbers_times i k places ∙ same i k));
+        each = λ i. steps_numbers i places
+            ∙ ap (map (core_step p x i))
+            (only_range (numbers i places) 0 (x.timed i) (numbers_climb i places u t) (λ k. numbers_times i k places ∙ same i k));
       }

@@ -1,5 +1,6 @@
 -- The quiet clocks of a module are those that the theory wants.
-use Rattle.std.proofs.Common.{◌≡◌, ℕ, zero, suc, ◌≤◌, ◌<◌, List, [], ◌∷◌, map, length, Bool, true, false, ◌||◌, refl, ◌∙◌, ap, arith, inl, inr}
+use Rattle.std.proofs.Common.{◌≡◌, ℕ, zero, suc, ◌≤◌, ◌<◌, List, [], ◌∷◌, map, length, Bool, true, false, ◌||◌, refl, ◌∙◌, ap, arith, inl}
+use Rattle.std.proofs.Common.{inr}
 use Rattle.std.proofs.lemmas.Bool.{cases_lt, or_parts, both_ways}
 use Rattle.std.proofs.lemmas.List.{get_or-map, get_or_past, length-map}
 use Rattle.flow_design.specs.declared.plan.Plan.{Plan}
@@ -25,7 +26,8 @@ told_none (r ∷ rs) = refl
 pub skip_same : (p : Plan) (i n : ℕ) (s : ModuleState) → skip (design p) i n s ≡ real.skip p i n s
 skip_same p i zero s = refl
 skip_same p i (suc n) s =
-    ap (λ (replies : List Reply). move (module_at p i) (skip (design p) i n s) replies) (told_none (requests_of p (i, skip (design p) i n s)))
+    ap (λ (replies : List Reply). move (module_at p i) (skip (design p) i n s) replies)
+    (told_none (requests_of p (i, skip (design p) i n s)))
     ∙ ap (λ (t : ModuleState). move (module_at p i) t []) (skip_same p i n s)
 
 -- where a request is, an access is
@@ -50,7 +52,7 @@ quiet_idle p i s n l =
 pub ready_rests : (p : Plan) → FitsEngine p → (i : ℕ) (s : ModuleState) → fits p i s ≡ true → rests p i (ready (design p) i s) ≡ true
 ready_rests p h i s f = ap (rests p i) (skip_same p i (quiet p i s) s) ∙ quiet_rests p h i s f
 
-second_of : (a b : Bool) → (a || b) ≡ true → a ≡ false → b ≡ true
+pub second_of : (a b : Bool) → (a || b) ≡ true → a ≡ false → b ≡ true
 second_of true b h e = cc
 second_of false b h e = h
 

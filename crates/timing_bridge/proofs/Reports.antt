@@ -1,15 +1,15 @@
 -- The report of a final core is the plan's.
-use Rattle.std.proofs.Common.{◌≡◌, ℕ, zero, suc, ◌+◌, ◌≤◌, ◌<◌, List, [], ◌∷◌, map, length, Bool, true, false, ◌||◌, refl, sym, ◌∙◌, ap, ap₂, subst, arith, inl, inr, Some, None, Option}
+use Rattle.std.proofs.Common.{◌≡◌, ℕ, zero, suc, ◌+◌, ◌≤◌, ◌<◌, List, [], ◌∷◌, map, length, true, false, ◌||◌, refl, sym, ◌∙◌, ap}
+use Rattle.std.proofs.Common.{ap₂, subst, arith, inl, inr, Some, None, Option}
 use Rattle.std.specs.Prelude.{nat_lt, is_some}
-use Rattle.std.specs.List.{filter_map, range_with_len, list_all, list_any}
+use Rattle.std.specs.List.{filter_map, range_with_len, list_any}
 use Rattle.std.proofs.lemmas.Bool.{cases_lt, cases_eq, cases_Bool, cond-false, cond_both, le-ltb, ltb-true, ltb-false, or_parts, both_ways}
 use Rattle.flow_design.specs.declared.plan.Plan.{Plan}
 use Rattle.flow_design.specs.declared.report.Verdict.{Verdict}
 use Rattle.flow_design.specs.declared.report.Verdict.TheVariants.{Done, Deadlock, Cycles, Ops}
-use Rattle.flow_design.specs.declared.state.ClockState.{ClockState}
 use Rattle.flow_design.specs.declared.state.ModuleState.{ModuleState}
 use Rattle.flow_design.specs.StaticRules.{FitsEngine}
-use Rattle.lockstep_defs.specs.Machine.{nobody, is_spent}
+use Rattle.lockstep_defs.specs.Machine.{nobody}
 use Rattle.lockstep_defs.specs.Channels.{HistoryStep}
 use Rattle.lockstep_defs.specs.Lockstep.{state, history}
 use Rattle.lockstep_defs.specs.Verdict.{settled_verdict, verdict, clock_of, held_in, held}
@@ -24,12 +24,14 @@ use Rattle.event_timing.proofs.OwnRuns.{own_0}
 use Rattle.event_timing.proofs.Verdict.{done_last}
 use Rattle.event_timing.proofs.FinalReport.{done_limit}
 use Rattle.timing_bridge.specs.Designs.{design, lockstep_run}
-use Rattle.timing_bridge.specs.CoreReports.{core_steps, AreInOrder, modules_of, core_states, last_stop, is_determined, core_verdict, core_held_by, core_held, core_report}
-use Rattle.timing_bridge.proofs.Quiet.{nobody_quiet, opening_past}
+use Rattle.timing_bridge.specs.CoreReports.{core_steps, AreInOrder, modules_of, core_states, last_stop, is_determined, core_verdict}
+use Rattle.timing_bridge.specs.CoreReports.{core_held_by, core_held, core_report}
+use Rattle.timing_bridge.proofs.Quiet.{nobody_quiet, opening_past, second_of}
 use Rattle.timing_bridge.proofs.History.{plan_is_design, run_is_history}
 use Rattle.timing_bridge.proofs.Steps.{all_steps, events_are}
 use Rattle.timing_bridge.proofs.Settling.{last_states, held_all, outputs_are}
 use Rattle.timing_bridge.proofs.Verdicts.{final_settled, final_cut, final_late}
+use Rattle.lockstep_defs.proofs.Exits.{clock_settled}
 
 -- ---- answers
 
@@ -46,9 +48,10 @@ answers_are p h limit x g c all =
 
 -- ---- the report
 
-report_from : (p : Plan) → FitsEngine p → (limit : ℕ) (x : Core ModuleState) → IsAgreed (design p) (lockstep_run p) limit x → (ss : List HistoryStep)
-    → AreInOrder p x ss → (v : Verdict) → verdict p ≡ v
-    → ((i : ℕ) → done (design p) (lockstep_run p) i (clock_of v) ≡ x.timed i) → held p v (state p (clock_of v)) ≡ core_held p x v → report p ≡ core_report p x ss v
+report_from : (p : Plan) → FitsEngine p → (limit : ℕ) (x : Core ModuleState) → IsAgreed (design p) (lockstep_run p) limit x
+    → (ss : List HistoryStep) → AreInOrder p x ss → (v : Verdict) → verdict p ≡ v
+    → ((i : ℕ) → done (design p) (lockstep_run p) i (clock_of v) ≡ x.timed i) → held p v (state p (clock_of v)) ≡ core_held p x v
+    → report p ≡ core_report p x ss v
 unfolding report
 report_from p h limit x g ss o v e all held_same =
     ap (report_at p) e
@@ -61,51 +64,56 @@ report_from p h limit x g ss o v e all held_same =
       answers = answers_are p h limit x g (clock_of v) all i;
     })
 
-pub clock_settled : (p : Plan) (c : ℕ) (st : ClockState) → clock_of (settled_verdict p c st) ≡ c
-clock_settled p c st =
-    cond_both (list_all (λ s. s.ended) st.modules) (Done c) _ (λ (v : Verdict). clock_of v ≡ c) (λ e. refl)
-    (λ e. cond_both (list_any (is_spent p.ops) st.modules) (Ops c) (Deadlock c) (λ (v : Verdict). clock_of v ≡ c) (λ d. refl) (λ d. refl))
-
 -- no step is determined: the verdict's clock is the last stop
-report_rested : (p : Plan) → FitsEngine p → (x : Core ModuleState) → IsAgreed (design p) (lockstep_run p) p.cycles x → IsFinal (design p) p.cycles x
-    → IsUndetermined (design p) x
-    → (last : ℕ) → ((i : ℕ) → stop (design p) x i ≤ last) → (m : ℕ) → stop (design p) x m ≡ last → last ≤ p.cycles → (ss : List HistoryStep) → AreInOrder p x ss
-    → report p ≡ core_report p x ss (settled_verdict p last (core_states p x))
+report_rested : (p : Plan) → FitsEngine p → (x : Core ModuleState) → IsAgreed (design p) (lockstep_run p) p.cycles x
+    → IsFinal (design p) p.cycles x → IsUndetermined (design p) x
+    → (last : ℕ) → ((i : ℕ) → stop (design p) x i ≤ last) → (m : ℕ) → stop (design p) x m ≡ last → last ≤ p.cycles
+    → (ss : List HistoryStep) → AreInOrder p x ss → report p ≡ core_report p x ss (settled_verdict p last (core_states p x))
 report_rested p h x g f u last top m e l ss o =
     let states = last_states p h p.cycles x g f u last top in
     let v = settled_verdict p last (core_states p x) in
-    let is : verdict p ≡ v = final_settled p h x g f u last top m e l ∙ ap (λ (ms : List ModuleState). settled_verdict p last (record { modules = ms; contents = [] })) states in
-    let all = λ (i : ℕ). let t = top i in done_last (design p) (lockstep_run p) (plan_is_design p h) (run_is_history p h) p.cycles x g f u i last (omega arith) in
+    let is : verdict p ≡ v = final_settled p h x g f u last top m e l
+    ∙ ap (λ (ms : List ModuleState). settled_verdict p last (record { modules = ms; contents = [] })) states in
+    let all = λ (i : ℕ). let t = top i in
+    done_last (design p) (lockstep_run p) (plan_is_design p h) (run_is_history p h) p.cycles x g f u i last (omega arith) in
     by_verdict v is (clock_settled p last (core_states p x)) all (held_all p h p.cycles x g f u last top)
   where
     by_verdict : (v : Verdict) → verdict p ≡ v → clock_of v ≡ last → ((i : ℕ) → done (design p) (lockstep_run p) i last ≡ x.timed i)
         → held_in p last (state p last) ≡ filter_map (core_held_by p x) (modules_of p) → report p ≡ core_report p x ss v
-    by_verdict (Done c) is k all q = report_from p h p.cycles x g ss o (Done c) is (λ i. ap (done (design p) (lockstep_run p) i) k ∙ all i) refl
-    by_verdict (Deadlock c) is k all q = report_from p h p.cycles x g ss o (Deadlock c) is (λ i. ap (done (design p) (lockstep_run p) i) k ∙ all i) (subst (λ (n : ℕ). held_in p n (state p n) ≡ filter_map (core_held_by p x) (modules_of p)) (sym k) q)
-    by_verdict (Cycles c) is k all q = report_from p h p.cycles x g ss o (Cycles c) is (λ i. ap (done (design p) (lockstep_run p) i) k ∙ all i) refl
-    by_verdict (Ops c) is k all q = report_from p h p.cycles x g ss o (Ops c) is (λ i. ap (done (design p) (lockstep_run p) i) k ∙ all i) (subst (λ (n : ℕ). held_in p n (state p n) ≡ filter_map (core_held_by p x) (modules_of p)) (sym k) q)
+    by_verdict (Done c) is k all q =
+        report_from p h p.cycles x g ss o (Done c) is (λ i. ap (done (design p) (lockstep_run p) i) k ∙ all i) refl
+    by_verdict (Deadlock c) is k all q =
+        report_from p h p.cycles x g ss o (Deadlock c) is (λ i. ap (done (design p) (lockstep_run p) i) k ∙ all i)
+        (subst (λ (n : ℕ). held_in p n (state p n) ≡ filter_map (core_held_by p x) (modules_of p)) (sym k) q)
+    by_verdict (Cycles c) is k all q =
+        report_from p h p.cycles x g ss o (Cycles c) is (λ i. ap (done (design p) (lockstep_run p) i) k ∙ all i) refl
+    by_verdict (Ops c) is k all q =
+        report_from p h p.cycles x g ss o (Ops c) is (λ i. ap (done (design p) (lockstep_run p) i) k ∙ all i)
+        (subst (λ (n : ℕ). held_in p n (state p n) ≡ filter_map (core_held_by p x) (modules_of p)) (sym k) q)
 
 -- a step is determined, or the last stop is above the limit: the verdict is the limit's
-report_cut : (p : Plan) → FitsEngine p → (x : Core ModuleState) → IsAgreed (design p) (lockstep_run p) p.cycles x → IsFinal (design p) p.cycles x
-    → verdict p ≡ Cycles p.cycles → (ss : List HistoryStep) → AreInOrder p x ss
+report_cut : (p : Plan) → FitsEngine p → (x : Core ModuleState) → IsAgreed (design p) (lockstep_run p) p.cycles x
+    → IsFinal (design p) p.cycles x → verdict p ≡ Cycles p.cycles → (ss : List HistoryStep) → AreInOrder p x ss
     → report p ≡ core_report p x ss (Cycles p.cycles)
-report_cut p h x g f e ss o = report_from p h p.cycles x g ss o (Cycles p.cycles) e (λ i. done_limit (design p) (lockstep_run p) (plan_is_design p h) (run_is_history p h) p.cycles x g f i) refl
+report_cut p h x g f e ss o =
+    report_from p h p.cycles x g ss o (Cycles p.cycles) e
+    (λ i. done_limit (design p) (lockstep_run p) (plan_is_design p h) (run_is_history p h) p.cycles x g f i) refl
 
 -- ---- numbers that name no module
 
-no_steps_beyond : (p : Plan) (limit : ℕ) (x : Core ModuleState) → IsAgreed (design p) (lockstep_run p) limit x → (i : ℕ) → length p.design.modules ≤ i
-    → (x.emitted i ≡ 0) × (x.timed i ≡ 0)
+no_steps_beyond : (p : Plan) (limit : ℕ) (x : Core ModuleState) → IsAgreed (design p) (lockstep_run p) limit x → (i : ℕ)
+    → length p.design.modules ≤ i → (x.emitted i ≡ 0) × (x.timed i ≡ 0)
 no_steps_beyond p limit x g i l = let e = g.marks.inside i l in (e, omega (arith, g.time.within i))
 
-none_beyond : (p : Plan) (limit : ℕ) (x : Core ModuleState) → IsAgreed (design p) (lockstep_run p) limit x → (i : ℕ) → length p.design.modules ≤ i
-    → candidate (design p) (view (design p) x) i ≡ None
+none_beyond : (p : Plan) (limit : ℕ) (x : Core ModuleState) → IsAgreed (design p) (lockstep_run p) limit x → (i : ℕ)
+    → length p.design.modules ≤ i → candidate (design p) (view (design p) x) i ≡ None
 unfolding candidate
 none_beyond p limit x g i l =
     let (z, y) = no_steps_beyond p limit x g i l in
     cond-false (nat_lt (x.timed i) (x.emitted i)) _ None (le-ltb (x.timed i) (x.emitted i) (omega arith))
 
-stop_beyond : (p : Plan) (limit : ℕ) (x : Core ModuleState) → IsAgreed (design p) (lockstep_run p) limit x → (i : ℕ) → length p.design.modules ≤ i
-    → stop (design p) x i ≡ 0
+stop_beyond : (p : Plan) (limit : ℕ) (x : Core ModuleState) → IsAgreed (design p) (lockstep_run p) limit x → (i : ℕ)
+    → length p.design.modules ≤ i → stop (design p) x i ≡ 0
 stop_beyond p limit x g i l =
     let e = no_steps_beyond p limit x g i l in
     let d = design p in
@@ -126,19 +134,25 @@ undetermined_by p x a (suc n) h i c l m e =
       | inr k ↦ undetermined_by p x (a + 1) n parts.1 i c (omega arith) (omega arith) e
     ]
 
-determined_by : (p : Plan) (x : Core ModuleState) (a n : ℕ) → list_any (λ i. is_some (candidate (design p) (view (design p) x) i)) (range_with_len a n) ≡ true
+determined_by : (p : Plan) (x : Core ModuleState) (a n : ℕ)
+    → list_any (λ i. is_some (candidate (design p) (view (design p) x) i)) (range_with_len a n) ≡ true
     → (i : ℕ) × (c : ℕ) × (candidate (design p) (view (design p) x) i ≡ Some c)
 determined_by p x a zero h = cc
 determined_by p x a (suc n) h = by_option (candidate (design p) (view (design p) x) a) refl (determined_by p x (a + 1) n) h
   where
     by_option : (o : Option ℕ) → candidate (design p) (view (design p) x) a ≡ o
-        → (list_any (λ i. is_some (candidate (design p) (view (design p) x) i)) (range_with_len (a + 1) n) ≡ true → (i : ℕ) × (c : ℕ) × (candidate (design p) (view (design p) x) i ≡ Some c))
-        → (is_some (candidate (design p) (view (design p) x) a) || list_any (λ i. is_some (candidate (design p) (view (design p) x) i)) (range_with_len (a + 1) n)) ≡ true
+        → (list_any (λ i. is_some (candidate (design p) (view (design p) x) i)) (range_with_len (a + 1) n) ≡ true
+        → (i : ℕ) × (c : ℕ) × (candidate (design p) (view (design p) x) i ≡ Some c))
+        → (is_some (candidate (design p) (view (design p) x) a) || list_any (λ i. is_some (candidate (design p) (view (design p) x) i))
+        (range_with_len (a + 1) n)) ≡ true
         → (i : ℕ) × (c : ℕ) × (candidate (design p) (view (design p) x) i ≡ Some c)
     by_option (Some c) e rest h = (a, c, e)
-    by_option None e rest h = rest (ap (λ (o : Option ℕ). is_some o || list_any (λ i. is_some (candidate (design p) (view (design p) x) i)) (range_with_len (a + 1) n)) (sym e) ∙ h)
+    by_option None e rest h =
+        rest (ap (λ (o : Option ℕ). is_some o || list_any (λ i. is_some (candidate (design p) (view (design p) x) i))
+        (range_with_len (a + 1) n)) (sym e) ∙ h)
 
-undetermined : (p : Plan) (x : Core ModuleState) → IsAgreed (design p) (lockstep_run p) p.cycles x → is_determined p x ≡ false → IsUndetermined (design p) x
+undetermined : (p : Plan) (x : Core ModuleState) → IsAgreed (design p) (lockstep_run p) p.cycles x → is_determined p x ≡ false
+    → IsUndetermined (design p) x
 undetermined p x g t m c k = elim (cases_lt m (length p.design.modules)) [
   | inl l ↦ undetermined_by p x 0 (length p.design.modules) t m c (omega arith) (omega arith) k
   | inr l ↦ let z = none_beyond p p.cycles x g m l in cc
@@ -160,13 +174,9 @@ stop_there p x o (suc n) e =
       | inr l ↦ (n, omega arith)
     ]
 
-second_of : (a b : Bool) → (a || b) ≡ true → a ≡ false → b ≡ true
-second_of true b h e = cc
-second_of false b h e = h
-
 -- the report of every final core is the plan's
-pub every_report : (p : Plan) → FitsEngine p → (x : Core ModuleState) → IsAgreed (design p) (lockstep_run p) p.cycles x → IsFinal (design p) p.cycles x
-    → (ss : List HistoryStep) → AreInOrder p x ss → report p ≡ core_report p x ss (core_verdict p x)
+pub every_report : (p : Plan) → FitsEngine p → (x : Core ModuleState) → IsAgreed (design p) (lockstep_run p) p.cycles x
+    → IsFinal (design p) p.cycles x → (ss : List HistoryStep) → AreInOrder p x ss → report p ≡ core_report p x ss (core_verdict p x)
 unfolding core_verdict
 every_report p h x g f ss o =
     let count = length p.design.modules in
@@ -177,7 +187,8 @@ every_report p h x g f ss o =
       | inr l ↦ let z = stop_beyond p p.cycles x g i l in omega arith
     ] in
     let there = stop_there p x count count outer in
-    cond_both (is_determined p x || nat_lt p.cycles last) (Cycles p.cycles) (settled_verdict p last (core_states p x)) (λ (v : Verdict). report p ≡ core_report p x ss v)
+    cond_both (is_determined p x || nat_lt p.cycles last) (Cycles p.cycles) (settled_verdict p last (core_states p x))
+    (λ (v : Verdict). report p ≡ core_report p x ss v)
     (λ e. elim (cases_Bool (is_determined p x)) [
       | inl t ↦ let (m, c, k) = determined_by p x 0 count t in report_cut p h x g f (final_cut p h x g f m c k) ss o
       | inr t ↦

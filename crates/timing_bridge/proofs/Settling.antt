@@ -1,5 +1,6 @@
 -- What the lockstep machine shows at a settled clock, read off a final core.
-use Rattle.std.proofs.Common.{◌≡◌, ℕ, zero, suc, ◌+◌, ◌≤◌, ◌<◌, List, [], ◌∷◌, ◌++◌, map, length, get_or, drop, Bool, true, false, ◌&&◌, not, cond, max, refl, sym, ◌∙◌, ap, ap₂, subst, arith, inl, inr, Some, None, Option, zero-add}
+use Rattle.std.proofs.Common.{◌≡◌, ℕ, zero, suc, ◌+◌, ◌≤◌, ◌<◌, List, [], ◌∷◌, ◌++◌, map, length, get_or, drop, Bool, true, false, ◌&&◌}
+use Rattle.std.proofs.Common.{not, cond, max, refl, sym, ◌∙◌, ap, ap₂, subst, arith, inl, inr, Some, None, Option, zero-add}
 use Rattle.std.specs.List.{find, filter, filter_map, enumerate_from, cons_option, AllByRecursion, range_with_len}
 use Rattle.std.specs.Prelude.{option_map, nat_lt}
 use Rattle.std.proofs.lemmas.Bool.{cases_lt, cond-true, cond-false, lt-ltb, le-ltb, le-leb}
@@ -51,9 +52,8 @@ use Rattle.timing_bridge.proofs.History.{plan_is_design, run_is_history}
 -- ---- states
 
 -- from its stop on a module has the state behind its steps and quiet clocks
-last_state : (p : Plan) → FitsEngine p → (limit : ℕ) (x : Core ModuleState) → IsAgreed (design p) (lockstep_run p) limit x → IsFinal (design p) limit x
-    → IsUndetermined (design p) x → (c i : ℕ) → stop (design p) x i ≤ c
-    → state_at p c i ≡ core_state p x i
+last_state : (p : Plan) → FitsEngine p → (limit : ℕ) (x : Core ModuleState) → IsAgreed (design p) (lockstep_run p) limit x
+    → IsFinal (design p) limit x → IsUndetermined (design p) x → (c i : ℕ) → stop (design p) x i ≤ c → state_at p c i ≡ core_state p x i
 last_state p h limit x g f u c i l =
     let d = design p in
     let w = lockstep_run p in
@@ -67,12 +67,13 @@ last_state p h limit x g f u c i l =
     late_ready d w is hist i c (omega arith) ∙ ap (ready d i) rest
 
 -- all states at once
-pub last_states : (p : Plan) → FitsEngine p → (limit : ℕ) (x : Core ModuleState) → IsAgreed (design p) (lockstep_run p) limit x → IsFinal (design p) limit x
-    → IsUndetermined (design p) x → (c : ℕ) → ((i : ℕ) → stop (design p) x i ≤ c)
+pub last_states : (p : Plan) → FitsEngine p → (limit : ℕ) (x : Core ModuleState) → IsAgreed (design p) (lockstep_run p) limit x
+    → IsFinal (design p) limit x → IsUndetermined (design p) x → (c : ℕ) → ((i : ℕ) → stop (design p) x i ≤ c)
     → (state p c).modules ≡ map (core_state p x) (modules_of p)
 last_states p h limit x g f u c top =
     let n = all_modules p c in
-    same_lists (state p c).modules (map (core_state p x) (modules_of p)) (n ∙ sym (length-map-range_with_len (core_state p x) 0 (length p.design.modules)))
+    same_lists (state p c).modules (map (core_state p x) (modules_of p))
+    (n ∙ sym (length-map-range_with_len (core_state p x) 0 (length p.design.modules)))
     (λ k d l.
     let inside : k < length p.design.modules = omega arith in
     get_or_default (state p c).modules k d nobody l
@@ -102,7 +103,8 @@ late_answer Unknown c l = refl
 
 -- late enough a request stalls where the core does not know from when on it is possible
 stalls_alike : (p : Plan) (x : Core ModuleState) (c i : ℕ) (rs : List Request) → latest_asked p x i rs ≤ c → AllByRecursion (Alike p c) rs
-    → Each (λ a. counted.is_possible (design p) (lockstep_run p) c a.side a.channel ≡ answer (known_of (design p) (view (design p) x) i a) c) (map seen rs)
+    → Each (λ a. counted.is_possible (design p) (lockstep_run p) c a.side a.channel
+    ≡ answer (known_of (design p) (view (design p) x) i a) c) (map seen rs)
     → AllByRecursion (λ r. stalls p c (state p c).contents r ≡ is_stuck p x i r) rs
 stalls_alike p x c i [] late h e = tt
 stalls_alike p x c i (r ∷ rs) late h e = (
@@ -124,9 +126,11 @@ late_as_ready p c n same late r =
     ∙ ap (λ (st : ClockState). stalls p (n + c) st.contents r) (sym same))
 
 -- a module that is not over is held by the first request that the core knows to be stuck
-held_is : (p : Plan) → FitsEngine p → (limit : ℕ) (x : Core ModuleState) → IsAgreed (design p) (lockstep_run p) limit x → IsFinal (design p) limit x
+held_is : (p : Plan) → FitsEngine p → (limit : ℕ) (x : Core ModuleState) → IsAgreed (design p) (lockstep_run p) limit x
+    → IsFinal (design p) limit x
     → IsUndetermined (design p) x → (c : ℕ) → ((i : ℕ) → stop (design p) x i ≤ c) → (i : ℕ) → x.timed i < x.emitted i
-    → held_by p c (all_ready (state p c).contents) (i, state_at p c i) ≡ option_map (held_at i) (find (is_stuck p x i) (requests_of p (i, x.state i (x.timed i))))
+    → held_by p c (all_ready (state p c).contents) (i, state_at p c i)
+    ≡ option_map (held_at i) (find (is_stuck p x i) (requests_of p (i, x.state i (x.timed i))))
 held_is p h limit x g f u c top i more =
     let d = design p in
     let w = lockstep_run p in
@@ -141,18 +145,20 @@ held_is p h limit x g f u c top i more =
     let right = held_right d w (plan_is_design p h) (run_is_history p h) limit x g f u i (n + c) more (omega arith) in
     let lives : is_over p.ops now ≡ false = ap (is_over p.ops) at_c ∙ g.marks.lives i (x.timed i) more in
     let stuck = stalls_alike p x (n + c) i asked (omega arith) (alike p h (n + c) i (x.state i (x.timed i))) right.1 in
-    let alike_all = all_by (λ r. stalls p (n + c) (state p (n + c)).contents r ≡ is_stuck p x i r) (λ r. stalls p c (all_ready cs) r ≡ is_stuck p x i r)
+    let alike_all = all_by (λ r. stalls p (n + c) (state p (n + c)).contents r ≡ is_stuck p x i r)
+    (λ r. stalls p c (all_ready cs) r ≡ is_stuck p x i r)
     (λ r e. late_as_ready p c n same (omega arith) r ∙ e) asked stuck in
     cond-false (is_over p.ops now) None _ lives
     ∙ ap (option_map (held_at i))
     (ap (λ (s : ModuleState). find (stalls p c (all_ready cs)) (requests_of p (i, s))) at_c
     ∙ find_alike (stalls p c (all_ready cs)) (is_stuck p x i) asked alike_all)
 
-held_one : (p : Plan) → FitsEngine p → (limit : ℕ) (x : Core ModuleState) → IsAgreed (design p) (lockstep_run p) limit x → IsFinal (design p) limit x
-    → IsUndetermined (design p) x → (c : ℕ) → ((i : ℕ) → stop (design p) x i ≤ c) → (i : ℕ)
+held_one : (p : Plan) → FitsEngine p → (limit : ℕ) (x : Core ModuleState) → IsAgreed (design p) (lockstep_run p) limit x
+    → IsFinal (design p) limit x → IsUndetermined (design p) x → (c : ℕ) → ((i : ℕ) → stop (design p) x i ≤ c) → (i : ℕ)
     → held_by p c (all_ready (state p c).contents) (i, state_at p c i) ≡ core_held_by p x i
 held_one p h limit x g f u c top i = elim (cases_lt (x.timed i) (x.emitted i)) [
-  | inl m ↦ held_is p h limit x g f u c top i m ∙ sym (cond-true (nat_lt (x.timed i) (x.emitted i)) _ None (lt-ltb (x.timed i) (x.emitted i) m))
+  | inl m ↦ held_is p h limit x g f u c top i m
+      ∙ sym (cond-true (nat_lt (x.timed i) (x.emitted i)) _ None (lt-ltb (x.timed i) (x.emitted i) m))
   | inr m ↦
       let none = le-ltb (x.timed i) (x.emitted i) m in
       let over = stuck_ended (design p) (lockstep_run p) (plan_is_design p h) limit x g.marks g.time f.quiet i none in
@@ -161,21 +167,24 @@ held_one p h limit x g f u c top i = elim (cases_lt (x.timed i) (x.emitted i)) [
 ]
 
 by_number : (F : ℕ × ModuleState → Option Held) (G : ℕ → Option Held) (n : ℕ) (ss : List ModuleState)
-    → ((j : ℕ) → j < length ss → F (n + j, get_or ss j nobody) ≡ G (n + j)) → filter_map F (enumerate_from n ss) ≡ filter_map G (range_with_len n (length ss))
+    → ((j : ℕ) → j < length ss → F (n + j, get_or ss j nobody) ≡ G (n + j))
+    → filter_map F (enumerate_from n ss) ≡ filter_map G (range_with_len n (length ss))
 by_number F G n [] h = refl
 by_number F G n (s ∷ ss) h =
     let z : n + 0 ≡ n = omega arith in
     ap₂ (λ (o : Option Held) (l : List Held). cons_option o l) (ap (λ (i : ℕ). F (i, s)) (sym z) ∙ (h 0 (omega arith) ∙ ap G z))
-    (by_number F G (n + 1) ss (λ j l. let q : (n + 1) + j ≡ n + suc j = omega arith in ap (λ (i : ℕ). F (i, get_or ss j nobody)) q ∙ (h (suc j) (omega arith) ∙ ap G (sym q))))
+    (by_number F G (n + 1) ss (λ j l. let q : (n + 1) + j ≡ n + suc j = omega arith in
+    ap (λ (i : ℕ). F (i, get_or ss j nobody)) q ∙ (h (suc j) (omega arith) ∙ ap G (sym q))))
 
-pub held_all : (p : Plan) → FitsEngine p → (limit : ℕ) (x : Core ModuleState) → IsAgreed (design p) (lockstep_run p) limit x → IsFinal (design p) limit x
-    → IsUndetermined (design p) x → (c : ℕ) → ((i : ℕ) → stop (design p) x i ≤ c)
+pub held_all : (p : Plan) → FitsEngine p → (limit : ℕ) (x : Core ModuleState) → IsAgreed (design p) (lockstep_run p) limit x
+    → IsFinal (design p) limit x → IsUndetermined (design p) x → (c : ℕ) → ((i : ℕ) → stop (design p) x i ≤ c)
     → held_in p c (state p c) ≡ filter_map (core_held_by p x) (modules_of p)
 held_all p h limit x g f u c top =
     by_number (held_by p c (all_ready (state p c).contents)) (core_held_by p x) 0 (state p c).modules
     (λ j l.
     let z : 0 + j ≡ j = omega arith in
-    ap (λ (i : ℕ). held_by p c (all_ready (state p c).contents) (i, state_at p c j)) z ∙ (held_one p h limit x g f u c top j ∙ ap (core_held_by p x) (sym z)))
+    ap (λ (i : ℕ). held_by p c (all_ready (state p c).contents) (i, state_at p c j)) z
+    ∙ (held_one p h limit x g f u c top j ∙ ap (core_held_by p x) (sym z)))
     ∙ ap (λ (n : ℕ). filter_map (core_held_by p x) (range_with_len 0 n)) (all_modules p c)
 
 -- ---- outputs
@@ -188,7 +197,8 @@ sink_port (Fifo declared delay) side s h e = cc
 
 -- nobody pops a sink
 no_popper : (p : Plan) (f i : ℕ) → is_sink (kind_at p f) ≡ true → StandsElsewhere p Pop f i
-no_popper p f i s r h e k = sink_port (kind_at p f) (side_of r.kind) s (subst (λ (g : ℕ). has_port (kind_at p g) (side_of r.kind) ≡ true) e h.is_there) k
+no_popper p f i s r h e k =
+    sink_port (kind_at p f) (side_of r.kind) s (subst (λ (g : ℕ). has_port (kind_at p g) (side_of r.kind) ≡ true) e h.is_there) k
 
 none_popped : (p : Plan) → FitsEngine p → (f : ℕ) → is_sink (kind_at p f) ≡ true → (c : ℕ) → moved Pop f (history p c) ≡ []
 none_popped p h f s zero = ap (moved Pop f) (history-zero p) ∙ moved-nil Pop f
@@ -196,7 +206,8 @@ none_popped p h f s (suc c) =
     let o = owner p (record { side = Pop; channel = f }) in
     ap (moved Pop f) (history-suc p c)
     ∙ (moved-append Pop f (history p c) (steps_in p c (state p c))
-    ∙ ap₂ (λ (x y : List ℕ). x ++ y) (none_popped p h f s c) (moved_in p h c Pop f ∙ none_shared p h c (state p c).contents Pop f o (no_popper p f o s) (state_at p c o)))
+    ∙ ap₂ (λ (x y : List ℕ). x ++ y) (none_popped p h f s c)
+    (moved_in p h c Pop f ∙ none_shared p h c (state p c).contents Pop f o (no_popper p f o s) (state_at p c o)))
 
 -- a sink holds all that came
 sink_holds : (p : Plan) → FitsEngine p → (f : ℕ) → f < length p.design.channels → is_sink (kind_at p f) ≡ true → (c : ℕ)
@@ -206,10 +217,11 @@ sink_holds p h f l s c =
     ∙ ap (λ (vs : List ℕ). drop (length vs) (all_in p c f)) (none_popped p h f s c)
 
 sink_is : (p : Plan) → FitsEngine p → (limit : ℕ) (x : Core ModuleState) → IsAgreed (design p) (lockstep_run p) limit x → (c : ℕ)
-    → ((i : ℕ) → done (design p) (lockstep_run p) i c ≡ x.timed i)
-    → (f : ℕ) → f < length p.design.channels → is_sink (kind_at p f) ≡ true → values (contents_of (state p c).contents f) ≡ sink_values p x f
+    → ((i : ℕ) → done (design p) (lockstep_run p) i c ≡ x.timed i) → (f : ℕ) → f < length p.design.channels → is_sink (kind_at p f) ≡ true
+    → values (contents_of (state p c).contents f) ≡ sink_values p x f
 sink_is p h limit x g c all f l s =
-    sink_holds p h f l s c ∙ outputs_right (design p) (lockstep_run p) (plan_is_design p h) (run_is_history p h) limit x g f c (all (owner p (record { side = Push; channel = f })))
+    sink_holds p h f l s c ∙ outputs_right (design p) (lockstep_run p) (plan_is_design p h) (run_is_history p h) limit x g f c
+    (all (owner p (record { side = Push; channel = f })))
 
 map_chosen : (F G : ℕ → List ℕ) (t : ℕ → Bool) (n k : ℕ) → ((f : ℕ) → f < n + k → t f ≡ true → F f ≡ G f)
     → map F (filter t (range_with_len n k)) ≡ map G (filter t (range_with_len n k))
@@ -217,14 +229,15 @@ map_chosen F G t n zero h = refl
 map_chosen F G t n (suc k) h = by_test (t n) refl (map_chosen F G t (n + 1) k (λ f l e. h f (omega arith) e))
   where
     by_test : (b : Bool) → t n ≡ b → map F (filter t (range_with_len (n + 1) k)) ≡ map G (filter t (range_with_len (n + 1) k))
-        → map F (cond b (n ∷ filter t (range_with_len (n + 1) k)) (filter t (range_with_len (n + 1) k))) ≡ map G (cond b (n ∷ filter t (range_with_len (n + 1) k)) (filter t (range_with_len (n + 1) k)))
+        → map F (cond b (n ∷ filter t (range_with_len (n + 1) k)) (filter t (range_with_len (n + 1) k)))
+        ≡ map G (cond b (n ∷ filter t (range_with_len (n + 1) k)) (filter t (range_with_len (n + 1) k)))
     by_test true e rest = ap₂ (λ (vs : List ℕ) (l : List (List ℕ)). vs ∷ l) (h n (omega arith) e) rest
     by_test false e rest = rest
 
 -- in a clock up to which the core has each step
 pub outputs_are : (p : Plan) → FitsEngine p → (limit : ℕ) (x : Core ModuleState) → IsAgreed (design p) (lockstep_run p) limit x → (c : ℕ)
-    → ((i : ℕ) → done (design p) (lockstep_run p) i c ≡ x.timed i)
-    → outputs_in p (state p c) ≡ map (sink_values p x) (sinks p)
+    → ((i : ℕ) → done (design p) (lockstep_run p) i c ≡ x.timed i) → outputs_in p (state p c) ≡ map (sink_values p x) (sinks p)
 outputs_are p h limit x g c all =
-    map_chosen (λ f. values (contents_of (state p c).contents f)) (sink_values p x) (λ f. is_sink (kind_at p f)) 0 (length p.design.channels)
+    map_chosen (λ f. values (contents_of (state p c).contents f)) (sink_values p x) (λ f. is_sink (kind_at p f)) 0
+    (length p.design.channels)
     (λ f l s. sink_is p h limit x g c all f (omega arith) s)

@@ -1,5 +1,6 @@
 -- A module's steps in the history are those that an agreeing core has.
-use Rattle.std.proofs.Common.{◌≡◌, ℕ, zero, suc, ◌+◌, ◌≤◌, ◌<◌, List, [], ◌∷◌, ◌++◌, map, length, true, false, refl, sym, ◌∙◌, ap, ap₂, arith, ◌⊎◌, inl, inr, ◌==◌}
+use Rattle.std.proofs.Common.{◌≡◌, ℕ, zero, suc, ◌+◌, ◌≤◌, ◌<◌, List, [], ◌∷◌, ◌++◌, map, length, true, false, refl, sym, ◌∙◌, ap, ap₂}
+use Rattle.std.proofs.Common.{arith, ◌⊎◌, inl, inr, ◌==◌}
 use Rattle.std.specs.List.{range_with_len, AllByRecursion}
 use Rattle.std.proofs.lemmas.Bool.{cases_Bool, cases_lt, cond-true, cond-false, and_cases, both_ways, ne_eqb}
 use Rattle.std.proofs.lemmas.List.{append-nil, map-append}
@@ -8,12 +9,12 @@ use Rattle.flow_design.specs.declared.state.Element.{Element}
 use Rattle.flow_design.specs.declared.state.ModuleState.{ModuleState}
 use Rattle.flow_design.specs.declared.state.Request.{Request}
 use Rattle.flow_design.specs.StaticRules.{FitsEngine}
-use Rattle.lockstep_defs.specs.Channels.{HistoryStep, Exchange, reply}
+use Rattle.lockstep_defs.specs.Channels.{HistoryStep, Exchange}
 use Rattle.lockstep_defs.specs.Lockstep.{requests_of, moves, answered, step_with, step_of, state, state_at, history}
 use Rattle.lockstep_defs.specs.Report.{steps_of}
 use Rattle.lockstep_defs.specs.OwnRun.{paired}
 use Rattle.lockstep_defs.proofs.Settled.{history-zero}
-use Rattle.lockstep_defs.proofs.Agrees.{steps_of-suc}
+use Rattle.lockstep_defs.proofs.Agrees.{steps_of-suc, paired_answered}
 use Rattle.lockstep_defs.proofs.Order.{only_history, history_numbers}
 use Rattle.event_timing.specs.Machines.{is_some_access, ready}
 use Rattle.event_timing.specs.Histories.{replies}
@@ -32,10 +33,6 @@ use Rattle.timing_bridge.proofs.History.{plan_is_design, run_is_history, moves_s
 
 -- ---- one clock
 
-paired_answers : (p : Plan) (c : ℕ) (cs : List (List Element)) (rs : List Request) → paired rs (map (reply p c cs) rs) ≡ map (answered p c cs) rs
-paired_answers p c cs [] = refl
-paired_answers p c cs (r ∷ rs) = ap (λ (l : List Exchange). answered p c cs r ∷ l) (paired_answers p c cs rs)
-
 -- what module i does in clock c, as a step
 abbrev pub done_at : Plan → ℕ → ℕ → HistoryStep
 done_at p c i = record { clock = c; «module» = i; exchanges = map (answered p c (state p c).contents) (requests_of p (i, state_at p c i)) }
@@ -45,7 +42,8 @@ step_some : (c i : ℕ) (p : Plan) (cs : List (List Element)) (rs : List Request
 step_some c i p cs [] h = cc
 step_some c i p cs (r ∷ rs) h = refl
 
-step_none : (c i : ℕ) (p : Plan) (cs : List (List Element)) (rs : List Request) → is_some_access (map seen rs) ≡ false → step_with c i (map (answered p c cs) rs) ≡ []
+step_none : (c i : ℕ) (p : Plan) (cs : List (List Element)) (rs : List Request) → is_some_access (map seen rs) ≡ false
+    → step_with c i (map (answered p c cs) rs) ≡ []
 step_none c i p cs [] h = refl
 step_none c i p cs (r ∷ rs) h = cc
 
@@ -54,7 +52,8 @@ steps_parts : (p : Plan) (c i : ℕ) → steps (design p) (lockstep_run p) c i �
 unfolding steps
 steps_parts p c i h = and_cases _ _ h
 
-no_step : (p : Plan) → FitsEngine p → (c i : ℕ) → steps (design p) (lockstep_run p) c i ≡ false → step_of p c (state p c).contents (i, state_at p c i) ≡ []
+no_step : (p : Plan) → FitsEngine p → (c i : ℕ) → steps (design p) (lockstep_run p) c i ≡ false
+    → step_of p c (state p c).contents (i, state_at p c i) ≡ []
 no_step p h c i s =
     let cs = (state p c).contents in
     let xs = map (answered p c cs) (requests_of p (i, state_at p c i)) in
@@ -62,7 +61,8 @@ no_step p h c i s =
       | inr e ↦ cond-false (moves p c cs (i, state_at p c i)) (step_with c i xs) [] e
       | inl e ↦ elim (steps_parts p c i s) [
         | inl m ↦ absurd (both_ways _ (sym (moves_same p h c i) ∙ m) e)
-        | inr a ↦ cond-true (moves p c cs (i, state_at p c i)) (step_with c i xs) [] e ∙ step_none c i p cs (requests_of p (i, state_at p c i)) a
+        | inr a ↦ cond-true (moves p c cs (i, state_at p c i)) (step_with c i xs) [] e
+            ∙ step_none c i p cs (requests_of p (i, state_at p c i)) a
       ]
     ]
 
@@ -71,7 +71,8 @@ pub a_step : (p : Plan) → FitsEngine p → (c i : ℕ) → steps (design p) (l
 a_step p h c i s =
     let cs = (state p c).contents in
     let xs = map (answered p c cs) (requests_of p (i, state_at p c i)) in
-    cond-true (moves p c cs (i, state_at p c i)) (step_with c i xs) [] (sym (moves_same p h c i) ∙ steps_moves (design p) (lockstep_run p) c i s)
+    cond-true (moves p c cs (i, state_at p c i)) (step_with c i xs) []
+    (sym (moves_same p h c i) ∙ steps_moves (design p) (lockstep_run p) c i s)
     ∙ step_some c i p cs (requests_of p (i, state_at p c i)) (steps_some (design p) (lockstep_run p) c i s)
 
 -- ---- the core's step is that of the history's clock
@@ -89,13 +90,14 @@ core_step_is p h limit x g c i k s e l =
     let in_emitted : k < x.emitted i = omega (arith, g.time.within i) in
     let here : state_at p c i ≡ x.state i k =
     step_ready d w is hist i c s
-    ∙ (ap (ready d i) (rest_own d w is hist i (core_reply d x i) c (follows d w (view d x) a i c (omega arith)) ∙ ap (own d i (core_reply d x i)) e)
+    ∙ (ap (ready d i) (rest_own d w is hist i (core_reply d x i) c (follows d w (view d x) a i c (omega arith))
+    ∙ ap (own d i (core_reply d x i)) e)
     ∙ sym (g.marks.own_step i k in_emitted)) in
     let told : core_reply d x i k ≡ replies d w c i = g.time.reply_then i k l ∙ ap (λ (n : ℕ). replies d w n i) clock in
     let asked = requests_of p (i, state_at p c i) in
     let moving = sym (moves_same p h c i) ∙ steps_moves d w c i s in
     let done_is : map (answered p c (state p c).contents) asked ≡ paired asked (told_all asked (core_reply d x i k)) =
-    sym (ap (paired asked) (ap (told_all asked) told ∙ replies_same p h c i moving) ∙ paired_answers p c (state p c).contents asked) in
+    sym (ap (paired asked) (ap (told_all asked) told ∙ replies_same p h c i moving) ∙ paired_answered p c (state p c).contents asked) in
     ap₂ (λ (n : ℕ) (xs : List Exchange). record { clock = n; «module» = i; exchanges = xs }) (sym clock)
     (done_is ∙ ap (λ (t : ModuleState). paired (requests_of p (i, t)) (told_all (requests_of p (i, t)) (core_reply d x i k))) here)
 
@@ -109,9 +111,10 @@ range_more a (suc n) =
 
 -- a module's steps before a clock up to which the core has them all
 pub steps_are : (p : Plan) → FitsEngine p → (limit : ℕ) (x : Core ModuleState) → IsAgreed (design p) (lockstep_run p) limit x → (i : ℕ)
-    → i < length p.design.modules → (c : ℕ)
-    → done (design p) (lockstep_run p) i c ≤ x.timed i → steps_of i (history p c) ≡ map (core_step p x i) (range_with_len 0 (done (design p) (lockstep_run p) i c))
-steps_are p h limit x g i inside zero l = ap (steps_of i) (history-zero p) ∙ ap (λ (n : ℕ). map (core_step p x i) (range_with_len 0 n)) (sym (done_0 (design p) (lockstep_run p) i))
+    → i < length p.design.modules → (c : ℕ) → done (design p) (lockstep_run p) i c ≤ x.timed i
+    → steps_of i (history p c) ≡ map (core_step p x i) (range_with_len 0 (done (design p) (lockstep_run p) i c))
+steps_are p h limit x g i inside zero l = ap (steps_of i) (history-zero p)
+    ∙ ap (λ (n : ℕ). map (core_step p x i) (range_with_len 0 n)) (sym (done_0 (design p) (lockstep_run p) i))
 steps_are p h limit x g i inside (suc c) l =
     let d = design p in
     let w = lockstep_run p in
@@ -124,7 +127,8 @@ steps_are p h limit x g i inside (suc c) l =
       | inl s ↦
           let up = done_more d w i c s in
           let k : 0 + n ≡ n = omega arith in
-          ap (λ (l : List HistoryStep). before ++ l) (a_step p h c i s ∙ ap (λ (t : HistoryStep). t ∷ []) (core_step_is p h limit x g c i n s refl (omega arith)))
+          ap (λ (l : List HistoryStep). before ++ l)
+          (a_step p h c i s ∙ ap (λ (t : HistoryStep). t ∷ []) (core_step_is p h limit x g c i n s refl (omega arith)))
           ∙ (ap (λ (j : ℕ). before ++ core_step p x i j ∷ []) (sym k)
           ∙ (sym (map-append (core_step p x i) (range_with_len 0 n) ((0 + n) ∷ []))
           ∙ ap (map (core_step p x i)) (sym (range_more 0 n) ∙ ap (range_with_len 0) (sym up))))
@@ -142,19 +146,18 @@ none_beyond i n (s ∷ ss) l h =
 
 -- where the core has all steps before clock c, all modules', and none beyond
 pub all_steps : (p : Plan) → FitsEngine p → (limit : ℕ) (x : Core ModuleState) → IsAgreed (design p) (lockstep_run p) limit x → (c : ℕ)
-    → ((i : ℕ) → done (design p) (lockstep_run p) i c ≡ x.timed i)
-    → (i : ℕ) → core_steps p x i ≡ steps_of i (history p c)
+    → ((i : ℕ) → done (design p) (lockstep_run p) i c ≡ x.timed i) → (i : ℕ) → core_steps p x i ≡ steps_of i (history p c)
 all_steps p h limit x g c all i = elim (cases_lt i (length p.design.modules)) [
   | inl l ↦
       let e = all i in
       ap (λ (n : ℕ). map (core_step p x i) (range_with_len 0 n)) (sym e) ∙ sym (steps_are p h limit x g i l c (omega arith))
   | inr l ↦
       let none : x.timed i ≡ 0 = omega (arith, g.time.within i, g.marks.inside i l) in
-      ap (λ (n : ℕ). map (core_step p x i) (range_with_len 0 n)) none ∙ sym (none_beyond i (length p.design.modules) (history p c) l (history_numbers p c))
+      ap (λ (n : ℕ). map (core_step p x i) (range_with_len 0 n)) none
+      ∙ sym (none_beyond i (length p.design.modules) (history p c) l (history_numbers p c))
 ]
 
 -- so the list in order of its steps is the history
 pub events_are : (p : Plan) → FitsEngine p → (limit : ℕ) (x : Core ModuleState) → IsAgreed (design p) (lockstep_run p) limit x → (c : ℕ)
-    → ((i : ℕ) → done (design p) (lockstep_run p) i c ≡ x.timed i)
-    → (ss : List HistoryStep) → AreInOrder p x ss → ss ≡ history p c
+    → ((i : ℕ) → done (design p) (lockstep_run p) i c ≡ x.timed i) → (ss : List HistoryStep) → AreInOrder p x ss → ss ≡ history p c
 events_are p h limit x g c all ss o = only_history p c ss o.rising (λ i. o.each i ∙ all_steps p h limit x g c all i)

@@ -1,5 +1,6 @@
 -- Settled clocks in the theory's words, and the verdict of a final core.
-use Rattle.std.proofs.Common.{◌≡◌, ℕ, zero, suc, ◌+◌, ◌-◌, ◌≤◌, ◌<◌, List, [], ◌∷◌, length, get_or, Bool, true, false, refl, sym, ◌∙◌, ap, subst, arith, inl, inr, zero-add, Some}
+use Rattle.std.proofs.Common.{◌≡◌, ℕ, zero, suc, ◌+◌, ◌-◌, ◌≤◌, ◌<◌, List, [], ◌∷◌, length, get_or, Bool, true, false, refl, sym, ◌∙◌, ap}
+use Rattle.std.proofs.Common.{subst, arith, inl, inr, zero-add, Some}
 use Rattle.std.specs.List.{list_any, enumerate_from}
 use Rattle.std.proofs.lemmas.Bool.{cases_Bool, cases_lt, or_parts, or_from, both_ways}
 use Rattle.std.proofs.lemmas.List.{get_or_past}
@@ -22,8 +23,8 @@ use Rattle.timing_bridge.specs.Designs.{design, lockstep_run}
 use Rattle.timing_bridge.proofs.Moved.{nobody_moves}
 use Rattle.timing_bridge.proofs.History.{plan_is_design, run_is_history, moves_same}
 
-any_false : (test : ℕ × ModuleState → Bool) (n : ℕ) (xs : List ModuleState) → ((k : ℕ) → k < length xs → test (n + k, get_or xs k nobody) ≡ false)
-    → list_any test (enumerate_from n xs) ≡ false
+any_false : (test : ℕ × ModuleState → Bool) (n : ℕ) (xs : List ModuleState)
+    → ((k : ℕ) → k < length xs → test (n + k, get_or xs k nobody) ≡ false) → list_any test (enumerate_from n xs) ≡ false
 any_false test n [] h = refl
 any_false test n (x ∷ xs) h =
     let z : n + 0 ≡ n = omega arith in
@@ -32,15 +33,16 @@ any_false test n (x ∷ xs) h =
     let e : (n + 1) + k ≡ n + suc k = omega arith in
     ap (λ (i : ℕ). test (i, get_or xs k nobody)) e ∙ h (suc k) (omega arith)))
 
-each_false : (test : ℕ × ModuleState → Bool) (n : ℕ) (xs : List ModuleState) → list_any test (enumerate_from n xs) ≡ false → (k : ℕ) → k < length xs
-    → test (n + k, get_or xs k nobody) ≡ false
+each_false : (test : ℕ × ModuleState → Bool) (n : ℕ) (xs : List ModuleState) → list_any test (enumerate_from n xs) ≡ false → (k : ℕ)
+    → k < length xs → test (n + k, get_or xs k nobody) ≡ false
 each_false test n [] h k l = absurd (omega arith)
 each_false test n (x ∷ xs) h zero l =
     let z : n + 0 ≡ n = omega arith in
     ap (λ (i : ℕ). test (i, x)) z ∙ (or_parts (test (n, x)) (list_any test (enumerate_from (n + 1) xs)) h).0
 each_false test n (x ∷ xs) h (suc k) l =
     let e : n + suc k ≡ (n + 1) + k = omega arith in
-    ap (λ (i : ℕ). test (i, get_or xs k nobody)) e ∙ each_false test (n + 1) xs (or_parts (test (n, x)) (list_any test (enumerate_from (n + 1) xs)) h).1 k (omega arith)
+    ap (λ (i : ℕ). test (i, get_or xs k nobody)) e
+    ∙ each_false test (n + 1) xs (or_parts (test (n, x)) (list_any test (enumerate_from (n + 1) xs)) h).1 k (omega arith)
 
 -- ---- settled clocks
 
@@ -48,23 +50,27 @@ none_moves : (p : Plan) → FitsEngine p → (c : ℕ) → ((i : ℕ) → counte
     → some_moves p c (state p c).contents (state p c) ≡ false
 none_moves p h c f =
     let st = state p c in
-    any_false (moves p c st.contents) 0 st.modules (λ k l. ap (λ (i : ℕ). moves p c st.contents (i, get_or st.modules k nobody)) (zero-add k) ∙ (sym (moves_same p h c k) ∙ f k))
+    any_false (moves p c st.contents) 0 st.modules
+    (λ k l. ap (λ (i : ℕ). moves p c st.contents (i, get_or st.modules k nobody)) (zero-add k) ∙ (sym (moves_same p h c k) ∙ f k))
 
 -- where nobody moves in a clock and those after it, it is settled
 pub settled_from : (p : Plan) → FitsEngine p → (c : ℕ) → IsAtRest (design p) (lockstep_run p) c → is_settled p c (state p c) ≡ true
 settled_from p h c rest = rests_settled p c (λ k. none_moves p h (k + c) (λ i. rest (k + c) (omega arith) i))
 
-settled_gives : (p : Plan) → FitsEngine p → (c : ℕ) → is_settled p c (state p c) ≡ true → (i : ℕ) → counted.moves (design p) (lockstep_run p) c i ≡ false
+settled_gives : (p : Plan) → FitsEngine p → (c : ℕ) → is_settled p c (state p c) ≡ true → (i : ℕ)
+    → counted.moves (design p) (lockstep_run p) c i ≡ false
 settled_gives p h c s i =
     let st = state p c in
     moves_same p h c i
     ∙ elim (cases_lt i (length st.modules)) [
-      | inl l ↦ ap (λ (j : ℕ). moves p c st.contents (j, get_or st.modules i nobody)) (sym (zero-add i)) ∙ each_false (moves p c st.contents) 0 st.modules (settled_none p c st s) i l
+      | inl l ↦ ap (λ (j : ℕ). moves p c st.contents (j, get_or st.modules i nobody)) (sym (zero-add i))
+          ∙ each_false (moves p c st.contents) 0 st.modules (settled_none p c st s) i l
       | inr l ↦ ap (λ (t : ModuleState). moves p c st.contents (i, t)) (get_or_past st.modules i nobody l) ∙ nobody_moves p c st.contents i
     ]
 
 -- a clock in which a module moves, and all before it, are not settled
-unsettled : (p : Plan) → FitsEngine p → (c i : ℕ) → counted.moves (design p) (lockstep_run p) c i ≡ true → (e : ℕ) → e ≤ c → is_settled p e (state p e) ≡ false
+unsettled : (p : Plan) → FitsEngine p → (c i : ℕ) → counted.moves (design p) (lockstep_run p) c i ≡ true → (e : ℕ) → e ≤ c
+    → is_settled p e (state p e) ≡ false
 unsettled p h c i m e l = elim (cases_Bool (is_settled p e (state p e))) [
   | inr f ↦ f
   | inl t ↦
@@ -76,28 +82,29 @@ unsettled p h c i m e l = elim (cases_Bool (is_settled p e (state p e))) [
 -- ---- the verdict
 
 -- no step is determined: the verdict is that of the last stop, where it is within the limit
-pub final_settled : (p : Plan) → FitsEngine p → (x : Core ModuleState) → IsAgreed (design p) (lockstep_run p) p.cycles x → IsFinal (design p) p.cycles x
-    → IsUndetermined (design p) x
-    → (last : ℕ) → ((i : ℕ) → stop (design p) x i ≤ last) → (m : ℕ) → stop (design p) x m ≡ last → last ≤ p.cycles → verdict p ≡ settled_verdict p last (state p last)
+pub final_settled : (p : Plan) → FitsEngine p → (x : Core ModuleState) → IsAgreed (design p) (lockstep_run p) p.cycles x
+    → IsFinal (design p) p.cycles x → IsUndetermined (design p) x
+    → (last : ℕ) → ((i : ℕ) → stop (design p) x i ≤ last) → (m : ℕ) → stop (design p) x m ≡ last → last ≤ p.cycles
+    → verdict p ≡ settled_verdict p last (state p last)
 final_settled p h x g f u last top m e l =
     let d = design p in
     let w = lockstep_run p in
     let rest = rests d w (plan_is_design p h) (run_is_history p h) p.cycles x g f u last top in
     verdict_found p last l
-    (λ c k. unsettled p h (last - 1) m (moved d w (plan_is_design p h) (run_is_history p h) p.cycles x g f u m (last - 1) (omega arith)) c (omega arith))
+    (λ c k. unsettled p h (last - 1) m
+    (moved d w (plan_is_design p h) (run_is_history p h) p.cycles x g f u m (last - 1) (omega arith)) c (omega arith))
     (settled_from p h last rest)
 
 -- a step is determined: it moves at the limit or later, and no clock up to the limit is settled
-pub final_cut : (p : Plan) → FitsEngine p → (x : Core ModuleState) → IsAgreed (design p) (lockstep_run p) p.cycles x → IsFinal (design p) p.cycles x
-    → (m c : ℕ) → candidate (design p) (view (design p) x) m ≡ Some c → verdict p ≡ Cycles p.cycles
+pub final_cut : (p : Plan) → FitsEngine p → (x : Core ModuleState) → IsAgreed (design p) (lockstep_run p) p.cycles x
+    → IsFinal (design p) p.cycles x → (m c : ℕ) → candidate (design p) (view (design p) x) m ≡ Some c → verdict p ≡ Cycles p.cycles
 final_cut p h x g f m c e =
     let late = determined_late (design p) (lockstep_run p) (plan_is_design p h) (run_is_history p h) p.cycles x g f m c e in
     verdict_none p (λ k l. unsettled p h c m late.1 k (omega (arith, late.0)))
 
 -- the last stop is above the limit
-pub final_late : (p : Plan) → FitsEngine p → (x : Core ModuleState) → IsAgreed (design p) (lockstep_run p) p.cycles x → IsFinal (design p) p.cycles x
-    → IsUndetermined (design p) x
-    → (m : ℕ) → p.cycles < stop (design p) x m → verdict p ≡ Cycles p.cycles
+pub final_late : (p : Plan) → FitsEngine p → (x : Core ModuleState) → IsAgreed (design p) (lockstep_run p) p.cycles x
+    → IsFinal (design p) p.cycles x → IsUndetermined (design p) x → (m : ℕ) → p.cycles < stop (design p) x m → verdict p ≡ Cycles p.cycles
 final_late p h x g f u m l =
     let n = stop (design p) x m in
     let moves_then = moved (design p) (lockstep_run p) (plan_is_design p h) (run_is_history p h) p.cycles x g f u m (n - 1) (omega arith) in

@@ -1,5 +1,6 @@
 -- The report that is read off a final core.
-use Rattle.std.specs.Prelude.{ℕ, zero, suc, max, is_some, Bool, true, false, not, ◌&&◌, ◌||◌, ◌≡◌, nat_lt, if◌then◌else◌, List, [], ◌++◌, map, length, filter_map, find, Option, None, option_map, AllPairs, flat_map, ◌==◌, IsPermutation, IsSortedBy}
+use Rattle.std.specs.Prelude.{ℕ, zero, suc, max, is_some, Bool, true, false, not, ◌&&◌, ◌||◌, ◌≡◌, nat_lt, if◌then◌else◌, List, [], ◌++◌}
+use Rattle.std.specs.Prelude.{map, length, filter_map, find, Option, None, option_map, AllPairs, flat_map, ◌==◌, IsPermutation, IsSortedBy}
 use Rattle.std.specs.List.{range_with_len, list_any}
 use Rattle.flow_word.specs.declared.access.Side.TheVariants.{Push}
 use Rattle.flow_design.specs.declared.plan.Plan.{Plan}

@@ -1,5 +1,5 @@
 //! The laws, for any plan `p` that the engine takes.
-ghost use Rattle.std.specs.Prelude.{ℕ, true, ◌≡◌, suc, ◌+◌, ◌*◌, ◌<◌, ◌≤◌, List, [], ◌∷◌, Some, map, length};
+ghost use Rattle.std.specs.Prelude.{ℕ, true, ◌≡◌, suc, ◌+◌, ◌*◌, ◌<◌, ◌≤◌, List, [], ◌∷◌, Some, map, length, slice_index};
 ghost use Rattle.std.specs.List.{range_with_len};
 ghost use Rattle.flow_word.specs.declared.access.Side.{Side};
 ghost use Rattle.flow_design.specs.declared.plan.Edit.{Edit};
@@ -106,20 +106,23 @@ pub fn steps_in_order()
     ensures reported { (p : Plan) → history p p.cycles ≡ history p (clock_of (verdict p)) }
 {}
 
-/// An edit that the plan takes gives a plan that the engine takes, whose design is the edited one. A final core that is cut back to the cycles below the first
-/// touched clock agrees with the edited plan; and after every list of actions that are permitted from there, the report that is
-/// read off a final core is the edited plan's.
+/// An edit that the plan takes gives a plan that the engine takes, whose design is the edited one; an edit to the depth that stands
+/// gives the plan itself. A final core that is cut back to the cycles below the first touched clock agrees with the edited plan; and
+/// after every list of actions that are permitted from there, the report that is read off a final core is the edited plan's.
 pub fn edited_plans_agree()
     ensures fits { (p : Plan) → FitsEngine p → (e : Edit) → EditFits p e → FitsEngine (with_depth p e.channel e.depth) }
+    ensures same_depth { (p : Plan) (f : ℕ) → with_depth p f (slice_index p.depths f) ≡ p }
     ensures design { (p : Plan) (f depth : ℕ) → f < length p.depths → design (with_depth p f depth) ≡ edited (design p) f depth }
     ensures agrees { (p : Plan) → FitsEngine p → (e : Edit) → EditFits p e → (limit t : ℕ) (x : Core ModuleState)
-        → IsAgreed (design p) (lockstep_run p) limit x → IsFinal (design p) limit x → t ≤ limit → IsUntouchedByCycles (design p) x e.channel e.depth t
-        → IsAgreed (design (with_depth p e.channel e.depth)) (lockstep_run (with_depth p e.channel e.depth)) limit (after_edit (design p) x t) }
+        → IsAgreed (design p) (lockstep_run p) limit x → IsFinal (design p) limit x → t ≤ limit
+        → IsUntouchedByCycles (design p) x e.channel e.depth t
+        → let q : Plan = with_depth p e.channel e.depth in IsAgreed (design q) (lockstep_run q) limit (after_edit (design p) x t) }
     ensures reports { (p : Plan) → FitsEngine p → (e : Edit) → EditFits p e → (t : ℕ) (x : Core ModuleState)
-        → IsAgreed (design p) (lockstep_run p) p.cycles x → IsFinal (design p) p.cycles x → t ≤ p.cycles → IsUntouchedByCycles (design p) x e.channel e.depth t
-        → (actions : List Action) (y : Core ModuleState) → ActsAll (design (with_depth p e.channel e.depth)) p.cycles (after_edit (design p) x t) actions y
-        → IsFinal (design (with_depth p e.channel e.depth)) p.cycles y → (steps : List HistoryStep) → AreInOrder (with_depth p e.channel e.depth) y steps
-        → report (with_depth p e.channel e.depth) ≡ core_report (with_depth p e.channel e.depth) y steps (core_verdict (with_depth p e.channel e.depth) y) }
+        → IsAgreed (design p) (lockstep_run p) p.cycles x → IsFinal (design p) p.cycles x → t ≤ p.cycles
+        → IsUntouchedByCycles (design p) x e.channel e.depth t
+        → let q : Plan = with_depth p e.channel e.depth in (actions : List Action) (y : Core ModuleState)
+        → ActsAll (design q) p.cycles (after_edit (design p) x t) actions y → IsFinal (design q) p.cycles y
+        → (steps : List HistoryStep) → AreInOrder q y steps → report q ≡ core_report q y steps (core_verdict q y) }
 {}
 
 /// From the opening core no list of permitted actions is longer than three for each operation of each module, and one for each module.

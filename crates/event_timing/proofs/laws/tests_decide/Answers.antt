@@ -1,4 +1,5 @@
-use Rattle.event_timing.proofs.Deciding.{run_decided, assign_decided, answer_decided, open_decided, quiet_decided, earliest_decided, final_decided}
+use Rattle.event_timing.proofs.Deciding.{run_decided, assign_decided, answer_decided, open_decided, quiet_decided, earliest_decided}
+use Rattle.event_timing.proofs.Deciding.{final_decided}
 use Rattle.event_timing.proofs.laws.tests_decide.Goals as goal
 
 pub returns-clause-run : goal.returns-clause-run

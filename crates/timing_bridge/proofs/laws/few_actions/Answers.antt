@@ -5,4 +5,5 @@ use Rattle.timing_bridge.proofs.History.{plan_is_design, run_is_history}
 use Rattle.timing_bridge.proofs.laws.few_actions.Goals as goal
 
 pub returns : goal.returns
-returns c = λ p h limit actions x s. few_actions (design p) (lockstep_run p) (plan_is_design p h) (run_is_history p h) limit p.ops (plan_is_bounded p h) actions x s
+returns c = λ p h limit actions x s. few_actions (design p) (lockstep_run p) (plan_is_design p h) (run_is_history p h) limit p.ops
+    (plan_is_bounded p h) actions x s

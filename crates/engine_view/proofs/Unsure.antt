@@ -1,0 +1,64 @@
+-- A module's first step without a cycle whose queries are not all verified.
+use Rattle.std.proofs.Common.{◌≡◌, ap, ap₂, subst, ◌∙◌, ℕ, ◌<◌, ltb, Bool, true, false, ◌&&◌, length, arith, inl, inr}
+use Rattle.std.proofs.lemmas.Bool.{lt-ltb, and_parts}
+use Rattle.std.proofs.lemmas.Bool.Decides.{eqb_tells}
+use Rattle.query_log.specs.Logs.{log_at}
+use Rattle.event_timing.specs.Machines.{Design, IsDesign}
+use Rattle.event_timing.specs.Core.{Core}
+use Rattle.event_timing.specs.Actions.{IsSame, after_answer}
+use Rattle.event_timing.proofs.Assigning.{put_at_same, put_at_other}
+use Rattle.event_timing.proofs.Answering.{answer_marks}
+use Rattle.engine_view.specs.Held.{Held, step_of, emitted_of, are_among, core_of}
+use Rattle.engine_view.specs.Shown.{IsSound}
+use Rattle.engine_view.specs.Kept.{IsKept}
+use Rattle.engine_view.specs.Turns.{HasUnsure, IsAnswered, first_of}
+use Rattle.engine_view.proofs.Keeping.{now_kept}
+
+-- there is such a step, and all before it are verified
+pub record IsUnsure {S : Type 0} (d : Design S) (h : Held) (m : ℕ) : Type 0 where
+  pub design : IsDesign d
+  pub kept : IsKept d h
+  pub inside : m < length h.lanes
+  pub less : first_of h m < emitted_of h m
+  pub unsure : (core_of d h).verified m (first_of h m) ≡ false
+
+pub unsure_of : {S : Type 0} → (d : Design S) → IsDesign d → (h : Held) → IsKept d h → (m : ℕ) → HasUnsure h m → IsUnsure d h m
+unsure_of {S} d i h k m u = record {
+  design = i;
+  kept = k;
+  inside = u.inside;
+  less = u.there;
+  unsure = ap₂ (λ (a b : Bool). a && b) (lt-ltb (first_of h m) (emitted_of h m) u.there) u.unsure;
+}
+
+-- no outcome of it is recorded
+pub record IsFresh {S : Type 0} (d : Design S) (h : Held) (m : ℕ) : Type 0 where
+  pub unsure : IsUnsure d h m
+  pub fresh : (core_of d h).answered m (first_of h m) ≡ false
+
+-- what is held behind the answers is kept
+pub answered_on : {S : Type 0} → (d : Design S) (h : Held) (m c : ℕ) (g : Held) → IsUnsure d h m → IsSame d (core_of d h) m c
+    → (core_of d g ≡ after_answer d (core_of d h) m c) × IsSound d g → IsAnswered d h m c g
+answered_on {S} d h m c g u same read = record {
+  same = same;
+  now = now_kept d g (after_answer d (core_of d h) m c) read (answer_marks d u.design (core_of d h) u.kept.marks m c u.less same) before;
+}
+  where
+    before : (j p : ℕ) → p < first_of h j → (after_answer d (core_of d h) m c).verified j p ≡ true
+    before j p l =
+        let x = core_of d h in
+        elim (eqb_tells j m) [
+          | inl s ↦
+              put_at_other x.verified m (first_of h m) true j p (λ a b. let b' = b in let l' = subst (λ (n : ℕ). p < first_of h n) s.1 l in
+              omega arith)
+              ∙ u.kept.earlier j p l
+          | inr s ↦ put_at_other x.verified m (first_of h m) true j p (λ a b. s.1 a) ∙ u.kept.earlier j p l
+        ]
+
+-- and behind them the step is verified
+pub verified_now : {S : Type 0} → (d : Design S) (h : Held) (m c : ℕ) (g : Held) → IsAnswered d h m c g
+    → are_among (step_of g m (first_of h m)) (log_at g.logs m).verified ≡ true
+verified_now {S} d h m c g a =
+    let k = first_of h m in
+    let now = ap (λ (y : Core S). y.verified m k) a.now.core ∙ put_at_same (core_of d h).verified m k true in
+    (and_parts (ltb k (emitted_of g m)) (are_among (step_of g m k) (log_at g.logs m).verified) now).1

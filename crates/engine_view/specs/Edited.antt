@@ -1,0 +1,21 @@
+-- What is held behind an edit, from which a retiming begins.
+use Rattle.std.specs.Prelude.{◌≡◌, ℕ, min, map, length, All}
+use Rattle.event_graph.specs.Lanes.{IsSoundLane, timed_below}
+use Rattle.fifo_table.specs.Channels.{with_depth}
+use Rattle.query_log.specs.Logs.{IsSoundLog, log_at}
+use Rattle.event_timing.specs.Machines.{Design}
+use Rattle.event_timing.specs.Edits.{kept}
+use Rattle.engine_view.specs.Held.{Held, core_of}
+use Rattle.engine_view.specs.Shown.{queries_before}
+
+-- cycles from clock t on are forgotten, the depth of the FIFO is set, and outcomes of steps without a cycle are assumed
+pub record IsCut {S : Type 0} (d : Design S) (h g : Held) (fifo depth t : ℕ) : Type 0 where
+  pub lanes : g.lanes ≡ map (timed_below t) h.lanes
+  pub sound : All IsSoundLane g.lanes
+  pub channels : g.channels ≡ with_depth h.channels fifo depth
+  pub over : g.over ≡ h.over
+  pub count : length g.logs ≡ length h.logs
+  pub sound_logs : All IsSoundLog g.logs
+  pub outcomes : (m : ℕ) → (log_at g.logs m).outcomes ≡ (log_at h.logs m).outcomes
+  pub verified : (m : ℕ) → (log_at g.logs m).verified ≡ min (queries_before h m (kept ((core_of d h).cycle m) t ((core_of d h).timed m)))
+      (log_at h.logs m).verified

@@ -1,0 +1,27 @@
+-- What is held at first.
+use Rattle.std.specs.Prelude.{◌≡◌, ℕ, ◌<◌, false, List, [], length, map, get_or, replicate}
+use Rattle.flow_word.specs.declared.access.Side.{Side}
+use Rattle.event_graph.specs.Lanes.{no_lane}
+use Rattle.fifo_table.specs.declared.channel.TableChannel.{TableChannel}
+use Rattle.fifo_table.specs.declared.channel.TableChannel.TheVariants.{Sink}
+use Rattle.fifo_table.specs.Channels.{unused, values_of, lag_of}
+use Rattle.query_log.specs.Logs.{no_log}
+use Rattle.event_timing.specs.Machines.{Design}
+use Rattle.engine_view.specs.Held.{Held}
+use Rattle.engine_view.specs.Shown.{IsKind}
+
+-- of so many modules nothing is emitted yet
+abbrev pub opening_held : ℕ → List TableChannel → Held
+opening_held n kinds = record {
+  lanes = replicate n no_lane;
+  channels = map unused kinds;
+  logs = replicate n no_log;
+  over =
+      replicate n false;
+}
+
+-- the channels are the design's
+pub record AreKinds {S : Type 0} (d : Design S) (kinds : List TableChannel) : Type 0 where
+  pub each : (c : ℕ) → c < length kinds → IsKind d c (get_or kinds c Sink)
+  pub values : (c : ℕ) → c < length kinds → values_of (get_or kinds c Sink) [] ≡ d.inputs c
+  pub lags : (side : Side) (c : ℕ) → c < length kinds → d.lag side c ≡ lag_of (get_or kinds c Sink) side

@@ -1,0 +1,123 @@
+//! The outcomes of a step's queries.
+ghost use Rattle.std.specs.Prelude.{◌≡◌, ◌≢◌, ◌↔◌, ℕ, ◌+◌, ◌<◌, ◌≤◌, ◌^◌, true, length, drop, slice_index, All};
+ghost use Rattle.query_log.specs.Logs.{log_at, outcome_of, with_outcomes};
+ghost use Rattle.query_log.specs.declared.query.Query.{Query as query_type};
+ghost use Rattle.time_engine.specs.Conditions.{IsAccess, HasPlaces};
+ghost use Rattle.time_engine.specs.Possible.{when_possible};
+ghost use Rattle.event_timing.specs.Enablers.{answer};
+ghost use Rattle.engine_view.specs.Held.{queries_in, flags_by, flag_now};
+ghost use Rattle.engine_view.specs.Known.{as_known, flag_found, found_flags};
+ghost use Rattle.engine_view.specs.Answered.{outcome_by, outcomes_of};
+ghost use Rattle.engine_view.specs.Turns.{IsOther};
+
+use crate::take::{query_count, was_possible};
+use event_graph::{Access, Graph};
+use fifo_table::FifoTable;
+use outcome_guard::Guard;
+use query_log::{Query, QueryLog};
+use query_resolve::{Decision, decide, late};
+
+/// Adds the outcomes of a step's queries in this clock, where an undecided one counts as not possible. There is room for
+/// them.
+pub fn write_outcomes(
+    graph: &Graph,
+    fifos: &FifoTable,
+    log: &mut QueryLog,
+    owner: u32,
+    cycle: u64,
+    accesses: &[Access],
+)
+    requires owner { owner < length log.old.logs }
+    requires inside { All (IsAccess fifos.now.channels) accesses.now }
+    requires places { HasPlaces graph.now.lanes fifos.now.channels }
+    requires verified { (log_at log.old.logs owner).verified ≡ length (log_at log.old.logs owner).outcomes }
+    requires room { queries_in accesses.now ≤ slice_index log.old.rooms owner }
+    ensures logs { log.new.logs ≡ with_outcomes log.old.logs owner
+        (outcomes_of accesses.now (found_flags graph.now.lanes fifos.now.channels cycle accesses.now)) }
+    ensures own_room { slice_index log.old.rooms owner ≤ slice_index log.new.rooms owner + queries_in accesses.now }
+    ensures other_rooms { (k : ℕ) → k ≢ owner → slice_index log.old.rooms k ≤ slice_index log.new.rooms k }
+{
+    for access in accesses {
+        if !access.kind.is_blocking() {
+            let outcome = outcome_in(graph, fifos, access, cycle);
+            log.add(owner, outcome);
+        }
+    }
+}
+
+/// Compares the recorded outcomes of a step's queries with those of this clock.
+pub fn compare_outcomes(
+    graph: &Graph,
+    fifos: &FifoTable,
+    log: &QueryLog,
+    owner: u32,
+    cycle: u64,
+    first_query: u64,
+    accesses: &[Access],
+) -> Guard
+    requires owner { owner < length log.now.logs }
+    requires inside { All (IsAccess fifos.now.channels) accesses.now }
+    requires places { HasPlaces graph.now.lanes fifos.now.channels }
+    requires few { first_query + length accesses.now < 2 ^ 64 }
+    ensures same { result ≡ Guard.Same
+        → flags_by accesses.now (drop first_query (log_at log.now.logs owner).outcomes) ≡ found_flags graph.now.lanes fifos.now.channels
+        cycle accesses.now }
+    ensures differs { (q : query_type) → result ≡ Guard.Differs q
+        → IsOther (flags_by accesses.now (drop first_query (log_at log.now.logs owner).outcomes))
+        (found_flags graph.now.lanes fifos.now.channels cycle accesses.now) accesses.now owner first_query q }
+{
+    let mut number = first_query;
+    for access in accesses {
+        if !is_alike(graph, fifos, log, owner, number, access, cycle) {
+            return Guard::Differs(Query {
+                module: owner,
+                number,
+                kind: access.kind,
+                channel: access.channel,
+                ordinal: access.ordinal,
+            });
+        }
+        number += query_count(access.kind);
+    }
+    Guard::Same
+}
+
+/// Whether an access blocks, or its query was possible by its recorded outcome exactly where it is in this clock.
+fn is_alike(
+    graph: &Graph,
+    fifos: &FifoTable,
+    log: &QueryLog,
+    owner: u32,
+    number: u64,
+    access: &Access,
+    cycle: u64,
+) -> bool
+    requires owner { owner < length log.now.logs }
+    requires access { IsAccess fifos.now.channels access.now }
+    requires places { HasPlaces graph.now.lanes fifos.now.channels }
+    ensures { (result ≡ true) ↔ (flag_now access.now.kind (outcome_of log.now.logs owner number) ≡ flag_found graph.now.lanes
+        fifos.now.channels cycle access.now) }
+{
+    if access.kind.is_blocking() {
+        return true;
+    }
+    was_possible(log, owner, number, access.kind) == is_possible(graph, fifos, access, cycle)
+}
+
+/// The outcome of a query in this clock, which counts as not possible where it is not decided.
+fn outcome_in(graph: &Graph, fifos: &FifoTable, access: &Access, cycle: u64) -> bool
+    requires access { IsAccess fifos.now.channels access.now }
+    requires places { HasPlaces graph.now.lanes fifos.now.channels }
+    ensures { result ≡ outcome_by access.now.kind (answer (as_known (when_possible graph.now.lanes fifos.now.channels access.now)) cycle) }
+{
+    is_possible(graph, fifos, access, cycle) != late(access.kind)
+}
+
+/// Whether it is decided that the query is possible.
+fn is_possible(graph: &Graph, fifos: &FifoTable, access: &Access, cycle: u64) -> bool
+    requires access { IsAccess fifos.now.channels access.now }
+    requires places { HasPlaces graph.now.lanes fifos.now.channels }
+    ensures { result ≡ answer (as_known (when_possible graph.now.lanes fifos.now.channels access.now)) cycle }
+{
+    matches!(decide(graph, fifos, access, cycle), Decision::Yes)
+}

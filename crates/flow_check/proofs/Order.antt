@@ -1,0 +1,256 @@
+-- The items of the statements of a session stand in order.
+use Rattle.std.proofs.Common.{◌≡◌, ℕ, zero, suc, ◌+◌, ◌<◌, ◌≤◌, List, [], ◌∷◌, Some, option_map, refl, sym, ap, subst, ◌∙◌, arith, inl, inr, slice_get}
+use Rattle.std.specs.Prelude.{◌⊎◌}
+use Rattle.std.specs.Option.{option_and_then}
+use Rattle.flow_design.specs.declared.session.Statement.{Statement}
+use Rattle.flow_design.specs.declared.session.Statement.TheVariants as s
+use Rattle.flow_check.specs.declared.item.Spot.{Spot}
+use Rattle.flow_check.specs.declared.item.Spot.TheVariants.{Head, Operation, Terminator}
+use Rattle.flow_check.specs.declared.item.Item.{Item}
+use Rattle.flow_check.specs.declared.item.Item.TheVariants as item
+use Rattle.flow_check.specs.declared.place.Counts.{Counts}
+use Rattle.flow_check.specs.Places.{counts, counts_more, last_of, in_last_module, in_last_block, item_behind, items_behind}
+use Rattle.flow_check.proofs.Counting.{counted}
+use Rattle.flow_check.proofs.Firsts.{some_is, SpotUpto, Upto}
+
+-- ---- an item of a statement that stands behind so many
+
+abbrev SpotBehind : Counts → Spot → Type 0
+SpotBehind before Head = ⊥
+SpotBehind before (Operation k) = before.operations ≤ k
+SpotBehind before Terminator = Unit {0}
+
+abbrev InBlock : Counts → ℕ → Spot → Type 0
+InBlock before b a = (before.blocks ≤ b) ⊎ ((before.blocks ≡ b + 1) × SpotBehind before a)
+
+abbrev InModule : Counts → ℕ → ℕ → Spot → Type 0
+InModule before m b a = (before.modules ≤ m) ⊎ ((before.modules ≡ m + 1) × InBlock before b a)
+
+abbrev Behind : Counts → Item → Type 0
+Behind before item.Limits = Unit {0}
+Behind before (item.Channel f) = before.channels ≤ f
+Behind before (item.InModule m (b, a)) = InModule before m b a
+
+-- ---- what is last
+
+last_module : (before : Counts) (block : ℕ) (a : Spot) (i : Item) → in_last_module before block a ≡ Some i
+    → (m : ℕ) × (before.modules ≡ m + 1) × (i ≡ item.InModule m (block, a))
+last_module before block a i h = by before.modules refl h
+  where
+    by : (n : ℕ) → before.modules ≡ n → option_map (λ m. item.InModule m (block, a)) (last_of n) ≡ Some i
+        → (m : ℕ) × (before.modules ≡ m + 1) × (i ≡ item.InModule m (block, a))
+    by zero e q = absurd cc
+    by (suc n) e q = (n, e ∙ omega arith, cc)
+
+last_block : (before : Counts) (a : Spot) (i : Item) → in_last_block before a ≡ Some i
+    → (m : ℕ) × (b : ℕ) × (before.modules ≡ m + 1) × (before.blocks ≡ b + 1) × (i ≡ item.InModule m (b, a))
+last_block before a i h = by before.blocks refl h
+  where
+    by : (n : ℕ) → before.blocks ≡ n → option_and_then (λ b. in_last_module before b a) (last_of n) ≡ Some i
+        → (m : ℕ) × (b : ℕ) × (before.modules ≡ m + 1) × (before.blocks ≡ b + 1) × (i ≡ item.InModule m (b, a))
+    by zero e q = absurd cc
+    by (suc n) e q = let p = last_module before n a i q in (p.0, n, p.1, e ∙ omega arith, p.2)
+
+-- ---- an item is behind what stands before its statement
+
+in_order : (before : Counts) (block : ℕ) (i : Item) → block ≡ before.blocks → in_last_module before block Head ≡ Some i → Behind before i
+in_order before block i e h =
+    let p = last_module before block Head i h in
+    let there : before.blocks ≤ block = omega (arith, e) in
+    subst (Behind before) (sym p.2) (inr (p.1, inl there))
+
+in_body : (before : Counts) (a : Spot) (i : Item) → SpotBehind before a → in_last_block before a ≡ Some i → Behind before i
+in_body before a i behind h =
+    let p = last_block before a i h in
+    subst (Behind before) (sym p.4) (inr (p.2, inr (p.3, behind)))
+
+at_behind : (before : Counts) (st : Statement) (i : Item) → item_behind before st ≡ Some i → Behind before i
+at_behind before (s.Limits c o) i h = let e : item.Limits ≡ i = cc in subst (Behind before) e tt
+at_behind before (s.Source n w) i h = let e : item.Channel before.channels ≡ i = cc in subst (Behind before) e (omega arith)
+at_behind before (s.Sink n w) i h = let e : item.Channel before.channels ≡ i = cc in subst (Behind before) e (omega arith)
+at_behind before (s.Fifo n w depth delay) i h = let e : item.Channel before.channels ≡ i = cc in subst (Behind before) e (omega arith)
+at_behind before (s.Block n l) i h = in_order before before.blocks i refl h
+at_behind before (s.Loop n ii l r) i h = in_order before before.blocks i refl h
+at_behind before (s.At off guard o) i h = in_body before (Operation before.operations) i (omega arith) h
+at_behind before (s.Goto b) i h = in_body before Terminator i tt h
+at_behind before (s.Branch r b c) i h = in_body before Terminator i tt h
+at_behind before s.Stop i h = in_body before Terminator i tt h
+at_behind before st i h = absurd cc
+
+-- ---- what is behind more is behind less
+
+new_block : (before : Counts) (b : ℕ) (a : Spot)
+    → (before.blocks + 1 ≤ b) ⊎ ((before.blocks + 1 ≡ b + 1) × SpotBehind (record before { blocks = before.blocks + 1; operations = 0 }) a)
+    → InBlock before b a
+new_block before b a (inl l) = inl (omega arith)
+new_block before b a (inr p) = let e : before.blocks + 1 ≡ b + 1 = p.0 in inl (omega arith)
+
+new_operation : (before : Counts) (a : Spot) → SpotBehind (record before { operations = before.operations + 1 }) a → SpotBehind before a
+new_operation before Head h = h
+new_operation before (Operation k) h = omega arith
+new_operation before Terminator h = h
+
+after_block : (before : Counts) (m b : ℕ) (a : Spot) → InModule (record before { blocks = before.blocks + 1; operations = 0 }) m b a
+    → InModule before m b a
+after_block before m b a (inl l) = inl l
+after_block before m b a (inr p) = inr (p.0, new_block before b a p.1)
+
+after_operation : (before : Counts) (m b : ℕ) (a : Spot) → InModule (record before { operations = before.operations + 1 }) m b a
+    → InModule before m b a
+after_operation before m b a (inl l) = inl l
+after_operation before m b a (inr (e, inl l)) = inr (e, inl l)
+after_operation before m b a (inr (e, inr (f, h))) = inr (e, inr (f, new_operation before a h))
+
+after_module : (before : Counts) (m b : ℕ) (a : Spot) → InModule (record before { modules = before.modules + 1; blocks = 0 }) m b a
+    → InModule before m b a
+after_module before m b a (inl l) = inl (omega arith)
+after_module before m b a (inr p) = let e : before.modules + 1 ≡ m + 1 = p.0 in inl (omega arith)
+
+less : (before : Counts) (st : Statement) (i : Item) → Behind (counts_more before st) i → Behind before i
+less before st item.Limits h = tt
+less before (s.Source n w) (item.Channel f) h = omega arith
+less before (s.Sink n w) (item.Channel f) h = omega arith
+less before (s.Fifo n w depth delay) (item.Channel f) h = omega arith
+less before (s.Module n) (item.Channel f) h = h
+less before (s.Block n l) (item.Channel f) h = h
+less before (s.Loop n ii l r) (item.Channel f) h = h
+less before (s.At off guard o) (item.Channel f) h = h
+less before st (item.Channel f) h = h
+less before (s.Module n) (item.InModule m (b, a)) h = after_module before m b a h
+less before (s.Block n l) (item.InModule m (b, a)) h = after_block before m b a h
+less before (s.Loop n ii l r) (item.InModule m (b, a)) h = after_block before m b a h
+less before (s.At off guard o) (item.InModule m (b, a)) h = after_operation before m b a h
+less before st (item.InModule m (b, a)) h = h
+
+all_behind : (earlier rest : List Statement) (k : ℕ) (i : Item) → slice_get (items_behind earlier rest) k ≡ Some (Some i)
+    → Behind (counts earlier) i
+all_behind earlier [] k i h = absurd cc
+all_behind earlier (st ∷ rest) zero i h = let e : item_behind (counts earlier) st ≡ Some i = cc in at_behind (counts earlier) st i e
+all_behind earlier (st ∷ rest) (suc k) i h =
+    less (counts earlier) st i (subst (λ (c : Counts). Behind c i) (counted earlier st) (all_behind (st ∷ earlier) rest k i h))
+
+-- ---- an item that comes later does not come before
+
+channel_later : (f : ℕ) (j : Item) (before : Counts) → f ≡ before.channels → Behind (record before { channels = before.channels + 1 }) j
+    → Upto j (item.Channel f)
+    → item.Channel f ≡ j
+channel_later f (item.Channel g) before e behind upto = absurd (omega (arith, e))
+channel_later f item.Limits before e behind upto = absurd upto
+channel_later f (item.InModule n c) before e behind upto = absurd upto
+
+-- of a block that begins here
+head_later : (m p n q : ℕ) (t : Spot) (before : Counts) → before.modules ≡ m + 1 → before.blocks ≡ p
+    → InModule (record before { blocks = before.blocks + 1; operations = 0 }) n q t
+    → Upto (item.InModule n (q, t)) (item.InModule m (p, Head)) → ⊥
+head_later m p n q t before em ep (inl l) (inl u) = omega arith
+head_later m p n q t before em ep (inl l) (inr u) = let e : n ≡ m = u.0 in omega arith
+head_later m p n q t before em ep (inr h) (inl u) = let e : before.modules ≡ n + 1 = h.0 in omega arith
+head_later m p n q t before em ep (inr (e, inl l)) (inr (u, inl v)) = omega arith
+head_later m p n q t before em ep (inr (e, inl l)) (inr (u, inr v)) = let w : q ≡ p = v.0 in omega arith
+head_later m p n q t before em ep (inr (e, inr h)) (inr (u, inl v)) = let w : before.blocks + 1 ≡ q + 1 = h.0 in omega arith
+head_later m p n q Head before em ep (inr (e, inr h)) (inr (u, inr v)) = h.1
+head_later m p n q (Operation k) before em ep (inr (e, inr h)) (inr (u, inr v)) = v.1
+head_later m p n q Terminator before em ep (inr (e, inr h)) (inr (u, inr v)) = v.1
+
+-- of a statement in a block
+body_later : (m p n q : ℕ) (a t : Spot) (before after : Counts) → before.modules ≡ m + 1 → before.blocks ≡ p + 1
+    → after.modules ≡ before.modules
+    → after.blocks ≡ before.blocks → (SpotBehind after t → SpotUpto t a → a ≡ t)
+    → InModule after n q t → Upto (item.InModule n (q, t)) (item.InModule m (p, a)) → item.InModule m (p, a) ≡ item.InModule n (q, t)
+body_later m p n q a t before after em ep am ap' same (inl l) (inl u) = absurd (omega arith)
+body_later m p n q a t before after em ep am ap' same (inl l) (inr u) = let e : n ≡ m = u.0 in absurd (omega arith)
+body_later m p n q a t before after em ep am ap' same (inr h) (inl u) = let e : after.modules ≡ n + 1 = h.0 in absurd (omega arith)
+body_later m p n q a t before after em ep am ap' same (inr (e, inl l)) (inr (u, inl v)) = absurd (omega arith)
+body_later m p n q a t before after em ep am ap' same (inr (e, inl l)) (inr (u, inr v)) = let w : q ≡ p = v.0 in absurd (omega arith)
+body_later m p n q a t before after em ep am ap' same (inr (e, inr h)) (inr (u, inl v)) = let w : after.blocks ≡ q + 1 = h.0 in
+    absurd (omega arith)
+body_later m p n q a t before after em ep am ap' same (inr (e, inr h)) (inr (u, inr v)) =
+    ap (λ (k : ℕ). item.InModule k (p, a)) (sym u) ∙ ap (λ (k : ℕ). item.InModule n (k, a)) (sym v.0)
+    ∙ ap (λ (x : Spot). item.InModule n (q, x)) (same h.1 v.1)
+
+operation_same : (before : Counts) (t : Spot) → SpotBehind (record before { operations = before.operations + 1 }) t
+    → SpotUpto t (Operation before.operations) → Operation before.operations ≡ t
+operation_same before Head h u = absurd u
+operation_same before (Operation k) h u = absurd (omega arith)
+operation_same before Terminator h u = absurd u
+
+terminator_same : (before : Counts) (t : Spot) → SpotBehind before t → SpotUpto t Terminator → Terminator ≡ t
+terminator_same before Head h u = absurd h
+terminator_same before (Operation k) h u = absurd u
+terminator_same before Terminator h u = refl
+
+block_first : (before : Counts) (i j : Item) → in_last_module before before.blocks Head ≡ Some i
+    → Behind (record before { blocks = before.blocks + 1; operations = 0 }) j
+    → Upto j i → i ≡ j
+block_first before i j is behind upto =
+    let p = last_module before before.blocks Head i is in
+    p.2 ∙ by j behind p.0 (subst (Upto j) p.2 upto) p.1
+  where
+    by : (j : Item) → Behind (record before { blocks = before.blocks + 1; operations = 0 }) j → (m : ℕ)
+        → Upto j (item.InModule m (before.blocks, Head)) → before.modules ≡ m + 1 → item.InModule m (before.blocks, Head) ≡ j
+    by (item.InModule n (q, t)) h m u e = absurd (head_later m before.blocks n q t before e refl h u)
+    by item.Limits h m u e = absurd u
+    by (item.Channel f) h m u e = absurd u
+
+operation_first : (before : Counts) (i j : Item) → in_last_block before (Operation before.operations) ≡ Some i
+    → Behind (record before { operations = before.operations + 1 }) j → Upto j i → i ≡ j
+operation_first before i j is behind upto =
+    let p = last_block before (Operation before.operations) i is in
+    p.4 ∙ by p.0 p.1 p.2 p.3 j behind (subst (Upto j) p.4 upto)
+  where
+    by : (m b : ℕ) → before.modules ≡ m + 1 → before.blocks ≡ b + 1 → (j : Item)
+        → Behind (record before { operations = before.operations + 1 }) j
+        → Upto j (item.InModule m (b, Operation before.operations)) → item.InModule m (b, Operation before.operations) ≡ j
+    by m b e f (item.InModule n (q, t)) h u =
+        body_later m b n q (Operation before.operations) t before (record before { operations = before.operations + 1 }) e f refl refl
+        (operation_same before t) h u
+    by m b e f item.Limits h u = absurd u
+    by m b e f (item.Channel g) h u = absurd u
+
+terminator_first : (before : Counts) (i j : Item) → in_last_block before Terminator ≡ Some i → Behind before j → Upto j i → i ≡ j
+terminator_first before i j is behind upto =
+    let p = last_block before Terminator i is in
+    p.4 ∙ by p.0 p.1 p.2 p.3 j behind (subst (Upto j) p.4 upto)
+  where
+    by : (m b : ℕ) → before.modules ≡ m + 1 → before.blocks ≡ b + 1 → (j : Item) → Behind before j
+        → Upto j (item.InModule m (b, Terminator)) → item.InModule m (b, Terminator) ≡ j
+    by m b e f (item.InModule n (q, t)) h u = body_later m b n q Terminator t before before e f refl refl (terminator_same before t) h u
+    by m b e f item.Limits h u = absurd u
+    by m b e f (item.Channel g) h u = absurd u
+
+limits_first : (i j : Item) → item.Limits ≡ i → Upto j i → i ≡ j
+limits_first i j e upto = by j (subst (Upto j) (sym e) upto)
+  where
+    by : (j : Item) → Upto j item.Limits → i ≡ j
+    by item.Limits u = sym e
+    by (item.Channel f) u = absurd u
+    by (item.InModule n c) u = absurd u
+
+channel_first : (before : Counts) (i j : Item) → item.Channel before.channels ≡ i
+    → Behind (record before { channels = before.channels + 1 }) j → Upto j i → i ≡ j
+channel_first before i j e behind upto = sym e ∙ channel_later before.channels j before refl behind (subst (Upto j) (sym e) upto)
+
+first_here : (before : Counts) (st : Statement) (i j : Item) → item_behind before st ≡ Some i → Behind (counts_more before st) j
+    → Upto j i → i ≡ j
+first_here before (s.Limits c o) i j is behind upto = limits_first i j (some_is is) upto
+first_here before (s.Source n w) i j is behind upto = channel_first before i j (some_is is) behind upto
+first_here before (s.Sink n w) i j is behind upto = channel_first before i j (some_is is) behind upto
+first_here before (s.Fifo n w depth delay) i j is behind upto = channel_first before i j (some_is is) behind upto
+first_here before (s.Block n l) i j is behind upto = block_first before i j is behind upto
+first_here before (s.Loop n ii l r) i j is behind upto = block_first before i j is behind upto
+first_here before (s.At off guard o) i j is behind upto = operation_first before i j is behind upto
+first_here before (s.Goto b) i j is behind upto = terminator_first before i j is behind upto
+first_here before (s.Branch r b c) i j is behind upto = terminator_first before i j is behind upto
+first_here before s.Stop i j is behind upto = terminator_first before i j is behind upto
+first_here before st i j is behind upto = absurd cc
+
+-- the item of a statement, and that of a later one which comes no later in the order of items, are one
+pub one_item : (earlier rest : List Statement) (a b : ℕ) (i j : Item) → a < b → slice_get (items_behind earlier rest) a ≡ Some (Some i)
+    → slice_get (items_behind earlier rest) b ≡ Some (Some j) → Upto j i → i ≡ j
+one_item earlier [] a b i j l at_a at_b upto = absurd cc
+one_item earlier (st ∷ rest) a zero i j l at_a at_b upto = absurd (omega arith)
+one_item earlier (st ∷ rest) zero (suc b) i j l at_a at_b upto =
+    let is : item_behind (counts earlier) st ≡ Some i = cc in
+    first_here (counts earlier) st i j is
+    (subst (λ (c : Counts). Behind c j) (counted earlier st) (all_behind (st ∷ earlier) rest b j at_b)) upto
+one_item earlier (st ∷ rest) (suc a) (suc b) i j l at_a at_b upto = one_item (st ∷ earlier) rest a b i j (omega arith) at_a at_b upto

@@ -1,0 +1,39 @@
+use Rattle.std.proofs.Common.{◌≡◌, ◌∙◌, ◌≤◌, rules, ◌+◌, sym, ap, subst, get_or, false}
+use Rattle.flow_design.specs.declared.session.Statement.{Statement}
+use Rattle.flow_check.specs.declared.place.Counts.{Counts}
+use Rattle.flow_check.specs.Places.{counts_more, item_behind, is_item}
+use Rattle.flow_check.proofs.Counting.{IsSought, few, sought_more}
+use Rattle.flow_check.proofs.place.place_of.Goals as goal
+
+pub behind-before-requires-clause-channels : goal.behind-before-requires-clause-channels
+behind-before-requires-clause-channels c =
+    let below : c.loop-at.before.channels ≤ c.loop-at.at
+    = (few c.args.statements.now c.args.item.now c.loop-at.at c.loop-at.before c.index-statements-at.result c.loop-at-test.true
+    c.loop-at.invariant).channels in
+    search rules
+
+pub behind-before-requires-clause-modules : goal.behind-before-requires-clause-modules
+behind-before-requires-clause-modules c =
+    let below : c.loop-at.before.modules ≤ c.loop-at.at
+    = (few c.args.statements.now c.args.item.now c.loop-at.at c.loop-at.before c.index-statements-at.result c.loop-at-test.true
+    c.loop-at.invariant).modules in
+    search rules
+
+pub behind-before-requires-clause-blocks : goal.behind-before-requires-clause-blocks
+behind-before-requires-clause-blocks c =
+    let below : c.loop-at.before.blocks ≤ c.loop-at.at
+    = (few c.args.statements.now c.args.item.now c.loop-at.at c.loop-at.before c.index-statements-at.result c.loop-at-test.true
+    c.loop-at.invariant).blocks in
+    search rules
+
+pub loop-at-preserved : goal.loop-at-preserved
+loop-at-preserved c =
+    let d : Statement = c.index-statements-at.result in
+    let st : Statement = get_or c.args.statements.now c.loop-at.at d in
+    let is : d ≡ st = c.index-statements-at.is in
+    let not : is_item c.args.item.now (item_behind c.loop-at.before st) ≡ false
+    = sym (ap (λ (t : Statement). is_item c.args.item.now (item_behind c.loop-at.before t)) is)
+    ∙ sym (c.is_item.ensures ∙ ap (is_item c.args.item.now) c.item_behind-stands.ensures) ∙ c.if-is_item.false in
+    subst (λ (k : Counts). IsSought c.args.statements.now c.args.item.now (c.loop-at.at + 1) k)
+    (ap (counts_more c.loop-at.before) (sym is) ∙ sym c.behind-before.ensures)
+    (sought_more c.args.statements.now c.args.item.now c.loop-at.at c.loop-at.before d c.loop-at-test.true c.loop-at.invariant not)

@@ -1,0 +1,66 @@
+-- Which statement of a session breaks which rule of checking, and which of them a refusal tells.
+use Rattle.std.specs.Prelude.{◌≡◌, ℕ, ◌<◌, Bool, true, false, List, ◌∷◌, ◌++◌, length, take, slice_get, slice_index, All, Option, None, Some}
+use Rattle.flow_design.specs.declared.session.Statement.{Statement}
+use Rattle.flow_design.specs.declared.design.Channel.{Channel}
+use Rattle.flow_design.specs.declared.design.Block.{Block}
+use Rattle.flow_design.specs.declared.design.Module.{Module}
+use Rattle.flow_design.specs.declared.plan.Plan.{Plan}
+use Rattle.flow_grammar.specs.declared.fault.Code.{Code}
+use Rattle.flow_grammar.specs.declared.fault.Code.TheVariants as code
+use Rattle.flow_grammar.specs.declared.fault.TextFault.{TextFault}
+use Rattle.session_plan.specs.Plans.{plan_of}
+use Rattle.flow_check.specs.declared.item.Spot.{Spot}
+use Rattle.flow_check.specs.declared.item.Spot.TheVariants.{Head, Operation, Terminator}
+use Rattle.flow_check.specs.declared.item.Item.{Item}
+use Rattle.flow_check.specs.declared.item.Item.TheVariants as item
+use Rattle.flow_check.specs.Places.{items_of}
+use Rattle.flow_check.specs.Rules.{leads_out, breaks_limits, lacks_users, clashes, is_bad_loop, is_too_late, is_on_wrong_side, rules}
+
+-- there is one, and it passes the test
+abbrev pub passes : {A : Type 0} → (A → Bool) → Option A → Bool
+passes test None = false
+passes test (Some x) = test x
+
+-- something of a block breaks a rule
+abbrev pub spot_breaks : Code → Module → Block → Spot → Bool
+spot_breaks code.UnknownName m b Terminator = leads_out (length m.blocks) b.next
+spot_breaks code.PortClash m b (Operation k) = passes (clashes b.kind (take k b.ops)) (slice_get b.ops k)
+spot_breaks code.BadLoop m b Head = is_bad_loop b.len b.kind
+spot_breaks code.BadOffset m b (Operation k) = passes (is_too_late b.len) (slice_get b.ops k)
+spot_breaks code.WrongSide m b (Operation k) = passes (is_on_wrong_side m) (slice_get b.ops k)
+spot_breaks rule m b spot = false
+
+-- the limits of a plan break a rule
+abbrev pub limits_break : Code → Plan → Bool
+limits_break code.BadLimit plan = breaks_limits plan.cycles plan.ops
+limits_break rule plan = false
+
+-- a channel of a plan breaks a rule
+abbrev pub channel_breaks : Code → Plan → ℕ → Channel → Bool
+channel_breaks code.Ends plan f c = lacks_users plan.design.modules (f, c)
+channel_breaks rule plan f c = false
+
+-- an item of a plan breaks a rule
+abbrev pub breaks : Plan → Code → Item → Bool
+breaks plan rule item.Limits = limits_break rule plan
+breaks plan rule (item.Channel f) = passes (channel_breaks rule plan f) (slice_get plan.design.channels f)
+breaks plan rule (item.InModule m (b, spot)) =
+    passes (λ own. passes (λ block. spot_breaks rule own block spot) (slice_get own.blocks b)) (slice_get plan.design.modules m)
+
+-- the statement at a place breaks a rule
+abbrev pub statement_breaks : List Statement → Code → ℕ → Bool
+statement_breaks statements rule place = passes (passes (breaks (plan_of statements) rule)) (slice_get (items_of statements) place)
+
+-- a refusal tells the first statement that breaks the first rule that is broken
+pub record TellsFirst (statements : List Statement) (lines : List ℕ) (fault : TextFault) : Type 0 where
+  -- it tells the line of a statement that breaks its rule
+  pub place : ℕ
+  pub line : fault.line ≡ slice_index lines place
+  pub broken : statement_breaks statements fault.code place ≡ true
+  -- no statement before it breaks that rule
+  pub first : (i : ℕ) → i < place → statement_breaks statements fault.code i ≡ false
+  -- and nothing of the plan breaks a rule that comes before that rule
+  pub earlier : List Code
+  pub later : List Code
+  pub order : rules ≡ earlier ++ fault.code ∷ later
+  pub kept : All (λ rule. (i : Item) → breaks (plan_of statements) rule i ≡ false) earlier

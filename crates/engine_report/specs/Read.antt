@@ -77,10 +77,12 @@ is_before lanes a b = nat_lt (cycle_at lanes a) (cycle_at lanes b) || (cycle_at 
 abbrev pub event_of : ℕ → ℕ → Access → EventLine
 event_of i cycle access = record { «module» = i; kind = access.kind; channel = access.channel; cycle = cycle }
 
+abbrev pub step_at : List Lane → ℕ × ℕ → Step
+step_at lanes place = slice_index_or (lane_at lanes place.0).steps place.1 no_step
+
 -- the events of a step
 unfoldable pub events_at : List Lane → ℕ × ℕ → List EventLine
-events_at lanes place = map (event_of place.0 (cycle_at lanes place))
-    (slice_index_or (lane_at lanes place.0).steps place.1 no_step).accesses
+events_at lanes place = map (event_of place.0 (cycle_at lanes place)) (step_at lanes place).accesses
 
 -- these are the events of all steps with a cycle, in order
 pub record AreEvents (lanes : List Lane) (events : List EventLine) : Type 0 where

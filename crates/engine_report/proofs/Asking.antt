@@ -1,5 +1,5 @@
 -- What a module asks is what its step holds.
-use Rattle.std.proofs.Common.{◌≡◌, refl, sym, ap, ap₂, ◌∙◌, ℕ, Bool, true, false, List, [], ◌∷◌, map}
+use Rattle.std.proofs.Common.{◌≡◌, refl, sym, ap, ◌∙◌, Bool, true, false, List, [], ◌∷◌, map}
 use Rattle.flow_word.specs.declared.access.Access.{Access}
 use Rattle.flow_word.specs.declared.access.Kind.{Kind}
 use Rattle.flow_word.specs.declared.access.Kind.TheVariants.{Read, Write, TryRead, TryWrite, Empty, Full}
@@ -61,8 +61,10 @@ abbrev tail_of : List theory.Access → List theory.Access
 tail_of [] = []
 tail_of (x ∷ xs) = xs
 
-pub first_same : (r : Request) (rs : List Request) (a : Access) (xs : List Access) → map bridge.seen (r ∷ rs) ≡ map seen (a ∷ xs) → bridge.seen r ≡ seen a
+pub first_same : (r : Request) (rs : List Request) (a : Access) (xs : List Access) → map bridge.seen (r ∷ rs) ≡ map seen (a ∷ xs)
+    → bridge.seen r ≡ seen a
 first_same r rs a xs e = ap (head_of (seen a)) e
 
-pub rest_same : (r : Request) (rs : List Request) (a : Access) (xs : List Access) → map bridge.seen (r ∷ rs) ≡ map seen (a ∷ xs) → map bridge.seen rs ≡ map seen xs
+pub rest_same : (r : Request) (rs : List Request) (a : Access) (xs : List Access) → map bridge.seen (r ∷ rs) ≡ map seen (a ∷ xs)
+    → map bridge.seen rs ≡ map seen xs
 rest_same r rs a xs e = ap tail_of e

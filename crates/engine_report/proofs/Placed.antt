@@ -1,8 +1,7 @@
 -- The pushes of a channel are of steps of the graph.
-use Rattle.std.proofs.Common.{◌≡◌, sym, subst, ℕ, ◌<◌, List, length, map, get_or, arith}
+use Rattle.std.proofs.Common.{subst, ℕ, ◌<◌, List, length, arith}
 use Rattle.std.specs.Prelude.{All}
 use Rattle.std.proofs.lemmas.List.{length-map, get_or-map}
-use Rattle.flow_word.specs.declared.access.Place.{Place}
 use Rattle.flow_word.specs.declared.access.Side.TheVariants.{Push}
 use Rattle.fifo_table.specs.declared.channel.Pushed.{Pushed}
 use Rattle.fifo_table.specs.declared.channel.TableChannel.TheVariants.{Sink}

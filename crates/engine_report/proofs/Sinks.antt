@@ -1,28 +1,28 @@
 -- What the sinks hold is what the theory's core tells.
-use Rattle.std.proofs.Common.{◌≡◌, refl, sym, ap, ap₂, subst, ◌∙◌, ℕ, zero, suc, ◌+◌, ◌<◌, ◌≤◌, Bool, true, false, not, ◌&&◌, cond, List, [], ◌∷◌, ◌++◌, map, length, take, get_or, None, Some, Option, arith, inl, inr, length-append}
-use Rattle.std.specs.Prelude.{is_some, slice_get}
-use Rattle.std.specs.List.{range_with_len, filter, take_while}
+use Rattle.std.proofs.Common.{◌≡◌, refl, sym, ap, ◌∙◌, ℕ, zero, suc, ◌<◌, ◌≤◌, Bool, true, false, cond, List, [], ◌∷◌, ◌++◌, map, length}
+use Rattle.std.proofs.Common.{take, get_or, arith, inl, inr, length-append}
+use Rattle.std.specs.Prelude.{is_some}
+use Rattle.std.specs.List.{take_while}
 use Rattle.std.proofs.Math.Seq.{take-append_seam}
 use Rattle.std.proofs.lemmas.Bool.{cases_lt}
 use Rattle.std.proofs.lemmas.List.{length-map, get_or-map, take-map}
 use Rattle.std.proofs.lemmas.List.Sums.{take_while-cons}
 use Rattle.std.proofs.lemmas.Option.{slice_get-get_or, slice_get_past}
 use Rattle.flow_word.specs.declared.access.Place.{Place}
-use Rattle.flow_word.specs.declared.access.Side.TheVariants.{Pop, Push}
+use Rattle.flow_word.specs.declared.access.Side.TheVariants.{Push}
 use Rattle.flow_design.specs.declared.design.ChannelKind.{ChannelKind}
 use Rattle.flow_design.specs.declared.design.ChannelKind.TheVariants as plan
 use Rattle.flow_design.specs.declared.plan.Plan.{Plan}
-use Rattle.flow_design.specs.declared.state.ModuleState.{ModuleState}
 use Rattle.flow_design.specs.Plans.{is_fifo, is_sink, kind_at}
 use Rattle.lockstep_defs.specs.Report.{sinks}
-use Rattle.event_graph.specs.Lanes.{Lane, lane_at, cycle_of}
+use Rattle.event_graph.specs.Lanes.{lane_at, cycle_of}
 use Rattle.fifo_table.specs.declared.channel.Pushed.{Pushed}
 use Rattle.fifo_table.specs.declared.channel.TableChannel.{TableChannel}
 use Rattle.fifo_table.specs.declared.channel.TableChannel.TheVariants.{Source, Sink, Fifo}
-use Rattle.fifo_table.specs.Channels.{channel_at, places_of, values_of}
+use Rattle.fifo_table.specs.Channels.{channel_at, values_of}
 use Rattle.event_timing.specs.Machines.{Reply}
 use Rattle.event_timing.specs.Views.{pushed_in}
-use Rattle.event_timing.specs.Core.{Core, core_accesses, core_tally, core_pushed, bare_replies}
+use Rattle.event_timing.specs.Core.{core_accesses, core_tally, core_pushed, bare_replies}
 use Rattle.event_timing.proofs.OwnRuns.{tally_mono}
 use Rattle.event_timing.proofs.Values.{length_pushed_in, pushed_in_mono}
 use Rattle.timing_bridge.specs.Designs.{design, is_source}
@@ -42,13 +42,16 @@ front_is p [] (suc n) l front rest = absurd (omega arith)
 front_is p (x ∷ xs) zero l front rest = take_while-cons p x xs ∙ rw (rest 0 x (omega arith) (omega arith)) refl
 front_is {X} p (x ∷ xs) (suc n) l front rest =
     take_while-cons p x xs ∙ (ap (λ (b : Bool). cond b (x ∷ take_while p xs) []) (front 0 x (omega arith))
-    ∙ ap (λ (ys : List X). x ∷ ys) (front_is p xs n (omega arith) (λ i d q. front (suc i) d (omega arith)) (λ i d q r. rest (suc i) d (omega arith) (omega arith))))
+    ∙ ap (λ (ys : List X). x ∷ ys) (front_is p xs n (omega arith) (λ i d q. front (suc i) d (omega arith))
+    (λ i d q r. rest (suc i) d (omega arith) (omega arith))))
 
 -- ---- the pushes of a channel
 
 -- a push has a cycle where it is among the first so many
-push_timed : (p : Plan) (h : Held) (f : ℕ) (pushes : List Pushed) → AreTaken (design p) (core_of (design p) h) Push f (map (λ (e : Pushed). e.at) pushes) → (i : ℕ) (d : Pushed) → i < length pushes
-    → i < core_tally (design p) (core_of (design p) h) (pusher p f) Push f (length (lane_at h.lanes (pusher p f)).cycles) → is_some (cycle_of h.lanes (get_or pushes i d).at) ≡ true
+push_timed : (p : Plan) (h : Held) (f : ℕ) (pushes : List Pushed)
+    → AreTaken (design p) (core_of (design p) h) Push f (map (λ (e : Pushed). e.at) pushes) → (i : ℕ) (d : Pushed) → i < length pushes
+    → i < core_tally (design p) (core_of (design p) h) (pusher p f) Push f (length (lane_at h.lanes (pusher p f)).cycles)
+    → is_some (cycle_of h.lanes (get_or pushes i d).at) ≡ true
 push_timed p h f pushes taken i d l front =
     let x = core_of (design p) h in
     let m = pusher p f in
@@ -63,14 +66,17 @@ push_timed p h f pushes taken i d l front =
     elim (cases_lt at.step n) [
       | inl w ↦ w
       | inr w ↦
-          let mono = tally_mono (core_accesses (design p) x m) (λ j. bare_replies (x.flags m j)) Push f n (get_or (map (λ (e : Pushed). e.at) pushes) i d.at).step (omega arith) in
+          let mono = tally_mono (core_accesses (design p) x m) (λ j. bare_replies (x.flags m j)) Push f n
+          (get_or (map (λ (e : Pushed). e.at) pushes) i d.at).step (omega arith) in
           absurd (omega arith)
     ] in
     let there = slice_get-get_or (lane_at h.lanes m).cycles at.step 0 less in
     rw (owner, there) refl
 
-push_late : (p : Plan) (h : Held) (f : ℕ) (pushes : List Pushed) → AreTaken (design p) (core_of (design p) h) Push f (map (λ (e : Pushed). e.at) pushes) → (i : ℕ) (d : Pushed) → i < length pushes
-    → core_tally (design p) (core_of (design p) h) (pusher p f) Push f (length (lane_at h.lanes (pusher p f)).cycles) ≤ i → is_some (cycle_of h.lanes (get_or pushes i d).at) ≡ false
+push_late : (p : Plan) (h : Held) (f : ℕ) (pushes : List Pushed)
+    → AreTaken (design p) (core_of (design p) h) Push f (map (λ (e : Pushed). e.at) pushes) → (i : ℕ) (d : Pushed) → i < length pushes
+    → core_tally (design p) (core_of (design p) h) (pusher p f) Push f (length (lane_at h.lanes (pusher p f)).cycles) ≤ i
+    → is_some (cycle_of h.lanes (get_or pushes i d).at) ≡ false
 push_late p h f pushes taken i d l late =
     let x = core_of (design p) h in
     let m = pusher p f in
@@ -85,7 +91,8 @@ push_late p h f pushes taken i d l late =
     elim (cases_lt at.step n) [
       | inr w ↦ w
       | inl w ↦
-          let mono = tally_mono (core_accesses (design p) x m) (λ j. bare_replies (x.flags m j)) Push f (suc (get_or (map (λ (e : Pushed). e.at) pushes) i d.at).step) n (omega arith) in
+          let mono = tally_mono (core_accesses (design p) x m) (λ j. bare_replies (x.flags m j)) Push f
+          (suc (get_or (map (λ (e : Pushed). e.at) pushes) i d.at).step) n (omega arith) in
           absurd (omega arith)
     ] in
     let none = slice_get_past (lane_at h.lanes m).cycles at.step more in
@@ -97,8 +104,10 @@ nothing : (xs : List ℕ) → length xs ≡ 0 → xs ≡ []
 nothing [] e = refl
 nothing (x ∷ xs) e = cc
 
-sink_by : (p : Plan) (h : Held) → IsSound (design p) h → (f : ℕ) (pushes : List Pushed) → AreTaken (design p) (core_of (design p) h) Push f (map (λ (e : Pushed). e.at) pushes)
-    → map (λ (e : Pushed). e.value) pushes ≡ (design p).inputs f ++ core_pushed (design p) (core_of (design p) h) (pusher p f) f (emitted_of h (pusher p f))
+sink_by : (p : Plan) (h : Held) → IsSound (design p) h → (f : ℕ) (pushes : List Pushed)
+    → AreTaken (design p) (core_of (design p) h) Push f (map (λ (e : Pushed). e.at) pushes)
+    → map (λ (e : Pushed). e.value) pushes ≡ (design p).inputs f ++ core_pushed (design p) (core_of (design p) h) (pusher p f) f
+    (emitted_of h (pusher p f))
     → timed_values h.lanes pushes ≡ sink_values p (core_of (design p) h) f
 unfolding timed_values
 sink_by p h s f pushes taken values =
@@ -118,8 +127,10 @@ sink_by p h s f pushes taken values =
     let (more, begins) = pushed_in_mono f a r n (emitted_of h m) (timed_within d h s m) in
     let mono = tally_mono a r Push f n (emitted_of h m) (timed_within d h s m) in
     let t = core_tally d x m Push f n in
-    let front = front_is (λ (e : Pushed). is_some (cycle_of h.lanes e.at)) pushes t (omega arith) (λ i e q. push_timed p h f pushes taken i e (omega arith) q) (λ i e q w. push_late p h f pushes taken i e w q) in
-    let all : map (λ (e : Pushed). e.value) pushes ≡ pushed_in f a r n ++ more = values ∙ (ap (λ (xs : List ℕ). xs ++ pushed_in f a r (emitted_of h m)) none ∙ begins) in
+    let front = front_is (λ (e : Pushed). is_some (cycle_of h.lanes e.at)) pushes t (omega arith)
+    (λ i e q. push_timed p h f pushes taken i e (omega arith) q) (λ i e q w. push_late p h f pushes taken i e w q) in
+    let all : map (λ (e : Pushed). e.value) pushes ≡ pushed_in f a r n ++ more = values
+    ∙ (ap (λ (xs : List ℕ). xs ++ pushed_in f a r (emitted_of h m)) none ∙ begins) in
     ap (map (λ (e : Pushed). e.value)) front
     ∙ (sym (take-map (λ (e : Pushed). e.value) t pushes)
     ∙ (ap (take t) all
@@ -132,8 +143,10 @@ sink_kind plan.Source e = cc
 sink_kind plan.Sink e = (refl, refl)
 sink_kind (plan.Fifo depth delay) e = cc
 
-sink_pushes : (p : Plan) (f : ℕ) → is_sink (kind_at p f) ≡ true → (k : TableChannel) → IsKind (design p) f k → (pushes : List Pushed) → values_of k pushes ≡ map (λ (e : Pushed). e.value) pushes
-sink_pushes p f e (Source inputs) (k1, k2) pushes = let z = (sink_kind (kind_at p f) e).1 in let q : is_source (kind_at p f) ≡ true = k2 in cc
+sink_pushes : (p : Plan) (f : ℕ) → is_sink (kind_at p f) ≡ true → (k : TableChannel) → IsKind (design p) f k → (pushes : List Pushed)
+    → values_of k pushes ≡ map (λ (e : Pushed). e.value) pushes
+sink_pushes p f e (Source inputs) (k1, k2) pushes = let z = (sink_kind (kind_at p f) e).1 in let q : is_source
+    (kind_at p f) ≡ true = k2 in cc
 sink_pushes p f e Sink k pushes = refl
 sink_pushes p f e (Fifo depth delay) k pushes = refl
 
@@ -141,9 +154,12 @@ sink_is : (p : Plan) (h : Held) → IsSound (design p) h → (f : ℕ) → f < l
     → timed_values h.lanes (channel_at h.channels f).pushes ≡ sink_values p (core_of (design p) h) f
 sink_is p h s f inside e =
     let channel = channel_at h.channels f in
-    sink_by p h s f channel.pushes (s.taken Push f inside) (sym (sink_pushes p f e channel.kind (s.kinds f inside) channel.pushes) ∙ s.values f inside)
+    sink_by p h s f channel.pushes (s.taken Push f inside)
+    (sym (sink_pushes p f e channel.kind (s.kinds f inside) channel.pushes) ∙ s.values f inside)
 
-pub outputs_are : (p : Plan) (h : Held) → IsSound (design p) h → length h.channels ≡ length p.design.channels → outputs_of p h.lanes h.channels ≡ map (sink_values p (core_of (design p) h)) (sinks p)
+pub outputs_are : (p : Plan) (h : Held) → IsSound (design p) h → length h.channels ≡ length p.design.channels
+    → outputs_of p h.lanes h.channels ≡ map (sink_values p (core_of (design p) h)) (sinks p)
 outputs_are p h s count =
-    kept_same (λ f. timed_values h.lanes (channel_at h.channels f).pushes) (sink_values p (core_of (design p) h)) (λ f. is_sink (kind_at p f)) 0 (length p.design.channels)
+    kept_same (λ f. timed_values h.lanes (channel_at h.channels f).pushes) (sink_values p (core_of (design p) h))
+    (λ f. is_sink (kind_at p f)) 0 (length p.design.channels)
     (λ f l e. sink_is p h s f (omega arith) e)

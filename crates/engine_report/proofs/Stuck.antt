@@ -1,5 +1,5 @@
 -- The held modules are the theory's.
-use Rattle.std.proofs.Common.{◌≡◌, refl, sym, ap, ap₂, subst, ◌∙◌, ℕ, ◌<◌, ◌≤◌, Bool, true, false, not, ◌&&◌, cond, List, [], ◌∷◌, map, length, None, Some, Option, arith, inl, inr}
+use Rattle.std.proofs.Common.{◌≡◌, refl, sym, ap, ap₂, ◌∙◌, ℕ, Bool, not, ◌&&◌, List, [], ◌∷◌, map, length, None, Some, inl, inr}
 use Rattle.std.specs.Prelude.{All, option_map, is_none, nat_lt}
 use Rattle.std.specs.List.{find, filter_map, range_with_len}
 use Rattle.std.proofs.lemmas.Bool.{cases_lt, cases_Bool, lt-ltb, le-ltb, cond-true, cond-false}
@@ -16,19 +16,17 @@ use Rattle.flow_design.specs.declared.report.Verdict.TheVariants.{Done, Deadlock
 use Rattle.flow_design.specs.declared.state.Request.{Request}
 use Rattle.lockstep_defs.specs.Lockstep.{requests_of}
 use Rattle.lockstep_defs.specs.Verdict as machine
-use Rattle.event_graph.specs.Lanes.{Lane, lane_at}
-use Rattle.fifo_table.specs.Channels.{Channel}
+use Rattle.event_graph.specs.Lanes.{lane_at}
 use Rattle.time_engine.specs.declared.known.Known as of_code
 use Rattle.time_engine.specs.declared.known.Known.TheVariants as code
 use Rattle.time_engine.specs.Possible.{when_possible}
 use Rattle.time_engine.specs.Cycles.{open_step, is_waiting, known_clock}
-use Rattle.event_timing.specs.Machines as theory
 use Rattle.event_timing.specs.Machines.{IsDesign}
 use Rattle.event_timing.specs.Core.{view}
 use Rattle.event_timing.specs.Enablers.{Known, known_of}
 use Rattle.timing_bridge.specs.Designs.{design}
 use Rattle.timing_bridge.specs.Designs as bridge
-use Rattle.timing_bridge.specs.CoreReports.{is_from, is_stuck, core_held_by, core_held, modules_of}
+use Rattle.timing_bridge.specs.CoreReports.{is_from, is_stuck, core_held_by, core_held}
 use Rattle.engine_view.specs.Held as view
 use Rattle.engine_view.specs.Held.{step_of, no_step, emitted_of, seen, core_of}
 use Rattle.engine_view.specs.Known.{as_known}
@@ -61,13 +59,16 @@ held_same i r a e = ap₂ (held_with i) (sym (same_kind r a e)) (sym (same_chann
     held_with i k c = record { «module» = i; full = same_side Push (side_of k); channel = c }
 
 first_held : (p : Plan) (h : view.Held) (i : ℕ) (rs : List Request) (xs : List Access) → map bridge.seen rs ≡ map seen xs
-    → All (λ (a : Access). as_known (when_possible h.lanes h.channels a) ≡ known_of (design p) (view (design p) (core_of (design p) h)) i (seen a)) xs
-    → option_map (held_at i) (find (is_waiting h.lanes h.channels) xs) ≡ option_map (machine.held_at i) (find (is_stuck p (core_of (design p) h) i) rs)
+    → All (λ (a : Access). as_known (when_possible h.lanes h.channels a) ≡ known_of (design p) (view (design p) (core_of (design p) h)) i
+    (seen a)) xs
+    → option_map (held_at i) (find (is_waiting h.lanes h.channels) xs) ≡ option_map (machine.held_at i)
+    (find (is_stuck p (core_of (design p) h) i) rs)
 first_held p h i [] [] e all = refl
 first_held p h i [] (a ∷ xs) e all = cc
 first_held p h i (r ∷ rs) [] e all = cc
 first_held p h i (r ∷ rs) (a ∷ xs) e all =
-    let P = λ (a : Access). as_known (when_possible h.lanes h.channels a) ≡ known_of (design p) (view (design p) (core_of (design p) h)) i (seen a) in
+    let P = λ (a : Access). as_known (when_possible h.lanes h.channels a) ≡ known_of (design p) (view (design p) (core_of (design p) h)) i
+    (seen a) in
     let one = first_same r rs a xs e in
     let waits = waits_same p h i r a one (All-head P a xs all) in
     let rest = first_held p h i rs xs (rest_same r rs a xs e) (All-tail P a xs all) in
@@ -79,7 +80,8 @@ first_held p h i (r ∷ rs) (a ∷ xs) e all =
           ∙ (rest ∙ sym (ap (option_map (machine.held_at i)) (cond-false _ (Some r) (find (is_stuck p (core_of (design p) h) i) rs) free)))
     ]
 
-module_held : (p : Plan) → IsDesign (design p) → (h : view.Held) → IsSound (design p) h → (i : ℕ) → held_by h.lanes h.channels i ≡ core_held_by p (core_of (design p) h) i
+module_held : (p : Plan) → IsDesign (design p) → (h : view.Held) → IsSound (design p) h → (i : ℕ)
+    → held_by h.lanes h.channels i ≡ core_held_by p (core_of (design p) h) i
 module_held p y h s i =
     let x = core_of (design p) h in
     let lane = lane_at h.lanes i in
@@ -88,13 +90,16 @@ module_held p y h s i =
       | inl less ↦
           let there : open_step lane ≡ Some (step_of h i k) = slice_get-get_or lane.steps k no_step less in
           sym (some_held h.lanes h.channels i (step_of h i k) _ there refl)
-          ∙ (first_held p h i (requests_of p (i, x.state i k)) (step_of h i k).accesses (s.accesses i k less) (access_known (design p) y h s i less)
+          ∙ (first_held p h i (requests_of p (i, x.state i k)) (step_of h i k).accesses (s.accesses i k less)
+          (access_known (design p) y h s i less)
           ∙ sym (cond-true (nat_lt k (emitted_of h i)) _ None (lt-ltb k (emitted_of h i) less)))
       | inr more ↦
-          sym (none_held h.lanes h.channels i (slice_get_past lane.steps k more)) ∙ sym (cond-false (nat_lt k (emitted_of h i)) _ None (le-ltb k (emitted_of h i) more))
+          sym (none_held h.lanes h.channels i (slice_get_past lane.steps k more))
+          ∙ sym (cond-false (nat_lt k (emitted_of h i)) _ None (le-ltb k (emitted_of h i) more))
     ]
 
-pub all_held_is : (p : Plan) → IsDesign (design p) → (h : view.Held) → IsSound (design p) h → (v : Verdict) → all_held h.lanes h.channels v ≡ core_held p (core_of (design p) h) v
+pub all_held_is : (p : Plan) → IsDesign (design p) → (h : view.Held) → IsSound (design p) h → (v : Verdict)
+    → all_held h.lanes h.channels v ≡ core_held p (core_of (design p) h) v
 all_held_is p y h s (Done c) = refl
 all_held_is p y h s (Deadlock c) =
     found_same (held_by h.lanes h.channels) (core_held_by p (core_of (design p) h)) 0 (length h.lanes) (λ i l. module_held p y h s i)

@@ -1,5 +1,5 @@
 -- When what an engine holds is the end of a plan's simulation.
-use Rattle.std.specs.Prelude.{◌≡◌, ℕ, ◌+◌, ◌<◌, Bool, true, false, is_some, List, [], map, length, if◌then◌else◌, Option, Some}
+use Rattle.std.specs.Prelude.{◌≡◌, ℕ, ◌+◌, ◌<◌, Bool, true, is_some, List, [], map, length, if◌then◌else◌, Option, Some}
 use Rattle.flow_design.specs.declared.plan.Plan.{Plan}
 use Rattle.flow_design.specs.declared.report.Report.{Report}
 use Rattle.flow_design.specs.declared.state.Advance.{Advance}

@@ -1,5 +1,6 @@
 -- What is read off the graph, the table and the log.
-use Rattle.std.specs.Prelude.{◌≡◌, ℕ, nat_lt, ◌==◌, is_some, Bool, ◌&&◌, ◌||◌, List, [], map, filter_map, find, flat_map, take, length, slice_index_or, option_map, option_and_then, Option, Some, None, IsPermutation, IsSortedBy}
+use Rattle.std.specs.Prelude.{◌≡◌, ℕ, nat_lt, ◌==◌, is_some, Bool, ◌&&◌, ◌||◌, List, [], map, filter_map, find, flat_map, take, length}
+use Rattle.std.specs.Prelude.{slice_index_or, option_map, option_and_then, Option, Some, None, IsPermutation, IsSortedBy}
 use Rattle.std.specs.List.{range_with_len, take_while}
 use Rattle.flow_word.specs.declared.access.Access.{Access}
 use Rattle.flow_word.specs.declared.access.Side.TheVariants.{Push}
@@ -76,9 +77,12 @@ is_before lanes a b = nat_lt (cycle_at lanes a) (cycle_at lanes b) || (cycle_at 
 abbrev pub event_of : ℕ → ℕ → Access → EventLine
 event_of i cycle access = record { «module» = i; kind = access.kind; channel = access.channel; cycle = cycle }
 
+abbrev pub step_at : List Lane → ℕ × ℕ → Step
+step_at lanes place = slice_index_or (lane_at lanes place.0).steps place.1 no_step
+
 -- the events of a step
 unfoldable pub events_at : List Lane → ℕ × ℕ → List EventLine
-events_at lanes place = map (event_of place.0 (cycle_at lanes place)) (slice_index_or (lane_at lanes place.0).steps place.1 no_step).accesses
+events_at lanes place = map (event_of place.0 (cycle_at lanes place)) (step_at lanes place).accesses
 
 -- these are the events of all steps with a cycle, in order
 pub record AreEvents (lanes : List Lane) (events : List EventLine) : Type 0 where

@@ -1,7 +1,7 @@
 //! The events, in order.
-ghost use Rattle.std.specs.Prelude.{◌≡◌, ◌<◌, ◌++◌, length, IfOk, OnOk};
+ghost use Rattle.std.specs.Prelude.{◌≡◌, ◌<◌, ◌+◌, ◌-◌, ◌^◌, ◌++◌, length, min, fold, All, IfOk, OnOk};
 ghost use Rattle.event_graph.specs.Lanes.{HasStep};
-ghost use Rattle.engine_report.specs.Read.{owners, event_of, events_at, AreEvents};
+ghost use Rattle.engine_report.specs.Read.{step_at, event_of, events_at, AreEvents};
 ghost use Rattle.engine_report.specs.Keys.{key_of, keys_of, place_of, place_at, HasKey, AreSortedKeys};
 
 use event_graph::{Access, Graph, Place};
@@ -22,11 +22,27 @@ pub fn events(alloc: Global, graph: &Graph) -> Result<List<EventLine>, OutOfMemo
     ensures { IfOk result (AreEvents graph.now.lanes) }
 {
     let keys = sorted_steps(alloc, graph)?;
-    let mut events = List::new(alloc);
+    let mut events = List::with_room(alloc, count_accesses(graph, keys.as_slice()))?;
     for key in keys.as_slice() {
         add_events(graph, key, &mut events)?;
     }
     Ok(events)
+}
+
+/// How many accesses these steps have, as far as that can be counted: the room for their events.
+fn count_accesses(graph: &Graph, keys: &[TimedStep]) -> u64
+    requires { All (HasKey graph.now.lanes) keys.now }
+    ensures { result ≡ fold (λ count key. min (count + length (step_at graph.now.lanes (place_of key)).accesses) (2 ^ 64 - 1)) 0 keys.now }
+{
+    let mut count = 0u64;
+    for key in keys {
+        let step = graph.step(Place {
+            module: key.module,
+            step: key.step,
+        });
+        count = count.saturating_add(step.accesses.len());
+    }
+    count
 }
 
 /// All steps with a cycle, in order.

@@ -42,7 +42,8 @@ fn add_output(
     requires channel { channel < length fifos.now.channels }
     requires channels { length fifos.now.channels ≡ length plan.now.design.channels }
     requires places { HasPlaces graph.now.lanes fifos.now.channels }
-    ensures { OnOk result (outputs.new ≡ outputs.old ++ map (λ f. timed_values graph.now.lanes (channel_at fifos.now.channels f).pushes) (filter (λ f. is_sink (kind_at plan.now f)) (channel ∷ []))) }
+    ensures { OnOk result (outputs.new ≡ outputs.old ++ map (λ f. timed_values graph.now.lanes (channel_at fifos.now.channels f).pushes)
+        (filter (λ f. is_sink (kind_at plan.now f)) (channel ∷ []))) }
 {
     if is_sink(plan.design.channels.as_slice()[channel as usize].kind) {
         outputs.push(timed_values(alloc, graph, fifos.pushed(channel))?)?;

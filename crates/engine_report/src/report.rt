@@ -1,6 +1,6 @@
 //! The report.
 ghost use Rattle.std.specs.Prelude.{◌≡◌, true, false, [], map, is_some, IfOk};
-ghost use Rattle.engine_view.specs.Timed.{held};
+ghost use Rattle.engine_view.specs.Held.{held};
 ghost use Rattle.engine_report.specs.Finished.{IsFinished, report_with};
 ghost use Rattle.engine_report.specs.Read.{AreEvents};
 

@@ -42,7 +42,8 @@ pub fn verdict(
     requires accesses { HasAccesses graph.now.lanes fifos.now.channels }
     requires places { HasPlaces graph.now.lanes fifos.now.channels }
     requires limit { limit ≤ cycle_bound }
-    ensures { IfOk result (λ verdict. verdict ≡ verdict_by limit (map (standing_at graph.now.lanes fifos.now.channels ends.now) (owners graph.now.lanes))) }
+    ensures { IfOk result (λ verdict. verdict ≡ verdict_by limit
+        (map (standing_at graph.now.lanes fifos.now.channels ends.now) (owners graph.now.lanes))) }
 {
     let mut standings = List::with_room(alloc, graph.modules() as u64)?;
     for owner in 0..graph.modules() {

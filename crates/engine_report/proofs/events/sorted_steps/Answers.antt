@@ -7,10 +7,12 @@ use Rattle.engine_report.proofs.events.sorted_steps.Goals as goal
 
 pub loop-owner-preserved : goal.loop-owner-preserved
 loop-owner-preserved c =
-    given_more (keys_of c.args.graph.now.lanes) c.loop-owner.owner c.loop-owner.keys.items c.add_steps.new.keys.items c.loop-owner.invariant c.in_ok-add_steps.ensures
+    given_more (keys_of c.args.graph.now.lanes) c.loop-owner.owner c.loop-owner.keys.items c.add_steps.new.keys.items c.loop-owner.invariant
+    c.in_ok-add_steps.ensures
 
 pub returns : goal.returns
 returns c =
     let all : c.loop-owner.owner ≡ length c.args.graph.now.lanes = omega arith in
     sorted_keys c.args.graph.now.lanes c.loop-owner.keys.items c.sort_unstable.new.self.items c.modules-owner-end.ensures.sound
-    (c.loop-owner.invariant ∙ ap (λ n. flat_map (keys_of c.args.graph.now.lanes) (range_with_len 0 n)) all) c.sort_unstable.ensures.permutation c.sort_unstable.ensures.sorted
+    (c.loop-owner.invariant ∙ ap (λ n. flat_map (keys_of c.args.graph.now.lanes) (range_with_len 0 n)) all)
+    c.sort_unstable.ensures.permutation c.sort_unstable.ensures.sorted

@@ -10,5 +10,6 @@ timed owner step n = record { cycle = n; «module» = owner; step = step }
 
 pub returns : goal.returns
 returns c =
-    let cycle = c.unwrap_or.ensures ∙ (ap (λ (o : Option ℕ). unwrap_or o 0) c.cycle_of.ensures.cycle ∙ unwrap_or-slice_get (lane_at c.args.graph.now.lanes c.args.owner).cycles c.args.step 0) in
+    let cycle = c.unwrap_or.ensures ∙ (ap (λ (o : Option ℕ). unwrap_or o 0) c.cycle_of.ensures.cycle
+    ∙ unwrap_or-slice_get (lane_at c.args.graph.now.lanes c.args.owner).cycles c.args.step 0) in
     ap (timed c.args.owner c.args.step) cycle

@@ -1,4 +1,4 @@
-use Rattle.std.proofs.Common.{◌≡◌, sym, ap, ◌∙◌, get_or, Some, Option}
+use Rattle.std.proofs.Common.{sym, ap, ◌∙◌, Some}
 use Rattle.std.specs.Prelude.{option_map}
 use Rattle.flow_word.specs.declared.access.Access.{Access}
 use Rattle.flow_word.specs.declared.access.Kind.TheVariants.{Read}
@@ -12,11 +12,13 @@ no_access = record { kind = Read; channel = 0; ordinal = 0; value = 0 }
 
 pub returns-then-is_waiting : goal.returns-then-is_waiting
 returns-then-is_waiting c =
-    let found = first_found (is_waiting c.args.graph.now.lanes c.args.fifos.now.channels) c.args.accesses.now c.loop-access.access-index no_access c.loop-access-test.true c.loop-access.invariant
+    let found = first_found (is_waiting c.args.graph.now.lanes c.args.fifos.now.channels) c.args.accesses.now c.loop-access.access-index
+    no_access c.loop-access-test.true c.loop-access.invariant
     (sym c.if-is_waiting.ensures) in
     ap (λ h. Some h) c.held_at.ensures ∙ sym (ap (option_map (held_at c.args.owner)) found)
 
 pub loop-access-preserved : goal.loop-access-preserved
 loop-access-preserved c =
-    none_found (is_waiting c.args.graph.now.lanes c.args.fifos.now.channels) c.args.accesses.now c.loop-access.access-index no_access c.loop-access-test.true c.loop-access.invariant
+    none_found (is_waiting c.args.graph.now.lanes c.args.fifos.now.channels) c.args.accesses.now c.loop-access.access-index no_access
+    c.loop-access-test.true c.loop-access.invariant
     (sym c.if-is_waiting.ensures)

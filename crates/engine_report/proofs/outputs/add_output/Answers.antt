@@ -1,4 +1,4 @@
-use Rattle.std.proofs.Common.{◌≡◌, subst, sym, ap, map, length, List}
+use Rattle.std.proofs.Common.{subst, sym, List}
 use Rattle.std.specs.Prelude.{All}
 use Rattle.event_graph.specs.Lanes.{HasStep}
 use Rattle.fifo_table.specs.declared.channel.Pushed.{Pushed}

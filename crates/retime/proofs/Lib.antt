@@ -6,3 +6,4 @@ pub mod Cutting
 pub mod Tallied
 pub mod Agreeing
 pub mod Recorded
+pub mod Growing

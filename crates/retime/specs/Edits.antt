@@ -5,7 +5,7 @@ use Rattle.fifo_table.specs.Channels.{Channel, IsFifo, channel_at, depth_of}
 use Rattle.query_log.specs.declared.query.Query.{Query}
 use Rattle.event_timing.specs.Machines.{Design, IsDesign}
 use Rattle.event_timing.specs.Histories.{Trace, IsHistory}
-use Rattle.event_timing.specs.Core.{core_accesses}
+use Rattle.event_timing.specs.Core.{Core, core_accesses}
 use Rattle.event_timing.specs.Actions.{IsFinal}
 use Rattle.event_timing.specs.Agreement.{IsAgreed, IsStepAt, possible_all}
 use Rattle.engine_view.specs.Held.{Held, core_of}
@@ -40,3 +40,15 @@ pub record IsOtherInHistory {S : Type 0} (d : Design S) (y : Trace S) (h : Held)
   pub place : ℕ
   pub differs : slice_get ((core_of d h).flags q.module (first_of h q.module)) place
       ≢ slice_get (possible_all d y clock (core_accesses d (core_of d h) q.module (first_of h q.module))) place
+
+-- each recorded outcome of the module is verified
+abbrev pub AreVerified : {S : Type 0} → Core S → ℕ → Type 0
+AreVerified {S} x m = (k : ℕ) → k < x.emitted m → x.answered m k ≡ true → x.verified m k ≡ true
+
+-- the module's record of outcomes grew: what was recorded stays, and either nothing was added, or all that is recorded is verified
+pub record RecordGrows {S : Type 0} (x y : Core S) (m : ℕ) : Type 0 where
+  pub emitted : y.emitted m ≡ x.emitted m
+  pub answered : (k : ℕ) → x.answered m k ≡ true → y.answered m k ≡ true
+  pub flags : (k : ℕ) → x.answered m k ≡ true → y.flags m k ≡ x.flags m k
+  pub verified : (k : ℕ) → x.verified m k ≡ true → y.verified m k ≡ true
+  pub ends : ((k : ℕ) → y.answered m k ≡ x.answered m k) ⊎ AreVerified y m

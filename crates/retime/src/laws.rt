@@ -1,5 +1,5 @@
 //! The laws of retiming, for any design `d` over states of any type `S`, and any history `y` of it.
-ghost use Rattle.std.specs.Prelude.{◌≡◌, ℕ, ◌<◌, ◌≤◌, length};
+ghost use Rattle.std.specs.Prelude.{◌≡◌, ℕ, ◌<◌, ◌≤◌, length, List};
 ghost use Rattle.flow_word.specs.declared.access.Side.{Side};
 ghost use Rattle.flow_word.specs.declared.access.Side.TheVariants.{Push};
 ghost use Rattle.fifo_table.specs.Channels.{channel_at, places_of};
@@ -7,13 +7,16 @@ ghost use Rattle.query_log.specs.Logs.{log_at};
 ghost use Rattle.query_log.specs.declared.query.Query.{Query};
 ghost use Rattle.event_timing.specs.Machines.{Design, IsDesign};
 ghost use Rattle.event_timing.specs.Histories.{Trace, IsHistory};
+ghost use Rattle.event_timing.specs.Actions.{Action, ActsAll};
 ghost use Rattle.event_timing.specs.Agreement.{IsAgreed};
+ghost use Rattle.event_timing.specs.Core.{Core};
 ghost use Rattle.event_timing.specs.Edits.{edited, after_edit, held_by_cycles, IsUntouchedByCycles};
 ghost use Rattle.engine_view.specs.Held.{Held, core_of};
 ghost use Rattle.engine_view.specs.Shown.{IsSound, queries_before};
 ghost use Rattle.engine_view.specs.Turns.{IsDifferent, first_of};
 ghost use Rattle.retime.specs.Touched.{AreInOrder, held_at};
-ghost use Rattle.retime.specs.Edits.{IsFinalOf, IsEditFrom, IsOtherInHistory};
+ghost use Rattle.retime.specs.Edits.{IsFinalOf, IsEditFrom, IsOtherInHistory, RecordGrows};
+ghost use Rattle.retime.specs.Rounds.{AreTimings};
 
 /// The steps of a channel's pushes, and of its pops, stand in order, and by the cycles that were given a channel holds as many elements
 /// as the theory's core says.
@@ -26,7 +29,7 @@ pub fn cycles_are_counted<S>()
 
 /// Up to the clock from which an edit gives cycles anew neither depth was ever felt, so that the core that is cut back there agrees
 /// with the edited design's history `z`. A query that is found to be another is another in the history. In a final core the verified
-/// outcomes are those of the steps with a cycle.
+/// outcomes are those of the steps with a cycle. While cycles are given and queries answered records only grow.
 pub fn edits_agree<S>()
     ensures untouched { (d : Design S) (y : Trace S) (limit : ℕ) (h : Held) → IsFinalOf d y limit h → (fifo depth t : ℕ)
         → IsEditFrom h.lanes h.channels fifo depth limit t → (t ≤ limit) × IsUntouchedByCycles d (core_of d h) fifo depth t }
@@ -38,4 +41,6 @@ pub fn edits_agree<S>()
         → (q : Query) → IsDifferent d limit h q.module q → IsOtherInHistory d y h q }
     ensures verified { (d : Design S) (y : Trace S) (limit : ℕ) (h : Held) → IsFinalOf d y limit h → (m : ℕ) → m < length h.logs
         → (log_at h.logs m).verified ≡ queries_before h m (first_of h m) }
+    ensures records { (d : Design S) (y : Trace S) → IsDesign d → IsHistory d y → (limit : ℕ) (x : Core S) → IsAgreed d y limit x
+        → (actions : List Action) → AreTimings actions → (z : Core S) → ActsAll d limit x actions z → (m : ℕ) → RecordGrows x z m }
 {}

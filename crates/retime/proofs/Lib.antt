@@ -7,3 +7,4 @@ pub mod Tallied
 pub mod Agreeing
 pub mod Recorded
 pub mod Growing
+pub mod Outcomes

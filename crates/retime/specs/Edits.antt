@@ -3,6 +3,8 @@ use Rattle.std.specs.Prelude.{◌≡◌, ◌≢◌, ℕ, ◌≤◌, ◌⊎◌, t
 use Rattle.event_graph.specs.Lanes.{Lane}
 use Rattle.fifo_table.specs.Channels.{Channel, IsFifo, channel_at, depth_of}
 use Rattle.query_log.specs.declared.query.Query.{Query}
+use Rattle.query_log.specs.Logs.{Log}
+use Rattle.outcome_guard.specs.Prefixes.{IsPrefix}
 use Rattle.event_timing.specs.Machines.{Design, IsDesign}
 use Rattle.event_timing.specs.Histories.{Trace, IsHistory}
 use Rattle.event_timing.specs.Core.{Core, core_accesses}
@@ -52,3 +54,8 @@ pub record RecordGrows {S : Type 0} (x y : Core S) (m : ℕ) : Type 0 where
   pub flags : (k : ℕ) → x.answered m k ≡ true → y.flags m k ≡ x.flags m k
   pub verified : (k : ℕ) → x.verified m k ≡ true → y.verified m k ≡ true
   pub ends : ((k : ℕ) → y.answered m k ≡ x.answered m k) ⊎ AreVerified y m
+
+-- a module's outcomes with those that were added: none, or all are verified
+pub record OutcomesGrow (old now : Log) : Type 0 where
+  pub grew : IsPrefix old.outcomes now.outcomes
+  pub ends : (now.outcomes ≡ old.outcomes) ⊎ (now.verified ≡ length now.outcomes)

@@ -15,7 +15,8 @@ ghost use Rattle.engine_view.specs.Held.{Held, core_of};
 ghost use Rattle.engine_view.specs.Shown.{IsSound, queries_before};
 ghost use Rattle.engine_view.specs.Turns.{IsDifferent, first_of};
 ghost use Rattle.retime.specs.Touched.{AreInOrder, held_at};
-ghost use Rattle.retime.specs.Edits.{IsFinalOf, IsEditFrom, IsOtherInHistory, RecordGrows};
+ghost use Rattle.retime.specs.Edits.{IsFinalOf, IsEditFrom, IsOtherInHistory, RecordGrows, OutcomesGrow};
+ghost use Rattle.event_graph.specs.Lanes.{lane_at};
 ghost use Rattle.retime.specs.Rounds.{AreTimings};
 
 /// The steps of a channel's pushes, and of its pops, stand in order, and by the cycles that were given a channel holds as many elements
@@ -28,8 +29,7 @@ pub fn cycles_are_counted<S>()
 {}
 
 /// Up to the clock from which an edit gives cycles anew neither depth was ever felt, so that the core that is cut back there agrees
-/// with the edited design's history `z`. A query that is found to be another is another in the history. In a final core the verified
-/// outcomes are those of the steps with a cycle. While cycles are given and queries answered records only grow.
+/// with the edited design's history `z`. A query that is found to be another is another in the history.
 pub fn edits_agree<S>()
     ensures untouched { (d : Design S) (y : Trace S) (limit : ℕ) (h : Held) → IsFinalOf d y limit h → (fifo depth t : ℕ)
         → IsEditFrom h.lanes h.channels fifo depth limit t → (t ≤ limit) × IsUntouchedByCycles d (core_of d h) fifo depth t }
@@ -39,8 +39,16 @@ pub fn edits_agree<S>()
         → IsAgreed (edited d fifo depth) z limit (after_edit d (core_of d h) t) }
     ensures differs { (d : Design S) (y : Trace S) → IsDesign d → IsHistory d y → (limit : ℕ) (h : Held) → IsAgreed d y limit (core_of d h)
         → (q : Query) → IsDifferent d limit h q.module q → IsOtherInHistory d y h q }
+{}
+
+/// In a final core the verified outcomes are those of the steps with a cycle. While cycles are given and queries answered a module's
+/// record only grows, and so does the list of outcomes that the log holds of it.
+pub fn records_grow<S>()
     ensures verified { (d : Design S) (y : Trace S) (limit : ℕ) (h : Held) → IsFinalOf d y limit h → (m : ℕ) → m < length h.logs
         → (log_at h.logs m).verified ≡ queries_before h m (first_of h m) }
     ensures records { (d : Design S) (y : Trace S) → IsDesign d → IsHistory d y → (limit : ℕ) (x : Core S) → IsAgreed d y limit x
         → (actions : List Action) → AreTimings actions → (z : Core S) → ActsAll d limit x actions z → (m : ℕ) → RecordGrows x z m }
+    ensures outcomes { (d e : Design S) (h g : Held) (t m : ℕ) → IsSound d h → IsSound e g → m < length h.logs → m < length g.logs
+        → (lane_at g.lanes m).steps ≡ (lane_at h.lanes m).steps → RecordGrows (after_edit d (core_of d h) t) (core_of e g) m
+        → OutcomesGrow (log_at h.logs m) (log_at g.logs m) }
 {}

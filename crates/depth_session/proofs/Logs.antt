@@ -31,10 +31,12 @@ goes_on_at : (old now : List Log) (m : ℕ) → OutcomesGrow (log_at old m) (log
 goes_on_at old now m g =
     subst (λ (kept : List Bool). GoesOn kept (answers_of (verified_in now) m) (answers_of (recorded_in now) m)) (sym (recorded_at old m))
     (subst (λ (found : List Bool). GoesOn (log_at old m).outcomes found (answers_of (recorded_in now) m)) (sym (verified_at now m))
-    (subst (λ (all : List Bool). GoesOn (log_at old m).outcomes (take (log_at now m).verified (log_at now m).outcomes) all) (sym (recorded_at now m))
+    (subst (λ (all : List Bool). GoesOn (log_at old m).outcomes (take (log_at now m).verified (log_at now m).outcomes) all)
+    (sym (recorded_at now m))
     (log_goes_on (log_at old m) (log_at now m) g)))
 
-pub counts_of_logs : (old now : List Log) → length now ≡ length old → ((m : ℕ) → m < length old → OutcomesGrow (log_at old m) (log_at now m))
+pub counts_of_logs : (old now : List Log) → length now ≡ length old
+    → ((m : ℕ) → m < length old → OutcomesGrow (log_at old m) (log_at now m))
     → (runs : ℕ) → next_counts (counted (recorded_in old) runs) (verified_in now) ≡ counted (recorded_in now) runs
 counts_of_logs old now e f runs =
     let a = length-map old (λ (l : Log). l.outcomes) in

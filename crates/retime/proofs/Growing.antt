@@ -67,7 +67,8 @@ module _ {S : Type 0} (d : Design S) (y : Trace S) (limit : ℕ) (x : Core S) (g
 
     flags_now : (m k : ℕ) → x.answered m k ≡ true → z.flags m k ≡ x.flags m k
     flags_now =
-        at_each (λ m k. x.answered m k ≡ true → z.flags m k ≡ x.flags m k) (λ e. put_at_same x.flags n k₀ (new_flags d x n c) ∙ sym (same e))
+        at_each (λ m k. x.answered m k ≡ true → z.flags m k ≡ x.flags m k)
+        (λ e. put_at_same x.flags n k₀ (new_flags d x n c) ∙ sym (same e))
         (λ m k f e. put_at_other x.flags n k₀ (new_flags d x n c) m k f)
 
     -- where the step's outcomes were recorded, none is added

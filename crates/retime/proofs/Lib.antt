@@ -8,3 +8,4 @@ pub mod Agreeing
 pub mod Recorded
 pub mod Growing
 pub mod Outcomes
+pub mod Behind

@@ -1,5 +1,5 @@
 //! The laws of retiming, for any design `d` over states of any type `S`, and any history `y` of it.
-ghost use Rattle.std.specs.Prelude.{◌≡◌, ℕ, ◌<◌, ◌≤◌, length, List};
+ghost use Rattle.std.specs.Prelude.{◌≡◌, ℕ, ◌<◌, ◌≤◌, length, Bool, List};
 ghost use Rattle.flow_word.specs.declared.access.Side.{Side};
 ghost use Rattle.flow_word.specs.declared.access.Side.TheVariants.{Push};
 ghost use Rattle.fifo_table.specs.Channels.{channel_at, places_of};
@@ -15,7 +15,10 @@ ghost use Rattle.engine_view.specs.Held.{Held, core_of};
 ghost use Rattle.engine_view.specs.Shown.{IsSound, queries_before};
 ghost use Rattle.engine_view.specs.Turns.{IsDifferent, first_of};
 ghost use Rattle.retime.specs.Touched.{AreInOrder, held_at};
-ghost use Rattle.retime.specs.Edits.{IsFinalOf, IsEditFrom, IsOtherInHistory, RecordGrows, OutcomesGrow};
+ghost use Rattle.retime.specs.Edits.{IsFinalOf, IsEditFrom, IsOtherInHistory, RecordGrows, OutcomesGrow, IsEditOf};
+ghost use Rattle.flow_design.specs.declared.state.ModuleState.{ModuleState};
+ghost use Rattle.outcome_guard.specs.declared.guard.Guard.{Guard as guard};
+ghost use Rattle.engine_view.specs.Stored.{Stored, held_in};
 ghost use Rattle.event_graph.specs.Lanes.{lane_at};
 ghost use Rattle.retime.specs.Rounds.{AreTimings};
 
@@ -51,4 +54,15 @@ pub fn records_grow<S>()
     ensures outcomes { (d e : Design S) (h g : Held) (t m : ℕ) → IsSound d h → IsSound e g → m < length h.logs → m < length g.logs
         → (lane_at g.lanes m).steps ≡ (lane_at h.lanes m).steps → RecordGrows (after_edit d (core_of d h) t) (core_of e g) m
         → OutcomesGrow (log_at h.logs m) (log_at g.logs m) }
+{}
+
+/// Behind an edit the core agrees with the edited design's history, and of each module the log has the outcomes that it had, with none
+/// more, or with more and all verified.
+pub fn retimings_agree()
+    ensures agreed { (d : Design ModuleState) (y z : Trace ModuleState) (limit : ℕ) (over : List Bool) (old new : Stored) (guard : guard)
+        (fifo depth t : ℕ) → IsEditOf d y z limit over old new guard fifo depth t
+        → IsAgreed (edited d fifo depth) z limit (core_of (edited d fifo depth) (held_in new over)) }
+    ensures outcomes { (d : Design ModuleState) (y z : Trace ModuleState) (limit : ℕ) (over : List Bool) (old new : Stored) (guard : guard)
+        (fifo depth t : ℕ) → IsEditOf d y z limit over old new guard fifo depth t
+        → (m : ℕ) → m < length old.log.logs → OutcomesGrow (log_at old.log.logs m) (log_at new.log.logs m) }
 {}

@@ -1,9 +1,7 @@
 -- An end (or spent) mark is the theory's Run of a module that is over.
-use Rattle.std.proofs.Common.{◌≡◌, refl, sym, ap, subst, ◌∙◌, ℕ, ◌<◌, Bool, true, false, cond, List, length, get_or, set}
+use Rattle.std.proofs.Common.{◌≡◌, refl, sym, ap, subst, ◌∙◌, ℕ, ◌<◌, Bool, true, false, cond, length, get_or, set}
 use Rattle.std.proofs.lemmas.Bool.{cond-true, le-ltb}
 use Rattle.std.proofs.lemmas.List.{length-set, get_or-set_same, get_or-set_other}
-use Rattle.flow_word.specs.declared.access.Side.{Side}
-use Rattle.flow_word.specs.declared.access.Place.{Place}
 use Rattle.event_timing.specs.Machines.{Design, ready}
 use Rattle.event_timing.specs.Views.{own}
 use Rattle.event_timing.specs.Core.{Core}
@@ -11,9 +9,10 @@ use Rattle.event_timing.specs.Agreement.{AreOwnMarks}
 use Rattle.event_timing.specs.Actions.{newest, emit_over, after_run, MayRun}
 use Rattle.event_timing.proofs.Running.{run_marks}
 use Rattle.engine_view.specs.Held.{Held, emitted_of, replies_at, core_of}
-use Rattle.engine_view.specs.Shown.{Shows, IsSound, AreTaken, AreWhole}
+use Rattle.engine_view.specs.Shown.{Shows, IsSound}
 use Rattle.engine_view.specs.Emitted.{with_over}
-use Rattle.engine_view.proofs.Assigned.{put_is, IsAlike, alike_queries}
+use Rattle.engine_view.proofs.Assigned.{put_is, IsAlike, alike_queries, whole_kept}
+use Rattle.engine_view.proofs.Placing.{taken_stays}
 use Rattle.engine_view.proofs.Reading.{IsRead, read_sound}
 
 module _ {S : Type 0} (d : Design S) (h : Held) (m : ℕ) (inside : m < length h.over) (s : IsSound d h) where
@@ -29,15 +28,6 @@ module _ {S : Type 0} (d : Design S) (h : Held) (m : ℕ) (inside : m < length h
   alike : IsAlike g h
   alike = record { steps = λ n. refl; channels = refl; logs = refl }
 
-  taken_kept : (side : Side) (c : ℕ) (places : List Place) → AreTaken d x side c places → AreTaken d z side c places
-  taken_kept side c places o = record {
-    count = o.count;
-    each = λ i y l. let a = o.each i y l in record { owner = a.owner; emitted = a.emitted; from = a.from; to = a.to };
-  }
-
-  whole_kept : (n q : ℕ) → AreWhole h n q → AreWhole g n q
-  whole_kept n q w = record { steps = w.steps; within = w.within; all = w.all ∙ sym (alike_queries g h alike n w.steps) }
-
   over_shown : Shows d g z
   over_shown = record {
     lanes = s.lanes;
@@ -52,17 +42,18 @@ module _ {S : Type 0} (d : Design S) (h : Held) (m : ℕ) (inside : m < length h
     first_query = λ n k l. s.first_query n k l ∙ sym (alike_queries g h alike n k);
     kinds = s.kinds;
     lags = s.lags;
-    taken = λ side c l. taken_kept side c _ (s.taken side c l);
+    taken = λ side c l. taken_stays d x z (λ w side c k. refl) (λ w. refl) side c _ (s.taken side c l);
     values = s.values;
-    recorded = λ n l. whole_kept n _ (s.recorded n l);
-    verified = λ n l. whole_kept n _ (s.verified n l);
+    recorded = λ n l. whole_kept g h alike n _ (s.recorded n l);
+    verified = λ n l. whole_kept g h alike n _ (s.verified n l);
   }
 
   over_read : IsRead d g z
   over_read = record {
     emitted = λ n. refl;
     over = λ n. put_is x.over m n true (get_or (set h.over m true) n false)
-        (λ e. subst (λ (v : ℕ). get_or (set h.over m true) v false ≡ true) (sym e) (get_or-set_same h.over m true false inside)) (λ f. get_or-set_other h.over m n true false f);
+        (λ e. subst (λ (v : ℕ). get_or (set h.over m true) v false ≡ true) (sym e) (get_or-set_same h.over m true false inside))
+        (λ f. get_or-set_other h.over m n true false f);
     past = λ n k l. sym (ap (λ (v : Bool). cond v (ready d n (own d n (replies_at h n) k)) (d.opening n)) (le-ltb k (emitted_of h n) l));
     wait = λ n k. refl;
     flags = λ n k. refl;
@@ -72,7 +63,8 @@ module _ {S : Type 0} (d : Design S) (h : Held) (m : ℕ) (inside : m < length h
     cycle = λ n k. refl;
   }
 
-  pub over_core : AreOwnMarks d x → MayRun d x m → d.is_over m (ready d m (newest d x m)) ≡ true → (core_of d g ≡ after_run d x m) × IsSound d g
+  pub over_core : AreOwnMarks d x → MayRun d x m → d.is_over m (ready d m (newest d x m)) ≡ true
+      → (core_of d g ≡ after_run d x m) × IsSound d g
   over_core b r over =
       let is : after_run d x m ≡ z = cond-true {A = Core S} (d.is_over m (ready d m (newest d x m))) z _ over in
       let (e, sound) = read_sound d g z (subst (AreOwnMarks d) is (run_marks d x b m r)) over_shown over_read in

@@ -1,17 +1,18 @@
 -- A module's first step without a cycle whose queries are not all verified.
-use Rattle.std.proofs.Common.{◌≡◌, sym, ap, ap₂, subst, ◌∙◌, ℕ, ◌<◌, ltb, Bool, true, false, ◌&&◌, length, arith, inl, inr}
+use Rattle.std.proofs.Common.{◌≡◌, ap, ap₂, subst, ◌∙◌, ℕ, ◌<◌, ltb, Bool, true, false, ◌&&◌, length, arith, inl, inr}
 use Rattle.std.proofs.lemmas.Bool.{lt-ltb, and_parts}
 use Rattle.std.proofs.lemmas.Bool.Decides.{eqb_tells}
 use Rattle.query_log.specs.Logs.{log_at}
 use Rattle.event_timing.specs.Machines.{Design, IsDesign}
 use Rattle.event_timing.specs.Core.{Core}
-use Rattle.event_timing.specs.Agreement.{AreOwnMarks}
 use Rattle.event_timing.specs.Actions.{IsSame, after_answer}
 use Rattle.event_timing.proofs.Assigning.{put_at_same, put_at_other}
 use Rattle.event_timing.proofs.Answering.{answer_marks}
 use Rattle.engine_view.specs.Held.{Held, step_of, emitted_of, are_among, core_of}
 use Rattle.engine_view.specs.Shown.{IsSound}
-use Rattle.engine_view.specs.Turns.{IsKept, HasUnsure, IsAnswered, first_of}
+use Rattle.engine_view.specs.Kept.{IsKept}
+use Rattle.engine_view.specs.Turns.{HasUnsure, IsAnswered, first_of}
+use Rattle.engine_view.proofs.Keeping.{now_kept}
 
 -- there is such a step, and all before it are verified
 pub record IsUnsure {S : Type 0} (d : Design S) (h : Held) (m : ℕ) : Type 0 where
@@ -38,14 +39,9 @@ pub record IsFresh {S : Type 0} (d : Design S) (h : Held) (m : ℕ) : Type 0 whe
 -- what is held behind the answers is kept
 pub answered_on : {S : Type 0} → (d : Design S) (h : Held) (m c : ℕ) (g : Held) → IsUnsure d h m → IsSame d (core_of d h) m c
     → (core_of d g ≡ after_answer d (core_of d h) m c) × IsSound d g → IsAnswered d h m c g
-answered_on {S} d h m c g u same (e, sound) = record {
+answered_on {S} d h m c g u same read = record {
   same = same;
-  core = e;
-  kept = record {
-    sound = sound;
-    marks = subst (AreOwnMarks d) (sym e) (answer_marks d u.design (core_of d h) u.kept.marks m c u.less same);
-    earlier = subst (λ (z : Core S). (j p : ℕ) → p < z.timed j → z.verified j p ≡ true) (sym e) before;
-  };
+  now = now_kept d g (after_answer d (core_of d h) m c) read (answer_marks d u.design (core_of d h) u.kept.marks m c u.less same) before;
 }
   where
     before : (j p : ℕ) → p < first_of h j → (after_answer d (core_of d h) m c).verified j p ≡ true
@@ -53,7 +49,8 @@ answered_on {S} d h m c g u same (e, sound) = record {
         let x = core_of d h in
         elim (eqb_tells j m) [
           | inl s ↦
-              put_at_other x.verified m (first_of h m) true j p (λ a b. let b' = b in let l' = subst (λ (n : ℕ). p < first_of h n) s.1 l in omega arith)
+              put_at_other x.verified m (first_of h m) true j p (λ a b. let b' = b in let l' = subst (λ (n : ℕ). p < first_of h n) s.1 l in
+              omega arith)
               ∙ u.kept.earlier j p l
           | inr s ↦ put_at_other x.verified m (first_of h m) true j p (λ a b. s.1 a) ∙ u.kept.earlier j p l
         ]
@@ -63,5 +60,5 @@ pub verified_now : {S : Type 0} → (d : Design S) (h : Held) (m c : ℕ) (g : H
     → are_among (step_of g m (first_of h m)) (log_at g.logs m).verified ≡ true
 verified_now {S} d h m c g a =
     let k = first_of h m in
-    let now = ap (λ (y : Core S). y.verified m k) a.core ∙ put_at_same (core_of d h).verified m k true in
+    let now = ap (λ (y : Core S). y.verified m k) a.now.core ∙ put_at_same (core_of d h).verified m k true in
     (and_parts (ltb k (emitted_of g m)) (are_among (step_of g m k) (log_at g.logs m).verified) now).1

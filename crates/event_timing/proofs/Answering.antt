@@ -13,12 +13,13 @@ use Rattle.event_timing.specs.Views.{Begins}
 use Rattle.event_timing.specs.Core.{Core, bare_replies, core_accesses, core_pushed, core_values, view, has_query, no_outcomes}
 use Rattle.event_timing.specs.Agreement.{AreOwnMarks, IsTimed, elements_timed, pops_timed, possible_all, FlagsFit}
 use Rattle.event_timing.specs.Actions.{after_answer, new_flags, IsSame}
-use Rattle.event_timing.specs.Growth.{Grows, IsSettled}
+use Rattle.event_timing.specs.Growth.{Grows}
 use Rattle.event_timing.proofs.Steps.{same_clock}
 use Rattle.event_timing.proofs.Values.{begins_self, begins_behind, pushed_in_more, not_taken}
 use Rattle.event_timing.proofs.Candidate.{candidate_parts, candidate_steps, candidate_done}
 use Rattle.event_timing.proofs.Fronts.{agrees, pushed_same}
-use Rattle.event_timing.proofs.Growing.{settled_less, settled_old, settled_timed, settled_all, own_grow, reply_grow, there_grow}
+use Rattle.event_timing.proofs.Growing.{settled_less, settled_old, settled_timed, own_grow, reply_grow, there_grow}
+use Rattle.event_timing.proofs.Growing.{ended_settled}
 use Rattle.event_timing.proofs.Growing.{elements_grow, pops_grow}
 use Rattle.event_timing.proofs.Assigning.{at_cases, put_at_same, put_at_other, put_at_both, RightFlags, SureFlags, HappensFirst}
 use Rattle.event_timing.proofs.Sure.{new_sure}
@@ -227,10 +228,6 @@ module _ {S : Type 0} (d : Design S) (i : IsDesign d) (x : Core S) (b : AreOwnMa
             absurd (both_ways _ a (subst (λ (z : ℕ). after.answered n z ≡ true) (sym e) answered))
       ]
 
-  -- a module whose end is emitted has each reply
-  ended_settled : (n : ℕ) → x.over n ≡ true → IsSettled d x n (x.emitted n)
-  ended_settled n o = settled_all d x b n (λ k q. b.ended_replied n k o q) (λ k q. b.ended_there n k o q)
-
   pub answer_marks : IsSame d x m c → AreOwnMarks d (after_answer d x m c)
   answer_marks same =
       let g = answer_grows same in
@@ -239,11 +236,13 @@ module _ {S : Type 0} (d : Design S) (i : IsDesign d) (x : Core S) (b : AreOwnMa
         own_step = λ n k q. b.own_step n k q ∙ ap (ready d n) (old n k q);
         own_wait = λ n k q. b.own_wait n k q ∙ ap (d.quiet n) (old n k q);
         lives = b.lives;
-        ended = λ n o. ap (λ (p : S). d.is_over n (ready d n p)) (own_grow d x after g n (x.emitted n) (ended_settled n o)) ∙ b.ended n o;
+        ended = λ n o. ap (λ (p : S). d.is_over n (ready d n p)) (own_grow d x after g n (x.emitted n) (ended_settled d x b n o))
+            ∙ b.ended n o;
         replied = λ n k q. answer_answered d x m c n k (b.replied n k q);
         there = λ n k q. there_grow d x after g n k (settled_old d x b n (suc k) q);
         ended_replied = λ n k o q. answer_answered d x m c n k (b.ended_replied n k o q);
-        ended_there = λ n k o q. there_grow d x after g n k (settled_less d x n (x.emitted n) (suc k) (omega arith) (ended_settled n o));
+        ended_there = λ n k o q. there_grow d x after g n k
+            (settled_less d x n (x.emitted n) (suc k) (omega arith) (ended_settled d x b n o));
         fit = put_at_both x.flags m (x.timed m) (new_flags d x m c) (λ n k f. k < x.emitted n → FlagsFit (core_accesses d x n k) f)
             (λ q. flags_at_fit (known_of d (view d x) m) c asked)
             (λ n k w q. b.fit n k q);

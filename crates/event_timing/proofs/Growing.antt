@@ -140,3 +140,7 @@ settled_all {S} d x b m f g =
       answered = λ k q. elim (cases_eq (suc k) (x.emitted m)) [ inl e ↦ f k e | inr e ↦ b.replied m k (omega arith) ];
       there = λ k q. elim (cases_eq (suc k) (x.emitted m)) [ inl e ↦ g k e | inr e ↦ b.there m k (omega arith) ];
     }
+
+-- and of a module whose end is emitted
+pub ended_settled : {S : Type 0} → (d : Design S) (x : Core S) → AreOwnMarks d x → (m : ℕ) → x.over m ≡ true → IsSettled d x m (x.emitted m)
+ended_settled {S} d x b m o = settled_all d x b m (λ k q. b.ended_replied m k o q) (λ k q. b.ended_there m k o q)

@@ -15,6 +15,7 @@ use Rattle.event_timing.proofs.OwnRuns.{own_0, own_more}
 use Rattle.event_timing.proofs.Values.{pushed_in_mono, begins_behind}
 use Rattle.event_timing.proofs.Fronts.{pushed_same, IsDone}
 use Rattle.event_timing.proofs.Growing.{settled_less, settled_old, settled_timed, settled_all, own_grow, reply_grow, there_grow}
+use Rattle.event_timing.proofs.Growing.{ended_settled}
 use Rattle.event_timing.proofs.Growing.{elements_grow, pops_grow}
 use Rattle.event_timing.proofs.Assigning.{put_cases, put_other, put_at_same, put_at_other, plain_possible, can_emitted, RightFlags}
 use Rattle.event_timing.proofs.Assigning.{SureFlags, HappensFirst}
@@ -152,10 +153,6 @@ module _ {S : Type 0} (d : Design S) (x : Core S) (b : AreOwnMarks d x) (m : ℕ
   own_old : (n k : ℕ) → k < x.emitted n → own d n (core_reply d (emit d x m) n) k ≡ own d n (core_reply d x n) k
   own_old n k l = own_grow d x (emit d x m) (emit_grows d x m) n k (settled_old d x b n k l)
 
-  -- a module whose end is emitted has each reply
-  ended_settled : (n : ℕ) → x.over n ≡ true → IsSettled d x n (x.emitted n)
-  ended_settled n o = settled_all d x b n (λ k q. b.ended_replied n k o q) (λ k q. b.ended_there n k o q)
-
 module _ {S : Type 0} (d : Design S) (x : Core S) (b : AreOwnMarks d x) (m : ℕ) (r : MayRun d x m) where
   -- a module that may run has each reply
   run_settled : IsSettled d x m (x.emitted m)
@@ -190,7 +187,7 @@ module _ {S : Type 0} (d : Design S) (x : Core S) (b : AreOwnMarks d x) (m : ℕ
             (ap (d.is_over m) (state_new d x m) ∙ lives);
         ended = put_cases x.emitted m (suc (x.emitted m))
             (λ n j. x.over n ≡ true → d.is_over n (ready d n (own d n (core_reply d z n) j)) ≡ true)
-            (λ n w o. ap (λ (p : S). d.is_over n (ready d n p)) (own_grow d x z g n (x.emitted n) (ended_settled d x b m n o))
+            (λ n w o. ap (λ (p : S). d.is_over n (ready d n p)) (own_grow d x z g n (x.emitted n) (ended_settled d x b n o))
             ∙ b.ended n o)
             (λ o. absurd (both_ways _ r.lives o));
         replied = put_cases x.emitted m (suc (x.emitted m)) (λ n j. (k : ℕ) → suc k < j → z.answered n k ≡ true)
@@ -204,7 +201,7 @@ module _ {S : Type 0} (d : Design S) (x : Core S) (b : AreOwnMarks d x) (m : ℕ
             (λ o q. absurd (both_ways _ r.lives o))
             n o;
         ended_there = λ n k o. put_cases x.emitted m (suc (x.emitted m)) (λ n j. x.over n ≡ true → suc k ≡ j → values_there d z n k ≡ true)
-            (λ n w o q. there_grow d x z g n k (settled_less d x n (x.emitted n) (suc k) (omega arith) (ended_settled d x b m n o)))
+            (λ n w o q. there_grow d x z g n k (settled_less d x n (x.emitted n) (suc k) (omega arith) (ended_settled d x b n o)))
             (λ o q. absurd (both_ways _ r.lives o))
             n o;
         fit = emit_fit d x b m;

@@ -46,7 +46,7 @@ depth_Number : (n : ℕ) → depth {N = List ℕ} (Number n) ≡ 1
 unfolding depth
 depth_Number n = folded-Number (List ℕ) ℕ layer_depth n
 
-all_append : (p : Part → Bool) (xs ys : List Part) → list_all p (xs ++ ys) ≡ list_all p xs && list_all p ys
+pub all_append : (p : Part → Bool) (xs ys : List Part) → list_all p (xs ++ ys) ≡ list_all p xs && list_all p ys
 all_append p [] ys = refl
 all_append p (x ∷ xs) ys = go (p x) (all_append p xs ys)
   where

@@ -41,9 +41,12 @@ digit_is d h = grind (arith, nat_tests)
 digit_visible : (b : ℕ) → is_ascii_digit b ≡ true → is_visible b ≡ true
 digit_visible b h = grind (arith, nat_tests)
 
-digit_behind : (ds : List ℕ) (b : ℕ) → list_all is_ascii_digit ds ≡ true → is_ascii_digit b ≡ true → list_all is_ascii_digit (ds ++ b ∷ []) ≡ true
+digit_behind : (ds : List ℕ) (b : ℕ) → list_all is_ascii_digit ds ≡ true → is_ascii_digit b ≡ true
+    → list_all is_ascii_digit (ds ++ b ∷ []) ≡ true
 digit_behind [] b h k = and_true (is_ascii_digit b) true k refl
-digit_behind (d ∷ ds) b h k = let p = and_parts (is_ascii_digit d) (list_all is_ascii_digit ds) h in and_true (is_ascii_digit d) (list_all is_ascii_digit (ds ++ b ∷ [])) p.0 (digit_behind ds b p.1 k)
+digit_behind (d ∷ ds) b h k =
+    let p = and_parts (is_ascii_digit d) (list_all is_ascii_digit ds) h in
+    and_true (is_ascii_digit d) (list_all is_ascii_digit (ds ++ b ∷ [])) p.0 (digit_behind ds b p.1 k)
 
 last_digit : (n : ℕ) → n % 10 < 10
 last_digit n = omega arith
@@ -64,14 +67,18 @@ digits_printed : (t : Token) → 0 < length t → list_all is_ascii_digit t ≡ 
 unfolding is_printed
 digits_printed [] h k = absurd (omega arith)
 digits_printed (b ∷ bs) h k =
-    and_true (is_no_comment (b ∷ bs)) (list_all is_visible (b ∷ bs)) (no_hash b (and_parts (is_ascii_digit b) (list_all is_ascii_digit bs) k).0) (all_of is_ascii_digit is_visible digit_visible (b ∷ bs) k)
+    and_true (is_no_comment (b ∷ bs)) (list_all is_visible (b ∷ bs))
+    (no_hash b (and_parts (is_ascii_digit b) (list_all is_ascii_digit bs) k).0) (all_of is_ascii_digit is_visible digit_visible (b ∷ bs) k)
 
 number_printed : (n : ℕ) → n < 2 ^ 64 → is_printed (decimal n) ≡ true
 number_printed n h = digits_printed (decimal n) (decimal_nonempty n h) (digits_all n h)
 
 number_spelled : (n : ℕ) → n < 2 ^ 64 → (is_number (decimal n) ≡ true) × (number_of (decimal n) ≡ n)
 unfolding is_number
-number_spelled n h = (and_true (is_filled (decimal n)) (list_all is_ascii_digit (decimal n)) (filled_of (decimal n) (decimal_nonempty n h)) (digits_all n h), (decimal_is_IsNumeral n h).1)
+number_spelled n h = (
+  and_true (is_filled (decimal n)) (list_all is_ascii_digit (decimal n)) (filled_of (decimal n) (decimal_nonempty n h)) (digits_all n h),
+  (decimal_is_IsNumeral n h).1,
+)
 
 -- ---- names
 
@@ -87,7 +94,9 @@ name_printed [] h = absurd cc
 name_printed (b ∷ bs) h =
     let p = and_parts (begins_with_letter (b ∷ bs)) _ h in
     let q = and_parts (list_all is_name_byte (b ∷ bs)) _ p.1 in
-    and_true (is_no_comment (b ∷ bs)) (list_all is_visible (b ∷ bs)) (letter_no_hash b (and_parts (is_name_byte b) (list_all is_name_byte bs) q.0).0) (all_of is_name_byte is_visible letter_visible (b ∷ bs) q.0)
+    and_true (is_no_comment (b ∷ bs)) (list_all is_visible (b ∷ bs))
+    (letter_no_hash b (and_parts (is_name_byte b) (list_all is_name_byte bs) q.0).0)
+    (all_of is_name_byte is_visible letter_visible (b ∷ bs) q.0)
 
 -- ---- parts
 
@@ -97,7 +106,8 @@ is_fit (Word w) = is_printed w
 is_fit (Num least most n) = nat_lt most (2 ^ 64)
 is_fit part = true
 
-pub part_printed : (p : Part) → is_fit p ≡ true → is_well_named p ≡ true → is_in_range p ≡ true → (is_printed (token_of p) ≡ true) × Spells (token_of p) p
+pub part_printed : (p : Part) → is_fit p ≡ true → is_well_named p ≡ true → is_in_range p ≡ true
+    → (is_printed (token_of p) ≡ true) × Spells (token_of p) p
 part_printed (Word w) f n r = (f, refl)
 part_printed (New space name) f n r = (name_printed name n, (n, refl))
 part_printed (Use sort name) f n r = (name_printed name n, (n, refl))
@@ -122,7 +132,8 @@ parts_printed (p ∷ ps) f n r =
 
 fit_append : (ps qs : List Part) → list_all is_fit ps ≡ true → list_all is_fit qs ≡ true → list_all is_fit (ps ++ qs) ≡ true
 fit_append [] qs h k = k
-fit_append (p ∷ ps) qs h k = let q = and_parts (is_fit p) (list_all is_fit ps) h in and_true (is_fit p) (list_all is_fit (ps ++ qs)) q.0 (fit_append ps qs q.1 k)
+fit_append (p ∷ ps) qs h k =
+    let q = and_parts (is_fit p) (list_all is_fit ps) h in and_true (is_fit p) (list_all is_fit (ps ++ qs)) q.0 (fit_append ps qs q.1 k)
 
 fit_binary : (o : BinOp) → is_printed (binary_word o) ≡ true
 unfolding is_printed
@@ -154,14 +165,17 @@ fit_sext k a h = rw (parts_Sext k a) h
 
 fit_pick : (a b c : Expr Name) → Fit a → Fit b → Fit c → Fit (Pick a b c)
 unfolding is_printed
-fit_pick a b c h k l = rw (parts_Pick a b c) (fit_append (expr_parts a) (expr_parts b ++ expr_parts c) h (fit_append (expr_parts b) (expr_parts c) k l))
+fit_pick a b c h k l =
+    rw (parts_Pick a b c) (fit_append (expr_parts a) (expr_parts b ++ expr_parts c) h (fit_append (expr_parts b) (expr_parts c) k l))
 
 fit_expr : (e : Expr Name) → Fit e
 fit_expr = by_cases Name Fit (record {
   number = λ n. rw (parts_Number n) refl;
   var = λ x. rw (parts_Var x) refl;
   unary = fit_unary;
-  binary = λ o a b h k. rw (parts_Binary o a b) (and_true (is_printed (binary_word o)) (list_all is_fit (expr_parts a ++ expr_parts b)) (fit_binary o) (fit_append (expr_parts a) (expr_parts b) h k));
+  binary = λ o a b h k. rw (parts_Binary o a b)
+      (and_true (is_printed (binary_word o)) (list_all is_fit (expr_parts a ++ expr_parts b)) (fit_binary o)
+      (fit_append (expr_parts a) (expr_parts b) h k));
   sext = fit_sext;
   pick = fit_pick;
 })

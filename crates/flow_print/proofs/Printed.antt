@@ -51,12 +51,14 @@ pub printed_var : (text : List ℕ) (x : Name) → text ++ 32 ∷ x ≡ text ++ 
 unfolding spaced_parts
 printed_var text x = rw (parts_Var x) (one_more text (32 ∷ x))
 
-pub printed_unary : (text : List ℕ) (a : Expr Name) → (text ++ 32 ∷ codes "~") ++ spaced_parts (expr_parts a) ≡ text ++ spaced_parts (expr_parts (Unary Not a))
+pub printed_unary : (text : List ℕ) (a : Expr Name)
+    → (text ++ 32 ∷ codes "~") ++ spaced_parts (expr_parts a) ≡ text ++ spaced_parts (expr_parts (Unary Not a))
 unfolding spaced_parts
 printed_unary text a = rw (parts_Unary Not a) (two_more text (32 ∷ codes "~") (spaced_parts (expr_parts a)))
 
 pub printed_binary : (text : List ℕ) (o : BinOp) (a b : Expr Name)
-    → ((text ++ 32 ∷ binary_word o) ++ spaced_parts (expr_parts a)) ++ spaced_parts (expr_parts b) ≡ text ++ spaced_parts (expr_parts (Binary o a b))
+    → ((text ++ 32 ∷ binary_word o) ++ spaced_parts (expr_parts a)) ++ spaced_parts (expr_parts b)
+    ≡ text ++ spaced_parts (expr_parts (Binary o a b))
 unfolding spaced_parts
 printed_binary text o a b =
     rw (parts_Binary o a b)
@@ -115,7 +117,8 @@ unfolding spaced_parts
 printed_load text r m e = four_more text (32 ∷ codes "load") (32 ∷ r) (32 ∷ m) (spaced_parts (expr_parts e))
 
 pub printed_store : (text m : List ℕ) (e f : Expr Name)
-    → (((text ++ 32 ∷ codes "store") ++ 32 ∷ m) ++ spaced_parts (expr_parts e)) ++ spaced_parts (expr_parts f) ≡ text ++ spaced_parts (op_parts (op.Store m e f))
+    → (((text ++ 32 ∷ codes "store") ++ 32 ∷ m) ++ spaced_parts (expr_parts e)) ++ spaced_parts (expr_parts f)
+    ≡ text ++ spaced_parts (op_parts (op.Store m e f))
 unfolding spaced_parts
 printed_store text m e f =
     four_more text (32 ∷ codes "store") (32 ∷ m) (spaced_parts (expr_parts e)) (spaced_parts (expr_parts f))
@@ -136,11 +139,13 @@ unfolding spaced_parts
 printed_try_read text f r ok = four_last text (32 ∷ codes "tryread") (32 ∷ f) (32 ∷ r) (32 ∷ ok)
 
 pub printed_try_write : (text f ok : List ℕ) (e : Expr Name)
-    → (((text ++ 32 ∷ codes "trywrite") ++ 32 ∷ f) ++ 32 ∷ ok) ++ spaced_parts (expr_parts e) ≡ text ++ spaced_parts (op_parts (op.TryWrite f ok e))
+    → (((text ++ 32 ∷ codes "trywrite") ++ 32 ∷ f) ++ 32 ∷ ok) ++ spaced_parts (expr_parts e)
+    ≡ text ++ spaced_parts (op_parts (op.TryWrite f ok e))
 unfolding spaced_parts
 printed_try_write text f ok e = four_more text (32 ∷ codes "trywrite") (32 ∷ f) (32 ∷ ok) (spaced_parts (expr_parts e))
 
-pub printed_empty : (text f r : List ℕ) → ((text ++ 32 ∷ codes "empty") ++ 32 ∷ f) ++ 32 ∷ r ≡ text ++ spaced_parts (op_parts (op.Empty f r))
+pub printed_empty : (text f r : List ℕ)
+    → ((text ++ 32 ∷ codes "empty") ++ 32 ∷ f) ++ 32 ∷ r ≡ text ++ spaced_parts (op_parts (op.Empty f r))
 unfolding spaced_parts
 printed_empty text f r = three_last text (32 ∷ codes "empty") (32 ∷ f) (32 ∷ r)
 
@@ -172,7 +177,8 @@ timed_line text offset guard o =
     let O : List ℕ = spaced_parts (op_parts o) in
     let now : ((((text ++ codes "at") ++ A) ++ G) ++ O) ++ 10 ∷ [] ≡ text ++ ((codes "at" ++ (A ++ (G ++ O))) ++ 10 ∷ []) =
     ap (λ x. x ++ 10 ∷ []) (four_more text (codes "at") A G O) ∙ append_assoc text (codes "at" ++ (A ++ (G ++ O))) (10 ∷ []) in
-    let written : codes "at" ++ (A ++ (G ++ O)) ≡ join_with_byte 32 (codes "at" ∷ map token_of (plain offset ∷ guard_parts guard ++ op_parts o)) =
+    let written : codes "at" ++ (A ++ (G ++ O))
+    ≡ join_with_byte 32 (codes "at" ∷ map token_of (plain offset ∷ guard_parts guard ++ op_parts o)) =
     ap (λ x. codes "at" ++ (A ++ x)) (sym (spaced_append (guard_parts guard) (op_parts o)))
     ∙ sym (joined (codes "at") (plain offset ∷ guard_parts guard ++ op_parts o)) in
     now ∙ ap (λ x. text ++ (x ++ 10 ∷ [])) written

@@ -69,7 +69,8 @@ printed v before s k =
 
 -- in order, where the line writes the statement in the version that is declared before it
 line_in_order : (v : ℕ) (before : List Statement) (s : Statement) → KeepsRules before s
-    → ((ts : List Token) → Spelled ts (written_parts v s) → Writes (version (reverse before)) ts s) → IsInOrder before (printed_line v s) (Some s)
+    → ((ts : List Token) → Spelled ts (written_parts v s) → Writes (version (reverse before)) ts s)
+    → IsInOrder before (printed_line v s) (Some s)
 line_in_order v before s k writes =
     let p = printed v before s k in
     record {
@@ -89,7 +90,8 @@ keep_first : (front : List Statement) (s : Statement) (ss : List Statement) → 
 keep_first front s ss k = subst (λ (b : List Statement). KeepsRules b s) (append-nil front) (k 0 s refl)
 
 keep_rest : (front : List Statement) (s : Statement) (ss : List Statement) → Keep front (s ∷ ss) → Keep (front ++ s ∷ []) ss
-keep_rest front s ss k i t e = subst (λ (b : List Statement). KeepsRules b t) (sym (append_assoc front (s ∷ []) (take i ss))) (k (suc i) t e)
+keep_rest front s ss k i t e =
+    subst (λ (b : List Statement). KeepsRules b t) (sym (append_assoc front (s ∷ []) (take i ss))) (k (suc i) t e)
 
 -- what the lines of the statements say, and the line without a byte behind them
 abbrev said_of : List Statement → Words
@@ -105,11 +107,10 @@ all_in_order v front (s ∷ ss) e earlier r h k =
     let here = keep_first front s ss k in
     let declared : version (reverse front) ≡ v = ap version r ∙ h in
     let fits : fits_version v s ≡ true = subst (λ (n : ℕ). fits_version n s ≡ true) declared here.fits in
-    let permitted : may_follow (e ∷ earlier) s ≡ true = subst (λ (es : List Statement). may_follow es s ≡ true) r here.permitted in
-    (
+    let permitted : may_follow (e ∷ earlier) s ≡ true = subst (λ (es : List Statement). may_follow es s ≡ true) r here.permitted in (
       line_in_order v front s here (λ ts p. subst (λ (n : ℕ). Writes n ts s) (sym declared) (writes_printed v ts s fits p)),
       all_in_order v (front ++ s ∷ []) ss s (e ∷ earlier) (reverse-append front (s ∷ []) ∙ ap (λ (es : List Statement). s ∷ es) r)
-      (same_version e earlier s permitted ∙ h) (keep_rest front s ss k),
+          (same_version e earlier s permitted ∙ h) (keep_rest front s ss k),
     )
 
 -- from the first statement on, which declares the version
@@ -162,7 +163,8 @@ same_numbers : (n : ℕ) (ss : List Statement) → range_with_len n (length ss) 
 same_numbers n [] = refl
 same_numbers n (s ∷ ss) = ap (λ (r : List ℕ). n ∷ r) (same_numbers (n + 1) ss)
 
-pub reads_back : (ss : List Statement) → KeepsReadingRules ss → length (canonical_text ss) ≤ TEXT_BYTES → StandsFor (canonical_text ss) ss (range_with_len 1 (length ss))
+pub reads_back : (ss : List Statement) → KeepsReadingRules ss → length (canonical_text ss) ≤ TEXT_BYTES
+    → StandsFor (canonical_text ss) ss (range_with_len 1 (length ss))
 reads_back ss rules short = record {
   short = short;
   said = said_of ss;

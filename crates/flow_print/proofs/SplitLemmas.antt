@@ -23,7 +23,8 @@ module _ (p : ℕ → Bool) where
       go false e = refl
 
   -- the front up to the first byte that splits
-  pub split_front : (w : List ℕ) (x : ℕ) (rest : List ℕ) → list_all is_other w ≡ true → p x ≡ true → slice_split p (w ++ x ∷ rest) ≡ w ∷ slice_split p rest
+  pub split_front : (w : List ℕ) (x : ℕ) (rest : List ℕ) → list_all is_other w ≡ true → p x ≡ true
+      → slice_split p (w ++ x ∷ rest) ≡ w ∷ slice_split p rest
   split_front [] x rest h e = slice_split-cons_yes p x rest e
   split_front (b ∷ w) x rest h e =
       let parts = and_parts (is_other b) (list_all is_other w) h in
@@ -37,7 +38,8 @@ module _ (p : ℕ → Bool) where
       slice_split-cons_no p b w (other_fails b parts.0) ∙ ap (onto_first b) (split_alone w parts.1)
 
   -- what is joined by a byte that splits
-  pub split_joined : (x : ℕ) → p x ≡ true → (t : List ℕ) (ts : List (List ℕ)) → list_all (list_all is_other) (t ∷ ts) ≡ true → slice_split p (join_with_byte x (t ∷ ts)) ≡ t ∷ ts
+  pub split_joined : (x : ℕ) → p x ≡ true → (t : List ℕ) (ts : List (List ℕ)) → list_all (list_all is_other) (t ∷ ts) ≡ true
+      → slice_split p (join_with_byte x (t ∷ ts)) ≡ t ∷ ts
   split_joined x e t [] h = split_alone t (and_parts (list_all is_other t) true h).0
   split_joined x e t (u ∷ us) h =
       let parts = and_parts (list_all is_other t) (list_all (list_all is_other) (u ∷ us)) h in
@@ -57,7 +59,8 @@ and_true a b h k = rw (h, k) refl
 
 pub all_of : (q r : ℕ → Bool) → ((b : ℕ) → q b ≡ true → r b ≡ true) → (bs : List ℕ) → list_all q bs ≡ true → list_all r bs ≡ true
 all_of q r step [] h = refl
-all_of q r step (b ∷ bs) h = let parts = and_parts (q b) (list_all q bs) h in and_true (r b) (list_all r bs) (step b parts.0) (all_of q r step bs parts.1)
+all_of q r step (b ∷ bs) h =
+    let parts = and_parts (q b) (list_all q bs) h in and_true (r b) (list_all r bs) (step b parts.0) (all_of q r step bs parts.1)
 
 visible_separates : (b : ℕ) → is_visible b ≡ true → is_other is_separator b ≡ true
 visible_separates b h = grind (arith, nat_tests)
@@ -70,9 +73,11 @@ visible_permitted b h = grind (arith, nat_tests)
 
 token_bytes : (t : Token) → is_printed t ≡ true → list_all is_visible t ≡ true
 unfolding is_printed
-token_bytes t h = (and_parts (is_no_comment t) (list_all is_visible t) (and_parts (is_filled t) (is_no_comment t && list_all is_visible t) h).1).1
+token_bytes t h =
+    (and_parts (is_no_comment t) (list_all is_visible t) (and_parts (is_filled t) (is_no_comment t && list_all is_visible t) h).1).1
 
-tokens_bytes : (r : ℕ → Bool) → ((b : ℕ) → is_visible b ≡ true → r b ≡ true) → (ts : List Token) → list_all is_printed ts ≡ true → list_all (list_all r) ts ≡ true
+tokens_bytes : (r : ℕ → Bool) → ((b : ℕ) → is_visible b ≡ true → r b ≡ true) → (ts : List Token) → list_all is_printed ts ≡ true
+    → list_all (list_all r) ts ≡ true
 tokens_bytes r step [] h = refl
 tokens_bytes r step (t ∷ ts) h =
     let parts = and_parts (is_printed t) (list_all is_printed ts) h in
@@ -80,14 +85,16 @@ tokens_bytes r step (t ∷ ts) h =
 
 all_append : (q : ℕ → Bool) (xs ys : List ℕ) → list_all q xs ≡ true → list_all q ys ≡ true → list_all q (xs ++ ys) ≡ true
 all_append q [] ys h k = k
-all_append q (x ∷ xs) ys h k = let parts = and_parts (q x) (list_all q xs) h in and_true (q x) (list_all q (xs ++ ys)) parts.0 (all_append q xs ys parts.1 k)
+all_append q (x ∷ xs) ys h k =
+    let parts = and_parts (q x) (list_all q xs) h in and_true (q x) (list_all q (xs ++ ys)) parts.0 (all_append q xs ys parts.1 k)
 
 all_joined : (r : ℕ → Bool) → r 32 ≡ true → (ts : List Token) → list_all (list_all r) ts ≡ true → list_all r (join_with_byte 32 ts) ≡ true
 all_joined r e [] h = refl
 all_joined r e (t ∷ []) h = (and_parts (list_all r t) true h).0
 all_joined r e (t ∷ u ∷ us) h =
     let parts = and_parts (list_all r t) (list_all (list_all r) (u ∷ us)) h in
-    all_append r t (32 ∷ join_with_byte 32 (u ∷ us)) parts.0 (and_true (r 32) (list_all r (join_with_byte 32 (u ∷ us))) e (all_joined r e (u ∷ us) parts.1))
+    all_append r t (32 ∷ join_with_byte 32 (u ∷ us)) parts.0
+    (and_true (r 32) (list_all r (join_with_byte 32 (u ∷ us))) e (all_joined r e (u ∷ us) parts.1))
 
 -- the bytes of a line of printed tokens may stand in a line
 pub line_permitted : (ts : List Token) → list_all is_printed ts ≡ true → list_all is_permitted (join_with_byte 32 ts) ≡ true
@@ -106,16 +113,19 @@ no_comment (t ∷ ts) h =
 pub line_tokens : (t : Token) (ts : List Token) → list_all is_printed (t ∷ ts) ≡ true → tokens_of (join_with_byte 32 (t ∷ ts)) ≡ t ∷ ts
 unfolding tokens_of
 line_tokens t ts h =
-    ap (λ (parts : List Token). take_while is_no_comment (filter is_filled parts)) (split_joined is_separator 32 refl t ts (tokens_bytes (is_other is_separator) visible_separates (t ∷ ts) h))
+    ap (λ (parts : List Token). take_while is_no_comment (filter is_filled parts))
+    (split_joined is_separator 32 refl t ts (tokens_bytes (is_other is_separator) visible_separates (t ∷ ts) h))
     ∙ no_comment (t ∷ ts) h
 
 -- the lines of a text of lines, behind the last of which there is one without a byte
-pub text_lines : (tss : List (List Token)) → list_all (list_all is_printed) tss ≡ true → lines_of (text_of_lines tss) ≡ map (join_with_byte 32) tss ++ [] ∷ []
+pub text_lines : (tss : List (List Token)) → list_all (list_all is_printed) tss ≡ true
+    → lines_of (text_of_lines tss) ≡ map (join_with_byte 32) tss ++ [] ∷ []
 text_lines [] h = refl
 text_lines (ts ∷ tss) h =
     let parts = and_parts (list_all is_printed ts) (list_all (list_all is_printed) tss) h in
     ap lines_of (append_assoc (join_with_byte 32 ts) (10 ∷ []) (text_of_lines tss))
-    ∙ split_front is_line_feed (join_with_byte 32 ts) 10 (text_of_lines tss) (all_joined (is_other is_line_feed) refl ts (tokens_bytes (is_other is_line_feed) visible_in_line ts parts.0)) refl
+    ∙ split_front is_line_feed (join_with_byte 32 ts) 10 (text_of_lines tss)
+    (all_joined (is_other is_line_feed) refl ts (tokens_bytes (is_other is_line_feed) visible_in_line ts parts.0)) refl
     ∙ ap (λ (r : List (List ℕ)). join_with_byte 32 ts ∷ r) (text_lines tss parts.1)
 
 -- the same for any printed tokens

@@ -109,7 +109,9 @@ fn print_loop(
     len: u64,
     again: &Name,
 ) -> Result<(), OutOfMemory>
-    ensures { OnOk result (text.new ≡ text.old ++ line (keyword_word Keyword.Loop ∷ name.now ∷ decimal interval ∷ decimal len ∷ codes "while" ∷ again.now ∷ [])) }
+    ensures { OnOk result
+        (text.new ≡ text.old ++ line
+        (keyword_word Keyword.Loop ∷ name.now ∷ decimal interval ∷ decimal len ∷ codes "while" ∷ again.now ∷ [])) }
 {
     text.extend_from_slice(Keyword::Loop.word())?;
     push_token(text, name.bytes())?;

@@ -38,11 +38,13 @@ module _ {A : Type 0} (f : A → List ℕ) (p : List ℕ → Bool) (xs : List A)
   abbrev pub from_place : ℕ → Bool
   from_place k = list_all p (map f (drop k xs))
 
-  pub passes : (k : ℕ) (d : A) → k < length xs → p (f (get_or xs k d)) ≡ true → from_place k ≡ list_all p (map f xs) → from_place (k + 1) ≡ list_all p (map f xs)
+  pub passes : (k : ℕ) (d : A) → k < length xs → p (f (get_or xs k d)) ≡ true → from_place k ≡ list_all p (map f xs)
+      → from_place (k + 1) ≡ list_all p (map f xs)
   passes k d h t s = let e : drop k xs ≡ get_or xs k d ∷ drop (k + 1) xs = cell xs k d h in
       ap (λ (b : Bool). b && from_place (k + 1)) (sym t) ∙ ap (λ (ys : List A). list_all p (map f ys)) (sym e) ∙ s
 
-  pub passes_not : (k : ℕ) (d : A) → k < length xs → p (f (get_or xs k d)) ≡ false → from_place k ≡ list_all p (map f xs) → false ≡ list_all p (map f xs)
+  pub passes_not : (k : ℕ) (d : A) → k < length xs → p (f (get_or xs k d)) ≡ false → from_place k ≡ list_all p (map f xs)
+      → false ≡ list_all p (map f xs)
   passes_not k d h t s = let e : drop k xs ≡ get_or xs k d ∷ drop (k + 1) xs = cell xs k d h in
       ap (λ (b : Bool). b && from_place (k + 1)) (sym t) ∙ ap (λ (ys : List A). list_all p (map f ys)) (sym e) ∙ s
 
@@ -75,10 +77,12 @@ module _ (t : Tables) where
 
   abbrev given_by : Bool → Bool → Bool → Name → Option (List ℕ) → Result Statement Code
   given_by double known room n None = Err BadNumber
-  given_by double known room n (Some values) = if double then Err DoubleName else if not known then Err UnknownName else if room then Ok (Input n values) else Err TooMany
+  given_by double known room n (Some values) =
+      if double then Err DoubleName else if not known then Err UnknownName else if room then Ok (Input n values) else Err TooMany
 
   in_cases : (n : Name) (values : List ℕ) (h r d k m : Bool)
-      → (if h then given_by d k m n (words_if r values) else Err Syntax) ≡ judged (if h then input_fault r (true && not d) (k && true) m else Some Syntax) (Input n values)
+      → (if h then given_by d k m n (words_if r values) else Err Syntax)
+      ≡ judged (if h then input_fault r (true && not d) (k && true) m else Some Syntax) (Input n values)
   in_cases n values false r d k m = refl
   in_cases n values true false d k m = refl
   in_cases n values true true true k m = refl
@@ -86,20 +90,35 @@ module _ (t : Tables) where
   in_cases n values true true false true true = refl
   in_cases n values true true false true false = refl
 
-  given_is : (n : Name) (words : Option (List ℕ)) (values : List ℕ) → words ≡ words_within values → input_of_words t n words ≡ given_by (is_among t.inputs n) (is_among t.sources n) (nat_le (t.input_values + length values) INPUT_VALUES) n words
+  given_is : (n : Name) (words : Option (List ℕ)) (values : List ℕ) → words ≡ words_within values
+      → input_of_words t n words
+      ≡ given_by (is_among t.inputs n) (is_among t.sources n) (nat_le (t.input_values + length values) INPUT_VALUES) n words
   given_is n None values h = refl
   given_is n (Some ws) values h = go (list_all is_plain values) h
     where
-      go : (b : Bool) → Some ws ≡ words_if b values → input_of_words t n (Some ws) ≡ given_by (is_among t.inputs n) (is_among t.sources n) (nat_le (t.input_values + length values) INPUT_VALUES) n (Some ws)
-      go true k = let e : ws ≡ values = cc in ap (λ (x : List ℕ). given_by (is_among t.inputs n) (is_among t.sources n) (nat_le (t.input_values + length x) INPUT_VALUES) n (Some ws)) e
+      go : (b : Bool) → Some ws ≡ words_if b values
+          → input_of_words t n (Some ws)
+          ≡ given_by (is_among t.inputs n) (is_among t.sources n) (nat_le (t.input_values + length values) INPUT_VALUES) n (Some ws)
+      go true k =
+          let e : ws ≡ values = cc in
+          ap
+          (λ (x : List ℕ). given_by (is_among t.inputs n) (is_among t.sources n) (nat_le (t.input_values + length x) INPUT_VALUES) n
+          (Some ws))
+          e
       go false k = absurd cc
 
   input_is : (n : Name) (values : List ℕ) → input_reading t n (words_within values) ≡ reading_by t (Some (Input n values))
   unfolding fault_by
   input_is n values =
       (λ i. if takes_inputs t.place then given_is n (words_within values) values refl i else Err Syntax)
-      ∙ in_cases n values (takes_inputs t.place) (list_all is_plain values) (is_among t.inputs n) (is_among t.sources n) (nat_le (t.input_values + length values) INPUT_VALUES)
-      ∙ sym (λ i. judged (if takes_inputs t.place then input_fault (plain_ranged values i) (plain_new values i && not (is_among t.inputs n)) (is_among t.sources n && plain_known values i) (nat_le (t.input_values + length values) INPUT_VALUES) else Some Syntax) (Input n values))
+      ∙ in_cases n values (takes_inputs t.place) (list_all is_plain values) (is_among t.inputs n) (is_among t.sources n)
+      (nat_le (t.input_values + length values) INPUT_VALUES)
+      ∙ sym
+      (λ i. judged
+      (if takes_inputs t.place
+      then input_fault (plain_ranged values i) (plain_new values i && not (is_among t.inputs n))
+      (is_among t.sources n && plain_known values i) (nat_le (t.input_values + length values) INPUT_VALUES) else Some Syntax)
+      (Input n values))
 
   fits : (b c : Bool) (s : Statement) → b ≡ true → c ≡ true → reading_by t (Some s) ≡ reading_by t (only_if (b && c) s)
   fits true true s h k = refl
@@ -107,11 +126,14 @@ module _ (t : Tables) where
   fits false c s h k = absurd cc
 
   pub input_read : (n : Name) (tokens : List (List ℕ)) (words : Option (List ℕ)) (result : Result Statement LineFail)
-      → is_name n ≡ true → list_all is_number tokens ≡ true → words ≡ words_within (map number_of tokens) → LineGives (λ s. s) result (input_reading t n words)
+      → is_name n ≡ true → list_all is_number tokens ≡ true → words ≡ words_within (map number_of tokens)
+      → LineGives (λ s. s) result (input_reading t n words)
       → LineGives (λ s. s) result (reading_by t (only_if (is_name n && list_all is_number tokens) (Input n (map number_of tokens))))
   input_read n tokens words result h k e g =
       subst (λ (r : Result Statement Code). LineGives (λ s. s) result r)
-      (ap (input_reading t n) e ∙ input_is n (map number_of tokens) ∙ fits (is_name n) (list_all is_number tokens) (Input n (map number_of tokens)) h k) g
+      (ap (input_reading t n) e ∙ input_is n (map number_of tokens)
+      ∙ fits (is_name n) (list_all is_number tokens) (Input n (map number_of tokens)) h k)
+      g
 
 -- ---- reading the values one after the other
 
@@ -132,14 +154,16 @@ module _ {A : Type 0} (f : A → List ℕ) where
   pub begins : (all : List A) → list_all is_number (map f all) ≡ true → Reading all [] all
   begins all h = record { numerals = h; so_far = refl; passed = refl }
 
-  pub is_numeral : (all : List A) (words : List ℕ) (x : A) (rest left : List A) → left ≡ x ∷ rest → Reading all words left → is_number (f x) ≡ true
+  pub is_numeral : (all : List A) (words : List ℕ) (x : A) (rest left : List A) → left ≡ x ∷ rest → Reading all words left
+      → is_number (f x) ≡ true
   is_numeral all words x rest left e r = (both (is_number (f x)) (list_all is_number (map f rest)) (rw e at r.numerals)).0
 
   is_within : (b : Bool) (n w : ℕ) → (if b then Some n else None) ≡ Some w → (b ≡ true) × (n ≡ w)
   is_within true n w h = (refl, cc)
   is_within false n w h = absurd cc
 
-  pub next : (all : List A) (words words' : List ℕ) (x : A) (w : ℕ) (rest left : List A) → left ≡ x ∷ rest → number_within 0 (2 ^ 64 - 1) (number_of (f x)) ≡ Some w → words' ≡ words ++ w ∷ []
+  pub next : (all : List A) (words words' : List ℕ) (x : A) (w : ℕ) (rest left : List A) → left ≡ x ∷ rest
+      → number_within 0 (2 ^ 64 - 1) (number_of (f x)) ≡ Some w → words' ≡ words ++ w ∷ []
       → Reading all words left → Reading all words' rest
   next all words words' x w rest left e h p r =
       let q = is_within (is_plain (number_of (f x))) (number_of (f x)) w h in
@@ -147,7 +171,8 @@ module _ {A : Type 0} (f : A → List ℕ) where
       let d : is_plain (number_of (f x)) && list_all is_plain (numbers rest) ≡ list_all is_plain (numbers all) = rw e at r.passed in
       record {
         numerals = (both (is_number (f x)) (list_all is_number (map f rest)) (rw e at r.numerals)).1;
-        so_far = ap (λ (ws : List ℕ). ws ++ numbers rest) p ∙ append_assoc words (w ∷ []) (numbers rest) ∙ ap (λ (n : ℕ). words ++ n ∷ numbers rest) (sym q.1) ∙ s;
+        so_far = ap (λ (ws : List ℕ). ws ++ numbers rest) p ∙ append_assoc words (w ∷ []) (numbers rest)
+            ∙ ap (λ (n : ℕ). words ++ n ∷ numbers rest) (sym q.1) ∙ s;
         passed = ap (λ (b : Bool). b && list_all is_plain (numbers rest)) (sym q.0) ∙ d;
       }
 
@@ -155,7 +180,8 @@ module _ {A : Type 0} (f : A → List ℕ) where
   is_beyond true n h = absurd cc
   is_beyond false n h = refl
 
-  pub beyond : (all : List A) (words : List ℕ) (x : A) (rest left : List A) → left ≡ x ∷ rest → number_within 0 (2 ^ 64 - 1) (number_of (f x)) ≡ None
+  pub beyond : (all : List A) (words : List ℕ) (x : A) (rest left : List A) → left ≡ x ∷ rest
+      → number_within 0 (2 ^ 64 - 1) (number_of (f x)) ≡ None
       → Reading all words left → None ≡ words_within (numbers all)
   beyond all words x rest left e h r =
       let q = is_beyond (is_plain (number_of (f x))) (number_of (f x)) h in
@@ -171,16 +197,20 @@ module _ {A : Type 0} (f : A → List ℕ) where
       ap (λ (ws : List ℕ). Some ws) w ∙ ap (λ (b : Bool). if b then Some (numbers all) else None) d
 
   -- the same at a place of the list
-  pub is_numeral_at : (all : List A) (words : List ℕ) (k : ℕ) (d : A) → k < length all → Reading all words (drop k all) → is_number (f (get_or all k d)) ≡ true
+  pub is_numeral_at : (all : List A) (words : List ℕ) (k : ℕ) (d : A) → k < length all → Reading all words (drop k all)
+      → is_number (f (get_or all k d)) ≡ true
   is_numeral_at all words k d h r = is_numeral all words (get_or all k d) (drop (k + 1) all) (drop k all) (cell all k d h) r
 
-  pub next_at : (all : List A) (words words' : List ℕ) (k : ℕ) (d : A) (w : ℕ) → k < length all → number_within 0 (2 ^ 64 - 1) (number_of (f (get_or all k d))) ≡ Some w → words' ≡ words ++ w ∷ []
+  pub next_at : (all : List A) (words words' : List ℕ) (k : ℕ) (d : A) (w : ℕ) → k < length all
+      → number_within 0 (2 ^ 64 - 1) (number_of (f (get_or all k d))) ≡ Some w → words' ≡ words ++ w ∷ []
       → Reading all words (drop k all) → Reading all words' (drop (k + 1) all)
   next_at all words words' k d w h n e r = next all words words' (get_or all k d) w (drop (k + 1) all) (drop k all) (cell all k d h) n e r
 
-  pub beyond_at : (all : List A) (words : List ℕ) (k : ℕ) (d : A) → k < length all → number_within 0 (2 ^ 64 - 1) (number_of (f (get_or all k d))) ≡ None
+  pub beyond_at : (all : List A) (words : List ℕ) (k : ℕ) (d : A) → k < length all
+      → number_within 0 (2 ^ 64 - 1) (number_of (f (get_or all k d))) ≡ None
       → Reading all words (drop k all) → None ≡ words_within (numbers all)
   beyond_at all words k d h n r = beyond all words (get_or all k d) (drop (k + 1) all) (drop k all) (cell all k d h) n r
 
-  pub done_at : (all : List A) (words : List ℕ) (k : ℕ) → length all ≤ k → Reading all words (drop k all) → Some words ≡ words_within (numbers all)
+  pub done_at : (all : List A) (words : List ℕ) (k : ℕ) → length all ≤ k → Reading all words (drop k all)
+      → Some words ≡ words_within (numbers all)
   done_at all words k h r = done all words (drop k all) (drop_all all k h) r

@@ -32,7 +32,9 @@ said_judged (Some c) s = refl
 
 said_same : (s : Option Statement) (earlier : List Statement) → said_by (reading_by (tables_of earlier) s) ≡ judged (form_fault earlier s) s
 said_same None earlier = refl
-said_same (Some s) earlier = said_judged (form_fault_by (tables_of earlier) (Some s)) s ∙ ap (λ (c : Option Code). judged c (Some s)) (form_fault_same (Some s) earlier)
+said_same (Some s) earlier =
+    said_judged (form_fault_by (tables_of earlier) (Some s)) s
+    ∙ ap (λ (c : Option Code). judged c (Some s)) (form_fault_same (Some s) earlier)
 
 tokens_same : (tokens : List Token) (earlier : List Statement)
     → tokens_reading_by (tables_of earlier) tokens ≡ judged (tokens_fault earlier tokens) (statement_of (version earlier) tokens)
@@ -52,7 +54,8 @@ line_same before line = permitted_same (list_all is_permitted line) (tokens_of l
 
 -- ---- the tables behind a line
 
-more_tables : (before : List Statement) (said : Option Statement) → accepted_if (tables_of (reverse before)) said ≡ tables_of (reverse (with_statement before said))
+more_tables : (before : List Statement) (said : Option Statement)
+    → accepted_if (tables_of (reverse before)) said ≡ tables_of (reverse (with_statement before said))
 more_tables before None = refl
 more_tables before (Some s) = accepted_same s (reverse before) ∙ ap tables_of (sym (reverse-append before (s ∷ [])))
 
@@ -64,12 +67,15 @@ is_added old new said number line k r t s m = record {
   reads = ap (at_line number) (sym (ap (λ (x : Tables). line_reading_by x line) k ∙ line_same old.statements line)) ∙ r;
   statements = s;
   numbers = m;
-  kept = t ∙ ap (λ (x : Tables). accepted_if x said) k ∙ more_tables old.statements said ∙ ap (λ (x : List Statement). tables_of (reverse x)) (sym s);
+  kept = t ∙ ap (λ (x : Tables). accepted_if x said) k ∙ more_tables old.statements said
+      ∙ ap (λ (x : List Statement). tables_of (reverse x)) (sym s);
 }
 
-pub line_fails : (old : Progress) (fail : ReadFail) (number : ℕ) (line : Line) → IsKept old → TextFails fail (at_line number (line_reading_by old.tables line)) → TextFails fail (at_line number (line_reading old.statements line))
+pub line_fails : (old : Progress) (fail : ReadFail) (number : ℕ) (line : Line) → IsKept old
+    → TextFails fail (at_line number (line_reading_by old.tables line)) → TextFails fail (at_line number (line_reading old.statements line))
 line_fails old fail number line k f =
-    subst (λ (r : Result (Option Statement) Code). TextFails fail (at_line number r)) (ap (λ (x : Tables). line_reading_by x line) k ∙ line_same old.statements line) f
+    subst (λ (r : Result (Option Statement) Code). TextFails fail (at_line number r))
+    (ap (λ (x : Tables). line_reading_by x line) k ∙ line_same old.statements line) f
 
 -- ---- the lines as a loop reads them
 
@@ -93,21 +99,28 @@ begins text p o =
     }
 
 regroup : (statements : List Statement) (numbers : List ℕ) (n : ℕ) (statement : Option Statement) (read : Result Read TextFault)
-    → with_front statements numbers (read >>= λ r. Ok (in_front n statement r)) ≡ with_front (with_statement statements statement) (with_number numbers n statement) read
+    → with_front statements numbers (read >>= λ r. Ok (in_front n statement r))
+    ≡ with_front (with_statement statements statement) (with_number numbers n statement) read
 regroup statements numbers n statement (Err f) = refl
 regroup statements numbers n None (Ok r) = refl
 regroup statements numbers n (Some s) (Ok r) = simp append_assoc
 
-goes_on : (statements : List Statement) (numbers : List ℕ) (n : ℕ) (line : Line) (lines : List Line) (statement : Option Statement) (total : Result Read TextFault)
+goes_on : (statements : List Statement) (numbers : List ℕ) (n : ℕ) (line : Line) (lines : List Line) (statement : Option Statement)
+    (total : Result Read TextFault)
     → at_line (n + 1) (line_reading statements line) ≡ Ok statement
     → with_front statements numbers (reading statements n (line ∷ lines)) ≡ total
-    → with_front (with_statement statements statement) (with_number numbers (n + 1) statement) (reading (with_statement statements statement) (n + 1) lines) ≡ total
+    → with_front (with_statement statements statement) (with_number numbers (n + 1) statement)
+    (reading (with_statement statements statement) (n + 1) lines)
+    ≡ total
 unfolding reading
 goes_on statements numbers n line lines statement total h so_far =
-    let one : with_front statements numbers (reading statements n (line ∷ lines)) ≡ with_front statements numbers (reading (with_statement statements statement) (n + 1) lines >>= λ r. Ok (in_front (n + 1) statement r)) = rw h refl in
+    let one : with_front statements numbers (reading statements n (line ∷ lines))
+    ≡ with_front statements numbers
+    (reading (with_statement statements statement) (n + 1) lines >>= λ r. Ok (in_front (n + 1) statement r)) = rw h refl in
     sym (regroup statements numbers (n + 1) statement (reading (with_statement statements statement) (n + 1) lines)) ∙ sym one ∙ so_far
 
-stops : (e : ReadFail) (statements : List Statement) (numbers : List ℕ) (n : ℕ) (line : Line) (lines : List Line) (total : Result Read TextFault)
+stops : (e : ReadFail) (statements : List Statement) (numbers : List ℕ) (n : ℕ) (line : Line) (lines : List Line)
+    (total : Result Read TextFault)
     → TextFails e (at_line (n + 1) (line_reading statements line))
     → with_front statements numbers (reading statements n (line ∷ lines)) ≡ total → TextFails e total
 unfolding reading
@@ -126,7 +139,8 @@ next text p q n left behind rest line r l e shorter a =
       kept = a.kept;
       room = (let k = rw l at r.room in omega arith);
       so_far = (λ i. with_front (s i) (m i) (reading (s i) (n + 1) (lines_left behind)))
-          ∙ goes_on p.statements p.numbers n line (lines_left behind) a.said (reading [] 0 (lines_of text)) a.reads (let k = rw l at r.so_far in rw (← e) k);
+          ∙ goes_on p.statements p.numbers n line (lines_left behind) a.said (reading [] 0 (lines_of text)) a.reads
+          (let k = rw l at r.so_far in rw (← e) k);
     }
 
 pub stops_here : (e : ReadFail) (text : List ℕ) (p : Progress) (n : ℕ) (left behind : Option (List ℕ)) (rest line : List ℕ)

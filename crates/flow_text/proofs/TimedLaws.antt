@@ -22,24 +22,27 @@ use Rattle.flow_grammar.specs.Rules.{is_in_range, has_small_trees}
 use Rattle.flow_grammar.specs.Forms.{if_then, guarded_of, op_of}
 use Rattle.flow_grammar.specs.Gives.{LineGives, LineFails, judged}
 use Rattle.flow_grammar.proofs.Induction.{by_cases}
+use Rattle.flow_grammar.proofs.Kept.{all_append}
 use Rattle.flow_grammar.proofs.SpellingLaws.{parts_Number, parts_Var, parts_Unary, parts_Binary, parts_Sext, parts_Pick}
 use Rattle.name_tables.specs.declared.tables.Tables.{Tables}
 use Rattle.flow_grammar.specs.Places.{takes_operations}
 use Rattle.name_tables.specs.TableTests.{is_new, is_known, fault_by, reading_by}
 use Rattle.flow_text.specs.Operations.{tested, op_judged, op_reading, is_variable, timed_by, timed_reading, guard_known, offset_there, with_tree}
-use Rattle.flow_text.proofs.OperationLaws.{all_append}
 
 -- one token alone is no guard
-pub guarded_one : {A : Type 0} (off : ℕ) (f : A → Token) (xs : List A) → 1 ≤ length xs → length xs < 2 → guarded_of off (map f xs) ≡ option_map (At off None) (op_of (map f xs))
+pub guarded_one : {A : Type 0} (off : ℕ) (f : A → Token) (xs : List A) → 1 ≤ length xs → length xs < 2
+    → guarded_of off (map f xs) ≡ option_map (At off None) (op_of (map f xs))
 guarded_one off f [] h k = absurd (omega arith)
 guarded_one off f (x ∷ []) h k = refl
 guarded_one off f (x ∷ y ∷ ys) h k = absurd (omega arith)
 
 -- a whole operation passes where what stands beside it does
-pub whole_read : (here room : Bool) (off : Option ℕ) (g : Option Name) (known : Bool) (o : Op Name) (r : Result ℕ Code) → r ≡ offset_there here room off known → timed_by here room off g known (Ok o) ≡ with_tree (λ n. At n g o) r
+pub whole_read : (here room : Bool) (off : Option ℕ) (g : Option Name) (known : Bool) (o : Op Name) (r : Result ℕ Code)
+    → r ≡ offset_there here room off known → timed_by here room off g known (Ok o) ≡ with_tree (λ n. At n g o) r
 whole_read here room off g known o r h = go here room off known ∙ ap (with_tree (λ n. At n g o)) (sym h)
   where
-    go : (here room : Bool) (off : Option ℕ) (known : Bool) → timed_by here room off g known (Ok o) ≡ with_tree (λ n. At n g o) (offset_there here room off known)
+    go : (here room : Bool) (off : Option ℕ) (known : Bool)
+        → timed_by here room off g known (Ok o) ≡ with_tree (λ n. At n g o) (offset_there here room off known)
     go false room off known = refl
     go true room None known = refl
     go true room (Some n) false = refl
@@ -64,7 +67,8 @@ module _ (t : Tables) where
     unary = λ o a h. rw (parts_Unary o a) (of_unary o (expr_parts a) h);
     binary = λ o a b h k. rw (parts_Binary o a b) (none_new_append (expr_parts a) (expr_parts b) h k);
     sext = λ k a h. rw (parts_Sext k a) h;
-    pick = λ a b c h k l. rw (parts_Pick a b c) (none_new_append (expr_parts a) (expr_parts b ++ expr_parts c) h (none_new_append (expr_parts b) (expr_parts c) k l));
+    pick = λ a b c h k l. rw (parts_Pick a b c)
+        (none_new_append (expr_parts a) (expr_parts b ++ expr_parts c) h (none_new_append (expr_parts b) (expr_parts c) k l));
   })
 
   op_new : (o : Op Name) → NoneNew (op_parts o)
@@ -87,7 +91,8 @@ module _ (t : Tables) where
       else None
 
   in_cases : (n : ℕ) (g : Option Name) (o : Op Name) (h rn r kg k m s : Bool)
-      → timed_by h m (if rn then Some n else None) g kg (tested r k s o) ≡ judged (if h then at_fault (rn && r) (true && true) (kg && k) (m && s) else Some Syntax) (At n g o)
+      → timed_by h m (if rn then Some n else None) g kg (tested r k s o)
+      ≡ judged (if h then at_fault (rn && r) (true && true) (kg && k) (m && s) else Some Syntax) (At n g o)
   in_cases n g o false rn r kg k m s = refl
   in_cases n g o true false r kg k m s = refl
   in_cases n g o true true false true k true s = refl
@@ -105,46 +110,74 @@ module _ (t : Tables) where
   abbrev ranged_offset : ℕ → Bool
   ranged_offset n = nat_le 0 n && nat_le n (2 ^ 64 - 1)
 
-  timed_is : (n : ℕ) (g : Option Name) (o : Op Name) → timed_reading t (number_within 0 (2 ^ 64 - 1) n) g (guard_known t g) (op_judged t o) ≡ reading_by t (Some (At n g o))
+  timed_is : (n : ℕ) (g : Option Name) (o : Op Name)
+      → timed_reading t (number_within 0 (2 ^ 64 - 1) n) g (guard_known t g) (op_judged t o) ≡ reading_by t (Some (At n g o))
   unfolding op_judged fault_by
   timed_is n None o =
-      in_cases n None o (takes_operations t.place) (ranged_offset n) (list_all is_in_range (op_parts o)) true (list_all (is_known t) (op_parts o)) (nat_lt t.operations OPERATIONS) (has_small_trees o)
-      ∙ ap (λ (b : Bool). judged (if takes_operations t.place then at_fault (ranged_offset n && list_all is_in_range (op_parts o)) (b && true) (list_all (is_known t) (op_parts o)) (nat_lt t.operations OPERATIONS && has_small_trees o) else Some Syntax) (At n None o)) (sym (op_new o))
+      in_cases n None o (takes_operations t.place) (ranged_offset n) (list_all is_in_range (op_parts o)) true
+      (list_all (is_known t) (op_parts o)) (nat_lt t.operations OPERATIONS) (has_small_trees o)
+      ∙ ap
+      (λ (b : Bool). judged
+      (if takes_operations t.place
+      then at_fault (ranged_offset n && list_all is_in_range (op_parts o)) (b && true) (list_all (is_known t) (op_parts o))
+      (nat_lt t.operations OPERATIONS && has_small_trees o) else Some Syntax) (At n None o))
+      (sym (op_new o))
   timed_is n (Some r) o =
-      in_cases n (Some r) o (takes_operations t.place) (ranged_offset n) (list_all is_in_range (op_parts o)) (is_variable t r) (list_all (is_known t) (op_parts o)) (nat_lt t.operations OPERATIONS) (has_small_trees o)
-      ∙ ap (λ (b : Bool). judged (if takes_operations t.place then at_fault (ranged_offset n && list_all is_in_range (op_parts o)) (b && true) (is_variable t r && list_all (is_known t) (op_parts o)) (nat_lt t.operations OPERATIONS && has_small_trees o) else Some Syntax) (At n (Some r) o)) (sym (op_new o))
+      in_cases n (Some r) o (takes_operations t.place) (ranged_offset n) (list_all is_in_range (op_parts o)) (is_variable t r)
+      (list_all (is_known t) (op_parts o)) (nat_lt t.operations OPERATIONS) (has_small_trees o)
+      ∙ ap
+      (λ (b : Bool). judged
+      (if takes_operations t.place
+      then at_fault (ranged_offset n && list_all is_in_range (op_parts o)) (b && true)
+      (is_variable t r && list_all (is_known t) (op_parts o)) (nat_lt t.operations OPERATIONS && has_small_trees o)
+      else Some Syntax) (At n (Some r) o))
+      (sym (op_new o))
 
   at_read : (n : ℕ) (g : Option Name) (found : Option (Op Name)) (o : Result (Op Name) Code)
-      → op_reading t found ≡ Ok o → timed_reading t (number_within 0 (2 ^ 64 - 1) n) g (guard_known t g) o ≡ reading_by t (option_map (At n g) found)
+      → op_reading t found ≡ Ok o
+      → timed_reading t (number_within 0 (2 ^ 64 - 1) n) g (guard_known t g) o ≡ reading_by t (option_map (At n g) found)
   at_read n g None o h = absurd cc
-  at_read n g (Some p) o h = let k : op_judged t p ≡ o = cc in ap (timed_reading t (number_within 0 (2 ^ 64 - 1) n) g (guard_known t g)) (sym k) ∙ timed_is n g p
+  at_read n g (Some p) o h =
+      let k : op_judged t p ≡ o = cc in ap (timed_reading t (number_within 0 (2 ^ 64 - 1) n) g (guard_known t g)) (sym k) ∙ timed_is n g p
 
   -- what the operation without a guard gives
-  pub unguarded_read : (n : ℕ) (found : Option (Op Name)) (offset : Option ℕ) (o : Result (Op Name) Code) (result : Result Statement LineFail)
-      → offset ≡ number_within 0 (2 ^ 64 - 1) n → op_reading t found ≡ Ok o → LineGives (λ s. s) result (timed_reading t offset None true o) → LineGives (λ s. s) result (reading_by t (option_map (At n None) found))
+  pub unguarded_read : (n : ℕ) (found : Option (Op Name)) (offset : Option ℕ) (o : Result (Op Name) Code)
+      (result : Result Statement LineFail)
+      → offset ≡ number_within 0 (2 ^ 64 - 1) n → op_reading t found ≡ Ok o → LineGives (λ s. s) result (timed_reading t offset None true o)
+      → LineGives (λ s. s) result (reading_by t (option_map (At n None) found))
   unguarded_read n found offset o result e h g =
-      subst (λ (r : Result Statement Code). LineGives (λ s. s) result r) (ap (λ (x : Option ℕ). timed_reading t x None true o) e ∙ at_read n None found o h) g
+      subst (λ (r : Result Statement Code). LineGives (λ s. s) result r)
+      (ap (λ (x : Option ℕ). timed_reading t x None true o) e ∙ at_read n None found o h) g
 
   passed : (test : Bool) (x : Option Statement) → test ≡ true → reading_by t x ≡ reading_by t (if_then test x)
   passed true x h = refl
   passed false x h = absurd cc
 
   -- what the operation with a guard gives
-  pub guarded_read : (n : ℕ) (r name : Name) (known : Bool) (found : Option (Op Name)) (offset : Option ℕ) (o : Result (Op Name) Code) (result : Result Statement LineFail)
+  pub guarded_read : (n : ℕ) (r name : Name) (known : Bool) (found : Option (Op Name)) (offset : Option ℕ) (o : Result (Op Name) Code)
+      (result : Result Statement LineFail)
       → is_name r ≡ true → offset ≡ number_within 0 (2 ^ 64 - 1) n → known ≡ is_variable t r → name ≡ r → op_reading t found ≡ Ok o
-      → LineGives (λ s. s) result (timed_reading t offset (Some name) known o) → LineGives (λ s. s) result (reading_by t (if_then (is_name r) (option_map (At n (Some r)) found)))
+      → LineGives (λ s. s) result (timed_reading t offset (Some name) known o)
+      → LineGives (λ s. s) result (reading_by t (if_then (is_name r) (option_map (At n (Some r)) found)))
   guarded_read n r name known found offset o result w e k m h g =
-      subst (λ (x : Result Statement Code). LineGives (λ s. s) result x) ((λ i. timed_reading t (e i) (Some (m i)) (k i) o) ∙ at_read n (Some r) found o h ∙ passed (is_name r) (option_map (At n (Some r)) found) w) g
+      subst (λ (x : Result Statement Code). LineGives (λ s. s) result x)
+      ((λ i. timed_reading t (e i) (Some (m i)) (k i) o) ∙ at_read n (Some r) found o h
+      ∙ passed (is_name r) (option_map (At n (Some r)) found) w)
+      g
 
-  refused : (n : ℕ) (g : Option Name) (found : Option (Op Name)) (c : Code) → op_reading t found ≡ Err c → reading_by t (option_map (At n g) found) ≡ Err c
+  refused : (n : ℕ) (g : Option Name) (found : Option (Op Name)) (c : Code) → op_reading t found ≡ Err c
+      → reading_by t (option_map (At n g) found) ≡ Err c
   refused n g None c h = let k : Syntax ≡ c = cc in ap (λ (x : Code). Err x) k
   refused n g (Some p) c h = absurd cc
 
   -- what no operation gives
-  pub unguarded_fails : (n : ℕ) (g : Option Name) (found : Option (Op Name)) (fail : LineFail) → LineFails fail (op_reading t found) → LineFails fail (reading_by t (option_map (At n g) found))
+  pub unguarded_fails : (n : ℕ) (g : Option Name) (found : Option (Op Name)) (fail : LineFail) → LineFails fail (op_reading t found)
+      → LineFails fail (reading_by t (option_map (At n g) found))
   unguarded_fails n g found line_fails.OutOfMemory h = tt
   unguarded_fails n g found (line_fails.Fault c) h = refused n g found c h
 
-  pub guarded_fails : (n : ℕ) (r : Name) (found : Option (Op Name)) (fail : LineFail) → is_name r ≡ true → LineFails fail (op_reading t found) → LineFails fail (reading_by t (if_then (is_name r) (option_map (At n (Some r)) found)))
+  pub guarded_fails : (n : ℕ) (r : Name) (found : Option (Op Name)) (fail : LineFail) → is_name r ≡ true
+      → LineFails fail (op_reading t found) → LineFails fail (reading_by t (if_then (is_name r) (option_map (At n (Some r)) found)))
   guarded_fails n r found line_fails.OutOfMemory w h = tt
-  guarded_fails n r found (line_fails.Fault c) w h = sym (passed (is_name r) (option_map (At n (Some r)) found) w) ∙ refused n (Some r) found c h
+  guarded_fails n r found (line_fails.Fault c) w h =
+      sym (passed (is_name r) (option_map (At n (Some r)) found) w) ∙ refused n (Some r) found c h

@@ -24,7 +24,8 @@ use Rattle.name_tables.specs.TableTests.{named, is_known}
 
 -- the first of three tests that fails, or what passes them
 abbrev pub tested : {A : Type 0} → Bool → Bool → Bool → A → Result A Code
-tested ranged known small x = if not ranged then Err BadNumber else if not known then Err UnknownName else if not small then Err TooMany else Ok x
+tested ranged known small x =
+    if not ranged then Err BadNumber else if not known then Err UnknownName else if not small then Err TooMany else Ok x
 
 -- the registers and temps
 abbrev pub is_variable : Tables → Name → Bool
@@ -32,12 +33,15 @@ is_variable t n = is_among (named t AVariable) n
 
 -- an expression beside names, of which it is told whether they are known
 unfoldable pub tree_judged : Tables → Bool → Expr Name → Result (Expr Name) Code
-tree_judged t known e = tested (list_all is_in_range (expr_parts e)) (known && list_all (is_known_by (is_variable t)) (expr_parts e)) (is_small e) e
+tree_judged t known e =
+    tested (list_all is_in_range (expr_parts e)) (known && list_all (is_known_by (is_variable t)) (expr_parts e)) (is_small e) e
 
 -- two expressions beside such names
 unfoldable pub trees_judged : Tables → Bool → Expr Name → Expr Name → Result (Expr Name × Expr Name) Code
 trees_judged t known e f =
-    tested (list_all is_in_range (expr_parts e) && list_all is_in_range (expr_parts f)) (known && (list_all (is_known_by (is_variable t)) (expr_parts e) && list_all (is_known_by (is_variable t)) (expr_parts f))) (is_small e && is_small f) (e, f)
+    tested (list_all is_in_range (expr_parts e) && list_all is_in_range (expr_parts f))
+    (known && (list_all (is_known_by (is_variable t)) (expr_parts e) && list_all (is_known_by (is_variable t)) (expr_parts f)))
+    (is_small e && is_small f) (e, f)
 
 -- an operation
 unfoldable pub op_judged : Tables → Op Name → Result (Op Name) Code

@@ -23,7 +23,8 @@ fn new_source<'a>(
     width: &[u8],
 ) -> Result<Statement, LineFail>
     requires { IsOfStatements tables.old }
-    ensures given { LineGives (λ s. s) result (reading_by tables.old (only_if (is_name name.now && is_number width.now) (Source name.now (number_of width.now)))) }
+    ensures given { LineGives (λ s. s) result
+        (reading_by tables.old (only_if (is_name name.now && is_number width.now) (Source name.now (number_of width.now)))) }
     ensures kept { IfOk result (λ s. tables.new ≡ accepted tables.old s) }
 {
     if !tables.place.takes_channels() || !is_identifier(name) || !is_numeral(width) {
@@ -66,7 +67,8 @@ fn new_sink<'a>(
     name: &'a [u8],
     width: &[u8],
 ) -> Result<Statement, LineFail>
-    ensures given { LineGives (λ s. s) result (reading_by tables.old (only_if (is_name name.now && is_number width.now) (Sink name.now (number_of width.now)))) }
+    ensures given { LineGives (λ s. s) result
+        (reading_by tables.old (only_if (is_name name.now && is_number width.now) (Sink name.now (number_of width.now)))) }
     ensures kept { IfOk result (λ s. tables.new ≡ accepted tables.old s) }
 {
     if !tables.place.takes_channels() || !is_identifier(name) || !is_numeral(width) {
@@ -111,7 +113,10 @@ fn new_fifo<'a>(
     delay: &[u8],
 ) -> Result<Statement, LineFail>
     requires { IsOfStatements tables.old }
-    ensures given { LineGives (λ s. s) result (reading_by tables.old (only_if (is_name name.now && (is_number width.now && (is_number depth.now && is_number delay.now))) (Fifo name.now (number_of width.now) (number_of depth.now) (number_of delay.now)))) }
+    ensures given { LineGives (λ s. s) result
+        (reading_by tables.old
+        (only_if (is_name name.now && (is_number width.now && (is_number depth.now && is_number delay.now)))
+        (Fifo name.now (number_of width.now) (number_of depth.now) (number_of delay.now)))) }
     ensures kept { IfOk result (λ s. tables.new ≡ accepted tables.old s) }
 {
     if !tables.place.takes_channels() || !is_identifier(name) {
@@ -148,7 +153,10 @@ fn new_depth_fifo<'a>(
     depth: &[u8],
 ) -> Result<Statement, LineFail>
     requires { IsOfStatements tables.old }
-    ensures given { LineGives (λ s. s) result (reading_by tables.old (only_if (is_name name.now && (is_number width.now && is_number depth.now)) (Fifo name.now (number_of width.now) (number_of depth.now) default_delay))) }
+    ensures given { LineGives (λ s. s) result
+        (reading_by tables.old
+        (only_if (is_name name.now && (is_number width.now && is_number depth.now))
+        (Fifo name.now (number_of width.now) (number_of depth.now) default_delay))) }
     ensures kept { IfOk result (λ s. tables.new ≡ accepted tables.old s) }
 {
     new_fifo(alloc, tables, name, width, depth, b"1")
@@ -162,7 +170,9 @@ fn new_bare_fifo<'a>(
     width: &[u8],
 ) -> Result<Statement, LineFail>
     requires { IsOfStatements tables.old }
-    ensures given { LineGives (λ s. s) result (reading_by tables.old (only_if (is_name name.now && is_number width.now) (Fifo name.now (number_of width.now) default_depth default_delay))) }
+    ensures given { LineGives (λ s. s) result
+        (reading_by tables.old
+        (only_if (is_name name.now && is_number width.now) (Fifo name.now (number_of width.now) default_depth default_delay))) }
     ensures kept { IfOk result (λ s. tables.new ≡ accepted tables.old s) }
 {
     new_fifo(alloc, tables, name, width, b"2", b"1")

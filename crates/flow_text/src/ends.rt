@@ -78,7 +78,9 @@ fn new_branch<'a>(
     first: &[u8],
     second: &[u8],
 ) -> Result<Statement, LineFail>
-    ensures given { LineGives (λ s. s) result (reading_by tables.old (only_if (is_name register.now && (is_name first.now && is_name second.now)) (Branch register.now first.now second.now))) }
+    ensures given { LineGives (λ s. s) result
+        (reading_by tables.old
+        (only_if (is_name register.now && (is_name first.now && is_name second.now)) (Branch register.now first.now second.now))) }
     ensures kept { IfOk result (λ s. tables.new ≡ accepted tables.old s) }
 {
     if !tables.place.takes_operations() {
@@ -133,7 +135,8 @@ pub fn stop<'a>(tables: &mut Tables<'a>, tokens: &[&'a [u8]]) -> Result<Statemen
 /// The cycle limit and the operation limit.
 #[tactic(auto, unfolding(name_tables::specs::TableTests::fault_by))]
 fn new_limits<'a>(tables: &mut Tables<'a>, cycles: &[u8], ops: &[u8]) -> Result<Statement, LineFail>
-    ensures given { LineGives (λ s. s) result (reading_by tables.old (only_if (is_number cycles.now && is_number ops.now) (Limits (number_of cycles.now) (number_of ops.now)))) }
+    ensures given { LineGives (λ s. s) result
+        (reading_by tables.old (only_if (is_number cycles.now && is_number ops.now) (Limits (number_of cycles.now) (number_of ops.now)))) }
     ensures kept { IfOk result (λ s. tables.new ≡ accepted tables.old s) }
 {
     if !tables.place.takes_inputs() || !is_numeral(cycles) || !is_numeral(ops) {
@@ -169,7 +172,8 @@ fn new_edit<'a>(
     fifo: &[u8],
     depth: &[u8],
 ) -> Result<Statement, LineFail>
-    ensures given { LineGives (λ s. s) result (reading_by tables.old (only_if (is_name fifo.now && is_number depth.now) (Depth fifo.now (number_of depth.now)))) }
+    ensures given { LineGives (λ s. s) result
+        (reading_by tables.old (only_if (is_name fifo.now && is_number depth.now) (Depth fifo.now (number_of depth.now)))) }
     ensures kept { IfOk result (λ s. tables.new ≡ accepted tables.old s) }
 {
     if !tables.place.takes_edits() || !is_identifier(fifo) || !is_numeral(depth) {

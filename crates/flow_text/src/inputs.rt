@@ -103,7 +103,10 @@ fn new_input<'a>(
     name: &'a [u8],
     values: &[&[u8]],
 ) -> Result<Statement, LineFail>
-    ensures given { LineGives (λ s. s) result (reading_by tables.old (only_if (is_name name.now && list_all is_number (map (λ t. t.now) values.now)) (Input name.now (map number_of (map (λ t. t.now) values.now))))) }
+    ensures given { LineGives (λ s. s) result
+        (reading_by tables.old
+        (only_if (is_name name.now && list_all is_number (map (λ t. t.now) values.now))
+        (Input name.now (map number_of (map (λ t. t.now) values.now))))) }
     ensures kept { IfOk result (λ s. tables.new ≡ accepted tables.old s) }
 {
     if !is_identifier(name) {

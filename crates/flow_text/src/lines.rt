@@ -60,7 +60,8 @@ fn statement_behind<'a>(
     rest: &[&'a [u8]],
 ) -> Result<Statement, LineFail>
     requires { IsOfStatements tables.old }
-    ensures given { LineGives (λ s. s) result (reading_by tables.old (statement_of tables.old.version (keyword.now ∷ map (λ t. t.now) rest.now))) }
+    ensures given { LineGives (λ s. s) result
+        (reading_by tables.old (statement_of tables.old.version (keyword.now ∷ map (λ t. t.now) rest.now))) }
     ensures kept { IfOk result (λ s. tables.new ≡ accepted tables.old s) }
 {
     match keyword_in(keyword) {

@@ -61,7 +61,8 @@ fn new_register<'a>(
     name: &'a [u8],
     width: &[u8],
 ) -> Result<Statement, LineFail>
-    ensures given { LineGives (λ s. s) result (reading_by tables.old (only_if (is_name name.now && is_number width.now) (Reg name.now (number_of width.now)))) }
+    ensures given { LineGives (λ s. s) result
+        (reading_by tables.old (only_if (is_name name.now && is_number width.now) (Reg name.now (number_of width.now)))) }
     ensures kept { IfOk result (λ s. tables.new ≡ accepted tables.old s) }
 {
     if !tables.place.takes_registers() || !is_identifier(name) || !is_numeral(width) {
@@ -104,7 +105,10 @@ fn new_memory<'a>(
     width: &[u8],
     len: &[u8],
 ) -> Result<Statement, LineFail>
-    ensures given { LineGives (λ s. s) result (reading_by tables.old (only_if (is_name name.now && (is_number width.now && is_number len.now)) (Mem name.now (number_of width.now) (number_of len.now)))) }
+    ensures given { LineGives (λ s. s) result
+        (reading_by tables.old
+        (only_if (is_name name.now && (is_number width.now && is_number len.now))
+        (Mem name.now (number_of width.now) (number_of len.now)))) }
     ensures kept { IfOk result (λ s. tables.new ≡ accepted tables.old s) }
 {
     if !tables.place.takes_registers() {
@@ -153,7 +157,8 @@ fn new_block<'a>(
     name: &'a [u8],
     len: &[u8],
 ) -> Result<Statement, LineFail>
-    ensures given { LineGives (λ s. s) result (reading_by tables.old (only_if (is_name name.now && is_number len.now) (Block name.now (number_of len.now)))) }
+    ensures given { LineGives (λ s. s) result
+        (reading_by tables.old (only_if (is_name name.now && is_number len.now) (Block name.now (number_of len.now)))) }
     ensures kept { IfOk result (λ s. tables.new ≡ accepted tables.old s) }
 {
     if !tables.place.takes_blocks() || !is_identifier(name) || !is_numeral(len) {
@@ -198,7 +203,11 @@ fn new_loop<'a>(
     word: &[u8],
     register: &[u8],
 ) -> Result<Statement, LineFail>
-    ensures given { LineGives (λ s. s) result (reading_by tables.old (only_if (is_name name.now && (is_number interval.now && (is_number len.now && (is_word word.now (codes "while") && is_name register.now)))) (Loop name.now (number_of interval.now) (number_of len.now) register.now))) }
+    ensures given { LineGives (λ s. s) result
+        (reading_by tables.old
+        (only_if (is_name name.now &&
+        (is_number interval.now && (is_number len.now && (is_word word.now (codes "while") && is_name register.now))))
+        (Loop name.now (number_of interval.now) (number_of len.now) register.now))) }
     ensures kept { IfOk result (λ s. tables.new ≡ accepted tables.old s) }
 {
     if !tables.place.takes_blocks() {
@@ -256,7 +265,8 @@ fn new_temp<'a>(
     name: &'a [u8],
     width: &[u8],
 ) -> Result<Statement, LineFail>
-    ensures given { LineGives (λ s. s) result (reading_by tables.old (only_if (is_name name.now && is_number width.now) (Temp name.now (number_of width.now)))) }
+    ensures given { LineGives (λ s. s) result
+        (reading_by tables.old (only_if (is_name name.now && is_number width.now) (Temp name.now (number_of width.now)))) }
     ensures kept { IfOk result (λ s. tables.new ≡ accepted tables.old s) }
 {
     if !tables.place.takes_temps() || !is_identifier(name) || !is_numeral(width) {

@@ -116,7 +116,9 @@ fn new_set(
     register: &[u8],
     expression: &[&[u8]],
 ) -> Result<Result<Op<Name>, Code>, LineFail>
-    ensures { LineGives (λ o. o) result (op_reading tables.now (if_then (is_name register.now) (option_map (op.Set register.now) (one_tree (trees_of (map (λ t. t.now) expression.now)))))) }
+    ensures { LineGives (λ o. o) result
+        (op_reading tables.now
+        (if_then (is_name register.now) (option_map (op.Set register.now) (one_tree (trees_of (map (λ t. t.now) expression.now)))))) }
 {
     if !is_identifier(register) {
         return Err(LineFail::Fault(Code::Syntax));
@@ -168,7 +170,10 @@ fn new_load(
     memory: &[u8],
     expression: &[&[u8]],
 ) -> Result<Result<Op<Name>, Code>, LineFail>
-    ensures { LineGives (λ o. o) result (op_reading tables.now (if_then (is_name register.now && is_name memory.now) (option_map (op.Load register.now memory.now) (one_tree (trees_of (map (λ t. t.now) expression.now)))))) }
+    ensures { LineGives (λ o. o) result
+        (op_reading tables.now
+        (if_then (is_name register.now && is_name memory.now)
+        (option_map (op.Load register.now memory.now) (one_tree (trees_of (map (λ t. t.now) expression.now)))))) }
 {
     if !is_identifier(register) || !is_identifier(memory) {
         return Err(LineFail::Fault(Code::Syntax));
@@ -215,7 +220,9 @@ fn new_store(
     memory: &[u8],
     expressions: &[&[u8]],
 ) -> Result<Result<Op<Name>, Code>, LineFail>
-    ensures { LineGives (λ o. o) result (op_reading tables.now (if_then (is_name memory.now) (two_trees (op.Store memory.now) (trees_of (map (λ t. t.now) expressions.now))))) }
+    ensures { LineGives (λ o. o) result
+        (op_reading tables.now
+        (if_then (is_name memory.now) (two_trees (op.Store memory.now) (trees_of (map (λ t. t.now) expressions.now))))) }
 {
     if !is_identifier(memory) {
         return Err(LineFail::Fault(Code::Syntax));
@@ -259,7 +266,9 @@ fn new_write(
     channel: &[u8],
     expression: &[&[u8]],
 ) -> Result<Result<Op<Name>, Code>, LineFail>
-    ensures { LineGives (λ o. o) result (op_reading tables.now (if_then (is_name channel.now) (option_map (op.Write channel.now) (one_tree (trees_of (map (λ t. t.now) expression.now)))))) }
+    ensures { LineGives (λ o. o) result
+        (op_reading tables.now
+        (if_then (is_name channel.now) (option_map (op.Write channel.now) (one_tree (trees_of (map (λ t. t.now) expression.now)))))) }
 {
     if !is_identifier(channel) {
         return Err(LineFail::Fault(Code::Syntax));
@@ -315,7 +324,10 @@ fn new_try_write(
     outcome: &[u8],
     expression: &[&[u8]],
 ) -> Result<Result<Op<Name>, Code>, LineFail>
-    ensures { LineGives (λ o. o) result (op_reading tables.now (if_then (is_name channel.now && is_name outcome.now) (option_map (op.TryWrite channel.now outcome.now) (one_tree (trees_of (map (λ t. t.now) expression.now)))))) }
+    ensures { LineGives (λ o. o) result
+        (op_reading tables.now
+        (if_then (is_name channel.now && is_name outcome.now)
+        (option_map (op.TryWrite channel.now outcome.now) (one_tree (trees_of (map (λ t. t.now) expression.now)))))) }
 {
     if !is_identifier(channel) || !is_identifier(outcome) {
         return Err(LineFail::Fault(Code::Syntax));
@@ -373,7 +385,8 @@ fn new_two_names(
     channel: &[u8],
     register: &[u8],
 ) -> Result<Result<Op<Name>, Code>, LineFail>
-    ensures { LineGives (λ o. o) result (op_reading tables.now (only_if (is_name channel.now && is_name register.now) (op_of_names which channel.now register.now))) }
+    ensures { LineGives (λ o. o) result
+        (op_reading tables.now (only_if (is_name channel.now && is_name register.now) (op_of_names which channel.now register.now))) }
 {
     if !is_identifier(channel) || !is_identifier(register) {
         return Err(LineFail::Fault(Code::Syntax));
@@ -409,7 +422,10 @@ fn new_try_read(
     register: &[u8],
     outcome: &[u8],
 ) -> Result<Result<Op<Name>, Code>, LineFail>
-    ensures { LineGives (λ o. o) result (op_reading tables.now (only_if (is_name channel.now && (is_name register.now && is_name outcome.now)) (op.TryRead channel.now register.now outcome.now))) }
+    ensures { LineGives (λ o. o) result
+        (op_reading tables.now
+        (only_if (is_name channel.now && (is_name register.now && is_name outcome.now))
+        (op.TryRead channel.now register.now outcome.now))) }
 {
     if !is_identifier(channel) || !is_identifier(register) || !is_identifier(outcome) {
         return Err(LineFail::Fault(Code::Syntax));

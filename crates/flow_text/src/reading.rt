@@ -80,7 +80,8 @@ fn closed(
 /// The session of what was read, so many lines, or that it has no end.
 fn finished(progress: Progress<'_>, lines: u64) -> Result<(Session, Words), ReadFail>
     requires { IsKept progress }
-    ensures { TextGives (λ read. (read.0.statements, read.1)) result (with_front progress.entry.statements progress.entry.numbers (reading progress.entry.statements lines [])) }
+    ensures { TextGives (λ read. (read.0.statements, read.1)) result
+        (with_front progress.entry.statements progress.entry.numbers (reading progress.entry.statements lines [])) }
 {
     let Progress {
         tables,

@@ -115,7 +115,8 @@ fn refused(
 
 /// The offset, where what stands beside a whole operation passes its tests.
 fn tested_offset(tables: &Tables<'_>, offset: Option<u64>, known: bool) -> Result<u64, Code>
-    ensures value { result ≡ operations.offset_there (takes_operations tables.now.place) (nat_lt tables.now.operations OPERATIONS) offset known }
+    ensures value { result
+        ≡ operations.offset_there (takes_operations tables.now.place) (nat_lt tables.now.operations OPERATIONS) offset known }
     ensures room { IfOk result (λ _. tables.now.operations < OPERATIONS) }
 {
     if !tables.place.takes_operations() {
@@ -183,7 +184,8 @@ fn unguarded(
     tokens: &[&[u8]],
 ) -> Result<Statement, LineFail>
     requires { is_number offset.now ≡ true }
-    ensures given { LineGives (λ s. s) result (reading_by tables.old (option_map (At (number_of offset.now) None) (op_of (map (λ t. t.now) tokens.now)))) }
+    ensures given { LineGives (λ s. s) result
+        (reading_by tables.old (option_map (At (number_of offset.now) None) (op_of (map (λ t. t.now) tokens.now)))) }
     ensures kept { IfOk result (λ s. tables.new ≡ accepted tables.old s) }
 {
     let offset = number_in(offset, 0, u64::MAX);
@@ -202,7 +204,10 @@ fn guarded(
     tokens: &[&[u8]],
 ) -> Result<Statement, LineFail>
     requires { is_number offset.now ≡ true }
-    ensures given { LineGives (λ s. s) result (reading_by tables.old (if_then (is_name register.now) (option_map (At (number_of offset.now) (Some register.now)) (op_of (map (λ t. t.now) tokens.now))))) }
+    ensures given { LineGives (λ s. s) result
+        (reading_by tables.old
+        (if_then (is_name register.now)
+        (option_map (At (number_of offset.now) (Some register.now)) (op_of (map (λ t. t.now) tokens.now))))) }
     ensures kept { IfOk result (λ s. tables.new ≡ accepted tables.old s) }
 {
     if !is_identifier(register) {
@@ -248,7 +253,8 @@ fn at_offset(
     offset: &[u8],
     tokens: &[&[u8]],
 ) -> Result<Statement, LineFail>
-    ensures given { LineGives (λ s. s) result (reading_by tables.old (if_then (is_number offset.now) (guarded_of (number_of offset.now) (map (λ t. t.now) tokens.now)))) }
+    ensures given { LineGives (λ s. s) result
+        (reading_by tables.old (if_then (is_number offset.now) (guarded_of (number_of offset.now) (map (λ t. t.now) tokens.now)))) }
     ensures kept { IfOk result (λ s. tables.new ≡ accepted tables.old s) }
 {
     if !is_numeral(offset) {

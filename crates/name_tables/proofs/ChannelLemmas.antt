@@ -1,11 +1,11 @@
 -- Sources and FIFOs are channels.
-use Rattle.std.proofs.Common.{◌≡◌, ℕ, List, [], ◌∷◌, Bool, true, false, Option, None, Some, refl, sym, ap, ◌∙◌, nat_eq}
+use Rattle.std.proofs.Common.{◌≡◌, ℕ, List, [], ◌∷◌, Bool, true, false, Option, None, Some, refl, nat_eq}
 use Rattle.std.specs.Prelude.{◌||◌}
 use Rattle.std.specs.List.{filter_map}
 use Rattle.std.specs.Cmp.Lexicographic.{pointwise}
 use Rattle.flow_design.specs.declared.session.Statement.{Statement}
 use Rattle.flow_design.specs.declared.session.Statement.TheVariants.{Flow, Source, Sink, Fifo, Module, Reg, Mem, Block, Loop, Temp, At, Goto, Branch, Stop, Input, Limits, Depth, End}
-use Rattle.flow_grammar.specs.Before.{channel_name, source_name, fifo_name, channels, sources, fifos, is_among}
+use Rattle.flow_grammar.specs.Before.{channel_name, source_name, fifo_name, channels, is_among}
 use Rattle.name_tables.specs.declared.tables.Tables.{Tables}
 use Rattle.name_tables.specs.TablesOf.{tables_of, IsOfStatements}
 
@@ -66,7 +66,8 @@ module _ (part : Statement → Option Name) (are : IsPart part) where
       → (is_among (channels earlier) n ≡ false → is_among (filter_map part earlier) n ≡ false)
       → is_among (channels (s ∷ earlier)) n ≡ false → is_among (filter_map part (s ∷ earlier)) n ≡ false
   absent_cons s earlier n None None e k rest h = rw e (rest (rw k at h))
-  absent_cons s earlier n None (Some m) e k rest h = rw e (rest ((or_none (pointwise nat_eq n m) (is_among (channels earlier) n) (rw k at h)).1))
+  absent_cons s earlier n None (Some m) e k rest h =
+      rw e (rest ((or_none (pointwise nat_eq n m) (is_among (channels earlier) n) (rw k at h)).1))
   absent_cons s earlier n (Some l) c e k rest h =
       let same : channel_name s ≡ Some l = are s l e in
       let both = or_none (pointwise nat_eq n l) (is_among (channels earlier) n) (rw same at h) in

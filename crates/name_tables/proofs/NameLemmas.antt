@@ -1,7 +1,7 @@
 -- A table of names by its keys, and names in joined tables.
 use Rattle.std.proofs.Common.{◌≡◌, ℕ, List, [], ◌∷◌, ◌++◌, map, Bool, true, false, cond, refl, sym, ap, ◌∙◌, nat_eq}
-use Rattle.std.proofs.lemmas.List.{map-append, reverse-append, length-reverse}
-use Rattle.std.specs.Prelude.{◌||◌, if◌then◌else◌, reverse, length}
+use Rattle.std.proofs.lemmas.List.{map-append, reverse-append}
+use Rattle.std.specs.Prelude.{◌||◌, if◌then◌else◌, reverse}
 use Rattle.std.specs.List.{list_any}
 use Rattle.std.specs.Cmp.Lexicographic.{pointwise}
 use Rattle.flow_grammar.specs.Before.{is_among}
@@ -12,7 +12,9 @@ or_assoc false b c = refl
 
 pub among_append : (xs ys : List (List ℕ)) (n : List ℕ) → is_among (xs ++ ys) n ≡ is_among xs n || is_among ys n
 among_append [] ys n = refl
-among_append (x ∷ xs) ys n = ap (λ (b : Bool). pointwise nat_eq n x || b) (among_append xs ys n) ∙ sym (or_assoc (pointwise nat_eq n x) (is_among xs n) (is_among ys n))
+among_append (x ∷ xs) ys n =
+    ap (λ (b : Bool). pointwise nat_eq n x || b) (among_append xs ys n)
+    ∙ sym (or_assoc (pointwise nat_eq n x) (is_among xs n) (is_among ys n))
 
 or_swap : (a b : Bool) → a || (b || false) ≡ b || a
 or_swap true true = refl
@@ -42,7 +44,8 @@ module _ {A : Type 0} (f : A → List ℕ) where
   among_keys (k ∷ keys) n = ap (λ (b : Bool). pointwise nat_eq n (f k) || b) (among_keys keys n)
 
   -- a look-up by the keys
-  pub key_among : (keys : List A) (n : List ℕ) (table : List (List ℕ)) → reverse (map f keys) ≡ table → list_any (λ k. pointwise nat_eq n (f k)) keys ≡ is_among table n
+  pub key_among : (keys : List A) (n : List ℕ) (table : List (List ℕ)) → reverse (map f keys) ≡ table
+      → list_any (λ k. pointwise nat_eq n (f k)) keys ≡ is_among table n
   key_among keys n table t = among_keys keys n ∙ sym (among_reverse (map f keys) n) ∙ ap (λ (ns : List (List ℕ)). is_among ns n) t
 
   -- one key more is the latest name
@@ -51,4 +54,5 @@ module _ {A : Type 0} (f : A → List ℕ) where
   key_added keys new k table t absent e =
       let no : list_any (λ y. pointwise nat_eq (f k) (f y)) keys ≡ false = key_among keys (f k) table t ∙ absent in
       let same : new ≡ keys ++ k ∷ [] = e ∙ ap (λ (b : Bool). cond b keys (keys ++ k ∷ [])) no in
-      ap (λ (ks : List A). reverse (map f ks)) same ∙ ap reverse (map-append f keys (k ∷ [])) ∙ reverse-append (map f keys) (f k ∷ []) ∙ ap (λ (ns : List (List ℕ)). f k ∷ ns) t
+      ap (λ (ks : List A). reverse (map f ks)) same ∙ ap reverse (map-append f keys (k ∷ [])) ∙ reverse-append (map f keys) (f k ∷ [])
+      ∙ ap (λ (ns : List (List ℕ)). f k ∷ ns) t

@@ -1,5 +1,5 @@
 -- The tables of statements: their tests are those of the grammar, and one statement more is accepted.
-use Rattle.std.proofs.Common.{◌≡◌, ℕ, ◌+◌, List, [], ◌∷◌, Bool, true, false, Option, None, Some, refl, sym, ap, ◌∙◌, length, arith}
+use Rattle.std.proofs.Common.{◌≡◌, ℕ, ◌+◌, List, [], ◌∷◌, Bool, true, false, Option, None, Some, refl, sym, ap, ◌∙◌, arith}
 use Rattle.std.specs.Prelude.{◌&&◌, not, if◌then◌else◌, count_by, sum_by, cond}
 use Rattle.std.specs.List.{list_all, filter_map}
 use Rattle.std.proofs.lemmas.List.Sums.{sum_by-cons, take_while-cons}
@@ -9,7 +9,7 @@ use Rattle.flow_grammar.specs.Before.{version, in_module, in_body, is_no_module,
 use Rattle.name_tables.specs.declared.tables.Tables.{Tables}
 use Rattle.flow_design.specs.declared.session.Statement.{Statement}
 use Rattle.flow_design.specs.declared.session.Statement.TheVariants.{Flow, Source, Sink, Fifo, Module, Reg, Mem, Block, Loop, Temp, At, Goto, Branch, Stop, Input, Limits, Depth, End}
-use Rattle.flow_grammar.specs.Parts.{Part, Word, New, Use, Label, Num, Space, ChannelName, ModuleName, RegisterName, MemoryName, TempName, BlockName, Sort, AnyChannel, ASource, AFifo, ARegister, AMemory, AVariable, parts}
+use Rattle.flow_grammar.specs.Parts.{Part, Word, New, Use, Label, Num, ChannelName, ModuleName, RegisterName, MemoryName, TempName, BlockName, AnyChannel, ASource, AFifo, ARegister, AMemory, AVariable, parts}
 use Rattle.flow_grammar.specs.Rules as rules
 use Rattle.flow_grammar.specs.Places.{place, may_stand, may_follow}
 use Rattle.flow_grammar.specs.Rules.{statement_fault}
@@ -100,7 +100,9 @@ first_broken ranged new known room =
 
 fault_same : (s : Statement) (earlier : List Statement) → fault_by (tables_of earlier) s ≡ statement_fault earlier s
 unfolding fault_by statement_fault
-fault_same s earlier = λ i. first_broken (list_all rules.is_in_range (parts s)) (list_all (λ p. new_same earlier p i) (parts s) && first_same s earlier i) (list_all (λ p. known_same earlier p i) (parts s)) (room_same s earlier i)
+fault_same s earlier =
+    λ i. first_broken (list_all rules.is_in_range (parts s)) (list_all (λ p. new_same earlier p i) (parts s) && first_same s earlier i)
+    (list_all (λ p. known_same earlier p i) (parts s)) (room_same s earlier i)
 
 -- the first test that tokens fail, by the tables and by the grammar
 pub form_fault_same : (s : Option Statement) (earlier : List Statement) → form_fault_by (tables_of earlier) s ≡ form_fault earlier s
@@ -113,10 +115,16 @@ reading_same (Some s) earlier = ap (λ (o : Option Code). judged o s) (form_faul
 
 -- counts of one statement more
 not_counted : (p : Statement → Bool) (s : Statement) (xs : List Statement) → p s ≡ false → count_by p xs ≡ count_by p (s ∷ xs)
-not_counted p s xs h = let e : count_by p (s ∷ xs) ≡ 0 + count_by p xs = sum_by-cons (λ x. cond (p x) 1 0) s xs ∙ ap (λ (b : Bool). cond b 1 0 + count_by p xs) h in omega arith
+not_counted p s xs h =
+    let e : count_by p (s ∷ xs) ≡ 0 + count_by p xs = sum_by-cons (λ x. cond (p x) 1 0) s xs
+    ∙ ap (λ (b : Bool). cond b 1 0 + count_by p xs) h in
+    omega arith
 
 counted : (p : Statement → Bool) (s : Statement) (xs : List Statement) → p s ≡ true → count_by p xs + 1 ≡ count_by p (s ∷ xs)
-counted p s xs h = let e : count_by p (s ∷ xs) ≡ 1 + count_by p xs = sum_by-cons (λ x. cond (p x) 1 0) s xs ∙ ap (λ (b : Bool). cond b 1 0 + count_by p xs) h in omega arith
+counted p s xs h =
+    let e : count_by p (s ∷ xs) ≡ 1 + count_by p xs = sum_by-cons (λ x. cond (p x) 1 0) s xs
+    ∙ ap (λ (b : Bool). cond b 1 0 + count_by p xs) h in
+    omega arith
 
 summed : (f : Statement → ℕ) (s : Statement) (xs : List Statement) → sum_by f xs + f s ≡ sum_by f (s ∷ xs)
 summed f s xs = let e : sum_by f (s ∷ xs) ≡ f s + sum_by f xs = sum_by-cons f s xs in omega arith
@@ -124,7 +132,8 @@ summed f s xs = let e : sum_by f (s ∷ xs) ≡ f s + sum_by f xs = sum_by-cons 
 not_summed : (f : Statement → ℕ) (s : Statement) (xs : List Statement) → f s ≡ 0 → sum_by f xs ≡ sum_by f (s ∷ xs)
 not_summed f s xs h = let e : sum_by f (s ∷ xs) ≡ f s + sum_by f xs = sum_by-cons f s xs in omega arith
 
-with_counts : (t : Tables) (o i e : ℕ) → t.operations ≡ o → t.input_values ≡ i → t.edits ≡ e → t ≡ record t { operations = o; input_values = i; edits = e }
+with_counts : (t : Tables) (o i e : ℕ) → t.operations ≡ o → t.input_values ≡ i → t.edits ≡ e
+    → t ≡ record t { operations = o; input_values = i; edits = e }
 with_counts t o i e p q r = λ j. record t { operations = p j; input_values = q j; edits = r j }
 
 -- the tables by the statements of the session, of the module and of the body
@@ -146,7 +155,9 @@ tables_from earlier module_part body_part = record {
   edits = edits earlier;
 }
 
-parted : (s : Statement) (earlier : List Statement) → tables_of (s ∷ earlier) ≡ tables_from (s ∷ earlier) (cond (is_no_module s) (s ∷ in_module earlier) []) (cond (is_no_block s) (s ∷ in_body earlier) [])
+parted : (s : Statement) (earlier : List Statement)
+    → tables_of (s ∷ earlier)
+    ≡ tables_from (s ∷ earlier) (cond (is_no_module s) (s ∷ in_module earlier) []) (cond (is_no_block s) (s ∷ in_body earlier) [])
 unfolding tables_of
 parted s earlier = λ i. tables_from (s ∷ earlier) (take_while-cons is_no_module s earlier i) (take_while-cons is_no_block s earlier i)
 
@@ -174,7 +185,8 @@ accepted_same (Sink n w) earlier =
     with_counts _ _ _ _ (no_operation (Sink n w) earlier refl) (no_value (Sink n w) earlier refl) (no_edit (Sink n w) earlier refl)
     ∙ sym (parted (Sink n w) earlier)
 accepted_same (Fifo n w depth delay) earlier =
-    with_counts _ _ _ _ (no_operation (Fifo n w depth delay) earlier refl) (no_value (Fifo n w depth delay) earlier refl) (no_edit (Fifo n w depth delay) earlier refl)
+    with_counts _ _ _ _ (no_operation (Fifo n w depth delay) earlier refl) (no_value (Fifo n w depth delay) earlier refl)
+    (no_edit (Fifo n w depth delay) earlier refl)
     ∙ sym (parted (Fifo n w depth delay) earlier)
 accepted_same (Module n) earlier =
     with_counts _ _ _ _ (no_operation (Module n) earlier refl) (no_value (Module n) earlier refl) (no_edit (Module n) earlier refl)
@@ -195,25 +207,29 @@ accepted_same (Temp n w) earlier =
     with_counts _ _ _ _ (no_operation (Temp n w) earlier refl) (no_value (Temp n w) earlier refl) (no_edit (Temp n w) earlier refl)
     ∙ sym (parted (Temp n w) earlier)
 accepted_same (At off guard o) earlier =
-    with_counts _ _ _ _ (counted is_operation (At off guard o) (in_body earlier) refl) (no_value (At off guard o) earlier refl) (no_edit (At off guard o) earlier refl)
+    with_counts _ _ _ _ (counted is_operation (At off guard o) (in_body earlier) refl) (no_value (At off guard o) earlier refl)
+    (no_edit (At off guard o) earlier refl)
     ∙ sym (parted (At off guard o) earlier)
 accepted_same (Goto b) earlier =
     with_counts _ _ _ _ (no_operation (Goto b) earlier refl) (no_value (Goto b) earlier refl) (no_edit (Goto b) earlier refl)
     ∙ sym (parted (Goto b) earlier)
 accepted_same (Branch r b c) earlier =
-    with_counts _ _ _ _ (no_operation (Branch r b c) earlier refl) (no_value (Branch r b c) earlier refl) (no_edit (Branch r b c) earlier refl)
+    with_counts _ _ _ _ (no_operation (Branch r b c) earlier refl) (no_value (Branch r b c) earlier refl)
+    (no_edit (Branch r b c) earlier refl)
     ∙ sym (parted (Branch r b c) earlier)
 accepted_same Stop earlier =
     with_counts _ _ _ _ (no_operation Stop earlier refl) (no_value Stop earlier refl) (no_edit Stop earlier refl)
     ∙ sym (parted Stop earlier)
 accepted_same (Input n values) earlier =
-    with_counts _ _ _ _ (no_operation (Input n values) earlier refl) (summed input_count (Input n values) earlier) (no_edit (Input n values) earlier refl)
+    with_counts _ _ _ _ (no_operation (Input n values) earlier refl) (summed input_count (Input n values) earlier)
+    (no_edit (Input n values) earlier refl)
     ∙ sym (parted (Input n values) earlier)
 accepted_same (Limits c o) earlier =
     with_counts _ _ _ _ (no_operation (Limits c o) earlier refl) (no_value (Limits c o) earlier refl) (no_edit (Limits c o) earlier refl)
     ∙ sym (parted (Limits c o) earlier)
 accepted_same (Depth n d) earlier =
-    with_counts _ _ _ _ (no_operation (Depth n d) earlier refl) (no_value (Depth n d) earlier refl) (counted is_edit (Depth n d) earlier refl)
+    with_counts _ _ _ _ (no_operation (Depth n d) earlier refl) (no_value (Depth n d) earlier refl)
+    (counted is_edit (Depth n d) earlier refl)
     ∙ sym (parted (Depth n d) earlier)
 accepted_same End earlier =
     with_counts _ _ _ _ (no_operation End earlier refl) (no_value End earlier refl) (no_edit End earlier refl)

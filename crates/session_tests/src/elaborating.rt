@@ -9,7 +9,7 @@ use std::test::Fail;
 fn statements(alloc: Global, width: Width) -> Result<List<Statement>, OutOfMemory> {
     let mut all = List::new(alloc);
     all.push(Statement::Source(Name::new(alloc, b"a")?, width))?;
-    all.push(Statement::Fifo(Name::new(alloc, b"f")?, width, 3))?;
+    all.push(Statement::Fifo(Name::new(alloc, b"f")?, width, 3, 1))?;
     let values = Words::from_slice(alloc, [300, 5].as_slice())?;
     all.push(Statement::Input(Name::new(alloc, b"a")?, values))?;
     all.push(Statement::Depth(Name::new(alloc, b"f")?, 2))?;

@@ -8,9 +8,9 @@ mod making;
 mod program;
 mod status;
 mod task;
-mod words;
 #[cfg(test)]
 mod tests;
+mod words;
 
 use program::omnisim;
 use sim_io::{StdSink, StdSource};

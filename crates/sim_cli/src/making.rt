@@ -78,12 +78,7 @@ fn set_limits(plan: &mut Plan, options: &Options)
 
 /// The summary of a generated session.
 #[tactic(auto, unfolding(crate::specs::Made::summary))]
-fn summarize(
-    alloc: Global,
-    seed: u64,
-    modules: u64,
-    plan: &Plan,
-) -> Result<Answer, OutOfMemory>
+fn summarize(alloc: Global, seed: u64, modules: u64, plan: &Plan) -> Result<Answer, OutOfMemory>
     requires fits { FitsEngine plan.now }
     ensures summary { IfOk result (λ whole. whole ≡ summary seed modules plan.now) }
     ensures status { IfOk result (λ whole. IsAnswer whole.status) }

@@ -4,7 +4,7 @@ ghost use Rattle.sim_io.specs.Causes.{Rose};
 ghost use Rattle.cli_words.specs.CommandWords.{accepted};
 ghost use Rattle.sim_cli.specs.Answer.{takes_input, IsAnswer, Tells, TellsAnswer, TellsFaults};
 
-use crate::answer::{Answer, Unanswered, answer};
+use crate::answer::{Answer, Unanswered, answer_words};
 use crate::laws::one_answer;
 use crate::status::Status;
 use sim_io::{PutFault, Sink, Source, write_all_of};
@@ -35,7 +35,7 @@ pub fn omnisim<R: Threads + Wait + Sync, S: Source, K: Sink>(
     ensures reads_none { takes_input (accepted (map string_bytes words.now)) ≡ false → result ≢ Status.ReadFault }
 {
     one_answer();
-    match answer(alloc, words, source) {
+    match answer_words(alloc, words, source) {
         Ok(whole) => tell(sink, &whole),
         Err(Unanswered::ReadFault) => Status::ReadFault,
         Err(Unanswered::OutOfMemory) => Status::Memory,

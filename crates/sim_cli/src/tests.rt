@@ -43,7 +43,7 @@ fn answer<R: Threads + Wait + Sync + AllocGlobal>(
 ) -> Result<(Status, MemSink), Fail> {
     let alloc = rt.alloc();
     let mut source = MemSource::new(alloc, text, 64, takes)?;
-    let mut sink = MemSink::new(alloc, 4096, 4, puts)?;
+    let mut sink = MemSink::new(alloc, 8192, 4, puts)?;
     let status = omnisim(rt, alloc, words, &mut source, &mut sink);
     Ok((status, sink))
 }
@@ -283,7 +283,14 @@ fn texts_that_are_misread(rt: HostRuntime) -> Result<(), Fail> {
             b"flow 1\nfifo b 8 0\nend\n".as_slice(),
             b"refused 2 4\n".as_slice(),
         ),
-        (b"flow 2\nend\n".as_slice(), b"refused 1 4\n".as_slice()),
+        (
+            b"flow 1\nfifo b 8 2 5\nend\n".as_slice(),
+            b"refused 2 3\n".as_slice(),
+        ),
+        (
+            b"flow 2\nfifo b 8 2 1001\nend\n".as_slice(),
+            b"refused 2 4\n".as_slice(),
+        ),
         (b"flow 3\nend\n".as_slice(), b"refused 1 4\n".as_slice()),
         (
             b"flow 1\nsink y 8\nsink y 8\nend\n".as_slice(),
@@ -404,20 +411,69 @@ fn refused_words(rt: HostRuntime) -> Result<(), Fail> {
 
 #[test]
 fn depth_edits(rt: HostRuntime) -> Result<(), Fail> {
-    let text =
-        b"flow 1\nfifo b 8\nmodule m\nreg x 8\nblock k 2\nat 0 write b 1\nat 1 read b x\nstop\ndepth b 1\nend\n";
     let rows = [
-        Row {
-            options: &[],
-            text,
-            told: b"refused 9 20\n",
-            status: Status::Text,
-        },
+        // edit without a new run
         Row {
             options: &["--events"],
+            text: b"flow 1\nfifo b 8\nmodule P\nreg i 8\nreg g 1\nloop l 1 1 while g\nat 0 write b i\nat 0 set i + i 1\nat 0 set g <u i 2\nstop\nmodule Q\nreg x 8\nreg i 8\nreg g 1\nloop l 1 1 while g\nat 0 read b x\nat 0 set i + i 1\nat 0 set g <u i 2\nstop\ndepth b 1\nend\n",
+            told: b"report 0\nverdict done 4\nevent P write b 0\nevent P write b 1\nevent Q read b 1\nevent P write b 2\nevent Q read b 2\nevent Q read b 3\nreport 1\nverdict done 6\nevent P write b 0\nevent Q read b 1\nevent P write b 2\nevent Q read b 3\nevent P write b 4\nevent Q read b 5\nruns 1\n",
+            status: Status::Done,
+        },
+        // outcome that turns
+        Row {
+            options: &[],
+            text: b"flow 1\nfifo b 8 1\nsink y 8\nmodule P\nreg ok 1\nblock k 3\nat 0 write b 1\nat 1 trywrite b ok 2\nat 2 write y ok\nstop\nmodule Q\nreg x 8\nblock k 10\nat 9 read b x\nstop\ndepth b 2\nend\n",
+            told: b"report 0\nverdict done 10\nout y 0\nreport 1\nverdict done 10\nout y 1\nruns 2\n",
+            status: Status::Done,
+        },
+        // deadlocked record goes on
+        Row {
+            options: &[],
+            text: b"flow 1\nfifo b 8\nfifo c 8\nsink y 8\nmodule P\nblock k 4\nat 0 write b 1\nat 1 write b 2\nat 2 write b 3\nat 3 write c 9\nstop\nmodule Q\nreg x 8\nblock k 5\nat 0 read c x\nat 1 read b x\nat 2 read b x\nat 3 read b x\nat 4 write y x\nstop\ndepth b 3\nend\n",
+            told: b"report 0\nverdict deadlock 2\nout y\nheld P full b\nheld Q empty c\nreport 1\nverdict done 9\nout y 3\nruns 1\n",
+            status: Status::Deadlock,
+        },
+        // realistic line
+        Row {
+            options: &[],
             text: REALISTIC_LINE,
-            told: b"refused 78 20\n",
-            status: Status::Text,
+            told: b"report 0\nverdict done 265\nout y 1 10 30 50 70 90 110 130 150 170 190 210 230 250 270 290 310 330 350 370 390 410 430 450 470 490 510 530 550 570 590 610 630 650 670 690 710 730 750 770 790 810 830 850 870 890 910 930 950 970 990 1010 1030 1050 1070 1090 1110 1130 1150 1170 1190 1210 1230 1250 1270 1290 1310 1330 1350 1370 1390 1410 1430 1450 1470 1490 1510 1530 1550 1570 1590 1610 1630 1650 1670 1690 1710 1730 1750 1770 1790 1810 1830 1850 1870 1890 1910 1930 1950 1970 1990 2010 2030 2050 2070 2090 2110 2130 2150 2170 2190 2210 2230 2250 2270 2290 2310 2330 2350 2370 2390 2410 2430 2450 2470 2490 2510 2530\nreport 1\nverdict done 520\nout y 1 10 30 50 70 90 110 130 150 170 190 210 230 250 270 290 310 330 350 370 390 410 430 450 470 490 510 530 550 570 590 610 630 650 670 690 710 730 750 770 790 810 830 850 870 890 910 930 950 970 990 1010 1030 1050 1070 1090 1110 1130 1150 1170 1190 1210 1230 1250 1270 1290 1310 1330 1350 1370 1390 1410 1430 1450 1470 1490 1510 1530 1550 1570 1590 1610 1630 1650 1670 1690 1710 1730 1750 1770 1790 1810 1830 1850 1870 1890 1910 1930 1950 1970 1990 2010 2030 2050 2070 2090 2110 2130 2150 2170 2190 2210 2230 2250 2270 2290 2310 2330 2350 2370 2390 2410 2430 2450 2470 2490 2510 2530\nreport 2\nverdict done 520\nout y 1 10 30 50 70 90 110 130 150 170 190 210 230 250 270 290 310 330 350 370 390 410 430 450 470 490 510 530 550 570 590 610 630 650 670 690 710 730 750 770 790 810 830 850 870 890 910 930 950 970 990 1010 1030 1050 1070 1090 1110 1130 1150 1170 1190 1210 1230 1250 1270 1290 1310 1330 1350 1370 1390 1410 1430 1450 1470 1490 1510 1530 1550 1570 1590 1610 1630 1650 1670 1690 1710 1730 1750 1770 1790 1810 1830 1850 1870 1890 1910 1930 1950 1970 1990 2010 2030 2050 2070 2090 2110 2130 2150 2170 2190 2210 2230 2250 2270 2290 2310 2330 2350 2370 2390 2410 2430 2450 2470 2490 2510 2530\nreport 3\nverdict done 265\nout y 1 10 30 50 70 90 110 130 150 170 190 210 230 250 270 290 310 330 350 370 390 410 430 450 470 490 510 530 550 570 590 610 630 650 670 690 710 730 750 770 790 810 830 850 870 890 910 930 950 970 990 1010 1030 1050 1070 1090 1110 1130 1150 1170 1190 1210 1230 1250 1270 1290 1310 1330 1350 1370 1390 1410 1430 1450 1470 1490 1510 1530 1550 1570 1590 1610 1630 1650 1670 1690 1710 1730 1750 1770 1790 1810 1830 1850 1870 1890 1910 1930 1950 1970 1990 2010 2030 2050 2070 2090 2110 2130 2150 2170 2190 2210 2230 2250 2270 2290 2310 2330 2350 2370 2390 2410 2430 2450 2470 2490 2510 2530\nreport 4\nverdict done 520\nout y 1 10 30 50 70 90 110 130 150 170 190 210 230 250 270 290 310 330 350 370 390 410 430 450 470 490 510 530 550 570 590 610 630 650 670 690 710 730 750 770 790 810 830 850 870 890 910 930 950 970 990 1010 1030 1050 1070 1090 1110 1130 1150 1170 1190 1210 1230 1250 1270 1290 1310 1330 1350 1370 1390 1410 1430 1450 1470 1490 1510 1530 1550 1570 1590 1610 1630 1650 1670 1690 1710 1730 1750 1770 1790 1810 1830 1850 1870 1890 1910 1930 1950 1970 1990 2010 2030 2050 2070 2090 2110 2130 2150 2170 2190 2210 2230 2250 2270 2290 2310 2330 2350 2370 2390 2410 2430 2450 2470 2490 2510 2530\nreport 5\nverdict done 265\nout y 1 10 30 50 70 90 110 130 150 170 190 210 230 250 270 290 310 330 350 370 390 410 430 450 470 490 510 530 550 570 590 610 630 650 670 690 710 730 750 770 790 810 830 850 870 890 910 930 950 970 990 1010 1030 1050 1070 1090 1110 1130 1150 1170 1190 1210 1230 1250 1270 1290 1310 1330 1350 1370 1390 1410 1430 1450 1470 1490 1510 1530 1550 1570 1590 1610 1630 1650 1670 1690 1710 1730 1750 1770 1790 1810 1830 1850 1870 1890 1910 1930 1950 1970 1990 2010 2030 2050 2070 2090 2110 2130 2150 2170 2190 2210 2230 2250 2270 2290 2310 2330 2350 2370 2390 2410 2430 2450 2470 2490 2510 2530\nruns 5\n",
+            status: Status::Done,
+        },
+    ];
+    simulates(&rt, rows.as_slice())
+}
+
+#[test]
+fn fifos_with_a_delay(rt: HostRuntime) -> Result<(), Fail> {
+    let rows = [
+        // visibility five clocks later
+        Row {
+            options: &[],
+            text: b"flow 2\nsource a 8\nfifo b 8 2 5\nsink y 8\nmodule p\nreg x 8\nblock k 2\nat 0 read a x\nat 1 write b x\nstop\nmodule q\nreg z 8\nblock k 2\nat 0 read b z\nat 1 write y z\nstop\ninput a 5\nend\n",
+            told: b"report 0\nverdict done 8\nout y 5\nruns 1\n",
+            status: Status::Done,
+        },
+        // three values through depth two, on their way for five clocks, and an edit
+        Row {
+            options: &[],
+            text: b"flow 2\nfifo b 8 2 5\nmodule P\nreg i 8\nreg g 1\nloop l 1 1 while g\nat 0 write b i\nat 0 set i + i 1\nat 0 set g <u i 2\nstop\nmodule Q\nreg x 8\nreg i 8\nreg g 1\nloop l 1 1 while g\nat 0 read b x\nat 0 set i + i 1\nat 0 set g <u i 2\nstop\ndepth b 3\nend\n",
+            told: b"report 0\nverdict done 12\nreport 1\nverdict done 8\nruns 1\n",
+            status: Status::Done,
+        },
+        // tie in the clock, one later, with a delay of two
+        Row {
+            options: &[],
+            text: b"flow 2\nfifo b 8 2 2\nsink y 8\nmodule p\nblock k 6\nat 5 write b 3\nstop\nmodule q\nreg x 8\nreg ok 1\nblock k 8\nat 6 tryread b x ok\nat 7 write y ok\nstop\nend\n",
+            told: b"report 0\nverdict done 8\nout y 0\nruns 1\n",
+            status: Status::Done,
+        },
+        // deadlock at once, with a delay
+        Row {
+            options: &[],
+            text: b"flow 2\nfifo ab 8 2 9\nfifo ba 8\nmodule A\nreg x 8\nblock k 2\nat 0 read ba x\nat 1 write ab 1\nstop\nmodule B\nreg x 8\nblock k 2\nat 0 read ab x\nat 1 write ba 1\nstop\nend\n",
+            told: b"report 0\nverdict deadlock 0\nheld A empty ba\nheld B empty ab\nruns 1\n",
+            status: Status::Deadlock,
         },
     ];
     simulates(&rt, rows.as_slice())

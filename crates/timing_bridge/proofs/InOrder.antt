@@ -18,7 +18,7 @@ use Rattle.event_timing.proofs.FinalReport.{done_limit}
 use Rattle.timing_bridge.specs.Designs.{design, lockstep_run}
 use Rattle.timing_bridge.specs.CoreReports.{AreInOrder}
 use Rattle.timing_bridge.proofs.History.{plan_is_design, run_is_history}
-use Rattle.timing_bridge.proofs.Reports.{clock_settled}
+use Rattle.lockstep_defs.proofs.Exits.{clock_settled}
 use Rattle.timing_bridge.proofs.Steps.{all_steps, events_are}
 
 module _ (p : Plan) (fits : FitsEngine p) (limit : ℕ) (x : Core ModuleState) (g : IsAgreed (design p) (lockstep_run p) limit x)

@@ -1,7 +1,7 @@
 -- A module's own run, local clock by local clock, is the theory's own run: its steps come after the quiet clocks.
 use Rattle.std.proofs.Common.{◌≡◌, ℕ, zero, suc, ◌+◌, ◌≤◌, ◌<◌, List, [], ◌∷◌, ◌++◌, length, get_or, Bool, true, false, cond, refl, sym}
 use Rattle.std.proofs.Common.{◌∙◌, ap, ap₂, subst, arith, inl, inr, length-append, zero-add}
-use Rattle.std.proofs.lemmas.Bool.{cases_lt, both_ways, or_from, or_right, cond_both}
+use Rattle.std.proofs.lemmas.Bool.{cases_lt, both_ways, or_from, or_right}
 use Rattle.std.proofs.lemmas.List.{get_or-map}
 use Rattle.std.proofs.lemmas.List.FromFn.{length-map-range_with_len, get_or-map-range_with_len}
 use Rattle.flow_design.specs.declared.plan.Plan.{Plan}
@@ -14,7 +14,7 @@ use Rattle.lockstep_defs.specs.Lockstep.{no_module, module_at, requests_of}
 use Rattle.lockstep_defs.specs.OwnRun.{Own, OwnStep, own_after, own_next}
 use Rattle.lockstep_defs.specs.OwnRun as real
 use Rattle.lockstep_defs.specs.Quiet.{is_some_request, rests, quiet, fits}
-use Rattle.lockstep_defs.proofs.Agrees.{own_suc}
+use Rattle.lockstep_defs.proofs.Agrees.{own_suc, next_grows}
 use Rattle.event_timing.specs.Machines.{skip, ready}
 use Rattle.event_timing.specs.Machines as theory
 use Rattle.event_timing.specs.Views.{own}
@@ -121,17 +121,6 @@ next_is p h i r replies tells o t g = by_test (is_over p.ops o.state) (one_more 
         → length (cond b o goes_on).steps ≤ length replies → (u : ℕ) × HasComeTo p i r (cond b o goes_on) u
     by_test true f l = (t, g)
     by_test false f l = f refl (requests_of p (i, o.state)) refl l
-
-after_grows : (p : Plan) (i : ℕ) (o : Own) (rs : List Request) (qs : List Reply)
-    → length o.steps ≤ length (own_after (module_at p i) o rs qs).steps
-after_grows p i o [] qs = omega arith
-after_grows p i o (x ∷ rs) qs = omega (arith, length-append {A = OwnStep})
-
-next_grows : (p : Plan) (i : ℕ) (replies : List (List Reply)) (o : Own) → length o.steps ≤ length (own_next p i replies o).steps
-unfolding own_next
-next_grows p i replies o =
-    cond_both (is_over p.ops o.state) o _ (λ (z : Own). length o.steps ≤ length z.steps) (λ e. omega arith)
-    (λ e. after_grows p i o (requests_of p (i, o.state)) (get_or replies (length o.steps) []))
 
 -- ---- the whole run
 

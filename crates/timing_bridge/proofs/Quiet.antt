@@ -52,7 +52,7 @@ quiet_idle p i s n l =
 pub ready_rests : (p : Plan) → FitsEngine p → (i : ℕ) (s : ModuleState) → fits p i s ≡ true → rests p i (ready (design p) i s) ≡ true
 ready_rests p h i s f = ap (rests p i) (skip_same p i (quiet p i s) s) ∙ quiet_rests p h i s f
 
-second_of : (a b : Bool) → (a || b) ≡ true → a ≡ false → b ≡ true
+pub second_of : (a b : Bool) → (a || b) ≡ true → a ≡ false → b ≡ true
 second_of true b h e = cc
 second_of false b h e = h
 

@@ -1,16 +1,15 @@
 -- The report of a final core is the plan's.
-use Rattle.std.proofs.Common.{◌≡◌, ℕ, zero, suc, ◌+◌, ◌≤◌, ◌<◌, List, [], ◌∷◌, map, length, Bool, true, false, ◌||◌, refl, sym, ◌∙◌, ap}
+use Rattle.std.proofs.Common.{◌≡◌, ℕ, zero, suc, ◌+◌, ◌≤◌, ◌<◌, List, [], ◌∷◌, map, length, true, false, ◌||◌, refl, sym, ◌∙◌, ap}
 use Rattle.std.proofs.Common.{ap₂, subst, arith, inl, inr, Some, None, Option}
 use Rattle.std.specs.Prelude.{nat_lt, is_some}
-use Rattle.std.specs.List.{filter_map, range_with_len, list_all, list_any}
+use Rattle.std.specs.List.{filter_map, range_with_len, list_any}
 use Rattle.std.proofs.lemmas.Bool.{cases_lt, cases_eq, cases_Bool, cond-false, cond_both, le-ltb, ltb-true, ltb-false, or_parts, both_ways}
 use Rattle.flow_design.specs.declared.plan.Plan.{Plan}
 use Rattle.flow_design.specs.declared.report.Verdict.{Verdict}
 use Rattle.flow_design.specs.declared.report.Verdict.TheVariants.{Done, Deadlock, Cycles, Ops}
-use Rattle.flow_design.specs.declared.state.ClockState.{ClockState}
 use Rattle.flow_design.specs.declared.state.ModuleState.{ModuleState}
 use Rattle.flow_design.specs.StaticRules.{FitsEngine}
-use Rattle.lockstep_defs.specs.Machine.{nobody, is_spent}
+use Rattle.lockstep_defs.specs.Machine.{nobody}
 use Rattle.lockstep_defs.specs.Channels.{HistoryStep}
 use Rattle.lockstep_defs.specs.Lockstep.{state, history}
 use Rattle.lockstep_defs.specs.Verdict.{settled_verdict, verdict, clock_of, held_in, held}
@@ -27,11 +26,12 @@ use Rattle.event_timing.proofs.FinalReport.{done_limit}
 use Rattle.timing_bridge.specs.Designs.{design, lockstep_run}
 use Rattle.timing_bridge.specs.CoreReports.{core_steps, AreInOrder, modules_of, core_states, last_stop, is_determined, core_verdict}
 use Rattle.timing_bridge.specs.CoreReports.{core_held_by, core_held, core_report}
-use Rattle.timing_bridge.proofs.Quiet.{nobody_quiet, opening_past}
+use Rattle.timing_bridge.proofs.Quiet.{nobody_quiet, opening_past, second_of}
 use Rattle.timing_bridge.proofs.History.{plan_is_design, run_is_history}
 use Rattle.timing_bridge.proofs.Steps.{all_steps, events_are}
 use Rattle.timing_bridge.proofs.Settling.{last_states, held_all, outputs_are}
 use Rattle.timing_bridge.proofs.Verdicts.{final_settled, final_cut, final_late}
+use Rattle.lockstep_defs.proofs.Exits.{clock_settled}
 
 -- ---- answers
 
@@ -63,11 +63,6 @@ report_from p h limit x g ss o v e all held_same =
       events = events_of (sym (events_are p h limit x g (clock_of v) all ss o) i);
       answers = answers_are p h limit x g (clock_of v) all i;
     })
-
-pub clock_settled : (p : Plan) (c : ℕ) (st : ClockState) → clock_of (settled_verdict p c st) ≡ c
-clock_settled p c st =
-    cond_both (list_all (λ s. s.ended) st.modules) (Done c) _ (λ (v : Verdict). clock_of v ≡ c) (λ e. refl)
-    (λ e. cond_both (list_any (is_spent p.ops) st.modules) (Ops c) (Deadlock c) (λ (v : Verdict). clock_of v ≡ c) (λ d. refl) (λ d. refl))
 
 -- no step is determined: the verdict's clock is the last stop
 report_rested : (p : Plan) → FitsEngine p → (x : Core ModuleState) → IsAgreed (design p) (lockstep_run p) p.cycles x
@@ -178,10 +173,6 @@ stop_there p x o (suc n) e =
       | inl l ↦ let q = rest.1 in (rest.0, omega arith)
       | inr l ↦ (n, omega arith)
     ]
-
-second_of : (a b : Bool) → (a || b) ≡ true → a ≡ false → b ≡ true
-second_of true b h e = cc
-second_of false b h e = h
 
 -- the report of every final core is the plan's
 pub every_report : (p : Plan) → FitsEngine p → (x : Core ModuleState) → IsAgreed (design p) (lockstep_run p) p.cycles x

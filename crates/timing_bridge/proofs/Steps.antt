@@ -9,12 +9,12 @@ use Rattle.flow_design.specs.declared.state.Element.{Element}
 use Rattle.flow_design.specs.declared.state.ModuleState.{ModuleState}
 use Rattle.flow_design.specs.declared.state.Request.{Request}
 use Rattle.flow_design.specs.StaticRules.{FitsEngine}
-use Rattle.lockstep_defs.specs.Channels.{HistoryStep, Exchange, reply}
+use Rattle.lockstep_defs.specs.Channels.{HistoryStep, Exchange}
 use Rattle.lockstep_defs.specs.Lockstep.{requests_of, moves, answered, step_with, step_of, state, state_at, history}
 use Rattle.lockstep_defs.specs.Report.{steps_of}
 use Rattle.lockstep_defs.specs.OwnRun.{paired}
 use Rattle.lockstep_defs.proofs.Settled.{history-zero}
-use Rattle.lockstep_defs.proofs.Agrees.{steps_of-suc}
+use Rattle.lockstep_defs.proofs.Agrees.{steps_of-suc, paired_answered}
 use Rattle.lockstep_defs.proofs.Order.{only_history, history_numbers}
 use Rattle.event_timing.specs.Machines.{is_some_access, ready}
 use Rattle.event_timing.specs.Histories.{replies}
@@ -32,11 +32,6 @@ use Rattle.timing_bridge.specs.CoreReports.{core_step, core_steps, AreInOrder}
 use Rattle.timing_bridge.proofs.History.{plan_is_design, run_is_history, moves_same, replies_same}
 
 -- ---- one clock
-
-paired_answers : (p : Plan) (c : ℕ) (cs : List (List Element)) (rs : List Request)
-    → paired rs (map (reply p c cs) rs) ≡ map (answered p c cs) rs
-paired_answers p c cs [] = refl
-paired_answers p c cs (r ∷ rs) = ap (λ (l : List Exchange). answered p c cs r ∷ l) (paired_answers p c cs rs)
 
 -- what module i does in clock c, as a step
 abbrev pub done_at : Plan → ℕ → ℕ → HistoryStep
@@ -102,7 +97,7 @@ core_step_is p h limit x g c i k s e l =
     let asked = requests_of p (i, state_at p c i) in
     let moving = sym (moves_same p h c i) ∙ steps_moves d w c i s in
     let done_is : map (answered p c (state p c).contents) asked ≡ paired asked (told_all asked (core_reply d x i k)) =
-    sym (ap (paired asked) (ap (told_all asked) told ∙ replies_same p h c i moving) ∙ paired_answers p c (state p c).contents asked) in
+    sym (ap (paired asked) (ap (told_all asked) told ∙ replies_same p h c i moving) ∙ paired_answered p c (state p c).contents asked) in
     ap₂ (λ (n : ℕ) (xs : List Exchange). record { clock = n; «module» = i; exchanges = xs }) (sym clock)
     (done_is ∙ ap (λ (t : ModuleState). paired (requests_of p (i, t)) (told_all (requests_of p (i, t)) (core_reply d x i k))) here)
 

@@ -4,4 +4,8 @@ use Rattle.flow_text.proofs.OperationLaws.{set_read}
 use Rattle.flow_text.proofs.operations.new_set.Goals as goal
 
 pub returns-in-Ok : goal.returns-in-Ok
-returns-in-Ok c = set_read c.args.tables.now c.is_known-known.result c.args.register.now c.in_ok-register.register (trees_of (map (λ t. t.now) c.args.expression.now)) c.in-Ok.tree c.set_to.result (sym c.is_identifier.ensures ∙ c.if-not-is_identifier.false) c.is_known-known.ensures c.in-Ok.ensures c.in_ok-register.ensures c.set_to.ensures
+returns-in-Ok c =
+    set_read c.args.tables.now c.is_known-known.result (trees_of (map (λ t. t.now) c.args.expression.now)) c.in-Ok.tree c.set_to.result
+    c.in-Ok.ensures
+    c.args.register.now c.in_ok-register.register (sym c.is_identifier.ensures ∙ c.if-not-is_identifier.false)
+    c.is_known-known.ensures c.in_ok-register.ensures c.set_to.ensures

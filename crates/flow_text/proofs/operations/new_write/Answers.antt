@@ -4,4 +4,8 @@ use Rattle.flow_text.proofs.OperationLaws.{write_read}
 use Rattle.flow_text.proofs.operations.new_write.Goals as goal
 
 pub returns-in-Ok : goal.returns-in-Ok
-returns-in-Ok c = write_read c.args.tables.now c.has-known.result c.args.channel.now c.in_ok-channel.channel (trees_of (map (λ t. t.now) c.args.expression.now)) c.in-Ok.tree c.written.result (sym c.is_identifier.ensures ∙ c.if-not-is_identifier.false) c.has-known.ensures c.in-Ok.ensures c.in_ok-channel.ensures c.written.ensures
+returns-in-Ok c =
+    write_read c.args.tables.now c.has-known.result (trees_of (map (λ t. t.now) c.args.expression.now)) c.in-Ok.tree c.written.result
+    c.in-Ok.ensures
+    c.args.channel.now c.in_ok-channel.channel (sym c.is_identifier.ensures ∙ c.if-not-is_identifier.false)
+    c.has-known.ensures c.in_ok-channel.ensures c.written.ensures

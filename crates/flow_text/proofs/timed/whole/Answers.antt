@@ -6,7 +6,11 @@ use Rattle.flow_text.proofs.TimedLaws.{whole_read}
 use Rattle.flow_text.proofs.timed.whole.Goals as goal
 
 pub returns-in-Ok-clause-given : goal.returns-in-Ok-clause-given
-returns-in-Ok-clause-given c = whole_read (takes_operations c.args.tables.now.place) (nat_lt c.args.tables.now.operations OPERATIONS) c.args.offset c.args.guard c.args.known c.args.operation (Ok c.in-Ok.offset) c.in-Ok.ensures.value
+returns-in-Ok-clause-given c =
+    whole_read (takes_operations c.args.tables.now.place) (nat_lt c.args.tables.now.operations OPERATIONS) c.args.offset c.args.guard
+    c.args.known c.args.operation (Ok c.in-Ok.offset) c.in-Ok.ensures.value
 
 pub returns-in-Err-clause-given : goal.returns-in-Err-clause-given
-returns-in-Err-clause-given c = whole_read (takes_operations c.args.tables.now.place) (nat_lt c.args.tables.now.operations OPERATIONS) c.args.offset c.args.guard c.args.known c.args.operation (Err c.in-Err.code) c.in-Err.ensures.value
+returns-in-Err-clause-given c =
+    whole_read (takes_operations c.args.tables.now.place) (nat_lt c.args.tables.now.operations OPERATIONS) c.args.offset c.args.guard
+    c.args.known c.args.operation (Err c.in-Err.code) c.in-Err.ensures.value

@@ -9,4 +9,5 @@ use Rattle.flow_text.proofs.timed.with_offset.Goals as goal
 pub returns-in-len1-clause-given : goal.returns-in-len1-clause-given
 returns-in-len1-clause-given c =
     subst (λ (s : Option Statement). LineGives (λ x. x) c.unguarded-in-len1.result (reading_by c.args.tables.now s))
-    (sym (guarded_one (number_of c.args.offset.now) (λ t. t.now) c.args.tokens.now (omega arith) (omega arith))) c.unguarded-in-len1.ensures.given
+    (sym (guarded_one (number_of c.args.offset.now) (λ t. t.now) c.args.tokens.now (omega arith) (omega arith)))
+    c.unguarded-in-len1.ensures.given

@@ -11,7 +11,8 @@ use Rattle.module_interp.proofs.tally.Tally.count_step.Goals as goal
 pub loop-at-init : goal.loop-at-init
 loop-at-init c channels before h all = subst (λ (xs : List Exchange). IsTallyOf channels xs c.args.self.now) (sym (append-nil before)) h
 
-shorter : (before : List Exchange) (rs : List Request) (qs : List Reply) (i : ℕ) → length (before ++ paired (take i rs) qs) ≤ length before + length rs
+shorter : (before : List Exchange) (rs : List Request) (qs : List Reply) (i : ℕ)
+    → length (before ++ paired (take i rs) qs) ≤ length before + length rs
 shorter before rs qs i = omega (arith, length-append before (paired (take i rs) qs), length-paired (take i rs) qs, length-take i rs)
 
 pub count-requires : goal.count-requires
@@ -28,10 +29,12 @@ loop-at-preserved c channels before h all =
     let i = c.loop-at.at in
     let inside : i < length qs = omega (arith, c.requires.one_each, c.loop-at-test.true) in
     subst (λ (xs : List Exchange). IsTallyOf channels xs c.count.new.self)
-    (append_assoc before (paired (take i rs) qs) _ ∙ ap (λ (zs : List Exchange). before ++ zs) (sym (paired_more rs qs i _ _ _ _ c.loop-at-test.true inside refl refl)))
+    (append_assoc before (paired (take i rs) qs) _
+    ∙ ap (λ (zs : List Exchange). before ++ zs) (sym (paired_more rs qs i _ _ _ _ c.loop-at-test.true inside refl refl)))
     (c.count.ensures channels (before ++ paired (take i rs) qs) (c.loop-at.invariant channels before h all) (all i _ c.loop-at-test.true))
 
 pub returns : goal.returns
 returns c channels before h all =
-    subst (λ (rs : List Request). IsTallyOf channels (before ++ paired rs c.args.replies.now) c.loop-at.self) (take_all c.loop-at.at c.args.requests.now c.loop-at-test.false)
+    subst (λ (rs : List Request). IsTallyOf channels (before ++ paired rs c.args.replies.now) c.loop-at.self)
+    (take_all c.loop-at.at c.args.requests.now c.loop-at-test.false)
     (c.loop-at.invariant channels before h all)

@@ -15,7 +15,7 @@ use Rattle.event_timing.proofs.Agreement.{all_agree}
 use Rattle.event_timing.proofs.Editing.{edit_design}
 use Rattle.engine_view.specs.Held.{core_of}
 use Rattle.engine_view.specs.Stored.{Stored, held_in}
-use Rattle.engine_view.specs.Turns.{IsKept}
+use Rattle.engine_view.specs.Kept.{IsKept}
 use Rattle.retime.specs.Rounds.{LeadsAll, only_steps}
 use Rattle.retime.specs.Edits.{IsEditOf, RecordGrows, OutcomesGrow}
 use Rattle.retime.proofs.Agreeing.{cut_agrees}

@@ -3,4 +3,4 @@
 
 mod laws;
 
-pub use laws::records_go_on;
+pub use laws::{logs_are_kept, records_go_on};

@@ -23,7 +23,8 @@ use Rattle.engine_view.specs.Shown.{queries_before}
 use Rattle.engine_view.specs.Edited.{IsCut}
 use Rattle.engine_view.specs.Rooms.{IsRoomy, room_of}
 use Rattle.engine_view.specs.Stored.{Stored, held_in}
-use Rattle.engine_view.specs.Turns.{IsKept, IsSomeCore, KeepsRoom}
+use Rattle.engine_view.specs.Kept.{IsKept}
+use Rattle.engine_view.specs.Turns.{IsSomeCore, KeepsRoom}
 use Rattle.engine_view.proofs.Answered.{steps_only}
 use Rattle.engine_view.proofs.Emitted.{queries_mono}
 use Rattle.engine_view.proofs.Edited.{timed_kept, edited_core}

@@ -13,7 +13,8 @@ use Rattle.event_timing.specs.Actions.Action.{Run, Assign, Answer, Earliest}
 use Rattle.engine_view.specs.Held.{Held, core_of}
 use Rattle.engine_view.specs.Stored.{Stored, held_in}
 use Rattle.engine_view.specs.Taking.{kinds_in}
-use Rattle.engine_view.specs.Turns.{IsKept, IsIdle, IsSomeCore, KeepsRoom, Leads, OfEach, left}
+use Rattle.engine_view.specs.Kept.{IsKept}
+use Rattle.engine_view.specs.Turns.{IsIdle, IsSomeCore, KeepsRoom, Leads, OfEach, left}
 use Rattle.retime.specs.Rounds.{AreTimings, HasGone, only_steps, cycles_in, IsVisited, IsGoingRound}
 
 -- ---- one action more

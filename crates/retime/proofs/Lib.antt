@@ -6,3 +6,6 @@ pub mod Cutting
 pub mod Tallied
 pub mod Agreeing
 pub mod Recorded
+pub mod Growing
+pub mod Outcomes
+pub mod Behind

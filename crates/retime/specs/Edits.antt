@@ -1,12 +1,21 @@
 -- An edit of a final core, and the history of the edited design.
-use Rattle.std.specs.Prelude.{◌≡◌, ◌≢◌, ℕ, ◌≤◌, ◌⊎◌, true, slice_get, List, length, ◌<◌}
+use Rattle.std.specs.Prelude.{Bool, ◌≡◌, ◌≢◌, ℕ, ◌≤◌, ◌⊎◌, true, slice_get, List, length, ◌<◌}
 use Rattle.event_graph.specs.Lanes.{Lane}
 use Rattle.fifo_table.specs.Channels.{Channel, IsFifo, channel_at, depth_of}
 use Rattle.query_log.specs.declared.query.Query.{Query}
+use Rattle.query_log.specs.Logs.{Log}
+use Rattle.outcome_guard.specs.Prefixes.{IsPrefix}
 use Rattle.event_timing.specs.Machines.{Design, IsDesign}
 use Rattle.event_timing.specs.Histories.{Trace, IsHistory}
-use Rattle.event_timing.specs.Core.{core_accesses}
+use Rattle.event_timing.specs.Core.{Core, core_accesses}
 use Rattle.event_timing.specs.Actions.{IsFinal}
+use Rattle.event_timing.specs.Edits.{edited}
+use Rattle.flow_design.specs.declared.state.ModuleState.{ModuleState}
+use Rattle.flow_word.specs.declared.access.Side.TheVariants.{Push}
+use Rattle.outcome_guard.specs.declared.guard.Guard.{Guard}
+use Rattle.engine_view.specs.Stored.{Stored, held_in}
+use Rattle.retime.specs.Rounds.{only_steps}
+use Rattle.retime.specs.Cuts.{HasRetimed}
 use Rattle.event_timing.specs.Agreement.{IsAgreed, IsStepAt, possible_all}
 use Rattle.engine_view.specs.Held.{Held, core_of}
 use Rattle.engine_view.specs.Shown.{IsSound}
@@ -40,3 +49,33 @@ pub record IsOtherInHistory {S : Type 0} (d : Design S) (y : Trace S) (h : Held)
   pub place : ℕ
   pub differs : slice_get ((core_of d h).flags q.module (first_of h q.module)) place
       ≢ slice_get (possible_all d y clock (core_accesses d (core_of d h) q.module (first_of h q.module))) place
+
+-- each recorded outcome of the module is verified
+abbrev pub AreVerified : {S : Type 0} → Core S → ℕ → Type 0
+AreVerified {S} x m = (k : ℕ) → k < x.emitted m → x.answered m k ≡ true → x.verified m k ≡ true
+
+-- the module's record of outcomes grew: what was recorded stays, and either nothing was added, or all that is recorded is verified
+pub record RecordGrows {S : Type 0} (x y : Core S) (m : ℕ) : Type 0 where
+  pub emitted : y.emitted m ≡ x.emitted m
+  pub answered : (k : ℕ) → x.answered m k ≡ true → y.answered m k ≡ true
+  pub flags : (k : ℕ) → x.answered m k ≡ true → y.flags m k ≡ x.flags m k
+  pub verified : (k : ℕ) → x.verified m k ≡ true → y.verified m k ≡ true
+  pub ends : ((k : ℕ) → y.answered m k ≡ x.answered m k) ⊎ AreVerified y m
+
+-- a module's outcomes with those that were added: none, or all are verified
+pub record OutcomesGrow (old now : Log) : Type 0 where
+  pub grew : IsPrefix old.outcomes now.outcomes
+  pub ends : (now.outcomes ≡ old.outcomes) ⊎ (now.verified ≡ length now.outcomes)
+
+-- ---- a retiming of a final core
+
+-- the one is a final core of the design and agrees with its history; from the clock of the edit on cycles were given anew, which led to
+-- the other; `z` is the history of the edited design
+pub record IsEditOf (d : Design ModuleState) (y z : Trace ModuleState) (limit : ℕ) (over : List Bool) (old new : Stored) (guard : Guard)
+    (fifo depth t : ℕ) : Type 0 where
+  pub final : IsFinalOf d y limit (held_in old over)
+  pub lags : (c : ℕ) → d.lag Push c ≡ 1
+  pub from : IsEditFrom old.graph.lanes old.table.channels fifo depth limit t
+  pub history : IsHistory (edited d fifo depth) z
+  pub retimed : HasRetimed guard fifo depth t limit old new
+  pub steps : only_steps new.graph.lanes ≡ only_steps old.graph.lanes

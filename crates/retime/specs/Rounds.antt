@@ -12,7 +12,8 @@ use Rattle.event_timing.specs.Actions.Action.{Run, Assign, Answer, Earliest}
 use Rattle.engine_view.specs.Held.{Held, core_of}
 use Rattle.engine_view.specs.Stored.{Stored, held_in}
 use Rattle.engine_view.specs.Taking.{kinds_in}
-use Rattle.engine_view.specs.Turns.{IsKept, IsDifferent, IsIdle, IsSomeCore, KeepsRoom, OfEach}
+use Rattle.engine_view.specs.Kept.{IsKept}
+use Rattle.engine_view.specs.Turns.{IsDifferent, IsIdle, IsSomeCore, KeepsRoom, OfEach}
 
 -- each of them gives a cycle, or answers queries that are all decided
 abbrev pub AreTimings : List Action → Type 0

@@ -6,7 +6,7 @@ mod retimed;
 mod rounds;
 mod touched;
 
-pub use laws::{cycles_are_counted, edits_agree};
+pub use laws::{cycles_are_counted, edits_agree, records_grow, retimings_agree};
 pub use retimed::retime;
 pub use rounds::time_all;
 pub use touched::first_touched;

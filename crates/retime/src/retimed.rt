@@ -44,8 +44,10 @@ pub fn retime<L: Ledger>(
     ensures room { KeepsRoomEdited channel depth (stored graph.old fifos.old log.old) (stored graph.new fifos.new log.new) }
     ensures steps_stay { only_steps graph.new.lanes ≡ only_steps graph.old.lanes }
     ensures kinds { kinds_in fifos.new.channels ≡ kinds_in (with_depth fifos.old.channels channel depth) }
-    ensures ticks { steps.new + cycles_in (map (timed_below (unwrap_or from limit)) graph.old.lanes) ≡ steps.old + cycles_in graph.new.lanes }
-    ensures few { steps.new + cycles_in (map (timed_below (unwrap_or from limit)) graph.old.lanes) ≤ steps.old + steps_in graph.old.lanes }
+    ensures ticks { steps.new + cycles_in (map (timed_below (unwrap_or from limit)) graph.old.lanes)
+        ≡ steps.old + cycles_in graph.new.lanes }
+    ensures few { steps.new + cycles_in (map (timed_below (unwrap_or from limit)) graph.old.lanes)
+        ≤ steps.old + steps_in graph.old.lanes }
 {
     fifos.set_depth(channel, depth);
     graph.forget_from(from.unwrap_or(limit));

@@ -30,7 +30,7 @@ loop-idle-preserved-in-Assigned g c =
     owned c.time_first.ensures.lanes c.time_first.ensures.ticks)
     (Assign c.next_module-owner.result) tt (steps_behind c.time_first.result c.next_module-owner.result c.loop-idle.graph.lanes
     c.time_first.new.graph.lanes c.time_first.ensures.lanes)
-    c.time_first.ensures.kinds c.in-Assigned.ensures.done c.time_first.ensures.room
+    c.time_first.ensures.kinds (λ d over i k. (c.in-Assigned.ensures.done d over i k).1) c.time_first.ensures.room
 
 pub loop-idle-smaller-in-Answered : goal.loop-idle-smaller-in-Answered
 loop-idle-smaller-in-Answered g c =
@@ -54,7 +54,7 @@ loop-idle-preserved-in-Answered g c =
     owned c.time_first.ensures.lanes c.time_first.ensures.ticks)
     (Answer c.next_module-owner.result) tt (steps_behind c.time_first.result c.next_module-owner.result c.loop-idle.graph.lanes
     c.time_first.new.graph.lanes c.time_first.ensures.lanes)
-    c.time_first.ensures.kinds c.in-Answered.ensures.done c.time_first.ensures.room
+    c.time_first.ensures.kinds (λ d over i k. (c.in-Answered.ensures.done d over i k).1) c.time_first.ensures.room
 
 pub loop-idle-preserved-then-at-count : goal.loop-idle-preserved-then-at-count
 loop-idle-preserved-then-at-count g c =

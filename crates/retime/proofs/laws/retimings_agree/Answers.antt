@@ -1,0 +1,8 @@
+use Rattle.retime.proofs.Behind.{agreed_behind, outcomes_behind}
+use Rattle.retime.proofs.laws.retimings_agree.Goals as goal
+
+pub returns : goal.returns
+returns c = record {
+  agreed = λ d y z limit over old new guard fifo depth t e. agreed_behind d y z limit over old new guard fifo depth t e;
+  outcomes = λ d y z limit over old new guard fifo depth t e m l. outcomes_behind d y z limit over old new guard fifo depth t e m l;
+}

@@ -20,14 +20,23 @@ use Rattle.module_interp.proofs.Ways.{has_begun, begun_same}
 use Rattle.module_interp.proofs.Standing.{IsAtRest, step_rest, end_rest, accesses_are, asked_leads}
 
 -- the way to the rest went on
-pub stands_on : (p : Plan) (i : ℕ) (o : Own) (r : ModuleRun) (y : Path) (accesses : List Access) → KeepsRest r.path y → y.stage ≢ Asked → StandsAt p i o r
+pub stands_on : (p : Plan) (i : ℕ) (o : Own) (r : ModuleRun) (y : Path) (accesses : List Access) → KeepsRest r.path y → y.stage ≢ Asked
+    → StandsAt p i o r
     → StandsAt p i o (record { path = y; tally = r.tally; accesses = accesses })
-stands_on p i o r y accesses keeps unasked s = record { leads = keeps p i o s.leads; tally = s.tally; few = s.few; accesses = λ e. absurd (unasked e) }
+stands_on p i o r y accesses keeps unasked s = record {
+  leads = keeps p i o s.leads;
+  tally = s.tally;
+  few = s.few;
+  accesses = λ e. absurd (unasked e);
+  in_time = s.in_time;
+  behind = s.behind;
+}
 
 -- and room for replies was made
 pub replies_alone : (x y : Path) (replies : List Reply) → KeepsRest x y → y.stage ≡ Begun → KeepsRest x (record y { replies = replies })
 replies_alone x y replies keeps begun p i o l =
-    begun_same y (record y { replies = replies }) (record { channels = refl; of = refl; limit = refl; schedules = refl }) begun begun refl refl p i o (keeps p i o l)
+    begun_same y (record y { replies = replies }) (record { channels = refl; of = refl; limit = refl; schedules = refl }) begun begun refl
+    refl p i o (keeps p i o l)
 
 pub rest_of : (p : Plan) (i : ℕ) (o : Own) (y : Path) → LeadsTo p i o y → (IsAtStep y ⊎ IsAtEnd y) → IsAtRest p i o y
 rest_of p i o y l (inl h) = step_rest p i o y l h
@@ -59,7 +68,8 @@ can_list p i o r y keeps s h =
     }
 
 -- the step was given
-pub stands_asked : (p : Plan) (i : ℕ) (o : Own) (r : ModuleRun) (y : Path) (replies : List Reply) (accesses : List Access) → KeepsRest r.path y → StandsAt p i o r → IsAtStep y
+pub stands_asked : (p : Plan) (i : ℕ) (o : Own) (r : ModuleRun) (y : Path) (replies : List Reply) (accesses : List Access)
+    → KeepsRest r.path y → StandsAt p i o r → IsAtStep y
     → length replies ≡ length y.asked → accesses ≡ map (access_of (done_in o.steps)) y.asked
     → StandsAt p i o (record { path = record y { replies = replies; stage = Asked }; tally = r.tally; accesses = accesses })
 stands_asked p i o r y replies accesses keeps s h count given =
@@ -69,4 +79,6 @@ stands_asked p i o r y replies accesses keeps s h count given =
       tally = s.tally;
       few = s.few;
       accesses = λ e. accesses_are p i o y accesses l (step_rest p i o y l h) h.asked given;
+      in_time = s.in_time;
+      behind = s.behind;
     }

@@ -1,5 +1,5 @@
 -- The rests of a chain are the own run of the definitions, and their marks are its marks.
-use Rattle.std.proofs.Common.{◌≡◌, ℕ, zero, suc, ◌+◌, ◌-◌, ◌^◌, ◌<◌, ◌≤◌, ◌⊎◌, inl, inr, Bool, true, false, ◌||◌, List, [], ◌∷◌, ◌++◌, map, length, cond, refl, sym, ap, subst, arith, ◌∙◌, length-append, append_assoc, zero-add, suc-add}
+use Rattle.std.proofs.Common.{◌≡◌, ℕ, zero, suc, ◌+◌, ◌-◌, ◌<◌, ◌⊎◌, inl, inr, Bool, true, false, ◌||◌, List, [], ◌∷◌, ◌++◌, map, length, cond, refl, sym, ap, subst, arith, ◌∙◌, length-append, append_assoc, zero-add, suc-add}
 use Rattle.std.specs.Prelude.{take}
 use Rattle.std.proofs.lemmas.Bool.{cases_Bool, cases_order, cond-true, cond-false}
 use Rattle.std.proofs.lemmas.List.{append-nil, take_all, take-append-le}
@@ -20,12 +20,9 @@ use Rattle.lockstep_defs.specs.OwnRun.{OwnStep, Own, own_after, own_next, own, p
 use Rattle.lockstep_defs.specs.Quiet.{is_some_request, rests, skip, own_later, quiet, fits}
 use Rattle.lockstep_defs.proofs.Agrees.{own_suc}
 use Rattle.lockstep_defs.proofs.Resting.{fits_opened, fits_move, quiet_goes, quiet_rests, own_goes}
-use Rattle.module_interp.specs.declared.run.ModuleRun.{ModuleRun}
-use Rattle.module_interp.specs.OwnRests.{to_rest, next_rest, requests_at, done_in, accesses_at, mark_at}
-use Rattle.module_interp.specs.Runs.{is_step, StandsAt}
-use Rattle.module_interp.specs.Paths.{after_move}
+use Rattle.module_interp.specs.OwnRests.{to_rest, requests_at, done_in, accesses_at, mark_at}
+use Rattle.module_interp.specs.Runs.{is_step}
 use Rattle.module_interp.specs.Chains.{replies_to, rest_at, clock_at, marks_before, GoesTo}
-use Rattle.module_interp.proofs.Timing.{skip_goes_on}
 
 -- ---- each rest is one
 
@@ -92,7 +89,8 @@ after_steps m o (r ∷ rs) qs h = refl
 fewer : (p : Plan) (i : ℕ) (replies : List (List Reply)) (k : ℕ) → GoesTo p i replies (suc k) → GoesTo p i replies k
 fewer p i replies k g j l = g j (omega arith)
 
-alive_before : (p : Plan) (i : ℕ) (replies : List (List Reply)) (k : ℕ) → GoesTo p i replies (suc k) → is_over p.ops (rest_at p i replies k).state ≡ false
+alive_before : (p : Plan) (i : ℕ) (replies : List (List Reply)) (k : ℕ) → GoesTo p i replies (suc k)
+    → is_over p.ops (rest_at p i replies k).state ≡ false
 alive_before p i replies k g = alive_at p i (rest_at p i replies k) (g k (omega arith))
 
 -- the next rest has one step more
@@ -109,13 +107,15 @@ no_steps : (p : Plan) (i : ℕ) (replies : List (List Reply)) → (rest_at p i r
 unfolding rest_at
 no_steps p i replies = refl
 
-pub rest_steps : (p : Plan) → FitsEngine p → (i : ℕ) (replies : List (List Reply)) (k : ℕ) → GoesTo p i replies k → length (rest_at p i replies k).steps ≡ k
+pub rest_steps : (p : Plan) → FitsEngine p → (i : ℕ) (replies : List (List Reply)) (k : ℕ) → GoesTo p i replies k
+    → length (rest_at p i replies k).steps ≡ k
 rest_steps p h i replies zero g = ap (λ (ss : List OwnStep). length ss) (no_steps p i replies)
 rest_steps p h i replies (suc k) g =
     let o = rest_at p i replies k in
     let rest = rest_steps p h i replies k (fewer p i replies k g) in
     let longer : length (rest_at p i replies (suc k)).steps ≡ length o.steps + 1 =
-    ap (λ (ss : List OwnStep). length ss) (one_step_more p h i replies k g) ∙ length-append o.steps (record { gap = o.since; requests = requests_at p i o; replies = replies_to replies k } ∷ []) in
+    ap (λ (ss : List OwnStep). length ss) (one_step_more p h i replies k g)
+    ∙ length-append o.steps (record { gap = o.since; requests = requests_at p i o; replies = replies_to replies k } ∷ []) in
     omega arith
 
 -- ---- the own run
@@ -129,7 +129,8 @@ next_over : (p : Plan) (i : ℕ) (replies : List (List Reply)) (o : Own) → is_
 unfolding own_next
 next_over p i replies o h = cond-true (is_over p.ops o.state) o _ h
 
-own_first : (p : Plan) (i : ℕ) (replies : List (List Reply)) → own p i replies 0 ≡ record { state = opened (module_at p i); steps = []; since = 0 }
+own_first : (p : Plan) (i : ℕ) (replies : List (List Reply))
+    → own p i replies 0 ≡ record { state = opened (module_at p i); steps = []; since = 0 }
 unfolding own
 own_first p i replies = refl
 
@@ -146,29 +147,36 @@ behind p i replies k = own_after (module_at p i) (rest_at p i replies k) (reques
 
 -- one local clock behind a rest that is a step
 own_behind : (p : Plan) → FitsEngine p → (i : ℕ) (replies : List (List Reply)) (k : ℕ) → GoesTo p i replies (suc k)
-    → own p i replies (clock_at p i replies k) ≡ rest_at p i replies k → own p i replies (suc (clock_at p i replies k)) ≡ behind p i replies k
+    → own p i replies (clock_at p i replies k) ≡ rest_at p i replies k
+    → own p i replies (suc (clock_at p i replies k)) ≡ behind p i replies k
 own_behind p h i replies k g here =
     let o = rest_at p i replies k in
-    own_suc p i replies (clock_at p i replies k) ∙ (ap (own_next p i replies) here ∙ (next_alive p i replies o (alive_before p i replies k g)
-    ∙ ap (λ (n : ℕ). own_after (module_at p i) o (requests_at p i o) (replies_to replies n)) (rest_steps p h i replies k (fewer p i replies k g))))
+    own_suc p i replies (clock_at p i replies k)
+    ∙ (ap (own_next p i replies) here ∙ (next_alive p i replies o (alive_before p i replies k g)
+    ∙ ap (λ (n : ℕ). own_after (module_at p i) o (requests_at p i o) (replies_to replies n))
+    (rest_steps p h i replies k (fewer p i replies k g))))
 
 pub rests_are_own : (p : Plan) → FitsEngine p → (i : ℕ) (replies : List (List Reply)) (k : ℕ) → GoesTo p i replies k
     → own p i replies (clock_at p i replies k) ≡ rest_at p i replies k
 unfolding clock_at rest_at
 rests_are_own p h i replies zero g =
-    ap (own p i replies) (omega arith) ∙ own_to_rest p i replies 0 (record { state = opened (module_at p i); steps = []; since = 0 }) (own_first p i replies)
+    ap (own p i replies) (omega arith)
+    ∙ own_to_rest p i replies 0 (record { state = opened (module_at p i); steps = []; since = 0 }) (own_first p i replies)
 rests_are_own p h i replies (suc k) g =
     own_to_rest p i replies (suc (clock_at p i replies k)) (behind p i replies k)
     (own_behind p h i replies k g (rests_are_own p h i replies k (fewer p i replies k g)))
 
 -- ---- marks
 
-marks_append : (before : List Exchange) (ss ts : List OwnStep) → step_marks before (ss ++ ts) ≡ step_marks before ss ++ step_marks (before ++ done_in ss) ts
+marks_append : (before : List Exchange) (ss ts : List OwnStep)
+    → step_marks before (ss ++ ts) ≡ step_marks before ss ++ step_marks (before ++ done_in ss) ts
 marks_append before [] ts = ap (λ (xs : List Exchange). step_marks xs ts) (sym (append-nil before))
 marks_append before (s ∷ ss) ts =
-    ap (λ (ms : List Advance). Step (record { gap = s.gap; accesses = map (access_of before) s.requests; first_query = length (queries before) }) ∷ ms)
+    ap
+    (λ (ms : List Advance). Step (record { gap = s.gap; accesses = map (access_of before) s.requests; first_query = length (queries before) }) ∷ ms)
     (marks_append (before ++ paired s.requests s.replies) ss ts
-    ∙ ap (λ (xs : List Exchange). step_marks (before ++ paired s.requests s.replies) ss ++ step_marks xs ts) (append_assoc before (paired s.requests s.replies) (done_in ss)))
+    ∙ ap (λ (xs : List Exchange). step_marks (before ++ paired s.requests s.replies) ss ++ step_marks xs ts)
+    (append_assoc before (paired s.requests s.replies) (done_in ss)))
 
 no_marks : (p : Plan) (i : ℕ) (replies : List (List Reply)) → [] ≡ marks_before p i replies zero
 unfolding marks_before
@@ -200,10 +208,12 @@ so_many p i replies (suc k) =
 
 -- ---- behind the last rest
 
-own_stays : (p : Plan) (i : ℕ) (replies : List (List Reply)) (n : ℕ) → is_over p.ops (own p i replies n).state ≡ true → (d : ℕ) → own p i replies (d + n) ≡ own p i replies n
+own_stays : (p : Plan) (i : ℕ) (replies : List (List Reply)) (n : ℕ) → is_over p.ops (own p i replies n).state ≡ true → (d : ℕ)
+    → own p i replies (d + n) ≡ own p i replies n
 own_stays p i replies n over zero = ap (own p i replies) (omega arith)
 own_stays p i replies n over (suc d) =
-    ap (own p i replies) (suc-add d n) ∙ (own_suc p i replies (d + n) ∙ (ap (own_next p i replies) (own_stays p i replies n over d) ∙ next_over p i replies (own p i replies n) over))
+    ap (own p i replies) (suc-add d n)
+    ∙ (own_suc p i replies (d + n) ∙ (ap (own_next p i replies) (own_stays p i replies n over d) ∙ next_over p i replies (own p i replies n) over))
 
 record HasGrown (a b : List OwnStep) : Type 0 where
   more : List OwnStep
@@ -221,11 +231,13 @@ next_grows p i replies o = elim (cases_Bool (is_over p.ops o.state)) [
 ]
 
 own_grows : (p : Plan) (i : ℕ) (replies : List (List Reply)) (n d : ℕ) → HasGrown (own p i replies n).steps (own p i replies (d + n)).steps
-own_grows p i replies n zero = record { more = []; is = ap (λ (k : ℕ). (own p i replies k).steps) (zero-add n) ∙ sym (append-nil (own p i replies n).steps) }
+own_grows p i replies n zero =
+    record { more = []; is = ap (λ (k : ℕ). (own p i replies k).steps) (zero-add n) ∙ sym (append-nil (own p i replies n).steps) }
 own_grows p i replies n (suc d) =
     let before = own_grows p i replies n d in
     let last = next_grows p i replies (own p i replies (d + n)) in
-    let same : own p i replies (suc d + n) ≡ own_next p i replies (own p i replies (d + n)) = ap (own p i replies) (suc-add d n) ∙ own_suc p i replies (d + n) in
+    let same : own p i replies (suc d + n) ≡ own_next p i replies (own p i replies (d + n)) =
+    ap (own p i replies) (suc-add d n) ∙ own_suc p i replies (d + n) in
     record {
       more = before.more ++ last.more;
       is = ap (λ (z : Own). z.steps) same ∙ (last.is ∙ (ap (λ (ss : List OwnStep). ss ++ last.more) before.is ∙ append_assoc (own p i replies n).steps before.more last.more));
@@ -252,9 +264,11 @@ marks_to_end p h i replies g over n later =
     let c = clock_at p i replies k in
     let here = rests_are_own p h i replies k g in
     let there : n ≡ (n - c) + c = omega arith in
-    let same : own p i replies n ≡ o = ap (own p i replies) there ∙ (own_stays p i replies c (ap (λ (z : Own). is_over p.ops z.state) here ∙ over) (n - c) ∙ here) in
+    let same : own p i replies n ≡ o =
+    ap (own p i replies) there ∙ (own_stays p i replies c (ap (λ (z : Own). is_over p.ops z.state) here ∙ over) (n - c) ∙ here) in
     let all : step_marks [] o.steps ++ end_mark p.ops o ≡ marks_before p i replies k ++ mark_at p i o ∷ [] =
-    ap (λ (ms : List Advance). step_marks [] o.steps ++ ms) (over_mark p i o over) ∙ ap (λ (ms : List Advance). ms ++ mark_at p i o ∷ []) (marks_are p h i replies k g) in
+    ap (λ (ms : List Advance). step_marks [] o.steps ++ ms) (over_mark p i o over)
+    ∙ ap (λ (ms : List Advance). ms ++ mark_at p i o ∷ []) (marks_are p h i replies k g) in
     let size = so_many p i replies k in
     let longer = length-append (marks_before p i replies k) (mark_at p i o ∷ []) in
     ap (λ (z : Own). take (suc k) (step_marks [] z.steps ++ end_mark p.ops z)) same
@@ -271,7 +285,8 @@ cases_below j k l = elim (cases_order j k) [
   | inr (inr more) ↦ absurd (omega arith)
 ]
 
-goes_farther : (p : Plan) (i : ℕ) (replies : List (List Reply)) (k : ℕ) → GoesTo p i replies k → is_step (mark_at p i (rest_at p i replies k)) ≡ true
+goes_farther : (p : Plan) (i : ℕ) (replies : List (List Reply)) (k : ℕ) → GoesTo p i replies k
+    → is_step (mark_at p i (rest_at p i replies k)) ≡ true
     → GoesTo p i replies (suc k)
 goes_farther p i replies k g last j l = elim (cases_below j k l) [
   | inl less ↦ g j less
@@ -286,7 +301,8 @@ marks_to_step p h i replies g n later =
     let k = length replies in
     let c = clock_at p i replies k in
     let here = own_behind p h i replies k g (rests_are_own p h i replies k (fewer p i replies k g)) in
-    let steps : (own p i replies (suc c)).steps ≡ (rest_at p i replies (suc k)).steps = ap (λ (z : Own). z.steps) here ∙ same_steps p i replies k in
+    let steps : (own p i replies (suc c)).steps ≡ (rest_at p i replies (suc k)).steps =
+    ap (λ (z : Own). z.steps) here ∙ same_steps p i replies k in
     let grown = own_grows p i replies (suc c) (n - suc c) in
     let there : n ≡ (n - suc c) + suc c = omega arith in
     let o = own p i replies n in
@@ -295,7 +311,9 @@ marks_to_step p h i replies g n later =
     let first = marks_before p i replies (suc k) in
     let rest = step_marks (done_in (rest_at p i replies (suc k)).steps) grown.more in
     let parts : step_marks [] o.steps ≡ first ++ rest =
-    ap (step_marks []) all ∙ (marks_append [] (rest_at p i replies (suc k)).steps grown.more ∙ ap (λ (ms : List Advance). ms ++ rest) (marks_are p h i replies (suc k) g)) in
+    ap (step_marks []) all
+    ∙ (marks_append [] (rest_at p i replies (suc k)).steps grown.more ∙ ap (λ (ms : List Advance). ms ++ rest) (marks_are p h i replies (suc k) g))
+    in
     let size = so_many p i replies (suc k) in
     ap (λ (ms : List Advance). take (suc k) (ms ++ end_mark p.ops o)) parts
     ∙ (ap (take (suc k)) (append_assoc first rest (end_mark p.ops o))
@@ -309,24 +327,3 @@ marks_are_own p h i replies g n later =
       | inl over ↦ marks_to_end p h i replies g over n later
       | inr alive ↦ marks_to_step p h i replies (goes_farther p i replies (length replies) g (ap is_step (step_mark p i o alive))) n later
     ]
-
--- ---- gaps
-
-pub short_gap : (p : Plan) (i : ℕ) (o : Own) (r : ModuleRun) → StandsAt p i o r → o.since < 10 ^ 18
-short_gap p i o r s =
-    let l = s.leads in
-    let b = l.path in
-    let z = after_move r.path in
-    let then = skip_goes_on p b.fits i b.owner z r.path.since (record { state = b.state; time = b.time }) (quiet p i z) (quiet_goes p i z) in
-    let bound = then.time.since in
-    let since = l.since in
-    omega arith
-
-after_least : (m : Module) (o : Own) (rs : List Request) (qs : List Reply) → 1 ≤ (own_after m o rs qs).since
-after_least m o [] qs = omega arith
-after_least m o (r ∷ rs) qs = omega arith
-
-pub least_gap : (p : Plan) (i : ℕ) (o : Own) (qs : List Reply) → 1 ≤ (next_rest p i o qs).since
-least_gap p i o qs =
-    let least = after_least (module_at p i) o (requests_at p i o) qs in
-    omega arith

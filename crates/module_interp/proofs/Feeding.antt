@@ -28,6 +28,7 @@ use Rattle.module_interp.specs.declared.run.ModuleRun.{ModuleRun}
 use Rattle.module_interp.specs.OwnRests.{requests_at, next_rest, done_in, accesses_at, fits_kind, all_fit}
 use Rattle.module_interp.specs.Paths.{after_move, CanAsk, IsInTime, LeadsTo, IsTallyOf}
 use Rattle.module_interp.specs.Runs.{is_asked, StandsAt}
+use Rattle.module_interp.proofs.Gaps.{IsOwnInTime, next_in_time, least_gap}
 use Rattle.module_interp.proofs.Counting.{move_up}
 use Rattle.module_interp.proofs.Keeping.{at_stage, sound_at, begun_alive}
 use Rattle.module_interp.proofs.Standing.{IsAtRest, at_rest, some_asked}
@@ -87,9 +88,11 @@ after_since m o (r ∷ rs) qs h = refl
 flat_push : (steps : List OwnStep) (s : OwnStep) → done_in (steps ++ s ∷ []) ≡ done_in steps ++ paired s.requests s.replies
 flat_push [] s = append-nil (paired s.requests s.replies)
 flat_push (t ∷ ts) s =
-    ap (λ (xs : List Exchange). paired t.requests t.replies ++ xs) (flat_push ts s) ∙ sym (append_assoc (paired t.requests t.replies) (done_in ts) (paired s.requests s.replies))
+    ap (λ (xs : List Exchange). paired t.requests t.replies ++ xs) (flat_push ts s)
+    ∙ sym (append_assoc (paired t.requests t.replies) (done_in ts) (paired s.requests s.replies))
 
-pub after_done : (m : Module) (o : Own) (rs : List Request) (qs : List Reply) → 0 < length rs → done_in (own_after m o rs qs).steps ≡ done_in o.steps ++ paired rs qs
+pub after_done : (m : Module) (o : Own) (rs : List Request) (qs : List Reply) → 0 < length rs
+    → done_in (own_after m o rs qs).steps ≡ done_in o.steps ++ paired rs qs
 after_done m o [] qs h = absurd (omega arith)
 after_done m o (r ∷ rs) qs h = flat_push o.steps (record { gap = o.since; requests = r ∷ rs; replies = qs })
 
@@ -105,7 +108,8 @@ fed_leads p i o x qs l asked =
     let count = (move_up m x.state qs).1 in
     let alive_few = w.few in
     let same : move x.of x.state qs ≡ move m x.state qs = ap (λ (n : Module). move n x.state qs) b.of in
-    let some : 0 < length (requests_at p i o) = subst (λ (rs : List Request). 0 < length rs) (w.asked ∙ ap (λ (s : ModuleState). requests_of p (i, s)) (sym w.rest.state)) w.can.some in
+    let some : 0 < length (requests_at p i o) =
+    subst (λ (rs : List Request). 0 < length rs) (w.asked ∙ ap (λ (s : ModuleState). requests_of p (i, s)) (sym w.rest.state)) w.can.some in
     let base : (own_after m o (requests_at p i o) qs).state ≡ move x.of x.state qs =
     after_state m o (requests_at p i o) qs some ∙ (ap (λ (s : ModuleState). move m s qs) w.rest.state ∙ sym same) in
     record {
@@ -137,7 +141,7 @@ fewer_map {X} {Y} f (x ∷ xs) = by_option (f x) refl (fewer_map f xs)
     by_option None e rest = rw e (omega arith)
     by_option (Some y) e rest = rw e (omega arith)
 
-fewer_requests : (channels : List Channel) (m : Module) (s : ModuleState) → length (requests channels m s) ≤ length (due m s)
+pub fewer_requests : (channels : List Channel) (m : Module) (s : ModuleState) → length (requests channels m s) ≤ length (due m s)
 unfolding requests
 fewer_requests channels m s = fewer_map (request_for channels m s) (due m s)
 
@@ -155,12 +159,28 @@ fed_few p i o qs some few =
     let rs = requests_at p i o in
     let z = (own_after m o rs qs).state in
     let total : length (done_in (next_rest p i o qs).steps) ≡ length (done_in o.steps) + length rs =
-    ap (λ (xs : List Exchange). length xs) (after_done m o rs qs some) ∙ (length-append (done_in o.steps) (paired rs qs) ∙ ap (λ (n : ℕ). length (done_in o.steps) + n) (length-paired rs qs)) in
+    ap (λ (xs : List Exchange). length xs) (after_done m o rs qs some)
+    ∙ (length-append (done_in o.steps) (paired rs qs) ∙ ap (λ (n : ℕ). length (done_in o.steps) + n) (length-paired rs qs)) in
     let count : z.count ≡ (move m o.state qs).count = ap (λ (s : ModuleState). s.count) (after_state m o rs qs some) in
     let up = (move_up m o.state qs).0 in
     let less = fewer_requests p.design.channels m o.state in
     let later = skip_up p i (quiet p i z) z in
     omega arith
+
+fed_in_time : (p : Plan) (i : ℕ) (o : Own) (r : ModuleRun) (qs : List Reply) → StandsAt p i o r → r.path.stage ≡ Asked
+    → 0 < length (requests_at p i o) → IsOwnInTime p i (next_rest p i o qs)
+fed_in_time p i o r qs s asked some =
+    let b = s.leads.path in
+    let m = module_at p i in
+    let w = waits_at p i o r.path s.leads asked in
+    let state : IsStateOf m o.state = subst (IsStateOf m) (sym w.rest.state) w.state in
+    let alive : o.state.ended ≡ false = ap (λ (z : ModuleState). z.ended) w.rest.state ∙ w.alive in
+    let count : o.state.count ≡ r.path.state.count = ap (λ (z : ModuleState). z.count) w.rest.state in
+    let few = w.few in
+    let later : IsStateOf m (own_after m o (requests_at p i o) qs).state =
+    subst (IsStateOf m) (sym (after_state m o (requests_at p i o) qs some))
+    (move_state (length p.design.channels) m (module_sound p b.fits i b.owner) o.state qs state alive) in
+    next_in_time p b.fits i b.owner o qs some state alive (omega arith) later s.in_time
 
 pub fed_stands : (p : Plan) (i : ℕ) (o : Own) (r : ModuleRun) (qs : List Reply) (t : Tally) → StandsAt p i o r → r.path.stage ≡ Asked
     → IsTallyOf (length p.design.channels) (done_in o.steps ++ paired r.path.asked qs) t
@@ -176,6 +196,8 @@ fed_stands p i o r qs t s asked tally =
           (ap (λ (rs : List Request). done_in o.steps ++ paired rs qs) same ∙ sym (after_done m o (requests_at p i o) qs some)) tally;
       few = fed_few p i o qs some s.few;
       accesses = λ e. cc;
+      in_time = fed_in_time p i o r qs s asked some;
+      behind = λ e. least_gap p i o qs;
     }
 
 -- what is needed to count a step
@@ -185,7 +207,8 @@ pub record CanCount (p : Plan) (o : Own) (x : Path) (qs : List Reply) : Type 0 w
   pub one_each : length qs ≡ length x.asked
   pub room : length x.replies ≡ length qs
 
-pub can_count : (p : Plan) (i : ℕ) (o : Own) (r : ModuleRun) (qs : List Reply) → StandsAt p i o r → r.path.stage ≡ Asked → all_fit (accesses_at p i o) qs ≡ true
+pub can_count : (p : Plan) (i : ℕ) (o : Own) (r : ModuleRun) (qs : List Reply) → StandsAt p i o r → r.path.stage ≡ Asked
+    → all_fit (accesses_at p i o) qs ≡ true
     → CanCount p o r.path qs
 can_count p i o r qs s asked fit =
     let w = waits_at p i o r.path s.leads asked in
@@ -193,10 +216,12 @@ can_count p i o r qs s asked fit =
     let m = module_at p i in
     let same : r.path.asked ≡ requests_at p i o = w.asked ∙ ap (λ (s : ModuleState). requests_of p (i, s)) (sym w.rest.state) in
     let count : o.state.count ≡ r.path.state.count = ap (λ (z : ModuleState). z.count) w.rest.state in
-    let due_few = few_due (length p.design.channels) m r.path.state (module_sound p b.fits i b.owner) (record { state = w.state; running = w.alive }) in
+    let due_few =
+    few_due (length p.design.channels) m r.path.state (module_sound p b.fits i b.owner) (record { state = w.state; running = w.alive }) in
     let less = fewer_requests p.design.channels m r.path.state in
     let size : length r.path.asked ≡ length (requests_of p (i, r.path.state)) = ap (λ (rs : List Request). length rs) w.asked in
-    let each : length qs ≡ length r.path.asked = fit_length (accesses_at p i o) qs fit ∙ (length-map (requests_at p i o) _ ∙ ap (λ (rs : List Request). length rs) (sym same)) in
+    let each : length qs ≡ length r.path.asked =
+    fit_length (accesses_at p i o) qs fit ∙ (length-map (requests_at p i o) _ ∙ ap (λ (rs : List Request). length rs) (sym same)) in
     let few = s.few in
     let ops = b.fits.operations in
     let alive_few = w.few in

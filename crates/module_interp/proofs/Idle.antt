@@ -71,7 +71,8 @@ no_test : (l : Bool) (clock newest ii : ℕ) → newest ≤ clock → (l ≡ tru
 no_test true clock newest ii h none = ne_eqb (clock - newest) ii (λ e. none refl (omega arith))
 no_test false clock newest ii h none = refl
 
-no_end : (l : Bool) (clock newest len : ℕ) → newest ≤ clock → (l ≡ false → newest + len ≤ clock → ⊥) → (not l && nat_le len (clock - newest)) ≡ false
+no_end : (l : Bool) (clock newest len : ℕ) → newest ≤ clock → (l ≡ false → newest + len ≤ clock → ⊥)
+    → (not l && nat_le len (clock - newest)) ≡ false
 no_end true clock newest len h none = refl
 no_end false clock newest len h none = elim (cases_lt (clock - newest) len) [
   | inl less ↦ lt-leb len (clock - newest) less
@@ -81,7 +82,8 @@ no_end false clock newest len h none = elim (cases_lt (clock - newest) len) [
 stays_decided : (b : Block) (s : ModuleState) → s.control.newest ≤ s.control.clock → ¬ IsDecided b s.control → decided b s ≡ s
 unfolding decided
 stays_decided b s h none =
-    let test = no_test s.control.looping s.control.clock s.control.newest (interval b) h (λ l e. none (record { goes_on = l; is_old = e })) in
+    let test =
+    no_test s.control.looping s.control.clock s.control.newest (interval b) h (λ l e. none (record { goes_on = l; is_old = e })) in
     rw test refl
 
 stays_finished : (m : Module) (b : Block) (s : ModuleState) → s.control.newest ≤ s.control.clock → ¬ IsOver b s.control → finished m b s ≡ s
@@ -97,12 +99,15 @@ stays m s h none =
 
 -- ---- several clocks
 
-fewer_live : (b : Block) (k : Control) (c d : ℕ) → 1 ≤ interval b → k.newest ≤ c → c ≤ d → live_count b (at_clock k d) ≤ live_count b (at_clock k c)
+fewer_live : (b : Block) (k : Control) (c d : ℕ) → 1 ≤ interval b → k.newest ≤ c → c ≤ d
+    → live_count b (at_clock k d) ≤ live_count b (at_clock k c)
 fewer_live b k c d some begun later = elim (cases_lt (live_count b (at_clock k c)) (live_count b (at_clock k d))) [
   | inl less ↦
-      let live : IsLive b (at_clock k d) (live_count b (at_clock k c)) = (live_iff b (at_clock k d) (live_count b (at_clock k c)) (omega arith)).0 less in
+      let live : IsLive b (at_clock k d) (live_count b (at_clock k c)) =
+      (live_iff b (at_clock k d) (live_count b (at_clock k c)) (omega arith)).0 less in
       let young : (d - k.newest) + live_count b (at_clock k c) * interval b < b.len = live.is_young in
-      let still : IsLive b (at_clock k c) (live_count b (at_clock k c)) = record { has_started = live.has_started; is_young = omega arith } in
+      let still : IsLive b (at_clock k c) (live_count b (at_clock k c)) =
+      record { has_started = live.has_started; is_young = omega arith } in
       let no = (live_iff b (at_clock k c) (live_count b (at_clock k c)) (omega arith)).1 still in
       absurd (omega arith)
   | inr most ↦ most
@@ -122,7 +127,8 @@ ticks_on : (m : Module) (s : ModuleState) (c d : ℕ) → 1 ≤ interval (block_
 ticks_on m s c d some begun temps from later =
     let b = block_of m s in
     let most : live_count b (at_clock s.control c) ≤ live_count b s.control = fewer_live b s.control s.control.clock c some begun from in
-    let less : live_count b (at_clock s.control d) ≤ live_count b (at_clock s.control c) = fewer_live b s.control c d some (omega arith) later in
+    let less : live_count b (at_clock s.control d) ≤ live_count b (at_clock s.control c) =
+    fewer_live b s.control c d some (omega arith) later in
     ap (λ (t : List (List ℕ)). record s { control = at_clock s.control d; temps = t })
     (dropped s.temps (live_count b (at_clock s.control c)) (live_count b (at_clock s.control d)) less (omega arith))
 
@@ -143,7 +149,8 @@ pub shorter : (m : Module) (s : ModuleState) (n k : ℕ) → k ≤ n → IsIdle 
 shorter m s n k l h = record { some = h.some; begun = h.begun; temps = h.temps; none = λ c from below. h.none c from (omega arith) }
 
 -- one idle clock more
-one_on : (p : Plan) (i : ℕ) (s : ModuleState) (n : ℕ) → IsIdle (module_at p i) s (suc n) → skip p i n s ≡ ticked_to (module_at p i) (s.control.clock + n) s
+one_on : (p : Plan) (i : ℕ) (s : ModuleState) (n : ℕ) → IsIdle (module_at p i) s (suc n)
+    → skip p i n s ≡ ticked_to (module_at p i) (s.control.clock + n) s
     → skip p i (suc n) s ≡ gone_on (module_at p i) (ticked_to (module_at p i) (s.control.clock + suc n) s)
 one_on p i s n h is =
     let m = module_at p i in
@@ -163,7 +170,9 @@ skip_ticks p i s zero h =
     sym (ap (λ (c : ℕ). ticked_to m c s) (add-zero s.control.clock) ∙ ticks_none m s h.temps)
 skip_ticks p i s (suc n) h =
     let m = module_at p i in
-    let before = one_on p i s n (shorter m s (suc (suc n)) (suc n) (omega arith) h) (skip_ticks p i s n (shorter m s (suc (suc n)) (suc n) (omega arith) h)) in
+    let before =
+    one_on p i s n (shorter m s (suc (suc n)) (suc n) (omega arith) h)
+    (skip_ticks p i s n (shorter m s (suc (suc n)) (suc n) (omega arith) h)) in
     let begun = h.begun in
     before ∙ stays m (ticked_to m (s.control.clock + suc n) s) (omega arith) (h.none (s.control.clock + suc n) (omega arith) (omega arith))
 

@@ -1,12 +1,13 @@
 -- What leads to a rest still leads there.
 use Rattle.std.proofs.Common.{◌≡◌, ℕ, zero, suc, ◌+◌, ◌-◌, ◌*◌, ◌^◌, ◌<◌, ◌≤◌, ◌⊎◌, inl, inr, true, false, cond, [], length, refl, sym, ap, subst, arith, ◌∙◌, add-zero}
-use Rattle.std.proofs.lemmas.Bool.{or_from, or_parts, leb-false, cond-true, cond-false, cases_Bool, both_ways}
+use Rattle.std.proofs.lemmas.Bool.{or_from, cond-true, cond-false, cases_Bool, both_ways}
 use Rattle.flow_design.specs.declared.design.Module.{Module}
 use Rattle.flow_design.specs.declared.plan.Plan.{Plan}
 use Rattle.flow_design.specs.declared.state.ModuleState.{ModuleState}
 use Rattle.flow_design.specs.Module.{block_of, due}
 use Rattle.flow_design.specs.StaticRules.{FitsEngine}
-use Rattle.lockstep_defs.specs.Machine.{is_over, is_spent}
+use Rattle.lockstep_defs.proofs.Agrees.{not_ended, below_limit}
+use Rattle.lockstep_defs.specs.Machine.{is_over}
 use Rattle.lockstep_defs.specs.Lockstep.{module_at, requests_of}
 use Rattle.lockstep_defs.specs.OwnRun.{Own}
 use Rattle.lockstep_defs.specs.Quiet.{quiet, skip, rests, is_some_request, clocks_left}
@@ -34,7 +35,8 @@ fixed x = record { channels = refl; of = refl; limit = refl; schedules = refl }
 few : (n ops due : ℕ) → n < ops → ops ≤ 200000 → due ≤ 65536 → n + due + 2 < 2 ^ 32
 few n ops due h k l = omega arith
 
-skip_few : (p : Plan) → FitsEngine p → (i : ℕ) → i < length p.design.modules → (s : ModuleState) (elapsed : ℕ) → GoesOn p i s elapsed → s.count < 2 ^ 32
+skip_few : (p : Plan) → FitsEngine p → (i : ℕ) → i < length p.design.modules → (s : ModuleState) (elapsed : ℕ) → GoesOn p i s elapsed
+    → s.count < 2 ^ 32
     → (n : ℕ) → ((j : ℕ) → j < n → rests p i (skip p i j s) ≡ false) → (skip p i n s).count < 2 ^ 32
 skip_few p h i inside s elapsed g small zero goes = small
 skip_few p h i inside s elapsed g small (suc n) goes =
@@ -82,7 +84,8 @@ leads_on p i o x y n l f goes moved later stage =
     }
 
 -- nothing but the way to the same state
-pub leads_still : (p : Plan) (i : ℕ) (o : Own) (x y : Path) → LeadsTo p i o x → IsFixed x y → after_move y ≡ after_move x → y.since ≡ x.since
+pub leads_still : (p : Plan) (i : ℕ) (o : Own) (x y : Path) → LeadsTo p i o x → IsFixed x y → after_move y ≡ after_move x
+    → y.since ≡ x.since
     → IsStageSoundBy y.stage y → LeadsTo p i o y
 leads_still p i o x y l f same since stage =
     leads_on p i o x y 0 l f (λ j less. absurd (omega arith)) same (since ∙ sym (add-zero x.since)) stage
@@ -108,7 +111,8 @@ end_by limit m s = cond s.ended 0 ((limit - s.count) * block_bound + clocks_left
 
 pub same_end : (x y : Path) → y.of ≡ x.of → y.limit ≡ x.limit → after_move y ≡ after_move x → clocks_to_end y ≡ clocks_to_end x
 same_end x y of limit same =
-    ap (λ (s : ModuleState). end_by y.limit y.of s) same ∙ (ap (λ (n : ℕ). end_by n y.of (after_move x)) limit ∙ ap (λ (m : Module). end_by x.limit m (after_move x)) of)
+    ap (λ (s : ModuleState). end_by y.limit y.of s) same
+    ∙ (ap (λ (n : ℕ). end_by n y.of (after_move x)) limit ∙ ap (λ (m : Module). end_by x.limit m (after_move x)) of)
 
 pub skip_falls : (p : Plan) → FitsEngine p → (i : ℕ) → i < length p.design.modules → (s : ModuleState) (elapsed : ℕ) → GoesOn p i s elapsed
     → (n : ℕ) → ((j : ℕ) → j < suc n → rests p i (skip p i j s) ≡ false)
@@ -123,7 +127,8 @@ skip_falls p h i inside s elapsed g n goes = by_number n goes
         let before = skip_goes_on p h i inside s elapsed g n (λ j l. goes j (omega arith)) in
         let after = skip_goes_on p h i inside s elapsed g (suc n) goes in
         let alive = lives p i t (goes n (omega arith)) in
-        falls p m t (skip p i (suc n) s) alive.1 (left_bound (length p.design.channels) m (skip p i (suc n) s) (module_sound p h i inside) after.state)
+        falls p m t (skip p i (suc n) s) alive.1
+        (left_bound (length p.design.channels) m (skip p i (suc n) s) (module_sound p h i inside) after.state)
         (move_falls m t [] before.state.control.goes)
 
     by_number : (n : ℕ) → ((j : ℕ) → j < suc n → rests p i (skip p i j s) ≡ false)
@@ -138,9 +143,11 @@ skip_falls p h i inside s elapsed g n goes = by_number n goes
           | inr less ↦ elim last [ inl over ↦ inl over | inr more ↦ inr (omega arith) ]
         ]
 
-to_end_of : (x : Path) (p : Plan) (m : Module) → x.of ≡ m → x.limit ≡ p.ops → (after_move x).ended ≡ false → clocks_to_end x ≡ clocks_to_go p m (after_move x) + 1
+to_end_of : (x : Path) (p : Plan) (m : Module) → x.of ≡ m → x.limit ≡ p.ops → (after_move x).ended ≡ false
+    → clocks_to_end x ≡ clocks_to_go p m (after_move x) + 1
 to_end_of x p m of limit alive =
-    ap (λ (m : Module). end_by x.limit m (after_move x)) of ∙ (ap (λ (n : ℕ). end_by n m (after_move x)) limit ∙ cond-false (after_move x).ended 0 _ alive)
+    ap (λ (m : Module). end_by x.limit m (after_move x)) of
+    ∙ (ap (λ (n : ℕ). end_by n m (after_move x)) limit ∙ cond-false (after_move x).ended 0 _ alive)
 
 pub end_nearer : (p : Plan) (i : ℕ) (x y : Path) (n : ℕ) → IsPathOf p i x → IsFixed x y
     → ((j : ℕ) → j < suc n → rests p i (skip p i j (after_move x)) ≡ false) → after_move y ≡ skip p i (suc n) (after_move x)
@@ -155,7 +162,8 @@ end_nearer p i x y n b f goes moved =
           omega arith
       | inr on ↦
           let after = to_end_of y p (module_at p i) (f.of ∙ b.of) (f.limit ∙ b.limit) on in
-          let same : clocks_to_go p (module_at p i) (after_move y) ≡ clocks_to_go p (module_at p i) (skip p i (suc n) s) = ap (clocks_to_go p (module_at p i)) moved in
+          let same : clocks_to_go p (module_at p i) (after_move y) ≡ clocks_to_go p (module_at p i) (skip p i (suc n) s) =
+          ap (clocks_to_go p (module_at p i)) moved in
           elim (skip_falls p b.fits i b.owner s x.since (record { state = b.state; time = b.time }) n goes) [
             | inl over ↦ absurd (both_ways (after_move y).ended on (ap (λ (z : ModuleState). z.ended) moved ∙ over))
             | inr less ↦ omega arith
@@ -168,7 +176,4 @@ asks_nothing p i s alive none = or_from (is_over p.ops s) _ alive (ap is_some_re
 
 -- what is alive at a path that has begun
 pub begun_alive : (limit : ℕ) (s : ModuleState) → is_over limit s ≡ false → (s.ended ≡ false) × (s.count < limit)
-unfolding is_over
-begun_alive limit s h =
-    let parts = or_parts s.ended (is_spent limit s) h in
-    (parts.0, leb-false limit s.count (rw parts.0 at parts.1))
+begun_alive limit s h = (not_ended limit s h, below_limit limit s h)

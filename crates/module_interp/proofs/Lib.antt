@@ -1,5 +1,7 @@
 pub mod Advancing
 pub mod Chains
+pub mod Gaps
+pub mod Sound
 pub mod Counting
 pub mod Feeding
 pub mod Idle

@@ -7,7 +7,7 @@ use Rattle.flow_design.specs.declared.design.Module.{Module}
 use Rattle.flow_design.specs.declared.plan.Plan.{Plan}
 use Rattle.flow_design.specs.declared.state.ModuleState.{ModuleState}
 use Rattle.flow_design.specs.Module.{block_at}
-use Rattle.flow_design.specs.StaticRules.{IsBlockSound, FitsEngine}
+use Rattle.flow_design.specs.StaticRules.{FitsEngine}
 use Rattle.lockstep_defs.specs.Machine.{opened}
 use Rattle.lockstep_defs.specs.Lockstep.{no_module, module_at}
 use Rattle.lockstep_defs.specs.Quiet.{quiet, skip}
@@ -15,7 +15,8 @@ use Rattle.lockstep_defs.specs.States.{IsStateOf}
 use Rattle.lockstep_defs.proofs.States.{opened_state}
 use Rattle.module_move.proofs.Begins.{opened_clock, opened_count}
 use Rattle.block_schedule.specs.declared.schedule.Schedule.{Schedule}
-use Rattle.block_schedule.specs.Schedules.{IsScheduleOf}
+use Rattle.block_schedule.specs.Schedules.{KeepsLimits, IsScheduleOf}
+use Rattle.block_schedule.proofs.Limits.{blocks_keep_limits}
 use Rattle.module_interp.specs.declared.path.Stage.{Stage}
 use Rattle.module_interp.specs.declared.path.Stage.TheVariants.{Begun}
 use Rattle.module_interp.specs.declared.path.Path.{Path}
@@ -24,7 +25,8 @@ use Rattle.module_interp.specs.Paths.{after_move, IsStageSoundBy, LeadsTo}
 use Rattle.module_interp.proofs.Keeping.{at_stage}
 use Rattle.module_interp.proofs.Timing.{module_sound, opened_in_time}
 
-pub opened_leads : (p : Plan) → FitsEngine p → (i : ℕ) → i < length p.design.modules → (x : Path) → x.channels ≡ p.design.channels → x.of ≡ module_at p i
+pub opened_leads : (p : Plan) → FitsEngine p → (i : ℕ) → i < length p.design.modules → (x : Path) → x.channels ≡ p.design.channels
+    → x.of ≡ module_at p i
     → x.limit ≡ p.ops → length x.schedules ≡ length x.of.blocks
     → ((n : ℕ) (d : Schedule) → n < length x.of.blocks → IsScheduleOf (block_at x.of n) (slice_index_or x.schedules n d))
     → x.state ≡ opened x.of → x.stage ≡ Begun → x.since ≡ 0 → LeadsTo p i (first_rest p i) x
@@ -53,12 +55,14 @@ opened_leads p h i inside x channels of limit count schedules state begun since 
     }
 
 -- the copied module
-pub module_is : (p : Plan) (i : ℕ) (xs : List Module) (item copy : Module) → i < length p.design.modules → xs ≡ p.design.modules → item ≡ get_or xs i item → copy ≡ item
+pub module_is : (p : Plan) (i : ℕ) (xs : List Module) (item copy : Module) → i < length p.design.modules → xs ≡ p.design.modules
+    → item ≡ get_or xs i item → copy ≡ item
     → copy ≡ module_at p i
 module_is p i xs item copy inside same read copied =
     copied ∙ (read ∙ (ap (λ (ys : List Module). get_or ys i item) same ∙ get_or_default p.design.modules i item no_module inside))
 
-pub blocks_sound : (p : Plan) → FitsEngine p → (i : ℕ) → i < length p.design.modules → (m : Module) (bs : List Block) → m ≡ module_at p i → bs ≡ m.blocks
-    → All (IsBlockSound (length p.design.channels) (module_at p i)) bs
-blocks_sound p h i inside m bs is same =
-    subst (All (IsBlockSound (length p.design.channels) (module_at p i))) (sym (same ∙ ap (λ (n : Module). n.blocks) is)) (module_sound p h i inside).blocks
+pub blocks_keep : (p : Plan) → FitsEngine p → (i : ℕ) → i < length p.design.modules → (m : Module) (bs : List Block) → m ≡ module_at p i
+    → bs ≡ m.blocks → All KeepsLimits bs
+blocks_keep p h i inside m bs is same =
+    subst (All KeepsLimits) (sym (same ∙ ap (λ (n : Module). n.blocks) is))
+    (blocks_keep_limits (length p.design.channels) (module_at p i) (module_sound p h i inside))

@@ -7,14 +7,11 @@ use Rattle.flow_design.specs.StaticRules.{FitsEngine}
 use Rattle.lockstep_defs.specs.Machine.{move}
 use Rattle.lockstep_defs.specs.Lockstep.{module_at}
 use Rattle.lockstep_defs.specs.Quiet.{rests, skip, quiet, fits}
-use Rattle.lockstep_defs.proofs.Resting.{quiet_goes, quiet_rests, fits_move}
-
-pub skip_front : (p : Plan) (i n : ℕ) (s : ModuleState) → skip p i (suc n) s ≡ skip p i n (move (module_at p i) s [])
-skip_front p i zero s = refl
-skip_front p i (suc n) s = ap (λ (z : ModuleState). move (module_at p i) z []) (skip_front p i n s)
+use Rattle.lockstep_defs.proofs.Resting.{skip_front, quiet_goes, quiet_rests, fits_move}
 
 -- only one number of clocks leads to the first rest
-one_first : (p : Plan) (i a b : ℕ) (s : ModuleState) → ((j : ℕ) → j < a → rests p i (skip p i j s) ≡ false) → rests p i (skip p i a s) ≡ true
+one_first : (p : Plan) (i a b : ℕ) (s : ModuleState) → ((j : ℕ) → j < a → rests p i (skip p i j s) ≡ false)
+    → rests p i (skip p i a s) ≡ true
     → ((j : ℕ) → j < b → rests p i (skip p i j s) ≡ false) → rests p i (skip p i b s) ≡ true → a ≡ b
 one_first p i a b s goes rest goes_too rest_too = elim (cases_order a b) [
   | inl same ↦ same

@@ -28,7 +28,8 @@ pub record IsAtRest (p : Plan) (i : ℕ) (o : Own) (x : Path) : Type 0 where
   pub state : o.state ≡ x.state
   pub since : o.since ≡ x.since
 
-pub at_rest : (p : Plan) (i : ℕ) (o : Own) (x : Path) → LeadsTo p i o x → after_move x ≡ x.state → rests p i x.state ≡ true → IsAtRest p i o x
+pub at_rest : (p : Plan) (i : ℕ) (o : Own) (x : Path) → LeadsTo p i o x → after_move x ≡ x.state → rests p i x.state ≡ true
+    → IsAtRest p i o x
 at_rest p i o x l here rest =
     let b = l.path in
     let state : IsStateOf (module_at p i) x.state = subst (IsStateOf (module_at p i)) here b.state in
@@ -57,9 +58,6 @@ end_rest p i o x l h =
 
 -- ---- marks
 
-over_if_ended : (limit : ℕ) (s : ModuleState) → is_over limit s ≡ false → s.ended ≡ false
-over_if_ended limit s h = (begun_alive limit s h).0
-
 pub ended_mark : (p : Plan) (i : ℕ) (o : Own) (x : Path) → IsAtRest p i o x → x.state.ended ≡ true → Ended x.since ≡ mark_at p i o
 ended_mark p i o x h over =
     let ended : o.state.ended ≡ true = ap (λ (s : ModuleState). s.ended) h.state ∙ over in
@@ -72,17 +70,20 @@ spent_is limit s over alive = elim (or_cases s.ended (is_spent limit s) over) [
   | inr spent ↦ spent
 ]
 
-pub spent_mark : (p : Plan) (i : ℕ) (o : Own) (x : Path) → LeadsTo p i o x → IsAtRest p i o x → x.state.ended ≡ false → is_over x.limit x.state ≡ true → Spent x.since ≡ mark_at p i o
+pub spent_mark : (p : Plan) (i : ℕ) (o : Own) (x : Path) → LeadsTo p i o x → IsAtRest p i o x → x.state.ended ≡ false
+    → is_over x.limit x.state ≡ true → Spent x.since ≡ mark_at p i o
 spent_mark p i o x l h alive over =
     let ended : o.state.ended ≡ false = ap (λ (s : ModuleState). s.ended) h.state ∙ alive in
     let spent : is_spent p.ops o.state ≡ true = ap (is_spent p.ops) h.state ∙ spent_is p.ops x.state (rw (← l.path.limit) over) alive in
-    ap Spent (sym h.since) ∙ (sym (cond-true (is_spent p.ops o.state) (Spent o.since) _ spent) ∙ sym (cond-false o.state.ended (Ended o.since) _ ended))
+    ap Spent (sym h.since)
+    ∙ (sym (cond-true (is_spent p.ops o.state) (Spent o.since) _ spent) ∙ sym (cond-false o.state.ended (Ended o.since) _ ended))
 
 not_spent : (limit : ℕ) (s : ModuleState) → is_over limit s ≡ false → is_spent limit s ≡ false
 unfolding is_over
 not_spent limit s h = (or_parts s.ended (is_spent limit s) h).1
 
-pub step_mark : (p : Plan) (i : ℕ) (o : Own) (x : Path) (accesses : List Access) (queries_so_far : ℕ) → LeadsTo p i o x → IsAtRest p i o x → is_over x.limit x.state ≡ false
+pub step_mark : (p : Plan) (i : ℕ) (o : Own) (x : Path) (accesses : List Access) (queries_so_far : ℕ) → LeadsTo p i o x → IsAtRest p i o x
+    → is_over x.limit x.state ≡ false
     → accesses ≡ accesses_at p i o → queries_so_far ≡ length (queries (done_in o.steps))
     → Step (record { gap = x.since; accesses = accesses; first_query = queries_so_far }) ≡ mark_at p i o
 step_mark p i o x accesses n l h alive same asks =
@@ -90,22 +91,26 @@ step_mark p i o x accesses n l h alive same asks =
     let ended : o.state.ended ≡ false = ap (λ (s : ModuleState). s.ended) h.state ∙ life.0 in
     let spent : is_spent p.ops o.state ≡ false = ap (is_spent p.ops) h.state ∙ not_spent p.ops x.state (rw (← l.path.limit) alive) in
     let made : ℕ → List Access → ℕ → Advance = λ g xs k. Step (record { gap = g; accesses = xs; first_query = k }) in
-    ap (λ (g : ℕ). made g accesses n) (sym h.since) ∙ (ap (λ (xs : List Access). made o.since xs n) same ∙ (ap (made o.since (accesses_at p i o)) asks
+    ap (λ (g : ℕ). made g accesses n) (sym h.since)
+    ∙ (ap (λ (xs : List Access). made o.since xs n) same ∙ (ap (made o.since (accesses_at p i o)) asks
     ∙ (sym (cond-false (is_spent p.ops o.state) (Spent o.since) _ spent) ∙ sym (cond-false o.state.ended (Ended o.since) _ ended))))
 
 -- ---- a step that was given
 
-pub accesses_are : (p : Plan) (i : ℕ) (o : Own) (x : Path) (accesses : List Access) → LeadsTo p i o x → IsAtRest p i o x → x.asked ≡ requests x.channels x.of x.state
+pub accesses_are : (p : Plan) (i : ℕ) (o : Own) (x : Path) (accesses : List Access) → LeadsTo p i o x → IsAtRest p i o x
+    → x.asked ≡ requests x.channels x.of x.state
     → accesses ≡ map (access_of (done_in o.steps)) x.asked → accesses ≡ accesses_at p i o
 accesses_are p i o x accesses l h asked are =
     let b = l.path in
     let same : x.asked ≡ requests_of p (i, o.state) = rw (h.state, ← b.channels, ← b.of) asked in
     are ∙ ap (map (access_of (done_in o.steps))) same
 
-pub asked_leads : (p : Plan) (i : ℕ) (o : Own) (x : Path) (replies : List Reply) → LeadsTo p i o x → IsAtStep x → length replies ≡ length x.asked
+pub asked_leads : (p : Plan) (i : ℕ) (o : Own) (x : Path) (replies : List Reply) → LeadsTo p i o x → IsAtStep x
+    → length replies ≡ length x.asked
     → LeadsTo p i o (record x { replies = replies; stage = Asked })
 asked_leads p i o x replies l h count =
     let began = has_begun x (record { plan = p; number = i; is = l.path }) h.begun h.alive in
-    leads_still p i o x (record x { replies = replies; stage = Asked }) l (record { channels = refl; of = refl; limit = refl; schedules = refl })
+    leads_still p i o x (record x { replies = replies; stage = Asked }) l
+    (record { channels = refl; of = refl; limit = refl; schedules = refl })
     (sym (at_stage x Begun h.begun)) refl
     (record { answer = record { state = began.sound; pending = h.pending; clock = began.clock; count = began.count }; alive = h.alive; some = h.some; asked = h.asked; replies = count })

@@ -5,13 +5,15 @@ use Rattle.std.specs.Int.{from_bool}
 use Rattle.std.proofs.lemmas.Bool.{cond_both, eq-eqb, ne_eqb, cases_eq}
 use Rattle.std.proofs.lemmas.List.{length-set, get_or-set_same, get_or-set_other, flat_map_more, length-replicate, get_or-replicate}
 use Rattle.std.proofs.lemmas.List.Elements.{filter-append}
+use Rattle.flow_word.specs.Kinds.{is_blocking}
+use Rattle.flow_word.specs.declared.access.Side.{Side}
+use Rattle.flow_word.specs.declared.access.Side.TheVariants.{Pop, Push}
 use Rattle.flow_word.specs.declared.access.Kind.{Kind}
 use Rattle.flow_word.specs.declared.access.Kind.TheVariants.{Read, Write, TryRead, TryWrite, Empty, Full}
 use Rattle.flow_design.specs.declared.state.Request.{Request}
 use Rattle.flow_design.specs.declared.state.Reply.{Reply}
-use Rattle.flow_design.specs.declared.state.Reply.TheVariants.{Done, Value, Flag, Took, Missed}
-use Rattle.lockstep_defs.specs.Machine.{is_yes}
-use Rattle.lockstep_defs.specs.Channels.{Exchange, is_blocking, popped_value, pushed_value, moved_value, moved_by}
+use Rattle.lockstep_defs.specs.Machine.{is_yes, value_in}
+use Rattle.lockstep_defs.specs.Channels.{Exchange, popped_value, pushed_value, moved_value, moved_by}
 use Rattle.lockstep_defs.specs.Report.{queries}
 use Rattle.lockstep_defs.specs.OwnRun.{paired}
 use Rattle.module_interp.specs.declared.tally.Tally.{Tally}
@@ -19,14 +21,16 @@ use Rattle.module_interp.specs.Paths.{IsTallyOf}
 
 -- ---- one operation more
 
-moved_push : (side : Bool) (f : ℕ) (before : List Exchange) (x : Exchange)
-    → length (moved_by side f (before ++ x ∷ [])) ≡ length (moved_by side f before) + length (cond (x.request.channel == f) (moved_value side x) [])
+moved_push : (side : Side) (f : ℕ) (before : List Exchange) (x : Exchange)
+    → length (moved_by side f (before ++ x ∷ []))
+    ≡ length (moved_by side f before) + length (cond (x.request.channel == f) (moved_value side x) [])
 unfolding moved_by
 moved_push side f before x =
     let g = λ (y : Exchange). cond (y.request.channel == f) (moved_value side y) [] in
     ap length (sym (flat_map_more g [] before x)) ∙ length-append (flat_map g before) (g x)
 
-counts_more : (side : Bool) (n : ℕ) (before : List Exchange) (x : Exchange) (counts now : List ℕ) → length counts ≡ n → x.request.channel < n
+counts_more : (side : Side) (n : ℕ) (before : List Exchange) (x : Exchange) (counts now : List ℕ) → length counts ≡ n
+    → x.request.channel < n
     → ((f : ℕ) → f < n → get_or counts f 0 ≡ length (moved_by side f before))
     → now ≡ set counts x.request.channel (get_or counts x.request.channel 0 + length (moved_value side x))
     → (f : ℕ) → f < n → get_or now f 0 ≡ length (moved_by side f (before ++ x ∷ []))
@@ -53,7 +57,8 @@ counts_more side n before x counts now size inside are is f l = elim (cases_eq f
       omega arith
 ]
 
-queries_push : (before : List Exchange) (x : Exchange) → length (queries (before ++ x ∷ [])) ≡ length (queries before) + from_bool (not (is_blocking x.request.kind))
+queries_push : (before : List Exchange) (x : Exchange)
+    → length (queries (before ++ x ∷ [])) ≡ length (queries before) + from_bool (not (is_blocking x.request.kind))
 queries_push before x =
     ap length (filter-append (λ (y : Exchange). not (is_blocking y.request.kind)) before (x ∷ []))
     ∙ (length-append (queries before) (queries (x ∷ [])) ∙ ap (λ (n : ℕ). length (queries before) + n) (one (not (is_blocking x.request.kind)) refl))
@@ -63,14 +68,14 @@ queries_push before x =
     one false e = rw e refl
 
 pub tally_more : (n : ℕ) (before : List Exchange) (x : Exchange) (t u : Tally) → IsTallyOf n before t → x.request.channel < n
-    → u.popped ≡ set t.popped x.request.channel (get_or t.popped x.request.channel 0 + length (moved_value true x))
-    → u.pushed ≡ set t.pushed x.request.channel (get_or t.pushed x.request.channel 0 + length (moved_value false x))
+    → u.popped ≡ set t.popped x.request.channel (get_or t.popped x.request.channel 0 + length (moved_value Pop x))
+    → u.pushed ≡ set t.pushed x.request.channel (get_or t.pushed x.request.channel 0 + length (moved_value Push x))
     → u.queries ≡ t.queries + from_bool (not (is_blocking x.request.kind)) → IsTallyOf n (before ++ x ∷ []) u
 tally_more n before x t u h inside popped pushed asks = record {
   popped_count = ap (λ (xs : List ℕ). length xs) popped ∙ (length-set t.popped x.request.channel _ ∙ h.popped_count);
   pushed_count = ap (λ (xs : List ℕ). length xs) pushed ∙ (length-set t.pushed x.request.channel _ ∙ h.pushed_count);
-  popped_are = counts_more true n before x t.popped u.popped h.popped_count inside h.popped_are popped;
-  pushed_are = counts_more false n before x t.pushed u.pushed h.pushed_count inside h.pushed_are pushed;
+  popped_are = counts_more Pop n before x t.popped u.popped h.popped_count inside h.popped_are popped;
+  pushed_are = counts_more Push n before x t.pushed u.pushed h.pushed_count inside h.pushed_are pushed;
   queries_are = asks ∙ (ap (λ (k : ℕ). k + from_bool (not (is_blocking x.request.kind))) h.queries_are ∙ sym (queries_push before x));
 }
 
@@ -80,12 +85,14 @@ short : {X : Type 0} (f : X → List ℕ) (xs : List X) → ((x : X) → length 
 short f [] one = omega arith
 short f (x ∷ xs) one = let rest = short f xs one in let front = one x in omega (arith, length-append (f x) (flat_map f xs))
 
-popped_short : (r : Reply) → length (popped_value r) ≤ 1
-popped_short Done = omega arith
-popped_short (Value v) = omega arith
-popped_short (Flag b) = omega arith
-popped_short (Took v) = omega arith
-popped_short Missed = omega arith
+popped_short : (k : Kind) (done : Bool) (v : ℕ) → length (popped_value k done v) ≤ 1
+popped_short Read done v = omega arith
+popped_short Write done v = omega arith
+popped_short TryRead true v = omega arith
+popped_short TryRead false v = omega arith
+popped_short TryWrite done v = omega arith
+popped_short Empty done v = omega arith
+popped_short Full done v = omega arith
 
 pushed_short : (k : Kind) (done : Bool) (v : ℕ) → length (pushed_value k done v) ≤ 1
 pushed_short Read done v = omega arith
@@ -96,11 +103,11 @@ pushed_short TryWrite false v = omega arith
 pushed_short Empty done v = omega arith
 pushed_short Full done v = omega arith
 
-moved_short : (side : Bool) (x : Exchange) → length (moved_value side x) ≤ 1
-moved_short true x = popped_short x.reply
-moved_short false x = pushed_short x.request.kind (is_yes x.reply) x.request.value
+moved_short : (side : Side) (x : Exchange) → length (moved_value side x) ≤ 1
+moved_short Pop x = popped_short x.request.kind (is_yes x.reply) (value_in x.reply)
+moved_short Push x = pushed_short x.request.kind (is_yes x.reply) x.request.value
 
-pub moved_few : (side : Bool) (f : ℕ) (before : List Exchange) → length (moved_by side f before) ≤ length before
+pub moved_few : (side : Side) (f : ℕ) (before : List Exchange) → length (moved_by side f before) ≤ length before
 unfolding moved_by
 moved_few side f before =
     short (λ (y : Exchange). cond (y.request.channel == f) (moved_value side y) []) before
@@ -110,11 +117,13 @@ pub queries_few : (before : List Exchange) → length (queries before) ≤ lengt
 queries_few [] = omega arith
 queries_few (x ∷ xs) =
     let rest = queries_few xs in
-    cond_both (not (is_blocking x.request.kind)) (x ∷ queries xs) (queries xs) (λ (ys : List Exchange). length ys ≤ suc (length xs)) (λ e. omega arith) (λ e. omega arith)
+    cond_both (not (is_blocking x.request.kind)) (x ∷ queries xs) (queries xs) (λ (ys : List Exchange). length ys ≤ suc (length xs))
+    (λ e. omega arith) (λ e. omega arith)
 
 -- ---- a step
 
-pub paired_more : (rs : List Request) (qs : List Reply) (i : ℕ) (r d : Request) (q e : Reply) → i < length rs → i < length qs → r ≡ get_or rs i d → q ≡ get_or qs i e
+pub paired_more : (rs : List Request) (qs : List Reply) (i : ℕ) (r d : Request) (q e : Reply) → i < length rs → i < length qs
+    → r ≡ get_or rs i d → q ≡ get_or qs i e
     → paired (take (i + 1) rs) qs ≡ paired (take i rs) qs ++ record { request = r; reply = q } ∷ []
 paired_more rs qs i r d q e l k read answer = rw (read, answer, add-one) (by_place rs qs i d e l k)
   where
@@ -123,7 +132,8 @@ paired_more rs qs i r d q e l k read answer = rw (read, answer, add-one) (by_pla
     by_place [] qs i d e l k = absurd (omega arith)
     by_place (r ∷ rs) [] i d e l k = absurd (omega arith)
     by_place (r ∷ rs) (q ∷ qs) zero d e l k = refl
-    by_place (r ∷ rs) (q ∷ qs) (suc i) d e l k = ap (λ (xs : List Exchange). record { request = r; reply = q } ∷ xs) (by_place rs qs i d e (omega arith) (omega arith))
+    by_place (r ∷ rs) (q ∷ qs) (suc i) d e l k =
+        ap (λ (xs : List Exchange). record { request = r; reply = q } ∷ xs) (by_place rs qs i d e (omega arith) (omega arith))
 
 pub length-paired : (rs : List Request) (qs : List Reply) → length (paired rs qs) ≡ length rs
 length-paired [] qs = refl

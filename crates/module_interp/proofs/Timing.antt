@@ -1,7 +1,8 @@
 -- How long a module can run.
-use Rattle.std.proofs.Common.{◌≡◌, ℕ, zero, suc, ◌+◌, ◌-◌, ◌<◌, ◌≤◌, ◌⊎◌, inl, inr, Bool, true, false, ◌&&◌, ◌||◌, ◌==◌, cond, List, [], refl, sym, ap, subst, arith, length, add-zero}
+use Rattle.std.proofs.Common.{◌≡◌, ℕ, zero, suc, ◌+◌, ◌-◌, ◌<◌, ◌≤◌, ◌⊎◌, inl, inr, Bool, true, false, ◌&&◌, ◌==◌, cond, List, [], refl, sym, ap, subst, arith, length, add-zero}
 use Rattle.std.specs.Prelude.{slice_index}
-use Rattle.std.proofs.lemmas.Bool.{cond_both, or_parts, leb-false}
+use Rattle.std.proofs.lemmas.Bool.{cond_both, or_parts}
+use Rattle.flow_design.specs.declared.limits.TheConstants.{BLOCK_CLOCKS, COUNTED_OPERATIONS}
 use Rattle.flow_design.specs.declared.design.Block.{Block}
 use Rattle.flow_design.specs.declared.design.Module.{Module}
 use Rattle.flow_design.specs.declared.design.Next.{Next}
@@ -10,44 +11,47 @@ use Rattle.flow_design.specs.declared.plan.Plan.{Plan}
 use Rattle.flow_design.specs.declared.state.Control.{Control}
 use Rattle.flow_design.specs.declared.state.ModuleState.{ModuleState}
 use Rattle.flow_design.specs.declared.state.Reply.{Reply}
-use Rattle.flow_design.specs.Module.{no_block, block_of, block_at, interval}
-use Rattle.flow_design.specs.StaticRules.{IsBlockSound, IsModuleSound, FitsEngine}
-use Rattle.lockstep_defs.specs.Machine.{move, entered, decided, finished, followed, started, stopped, again_of, is_block_over, is_over, is_spent}
+use Rattle.flow_design.specs.Module.{block_of, interval}
+use Rattle.flow_design.specs.StaticRules.{IsModuleSound, FitsEngine}
+use Rattle.lockstep_defs.specs.Machine.{move, entered, decided, finished, followed, started, stopped, again_of, is_block_over, is_over}
 use Rattle.lockstep_defs.specs.Lockstep.{no_module, module_at, requests_of}
 use Rattle.lockstep_defs.specs.Quiet.{rests, skip, clocks_left, is_some_request}
 use Rattle.lockstep_defs.specs.States.{IsStateOf}
+use Rattle.lockstep_defs.proofs.Agrees.{not_ended, below_limit}
 use Rattle.lockstep_defs.proofs.Moves.{Fallen, move_falls, same_control}
 use Rattle.lockstep_defs.proofs.States.{move_state}
 use Rattle.module_move.specs.Moves.{counted, ticked_to, gone_on}
 use Rattle.module_move.proofs.Moving.{moved_is}
-use Rattle.block_schedule.proofs.Limits.{short_interval}
+use Rattle.lockstep_defs.proofs.Blocks.{block_sound, short_interval}
 use Rattle.module_interp.specs.Paths.{block_bound, clock_bound, clocks_to_go, IsInTime}
 
 -- ---- blocks
 
-pub module_sound : (p : Plan) → FitsEngine p → (i : ℕ) → i < length p.design.modules → IsModuleSound (length p.design.channels) (module_at p i)
+pub module_sound : (p : Plan) → FitsEngine p → (i : ℕ) → i < length p.design.modules
+    → IsModuleSound (length p.design.channels) (module_at p i)
 module_sound p h i inside = h.modules i no_module inside
 
-pub block_sound : (channels : ℕ) (m : Module) (n : ℕ) → IsModuleSound channels m → n < length m.blocks → IsBlockSound channels m (block_at m n)
-block_sound channels m n h there = h.blocks n no_block there
-
-few_left : (l : Bool) (interval len clock newest : ℕ) → newest ≤ clock → interval ≤ 1000000000000 → len ≤ 1000000000000
+few_left : (l : Bool) (interval len clock newest : ℕ) → newest ≤ clock → interval ≤ BLOCK_CLOCKS → len ≤ BLOCK_CLOCKS
     → cond l (((interval + newest) - clock) + len + 1) ((len + newest) - clock) < block_bound
 few_left true interval len clock newest h i n = omega arith
 few_left false interval len clock newest h i n = omega arith
 
-pub left_bound : (channels : ℕ) (m : Module) (s : ModuleState) → IsModuleSound channels m → IsStateOf m s → clocks_left (block_of m s) s.control < block_bound
+pub left_bound : (channels : ℕ) (m : Module) (s : ModuleState) → IsModuleSound channels m → IsStateOf m s
+    → clocks_left (block_of m s) s.control < block_bound
 left_bound channels m s sound h =
     let block = block_sound channels m s.control.block sound h.block in
     let short = short_interval channels m (block_of m s) block in
-    few_left s.control.looping (interval (block_of m s)) (block_of m s).len s.control.clock s.control.newest h.control.has_started (omega (arith, block.most)) block.most
+    few_left s.control.looping (interval (block_of m s)) (block_of m s).len s.control.clock s.control.newest h.control.has_started
+    (omega (arith, block.most)) block.most
 
-some_left : (l : Bool) (interval len clock newest : ℕ) → clock < newest + len → 0 < cond l (((interval + newest) - clock) + len + 1) ((len + newest) - clock)
+some_left : (l : Bool) (interval len clock newest : ℕ) → clock < newest + len
+    → 0 < cond l (((interval + newest) - clock) + len + 1) ((len + newest) - clock)
 some_left true interval len clock newest h = omega arith
 some_left false interval len clock newest h = omega arith
 
 left_some : (m : Module) (s : ModuleState) → IsStateOf m s → s.ended ≡ false → 0 < clocks_left (block_of m s) s.control
-left_some m s h alive = some_left s.control.looping (interval (block_of m s)) (block_of m s).len s.control.clock s.control.newest (h.young alive)
+left_some m s h alive =
+    some_left s.control.looping (interval (block_of m s)) (block_of m s).len s.control.clock s.control.newest (h.young alive)
 
 -- ---- the clock of a move
 
@@ -60,12 +64,14 @@ followed_clock m Stop s = omega arith
 finished_clock : (m : Module) (b : Block) (s : ModuleState) → (finished m b s).control.clock ≤ s.control.clock
 unfolding finished
 finished_clock m b s =
-    cond_both (is_block_over b s.control) _ s (λ (t : ModuleState). t.control.clock ≤ s.control.clock) (λ e. followed_clock m b.next s) (λ e. omega arith)
+    cond_both (is_block_over b s.control) _ s (λ (t : ModuleState). t.control.clock ≤ s.control.clock) (λ e. followed_clock m b.next s)
+    (λ e. omega arith)
 
 decided_clock : (b : Block) (s : ModuleState) → (decided b s).control.clock ≡ s.control.clock
 unfolding decided
 decided_clock b s =
-    cond_both (s.control.looping && (s.control.clock - s.control.newest == interval b)) _ s (λ (t : ModuleState). t.control.clock ≡ s.control.clock)
+    cond_both (s.control.looping && (s.control.clock - s.control.newest == interval b)) _ s
+    (λ (t : ModuleState). t.control.clock ≡ s.control.clock)
     (λ e. cond_both (slice_index s.registers (again_of b.kind) == 0) (stopped s) (started b s) (λ (t : ModuleState). t.control.clock ≡ s.control.clock) (λ z. refl) (λ z. refl))
     (λ e. refl)
 
@@ -82,17 +88,20 @@ move_clock m s replies =
 
 -- ---- the clocks to go
 
-pub falls : (p : Plan) (m : Module) (s t : ModuleState) → s.count < p.ops → clocks_left (block_of m t) t.control < block_bound → Fallen m s t
+pub falls : (p : Plan) (m : Module) (s t : ModuleState) → s.count < p.ops → clocks_left (block_of m t) t.control < block_bound
+    → Fallen m s t
     → (t.ended ≡ true) ⊎ (clocks_to_go p m t < clocks_to_go p m s)
 falls p m s t few bound (inl over) = inl over
 falls p m s t few bound (inr (inl up)) = let a = up.0 in inr (omega arith)
 falls p m s t few bound (inr (inr near)) = let a = near.0 in let b = near.1 in inr (omega arith)
 
-at_most : (p : Plan) (m : Module) (s : ModuleState) → p.ops ≤ 200000 → clocks_left (block_of m s) s.control < block_bound → 1 + clocks_to_go p m s ≤ clock_bound
+at_most : (p : Plan) (m : Module) (s : ModuleState) → p.ops ≤ COUNTED_OPERATIONS → clocks_left (block_of m s) s.control < block_bound
+    → 1 + clocks_to_go p m s ≤ clock_bound
 at_most p m s few bound = omega arith
 
 -- one local clock more
-pub moved_in_time : (p : Plan) → FitsEngine p → (i : ℕ) → i < length p.design.modules → (s : ModuleState) (replies : List Reply) (elapsed : ℕ)
+pub moved_in_time : (p : Plan) → FitsEngine p → (i : ℕ) → i < length p.design.modules
+    → (s : ModuleState) (replies : List Reply) (elapsed : ℕ)
     → IsStateOf (module_at p i) s → s.ended ≡ false → s.count < p.ops → IsInTime p (module_at p i) s elapsed
     → IsInTime p (module_at p i) (move (module_at p i) s replies) (elapsed + 1)
 moved_in_time p h i inside s replies elapsed state alive few time =
@@ -114,7 +123,8 @@ moved_in_time p h i inside s replies elapsed state alive few time =
     both over e = cc
 
 -- a step begins a new count
-pub step_in_time : (p : Plan) → FitsEngine p → (i : ℕ) → i < length p.design.modules → (s : ModuleState) (replies : List Reply) (elapsed : ℕ)
+pub step_in_time : (p : Plan) → FitsEngine p → (i : ℕ) → i < length p.design.modules
+    → (s : ModuleState) (replies : List Reply) (elapsed : ℕ)
     → IsStateOf (module_at p i) s → s.ended ≡ false → s.count < p.ops → IsInTime p (module_at p i) s elapsed
     → IsInTime p (module_at p i) (move (module_at p i) s replies) 1
 step_in_time p h i inside s replies elapsed state alive few time =
@@ -128,7 +138,8 @@ step_in_time p h i inside s replies elapsed state alive few time =
     record { since = omega arith; left = λ e. most; clock = moved.clock }
 
 -- the first local clock
-pub opened_in_time : (p : Plan) → FitsEngine p → (i : ℕ) → i < length p.design.modules → (s : ModuleState) → IsStateOf (module_at p i) s → s.control.clock ≡ 0
+pub opened_in_time : (p : Plan) → FitsEngine p → (i : ℕ) → i < length p.design.modules → (s : ModuleState) → IsStateOf (module_at p i) s
+    → s.control.clock ≡ 0
     → IsInTime p (module_at p i) s 0
 opened_in_time p h i inside s state first =
     let m = module_at p i in
@@ -138,17 +149,16 @@ opened_in_time p h i inside s state first =
 -- ---- quiet clocks
 
 pub lives : (p : Plan) (i : ℕ) (s : ModuleState) → rests p i s ≡ false → (s.ended ≡ false) × (s.count < p.ops)
-unfolding is_over
 lives p i s h =
-    let over = (or_parts (s.ended || is_spent p.ops s) (is_some_request (requests_of p (i, s))) h).0 in
-    let parts = or_parts s.ended (is_spent p.ops s) over in
-    (parts.0, leb-false p.ops s.count (rw parts.0 at parts.1))
+    let alive = (or_parts (is_over p.ops s) (is_some_request (requests_of p (i, s))) h).0 in
+    (not_ended p.ops s alive, below_limit p.ops s alive)
 
 pub record GoesOn (p : Plan) (i : ℕ) (s : ModuleState) (elapsed : ℕ) : Type 0 where
   pub state : IsStateOf (module_at p i) s
   pub time : IsInTime p (module_at p i) s elapsed
 
-pub skip_goes_on : (p : Plan) → FitsEngine p → (i : ℕ) → i < length p.design.modules → (s : ModuleState) (elapsed : ℕ) → GoesOn p i s elapsed
+pub skip_goes_on : (p : Plan) → FitsEngine p → (i : ℕ) → i < length p.design.modules → (s : ModuleState) (elapsed : ℕ)
+    → GoesOn p i s elapsed
     → (n : ℕ) → ((j : ℕ) → j < n → rests p i (skip p i j s) ≡ false) → GoesOn p i (skip p i n s) (elapsed + n)
 skip_goes_on p h i inside s elapsed g zero goes = subst (GoesOn p i s) (sym (add-zero elapsed)) g
 skip_goes_on p h i inside s elapsed g (suc n) goes =

@@ -38,7 +38,8 @@ has_begun x h begun alive =
     let here : after_move x ≡ x.state = at_stage x Begun begun in
     let life = begun_alive x.limit x.state alive in
     let state : IsStateOf (module_at h.plan h.number) x.state = subst (IsStateOf (module_at h.plan h.number)) here b.state in
-    let time : IsInTime h.plan (module_at h.plan h.number) x.state x.since = subst (λ (s : ModuleState). IsInTime h.plan (module_at h.plan h.number) s x.since) here b.time in
+    let time : IsInTime h.plan (module_at h.plan h.number) x.state x.since =
+    subst (λ (s : ModuleState). IsInTime h.plan (module_at h.plan h.number) s x.since) here b.time in
     let clock = time.clock life.0 in
     record {
       sound = record { state = subst (λ (m : Module). IsStateOf m x.state) (sym b.of) state; running = life.0 };
@@ -48,8 +49,10 @@ has_begun x h begun alive =
 
 -- ---- commits
 
-pub committed : (x y : Path) (room : MoveRoom) → x.stage ≡ Answered → CanAnswer x → y ≡ record x { state = y.state; stage = Ticked; room = room }
-    → gone_on y.of y.state ≡ move x.of x.state x.replies → y.state.control.block ≡ x.state.control.block → y.state.control.newest ≤ y.state.control.clock → KeepsRest x y
+pub committed : (x y : Path) (room : MoveRoom) → x.stage ≡ Answered → CanAnswer x
+    → y ≡ record x { state = y.state; stage = Ticked; room = room }
+    → gone_on y.of y.state ≡ move x.of x.state x.replies → y.state.control.block ≡ x.state.control.block
+    → y.state.control.newest ≤ y.state.control.clock → KeepsRest x y
 committed x y room answered can frame moved block started p i o l =
     let f : IsFixed x y = record {
       channels = ap (λ (z : Path). z.channels) frame;
@@ -69,7 +72,8 @@ pub committed_same : (x y : Path) (room : MoveRoom) → x.stage ≡ Answered →
     → gone_on y.of y.state ≡ move x.of x.state x.replies → clocks_to_end y ≡ clocks_to_end x
 committed_same x y room answered frame moved =
     let stage : y.stage ≡ Ticked = ap (λ (z : Path). z.stage) frame in
-    same_end x y (ap (λ (z : Path). z.of) frame) (ap (λ (z : Path). z.limit) frame) (at_stage y Ticked stage ∙ (moved ∙ sym (at_stage x Answered answered)))
+    same_end x y (ap (λ (z : Path). z.of) frame) (ap (λ (z : Path). z.limit) frame)
+    (at_stage y Ticked stage ∙ (moved ∙ sym (at_stage x Answered answered)))
 
 pub room_same : (x y : Path) (room : MoveRoom) → x.stage ≡ Answered → y ≡ record x { room = room } → clocks_to_end y ≡ clocks_to_end x
 room_same x y room answered frame =
@@ -86,7 +90,10 @@ room_alone x y room answered can frame p i o l =
       schedules = ap (λ (z : Path). z.schedules) frame;
     } in
     let stage : y.stage ≡ Answered = ap (λ (z : Path). z.stage) frame ∙ answered in
-    let still : CanAnswer (record x { room = room }) = record { state = can.state; pending = can.pending; clock = can.clock; count = can.count } in
+    let still : CanAnswer (record x {
+      room =
+          room;
+    }) = record { state = can.state; pending = can.pending; clock = can.clock; count = can.count } in
     leads_still p i o x y l f
     (at_stage y Answered stage ∙ (ap (λ (z : Path). move z.of z.state z.replies) frame ∙ sym (at_stage x Answered answered)))
     (ap (λ (z : Path). z.since) frame)
@@ -96,9 +103,11 @@ room_alone x y room answered can frame p i o l =
 
 pub begun_same : (x y : Path) → IsFixed x y → x.stage ≡ Begun → y.stage ≡ Begun → y.state ≡ x.state → y.since ≡ x.since → KeepsRest x y
 begun_same x y f begun still state since p i o l =
-    leads_still p i o x y l f (at_stage y Begun still ∙ (state ∙ sym (at_stage x Begun begun))) since (subst (λ (s : Stage). IsStageSoundBy s y) (sym still) tt)
+    leads_still p i o x y l f (at_stage y Begun still ∙ (state ∙ sym (at_stage x Begun begun))) since
+    (subst (λ (s : Stage). IsStageSoundBy s y) (sym still) tt)
 
-pub looked_up : (x y : Path) (ds : List Due) (rs : List Request) → x.stage ≡ Begun → y ≡ record x { pending = ds; asked = rs } → KeepsRest x y
+pub looked_up : (x y : Path) (ds : List Due) (rs : List Request) → x.stage ≡ Begun → y ≡ record x { pending = ds; asked = rs }
+    → KeepsRest x y
 looked_up x y ds rs begun frame =
     begun_same x y
     (record { channels = ap (λ (z : Path). z.channels) frame; of = ap (λ (z : Path). z.of) frame; limit = ap (λ (z : Path). z.limit) frame; schedules = ap (λ (z : Path). z.schedules) frame })
@@ -169,7 +178,7 @@ pub idle : (x : Path) (clock n : ℕ) → IsPath x → x.stage ≡ Begun → is_
 idle x clock n path begun alive next far p i b =
     let sound = (has_begun x path begun alive).sound in
     subst (λ (m : Module). IsIdle m x.state (suc n)) b.of (record {
-      some = (b.schedules x.state.control.block (some_schedule x.schedules x.state.control.block (omega (arith, sound.state.block, b.count))) sound.state.block).some;
+      some = (b.schedules x.state.control.block (some_schedule x.schedules x.state.control.block (omega (arith, sound.state.block, b.count))) sound.state.block).limits.some;
       begun = sound.state.control.has_started;
       temps = sound.state.places.temps;
       none = λ c from below. next.idle_before c from (omega arith);
@@ -192,7 +201,8 @@ jumps x clock n room path begun alive next far =
       never_rests = λ p i b. never_rests p i x.state n (idle x clock n path begun alive next far p i b) (rw (← b.limit) alive);
       moved = λ p i b.
           let on = skip_on p i x.state n (idle x clock n path begun alive next far p i b) in
-          ap (λ (m : Module). gone_on m (ticked_to m clock x.state)) b.of ∙ (ap (λ (c : ℕ). gone_on (module_at p i) (ticked_to (module_at p i) c x.state)) far ∙ sym on);
+          ap (λ (m : Module). gone_on m (ticked_to m clock x.state)) b.of
+          ∙ (ap (λ (c : ℕ). gone_on (module_at p i) (ticked_to (module_at p i) c x.state)) far ∙ sym on);
     }
 
 pub record AreSmall (x : Path) (clock n : ℕ) : Type 0 where
@@ -217,7 +227,8 @@ jump_small x clock n path begun alive next far =
     let last = skip_goes_on p b.fits i b.owner x.state x.since g n (λ j l. goes j (omega arith)) in
     let life = lives p i (skip p i n x.state) (goes n (omega arith)) in
     let bound = last.time.clock life.0 in
-    let clock_is : (skip p i n x.state).control.clock ≡ x.state.control.clock + n = ap (λ (s : ModuleState). s.control.clock) (skip_ticks p i x.state n quiet) in
+    let clock_is : (skip p i n x.state).control.clock ≡ x.state.control.clock + n =
+    ap (λ (s : ModuleState). s.control.clock) (skip_ticks p i x.state n quiet) in
     record { since = all.time.since; reached = omega arith }
 
 -- where the path stands in its block
@@ -233,8 +244,10 @@ stands x path begun alive =
     }
   where
     near : (l : Bool) (ii clock newest : ℕ) → l ≡ true → (not l || (nat_lt 0 ii && nat_lt clock (newest + ii))) ≡ true → clock ≤ newest + ii
-    near true ii clock newest e g = let less = ltb-true clock (newest + ii) (and_parts (nat_lt 0 ii) (nat_lt clock (newest + ii)) g).1 in omega arith
+    near true ii clock newest e g =
+        let less = ltb-true clock (newest + ii) (and_parts (nat_lt 0 ii) (nat_lt clock (newest + ii)) g).1 in omega arith
     near false ii clock newest e g = cc
 
-pub has_schedule : (x : Path) → IsPath x → (d : Schedule) → x.state.control.block < length x.of.blocks → IsScheduleOf (block_of x.of x.state) (get_or x.schedules x.state.control.block d)
+pub has_schedule : (x : Path) → IsPath x → (d : Schedule) → x.state.control.block < length x.of.blocks
+    → IsScheduleOf (block_of x.of x.state) (get_or x.schedules x.state.control.block d)
 has_schedule x path d inside = path.is.schedules x.state.control.block d inside

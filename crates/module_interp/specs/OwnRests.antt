@@ -1,5 +1,5 @@
 -- A module's own run from rest to rest: it rests in a local clock with a due FIFO operation, and where it is over.
-use Rattle.std.specs.Prelude.{ℕ, Bool, true, false, ◌&&◌, if◌then◌else◌, List, [], ◌∷◌, map, length, flat_map}
+use Rattle.std.specs.Prelude.{ℕ, ◌+◌, sum_by, Bool, true, false, ◌&&◌, if◌then◌else◌, List, [], ◌∷◌, map, length, flat_map}
 use Rattle.flow_word.specs.declared.access.Access.{Access}
 use Rattle.flow_word.specs.declared.access.Kind.{Kind}
 use Rattle.flow_word.specs.declared.access.Kind.TheVariants as kind
@@ -33,6 +33,10 @@ requests_at p i o = requests_of p (i, o.state)
 -- the next rest, where that step has these replies
 abbrev pub next_rest : Plan → ℕ → Own → List Reply → Own
 next_rest p i o replies = to_rest p i (own_after (module_at p i) o (requests_at p i o) replies)
+
+-- the local clocks up to a rest: those of all gaps together
+abbrev pub clocks_in : Own → ℕ
+clocks_in o = sum_by (λ s. s.gap) o.steps + o.since
 
 -- ---- marks
 

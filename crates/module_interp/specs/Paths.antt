@@ -1,5 +1,7 @@
 -- How the program's run stands in a module's own run.
 use Rattle.std.specs.Prelude.{ℕ, ◌≡◌, ◌+◌, ◌-◌, ◌*◌, ◌^◌, ◌<◌, ◌≤◌, if◌then◌else◌, true, false, List, length, slice_index, slice_index_or}
+use Rattle.flow_word.specs.declared.access.Side.TheVariants.{Pop, Push}
+use Rattle.flow_design.specs.declared.limits.TheConstants.{BLOCK_CLOCKS, COUNTED_OPERATIONS}
 use Rattle.flow_design.specs.declared.design.Module.{Module}
 use Rattle.flow_design.specs.declared.plan.Plan.{Plan}
 use Rattle.flow_design.specs.declared.state.ModuleState.{ModuleState}
@@ -25,11 +27,11 @@ use Rattle.module_interp.specs.declared.tally.Tally.{Tally}
 
 -- no block goes on for so many local clocks from its last start of an iteration
 abbrev pub block_bound : ℕ
-block_bound = 2000000000002
+block_bound = 2 * BLOCK_CLOCKS + 2
 
 -- no module runs for so many local clocks
 abbrev pub clock_bound : ℕ
-clock_bound = 400002000000400002
+clock_bound = (COUNTED_OPERATIONS + 1) * block_bound
 
 -- falls in each local clock: the operation count goes up, or the next decision or the block's end comes nearer
 abbrev pub clocks_to_go : Plan → Module → ModuleState → ℕ
@@ -136,6 +138,6 @@ pub record IsAtEnd (x : Path) : Type 0 where
 pub record IsTallyOf (channels : ℕ) (before : List Exchange) (t : Tally) : Type 0 where
   pub popped_count : length t.popped ≡ channels
   pub pushed_count : length t.pushed ≡ channels
-  pub popped_are : (f : ℕ) → f < channels → slice_index t.popped f ≡ length (moved_by true f before)
-  pub pushed_are : (f : ℕ) → f < channels → slice_index t.pushed f ≡ length (moved_by false f before)
+  pub popped_are : (f : ℕ) → f < channels → slice_index t.popped f ≡ length (moved_by Pop f before)
+  pub pushed_are : (f : ℕ) → f < channels → slice_index t.pushed f ≡ length (moved_by Push f before)
   pub queries_are : t.queries ≡ length (queries before)

@@ -1,14 +1,17 @@
 -- A run as callers see it: it stands at a rest of the module's own run, and waits for replies or not.
-use Rattle.std.specs.Prelude.{ℕ, ◌≡◌, ◌≤◌, Bool, true, false, length}
+use Rattle.std.specs.Prelude.{ℕ, ◌≡◌, ◌*◌, ◌^◌, ◌<◌, ◌≤◌, Bool, true, false, length}
+use Rattle.flow_word.specs.declared.access.Step.{Step as StepOf}
+use Rattle.flow_design.specs.declared.limits.TheConstants.{LIVE_ITERATIONS, OPERATIONS}
 use Rattle.flow_design.specs.declared.plan.Plan.{Plan}
 use Rattle.flow_design.specs.declared.state.Advance.{Advance}
 use Rattle.flow_design.specs.declared.state.Advance.TheVariants.{Step, Ended, Spent}
+use Rattle.lockstep_defs.specs.Lockstep.{module_at}
 use Rattle.lockstep_defs.specs.OwnRun.{Own}
 use Rattle.module_interp.specs.declared.path.Stage.{Stage}
 use Rattle.module_interp.specs.declared.path.Stage.TheVariants.{Begun, Asked, Answered, Ticked}
 use Rattle.module_interp.specs.declared.run.ModuleRun.{ModuleRun}
-use Rattle.module_interp.specs.OwnRests.{done_in, accesses_at}
-use Rattle.module_interp.specs.Paths.{LeadsTo, IsTallyOf}
+use Rattle.module_interp.specs.OwnRests.{clocks_in, done_in, accesses_at}
+use Rattle.module_interp.specs.Paths.{IsInTime, LeadsTo, IsTallyOf}
 
 abbrev pub is_asked : Stage → Bool
 is_asked Begun = false
@@ -26,9 +29,33 @@ is_step (Step s) = true
 is_step (Ended g) = false
 is_step (Spent g) = false
 
+-- how many local clocks a mark is behind the one before it
+abbrev pub gap_of : Advance → ℕ
+gap_of (Step s) = s.gap
+gap_of (Ended gap) = gap
+gap_of (Spent gap) = gap
+
+-- the numbers of a step are small
+pub record IsSmallStep (s : StepOf) : Type 0 where
+  pub few : length s.accesses ≤ LIVE_ITERATIONS * OPERATIONS
+  pub first_query : s.first_query < 2 ^ 40
+
+abbrev pub IsSmall : Advance → Type 0
+IsSmall (Step s) = IsSmallStep s
+IsSmall (Ended gap) = Unit {0}
+IsSmall (Spent gap) = Unit {0}
+
+-- a mark behind so many steps is sound: its numbers are small, and its gap is short, and at least 1 behind a step
+pub record IsSoundMark (steps : ℕ) (mark : Advance) : Type 0 where
+  pub small : IsSmall mark
+  pub short : gap_of mark < 10 ^ 18
+  pub behind : 0 < steps → 1 ≤ gap_of mark
+
 -- the run stands at this rest of module i's own run
 pub record StandsAt (p : Plan) (i : ℕ) (o : Own) (r : ModuleRun) : Type 0 where
   pub leads : LeadsTo p i o r.path
   pub tally : IsTallyOf (length p.design.channels) (done_in o.steps) r.tally
   pub few : length (done_in o.steps) ≤ o.state.count
   pub accesses : r.path.stage ≡ Asked → r.accesses ≡ accesses_at p i o
+  pub in_time : IsInTime p (module_at p i) o.state (clocks_in o)
+  pub behind : 0 < length o.steps → 1 ≤ o.since

@@ -1,11 +1,15 @@
 //! The laws of a module's own run from rest to rest, for any plan `p` that the engine takes.
-ghost use Rattle.std.specs.Prelude.{ℕ, suc, ◌≡◌, ◌<◌, ◌≤◌, ◌^◌, List as Items, length};
+ghost use Rattle.std.specs.Prelude.{ℕ, suc, ◌≡◌, ◌<◌, ◌≤◌, ◌^◌, List as Items, not, length, count_by};
+ghost use Rattle.flow_word.specs.Kinds.{is_blocking};
 ghost use Rattle.flow_design.specs.StaticRules.{FitsEngine};
 ghost use Rattle.flow_design.specs.declared.plan.Plan.{Plan};
 ghost use Rattle.flow_design.specs.declared.state.Reply.{Reply};
+ghost use Rattle.flow_design.specs.Module.{block_of};
+ghost use Rattle.lockstep_defs.specs.Laws.{is_query};
+ghost use Rattle.lockstep_defs.specs.Lockstep.{module_at};
 ghost use Rattle.lockstep_defs.specs.OwnRun.{Own, own, marks};
 ghost use Rattle.module_interp.specs.declared.run.ModuleRun.{ModuleRun};
-ghost use Rattle.module_interp.specs.OwnRests.{next_rest};
+ghost use Rattle.module_interp.specs.OwnRests.{clocks_in, accesses_at, next_rest};
 ghost use Rattle.module_interp.specs.Chains.{rest_at, clock_at, marks_before, GoesTo};
 ghost use Rattle.module_interp.specs.Runs.{StandsAt};
 
@@ -21,8 +25,17 @@ pub fn rests_are_own_runs()
         → (n : ℕ) → clock_at p i replies (length replies) < n → marks p i replies n ≡ marks_before p i replies (suc (length replies)) }
 {}
 
-/// A rest is less than 10^18 local clocks from the step before it or from local clock 0, and at least one behind a step.
+/// A rest is less than 10^18 local clocks from the step before it or from local clock 0, and at least one behind a step. All gaps
+/// up to a rest are less than 10^18 local clocks together.
 pub fn gaps_are_short()
     ensures most { (p : Plan) (i : ℕ) (o : Own) (run : ModuleRun) → StandsAt p i o run → o.since < 10 ^ 18 }
+    ensures all { (p : Plan) (i : ℕ) (o : Own) (run : ModuleRun) → StandsAt p i o run → clocks_in o < 10 ^ 18 }
+    ensures behind { (p : Plan) (i : ℕ) (o : Own) (run : ModuleRun) → StandsAt p i o run → 0 < length o.steps → 1 ≤ o.since }
     ensures least { (p : Plan) (i : ℕ) (o : Own) (replies : Items Reply) → 1 ≤ (next_rest p i o replies).since }
+{}
+
+/// A step makes at most as many queries as its block has query operations.
+pub fn queries_are_few()
+    ensures { (p : Plan) → FitsEngine p → (i : ℕ) (o : Own)
+        → count_by (λ access. not (is_blocking access.kind)) (accesses_at p i o) ≤ count_by (λ timed. is_query timed.op) (block_of (module_at p i) o.state).ops }
 {}

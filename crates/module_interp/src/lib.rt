@@ -9,5 +9,5 @@ mod run;
 mod tally;
 
 pub use flow_design::{Advance, Reply};
-pub use laws::{gaps_are_short, rests_are_own_runs};
+pub use laws::{gaps_are_short, queries_are_few, rests_are_own_runs};
 pub use run::ModuleRun;

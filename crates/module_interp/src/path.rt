@@ -1,7 +1,4 @@
 //! How far a module's own run has come.
-ghost use Rattle.std.specs.Prelude.{◌≡◌};
-ghost use Rattle.lockstep_defs.specs.Machine.{is_over};
-
 use block_schedule::Schedule;
 use flow_design::{Channel, Due, Module, ModuleState, Reply, Request};
 use flow_word::List;
@@ -43,14 +40,4 @@ pub struct Path {
     pub replies: List<Reply>,
     /// Room that its moves use again.
     pub room: MoveRoom,
-}
-
-impl Path {
-    /// Whether the module is ended or spent.
-    #[tactic(auto, unfolding(lockstep_defs::specs::Machine::is_over))]
-    pub fn is_over(&self) -> bool
-        ensures { result ≡ is_over self.now.limit self.now.state }
-    {
-        self.state.ended || self.state.count >= self.limit
-    }
 }

@@ -9,7 +9,7 @@ ghost use Rattle.module_interp.specs.Paths.{after_move, CanAnswer, IsPath, Keeps
 
 use crate::path::{Path, Stage};
 use flow_word::OutOfMemory;
-use module_move::{ask, commit, go_on, tick_to};
+use module_move::{ask, commit, go_on, is_over, tick_to};
 
 impl Path {
     /// Comes to the next local clock with a due FIFO operation, or to the end of the run.
@@ -40,7 +40,7 @@ impl Path {
         ensures no_farther { IfOk result (λ rests. clocks_to_end self.new ≤ clocks_to_end self.old) }
     {
         self.settle()?;
-        if self.is_over() {
+        if is_over(self.limit, &self.state) {
             return Ok(true);
         }
         let rests = self.stands_still()?;

@@ -1,19 +1,21 @@
 //! The run of a module.
-ghost use Rattle.std.specs.Prelude.{◌≡◌, ℕ, ◌<◌, ◌^◌, true, false, if◌then◌else◌, [], map, List as Items, length, All, IfOk, OnErr};
+ghost use Rattle.std.specs.Prelude.{◌≡◌, ℕ, ◌<◌, ◌^◌, true, false, if◌then◌else◌, [], map, List as Items, length, slice_index, IsFalse, ◌↔◌, All, IfOk, OnErr};
+ghost use Rattle.flow_word.specs.declared.access.Side.TheVariants.{Pop};
 ghost use Rattle.flow_design.specs.StaticRules.{FitsEngine};
 ghost use Rattle.flow_design.specs.declared.plan.Plan.{Plan as PlanOf};
-ghost use Rattle.lockstep_defs.specs.Channels.{Exchange};
+ghost use Rattle.lockstep_defs.specs.Channels.{Exchange, moved_by};
 ghost use Rattle.lockstep_defs.specs.Report.{queries};
 ghost use Rattle.lockstep_defs.specs.OwnRun.{Own, access_of};
-ghost use Rattle.module_interp.specs.OwnRests.{first_rest, next_rest, accesses_at, mark_at, all_fit};
+ghost use Rattle.module_interp.specs.OwnRests.{done_in, first_rest, next_rest, accesses_at, mark_at, all_fit};
 ghost use Rattle.module_interp.specs.Paths.{IsTallyOf};
-ghost use Rattle.module_interp.specs.Runs.{waits, is_step, StandsAt};
+ghost use Rattle.module_interp.specs.Runs.{waits, is_step, IsSoundMark, StandsAt};
 
 use crate::making::first_path;
 use crate::path::{Path, Stage};
 use crate::tally::Tally;
 use flow_design::{Advance, Plan, Reply, Request};
 use flow_word::{Access, Accesses, List, OutOfMemory, Step};
+use module_move::is_over;
 use std::alloc::Global;
 
 /// A module's own run, ahead of time: from one local clock with a due FIFO operation to the next, on the replies that it
@@ -46,9 +48,20 @@ impl ModuleRun {
         })
     }
 
-    /// The accesses of the step that waits for replies, in commit order; none where no step waits.
+    /// Whether a step was given that waits for replies.
+    pub fn is_waiting(&self) -> bool
+        ensures { result ≡ waits self.now }
+    {
+        match self.path.stage {
+            Stage::Asked => true,
+            Stage::Begun | Stage::Answered | Stage::Ticked => false,
+        }
+    }
+
+    /// The accesses of the step that waits for replies, in commit order; none exactly where no step waits.
     pub fn waiting(&self) -> &[Access]
-        ensures { (p : PlanOf) (i : ℕ) (o : Own) → StandsAt p i o self.now → result.now ≡ (if waits self.now then accesses_at p i o else []) }
+        ensures accesses { (p : PlanOf) (i : ℕ) (o : Own) → StandsAt p i o self.now → result.now ≡ (if waits self.now then accesses_at p i o else []) }
+        ensures none { (p : PlanOf) (i : ℕ) (o : Own) → StandsAt p i o self.now → (result.now ≡ []) ↔ IsFalse (waits self.now) }
     {
         match self.path.stage {
             Stage::Asked => self.accesses.as_slice(),
@@ -56,8 +69,25 @@ impl ModuleRun {
         }
     }
 
+    /// How many elements of each channel the run has popped, in the steps that have their replies.
+    pub fn popped(&self) -> &[u64]
+        ensures count { (p : PlanOf) (i : ℕ) (o : Own) → StandsAt p i o self.now → length result.now ≡ length p.design.channels }
+        ensures each { (p : PlanOf) (i : ℕ) (o : Own) → StandsAt p i o self.now → (f : ℕ) → f < length p.design.channels → slice_index result.now f ≡ length (moved_by Pop f (done_in o.steps)) }
+    {
+        self.tally.popped.as_slice()
+    }
+
+    /// How many queries the run has made, in the steps that have their replies.
+    pub fn queries(&self) -> u64
+        ensures { (p : PlanOf) (i : ℕ) (o : Own) → StandsAt p i o self.now → result ≡ length (queries (done_in o.steps)) }
+    {
+        self.tally.queries
+    }
+
     /// Runs local clocks to the next one with a due FIFO operation, and gives that step, which then waits for replies; or
     /// gives the end of the run, and does so again at each later call.
+    ///
+    /// A step has at most 65,536 accesses, and a gap of fewer than 10^18 local clocks, which is at least 1 behind a step.
     ///
     /// After want of memory the run is as it was.
     pub fn advance(&mut self) -> Result<Advance, OutOfMemory>
@@ -66,13 +96,14 @@ impl ModuleRun {
         ensures stands { (p : PlanOf) (i : ℕ) (o : Own) → StandsAt p i o self.old → StandsAt p i o self.new }
         ensures mark { IfOk result (λ mark. (p : PlanOf) (i : ℕ) (o : Own) → StandsAt p i o self.old → mark ≡ mark_at p i o) }
         ensures waits { IfOk result (λ mark. waits self.new ≡ is_step mark) }
+        ensures sound { IfOk result (λ mark. (p : PlanOf) (i : ℕ) (o : Own) → StandsAt p i o self.old → IsSoundMark (length o.steps) mark) }
         ensures as_before { OnErr result (waits self.new ≡ false) }
     {
         self.path.come_to_rest()?;
         if self.path.state.ended {
             return Ok(Advance::Ended(self.path.since));
         }
-        if self.path.is_over() {
+        if is_over(self.path.limit, &self.path.state) {
             return Ok(Advance::Spent(self.path.since));
         }
         let accesses = list_accesses(

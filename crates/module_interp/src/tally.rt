@@ -1,13 +1,15 @@
 //! How many elements a module has popped and pushed, and how many queries it has made.
 ghost use Rattle.std.specs.Prelude.{◌≡◌, ℕ, ◌+◌, ◌<◌, ◌≤◌, ◌^◌, ◌++◌, ◌∷◌, [], not, List as Items, length, slice_index, slice_set, All, IfOk};
 ghost use Rattle.std.specs.Int.{from_bool};
+ghost use Rattle.flow_word.specs.Kinds.{side_of, is_blocking};
 ghost use Rattle.lockstep_defs.specs.Machine.{is_yes};
-ghost use Rattle.lockstep_defs.specs.Channels.{Exchange, side_of, moved_by, is_blocking, popped_value, pushed_value};
+ghost use Rattle.lockstep_defs.specs.Channels.{Exchange, moved_by, popped_value, pushed_value};
 ghost use Rattle.lockstep_defs.specs.OwnRun.{access_of, paired};
 ghost use Rattle.module_interp.specs.Paths.{IsTallyOf};
 
 use flow_design::{Reply, Request};
-use flow_word::{Access, Kind, OutOfMemory, Words};
+use flow_word::{Access, Kind, OutOfMemory, Side, Words};
+use module_move::is_yes;
 use std::alloc::Global;
 
 /// The pops and pushes of each channel, and the queries, in the steps that have their replies.
@@ -49,9 +51,9 @@ impl Tally {
         requires { (channels : ℕ) × ((before : Items Exchange) × (IsTallyOf channels before self.now × (channel < channels))) }
         ensures { (channels : ℕ) (before : Items Exchange) → IsTallyOf channels before self.now → channel < channels → result ≡ length (moved_by (side_of kind) channel before) }
     {
-        match kind {
-            Kind::Read | Kind::TryRead | Kind::Empty => self.popped.as_slice()[channel as usize],
-            Kind::Write | Kind::TryWrite | Kind::Full => self.pushed.as_slice()[channel as usize],
+        match kind.side() {
+            Side::Pop => self.popped.as_slice()[channel as usize],
+            Side::Push => self.pushed.as_slice()[channel as usize],
         }
     }
 
@@ -71,7 +73,11 @@ impl Tally {
         requires tally { (channels : ℕ) × ((before : Items Exchange) × (IsTallyOf channels before self.old × ((length before < 2 ^ 40) × (request.channel < channels)))) }
         ensures { (channels : ℕ) (before : Items Exchange) → IsTallyOf channels before self.old → request.channel < channels → IsTallyOf channels (before ++ record { request = request; reply = reply } ∷ []) self.new }
     {
-        add_at(&mut self.popped, request.channel, popped(reply));
+        add_at(
+            &mut self.popped,
+            request.channel,
+            popped(request.kind, reply),
+        );
         add_at(
             &mut self.pushed,
             request.channel,
@@ -91,13 +97,14 @@ fn add_at(counts: &mut Words, at: u32, more: u64)
 }
 
 /// How many elements an operation popped.
-fn popped(reply: Reply) -> u64
-    ensures count { result ≡ length (popped_value reply) }
+fn popped(kind: Kind, reply: Reply) -> u64
+    ensures count { (value : ℕ) → result ≡ length (popped_value kind (is_yes reply) value) }
     ensures most { result ≤ 1 }
 {
-    match reply {
-        Reply::Value(_) | Reply::Took(_) => 1,
-        Reply::Done | Reply::Flag(_) | Reply::Missed => 0,
+    match kind {
+        Kind::Read => 1,
+        Kind::TryRead => is_yes(reply) as u64,
+        Kind::Write | Kind::TryWrite | Kind::Empty | Kind::Full => 0,
     }
 }
 
@@ -108,11 +115,7 @@ fn pushed(kind: Kind, reply: Reply) -> u64
 {
     match kind {
         Kind::Write => 1,
-        Kind::TryWrite => match reply {
-            Reply::Done | Reply::Value(_) | Reply::Took(_) => 1,
-            Reply::Flag(yes) => yes as u64,
-            Reply::Missed => 0,
-        },
+        Kind::TryWrite => is_yes(reply) as u64,
         Kind::Read | Kind::TryRead | Kind::Empty | Kind::Full => 0,
     }
 }
@@ -122,8 +125,5 @@ fn asked(kind: Kind) -> u64
     ensures count { result ≡ from_bool (not (is_blocking kind)) }
     ensures most { result ≤ 1 }
 {
-    match kind {
-        Kind::Read | Kind::Write => 0,
-        Kind::TryRead | Kind::TryWrite | Kind::Empty | Kind::Full => 1,
-    }
+    !kind.is_blocking() as u64
 }

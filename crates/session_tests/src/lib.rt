@@ -4,8 +4,6 @@
 #[cfg(test)]
 mod checking;
 #[cfg(test)]
-mod clock_runs;
-#[cfg(test)]
 mod elaborating;
 #[cfg(test)]
 mod module_runs;

@@ -1,8 +1,14 @@
-use Rattle.module_interp.proofs.Chains.{short_gap, least_gap}
+use Rattle.module_interp.proofs.Gaps.{short_gap, short_run, least_gap}
 use Rattle.module_interp.proofs.laws.gaps_are_short.Goals as goal
 
 pub returns-clause-most : goal.returns-clause-most
 returns-clause-most c = short_gap
+
+pub returns-clause-all : goal.returns-clause-all
+returns-clause-all c = short_run
+
+pub returns-clause-behind : goal.returns-clause-behind
+returns-clause-behind c = λ p i o r s. s.behind
 
 pub returns-clause-least : goal.returns-clause-least
 returns-clause-least c = least_gap

@@ -9,4 +9,5 @@ pub returns-clause-kept : goal.returns-clause-kept
 returns-clause-kept c = then c.args.self.now c.settle.new.self c.stands_still.new.self c.settle.ensures.kept c.stands_still.ensures.kept
 
 pub returns-in_err-rests-clause-kept : goal.returns-in_err-rests-clause-kept
-returns-in_err-rests-clause-kept c = then c.args.self.now c.settle.new.self c.stands_still.new.self c.settle.ensures.kept c.stands_still.ensures.kept
+returns-in_err-rests-clause-kept c =
+    then c.args.self.now c.settle.new.self c.stands_still.new.self c.settle.ensures.kept c.stands_still.ensures.kept

@@ -14,7 +14,8 @@ commit_due-requires-clause-answer c =
 
 passed : (x y : Path) (replies : List Reply) → y ≡ record x { state = y.state; stage = Ticked; replies = replies; room = y.room }
     → x.stage ≡ Begun → is_over x.limit x.state ≡ false → requests x.channels x.of x.state ≡ []
-    → gone_on y.of y.state ≡ move x.of x.state [] → y.state.control.block ≡ x.state.control.block → y.state.control.newest ≤ y.state.control.clock
+    → gone_on y.of y.state ≡ move x.of x.state [] → y.state.control.block ≡ x.state.control.block
+    → y.state.control.newest ≤ y.state.control.clock
     → Passes x (record y { since = y.since + 1 }) 0
 passed x y replies f begun alive none moved block started =
     one_passes x (record y { since = y.since + 1 })

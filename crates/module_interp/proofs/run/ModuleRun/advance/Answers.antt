@@ -1,4 +1,6 @@
-use Rattle.std.proofs.Common.{◌≡◌, ◌<◌, ◌∙◌, List, length, map, ap, sym, subst, false}
+use Rattle.std.proofs.Common.{◌≡◌, ◌*◌, ◌<◌, ◌≤◌, ◌∙◌, List, length, map, ap, sym, subst, refl, false, arith}
+use Rattle.flow_word.specs.declared.access.Access.{Access}
+use Rattle.flow_design.specs.declared.limits.TheConstants.{LIVE_ITERATIONS, OPERATIONS}
 use Rattle.std.specs.Prelude.{All}
 use Rattle.flow_design.specs.declared.state.Request.{Request}
 use Rattle.lockstep_defs.specs.Machine.{is_over}
@@ -6,13 +8,17 @@ use Rattle.lockstep_defs.specs.OwnRun.{access_of}
 use Rattle.module_interp.specs.OwnRests.{done_in}
 use Rattle.module_interp.proofs.Standing.{step_rest, ended_mark, spent_mark, step_mark, accesses_are}
 use Rattle.module_interp.proofs.Advancing.{stands_on, replies_alone, rest_of, at_step, can_list, stands_asked}
+use Rattle.module_interp.proofs.Sound.{sound_mark, small_step}
+use Rattle.module_interp.proofs.Tallies.{queries_few}
 use Rattle.module_interp.proofs.run.ModuleRun.advance.Goals as goal
 
 pub returns-in_err-come_to_rest-clause-stands : goal.returns-in_err-come_to_rest-clause-stands
-returns-in_err-come_to_rest-clause-stands c p i o s = stands_on p i o c.args.self.now c.come_to_rest.new.self _ c.come_to_rest.ensures.kept c.come_to_rest.ensures.unasked s
+returns-in_err-come_to_rest-clause-stands c p i o s =
+    stands_on p i o c.args.self.now c.come_to_rest.new.self _ c.come_to_rest.ensures.kept c.come_to_rest.ensures.unasked s
 
 pub returns-then-self-clause-stands : goal.returns-then-self-clause-stands
-returns-then-self-clause-stands c p i o s = stands_on p i o c.args.self.now c.come_to_rest.new.self _ c.come_to_rest.ensures.kept c.come_to_rest.ensures.unasked s
+returns-then-self-clause-stands c p i o s =
+    stands_on p i o c.args.self.now c.come_to_rest.new.self _ c.come_to_rest.ensures.kept c.come_to_rest.ensures.unasked s
 
 pub returns-then-self-clause-mark : goal.returns-then-self-clause-mark
 returns-then-self-clause-mark c p i o s =
@@ -20,12 +26,14 @@ returns-then-self-clause-mark c p i o s =
     ended_mark p i o c.come_to_rest.new.self (rest_of p i o c.come_to_rest.new.self l c.in_ok-come_to_rest.ensures.rest) c.if-self.true
 
 pub returns-then-is_over-clause-stands : goal.returns-then-is_over-clause-stands
-returns-then-is_over-clause-stands c p i o s = stands_on p i o c.args.self.now c.come_to_rest.new.self _ c.come_to_rest.ensures.kept c.come_to_rest.ensures.unasked s
+returns-then-is_over-clause-stands c p i o s =
+    stands_on p i o c.args.self.now c.come_to_rest.new.self _ c.come_to_rest.ensures.kept c.come_to_rest.ensures.unasked s
 
 pub returns-then-is_over-clause-mark : goal.returns-then-is_over-clause-mark
 returns-then-is_over-clause-mark c p i o s =
     let l = c.come_to_rest.ensures.kept p i o s.leads in
-    spent_mark p i o c.come_to_rest.new.self l (rest_of p i o c.come_to_rest.new.self l c.in_ok-come_to_rest.ensures.rest) c.if-self.false (sym c.is_over.ensures ∙ c.if-is_over.true)
+    spent_mark p i o c.come_to_rest.new.self l (rest_of p i o c.come_to_rest.new.self l c.in_ok-come_to_rest.ensures.rest) c.if-self.false
+    (sym c.is_over.ensures ∙ c.if-is_over.true)
 
 pub list_accesses-requires : goal.list_accesses-requires
 list_accesses-requires c =
@@ -53,7 +61,8 @@ pub returns-in_err-accesses-clause-stands : goal.returns-in_err-accesses-clause-
 returns-in_err-accesses-clause-stands c p i o s =
     let y = c.come_to_rest.new.self in
     let h = at_step y c.in_ok-come_to_rest.ensures.rest (sym c.is_over.ensures ∙ c.if-is_over.false) in
-    stands_on p i o c.args.self.now _ _ (replies_alone c.args.self.now.path y c.list_accesses.new.replies c.come_to_rest.ensures.kept h.begun) c.come_to_rest.ensures.unasked s
+    stands_on p i o c.args.self.now _ _
+    (replies_alone c.args.self.now.path y c.list_accesses.new.replies c.come_to_rest.ensures.kept h.begun) c.come_to_rest.ensures.unasked s
 
 pub returns-clause-stands : goal.returns-clause-stands
 returns-clause-stands c p i o s =
@@ -80,3 +89,20 @@ returns-clause-mark c p i o s =
     (c.in_ok-accesses.ensures.given (length p.design.channels) (done_in o.steps) s.tally all
     ∙ ap (λ (rs : List Request). map (access_of (done_in o.steps)) rs) c.as_slice.ensures))
     s.tally.queries_are
+
+pub returns-then-self-clause-sound : goal.returns-then-self-clause-sound
+returns-then-self-clause-sound c p i o s = sound_mark p i o c.args.self.now _ s (returns-then-self-clause-mark c p i o s) tt
+
+pub returns-then-is_over-clause-sound : goal.returns-then-is_over-clause-sound
+returns-then-is_over-clause-sound c p i o s = sound_mark p i o c.args.self.now _ s (returns-then-is_over-clause-mark c p i o s) tt
+
+pub returns-clause-sound : goal.returns-clause-sound
+returns-clause-sound c p i o s =
+    let (few, done) = small_step p i o _ (returns-clause-stands c p i o s) refl in
+    let queries = s.tally.queries_are in
+    let less = queries_few (done_in o.steps) in
+    sound_mark p i o c.args.self.now _ s (returns-clause-mark c p i o s)
+    (record {
+      few = subst (λ (xs : List Access). length xs ≤ LIVE_ITERATIONS * OPERATIONS) c.in_ok-accesses.ensures.kept few;
+      first_query = omega arith;
+    })

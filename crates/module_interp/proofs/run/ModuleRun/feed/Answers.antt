@@ -42,9 +42,13 @@ returns-clause-stands c p i o s =
     let r = c.args.self.now in
     let asked = asked_stage r.path.stage c.requires.waits in
     let qs = c.args.replies.now in
-    let all = subst (All (λ (q : Request). q.channel < length p.design.channels)) (sym c.as_slice.ensures) (waits_channels p i o r s asked) in
+    let all =
+    subst (All (λ (q : Request). q.channel < length p.design.channels)) (sym c.as_slice.ensures) (waits_channels p i o r s asked) in
     let counted = c.count_step.ensures (length p.design.channels) (done_in o.steps) s.tally all in
-    let tally = subst (λ (rs : List Request). IsTallyOf (length p.design.channels) (done_in o.steps ++ paired rs qs) c.count_step.new.self) c.as_slice.ensures counted in
+    let tally =
+    subst (λ (rs : List Request). IsTallyOf (length p.design.channels) (done_in o.steps ++ paired rs qs) c.count_step.new.self)
+    c.as_slice.ensures counted in
     let done = fed_stands p i o r qs c.count_step.new.self s asked tally in
-    subst (λ (rs : List Reply). StandsAt p i (next_rest p i o qs) (record { path = record r.path { replies = rs; since = 1; stage = Answered }; tally = c.count_step.new.self; accesses = r.accesses }))
+    subst
+    (λ (rs : List Reply). StandsAt p i (next_rest p i o qs) (record { path = record r.path { replies = rs; since = 1; stage = Answered }; tally = c.count_step.new.self; accesses = r.accesses }))
     (sym c.write_over.ensures) done

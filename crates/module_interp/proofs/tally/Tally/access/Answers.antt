@@ -1,6 +1,6 @@
 use Rattle.std.proofs.Common.{◌+◌, ℕ, ap, arith}
 use Rattle.flow_word.specs.declared.access.Access.{Access}
-use Rattle.lockstep_defs.specs.Channels.{side_of}
+use Rattle.flow_word.specs.Kinds.{side_of}
 use Rattle.module_interp.proofs.Tallies.{moved_few}
 use Rattle.module_interp.proofs.tally.Tally.access.Goals as goal
 
@@ -11,5 +11,6 @@ overflow_add-result c =
 
 pub returns : goal.returns
 returns c n before h inside =
-    let made : ℕ → Access = λ k. record { kind = c.args.request.kind; channel = c.args.request.channel; ordinal = 1 + k; value = c.args.request.value } in
+    let made : ℕ → Access =
+    λ k. record { kind = c.args.request.kind; channel = c.args.request.channel; ordinal = 1 + k; value = c.args.request.value } in
     ap made (c.count_of-before.ensures n before h inside)

@@ -11,7 +11,8 @@ use Rattle.module_interp.proofs.tally.Tally.count_step.Goals as goal
 pub loop-at-init : goal.loop-at-init
 loop-at-init c channels before h all = subst (λ (xs : List Exchange). IsTallyOf channels xs c.args.self.now) (sym (append-nil before)) h
 
-shorter : (before : List Exchange) (rs : List Request) (qs : List Reply) (i : ℕ) → length (before ++ paired (take i rs) qs) ≤ length before + length rs
+shorter : (before : List Exchange) (rs : List Request) (qs : List Reply) (i : ℕ)
+    → length (before ++ paired (take i rs) qs) ≤ length before + length rs
 shorter before rs qs i = omega (arith, length-append before (paired (take i rs) qs), length-paired (take i rs) qs, length-take i rs)
 
 pub count-requires : goal.count-requires
@@ -33,5 +34,6 @@ loop-at-preserved c channels before h all =
 
 pub returns : goal.returns
 returns c channels before h all =
-    subst (λ (rs : List Request). IsTallyOf channels (before ++ paired rs c.args.replies.now) c.loop-at.self) (take_all c.loop-at.at c.args.requests.now c.loop-at-test.false)
+    subst (λ (rs : List Request). IsTallyOf channels (before ++ paired rs c.args.replies.now) c.loop-at.self)
+    (take_all c.loop-at.at c.args.requests.now c.loop-at-test.false)
     (c.loop-at.invariant channels before h all)

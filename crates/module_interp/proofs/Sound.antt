@@ -1,0 +1,110 @@
+-- The marks of a run are sound, and a step makes few queries.
+use Rattle.std.proofs.Common.{◌≡◌, ℕ, ◌*◌, ◌^◌, ◌<◌, ◌≤◌, ◌↔◌, Bool, true, false, not, cond, List, [], ◌∷◌, map, length, refl, sym, ◌∙◌, ap, arith}
+use Rattle.std.specs.Prelude.{count_by}
+use Rattle.std.specs.List.{filter}
+use Rattle.std.proofs.lemmas.Bool.{cond_both}
+use Rattle.std.proofs.lemmas.List.{length-map}
+use Rattle.std.proofs.lemmas.List.Sums.{length-filter}
+use Rattle.flow_word.specs.declared.access.Access.{Access}
+use Rattle.flow_word.specs.Kinds.{is_blocking}
+use Rattle.flow_design.specs.declared.limits.TheConstants.{LIVE_ITERATIONS, OPERATIONS}
+use Rattle.flow_design.specs.declared.plan.Plan.{Plan}
+use Rattle.flow_design.specs.declared.state.Advance.{Advance}
+use Rattle.flow_design.specs.declared.state.Advance.TheVariants.{Ended, Spent}
+use Rattle.flow_design.specs.declared.state.ModuleState.{ModuleState}
+use Rattle.flow_design.specs.declared.state.Request.{Request}
+use Rattle.flow_design.specs.Module.{block_of}
+use Rattle.flow_design.specs.StaticRules.{FitsEngine}
+use Rattle.lockstep_defs.specs.Machine.{is_spent}
+use Rattle.lockstep_defs.specs.Channels.{Exchange}
+use Rattle.lockstep_defs.specs.Laws.{is_query}
+use Rattle.lockstep_defs.specs.Lockstep.{module_at, requests_of}
+use Rattle.lockstep_defs.specs.OwnRun.{Own, access_of}
+use Rattle.lockstep_defs.proofs.Once.{asks_once}
+use Rattle.lockstep_defs.proofs.Rules.{keeps_ports}
+use Rattle.module_move.specs.Sound.{IsStateSound}
+use Rattle.module_move.proofs.Readiness.{few_due}
+use Rattle.module_interp.specs.declared.path.Stage.TheVariants.{Asked}
+use Rattle.module_interp.specs.declared.run.ModuleRun.{ModuleRun}
+use Rattle.module_interp.specs.OwnRests.{requests_at, done_in, accesses_at, mark_at}
+use Rattle.module_interp.specs.Runs.{IsSmall, IsSoundMark, gap_of, StandsAt}
+use Rattle.module_interp.proofs.Feeding.{fewer_requests, waits_at}
+use Rattle.module_interp.proofs.Gaps.{short_gap}
+use Rattle.module_interp.proofs.Timing.{module_sound}
+
+-- ---- marks
+
+gap_at : (p : Plan) (i : ℕ) (o : Own) → gap_of (mark_at p i o) ≡ o.since
+gap_at p i o =
+    cond_both o.state.ended (Ended o.since) _ (λ (m : Advance). gap_of m ≡ o.since) (λ e. refl)
+    (λ e. cond_both (is_spent p.ops o.state) (Spent o.since) _ (λ (m : Advance). gap_of m ≡ o.since) (λ f. refl) (λ f. refl))
+
+pub sound_mark : (p : Plan) (i : ℕ) (o : Own) (r : ModuleRun) (mark : Advance) → StandsAt p i o r → mark ≡ mark_at p i o → IsSmall mark
+    → IsSoundMark (length o.steps) mark
+sound_mark p i o r mark s is small =
+    let gap : gap_of mark ≡ o.since = ap gap_of is ∙ gap_at p i o in
+    let short = short_gap p i o r s in
+    record { small = small; short = omega arith; behind = λ some. let later = s.behind some in omega arith }
+
+-- ---- steps
+
+-- the numbers of a step that waits
+pub small_step : (p : Plan) (i : ℕ) (o : Own) (r : ModuleRun) → StandsAt p i o r → r.path.stage ≡ Asked
+    → (length r.accesses ≤ LIVE_ITERATIONS * OPERATIONS) × (length (done_in o.steps) < 2 ^ 40)
+small_step p i o r s asked =
+    let w = waits_at p i o r.path s.leads asked in
+    let b = s.leads.path in
+    let m = module_at p i in
+    let same : r.path.asked ≡ requests_at p i o = w.asked ∙ ap (λ (s : ModuleState). requests_of p (i, s)) (sym w.rest.state) in
+    let count : o.state.count ≡ r.path.state.count = ap (λ (z : ModuleState). z.count) w.rest.state in
+    let sound : IsStateSound m r.path.state = record { state = w.state; running = w.alive } in
+    let due_few = few_due (length p.design.channels) m r.path.state (module_sound p b.fits i b.owner) sound in
+    let less = fewer_requests p.design.channels m r.path.state in
+    let size : length r.path.asked ≡ length (requests_of p (i, r.path.state)) = ap (λ (rs : List Request). length rs) w.asked in
+    let here : length r.path.asked ≡ length (requests_at p i o) = ap (λ (rs : List Request). length rs) same in
+    let listed : length r.accesses ≡ length (accesses_at p i o) = ap (λ (xs : List Access). length xs) (s.accesses asked) in
+    let each = length-map (requests_at p i o) (access_of (done_in o.steps)) in
+    let few = s.few in
+    let small = w.can.answer.count in
+    (omega arith, omega arith)
+
+-- a step that waits has an access
+pub some_accesses : (p : Plan) (i : ℕ) (o : Own) (r : ModuleRun) → StandsAt p i o r → r.path.stage ≡ Asked → 0 < length (accesses_at p i o)
+some_accesses p i o r s asked =
+    let w = waits_at p i o r.path s.leads asked in
+    let same : r.path.asked ≡ requests_at p i o = w.asked ∙ ap (λ (s : ModuleState). requests_of p (i, s)) (sym w.rest.state) in
+    let here : length r.path.asked ≡ length (requests_at p i o) = ap (λ (rs : List Request). length rs) same in
+    let each = length-map (requests_at p i o) (access_of (done_in o.steps)) in
+    let some = w.can.some in
+    omega arith
+
+pub some_wait : (xs ys : List Access) (waits : Bool) → waits ≡ true → xs ≡ ys → 0 < length ys → (xs ≡ []) ↔ (waits ≡ false)
+some_wait xs ys false e same some = cc
+some_wait xs ys true e same some =
+    (λ none. let zero : length ys ≡ 0 = ap (λ (zs : List Access). length zs) (sym same ∙ none) in absurd (omega arith), λ f. cc)
+
+-- ---- queries
+
+same_queries : (before : List Exchange) (rs : List Request)
+    → length (filter (λ (a : Access). not (is_blocking a.kind)) (map (access_of before) rs))
+    ≡ length (filter (λ (r : Request). not (is_blocking r.kind)) rs)
+same_queries before [] = refl
+same_queries before (r ∷ rs) = by_test (not (is_blocking r.kind)) (same_queries before rs)
+  where
+    by_test : (b : Bool)
+        → length (filter (λ (a : Access). not (is_blocking a.kind)) (map (access_of before) rs))
+        ≡ length (filter (λ (r : Request). not (is_blocking r.kind)) rs)
+        → length (cond b (access_of before r ∷ filter (λ (a : Access). not (is_blocking a.kind)) (map (access_of before) rs))
+        (filter (λ (a : Access). not (is_blocking a.kind)) (map (access_of before) rs)))
+        ≡ length (cond b (r ∷ filter (λ (r : Request). not (is_blocking r.kind)) rs) (filter (λ (r : Request). not (is_blocking r.kind)) rs))
+    by_test true rest = omega arith
+    by_test false rest = rest
+
+pub few_queries : (p : Plan) → FitsEngine p → (i : ℕ) (o : Own)
+    → count_by (λ (a : Access). not (is_blocking a.kind)) (accesses_at p i o) ≤ count_by (λ t. is_query t.op) (block_of (module_at p i) o.state).ops
+few_queries p h i o =
+    let same = same_queries (done_in o.steps) (requests_at p i o) in
+    let asked = length-filter (λ (r : Request). not (is_blocking r.kind)) (requests_at p i o) in
+    let listed = length-filter (λ (a : Access). not (is_blocking a.kind)) (accesses_at p i o) in
+    let once = asks_once p (keeps_ports p h) i o.state in
+    omega arith

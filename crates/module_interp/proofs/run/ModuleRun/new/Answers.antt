@@ -1,0 +1,18 @@
+use Rattle.std.proofs.Common.{◌≡◌, arith}
+use Rattle.module_interp.specs.declared.path.Stage.{Stage}
+use Rattle.module_interp.specs.declared.path.Stage.TheVariants.{Begun, Asked}
+use Rattle.module_interp.proofs.Gaps.{first_in_time}
+use Rattle.module_interp.proofs.run.ModuleRun.new.Goals as goal
+
+unasked : {P : Type 0} (stage : Stage) → stage ≡ Begun → stage ≡ Asked → P
+unasked stage begun asked = cc
+
+pub returns-clause-stands : goal.returns-clause-stands
+returns-clause-stands c = record {
+  leads = c.in_ok-path.ensures.leads;
+  tally = rw c.len.ensures at c.in_ok-tally.ensures;
+  few = omega arith;
+  accesses = λ asked. unasked c.in_ok-path.path.stage c.in_ok-path.ensures.begun asked;
+  in_time = first_in_time c.args.plan.now c.requires.fits c.args.number c.requires.owner;
+  behind = λ some. absurd (omega arith);
+}

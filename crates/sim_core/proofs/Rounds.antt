@@ -290,3 +290,9 @@ module _ (first now next : CoreView) (before ticks later count at idle : ℕ) (r
     where
       add : (a b : ℕ) → a + (b + (count - (idle + 1))) < a + (b + (count - idle))
       add a b = omega arith
+
+-- ---- where no outcome is assumed
+
+pub goes_verified : (v w : CoreView) (before after : ℕ) → IsAgreed (design v.plan) (lockstep_run v.plan) v.plan.cycles (theory_of v) → FitsEngine v.plan → Goes v before w after → AllVerified (theory_of v) → AllVerified (theory_of w)
+goes_verified v w before after agreed fits g f =
+    (all_rise (design v.plan) (lockstep_run v.plan) (plan_is_design v.plan fits) (run_is_history v.plan fits) v.plan.cycles (theory_of v) agreed f g.actions (theory_of w) g.all).2

@@ -1,0 +1,286 @@
+-- A run that waits is fed with the replies that are found for its newest step.
+use Rattle.std.proofs.Common.{◌≡◌, refl, sym, ap, ap₂, subst, ◌∙◌, ℕ, suc, ◌+◌, ◌-◌, ◌^◌, ◌<◌, ◌≤◌, inl, inr, Bool, true, false, cond, not, ltb, ◌&&◌, ◌||◌, List, [], ◌∷◌, length, map, drop, get_or, arith, length-drop}
+use Rattle.std.specs.Prelude.{All, Option, Some, None, slice_get}
+use Rattle.std.proofs.lemmas.Option.{get_or_from_slice_get}
+use Rattle.flow_word.specs.declared.access.Step.{Step}
+use Rattle.engine_view.specs.Rooms.{query_bound}
+use Rattle.engine_view.proofs.Emitted.{queries_mono}
+use Rattle.std.proofs.lemmas.Bool.{cases_Bool, both_ways, and_from, and_parts, or_left, or_right, lt-ltb, le-leb}
+use Rattle.std.proofs.lemmas.Bool.Decides.{eqb_tells}
+use Rattle.std.proofs.lemmas.List.Elements.{All-head, All-tail}
+use Rattle.flow_word.specs.declared.access.Access.{Access}
+use Rattle.flow_word.specs.declared.access.Kind.{Kind}
+use Rattle.flow_word.specs.declared.access.Kind.TheVariants.{Read, Write, TryRead, TryWrite, Empty, Full}
+use Rattle.flow_design.specs.StaticRules.{FitsEngine}
+use Rattle.flow_design.specs.declared.plan.Plan.{Plan}
+use Rattle.flow_design.specs.declared.state.ModuleState.{ModuleState}
+use Rattle.flow_design.specs.declared.state.Reply.{Reply}
+use Rattle.flow_design.specs.declared.state.Request.{Request}
+use Rattle.fifo_table.specs.Channels.{Channel}
+use Rattle.query_log.specs.Logs.{log_at}
+use Rattle.lockstep_defs.specs.Channels.{Exchange, reply_by}
+use Rattle.lockstep_defs.specs.Lockstep.{requests_of}
+use Rattle.lockstep_defs.specs.OwnRun.{Own, access_of}
+use Rattle.module_interp.specs.declared.run.ModuleRun.{ModuleRun}
+use Rattle.module_interp.specs.OwnRests.{done_in, next_rest, accesses_at, fits_kind, all_fit}
+use Rattle.module_interp.specs.Runs.{StandsAt, waits}
+use Rattle.flow_word.specs.Kinds.{side_of, is_blocking, is_taking, same_side}
+use Rattle.flow_word.specs.declared.access.Side.{Side}
+use Rattle.flow_word.specs.declared.access.Side.TheVariants.{Pop, Push}
+use Rattle.event_timing.specs.Machines as theory
+use Rattle.event_timing.specs.Machines.{is_some_access}
+use Rattle.event_timing.specs.Core.{Core, core_values, core_tally, values_there, all_below, pops_now}
+use Rattle.event_timing.specs.Actions.{MayRun}
+use Rattle.event_timing.specs.Agreement.{AreOwnMarks, FlagsFit}
+use Rattle.timing_bridge.specs.Designs as bridge
+use Rattle.timing_bridge.specs.Designs.{design, told_all}
+use Rattle.time_engine.specs.Conditions.{IsAccess}
+use Rattle.event_graph.specs.Lanes.{no_lane, lane_at}
+use Rattle.engine_view.specs.Held.{Held, no_step, step_of, emitted_of, seen, queries_in, flags_of, are_among, values_at, replies_by, core_of}
+use Rattle.engine_view.specs.Shown.{IsSound, queries_before}
+use Rattle.engine_view.proofs.Reading.{reply_is}
+use Rattle.engine_view.proofs.Answered.{among_is}
+use Rattle.sim_core.specs.Found.{replies_now}
+use Rattle.sim_core.specs.Runs.{IsRunOf, IsAnswered, rest_behind}
+use Rattle.sim_core.proofs.Replying.{replies_found, AreAsMany, found_fit}
+use Rattle.sim_core.proofs.Resting.{rest_is}
+use Rattle.sim_core.proofs.Staying.{tell, fed_is}
+use Rattle.sim_core.proofs.Finding.{values_now, are_found, not_found}
+
+-- ---- kinds
+
+abbrev kind_by : Side → Bool → Bool → Kind
+kind_by Pop true t = Read
+kind_by Push true t = Write
+kind_by Pop false true = TryRead
+kind_by Push false true = TryWrite
+kind_by Pop false false = Empty
+kind_by Push false false = Full
+
+kind_is : (k : Kind) → kind_by (side_of k) (is_blocking k) (is_taking k) ≡ k
+kind_is Read = refl
+kind_is Write = refl
+kind_is TryRead = refl
+kind_is TryWrite = refl
+kind_is Empty = refl
+kind_is Full = refl
+
+kind_same : (r : Request) (a : Access) → bridge.seen r ≡ seen a → r.kind ≡ a.kind
+kind_same r a e = sym (kind_is r.kind) ∙ (ap (λ (z : theory.Access). kind_by z.side z.blocks z.takes) e ∙ kind_is a.kind)
+
+no_access : theory.Access
+no_access = record { side = Pop; blocks = false; takes = false; channel = 0; value = 0 }
+
+heads : (x y : theory.Access) (xs ys : List theory.Access) → x ∷ xs ≡ y ∷ ys → x ≡ y
+heads x y xs ys e = ap (λ (zs : List theory.Access). get_or zs 0 no_access) e
+
+tails : (x y : theory.Access) (xs ys : List theory.Access) → x ∷ xs ≡ y ∷ ys → xs ≡ ys
+tails x y xs ys e = ap (λ (zs : List theory.Access). drop 1 zs) e
+
+-- ---- replies
+
+told_one : (k : Kind) (b : Bool) (v : ℕ) → (is_blocking k ≡ true → b ≡ true) → reply_by k b (cond (is_taking k && (same_side (side_of k) Pop && b)) v 0) ≡ reply_by k b v
+told_one Read true v f = refl
+told_one Read false v f = let e = f refl in cc
+told_one Write b v f = refl
+told_one TryRead true v f = refl
+told_one TryRead false v f = refl
+told_one TryWrite b v f = refl
+told_one Empty b v f = refl
+told_one Full b v f = refl
+
+told_found : (channels : List Channel) (rs : List Request) (xs : List Access) (bs : List Bool) → map bridge.seen rs ≡ map seen xs → FlagsFit (map seen xs) bs
+    → told_all rs (replies_by channels xs bs) ≡ replies_found channels xs bs
+told_found channels [] [] bs e f = refl
+told_found channels [] (a ∷ xs) bs e f = cc
+told_found channels (r ∷ rs) [] bs e f = cc
+told_found channels (r ∷ rs) (a ∷ xs) [] e f = absurd f
+told_found channels (r ∷ rs) (a ∷ xs) (b ∷ bs) e (f, fs) =
+    ap₂ (λ (q : Reply) (qs : List Reply). q ∷ qs)
+    (ap (λ (k : Kind). reply_by k b (cond (pops_now (seen a) b) (get_or (values_at channels a.channel) (a.ordinal - 1) 0) 0)) (kind_same r a (heads _ _ _ _ e))
+    ∙ told_one a.kind b (get_or (values_at channels a.channel) (a.ordinal - 1) 0) f)
+    (told_found channels rs xs bs (tails _ _ _ _ e) fs)
+
+fit_same : (before : List Exchange) (rs : List Request) (xs : List Access) (qs : List Reply) → map bridge.seen rs ≡ map seen xs → all_fit (map (access_of before) rs) qs ≡ all_fit xs qs
+fit_same before [] [] qs e = refl
+fit_same before [] (a ∷ xs) qs e = cc
+fit_same before (r ∷ rs) [] qs e = cc
+fit_same before (r ∷ rs) (a ∷ xs) [] e = refl
+fit_same before (r ∷ rs) (a ∷ xs) (q ∷ qs) e =
+    ap₂ (λ (b c : Bool). b && c) (ap (λ (k : Kind). fits_kind k q) (kind_same r a (heads _ _ _ _ e))) (fit_same before rs xs qs (tails _ _ _ _ e))
+
+as_many : (xs : List Access) (bs : List Bool) → FlagsFit (map seen xs) bs → AreAsMany xs bs
+as_many [] [] f = tt
+as_many [] (b ∷ bs) f = f
+as_many (a ∷ xs) [] f = f
+as_many (a ∷ xs) (b ∷ bs) (f, fs) = as_many xs bs fs
+
+-- each pop has its value, as the theory says it
+there_same : (channels : List Channel) (V : ℕ → List ℕ) (t : Side → ℕ → ℕ) (xs : List Access) (bs : List Bool) → All (λ (a : Access). a.ordinal ≡ suc (t (side_of a.kind) a.channel)) xs
+    → All (λ (a : Access). values_at channels a.channel ≡ V a.channel) xs → all_below (λ c. length (V c)) (t Pop) (map seen xs) bs ≡ values_now channels xs bs
+there_same channels V t [] bs o v = refl
+there_same channels V t (a ∷ xs) [] o v = refl
+there_same channels V t (a ∷ xs) (b ∷ bs) o v =
+    ap₂ (λ (p q : Bool). p && q)
+    (here (side_of a.kind) refl)
+    (there_same channels V t xs bs (All-tail (λ (a : Access). a.ordinal ≡ suc (t (side_of a.kind) a.channel)) a xs o) (All-tail (λ (a : Access). values_at channels a.channel ≡ V a.channel) a xs v))
+  where
+    mine : a.ordinal ≡ suc (t (side_of a.kind) a.channel)
+    mine = All-head (λ (a : Access). a.ordinal ≡ suc (t (side_of a.kind) a.channel)) a xs o
+
+    values : values_at channels a.channel ≡ V a.channel
+    values = All-head (λ (a : Access). values_at channels a.channel ≡ V a.channel) a xs v
+
+    here : (side : Side) → side_of a.kind ≡ side
+        → (not (pops_now (seen a) b) || ltb (t Pop a.channel) (length (V a.channel))) ≡ (not (pops_now (seen a) b) || ltb (a.ordinal - 1) (length (values_at channels a.channel)))
+    here Pop e =
+        let n : a.ordinal ≡ suc (t Pop a.channel) = mine ∙ ap (λ (s : Side). suc (t s a.channel)) e in
+        let z : t Pop a.channel ≡ a.ordinal - 1 = omega arith in
+        ap₂ (λ (k : ℕ) (vs : List ℕ). not (pops_now (seen a) b) || ltb k (length vs)) z (sym values)
+    here Push e =
+        let no : pops_now (seen a) b ≡ false = ap (λ (s : Side). is_taking a.kind && (same_side s Pop && b)) e ∙ none (is_taking a.kind) in
+        or_left _ _ (ap not no) ∙ sym (or_left _ _ (ap not no))
+      where
+        none : (q : Bool) → (q && false) ≡ false
+        none true = refl
+        none false = refl
+
+-- ---- the step that waits
+
+module _ (p : Plan) (fits : FitsEngine p) (h : Held) (s : IsSound (design p) h) (b : AreOwnMarks (design p) (core_of (design p) h)) (i k : ℕ) (newest : suc k ≡ emitted_of h i) (inside : i < length p.design.modules) where
+  abbrev d : theory.Design ModuleState
+  d = design p
+
+  abbrev x : Core ModuleState
+  x = core_of d h
+
+  abbrev step_accesses : List Access
+  step_accesses = (step_of h i k).accesses
+
+  abbrev os : List Bool
+  os = drop (step_of h i k).first_query (log_at h.logs i).outcomes
+
+  less : k < emitted_of h i
+  less = omega arith
+
+  seen_same : map bridge.seen (requests_of p (i, x.state i k)) ≡ map seen step_accesses
+  seen_same = s.accesses i k less
+
+  flags_fit : FlagsFit (map seen step_accesses) (flags_of h i k)
+  flags_fit = subst (λ (xs : List theory.Access). FlagsFit xs (flags_of h i k)) seen_same (b.fit i k less)
+
+  pub state_is : (rest_behind p x i k).state ≡ x.state i k
+  state_is = (rest_is p fits x b i inside k k (omega arith) (omega arith)).state ∙ sym (b.own_step i k less)
+
+  tell_is : tell p x i k ≡ replies_found h.channels step_accesses (flags_of h i k)
+  tell_is =
+      ap (told_all (requests_of p (i, x.state i k))) (sym (reply_is d h x s (λ n. refl) i k less refl))
+      ∙ told_found h.channels (requests_of p (i, x.state i k)) step_accesses (flags_of h i k) seen_same flags_fit
+
+  pub accesses_inside : All (IsAccess h.channels) step_accesses
+  accesses_inside = s.inside i no_lane (let n = s.lanes in omega arith) k no_step less
+
+  there_is : values_there d x i k ≡ values_now h.channels step_accesses (flags_of h i k)
+  there_is =
+      ap (λ (xs : List theory.Access). all_below (λ c. length (core_values d x c)) (λ c. core_tally d x i Pop c k) xs (flags_of h i k)) seen_same
+      ∙ there_same h.channels (core_values d x) (λ side c. core_tally d x i side c k) step_accesses (flags_of h i k) (s.ordinals i k less)
+      (λ j e l. s.values (get_or step_accesses j e).channel (inside_at j e l))
+    where
+      inside_at : (j : ℕ) (e : Access) → j < length step_accesses → (get_or step_accesses j e).channel < length h.channels
+      inside_at j e l = (accesses_inside j e l).channel
+
+  -- all replies are found
+  pub fed_fits : (rs : List Reply) → replies_now h.channels step_accesses os ≡ Some rs → all_fit (accesses_at p i (rest_behind p x i k)) rs ≡ true
+  fed_fits rs e =
+      let f = are_found h.channels step_accesses os rs e in
+      ap (λ (q : List Reply). all_fit (accesses_at p i (rest_behind p x i k)) q) f.replies
+      ∙ (fit_same (done_in (rest_behind p x i k).steps) (requests_of p (i, (rest_behind p x i k).state)) step_accesses _ (ap (λ (z : ModuleState). map bridge.seen (requests_of p (i, z))) state_is ∙ seen_same)
+      ∙ found_fit h.channels step_accesses (flags_of h i k) (as_many step_accesses (flags_of h i k) flags_fit))
+
+  pub fed_rest : (rs : List Reply) → replies_now h.channels step_accesses os ≡ Some rs → next_rest p i (rest_behind p x i k) rs ≡ rest_behind p x i (emitted_of h i)
+  fed_rest rs e =
+      let f = are_found h.channels step_accesses os rs e in
+      ap (next_rest p i (rest_behind p x i k)) (f.replies ∙ sym tell_is) ∙ (sym (fed_is p x i k) ∙ ap (rest_behind p x i) newest)
+
+  pub fed_answered : (rs : List Reply) → replies_now h.channels step_accesses os ≡ Some rs → IsAnswered p x i
+  fed_answered rs e j q =
+      let f = are_found h.channels step_accesses os rs e in
+      let same : j ≡ k = omega arith in (
+        subst (λ (n : ℕ). x.answered i n ≡ true) (sym same) (and_from (ltb k (emitted_of h i)) _ (lt-ltb k (emitted_of h i) less) (among f.enough)),
+        subst (λ (n : ℕ). values_there d x i n ≡ true) (sym same) (there_is ∙ f.there),
+      )
+    where
+      among : queries_in step_accesses ≤ length os → are_among (step_of h i k) (length (log_at h.logs i).outcomes) ≡ true
+      among l =
+          let n = length-drop (step_of h i k).first_query (log_at h.logs i).outcomes in
+          elim (eqb_tells (queries_in step_accesses) 0) [
+            | inl q ↦ or_left _ _ q.0
+            | inr q ↦ let some = q.1 in or_right _ _ (le-leb ((step_of h i k).first_query + queries_in step_accesses) (length (log_at h.logs i).outcomes) (omega arith))
+          ]
+
+  -- or some are not there
+  pub not_fed : replies_now h.channels step_accesses os ≡ None → MayRun d x i → ⊥
+  not_fed e may =
+      let among = (and_parts (ltb k (emitted_of h i)) (are_among (step_of h i k) (length (log_at h.logs i).outcomes)) (may.answered k newest)).1 in
+      not_found h.channels step_accesses os e (enough among) (sym there_is ∙ may.there k newest)
+    where
+      enough : are_among (step_of h i k) (length (log_at h.logs i).outcomes) ≡ true → queries_in step_accesses ≤ length os
+      enough a =
+          let n = length-drop (step_of h i k).first_query (log_at h.logs i).outcomes in
+          elim (among_is (step_of h i k) (length (log_at h.logs i).outcomes) a) [ inl q ↦ omega arith | inr q ↦ omega arith ]
+
+-- ---- the step that a run is asked about
+
+module _ (p : Plan) (fits : FitsEngine p) (h : Held) (s : IsSound (design p) h) (b : AreOwnMarks (design p) (core_of (design p) h)) (i : ℕ) (inside : i < length h.lanes) (run : ModuleRun)
+    (r : IsRunOf p (core_of (design p) h) i run) (w : waits run ≡ true) where
+  abbrev k : ℕ
+  k = emitted_of h i - 1
+
+  pub asked_some : suc k ≡ emitted_of h i
+  asked_some = let (n, newest, stands) = r.waiting w in omega arith
+
+  within : i < length p.design.modules
+  within = let n = s.lanes in omega arith
+
+  pub asked_stands : StandsAt p i (rest_behind p (core_of (design p) h) i k) run
+  asked_stands =
+      let (n, newest, stands) = r.waiting w in
+      let same : n ≡ k = omega arith in
+      subst (λ (j : ℕ). StandsAt p i (rest_behind p (core_of (design p) h) i j) run) same stands
+
+  module _ (step : Step) (there : slice_get (lane_at h.lanes i).steps k ≡ Some step) where
+    is : step_of h i k ≡ step
+    is = get_or_from_slice_get (lane_at h.lanes i).steps k step no_step there
+
+    abbrev found : Step → Option (List Reply)
+    found t = replies_now h.channels t.accesses (drop t.first_query (log_at h.logs i).outcomes)
+
+    pub asked_inside : All (IsAccess h.channels) step.accesses
+    asked_inside = let e = asked_some in subst (λ (t : Step). All (IsAccess h.channels) t.accesses) is (s.inside i no_lane inside k no_step (omega arith))
+
+    pub asked_few : queries_before h i (emitted_of h i) < query_bound → step.first_query < query_bound
+    asked_few few =
+        let e = asked_some in
+        let first = s.first_query i k (omega arith) in
+        let most = queries_mono h i k (emitted_of h i) (omega arith) in
+        subst (λ (t : Step). t.first_query < query_bound) is (omega arith)
+
+    pub asked_not_fed : found step ≡ None → MayRun (design p) (core_of (design p) h) i → ⊥
+    asked_not_fed e = not_fed p fits h s b i k asked_some within (ap found is ∙ e)
+
+    pub asked_fits : (rs : List Reply) → found step ≡ Some rs → all_fit (accesses_at p i (rest_behind p (core_of (design p) h) i k)) rs ≡ true
+    asked_fits rs e = fed_fits p fits h s b i k asked_some within rs (ap found is ∙ e)
+
+    -- fed, the run goes on to the next rest
+    pub asked_run : (rs : List Reply) → found step ≡ Some rs → (new : ModuleRun)
+        → ((q : Plan) (j : ℕ) (o : Own) → StandsAt q j o run → StandsAt q j (next_rest q j o rs) new) → waits new ≡ false → IsRunOf p (core_of (design p) h) i new
+    asked_run rs e new go answered =
+        let e' : found (step_of h i k) ≡ Some rs = ap found is ∙ e in
+        record {
+          waiting = λ q. absurd (both_ways _ answered q);
+          going = λ q. (
+            fed_answered p fits h s b i k asked_some within rs e',
+            subst (λ (o : Own). StandsAt p i o new) (fed_rest p fits h s b i k asked_some within rs e') (go p i _ asked_stands),
+          );
+          over = λ q. answered;
+        }

@@ -1,0 +1,78 @@
+-- A core stays one behind a permitted action.
+use Rattle.std.proofs.Common.{◌≡◌, refl, sym, ap, subst, ◌∙◌, ℕ, zero, suc, ◌<◌, ◌≤◌, ◌⊎◌, inl, inr, Bool, true, false, List, [], ◌∷◌, length, map, get_or, Option, None, Some, is_some, arith}
+use Rattle.std.proofs.lemmas.Bool.{both_ways}
+use Rattle.std.proofs.lemmas.Bool.Decides.{eqb_tells}
+use Rattle.flow_design.specs.declared.plan.Plan.{Plan}
+use Rattle.flow_design.specs.declared.state.Advance.{Advance}
+use Rattle.flow_design.specs.declared.state.ModuleState.{ModuleState}
+use Rattle.fifo_table.specs.declared.channel.TableChannel.{TableChannel}
+use Rattle.module_interp.specs.declared.run.ModuleRun.{ModuleRun}
+use Rattle.event_timing.specs.Machines.{Design}
+use Rattle.event_timing.specs.Core.{Core}
+use Rattle.event_timing.specs.Actions.{Action, Acts, IsNoRunOf}
+use Rattle.event_timing.specs.Growth.{GrowsBeside}
+use Rattle.event_timing.proofs.Agreement.{acts_agree}
+use Rattle.event_timing.proofs.Beside.{others_grow}
+use Rattle.timing_bridge.specs.Designs.{design, lockstep_run}
+use Rattle.timing_bridge.proofs.History.{plan_is_design, run_is_history}
+use Rattle.engine_view.specs.Held.{Held, core_of}
+use Rattle.engine_view.specs.Shown.{IsSound}
+use Rattle.engine_view.specs.Rooms.{IsRoomy}
+use Rattle.engine_view.specs.Stored.{Stored, held_in}
+use Rattle.engine_view.specs.Taking.{kinds_in}
+use Rattle.engine_view.specs.Kept.{IsKept}
+use Rattle.sim_core.specs.Opening.{kinds_of}
+use Rattle.sim_core.specs.Runs.{IsCore, IsEndOf, over_of}
+use Rattle.sim_core.proofs.Staying.{run_stays, end_stays}
+
+-- a module that is over has no Run
+no_run_of_over : {S : Type 0} (d : Design S) (limit : ℕ) (x y : Core S) (a : Action) (m : ℕ) → Acts d limit x a y → x.over m ≡ true → IsNoRunOf m (a ∷ [])
+no_run_of_over {S} d limit x y (Action.Run n) m (may, is) over =
+    ((λ e. both_ways _ may.lives (subst (λ (k : ℕ). x.over k ≡ true) e over)), tt)
+no_run_of_over {S} d limit x y (Action.Assign n) m acts over = tt
+no_run_of_over {S} d limit x y (Action.Answer n) m acts over = tt
+no_run_of_over {S} d limit x y (Action.Earliest n) m acts over = tt
+
+pub over_at : (ends : List (Option Advance)) (m : ℕ) → get_or (over_of ends) m false ≡ is_some (get_or ends m None)
+over_at [] m = refl
+over_at (e ∷ es) zero = refl
+over_at (e ∷ es) (suc m) = over_at es m
+
+-- the conditions of the turns at a module, and of an Earliest
+pub kept_of : (p : Plan) (s : Stored) (ends : List (Option Advance)) (runs : List (Option ModuleRun)) (credits : List ℕ) → IsCore p s ends runs credits → IsKept (design p) (held_in s (over_of ends))
+kept_of p s ends runs credits k = record { sound = k.sound; marks = k.agreed.marks; earlier = k.agreed.time.verified_then }
+
+module _ (p : Plan) (s t : Stored) (ends others : List (Option Advance)) (runs : List (Option ModuleRun)) (credits left : List ℕ) (k : IsCore p s ends runs credits) (a : Action) where
+  abbrev d : Design ModuleState
+  d = design p
+
+  abbrev x : Core ModuleState
+  x = core_of d (held_in s (over_of ends))
+
+  abbrev y : Core ModuleState
+  y = core_of d (held_in t (over_of others))
+
+  beside : Acts d p.cycles x a y → (m : ℕ) → IsNoRunOf m (a ∷ []) → GrowsBeside d x y m
+  beside acts m none = others_grow d (lockstep_run p) (plan_is_design p k.fits) (run_is_history p k.fits) p.cycles x k.agreed m (a ∷ []) none y (y, acts, refl)
+
+  -- the runs of other modules stay where they stand, and so do the ends
+  pub core_acted : Acts d p.cycles x a y → IsSound d (held_in t (over_of others)) → kinds_in t.table.channels ≡ kinds_in s.table.channels → length left ≡ length credits → IsRoomy d t (over_of others) left
+      → ((m : ℕ) (run : ModuleRun) → get_or runs m None ≡ Some run → IsNoRunOf m (a ∷ []))
+      → ((m : ℕ) (mark : Advance) → get_or others m None ≡ Some mark → (get_or ends m None ≡ Some mark) ⊎ IsEndOf p y m mark) → IsCore p t others runs left
+  core_acted acts sound kinds credit room no_run ends_of = record {
+    fits = k.fits;
+    sound = sound;
+    agreed = acts_agree d (lockstep_run p) (plan_is_design p k.fits) (run_is_history p k.fits) p.cycles x k.agreed a y acts;
+    table = kinds ∙ k.table;
+    count = k.count ∙ (k.sound.lanes ∙ sym sound.lanes);
+    counted = credit ∙ (k.counted ∙ (k.sound.lanes ∙ sym sound.lanes));
+    room = room;
+    runs_are = λ m run there. run_stays p x y k.agreed.marks m (beside acts m (no_run m run there)) run (k.runs_are m run there);
+    ends_are = λ m mark there.
+        elim (ends_of m mark there) [
+          | inl e ↦
+              let over : x.over m ≡ true = over_at ends m ∙ ap is_some e in
+              end_stays p x y k.agreed.marks m (beside acts m (no_run_of_over d p.cycles x y a m acts over)) mark (k.ends_are m mark e)
+          | inr e ↦ e
+        ];
+  }

@@ -1,0 +1,13 @@
+pub mod Resting
+pub mod Marking
+pub mod Finding
+pub mod Replying
+pub mod Staying
+pub mod Fed
+pub mod Keeping
+pub mod Emitting
+pub mod Lending
+pub mod Ports
+pub mod Turning
+pub mod Rounds
+pub mod Beginning

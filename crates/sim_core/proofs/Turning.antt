@@ -1,0 +1,258 @@
+-- What the calls over a graph, a table and a log do to a core: cycles and answers.
+use Rattle.std.proofs.Common.{◌≡◌, refl, sym, ap, ap₂, subst, ◌∙◌, ℕ, zero, suc, ◌+◌, ◌-◌, ◌*◌, ◌<◌, ◌≤◌, ◌⊎◌, inl, inr, Bool, true, false, cond, ltb, ◌&&◌, eqb, ◌||◌, List, [], ◌∷◌, length, map, get_or, set, Option, None, Some, is_some, unwrap_or, arith}
+use Rattle.std.proofs.lemmas.Bool.{cases_Bool, cases_lt, both_ways, and_parts, and_from, lt-ltb}
+use Rattle.std.proofs.lemmas.List.{get_or_past, get_or-set_same, get_or-set_other}
+use Rattle.std.proofs.lemmas.Bool.Decides.{eqb_tells}
+use Rattle.fifo_table.specs.Channels.{Channel}
+use Rattle.std.proofs.lemmas.Option.{get_or_from_slice_get}
+use Rattle.std.specs.Prelude.{slice_get, ◌↔◌}
+use Rattle.flow_word.specs.declared.access.Step.{Step}
+use Rattle.flow_design.specs.declared.plan.Plan.{Plan}
+use Rattle.flow_design.specs.declared.state.Advance.{Advance}
+use Rattle.flow_design.specs.declared.state.ModuleState.{ModuleState}
+use Rattle.module_interp.specs.declared.run.ModuleRun.{ModuleRun}
+use Rattle.event_graph.specs.Lanes.{Lane, lane_at, no_lane}
+use Rattle.event_graph.specs.declared.candidate.Candidate.{Candidate}
+use Rattle.event_graph.specs.declared.candidate.Candidate.TheVariants.{At, Nothing}
+use Rattle.query_log.specs.Logs.{log_at}
+use Rattle.query_log.specs.declared.query.Query.{Query}
+use Rattle.query_resolve.specs.Earliest.{cycle_of, IsEarliest}
+use Rattle.outcome_guard.specs.declared.guard.Guard.{Guard}
+use Rattle.outcome_guard.specs.declared.guard.Guard.TheVariants as guard
+use Rattle.time_engine.specs.Cycles.{determined}
+use Rattle.event_timing.specs.Machines.{Design, IsDesign}
+use Rattle.event_timing.specs.Views.{first_accesses}
+use Rattle.event_timing.specs.Enablers.{candidate, known_of, all_decided}
+use Rattle.event_timing.specs.Core.{Core, view}
+use Rattle.event_timing.specs.Work.{sum_to}
+use Rattle.event_timing.specs.Actions.{Action, Acts, MayRun, MayAssign, MayAnswer, MayEarliest, IsOpen, IsQuiet, IsFinal, IsDetermined, after_answer}
+use Rattle.event_timing.specs.Actions.Action.{Assign, Answer, Earliest}
+use Rattle.event_timing.proofs.Assigning.{put_at_same}
+use Rattle.event_timing.proofs.Answering.{first_emitted}
+use Rattle.timing_bridge.specs.Designs.{design}
+use Rattle.timing_bridge.proofs.History.{plan_is_design}
+use Rattle.engine_view.specs.declared.turn.Timing.{Timing}
+use Rattle.engine_view.specs.declared.turn.Timing.TheVariants.{Assigned, Answered, Differs}
+use Rattle.engine_view.specs.declared.turn.Timing.TheVariants as turn
+use Rattle.engine_view.specs.Held.{Held, no_step, emitted_of, step_of, are_among, core_of}
+use Rattle.engine_view.specs.Kept.{IsKept}
+use Rattle.engine_view.specs.Rooms.{IsRoomy}
+use Rattle.engine_view.specs.Stored.{Stored, held_in}
+use Rattle.engine_view.specs.Taking.{kinds_in}
+use Rattle.engine_view.specs.Turns.{HasTimed, HasAnswered, KeepsRoom, HasUnsure, IsIdle, IsSomeCore, first_of, left_of, left}
+use Rattle.engine_view.proofs.Bounds.{candidate_is}
+use Rattle.sim_core.specs.Views.{CoreView, theory_of}
+use Rattle.sim_core.specs.Runs.{IsCore, over_of}
+use Rattle.sim_core.specs.Turns.{HasTurned, HasAnsweredLeast, IsEarliestOther}
+use Rattle.sim_core.specs.Candidates.{AreCandidates}
+use Rattle.sim_core.proofs.Keeping.{core_acted, kept_of}
+
+-- ---- what is left to do is read off the core
+
+left_by : {S : Type 0} → Core S → ℕ → ℕ
+left_by {S} x m = 2 * (x.emitted m - x.timed m) + cond {A = ℕ} (ltb (x.timed m) (x.emitted m)) (cond {A = ℕ} (x.verified m (x.timed m)) 0 1) 0
+
+left_is : {S : Type 0} (d : Design S) (h : Held) (m : ℕ) → left_of h m ≡ left_by (core_of d h) m
+unfolding left_of left_by
+left_is {S} d h m =
+    elim (cases_lt (first_of h m) (emitted_of h m)) [
+      | inl l ↦ ap (λ (n : ℕ). 2 * (emitted_of h m - first_of h m) + n) (there (ltb (first_of h m) (emitted_of h m)) _ (lt-ltb (first_of h m) (emitted_of h m) l))
+      | inr l ↦
+          let none : step_of h m (first_of h m) ≡ no_step = get_or_past (lane_at h.lanes m).steps (first_of h m) no_step l in
+          let all : are_among (step_of h m (first_of h m)) (log_at h.logs m).verified ≡ true = ap (λ (t : Step). are_among t (log_at h.logs m).verified) none in
+          ap (λ (n : ℕ). 2 * (emitted_of h m - first_of h m) + n) (past (ltb (first_of h m) (emitted_of h m)) _ all)
+    ]
+  where
+    there : (a b : Bool) → a ≡ true → cond {A = ℕ} b 0 1 ≡ cond {A = ℕ} a (cond {A = ℕ} (a && b) 0 1) 0
+    there true b e = refl
+    there false b e = cc
+
+    past : (a b : Bool) → b ≡ true → cond {A = ℕ} b 0 1 ≡ cond {A = ℕ} a (cond {A = ℕ} (a && b) 0 1) 0
+    past true true e = refl
+    past false true e = refl
+    past a false e = cc
+
+sum_same : (f g : ℕ → ℕ) (n : ℕ) → ((m : ℕ) → f m ≡ g m) → sum_to f n ≡ sum_to g n
+unfolding sum_to
+sum_same f g zero e = refl
+sum_same f g (suc n) e = ap₂ (λ (a b : ℕ). a + b) (sum_same f g n e) (e n)
+
+-- where less is left, the core is another
+pub changed : {S : Type 0} (d : Design S) (s t : Stored) (over : List Bool) → length t.graph.lanes ≡ length s.graph.lanes → left t < left s → core_of d (held_in t over) ≡ core_of d (held_in s over) → ⊥
+unfolding left
+changed {S} d s t over same less e =
+    let each : (m : ℕ) → left_of (held_in t []) m ≡ left_of (held_in s []) m = λ m.
+    left_is d (held_in t []) m ∙ (ap (λ (x : Core S). left_by x m) (bare_same e) ∙ sym (left_is d (held_in s []) m)) in
+    let sums = sum_same (left_of (held_in t [])) (left_of (held_in s [])) (length t.graph.lanes) each in
+    let counts = ap (sum_to (left_of (held_in s []))) same in
+    absurd (omega arith)
+  where
+    bare_same : core_of d (held_in t over) ≡ core_of d (held_in s over) → core_of d (held_in t []) ≡ core_of d (held_in s [])
+    bare_same q = ap (λ (x : Core S). record x { over = λ m. get_or [] m false }) q
+
+-- ---- what a call asks, and leaves
+
+module _ (p : Plan) (s t : Stored) (ends : List (Option Advance)) (runs : List (Option ModuleRun)) (credits : List ℕ) (k : IsCore p s ends runs credits) where
+  abbrev over : List Bool
+  over = over_of ends
+
+  abbrev d : Design ModuleState
+  d = design p
+
+  is_design : IsDesign d
+  is_design = plan_is_design p k.fits
+
+  kept : IsKept d (held_in s over)
+  kept = kept_of p s ends runs credits k
+
+  pub some_core : IsSomeCore s
+  some_core = (d, over, credits, is_design, kept, k.room)
+
+  same_core : t ≡ s → IsCore p t ends runs credits
+  same_core e = subst (λ (u : Stored). IsCore p u ends runs credits) (sym e) k
+
+  -- the lists that the view has
+  abbrev seen : Stored → List Bool → CoreView
+  seen u lent = record { plan = p; held = held_in u over; lent = lent }
+
+  pub core_timed : (m : ℕ) (r : Timing) → HasTimed r p.cycles m s t → KeepsRoom s t → kinds_in t.table.channels ≡ kinds_in s.table.channels → IsCore p t ends runs credits
+  core_timed m (Assigned c) done room kinds =
+      let leads = done d over is_design kept in
+      core_acted p s t ends ends runs credits credits k (Assign m) leads.acts leads.kept.sound kinds refl (room credits d over is_design kept k.room) (λ n run e. tt) (λ n mark e. inl e)
+  core_timed m (Answered c) done room kinds =
+      let leads = done d over is_design kept in
+      core_acted p s t ends ends runs credits credits k (Answer m) leads.acts leads.kept.sound kinds refl (room credits d over is_design kept k.room) (λ n run e. tt) (λ n mark e. inl e)
+  core_timed m (Differs q) (e, f) room kinds = same_core e
+  core_timed m turn.Nothing (e, f) room kinds = same_core e
+
+  pub turned : (m : ℕ) (r : Timing) (lent : List Bool) → HasTimed r p.cycles m s t → ((c : ℕ) → r ≡ Answered c → core_of d (held_in t over) ≡ core_of d (held_in s over) → ⊥) → HasTurned r (seen s lent) m (seen t lent)
+  turned m (Assigned c) lent done changed = (done d over is_design kept).acts
+  turned m (Answered c) lent done changed = ((done d over is_design kept).acts, changed c refl)
+  turned m (Differs q) lent (e, f) changed = (ap (λ (u : Stored). seen u lent) e, f d over is_design kept)
+  turned m turn.Nothing lent (e, f) changed = (ap (λ (u : Stored). seen u lent) e, f d over is_design kept)
+
+  -- ---- the least open step
+
+  abbrev h : Held
+  h = held_in s over
+
+  abbrev x : Core ModuleState
+  x = core_of d h
+
+  determined_is : (m c : ℕ) → determined h.lanes h.channels m ≡ Some c → candidate d (view d x) m ≡ Some c
+  determined_is m c e = sym (candidate_is d is_design h k.sound m) ∙ e
+
+  emitted_there : (m c : ℕ) → candidate d (view d x) m ≡ Some c → m < length h.lanes
+  emitted_there m c e =
+      elim (cases_lt m (length h.lanes)) [
+        | inl l ↦ l
+        | inr l ↦
+            let none : lane_at h.lanes m ≡ no_lane = get_or_past h.lanes m no_lane l in
+            let zero : emitted_of h m ≡ 0 = ap (λ (q : Lane). length q.steps) none in
+            let first = first_emitted d x m c e in
+            absurd (omega arith)
+      ]
+
+  module _ (quiet : IsQuiet d p.cycles x) where
+    open_at : (m c : ℕ) → candidate d (view d x) m ≡ Some c → c < p.cycles → IsOpen d p.cycles x m c
+    open_at m c e l =
+        let now : IsDetermined d p.cycles x m c = record { at = e; below = l } in
+        elim (cases_Bool (x.verified m (x.timed m))) [
+          | inl v ↦ absurd (quiet.no_assign m c (record { determined = now; verified = v }))
+          | inr v ↦ elim (cases_Bool (all_decided (known_of d (view d x) m) (first_accesses (view d x) m))) [
+            | inl q ↦ absurd (quiet.no_answer m c (record { determined = now; open_query = v; decided = q }))
+            | inr q ↦ record { determined = now; open_query = v; undecided = q }
+          ]
+        ]
+
+    module _ (candidates : List Candidate) (count : length candidates ≡ length h.lanes) (all : AreCandidates h.lanes h.channels p.cycles (length h.lanes) candidates) where
+      at_of : (m c : ℕ) → slice_get candidates m ≡ Some (At c) → m < length h.lanes → (candidate d (view d x) m ≡ Some c) × (c < p.cycles)
+      at_of m c e l =
+          let (is, below) = (all m c l).0 (get_or_from_slice_get candidates m (At c) Nothing e) in
+          (determined_is m c is, below)
+
+      none_open : ((m : ℕ) (c : Candidate) → m < length candidates → cycle_of (get_or candidates m c) ≡ None) → (n e : ℕ) → IsOpen d p.cycles x n e → ⊥
+      none_open none n e o =
+          let inside = emitted_there n e o.determined.at in
+          let at : get_or candidates n Nothing ≡ At e = (all n e inside).1 (candidate_is d is_design h k.sound n ∙ o.determined.at, o.determined.below) in
+          let no : cycle_of (At e) ≡ None = ap cycle_of (sym at) ∙ none n Nothing (omega arith) in
+          cc
+
+      pub final_if : ((m : ℕ) (c : Candidate) → m < length candidates → cycle_of (get_or candidates m c) ≡ None) → IsFinal d p.cycles x
+      final_if none = record { quiet = quiet; no_earliest = λ n e may. none_open none n e may.open_step }
+
+      module _ (m c : ℕ) (first : IsEarliest candidates m c) where
+        pub least_inside : m < length h.lanes
+        least_inside =
+            elim (cases_lt m (length candidates)) [
+              | inl l ↦ omega arith
+              | inr l ↦ let none = first.here in absurd (past candidates m l none)
+            ]
+          where
+            past : (cs : List Candidate) (n : ℕ) → length cs ≤ n → slice_get cs n ≡ Some (At c) → ⊥
+            past [] n l e = cc
+            past (a ∷ cs) zero l e = absurd (omega arith)
+            past (a ∷ cs) (suc n) l e = past cs n (omega arith) e
+
+        here_is : (candidate d (view d x) m ≡ Some c) × (c < p.cycles)
+        here_is = at_of m c first.here least_inside
+
+        pub least_may : MayEarliest d p.cycles x m c
+        least_may = record {
+          open_step = open_at m c here_is.0 here_is.1;
+          quiet = quiet;
+          least = λ n e o.
+              let inside = emitted_there n e o.determined.at in
+              let at : get_or candidates n Nothing ≡ At e = (all n e inside).1 (candidate_is d is_design h k.sound n ∙ o.determined.at, o.determined.below) in
+              first.least n e (there candidates n e (omega arith) at);
+        }
+          where
+            there : (cs : List Candidate) (n e : ℕ) → n < length cs → get_or cs n Nothing ≡ At e → slice_get cs n ≡ Some (At e)
+            there [] n e l q = absurd (omega arith)
+            there (a ∷ cs) zero e l q = ap Some q
+            there (a ∷ cs) (suc n) e l q = there cs n e (omega arith) q
+
+        pub least_unsure : HasUnsure (held_in s []) m
+        least_unsure =
+            let emitted = first_emitted d x m c here_is.0 in
+            record {
+              inside = least_inside;
+              there = emitted;
+              unsure = among_false (ltb (first_of h m) (emitted_of h m)) (are_among (step_of h m (first_of h m)) (log_at h.logs m).verified) (lt-ltb (first_of h m) (emitted_of h m) emitted)
+                  (least_may.open_step.open_query);
+            }
+          where
+            among_false : (a b : Bool) → a ≡ true → (a && b) ≡ false → b ≡ false
+            among_false true b e f = f
+            among_false false b e f = cc
+
+        pub core_answered : (g : Guard) → HasAnswered g m c s t → KeepsRoom s t → kinds_in t.table.channels ≡ kinds_in s.table.channels → IsCore p t ends runs credits
+        core_answered guard.Same done room kinds =
+            let a = done d over is_design kept in
+            core_acted p s t ends ends runs credits credits k (Earliest m) (c, least_may, inl (a.same, a.now.core)) a.now.kept.sound kinds refl (room credits d over is_design kept k.room) (λ n run e. tt) (λ n mark e. inl e)
+        core_answered (guard.Differs q) (e, f) room kinds = same_core e
+
+        pub least_answered : (g : Guard) (lent : List Bool) → HasAnswered g m c s t → HasAnsweredLeast (Some (m, g)) (seen s lent) (seen t lent)
+        least_answered guard.Same lent done =
+            let a = done d over is_design kept in (
+              (c, least_may, inl (a.same, a.now.core)),
+              λ e.
+                  let now : x.verified m (x.timed m) ≡ true = ap (λ (q : Core ModuleState). q.verified m (x.timed m)) (sym e ∙ a.now.core) ∙ put_at_same x.verified m (x.timed m) true in
+                  both_ways _ least_may.open_step.open_query now,
+            )
+        least_answered (guard.Differs q) lent (e, f) =
+            (ap (λ (u : Stored). seen u lent) e, record { cycle = c; may = least_may; found = f d over is_design kept })
+
+-- ---- the list of candidates
+
+pub candidates_more : (lanes : List Lane) (channels : List Channel) (limit n : ℕ) (candidates : List Candidate) (a : Candidate) → n < length candidates → AreCandidates lanes channels limit n candidates
+    → ((cycle : ℕ) → (a ≡ At cycle) ↔ ((determined lanes channels n ≡ Some cycle) × (cycle < limit))) → AreCandidates lanes channels limit (n + 1) (set candidates n a)
+candidates_more lanes channels limit n candidates a inside all now m cycle l =
+    elim (eqb_tells m n) [
+      | inl e ↦
+          subst (λ (k : ℕ). (get_or (set candidates n a) k Nothing ≡ At cycle) ↔ ((determined lanes channels k ≡ Some cycle) × (cycle < limit))) (sym e.1)
+          (subst (λ (c : Candidate). (c ≡ At cycle) ↔ ((determined lanes channels n ≡ Some cycle) × (cycle < limit))) (sym (get_or-set_same candidates n a Nothing inside)) (now cycle))
+      | inr e ↦
+          let f = e.1 in
+          subst (λ (c : Candidate). (c ≡ At cycle) ↔ ((determined lanes channels m ≡ Some cycle) × (cycle < limit))) (sym (get_or-set_other candidates n m a Nothing e.1)) (all m cycle (omega arith))
+    ]

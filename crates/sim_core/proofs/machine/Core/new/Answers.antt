@@ -1,0 +1,49 @@
+use Rattle.std.proofs.Common.{◌≡◌, sym, ap, ◌∙◌, List, length, map, false, replicate, is_some, arith}
+use Rattle.fifo_table.specs.declared.channel.TableChannel.{TableChannel}
+use Rattle.fifo_table.specs.Channels.{unused}
+use Rattle.flow_design.specs.declared.design.Module.{Module}
+use Rattle.timing_bridge.specs.Designs.{design}
+use Rattle.engine_view.specs.Held.{Held, core_of}
+use Rattle.engine_view.specs.Stored.{stored, held_in}
+use Rattle.sim_core.specs.Opening.{kinds_of, all_ports}
+use Rattle.sim_core.specs.Runs.{over_of}
+use Rattle.sim_core.proofs.Beginning as beginning
+use Rattle.sim_core.proofs.machine.Core.new.Goals as goal
+
+pub new-requires-clause-count : goal.new-requires-clause-count
+new-requires-clause-count c =
+    let e = ap (λ (ys : List TableChannel). length ys) (c.as_slice-2.ensures ∙ c.in_ok-kinds.ensures) in
+    let n = beginning.kinds_length c.args.plan c.requires in
+    let k = c.requires.channel_count in
+    omega arith
+
+pub new-requires-clause-kinds : goal.new-requires-clause-kinds
+new-requires-clause-kinds c = beginning.kinds_sound c.args.plan c.requires c.as_slice-2.result.now (c.as_slice-2.ensures ∙ c.in_ok-kinds.ensures)
+
+pub invariant_of-result : goal.invariant_of-result
+invariant_of-result c =
+    let n = length c.as_slice.result.now in
+    let s = stored c.in_ok-graph.graph c.in_ok-fifos.fifos c.in_ok-log.log in
+    let over : over_of c.in_ok-ends.ends.items ≡ replicate n false = ap over_of c.in_ok-ends.ensures ∙ beginning.none_over n in
+    let is = beginning.held_is n (kinds_of c.args.plan) (held_in s (over_of c.in_ok-ends.ends.items)) c.in_ok-graph.ensures
+    (c.in_ok-fifos.ensures ∙ ap (map unused) (c.as_slice-2.ensures ∙ c.in_ok-kinds.ensures)) c.in_ok-log.ensures over in
+    record {
+      core = beginning.core_begun c.args.plan c.requires n (ap (λ (xs : List Module). length xs) c.as_slice.ensures) s c.in_ok-ends.ends.items c.in_ok-runs.runs.items c.in_ok-credits.credits.items is over
+          c.in_ok-runs.ensures (c.in_ok-credits.ensures.items_if_clones_equal (λ x e. e));
+      ports_are = c.in_ok-ports.ensures ∙ ap all_ports c.len.ensures;
+      candidate_count = c.in_ok-candidates.ensures ∙ ap (λ (xs : List Module). length xs) c.as_slice.ensures;
+    }
+
+pub returns-clause-opening : goal.returns-clause-opening
+returns-clause-opening c =
+    let n = length c.as_slice.result.now in
+    let s = stored c.in_ok-graph.graph c.in_ok-fifos.fifos c.in_ok-log.log in
+    let over : over_of c.in_ok-ends.ends.items ≡ replicate n false = ap over_of c.in_ok-ends.ensures ∙ beginning.none_over n in
+    let is = beginning.held_is n (kinds_of c.args.plan) (held_in s (over_of c.in_ok-ends.ends.items)) c.in_ok-graph.ensures
+    (c.in_ok-fifos.ensures ∙ ap (map unused) (c.as_slice-2.ensures ∙ c.in_ok-kinds.ensures)) c.in_ok-log.ensures over in
+    ap (core_of (design c.args.plan)) (sym is) ∙ (beginning.begins c.args.plan c.requires n (ap (λ (xs : List Module). length xs) c.as_slice.ensures)).0
+
+pub returns-clause-own : goal.returns-clause-own
+returns-clause-own c = λ m l.
+    let e = ap (λ (xs : List Module). length xs) c.as_slice.ensures in
+    beginning.not_lent c.args.plan c.in_ok-runs.runs.items (length c.as_slice.result.now) m c.in_ok-runs.ensures (omega arith)

@@ -1,0 +1,75 @@
+-- What rounds over the modules leave of a core.
+use Rattle.std.specs.Prelude.{◌≡◌, ℕ, suc, ◌+◌, ◌<◌, ◌≤◌, ◌⊎◌, List, [], ◌∷◌, length, slice_index_or, true, false}
+use Rattle.flow_design.specs.StaticRules.{FitsEngine}
+use Rattle.query_log.specs.declared.query.Query.{Query}
+use Rattle.outcome_guard.specs.declared.guard.Guard.{Guard}
+use Rattle.outcome_guard.specs.declared.guard.Guard.TheVariants as guard
+use Rattle.event_timing.specs.Actions.{Action, Acts, ActsAll, IsFinal}
+use Rattle.event_timing.specs.Actions.Action.{Run, Assign, Answer, Earliest}
+use Rattle.event_timing.specs.Agreement.{IsAgreed}
+use Rattle.engine_view.specs.Turns.{IsDifferent}
+use Rattle.timing_bridge.specs.Designs.{design, lockstep_run}
+use Rattle.sim_core.specs.declared.drive.Visit.{Visit}
+use Rattle.sim_core.specs.declared.drive.Visit.TheVariants.{Acted, Differs, Idle}
+use Rattle.sim_core.specs.Views.{CoreView, theory_of}
+use Rattle.sim_core.specs.Turns.{IsStill, IsEarliestOther}
+
+-- how many of the actions give a step its cycle
+abbrev pub given : List Action → ℕ
+given [] = 0
+given (Run m ∷ rest) = given rest
+given (Assign m ∷ rest) = suc (given rest)
+given (Answer m ∷ rest) = given rest
+given (Earliest m ∷ rest) = given rest
+
+-- permitted actions lead from the one to the other, and a counter rose by one for each Assign
+pub record Goes (v : CoreView) (before : ℕ) (w : CoreView) (after : ℕ) : Type 0 where
+  pub actions : List Action
+  pub all : ActsAll (design v.plan) v.plan.cycles (theory_of v) actions (theory_of w)
+  pub ticked : after ≡ before + given actions
+  pub plan : w.plan ≡ v.plan
+  pub lent : w.lent ≡ v.lent
+
+-- one permitted action leads to another core
+pub record GoesOn (v : CoreView) (before : ℕ) (w : CoreView) (after : ℕ) : Type 0 where
+  pub action : Action
+  pub acts : Acts (design v.plan) v.plan.cycles (theory_of v) action (theory_of w)
+  pub changed : theory_of w ≡ theory_of v → ⊥
+  pub ticked : after ≡ before + given (action ∷ [])
+  pub plan : w.plan ≡ v.plan
+  pub lent : w.lent ≡ v.lent
+
+abbrev pub HasVisited : Visit → CoreView → ℕ → ℕ → CoreView → ℕ → Type 0
+HasVisited Acted v before m w after = GoesOn v before w after
+HasVisited (Differs q) v before m w after = (w ≡ v) × (after ≡ before) × IsDifferent (design v.plan) v.plan.cycles v.held m q
+HasVisited Idle v before m w after = (w ≡ v) × (after ≡ before) × IsStill v m
+
+-- an Answer or an Earliest is permitted, and this query is found to be another
+abbrev pub IsDiffering : CoreView → Query → Type 0
+IsDiffering v q = (m : ℕ) × (IsDifferent (design v.plan) v.plan.cycles v.held m q ⊎ IsEarliestOther v m q)
+
+abbrev pub HasDriven : Guard → CoreView → Type 0
+HasDriven guard.Same w = IsFinal (design w.plan) w.plan.cycles (theory_of w)
+HasDriven (guard.Differs q) w = IsDiffering w q
+
+-- ---- rounds
+
+-- the module is among those so many that were visited last, going round
+abbrev pub IsVisited : ℕ → ℕ → ℕ → ℕ → Type 0
+IsVisited count at idle n = ((n < at) × (at ≤ n + idle)) ⊎ ((at ≤ n) × (at + count ≤ n + idle))
+
+-- no run is lent
+abbrev pub AreOwn : CoreView → Type 0
+AreOwn v = (m : ℕ) → m < length v.plan.design.modules → slice_index_or v.lent m true ≡ false
+
+-- what the rounds keep: from `first` to `now`, with so many ticks before and by now
+pub record IsGoingRound (first now : CoreView) (before ticks count at idle : ℕ) : Type 0 where
+  pub goes : Goes first before now ticks
+  pub agreed : IsAgreed (design first.plan) (lockstep_run first.plan) first.plan.cycles (theory_of first)
+  pub fits : FitsEngine first.plan
+  pub own : AreOwn now
+  pub counted : count ≡ length now.plan.design.modules
+  pub within : idle ≤ count
+  pub inside : 0 < count → at < count
+  -- nothing is permitted of the modules that were visited last
+  pub none_left : (m : ℕ) → m < count → IsVisited count at idle m → IsStill now m

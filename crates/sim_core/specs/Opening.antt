@@ -1,0 +1,45 @@
+-- How a core begins.
+use Rattle.std.specs.Prelude.{◌≡◌, ℕ, ◌<◌, false, List, [], ◌∷◌, flat_map, length, map, slice_index, slice_index_or, Option, None, Some, is_none}
+use Rattle.std.specs.List.{range_with_len}
+use Rattle.flow_word.specs.declared.access.Port.{Port}
+use Rattle.flow_word.specs.declared.access.Side.TheVariants.{Pop, Push}
+use Rattle.flow_design.specs.declared.design.ChannelKind.{ChannelKind}
+use Rattle.flow_design.specs.declared.design.ChannelKind.TheVariants as plan
+use Rattle.flow_design.specs.declared.plan.Plan.{Plan}
+use Rattle.flow_design.specs.Plans.{kind_at}
+use Rattle.fifo_table.specs.declared.channel.TableChannel.{TableChannel}
+use Rattle.fifo_table.specs.declared.channel.TableChannel.TheVariants.{Source, Sink, Fifo}
+use Rattle.flow_design.specs.Words.{cut_to}
+use Rattle.lockstep_defs.specs.Machine.{width_of}
+use Rattle.module_interp.specs.declared.run.ModuleRun.{ModuleRun}
+use Rattle.module_interp.specs.OwnRests.{first_rest}
+use Rattle.module_interp.specs.Runs.{StandsAt, waits}
+
+-- a plan's channel as the table has it: with the inputs of a source, and with the depth of a FIFO that stands
+abbrev pub kind_by : ChannelKind → List ℕ → ℕ → TableChannel
+kind_by plan.Source inputs depth = Source inputs
+kind_by plan.Sink inputs depth = Sink
+kind_by (plan.Fifo declared delay) inputs depth = Fifo depth delay
+
+-- the inputs of a channel, each cut to its width
+abbrev pub source_values : Plan → ℕ → List ℕ
+source_values p c = map (cut_to (width_of p.design.channels c)) (slice_index_or p.inputs c [])
+
+abbrev pub kind_in : Plan → ℕ → TableChannel
+kind_in p c = kind_by (kind_at p c) (source_values p c) (slice_index p.depths c)
+
+abbrev pub kinds_of : Plan → List TableChannel
+kinds_of p = map (kind_in p) (range_with_len 0 (length p.design.channels))
+
+-- so many runs, each at its module's first rest
+pub record AreFirstRuns (p : Plan) (runs : List (Option ModuleRun)) (many : ℕ) : Type 0 where
+  pub count : length runs ≡ many
+  pub some : (m : ℕ) → m < many → is_none (slice_index_or runs m None) ≡ false
+  pub each : (m : ℕ) (run : ModuleRun) → slice_index_or runs m None ≡ Some run → StandsAt p m (first_rest p m) run × (waits run ≡ false)
+
+-- both ports of each of the first so many channels
+abbrev pub ports_at : ℕ → List Port
+ports_at c = record { side = Pop; channel = c } ∷ record { side = Push; channel = c } ∷ []
+
+abbrev pub all_ports : ℕ → List Port
+all_ports channels = flat_map ports_at (range_with_len 0 channels)

@@ -1,0 +1,76 @@
+-- Where the modules' runs stand beside the core, and what a core keeps.
+use Rattle.std.specs.Prelude.{◌≡◌, ℕ, suc, ◌<◌, Bool, true, false, List, Option, None, Some, map, is_none, is_some, slice_index_or, length}
+use Rattle.flow_word.specs.declared.access.Port.{Port}
+use Rattle.flow_design.specs.StaticRules.{FitsEngine}
+use Rattle.flow_design.specs.declared.plan.Plan.{Plan}
+use Rattle.flow_design.specs.declared.state.Advance.{Advance}
+use Rattle.flow_design.specs.declared.state.ModuleState.{ModuleState}
+use Rattle.lockstep_defs.specs.OwnRun.{Own}
+use Rattle.module_interp.specs.declared.run.ModuleRun.{ModuleRun}
+use Rattle.module_interp.specs.Chains.{rest_at}
+use Rattle.module_interp.specs.OwnRests.{mark_at}
+use Rattle.module_interp.specs.Runs.{StandsAt, waits, is_step, gap_of}
+use Rattle.event_graph.specs.declared.candidate.Candidate.{Candidate}
+use Rattle.event_graph.specs.Lanes.{gap_bound}
+use Rattle.event_timing.specs.Core.{Core, values_there}
+use Rattle.event_timing.specs.Agreement.{IsAgreed}
+use Rattle.timing_bridge.specs.Designs.{design, lockstep_run}
+use Rattle.timing_bridge.specs.OwnRuns.{core_replies}
+use Rattle.engine_view.specs.Held.{Held, core_of}
+use Rattle.engine_view.specs.Shown.{IsSound}
+use Rattle.engine_view.specs.Rooms.{IsRoomy}
+use Rattle.engine_view.specs.Stored.{Stored, held_in}
+use Rattle.engine_view.specs.Taking.{kinds_in}
+use Rattle.sim_core.specs.Opening.{kinds_of, all_ports}
+
+-- ---- runs
+
+-- the rest of module m behind its first k steps, on the core's replies
+abbrev pub rest_behind : Plan → Core ModuleState → ℕ → ℕ → Own
+rest_behind p x m k = rest_at p m (core_replies p x m k) k
+
+-- all replies to a module's newest step are there
+abbrev pub IsAnswered : Plan → Core ModuleState → ℕ → Type 0
+IsAnswered p x m = (k : ℕ) → suc k ≡ x.emitted m → (x.answered m k ≡ true) × (values_there (design p) x m k ≡ true)
+
+-- the run waits at the module's newest step, or it has its replies too and goes on to the next rest, which is not emitted or is the end
+pub record IsRunOf (p : Plan) (x : Core ModuleState) (m : ℕ) (run : ModuleRun) : Type 0 where
+  pub waiting : waits run ≡ true → (k : ℕ) × (suc k ≡ x.emitted m) × StandsAt p m (rest_behind p x m k) run
+  pub going : waits run ≡ false → IsAnswered p x m × StandsAt p m (rest_behind p x m (x.emitted m)) run
+  pub over : x.over m ≡ true → waits run ≡ false
+
+-- the mark of the end behind all steps of the module, which has every reply
+pub record IsEndOf (p : Plan) (x : Core ModuleState) (m : ℕ) (mark : Advance) : Type 0 where
+  pub no_step : is_step mark ≡ false
+  pub short : gap_of mark < gap_bound
+  pub answered : IsAnswered p x m
+  pub is : mark ≡ mark_at p m (rest_behind p x m (x.emitted m))
+
+-- ---- a core
+
+-- of each module whether its run is lent, and whether its end was emitted
+abbrev pub lent_of : List (Option ModuleRun) → List Bool
+lent_of runs = map is_none runs
+
+abbrev pub over_of : List (Option Advance) → List Bool
+over_of ends = map is_some ends
+
+-- what is held is a core of the plan that agrees with its lockstep run, there is room, and the runs stand at its newest marks. Nothing is
+-- said of an outcome that is not verified
+pub record IsCore (p : Plan) (s : Stored) (ends : List (Option Advance)) (runs : List (Option ModuleRun)) (credits : List ℕ) : Type 0 where
+  pub fits : FitsEngine p
+  pub sound : IsSound (design p) (held_in s (over_of ends))
+  pub agreed : IsAgreed (design p) (lockstep_run p) p.cycles (core_of (design p) (held_in s (over_of ends)))
+  pub table : kinds_in s.table.channels ≡ kinds_of p
+  pub count : length runs ≡ length s.graph.lanes
+  pub counted : length credits ≡ length s.graph.lanes
+  pub room : IsRoomy (design p) s (over_of ends) credits
+  pub runs_are : (m : ℕ) (run : ModuleRun) → slice_index_or runs m None ≡ Some run → IsRunOf p (core_of (design p) (held_in s (over_of ends))) m run
+  pub ends_are : (m : ℕ) (mark : Advance) → slice_index_or ends m None ≡ Some mark → IsEndOf p (core_of (design p) (held_in s (over_of ends))) m mark
+
+-- and the list of ports is that of all channels, which are given room, and there is a candidate for each module
+pub record IsStoredCore (p : Plan) (s : Stored) (ends : List (Option Advance)) (runs : List (Option ModuleRun)) (credits : List ℕ) (ports : List Port)
+    (candidates : List Candidate) : Type 0 where
+  pub core : IsCore p s ends runs credits
+  pub ports_are : ports ≡ all_ports (length p.design.channels)
+  pub candidate_count : length candidates ≡ length p.design.modules

@@ -1,0 +1,36 @@
+-- What the actions at a module, and those of all modules, leave of a core.
+use Rattle.std.specs.Prelude.{◌≡◌, ℕ, Option, None, Some}
+use Rattle.query_log.specs.declared.query.Query.{Query}
+use Rattle.outcome_guard.specs.declared.guard.Guard.{Guard}
+use Rattle.outcome_guard.specs.declared.guard.Guard.TheVariants as guard
+use Rattle.event_timing.specs.Actions.{Acts, MayRun, MayEarliest, IsFinal}
+use Rattle.event_timing.specs.Actions.Action.{Assign, Answer, Earliest}
+use Rattle.engine_view.specs.declared.turn.Timing.{Timing}
+use Rattle.engine_view.specs.declared.turn.Timing.TheVariants.{Assigned, Answered, Differs, Nothing}
+use Rattle.engine_view.specs.Turns.{IsDifferent, IsFoundOther, IsIdle}
+use Rattle.timing_bridge.specs.Designs.{design}
+use Rattle.sim_core.specs.Views.{CoreView, theory_of}
+
+-- the module's first step without a cycle was given its cycle, or its queries were answered, as far as that is permitted
+abbrev pub HasTurned : Timing → CoreView → ℕ → CoreView → Type 0
+HasTurned (Assigned c) v m w = Acts (design v.plan) v.plan.cycles (theory_of v) (Assign m) (theory_of w)
+HasTurned (Answered c) v m w = Acts (design v.plan) v.plan.cycles (theory_of v) (Answer m) (theory_of w) × (theory_of w ≡ theory_of v → ⊥)
+HasTurned (Differs q) v m w = (w ≡ v) × IsDifferent (design v.plan) v.plan.cycles v.held m q
+HasTurned Nothing v m w = (w ≡ v) × IsIdle (design v.plan) v.plan.cycles (theory_of v) m
+
+-- nothing of the module is permitted, but an Earliest
+pub record IsStill (v : CoreView) (m : ℕ) : Type 0 where
+  pub no_run : MayRun (design v.plan) (theory_of v) m → ⊥
+  pub idle : IsIdle (design v.plan) v.plan.cycles (theory_of v) m
+
+-- an Earliest is permitted, and this query is found to be another
+pub record IsEarliestOther (v : CoreView) (m : ℕ) (q : Query) : Type 0 where
+  pub cycle : ℕ
+  pub may : MayEarliest (design v.plan) v.plan.cycles (theory_of v) m cycle
+  pub found : IsFoundOther (design v.plan) v.held m cycle q
+
+-- the first of the least open steps was answered, where there is one
+abbrev pub HasAnsweredLeast : Option (ℕ × Guard) → CoreView → CoreView → Type 0
+HasAnsweredLeast None v w = (w ≡ v) × IsFinal (design v.plan) v.plan.cycles (theory_of v)
+HasAnsweredLeast (Some (m, guard.Same)) v w = Acts (design v.plan) v.plan.cycles (theory_of v) (Earliest m) (theory_of w) × (theory_of w ≡ theory_of v → ⊥)
+HasAnsweredLeast (Some (m, guard.Differs q)) v w = (w ≡ v) × IsEarliestOther v m q

@@ -1,0 +1,17 @@
+-- What contracts see of a core.
+use Rattle.std.specs.Prelude.{Bool, List}
+use Rattle.flow_design.specs.declared.plan.Plan.{Plan}
+use Rattle.flow_design.specs.declared.state.ModuleState.{ModuleState}
+use Rattle.event_timing.specs.Core.{Core}
+use Rattle.engine_view.specs.Held.{Held, core_of}
+use Rattle.timing_bridge.specs.Designs.{design}
+
+-- its plan, what it holds, and of each module whether its run is lent
+pub record CoreView : Type 0 where
+  pub plan : Plan
+  pub held : Held
+  pub lent : List Bool
+
+-- the theory's core
+abbrev pub theory_of : CoreView → Core ModuleState
+theory_of v = core_of (design v.plan) v.held

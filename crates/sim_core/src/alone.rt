@@ -1,0 +1,49 @@
+//! A whole simulation on one thread.
+ghost use Rattle.std.specs.Prelude.{◌≡◌, ℕ, ◌<◌, true, false, length, slice_index_or, IfOk, OnOk};
+ghost use Rattle.flow_design.specs.StaticRules.{FitsEngine};
+ghost use Rattle.event_timing.specs.Actions.{IsFinal};
+ghost use Rattle.event_timing.specs.Agreement.{AllVerified};
+ghost use Rattle.timing_bridge.specs.Designs.{design};
+ghost use Rattle.sim_core.specs.Views.{theory_of};
+ghost use Rattle.sim_core.specs.Drives.{AreOwn};
+
+use crate::machine::Core;
+use flow_design::Plan;
+use flow_word::{OutOfMemory, Steps};
+use std::alloc::Global;
+use std::marker::Brand;
+use std::sync::ledger::{Blank, Ledger};
+
+/// A final core of this plan, all of whose outcomes are verified.
+///
+/// An error leaves nothing, and the plan is gone.
+pub fn run_alone(alloc: Global, plan: Plan) -> Result<Core, OutOfMemory>
+    requires { FitsEngine plan }
+    ensures plan { IfOk result (λ core. core.plan ≡ plan) }
+    ensures done { IfOk result (λ core. IsFinal (design core.plan) core.plan.cycles (theory_of core)) }
+    ensures verified { IfOk result (λ core. AllVerified (theory_of core)) }
+    ensures own { IfOk result (λ core. AreOwn core) }
+{
+    let mut core = Core::new(alloc, plan)?;
+    finish::<Brand>(&mut core, Blank::new(1))?;
+    Ok(core)
+}
+
+/// Does all that is left to do in a core whose outcomes are all verified.
+fn finish<L: Ledger>(core: &mut Core, blank: Blank) -> Result<(), OutOfMemory>
+    requires name { blank.name ≡ L.name }
+    requires parts { blank.parts ≡ L.parts }
+    requires one { L.parts ≡ 1 }
+    requires own { AreOwn core.old }
+    requires verified { AllVerified (theory_of core.old) }
+    ensures plan { core.new.plan ≡ core.old.plan }
+    ensures lent { core.new.lent ≡ core.old.lent }
+    ensures done { OnOk result (IsFinal (design core.new.plan) core.new.plan.cycles (theory_of core.new)) }
+    ensures verified { OnOk result (AllVerified (theory_of core.new)) }
+{
+    // The core agrees with its plan.
+    let _count = core.modules();
+    let mut steps = Steps::<L>::new(blank);
+    core.drive(&mut steps)?;
+    Ok(())
+}

@@ -1,0 +1,31 @@
+//! The laws of the actions on a core, for any plan `p` that the engine takes and every list of actions.
+ghost use Rattle.std.specs.Prelude.{◌≡◌, ℕ, ◌+◌, ◌*◌, ◌≤◌, List, length};
+ghost use Rattle.flow_design.specs.declared.plan.Plan.{Plan};
+ghost use Rattle.flow_design.specs.declared.state.ModuleState.{ModuleState};
+ghost use Rattle.flow_design.specs.StaticRules.{FitsEngine};
+ghost use Rattle.lockstep_defs.specs.Channels.{HistoryStep};
+ghost use Rattle.lockstep_defs.specs.Report.{report};
+ghost use Rattle.event_timing.specs.Core.{Core, opening_core};
+ghost use Rattle.event_timing.specs.Actions.{Action, ActsAll, IsFinal};
+ghost use Rattle.event_timing.specs.Agreement.{IsAgreed};
+ghost use Rattle.timing_bridge.specs.Designs.{design, lockstep_run};
+ghost use Rattle.timing_bridge.specs.CoreReports.{core_report, core_verdict, AreInOrder};
+
+use timing_bridge::{every_order_agrees, every_report, few_actions};
+
+/// Whatever list of permitted actions leads from the opening core to another: that one agrees with the plan's lockstep run; where it
+/// is final, the report that is read off it is the plan's; and the list is not longer than three actions for each operation of each
+/// module, and one for each module.
+pub fn every_order()
+    ensures agrees { (p : Plan) → FitsEngine p → (actions : List Action) (x : Core ModuleState)
+        → ActsAll (design p) p.cycles (opening_core (design p)) actions x → IsAgreed (design p) (lockstep_run p) p.cycles x }
+    ensures reports { (p : Plan) → FitsEngine p → (actions : List Action) (x : Core ModuleState)
+        → ActsAll (design p) p.cycles (opening_core (design p)) actions x → IsFinal (design p) p.cycles x
+        → (steps : List HistoryStep) → AreInOrder p x steps → report p ≡ core_report p x steps (core_verdict p x) }
+    ensures few { (p : Plan) → FitsEngine p → (actions : List Action) (x : Core ModuleState)
+        → ActsAll (design p) p.cycles (opening_core (design p)) actions x → length actions ≤ length p.design.modules * (3 * p.ops + 1) }
+{
+    every_order_agrees();
+    every_report();
+    few_actions();
+}

@@ -1,0 +1,76 @@
+//! The core.
+ghost use Rattle.std.specs.Prelude.{◌≡◌, length};
+ghost use Rattle.flow_design.specs.StaticRules.{FitsEngine};
+ghost use Rattle.event_timing.specs.Agreement.{IsAgreed};
+ghost use Rattle.timing_bridge.specs.Designs.{design, lockstep_run};
+ghost use Rattle.sim_core.specs.Views.{theory_of};
+
+use event_graph::{Candidate, Graph};
+use fifo_table::FifoTable;
+use flow_design::{Advance, Plan, Reply};
+use flow_word::{List, Port, Words};
+use module_interp::ModuleRun;
+use query_log::QueryLog;
+use std::marker::Model;
+
+/// A plan with the marks, cycles and outcomes of its modules so far.
+///
+/// It always agrees with the plan: each cycle is the clock in which the lockstep machine does the step, and each verified outcome is
+/// the one there. Contracts see the plan, what is held of the modules, and of each module whether its run is lent.
+#[derive(Drop)]
+pub struct Core {
+    pub(crate) plan: Plan,
+    pub(crate) graph: Graph,
+    pub(crate) fifos: FifoTable,
+    pub(crate) log: QueryLog,
+    /// The end mark of each module whose own run came to its end.
+    pub(crate) ends: Vec<Option<Advance>>,
+    /// The run of each module; none while it is lent.
+    pub(crate) runs: Vec<Option<ModuleRun>>,
+    /// How many more places each module may take at each of its ports without memory.
+    pub(crate) credits: Vec<u64>,
+    /// The ports of all channels.
+    pub(crate) ports: List<Port>,
+    /// Of each channel the modules that have accessed it so far, as bits. It serves for hints alone.
+    pub(crate) users: Words,
+    /// Room for the replies to a step.
+    pub(crate) replies: List<Reply>,
+    /// Room for a candidate of each module.
+    pub(crate) candidates: Vec<Candidate>,
+}
+
+impl Model for Core {
+    ghost use Rattle.std.specs.Coded.{codes};
+    ghost use Rattle.flow_design.specs.Codes.{plan_code};
+    ghost use Rattle.engine_view.specs.Stored.{stored, held_in};
+    ghost use Rattle.sim_core.specs.Views.{CoreView};
+    ghost use Rattle.sim_core.specs.Opening.{all_ports};
+    ghost use Rattle.sim_core.specs.Runs.{IsStoredCore, lent_of, over_of};
+
+    ghost Value = { CoreView };
+
+    ghost coded = { Prim.hlevel (codes, plan_code) };
+
+    ghost view = { λ c. record { plan = c.plan; held = held_in (stored c.graph c.fifos c.log) (over_of c.ends.items); lent = lent_of c.runs.items } };
+
+    ghost invariant = { λ c. IsStoredCore c.plan (stored c.graph c.fifos c.log) c.ends.items c.runs.items c.credits.items c.ports c.candidates.items };
+}
+
+impl Core {
+    /// The core's plan, with the depths that stand.
+    pub fn plan(&self) -> &Plan
+        ensures { result.now ≡ self.now.plan }
+    {
+        &self.plan
+    }
+
+    /// How many modules there are.
+    pub fn modules(&self) -> u32
+        ensures count { result ≡ length self.now.plan.design.modules }
+        ensures lanes { result ≡ length self.now.held.lanes }
+        ensures agreed { IsAgreed (design self.now.plan) (lockstep_run self.now.plan) self.now.plan.cycles (theory_of self.now) }
+        ensures fits { FitsEngine self.now.plan }
+    {
+        self.graph.modules()
+    }
+}

@@ -1,0 +1,153 @@
+//! How a core begins.
+ghost use Rattle.std.specs.Prelude.{◌≡◌, ℕ, ◌<◌, true, false, None, map, length, replicate, IfOk, slice_index_or};
+ghost use Rattle.flow_design.specs.StaticRules.{FitsEngine};
+ghost use Rattle.flow_design.specs.Words.{cut_to};
+ghost use Rattle.event_timing.specs.Core.{opening_core};
+ghost use Rattle.timing_bridge.specs.Designs.{design};
+ghost use Rattle.sim_core.specs.Opening.{kind_in, kinds_of, all_ports, AreFirstRuns};
+ghost use Rattle.sim_core.specs.Views.{theory_of};
+
+use crate::machine::Core;
+use event_graph::{Candidate, Graph};
+use fifo_table::{FifoTable, TableChannel};
+use flow_design::{Advance, ChannelKind, Plan};
+use flow_word::{List, OutOfMemory, Port, Side, Width, Words, cut};
+use module_interp::ModuleRun;
+use query_log::QueryLog;
+use std::alloc::Global;
+
+impl Core {
+    /// A core of a plan in which nothing is emitted yet. It has the runs of all modules.
+    ///
+    /// An error leaves nothing, and the plan is gone.
+    pub fn new(alloc: Global, plan: Plan) -> Result<Core, OutOfMemory>
+        requires { FitsEngine plan }
+        ensures plan { IfOk result (λ core. core.plan ≡ plan) }
+        ensures opening { IfOk result (λ core. theory_of core ≡ opening_core (design plan)) }
+        ensures own { IfOk result (λ core. (m : ℕ) → m < length plan.design.modules → slice_index_or core.lent m true ≡ false) }
+    {
+        let modules = plan.design.modules.as_slice().len() as u32;
+        let kinds = make_kinds(alloc, &plan)?;
+        let fifos = FifoTable::new(alloc, kinds.as_slice())?;
+        let graph = Graph::new(alloc, modules)?;
+        let log = QueryLog::new(alloc, modules)?;
+        let runs = first_runs(alloc, &plan, modules)?;
+        let ends = no_ends(alloc, modules)?;
+        let credits = vec![in alloc; 0; modules as usize]?;
+        let ports = make_ports(alloc, plan.design.channels.len() as u32)?;
+        let candidates = no_candidates(alloc, modules)?;
+        let users = List::zeros(alloc, plan.design.channels.len())?;
+        Ok(Core {
+            plan,
+            graph,
+            fifos,
+            log,
+            ends,
+            runs,
+            credits,
+            ports,
+            users,
+            replies: List::new(alloc),
+            candidates,
+        })
+    }
+}
+
+/// The runs of all modules, each at its first rest.
+fn first_runs(
+    alloc: Global,
+    plan: &Plan,
+    modules: u32,
+) -> Result<Vec<Option<ModuleRun>>, OutOfMemory>
+    requires fits { FitsEngine plan.now }
+    requires modules { modules ≡ length plan.now.design.modules }
+    ensures { IfOk result (λ runs. AreFirstRuns plan.now runs.items modules) }
+{
+    let mut runs = Vec::with_capacity(alloc, modules as usize)?;
+    for number in 0..modules {
+        runs.push(Some(ModuleRun::new(alloc, plan, number)?))?;
+    }
+    Ok(runs)
+}
+
+/// So many modules that did not come to their end.
+fn no_ends(alloc: Global, modules: u32) -> Result<Vec<Option<Advance>>, OutOfMemory>
+    ensures { IfOk result (λ ends. ends.items ≡ replicate modules None) }
+{
+    let mut ends = Vec::with_capacity(alloc, modules as usize)?;
+    for _ in 0..modules {
+        ends.push(None)?;
+    }
+    Ok(ends)
+}
+
+/// So many candidates, of modules without a step.
+fn no_candidates(alloc: Global, modules: u32) -> Result<Vec<Candidate>, OutOfMemory>
+    ensures { IfOk result (λ candidates. length candidates.items ≡ modules) }
+{
+    let mut candidates = Vec::with_capacity(alloc, modules as usize)?;
+    for _ in 0..modules {
+        candidates.push(Candidate::Nothing)?;
+    }
+    Ok(candidates)
+}
+
+/// The plan's channels as the table has them.
+fn make_kinds(alloc: Global, plan: &Plan) -> Result<List<TableChannel>, OutOfMemory>
+    requires fits { FitsEngine plan.now }
+    ensures { IfOk result (λ kinds. kinds ≡ kinds_of plan.now) }
+{
+    let count = plan.design.channels.as_slice().len();
+    let mut kinds = List::with_room(alloc, count as u64)?;
+    for i in 0..count {
+        kinds.push(make_kind(alloc, plan, i)?)?;
+    }
+    Ok(kinds)
+}
+
+/// One of them.
+fn make_kind(alloc: Global, plan: &Plan, i: usize) -> Result<TableChannel, OutOfMemory>
+    requires fits { FitsEngine plan.now }
+    requires within { i < length plan.now.design.channels }
+    ensures { IfOk result (λ kind. kind ≡ kind_in plan.now i) }
+{
+    let channel = &plan.design.channels.as_slice()[i];
+    match channel.kind {
+        ChannelKind::Source => Ok(TableChannel::Source(cut_values(
+            alloc,
+            channel.width,
+            plan.inputs.as_slice()[i].as_slice(),
+        )?)),
+        ChannelKind::Sink => Ok(TableChannel::Sink),
+        ChannelKind::Fifo(_, delay) => Ok(TableChannel::Fifo(plan.depths.as_slice()[i], delay)),
+    }
+}
+
+/// Values, each cut to a width.
+fn cut_values(alloc: Global, width: Width, values: &[u64]) -> Result<Words, OutOfMemory>
+    ensures { IfOk result (λ words. words ≡ map (cut_to width) values.now) }
+{
+    let mut words = List::with_room(alloc, values.len() as u64)?;
+    for value in values {
+        words.push(cut(*value, width))?;
+    }
+    Ok(words)
+}
+
+/// Both ports of so many channels.
+fn make_ports(alloc: Global, channels: u32) -> Result<List<Port>, OutOfMemory>
+    ensures { IfOk result (λ ports. ports ≡ all_ports channels) }
+{
+    let mut ports = List::with_room(alloc, 2 * channels as u64)?;
+    for channel in 0..channels {
+        ports.push(Port {
+            side: Side::Pop,
+            channel,
+        })?;
+        ports.push(Port {
+            side: Side::Push,
+            channel,
+        })?;
+    }
+    Ok(ports)
+}

@@ -1,0 +1,59 @@
+//! The replies to a step.
+ghost use Rattle.std.specs.Prelude.{◌≡◌, ℕ, ◌+◌, ◌-◌, ◌<◌, ◌≤◌, ◌^◌, true, false, length, drop, slice_get, All, Some, None, IfOk};
+ghost use Rattle.query_log.specs.Logs.{log_at, outcome_of};
+ghost use Rattle.time_engine.specs.Conditions.{IsAccess};
+ghost use Rattle.sim_core.specs.Found.{value_now, replies_now};
+ghost use Rattle.sim_core.specs.Found.{reply_now as reply_of};
+
+use event_graph::{Access, Kind};
+use fifo_table::FifoTable;
+use flow_design::Reply;
+use flow_word::{List, OutOfMemory};
+use query_log::QueryLog;
+
+/// Writes the replies to a step's accesses into the list, whose items are dropped. Whether all were there.
+pub fn find_replies(
+    fifos: &FifoTable,
+    log: &QueryLog,
+    owner: u32,
+    first_query: u64,
+    accesses: &[Access],
+    replies: &mut List<Reply>,
+) -> Result<bool, OutOfMemory>
+    requires owner { owner < length log.now.logs }
+    requires inside { All (IsAccess fifos.now.channels) accesses.now }
+    requires few { first_query + length accesses.now < 2 ^ 64 }
+    ensures all { IfOk result (λ all. all ≡ true → replies_now fifos.now.channels accesses.now (drop first_query (log_at log.now.logs owner).outcomes) ≡ Some replies.new) }
+    ensures some { IfOk result (λ all. all ≡ false → replies_now fifos.now.channels accesses.now (drop first_query (log_at log.now.logs owner).outcomes) ≡ None) }
+{
+    replies.truncate(0);
+    let mut number = first_query;
+    for access in accesses {
+        let outcome = log.outcome(owner, number);
+        let Some(reply) = reply_now(fifos, access, outcome) else {
+            return Ok(false);
+        };
+        replies.push(reply)?;
+        number += !access.kind.is_blocking() as u64;
+    }
+    Ok(true)
+}
+
+/// The reply to an access, by its query's outcome.
+fn reply_now(fifos: &FifoTable, access: &Access, outcome: Option<bool>) -> Option<Reply>
+    requires { IsAccess fifos.now.channels access.now }
+    ensures { result ≡ reply_of access.now.kind outcome (value_now fifos.now.channels access.now) }
+{
+    match access.kind {
+        Kind::Read => fifos
+            .value(access.channel, access.ordinal)
+            .map(Reply::Value),
+        Kind::Write => Some(Reply::Done),
+        Kind::TryRead => match outcome {
+            Some(true) => fifos.value(access.channel, access.ordinal).map(Reply::Took),
+            Some(false) => Some(Reply::Missed),
+            None => None,
+        },
+        Kind::TryWrite | Kind::Empty | Kind::Full => outcome.map(Reply::Flag),
+    }
+}

@@ -1,0 +1,75 @@
+//! The cycles of the modules' steps, and the answers to their queries.
+ghost use Rattle.std.specs.Prelude.{◌≡◌, ◌≢◌, ◌↔◌, ℕ, ◌+◌, ◌<◌, ◌≤◌, length, slice_index_or};
+ghost use Rattle.event_graph.specs.Lanes.{cycle_bound};
+ghost use Rattle.time_engine.specs.Conditions.{HasAccesses, HasPlaces};
+ghost use Rattle.event_timing.specs.Actions.{IsQuiet};
+ghost use Rattle.engine_view.specs.Turns.{ticks_of};
+ghost use Rattle.timing_bridge.specs.Designs.{design};
+ghost use Rattle.sim_core.specs.Views.{theory_of};
+ghost use Rattle.sim_core.specs.Turns.{HasTurned, HasAnsweredLeast};
+ghost use Rattle.sim_core.specs.Candidates.{AreCandidates};
+
+use crate::machine::Core;
+use engine_view::{Timing, answer_first, time_first};
+use event_graph::{Candidate, Graph};
+use fifo_table::FifoTable;
+use flow_word::Steps;
+use outcome_guard::Guard;
+use query_resolve::earliest;
+use std::sync::ledger::Ledger;
+use time_engine::candidate;
+
+impl Core {
+    /// Gives a module's first step without a cycle its cycle, or answers its queries, where that is permitted. It takes no
+    /// memory.
+    pub(crate) fn time<L: Ledger>(&mut self, owner: u32, steps: &mut Steps<L>) -> Timing
+        requires owner { owner < length self.old.plan.design.modules }
+        ensures done { HasTurned result self.old owner self.new }
+        ensures plan { self.new.plan ≡ self.old.plan }
+        ensures lent { self.new.lent ≡ self.old.lent }
+        ensures ticks { steps.new ≡ steps.old + ticks_of result }
+    {
+        let limit = self.plan.cycles;
+        time_first(
+            &mut self.graph,
+            &mut self.fifos,
+            &mut self.log,
+            owner,
+            limit,
+            steps,
+        )
+    }
+
+    /// Where no Run, Assign or Answer of any module is permitted, answers the first of the least open steps, and gives its
+    /// module. None where there is none, so that the core is final. It takes no memory.
+    pub(crate) fn answer_least(&mut self) -> Option<(u32, Guard)>
+        requires { IsQuiet (design self.old.plan) self.old.plan.cycles (theory_of self.old) }
+        ensures done { HasAnsweredLeast result self.old self.new }
+        ensures plan { self.new.plan ≡ self.old.plan }
+        ensures lent { self.new.lent ≡ self.old.lent }
+    {
+        let limit = self.plan.cycles;
+        list_candidates(&self.graph, &self.fifos, limit, &mut self.candidates);
+        match earliest(&self.candidates) {
+            None => None,
+            Some((owner, cycle)) => {
+                let guard = answer_first(&self.graph, &mut self.fifos, &mut self.log, owner, cycle);
+                Some((owner, guard))
+            }
+        }
+    }
+}
+
+/// Writes what is known of the cycle of each module's first step without one into the list.
+fn list_candidates(graph: &Graph, fifos: &FifoTable, limit: u64, candidates: &mut Vec<Candidate>)
+    requires accesses { HasAccesses graph.now.lanes fifos.now.channels }
+    requires places { HasPlaces graph.now.lanes fifos.now.channels }
+    requires limit { limit ≤ cycle_bound }
+    requires count { length candidates.old.items ≡ length graph.now.lanes }
+    ensures count { length candidates.new.items ≡ length graph.now.lanes }
+    ensures all { AreCandidates graph.now.lanes fifos.now.channels limit (length graph.now.lanes) candidates.new.items }
+{
+    for owner in 0..graph.modules() {
+        candidates[owner as usize] = candidate(graph, fifos, owner, limit);
+    }
+}

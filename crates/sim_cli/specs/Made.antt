@@ -90,7 +90,8 @@ summary seed modules p = record {
 -- ---- what a task makes of the statements of a session
 
 abbrev pub made : Task → List Statement → Answer
-made (Simulate o) statements = simulated o statements
+-- whatever simulates it
+made (Simulate by o) statements = simulated o statements
 made Print statements = canonical statements
 made (Summarize seed modules) statements = summary seed modules (plan_of statements)
 

@@ -6,6 +6,7 @@ ghost use Rattle.sim_cli.specs.Made.{refused, generated, number_of};
 ghost use Rattle.sim_cli.specs.Answer.{Answers, AnswersCommand, AnswersText, takes_input, IsSound, IsAnswer};
 
 use crate::making::make;
+use crate::simulator::Simulator;
 use crate::status::Status;
 use crate::task::Task;
 use cli_words::{Command, WordFault, read_words};
@@ -91,12 +92,12 @@ fn obey<S: Source>(alloc: Global, command: Command, source: &mut S) -> Result<An
     ensures reads_none { takes_input (Some command) ≡ false → result ≢ Err Unanswered.ReadFault }
 {
     match command {
-        Command::Run(options) => answer_source(alloc, &Task::Simulate(options), source),
-        Command::Clock(options) => answer_source(alloc, &Task::Simulate(options), source),
-        Command::Alone(_) => Ok(Answer {
-            text: List::from_slice(alloc, b"refused words\n")?,
-            status: Status::Words,
-        }),
+        Command::Run(options) | Command::Alone(options) => {
+            answer_source(alloc, &Task::Simulate(Simulator::Engine, options), source)
+        }
+        Command::Clock(options) => {
+            answer_source(alloc, &Task::Simulate(Simulator::Clock, options), source)
+        }
         Command::Check => answer_source(alloc, &Task::Print, source),
         Command::Gen(seed, modules) => Ok(answer_generated(alloc, seed, modules)?),
     }

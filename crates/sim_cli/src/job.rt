@@ -10,12 +10,12 @@ ghost use Rattle.sim_cli.specs.Answer.{IsAnswer};
 ghost use Rattle.sim_cli.specs.Going.{IsGoing, first_told, more_told};
 
 use crate::answer::Answer;
+use crate::laws::reports_without_events;
+use crate::simulator::{Simulator, simulate};
 use crate::status::Status;
-use clock_machine::clock_run;
 use edit_runs::{RunCount, edits_in_order};
 use flow_design::{Edit, Plan, edit_plan};
 use flow_word::{List, OutOfMemory};
-use lockstep_defs::reports_name_their_plans;
 use report_text::{print_report, print_runs};
 use std::alloc::Global;
 use timing_bridge::edited_plans_agree;
@@ -34,6 +34,7 @@ pub(crate) struct Told {
 /// The job of a plan and its edits.
 pub(crate) fn job(
     alloc: Global,
+    by: Simulator,
     events: bool,
     mut plan: Plan,
     edits: &[Edit],
@@ -45,12 +46,12 @@ pub(crate) fn job(
 {
     edits_in_order();
     edited_plans_agree();
-    let mut told = first_report(alloc, events, &plan)?;
+    let mut told = first_report(alloc, by, events, &plan)?;
     let mut number = 0;
     for edit in edits {
         edit_plan(&mut plan, edit);
         number += 1;
-        add_report(&mut told, alloc, events, &plan, number)?;
+        add_report(&mut told, alloc, by, events, &plan, number)?;
     }
     print_runs(&mut told.text, told.count.runs)?;
     Ok(Answer {
@@ -61,13 +62,18 @@ pub(crate) fn job(
 
 /// What the report of the plan itself tells.
 #[tactic(auto, unfolding(crate::specs::Going::first_told))]
-fn first_report(alloc: Global, events: bool, plan: &Plan) -> Result<Told, OutOfMemory>
+fn first_report(
+    alloc: Global,
+    by: Simulator,
+    events: bool,
+    plan: &Plan,
+) -> Result<Told, OutOfMemory>
     requires { FitsEngine plan.now }
     ensures told { IfOk result (λ told. told ≡ first_told events plan.now) }
     ensures status { IfOk result (λ told. IsAnswer told.status) }
 {
-    reports_name_their_plans();
-    let outcome = clock_run(alloc, plan)?;
+    reports_without_events();
+    let outcome = simulate(alloc, by, plan, events)?;
     let mut text = List::new(alloc);
     print_report(&mut text, &plan.design, &outcome, 0, events)?;
     Ok(Told {
@@ -82,6 +88,7 @@ fn first_report(alloc: Global, events: bool, plan: &Plan) -> Result<Told, OutOfM
 fn add_report(
     told: &mut Told,
     alloc: Global,
+    by: Simulator,
     events: bool,
     plan: &Plan,
     number: u64,
@@ -92,8 +99,8 @@ fn add_report(
     ensures told { OnOk result (told.new ≡ more_told events plan.now number told.old) }
     ensures status { OnOk result (IsAnswer told.new.status) }
 {
-    reports_name_their_plans();
-    let outcome = clock_run(alloc, plan)?;
+    reports_without_events();
+    let outcome = simulate(alloc, by, plan, events)?;
     print_report(&mut told.text, &plan.design, &outcome, number, events)?;
     told.status = told.status.unless_done(Status::of(outcome.verdict));
     told.count.add(outcome.answers);

@@ -6,6 +6,7 @@ mod job;
 mod laws;
 mod making;
 mod program;
+mod simulator;
 mod status;
 mod task;
 #[cfg(test)]

@@ -11,6 +11,7 @@ ghost use Rattle.sim_cli.specs.Answer.{IsSound, IsAnswer};
 
 use crate::answer::Answer;
 use crate::job::job;
+use crate::simulator::Simulator;
 use crate::status::Status;
 use crate::task::Task;
 use cli_words::Options;
@@ -38,7 +39,7 @@ pub(crate) fn make(
     ensures status { IfOk result (λ whole. IsAnswer whole.status) }
 {
     match task {
-        Task::Simulate(options) => simulate(alloc, options, checked),
+        Task::Simulate(by, options) => simulate(alloc, *by, options, checked),
         Task::Print => print(alloc, session),
         Task::Summarize(seed, modules) => summarize(alloc, *seed, *modules, &checked.plan),
     }
@@ -56,7 +57,12 @@ fn print(alloc: Global, session: &Session) -> Result<Answer, OutOfMemory>
 }
 
 /// The job of a session under the limits of the options.
-fn simulate(alloc: Global, options: &Options, checked: Checked) -> Result<Answer, OutOfMemory>
+fn simulate(
+    alloc: Global,
+    by: Simulator,
+    options: &Options,
+    checked: Checked,
+) -> Result<Answer, OutOfMemory>
     requires limits { AreLimits options.now }
     requires fits { FitsEngine checked.plan }
     requires edits_fit { All (EditFits checked.plan) checked.edits }
@@ -65,7 +71,7 @@ fn simulate(alloc: Global, options: &Options, checked: Checked) -> Result<Answer
 {
     let Checked { mut plan, edits } = checked;
     set_limits(&mut plan, options);
-    job(alloc, options.events, plan, edits.as_slice())
+    job(alloc, by, options.events, plan, edits.as_slice())
 }
 
 /// Puts the limits of the options in place of the plan's own.

@@ -1,11 +1,12 @@
 //! What is to be made of a session.
+use crate::simulator::Simulator;
 use cli_words::Options;
 
 /// What is to be made of a session.
 #[derive(Clone, Copy, Debug)]
 pub enum Task {
-    /// Simulate it, and write its report.
-    Simulate(Options),
+    /// Simulate it by this, and write its reports.
+    Simulate(Simulator, Options),
     /// Write its canonical form.
     Print,
     /// Simulate it, and write the summary of the session made from this seed with so many modules.

@@ -156,7 +156,8 @@ fn would_move(
     requires schedules { AreSchedules plan.now schedules.now }
     requires fit { AreFitInTime plan.now state.now.modules }
     requires within { i < length state.now.modules }
-    ensures { IfOk result (λ moving. moving ≡ moves plan.now 0 (all_ready state.now.contents) (i, slice_index_or state.now.modules i nobody)) }
+    ensures { IfOk result (λ moving. moving
+        ≡ moves plan.now 0 (all_ready state.now.contents) (i, slice_index_or state.now.modules i nobody)) }
 {
     let module = state_at(state, i);
     if is_over(plan.ops, module) {

@@ -87,7 +87,9 @@ fn hold_one(
     requires schedules { AreSchedules plan.now schedules.now }
     requires fit { AreFitInTime plan.now state.now.modules }
     requires within { i < length state.now.modules }
-    ensures { OnOk result (held.new ≡ held.old ++ filter_map (held_by plan.now 0 (all_ready state.now.contents)) ((i, slice_index_or state.now.modules i nobody) ∷ [])) }
+    ensures { OnOk result (held.new
+        ≡ held.old ++ filter_map (held_by plan.now 0 (all_ready state.now.contents))
+        ((i, slice_index_or state.now.modules i nobody) ∷ [])) }
 {
     let module = state_at(state, i);
     if is_over(plan.ops, module) {
@@ -200,7 +202,8 @@ fn output_one(
     outputs: &mut List<Words>,
 ) -> Result<(), OutOfMemory>
     requires within { i < length plan.now.design.channels }
-    ensures values { OnOk result (outputs.new ≡ outputs.old ++ map (λ f. values (contents_of contents.old f)) (filter (λ f. is_sink (kind_at plan.now f)) (i ∷ []))) }
+    ensures values { OnOk result (outputs.new
+        ≡ outputs.old ++ map (λ f. values (contents_of contents.old f)) (filter (λ f. is_sink (kind_at plan.now f)) (i ∷ []))) }
     ensures others { OnOk result ((k : ℕ) → i < k → contents_of contents.new k ≡ contents_of contents.old k) }
 {
     if is_sink(kind_of(plan, i)) {

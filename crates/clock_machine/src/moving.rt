@@ -52,9 +52,11 @@ pub fn move_all(
     requires fits { FitsEngine plan.now }
     requires fit { AreFit plan.now clock states.old }
     requires count { length parts.now ≡ length states.old }
-    requires ready { (i : ℕ) → i < length states.old → IsReady plan.now (i, slice_index_or states.old i nobody) (slice_index_or parts.now i no_part) }
+    requires ready { (i : ℕ) → i < length states.old
+        → IsReady plan.now (i, slice_index_or states.old i nobody) (slice_index_or parts.now i no_part) }
     requires early { clock ≤ plan.now.cycles }
-    ensures moved { OnOk result (states.new ≡ map (λ m. after_part plan.now m (slice_index_or parts.now m.0 no_part)) (enumerate_from 0 states.old)) }
+    ensures moved { OnOk result (states.new
+        ≡ map (λ m. after_part plan.now m (slice_index_or parts.now m.0 no_part)) (enumerate_from 0 states.old)) }
     ensures fit { OnOk result (AreFit plan.now (clock + 1) states.new) }
 {
     for (i, state) in states.iter_mut().enumerate() {

@@ -67,7 +67,8 @@ fn next_clock(
     ensures parts { OnOk result (scratch.new.parts ≡ scratch.old.parts) }
     ensures events { OnOk result (events.new ≡ events.old ++ kept keep (events_of (steps_in plan.now clock state.old))) }
     ensures count { OnOk result (length answers.new ≡ length answers.old) }
-    ensures answers { OnOk result ((i : ℕ) → i < length plan.now.design.modules → slice_index_or answers.new i [] ≡ slice_index_or answers.old i [] ++ outcomes (steps_of i (steps_in plan.now clock state.old))) }
+    ensures answers { OnOk result ((i : ℕ) → i < length plan.now.design.modules
+        → slice_index_or answers.new i [] ≡ slice_index_or answers.old i [] ++ outcomes (steps_of i (steps_in plan.now clock state.old))) }
 {
     let parts = scratch.parts.as_slice();
     tell_kept_events(keep, events, clock, parts)?;

@@ -1,5 +1,6 @@
 -- The loop that adds a step's pushes and pops.
-use Rattle.std.proofs.Common.{◌≡◌, refl, sym, ap, ap₂, subst, ◌∙◌, ℕ, zero, suc, ◌+◌, ◌<◌, ◌≤◌, ◌⊎◌, inl, inr, Bool, true, false, cond, not, ◌&&◌, List, [], ◌∷◌, length, drop, get_or, arith}
+use Rattle.std.proofs.Common.{◌≡◌, refl, sym, ap, ap₂, subst, ◌∙◌, ℕ, zero, suc, ◌+◌, ◌<◌, ◌≤◌, ◌⊎◌, inl, inr, Bool, true, false, cond, not}
+use Rattle.std.proofs.Common.{◌&&◌, List, [], ◌∷◌, length, drop, get_or, arith}
 use Rattle.std.specs.Prelude.{All, slice_get}
 use Rattle.std.proofs.lemmas.Bool.{cases_Bool, both_ways}
 use Rattle.std.proofs.lemmas.Bool.Decides.{eqb_tells}
@@ -23,7 +24,8 @@ use Rattle.engine_view.specs.Rooms.{room_of, TakesAt, AreApart, HasRoomFor, done
 use Rattle.engine_view.proofs.Taking.{all_length, all_channel, kind_after, kinds_behind}
 
 -- the accesses before this index were taken, the outcomes of which end before this number
-pub record TakesOn (at : Place) (late : Bool) (accesses : List Access) (outcomes : List Bool) (first : ℕ) (old now : RoomedChannels) (index number : ℕ) : Type 0 where
+pub record TakesOn (at : Place) (late : Bool) (accesses : List Access) (outcomes : List Bool) (first : ℕ) (old now : RoomedChannels)
+    (index number : ℕ) : Type 0 where
   pub channels : taken_all at now.channels (drop index accesses) (done_by late (drop index accesses) (drop number outcomes))
       ≡ taken_all at old.channels accesses (done_by late accesses (drop first outcomes))
   pub kinds : kinds_in now.channels ≡ kinds_in old.channels
@@ -45,7 +47,8 @@ pub drop_next : {X : Type 0} → (b : Bool) (n : ℕ) (xs : List X) → cond b (
 drop_next {X} true n xs = ap (λ (k : ℕ). drop k xs) (omega arith)
 drop_next {X} false n xs = drop-drop 1 n xs
 
-pub takes_init : (at : Place) (late : Bool) (xs : List Access) (outs : List Bool) (first : ℕ) (t : RoomedChannels) → All (IsAccess t.channels) xs → AreApart xs → HasRoomFor t xs
+pub takes_init : (at : Place) (late : Bool) (xs : List Access) (outs : List Bool) (first : ℕ) (t : RoomedChannels)
+    → All (IsAccess t.channels) xs → AreApart xs → HasRoomFor t xs
     → TakesOn at late xs outs first t t 0 first
 takes_init at late xs outs first t inside apart rooms = record {
   channels = refl;
@@ -67,7 +70,8 @@ one_kept at channels a b y inside k =
       channel = let e = all_length at channels (a ∷ []) (b ∷ []) in let l = k.channel in omega arith;
       ordinal = k.ordinal;
       side = subst (λ (q : TableChannel). HasSide q (side_of y.kind))
-          (sym (ap (λ (q : Channel). q.kind) (all_channel at channels (a ∷ []) (b ∷ []) y.channel inside') ∙ kind_after at y.channel (channel_at channels y.channel) (a ∷ []) (b ∷ []))) k.side;
+          (sym (ap (λ (q : Channel). q.kind) (all_channel at channels (a ∷ []) (b ∷ []) y.channel inside')
+          ∙ kind_after at y.channel (channel_at channels y.channel) (a ∷ []) (b ∷ []))) k.side;
     }
   where
     one_all : All (λ (q : Access). q.channel < length channels) (a ∷ [])
@@ -89,12 +93,15 @@ module _ (at : Place) (late : Bool) (xs : List Access) (outs : List Bool) (first
   access_here = All-head (IsAccess now.channels) (get_or xs i d) (drop (i + 1) xs) (subst (All (IsAccess now.channels)) here r.inside)
 
   pub room_here : is_taking (get_or xs i d).kind ≡ true → 0 < room_of now (side_of (get_or xs i d).kind) (get_or xs i d).channel
-  room_here = All-head (λ (q : Access). is_taking q.kind ≡ true → 0 < room_of now (side_of q.kind) q.channel) (get_or xs i d) (drop (i + 1) xs) (subst (HasRoomFor now) here r.rooms)
+  room_here = All-head (λ (q : Access). is_taking q.kind ≡ true → 0 < room_of now (side_of q.kind) q.channel) (get_or xs i d)
+      (drop (i + 1) xs) (subst (HasRoomFor now) here r.rooms)
 
-module _ (at : Place) (late : Bool) (xs : List Access) (outs : List Bool) (first : ℕ) (old now next : RoomedChannels) (i n : ℕ) (d : Access) (done : Bool)
+module _ (at : Place) (late : Bool) (xs : List Access) (outs : List Bool) (first : ℕ) (old now next : RoomedChannels) (i n : ℕ) (d : Access)
+    (done : Bool)
     (r : TakesOn at late xs outs first old now i n) (l : i < length xs)
     (is : done ≡ cond (is_blocking (get_or xs i d).kind) (not late) (late && possible_by (get_or xs i d).kind (slice_get outs n)))
-    (channels : next.channels ≡ cond (is_taking (get_or xs i d).kind && done) (taken_by (side_of (get_or xs i d).kind) at now.channels (get_or xs i d)) now.channels)
+    (channels : next.channels ≡ cond (is_taking (get_or xs i d).kind && done) (taken_by (side_of (get_or xs i d).kind) at now.channels
+    (get_or xs i d)) now.channels)
     (one : (side : Side) (c : ℕ) → room_of now side c ≤ room_of next side c + 1)
     (others : (side : Side) (c : ℕ) → (TakesAt side c (get_or xs i d) → ⊥) → room_of now side c ≤ room_of next side c) where
   abbrev a : Access
@@ -103,13 +110,16 @@ module _ (at : Place) (late : Bool) (xs : List Access) (outs : List Bool) (first
   abbrev line : drop i xs ≡ a ∷ drop (i + 1) xs
   line = here at late xs outs first old now i n d r l
 
-  apart_here : All (λ (q : Access). is_taking a.kind ≡ true → TakesAt (side_of a.kind) a.channel q → ⊥) (drop (i + 1) xs) × AreApart (drop (i + 1) xs)
+  apart_here : All (λ (q : Access). is_taking a.kind ≡ true → TakesAt (side_of a.kind) a.channel q → ⊥) (drop (i + 1) xs)
+      × AreApart (drop (i + 1) xs)
   apart_here = subst AreApart line r.apart
 
-  channels_now : taken_all at next.channels (drop (i + 1) xs) (done_by late (drop (i + 1) xs) (drop (n + cond (is_blocking a.kind) 0 1) outs))
+  channels_now : taken_all at next.channels (drop (i + 1) xs)
+      (done_by late (drop (i + 1) xs) (drop (n + cond (is_blocking a.kind) 0 1) outs))
       ≡ taken_all at old.channels xs (done_by late xs (drop first outs))
   channels_now =
-      ap₂ (λ (cs : List Channel) (os : List Bool). taken_all at cs (drop (i + 1) xs) (done_by late (drop (i + 1) xs) os)) (channels ∙ ap (λ (b : Bool). cond (is_taking a.kind && b) (taken_by (side_of a.kind) at now.channels a) now.channels) flag)
+      ap₂ (λ (cs : List Channel) (os : List Bool). taken_all at cs (drop (i + 1) xs) (done_by late (drop (i + 1) xs) os)) (channels
+      ∙ ap (λ (b : Bool). cond (is_taking a.kind && b) (taken_by (side_of a.kind) at now.channels a) now.channels) flag)
       (sym (drop_next (is_blocking a.kind) n outs))
       ∙ (sym (ap (λ (ys : List Access). taken_all at now.channels ys (done_by late ys (drop n outs))) line) ∙ r.channels)
     where
@@ -122,13 +132,16 @@ module _ (at : Place) (late : Bool) (xs : List Access) (outs : List Bool) (first
     kinds = ap kinds_in channels ∙ (kinds_behind at now.channels a done ∙ r.kinds);
     within = let w = r.within in elim (cases_Bool (is_blocking a.kind)) [ inl e ↦ rw e (omega arith) | inr e ↦ rw e (omega arith) ];
     inside = subst (λ (cs : List Channel). All (IsAccess cs) (drop (i + 1) xs)) (sym channels)
-        (All-weaker (IsAccess now.channels) _ (λ y k. one_kept at now.channels a done y (access_here at late xs outs first old now i n d r l).channel k) (drop (i + 1) xs)
+        (All-weaker (IsAccess now.channels) _ (λ y k. one_kept at now.channels a done y (access_here at late xs outs first old now i n d r
+        l).channel k) (drop (i + 1) xs)
         (All-tail (IsAccess now.channels) a (drop (i + 1) xs) (subst (All (IsAccess now.channels)) line r.inside)));
     apart = apart_here.1;
     rooms = λ j e q t.
         let b = get_or (drop (i + 1) xs) j e in
-        let room = All-tail (λ (z : Access). is_taking z.kind ≡ true → 0 < room_of now (side_of z.kind) z.channel) a (drop (i + 1) xs) (subst (HasRoomFor now) line r.rooms) j e q t in
-        let kept = others (side_of b.kind) b.channel (λ k. apart_here.0 j e q k.taking (record { taking = t; same_side = sym k.same_side; same_channel = sym k.same_channel })) in
+        let room = All-tail (λ (z : Access). is_taking z.kind ≡ true → 0 < room_of now (side_of z.kind) z.channel) a (drop (i + 1) xs)
+        (subst (HasRoomFor now) line r.rooms) j e q t in
+        let kept = others (side_of b.kind) b.channel
+        (λ k. apart_here.0 j e q k.taking (record { taking = t; same_side = sym k.same_side; same_channel = sym k.same_channel })) in
         omega arith;
     one = λ side c. one_now side c (r.one side c);
     others = λ side c f.
@@ -137,24 +150,34 @@ module _ (at : Place) (late : Bool) (xs : List Access) (outs : List Bool) (first
         omega arith;
   }
     where
-      tail_free : (side : Side) (c : ℕ) → All (λ (q : Access). TakesAt side c q → ⊥) (drop i xs) → (TakesAt side c a → ⊥) × All (λ (q : Access). TakesAt side c q → ⊥) (drop (i + 1) xs)
+      tail_free : (side : Side) (c : ℕ) → All (λ (q : Access). TakesAt side c q → ⊥) (drop i xs)
+          → (TakesAt side c a → ⊥) × All (λ (q : Access). TakesAt side c q → ⊥) (drop (i + 1) xs)
       tail_free side c f =
-          let f' = subst (All (λ (q : Access). TakesAt side c q → ⊥)) line f in
-          (All-head (λ (q : Access). TakesAt side c q → ⊥) a (drop (i + 1) xs) f', All-tail (λ (q : Access). TakesAt side c q → ⊥) a (drop (i + 1) xs) f')
+          let f' = subst (All (λ (q : Access). TakesAt side c q → ⊥)) line f in (
+            All-head (λ (q : Access). TakesAt side c q → ⊥) a (drop (i + 1) xs) f',
+            All-tail (λ (q : Access). TakesAt side c q
+                → ⊥) a (drop (i + 1) xs) f',
+          )
 
       by_side : (side : Side) (c : ℕ) → (TakesAt side c a → ⊥) ⊎ TakesAt side c a
       by_side side c =
           elim (cases_Bool (is_taking a.kind)) [
             | inl t ↦
                 elim (same_or side (side_of a.kind)) [
-                  | inl e ↦ elim (eqb_tells c a.channel) [ inl q ↦ inr (record { taking = t; same_side = e; same_channel = q.1 }) | inr q ↦ inl (λ k. q.1 k.same_channel) ]
+                  | inl e ↦ elim (eqb_tells c a.channel) [
+                    | inl q ↦ inr (record { taking = t; same_side = e; same_channel = q.1 })
+                    | inr q ↦
+                        inl (λ k. q.1 k.same_channel)
+                  ]
                   | inr f ↦ inl (λ k. f k.same_side)
                 ]
             | inr t ↦ inl (λ k. both_ways _ t k.taking)
           ]
 
-      one_now : (side : Side) (c : ℕ) → (room_of old side c ≤ room_of now side c) ⊎ ((room_of old side c ≤ room_of now side c + 1) × All (λ (q : Access). TakesAt side c q → ⊥) (drop i xs))
-          → (room_of old side c ≤ room_of next side c) ⊎ ((room_of old side c ≤ room_of next side c + 1) × All (λ (q : Access). TakesAt side c q → ⊥) (drop (i + 1) xs))
+      one_now : (side : Side) (c : ℕ) → (room_of old side c ≤ room_of now side c) ⊎ ((room_of old side c ≤ room_of now side c + 1)
+          × All (λ (q : Access). TakesAt side c q → ⊥) (drop i xs))
+          → (room_of old side c ≤ room_of next side c) ⊎ ((room_of old side c ≤ room_of next side c + 1)
+          × All (λ (q : Access). TakesAt side c q → ⊥) (drop (i + 1) xs))
       one_now side c (inr (q, f)) =
           let (mine, rest) = tail_free side c f in
           let kept = others side c mine in
@@ -164,10 +187,19 @@ module _ (at : Place) (late : Bool) (xs : List Access) (outs : List Bool) (first
             | inl f ↦ let kept = others side c f in inl (omega arith)
             | inr k ↦
                 let less = one side c in
-                inr (omega arith, λ j e z t. apart_here.0 j e z k.taking (record { taking = t.taking; same_side = sym k.same_side ∙ t.same_side; same_channel = sym k.same_channel ∙ t.same_channel }))
+                inr (
+                  omega arith,
+                  λ j e z t. apart_here.0 j e z k.taking (record {
+                    taking = t.taking;
+                    same_side = sym k.same_side
+                        ∙ t.same_side;
+                    same_channel = sym k.same_channel ∙ t.same_channel;
+                  }),
+                )
           ]
 
-pub takes_end : (at : Place) (late : Bool) (xs : List Access) (outs : List Bool) (first : ℕ) (old now : RoomedChannels) (i n : ℕ) → TakesOn at late xs outs first old now i n → length xs ≤ i
+pub takes_end : (at : Place) (late : Bool) (xs : List Access) (outs : List Bool) (first : ℕ) (old now : RoomedChannels) (i n : ℕ)
+    → TakesOn at late xs outs first old now i n → length xs ≤ i
     → (now.channels ≡ taken_all at old.channels xs (done_by late xs (drop first outs)))
     × (kinds_in now.channels ≡ kinds_in old.channels)
     × ((side : Side) (c : ℕ) → room_of old side c ≤ room_of now side c + 1)

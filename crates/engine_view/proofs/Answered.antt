@@ -1,11 +1,14 @@
 -- Outcomes more in a log, with the pushes and pops that they decide, are the theory's Answer, and what is held stays sound.
-use Rattle.std.proofs.Common.{◌≡◌, refl, sym, ap, ap₂, subst, ◌∙◌, ℕ, zero, suc, ◌+◌, ◌<◌, ◌≤◌, ◌⊎◌, Bool, true, false, not, cond, eqb, ltb, ◌&&◌, List, [], ◌∷◌, ◌++◌, length, map, drop, get_or, arith, inl, inr, append-nil, append_assoc, length-append, drop_of_length-le}
+use Rattle.std.proofs.Common.{◌≡◌, refl, sym, ap, ap₂, subst, ◌∙◌, ℕ, zero, suc, ◌+◌, ◌<◌, ◌≤◌, ◌⊎◌, Bool, true, false, not, cond, eqb, ltb}
+use Rattle.std.proofs.Common.{◌&&◌, List, [], ◌∷◌, ◌++◌, length, map, drop, get_or, arith, inl, inr, append-nil, append_assoc}
+use Rattle.std.proofs.Common.{length-append, drop_of_length-le}
 use Rattle.std.specs.Prelude.{All, slice_get, Some}
 use Rattle.flow_word.specs.Kinds.{is_blocking, side_of, same_side}
 use Rattle.flow_word.specs.declared.access.Side.{Side}
 use Rattle.flow_word.specs.declared.access.Side.TheVariants.{Push}
 use Rattle.flow_word.specs.declared.access.Kind.{Kind}
-use Rattle.std.proofs.lemmas.Bool.{leb-true, and_left, or_right, or_left, cases_lt, cases_Bool, and_parts, lt-ltb, le-ltb, le-leb, both_ways}
+use Rattle.std.proofs.lemmas.Bool.{leb-true, and_left, or_right, or_left, cases_lt, cases_Bool, and_parts, lt-ltb, le-ltb, le-leb}
+use Rattle.std.proofs.lemmas.Bool.{both_ways}
 use Rattle.std.proofs.lemmas.Bool.Decides.{eqb_tells}
 use Rattle.std.proofs.lemmas.List.{length-set, get_or-set_same, get_or-set_other, get_or_past}
 use Rattle.std.proofs.lemmas.List.Elements.{All-set, All-weaker}
@@ -29,7 +32,8 @@ use Rattle.event_timing.proofs.Assigning.{put_at_same, put_at_other}
 use Rattle.event_timing.proofs.Fronts.{tally_same, pushed_same}
 use Rattle.event_timing.proofs.OwnRuns.{tally_more, tally_mono}
 use Rattle.event_timing.proofs.Values.{pushed_in_more}
-use Rattle.engine_view.specs.Held.{Held, step_of, no_step, emitted_of, seen, queries_in, flags_by, flags_of, are_among, has_all, values_at, replies_at, core_of}
+use Rattle.engine_view.specs.Held.{Held, step_of, no_step, emitted_of, seen, queries_in, flags_by, flags_of, are_among, has_all, values_at}
+use Rattle.engine_view.specs.Held.{replies_at, core_of}
 use Rattle.engine_view.specs.Shown.{Shows, IsSound, AreTaken, IsTakenAt, AreWhole, IsKind, queries_before}
 use Rattle.engine_view.specs.Emitted.{done_at_once, place_of}
 use Rattle.engine_view.proofs.Taking.{copies, channel_after, all_length, all_channel, kind_after, places_after, values_on, values_after}
@@ -97,8 +101,10 @@ flags_front (a ∷ xs) ys zs l =
       | inr e ↦ rw e (front a xs ys zs (rw e at l) (flags_front xs))
     ]
   where
-    front : (a : Access) (xs : List Access) (ys zs : List Bool) → suc (queries_in xs) ≤ length ys → ((ys zs : List Bool) → queries_in xs ≤ length ys → flags_by xs (ys ++ zs) ≡ flags_by xs ys)
-        → possible_by a.kind (slice_get (ys ++ zs) 0) ∷ flags_by xs (drop 1 (ys ++ zs)) ≡ possible_by a.kind (slice_get ys 0) ∷ flags_by xs (drop 1 ys)
+    front : (a : Access) (xs : List Access) (ys zs : List Bool) → suc (queries_in xs) ≤ length ys
+        → ((ys zs : List Bool) → queries_in xs ≤ length ys → flags_by xs (ys ++ zs) ≡ flags_by xs ys)
+        → possible_by a.kind (slice_get (ys ++ zs) 0) ∷ flags_by xs (drop 1 (ys ++ zs)) ≡ possible_by a.kind (slice_get ys 0) ∷ flags_by xs
+        (drop 1 ys)
     front a xs [] zs l f = absurd (omega arith)
     front a xs (y ∷ ys) zs l f = ap (λ (q : List Bool). possible_by a.kind (Some y) ∷ q) (f ys zs (omega arith))
 
@@ -115,7 +121,8 @@ drop_length (suc n) (y ∷ ys) = elim (drop_length n ys) [ inl e ↦ inl (omega 
 -- ---- what is taken at once, and late
 
 takes_parts : (side : Side) (c : ℕ) (xs : List Access) (bs : List Bool) → AreFlags xs bs
-    → takes_in side c (map seen xs) (bare_replies bs) ≡ takes_in side c (map seen xs) (bare_replies (done_at_once xs)) + takes_in side c (map seen xs) (bare_replies (done_late xs bs))
+    → takes_in side c (map seen xs) (bare_replies bs) ≡ takes_in side c (map seen xs) (bare_replies (done_at_once xs)) + takes_in side c
+    (map seen xs) (bare_replies (done_late xs bs))
 takes_parts side c [] [] f = refl
 takes_parts side c [] (b ∷ bs) f = absurd f
 takes_parts side c (a ∷ xs) [] f = absurd f
@@ -124,7 +131,8 @@ takes_parts side c (a ∷ xs) (b ∷ bs) (f, fs) =
     let one = one_part (same_side (side_of a.kind) side && eqb a.channel c) (seen a).takes (is_blocking a.kind) b f in
     omega arith
   where
-    one_part : (e t k b : Bool) → (k ≡ true → b ≡ true) → cond {A = ℕ} (t && (b && e)) 1 0 ≡ cond (t && (k && e)) 1 0 + cond (t && ((not k && b) && e)) 1 0
+    one_part : (e t k b : Bool) → (k ≡ true → b ≡ true)
+        → cond {A = ℕ} (t && (b && e)) 1 0 ≡ cond (t && (k && e)) 1 0 + cond (t && ((not k && b) && e)) 1 0
     one_part e t true false f = let q = f refl in cc
     one_part true true true true f = refl
     one_part true false true true f = refl
@@ -139,7 +147,8 @@ takes_parts side c (a ∷ xs) (b ∷ bs) (f, fs) =
     one_part false true false false f = refl
     one_part false false false false f = refl
 
-none_takes : (c : ℕ) (xs : List Access) (bs : List Bool) → takers Push c (map seen xs) ≡ 0 → values_in c (map seen xs) (bare_replies bs) ≡ []
+none_takes : (c : ℕ) (xs : List Access) (bs : List Bool) → takers Push c (map seen xs) ≡ 0
+    → values_in c (map seen xs) (bare_replies bs) ≡ []
 none_takes c [] bs e = refl
 none_takes c (a ∷ xs) [] e = refl
 none_takes c (a ∷ xs) (b ∷ bs) e =
@@ -148,7 +157,8 @@ none_takes c (a ∷ xs) (b ∷ bs) e =
       | inr t ↦
           let e' = rw t at e in
           let z : takers Push c (map seen xs) ≡ 0 = omega arith in
-          let n : theory.took Push c (seen a) (record { possible = b; front = 0 }) ≡ false = off (seen a).takes b (same_side (side_of a.kind) Push && eqb a.channel c) t in
+          let n : theory.took Push c (seen a) (record { possible = b; front = 0 }) ≡ false =
+          off (seen a).takes b (same_side (side_of a.kind) Push && eqb a.channel c) t in
           rw (n, none_takes c xs bs z) refl
     ]
   where
@@ -158,7 +168,8 @@ none_takes c (a ∷ xs) (b ∷ bs) e =
     off false b e q = refl
 
 values_parts : (c : ℕ) (xs : List Access) (bs : List Bool) → AreFlags xs bs → takers Push c (map seen xs) ≤ 1
-    → values_in c (map seen xs) (bare_replies bs) ≡ values_in c (map seen xs) (bare_replies (done_at_once xs)) ++ values_in c (map seen xs) (bare_replies (done_late xs bs))
+    → values_in c (map seen xs) (bare_replies bs) ≡ values_in c (map seen xs) (bare_replies (done_at_once xs)) ++ values_in c (map seen xs)
+    (bare_replies (done_late xs bs))
 values_parts c [] [] f l = refl
 values_parts c [] (b ∷ bs) f l = absurd f
 values_parts c (a ∷ xs) [] f l = absurd f
@@ -171,11 +182,13 @@ values_parts c (a ∷ xs) (b ∷ bs) (f, fs) l =
           (one_value (seen a).takes (is_blocking a.kind) b (same_side (side_of a.kind) Push && eqb a.channel c) a.value f)
       | inr t ↦
           let l' = rw t at l in
-          none_value (seen a).takes (is_blocking a.kind) b (same_side (side_of a.kind) Push && eqb a.channel c) a.value t _ _ _ (values_parts c xs bs fs (omega arith))
+          none_value (seen a).takes (is_blocking a.kind) b (same_side (side_of a.kind) Push && eqb a.channel c) a.value t _ _ _
+          (values_parts c xs bs fs (omega arith))
     ]
   where
     one_value : (t k b e : Bool) (v : ℕ) → (k ≡ true → b ≡ true)
-        → cond (t && (b && e)) (v ∷ []) [] ++ [] ≡ (cond (t && (k && e)) (v ∷ []) [] ++ []) ++ (cond (t && ((not k && b) && e)) (v ∷ []) [] ++ [])
+        → cond (t && (b && e)) (v ∷ []) [] ++ [] ≡ (cond (t && (k && e)) (v ∷ []) [] ++ []) ++ (cond (t && ((not k && b) && e)) (v ∷ []) []
+        ++ [])
     one_value t true false e v f = let q = f refl in cc
     one_value true true true true v f = refl
     one_value true true true false v f = refl
@@ -187,7 +200,8 @@ values_parts c (a ∷ xs) (b ∷ bs) (f, fs) l =
     one_value false false false e v f = refl
 
     none_value : (t k b e : Bool) (v : ℕ) → (t && e) ≡ false → (p q r : List ℕ) → p ≡ q ++ r
-        → cond (t && (b && e)) (v ∷ []) [] ++ p ≡ (cond (t && (k && e)) (v ∷ []) [] ++ q) ++ (cond (t && ((not k && b) && e)) (v ∷ []) [] ++ r)
+        → cond (t && (b && e)) (v ∷ []) [] ++ p ≡ (cond (t && (k && e)) (v ∷ []) [] ++ q) ++ (cond (t && ((not k && b) && e)) (v ∷ []) []
+        ++ r)
     none_value true k b true v z p q r y = cc
     none_value true true true false v z p q r y = y
     none_value true true false false v z p q r y = y
@@ -197,7 +211,8 @@ values_parts c (a ∷ xs) (b ∷ bs) (f, fs) l =
 
 -- ---- what is held
 
-pub steps_only : (g h : Held) → ((m : ℕ) → (lane_at g.lanes m).steps ≡ (lane_at h.lanes m).steps) → (m k : ℕ) → queries_before g m k ≡ queries_before h m k
+pub steps_only : (g h : Held) → ((m : ℕ) → (lane_at g.lanes m).steps ≡ (lane_at h.lanes m).steps) → (m k : ℕ)
+    → queries_before g m k ≡ queries_before h m k
 unfolding queries_before
 steps_only g h e m zero = refl
 steps_only g h e m (suc k) = rw (e m, steps_only g h e m k) refl
@@ -221,7 +236,8 @@ pub among_if : (t : Step) (n : ℕ) → t.first_query + queries_in t.accesses �
 among_if t n l = or_right (eqb (queries_in t.accesses) 0) _ (le-leb (t.first_query + queries_in t.accesses) n l)
 
 -- the queries of steps that are all among so many are no more
-pub all_among : (h : Held) (m n q : ℕ) → ((k : ℕ) → k < n → (step_of h m k).first_query ≡ queries_before h m k) → ((k : ℕ) → k < n → are_among (step_of h m k) q ≡ true) → queries_before h m n ≤ q
+pub all_among : (h : Held) (m n q : ℕ) → ((k : ℕ) → k < n → (step_of h m k).first_query ≡ queries_before h m k)
+    → ((k : ℕ) → k < n → are_among (step_of h m k) q ≡ true) → queries_before h m n ≤ q
 all_among h m zero q f g = rw (queries_zero h m) (omega arith)
 all_among h m (suc n) q f g =
     let rest = all_among h m n q (λ k l. f k (omega arith)) (λ k l. g k (omega arith)) in
@@ -236,8 +252,10 @@ flags_fit : (know : theory.Access → Known) (c : ℕ) (xs : List Access) → Ar
 flags_fit know c [] = tt
 flags_fit know c (a ∷ xs) = ((λ e. or_left (is_blocking a.kind) _ e), flags_fit know c xs)
 
-module _ {S : Type 0} (d : Design S) (i : IsDesign d) (h : Held) (m c : ℕ) (inside : m < length h.lanes) (s : IsSound d h) (b : AreOwnMarks d (core_of d h))
-    (less : length (lane_at h.lanes m).cycles < emitted_of h m) (fresh : (core_of d h).answered m (length (lane_at h.lanes m).cycles) ≡ false)
+module _ {S : Type 0} (d : Design S) (i : IsDesign d) (h : Held) (m c : ℕ) (inside : m < length h.lanes) (s : IsSound d h)
+    (b : AreOwnMarks d (core_of d h))
+    (less : length (lane_at h.lanes m).cycles < emitted_of h m) (fresh : (core_of d h).answered m (length (lane_at h.lanes m).cycles)
+    ≡ false)
     (earlier : (k : ℕ) → k < length (lane_at h.lanes m).cycles → (core_of d h).verified m k ≡ true) where
   abbrev x : Core S
   x = core_of d h
@@ -269,7 +287,8 @@ module _ {S : Type 0} (d : Design S) (i : IsDesign d) (h : Held) (m c : ℕ) (in
       ]
 
   flags_ok : AreFlags t.accesses fs
-  flags_ok = subst (AreFlags t.accesses) (ap (flags_at (known_of d (view d x) m) c) (sym (s.accesses m k₀ less))) (flags_fit (known_of d (view d x) m) c t.accesses)
+  flags_ok = subst (AreFlags t.accesses) (ap (flags_at (known_of d (view d x) m) c) (sym (s.accesses m k₀ less)))
+      (flags_fit (known_of d (view d x) m) c t.accesses)
 
   flags_before : x.flags m k₀ ≡ done_at_once t.accesses
   flags_before = b.unanswered m k₀ less fresh ∙ (ap no_outcomes (s.accesses m k₀ less) ∙ no_outcomes_is t.accesses)
@@ -285,7 +304,8 @@ module _ {S : Type 0} (d : Design S) (i : IsDesign d) (h : Held) (m c : ℕ) (in
   tally_old : (n : ℕ) (side : Side) (ch k : ℕ) → (n ≡ m → k ≤ k₀) → core_tally d z n side ch k ≡ core_tally d x n side ch k
   tally_old n side ch k l =
       tally_same (core_accesses d z n) (core_accesses d x n) (λ j. bare_replies (z.flags n j)) (λ j. bare_replies (x.flags n j)) side ch k
-      (λ j q. ap (λ (v : List Bool). takes_in side ch (core_accesses d x n j) (bare_replies v)) (flags_else n j (λ e f. let w = l e in omega arith)))
+      (λ j q. ap (λ (v : List Bool). takes_in side ch (core_accesses d x n j) (bare_replies v))
+      (flags_else n j (λ e f. let w = l e in omega arith)))
 
   late : Side → ℕ → ℕ
   late side ch = takes_in side ch (map seen t.accesses) (bare_replies (done_late t.accesses fs))
@@ -297,7 +317,8 @@ module _ {S : Type 0} (d : Design S) (i : IsDesign d) (h : Held) (m c : ℕ) (in
       let old = tally_more (core_accesses d x m) (λ j. bare_replies (x.flags m j)) side ch k₀ in
       let same = tally_old m side ch k₀ (λ e. omega arith) in
       let now = ap₂ (λ (a : List theory.Access) (v : List Bool). takes_in side ch a (bare_replies v)) (s.accesses m k₀ less) flags_now in
-      let before = ap₂ (λ (a : List theory.Access) (v : List Bool). takes_in side ch a (bare_replies v)) (s.accesses m k₀ less) flags_before in
+      let before = ap₂ (λ (a : List theory.Access) (v : List Bool). takes_in side ch a (bare_replies v)) (s.accesses m k₀ less)
+      flags_before in
       let parts = takes_parts side ch t.accesses fs flags_ok in
       omega arith
 
@@ -308,10 +329,12 @@ module _ {S : Type 0} (d : Design S) (i : IsDesign d) (h : Held) (m c : ℕ) (in
   unfolding late
   none_late side ch f = not_owner d m side ch (map seen t.accesses) (done_late t.accesses fs) owned f
 
-  total : (w : ℕ) (side : Side) (ch : ℕ) → ((w ≡ m → ⊥) → late side ch ≡ 0) → core_tally d z w side ch (emitted_of h w) ≡ core_tally d x w side ch (emitted_of h w) + late side ch
+  total : (w : ℕ) (side : Side) (ch : ℕ) → ((w ≡ m → ⊥) → late side ch ≡ 0)
+      → core_tally d z w side ch (emitted_of h w) ≡ core_tally d x w side ch (emitted_of h w) + late side ch
   total w side ch none =
       elim (eqb_tells w m) [
-        | inl q ↦ subst (λ (v : ℕ). core_tally d z v side ch (emitted_of h v) ≡ core_tally d x v side ch (emitted_of h v) + late side ch) (sym q.1)
+        | inl q ↦ subst (λ (v : ℕ). core_tally d z v side ch (emitted_of h v) ≡ core_tally d x v side ch (emitted_of h v) + late side ch)
+            (sym q.1)
             (subst (λ (v : ℕ). core_tally d z m side ch v ≡ core_tally d x m side ch v + late side ch) last (tally_now side ch))
         | inr q ↦ let e = none q.1 in let same = tally_old w side ch (emitted_of h w) (λ e. absurd (q.1 e)) in omega arith
       ]
@@ -322,22 +345,28 @@ module _ {S : Type 0} (d : Design S) (i : IsDesign d) (h : Held) (m c : ℕ) (in
   inside_t = shown_inside d h x s m k₀ less
 
   channel_now : (ch : ℕ) → channel_at g.channels ch ≡ channel_after at ch (channel_at h.channels ch) t.accesses (done_late t.accesses fs)
-  channel_now ch = all_channel at h.channels t.accesses (done_late t.accesses fs) ch (All-weaker (IsAccess h.channels) (λ (a : Access). a.channel < length h.channels) (λ a p. p.channel) t.accesses inside_t)
+  channel_now ch = all_channel at h.channels t.accesses (done_late t.accesses fs) ch
+      (All-weaker (IsAccess h.channels) (λ (a : Access). a.channel < length h.channels) (λ a p. p.channel) t.accesses inside_t)
 
   kind_now : (ch : ℕ) → (channel_at g.channels ch).kind ≡ (channel_at h.channels ch).kind
-  kind_now ch = ap (λ (q : Channel). q.kind) (channel_now ch) ∙ kind_after at ch (channel_at h.channels ch) t.accesses (done_late t.accesses fs)
+  kind_now ch = ap (λ (q : Channel). q.kind) (channel_now ch)
+      ∙ kind_after at ch (channel_at h.channels ch) t.accesses (done_late t.accesses fs)
 
   count_now : length g.channels ≡ length h.channels
   count_now = all_length at h.channels t.accesses (done_late t.accesses fs)
 
-  places_now : (side : Side) (ch : ℕ) → places_of side (channel_at g.channels ch) ≡ places_of side (channel_at h.channels ch) ++ copies (late side ch) at
+  places_now : (side : Side) (ch : ℕ) → places_of side (channel_at g.channels ch) ≡ places_of side (channel_at h.channels ch)
+      ++ copies (late side ch) at
   unfolding late
-  places_now side ch = ap (places_of side) (channel_now ch) ∙ places_after side at ch (channel_at h.channels ch) t.accesses (done_late t.accesses fs)
+  places_now side ch = ap (places_of side) (channel_now ch) ∙ places_after side at ch (channel_at h.channels ch) t.accesses
+      (done_late t.accesses fs)
 
-  tally_up : (w : ℕ) (side : Side) (ch k : ℕ) → ((w ≡ m → ⊥) → late side ch ≡ 0) → k ≤ emitted_of h w → core_tally d x w side ch k ≤ core_tally d z w side ch k
+  tally_up : (w : ℕ) (side : Side) (ch k : ℕ) → ((w ≡ m → ⊥) → late side ch ≡ 0) → k ≤ emitted_of h w
+      → core_tally d x w side ch k ≤ core_tally d z w side ch k
   tally_up w side ch k none l =
       elim (cases_lt k (emitted_of h w)) [
-        | inl q ↦ let same = tally_old w side ch k (λ e. let e' = ap (λ (v : ℕ). emitted_of h v) e in let z' = last in omega arith) in omega arith
+        | inl q ↦ let same = tally_old w side ch k (λ e. let e' = ap (λ (v : ℕ). emitted_of h v) e in let z' = last in omega arith) in
+            omega arith
         | inr q ↦
             let e : k ≡ emitted_of h w = omega arith in
             let up = total w side ch none in
@@ -351,12 +380,15 @@ module _ {S : Type 0} (d : Design S) (i : IsDesign d) (h : Held) (m c : ℕ) (in
     from =
         let f = o.from in
         let l = o.emitted in
-        let e = tally_old (d.owner side ch) side ch y.step (λ q. let e' = ap (λ (v : ℕ). emitted_of h v) q in let z' = last in omega arith) in
+        let e = tally_old (d.owner side ch) side ch y.step (λ q. let e' = ap (λ (v : ℕ). emitted_of h v) q in let z' = last in
+        omega arith) in
         omega arith;
-    to = let f = o.to in let l = o.emitted in let up = tally_up (d.owner side ch) side ch (suc y.step) (none_late side ch) (omega arith) in omega arith;
+    to = let f = o.to in let l = o.emitted in let up = tally_up (d.owner side ch) side ch (suc y.step) (none_late side ch) (omega arith) in
+        omega arith;
   }
 
-  new_at : (side : Side) (ch : ℕ) → d.owner side ch ≡ m → (j : ℕ) → core_tally d x m side ch (suc k₀) ≤ j → j < core_tally d x m side ch (suc k₀) + late side ch → IsTakenAt d z side ch j at
+  new_at : (side : Side) (ch : ℕ) → d.owner side ch ≡ m → (j : ℕ) → core_tally d x m side ch (suc k₀) ≤ j
+      → j < core_tally d x m side ch (suc k₀) + late side ch → IsTakenAt d z side ch j at
   new_at side ch o j l u =
       let now = tally_now side ch in
       let old = tally_old m side ch k₀ (λ e. omega arith) in
@@ -368,21 +400,27 @@ module _ {S : Type 0} (d : Design S) (i : IsDesign d) (h : Held) (m c : ℕ) (in
         to = subst (λ (v : ℕ). j < core_tally d z v side ch (suc k₀)) (sym o) (omega arith);
       }
 
-  new_for : (w : ℕ) (side : Side) (ch : ℕ) → w ≡ d.owner side ch → ((w ≡ m → ⊥) → late side ch ≡ 0) → 0 < late side ch → (j : ℕ) → core_tally d x w side ch (emitted_of h w) ≤ j
+  new_for : (w : ℕ) (side : Side) (ch : ℕ) → w ≡ d.owner side ch → ((w ≡ m → ⊥) → late side ch ≡ 0) → 0 < late side ch → (j : ℕ)
+      → core_tally d x w side ch (emitted_of h w) ≤ j
       → j < core_tally d x w side ch (emitted_of h w) + late side ch → IsTakenAt d z side ch j at
   new_for w side ch o none p j l u =
       elim (eqb_tells w m) [
         | inl q ↦
-            new_at side ch (sym o ∙ q.1) j (subst (λ (v : ℕ). core_tally d x m side ch v ≤ j) (sym last) (subst (λ (v : ℕ). core_tally d x v side ch (emitted_of h v) ≤ j) q.1 l))
-            (subst (λ (v : ℕ). j < core_tally d x m side ch v + late side ch) (sym last) (subst (λ (v : ℕ). j < core_tally d x v side ch (emitted_of h v) + late side ch) q.1 u))
+            new_at side ch (sym o ∙ q.1) j (subst (λ (v : ℕ). core_tally d x m side ch v ≤ j) (sym last)
+            (subst (λ (v : ℕ). core_tally d x v side ch (emitted_of h v) ≤ j) q.1 l))
+            (subst (λ (v : ℕ). j < core_tally d x m side ch v + late side ch) (sym last)
+            (subst (λ (v : ℕ). j < core_tally d x v side ch (emitted_of h v) + late side ch) q.1 u))
         | inr q ↦ let e = none q.1 in absurd (omega arith)
       ]
 
-  taken_now : (side : Side) (ch : ℕ) → AreTaken d x side ch (places_of side (channel_at h.channels ch)) → AreTaken d z side ch (places_of side (channel_at g.channels ch))
+  taken_now : (side : Side) (ch : ℕ) → AreTaken d x side ch (places_of side (channel_at h.channels ch))
+      → AreTaken d z side ch (places_of side (channel_at g.channels ch))
   taken_now side ch o =
       subst (AreTaken d z side ch) (sym (places_now side ch))
-      (longer_taken d z side ch (late side ch) (core_tally d x (d.owner side ch) side ch (emitted_of h (d.owner side ch))) (places_of side (channel_at h.channels ch)) at
-      o.count (λ j y l. old_taken side ch j _ (o.each j y l)) (total (d.owner side ch) side ch (none_late side ch)) (new_for (d.owner side ch) side ch refl (none_late side ch)))
+      (longer_taken d z side ch (late side ch) (core_tally d x (d.owner side ch) side ch (emitted_of h (d.owner side ch)))
+      (places_of side (channel_at h.channels ch)) at
+      o.count (λ j y l. old_taken side ch j _ (o.each j y l)) (total (d.owner side ch) side ch (none_late side ch))
+      (new_for (d.owner side ch) side ch refl (none_late side ch)))
 
   -- ---- values
 
@@ -395,7 +433,8 @@ module _ {S : Type 0} (d : Design S) (i : IsDesign d) (h : Held) (m c : ℕ) (in
   pushed_old : (w ch k : ℕ) → (w ≡ m → k ≤ k₀) → pushed_by z ch w k ≡ pushed_by x ch w k
   pushed_old w ch k l =
       pushed_same (core_accesses d z w) (core_accesses d x w) (λ j. bare_replies (z.flags w j)) (λ j. bare_replies (x.flags w j)) ch k
-      (λ j q. ap (λ (v : List Bool). values_in ch (core_accesses d x w j) (bare_replies v)) (flags_else w j (λ e f. let r = l e in omega arith)))
+      (λ j q. ap (λ (v : List Bool). values_in ch (core_accesses d x w j) (bare_replies v))
+      (flags_else w j (λ e f. let r = l e in omega arith)))
 
   single_t : (ch : ℕ) → takers Push ch (map seen t.accesses) ≤ 1
   single_t ch = subst (λ (a : List theory.Access). takers Push ch a ≤ 1) (s.accesses m k₀ less) (i.single Push m (x.state m k₀) ch)
@@ -405,10 +444,12 @@ module _ {S : Type 0} (d : Design S) (i : IsDesign d) (h : Held) (m c : ℕ) (in
   pushed_now ch =
       pushed_in_more ch (core_accesses d z m) (λ j. bare_replies (z.flags m j)) k₀
       ∙ (ap₂ (λ (a v : List ℕ). a ++ v) (pushed_old m ch k₀ (λ e. omega arith))
-      (ap₂ (λ (a : List theory.Access) (v : List Bool). values_in ch a (bare_replies v)) (s.accesses m k₀ less) flags_now ∙ values_parts ch t.accesses fs flags_ok (single_t ch))
+      (ap₂ (λ (a : List theory.Access) (v : List Bool). values_in ch a (bare_replies v)) (s.accesses m k₀ less) flags_now
+      ∙ values_parts ch t.accesses fs flags_ok (single_t ch))
       ∙ (sym (append_assoc (pushed_by x ch m k₀) _ _)
       ∙ ap (λ (a : List ℕ). a ++ values_in ch (map seen t.accesses) (bare_replies (done_late t.accesses fs)))
-      (ap (λ (a : List ℕ). pushed_by x ch m k₀ ++ a) (sym (ap₂ (λ (a : List theory.Access) (v : List Bool). values_in ch a (bare_replies v)) (s.accesses m k₀ less) flags_before))
+      (ap (λ (a : List ℕ). pushed_by x ch m k₀ ++ a)
+      (sym (ap₂ (λ (a : List theory.Access) (v : List Bool). values_in ch a (bare_replies v)) (s.accesses m k₀ less) flags_before))
       ∙ sym (pushed_in_more ch (core_accesses d x m) (λ j. bare_replies (x.flags m j)) k₀))))
 
   no_late_values : (ch : ℕ) → (d.owner Push ch ≡ m → ⊥) → late_values ch ≡ []
@@ -423,25 +464,35 @@ module _ {S : Type 0} (d : Design S) (i : IsDesign d) (h : Held) (m c : ℕ) (in
   unfolding late_values
   pushed_values ch = ap values_on (channel_now ch) ∙ values_after at ch (channel_at h.channels ch) t.accesses (done_late t.accesses fs)
 
-  pushed_total : (w ch : ℕ) → ((w ≡ m → ⊥) → late_values ch ≡ []) → pushed_by z ch w (emitted_of h w) ≡ pushed_by x ch w (emitted_of h w) ++ late_values ch
+  pushed_total : (w ch : ℕ) → ((w ≡ m → ⊥) → late_values ch ≡ [])
+      → pushed_by z ch w (emitted_of h w) ≡ pushed_by x ch w (emitted_of h w) ++ late_values ch
   pushed_total w ch none =
       elim (eqb_tells w m) [
         | inl q ↦
             subst (λ (v : ℕ). pushed_by z ch v (emitted_of h v) ≡ pushed_by x ch v (emitted_of h v) ++ late_values ch) (sym q.1)
             (subst (λ (v : ℕ). pushed_by z ch m v ≡ pushed_by x ch m v ++ late_values ch) last (pushed_now ch))
-        | inr q ↦ pushed_old w ch (emitted_of h w) (λ e. absurd (q.1 e)) ∙ (sym (append-nil _) ∙ ap (λ (a : List ℕ). pushed_by x ch w (emitted_of h w) ++ a) (sym (none q.1)))
+        | inr q ↦ pushed_old w ch (emitted_of h w) (λ e. absurd (q.1 e))
+            ∙ (sym (append-nil _) ∙ ap (λ (a : List ℕ). pushed_by x ch w (emitted_of h w) ++ a) (sym (none q.1)))
       ]
 
   values_now : (ch : ℕ) → values_at h.channels ch ≡ core_values d x ch → values_at g.channels ch ≡ core_values d z ch
   values_now ch o = by_kind (channel_at h.channels ch).kind refl
-      ∙ (ap (λ (a : List ℕ). a ++ late_values ch) o ∙ (append_assoc (d.inputs ch) _ _ ∙ ap (λ (a : List ℕ). d.inputs ch ++ a) (sym (pushed_total (d.owner Push ch) ch (no_late_values ch)))))
+      ∙ (ap (λ (a : List ℕ). a ++ late_values ch) o
+      ∙ (append_assoc (d.inputs ch) _ _
+      ∙ ap (λ (a : List ℕ). d.inputs ch ++ a) (sym (pushed_total (d.owner Push ch) ch (no_late_values ch)))))
     where
-      by_kind : (kind : TableChannel) → (channel_at h.channels ch).kind ≡ kind → values_at g.channels ch ≡ values_at h.channels ch ++ late_values ch
+      by_kind : (kind : TableChannel) → (channel_at h.channels ch).kind ≡ kind
+          → values_at g.channels ch ≡ values_at h.channels ch ++ late_values ch
       by_kind (Source inputs) k =
           ap₂ values_of (kind_now ch ∙ k) refl ∙ (sym (append-nil inputs)
-          ∙ ap₂ (λ (a v : List ℕ). a ++ v) (sym (ap (λ (q : TableChannel). values_of q (channel_at h.channels ch).pushes) k)) (sym (source_now ch inputs k)))
-      by_kind Sink k = ap₂ values_of (kind_now ch ∙ k) refl ∙ (pushed_values ch ∙ ap (λ (a : List ℕ). a ++ late_values ch) (sym (ap (λ (q : TableChannel). values_of q (channel_at h.channels ch).pushes) k)))
-      by_kind (Fifo depth delay) k = ap₂ values_of (kind_now ch ∙ k) refl ∙ (pushed_values ch ∙ ap (λ (a : List ℕ). a ++ late_values ch) (sym (ap (λ (q : TableChannel). values_of q (channel_at h.channels ch).pushes) k)))
+          ∙ ap₂ (λ (a v : List ℕ). a ++ v) (sym (ap (λ (q : TableChannel). values_of q (channel_at h.channels ch).pushes) k))
+          (sym (source_now ch inputs k)))
+      by_kind Sink k = ap₂ values_of (kind_now ch ∙ k) refl
+          ∙ (pushed_values ch ∙ ap (λ (a : List ℕ). a ++ late_values ch)
+          (sym (ap (λ (q : TableChannel). values_of q (channel_at h.channels ch).pushes) k)))
+      by_kind (Fifo depth delay) k = ap₂ values_of (kind_now ch ∙ k) refl
+          ∙ (pushed_values ch ∙ ap (λ (a : List ℕ). a ++ late_values ch)
+          (sym (ap (λ (q : TableChannel). values_of q (channel_at h.channels ch).pushes) k)))
 
   -- ---- outcomes
 
@@ -466,7 +517,8 @@ module _ {S : Type 0} (d : Design S) (i : IsDesign d) (h : Held) (m c : ℕ) (in
   pub recorded_least : queries_before h m k₀ ≤ length old_log.outcomes
   recorded_least =
       all_among h m k₀ (length old_log.outcomes) (λ k l. first_is k (omega arith))
-      (λ k l. (and_parts (ltb k (emitted_of h m)) (are_among (step_of h m k) (length old_log.outcomes)) (b.replied m k (let e = last in omega arith))).1)
+      (λ k l. (and_parts (ltb k (emitted_of h m)) (are_among (step_of h m k) (length old_log.outcomes))
+      (b.replied m k (let e = last in omega arith))).1)
 
   pub verified_least : queries_before h m k₀ ≤ old_log.verified
   verified_least =
@@ -506,7 +558,12 @@ module _ {S : Type 0} (d : Design S) (i : IsDesign d) (h : Held) (m c : ℕ) (in
   whole_now : (n q r : ℕ) → (n ≡ m → r ≡ queries_before h m (suc k₀)) → ((n ≡ m → ⊥) → r ≡ q) → AreWhole h n q → AreWhole g n r
   whole_now n q r here else w =
       elim (eqb_tells n m) [
-        | inl e ↦ subst (λ (v : ℕ). AreWhole g v r) (sym e.1) (record { steps = suc k₀; within = less; all = here e.1 ∙ sym (same_queries m (suc k₀)) })
+        | inl e ↦ subst (λ (v : ℕ). AreWhole g v r) (sym e.1) (record {
+          steps = suc k₀;
+          within = less;
+          all = here e.1
+              ∙ sym (same_queries m (suc k₀));
+        })
         | inr e ↦ record { steps = w.steps; within = w.within; all = else e.1 ∙ (w.all ∙ sym (same_queries n w.steps)) }
       ]
 
@@ -521,7 +578,8 @@ module _ {S : Type 0} (d : Design S) (i : IsDesign d) (h : Held) (m c : ℕ) (in
   has_not k q l = and_left (ltb k (emitted_of h m)) _ (le-ltb k (emitted_of h m) (let e = last in omega arith))
 
   -- where so many queries are recorded, or verified, the step and those before it have theirs
-  has_now : (n k q r : ℕ) (y : ℕ → ℕ → Bool) → (n ≡ m → r ≡ queries_before h m (suc k₀)) → ((n ≡ m → ⊥) → r ≡ q) → has_all h n k q ≡ y n k → (n ≡ m → k < k₀ → y n k ≡ true)
+  has_now : (n k q r : ℕ) (y : ℕ → ℕ → Bool) → (n ≡ m → r ≡ queries_before h m (suc k₀)) → ((n ≡ m → ⊥) → r ≡ q) → has_all h n k q ≡ y n k
+      → (n ≡ m → k < k₀ → y n k ≡ true)
       → has_all g n k r ≡ put_at y m k₀ true n k
   has_now n k q r y here else is before =
       put_at_is y m k₀ n k true (has_all g n k r)
@@ -531,7 +589,8 @@ module _ {S : Type 0} (d : Design S) (i : IsDesign d) (h : Held) (m c : ℕ) (in
       at_m : n ≡ m → (k ≡ k₀ → ⊥) → has_all h n k r ≡ y n k
       at_m e f =
           elim (cases_lt k k₀) [
-            | inl l ↦ subst (λ (v : ℕ). has_all h v k r ≡ true) (sym e) (has_if k r (omega arith) (let w = here e in omega arith)) ∙ sym (before e l)
+            | inl l ↦ subst (λ (v : ℕ). has_all h v k r ≡ true) (sym e) (has_if k r (omega arith) (let w = here e in omega arith))
+                ∙ sym (before e l)
             | inr l ↦
                 let l' : k₀ < k = elim (eqb_tells k k₀) [ inl p ↦ absurd (f p.1) | inr p ↦ let w = p.1 in omega arith ] in
                 subst (λ (v : ℕ). has_all h v k r ≡ has_all h v k q) (sym e) (has_not k r l' ∙ sym (has_not k q l')) ∙ is
@@ -552,7 +611,8 @@ module _ {S : Type 0} (d : Design S) (i : IsDesign d) (h : Held) (m c : ℕ) (in
       let u = recorded_most in
       let l = recorded_least in
       ap (λ (q : Log). flags_by t.accesses (drop t.first_query q.outcomes)) log_now
-      ∙ (ap (flags_by t.accesses) (drop_front t.first_query old_log.outcomes new (omega arith) ∙ ap (λ (q : List Bool). q ++ new) (drop_of_length-le old_log.outcomes (omega arith))) ∙ flags_again t.accesses fs flags_ok)
+      ∙ (ap (flags_by t.accesses) (drop_front t.first_query old_log.outcomes new (omega arith)
+      ∙ ap (λ (q : List Bool). q ++ new) (drop_of_length-le old_log.outcomes (omega arith))) ∙ flags_again t.accesses fs flags_ok)
 
   flags_earlier : (k : ℕ) → k < k₀ → flags_of g m k ≡ flags_of h m k
   flags_earlier k l =
@@ -570,7 +630,8 @@ module _ {S : Type 0} (d : Design S) (i : IsDesign d) (h : Held) (m c : ℕ) (in
   flags_past : (k : ℕ) → k₀ < k → flags_of g m k ≡ flags_of h m k
   flags_past k l =
       let none : step_of h m k ≡ no_step = get_or_past (lane_at h.lanes m).steps k no_step (let e = last in omega arith) in
-      ap (λ (q : Step). flags_by q.accesses (drop q.first_query (log_at g.logs m).outcomes)) none ∙ sym (ap (λ (q : Step). flags_by q.accesses (drop q.first_query old_log.outcomes)) none)
+      ap (λ (q : Step). flags_by q.accesses (drop q.first_query (log_at g.logs m).outcomes)) none
+      ∙ sym (ap (λ (q : Step). flags_by q.accesses (drop q.first_query old_log.outcomes)) none)
 
   flags_rest : (n k : ℕ) → (n ≡ m → k ≡ k₀ → ⊥) → flags_of g n k ≡ flags_of h n k
   flags_rest n k f =
@@ -595,8 +656,11 @@ module _ {S : Type 0} (d : Design S) (i : IsDesign d) (h : Held) (m c : ℕ) (in
 
   inside_now : HasAccesses h.lanes g.channels
   inside_now =
-      All-weaker (λ (lane : Lane). All (λ (step : Step). All (IsAccess h.channels) step.accesses) lane.steps) (λ (lane : Lane). All (λ (step : Step). All (IsAccess g.channels) step.accesses) lane.steps)
-      (λ lane. All-weaker (λ (step : Step). All (IsAccess h.channels) step.accesses) (λ (step : Step). All (IsAccess g.channels) step.accesses) (λ step. All-weaker (IsAccess h.channels) (IsAccess g.channels) access_kept step.accesses) lane.steps)
+      All-weaker (λ (lane : Lane). All (λ (step : Step). All (IsAccess h.channels) step.accesses) lane.steps)
+      (λ (lane : Lane). All (λ (step : Step). All (IsAccess g.channels) step.accesses) lane.steps)
+      (λ lane. All-weaker (λ (step : Step). All (IsAccess h.channels) step.accesses)
+      (λ (step : Step). All (IsAccess g.channels) step.accesses) (λ step. All-weaker (IsAccess h.channels) (IsAccess g.channels) access_kept
+      step.accesses) lane.steps)
       h.lanes s.inside
 
   log_length : (n : ℕ) → n ≡ m → length (log_at g.logs n).outcomes ≡ queries_before h m (suc k₀)
@@ -618,15 +682,21 @@ module _ {S : Type 0} (d : Design S) (i : IsDesign d) (h : Held) (m c : ℕ) (in
     inside = inside_now;
     places = places_from d g z (λ n. refl) taken_shown;
     accesses = s.accesses;
-    ordinals = λ n k l j e q. s.ordinals n k l j e q ∙ ap (λ (v : ℕ). suc v) (sym (tally_old n (side_of (get_or (step_of h n k).accesses j e).kind) (get_or (step_of h n k).accesses j e).channel k
+    ordinals = λ n k l j e q. s.ordinals n k l j e q
+        ∙ ap (λ (v : ℕ). suc v) (sym (tally_old n (side_of (get_or (step_of h n k).accesses j e).kind)
+        (get_or (step_of h n k).accesses j e).channel k
         (λ r. let r' = ap (λ (v : ℕ). emitted_of h v) r in let w = last in omega arith)));
     first_query = λ n k l. s.first_query n k l ∙ sym (same_queries n k);
     kinds = λ ch l. let e = count_now in subst (IsKind d ch) (sym (kind_now ch)) (s.kinds ch (omega arith));
     lags = λ side ch l. let e = count_now in s.lags side ch (omega arith) ∙ ap (λ (q : TableChannel). lag_of q side) (sym (kind_now ch));
     taken = taken_shown;
     values = λ ch l. let e = count_now in values_now ch (s.values ch (omega arith));
-    recorded = λ n l. whole_now n (length (log_at h.logs n).outcomes) (length (log_at g.logs n).outcomes) (log_length n) (λ f. ap (λ (q : Log). length q.outcomes) (log_else n f)) (s.recorded n (let e = length-set h.logs m (all_answered old_log new) in omega arith));
-    verified = λ n l. whole_now n (log_at h.logs n).verified (log_at g.logs n).verified (log_verified n) (λ f. ap (λ (q : Log). q.verified) (log_else n f)) (s.verified n (let e = length-set h.logs m (all_answered old_log new) in omega arith));
+    recorded = λ n l. whole_now n (length (log_at h.logs n).outcomes) (length (log_at g.logs n).outcomes) (log_length n)
+        (λ f. ap (λ (q : Log). length q.outcomes) (log_else n f)) (s.recorded n (let e = length-set h.logs m (all_answered old_log new) in
+        omega arith));
+    verified = λ n l. whole_now n (log_at h.logs n).verified (log_at g.logs n).verified (log_verified n)
+        (λ f. ap (λ (q : Log). q.verified) (log_else n f)) (s.verified n (let e = length-set h.logs m (all_answered old_log new) in
+        omega arith));
   }
 
   read : IsRead d g z
@@ -636,10 +706,13 @@ module _ {S : Type 0} (d : Design S) (i : IsDesign d) (h : Held) (m c : ℕ) (in
     past = λ n k l. sym (ap (λ (v : Bool). cond v (ready d n (own d n (replies_at h n) k)) (d.opening n)) (le-ltb k (emitted_of h n) l));
     wait = λ n k. refl;
     flags = λ n k. put_at_is x.flags m k₀ n k fs (flags_of g n k)
-        (λ e f. subst (λ (v : ℕ). flags_of g v k ≡ fs) (sym e) (subst (λ (v : ℕ). flags_of g m v ≡ fs) (sym f) flags_here)) (λ f. flags_rest n k f);
-    answered = λ n k. has_now n k (length (log_at h.logs n).outcomes) (length (log_at g.logs n).outcomes) x.answered (log_length n) (λ f. ap (λ (q : Log). length q.outcomes) (log_else n f)) refl
+        (λ e f. subst (λ (v : ℕ). flags_of g v k ≡ fs) (sym e) (subst (λ (v : ℕ). flags_of g m v ≡ fs) (sym f) flags_here))
+        (λ f. flags_rest n k f);
+    answered = λ n k. has_now n k (length (log_at h.logs n).outcomes) (length (log_at g.logs n).outcomes) x.answered (log_length n)
+        (λ f. ap (λ (q : Log). length q.outcomes) (log_else n f)) refl
         (λ e l. subst (λ (v : ℕ). x.answered v k ≡ true) (sym e) (b.replied m k (let w = last in omega arith)));
-    verified = λ n k. has_now n k (log_at h.logs n).verified (log_at g.logs n).verified x.verified (log_verified n) (λ f. ap (λ (q : Log). q.verified) (log_else n f)) refl
+    verified = λ n k. has_now n k (log_at h.logs n).verified (log_at g.logs n).verified x.verified (log_verified n)
+        (λ f. ap (λ (q : Log). q.verified) (log_else n f)) refl
         (λ e l. subst (λ (v : ℕ). x.verified v k ≡ true) (sym e) (earlier k l));
     timed = λ n. refl;
     cycle = λ n k. refl;

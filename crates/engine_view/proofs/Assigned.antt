@@ -4,20 +4,19 @@ use Rattle.std.specs.Prelude.{All}
 use mathlib.Core.Path.{fun_ext}
 use Rattle.std.proofs.lemmas.Bool.Decides.{eqb_tells}
 use Rattle.std.proofs.lemmas.List.{length-set, get_or-set_same, get_or-set_other, length-append, get_or_push}
-use Rattle.flow_word.specs.declared.access.Side.{Side}
-use Rattle.flow_word.specs.declared.access.Place.{Place}
 use Rattle.event_graph.specs.Lanes.{Lane, IsSoundLane, no_lane, lane_at, timed, with_cycle}
 use Rattle.time_engine.proofs.Given.{accesses_stay, places_stay}
 use Rattle.event_timing.specs.Machines.{Design}
 use Rattle.event_timing.specs.Core.{Core}
 use Rattle.event_timing.specs.Actions.{put, put_at, after_assign}
 use Rattle.engine_view.specs.Held.{Held, step_of, replies_at, core_of}
-use Rattle.engine_view.specs.Shown.{Shows, IsSound, AreTaken, AreWhole, queries_before}
+use Rattle.engine_view.specs.Shown.{Shows, IsSound, AreWhole, queries_before}
 use Rattle.engine_view.specs.Timed.{with_timed}
 use Rattle.engine_view.proofs.Cores.{same_core}
 use Rattle.engine_view.proofs.Placing.{taken_stays}
 
-pub steps_stay : (lanes : List Lane) (owner cycle k : ℕ) → owner < length lanes → (lane_at (with_cycle lanes owner cycle) k).steps ≡ (lane_at lanes k).steps
+pub steps_stay : (lanes : List Lane) (owner cycle k : ℕ) → owner < length lanes
+    → (lane_at (with_cycle lanes owner cycle) k).steps ≡ (lane_at lanes k).steps
 steps_stay lanes owner cycle k inside =
     let same = get_or-set_same lanes owner (timed (lane_at lanes owner) cycle) no_lane inside in
     let other = get_or-set_other lanes owner k (timed (lane_at lanes owner) cycle) no_lane in
@@ -26,10 +25,12 @@ steps_stay lanes owner cycle k inside =
       | inr apart ↦ rw (other apart.1) refl
     ]
 
-cycles_there : (lanes : List Lane) (owner cycle : ℕ) → owner < length lanes → (lane_at (with_cycle lanes owner cycle) owner).cycles ≡ (lane_at lanes owner).cycles ++ cycle ∷ []
+cycles_there : (lanes : List Lane) (owner cycle : ℕ) → owner < length lanes
+    → (lane_at (with_cycle lanes owner cycle) owner).cycles ≡ (lane_at lanes owner).cycles ++ cycle ∷ []
 cycles_there lanes owner cycle inside = rw (get_or-set_same lanes owner (timed (lane_at lanes owner) cycle) no_lane inside) refl
 
-cycles_other : (lanes : List Lane) (owner cycle k : ℕ) → owner < length lanes → (k ≡ owner → ⊥) → (lane_at (with_cycle lanes owner cycle) k).cycles ≡ (lane_at lanes k).cycles
+cycles_other : (lanes : List Lane) (owner cycle k : ℕ) → owner < length lanes → (k ≡ owner → ⊥)
+    → (lane_at (with_cycle lanes owner cycle) k).cycles ≡ (lane_at lanes k).cycles
 cycles_other lanes owner cycle k inside apart = rw (get_or-set_other lanes owner k (timed (lane_at lanes owner) cycle) no_lane apart) refl
 
 -- ---- what is read off the steps alone
@@ -63,7 +64,8 @@ put_is f m n y z e g =
       | inr apart ↦ rw apart.0 (g apart.1)
     ]
 
-pub put_at_is : {A : Type 0} (f : ℕ → ℕ → A) (m k n j : ℕ) (y z : A) → (n ≡ m → j ≡ k → z ≡ y) → ((n ≡ m → j ≡ k → ⊥) → z ≡ f n j) → z ≡ put_at f m k y n j
+pub put_at_is : {A : Type 0} (f : ℕ → ℕ → A) (m k n j : ℕ) (y z : A) → (n ≡ m → j ≡ k → z ≡ y) → ((n ≡ m → j ≡ k → ⊥) → z ≡ f n j)
+    → z ≡ put_at f m k y n j
 put_at_is f m k n j y z e g =
     elim (eqb_tells n m) [
       | inl at ↦
@@ -84,7 +86,8 @@ get_push_below (x ∷ xs) y zero f = refl
 get_push_below (x ∷ xs) y (suc k) f = get_push_below xs y k (λ e. f (ap (λ z. suc z) e))
 
 -- the core that is read off is the one behind the theory's Assign
-pub assigned_core : {S : Type 0} → (d : Design S) (h : Held) (m c : ℕ) → m < length h.lanes → core_of d (with_timed h m c) ≡ after_assign (core_of d h) m c
+pub assigned_core : {S : Type 0} → (d : Design S) (h : Held) (m c : ℕ) → m < length h.lanes
+    → core_of d (with_timed h m c) ≡ after_assign (core_of d h) m c
 assigned_core {S} d h m c inside =
     let a = timed_alike h m c inside in
     let more : length (lane_at (with_cycle h.lanes m c) m).cycles ≡ suc (length (lane_at h.lanes m).cycles) =
@@ -97,14 +100,18 @@ assigned_core {S} d h m c inside =
       flags = λ n k. rw (a.steps n) refl;
       answered = λ n k. rw (a.steps n) refl;
       verified = λ n k. rw (a.steps n) refl;
-      timed = λ n. put_is (core_of d h).timed m n (suc (length (lane_at h.lanes m).cycles)) (length (lane_at (with_cycle h.lanes m c) n).cycles)
+      timed = λ n. put_is (core_of d h).timed m n (suc (length (lane_at h.lanes m).cycles))
+          (length (lane_at (with_cycle h.lanes m c) n).cycles)
           (λ e. rw e more) (λ f. rw (cycles_other h.lanes m c n inside f) refl);
-      cycle = λ n k. put_at_is (core_of d h).cycle m (length (lane_at h.lanes m).cycles) n k c (get_or (lane_at (with_cycle h.lanes m c) n).cycles k 0)
-          (λ e f. rw (e, f, cycles_there h.lanes m c inside) (get_or_push (lane_at h.lanes m).cycles c 0 (length (lane_at h.lanes m).cycles) refl))
+      cycle = λ n k. put_at_is (core_of d h).cycle m (length (lane_at h.lanes m).cycles) n k c
+          (get_or (lane_at (with_cycle h.lanes m c) n).cycles k 0)
+          (λ e f. rw (e, f, cycles_there h.lanes m c inside) (get_or_push (lane_at h.lanes m).cycles c 0 (length (lane_at h.lanes m).cycles)
+          refl))
           (λ f. other n k f);
     })
   where
-    other : (n k : ℕ) → (n ≡ m → k ≡ length (lane_at h.lanes m).cycles → ⊥) → get_or (lane_at (with_cycle h.lanes m c) n).cycles k 0 ≡ get_or (lane_at h.lanes n).cycles k 0
+    other : (n k : ℕ) → (n ≡ m → k ≡ length (lane_at h.lanes m).cycles → ⊥)
+        → get_or (lane_at (with_cycle h.lanes m c) n).cycles k 0 ≡ get_or (lane_at h.lanes n).cycles k 0
     other n k f =
         elim (eqb_tells n m) [
           | inl at ↦ rw (at.1, cycles_there h.lanes m c inside) (get_push_below (lane_at h.lanes m).cycles c k (λ e. f at.1 e))
@@ -116,7 +123,8 @@ assigned_core {S} d h m c inside =
 pub whole_kept : (g h : Held) → IsAlike g h → (m n : ℕ) → AreWhole h m n → AreWhole g m n
 whole_kept g h a m n w = record { steps = w.steps; within = rw (a.steps m) w.within; all = w.all ∙ sym (alike_queries g h a m w.steps) }
 
-pub assigned_shows : {S : Type 0} → (d : Design S) (h : Held) (x : Core S) (m c : ℕ) → m < length h.lanes → All IsSoundLane (with_cycle h.lanes m c) → Shows d h x
+pub assigned_shows : {S : Type 0} → (d : Design S) (h : Held) (x : Core S) (m c : ℕ) → m < length h.lanes
+    → All IsSoundLane (with_cycle h.lanes m c) → Shows d h x
     → Shows d (with_timed h m c) (after_assign x m c)
 assigned_shows {S} d h x m c inside lanes s =
     let a = timed_alike h m c inside in
@@ -140,6 +148,7 @@ assigned_shows {S} d h x m c inside lanes s =
     }
 
 -- what is held stays a core of the design
-pub assigned_sound : {S : Type 0} → (d : Design S) (h : Held) (m c : ℕ) → m < length h.lanes → All IsSoundLane (with_cycle h.lanes m c) → IsSound d h → IsSound d (with_timed h m c)
+pub assigned_sound : {S : Type 0} → (d : Design S) (h : Held) (m c : ℕ) → m < length h.lanes → All IsSoundLane (with_cycle h.lanes m c)
+    → IsSound d h → IsSound d (with_timed h m c)
 assigned_sound {S} d h m c inside lanes s =
     subst (Shows d (with_timed h m c)) (sym (assigned_core d h m c inside)) (assigned_shows d h (core_of d h) m c inside lanes s)

@@ -1,5 +1,7 @@
 -- The determined cycle of a step, access by access, is the theory's.
-use Rattle.std.proofs.Common.{◌≡◌, refl, sym, ap₂, subst, drop, ◌∙◌, ℕ, zero, suc, ◌+◌, ◌-◌, ◌<◌, ◌≤◌, ◌⊎◌, max, Bool, true, false, cond, ltb, List, [], ◌∷◌, length, map, get_or, Option, None, Some, is_some, is_none, arith, inl, inr, unwrap_or, position}
+use Rattle.std.proofs.Common.{◌≡◌, refl, sym, ap₂, subst, drop, ◌∙◌, ℕ, zero, suc, ◌+◌, ◌-◌, ◌<◌, ◌≤◌, ◌⊎◌, max, Bool, true, false, cond}
+use Rattle.std.proofs.Common.{ltb, List, [], ◌∷◌, length, map, get_or, Option, None, Some, is_some, is_none, arith, inl, inr, unwrap_or}
+use Rattle.std.proofs.Common.{position}
 use Rattle.std.specs.Prelude.{All, option_and_then}
 use Rattle.std.specs.List.{position_or_len}
 use Rattle.std.proofs.lemmas.Bool.{cases_lt, cases_Bool, lt-ltb, le-ltb}
@@ -14,7 +16,8 @@ use Rattle.fifo_table.specs.Channels.{Channel}
 use Rattle.time_engine.specs.declared.known.Known as of_code
 use Rattle.time_engine.specs.declared.known.Known.TheVariants as code
 use Rattle.time_engine.specs.Possible.{when_possible}
-use Rattle.time_engine.specs.Cycles.{known_clock, is_waiting, clocks_of, latest, open_step, arrival, first_waiting, cycle_unless, determined}
+use Rattle.time_engine.specs.Cycles.{known_clock, is_waiting, clocks_of, latest, open_step, arrival, first_waiting, cycle_unless}
+use Rattle.time_engine.specs.Cycles.{determined}
 use Rattle.time_engine.proofs.Latest.{clocks_of-append, clocks_of_query, clocks_of_known, clocks_of-none}
 use Rattle.event_timing.specs.Machines as theory
 use Rattle.event_timing.specs.Machines.{Design, IsDesign}
@@ -42,7 +45,8 @@ clocks_query : (lanes : List Lane) (channels : List Channel) (a : Access) (as' :
     → clocks_of lanes channels (a ∷ as') ≡ clocks_of lanes channels as'
 clocks_query lanes channels a as' e = clocks_of-append lanes channels (a ∷ []) as' ∙ rw (clocks_of_query lanes channels a e) refl
 
-clocks_known : (lanes : List Lane) (channels : List Channel) (a : Access) (as' : List Access) (u : ℕ) → is_blocking a.kind ≡ true → when_possible lanes channels a ≡ code.From u
+clocks_known : (lanes : List Lane) (channels : List Channel) (a : Access) (as' : List Access) (u : ℕ) → is_blocking a.kind ≡ true
+    → when_possible lanes channels a ≡ code.From u
     → clocks_of lanes channels (a ∷ as') ≡ u ∷ clocks_of lanes channels as'
 clocks_known lanes channels a as' u e k = clocks_of-append lanes channels (a ∷ []) as' ∙ rw (clocks_of_known lanes channels a u e k) refl
 
@@ -72,7 +76,8 @@ kept n l e =
 position_none : {X : Type 0} (p : X → Bool) (x : X) (xs : List X) → p x ≡ false → position p xs ≡ None → position p (x ∷ xs) ≡ None
 position_none p x xs e n = rw e (skipped (position_or_len p xs) (length xs) n)
 
-position_some : {X : Type 0} (p : X → Bool) (x : X) (xs : List X) → p x ≡ false → is_some (position p xs) ≡ true → is_some (position p (x ∷ xs)) ≡ true
+position_some : {X : Type 0} (p : X → Bool) (x : X) (xs : List X) → p x ≡ false → is_some (position p xs) ≡ true
+    → is_some (position p (x ∷ xs)) ≡ true
 position_some p x xs e n = rw e (kept (position_or_len p xs) (length xs) n)
 
 both_none : (u : ℕ) (b : Known) → ((t : ℕ) → to_clock t b ≡ None) → (t : ℕ) → to_clock t (both (From u) b) ≡ None
@@ -80,19 +85,31 @@ both_none u (From v) f t = absurd (let e = f 0 in cc)
 both_none u Never f t = refl
 both_none u Unknown f t = refl
 
-waiting_query : (lanes : List Lane) (channels : List Channel) (a : Access) → is_blocking a.kind ≡ false → is_waiting lanes channels a ≡ false
+waiting_query : (lanes : List Lane) (channels : List Channel) (a : Access) → is_blocking a.kind ≡ false
+    → is_waiting lanes channels a ≡ false
 waiting_query lanes channels a e = rw e refl
 
-waiting_known : (lanes : List Lane) (channels : List Channel) (a : Access) (k : of_code.Known) → is_blocking a.kind ≡ true → when_possible lanes channels a ≡ k
+waiting_known : (lanes : List Lane) (channels : List Channel) (a : Access) (k : of_code.Known) → is_blocking a.kind ≡ true
+    → when_possible lanes channels a ≡ k
     → is_waiting lanes channels a ≡ is_none (known_clock k)
 waiting_known lanes channels a k e f = rw (e, f) refl
 
-bound_more : (lanes : List Lane) (channels : List Channel) (know : theory.Access → Known) (a : Access) (xs : List Access) (k : of_code.Known)
-    → is_blocking a.kind ≡ true → when_possible lanes channels a ≡ k → know (seen a) ≡ as_known k → IsBound lanes channels xs (bound know (map seen xs))
+bound_more : (lanes : List Lane) (channels : List Channel) (know : theory.Access
+    → Known) (a : Access) (xs : List Access) (k : of_code.Known)
+    → is_blocking a.kind ≡ true → when_possible lanes channels a ≡ k → know (seen a) ≡ as_known k
+    → IsBound lanes channels xs (bound know (map seen xs))
     → IsBound lanes channels (a ∷ xs) (both (know (seen a)) (bound know (map seen xs)))
 bound_more lanes channels know a xs (code.From u) e f g (inl (h1, h2)) =
     let w = waiting_known lanes channels a (code.From u) e f in
-    inl (position_none (is_waiting lanes channels) a xs w h1, rw (g, h2, clocks_known lanes channels a xs u e f, latest_more u (clocks_of lanes channels xs)) refl)
+    inl (
+      position_none (is_waiting lanes channels) a xs w h1,
+      rw (
+        g,
+        h2,
+        clocks_known lanes channels a xs u e f,
+        latest_more u (clocks_of lanes channels xs),
+      ) refl,
+    )
 bound_more lanes channels know a xs (code.From u) e f g (inr (h1, h2)) =
     let w = waiting_known lanes channels a (code.From u) e f in
     inr (position_some (is_waiting lanes channels) a xs w h1, rw g (both_none u (bound know (map seen xs)) h2))
@@ -102,27 +119,38 @@ bound_more lanes channels know a xs code.Unknown e f g h =
     inr (position_head (is_waiting lanes channels) a xs (waiting_known lanes channels a code.Unknown e f), rw g (λ t. refl))
 
 pub bound_is : (lanes : List Lane) (channels : List Channel) (know : theory.Access → Known) (xs : List Access)
-    → All (λ (a : Access). as_known (when_possible lanes channels a) ≡ know (seen a)) xs → IsBound lanes channels xs (bound know (map seen xs))
+    → All (λ (a : Access). as_known (when_possible lanes channels a) ≡ know (seen a)) xs
+    → IsBound lanes channels xs (bound know (map seen xs))
 bound_is lanes channels know [] all = inl (refl, rw (clocks_of-none lanes channels, latest_none) refl)
 bound_is lanes channels know (a ∷ xs) all =
     let here = All-head (λ (a : Access). as_known (when_possible lanes channels a) ≡ know (seen a)) a xs all in
-    let rest = bound_is lanes channels know xs (All-tail (λ (a : Access). as_known (when_possible lanes channels a) ≡ know (seen a)) a xs all) in
+    let rest = bound_is lanes channels know xs (All-tail (λ (a : Access). as_known (when_possible lanes channels a) ≡ know (seen a)) a xs
+    all) in
     elim (cases_Bool (is_blocking a.kind)) [
-      | inl e ↦ subst (IsBound lanes channels (a ∷ xs)) (sym (bound_blocks know (seen a) (map seen xs) e)) (bound_more lanes channels know a xs (when_possible lanes channels a) e refl (sym here) rest)
-      | inr e ↦ subst (IsBound lanes channels (a ∷ xs)) (sym (bound_free know (seen a) (map seen xs) e)) (bound_query lanes channels know a xs e (bound know (map seen xs)) rest)
+      | inl e ↦ subst (IsBound lanes channels (a ∷ xs)) (sym (bound_blocks know (seen a) (map seen xs) e))
+          (bound_more lanes channels know a xs (when_possible lanes channels a) e refl (sym here) rest)
+      | inr e ↦ subst (IsBound lanes channels (a ∷ xs)) (sym (bound_free know (seen a) (map seen xs) e))
+          (bound_query lanes channels know a xs e (bound know (map seen xs)) rest)
     ]
   where
-    bound_query : (lanes : List Lane) (channels : List Channel) (know : theory.Access → Known) (a : Access) (xs : List Access) → is_blocking a.kind ≡ false
+    bound_query : (lanes : List Lane) (channels : List Channel) (know : theory.Access → Known) (a : Access) (xs : List Access)
+        → is_blocking a.kind ≡ false
         → (b : Known) → IsBound lanes channels xs b → IsBound lanes channels (a ∷ xs) b
     bound_query lanes channels know a xs e b (inl (h1, h2)) =
-        inl (position_none (is_waiting lanes channels) a xs (waiting_query lanes channels a e) h1, rw (clocks_query lanes channels a xs e) h2)
+        inl (
+          position_none (is_waiting lanes channels) a xs (waiting_query lanes channels a e) h1,
+          rw (clocks_query lanes channels a xs e)
+              h2,
+        )
     bound_query lanes channels know a xs e b (inr (h1, h2)) =
         inr (position_some (is_waiting lanes channels) a xs (waiting_query lanes channels a e) h1, h2)
 
 -- ---- the step
 
 determined_at : (lanes : List Lane) (channels : List Channel) (m : ℕ) (o : Option Step) → open_step (lane_at lanes m) ≡ o
-    → determined lanes channels m ≡ option_and_then (λ step. cycle_unless (option_and_then (λ step. position (is_waiting lanes channels) step.accesses) o) (latest (arrival (lane_at lanes m) step ∷ clocks_of lanes channels step.accesses))) o
+    → determined lanes channels m ≡ option_and_then
+    (λ step. cycle_unless (option_and_then (λ step. position (is_waiting lanes channels) step.accesses) o)
+    (latest (arrival (lane_at lanes m) step ∷ clocks_of lanes channels step.accesses))) o
 unfolding determined first_waiting
 determined_at lanes channels m o e = rw e refl
 
@@ -154,12 +182,14 @@ arrives lane (suc k) gap e g =
     let least = g (omega arith) in
     rw (z, slice_get-get_or lane.cycles k 0 (omega arith)) (omega arith)
 
-gap_apart : (steps : List Step) → All (λ (s : Step). 1 ≤ s.gap) (drop 1 steps) → (k : ℕ) (e : Step) → 0 < k → k < length steps → 1 ≤ (get_or steps k e).gap
+gap_apart : (steps : List Step) → All (λ (s : Step). 1 ≤ s.gap) (drop 1 steps) → (k : ℕ) (e : Step) → 0 < k → k < length steps
+    → 1 ≤ (get_or steps k e).gap
 gap_apart [] all k e p l = absurd (omega arith)
 gap_apart (s ∷ steps) all zero e p l = absurd (omega arith)
 gap_apart (s ∷ steps) all (suc k) e p l = all k e (omega arith)
 
-lane_apart : (lanes : List Lane) → All IsSoundLane lanes → (m k : ℕ) → k < length (lane_at lanes m).steps → 0 < k → 1 ≤ (get_or (lane_at lanes m).steps k no_step).gap
+lane_apart : (lanes : List Lane) → All IsSoundLane lanes → (m k : ℕ) → k < length (lane_at lanes m).steps → 0 < k
+    → 1 ≤ (get_or (lane_at lanes m).steps k no_step).gap
 lane_apart lanes all m k l p =
     elim (cases_lt m (length lanes)) [
       | inl inside ↦ let here = all m no_lane inside in gap_apart (lane_at lanes m).steps here.apart k no_step p l
@@ -167,7 +197,8 @@ lane_apart lanes all m k l p =
     ]
 
 -- the cycle of a module's first step without one is the theory's
-pub candidate_is : {S : Type 0} → (d : Design S) → IsDesign d → (h : Held) → IsSound d h → (m : ℕ) → determined h.lanes h.channels m ≡ candidate d (view d (core_of d h)) m
+pub candidate_is : {S : Type 0} → (d : Design S) → IsDesign d → (h : Held) → IsSound d h → (m : ℕ)
+    → determined h.lanes h.channels m ≡ candidate d (view d (core_of d h)) m
 candidate_is {S} d i h y m =
     let x = core_of d h in
     let lane = lane_at h.lanes m in
@@ -179,8 +210,10 @@ candidate_is {S} d i h y m =
           let all = access_known d i h y m less in
           let is = bound_is h.lanes h.channels (known_of d (view d x) m) step.accesses all in
           let t = arrives lane k step.gap refl (lane_apart h.lanes y.sound_lanes m k less) in
-          let found = unless h.lanes h.channels step.accesses (bound (known_of d (view d x) m) (map seen step.accesses)) (arrival lane step) is in
+          let found = unless h.lanes h.channels step.accesses (bound (known_of d (view d x) m) (map seen step.accesses)) (arrival lane step)
+          is in
           determined_at h.lanes h.channels m (Some step) there
-          ∙ (found ∙ (ap₂ (λ (a : ℕ) (xs : List theory.Access). to_clock a (bound (known_of d (view d x) m) xs)) t (sym (y.accesses m k less)) ∙ sym (candidate_some d x m less)))
+          ∙ (found ∙ (ap₂ (λ (a : ℕ) (xs : List theory.Access). to_clock a (bound (known_of d (view d x) m) xs)) t
+          (sym (y.accesses m k less)) ∙ sym (candidate_some d x m less)))
       | inr more ↦ determined_at h.lanes h.channels m None (slice_get_past lane.steps k more) ∙ sym (candidate_none d x m more)
     ]

@@ -1,5 +1,6 @@
 -- The loop that compares a step's outcomes.
-use Rattle.std.proofs.Common.{◌≡◌, refl, sym, ap, ap₂, ◌∙◌, ℕ, zero, suc, ◌+◌, ◌<◌, ◌≤◌, Bool, true, cond, ◌||◌, List, [], ◌∷◌, ◌++◌, length, take, drop, get_or, arith, append_assoc, inl, inr, Option, Some, None}
+use Rattle.std.proofs.Common.{◌≡◌, refl, sym, ap, ap₂, ◌∙◌, ℕ, zero, suc, ◌+◌, ◌<◌, ◌≤◌, Bool, true, cond, ◌||◌, List, [], ◌∷◌, ◌++◌}
+use Rattle.std.proofs.Common.{length, take, drop, get_or, arith, append_assoc, inl, inr, Option, Some, None}
 use Rattle.std.specs.Prelude.{slice_get}
 use Rattle.std.proofs.lemmas.Bool.{cases_Bool}
 use Rattle.std.proofs.lemmas.List.{drop_more, drop_all, take_more}
@@ -17,7 +18,8 @@ use Rattle.engine_view.specs.Turns.{IsOther}
 use Rattle.engine_view.proofs.Adding.{get_drop, drop_next}
 
 -- the accesses before this index were found alike, whose queries end before this number
-pub record ComparesOn (lanes : List Lane) (channels : List Channel) (cycle : ℕ) (accesses : List Access) (outcomes : List Bool) (first index number : ℕ) : Type 0 where
+pub record ComparesOn (lanes : List Lane) (channels : List Channel) (cycle : ℕ) (accesses : List Access) (outcomes : List Bool)
+    (first index number : ℕ) : Type 0 where
   pub numbered : number ≡ first + queries_in (take index accesses)
   pub alike : flags_by accesses (drop first outcomes)
       ≡ found_flags lanes channels cycle (take index accesses) ++ flags_by (drop index accesses) (drop number outcomes)
@@ -45,7 +47,11 @@ front {X} (a ∷ as') bs (suc i) l = front as' bs i (omega arith)
 
 queries_append : (xs ys : List Access) → queries_in (xs ++ ys) ≡ queries_in xs + queries_in ys
 queries_append [] ys = omega arith
-queries_append (a ∷ xs) ys = elim (cases_Bool (is_blocking a.kind)) [ inl e ↦ rw e (queries_append xs ys) | inr e ↦ rw e (omega (arith, queries_append xs ys)) ]
+queries_append (a ∷ xs) ys = elim (cases_Bool (is_blocking a.kind)) [
+  | inl e ↦ rw e (queries_append xs ys)
+  | inr e ↦
+      rw e (omega (arith, queries_append xs ys))
+]
 
 queries_one : (a : Access) → queries_in (a ∷ []) ≡ cond (is_blocking a.kind) 0 1
 queries_one a = elim (cases_Bool (is_blocking a.kind)) [ inl e ↦ rw e refl | inr e ↦ rw e refl ]
@@ -53,7 +59,8 @@ queries_one a = elim (cases_Bool (is_blocking a.kind)) [ inl e ↦ rw e refl | i
 pub queries_cons : (a : Access) (xs : List Access) → queries_in (a ∷ xs) ≡ cond (is_blocking a.kind) 0 1 + queries_in xs
 queries_cons a xs = queries_append (a ∷ []) xs ∙ ap (λ (n : ℕ). n + queries_in xs) (queries_one a)
 
-flags_first : (a : Access) (xs : List Access) (outs : List Bool) → flags_by (a ∷ xs) outs ≡ flag_now a.kind (slice_get outs 0) ∷ flags_by xs (cond (is_blocking a.kind) outs (drop 1 outs))
+flags_first : (a : Access) (xs : List Access) (outs : List Bool)
+    → flags_by (a ∷ xs) outs ≡ flag_now a.kind (slice_get outs 0) ∷ flags_by xs (cond (is_blocking a.kind) outs (drop 1 outs))
 flags_first a xs outs = elim (cases_Bool (is_blocking a.kind)) [ inl e ↦ rw e refl | inr e ↦ rw e refl ]
 
 flags_length : (xs : List Access) (outs : List Bool) → length (flags_by xs outs) ≡ length xs
@@ -61,11 +68,13 @@ flags_length [] outs = refl
 flags_length (a ∷ xs) outs = ap (λ (bs : List Bool). length bs) (flags_first a xs outs) ∙ ap suc (flags_length xs _)
 
 module _ (lanes : List Lane) (channels : List Channel) (c : ℕ) where
-  found_append : (xs ys : List Access) → found_flags lanes channels c (xs ++ ys) ≡ found_flags lanes channels c xs ++ found_flags lanes channels c ys
+  found_append : (xs ys : List Access)
+      → found_flags lanes channels c (xs ++ ys) ≡ found_flags lanes channels c xs ++ found_flags lanes channels c ys
   found_append [] ys = refl
   found_append (a ∷ xs) ys = ap (λ (bs : List Bool). flag_found lanes channels c a ∷ bs) (found_append xs ys)
 
-  found_parts : (i : ℕ) (xs : List Access) → found_flags lanes channels c xs ≡ found_flags lanes channels c (take i xs) ++ found_flags lanes channels c (drop i xs)
+  found_parts : (i : ℕ) (xs : List Access) → found_flags lanes channels c xs ≡ found_flags lanes channels c (take i xs) ++ found_flags lanes
+      channels c (drop i xs)
   found_parts zero xs = refl
   found_parts (suc i) [] = refl
   found_parts (suc i) (a ∷ xs) = ap (λ (bs : List Bool). flag_found lanes channels c a ∷ bs) (found_parts i xs)
@@ -93,12 +102,15 @@ module _ (lanes : List Lane) (channels : List Channel) (c : ℕ) where
         r.alike
         ∙ (ap (λ (ys : List Access). found ++ flags_by ys (drop n outs)) (drop_more xs i d l)
         ∙ (ap (λ (bs : List Bool). found ++ bs) (flags_first a (drop (i + 1) xs) (drop n outs))
-        ∙ ap₂ (λ (o : Option Bool) (os : List Bool). found ++ flag_now a.kind o ∷ flags_by (drop (i + 1) xs) os) (get_drop n outs) (drop_next (is_blocking a.kind) n outs)))
+        ∙ ap₂ (λ (o : Option Bool) (os : List Bool). found ++ flag_now a.kind o ∷ flags_by (drop (i + 1) xs) os) (get_drop n outs)
+        (drop_next (is_blocking a.kind) n outs)))
 
-    there : i < length xs → found_flags lanes channels c xs ≡ found ++ flag_found lanes channels c a ∷ found_flags lanes channels c (drop (i + 1) xs)
+    there : i < length xs → found_flags lanes channels c xs ≡ found ++ flag_found lanes channels c a ∷ found_flags lanes channels c
+        (drop (i + 1) xs)
     there l = found_parts i xs ∙ ap (λ (ys : List Access). found ++ found_flags lanes channels c ys) (drop_more xs i d l)
 
-    pub compares_more : (q : ℕ) → i < length xs → flag_now a.kind (slice_get outs n) ≡ flag_found lanes channels c a → q ≡ cond (is_blocking a.kind) 0 1 → ComparesOn lanes channels c xs outs first (i + 1) (n + q)
+    pub compares_more : (q : ℕ) → i < length xs → flag_now a.kind (slice_get outs n) ≡ flag_found lanes channels c a
+        → q ≡ cond (is_blocking a.kind) 0 1 → ComparesOn lanes channels c xs outs first (i + 1) (n + q)
     compares_more q l e s = record {
       numbered =
           let t = ap queries_in (take_more xs i d l) ∙ queries_append (take i xs) (a ∷ []) in
@@ -109,9 +121,14 @@ module _ (lanes : List Lane) (channels : List Channel) (c : ℕ) where
           here l
           ∙ (ap (λ (b : Bool). found ++ b ∷ rest) e
           ∙ (sym (append_assoc found (flag_found lanes channels c a ∷ []) rest)
-          ∙ (ap (λ (bs : List Bool). bs ++ rest) (sym (ap (found_flags lanes channels c) (take_more xs i d l) ∙ found_append (take i xs) (a ∷ [])))
+          ∙ (ap (λ (bs : List Bool). bs ++ rest) (sym (ap (found_flags lanes channels c) (take_more xs i d l)
+          ∙ found_append (take i xs) (a ∷ [])))
           ∙ ap (λ (k : ℕ). found_flags lanes channels c (take (i + 1) xs) ++ flags_by (drop (i + 1) xs) (drop (n + k) outs)) (sym s))));
-      within = let w = r.within in elim (cases_Bool (is_blocking a.kind)) [ inl f ↦ let s' = s ∙ ap (λ (b : Bool). cond {A = ℕ} b 0 1) f in omega arith | inr f ↦ let s' = s ∙ ap (λ (b : Bool). cond {A = ℕ} b 0 1) f in omega arith ];
+      within = let w = r.within in elim (cases_Bool (is_blocking a.kind)) [
+        | inl f ↦ let s' = s ∙ ap (λ (b : Bool). cond {A = ℕ} b 0 1) f in
+            omega arith
+        | inr f ↦ let s' = s ∙ ap (λ (b : Bool). cond {A = ℕ} b 0 1) f in omega arith
+      ];
     }
 
     pub compares_all : length xs ≤ i → flags_by xs (drop first outs) ≡ found_flags lanes channels c xs
@@ -127,13 +144,19 @@ module _ (lanes : List Lane) (channels : List Channel) (c : ℕ) where
       place = i;
       access = a;
       is = slice_get-get_or xs i d l;
-      query = elim (cases_Bool (is_blocking a.kind)) [ inl e ↦ absurd (f (ap (λ (b : Bool). cond b true (possible_by a.kind (slice_get outs n))) e ∙ sym (ap (λ (b : Bool). b || answer (as_known (when_possible lanes channels a)) c) e))) | inr e ↦ e ];
+      query = elim (cases_Bool (is_blocking a.kind)) [
+        | inl e ↦
+            absurd (f (ap (λ (b : Bool). cond b true (possible_by a.kind (slice_get outs n))) e
+            ∙ sym (ap (λ (b : Bool). b || answer (as_known (when_possible lanes channels a)) c) e)))
+        | inr e ↦ e
+      ];
       owned = em;
       number = en ∙ r.numbered;
       kind = ek;
       channel = ec;
       ordinal = eo;
-      differs = λ e. f (some_is _ _ (sym (at_i (flag_now a.kind (slice_get outs n)) rest _ (here l)) ∙ (e ∙ at_i (flag_found lanes channels c a) _ _ (there l))));
+      differs = λ e. f (some_is _ _ (sym (at_i (flag_now a.kind (slice_get outs n)) rest _ (here l))
+          ∙ (e ∙ at_i (flag_found lanes channels c a) _ _ (there l))));
       before = λ j u. below j u _ _ (here l) ∙ sym (below j u _ _ (there l));
     }
       where

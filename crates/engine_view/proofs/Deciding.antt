@@ -37,30 +37,37 @@ undecided_is (code.From u) = ((λ l. cc), (λ e. cc))
 undecided_is code.Never = ((λ l. cc), (λ e. cc))
 undecided_is code.Unknown = ((λ l. refl), (λ e. refl))
 
-flags_found : (lanes : List Lane) (channels : List Channel) (know : theory.Access → Known) (c : ℕ) (xs : List Access) → All (λ (a : Access). as_known (when_possible lanes channels a) ≡ know (seen a)) xs
+flags_found : (lanes : List Lane) (channels : List Channel) (know : theory.Access → Known) (c : ℕ) (xs : List Access)
+    → All (λ (a : Access). as_known (when_possible lanes channels a) ≡ know (seen a)) xs
     → flags_at know c (map seen xs) ≡ found_flags lanes channels c xs
 flags_found lanes channels know c [] all = refl
 flags_found lanes channels know c (a ∷ xs) all =
-    ap₂ (λ (k : Known) (bs : List Bool). (is_blocking a.kind || answer k c) ∷ bs) (sym (All-head (λ (a : Access). as_known (when_possible lanes channels a) ≡ know (seen a)) a xs all))
+    ap₂ (λ (k : Known) (bs : List Bool). (is_blocking a.kind || answer k c) ∷ bs)
+    (sym (All-head (λ (a : Access). as_known (when_possible lanes channels a) ≡ know (seen a)) a xs all))
     (flags_found lanes channels know c xs (All-tail (λ (a : Access). as_known (when_possible lanes channels a) ≡ know (seen a)) a xs all))
 
-decided_found : (lanes : List Lane) (channels : List Channel) (know : theory.Access → Known) (xs : List Access) → All (λ (a : Access). as_known (when_possible lanes channels a) ≡ know (seen a)) xs
+decided_found : (lanes : List Lane) (channels : List Channel) (know : theory.Access → Known) (xs : List Access)
+    → All (λ (a : Access). as_known (when_possible lanes channels a) ≡ know (seen a)) xs
     → all_decided know (map seen xs) ≡ are_decided lanes channels xs
 decided_found lanes channels know [] all = refl
 decided_found lanes channels know (a ∷ xs) all =
-    ap₂ (λ (k : Known) (b : Bool). (is_blocking a.kind || is_decided k) && b) (sym (All-head (λ (a : Access). as_known (when_possible lanes channels a) ≡ know (seen a)) a xs all))
+    ap₂ (λ (k : Known) (b : Bool). (is_blocking a.kind || is_decided k) && b)
+    (sym (All-head (λ (a : Access). as_known (when_possible lanes channels a) ≡ know (seen a)) a xs all))
     (decided_found lanes channels know xs (All-tail (λ (a : Access). as_known (when_possible lanes channels a) ≡ know (seen a)) a xs all))
 
 -- what is found for a module's first step without a cycle, and whether all is decided
-pub flags_are : {S : Type 0} → (d : Design S) → IsDesign d → (h : Held) → IsSound d h → (m c : ℕ) → length (lane_at h.lanes m).cycles < emitted_of h m
+pub flags_are : {S : Type 0} → (d : Design S) → IsDesign d → (h : Held) → IsSound d h → (m c : ℕ)
+    → length (lane_at h.lanes m).cycles < emitted_of h m
     → new_flags d (core_of d h) m c ≡ found_flags h.lanes h.channels c (step_of h m (length (lane_at h.lanes m).cycles)).accesses
 flags_are {S} d i h y m c less =
     let x = core_of d h in
     ap (flags_at (known_of d (view d x) m) c) (y.accesses m (length (lane_at h.lanes m).cycles) less)
     ∙ flags_found h.lanes h.channels (known_of d (view d x) m) c _ (access_known d i h y m less)
 
-pub decided_are : {S : Type 0} → (d : Design S) → IsDesign d → (h : Held) → IsSound d h → (m : ℕ) → length (lane_at h.lanes m).cycles < emitted_of h m
-    → all_decided (known_of d (view d (core_of d h)) m) (first_accesses (view d (core_of d h)) m) ≡ are_decided h.lanes h.channels (step_of h m (length (lane_at h.lanes m).cycles)).accesses
+pub decided_are : {S : Type 0} → (d : Design S) → IsDesign d → (h : Held) → IsSound d h → (m : ℕ)
+    → length (lane_at h.lanes m).cycles < emitted_of h m
+    → all_decided (known_of d (view d (core_of d h)) m) (first_accesses (view d (core_of d h)) m) ≡ are_decided h.lanes h.channels
+    (step_of h m (length (lane_at h.lanes m).cycles)).accesses
 decided_are {S} d i h y m less =
     let x = core_of d h in
     ap (all_decided (known_of d (view d x) m)) (y.accesses m (length (lane_at h.lanes m).cycles) less)

@@ -1,7 +1,10 @@
 -- A step more in a lane, with its pushes and pops in the table, is the theory's Run, and what is held stays sound.
-use Rattle.std.proofs.Common.{◌≡◌, refl, sym, ap, ap₂, subst, ◌∙◌, ℕ, zero, suc, ◌+◌, ◌-◌, ◌<◌, ◌≤◌, Bool, true, false, not, cond, eqb, ltb, ◌&&◌, List, [], ◌∷◌, ◌++◌, length, map, drop, get_or, arith, inl, inr, append-nil, append_assoc, length-append, drop_of_length-le}
+use Rattle.std.proofs.Common.{◌≡◌, refl, sym, ap, ap₂, subst, ◌∙◌, ℕ, zero, suc, ◌+◌, ◌-◌, ◌<◌, ◌≤◌, Bool, true, false, not, cond, eqb, ltb}
+use Rattle.std.proofs.Common.{◌&&◌, List, [], ◌∷◌, ◌++◌, length, map, drop, get_or, arith, inl, inr, append-nil, append_assoc}
+use Rattle.std.proofs.Common.{length-append, drop_of_length-le}
 use Rattle.std.specs.Prelude.{All}
-use Rattle.std.proofs.lemmas.Bool.{cases_lt, cases_Bool, cond-false, and_parts, false_from_ne_true, eqb-true, lt-ltb, le-ltb, lt-leb, ne_eqb}
+use Rattle.std.proofs.lemmas.Bool.{cases_lt, cases_Bool, cond-false, and_parts, false_from_ne_true, eqb-true, lt-ltb, le-ltb, lt-leb}
+use Rattle.std.proofs.lemmas.Bool.{ne_eqb}
 use Rattle.std.proofs.lemmas.Bool.Decides.{eqb_tells}
 use Rattle.std.proofs.lemmas.List.{length-set, get_or-set_same, get_or-set_other, get_or_push, get_or_append_left, get_or-append-add}
 use Rattle.std.proofs.lemmas.List.Elements.{All-head, All-tail, All-set, All-push, All-weaker}
@@ -30,7 +33,8 @@ use Rattle.event_timing.proofs.Running.{emit_up, old_at, run_marks}
 use Rattle.event_timing.proofs.Fronts.{tally_same, pushed_same}
 use Rattle.event_timing.proofs.OwnRuns.{tally_more, same_side_is}
 use Rattle.event_timing.proofs.Values.{pushed_in_more}
-use Rattle.engine_view.specs.Held.{Held, step_of, no_step, emitted_of, seen, queries_in, flags_by, flags_of, are_among, has_all, values_at, replies_at, waited, core_of}
+use Rattle.engine_view.specs.Held.{Held, step_of, no_step, emitted_of, seen, queries_in, flags_by, flags_of, are_among, has_all, values_at}
+use Rattle.engine_view.specs.Held.{replies_at, waited, core_of}
 use Rattle.engine_view.specs.Shown.{Shows, IsSound, AreTaken, IsTakenAt, AreWhole, IsKind, queries_before}
 use Rattle.engine_view.specs.Emitted.{done_at_once, place_of, with_emitted, IsNextStep}
 use Rattle.engine_view.proofs.Taking.{copies, channel_after, all_length, all_channel, kind_after, places_after, values_on, values_after}
@@ -40,13 +44,15 @@ use Rattle.engine_view.proofs.Reading.{IsRead, read_sound}
 
 -- ---- the lanes
 
-pub steps_there : (lanes : List Lane) (m : ℕ) (t : Step) → m < length lanes → (lane_at (with_step lanes m t) m).steps ≡ (lane_at lanes m).steps ++ t ∷ []
+pub steps_there : (lanes : List Lane) (m : ℕ) (t : Step) → m < length lanes
+    → (lane_at (with_step lanes m t) m).steps ≡ (lane_at lanes m).steps ++ t ∷ []
 steps_there lanes m t inside = rw (get_or-set_same lanes m (longer (lane_at lanes m) t) no_lane inside) refl
 
 pub lane_other : (lanes : List Lane) (m n : ℕ) (t : Step) → (n ≡ m → ⊥) → lane_at (with_step lanes m t) n ≡ lane_at lanes n
 lane_other lanes m n t apart = get_or-set_other lanes m n (longer (lane_at lanes m) t) no_lane apart
 
-cycles_stay : (lanes : List Lane) (m n : ℕ) (t : Step) → m < length lanes → (lane_at (with_step lanes m t) n).cycles ≡ (lane_at lanes n).cycles
+cycles_stay : (lanes : List Lane) (m n : ℕ) (t : Step) → m < length lanes
+    → (lane_at (with_step lanes m t) n).cycles ≡ (lane_at lanes n).cycles
 cycles_stay lanes m n t inside =
     elim (eqb_tells n m) [
       | inl at ↦ rw (at.1, get_or-set_same lanes m (longer (lane_at lanes m) t) no_lane inside) refl
@@ -145,7 +151,8 @@ below_more k e f is apart =
     ]
 
 -- nobody but the owner takes
-pub not_owner : {S : Type 0} → (d : Design S) (m : ℕ) (side : Side) (c : ℕ) (xs : List theory.Access) (bs : List Bool) → Each (λ a. d.owner a.side a.channel ≡ m) xs → (d.owner side c ≡ m → ⊥)
+pub not_owner : {S : Type 0} → (d : Design S) (m : ℕ) (side : Side) (c : ℕ) (xs : List theory.Access) (bs : List Bool)
+    → Each (λ a. d.owner a.side a.channel ≡ m) xs → (d.owner side c ≡ m → ⊥)
     → takes_in side c xs (bare_replies bs) ≡ 0
 not_owner {S} d m side c [] bs o f = refl
 not_owner {S} d m side c (a ∷ xs) [] o f = refl
@@ -157,7 +164,8 @@ not_owner {S} d m side c (a ∷ xs) (b ∷ bs) (o, os) f =
     f (ap₂ d.owner (sym (same_side_is a.side side w2)) (sym (eqb-true a.channel c w3)) ∙ o)) in
     rw (none, not_owner d m side c xs bs os f) refl
 
-pub no_values : {S : Type 0} → (d : Design S) (m : ℕ) (c : ℕ) (xs : List theory.Access) (bs : List Bool) → Each (λ a. d.owner a.side a.channel ≡ m) xs → (d.owner Push c ≡ m → ⊥)
+pub no_values : {S : Type 0} → (d : Design S) (m : ℕ) (c : ℕ) (xs : List theory.Access) (bs : List Bool)
+    → Each (λ a. d.owner a.side a.channel ≡ m) xs → (d.owner Push c ≡ m → ⊥)
     → values_in c xs (bare_replies bs) ≡ []
 no_values {S} d m c [] bs o f = refl
 no_values {S} d m c (a ∷ xs) [] o f = refl
@@ -170,7 +178,8 @@ no_values {S} d m c (a ∷ xs) (b ∷ bs) (o, os) f =
     rw (none, no_values d m c xs bs os f) refl
 
 -- nobody pushes on a source
-pub source_values : (channels : List Channel) (c : ℕ) (inputs : List ℕ) → (channel_at channels c).kind ≡ Source inputs → (xs : List Access) (bs : List Bool) → All (IsAccess channels) xs
+pub source_values : (channels : List Channel) (c : ℕ) (inputs : List ℕ) → (channel_at channels c).kind ≡ Source inputs
+    → (xs : List Access) (bs : List Bool) → All (IsAccess channels) xs
     → values_in c (map seen xs) (bare_replies bs) ≡ []
 source_values channels c inputs k [] bs all = refl
 source_values channels c inputs k (a ∷ xs) [] all = refl
@@ -185,7 +194,8 @@ source_values channels c inputs k (a ∷ xs) (b ∷ bs) all =
     rw (none, source_values channels c inputs k xs bs (All-tail (IsAccess channels) a xs all)) refl
 
 -- the places of what is taken, with some copies of one more
-pub longer_taken : {S : Type 0} → (d : Design S) (z : Core S) (side : Side) (c n T : ℕ) (places : List Place) (at : Place) → length places ≡ T
+pub longer_taken : {S : Type 0} → (d : Design S) (z : Core S) (side : Side) (c n T : ℕ) (places : List Place) (at : Place)
+    → length places ≡ T
     → ((j : ℕ) (y : Place) → j < length places → IsTakenAt d z side c j (get_or places j y))
     → core_tally d z (d.owner side c) side c (z.emitted (d.owner side c)) ≡ T + n
     → (0 < n → (j : ℕ) → T ≤ j → j < T + n → IsTakenAt d z side c j at)
@@ -199,7 +209,8 @@ longer_taken {S} d z side c n T places at count old total new = record {
             let n' = length-append places (copies n at) in
             let n'' = copies_length n at in
             let z' : j ≡ length places + (j - length places) = omega arith in
-            subst (IsTakenAt d z side c j) (sym (ap (λ (p : ℕ). get_or (places ++ copies n at) p y) z' ∙ (get_or-append-add places (copies n at) (j - length places) y ∙ copies_at n at (j - length places) y (omega arith))))
+            subst (IsTakenAt d z side c j) (sym (ap (λ (p : ℕ). get_or (places ++ copies n at) p y) z'
+            ∙ (get_or-append-add places (copies n at) (j - length places) y ∙ copies_at n at (j - length places) y (omega arith))))
             (new (omega arith) j (omega arith) (omega arith))
       ];
 }
@@ -213,7 +224,8 @@ longer_taken {S} d z side c n T places at count old total new = record {
     copies_at (suc n) at zero y l = refl
     copies_at (suc n) at (suc j) y l = copies_at n at j y (omega arith)
 
-module _ {S : Type 0} (d : Design S) (i : IsDesign d) (h : Held) (m : ℕ) (t : Step) (inside : m < length h.lanes) (s : IsSound d h) (next : IsNextStep d h m t) where
+module _ {S : Type 0} (d : Design S) (i : IsDesign d) (h : Held) (m : ℕ) (t : Step) (inside : m < length h.lanes) (s : IsSound d h)
+    (next : IsNextStep d h m t) where
   abbrev x : Core S
   x = core_of d h
 
@@ -242,7 +254,8 @@ module _ {S : Type 0} (d : Design S) (i : IsDesign d) (h : Held) (m : ℕ) (t : 
   tally_old : (n : ℕ) (side : Side) (c k : ℕ) → k ≤ emitted_of h n → core_tally d z n side c k ≡ core_tally d x n side c k
   tally_old n side c k l =
       tally_same (core_accesses d z n) (core_accesses d x n) (λ j. bare_replies (z.flags n j)) (λ j. bare_replies (x.flags n j)) side c k
-      (λ j q. ap₂ (λ (u : S) (fs : List Bool). takes_in side c (d.accesses n u) (bare_replies fs)) (old_at x.state x m now n j (omega arith)) (old_at x.flags x m (no_outcomes (d.accesses m now)) n j (omega arith)))
+      (λ j q. ap₂ (λ (u : S) (fs : List Bool). takes_in side c (d.accesses n u) (bare_replies fs))
+      (old_at x.state x m now n j (omega arith)) (old_at x.flags x m (no_outcomes (d.accesses m now)) n j (omega arith)))
 
   new_taken : Side → ℕ → ℕ
   new_taken side c = takes_in side c (map seen t.accesses) (bare_replies bs)
@@ -251,12 +264,16 @@ module _ {S : Type 0} (d : Design S) (i : IsDesign d) (h : Held) (m : ℕ) (t : 
   unfolding new_taken
   tally_new side c =
       tally_more (core_accesses d z m) (λ j. bare_replies (z.flags m j)) side c k₀
-      ∙ ap₂ (λ (a b : ℕ). a + b) (tally_old m side c k₀ (omega arith)) (ap₂ (λ (as' : List theory.Access) (fs : List Bool). takes_in side c as' (bare_replies fs)) accesses_now flags_now)
+      ∙ ap₂ (λ (a b : ℕ). a + b) (tally_old m side c k₀ (omega arith))
+      (ap₂ (λ (as' : List theory.Access) (fs : List Bool). takes_in side c as' (bare_replies fs)) accesses_now flags_now)
 
-  pushed_old : (n c k : ℕ) → k ≤ emitted_of h n → pushed_in c (core_accesses d z n) (λ j. bare_replies (z.flags n j)) k ≡ pushed_in c (core_accesses d x n) (λ j. bare_replies (x.flags n j)) k
+  pushed_old : (n c k : ℕ) → k ≤ emitted_of h n
+      → pushed_in c (core_accesses d z n) (λ j. bare_replies (z.flags n j)) k ≡ pushed_in c (core_accesses d x n)
+      (λ j. bare_replies (x.flags n j)) k
   pushed_old n c k l =
       pushed_same (core_accesses d z n) (core_accesses d x n) (λ j. bare_replies (z.flags n j)) (λ j. bare_replies (x.flags n j)) c k
-      (λ j q. ap₂ (λ (u : S) (fs : List Bool). values_in c (d.accesses n u) (bare_replies fs)) (old_at x.state x m now n j (omega arith)) (old_at x.flags x m (no_outcomes (d.accesses m now)) n j (omega arith)))
+      (λ j q. ap₂ (λ (u : S) (fs : List Bool). values_in c (d.accesses n u) (bare_replies fs)) (old_at x.state x m now n j (omega arith))
+      (old_at x.flags x m (no_outcomes (d.accesses m now)) n j (omega arith)))
 
   owned_now : Each (λ a. d.owner a.side a.channel ≡ m) (map seen t.accesses)
   owned_now = subst (Each (λ a. d.owner a.side a.channel ≡ m)) next.accesses (i.owned m now)
@@ -268,12 +285,15 @@ module _ {S : Type 0} (d : Design S) (i : IsDesign d) (h : Held) (m : ℕ) (t : 
   -- ---- the table
 
   channel_now : (c : ℕ) → channel_at (with_emitted h m t).channels c ≡ channel_after at c (channel_at h.channels c) t.accesses bs
-  channel_now c = all_channel at h.channels t.accesses bs c (All-weaker (IsAccess h.channels) (λ (a : Access). a.channel < length h.channels) (λ a p. p.channel) t.accesses next.inside)
+  channel_now c = all_channel at h.channels t.accesses bs c
+      (All-weaker (IsAccess h.channels) (λ (a : Access). a.channel < length h.channels) (λ a p. p.channel) t.accesses next.inside)
 
   kind_now : (c : ℕ) → (channel_at (with_emitted h m t).channels c).kind ≡ (channel_at h.channels c).kind
   kind_now c = ap (λ (q : Channel). q.kind) (channel_now c) ∙ kind_after at c (channel_at h.channels c) t.accesses bs
 
-  places_now : (side : Side) (c : ℕ) → places_of side (channel_at (with_emitted h m t).channels c) ≡ places_of side (channel_at h.channels c) ++ copies (new_taken side c) at
+  places_now : (side : Side) (c : ℕ)
+      → places_of side (channel_at (with_emitted h m t).channels c) ≡ places_of side (channel_at h.channels c) ++ copies (new_taken side c)
+      at
   unfolding new_taken
   places_now side c = ap (places_of side) (channel_now c) ∙ places_after side at c (channel_at h.channels c) t.accesses bs
 
@@ -291,7 +311,8 @@ module _ {S : Type 0} (d : Design S) (i : IsDesign d) (h : Held) (m : ℕ) (t : 
   emitted_other : (w : ℕ) → (w ≡ m → ⊥) → z.emitted w ≡ emitted_of h w
   emitted_other w f = put_other x.emitted m (suc k₀) w f
 
-  total : (w : ℕ) (side : Side) (c : ℕ) → ((w ≡ m → ⊥) → new_taken side c ≡ 0) → core_tally d z w side c (z.emitted w) ≡ core_tally d x w side c (emitted_of h w) + new_taken side c
+  total : (w : ℕ) (side : Side) (c : ℕ) → ((w ≡ m → ⊥) → new_taken side c ≡ 0)
+      → core_tally d z w side c (z.emitted w) ≡ core_tally d x w side c (emitted_of h w) + new_taken side c
   total w side c none =
       elim (eqb_tells w m) [
         | inl q ↦
@@ -302,7 +323,8 @@ module _ {S : Type 0} (d : Design S) (i : IsDesign d) (h : Held) (m : ℕ) (t : 
             ap (core_tally d z w side c) (emitted_other w q.1) ∙ (tally_old w side c (emitted_of h w) (omega arith) ∙ omega arith)
       ]
 
-  new_at : (side : Side) (c : ℕ) → d.owner side c ≡ m → (j : ℕ) → core_tally d x m side c k₀ ≤ j → j < core_tally d x m side c k₀ + new_taken side c → IsTakenAt d z side c j at
+  new_at : (side : Side) (c : ℕ) → d.owner side c ≡ m → (j : ℕ) → core_tally d x m side c k₀ ≤ j
+      → j < core_tally d x m side c k₀ + new_taken side c → IsTakenAt d z side c j at
   new_at side c o j l u =
       let old = tally_old m side c k₀ (omega arith) in
       let new = tally_new side c in
@@ -313,7 +335,8 @@ module _ {S : Type 0} (d : Design S) (i : IsDesign d) (h : Held) (m : ℕ) (t : 
         to = subst (λ (v : ℕ). j < core_tally d z v side c (suc k₀)) (sym o) (omega arith);
       }
 
-  new_for : (w : ℕ) (side : Side) (c : ℕ) → w ≡ d.owner side c → ((w ≡ m → ⊥) → new_taken side c ≡ 0) → 0 < new_taken side c → (j : ℕ) → core_tally d x w side c (emitted_of h w) ≤ j
+  new_for : (w : ℕ) (side : Side) (c : ℕ) → w ≡ d.owner side c → ((w ≡ m → ⊥) → new_taken side c ≡ 0) → 0 < new_taken side c → (j : ℕ)
+      → core_tally d x w side c (emitted_of h w) ≤ j
       → j < core_tally d x w side c (emitted_of h w) + new_taken side c → IsTakenAt d z side c j at
   new_for w side c o none p j l u =
       elim (eqb_tells w m) [
@@ -323,22 +346,27 @@ module _ {S : Type 0} (d : Design S) (i : IsDesign d) (h : Held) (m : ℕ) (t : 
         | inr q ↦ let e = none q.1 in absurd (omega arith)
       ]
 
-  taken_now : (side : Side) (c : ℕ) → AreTaken d x side c (places_of side (channel_at h.channels c)) → AreTaken d z side c (places_of side (channel_at (with_emitted h m t).channels c))
+  taken_now : (side : Side) (c : ℕ) → AreTaken d x side c (places_of side (channel_at h.channels c))
+      → AreTaken d z side c (places_of side (channel_at (with_emitted h m t).channels c))
   taken_now side c o =
       subst (AreTaken d z side c) (sym (places_now side c))
-      (longer_taken d z side c (new_taken side c) (core_tally d x (d.owner side c) side c (emitted_of h (d.owner side c))) (places_of side (channel_at h.channels c)) at
-      o.count (λ j y l. old_taken side c j _ (o.each j y l)) (total (d.owner side c) side c (none_new side c)) (new_for (d.owner side c) side c refl (none_new side c)))
+      (longer_taken d z side c (new_taken side c) (core_tally d x (d.owner side c) side c (emitted_of h (d.owner side c)))
+      (places_of side (channel_at h.channels c)) at
+      o.count (λ j y l. old_taken side c j _ (o.each j y l)) (total (d.owner side c) side c (none_new side c))
+      (new_for (d.owner side c) side c refl (none_new side c)))
 
   -- ---- values
 
   new_values : ℕ → List ℕ
   new_values c = values_in c (map seen t.accesses) (bare_replies bs)
 
-  pushed_new : (c : ℕ) → pushed_in c (core_accesses d z m) (λ j. bare_replies (z.flags m j)) (suc k₀) ≡ pushed_in c (core_accesses d x m) (λ j. bare_replies (x.flags m j)) k₀ ++ new_values c
+  pushed_new : (c : ℕ) → pushed_in c (core_accesses d z m) (λ j. bare_replies (z.flags m j)) (suc k₀) ≡ pushed_in c (core_accesses d x m)
+      (λ j. bare_replies (x.flags m j)) k₀ ++ new_values c
   unfolding new_values
   pushed_new c =
       pushed_in_more c (core_accesses d z m) (λ j. bare_replies (z.flags m j)) k₀
-      ∙ ap₂ (λ (a b : List ℕ). a ++ b) (pushed_old m c k₀ (omega arith)) (ap₂ (λ (as' : List theory.Access) (fs : List Bool). values_in c as' (bare_replies fs)) accesses_now flags_now)
+      ∙ ap₂ (λ (a b : List ℕ). a ++ b) (pushed_old m c k₀ (omega arith))
+      (ap₂ (λ (as' : List theory.Access) (fs : List Bool). values_in c as' (bare_replies fs)) accesses_now flags_now)
 
   abbrev pushed_by : Core S → ℕ → ℕ → ℕ → List ℕ
   pushed_by y c w k = pushed_in c (core_accesses d y w) (λ j. bare_replies (y.flags w j)) k
@@ -355,7 +383,8 @@ module _ {S : Type 0} (d : Design S) (i : IsDesign d) (h : Held) (m : ℕ) (t : 
   unfolding new_values
   pushed_values c = ap values_on (channel_now c) ∙ values_after at c (channel_at h.channels c) t.accesses bs
 
-  pushed_total : (w c : ℕ) → ((w ≡ m → ⊥) → new_values c ≡ []) → pushed_by z c w (z.emitted w) ≡ pushed_by x c w (emitted_of h w) ++ new_values c
+  pushed_total : (w c : ℕ) → ((w ≡ m → ⊥) → new_values c ≡ [])
+      → pushed_by z c w (z.emitted w) ≡ pushed_by x c w (emitted_of h w) ++ new_values c
   pushed_total w c none =
       elim (eqb_tells w m) [
         | inl q ↦
@@ -376,16 +405,23 @@ module _ {S : Type 0} (d : Design S) (i : IsDesign d) (h : Held) (m : ℕ) (t : 
   values_now : (c : ℕ) → values_at h.channels c ≡ core_values d x c → values_at (with_emitted h m t).channels c ≡ core_values d z c
   values_now c o = by_kind (channel_at h.channels c).kind refl ∙ (ap (λ (vs : List ℕ). vs ++ new_values c) o ∙ sym (values_more c))
     where
-      by_kind : (kind : TableChannel) → (channel_at h.channels c).kind ≡ kind → values_at (with_emitted h m t).channels c ≡ values_at h.channels c ++ new_values c
+      by_kind : (kind : TableChannel) → (channel_at h.channels c).kind ≡ kind
+          → values_at (with_emitted h m t).channels c ≡ values_at h.channels c ++ new_values c
       by_kind (Source inputs) k =
           ap₂ values_of (kind_now c ∙ k) refl ∙ (sym (append-nil inputs)
-          ∙ ap₂ (λ (a b : List ℕ). a ++ b) (sym (ap (λ (q : TableChannel). values_of q (channel_at h.channels c).pushes) k)) (sym (source_now c inputs k)))
-      by_kind Sink k = ap₂ values_of (kind_now c ∙ k) refl ∙ (pushed_values c ∙ ap (λ (vs : List ℕ). vs ++ new_values c) (sym (ap (λ (q : TableChannel). values_of q (channel_at h.channels c).pushes) k)))
-      by_kind (Fifo depth delay) k = ap₂ values_of (kind_now c ∙ k) refl ∙ (pushed_values c ∙ ap (λ (vs : List ℕ). vs ++ new_values c) (sym (ap (λ (q : TableChannel). values_of q (channel_at h.channels c).pushes) k)))
+          ∙ ap₂ (λ (a b : List ℕ). a ++ b) (sym (ap (λ (q : TableChannel). values_of q (channel_at h.channels c).pushes) k))
+          (sym (source_now c inputs k)))
+      by_kind Sink k = ap₂ values_of (kind_now c ∙ k) refl
+          ∙ (pushed_values c ∙ ap (λ (vs : List ℕ). vs ++ new_values c)
+          (sym (ap (λ (q : TableChannel). values_of q (channel_at h.channels c).pushes) k)))
+      by_kind (Fifo depth delay) k = ap₂ values_of (kind_now c ∙ k) refl
+          ∙ (pushed_values c ∙ ap (λ (vs : List ℕ). vs ++ new_values c)
+          (sym (ap (λ (q : TableChannel). values_of q (channel_at h.channels c).pushes) k)))
 
   -- ---- it is shown
 
-  step_now : (n k : ℕ) (P : Step → Type 0) → k < z.emitted n → (k < emitted_of h n → P (step_of h n k)) → (n ≡ m → k ≡ k₀ → P t) → P (step_of (with_emitted h m t) n k)
+  step_now : (n k : ℕ) (P : Step → Type 0) → k < z.emitted n → (k < emitted_of h n → P (step_of h n k)) → (n ≡ m → k ≡ k₀ → P t)
+      → P (step_of (with_emitted h m t) n k)
   step_now n k P l old new =
       elim (eqb_tells n m) [
         | inl q ↦ subst (λ (v : ℕ). P (step_of (with_emitted h m t) v k)) (sym q.1) (here q.1)
@@ -400,14 +436,16 @@ module _ {S : Type 0} (d : Design S) (i : IsDesign d) (h : Held) (m : ℕ) (t : 
                 let l' : k < z.emitted m = subst (λ (v : ℕ). k < z.emitted v) p l in
                 let e = emitted_now in
                 let l'' : k < emitted_of h m = omega arith in
-                subst P (sym (elsewhere d i h m t inside m k (λ a b. r.1 b))) (subst (λ (v : ℕ). P (step_of h v k)) p (old (subst (λ (v : ℕ). k < emitted_of h v) (sym p) l'')))
+                subst P (sym (elsewhere d i h m t inside m k (λ a b. r.1 b)))
+                (subst (λ (v : ℕ). P (step_of h v k)) p (old (subst (λ (v : ℕ). k < emitted_of h v) (sym p) l'')))
           ]
 
   lanes_now : All IsSoundLane (with_step h.lanes m t)
   lanes_now =
       let here = s.sound_lanes m no_lane inside in
       All-set IsSoundLane h.lanes m (longer (lane_at h.lanes m) t)
-      (longer_sound (lane_at h.lanes m) t ((lane_at h.lanes m).steps ++ t ∷ []) (lane_at h.lanes m).cycles here next.sound next.apart refl refl) s.sound_lanes
+      (longer_sound (lane_at h.lanes m) t ((lane_at h.lanes m).steps ++ t ∷ []) (lane_at h.lanes m).cycles here next.sound next.apart refl
+      refl) s.sound_lanes
 
   access_kept : (a : Access) → IsAccess h.channels a → IsAccess (with_emitted h m t).channels a
   access_kept a p = record {
@@ -423,12 +461,14 @@ module _ {S : Type 0} (d : Design S) (i : IsDesign d) (h : Held) (m : ℕ) (t : 
   InLane channels lane = All (λ (step : Step). All (IsAccess channels) step.accesses) lane.steps
 
   lane_kept : (lane : Lane) → InLane h.channels lane → InLane (with_emitted h m t).channels lane
-  lane_kept lane p = All-weaker (λ (step : Step). All (IsAccess h.channels) step.accesses) (λ (step : Step). All (IsAccess (with_emitted h m t).channels) step.accesses) (λ step. accesses_kept step.accesses) lane.steps p
+  lane_kept lane p = All-weaker (λ (step : Step). All (IsAccess h.channels) step.accesses)
+      (λ (step : Step). All (IsAccess (with_emitted h m t).channels) step.accesses) (λ step. accesses_kept step.accesses) lane.steps p
 
   inside_now : HasAccesses (with_step h.lanes m t) (with_emitted h m t).channels
   inside_now =
       All-set (InLane (with_emitted h m t).channels) h.lanes m (longer (lane_at h.lanes m) t)
-      (All-push (λ (step : Step). All (IsAccess (with_emitted h m t).channels) step.accesses) (lane_at h.lanes m).steps t (lane_kept (lane_at h.lanes m) (s.inside m no_lane inside)) (accesses_kept t.accesses next.inside))
+      (All-push (λ (step : Step). All (IsAccess (with_emitted h m t).channels) step.accesses) (lane_at h.lanes m).steps t
+      (lane_kept (lane_at h.lanes m) (s.inside m no_lane inside)) (accesses_kept t.accesses next.inside))
       (All-weaker (InLane h.channels) (InLane (with_emitted h m t).channels) lane_kept h.lanes s.inside)
 
   emitted_same : (n : ℕ) → emitted_of (with_emitted h m t) n ≡ z.emitted n
@@ -445,27 +485,33 @@ module _ {S : Type 0} (d : Design S) (i : IsDesign d) (h : Held) (m : ℕ) (t : 
   first_query_now n k l =
       step_now n k (λ (p : Step). p.first_query ≡ queries_before (with_emitted h m t) n k) l
       (λ q. s.first_query n k q ∙ sym (queries_same d i h m t inside n k (omega arith)))
-      (λ p r. subst (λ (v : ℕ). t.first_query ≡ queries_before (with_emitted h m t) v k) (sym p) (subst (λ (v : ℕ). t.first_query ≡ queries_before (with_emitted h m t) m v) (sym r) (next.first_query ∙ sym (queries_same d i h m t inside m k₀ (omega arith)))))
+      (λ p r. subst (λ (v : ℕ). t.first_query ≡ queries_before (with_emitted h m t) v k) (sym p)
+      (subst (λ (v : ℕ). t.first_query ≡ queries_before (with_emitted h m t) m v) (sym r) (next.first_query
+      ∙ sym (queries_same d i h m t inside m k₀ (omega arith)))))
 
   accesses_shown : (n k : ℕ) → k < z.emitted n → core_accesses d z n k ≡ map seen (step_of (with_emitted h m t) n k).accesses
   accesses_shown n k l =
       step_now n k (λ (p : Step). core_accesses d z n k ≡ map seen p.accesses) l
       (λ q. ap (d.accesses n) (old_at x.state x m now n k q) ∙ s.accesses n k q)
-      (λ p r. subst (λ (v : ℕ). core_accesses d z v k ≡ map seen t.accesses) (sym p) (subst (λ (v : ℕ). core_accesses d z m v ≡ map seen t.accesses) (sym r) accesses_now))
+      (λ p r. subst (λ (v : ℕ). core_accesses d z v k ≡ map seen t.accesses) (sym p)
+      (subst (λ (v : ℕ). core_accesses d z m v ≡ map seen t.accesses) (sym r) accesses_now))
 
   abbrev AreOrdinals : Core S → ℕ → ℕ → List Access → Type 0
   AreOrdinals y n k xs = All (λ (a : Access). a.ordinal ≡ suc (core_tally d y n (side_of a.kind) a.channel k)) xs
 
   ordinals_kept : (n k : ℕ) (xs : List Access) → k ≤ emitted_of h n → AreOrdinals x n k xs → AreOrdinals z n k xs
-  ordinals_kept n k xs l o = λ j e q. o j e q ∙ ap (λ (v : ℕ). suc v) (sym (tally_old n (side_of (get_or xs j e).kind) (get_or xs j e).channel k l))
+  ordinals_kept n k xs l o = λ j e q. o j e q
+      ∙ ap (λ (v : ℕ). suc v) (sym (tally_old n (side_of (get_or xs j e).kind) (get_or xs j e).channel k l))
 
   ordinals_shown : (n k : ℕ) → k < z.emitted n → AreOrdinals z n k (step_of (with_emitted h m t) n k).accesses
   ordinals_shown n k l =
       step_now n k (λ (p : Step). AreOrdinals z n k p.accesses) l
       (λ q. ordinals_kept n k (step_of h n k).accesses (omega arith) (s.ordinals n k q))
-      (λ p r. subst (λ (v : ℕ). AreOrdinals z v k t.accesses) (sym p) (subst (λ (v : ℕ). AreOrdinals z m v t.accesses) (sym r) (ordinals_kept m k₀ t.accesses (omega arith) next.ordinals)))
+      (λ p r. subst (λ (v : ℕ). AreOrdinals z v k t.accesses) (sym p) (subst (λ (v : ℕ). AreOrdinals z m v t.accesses) (sym r)
+      (ordinals_kept m k₀ t.accesses (omega arith) next.ordinals)))
 
-  taken_shown : (side : Side) (c : ℕ) → c < length (with_emitted h m t).channels → AreTaken d z side c (places_of side (channel_at (with_emitted h m t).channels c))
+  taken_shown : (side : Side) (c : ℕ) → c < length (with_emitted h m t).channels
+      → AreTaken d z side c (places_of side (channel_at (with_emitted h m t).channels c))
   taken_shown side c l = let e = all_length at h.channels t.accesses bs in taken_now side c (s.taken side c (omega arith))
 
   shown : Shows d (with_emitted h m t) z
@@ -481,7 +527,8 @@ module _ {S : Type 0} (d : Design S) (i : IsDesign d) (h : Held) (m : ℕ) (t : 
     ordinals = ordinals_shown;
     first_query = first_query_now;
     kinds = λ c l. let e = all_length at h.channels t.accesses bs in subst (IsKind d c) (sym (kind_now c)) (s.kinds c (omega arith));
-    lags = λ side c l. let e = all_length at h.channels t.accesses bs in s.lags side c (omega arith) ∙ ap (λ (q : TableChannel). lag_of q side) (sym (kind_now c));
+    lags = λ side c l. let e = all_length at h.channels t.accesses bs in s.lags side c (omega arith)
+        ∙ ap (λ (q : TableChannel). lag_of q side) (sym (kind_now c));
     taken = taken_shown;
     values = λ c l. let e = all_length at h.channels t.accesses bs in values_now c (s.values c (omega arith));
     recorded = λ n l. whole_now n _ (s.recorded n l);
@@ -495,16 +542,19 @@ module _ {S : Type 0} (d : Design S) (i : IsDesign d) (h : Held) (m : ℕ) (t : 
   few_recorded n w = let e = w.all in let l = queries_mono h m w.steps k₀ w.within in omega arith
 
   recorded_few : length (log_at h.logs m).outcomes ≤ t.first_query
-  recorded_few = let e = next.first_query in let l = few_recorded (length (log_at h.logs m).outcomes) (s.recorded m (let a = s.logs in let b = s.lanes in omega arith)) in omega arith
+  recorded_few = let e = next.first_query in let l = few_recorded (length (log_at h.logs m).outcomes)
+      (s.recorded m (let a = s.logs in let b = s.lanes in omega arith)) in omega arith
 
   verified_few : (log_at h.logs m).verified ≤ t.first_query
-  verified_few = let e = next.first_query in let l = few_recorded (log_at h.logs m).verified (s.verified m (let a = s.logs in let b = s.lanes in omega arith)) in omega arith
+  verified_few = let e = next.first_query in let l =
+      few_recorded (log_at h.logs m).verified (s.verified m (let a = s.logs in let b = s.lanes in omega arith)) in omega arith
 
   not_among : (n : ℕ) → n ≤ t.first_query → are_among t n ≡ not (has_query (d.accesses m now))
   not_among n l =
       among_few t n l ∙ sym (ap (λ (xs : List theory.Access). not (has_query xs)) next.accesses ∙ ap not (has_query_is t.accesses))
 
-  has_now : (n k q : ℕ) (old : Bool) → old ≡ has_all h n k q → (n ≡ m → q ≤ t.first_query) → has_all (with_emitted h m t) n k q ≡ put_at (λ a b. has_all h a b q) m k₀ (not (has_query (d.accesses m now))) n k
+  has_now : (n k q : ℕ) (old : Bool) → old ≡ has_all h n k q → (n ≡ m → q ≤ t.first_query)
+      → has_all (with_emitted h m t) n k q ≡ put_at (λ a b. has_all h a b q) m k₀ (not (has_query (d.accesses m now))) n k
   has_now n k q old o few =
       put_at_is (λ a b. has_all h a b q) m k₀ n k (not (has_query (d.accesses m now))) (has_all (with_emitted h m t) n k q)
       (λ e f. rw (e, f) (has_here (few e)))
@@ -513,7 +563,8 @@ module _ {S : Type 0} (d : Design S) (i : IsDesign d) (h : Held) (m : ℕ) (t : 
       has_here : q ≤ t.first_query → has_all (with_emitted h m t) m k₀ q ≡ not (has_query (d.accesses m now))
       has_here l =
           let e = more d i h m t inside in
-          ap₂ (λ (a b : Bool). a && b) (lt-ltb k₀ (emitted_of (with_emitted h m t) m) (omega arith)) (ap (λ (p : Step). are_among p q) (there d i h m t inside) ∙ not_among q l)
+          ap₂ (λ (a b : Bool). a && b) (lt-ltb k₀ (emitted_of (with_emitted h m t) m) (omega arith))
+          (ap (λ (p : Step). are_among p q) (there d i h m t inside) ∙ not_among q l)
 
       below : (n ≡ m → k ≡ k₀ → ⊥) → ltb k (emitted_of (with_emitted h m t) n) ≡ ltb k (emitted_of h n)
       below f =
@@ -532,7 +583,8 @@ module _ {S : Type 0} (d : Design S) (i : IsDesign d) (h : Held) (m : ℕ) (t : 
     past = λ n k l. past n k l;
     wait = λ n k. put_at_is x.wait m k₀ n k (d.quiet m (newest d x m)) (waited k (step_of (with_emitted h m t) n k).gap)
         (λ e f. subst (λ (v : ℕ). waited k (step_of (with_emitted h m t) v k).gap ≡ d.quiet m (newest d x m)) (sym e)
-        (subst (λ (v : ℕ). waited v (step_of (with_emitted h m t) m v).gap ≡ d.quiet m (newest d x m)) (sym f) (ap (λ (p : Step). waited k₀ p.gap) (there d i h m t inside) ∙ next.gap)))
+        (subst (λ (v : ℕ). waited v (step_of (with_emitted h m t) m v).gap ≡ d.quiet m (newest d x m)) (sym f)
+        (ap (λ (p : Step). waited k₀ p.gap) (there d i h m t inside) ∙ next.gap)))
         (λ f. ap (λ (p : Step). waited k p.gap) (elsewhere d i h m t inside n k f));
     flags = λ n k. put_at_is x.flags m k₀ n k (no_outcomes (d.accesses m now)) (flags_of (with_emitted h m t) n k)
         (λ e f. subst (λ (v : ℕ). flags_of (with_emitted h m t) v k ≡ no_outcomes (d.accesses m now)) (sym e)
@@ -547,22 +599,27 @@ module _ {S : Type 0} (d : Design S) (i : IsDesign d) (h : Held) (m : ℕ) (t : 
       past : (n k : ℕ) → z.emitted n ≤ k → d.opening n ≡ z.state n k
       past n k l =
           let up = emit_up x m n in
-          sym (put_at_other x.state m k₀ now n k (λ e f. let l' : z.emitted m ≤ k = subst (λ (v : ℕ). z.emitted v ≤ k) e l in let same = emitted_now in omega arith)
+          sym (put_at_other x.state m k₀ now n k (λ e f. let l' : z.emitted m ≤ k = subst (λ (v : ℕ). z.emitted v ≤ k) e l in let same =
+          emitted_now in omega arith)
           ∙ ap (λ (b : Bool). cond b (ready d n (own d n (replies_at h n) k)) (d.opening n)) (le-ltb k (emitted_of h n) (omega arith)))
 
       flags_here : flags_of (with_emitted h m t) m k₀ ≡ no_outcomes (d.accesses m now)
       flags_here =
           ap (λ (p : Step). flags_by p.accesses (drop p.first_query (log_at h.logs m).outcomes)) (there d i h m t inside)
-          ∙ (ap (flags_by t.accesses) (drop_of_length-le (log_at h.logs m).outcomes recorded_few) ∙ (no_flags t.accesses ∙ sym (ap no_outcomes next.accesses ∙ no_outcomes_is t.accesses)))
+          ∙ (ap (flags_by t.accesses) (drop_of_length-le (log_at h.logs m).outcomes recorded_few)
+          ∙ (no_flags t.accesses ∙ sym (ap no_outcomes next.accesses ∙ no_outcomes_is t.accesses)))
 
       answered : (n k : ℕ) → has_all (with_emitted h m t) n k (length (log_at h.logs n).outcomes) ≡ z.answered n k
-      answered n k = has_now n k (length (log_at h.logs n).outcomes) _ refl (λ e. subst (λ (v : ℕ). length (log_at h.logs v).outcomes ≤ t.first_query) (sym e) recorded_few)
+      answered n k = has_now n k (length (log_at h.logs n).outcomes) _ refl
+          (λ e. subst (λ (v : ℕ). length (log_at h.logs v).outcomes ≤ t.first_query) (sym e) recorded_few)
 
       verified : (n k : ℕ) → has_all (with_emitted h m t) n k (log_at h.logs n).verified ≡ z.verified n k
-      verified n k = has_now n k (log_at h.logs n).verified _ refl (λ e. subst (λ (v : ℕ). (log_at h.logs v).verified ≤ t.first_query) (sym e) verified_few)
+      verified n k = has_now n k (log_at h.logs n).verified _ refl (λ e. subst (λ (v : ℕ). (log_at h.logs v).verified ≤ t.first_query)
+          (sym e) verified_few)
 
   -- the core that is read off is the one behind the theory's Run, and it is sound
-  pub emitted_core : AreOwnMarks d x → MayRun d x m → d.is_over m now ≡ false → (core_of d (with_emitted h m t) ≡ after_run d x m) × IsSound d (with_emitted h m t)
+  pub emitted_core : AreOwnMarks d x → MayRun d x m → d.is_over m now ≡ false → (core_of d (with_emitted h m t) ≡ after_run d x m)
+      × IsSound d (with_emitted h m t)
   emitted_core b r lives =
       let is : after_run d x m ≡ z = cond-false {A = Core S} (d.is_over m now) _ z lives in
       let marks = subst (AreOwnMarks d) is (run_marks d x b m r) in

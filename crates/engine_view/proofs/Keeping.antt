@@ -1,5 +1,6 @@
 -- What is held stays kept, whatever the theory does to its core.
-use Rattle.std.proofs.Common.{◌≡◌, refl, sym, subst, ◌∙◌, ℕ, suc, ◌+◌, ◌<◌, ◌≤◌, get_or, Bool, true, false, not, cond, ltb, ap, ◌||◌, ◌&&◌, List, length, arith, inl, inr}
+use Rattle.std.proofs.Common.{◌≡◌, refl, sym, subst, ◌∙◌, ℕ, suc, ◌<◌, ◌≤◌, get_or, Bool, true, false, not, cond, ltb, ap, ◌||◌, List}
+use Rattle.std.proofs.Common.{length, arith, inl, inr}
 use Rattle.std.specs.Prelude.{All}
 use Rattle.std.proofs.lemmas.Bool.{cases_lt, cond-true, cond-false, and_from, or_left, lt-ltb}
 use Rattle.std.proofs.lemmas.Bool.Decides.{eqb_tells}
@@ -47,7 +48,8 @@ now_kept {S} d g y (e, sound) marks earlier = record {
   kept = record { sound = sound; marks = subst (AreOwnMarks d) (sym e) marks; earlier = subst AreVerified (sym e) earlier };
 }
 
-pub opening_now : {S : Type 0} → (d : Design S) (n : ℕ) (kinds : List TableChannel) → n ≡ d.modules → AreKinds d kinds → AreOwnMarks d (opening_core d)
+pub opening_now : {S : Type 0} → (d : Design S) (n : ℕ) (kinds : List TableChannel) → n ≡ d.modules → AreKinds d kinds
+    → AreOwnMarks d (opening_core d)
     → IsNow d (opening_held n kinds) (opening_core d)
 opening_now {S} d n kinds modules fit marks =
     now_kept d (opening_held n kinds) (opening_core d) (opening_core_is d n kinds modules fit marks) marks (λ m k l. absurd (omega arith))
@@ -58,11 +60,14 @@ module _ {S : Type 0} (d : Design S) (h : Held) (k : IsKept d h) where
   abbrev x : Core S
   x = core_of d h
 
-  pub emitted_now : IsDesign d → (m : ℕ) → m < length h.lanes → MayRun d x m → d.is_over m (ready d m (newest d x m)) ≡ false → (step : Step) → IsNextStep d h m step
+  pub emitted_now : IsDesign d → (m : ℕ) → m < length h.lanes → MayRun d x m → d.is_over m (ready d m (newest d x m)) ≡ false
+      → (step : Step) → IsNextStep d h m step
       → IsNow d (with_emitted h m step) (after_run d x m)
   emitted_now i m inside may lives step next =
-      now_kept d (with_emitted h m step) (after_run d x m) (emitted_core d i h m step inside k.sound next k.marks may lives) (run_marks d x k.marks m may)
-      (subst AreVerified (sym (cond-false {A = Core S} (d.is_over m (ready d m (newest d x m))) (emit_over x m) (emit_step d x m (newest d x m)) lives)) before)
+      now_kept d (with_emitted h m step) (after_run d x m) (emitted_core d i h m step inside k.sound next k.marks may lives)
+      (run_marks d x k.marks m may)
+      (subst AreVerified (sym (cond-false {A = Core S} (d.is_over m (ready d m (newest d x m))) (emit_over x m)
+      (emit_step d x m (newest d x m)) lives)) before)
     where
       before : AreVerified (emit_step d x m (newest d x m))
       before n j l =
@@ -70,20 +75,25 @@ module _ {S : Type 0} (d : Design S) (h : Held) (k : IsKept d h) where
           (λ e q. let w = timed_within d h k.sound m in let l' = subst (λ (v : ℕ). j < x.timed v) e l in omega arith)
           ∙ k.earlier n j l
 
-  pub over_now : (m : ℕ) → m < length h.over → MayRun d x m → d.is_over m (ready d m (newest d x m)) ≡ true → IsNow d (with_over h m) (after_run d x m)
+  pub over_now : (m : ℕ) → m < length h.over → MayRun d x m → d.is_over m (ready d m (newest d x m)) ≡ true
+      → IsNow d (with_over h m) (after_run d x m)
   over_now m inside may over =
       now_kept d (with_over h m) (after_run d x m) (over_core d h m inside k.sound k.marks may over) (run_marks d x k.marks m may)
-      (subst AreVerified (sym (cond-true {A = Core S} (d.is_over m (ready d m (newest d x m))) (emit_over x m) (emit_step d x m (newest d x m)) over)) k.earlier)
+      (subst AreVerified (sym (cond-true {A = Core S} (d.is_over m (ready d m (newest d x m))) (emit_over x m)
+      (emit_step d x m (newest d x m)) over)) k.earlier)
 
-  pub assigned_now : (m c : ℕ) → m < length h.lanes → x.verified m (x.timed m) ≡ true → All IsSoundLane (with_cycle h.lanes m c) → IsNow d (with_timed h m c) (after_assign x m c)
+  pub assigned_now : (m c : ℕ) → m < length h.lanes → x.verified m (x.timed m) ≡ true → All IsSoundLane (with_cycle h.lanes m c)
+      → IsNow d (with_timed h m c) (after_assign x m c)
   assigned_now m c inside verified lanes =
-      now_kept d (with_timed h m c) (after_assign x m c) (assigned_core d h m c inside, assigned_sound d h m c inside lanes k.sound) (assign_marks d x m c k.marks) before
+      now_kept d (with_timed h m c) (after_assign x m c) (assigned_core d h m c inside, assigned_sound d h m c inside lanes k.sound)
+      (assign_marks d x m c k.marks) before
     where
       before : AreVerified (after_assign x m c)
       before j p u =
           elim (eqb_tells j m) [
             | inl s ↦
-                let w' : (after_assign x m c).timed j ≡ suc (x.timed m) = ap (λ (b : Bool). cond {A = ℕ} b (suc (x.timed m)) (x.timed j)) s.0 in
+                let w' : (after_assign x m c).timed j ≡ suc (x.timed m) = ap (λ (b : Bool). cond {A = ℕ} b (suc (x.timed m)) (x.timed j))
+                s.0 in
                 subst (λ (n : ℕ). x.verified n p ≡ true) (sym s.1) (elim (cases_lt p (x.timed m)) [
                   | inl t ↦ k.earlier m p t
                   | inr t ↦ subst (λ (n : ℕ). x.verified m n ≡ true) (let r : x.timed m ≡ p = omega arith in r) verified
@@ -93,22 +103,27 @@ module _ {S : Type 0} (d : Design S) (h : Held) (k : IsKept d h) where
                 k.earlier j p (omega arith)
           ]
 
-  pub cut_now : (fifo depth t : ℕ) → fifo < length h.channels → IsFifo (channel_at h.channels fifo).kind → (g : Held) → IsCut d h g fifo depth t
+  pub cut_now : (fifo depth t : ℕ) → fifo < length h.channels → IsFifo (channel_at h.channels fifo).kind → (g : Held)
+      → IsCut d h g fifo depth t
       → IsNow (edited d fifo depth) g (after_edit d x t)
   cut_now fifo depth t inside is_fifo g cut =
-      now_kept (edited d fifo depth) g (after_edit d x t) (edited_core d h g fifo depth t k.sound k.marks cut inside is_fifo) (edit_marks d x fifo depth t k.marks) before
+      now_kept (edited d fifo depth) g (after_edit d x t) (edited_core d h g fifo depth t k.sound k.marks cut inside is_fifo)
+      (edit_marks d x fifo depth t k.marks) before
     where
       before : AreVerified (after_edit d x t)
       before m j l =
           and_from (x.verified m j) (ltb j (kept (x.cycle m) t (x.timed m)) || not (has_query (core_accesses d x m j)))
-          (k.earlier m j (let w = kept_le (x.cycle m) t (x.timed m) in omega arith)) (or_left (ltb j (kept (x.cycle m) t (x.timed m))) _ (lt-ltb j _ l))
+          (k.earlier m j (let w = kept_le (x.cycle m) t (x.timed m) in omega arith)) (or_left (ltb j (kept (x.cycle m) t (x.timed m))) _
+          (lt-ltb j _ l))
 
 -- ---- room behind an edit
 
 -- an edit leaves what is emitted and recorded, and all room
-pub room_cut : {S : Type 0} → (d : Design S) (h : Held) → IsKept d h → (fifo depth t : ℕ) → fifo < length h.channels → IsFifo (channel_at h.channels fifo).kind
+pub room_cut : {S : Type 0} → (d : Design S) (h : Held) → IsKept d h → (fifo depth t : ℕ) → fifo < length h.channels
+    → IsFifo (channel_at h.channels fifo).kind
     → (g : Held) → IsCut d h g fifo depth t → (lanes lanes' : List ℕ) (table table' : RoomedChannels) (logs credits : List ℕ)
-    → HasRoom d h lanes table logs credits → ((k : ℕ) → get_or lanes k 0 ≤ get_or lanes' k 0) → ((side : Side) (c : ℕ) → room_of table side c ≤ room_of table' side c)
+    → HasRoom d h lanes table logs credits → ((k : ℕ) → get_or lanes k 0 ≤ get_or lanes' k 0)
+    → ((side : Side) (c : ℕ) → room_of table side c ≤ room_of table' side c)
     → HasRoom (edited d fifo depth) g lanes' table' logs credits
 room_cut {S} d h k fifo depth t inside is_fifo g cut lanes lanes' table table' logs credits r f q = record {
   ends = λ side c l.
@@ -123,7 +138,8 @@ room_cut {S} d h k fifo depth t inside is_fifo g cut lanes lanes' table table' l
 }
   where
     steps_is : (m : ℕ) → (lane_at g.lanes m).steps ≡ (lane_at h.lanes m).steps
-    steps_is m = ap (λ (ls : List Lane). (lane_at ls m).steps) cut.lanes ∙ ap (λ (l : Lane). l.steps) (get_or-map (timed_below t) h.lanes m no_lane)
+    steps_is m = ap (λ (ls : List Lane). (lane_at ls m).steps) cut.lanes
+        ∙ ap (λ (l : Lane). l.steps) (get_or-map (timed_below t) h.lanes m no_lane)
 
     queries : (m : ℕ) → queries_before g m (emitted_of g m) ≡ queries_before h m (emitted_of h m)
     queries m = steps_only g h steps_is m (emitted_of g m) ∙ ap (λ (ss : List Step). queries_before h m (length ss)) (steps_is m)

@@ -1,5 +1,6 @@
 -- When an access is possible, by the graph and the table, is what the theory knows of it.
-use Rattle.std.proofs.Common.{◌≡◌, refl, sym, ap, ◌∙◌, ℕ, suc, ◌+◌, ◌-◌, ◌<◌, ◌≤◌, false, List, length, get_or, Option, None, Some, arith, inl, inr, slice_get, slice_index_or}
+use Rattle.std.proofs.Common.{◌≡◌, refl, sym, ap, ◌∙◌, ℕ, suc, ◌+◌, ◌-◌, ◌<◌, ◌≤◌, false, List, length, get_or, Option, None, Some, arith}
+use Rattle.std.proofs.Common.{inl, inr, slice_get, slice_index_or}
 use Rattle.std.specs.Prelude.{All}
 use Rattle.std.proofs.lemmas.Bool.{cases_lt, lt-ltb, le-ltb, le-leb, lt-leb}
 use Rattle.std.proofs.lemmas.Option.{slice_get_cases, slice_get-get_or, slice_get_past}
@@ -34,7 +35,8 @@ use Rattle.engine_view.specs.Known.{as_known}
 -- ---- the step of an event
 
 -- no step below n is the place, where as many are taken before n
-pub place_none : (a : ℕ → List theory.Access) (r : ℕ → List Reply) (side : Side) (ch n i : ℕ) → tally a r side ch n ≤ i → place a r side ch n i ≡ None
+pub place_none : (a : ℕ → List theory.Access) (r : ℕ → List Reply) (side : Side) (ch n i : ℕ) → tally a r side ch n ≤ i
+    → place a r side ch n i ≡ None
 place_none a r side ch n i l = later (place a r side ch n i) (place_says a r side ch n i)
   where
     later : (o : Option ℕ) → IsPlace a r side ch n i o → o ≡ None
@@ -42,7 +44,8 @@ place_none a r side ch n i l = later (place a r side ch n i) (place_says a r sid
     later (Some j) (g1, g2, g3) = absurd (omega (arith, tally_mono a r side ch (suc j) n g1))
 
 -- what an event tells, where its place is this one or none
-event_known : (lanes : List Lane) (l : ℕ) (o : Option Place) (e : Option ℕ) → ((p : Place) → o ≡ Some p → cycle_of lanes p ≡ e) → (o ≡ None → e ≡ None)
+event_known : (lanes : List Lane) (l : ℕ) (o : Option Place) (e : Option ℕ) → ((p : Place) → o ≡ Some p → cycle_of lanes p ≡ e)
+    → (o ≡ None → e ≡ None)
     → as_known (known_by lanes l (event_at o)) ≡ as_known (from_cycle l e)
 event_known lanes l None e f g = rw (g refl) refl
 event_known lanes l (Some p) e f g = rw (f p refl) refl
@@ -58,7 +61,8 @@ event_is : {S : Type 0} → (d : Design S) (h : Held) (x : Core S) → ((m : ℕ
     → ((m k : ℕ) → k < x.timed m → get_or (lane_at h.lanes m).cycles k 0 ≡ x.cycle m k) → ((m : ℕ) → x.timed m ≤ x.emitted m)
     → (side : Side) (ch l j : ℕ) (places : List Place) → AreTaken d x side ch places
     → as_known (known_by h.lanes l (event_at (slice_get places j)))
-    ≡ from_step (x.cycle (d.owner side ch)) l (place (core_accesses d x (d.owner side ch)) (core_reply d x (d.owner side ch)) side ch (x.timed (d.owner side ch)) j)
+    ≡ from_step (x.cycle (d.owner side ch)) l (place (core_accesses d x (d.owner side ch)) (core_reply d x (d.owner side ch)) side ch
+    (x.timed (d.owner side ch)) j)
 event_is {S} d h x t y w side ch l j places taken =
     let m : ℕ = d.owner side ch in
     let same = λ (n : ℕ). core_tally_is d x m side ch n in
@@ -68,19 +72,36 @@ event_is {S} d h x t y w side ch l j places taken =
           let at' : IsTakenAt d x side ch j p = rw here at spot in
           elim (cases_lt p.step (x.timed m)) [
             | inl early ↦
-                let found = place_unique (core_accesses d x m) (core_reply d x m) side ch (x.timed m) j p.step early (omega (arith, same p.step, at'.from)) (omega (arith, same (suc p.step), at'.to)) in
+                let found = place_unique (core_accesses d x m) (core_reply d x m) side ch (x.timed m) j p.step early
+                (omega (arith, same p.step, at'.from)) (omega (arith, same (suc p.step), at'.to)) in
                 let cycle : cycle_of h.lanes p ≡ Some (x.cycle m p.step) =
-                rw at'.owner (slice_get-get_or (lane_at h.lanes m).cycles p.step 0 (omega (arith, t m)) ∙ ap (λ (z : ℕ). Some z) (y m p.step early)) in
+                rw at'.owner (slice_get-get_or (lane_at h.lanes m).cycles p.step 0 (omega (arith, t m))
+                ∙ ap (λ (z : ℕ). Some z) (y m p.step early)) in
                 rw (there, cycle) (sym (from_some (x.cycle m) l _ p.step found))
             | inr late ↦
                 let none = place_none (core_accesses d x m) (core_reply d x m) side ch (x.timed m) j
-                (omega (arith, same (x.timed m), same p.step, at'.from, tally_mono (core_accesses d x m) (core_reply d x m) side ch (x.timed m) p.step late)) in
-                let cycle : cycle_of h.lanes p ≡ None = rw at'.owner (slice_get_past (lane_at h.lanes m).cycles p.step (omega (arith, t m))) in
+                (omega (
+                  arith,
+                  same (x.timed m),
+                  same p.step,
+                  at'.from,
+                  tally_mono (core_accesses d x m) (core_reply d x m) side ch
+                      (x.timed m) p.step late,
+                )) in
+                let cycle : cycle_of h.lanes p ≡ None =
+                rw at'.owner (slice_get_past (lane_at h.lanes m).cycles p.step (omega (arith, t m))) in
                 rw (there, cycle) (sym (from_none (x.cycle m) l _ none))
           ]
       | inr (past, there) ↦
           let none = place_none (core_accesses d x m) (core_reply d x m) side ch (x.timed m) j
-          (omega (arith, taken.count, same (x.timed m), same (x.emitted m), tally_mono (core_accesses d x m) (core_reply d x m) side ch (x.timed m) (x.emitted m) (w m))) in
+          (omega (
+            arith,
+            taken.count,
+            same (x.timed m),
+            same (x.emitted m),
+            tally_mono (core_accesses d x m) (core_reply d x m) side ch
+                (x.timed m) (x.emitted m) (w m),
+          )) in
           rw there (sym (from_none (x.cycle m) l _ none))
     ]
 
@@ -93,7 +114,8 @@ lane_within lanes all m =
       | inr past ↦ rw (get_or_past lanes m no_lane past) (omega arith)
     ]
 
-pub timed_within : {S : Type 0} → (d : Design S) (h : Held) → IsSound d h → (m : ℕ) → length (lane_at h.lanes m).cycles ≤ length (lane_at h.lanes m).steps
+pub timed_within : {S : Type 0} → (d : Design S) (h : Held) → IsSound d h → (m : ℕ)
+    → length (lane_at h.lanes m).cycles ≤ length (lane_at h.lanes m).steps
 timed_within {S} d h y m = lane_within h.lanes y.sound_lanes m
 
 -- each access of each step is one of a channel
@@ -105,30 +127,38 @@ lane_inside lanes channels all m k l =
       | inr past ↦ let none : length (lane_at lanes m).steps ≡ 0 = rw (get_or_past lanes m no_lane past) refl in absurd (omega arith)
     ]
 
-pub shown_inside : {S : Type 0} → (d : Design S) (h : Held) (x : Core S) → Shows d h x → (m k : ℕ) → k < emitted_of h m → All (IsAccess h.channels) (step_of h m k).accesses
+pub shown_inside : {S : Type 0} → (d : Design S) (h : Held) (x : Core S) → Shows d h x → (m k : ℕ) → k < emitted_of h m
+    → All (IsAccess h.channels) (step_of h m k).accesses
 shown_inside {S} d h x s m k l = lane_inside h.lanes h.channels s.inside m k l
 
-step_inside : {S : Type 0} → (d : Design S) (h : Held) → IsSound d h → (m k : ℕ) → k < emitted_of h m → All (IsAccess h.channels) (step_of h m k).accesses
+step_inside : {S : Type 0} → (d : Design S) (h : Held) → IsSound d h → (m k : ℕ) → k < emitted_of h m
+    → All (IsAccess h.channels) (step_of h m k).accesses
 step_inside {S} d h y m k l = shown_inside d h (core_of d h) y m k l
 
 -- ---- an access by its side
 
-by_event : {S : Type 0} → (d : Design S) (v : View) (side : Side) (ch n s : ℕ) → d.unlimited side ch ≡ false → d.start side ch ≡ s → d.closed side ch ≡ false → s ≤ n
+by_event : {S : Type 0} → (d : Design S) (v : View) (side : Side) (ch n s : ℕ) → d.unlimited side ch ≡ false → d.start side ch ≡ s
+    → d.closed side ch ≡ false → s ≤ n
     → known d v side ch n ≡ from_step (v.cycle (d.owner (other_side side) ch)) (d.lag side ch)
-    (place (v.accesses (d.owner (other_side side) ch)) (v.reply (d.owner (other_side side) ch)) (other_side side) ch (v.timed (d.owner (other_side side) ch)) (n - s))
+    (place (v.accesses (d.owner (other_side side) ch)) (v.reply (d.owner (other_side side) ch)) (other_side side) ch
+    (v.timed (d.owner (other_side side) ch)) (n - s))
 unfolding known
 by_event {S} d v side ch n s e1 e2 e3 e4 = rw (e1, e2, e3, le-ltb n s e4) refl
 
 -- what the table and the graph tell of the access with n earlier ones at this side of a channel of this kind is what the theory knows
-kind_known : {S : Type 0} → (d : Design S) → IsDesign d → (h : Held) (x : Core S) → ((m : ℕ) → length (lane_at h.lanes m).cycles ≡ x.timed m)
+kind_known : {S : Type 0} → (d : Design S) → IsDesign d → (h : Held) (x : Core S)
+    → ((m : ℕ) → length (lane_at h.lanes m).cycles ≡ x.timed m)
     → ((m k : ℕ) → k < x.timed m → get_or (lane_at h.lanes m).cycles k 0 ≡ x.cycle m k) → ((m : ℕ) → x.timed m ≤ x.emitted m)
-    → (kind : TableChannel) (side : Side) (ch n : ℕ) (channel : Channel) → IsKind d ch kind → HasSide kind side → AreTaken d x (other_side side) ch (places_of (other_side side) channel)
+    → (kind : TableChannel) (side : Side) (ch n : ℕ) (channel : Channel) → IsKind d ch kind → HasSide kind side
+    → AreTaken d x (other_side side) ch (places_of (other_side side) channel)
     → as_known (known_by h.lanes (d.lag side ch) (enabler_by kind side channel (suc n))) ≡ known d (view d x) side ch n
 kind_known {S} d i h x t y w (Source inputs) Pop ch n channel (k1, k2) s taken =
     let u = i.pops_limited ch in
     elim (cases_lt n (length inputs)) [
-      | inl few ↦ rw (le-leb (suc n) (length inputs) few) (sym (known_free d (view d x) Pop ch n (rw (u, k1) (lt-ltb n (length inputs) few))))
-      | inr many ↦ rw (lt-leb (suc n) (length inputs) (omega arith)) (sym (known_never d (view d x) Pop ch n (rw (u, k1) (le-ltb n (length inputs) many)) k2))
+      | inl few ↦ rw (le-leb (suc n) (length inputs) few)
+          (sym (known_free d (view d x) Pop ch n (rw (u, k1) (lt-ltb n (length inputs) few))))
+      | inr many ↦ rw (lt-leb (suc n) (length inputs) (omega arith))
+          (sym (known_never d (view d x) Pop ch n (rw (u, k1) (le-ltb n (length inputs) many)) k2))
     ]
 kind_known {S} d i h x t y w (Source inputs) Push ch n channel k s taken = absurd (s tt)
 kind_known {S} d i h x t y w Sink Pop ch n channel k s taken = absurd (s tt)
@@ -155,23 +185,30 @@ kind_known {S} d i h x t y w (Fifo depth delay) Push ch n channel (k1, k2, k3, k
 
 by_side : (lanes : List Lane) (channels : List Channel) (a : Access) (n : ℕ) → a.ordinal ≡ n
     → when_possible lanes channels a
-    ≡ known_by lanes (lag_of (channel_at channels a.channel).kind (side_of a.kind)) (enabler_by (channel_at channels a.channel).kind (side_of a.kind) (channel_at channels a.channel) n)
+    ≡ known_by lanes (lag_of (channel_at channels a.channel).kind (side_of a.kind)) (enabler_by (channel_at channels a.channel).kind
+    (side_of a.kind) (channel_at channels a.channel) n)
 unfolding when_possible enabler_at lag
 by_side lanes channels a n e =
-    ap (λ (o : ℕ). known_by lanes (lag_of (channel_at channels a.channel).kind (side_of a.kind)) (enabler_by (channel_at channels a.channel).kind (side_of a.kind) (channel_at channels a.channel) o)) e
+    ap (λ (o : ℕ). known_by lanes (lag_of (channel_at channels a.channel).kind (side_of a.kind))
+    (enabler_by (channel_at channels a.channel).kind (side_of a.kind) (channel_at channels a.channel) o)) e
 
-side_known : {S : Type 0} → (d : Design S) → IsDesign d → (h : Held) → IsSound d h → (a : Access) → IsAccess h.channels a → (n : ℕ) → a.ordinal ≡ suc n
+side_known : {S : Type 0} → (d : Design S) → IsDesign d → (h : Held) → IsSound d h → (a : Access) → IsAccess h.channels a → (n : ℕ)
+    → a.ordinal ≡ suc n
     → as_known (when_possible h.lanes h.channels a) ≡ known d (view d (core_of d h)) (side_of a.kind) a.channel n
 side_known {S} d i h y a g n e =
     let channel = channel_at h.channels a.channel in
     ap as_known (by_side h.lanes h.channels a (suc n) e
-    ∙ ap (λ (l : ℕ). known_by h.lanes l (enabler_by channel.kind (side_of a.kind) channel (suc n))) (sym (y.lags (side_of a.kind) a.channel g.channel)))
-    ∙ kind_known d i h (core_of d h) (λ m. refl) (λ m k q. refl) (timed_within d h y) channel.kind (side_of a.kind) a.channel n channel (y.kinds a.channel g.channel) g.side
+    ∙ ap (λ (l : ℕ). known_by h.lanes l (enabler_by channel.kind (side_of a.kind) channel (suc n)))
+    (sym (y.lags (side_of a.kind) a.channel g.channel)))
+    ∙ kind_known d i h (core_of d h) (λ m. refl) (λ m k q. refl) (timed_within d h y) channel.kind (side_of a.kind) a.channel n channel
+    (y.kinds a.channel g.channel) g.side
     (y.taken (other_side (side_of a.kind)) a.channel g.channel)
 
 -- what the code knows of each of them is what the theory knows
-pub access_known : {S : Type 0} → (d : Design S) → IsDesign d → (h : Held) → IsSound d h → (m : ℕ) → length (lane_at h.lanes m).cycles < emitted_of h m
-    → All (λ (a : Access). as_known (when_possible h.lanes h.channels a) ≡ known_of d (view d (core_of d h)) m (seen a)) (step_of h m (length (lane_at h.lanes m).cycles)).accesses
+pub access_known : {S : Type 0} → (d : Design S) → IsDesign d → (h : Held) → IsSound d h → (m : ℕ)
+    → length (lane_at h.lanes m).cycles < emitted_of h m
+    → All (λ (a : Access). as_known (when_possible h.lanes h.channels a) ≡ known_of d (view d (core_of d h)) m (seen a))
+    (step_of h m (length (lane_at h.lanes m).cycles)).accesses
 access_known {S} d i h y m less = λ j e l.
     let x = core_of d h in
     let k = length (lane_at h.lanes m).cycles in

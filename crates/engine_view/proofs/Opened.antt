@@ -1,5 +1,6 @@
 -- What is held at first is the theory's opening core.
-use Rattle.std.proofs.Common.{◌≡◌, refl, sym, ap, subst, ◌∙◌, ℕ, zero, suc, false, ltb, List, [], ◌++◌, length, get_or, replicate, arith, inl, inr, append-nil}
+use Rattle.std.proofs.Common.{◌≡◌, refl, sym, ap, subst, ◌∙◌, ℕ, zero, suc, false, ltb, List, [], ◌++◌, length, get_or, replicate, arith}
+use Rattle.std.proofs.Common.{inl, inr, append-nil}
 use Rattle.std.specs.Prelude.{All}
 use Rattle.std.proofs.lemmas.Bool.{cases_lt, and_left, le-ltb}
 use Rattle.std.proofs.lemmas.List.{get_or_past, get_or-map, length-map, length-replicate}
@@ -62,7 +63,8 @@ module _ {S : Type 0} (d : Design S) (n : ℕ) (kinds : List TableChannel) (modu
   channel_is c =
       elim (cases_lt c (length kinds)) [
         | inl l ↦ get_or-map unused kinds c Sink (unused Sink) l
-        | inr l ↦ get_or_past h.channels c (unused Sink) (let e = length-map kinds unused in omega arith) ∙ ap unused (sym (get_or_past kinds c Sink l))
+        | inr l ↦ get_or_past h.channels c (unused Sink) (let e = length-map kinds unused in omega arith)
+            ∙ ap unused (sym (get_or_past kinds c Sink l))
       ]
 
   none_taken : (side : Side) (c : ℕ) (places : List Place) → places ≡ [] → AreTaken d x side c places
@@ -89,16 +91,21 @@ module _ {S : Type 0} (d : Design S) (n : ℕ) (kinds : List TableChannel) (modu
     overs = length-replicate n false ∙ modules;
     sound_lanes = All-replicate IsSoundLane n no_lane sound_none;
     sound_logs = All-replicate IsSoundLog n no_log (omega arith);
-    inside = All-replicate (λ (lane : Lane). All (λ step. All (IsAccess h.channels) step.accesses) lane.steps) n no_lane (λ k e l. absurd (omega arith));
+    inside = All-replicate (λ (lane : Lane). All (λ step. All (IsAccess h.channels) step.accesses) lane.steps) n no_lane
+        (λ k e l. absurd (omega arith));
     places = places_from d h x none_emitted (λ side c l. none_taken side c _ (no_places side c));
     accesses = λ m k l. absurd (omega arith);
     ordinals = λ m k l. absurd (omega arith);
     first_query = λ m k l. absurd (omega arith);
-    kinds = λ c l. let e = length-map kinds unused in subst (IsKind d c) (sym (ap (λ (q : Channel). q.kind) (channel_is c))) (fit.each c (omega arith));
-    lags = λ side c l. let e = length-map kinds unused in subst (λ (q : TableChannel). d.lag side c ≡ lag_of q side) (sym (ap (λ (q : Channel). q.kind) (channel_is c))) (fit.lags side c (omega arith));
+    kinds = λ c l. let e = length-map kinds unused in subst (IsKind d c) (sym (ap (λ (q : Channel). q.kind) (channel_is c)))
+        (fit.each c (omega arith));
+    lags = λ side c l. let e = length-map kinds unused in subst (λ (q : TableChannel). d.lag side c ≡ lag_of q side)
+        (sym (ap (λ (q : Channel). q.kind) (channel_is c))) (fit.lags side c (omega arith));
     taken = λ side c l. none_taken side c _ (no_places side c);
     values = λ c l. let e = length-map kinds unused in
-        ap (λ (q : Channel). values_of q.kind q.pushes) (channel_is c) ∙ (fit.values c (omega arith) ∙ (sym (append-nil (d.inputs c)) ∙ ap (λ (vs : List ℕ). d.inputs c ++ vs) (sym (pushed_in_0 c _ _))));
+        ap (λ (q : Channel). values_of q.kind q.pushes) (channel_is c)
+        ∙ (fit.values c (omega arith)
+        ∙ (sym (append-nil (d.inputs c)) ∙ ap (λ (vs : List ℕ). d.inputs c ++ vs) (sym (pushed_in_0 c _ _))));
     recorded = λ m l. whole m _ (ap (λ (q : Log). length q.outcomes) (log_is m));
     verified = λ m l. whole m _ (ap (λ (q : Log). q.verified) (log_is m));
   }

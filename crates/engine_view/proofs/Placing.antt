@@ -19,12 +19,14 @@ place_has lanes p l = record {
   owner =
       elim (cases_lt p.module (length lanes)) [
         | inl inside ↦ inside
-        | inr past ↦ let none : length (lane_at lanes p.module).steps ≡ 0 = rw (get_or_past lanes p.module no_lane past) refl in absurd (omega arith)
+        | inr past ↦ let none : length (lane_at lanes p.module).steps ≡ 0 = rw (get_or_past lanes p.module no_lane past) refl in
+            absurd (omega arith)
       ];
   step = l;
 }
 
-taken_has : {S : Type 0} → (d : Design S) (g : Held) (z : Core S) → ((n : ℕ) → emitted_of g n ≡ z.emitted n) → (side : Side) (c : ℕ) (places : List Place) → AreTaken d z side c places
+taken_has : {S : Type 0} → (d : Design S) (g : Held) (z : Core S) → ((n : ℕ) → emitted_of g n ≡ z.emitted n)
+    → (side : Side) (c : ℕ) (places : List Place) → AreTaken d z side c places
     → (j : ℕ) (y : Place) → j < length places → HasStep g.lanes (get_or places j y)
 taken_has {S} d g z e side c places t j y l =
     let a = t.each j y l in
@@ -33,17 +35,21 @@ taken_has {S} d g z e side c places t j y l =
     place_has g.lanes (get_or places j y) (subst (λ (v : ℕ). (get_or places j y).step < emitted_of g v) (sym a.owner) (omega arith))
 
 pub places_from : {S : Type 0} → (d : Design S) (g : Held) (z : Core S) → ((n : ℕ) → emitted_of g n ≡ z.emitted n)
-    → ((side : Side) (c : ℕ) → c < length g.channels → AreTaken d z side c (places_of side (channel_at g.channels c))) → HasPlaces g.lanes g.channels
+    → ((side : Side) (c : ℕ) → c < length g.channels → AreTaken d z side c (places_of side (channel_at g.channels c)))
+    → HasPlaces g.lanes g.channels
 places_from {S} d g z e taken = record {
   each = λ c y l side. subst (λ (q : Channel). All (HasStep g.lanes) (places_of side q)) (get_or_default g.channels c (unused Sink) y l)
       (λ j p r. taken_has d g z e side c (places_of side (channel_at g.channels c)) (taken side c l) j p r);
 }
 
 -- where as many are taken in the same steps, their places stay
-pub taken_stays : {S : Type 0} → (d : Design S) (x z : Core S) → ((w : ℕ) (side : Side) (c k : ℕ) → core_tally d z w side c k ≡ core_tally d x w side c k)
-    → ((w : ℕ) → z.emitted w ≡ x.emitted w) → (side : Side) (c : ℕ) (places : List Place) → AreTaken d x side c places → AreTaken d z side c places
+pub taken_stays : {S : Type 0} → (d : Design S) (x z : Core S)
+    → ((w : ℕ) (side : Side) (c k : ℕ) → core_tally d z w side c k ≡ core_tally d x w side c k)
+    → ((w : ℕ) → z.emitted w ≡ x.emitted w) → (side : Side) (c : ℕ) (places : List Place) → AreTaken d x side c places
+    → AreTaken d z side c places
 taken_stays {S} d x z same still side c places t = record {
-  count = t.count ∙ sym (ap (core_tally d z (d.owner side c) side c) (still (d.owner side c)) ∙ same (d.owner side c) side c (x.emitted (d.owner side c)));
+  count = t.count ∙ sym (ap (core_tally d z (d.owner side c) side c) (still (d.owner side c))
+      ∙ same (d.owner side c) side c (x.emitted (d.owner side c)));
   each = λ j y l. let a = t.each j y l in let here = get_or places j y in record {
     owner = a.owner;
     emitted = let e = still (d.owner side c) in let f = a.emitted in omega arith;

@@ -1,5 +1,6 @@
 -- A core that is shown by what is held, and whose marks are those of its modules' own runs, is the one that is read off.
-use Rattle.std.proofs.Common.{◌≡◌, refl, sym, ap, ap₂, ◌∙◌, ℕ, zero, suc, ◌-◌, ◌<◌, ◌≤◌, Bool, false, cond, ◌&&◌, List, [], ◌∷◌, length, map, get_or, arith, inl, inr}
+use Rattle.std.proofs.Common.{◌≡◌, refl, sym, ap, ap₂, ◌∙◌, ℕ, zero, suc, ◌-◌, ◌<◌, ◌≤◌, Bool, false, cond, ◌&&◌, List, [], ◌∷◌, length}
+use Rattle.std.proofs.Common.{map, get_or, arith, inl, inr}
 use Rattle.std.specs.Prelude.{All}
 use Rattle.std.proofs.lemmas.Bool.{cases_lt, cases_Bool, and_parts, lt-ltb, le-ltb}
 use Rattle.std.proofs.lemmas.List.Elements.{All-head, All-tail}
@@ -29,35 +30,44 @@ front_is : (a : Access) (b : Bool) (t n : ℕ) (xs ys : List ℕ) → (side_of a
 front_is a b t n xs ys o e =
     elim (cases_Bool (pops_now (seen a) b)) [
       | inl y ↦
-          let p = (and_parts (same_side (side_of a.kind) Pop) b (and_parts (is_taking a.kind) (same_side (side_of a.kind) Pop && b) y).1).0 in
+          let p = (and_parts (same_side (side_of a.kind) Pop) b (and_parts (is_taking a.kind) (same_side (side_of a.kind) Pop && b)
+          y).1).0 in
           let z : n - 1 ≡ t = omega (arith, o (same_side_is (side_of a.kind) Pop p)) in
           rw (y, e, z) refl
       | inr y ↦ rw y refl
     ]
 
-replies_are : (channels : List Channel) (V : ℕ → List ℕ) (t : Side → ℕ → ℕ) (xs : List Access) (bs : List Bool) → All (λ (a : Access). a.ordinal ≡ suc (t (side_of a.kind) a.channel)) xs
-    → All (λ (a : Access). values_at channels a.channel ≡ V a.channel) xs → replies_by channels xs bs ≡ replies_of V (t Pop) (map seen xs) bs
+replies_are : (channels : List Channel) (V : ℕ → List ℕ) (t : Side → ℕ → ℕ) (xs : List Access) (bs : List Bool)
+    → All (λ (a : Access). a.ordinal ≡ suc (t (side_of a.kind) a.channel)) xs
+    → All (λ (a : Access). values_at channels a.channel ≡ V a.channel) xs
+    → replies_by channels xs bs ≡ replies_of V (t Pop) (map seen xs) bs
 replies_are channels V t [] bs o v = refl
 replies_are channels V t (a ∷ xs) [] o v = refl
 replies_are channels V t (a ∷ xs) (b ∷ bs) o v =
     let here = All-head (λ (a : Access). a.ordinal ≡ suc (t (side_of a.kind) a.channel)) a xs o in
     ap₂ (λ (f : ℕ) (rs : List Reply). record { possible = b; front = f } ∷ rs)
-    (front_is a b (t Pop a.channel) a.ordinal _ _ (λ p. here ∙ ap (λ (c : Side). suc (t c a.channel)) p) (All-head (λ (a : Access). values_at channels a.channel ≡ V a.channel) a xs v))
-    (replies_are channels V t xs bs (All-tail (λ (a : Access). a.ordinal ≡ suc (t (side_of a.kind) a.channel)) a xs o) (All-tail (λ (a : Access). values_at channels a.channel ≡ V a.channel) a xs v))
+    (front_is a b (t Pop a.channel) a.ordinal _ _ (λ p. here ∙ ap (λ (c : Side). suc (t c a.channel)) p)
+    (All-head (λ (a : Access). values_at channels a.channel ≡ V a.channel) a xs v))
+    (replies_are channels V t xs bs (All-tail (λ (a : Access). a.ordinal ≡ suc (t (side_of a.kind) a.channel)) a xs o)
+    (All-tail (λ (a : Access). values_at channels a.channel ≡ V a.channel) a xs v))
 
 -- the replies that are read off are the core's
-pub reply_is : {S : Type 0} → (d : Design S) (h : Held) (x : Core S) → Shows d h x → ((m : ℕ) → emitted_of h m ≡ x.emitted m) → (m k : ℕ) → k < x.emitted m → flags_of h m k ≡ x.flags m k
+pub reply_is : {S : Type 0} → (d : Design S) (h : Held) (x : Core S) → Shows d h x → ((m : ℕ) → emitted_of h m ≡ x.emitted m) → (m k : ℕ)
+    → k < x.emitted m → flags_of h m k ≡ x.flags m k
     → replies_at h m k ≡ core_reply d x m k
 reply_is {S} d h x s n m k l f =
     let inside = shown_inside d h x s m k (omega (arith, n m)) in
     ap (replies_by h.channels (step_of h m k).accesses) f
-    ∙ (replies_are h.channels (core_values d x) (λ side ch. core_tally d x m side ch k) (step_of h m k).accesses (x.flags m k) (s.ordinals m k l) (λ j e q. s.values _ (inside j e q).channel)
-    ∙ ap (λ (xs : List theory.Access). replies_of (core_values d x) (λ ch. core_tally d x m Pop ch k) xs (x.flags m k)) (sym (s.accesses m k l)))
+    ∙ (replies_are h.channels (core_values d x) (λ side ch. core_tally d x m side ch k) (step_of h m k).accesses (x.flags m k)
+    (s.ordinals m k l) (λ j e q. s.values _ (inside j e q).channel)
+    ∙ ap (λ (xs : List theory.Access). replies_of (core_values d x) (λ ch. core_tally d x m Pop ch k) xs (x.flags m k))
+    (sym (s.accesses m k l)))
 
 own_same : {S : Type 0} → (d : Design S) (m n : ℕ) (r q : ℕ → List Reply) → ((k : ℕ) → k < n → r k ≡ q k) → own d m r n ≡ own d m q n
 own_same {S} d m zero r q e = own_0 d m r ∙ sym (own_0 d m q)
 own_same {S} d m (suc n) r q e =
-    own_more d m r n ∙ (ap₂ (λ (s : S) (rs : List Reply). d.move m (ready d m s) rs) (own_same d m n r q (λ k l. e k (omega arith))) (e n (omega arith)) ∙ sym (own_more d m q n))
+    own_more d m r n ∙ (ap₂ (λ (s : S) (rs : List Reply). d.move m (ready d m s) rs) (own_same d m n r q (λ k l. e k (omega arith)))
+    (e n (omega arith)) ∙ sym (own_more d m q n))
 
 -- ---- the core
 
@@ -91,11 +101,13 @@ read_back {S} d h x b s r =
     state m k =
         elim (cases_lt k (x.emitted m)) [
           | inl l ↦
-              let same = own_same d m k (replies_at h m) (core_reply d x m) (λ j q. reply_is d h x s r.emitted m j (omega arith) (r.flags m j)) in
+              let same = own_same d m k (replies_at h m) (core_reply d x m) (λ j q. reply_is d h x s r.emitted m j (omega arith)
+              (r.flags m j)) in
               rw (r.emitted m, lt-ltb k (x.emitted m) l) (ap (ready d m) same ∙ sym (b.own_step m k l))
           | inr l ↦ rw (r.emitted m, le-ltb k (x.emitted m) l) (r.past m k l)
         ]
 
 -- and so what is held is sound
-pub read_sound : {S : Type 0} → (d : Design S) (h : Held) (x : Core S) → AreOwnMarks d x → Shows d h x → IsRead d h x → (core_of d h ≡ x) × IsSound d h
+pub read_sound : {S : Type 0} → (d : Design S) (h : Held) (x : Core S) → AreOwnMarks d x → Shows d h x → IsRead d h x
+    → (core_of d h ≡ x) × IsSound d h
 read_sound {S} d h x b s r = let e = read_back d h x b s r in (e, rw e s)

@@ -22,15 +22,19 @@ pub record ReservesOn (ports : List Port) (old now : RoomedChannels) (index : �
 pub reserves_init : (ports : List Port) (old : RoomedChannels) → ReservesOn ports old old 0
 reserves_init ports old = record { channels = refl; kept = λ side c. omega arith; room = λ k d l. absurd (omega arith) }
 
-pub reserves_more : (ports : List Port) (old now next : RoomedChannels) (index : ℕ) (d : Port) → ReservesOn ports old now index → index < length ports
-    → next.channels ≡ now.channels → ((side : Side) (c : ℕ) → room_of now side c ≤ room_of next side c) → IsRoomyPort next (get_or ports index d)
+pub reserves_more : (ports : List Port) (old now next : RoomedChannels) (index : ℕ) (d : Port) → ReservesOn ports old now index
+    → index < length ports
+    → next.channels ≡ now.channels → ((side : Side) (c : ℕ) → room_of now side c ≤ room_of next side c)
+    → IsRoomyPort next (get_or ports index d)
     → ReservesOn ports old next (index + 1)
 reserves_more ports old now next index d r inside same kept here = record {
   channels = same ∙ r.channels;
   kept = λ side c. let a = r.kept side c in let b = kept side c in omega arith;
   room = rw (take_more ports index d inside) (All-push (IsRoomyPort next) (take index ports) (get_or ports index d)
-      (All-weaker (IsRoomyPort now) (IsRoomyPort next) (λ port a. let b = kept port.side port.channel in omega arith) (take index ports) r.room) here);
+      (All-weaker (IsRoomyPort now) (IsRoomyPort next) (λ port a. let b = kept port.side port.channel in omega arith) (take index ports)
+      r.room) here);
 }
 
-pub reserves_all : (ports : List Port) (old now : RoomedChannels) (index : ℕ) → ReservesOn ports old now index → length ports ≤ index → All (IsRoomyPort now) ports
+pub reserves_all : (ports : List Port) (old now : RoomedChannels) (index : ℕ) → ReservesOn ports old now index → length ports ≤ index
+    → All (IsRoomyPort now) ports
 reserves_all ports old now index r all = let room = r.room in rw (take_all index ports all) at room

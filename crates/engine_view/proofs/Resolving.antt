@@ -1,5 +1,6 @@
 -- An Answer with no recorded outcomes: what the code needs, and what it leaves.
-use Rattle.std.proofs.Common.{◌≡◌, refl, sym, ap, subst, ◌∙◌, ℕ, suc, ◌+◌, ◌-◌, ◌<◌, ◌≤◌, inl, inr, Bool, true, cond, List, length, drop, get_or, map, arith, eqb, ◌||◌, ap₂}
+use Rattle.std.proofs.Common.{◌≡◌, refl, sym, ap, subst, ◌∙◌, ℕ, suc, ◌+◌, ◌-◌, ◌<◌, ◌≤◌, inl, inr, Bool, true, cond, List, length, drop}
+use Rattle.std.proofs.Common.{get_or, map, arith, eqb, ◌||◌, ap₂}
 use Rattle.std.specs.Prelude.{All, slice_get, Some}
 use Rattle.std.proofs.lemmas.Bool.{or_right, ne_eqb}
 use Rattle.std.proofs.lemmas.Bool.Decides.{eqb_tells}
@@ -17,17 +18,19 @@ use Rattle.event_timing.specs.Machines.{Design, IsDesign, Each, takers}
 use Rattle.event_timing.specs.Core.{Core}
 use Rattle.event_timing.specs.Actions.{after_answer, new_flags}
 use Rattle.event_timing.proofs.Assigning.{put_at_same, put_at_other}
-use Rattle.engine_view.specs.Held.{Held, step_of, no_step, emitted_of, seen, queries_in, core_of}
+use Rattle.engine_view.specs.Held.{Held, held, step_of, no_step, emitted_of, seen, queries_in, core_of}
 use Rattle.engine_view.specs.Shown.{IsSound, queries_before}
 use Rattle.engine_view.specs.Known.{found_flags}
 use Rattle.engine_view.specs.Emitted.{place_of}
 use Rattle.engine_view.specs.Taking.{taken_all}
 use Rattle.engine_view.specs.Answered.{outcomes_of, done_late, with_answered}
 use Rattle.engine_view.specs.Rooms.{query_bound, room_of, TakesAt, AreApart, HasRoomFor, done_by, pending, HasRoom}
+use Rattle.engine_view.specs.Turns.{first_of}
 use Rattle.engine_view.proofs.Unsure.{IsFresh}
 use Rattle.engine_view.proofs.Taking.{all_length}
 use Rattle.engine_view.proofs.Deciding.{flags_are}
-use Rattle.engine_view.proofs.Answered.{queries_step, answered_core, last, verified_least, recorded_most, new_length, same_queries, flags_here, log_now, log_else}
+use Rattle.engine_view.proofs.Answered.{queries_step, answered_core, last, verified_least, recorded_most, new_length, same_queries}
+use Rattle.engine_view.proofs.Answered.{flags_here, log_now, log_else}
 use Rattle.engine_view.proofs.Adding.{done_later}
 use Rattle.engine_view.proofs.Roomy.{apart_of, room_for, free_side, pending_same}
 
@@ -45,7 +48,8 @@ module _ {S : Type 0} (d : Design S) (h : Held) (m c : ℕ) (f : IsFresh d h m) 
   g = with_answered h m k₀ (new_flags d x m c)
 
   newest : suc k₀ ≡ emitted_of h m
-  newest = last d f.unsure.design h m c f.unsure.inside f.unsure.kept.sound f.unsure.kept.marks f.unsure.less f.fresh (f.unsure.kept.earlier m)
+  newest = last d f.unsure.design h m c f.unsure.inside f.unsure.kept.sound f.unsure.kept.marks f.unsure.less f.fresh
+      (f.unsure.kept.earlier m)
 
   m_logs : m < length h.logs
   m_logs = let a = f.unsure.kept.sound.logs in let b = f.unsure.kept.sound.lanes in let l = f.unsure.inside in omega arith
@@ -58,22 +62,27 @@ module _ {S : Type 0} (d : Design S) (h : Held) (m c : ℕ) (f : IsFresh d h m) 
 
   pub fresh_verified : (log_at h.logs m).verified ≡ length (log_at h.logs m).outcomes
   fresh_verified =
-      let a = verified_least d f.unsure.design h m c f.unsure.inside f.unsure.kept.sound f.unsure.kept.marks f.unsure.less f.fresh (f.unsure.kept.earlier m) in
-      let b = recorded_most d f.unsure.design h m c f.unsure.inside f.unsure.kept.sound f.unsure.kept.marks f.unsure.less f.fresh (f.unsure.kept.earlier m) in
+      let a = verified_least d f.unsure.design h m c f.unsure.inside f.unsure.kept.sound f.unsure.kept.marks f.unsure.less f.fresh
+      (f.unsure.kept.earlier m) in
+      let b = recorded_most d f.unsure.design h m c f.unsure.inside f.unsure.kept.sound f.unsure.kept.marks f.unsure.less f.fresh
+      (f.unsure.kept.earlier m) in
       let l = f.unsure.kept.sound.sound_logs m no_log m_logs in
       omega arith
 
   owned : Each (λ a. d.owner a.side a.channel ≡ m) (map seen t.accesses)
-  owned = subst (Each (λ a. d.owner a.side a.channel ≡ m)) (f.unsure.kept.sound.accesses m k₀ f.unsure.less) (f.unsure.design.owned m (x.state m k₀))
+  owned = subst (Each (λ a. d.owner a.side a.channel ≡ m)) (f.unsure.kept.sound.accesses m k₀ f.unsure.less)
+      (f.unsure.design.owned m (x.state m k₀))
 
   pub fresh_apart : AreApart t.accesses
-  fresh_apart = apart_of t.accesses (λ side ch. subst (λ (xs : List theory.Access). takers side ch xs ≤ 1) (f.unsure.kept.sound.accesses m k₀ f.unsure.less) (f.unsure.design.single side m (x.state m k₀) ch))
+  fresh_apart = apart_of t.accesses (λ side ch. subst (λ (xs : List theory.Access). takers side ch xs ≤ 1)
+      (f.unsure.kept.sound.accesses m k₀ f.unsure.less) (f.unsure.design.single side m (x.state m k₀) ch))
 
   waits_one : pending x m ≡ 1
   unfolding pending
   waits_one =
       let same : emitted_of h m - 1 ≡ k₀ = let n = newest in omega arith in
-      ap (λ (b : Bool). cond b 0 1) (ap₂ (λ (a b : Bool). a || b) (ne_eqb (emitted_of h m) 0 (λ e. let n = newest in omega arith)) (ap (x.answered m) same ∙ f.fresh))
+      ap (λ (b : Bool). cond b 0 1) (ap₂ (λ (a b : Bool). a || b) (ne_eqb (emitted_of h m) 0 (λ e. let n = newest in omega arith))
+      (ap (x.answered m) same ∙ f.fresh))
 
   module _ (lanes : List ℕ) (table : RoomedChannels) (logs credits : List ℕ) (r : HasRoom d h lanes table logs credits) where
     pub fresh_room : HasRoomFor table t.accesses
@@ -85,7 +94,8 @@ module _ {S : Type 0} (d : Design S) (h : Held) (m c : ℕ) (f : IsFresh d h m) 
     pub fresh_log_room : queries_in t.accesses ≤ get_or logs m 0
     fresh_log_room =
         let a = r.outcomes m in
-        let b = recorded_most d f.unsure.design h m c f.unsure.inside f.unsure.kept.sound f.unsure.kept.marks f.unsure.less f.fresh (f.unsure.kept.earlier m) in
+        let b = recorded_most d f.unsure.design h m c f.unsure.inside f.unsure.kept.sound f.unsure.kept.marks f.unsure.less f.fresh
+        (f.unsure.kept.earlier m) in
         let q = queries_are in
         omega arith
 
@@ -94,53 +104,68 @@ module _ {S : Type 0} (d : Design S) (h : Held) (m c : ℕ) (f : IsFresh d h m) 
 
   -- what is left behind
   pub fresh_core : (core_of d g ≡ after_answer d x m c) × IsSound d g
-  fresh_core = answered_core d f.unsure.design h m c f.unsure.inside f.unsure.kept.sound f.unsure.kept.marks f.unsure.less f.fresh (f.unsure.kept.earlier m)
+  fresh_core = answered_core d f.unsure.design h m c f.unsure.inside f.unsure.kept.sound f.unsure.kept.marks f.unsure.less f.fresh
+      (f.unsure.kept.earlier m)
 
   pub fresh_logs : with_outcomes h.logs m (outcomes_of t.accesses (found_flags h.lanes h.channels c t.accesses)) ≡ g.logs
-  fresh_logs = ap (λ (bs : List Bool). with_outcomes h.logs m (outcomes_of t.accesses bs)) (sym (flags_are d f.unsure.design h f.unsure.kept.sound m c f.unsure.less))
+  fresh_logs = ap (λ (bs : List Bool). with_outcomes h.logs m (outcomes_of t.accesses bs))
+      (sym (flags_are d f.unsure.design h f.unsure.kept.sound m c f.unsure.less))
 
-  pub fresh_channels : taken_all (place_of m k₀) h.channels t.accesses (done_by true t.accesses (drop t.first_query (log_at g.logs m).outcomes)) ≡ g.channels
+  pub fresh_channels : taken_all (place_of m k₀) h.channels t.accesses
+      (done_by true t.accesses (drop t.first_query (log_at g.logs m).outcomes)) ≡ g.channels
   fresh_channels =
       ap (taken_all (place_of m k₀) h.channels t.accesses)
-      (done_later t.accesses (drop t.first_query (log_at g.logs m).outcomes) ∙ ap (done_late t.accesses) (flags_here d f.unsure.design h m c f.unsure.inside f.unsure.kept.sound f.unsure.kept.marks f.unsure.less f.fresh (f.unsure.kept.earlier m)))
+      (done_later t.accesses (drop t.first_query (log_at g.logs m).outcomes)
+      ∙ ap (done_late t.accesses) (flags_here d f.unsure.design h m c f.unsure.inside f.unsure.kept.sound f.unsure.kept.marks f.unsure.less
+      f.fresh (f.unsure.kept.earlier m)))
 
   waits_none : pending (core_of d g) m ≡ 0
   unfolding pending
   waits_none =
       let same : emitted_of h m - 1 ≡ k₀ = let n = newest in omega arith in
-      ap (λ (b : Bool). cond b 0 1) (or_right (eqb (emitted_of h m) 0) _ (ap (λ (y : Core S). y.answered m (emitted_of h m - 1)) fresh_core.0 ∙ (ap (λ (k : ℕ). (after_answer d x m c).answered m k) same ∙ put_at_same x.answered m k₀ true)))
+      ap (λ (b : Bool). cond b 0 1) (or_right (eqb (emitted_of h m) 0) _ (ap (λ (y : Core S). y.answered m (emitted_of h m - 1))
+      fresh_core.0 ∙ (ap (λ (k : ℕ). (after_answer d x m c).answered m k) same ∙ put_at_same x.answered m k₀ true)))
 
   pub room_answered : (lanes : List ℕ) (table table' : RoomedChannels) (logs logs' credits : List ℕ) → HasRoom d h lanes table logs credits
       → ((side : Side) (ch : ℕ) → room_of table side ch ≤ room_of table' side ch + 1)
       → ((side : Side) (ch : ℕ) → All (λ (a : Access). TakesAt side ch a → ⊥) t.accesses → room_of table side ch ≤ room_of table' side ch)
       → ((n : ℕ) → (n ≡ m → ⊥) → get_or logs n 0 ≤ get_or logs' n 0) → HasRoom d g lanes table' logs' credits
   room_answered lanes table table' logs logs' credits r one others other_logs = record {
-    ends = λ side ch l. let e = all_length (place_of m k₀) h.channels t.accesses (done_late t.accesses (new_flags d x m c)) in ends_now side ch (r.ends side ch (omega arith));
+    ends = λ side ch l. let e = all_length (place_of m k₀) h.channels t.accesses (done_late t.accesses (new_flags d x m c)) in
+        ends_now side ch (r.ends side ch (omega arith));
     steps = r.steps;
     outcomes = λ n.
         elim (eqb_tells n m) [
-          | inl e ↦ subst (λ (k : ℕ). queries_before g k (emitted_of h k) ≤ get_or logs' k 0 + length (log_at g.logs k).outcomes) (sym e.1) all_new
+          | inl e ↦ subst (λ (k : ℕ). queries_before g k (emitted_of h k) ≤ get_or logs' k 0 + length (log_at g.logs k).outcomes) (sym e.1)
+              all_new
           | inr e ↦
               let a = r.outcomes n in
               let b = other_logs n e.1 in
-              let q = same_queries d f.unsure.design h m c f.unsure.inside f.unsure.kept.sound f.unsure.kept.marks f.unsure.less f.fresh (f.unsure.kept.earlier m) n (emitted_of h n) in
+              let q = same_queries d f.unsure.design h m c f.unsure.inside f.unsure.kept.sound f.unsure.kept.marks f.unsure.less f.fresh
+              (f.unsure.kept.earlier m) n (emitted_of h n) in
               let o : length (log_at g.logs n).outcomes ≡ length (log_at h.logs n).outcomes =
-              ap (λ (log : Log). length log.outcomes) (log_else d f.unsure.design h m c f.unsure.inside f.unsure.kept.sound f.unsure.kept.marks f.unsure.less f.fresh (f.unsure.kept.earlier m) n e.1) in
+              ap (λ (log : Log). length log.outcomes) (log_else d f.unsure.design h m c f.unsure.inside f.unsure.kept.sound
+              f.unsure.kept.marks f.unsure.less f.fresh (f.unsure.kept.earlier m) n e.1) in
               omega arith
         ];
-    few = λ n. let a = r.few n in let q = same_queries d f.unsure.design h m c f.unsure.inside f.unsure.kept.sound f.unsure.kept.marks f.unsure.less f.fresh (f.unsure.kept.earlier m) n (emitted_of h n) in omega arith;
+    few = λ n. let a = r.few n in let q = same_queries d f.unsure.design h m c f.unsure.inside f.unsure.kept.sound f.unsure.kept.marks
+        f.unsure.less f.fresh (f.unsure.kept.earlier m) n (emitted_of h n) in omega arith;
   }
     where
       all_new : queries_before g m (emitted_of h m) ≤ get_or logs' m 0 + length (log_at g.logs m).outcomes
       all_new =
-          let q = same_queries d f.unsure.design h m c f.unsure.inside f.unsure.kept.sound f.unsure.kept.marks f.unsure.less f.fresh (f.unsure.kept.earlier m) m (emitted_of h m) in
+          let q = same_queries d f.unsure.design h m c f.unsure.inside f.unsure.kept.sound f.unsure.kept.marks f.unsure.less f.fresh
+          (f.unsure.kept.earlier m) m (emitted_of h m) in
           let n : queries_before h m (emitted_of h m) ≡ queries_before h m (suc k₀) = ap (queries_before h m) (sym newest) in
           let o : length (log_at g.logs m).outcomes ≡ queries_before h m (suc k₀) =
-          ap (λ (log : Log). length log.outcomes) (log_now d f.unsure.design h m c f.unsure.inside f.unsure.kept.sound f.unsure.kept.marks f.unsure.less f.fresh (f.unsure.kept.earlier m)) ∙ new_length d f.unsure.design h m c f.unsure.inside f.unsure.kept.sound f.unsure.kept.marks f.unsure.less f.fresh (f.unsure.kept.earlier m) in
+          ap (λ (log : Log). length log.outcomes) (log_now d f.unsure.design h m c f.unsure.inside f.unsure.kept.sound f.unsure.kept.marks
+          f.unsure.less f.fresh (f.unsure.kept.earlier m)) ∙ new_length d f.unsure.design h m c f.unsure.inside f.unsure.kept.sound
+          f.unsure.kept.marks f.unsure.less f.fresh (f.unsure.kept.earlier m) in
           omega arith
 
       pending_other : (n : ℕ) → (n ≡ m → ⊥) → pending (core_of d g) n ≡ pending x n
-      pending_other n e = pending_same (core_of d g) x n refl (λ k. ap (λ (y : Core S). y.answered n k) fresh_core.0 ∙ put_at_other x.answered m k₀ true n k (λ p q. e p))
+      pending_other n e = pending_same (core_of d g) x n refl (λ k. ap (λ (y : Core S). y.answered n k) fresh_core.0
+          ∙ put_at_other x.answered m k₀ true n k (λ p q. e p))
 
       ends_now : (side : Side) (ch : ℕ) → get_or credits (d.owner side ch) 0 + pending x (d.owner side ch) ≤ room_of table side ch
           → get_or credits (d.owner side ch) 0 + pending (core_of d g) (d.owner side ch) ≤ room_of table' side ch
@@ -157,18 +182,38 @@ module _ {S : Type 0} (d : Design S) (h : Held) (m c : ℕ) (f : IsFresh d h m) 
                 omega arith
           ]
 
-pub first_is : (h : Held) (m n : ℕ) (step : Step) → n ≡ length (lane_at h.lanes m).cycles → slice_get (lane_at h.lanes m).steps n ≡ Some step → step_of h m (length (lane_at h.lanes m).cycles) ≡ step
-first_is h m n step e there = get_or_from_slice_get (lane_at h.lanes m).steps (length (lane_at h.lanes m).cycles) step no_step (subst (λ (k : ℕ). slice_get (lane_at h.lanes m).steps k ≡ Some step) e there)
+pub first_is : (h : Held) (m n : ℕ) (step : Step) → n ≡ length (lane_at h.lanes m).cycles
+    → slice_get (lane_at h.lanes m).steps n ≡ Some step → step_of h m (length (lane_at h.lanes m).cycles) ≡ step
+first_is h m n step e there = get_or_from_slice_get (lane_at h.lanes m).steps (length (lane_at h.lanes m).cycles) step no_step
+    (subst (λ (k : ℕ). slice_get (lane_at h.lanes m).steps k ≡ Some step) e there)
 
-pub channels_from : {S : Type 0} → (d : Design S) (h : Held) (m c : ℕ) (f : IsFresh d h m) (n : ℕ) (step : Step) (xs : List Access) (logs : List Log) (channels : List Channel)
+channels_from : {S : Type 0} → (d : Design S) (h : Held) (m c : ℕ) (f : IsFresh d h m) (n : ℕ) (step : Step) (xs : List Access)
+    (logs : List Log) (channels : List Channel)
     → n ≡ length (lane_at h.lanes m).cycles → step_of h m (length (lane_at h.lanes m).cycles) ≡ step → xs ≡ step.accesses
     → logs ≡ (with_answered h m (length (lane_at h.lanes m).cycles) (new_flags d (core_of d h) m c)).logs
     → channels ≡ taken_all (place_of m n) h.channels xs (done_by true xs (drop step.first_query (log_at logs m).outcomes))
     → channels ≡ (with_answered h m (length (lane_at h.lanes m).cycles) (new_flags d (core_of d h) m c)).channels
 channels_from {S} d h m c f n step xs logs channels en es ea el e =
     let k = length (lane_at h.lanes m).cycles in
-    let F : ℕ → List Access → ℕ → List Log → List Channel = λ n as' q ls. taken_all (place_of m n) h.channels as' (done_by true as' (drop q (log_at ls m).outcomes)) in
+    let F : ℕ → List Access → ℕ → List Log
+    → List Channel = λ n as' q ls. taken_all (place_of m n) h.channels as' (done_by true as' (drop q (log_at ls m).outcomes)) in
     e ∙ (ap (λ (n : ℕ). F n xs step.first_query logs) en
     ∙ (ap (λ (as' : List Access). F k as' step.first_query logs) (ea ∙ ap (λ (t : Step). t.accesses) (sym es))
     ∙ (ap (λ (q : ℕ). F k (step_of h m k).accesses q logs) (ap (λ (t : Step). t.first_query) (sym es))
     ∙ (ap (λ (ls : List Log). F k (step_of h m k).accesses (step_of h m k).first_query ls) el ∙ fresh_channels d h m c f))))
+
+-- what is held behind the loops that add the outcomes and what they decide
+pub behind_is : {S : Type 0} → (d : Design S) (h : Held) (m c : ℕ) (f : IsFresh d h m) (n : ℕ) (step : Step) (xs ys : List Access)
+    (logs : List Log)
+    (channels : List Channel) → n ≡ first_of h m → step_of h m (first_of h m) ≡ step → xs ≡ step.accesses → ys ≡ step.accesses
+    → logs ≡ with_outcomes h.logs m (outcomes_of xs (found_flags h.lanes h.channels c xs))
+    → channels ≡ taken_all (place_of m n) h.channels ys (done_by true ys (drop step.first_query (log_at logs m).outcomes))
+    → held h.lanes channels logs h.over ≡ with_answered h m (first_of h m) (new_flags d (core_of d h) m c)
+behind_is {S} d h m c f n step xs ys logs channels en es ex ey el ec =
+    ap₂ (λ (cs : List Channel) (ls : List Log). held h.lanes cs ls h.over) (channels_from d h m c f n step ys logs channels en es ey same
+    ec) same
+  where
+    same : logs ≡ (with_answered h m (first_of h m) (new_flags d (core_of d h) m c)).logs
+    same =
+        el ∙ (ap (λ (as' : List Access). with_outcomes h.logs m (outcomes_of as' (found_flags h.lanes h.channels c as')))
+        (ex ∙ sym (ap (λ (t : Step). t.accesses) es)) ∙ fresh_logs d h m c f)

@@ -1,5 +1,6 @@
 -- Room stays while modules act.
-use Rattle.std.proofs.Common.{◌≡◌, refl, sym, ap, ap₂, subst, ◌∙◌, ℕ, zero, suc, ◌+◌, ◌-◌, ◌<◌, ◌≤◌, inl, inr, Bool, true, false, cond, List, [], ◌∷◌, length, map, get_or, set, arith, eqb, ◌||◌}
+use Rattle.std.proofs.Common.{◌≡◌, refl, sym, ap, ap₂, subst, ◌∙◌, ℕ, zero, suc, ◌+◌, ◌-◌, ◌<◌, ◌≤◌, inl, inr, Bool, true, false, cond}
+use Rattle.std.proofs.Common.{List, [], ◌∷◌, length, map, get_or, set, arith, eqb, ◌||◌}
 use Rattle.std.specs.Prelude.{All}
 use Rattle.std.proofs.lemmas.Bool.{cases_Bool, cases_lt, eq-eqb}
 use Rattle.std.proofs.lemmas.Bool.Decides.{eqb_tells}
@@ -20,7 +21,7 @@ use Rattle.event_timing.specs.Core.{Core}
 use Rattle.event_timing.specs.Agreement.{AreOwnMarks}
 use Rattle.event_timing.specs.Actions.{MayRun, newest, emit_step}
 use Rattle.event_timing.proofs.Assigning.{put_same, put_other, put_at_other}
-use Rattle.engine_view.specs.Held.{Held, step_of, emitted_of, seen, queries_in, are_among, core_of}
+use Rattle.engine_view.specs.Held.{Held, step_of, emitted_of, seen, queries_in, are_among, core_of, held}
 use Rattle.engine_view.specs.Shown.{IsSound, queries_before}
 use Rattle.engine_view.specs.Emitted.{IsNextStep, with_emitted, place_of, done_at_once}
 use Rattle.engine_view.specs.Stored.{Stored, held_in}
@@ -39,7 +40,8 @@ side_is Push = refl
 pub takes_seen : (side : Side) (c : ℕ) (a : Access) → TakesAt side c a → takes_at side c (seen a) ≡ true
 takes_seen side c a k = rw (k.same_side, k.same_channel, k.taking, side_is (side_of a.kind), eq-eqb a.channel a.channel refl) refl
 
-some_taker : (side : Side) (c : ℕ) (xs : List Access) (j : ℕ) (e : Access) → j < length xs → TakesAt side c (get_or xs j e) → 1 ≤ takers side c (map seen xs)
+some_taker : (side : Side) (c : ℕ) (xs : List Access) (j : ℕ) (e : Access) → j < length xs → TakesAt side c (get_or xs j e)
+    → 1 ≤ takers side c (map seen xs)
 some_taker side c [] j e l k = absurd (omega arith)
 some_taker side c (a ∷ xs) zero e l k = rw (takes_seen side c a k) (omega arith)
 some_taker side c (a ∷ xs) (suc j) e l k = let r = some_taker side c xs j e (omega arith) k in omega arith
@@ -57,23 +59,28 @@ apart_of (a ∷ xs) f = (
   apart_of xs (λ side c. let l = f side c in omega arith),
 )
 
-each_at : (P : theory.Access → Type 0) (xs : List Access) → Each P (map seen xs) → (j : ℕ) (e : Access) → j < length xs → P (seen (get_or xs j e))
+each_at : (P : theory.Access → Type 0) (xs : List Access) → Each P (map seen xs) → (j : ℕ) (e : Access) → j < length xs
+    → P (seen (get_or xs j e))
 each_at P [] p j e l = absurd (omega arith)
 each_at P (a ∷ xs) p zero e l = p.0
 each_at P (a ∷ xs) p (suc j) e l = each_at P xs p.1 j e (omega arith)
 
-pub free_side : {S : Type 0} → (d : Design S) (m : ℕ) (xs : List Access) → Each (λ a. d.owner a.side a.channel ≡ m) (map seen xs) → (side : Side) (c : ℕ) → (d.owner side c ≡ m → ⊥)
+pub free_side : {S : Type 0} → (d : Design S) (m : ℕ) (xs : List Access) → Each (λ a. d.owner a.side a.channel ≡ m) (map seen xs)
+    → (side : Side) (c : ℕ) → (d.owner side c ≡ m → ⊥)
     → All (λ (a : Access). TakesAt side c a → ⊥) xs
 free_side {S} d m xs p side c f j e l k =
     f (ap₂ (λ (s : Side) (n : ℕ). d.owner s n) k.same_side k.same_channel ∙ each_at (λ a. d.owner a.side a.channel ≡ m) xs p j e l)
 
-pub room_for : {S : Type 0} → (d : Design S) (h : Held) (lanes : List ℕ) (table : RoomedChannels) (logs credits : List ℕ) → HasRoom d h lanes table logs credits → (m : ℕ) (xs : List Access)
-    → 0 < get_or credits m 0 + pending (core_of d h) m → All (IsAccess h.channels) xs → Each (λ a. d.owner a.side a.channel ≡ m) (map seen xs) → HasRoomFor table xs
+pub room_for : {S : Type 0} → (d : Design S) (h : Held) (lanes : List ℕ) (table : RoomedChannels) (logs credits : List ℕ)
+    → HasRoom d h lanes table logs credits → (m : ℕ) (xs : List Access)
+    → 0 < get_or credits m 0 + pending (core_of d h) m → All (IsAccess h.channels) xs
+    → Each (λ a. d.owner a.side a.channel ≡ m) (map seen xs) → HasRoomFor table xs
 room_for {S} d h lanes table logs credits r m xs some inside owned j e l t =
     let a = get_or xs j e in
     let k = inside j e l in
     let own = each_at (λ a. d.owner a.side a.channel ≡ m) xs owned j e l in
-    let room = subst (λ (n : ℕ). get_or credits n 0 + pending (core_of d h) n ≤ room_of table (side_of a.kind) a.channel) own (r.ends (side_of a.kind) a.channel k.channel) in
+    let room = subst (λ (n : ℕ). get_or credits n 0 + pending (core_of d h) n ≤ room_of table (side_of a.kind) a.channel) own
+    (r.ends (side_of a.kind) a.channel k.channel) in
     omega arith
 
 pub few_queries : (xs : List Access) → queries_in xs ≤ length xs
@@ -84,15 +91,22 @@ few_queries (a ∷ xs) =
 
 pub pending_most : {S : Type 0} → (x : Core S) (m : ℕ) → pending x m ≤ 1
 unfolding pending
-pending_most {S} x m = elim (cases_Bool (eqb (x.emitted m) 0 || x.answered m (x.emitted m - 1))) [ inl e ↦ rw e (omega arith) | inr e ↦ rw e (omega arith) ]
+pending_most {S} x m = elim (cases_Bool (eqb (x.emitted m) 0 || x.answered m (x.emitted m - 1))) [
+  | inl e ↦ rw e (omega arith)
+  | inr e ↦
+      rw e (omega arith)
+]
 
-pub pending_same : {S : Type 0} → (x y : Core S) (m : ℕ) → x.emitted m ≡ y.emitted m → ((k : ℕ) → x.answered m k ≡ y.answered m k) → pending x m ≡ pending y m
+pub pending_same : {S : Type 0} → (x y : Core S) (m : ℕ) → x.emitted m ≡ y.emitted m → ((k : ℕ) → x.answered m k ≡ y.answered m k)
+    → pending x m ≡ pending y m
 unfolding pending
 pending_same {S} x y m e f =
-    ap (λ (b : Bool). cond (eqb (x.emitted m) 0 || b) 0 1) (f (x.emitted m - 1)) ∙ ap (λ (n : ℕ). cond (eqb n 0 || y.answered m (n - 1)) 0 1) e
+    ap (λ (b : Bool). cond (eqb (x.emitted m) 0 || b) 0 1) (f (x.emitted m - 1))
+    ∙ ap (λ (n : ℕ). cond (eqb n 0 || y.answered m (n - 1)) 0 1) e
 
 -- a module that may run has all outcomes of its queries
-pub all_there : {S : Type 0} → (d : Design S) (h : Held) → IsSound d h → AreOwnMarks d (core_of d h) → (m : ℕ) → MayRun d (core_of d h) m → queries_before h m (emitted_of h m) ≤ length (log_at h.logs m).outcomes
+pub all_there : {S : Type 0} → (d : Design S) (h : Held) → IsSound d h → AreOwnMarks d (core_of d h) → (m : ℕ) → MayRun d (core_of d h) m
+    → queries_before h m (emitted_of h m) ≤ length (log_at h.logs m).outcomes
 all_there {S} d h s b m r =
     all_among h m (emitted_of h m) (length (log_at h.logs m).outcomes) (λ k l. s.first_query m k l)
     (λ k l. (and_parts _ (are_among (step_of h m k) (length (log_at h.logs m).outcomes)) (there_at k l)).1)
@@ -107,7 +121,7 @@ all_there {S} d h s b m r =
 -- ---- a step more
 
 module _ {S : Type 0} (d : Design S) (i : IsDesign d) (h : Held) (m : ℕ) (t : Step) (next : IsNextStep d h m t) where
-  owned_next : Each (λ a. d.owner a.side a.channel ≡ m) (map seen t.accesses)
+  pub owned_next : Each (λ a. d.owner a.side a.channel ≡ m) (map seen t.accesses)
   owned_next = subst (Each (λ a. d.owner a.side a.channel ≡ m)) next.accesses (i.owned m (ready d m (newest d (core_of d h) m)))
 
   pub apart_next : AreApart t.accesses
@@ -118,8 +132,10 @@ module _ {S : Type 0} (d : Design S) (i : IsDesign d) (h : Held) (m : ℕ) (t : 
       → 0 < get_or credits m 0 + pending (core_of d h) m → HasRoomFor table t.accesses
   room_for_next lanes table logs credits r some = room_for d h lanes table logs credits r m t.accesses some next.inside owned_next
 
-module _ {S : Type 0} (d : Design S) (i : IsDesign d) (h : Held) (m : ℕ) (t : Step) (inside : m < length h.lanes) (s : IsSound d h) (next : IsNextStep d h m t)
-    (b : AreOwnMarks d (core_of d h)) (r : MayRun d (core_of d h) m) (lives : d.is_over m (ready d m (newest d (core_of d h) m)) ≡ false) where
+module _ {S : Type 0} (d : Design S) (i : IsDesign d) (h : Held) (m : ℕ) (t : Step) (inside : m < length h.lanes) (s : IsSound d h)
+    (next : IsNextStep d h m t)
+    (b : AreOwnMarks d (core_of d h)) (r : MayRun d (core_of d h) m) (lives : d.is_over m (ready d m (newest d (core_of d h) m))
+    ≡ false) where
   abbrev x : Core S
   x = core_of d h
 
@@ -132,7 +148,8 @@ module _ {S : Type 0} (d : Design S) (i : IsDesign d) (h : Held) (m : ℕ) (t : 
   pending_other : (n : ℕ) → (n ≡ m → ⊥) → pending (core_of d g) n ≡ pending x n
   pending_other n f =
       ap (λ (q : Core S). pending q n) is
-      ∙ pending_same (emit_step d x m (newest d x m)) x n (put_other x.emitted m (suc (x.emitted m)) n f) (λ k. put_at_other x.answered m (x.emitted m) _ n k (λ e q. f e))
+      ∙ pending_same (emit_step d x m (newest d x m)) x n (put_other x.emitted m (suc (x.emitted m)) n f)
+      (λ k. put_at_other x.answered m (x.emitted m) _ n k (λ e q. f e))
 
   emitted_same : emitted_of g m ≡ suc (emitted_of h m)
   emitted_same = ap (λ (q : Core S). q.emitted m) is ∙ put_same x.emitted m (suc (x.emitted m))
@@ -143,19 +160,24 @@ module _ {S : Type 0} (d : Design S) (i : IsDesign d) (h : Held) (m : ℕ) (t : 
   queries_now : queries_before g m (emitted_of g m) ≡ queries_before h m (emitted_of h m) + queries_in t.accesses
   queries_now =
       ap (queries_before g m) emitted_same
-      ∙ (queries_step g m (emitted_of h m) ∙ ap₂ (λ (u v : ℕ). u + v) (queries_same d i h m t inside m (emitted_of h m) (omega arith)) (ap (λ (q : Step). queries_in q.accesses) (there d i h m t inside)))
+      ∙ (queries_step g m (emitted_of h m) ∙ ap₂ (λ (u v : ℕ). u + v) (queries_same d i h m t inside m (emitted_of h m) (omega arith))
+      (ap (λ (q : Step). queries_in q.accesses) (there d i h m t inside)))
 
   queries_else : (n : ℕ) → (n ≡ m → ⊥) → queries_before g n (emitted_of g n) ≡ queries_before h n (emitted_of h n)
   queries_else n f = ap (queries_before g n) (emitted_else n f) ∙ queries_same d i h m t inside n (emitted_of h n) (omega arith)
 
-  pub room_emitted : (lanes lanes' : List ℕ) (table table' : RoomedChannels) (logs credits : List ℕ) → HasRoom d h lanes table logs credits → m < length credits → 2 ≤ get_or credits m 0
-      → UsesRoom m t.accesses lanes lanes' table table' → queries_in t.accesses ≤ get_or logs m 0 → t.first_query + queries_in t.accesses < query_bound
+  pub room_emitted : (lanes lanes' : List ℕ) (table table' : RoomedChannels) (logs credits : List ℕ) → HasRoom d h lanes table logs credits
+      → m < length credits → 2 ≤ get_or credits m 0
+      → UsesRoom m t.accesses lanes lanes' table table' → queries_in t.accesses ≤ get_or logs m 0
+      → t.first_query + queries_in t.accesses < query_bound
       → HasRoom d g lanes' table' logs (set credits m (get_or credits m 0 - 2))
   room_emitted lanes lanes' table table' logs credits old known rich used log_room few = record {
-    ends = λ side c l. let e = all_length (place_of m (emitted_of h m)) h.channels t.accesses (done_at_once t.accesses) in ends_now side c (omega arith);
+    ends = λ side c l. let e = all_length (place_of m (emitted_of h m)) h.channels t.accesses (done_at_once t.accesses) in
+        ends_now side c (omega arith);
     steps = λ n.
         elim (eqb_tells n m) [
-          | inl e ↦ subst (λ (k : ℕ). get_or (set credits m (get_or credits m 0 - 2)) k 0 ≤ get_or lanes' k 0) (sym e.1) (rw mine (let l = old.steps m in let k = used.lane in omega arith))
+          | inl e ↦ subst (λ (k : ℕ). get_or (set credits m (get_or credits m 0 - 2)) k 0 ≤ get_or lanes' k 0) (sym e.1)
+              (rw mine (let l = old.steps m in let k = used.lane in omega arith))
           | inr e ↦ rw (rest n e.1) (let l = old.steps n in let k = used.other_lanes n e.1 in omega arith)
         ];
     outcomes = λ n.
@@ -166,7 +188,8 @@ module _ {S : Type 0} (d : Design S) (i : IsDesign d) (h : Held) (m : ℕ) (t : 
         ];
     few = λ n.
         elim (eqb_tells n m) [
-          | inl e ↦ subst (λ (k : ℕ). queries_before g k (emitted_of g k) < query_bound) (sym e.1) (rw queries_now (let q = next.first_query in omega arith))
+          | inl e ↦ subst (λ (k : ℕ). queries_before g k (emitted_of g k) < query_bound) (sym e.1)
+              (rw queries_now (let q = next.first_query in omega arith))
           | inr e ↦ rw (queries_else n e.1) (old.few n)
         ];
   }
@@ -177,12 +200,15 @@ module _ {S : Type 0} (d : Design S) (i : IsDesign d) (h : Held) (m : ℕ) (t : 
       rest : (n : ℕ) → (n ≡ m → ⊥) → get_or (set credits m (get_or credits m 0 - 2)) n 0 ≡ get_or credits n 0
       rest n f = get_or-set_other credits m n (get_or credits m 0 - 2) 0 f
 
-      ends_now : (side : Side) (c : ℕ) → c < length h.channels → get_or (set credits m (get_or credits m 0 - 2)) (d.owner side c) 0 + pending (core_of d g) (d.owner side c) ≤ room_of table' side c
+      ends_now : (side : Side) (c : ℕ) → c < length h.channels
+          → get_or (set credits m (get_or credits m 0 - 2)) (d.owner side c) 0 + pending (core_of d g) (d.owner side c) ≤ room_of table'
+          side c
       ends_now side c l =
           let before = old.ends side c l in
           elim (eqb_tells (d.owner side c) m) [
             | inl e ↦
-                let mine' : get_or (set credits m (get_or credits m 0 - 2)) (d.owner side c) 0 ≡ get_or credits m 0 - 2 = ap (λ (k : ℕ). get_or (set credits m (get_or credits m 0 - 2)) k 0) e.1 ∙ mine in
+                let mine' : get_or (set credits m (get_or credits m 0 - 2)) (d.owner side c) 0 ≡ get_or credits m 0 - 2 =
+                ap (λ (k : ℕ). get_or (set credits m (get_or credits m 0 - 2)) k 0) e.1 ∙ mine in
                 let same : get_or credits (d.owner side c) 0 ≡ get_or credits m 0 = ap (λ (k : ℕ). get_or credits k 0) e.1 in
                 let most = pending_most (core_of d g) (d.owner side c) in
                 let less = used.one side c in
@@ -197,8 +223,11 @@ module _ {S : Type 0} (d : Design S) (i : IsDesign d) (h : Held) (m : ℕ) (t : 
 -- ---- room that is made
 
 -- where nothing is less than before
-pub room_kept : {S : Type 0} → (d : Design S) (h : Held) (lanes lanes' : List ℕ) (table table' : RoomedChannels) (logs logs' credits : List ℕ) → HasRoom d h lanes table logs credits
-    → ((k : ℕ) → get_or lanes k 0 ≤ get_or lanes' k 0) → ((side : Side) (c : ℕ) → room_of table side c ≤ room_of table' side c) → ((k : ℕ) → get_or logs k 0 ≤ get_or logs' k 0)
+pub room_kept : {S : Type 0}
+    → (d : Design S) (h : Held) (lanes lanes' : List ℕ) (table table' : RoomedChannels) (logs logs' credits : List ℕ)
+    → HasRoom d h lanes table logs credits
+    → ((k : ℕ) → get_or lanes k 0 ≤ get_or lanes' k 0) → ((side : Side) (c : ℕ) → room_of table side c ≤ room_of table' side c)
+    → ((k : ℕ) → get_or logs k 0 ≤ get_or logs' k 0)
     → HasRoom d h lanes' table' logs' credits
 room_kept {S} d h lanes lanes' table table' logs logs' credits r f g q = record {
   ends = λ side c l. let a = r.ends side c l in let b = g side c in omega arith;
@@ -208,19 +237,23 @@ room_kept {S} d h lanes lanes' table table' logs logs' credits r f g q = record 
 }
 
 -- a credit is set to what there is room for
-pub room_lent : {S : Type 0} → (d : Design S) (h : Held) (lanes : List ℕ) (table : RoomedChannels) (logs credits : List ℕ) (m n : ℕ) → HasRoom d h lanes table logs credits → m < length credits
-    → n ≤ get_or lanes m 0 → ((side : Side) (c : ℕ) → c < length h.channels → d.owner side c ≡ m → n + 1 ≤ room_of table side c) → HasRoom d h lanes table logs (set credits m n)
+pub room_lent : {S : Type 0} → (d : Design S) (h : Held) (lanes : List ℕ) (table : RoomedChannels) (logs credits : List ℕ) (m n : ℕ)
+    → HasRoom d h lanes table logs credits → m < length credits
+    → n ≤ get_or lanes m 0 → ((side : Side) (c : ℕ) → c < length h.channels → d.owner side c ≡ m → n + 1 ≤ room_of table side c)
+    → HasRoom d h lanes table logs (set credits m n)
 room_lent {S} d h lanes table logs credits m n r inside lane sides = record {
   ends = λ side c l.
       let before = r.ends side c l in
       let most = pending_most (core_of d h) (d.owner side c) in
       elim (eqb_tells (d.owner side c) m) [
-        | inl e ↦ let room = sides side c l e.1 in let now : get_or (set credits m n) (d.owner side c) 0 ≡ n = ap (λ (k : ℕ). get_or (set credits m n) k 0) e.1 ∙ get_or-set_same credits m n 0 inside in omega arith
+        | inl e ↦ let room = sides side c l e.1 in let now : get_or (set credits m n) (d.owner side c) 0 ≡ n =
+            ap (λ (k : ℕ). get_or (set credits m n) k 0) e.1 ∙ get_or-set_same credits m n 0 inside in omega arith
         | inr e ↦ let now = get_or-set_other credits m (d.owner side c) n 0 e.1 in omega arith
       ];
   steps = λ k.
       elim (eqb_tells k m) [
-        | inl e ↦ subst (λ (v : ℕ). get_or (set credits m n) v 0 ≤ get_or lanes v 0) (sym e.1) (rw (get_or-set_same credits m n 0 inside) lane)
+        | inl e ↦ subst (λ (v : ℕ). get_or (set credits m n) v 0 ≤ get_or lanes v 0) (sym e.1)
+            (rw (get_or-set_same credits m n 0 inside) lane)
         | inr e ↦ rw (get_or-set_other credits m k n 0 e.1) (r.steps k)
       ];
   outcomes = r.outcomes;
@@ -228,9 +261,12 @@ room_lent {S} d h lanes table logs credits m n r inside lane sides = record {
 }
 
 -- where the same is emitted and recorded
-pub room_same : {S : Type 0} → (d : Design S) (h g : Held) (lanes lanes' : List ℕ) (table : RoomedChannels) (logs credits : List ℕ) → HasRoom d h lanes table logs credits
-    → length g.channels ≡ length h.channels → ((m : ℕ) → pending (core_of d g) m ≡ pending (core_of d h) m) → ((m : ℕ) → queries_before g m (emitted_of g m) ≡ queries_before h m (emitted_of h m))
-    → ((m : ℕ) → length (log_at g.logs m).outcomes ≡ length (log_at h.logs m).outcomes) → ((k : ℕ) → get_or lanes k 0 ≤ get_or lanes' k 0) → HasRoom d g lanes' table logs credits
+pub room_same : {S : Type 0} → (d : Design S) (h g : Held) (lanes lanes' : List ℕ) (table : RoomedChannels) (logs credits : List ℕ)
+    → HasRoom d h lanes table logs credits
+    → length g.channels ≡ length h.channels → ((m : ℕ) → pending (core_of d g) m ≡ pending (core_of d h) m)
+    → ((m : ℕ) → queries_before g m (emitted_of g m) ≡ queries_before h m (emitted_of h m))
+    → ((m : ℕ) → length (log_at g.logs m).outcomes ≡ length (log_at h.logs m).outcomes) → ((k : ℕ) → get_or lanes k 0 ≤ get_or lanes' k 0)
+    → HasRoom d g lanes' table logs credits
 room_same {S} d h g lanes lanes' table logs credits r count still same log f = record {
   ends = λ side c l. let a = r.ends side c (omega arith) in let b = still (d.owner side c) in omega arith;
   steps = λ m. let a = r.steps m in let b = f m in omega arith;
@@ -244,10 +280,12 @@ unfolding pending
 pending_none {S} x m e = ap (λ (n : ℕ). cond (eqb n 0 || x.answered m (n - 1)) 0 1) e
 
 -- so at first there is room enough
-pub room_opening : {S : Type 0} → (d : Design S) (h : Held) (lanes : List ℕ) (table : RoomedChannels) (logs credits : List ℕ) → ((m : ℕ) → emitted_of h m ≡ 0) → ((m : ℕ) → get_or credits m 0 ≡ 0)
+pub room_opening : {S : Type 0} → (d : Design S) (h : Held) (lanes : List ℕ) (table : RoomedChannels) (logs credits : List ℕ)
+    → ((m : ℕ) → emitted_of h m ≡ 0) → ((m : ℕ) → get_or credits m 0 ≡ 0)
     → HasRoom d h lanes table logs credits
 room_opening {S} d h lanes table logs credits none empty = record {
-  ends = λ side c l. let a = empty (d.owner side c) in let b = pending_none (core_of d h) (d.owner side c) (none (d.owner side c)) in omega arith;
+  ends = λ side c l. let a = empty (d.owner side c) in let b = pending_none (core_of d h) (d.owner side c) (none (d.owner side c)) in
+      omega arith;
   steps = λ m. let a = empty m in omega arith;
   outcomes = λ m. let a = few m in omega arith;
   few = λ m. let a = few m in omega arith;
@@ -259,11 +297,16 @@ room_opening {S} d h lanes table logs credits none empty = record {
 -- ---- room of a graph, a table and a log
 
 -- where only the room is another, and none is less
-pub roomy_kept : {S : Type 0} → (d : Design S) (s t : Stored) (over : List Bool) (credits : List ℕ) → t.graph.lanes ≡ s.graph.lanes → t.table.channels ≡ s.table.channels → t.log.logs ≡ s.log.logs
-    → ((k : ℕ) → get_or s.graph.rooms k 0 ≤ get_or t.graph.rooms k 0) → ((side : Side) (c : ℕ) → room_of s.table side c ≤ room_of t.table side c)
+pub roomy_kept : {S : Type 0} → (d : Design S) (s t : Stored) (over : List Bool) (credits : List ℕ) → t.graph.lanes ≡ s.graph.lanes
+    → t.table.channels ≡ s.table.channels → t.log.logs ≡ s.log.logs
+    → ((k : ℕ) → get_or s.graph.rooms k 0 ≤ get_or t.graph.rooms k 0)
+    → ((side : Side) (c : ℕ) → room_of s.table side c ≤ room_of t.table side c)
     → ((k : ℕ) → get_or s.log.rooms k 0 ≤ get_or t.log.rooms k 0) → IsRoomy d s over credits → IsRoomy d t over credits
 roomy_kept {S} d s t over credits el ec eo f g q r =
-    subst (λ (ls : List Lane). HasRoom d (record { lanes = ls; channels = t.table.channels; logs = t.log.logs; over = over }) t.graph.rooms t.table t.log.rooms credits) (sym el)
-    (subst (λ (cs : List Channel). HasRoom d (record { lanes = s.graph.lanes; channels = cs; logs = t.log.logs; over = over }) t.graph.rooms t.table t.log.rooms credits) (sym ec)
-    (subst (λ (os : List Log). HasRoom d (record { lanes = s.graph.lanes; channels = s.table.channels; logs = os; over = over }) t.graph.rooms t.table t.log.rooms credits) (sym eo)
+    subst (λ (ls : List Lane). HasRoom d (held ls t.table.channels t.log.logs over) t.graph.rooms
+    t.table t.log.rooms credits) (sym el)
+    (subst (λ (cs : List Channel). HasRoom d (held s.graph.lanes cs t.log.logs over) t.graph.rooms
+    t.table t.log.rooms credits) (sym ec)
+    (subst (λ (os : List Log). HasRoom d (held s.graph.lanes s.table.channels os over)
+    t.graph.rooms t.table t.log.rooms credits) (sym eo)
     (room_kept d (held_in s over) s.graph.rooms t.graph.rooms s.table t.table s.log.rooms t.log.rooms credits r f g q)))

@@ -1,5 +1,6 @@
 -- What the table has behind the accesses of a step.
-use Rattle.std.proofs.Common.{◌≡◌, refl, sym, ap, ◌∙◌, ℕ, zero, suc, ◌+◌, ◌<◌, Bool, true, false, cond, eqb, ◌&&◌, List, [], ◌∷◌, ◌++◌, length, map, set, arith, inl, inr, append-nil, append_assoc}
+use Rattle.std.proofs.Common.{◌≡◌, refl, sym, ap, ◌∙◌, ℕ, zero, suc, ◌+◌, ◌<◌, Bool, true, false, cond, eqb, ◌&&◌, List, [], ◌∷◌, ◌++◌}
+use Rattle.std.proofs.Common.{length, map, set, arith, inl, inr, append-nil, append_assoc}
 use Rattle.std.specs.Prelude.{All}
 use Rattle.std.proofs.Math.Seq.{map-set_same}
 use Rattle.std.proofs.lemmas.Bool.{cases_Bool}
@@ -26,7 +27,8 @@ abbrev grown : Side → Place → Access → Channel → Channel
 grown Pop at a channel = record channel { pops = channel.pops ++ at ∷ [] }
 grown Push at a channel = record channel { pushes = channel.pushes ++ push_of at a.value ∷ [] }
 
-by_is : (side : Side) (at : Place) (channels : List Channel) (a : Access) → taken_by side at channels a ≡ set channels a.channel (grown side at a (channel_at channels a.channel))
+by_is : (side : Side) (at : Place) (channels : List Channel) (a : Access)
+    → taken_by side at channels a ≡ set channels a.channel (grown side at a (channel_at channels a.channel))
 by_is Pop at channels a = refl
 by_is Push at channels a = refl
 
@@ -50,8 +52,10 @@ one_channel at channels a b c inside =
     elim (cases_Bool (is_taking a.kind && b)) [
       | inl e ↦
           elim (eqb_tells a.channel c) [
-            | inl same ↦ rw (e, same.0, by_is (side_of a.kind) at channels a, ← same.1) (get_or-set_same channels a.channel _ (unused Sink) inside)
-            | inr apart ↦ rw (e, apart.0, by_is (side_of a.kind) at channels a) (get_or-set_other channels a.channel c _ (unused Sink) (λ q. apart.1 (sym q)))
+            | inl same ↦ rw (e, same.0, by_is (side_of a.kind) at channels a, ← same.1) (get_or-set_same channels a.channel _ (unused Sink)
+                inside)
+            | inr apart ↦ rw (e, apart.0, by_is (side_of a.kind) at channels a) (get_or-set_other channels a.channel c _ (unused Sink)
+                (λ q. apart.1 (sym q)))
           ]
       | inr e ↦ rw e refl
     ]
@@ -70,7 +74,8 @@ kinds_behind at channels a b =
 
 -- ---- all accesses
 
-pub all_length : (at : Place) (channels : List Channel) (xs : List Access) (bs : List Bool) → length (taken_all at channels xs bs) ≡ length channels
+pub all_length : (at : Place) (channels : List Channel) (xs : List Access) (bs : List Bool)
+    → length (taken_all at channels xs bs) ≡ length channels
 all_length at channels [] bs = refl
 all_length at channels (a ∷ xs) [] = refl
 all_length at channels (a ∷ xs) (b ∷ bs) = all_length at (after_one at channels a b) xs bs ∙ one_length at channels a b
@@ -81,7 +86,8 @@ channel_after at c channel [] bs = channel
 channel_after at c channel (a ∷ xs) [] = channel
 channel_after at c channel (a ∷ xs) (b ∷ bs) = channel_after at c (channel_behind at a b c channel) xs bs
 
-pub all_channel : (at : Place) (channels : List Channel) (xs : List Access) (bs : List Bool) (c : ℕ) → All (λ (a : Access). a.channel < length channels) xs
+pub all_channel : (at : Place) (channels : List Channel) (xs : List Access) (bs : List Bool) (c : ℕ)
+    → All (λ (a : Access). a.channel < length channels) xs
     → channel_at (taken_all at channels xs bs) c ≡ channel_after at c (channel_at channels c) xs bs
 all_channel at channels [] bs c inside = refl
 all_channel at channels (a ∷ xs) [] c inside = refl
@@ -110,14 +116,16 @@ kind_behind at a b c channel =
     grown_kind Pop at a channel = refl
     grown_kind Push at a channel = refl
 
-pub kind_after : (at : Place) (c : ℕ) (channel : Channel) (xs : List Access) (bs : List Bool) → (channel_after at c channel xs bs).kind ≡ channel.kind
+pub kind_after : (at : Place) (c : ℕ) (channel : Channel) (xs : List Access) (bs : List Bool)
+    → (channel_after at c channel xs bs).kind ≡ channel.kind
 kind_after at c channel [] bs = refl
 kind_after at c channel (a ∷ xs) [] = refl
 kind_after at c channel (a ∷ xs) (b ∷ bs) = kind_after at c (channel_behind at a b c channel) xs bs ∙ kind_behind at a b c channel
 
 -- of one access: the place once more where it takes at this side
 places_behind : (side s : Side) (t b e : Bool) (at : Place) (a : Access) (channel : Channel)
-    → places_of side (cond (t && b && e) (grown s at a channel) channel) ≡ places_of side channel ++ copies (cond (t && (b && (same_side s side && e))) 1 0) at
+    → places_of side (cond (t && b && e) (grown s at a channel) channel) ≡ places_of side channel
+    ++ copies (cond (t && (b && (same_side s side && e))) 1 0) at
 places_behind Pop Pop true true true at a channel = refl
 places_behind Pop Pop true true false at a channel = sym (append-nil channel.pops)
 places_behind Pop Pop true false e at a channel = sym (append-nil channel.pops)
@@ -141,12 +149,14 @@ copies_more (suc m) n at = let e : suc m + n ≡ suc (m + n) = omega arith in rw
 
 -- of all of them: as often as they take at this side, as the theory counts
 pub places_after : (side : Side) (at : Place) (c : ℕ) (channel : Channel) (xs : List Access) (bs : List Bool)
-    → places_of side (channel_after at c channel xs bs) ≡ places_of side channel ++ copies (takes_in side c (map seen xs) (bare_replies bs)) at
+    → places_of side (channel_after at c channel xs bs) ≡ places_of side channel ++ copies (takes_in side c (map seen xs) (bare_replies bs))
+    at
 places_after side at c channel [] bs = sym (append-nil (places_of side channel))
 places_after side at c channel (a ∷ xs) [] = sym (append-nil (places_of side channel))
 places_after side at c channel (a ∷ xs) (b ∷ bs) =
     places_after side at c (channel_behind at a b c channel) xs bs
-    ∙ (ap (λ (ps : List Place). ps ++ copies (takes_in side c (map seen xs) (bare_replies bs)) at) (places_behind side (side_of a.kind) (is_taking a.kind) b (eqb a.channel c) at a channel)
+    ∙ (ap (λ (ps : List Place). ps ++ copies (takes_in side c (map seen xs) (bare_replies bs)) at)
+    (places_behind side (side_of a.kind) (is_taking a.kind) b (eqb a.channel c) at a channel)
     ∙ (append_assoc (places_of side channel) _ _
     ∙ ap (λ (ps : List Place). places_of side channel ++ ps) (copies_more _ (takes_in side c (map seen xs) (bare_replies bs)) at)))
 
@@ -156,7 +166,8 @@ abbrev pub values_on : Channel → List ℕ
 values_on channel = map (λ (p : Pushed). p.value) channel.pushes
 
 values_behind : (s : Side) (t b e : Bool) (at : Place) (a : Access) (channel : Channel)
-    → values_on (cond (t && b && e) (grown s at a channel) channel) ≡ values_on channel ++ cond (t && (b && (same_side s Push && e))) (a.value ∷ []) []
+    → values_on (cond (t && b && e) (grown s at a channel) channel) ≡ values_on channel ++ cond (t && (b && (same_side s Push && e)))
+    (a.value ∷ []) []
 values_behind Pop true true true at a channel = sym (append-nil (values_on channel))
 values_behind Pop true true false at a channel = sym (append-nil (values_on channel))
 values_behind Pop true false e at a channel = sym (append-nil (values_on channel))
@@ -172,5 +183,6 @@ values_after at c channel [] bs = sym (append-nil (values_on channel))
 values_after at c channel (a ∷ xs) [] = sym (append-nil (values_on channel))
 values_after at c channel (a ∷ xs) (b ∷ bs) =
     values_after at c (channel_behind at a b c channel) xs bs
-    ∙ (ap (λ (vs : List ℕ). vs ++ values_in c (map seen xs) (bare_replies bs)) (values_behind (side_of a.kind) (is_taking a.kind) b (eqb a.channel c) at a channel)
+    ∙ (ap (λ (vs : List ℕ). vs ++ values_in c (map seen xs) (bare_replies bs)) (values_behind (side_of a.kind) (is_taking a.kind) b
+    (eqb a.channel c) at a channel)
     ∙ append_assoc (values_on channel) _ _)

@@ -1,5 +1,5 @@
 -- A module's first step without a cycle whose queries are not all verified.
-use Rattle.std.proofs.Common.{◌≡◌, sym, ap, ap₂, subst, ◌∙◌, ℕ, ◌<◌, ltb, Bool, true, false, ◌&&◌, length, arith, inl, inr}
+use Rattle.std.proofs.Common.{◌≡◌, ap, ap₂, subst, ◌∙◌, ℕ, ◌<◌, ltb, Bool, true, false, ◌&&◌, length, arith, inl, inr}
 use Rattle.std.proofs.lemmas.Bool.{lt-ltb, and_parts}
 use Rattle.std.proofs.lemmas.Bool.Decides.{eqb_tells}
 use Rattle.query_log.specs.Logs.{log_at}
@@ -49,7 +49,8 @@ answered_on {S} d h m c g u same read = record {
         let x = core_of d h in
         elim (eqb_tells j m) [
           | inl s ↦
-              put_at_other x.verified m (first_of h m) true j p (λ a b. let b' = b in let l' = subst (λ (n : ℕ). p < first_of h n) s.1 l in omega arith)
+              put_at_other x.verified m (first_of h m) true j p (λ a b. let b' = b in let l' = subst (λ (n : ℕ). p < first_of h n) s.1 l in
+              omega arith)
               ∙ u.kept.earlier j p l
           | inr s ↦ put_at_other x.verified m (first_of h m) true j p (λ a b. s.1 a) ∙ u.kept.earlier j p l
         ]

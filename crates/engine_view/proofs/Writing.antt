@@ -1,5 +1,6 @@
 -- The loop that adds a step's outcomes.
-use Rattle.std.proofs.Common.{◌≡◌, refl, sym, ap, subst, ◌∙◌, ℕ, ◌+◌, ◌<◌, ◌≤◌, Bool, true, false, cond, ◌||◌, List, [], ◌∷◌, length, drop, get_or, arith, length-append}
+use Rattle.std.proofs.Common.{◌≡◌, refl, sym, ap, subst, ◌∙◌, ℕ, ◌+◌, ◌<◌, ◌≤◌, Bool, true, false, cond, ◌||◌, List, [], ◌∷◌, length, drop}
+use Rattle.std.proofs.Common.{get_or, arith, length-append}
 use Rattle.std.proofs.lemmas.List.{drop_more, drop_all, length-set, get_or-set_same}
 use Rattle.flow_word.specs.Kinds.{is_blocking}
 use Rattle.flow_word.specs.declared.access.Access.{Access}
@@ -14,7 +15,8 @@ use Rattle.engine_view.specs.Known.{as_known, found_flags}
 use Rattle.engine_view.specs.Answered.{outcome_by, outcomes_of}
 
 -- the outcomes of the queries before this index were added
-pub record WritesOn (lanes : List Lane) (channels : List Channel) (cycle owner : ℕ) (accesses : List Access) (old now : RoomedLogs) (index : ℕ) : Type 0 where
+pub record WritesOn (lanes : List Lane) (channels : List Channel) (cycle owner : ℕ) (accesses : List Access) (old now : RoomedLogs)
+    (index : ℕ) : Type 0 where
   pub logs : with_outcomes now.logs owner (outcomes_of (drop index accesses) (found_flags lanes channels cycle (drop index accesses)))
       ≡ with_outcomes old.logs owner (outcomes_of accesses (found_flags lanes channels cycle accesses))
   pub inside : owner < length now.logs
@@ -23,7 +25,8 @@ pub record WritesOn (lanes : List Lane) (channels : List Channel) (cycle owner :
   pub own_room : get_or old.rooms owner 0 + queries_in (drop index accesses) ≤ get_or now.rooms owner 0 + queries_in accesses
   pub other_rooms : (k : ℕ) → (k ≡ owner → ⊥) → get_or old.rooms k 0 ≤ get_or now.rooms k 0
 
-module _ (lanes : List Lane) (channels : List Channel) (c m : ℕ) (xs : List Access) (old now : RoomedLogs) (i : ℕ) (d : Access) (r : WritesOn lanes channels c m xs old now i) (l : i < length xs) where
+module _ (lanes : List Lane) (channels : List Channel) (c m : ℕ) (xs : List Access) (old now : RoomedLogs) (i : ℕ) (d : Access)
+    (r : WritesOn lanes channels c m xs old now i) (l : i < length xs) where
   abbrev a : Access
   a = get_or xs i d
 
@@ -36,13 +39,15 @@ module _ (lanes : List Lane) (channels : List Channel) (c m : ℕ) (xs : List Ac
   abbrev found : Bool
   found = outcome_by a.kind (answer (as_known (when_possible lanes channels a)) c)
 
-  first : (b : Bool) → is_blocking a.kind ≡ b → outcomes_of (drop i xs) (found_flags lanes channels c (drop i xs)) ≡ cond b late (found ∷ late)
+  first : (b : Bool) → is_blocking a.kind ≡ b
+      → outcomes_of (drop i xs) (found_flags lanes channels c (drop i xs)) ≡ cond b late (found ∷ late)
   first b e =
       ap (λ (ys : List Access). outcomes_of ys (found_flags lanes channels c ys)) (drop_more xs i d l)
       ∙ ap (λ (q : Bool). cond q late (outcome_by a.kind (q || answer (as_known (when_possible lanes channels a)) c) ∷ late)) e
       ∙ by b
     where
-      by : (b : Bool) → cond b late (outcome_by a.kind (b || answer (as_known (when_possible lanes channels a)) c) ∷ late) ≡ cond b late (found ∷ late)
+      by : (b : Bool) → cond b late (outcome_by a.kind (b || answer (as_known (when_possible lanes channels a)) c) ∷ late) ≡ cond b late
+          (found ∷ late)
       by true = refl
       by false = refl
 
@@ -68,15 +73,19 @@ module _ (lanes : List Lane) (channels : List Channel) (c m : ℕ) (xs : List Ac
   pub room_for_one : is_blocking a.kind ≡ false → 0 < get_or now.rooms m 0
   room_for_one e = let q = queries_first false e in let k = r.room in omega arith
 
-  pub writes_one : (next : RoomedLogs) (u₀ : Bool) → is_blocking a.kind ≡ false → u₀ ≡ found → next.logs ≡ with_outcome now.logs m u₀ → get_or now.rooms m 0 ≤ get_or next.rooms m 0 + 1
+  pub writes_one : (next : RoomedLogs) (u₀ : Bool) → is_blocking a.kind ≡ false → u₀ ≡ found → next.logs ≡ with_outcome now.logs m u₀
+      → get_or now.rooms m 0 ≤ get_or next.rooms m 0 + 1
       → ((k : ℕ) → (k ≡ m → ⊥) → get_or now.rooms k 0 ≤ get_or next.rooms k 0) → WritesOn lanes channels c m xs old next (i + 1)
   writes_one next u₀ e is logs own others =
       let q = queries_first false e in
       record {
         logs = ap (λ (ls : List Log). with_outcomes ls m late) logs
-            ∙ (outcomes_more now.logs m u₀ late r.inside ∙ (ap (λ (y : Bool). with_outcomes now.logs m (y ∷ late)) is ∙ (ap (with_outcomes now.logs m) (sym (first false e)) ∙ r.logs)));
-        inside = let n = ap (λ (ls : List Log). length ls) logs in let k = length-set now.logs m (answered (log_at now.logs m) u₀) in let w = r.inside in omega arith;
-        verified = whole (ap (λ (ls : List Log). log_at ls m) logs ∙ get_or-set_same now.logs m (answered (log_at now.logs m) u₀) no_log r.inside);
+            ∙ (outcomes_more now.logs m u₀ late r.inside ∙ (ap (λ (y : Bool). with_outcomes now.logs m (y ∷ late)) is
+            ∙ (ap (with_outcomes now.logs m) (sym (first false e)) ∙ r.logs)));
+        inside = let n = ap (λ (ls : List Log). length ls) logs in let k = length-set now.logs m (answered (log_at now.logs m) u₀) in
+            let w = r.inside in omega arith;
+        verified = whole (ap (λ (ls : List Log). log_at ls m) logs ∙ get_or-set_same now.logs m (answered (log_at now.logs m) u₀) no_log
+            r.inside);
         room = let k = r.room in omega arith;
         own_room = let k = r.own_room in omega arith;
         other_rooms = λ k f. let w = r.other_rooms k f in let v = others k f in omega arith;
@@ -89,7 +98,10 @@ module _ (lanes : List Lane) (channels : List Channel) (c m : ℕ) (xs : List Ac
           let same : (answered (log_at now.logs m) u₀).verified ≡ length (answered (log_at now.logs m) u₀).outcomes = omega arith in
           subst (λ (log : Log). log.verified ≡ length log.outcomes) (sym e) same
 
-pub writes_all : (lanes : List Lane) (channels : List Channel) (c m : ℕ) (xs : List Access) (old now : RoomedLogs) (i : ℕ) → WritesOn lanes channels c m xs old now i → length xs ≤ i
+pub writes_all : (lanes : List Lane) (channels : List Channel) (c m : ℕ) (xs : List Access) (old now : RoomedLogs) (i : ℕ)
+    → WritesOn lanes channels c m xs old now i → length xs ≤ i
     → now.logs ≡ with_outcomes old.logs m (outcomes_of xs (found_flags lanes channels c xs))
 writes_all lanes channels c m xs old now i r l =
-    sym (outcomes_none now.logs m r.verified) ∙ (ap (λ (ys : List Access). with_outcomes now.logs m (outcomes_of ys (found_flags lanes channels c ys))) (sym (drop_all i xs l)) ∙ r.logs)
+    sym (outcomes_none now.logs m r.verified)
+    ∙ (ap (λ (ys : List Access). with_outcomes now.logs m (outcomes_of ys (found_flags lanes channels c ys))) (sym (drop_all i xs l))
+    ∙ r.logs)

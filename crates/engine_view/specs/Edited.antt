@@ -17,4 +17,5 @@ pub record IsCut {S : Type 0} (d : Design S) (h g : Held) (fifo depth t : ℕ) :
   pub count : length g.logs ≡ length h.logs
   pub sound_logs : All IsSoundLog g.logs
   pub outcomes : (m : ℕ) → (log_at g.logs m).outcomes ≡ (log_at h.logs m).outcomes
-  pub verified : (m : ℕ) → (log_at g.logs m).verified ≡ min (queries_before h m (kept ((core_of d h).cycle m) t ((core_of d h).timed m))) (log_at h.logs m).verified
+  pub verified : (m : ℕ) → (log_at g.logs m).verified ≡ min (queries_before h m (kept ((core_of d h).cycle m) t ((core_of d h).timed m)))
+      (log_at h.logs m).verified

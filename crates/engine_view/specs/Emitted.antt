@@ -38,5 +38,6 @@ pub record IsNextStep {S : Type 0} (d : Design S) (h : Held) (m : ℕ) (step : S
   pub accesses : d.accesses m (ready d m (newest d (core_of d h) m)) ≡ map seen step.accesses
   pub gap : waited (emitted_of h m) step.gap ≡ d.quiet m (newest d (core_of d h) m)
   pub apart : 0 < emitted_of h m → 1 ≤ step.gap
-  pub ordinals : All (λ (a : Access). a.ordinal ≡ suc (core_tally d (core_of d h) m (side_of a.kind) a.channel (emitted_of h m))) step.accesses
+  pub ordinals : All (λ (a : Access). a.ordinal ≡ suc (core_tally d (core_of d h) m (side_of a.kind) a.channel (emitted_of h m)))
+      step.accesses
   pub first_query : step.first_query ≡ queries_before h m (emitted_of h m)

@@ -1,5 +1,6 @@
 -- What an engine holds, as contracts see it, and the theory's core that is read off it.
-use Rattle.std.specs.Prelude.{ℕ, zero, suc, ◌+◌, ◌-◌, Bool, true, false, cond, not, ◌&&◌, ◌||◌, eqb, leb, ltb, List, [], ◌∷◌, length, drop, filter, get_or, slice_get, slice_index_or, Option, None, Some}
+use Rattle.std.specs.Prelude.{ℕ, zero, suc, ◌+◌, ◌-◌, Bool, true, false, cond, not, ◌&&◌, ◌||◌, eqb, leb, ltb, List, [], ◌∷◌, length, drop}
+use Rattle.std.specs.Prelude.{filter, get_or, slice_get, slice_index_or, Option, None, Some}
 use Rattle.flow_word.specs.Kinds.{side_of, is_blocking, is_taking}
 use Rattle.flow_word.specs.declared.access.Access.{Access}
 use Rattle.flow_word.specs.declared.access.Kind.{Kind}
@@ -21,6 +22,9 @@ pub record Held : Type 0 where
   pub channels : List Channel
   pub logs : List Log
   pub over : List Bool
+
+abbrev pub held : List Lane → List Channel → List Log → List Bool → Held
+held lanes channels logs over = record { lanes = lanes; channels = channels; logs = logs; over = over }
 
 abbrev pub no_step : Step
 no_step = record { gap = 0; accesses = []; first_query = 0 }

@@ -12,7 +12,13 @@ use Rattle.engine_view.specs.Shown.{IsKind}
 
 -- of so many modules nothing is emitted yet
 abbrev pub opening_held : ℕ → List TableChannel → Held
-opening_held n kinds = record { lanes = replicate n no_lane; channels = map unused kinds; logs = replicate n no_log; over = replicate n false }
+opening_held n kinds = record {
+  lanes = replicate n no_lane;
+  channels = map unused kinds;
+  logs = replicate n no_log;
+  over =
+      replicate n false;
+}
 
 -- the channels are the design's
 pub record AreKinds {S : Type 0} (d : Design S) (kinds : List TableChannel) : Type 0 where

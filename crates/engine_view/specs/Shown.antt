@@ -22,7 +22,8 @@ use Rattle.engine_view.specs.Held.{Held, step_of, emitted_of, seen, queries_in, 
 abbrev pub IsKind : {S : Type 0} → Design S → ℕ → TableChannel → Type 0
 IsKind {S} d c (Source inputs) = (d.start Pop c ≡ length inputs) × (d.closed Pop c ≡ true)
 IsKind {S} d c Sink = d.unlimited Push c ≡ true
-IsKind {S} d c (Fifo depth delay) = (d.unlimited Push c ≡ false) × (d.start Push c ≡ depth) × (d.start Pop c ≡ 0) × ((side : Side) → d.closed side c ≡ false)
+IsKind {S} d c (Fifo depth delay) = (d.unlimited Push c ≡ false) × (d.start Push c ≡ depth) × (d.start Pop c ≡ 0) × ((side : Side)
+    → d.closed side c ≡ false)
 
 -- ---- pushes and pops
 
@@ -63,7 +64,8 @@ pub record Shows {S : Type 0} (d : Design S) (h : Held) (x : Core S) : Type 0 wh
   pub places : HasPlaces h.lanes h.channels
   -- of each step its accesses, each with its ordinal, and the number of its first query
   pub accesses : (m k : ℕ) → k < x.emitted m → core_accesses d x m k ≡ map seen (step_of h m k).accesses
-  pub ordinals : (m k : ℕ) → k < x.emitted m → All (λ (a : Access). a.ordinal ≡ suc (core_tally d x m (side_of a.kind) a.channel k)) (step_of h m k).accesses
+  pub ordinals : (m k : ℕ) → k < x.emitted m
+      → All (λ (a : Access). a.ordinal ≡ suc (core_tally d x m (side_of a.kind) a.channel k)) (step_of h m k).accesses
   pub first_query : (m k : ℕ) → k < x.emitted m → (step_of h m k).first_query ≡ queries_before h m k
   -- of each channel its kind, its lags, its pushes and pops, and its values
   pub kinds : (c : ℕ) → c < length h.channels → IsKind d c (channel_at h.channels c).kind

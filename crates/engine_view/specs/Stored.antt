@@ -3,7 +3,7 @@ use Rattle.std.specs.Prelude.{Bool, List}
 use Rattle.event_graph.specs.Roomed.{RoomedLanes}
 use Rattle.fifo_table.specs.Roomed.{RoomedChannels}
 use Rattle.query_log.specs.Logs.{RoomedLogs}
-use Rattle.engine_view.specs.Held.{Held}
+use Rattle.engine_view.specs.Held.{Held, held}
 
 pub record Stored : Type 0 where
   pub graph : RoomedLanes
@@ -15,4 +15,4 @@ stored graph table log = record { graph = graph; table = table; log = log }
 
 -- what they hold, where it is told elsewhere of each module whether it is over
 abbrev pub held_in : Stored → List Bool → Held
-held_in s over = record { lanes = s.graph.lanes; channels = s.table.channels; logs = s.log.logs; over = over }
+held_in s over = held s.graph.lanes s.table.channels s.log.logs over

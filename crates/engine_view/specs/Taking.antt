@@ -21,4 +21,5 @@ taken_by Push at channels a = with_push channels a.channel at a.value
 abbrev pub taken_all : Place → List Channel → List Access → List Bool → List Channel
 taken_all at channels [] done = channels
 taken_all at channels (a ∷ as') [] = channels
-taken_all at channels (a ∷ as') (b ∷ bs) = taken_all at (cond (is_taking a.kind && b) (taken_by (side_of a.kind) at channels a) channels) as' bs
+taken_all at channels (a ∷ as') (b ∷ bs) = taken_all at (cond (is_taking a.kind && b) (taken_by (side_of a.kind) at channels a) channels)
+    as' bs

@@ -23,7 +23,8 @@ pub fn emit_step(graph: &mut Graph, fifos: &mut FifoTable, log: &QueryLog, owner
     requires room { HasRoomFor fifos.old step.accesses }
     requires few { step.first_query < query_bound }
     ensures lanes { graph.new.lanes ≡ with_step graph.old.lanes owner step }
-    ensures channels { fifos.new.channels ≡ taken_all (place_of owner (length (lane_at graph.old.lanes owner).steps)) fifos.old.channels step.accesses (done_at_once step.accesses) }
+    ensures channels { fifos.new.channels ≡ taken_all (place_of owner (length (lane_at graph.old.lanes owner).steps)) fifos.old.channels
+        step.accesses (done_at_once step.accesses) }
     ensures kinds { kinds_in fifos.new.channels ≡ kinds_in fifos.old.channels }
     ensures sound { All IsSoundLane graph.new.lanes }
     ensures room { UsesRoom owner step.accesses graph.old.rooms graph.new.rooms fifos.old fifos.new }

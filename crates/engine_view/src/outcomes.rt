@@ -32,7 +32,8 @@ pub fn write_outcomes(
     requires places { HasPlaces graph.now.lanes fifos.now.channels }
     requires verified { (log_at log.old.logs owner).verified ≡ length (log_at log.old.logs owner).outcomes }
     requires room { queries_in accesses.now ≤ slice_index log.old.rooms owner }
-    ensures logs { log.new.logs ≡ with_outcomes log.old.logs owner (outcomes_of accesses.now (found_flags graph.now.lanes fifos.now.channels cycle accesses.now)) }
+    ensures logs { log.new.logs ≡ with_outcomes log.old.logs owner
+        (outcomes_of accesses.now (found_flags graph.now.lanes fifos.now.channels cycle accesses.now)) }
     ensures own_room { slice_index log.old.rooms owner ≤ slice_index log.new.rooms owner + queries_in accesses.now }
     ensures other_rooms { (k : ℕ) → k ≢ owner → slice_index log.old.rooms k ≤ slice_index log.new.rooms k }
 {
@@ -58,8 +59,12 @@ pub fn compare_outcomes(
     requires inside { All (IsAccess fifos.now.channels) accesses.now }
     requires places { HasPlaces graph.now.lanes fifos.now.channels }
     requires few { first_query + length accesses.now < 2 ^ 64 }
-    ensures same { result ≡ Guard.Same → flags_by accesses.now (drop first_query (log_at log.now.logs owner).outcomes) ≡ found_flags graph.now.lanes fifos.now.channels cycle accesses.now }
-    ensures differs { (q : query_type) → result ≡ Guard.Differs q → IsOther (flags_by accesses.now (drop first_query (log_at log.now.logs owner).outcomes)) (found_flags graph.now.lanes fifos.now.channels cycle accesses.now) accesses.now owner first_query q }
+    ensures same { result ≡ Guard.Same
+        → flags_by accesses.now (drop first_query (log_at log.now.logs owner).outcomes) ≡ found_flags graph.now.lanes fifos.now.channels
+        cycle accesses.now }
+    ensures differs { (q : query_type) → result ≡ Guard.Differs q
+        → IsOther (flags_by accesses.now (drop first_query (log_at log.now.logs owner).outcomes))
+        (found_flags graph.now.lanes fifos.now.channels cycle accesses.now) accesses.now owner first_query q }
 {
     let mut number = first_query;
     for access in accesses {
@@ -90,7 +95,8 @@ fn is_alike(
     requires owner { owner < length log.now.logs }
     requires access { IsAccess fifos.now.channels access.now }
     requires places { HasPlaces graph.now.lanes fifos.now.channels }
-    ensures { (result ≡ true) ↔ (flag_now access.now.kind (outcome_of log.now.logs owner number) ≡ flag_found graph.now.lanes fifos.now.channels cycle access.now) }
+    ensures { (result ≡ true) ↔ (flag_now access.now.kind (outcome_of log.now.logs owner number) ≡ flag_found graph.now.lanes
+        fifos.now.channels cycle access.now) }
 {
     if access.kind.is_blocking() {
         return true;

@@ -1,5 +1,5 @@
 //! Room for the steps to come.
-ghost use Rattle.std.specs.Prelude.{◌≡◌, ℕ, ◌+◌, ◌<◌, ◌≤◌, Bool, List, length, slice_index, All, OnOk};
+ghost use Rattle.std.specs.Prelude.{◌≡◌, ◌≢◌, ℕ, ◌+◌, ◌<◌, ◌≤◌, Bool, List, length, slice_index, All, OnOk};
 ghost use Rattle.flow_word.specs.declared.access.Side.{Side as side_type};
 ghost use Rattle.flow_design.specs.declared.state.ModuleState.{ModuleState};
 ghost use Rattle.event_timing.specs.Machines.{Design};
@@ -35,9 +35,12 @@ pub fn make_room(
     ensures channels { fifos.new.channels ≡ fifos.old.channels }
     ensures logs { log.new.logs ≡ log.old.logs }
     ensures credits { length credits.new.items ≡ length credits.old.items }
+    ensures other_credits { (m : ℕ) → m ≢ owner → slice_index credits.new.items m ≡ slice_index credits.old.items m }
     ensures credit { OnOk result (2 ≤ slice_index credits.new.items owner) }
     ensures queries { OnOk result (queries ≤ slice_index log.new.rooms owner) }
-    ensures room { (d : Design ModuleState) (over : List Bool) → AreAllPorts d owner (length fifos.old.channels) ports.now → IsRoomy d (stored graph.old fifos.old log.old) over credits.old.items → IsRoomy d (stored graph.new fifos.new log.new) over credits.new.items }
+    ensures room { (d : Design ModuleState) (over : List Bool) → AreAllPorts d owner (length fifos.old.channels) ports.now
+        → IsRoomy d (stored graph.old fifos.old log.old) over credits.old.items
+        → IsRoomy d (stored graph.new fifos.new log.new) over credits.new.items }
 {
     log.reserve(owner, queries)?;
     if credits[owner as usize] >= 2 {

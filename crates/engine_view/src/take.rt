@@ -29,10 +29,12 @@ pub fn take_all(
     requires apart { AreApart accesses.now }
     requires room { HasRoomFor fifos.old accesses.now }
     requires few { first_query + length accesses.now < 2 ^ 64 }
-    ensures channels { fifos.new.channels ≡ taken_all at fifos.old.channels accesses.now (done_by later accesses.now (drop first_query (log_at log.now.logs at.module).outcomes)) }
+    ensures channels { fifos.new.channels ≡ taken_all at fifos.old.channels accesses.now
+        (done_by later accesses.now (drop first_query (log_at log.now.logs at.module).outcomes)) }
     ensures kinds { kinds_in fifos.new.channels ≡ kinds_in fifos.old.channels }
     ensures one { (side : side_type) (c : ℕ) → room_of fifos.old side c ≤ room_of fifos.new side c + 1 }
-    ensures others { (side : side_type) (c : ℕ) → All (λ a. TakesAt side c a → ⊥) accesses.now → room_of fifos.old side c ≤ room_of fifos.new side c }
+    ensures others { (side : side_type) (c : ℕ) → All (λ a. TakesAt side c a → ⊥) accesses.now
+        → room_of fifos.old side c ≤ room_of fifos.new side c }
 {
     let mut number = first_query;
     for access in accesses {
@@ -69,7 +71,8 @@ pub fn was_possible(log: &QueryLog, owner: u32, number: u64, kind: Kind) -> bool
 fn take_if(fifos: &mut FifoTable, at: Place, access: &Access, done: bool)
     requires access { IsAccess fifos.old.channels access.now }
     requires room { is_taking access.now.kind ≡ true → 0 < room_of fifos.old (side_of access.now.kind) access.now.channel }
-    ensures channels { fifos.new.channels ≡ cond (is_taking access.now.kind && done) (taken_by (side_of access.now.kind) at fifos.old.channels access.now) fifos.old.channels }
+    ensures channels { fifos.new.channels ≡ cond (is_taking access.now.kind && done)
+        (taken_by (side_of access.now.kind) at fifos.old.channels access.now) fifos.old.channels }
     ensures one { (side : side_type) (c : ℕ) → room_of fifos.old side c ≤ room_of fifos.new side c + 1 }
     ensures others { (side : side_type) (c : ℕ) → (TakesAt side c access.now → ⊥) → room_of fifos.old side c ≤ room_of fifos.new side c }
 {

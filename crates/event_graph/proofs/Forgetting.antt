@@ -16,13 +16,19 @@ pub record IsForgetting (cycle at : ℕ) (first now : List RoomedLane) : Type 0 
   pub sound : All IsSoundLane (lanes_of now)
 
 -- one lane more
-pub forgetting_more : (cycle at : ℕ) (first now : List RoomedLane) (old new : RoomedLane) → IsForgetting cycle at first now → at < length now → length now ≡ length first
-    → old ≡ get_or now at old → new.lane ≡ timed_below cycle old.lane → old.room ≤ new.room → IsSoundLane new.lane → IsForgetting cycle (at + 1) first (set now at new)
+pub forgetting_more : (cycle at : ℕ) (first now : List RoomedLane) (old new : RoomedLane) → IsForgetting cycle at first now
+    → at < length now → length now ≡ length first
+    → old ≡ get_or now at old → new.lane ≡ timed_below cycle old.lane → old.room ≤ new.room → IsSoundLane new.lane
+    → IsForgetting cycle (at + 1) first (set now at new)
 forgetting_more cycle at first now old new before within count is lane room sound = record {
   lanes =
       let there : at < length (lanes_of first) = rw (length-map first (λ (l : RoomedLane). l.lane)) (omega arith) in
-      let shown : old.lane ≡ get_or (lanes_of now) at old.lane = rw (get_or-map (λ (l : RoomedLane). l.lane) now at old old.lane within, ← is) refl in
-      rw (map-set (λ (l : RoomedLane). l.lane) now at new, lane) (map_over_more (timed_below cycle) (lanes_of first) (lanes_of now) at old.lane there before.lanes shown);
+      let shown : old.lane ≡ get_or (lanes_of now) at old.lane = rw (
+        get_or-map (λ (l : RoomedLane). l.lane) now at old old.lane within,
+        ← is,
+      ) refl in
+      rw (map-set (λ (l : RoomedLane). l.lane) now at new, lane) (map_over_more (timed_below cycle) (lanes_of first) (lanes_of now) at
+      old.lane there before.lanes shown);
   rooms = λ k.
       let a = before.rooms k in
       let b = shown_kept (λ (l : RoomedLane). l.room) now at old new within is room k in
@@ -31,7 +37,8 @@ forgetting_more cycle at first now old new before within count is lane room soun
 }
 
 -- all lanes have forgotten
-pub forgotten : (cycle at : ℕ) (first now : List RoomedLane) → IsForgetting cycle at first now → length first ≤ at → lanes_of now ≡ map (timed_below cycle) (lanes_of first)
+pub forgotten : (cycle at : ℕ) (first now : List RoomedLane) → IsForgetting cycle at first now → length first ≤ at
+    → lanes_of now ≡ map (timed_below cycle) (lanes_of first)
 forgotten cycle at first now all past =
     let beyond : length (lanes_of first) ≤ at = rw (length-map first (λ (l : RoomedLane). l.lane)) past in
     let done = all.lanes in

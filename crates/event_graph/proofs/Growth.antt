@@ -17,7 +17,8 @@ rest_push P [] x h p = All-nil P
 rest_push P (y ∷ xs) x h p = All-push P xs x h (p (omega arith))
 
 -- a lane with a step more
-pub longer_sound : (lane : Lane) (step : Step) (steps : List Step) (cycles : List ℕ) → IsSoundLane lane → IsSoundStep step → (0 < length lane.steps → 1 ≤ step.gap)
+pub longer_sound : (lane : Lane) (step : Step) (steps : List Step) (cycles : List ℕ) → IsSoundLane lane → IsSoundStep step
+    → (0 < length lane.steps → 1 ≤ step.gap)
     → steps ≡ lane.steps ++ step ∷ [] → cycles ≡ lane.cycles → IsSoundLane (record { steps = steps; cycles = cycles })
 longer_sound lane step steps cycles sound small apart more same = rw (more, same) (record {
   steps = All-push IsSoundStep lane.steps step sound.steps small;
@@ -36,7 +37,8 @@ none_pass p [] h = refl
 none_pass p (x ∷ xs) h = rw (All-head (λ y. p y ≡ false) x xs h) (none_pass p xs (All-tail (λ y. p y ≡ false) x xs h))
 
 -- what stands before the point where a test fails is what passes the test
-pub before_point : (p : ℕ → Bool) (xs : List ℕ) (i : ℕ) → i ≤ length xs → IsPartitionPoint (λ y. p y ≡ true) (λ y. p y ≡ false) xs i → take i xs ≡ filter p xs
+pub before_point : (p : ℕ → Bool) (xs : List ℕ) (i : ℕ) → i ≤ length xs → IsPartitionPoint (λ y. p y ≡ true) (λ y. p y ≡ false) xs i
+    → take i xs ≡ filter p xs
 before_point p xs i le point =
     let front : All (λ y. p y ≡ true) (take i xs) = λ k d l. grind (arith, common_steps, point.0 k d) in
     let back : All (λ y. p y ≡ false) (drop i xs) = λ k d l. grind (arith, common_steps, point.1 (i + k) d) in
@@ -51,6 +53,8 @@ pub never_falls : (xs : List ℕ) → IsStrictlyIncreasing xs → IsNonDecreasin
 never_falls xs rises i j d le lt = let pair = AllPairs-from_increasing xs rises i j d in grind (arith, pair)
 
 -- the lanes of a list in which one became another sound one
-pub all_sound : (xs : List RoomedLane) (i : ℕ) (new : RoomedLane) → All IsSoundLane (map (λ (l : RoomedLane). l.lane) xs) → IsSoundLane new.lane
+pub all_sound : (xs : List RoomedLane) (i : ℕ) (new : RoomedLane) → All IsSoundLane (map (λ (l : RoomedLane). l.lane) xs)
+    → IsSoundLane new.lane
     → All IsSoundLane (map (λ (l : RoomedLane). l.lane) (set xs i new))
-all_sound xs i new sound here = rw (map-set (λ (l : RoomedLane). l.lane) xs i new) (All-set IsSoundLane (map (λ (l : RoomedLane). l.lane) xs) i new.lane here sound)
+all_sound xs i new sound here = rw (map-set (λ (l : RoomedLane). l.lane) xs i new)
+    (All-set IsSoundLane (map (λ (l : RoomedLane). l.lane) xs) i new.lane here sound)

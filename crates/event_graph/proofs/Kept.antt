@@ -11,8 +11,10 @@ use Rattle.flow_word.specs.declared.access.Place.{Place}
 use Rattle.event_graph.specs.Lanes.{Lane, IsSoundLane, no_lane, timed_below, if_below, lane_at, cycle_of}
 use Rattle.event_graph.proofs.Growth.{none_pass}
 
-head_kept : (cycle x : ℕ) (xs : List ℕ) → ((k : ℕ) → slice_get (filter (λ c. nat_lt c cycle) xs) k ≡ if_below cycle (slice_get xs k)) → All (λ y. x < y) xs
-    → (b : Bool) → nat_lt x cycle ≡ b → (k : ℕ) → slice_get (cond b (x ∷ filter (λ c. nat_lt c cycle) xs) (filter (λ c. nat_lt c cycle) xs)) k ≡ if_below cycle (slice_get (x ∷ xs) k)
+head_kept : (cycle x : ℕ) (xs : List ℕ) → ((k : ℕ) → slice_get (filter (λ c. nat_lt c cycle) xs) k ≡ if_below cycle (slice_get xs k))
+    → All (λ y. x < y) xs
+    → (b : Bool) → nat_lt x cycle ≡ b → (k : ℕ)
+    → slice_get (cond b (x ∷ filter (λ c. nat_lt c cycle) xs) (filter (λ c. nat_lt c cycle) xs)) k ≡ if_below cycle (slice_get (x ∷ xs) k)
 head_kept cycle x xs rest later true e zero = rw e refl
 head_kept cycle x xs rest later true e (suc k) = rest k
 head_kept cycle x xs rest later false e zero =
@@ -22,10 +24,12 @@ head_kept cycle x xs rest later false e (suc k) =
     let past = rest k in rw none (rw none at past)
 
 -- of numbers that rise those below a bound keep their places
-kept_at : (cycle : ℕ) (xs : List ℕ) → AllPairs (λ x y. x < y) xs → (k : ℕ) → slice_get (filter (λ c. nat_lt c cycle) xs) k ≡ if_below cycle (slice_get xs k)
+kept_at : (cycle : ℕ) (xs : List ℕ) → AllPairs (λ x y. x < y) xs → (k : ℕ)
+    → slice_get (filter (λ c. nat_lt c cycle) xs) k ≡ if_below cycle (slice_get xs k)
 kept_at cycle [] rises k = refl
 kept_at cycle (x ∷ xs) rises k =
-    head_kept cycle x xs (kept_at cycle xs (λ i j d l h. rises (suc i) (suc j) d (omega arith) (omega arith))) (λ j d h. rises 0 (suc j) d (omega arith) (omega arith)) (nat_lt x cycle) refl k
+    head_kept cycle x xs (kept_at cycle xs (λ i j d l h. rises (suc i) (suc j) d (omega arith) (omega arith)))
+    (λ j d h. rises 0 (suc j) d (omega arith) (omega arith)) (nat_lt x cycle) refl k
 
 -- the cycles of a lane rise, also where there is no such lane
 rising_at : (lanes : List Lane) (owner : ℕ) → All IsSoundLane lanes → IsStrictlyIncreasing (lane_at lanes owner).cycles
@@ -36,6 +40,8 @@ rising_at lanes owner sound =
     ]
 
 -- a step keeps its cycle where that is below the clock, and has none otherwise
-pub cycle_kept : (cycle : ℕ) (lanes : List Lane) → All IsSoundLane lanes → (place : Place) → cycle_of (map (timed_below cycle) lanes) place ≡ if_below cycle (cycle_of lanes place)
+pub cycle_kept : (cycle : ℕ) (lanes : List Lane) → All IsSoundLane lanes → (place : Place)
+    → cycle_of (map (timed_below cycle) lanes) place ≡ if_below cycle (cycle_of lanes place)
 cycle_kept cycle lanes sound place =
-    rw (get_or-map (timed_below cycle) lanes place.module no_lane) (kept_at cycle _ (AllPairs-from_increasing _ (rising_at lanes place.module sound)) place.step)
+    rw (get_or-map (timed_below cycle) lanes place.module no_lane)
+    (kept_at cycle _ (AllPairs-from_increasing _ (rising_at lanes place.module sound)) place.step)

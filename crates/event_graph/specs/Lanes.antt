@@ -1,5 +1,6 @@
 -- Lanes of steps: what a graph holds, when it is sound, and how it grows and shrinks.
-use Rattle.std.specs.Prelude.{ℕ, ◌-◌, ◌<◌, ◌≤◌, ◌^◌, List, [], ◌∷◌, ◌++◌, length, drop, filter, nat_lt, slice_get, slice_set, slice_index_or, All, if◌then◌else◌, Option, None, Some}
+use Rattle.std.specs.Prelude.{ℕ, ◌-◌, ◌<◌, ◌≤◌, ◌^◌, List, [], ◌∷◌, ◌++◌, length, drop, filter, nat_lt, slice_get, slice_set}
+use Rattle.std.specs.Prelude.{slice_index_or, All, if◌then◌else◌, Option, None, Some}
 use Rattle.std.specs.List.Sorted.{IsStrictlyIncreasing}
 use Rattle.flow_word.specs.declared.access.Step.{Step}
 use Rattle.flow_word.specs.declared.access.Place.{Place}

@@ -1,7 +1,9 @@
 //! The lanes of all modules.
-ghost use Rattle.std.specs.Prelude.{◌≡◌, ◌≢◌, ℕ, ◌+◌, ◌<◌, ◌≤◌, length, map, replicate, slice_get, slice_index, All, Some, IfSome, IsOk, IfOk, OnOk, OnErr};
+ghost use Rattle.std.specs.Prelude.{◌≡◌, ◌≢◌, ℕ, ◌+◌, ◌<◌, ◌≤◌, length, map, replicate, slice_get, slice_index, All, Some, IfSome, IsOk};
+ghost use Rattle.std.specs.Prelude.{IfOk, OnOk, OnErr};
 ghost use Rattle.std.specs.Option.{ForSome};
-ghost use Rattle.event_graph.specs.Lanes.{no_lane, lane_at, last_cycle, cycle_bound, HasStep, IsSoundStep, IsSoundLane, with_step, with_cycle, timed_below, if_below};
+ghost use Rattle.event_graph.specs.Lanes.{no_lane, lane_at, last_cycle, cycle_bound, HasStep, IsSoundStep, IsSoundLane, with_step};
+ghost use Rattle.event_graph.specs.Lanes.{with_cycle, timed_below, if_below};
 ghost use Rattle.event_graph.specs.Lanes.{cycle_of as cycle_at};
 ghost use Rattle.flow_word.specs.declared.access.Place.{Place};
 

@@ -23,9 +23,14 @@ impl Model for RoomyLane {
 
     ghost Value = { RoomedLane };
 
-    ghost view = { λ l. record { lane = record { steps = l.steps.items; cycles = l.cycles.items }; room = min l.steps.room (vec_capacity l.cycles - length l.steps.items) } };
+    ghost view = { λ l. record {
+      lane = record { steps = l.steps.items; cycles = l.cycles.items };
+      room =
+          min l.steps.room (vec_capacity l.cycles - length l.steps.items);
+    } };
 
-    ghost invariant = { λ l. IsSoundLane (record { steps = l.steps.items; cycles = l.cycles.items }) × (length l.steps.items ≤ vec_capacity l.cycles) };
+    ghost invariant = { λ l. IsSoundLane (record { steps = l.steps.items; cycles = l.cycles.items })
+        × (length l.steps.items ≤ vec_capacity l.cycles) };
 }
 
 impl RoomyLane {

@@ -12,6 +12,7 @@ pub mod Sure
 pub mod Assigning
 pub mod Running
 pub mod Answering
+pub mod Marking
 pub mod Agreement
 pub mod Verdict
 pub mod Editing

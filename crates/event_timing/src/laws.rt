@@ -40,6 +40,8 @@ pub fn marks_stay<S>()
         → AreOwnMarks d (after_answer d x m c) }
     ensures edit { (d : Design S) (x : Core S) → AreOwnMarks d x → (fifo depth t : ℕ)
         → AreOwnMarks (edited d fifo depth) (after_edit d x t) }
+    ensures actions { (d : Design S) → IsDesign d → (limit : ℕ) (x : Core S) → AreOwnMarks d x → (actions : List Action) (y : Core S)
+        → ActsAll d limit x actions y → AreOwnMarks d y }
     ensures newest { (d : Design S) (x : Core S) → AreOwnMarks d x → (m : ℕ) → newest d x m ≡ own d m (core_reply d x m) (x.emitted m) }
 {}
 

@@ -25,14 +25,16 @@ replaced items c new sound here = (
 )
 
 -- the kind of a channel that was read
-pub read_kind : (items : List RoomyChannel) (c : ℕ) (old : RoomyChannel) → c < length items → old ≡ get_or items c old → AreSound items → IsSoundKind old.kind
+pub read_kind : (items : List RoomyChannel) (c : ℕ) (old : RoomyChannel) → c < length items → old ≡ get_or items c old → AreSound items
+    → IsSoundKind old.kind
 read_kind items c old there is sound =
     let shown = get_or-map channel_of items c old (channel_of old) there in
     let here = sound.0 c (channel_of old) (rw (length-map items channel_of) there) in
     rw (shown, ← is) at here
 
 -- a FIFO of another depth
-pub deepened_sound : (kind : TableChannel) (depth : ℕ) → IsSoundKind kind → 1 ≤ depth → depth ≤ FIFO_DEPTH → IsSoundKind (deepened kind depth)
+pub deepened_sound : (kind : TableChannel) (depth : ℕ) → IsSoundKind kind → 1 ≤ depth → depth ≤ FIFO_DEPTH
+    → IsSoundKind (deepened kind depth)
 deepened_sound (Source inputs) depth sound least most = sound
 deepened_sound Sink depth sound least most = sound
 deepened_sound (Fifo old delay) depth sound least most = (least, most, sound.2, sound.3)

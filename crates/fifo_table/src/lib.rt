@@ -5,7 +5,7 @@ mod channel;
 mod enabler;
 mod table;
 
-pub use channel::TableChannel;
+pub use channel::{Pushed, TableChannel};
 pub use enabler::Enabler;
 pub use table::FifoTable;
 

@@ -1,7 +1,8 @@
 //! The table of all channels.
 ghost use Rattle.std.specs.Prelude.{◌≡◌, ◌≢◌, ℕ, ◌+◌, ◌<◌, ◌≤◌, ◌^◌, length, map, slice_index, All, IsOk, IfOk, OnOk, OnErr};
 ghost use Rattle.flow_design.specs.declared.limits.TheConstants.{FIFO_DEPTH, FIFO_DELAY};
-ghost use Rattle.fifo_table.specs.Channels.{IsSoundKind, IsSource, IsSink, IsFifo, HasSide, depth_of, lag_of, unused, channel_at, nth, places_of, first_module, values_of, with_push, with_pop, with_depth};
+ghost use Rattle.fifo_table.specs.Channels.{IsSoundKind, IsSource, IsSink, IsFifo, HasSide, depth_of, lag_of, unused, channel_at, nth};
+ghost use Rattle.fifo_table.specs.Channels.{places_of, first_module, values_of, with_push, with_pop, with_depth};
 ghost use Rattle.fifo_table.specs.Enablers.{enabler_of, event_at};
 
 use crate::channel::{Pushed, RoomyChannel, TableChannel};
@@ -26,7 +27,12 @@ impl Model for FifoTable {
 
     ghost Value = { RoomedChannels };
 
-    ghost view = { λ t. record { channels = channels_of t.channels.items; push_rooms = push_rooms_of t.channels.items; pop_rooms = pop_rooms_of t.channels.items } };
+    ghost view = { λ t. record {
+      channels = channels_of t.channels.items;
+      push_rooms = push_rooms_of t.channels.items;
+      pop_rooms =
+          pop_rooms_of t.channels.items;
+    } };
 
     ghost invariant = { λ t. All (λ c. IsSoundKind c.kind) (channels_of t.channels.items) × (length t.channels.items < 2 ^ 32) };
 }
@@ -132,6 +138,14 @@ impl FifoTable {
         ensures { result ≡ length (places_of Side.Push (channel_at self.now.channels channel)) }
     {
         self.channels[channel as usize].pushes.len()
+    }
+
+    /// The pushes of a channel, in order.
+    pub fn pushed(&self, channel: u32) -> &[Pushed]
+        requires { channel < length self.now.channels }
+        ensures { result.now ≡ (channel_at self.now.channels channel).pushes }
+    {
+        self.channels[channel as usize].pushes.as_slice()
     }
 
     /// The module of a channel's first pop. None where there is no pop yet.

@@ -2,6 +2,7 @@
 #![tactic(auto)]
 
 ghost use Rattle.std.specs.Prelude.{◌≡◌, ◌≤◌, IfOk};
+ghost use Rattle.flow_design.specs.declared.limits.TheConstants.{MODULES};
 ghost use Rattle.flow_gen.specs.Generated.{session_text};
 
 mod channel;
@@ -20,7 +21,7 @@ use std::alloc::Global;
 pub fn generate(alloc: Global, seed: u64, modules: u64) -> Result<List<u8>, OutOfMemory>
     requires seed { seed ≤ 65_535 }
     requires some { 1 ≤ modules }
-    requires most { modules ≤ 64 }
+    requires most { modules ≤ MODULES }
     ensures { IfOk result (λ text. text ≡ session_text seed modules) }
 {
     let draws = draws::draw_modules(alloc, seed, modules)?;

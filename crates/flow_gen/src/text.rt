@@ -1,5 +1,6 @@
 //! The lines of the session.
 ghost use Rattle.std.specs.Prelude.{◌≡◌, ◌++◌, ◌≤◌, ◌<◌, IfOk, OnOk, length, string_bytes};
+ghost use Rattle.flow_design.specs.declared.limits.TheConstants.{MODULES};
 ghost use Rattle.flow_gen.specs.Generated.{declarations, fifo_line, first_clock, first_numbers, input_of, loop_line, module_lines, output_of, second_clock, session_of, spaced, each_module};
 
 use crate::channel::Channel;
@@ -14,7 +15,7 @@ const VALUES: u64 = 1000;
 #[tactic(auto, unfolding(crate::specs::Generated::session_of))]
 pub fn session(alloc: Global, draws: &[Drawn]) -> Result<String, OutOfMemory>
     requires some { 1 ≤ length draws.now }
-    requires most { length draws.now ≤ 64 }
+    requires most { length draws.now ≤ MODULES }
     ensures { IfOk result (λ text. string_bytes text ≡ session_of draws.now) }
 {
     let mut text = String::from_str(alloc, "flow 1\nsource a 32\nsink y 32\n")?;
@@ -28,7 +29,7 @@ pub fn session(alloc: Global, draws: &[Drawn]) -> Result<String, OutOfMemory>
 
 /// The FIFO behind each of these modules.
 fn push_fifos(text: &mut String, draws: &[Drawn]) -> Result<(), OutOfMemory>
-    requires { length draws.now ≤ 64 }
+    requires { length draws.now ≤ MODULES }
     ensures { OnOk result (string_bytes text.new
         ≡ string_bytes text.old ++ each_module fifo_line 0 draws.now) }
 {
@@ -40,7 +41,7 @@ fn push_fifos(text: &mut String, draws: &[Drawn]) -> Result<(), OutOfMemory>
 
 #[tactic(auto, unfolding(crate::specs::Generated::fifo_line))]
 fn push_fifo(text: &mut String, k: u64, drawn: &Drawn) -> Result<(), OutOfMemory>
-    requires { k < 64 }
+    requires { k < MODULES }
     ensures { OnOk result (string_bytes text.new ≡ string_bytes text.old ++ fifo_line k drawn.now) }
 {
     let depth = drawn.depth;
@@ -50,7 +51,7 @@ fn push_fifo(text: &mut String, k: u64, drawn: &Drawn) -> Result<(), OutOfMemory
 
 /// The modules, one behind the other.
 fn push_modules(text: &mut String, draws: &[Drawn]) -> Result<(), OutOfMemory>
-    requires { length draws.now ≤ 64 }
+    requires { length draws.now ≤ MODULES }
     ensures { OnOk result (string_bytes text.new
         ≡ string_bytes text.old ++ each_module (module_lines (length draws.now)) 0 draws.now) }
 {
@@ -63,7 +64,7 @@ fn push_modules(text: &mut String, draws: &[Drawn]) -> Result<(), OutOfMemory>
 
 #[tactic(auto, unfolding(crate::specs::Generated::module_lines))]
 fn push_module(text: &mut String, modules: u64, k: u64, drawn: &Drawn) -> Result<(), OutOfMemory>
-    requires { k < 64 }
+    requires { k < MODULES }
     ensures { OnOk result (string_bytes text.new
         ≡ string_bytes text.old ++ module_lines modules k drawn.now) }
 {
@@ -88,7 +89,7 @@ fn input_of(k: u64) -> Channel
 
 /// The channel that a module writes: the sink, or the FIFO behind it.
 fn output_of(modules: u64, k: u64) -> Channel
-    requires { k < 64 }
+    requires { k < MODULES }
     ensures { result ≡ output_of modules k }
 {
     if k + 1 == modules {

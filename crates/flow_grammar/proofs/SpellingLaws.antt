@@ -9,10 +9,8 @@ use Rattle.flow_design.specs.declared.expr.Expr.TheVariants.{Number, Var, Unary,
 use Rattle.flow_design.specs.declared.expr.UnOp.{UnOp}
 use Rattle.flow_design.specs.declared.expr.UnOp.TheVariants.{Not}
 use Rattle.flow_design.specs.declared.expr.BinOp.{BinOp}
-use Rattle.flow_design.specs.declared.expr.BinOp.TheVariants.{Add, Sub, Mul, And, Or, Xor, Shl, Shr, Eq, Ne, LtU, LtS, Div, Rem}
 use Rattle.flow_grammar.specs.declared.operator.Operator.{Operator}
 use Rattle.flow_grammar.specs.declared.operator.Operator.TheVariants.{One, Two, Extend, Choose}
-use Rattle.std.specs.Prelude.{if◌then◌else◌}
 use Rattle.std.proofs.lemmas.Bool.{eqb-true}
 use Rattle.flow_grammar.specs.Tokens.{is_word, is_number, is_name, number_of}
 use Rattle.flow_grammar.specs.declared.keyword.Keyword.{Keyword}

@@ -1,14 +1,13 @@
 -- The version is declared by the first statement, and what is written in version 1 is written in version 2 too.
-use Rattle.std.proofs.Common.{◌≡◌, ℕ, ◌+◌, List, [], ◌∷◌, ◌++◌, map, Bool, true, Option, None, Some, refl, sym, ap, subst, ◌∙◌, inl, inr}
+use Rattle.std.proofs.Common.{◌≡◌, ℕ, ◌+◌, List, [], ◌∷◌, ◌++◌, map, true, Option, None, Some, refl, sym, ap, subst, ◌∙◌, inl, inr}
 use Rattle.std.specs.Prelude.{reverse, unwrap_or}
 use Rattle.std.proofs.lemmas.List.{reverse-append}
 use Rattle.flow_design.specs.declared.session.Statement.{Statement}
 use Rattle.flow_design.specs.declared.session.Statement.TheVariants.{Flow, Source, Sink, Fifo, Module, Reg, Mem, Block, Loop, Temp, At, Goto, Branch, Stop, Input, Limits, Depth, End}
 use Rattle.flow_grammar.specs.Tokens.{Line, Token, lines_of, tokens_of}
 use Rattle.flow_grammar.specs.Before.{flow_number, version, has_delays}
-use Rattle.flow_grammar.specs.Places.{place, place_after, takes_flow, may_follow}
+use Rattle.flow_grammar.specs.Places.{place_after, takes_flow, may_follow}
 use Rattle.flow_grammar.specs.Parts.{parts}
-use Rattle.flow_grammar.specs.Forms.{statement_of}
 use Rattle.flow_grammar.specs.Spelling.{Spelled, Writes}
 use Rattle.flow_grammar.specs.Gives.{with_statement}
 use Rattle.flow_grammar.specs.Text.{statements_among, numbers_among, IsInOrder, StandsFor}

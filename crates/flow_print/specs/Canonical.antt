@@ -1,6 +1,6 @@
 -- The canonical text of a session: one statement a line, one space between tokens, numbers without leading zeros, each FIFO's depth
 -- written out, and its delay in the version that has delays.
-use Rattle.std.specs.Prelude.{ℕ, List, [], ◌∷◌, map, if◌then◌else◌}
+use Rattle.std.specs.Prelude.{ℕ, List, ◌∷◌, map, if◌then◌else◌}
 use Rattle.std.specs.Fmt.{decimal}
 use Rattle.std.specs.List.{flat_map}
 use Rattle.flow_design.specs.declared.session.Statement.{Statement}

@@ -32,9 +32,9 @@ port_on side f = record { side = side; channel = f }
 -- what the laws of channels take of the static rules
 pub record KeepsPorts (p : Plan) : Type 0 where
   -- one module at each port
-  pub owned : (e : Port) (i : ℕ) → uses e (module_at p i) ≡ true → owner p e ≡ i
+  pub owned : (a : Port) (i : ℕ) → uses a (module_at p i) ≡ true → owner p a ≡ i
   -- no two pops, or pushes, of one channel in one body have offsets equal modulo II
-  pub apart : (e : Port) (i b : ℕ) → AreApart (takes e) (interval (block_at (module_at p i) b)) (block_at (module_at p i) b).ops
+  pub apart : (a : Port) (i b : ℕ) → AreApart (takes a) (interval (block_at (module_at p i) b)) (block_at (module_at p i) b).ops
   -- II and LEN are at least 1
   pub intervals : (i b : ℕ) → ((block_at (module_at p i) b).ops ≡ []) ⊎ (0 < interval (block_at (module_at p i) b))
 
@@ -44,47 +44,47 @@ length-cond : {X : Type 0} (b : Bool) (x : X) (xs : List X) → length (cond b (
 length-cond true x xs = omega arith
 length-cond false x xs = omega arith
 
-taker_of : (channels : List Channel) (s : ModuleState) (e : Port) (i : ℕ) (op : Op ℕ) (rs : List Request)
-    → length (takers e (cons_option (request_of channels s i op) rs)) ≡ cond (takes e op) 1 0 + length (takers e rs)
-taker_of channels s e i (Set x a) rs = omega arith
-taker_of channels s e i (Load x n a) rs = omega arith
-taker_of channels s e i (Store n a b) rs = omega arith
-taker_of channels s e i (Read f x) rs = length-cond (same_port e (port_on Pop f)) _ (takers e rs)
-taker_of channels s e i (Write f a) rs = length-cond (same_port e (port_on Push f)) _ (takers e rs)
-taker_of channels s e i (TryRead f x ok) rs = length-cond (same_port e (port_on Pop f)) _ (takers e rs)
-taker_of channels s e i (TryWrite f ok a) rs = length-cond (same_port e (port_on Push f)) _ (takers e rs)
-taker_of channels s e i (Empty f x) rs = omega arith
-taker_of channels s e i (Full f x) rs = omega arith
+taker_of : (channels : List Channel) (s : ModuleState) (q : Port) (i : ℕ) (op : Op ℕ) (rs : List Request)
+    → length (takers q (cons_option (request_of channels s i op) rs)) ≡ cond (takes q op) 1 0 + length (takers q rs)
+taker_of channels s q i (Set x a) rs = omega arith
+taker_of channels s q i (Load x n a) rs = omega arith
+taker_of channels s q i (Store n a b) rs = omega arith
+taker_of channels s q i (Read f x) rs = length-cond (same_port q (port_on Pop f)) _ (takers q rs)
+taker_of channels s q i (Write f a) rs = length-cond (same_port q (port_on Push f)) _ (takers q rs)
+taker_of channels s q i (TryRead f x ok) rs = length-cond (same_port q (port_on Pop f)) _ (takers q rs)
+taker_of channels s q i (TryWrite f ok a) rs = length-cond (same_port q (port_on Push f)) _ (takers q rs)
+taker_of channels s q i (Empty f x) rs = omega arith
+taker_of channels s q i (Full f x) rs = omega arith
 
-takers_counted : (channels : List Channel) (m : Module) (s : ModuleState) (e : Port) (ds : List Due)
-    → length (takers e (filter_map (request_for channels m s) ds)) ≡ how_many (takes e) (block_of m s) ds
-takers_counted channels m s e [] = refl
-takers_counted channels m s e (d ∷ ds) =
-    taker_of channels s e d.iteration (operation_at (block_of m s) d.op).op (filter_map (request_for channels m s) ds)
-    ∙ ap (λ (n : ℕ). cond (takes e (operation_at (block_of m s) d.op).op) 1 0 + n) (takers_counted channels m s e ds)
+takers_counted : (channels : List Channel) (m : Module) (s : ModuleState) (a : Port) (ds : List Due)
+    → length (takers a (filter_map (request_for channels m s) ds)) ≡ how_many (takes a) (block_of m s) ds
+takers_counted channels m s a [] = refl
+takers_counted channels m s a (d ∷ ds) =
+    taker_of channels s a d.iteration (operation_at (block_of m s) d.op).op (filter_map (request_for channels m s) ds)
+    ∙ ap (λ (n : ℕ). cond (takes a (operation_at (block_of m s) d.op).op) 1 0 + n) (takers_counted channels m s a ds)
 
-takers_due : (channels : List Channel) (m : Module) (s : ModuleState) (e : Port)
-    → length (takers e (requests channels m s)) ≡ how_many (takes e) (block_of m s) (due m s)
+takers_due : (channels : List Channel) (m : Module) (s : ModuleState) (a : Port)
+    → length (takers a (requests channels m s)) ≡ how_many (takes a) (block_of m s) (due m s)
 unfolding requests
-takers_due channels m s e = takers_counted channels m s e (due m s)
+takers_due channels m s a = takers_counted channels m s a (due m s)
 
 none_in : (is : Op ℕ → Bool) (ts : List Timed) → ts ≡ [] → AllByRecursion (λ t. is t.op ≡ false) ts
 none_in is [] e = tt
 none_in is (t ∷ ts) e = cc
 
 -- a module pops a channel at most once in a local clock, and pushes it at most once
-pub takers_once : (p : Plan) → KeepsPorts p → (e : Port) (i : ℕ) (s : ModuleState) → length (takers e (requests_of p (i, s))) ≤ 1
-takers_once p h e i s = by_case (h.intervals i s.control.block)
+pub takers_once : (p : Plan) → KeepsPorts p → (q : Port) (i : ℕ) (s : ModuleState) → length (takers q (requests_of p (i, s))) ≤ 1
+takers_once p h q i s = by_case (h.intervals i s.control.block)
   where
     by_case : ((block_of (module_at p i) s).ops ≡ []) ⊎ (0 < interval (block_of (module_at p i) s))
-        → length (takers e (requests_of p (i, s))) ≤ 1
+        → length (takers q (requests_of p (i, s))) ≤ 1
     by_case (inl none) =
-        omega (arith, takers_due p.design.channels (module_at p i) s e, none_due (takes e) (module_at p i) s (none_in (takes e) _ none))
+        omega (arith, takers_due p.design.channels (module_at p i) s q, none_due (takes q) (module_at p i) s (none_in (takes q) _ none))
     by_case (inr pos) =
         omega (
           arith,
-          takers_due p.design.channels (module_at p i) s e,
-          due_once (takes e) (module_at p i) s (h.apart e i s.control.block)
+          takers_due p.design.channels (module_at p i) s q,
+          due_once (takes q) (module_at p i) s (h.apart q i s.control.block)
               pos,
         )
 
@@ -138,14 +138,14 @@ any_false : {X : Type 0} (f : X → Bool) (xs : List X) → list_any f xs ≡ fa
 any_false f [] h = tt
 any_false f (x ∷ xs) h = let parts = or_parts (f x) (list_any f xs) h in (parts.0, any_false f xs parts.1)
 
-uses_none : (e : Port) (bs : List Block) (n : ℕ) → list_any (λ b. list_any (λ t. is_port e (used_port t.op)) b.ops) bs ≡ false
-    → AllByRecursion (λ t. takes e t.op ≡ false) (get_or bs n no_block).ops
-uses_none e [] n h = tt
-uses_none e (b ∷ bs) zero h = any_false (λ t. takes e t.op) b.ops (or_parts _ _ h).0
-uses_none e (b ∷ bs) (suc n) h = uses_none e bs n (or_parts _ _ h).1
+uses_none : (a : Port) (bs : List Block) (n : ℕ) → list_any (λ b. list_any (λ t. is_port a (used_port t.op)) b.ops) bs ≡ false
+    → AllByRecursion (λ t. takes a t.op ≡ false) (get_or bs n no_block).ops
+uses_none a [] n h = tt
+uses_none a (b ∷ bs) zero h = any_false (λ t. takes a t.op) b.ops (or_parts _ _ h).0
+uses_none a (b ∷ bs) (suc n) h = uses_none a bs n (or_parts _ _ h).1
 
-pub no_takers : (p : Plan) (e : Port) (i : ℕ) (s : ModuleState) → uses e (module_at p i) ≡ false
-    → length (takers e (requests_of p (i, s))) ≡ 0
-no_takers p e i s h =
-    takers_due p.design.channels (module_at p i) s e
-    ∙ none_due (takes e) (module_at p i) s (uses_none e (module_at p i).blocks s.control.block h)
+pub no_takers : (p : Plan) (a : Port) (i : ℕ) (s : ModuleState) → uses a (module_at p i) ≡ false
+    → length (takers a (requests_of p (i, s))) ≡ 0
+no_takers p a i s h =
+    takers_due p.design.channels (module_at p i) s a
+    ∙ none_due (takes a) (module_at p i) s (uses_none a (module_at p i).blocks s.control.block h)

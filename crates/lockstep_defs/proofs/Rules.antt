@@ -54,7 +54,7 @@ only_one f (x ∷ xs) (suc i) d l h one =
     by_test false e one more rest = rw (e, rest one) (omega arith)
 
 -- an operation that pops or pushes at a port stands there
-same_port-sound : (e g : Port) → same_port e g ≡ true → g ≡ e
+same_port-sound : (q g : Port) → same_port q g ≡ true → g ≡ q
 same_port-sound a b h = by_sides a.side b.side a.channel b.channel h
   where
     by_sides : (s t : Side) (f g : ℕ) → (same_side s t && nat_eq f g) ≡ true → port_on t g ≡ port_on s f
@@ -63,34 +63,34 @@ same_port-sound a b h = by_sides a.side b.side a.channel b.channel h
     by_sides Pop Push f g h = cc
     by_sides Push Pop f g h = cc
 
-is_port-sound : (e : Port) (o : Option Port) → is_port e o ≡ true → o ≡ Some e
-is_port-sound e None h = cc
-is_port-sound e (Some g) h = ap Some (same_port-sound e g h)
+is_port-sound : (a : Port) (o : Option Port) → is_port a o ≡ true → o ≡ Some a
+is_port-sound a None h = cc
+is_port-sound a (Some g) h = ap Some (same_port-sound a g h)
 
-used_stands : (op : Op ℕ) (e : Port) → used_port op ≡ Some e → port_of op ≡ Some e
-used_stands (Set x a) e h = cc
-used_stands (Load x n a) e h = cc
-used_stands (Store n a b) e h = cc
-used_stands (Read f x) e h = h
-used_stands (Write f a) e h = h
-used_stands (TryRead f x ok) e h = h
-used_stands (TryWrite f ok a) e h = h
-used_stands (Empty f x) e h = cc
-used_stands (Full f x) e h = cc
+used_stands : (op : Op ℕ) (q : Port) → used_port op ≡ Some q → port_of op ≡ Some q
+used_stands (Set x a) q h = cc
+used_stands (Load x n a) q h = cc
+used_stands (Store n a b) q h = cc
+used_stands (Read f x) q h = h
+used_stands (Write f a) q h = h
+used_stands (TryRead f x ok) q h = h
+used_stands (TryWrite f ok a) q h = h
+used_stands (Empty f x) q h = cc
+used_stands (Full f x) q h = cc
 
 -- a port that a module uses is one of a channel of the plan
-channel_used : (n : ℕ) (m : Module) (e : Port) → All (IsBlockSound n m) m.blocks → uses e m ≡ true → e.channel < n
-channel_used n m e sound h = in_block (Any-from_list_any _ m.blocks h)
+channel_used : (n : ℕ) (m : Module) (q : Port) → All (IsBlockSound n m) m.blocks → uses q m ≡ true → q.channel < n
+channel_used n m q sound h = in_block (Any-from_list_any _ m.blocks h)
   where
-    in_operation : (b : Block) → IsBlockSound n m b → Any (λ t. is_port e (used_port t.op) ≡ true) b.ops → e.channel < n
+    in_operation : (b : Block) → IsBlockSound n m b → Any (λ t. is_port q (used_port t.op) ≡ true) b.ops → q.channel < n
     in_operation b s (k, t, l, at_k, used) =
         let here : IsTimedSound n m b t = subst (λ (u : Timed). IsTimedSound n m b u) at_k (s.operations k t l) in
-        by_port (port_of t.op) (used_stands t.op e (is_port-sound e (used_port t.op) used)) here.operation.channel
+        by_port (port_of t.op) (used_stands t.op q (is_port-sound q (used_port t.op) used)) here.operation.channel
       where
-        by_port : (o : Option Port) → o ≡ Some e → IfSome o (λ g. g.channel < n) → e.channel < n
+        by_port : (o : Option Port) → o ≡ Some q → IfSome o (λ g. g.channel < n) → q.channel < n
         by_port o same s = subst (λ (o : Option Port). IfSome o (λ g. g.channel < n)) same s
 
-    in_block : Any (λ b. list_any (λ t. is_port e (used_port t.op)) b.ops ≡ true) m.blocks → e.channel < n
+    in_block : Any (λ b. list_any (λ t. is_port q (used_port t.op)) b.ops ≡ true) m.blocks → q.channel < n
     in_block (k, b, l, at_k, used) =
         in_operation b (subst (λ (c : Block). IsBlockSound n m c) at_k (sound k b l)) (Any-from_list_any _ b.ops used)
 
@@ -101,8 +101,8 @@ wanted_once Sink Pop = omega arith
 wanted_once Sink Push = omega arith
 wanted_once (Fifo depth delay) side = omega arith
 
-used_once : (p : Plan) → FitsEngine p → (e : Port) → e.channel < length p.design.channels → length (filter (uses e) p.design.modules) ≤ 1
-used_once p h e l = by_side e.side e.channel l
+used_once : (p : Plan) → FitsEngine p → (a : Port) → a.channel < length p.design.channels → length (filter (uses a) p.design.modules) ≤ 1
+used_once p h a l = by_side a.side a.channel l
   where
     by_side : (side : Side) (f : ℕ) → f < length p.design.channels → length (filter (uses (port_on side f)) p.design.modules) ≤ 1
     by_side Pop f l = omega (
@@ -149,51 +149,51 @@ sound_block p h i b = by_module (sound_module p h i)
 
 -- ---- pops and pushes that are apart
 
-apart_from : (e : Port) (ii : ℕ) (t : Timed) (ts : List Timed) → takes e t.op ≡ true
+apart_from : (a : Port) (ii : ℕ) (t : Timed) (ts : List Timed) → takes a t.op ≡ true
     → ((k : ℕ) → k < length ts → ¬ Clashes ii t (get_or ts k no_operation))
-    → AllByRecursion (λ u. (takes e u.op ≡ true) → t.offset % ii ≢ u.offset % ii) ts
-apart_from e ii t [] used h = tt
-apart_from e ii t (u ∷ us) used h = (
+    → AllByRecursion (λ u. (takes a u.op ≡ true) → t.offset % ii ≢ u.offset % ii) ts
+apart_from a ii t [] used h = tt
+apart_from a ii t (u ∷ us) used h = (
   λ also same. h 0 (omega arith) (record {
-    port = e;
-    first = is_port-sound e (used_port t.op) used;
-    second = is_port-sound e (used_port u.op) also;
+    port = a;
+    first = is_port-sound a (used_port t.op) used;
+    second = is_port-sound a (used_port u.op) also;
     offsets = same;
   }),
-  apart_from e ii t us used (λ k l. h (suc k) (omega arith)),
+  apart_from a ii t us used (λ k l. h (suc k) (omega arith)),
 )
 
-are_apart : (e : Port) (ii : ℕ) (ts : List Timed)
+are_apart : (a : Port) (ii : ℕ) (ts : List Timed)
     → ((j k : ℕ) → j < k → k < length ts → ¬ Clashes ii (get_or ts j no_operation) (get_or ts k no_operation))
-    → AreApart (takes e) ii ts
-are_apart e ii [] h = tt
-are_apart e ii (t ∷ ts) h = (
-  λ used. apart_from e ii t ts used (λ k l. h 0 (suc k) (omega arith) (omega arith)),
-  are_apart e ii ts (λ j k l m. h (suc j) (suc k) (omega arith) (omega arith)),
+    → AreApart (takes a) ii ts
+are_apart a ii [] h = tt
+are_apart a ii (t ∷ ts) h = (
+  λ used. apart_from a ii t ts used (λ k l. h 0 (suc k) (omega arith) (omega arith)),
+  are_apart a ii ts (λ j k l m. h (suc j) (suc k) (omega arith) (omega arith)),
 )
 
 -- ---- the rules
 
-pub owned_by : (p : Plan) → FitsEngine p → (e : Port) (i : ℕ) → uses e (module_at p i) ≡ true → owner p e ≡ i
+pub owned_by : (p : Plan) → FitsEngine p → (a : Port) (i : ℕ) → uses a (module_at p i) ≡ true → owner p a ≡ i
 unfolding owner
-owned_by p h e i used = by_module (sound_module p h i)
+owned_by p h a i used = by_module (sound_module p h i)
   where
     by_module : ((i < length p.design.modules) × IsModuleSound (length p.design.channels) (module_at p i)) ⊎ (module_at p i ≡ no_module)
-        → position_or_len (uses e) p.design.modules ≡ i
+        → position_or_len (uses a) p.design.modules ≡ i
     by_module (inl s) =
-        only_one (uses e) p.design.modules i no_module s.0 used
-        (used_once p h e (channel_used (length p.design.channels) (module_at p i) e (s.1).blocks used))
-    by_module (inr none) = let unused : uses e no_module ≡ true = subst (λ (m : Module). uses e m ≡ true) none used in cc
+        only_one (uses a) p.design.modules i no_module s.0 used
+        (used_once p h a (channel_used (length p.design.channels) (module_at p i) a (s.1).blocks used))
+    by_module (inr none) = let unused : uses a no_module ≡ true = subst (λ (m : Module). uses a m ≡ true) none used in cc
 
-apart_in : (p : Plan) → FitsEngine p → (e : Port) (i b : ℕ)
-    → AreApart (takes e) (interval (block_at (module_at p i) b)) (block_at (module_at p i) b).ops
-apart_in p h e i b = by_block (sound_block p h i b)
+apart_in : (p : Plan) → FitsEngine p → (a : Port) (i b : ℕ)
+    → AreApart (takes a) (interval (block_at (module_at p i) b)) (block_at (module_at p i) b).ops
+apart_in p h a i b = by_block (sound_block p h i b)
   where
     by_block : IsBlockSound (length p.design.channels) (module_at p i) (block_at (module_at p i) b)
         ⊎ (block_at (module_at p i) b ≡ no_block)
-        → AreApart (takes e) (interval (block_at (module_at p i) b)) (block_at (module_at p i) b).ops
-    by_block (inl s) = are_apart e _ (block_at (module_at p i) b).ops (λ j k l m. s.apart j k no_operation l m)
-    by_block (inr none) = subst (λ (c : Block). AreApart (takes e) (interval c) c.ops) (sym none) tt
+        → AreApart (takes a) (interval (block_at (module_at p i) b)) (block_at (module_at p i) b).ops
+    by_block (inl s) = are_apart a _ (block_at (module_at p i) b).ops (λ j k l m. s.apart j k no_operation l m)
+    by_block (inr none) = subst (λ (c : Block). AreApart (takes a) (interval c) c.ops) (sym none) tt
 
 intervals_in : (p : Plan) → FitsEngine p → (i b : ℕ) → ((block_at (module_at p i) b).ops ≡ []) ⊎ (0 < interval (block_at (module_at p i) b))
 intervals_in p h i b = by_block (sound_block p h i b)

@@ -86,10 +86,10 @@ none_wanted Sink Push h = refl
 none_wanted (Fifo depth delay) side h = refl
 
 -- a port that a module uses is there
-port_there : (p : Plan) → FitsEngine p → (i : ℕ) (e : Port) → i < length p.design.modules → e.channel < length p.design.channels
-    → uses e (module_at p i) ≡ true
-    → has_port (kind_at p e.channel) e.side ≡ true
-port_there p h i e l in_range used = by_side e.side e.channel in_range used
+port_there : (p : Plan) → FitsEngine p → (i : ℕ) (q : Port) → i < length p.design.modules → q.channel < length p.design.channels
+    → uses q (module_at p i) ≡ true
+    → has_port (kind_at p q.channel) q.side ≡ true
+port_there p h i q l in_range used = by_side q.side q.channel in_range used
   where
     by_side : (side : Side) (f : ℕ) → f < length p.design.channels → uses (port_on side f) (module_at p i) ≡ true
         → has_port (kind_at p f) side ≡ true
@@ -125,7 +125,7 @@ stands p h i l r in_range used = record {
 -- an operation of a module makes a request that stands at a port, or none
 operation_stands : (p : Plan) → FitsEngine p → (i : ℕ) → i < length p.design.modules
     → (channels : List Channel) (s : ModuleState) (n : ℕ) (op : Op ℕ)
-    → IfSome (port_of op) (λ e. e.channel < length p.design.channels) → IfSome (port_of op) (λ e. uses e (module_at p i) ≡ true)
+    → IfSome (port_of op) (λ a. a.channel < length p.design.channels) → IfSome (port_of op) (λ a. uses a (module_at p i) ≡ true)
     → (rs : List Request) → AllByRecursion (StandsAtPort p i) rs
     → AllByRecursion (StandsAtPort p i) (cons_option (request_of channels s n op) rs)
 operation_stands p h i l channels s n (Set x a) c u rs rest = rest

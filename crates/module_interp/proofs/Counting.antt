@@ -30,7 +30,8 @@ decided_up : (b : Block) (s : ModuleState) → Up s (decided b s)
 unfolding decided
 decided_up b s =
     cond_both (s.control.looping && (s.control.clock - s.control.newest == interval b)) _ s (Up s)
-    (λ e. cond_both (slice_index s.registers (again_of b.kind) == 0) (stopped s) (started b s) (Up s) (λ z. (omega arith, omega arith)) (λ z. (omega arith, omega arith)))
+    (λ e. cond_both (slice_index s.registers (again_of b.kind) == 0) (stopped s) (started b s) (Up s) (λ z. (omega arith, omega arith))
+    (λ z. (omega arith, omega arith)))
     (λ e. (omega arith, omega arith))
 
 pub gone_on_up : (m : Module) (s : ModuleState) → (s.count ≤ (gone_on m s).count) × ((gone_on m s).count ≤ s.count + 2)

@@ -123,8 +123,14 @@ fed_leads p i o x qs l asked =
         schedules = b.schedules;
         state = subst (IsStateOf m) (sym same) (move_state (length p.design.channels) m sound x.state qs w.state w.alive);
         operations = subst (λ (s : ModuleState). s.count < 2 ^ 32) (sym same) (omega arith);
-        time = subst (λ (s : ModuleState). IsInTime p m s 1) (sym same) (step_in_time p b.fits i b.owner x.state qs x.since w.state w.alive w.few w.time);
-        stage = record { state = w.can.answer.state; pending = w.can.answer.pending; clock = w.can.answer.clock; count = w.can.answer.count };
+        time = subst (λ (s : ModuleState). IsInTime p m s 1) (sym same)
+            (step_in_time p b.fits i b.owner x.state qs x.since w.state w.alive w.few w.time);
+        stage = record {
+          state = w.can.answer.state;
+          pending = w.can.answer.pending;
+          clock = w.can.answer.clock;
+          count = w.can.answer.count;
+        };
       };
       rest = ap (λ (s : ModuleState). skip p i (quiet p i s) s) base;
       since = ap (λ (n : ℕ). n + quiet p i (own_after m o (requests_at p i o) qs).state) (after_since m o (requests_at p i o) qs some)
@@ -184,7 +190,8 @@ fed_in_time p i o r qs s asked some =
 
 pub fed_stands : (p : Plan) (i : ℕ) (o : Own) (r : ModuleRun) (qs : List Reply) (t : Tally) → StandsAt p i o r → r.path.stage ≡ Asked
     → IsTallyOf (length p.design.channels) (done_in o.steps ++ paired r.path.asked qs) t
-    → StandsAt p i (next_rest p i o qs) (record { path = record r.path { replies = qs; since = 1; stage = Answered }; tally = t; accesses = r.accesses })
+    → StandsAt p i (next_rest p i o qs)
+    (record { path = record r.path { replies = qs; since = 1; stage = Answered }; tally = t; accesses = r.accesses })
 fed_stands p i o r qs t s asked tally =
     let w = waits_at p i o r.path s.leads asked in
     let m = module_at p i in

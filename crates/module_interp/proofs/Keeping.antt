@@ -92,7 +92,11 @@ leads_still p i o x y l f same since stage =
 
 -- each path leads to a rest
 pub leads : (p : Plan) (i : ℕ) (x : Path) → IsPathOf p i x
-    → LeadsTo p i (record { state = skip p i (quiet p i (after_move x)) (after_move x); steps = []; since = x.since + quiet p i (after_move x) }) x
+    → LeadsTo p i (record {
+      state = skip p i (quiet p i (after_move x)) (after_move x);
+      steps = [];
+      since = x.since + quiet p i (after_move x);
+    }) x
 leads p i x h = record { path = h; rest = refl; since = refl }
 
 pub still_path : (x y : Path) → IsPath x → KeepsRest x y → IsPath y
@@ -120,7 +124,8 @@ pub skip_falls : (p : Plan) → FitsEngine p → (i : ℕ) → i < length p.desi
 skip_falls p h i inside s elapsed g n goes = by_number n goes
   where
     one : (n : ℕ) → ((j : ℕ) → j < suc n → rests p i (skip p i j s) ≡ false)
-        → ((skip p i (suc n) s).ended ≡ true) ⊎ (clocks_to_go p (module_at p i) (skip p i (suc n) s) < clocks_to_go p (module_at p i) (skip p i n s))
+        → ((skip p i (suc n) s).ended ≡ true)
+        ⊎ (clocks_to_go p (module_at p i) (skip p i (suc n) s) < clocks_to_go p (module_at p i) (skip p i n s))
     one n goes =
         let m = module_at p i in
         let t = skip p i n s in

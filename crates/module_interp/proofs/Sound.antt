@@ -96,12 +96,14 @@ same_queries before (r ∷ rs) = by_test (not (is_blocking r.kind)) (same_querie
         ≡ length (filter (λ (r : Request). not (is_blocking r.kind)) rs)
         → length (cond b (access_of before r ∷ filter (λ (a : Access). not (is_blocking a.kind)) (map (access_of before) rs))
         (filter (λ (a : Access). not (is_blocking a.kind)) (map (access_of before) rs)))
-        ≡ length (cond b (r ∷ filter (λ (r : Request). not (is_blocking r.kind)) rs) (filter (λ (r : Request). not (is_blocking r.kind)) rs))
+        ≡ length (cond b (r ∷ filter (λ (r : Request). not (is_blocking r.kind)) rs)
+        (filter (λ (r : Request). not (is_blocking r.kind)) rs))
     by_test true rest = omega arith
     by_test false rest = rest
 
 pub few_queries : (p : Plan) → FitsEngine p → (i : ℕ) (o : Own)
-    → count_by (λ (a : Access). not (is_blocking a.kind)) (accesses_at p i o) ≤ count_by (λ t. is_query t.op) (block_of (module_at p i) o.state).ops
+    → count_by (λ (a : Access). not (is_blocking a.kind)) (accesses_at p i o)
+    ≤ count_by (λ t. is_query t.op) (block_of (module_at p i) o.state).ops
 few_queries p h i o =
     let same = same_queries (done_in o.steps) (requests_at p i o) in
     let asked = length-filter (λ (r : Request). not (is_blocking r.kind)) (requests_at p i o) in

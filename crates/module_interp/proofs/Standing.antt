@@ -113,4 +113,10 @@ asked_leads p i o x replies l h count =
     leads_still p i o x (record x { replies = replies; stage = Asked }) l
     (record { channels = refl; of = refl; limit = refl; schedules = refl })
     (sym (at_stage x Begun h.begun)) refl
-    (record { answer = record { state = began.sound; pending = h.pending; clock = began.clock; count = began.count }; alive = h.alive; some = h.some; asked = h.asked; replies = count })
+    (record {
+      answer = record { state = began.sound; pending = h.pending; clock = began.clock; count = began.count };
+      alive = h.alive;
+      some = h.some;
+      asked = h.asked;
+      replies = count;
+    })

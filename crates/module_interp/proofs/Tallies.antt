@@ -16,6 +16,7 @@ use Rattle.lockstep_defs.specs.Machine.{is_yes, value_in}
 use Rattle.lockstep_defs.specs.Channels.{Exchange, popped_value, pushed_value, moved_value, moved_by}
 use Rattle.lockstep_defs.specs.Report.{queries}
 use Rattle.lockstep_defs.specs.OwnRun.{paired}
+use Rattle.module_move.proofs.Readiness.{fewer_pass}
 use Rattle.module_interp.specs.declared.tally.Tally.{Tally}
 use Rattle.module_interp.specs.Paths.{IsTallyOf}
 
@@ -43,7 +44,8 @@ counts_more side n before x counts now size inside are is f l = elim (cases_eq f
       ∙ get_or-set_same counts c (get_or counts c 0 + length (moved_value side x)) 0 (omega arith)) in
       let test : (c == f) ≡ true = eq-eqb c f (sym same) in
       let more = moved_push side f before x in
-      let added : length (cond (c == f) (moved_value side x) []) ≡ length (moved_value side x) = ap (λ (t : Bool). length (cond t (moved_value side x) [])) test in
+      let added : length (cond (c == f) (moved_value side x) [])
+      ≡ length (moved_value side x) = ap (λ (t : Bool). length (cond t (moved_value side x) [])) test in
       let old : get_or counts c 0 ≡ length (moved_by side f before) = ap (λ (k : ℕ). get_or counts k 0) (sym same) ∙ are f l in
       omega arith
   | inr other ↦
@@ -61,7 +63,8 @@ queries_push : (before : List Exchange) (x : Exchange)
     → length (queries (before ++ x ∷ [])) ≡ length (queries before) + from_bool (not (is_blocking x.request.kind))
 queries_push before x =
     ap length (filter-append (λ (y : Exchange). not (is_blocking y.request.kind)) before (x ∷ []))
-    ∙ (length-append (queries before) (queries (x ∷ [])) ∙ ap (λ (n : ℕ). length (queries before) + n) (one (not (is_blocking x.request.kind)) refl))
+    ∙ (length-append (queries before) (queries (x ∷ []))
+    ∙ ap (λ (n : ℕ). length (queries before) + n) (one (not (is_blocking x.request.kind)) refl))
   where
     one : (t : Bool) → not (is_blocking x.request.kind) ≡ t → length (queries (x ∷ [])) ≡ from_bool (not (is_blocking x.request.kind))
     one true e = rw e refl
@@ -111,14 +114,11 @@ pub moved_few : (side : Side) (f : ℕ) (before : List Exchange) → length (mov
 unfolding moved_by
 moved_few side f before =
     short (λ (y : Exchange). cond (y.request.channel == f) (moved_value side y) []) before
-    (λ x. cond_both (x.request.channel == f) (moved_value side x) [] (λ (vs : List ℕ). length vs ≤ 1) (λ e. moved_short side x) (λ e. omega arith))
+    (λ x. cond_both (x.request.channel == f) (moved_value side x) [] (λ (vs : List ℕ). length vs ≤ 1) (λ e. moved_short side x)
+    (λ e. omega arith))
 
 pub queries_few : (before : List Exchange) → length (queries before) ≤ length before
-queries_few [] = omega arith
-queries_few (x ∷ xs) =
-    let rest = queries_few xs in
-    cond_both (not (is_blocking x.request.kind)) (x ∷ queries xs) (queries xs) (λ (ys : List Exchange). length ys ≤ suc (length xs))
-    (λ e. omega arith) (λ e. omega arith)
+queries_few before = fewer_pass (λ (x : Exchange). not (is_blocking x.request.kind)) before
 
 -- ---- a step
 

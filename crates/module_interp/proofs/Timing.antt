@@ -72,7 +72,8 @@ unfolding decided
 decided_clock b s =
     cond_both (s.control.looping && (s.control.clock - s.control.newest == interval b)) _ s
     (λ (t : ModuleState). t.control.clock ≡ s.control.clock)
-    (λ e. cond_both (slice_index s.registers (again_of b.kind) == 0) (stopped s) (started b s) (λ (t : ModuleState). t.control.clock ≡ s.control.clock) (λ z. refl) (λ z. refl))
+    (λ e. cond_both (slice_index s.registers (again_of b.kind) == 0) (stopped s) (started b s)
+    (λ (t : ModuleState). t.control.clock ≡ s.control.clock) (λ z. refl) (λ z. refl))
     (λ e. refl)
 
 pub move_clock : (m : Module) (s : ModuleState) (replies : List Reply) → (move m s replies).control.clock ≤ s.control.clock + 1
@@ -169,5 +170,6 @@ skip_goes_on p h i inside s elapsed g (suc n) goes =
     let count : elapsed + n + 1 ≡ elapsed + suc n = omega arith in
     record {
       state = move_state (length p.design.channels) m (module_sound p h i inside) t [] before.state alive.0;
-      time = subst (IsInTime p m (move m t [])) count (moved_in_time p h i inside t [] (elapsed + n) before.state alive.0 alive.1 before.time);
+      time = subst (IsInTime p m (move m t [])) count
+          (moved_in_time p h i inside t [] (elapsed + n) before.state alive.0 alive.1 before.time);
     }

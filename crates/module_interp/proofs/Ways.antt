@@ -110,7 +110,12 @@ pub looked_up : (x y : Path) (ds : List Due) (rs : List Request) → x.stage ≡
     → KeepsRest x y
 looked_up x y ds rs begun frame =
     begun_same x y
-    (record { channels = ap (λ (z : Path). z.channels) frame; of = ap (λ (z : Path). z.of) frame; limit = ap (λ (z : Path). z.limit) frame; schedules = ap (λ (z : Path). z.schedules) frame })
+    (record {
+      channels = ap (λ (z : Path). z.channels) frame;
+      of = ap (λ (z : Path). z.of) frame;
+      limit = ap (λ (z : Path). z.limit) frame;
+      schedules = ap (λ (z : Path). z.schedules) frame;
+    })
     begun (ap (λ (z : Path). z.stage) frame ∙ begun) (ap (λ (z : Path). z.state) frame) (ap (λ (z : Path). z.since) frame)
 
 pub then : (x y z : Path) → KeepsRest x y → KeepsRest y z → KeepsRest x z
@@ -178,7 +183,8 @@ pub idle : (x : Path) (clock n : ℕ) → IsPath x → x.stage ≡ Begun → is_
 idle x clock n path begun alive next far p i b =
     let sound = (has_begun x path begun alive).sound in
     subst (λ (m : Module). IsIdle m x.state (suc n)) b.of (record {
-      some = (b.schedules x.state.control.block (some_schedule x.schedules x.state.control.block (omega (arith, sound.state.block, b.count))) sound.state.block).limits.some;
+      some = (b.schedules x.state.control.block
+          (some_schedule x.schedules x.state.control.block (omega (arith, sound.state.block, b.count))) sound.state.block).limits.some;
       begun = sound.state.control.has_started;
       temps = sound.state.places.temps;
       none = λ c from below. next.idle_before c from (omega arith);
@@ -187,7 +193,12 @@ idle x clock n path begun alive next far p i b =
 -- a jump to the next clock with work
 pub jumps : (x : Path) (clock n : ℕ) (room : MoveRoom) → IsPath x → x.stage ≡ Begun → is_over x.limit x.state ≡ false
     → IsNextDue (block_of x.of x.state) x.state.control clock → clock ≡ x.state.control.clock + suc n
-    → Passes x (record x { since = x.since + (clock - x.state.control.clock); state = ticked_to x.of clock x.state; stage = Ticked; room = room }) n
+    → Passes x (record x {
+      since = x.since + (clock - x.state.control.clock);
+      state = ticked_to x.of clock x.state;
+      stage = Ticked;
+      room = room;
+    }) n
 jumps x clock n room path begun alive next far =
     let sound = (has_begun x path begun alive).sound in
     let started = sound.state.control.has_started in
@@ -240,7 +251,8 @@ stands x path begun alive =
       has_started = h.sound.state.control.has_started;
       is_young = λ e. h.sound.state.young h.sound.running;
       is_loop = h.sound.state.control.is_loop_going;
-      undecided = λ e. near x.state.control.looping (interval (block_of x.of x.state)) x.state.control.clock x.state.control.newest e h.sound.state.control.goes;
+      undecided = λ e. near x.state.control.looping (interval (block_of x.of x.state)) x.state.control.clock x.state.control.newest e
+          h.sound.state.control.goes;
     }
   where
     near : (l : Bool) (ii clock newest : ℕ) → l ≡ true → (not l || (nat_lt 0 ii && nat_lt clock (newest + ii))) ≡ true → clock ≤ newest + ii

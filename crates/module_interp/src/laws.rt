@@ -37,5 +37,6 @@ pub fn gaps_are_short()
 /// A step makes at most as many queries as its block has query operations.
 pub fn queries_are_few()
     ensures { (p : Plan) → FitsEngine p → (i : ℕ) (o : Own)
-        → count_by (λ access. not (is_blocking access.kind)) (accesses_at p i o) ≤ count_by (λ timed. is_query timed.op) (block_of (module_at p i) o.state).ops }
+        → count_by (λ access. not (is_blocking access.kind)) (accesses_at p i o)
+        ≤ count_by (λ timed. is_query timed.op) (block_of (module_at p i) o.state).ops }
 {}

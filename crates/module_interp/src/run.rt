@@ -60,7 +60,8 @@ impl ModuleRun {
 
     /// The accesses of the step that waits for replies, in commit order; none exactly where no step waits.
     pub fn waiting(&self) -> &[Access]
-        ensures accesses { (p : PlanOf) (i : ℕ) (o : Own) → StandsAt p i o self.now → result.now ≡ (if waits self.now then accesses_at p i o else []) }
+        ensures accesses { (p : PlanOf) (i : ℕ) (o : Own) → StandsAt p i o self.now
+            → result.now ≡ (if waits self.now then accesses_at p i o else []) }
         ensures none { (p : PlanOf) (i : ℕ) (o : Own) → StandsAt p i o self.now → (result.now ≡ []) ↔ IsFalse (waits self.now) }
     {
         match self.path.stage {
@@ -72,7 +73,8 @@ impl ModuleRun {
     /// How many elements of each channel the run has popped, in the steps that have their replies.
     pub fn popped(&self) -> &[u64]
         ensures count { (p : PlanOf) (i : ℕ) (o : Own) → StandsAt p i o self.now → length result.now ≡ length p.design.channels }
-        ensures each { (p : PlanOf) (i : ℕ) (o : Own) → StandsAt p i o self.now → (f : ℕ) → f < length p.design.channels → slice_index result.now f ≡ length (moved_by Pop f (done_in o.steps)) }
+        ensures each { (p : PlanOf) (i : ℕ) (o : Own) → StandsAt p i o self.now → (f : ℕ) → f < length p.design.channels
+            → slice_index result.now f ≡ length (moved_by Pop f (done_in o.steps)) }
     {
         self.tally.popped.as_slice()
     }
@@ -124,7 +126,8 @@ impl ModuleRun {
     /// Commits the step that waits, on its replies. It takes no memory: what the module does on them is done by the next call
     /// that goes on.
     pub fn feed(&mut self, replies: &[Reply])
-        requires stands { (p : PlanOf) × ((i : ℕ) × ((o : Own) × (StandsAt p i o self.old × (all_fit (accesses_at p i o) replies.now ≡ true)))) }
+        requires stands { (p : PlanOf) × ((i : ℕ)
+            × ((o : Own) × (StandsAt p i o self.old × (all_fit (accesses_at p i o) replies.now ≡ true)))) }
         requires waits { waits self.old ≡ true }
         ensures stands { (p : PlanOf) (i : ℕ) (o : Own) → StandsAt p i o self.old → StandsAt p i (next_rest p i o replies.now) self.new }
         ensures fed { waits self.new ≡ false }
@@ -144,8 +147,11 @@ fn list_accesses(
     kept: &mut List<Access>,
     replies: &mut List<Reply>,
 ) -> Result<Accesses, OutOfMemory>
-    requires tally { (channels : ℕ) × ((before : Items Exchange) × (IsTallyOf channels before tally.now × ((length before < 2 ^ 40) × All (λ r. r.channel < channels) asked.now))) }
-    ensures given { IfOk result (λ accesses. (channels : ℕ) (before : Items Exchange) → IsTallyOf channels before tally.now → All (λ r. r.channel < channels) asked.now → accesses ≡ map (access_of before) asked.now) }
+    requires tally { (channels : ℕ)
+        × ((before : Items Exchange) × (IsTallyOf channels before tally.now
+        × ((length before < 2 ^ 40) × All (λ r. r.channel < channels) asked.now))) }
+    ensures given { IfOk result (λ accesses. (channels : ℕ) (before : Items Exchange) → IsTallyOf channels before tally.now
+        → All (λ r. r.channel < channels) asked.now → accesses ≡ map (access_of before) asked.now) }
     ensures kept { IfOk result (λ accesses. kept.new ≡ accesses) }
     ensures replies { IfOk result (λ accesses. length replies.new ≡ length asked.now) }
 {

@@ -34,8 +34,11 @@ impl Tally {
 
     /// A request as an access.
     pub fn access(&self, request: Request) -> Access
-        requires tally { (channels : ℕ) × ((before : Items Exchange) × (IsTallyOf channels before self.now × ((length before < 2 ^ 40) × (request.channel < channels)))) }
-        ensures { (channels : ℕ) (before : Items Exchange) → IsTallyOf channels before self.now → request.channel < channels → result ≡ access_of before request }
+        requires tally { (channels : ℕ)
+            × ((before : Items Exchange) × (IsTallyOf channels before self.now
+            × ((length before < 2 ^ 40) × (request.channel < channels)))) }
+        ensures { (channels : ℕ) (before : Items Exchange) → IsTallyOf channels before self.now → request.channel < channels
+            → result ≡ access_of before request }
     {
         let before = self.count_of(request.kind, request.channel);
         Access {
@@ -49,7 +52,8 @@ impl Tally {
     /// How many elements were popped, or pushed, at the side of the channel at which an operation stands.
     fn count_of(&self, kind: Kind, channel: u32) -> u64
         requires { (channels : ℕ) × ((before : Items Exchange) × (IsTallyOf channels before self.now × (channel < channels))) }
-        ensures { (channels : ℕ) (before : Items Exchange) → IsTallyOf channels before self.now → channel < channels → result ≡ length (moved_by (side_of kind) channel before) }
+        ensures { (channels : ℕ) (before : Items Exchange) → IsTallyOf channels before self.now → channel < channels
+            → result ≡ length (moved_by (side_of kind) channel before) }
     {
         match kind.side() {
             Side::Pop => self.popped.as_slice()[channel as usize],
@@ -59,9 +63,12 @@ impl Tally {
 
     /// Counts the operations of a step.
     pub fn count_step(&mut self, requests: &[Request], replies: &[Reply])
-        requires tally { (channels : ℕ) × ((before : Items Exchange) × (IsTallyOf channels before self.old × ((length before + length requests.now < 2 ^ 40) × All (λ r. r.channel < channels) requests.now))) }
+        requires tally { (channels : ℕ)
+            × ((before : Items Exchange) × (IsTallyOf channels before self.old
+            × ((length before + length requests.now < 2 ^ 40) × All (λ r. r.channel < channels) requests.now))) }
         requires one_each { length replies.now ≡ length requests.now }
-        ensures { (channels : ℕ) (before : Items Exchange) → IsTallyOf channels before self.old → All (λ r. r.channel < channels) requests.now → IsTallyOf channels (before ++ paired requests.now replies.now) self.new }
+        ensures { (channels : ℕ) (before : Items Exchange) → IsTallyOf channels before self.old
+            → All (λ r. r.channel < channels) requests.now → IsTallyOf channels (before ++ paired requests.now replies.now) self.new }
     {
         for (at, request) in requests.iter().enumerate() {
             self.count(*request, replies[at]);
@@ -70,8 +77,11 @@ impl Tally {
 
     /// Counts an operation that was done.
     fn count(&mut self, request: Request, reply: Reply)
-        requires tally { (channels : ℕ) × ((before : Items Exchange) × (IsTallyOf channels before self.old × ((length before < 2 ^ 40) × (request.channel < channels)))) }
-        ensures { (channels : ℕ) (before : Items Exchange) → IsTallyOf channels before self.old → request.channel < channels → IsTallyOf channels (before ++ record { request = request; reply = reply } ∷ []) self.new }
+        requires tally { (channels : ℕ)
+            × ((before : Items Exchange) × (IsTallyOf channels before self.old
+            × ((length before < 2 ^ 40) × (request.channel < channels)))) }
+        ensures { (channels : ℕ) (before : Items Exchange) → IsTallyOf channels before self.old → request.channel < channels
+            → IsTallyOf channels (before ++ record { request = request; reply = reply } ∷ []) self.new }
     {
         add_at(
             &mut self.popped,

@@ -7,6 +7,7 @@ use Rattle.flow_design.specs.declared.design.Module.{Module}
 use Rattle.flow_design.specs.declared.design.Block.{Block}
 use Rattle.flow_design.specs.declared.state.Control.{Control}
 use Rattle.flow_design.specs.Module.{interval, live_count}
+pub use Rattle.lockstep_defs.proofs.Blocks.{block_sound, some_interval, span}
 use Rattle.lockstep_defs.specs.Machine.{entered, opened}
 
 -- where the newest iteration is live, the count of live iterations

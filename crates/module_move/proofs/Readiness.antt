@@ -81,7 +81,7 @@ short_parts most f (x ∷ xs) short =
     let front = short x in
     omega (arith, length-append (f x) (flat_map f xs))
 
-fewer_pass : {X : Type 0} (p : X → Bool) (xs : List X) → length (filter p xs) ≤ length xs
+pub fewer_pass : {X : Type 0} (p : X → Bool) (xs : List X) → length (filter p xs) ≤ length xs
 fewer_pass p xs = omega (arith, length-filter_both p (λ x. not (p x)) (λ x. refl) xs)
 
 due_at_few : (b : Block) (offset : ℕ) → length (due_at b offset) ≤ length b.ops

@@ -62,7 +62,8 @@ fn store(of: &Module, block: &Block, state: &mut ModuleState, effect: Effect)
 #[tactic(auto, using(crate::proofs::Storing::set_beyond, crate::proofs::Storing::set_same))]
 fn store_temp(block: &Block, temps: &mut List<Words>, iteration: u32, temp: u64, value: u64)
     requires { (i : ℕ) → i < length temps.old → length (slice_index_or temps.old i []) ≡ length block.now.temps }
-    ensures { temps.new ≡ slice_set temps.old iteration (slice_set (slice_index_or temps.old iteration []) temp (cut_to (slice_index block.now.temps temp) value)) }
+    ensures { temps.new ≡ slice_set temps.old iteration
+        (slice_set (slice_index_or temps.old iteration []) temp (cut_to (slice_index block.now.temps temp) value)) }
 {
     let widths = block.temps.as_slice();
     if (iteration as u64) < temps.len() && temp < block.temps.len() {
@@ -81,7 +82,9 @@ fn store_word(
     value: u64,
 )
     requires { length memories.old ≡ length declared.now }
-    ensures { memories.new ≡ slice_set memories.old memory (slice_set (slice_index_or memories.old memory []) address (cut_to (slice_index (map (λ memory. memory.width) declared.now) memory) value)) }
+    ensures { memories.new ≡ slice_set memories.old memory
+        (slice_set (slice_index_or memories.old memory []) address
+        (cut_to (slice_index (map (λ memory. memory.width) declared.now) memory) value)) }
 {
     if (memory as usize) < declared.len() {
         let word = cut(value, declared[memory as usize].width);

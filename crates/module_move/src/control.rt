@@ -15,7 +15,7 @@ use flow_word::OutOfMemory;
 use std::alloc::Global;
 
 /// The local clock goes up to a later one, and the temps of the iterations that are then no longer live go.
-#[tactic(auto, using(lockstep_defs::proofs::Blocks::block_sound, lockstep_defs::proofs::Blocks::some_interval, lockstep_defs::proofs::Blocks::span))]
+#[tactic(auto, using(crate::proofs::Begins::block_sound, crate::proofs::Begins::some_interval, crate::proofs::Begins::span))]
 pub fn tick_to(of: &Module, state: &mut ModuleState, clock: u64, room: &mut MoveRoom)
     requires module { (channels : ℕ) × IsModuleSound channels of.now }
     requires there { state.old.control.block < length of.now.blocks }
@@ -33,7 +33,7 @@ pub fn tick_to(of: &Module, state: &mut ModuleState, clock: u64, room: &mut Move
 /// The loop decides, and the block may end, in the local clock that has begun.
 ///
 /// After want of memory the call may be made again: what it does then is what is left to do.
-#[tactic(auto, using(lockstep_defs::proofs::Blocks::block_sound, lockstep_defs::proofs::Blocks::some_interval))]
+#[tactic(auto, using(crate::proofs::Begins::block_sound, crate::proofs::Begins::some_interval))]
 pub fn go_on(
     alloc: Global,
     of: &Module,

@@ -49,7 +49,9 @@ fn add_passing(
 ) -> Result<(), OutOfMemory>
     requires numbers { All (λ n. n < length block.now.ops) numbers.now }
     requires guards { AreGuardsSound (length state.now.registers + length (temps_of state.now place)) block.now.ops }
-    ensures { OnOk result (pending.new ≡ pending.old ++ map (λ n. record { iteration = place; op = n }) (filter (λ n. passes state.now.registers (temps_of state.now place) (operation_at block.now n).guard) numbers.now)) }
+    ensures { OnOk result (pending.new
+        ≡ pending.old ++ map (λ n. record { iteration = place; op = n })
+        (filter (λ n. passes state.now.registers (temps_of state.now place) (operation_at block.now n).guard) numbers.now)) }
 {
     let temps = temps_of(state, place);
     for number in numbers {

@@ -50,7 +50,8 @@ fn reply_at(replies: &[Reply], at: usize) -> Reply
 /// How many replies were taken, once an operation has taken its own.
 #[tactic(auto, using(crate::proofs::Writing::one_taken, crate::proofs::Writing::none_there))]
 fn answered_after(op: &Op<u32>, replies: &[Reply], answered: usize) -> usize
-    ensures { drop result replies.now ≡ (if is_fifo_operation op.now then drop 1 (drop answered replies.now) else drop answered replies.now) }
+    ensures { drop result replies.now
+        ≡ (if is_fifo_operation op.now then drop 1 (drop answered replies.now) else drop answered replies.now) }
 {
     if is_fifo_operation(op) && answered < replies.len() {
         answered + 1

@@ -1,7 +1,7 @@
 -- A table of names by its keys, and names in joined tables.
 use Rattle.std.proofs.Common.{◌≡◌, ℕ, List, [], ◌∷◌, ◌++◌, map, Bool, true, false, cond, refl, sym, ap, ◌∙◌, nat_eq}
-use Rattle.std.proofs.lemmas.List.{map-append, reverse-append, length-reverse}
-use Rattle.std.specs.Prelude.{◌||◌, if◌then◌else◌, reverse, length}
+use Rattle.std.proofs.lemmas.List.{map-append, reverse-append}
+use Rattle.std.specs.Prelude.{◌||◌, if◌then◌else◌, reverse}
 use Rattle.std.specs.List.{list_any}
 use Rattle.std.specs.Cmp.Lexicographic.{pointwise}
 use Rattle.flow_grammar.specs.Before.{is_among}

@@ -82,6 +82,14 @@ impl QueryLog {
             .copied()
     }
 
+    /// A module's outcomes, in order.
+    pub fn outcomes(&self, owner: u32) -> &[bool]
+        requires { owner < length self.now.logs }
+        ensures { result.now ≡ (log_at self.now.logs owner).outcomes }
+    {
+        self.logs[owner as usize].outcomes.as_slice()
+    }
+
     /// How many of a module's outcomes are verified.
     pub fn verified(&self, owner: u32) -> u64
         requires { owner < length self.now.logs }

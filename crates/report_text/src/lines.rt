@@ -69,7 +69,7 @@ pub fn push_value(text: &mut List<u8>, number: u64) -> Result<(), OutOfMemory>
     push_number(text, number)
 }
 
-/// Adds a space and a token.
+/// Adds a space and a token. After want of memory a part of it may stand behind the text of before.
 pub fn push_token(text: &mut List<u8>, token: &[u8]) -> Result<(), OutOfMemory>
     ensures ok { OnOk result (text.new ≡ text.old ++ 32 ∷ token.now) }
     ensures err { OnErr result (StartsWith text.new text.old) }

@@ -1,4 +1,4 @@
-//! Tests of the crates that read, check, print and run sessions. They stand in a crate of their own, since a crate is proved once more with its tests.
+//! Tests of the crates that check and run sessions. They stand in a crate of their own, since a crate is proved once more with its tests.
 #![tactic(auto)]
 
 #[cfg(test)]
@@ -7,11 +7,3 @@ mod checking;
 mod elaborating;
 #[cfg(test)]
 mod module_runs;
-#[cfg(test)]
-mod printing;
-#[cfg(test)]
-mod reading;
-#[cfg(test)]
-mod tables;
-#[cfg(test)]
-mod tokens;

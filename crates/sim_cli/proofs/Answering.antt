@@ -1,6 +1,7 @@
 -- That each text has an answer, and what holds of what was read.
 use Rattle.std.proofs.Common.{◌≡◌, ◌∙◌, ap, subst, sym, refl, arith, ℕ, ◌<◌, ◌≤◌, Bool, List, ◌++◌, [], length, None, Some, IfSome, Result, Ok, Err, length-append, append-nil}
 use Rattle.std.specs.declared.option.Option.{Option}
+use Rattle.std.specs.Prelude.{IfOk}
 use Rattle.std.specs.Io.KnownBytes.{Appends, Consumes, IsAtEnd}
 use Rattle.sim_io.specs.Causes.{LosesCount}
 use Rattle.flow_design.specs.declared.session.Statement.{Statement}
@@ -14,7 +15,7 @@ use Rattle.sim_cli.specs.declared.task.Task.{Task}
 use Rattle.sim_cli.specs.declared.task.Task.TheVariants.{Simulate, Print, Summarize}
 use Rattle.sim_cli.specs.declared.status.Status.TheVariants.{ReadFault, Memory}
 use Rattle.sim_cli.specs.declared.answer.Answer.{Answer}
-use Rattle.sim_cli.specs.Made.{refused_words, refused, made}
+use Rattle.sim_cli.specs.Made.{refused_words, refused, made, generated}
 use Rattle.sim_cli.specs.Answer.{AnswersSession, AnswersText, AnswersCommand, Tells}
 use Rattle.sim_cli.specs.Answer.AnswersSession.{misfit, fit}
 use Rattle.sim_cli.specs.Answer.AnswersText.{misread, read}
@@ -53,6 +54,38 @@ pub text_only : (task : Task) (text : List ℕ) (r : Result (List Statement × L
     → (a : Answer) → AnswersText task text a → a ≡ answer_to r task
 text_only task text r only a (misread fault said h) = subst (λ x. a ≡ answer_to x task) (only (Err fault) said) h
 text_only task text r only a (read s l said h) = subst (λ x. a ≡ answer_to x task) (only (Ok (s, l)) said) (session_only task s l a h)
+
+-- ---- what the code makes
+
+-- a refusal with the reading fault of a text answers it
+pub refused_text : {E : Type 0} (task : Task) (text : List ℕ) (fault : TextFault) (r : Result Answer E) → HasFault text fault
+    → IfOk r (λ whole. whole ≡ refused fault) → IfOk r (λ whole. AnswersText task text whole)
+refused_text task text fault (Ok whole) e h = misread fault e h
+refused_text task text fault (Err e) f h = tt
+
+-- and so does one with the checking fault of the session that it stands for
+pub refused_session : {E : Type 0} (task : Task) (text : List ℕ) (s : List Statement) (l : List ℕ) (fault : TextFault) (r : Result Answer E)
+    → StandsFor text s l → fault_of s l ≡ Some fault → IfOk r (λ whole. whole ≡ refused fault) → IfOk r (λ whole. AnswersText task text whole)
+refused_session task text s l fault (Ok whole) stands e h = read s l stands (misfit fault e h)
+refused_session task text s l fault (Err e) stands f h = tt
+
+-- what is made of a session without a fault answers the text that stands for it
+pub made_text : {E : Type 0} (task : Task) (text : List ℕ) (s : List Statement) (l : List ℕ) (r : Result Answer E)
+    → StandsFor text s l → fault_of s l ≡ None → IfOk r (λ whole. whole ≡ made task s) → IfOk r (λ whole. AnswersText task text whole)
+made_text task text s l (Ok whole) stands e h = read s l stands (fit e h)
+made_text task text s l (Err e) stands f h = tt
+
+-- the answer to a text of which nothing else is said than that it stands for a session without a fault
+pub only_made : (task : Task) (text : List ℕ) (s : List Statement) (l : List ℕ)
+    → ((x : Result (List Statement × List ℕ) TextFault) → Said text x → x ≡ Ok (s, l)) → fault_of s l ≡ None
+    → (a : Answer) → AnswersText task text a → a ≡ made task s
+only_made task text s l only none a p = text_only task text (Ok (s, l)) only a p ∙ ap (λ (o : Option TextFault). answer_by o task s l) none
+
+pub generated_is : {E : Type 0} (task : Task) (text : List ℕ) (s : List Statement) (l : List ℕ)
+    → ((x : Result (List Statement × List ℕ) TextFault) → Said text x → x ≡ Ok (s, l)) → fault_of s l ≡ None
+    → (r : Result Answer E) → IfOk r (λ whole. AnswersText task text whole) → IfOk r (λ whole. whole ≡ made task s)
+generated_is task text s l only none (Ok whole) h = only_made task text s l only none whole h
+generated_is task text s l only none (Err e) h = tt
 
 -- ---- what was read
 
@@ -101,7 +134,7 @@ command_some some (Some (Run o)) bytes = some (Simulate o) bytes
 command_some some (Some (Clock o)) bytes = some (Simulate o) bytes
 command_some some (Some (Alone o)) bytes = (refused_words, refl)
 command_some some (Some Check) bytes = some Print bytes
-command_some some (Some (Gen seed modules)) bytes = some (Summarize seed modules) (session_text seed modules)
+command_some some (Some (Gen seed modules)) bytes = (generated seed modules, refl)
 
 pub command_only : ((task : Task) (text : List ℕ) (a b : Answer) → AnswersText task text a → AnswersText task text b → a ≡ b)
     → (command : Option Command) (bytes : List ℕ) (a b : Answer) → AnswersCommand command bytes a → AnswersCommand command bytes b → a ≡ b
@@ -110,4 +143,4 @@ command_only only (Some (Run o)) bytes a b p q = only (Simulate o) bytes a b p q
 command_only only (Some (Clock o)) bytes a b p q = only (Simulate o) bytes a b p q
 command_only only (Some (Alone o)) bytes a b p q = p ∙ sym q
 command_only only (Some Check) bytes a b p q = only Print bytes a b p q
-command_only only (Some (Gen seed modules)) bytes a b p q = only (Summarize seed modules) (session_text seed modules) a b p q
+command_only only (Some (Gen seed modules)) bytes a b p q = p ∙ sym q

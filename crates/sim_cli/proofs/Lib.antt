@@ -2,3 +2,4 @@ pub mod Answering
 pub mod Limits
 pub mod Reports
 pub mod Sums
+pub mod Told

@@ -3,7 +3,6 @@ use Rattle.std.specs.Prelude.{◌≡◌, ◌≤◌, ℕ, Bool, true, false, List
 use Rattle.std.specs.Io.KnownBytes.{Appends}
 use Rattle.sim_io.specs.Causes.{AppendsPrefix, Rose}
 use Rattle.flow_design.specs.declared.session.Statement.{Statement}
-use Rattle.flow_gen.specs.Generated.{session_text}
 use Rattle.flow_grammar.specs.declared.fault.TextFault.{TextFault}
 use Rattle.flow_grammar.specs.Text.{StandsFor, HasFault}
 use Rattle.flow_check.specs.Checked.{fault_of}
@@ -11,7 +10,7 @@ use Rattle.cli_words.specs.CommandWords.{accepted, AreLimits}
 use Rattle.cli_words.specs.declared.Command.{Command}
 use Rattle.cli_words.specs.declared.Command.TheVariants.{Run, Alone, Clock, Check, Gen}
 use Rattle.sim_cli.specs.declared.answer.Answer.{Answer}
-use Rattle.sim_cli.specs.Made.{refused_words, refused, made}
+use Rattle.sim_cli.specs.Made.{refused_words, refused, made, generated}
 use Rattle.sim_cli.specs.declared.task.Task.{Task}
 use Rattle.sim_cli.specs.declared.task.Task.TheVariants.{Simulate, Print, Summarize}
 use Rattle.sim_cli.specs.declared.status.Status.{Status}
@@ -44,8 +43,8 @@ AnswersCommand (Some (Clock o)) bytes answer = AnswersText (Simulate o) bytes an
 -- not built yet
 AnswersCommand (Some (Alone o)) bytes answer = answer ≡ refused_words
 AnswersCommand (Some Check) bytes answer = AnswersText Print bytes answer
--- the generated session takes the place of the input
-AnswersCommand (Some (Gen seed modules)) bytes answer = AnswersText (Summarize seed modules) (session_text seed modules) answer
+-- the session of the seed takes the place of the input
+AnswersCommand (Some (Gen seed modules)) bytes answer = answer ≡ generated seed modules
 
 -- the answer to the words, with these bytes as the input
 abbrev pub Answers : List (List ℕ) → List ℕ → Answer → Type 0
@@ -96,6 +95,5 @@ pub record TellsFaults {K : Type 0} (result : Status) (reads reads_now writes wr
   pub unwritten : result ≡ ReadFault → sink_now ≡ sink
   -- a fault of writing comes only where the sink has counted one
   pub write : result ≡ WriteFault → Rose writes writes_now
-  -- neither count falls
-  pub source : reads ≤ reads_now
-  pub sink : writes ≤ writes_now
+  pub source_never_falls : reads ≤ reads_now
+  pub sink_never_falls : writes ≤ writes_now

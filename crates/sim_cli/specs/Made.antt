@@ -9,6 +9,8 @@ use Rattle.flow_grammar.specs.declared.fault.Code.{Code}
 use Rattle.flow_grammar.specs.declared.fault.Code.TheVariants as code
 use Rattle.flow_grammar.specs.declared.fault.TextFault.{TextFault}
 use Rattle.flow_print.specs.Canonical.{canonical_text}
+use Rattle.flow_gen.specs.Generated.{draws}
+use Rattle.generated_sessions.specs.Statements.{session}
 use Rattle.session_plan.specs.Plans.{plan_of, edits_of}
 use Rattle.cli_words.specs.declared.Options.{Options}
 use Rattle.sim_cli.specs.declared.task.Task.{Task}
@@ -91,3 +93,7 @@ abbrev pub made : Task → List Statement → Answer
 made (Simulate o) statements = simulated o statements
 made Print statements = canonical statements
 made (Summarize seed modules) statements = summary seed modules (plan_of statements)
+
+-- the summary of the session of this seed
+abbrev pub generated : ℕ → ℕ → Answer
+generated seed modules = summary seed modules (plan_of (session (draws seed modules)))

@@ -2,7 +2,7 @@
 ghost use Rattle.std.specs.Prelude.{◌≡◌, ◌≢◌, ◌≤◌, [], false, map, string_bytes, IfOk, IfSome, Some};
 ghost use Rattle.sim_io.specs.Causes.{Rose};
 ghost use Rattle.cli_words.specs.CommandWords.{accepted, IsInRange};
-ghost use Rattle.sim_cli.specs.Made.{refused, number_of};
+ghost use Rattle.sim_cli.specs.Made.{refused, generated, number_of};
 ghost use Rattle.sim_cli.specs.Answer.{Answers, AnswersCommand, AnswersText, takes_input, IsSound, IsAnswer};
 
 use crate::making::make;
@@ -12,9 +12,10 @@ use cli_words::{Command, WordFault, read_words};
 use flow_check::check;
 use flow_design::limits;
 use flow_gen::generate;
-use flow_grammar::{Code, ReadFail, TextFault, keeps_rules};
+use flow_grammar::{Code, ReadFail, TextFault, keeps_rules, one_answer as one_reading};
 use flow_text::read_session;
 use flow_word::{List, OutOfMemory};
+use generated_sessions::{generated_sessions_are_checked, generated_texts_are_read};
 use report_text::print_numbers;
 use sim_io::{Source, TakeFault, read_all};
 use std::alloc::Global;
@@ -36,7 +37,9 @@ pub(crate) enum Unanswered {
 }
 
 impl From<OutOfMemory> for Unanswered {
-    ghost from_gives = { λ _ unanswered. unanswered ≡ Unanswered.OutOfMemory };
+    ghost use Rattle.sim_cli.specs.declared.answer.Unanswered.TheVariants.{OutOfMemory as no_memory};
+
+    ghost from_gives = { λ _ unanswered. unanswered ≡ no_memory };
 
     fn from(_: OutOfMemory) -> Self {
         Unanswered::OutOfMemory
@@ -99,10 +102,7 @@ fn obey<S: Source>(
             status: Status::Words,
         }),
         Command::Check => answer_source(alloc, &Task::Print, source),
-        Command::Gen(seed, modules) => {
-            let text = generate(alloc, seed, modules)?;
-            Ok(answer_text(alloc, &Task::Summarize(seed, modules), text.as_slice())?)
-        }
+        Command::Gen(seed, modules) => Ok(answer_generated(alloc, seed, modules)?),
     }
 }
 
@@ -124,6 +124,19 @@ fn answer_source<S: Source>(
         Err(TakeFault::TooLong) => Ok(refuse(alloc, TOO_LONG)?),
         Err(TakeFault::OutOfMemory) => Err(Unanswered::OutOfMemory),
     }
+}
+
+/// The summary of the session of a seed: its text is made, read, checked and run like any other.
+fn answer_generated(alloc: Global, seed: u64, modules: u64) -> Result<Answer, OutOfMemory>
+    requires { IsInRange (Command.Gen seed modules) }
+    ensures generated { IfOk result (λ whole. whole ≡ generated seed modules) }
+    ensures status { IfOk result (λ whole. IsAnswer whole.status) }
+{
+    one_reading();
+    generated_texts_are_read();
+    generated_sessions_are_checked();
+    let text = generate(alloc, seed, modules)?;
+    answer_text(alloc, &Task::Summarize(seed, modules), text.as_slice())
 }
 
 /// The answer to a text: it is read to a session, the session is checked, and the task makes the answer of it.

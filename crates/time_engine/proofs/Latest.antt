@@ -18,7 +18,8 @@ latest-append [] ys = omega arith
 latest-append (x ∷ xs) ys = let e = latest-append xs ys in omega arith
 
 -- one clock more
-pub latest_more : (clock : ℕ) (xs ys : List ℕ) (sofar next : ℕ) → sofar ≡ latest (clock ∷ xs) → next ≡ latest (sofar ∷ ys) → next ≡ latest (clock ∷ (xs ++ ys))
+pub latest_more : (clock : ℕ) (xs ys : List ℕ) (sofar next : ℕ) → sofar ≡ latest (clock ∷ xs) → next ≡ latest (sofar ∷ ys)
+    → next ≡ latest (clock ∷ (xs ++ ys))
 unfolding latest
 latest_more clock xs ys sofar next so then = let e = latest-append xs ys in omega arith
 
@@ -38,14 +39,18 @@ pub clocks_of-append : (lanes : List Lane) (channels : List Channel) (xs ys : Li
     → clocks_of lanes channels (xs ++ ys) ≡ clocks_of lanes channels xs ++ clocks_of lanes channels ys
 unfolding clocks_of
 clocks_of-append lanes channels xs ys =
-    ap (filter_map (λ (a : Access). known_clock (when_possible lanes channels a))) (filter-append (λ (a : Access). is_blocking a.kind) xs ys)
-    ∙ filter_map-append (λ (a : Access). known_clock (when_possible lanes channels a)) (filter (λ (a : Access). is_blocking a.kind) xs) (filter (λ (a : Access). is_blocking a.kind) ys)
+    ap (filter_map (λ (a : Access). known_clock (when_possible lanes channels a))) (filter-append (λ (a : Access). is_blocking a.kind) xs
+    ys)
+    ∙ filter_map-append (λ (a : Access). known_clock (when_possible lanes channels a)) (filter (λ (a : Access). is_blocking a.kind) xs)
+    (filter (λ (a : Access). is_blocking a.kind) ys)
 
-pub clocks_of_query : (lanes : List Lane) (channels : List Channel) (access : Access) → is_blocking access.kind ≡ false → clocks_of lanes channels (access ∷ []) ≡ []
+pub clocks_of_query : (lanes : List Lane) (channels : List Channel) (access : Access) → is_blocking access.kind ≡ false
+    → clocks_of lanes channels (access ∷ []) ≡ []
 unfolding clocks_of
 clocks_of_query lanes channels access query = rw query refl
 
-pub clocks_of_known : (lanes : List Lane) (channels : List Channel) (access : Access) (clock : ℕ) → is_blocking access.kind ≡ true → when_possible lanes channels access ≡ From clock
+pub clocks_of_known : (lanes : List Lane) (channels : List Channel) (access : Access) (clock : ℕ) → is_blocking access.kind ≡ true
+    → when_possible lanes channels access ≡ From clock
     → clocks_of lanes channels (access ∷ []) ≡ clock ∷ []
 unfolding clocks_of
 clocks_of_known lanes channels access clock blocks known = rw blocks (rw known refl)
@@ -55,8 +60,10 @@ unfolding clocks_of
 clocks_of-none lanes channels = refl
 
 -- one access more
-pub latest_next : (lanes : List Lane) (channels : List Channel) (accesses : List Access) (i : ℕ) (d : Access) (clock sofar next : ℕ) → i < length accesses
-    → sofar ≡ latest (clock ∷ clocks_of lanes channels (take i accesses)) → next ≡ latest (sofar ∷ clocks_of lanes channels (get_or accesses i d ∷ []))
+pub latest_next : (lanes : List Lane) (channels : List Channel) (accesses : List Access) (i : ℕ) (d : Access) (clock sofar next : ℕ)
+    → i < length accesses
+    → sofar ≡ latest (clock ∷ clocks_of lanes channels (take i accesses))
+    → next ≡ latest (sofar ∷ clocks_of lanes channels (get_or accesses i d ∷ []))
     → next ≡ latest (clock ∷ clocks_of lanes channels (take (i + 1) accesses))
 latest_next lanes channels accesses i d clock sofar next inside so then =
     rw (take_more accesses i d inside, clocks_of-append) (latest_more clock _ _ sofar next so then)

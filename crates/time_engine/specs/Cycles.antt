@@ -1,5 +1,6 @@
 -- The cycle of a module's first step without one.
-use Rattle.std.specs.Prelude.{ℕ, ◌+◌, ◌<◌, max, Bool, ◌&&◌, if◌then◌else◌, List, [], ◌∷◌, length, filter, position, Option, None, Some, unwrap_or, is_some, is_none, option_and_then, slice_get}
+use Rattle.std.specs.Prelude.{ℕ, ◌+◌, ◌<◌, max, Bool, ◌&&◌, if◌then◌else◌, List, [], ◌∷◌, length, filter, position, Option, None, Some}
+use Rattle.std.specs.Prelude.{unwrap_or, is_some, is_none, option_and_then, slice_get}
 use Rattle.std.specs.List.{filter_map}
 use Rattle.std.specs.Option.{ForSome}
 use Rattle.flow_word.specs.declared.access.Access.{Access}
@@ -25,7 +26,8 @@ is_waiting lanes channels access = is_blocking access.kind && is_none (known_clo
 
 -- the clocks that are known from which the blocking ones of the accesses are possible
 unfoldable pub clocks_of : List Lane → List Channel → List Access → List ℕ
-clocks_of lanes channels accesses = filter_map (λ access. known_clock (when_possible lanes channels access)) (filter (λ access. is_blocking access.kind) accesses)
+clocks_of lanes channels accesses = filter_map (λ access. known_clock (when_possible lanes channels access))
+    (filter (λ access. is_blocking access.kind) accesses)
 
 -- the latest of the clocks, and 0 where there is none
 unfoldable pub latest : List ℕ → ℕ
@@ -43,7 +45,8 @@ arrival lane step = unwrap_or (last_cycle lane) 0 + step.gap
 
 -- the number of its first access that waits
 unfoldable pub first_waiting : List Lane → List Channel → ℕ → Option ℕ
-first_waiting lanes channels owner = option_and_then (λ step. position (is_waiting lanes channels) step.accesses) (open_step (lane_at lanes owner))
+first_waiting lanes channels owner = option_and_then (λ step. position (is_waiting lanes channels) step.accesses)
+    (open_step (lane_at lanes owner))
 
 -- the cycle, unless an access waits
 abbrev pub cycle_unless : Option ℕ → ℕ → Option ℕ
@@ -53,7 +56,8 @@ cycle_unless waiting cycle = if is_some waiting then None else Some cycle
 -- those from which its blocking accesses are possible
 unfoldable pub determined : List Lane → List Channel → ℕ → Option ℕ
 determined lanes channels owner =
-    option_and_then (λ step. cycle_unless (first_waiting lanes channels owner) (latest (arrival (lane_at lanes owner) step ∷ clocks_of lanes channels step.accesses)))
+    option_and_then (λ step. cycle_unless (first_waiting lanes channels owner)
+    (latest (arrival (lane_at lanes owner) step ∷ clocks_of lanes channels step.accesses)))
     (open_step (lane_at lanes owner))
 
 -- the step can be given this cycle: there is one, and the cycle is later than the module's last

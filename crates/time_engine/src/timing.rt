@@ -1,5 +1,6 @@
 //! The cycle of a module's first step without one.
-ghost use Rattle.std.specs.Prelude.{◌≡◌, ℕ, List, All, ◌+◌, ◌^◌, ◌<◌, ◌≤◌, ◌↔◌, ◌∷◌, [], length, slice_get, slice_index, position, unwrap_or, is_none, None, Some, IfSome, IfOk, OnOk, IfErr, IsSomeAnd};
+ghost use Rattle.std.specs.Prelude.{◌≡◌, ℕ, List, All, ◌+◌, ◌^◌, ◌<◌, ◌≤◌, ◌↔◌, ◌∷◌, [], length, slice_get, slice_index, position};
+ghost use Rattle.std.specs.Prelude.{unwrap_or, is_none, None, Some, IfSome, IfOk, OnOk, IfErr, IsSomeAnd};
 ghost use Rattle.event_graph.specs.Lanes.{IsSoundLane, lane_at, cycle_bound, with_cycle};
 ghost use Rattle.event_graph.specs.Lanes.{last_cycle as last_of};
 ghost use Rattle.time_engine.specs.Conditions.{IsAccess, HasAccesses, HasPlaces};
@@ -22,8 +23,10 @@ pub fn candidate(graph: &Graph, fifos: &FifoTable, owner: u32, limit: u64) -> Ca
     requires limit { limit ≤ cycle_bound }
     ensures nothing { (result ≡ Candidate.Nothing) ↔ (open_step (lane_at graph.now.lanes owner) ≡ None) }
     ensures waits { (i : ℕ) → (result ≡ Candidate.Waits i) ↔ (first_waiting graph.now.lanes fifos.now.channels owner ≡ Some i) }
-    ensures beyond { (result ≡ Candidate.Beyond) ↔ IsSomeAnd (determined graph.now.lanes fifos.now.channels owner) (λ cycle. limit ≤ cycle) }
-    ensures at { (cycle : ℕ) → (result ≡ Candidate.At cycle) ↔ ((determined graph.now.lanes fifos.now.channels owner ≡ Some cycle) × (cycle < limit)) }
+    ensures beyond { (result ≡ Candidate.Beyond)
+        ↔ IsSomeAnd (determined graph.now.lanes fifos.now.channels owner) (λ cycle. limit ≤ cycle) }
+    ensures at { (cycle : ℕ) → (result ≡ Candidate.At cycle) ↔ ((determined graph.now.lanes fifos.now.channels owner ≡ Some cycle)
+        × (cycle < limit)) }
     ensures may_take { (cycle : ℕ) → result ≡ Candidate.At cycle → MayTake graph.now.lanes owner cycle }
 {
     let first = graph.frontier(owner);
@@ -57,7 +60,7 @@ pub fn assign<L: Ledger>(graph: &mut Graph, owner: u32, cycle: u64, steps: &mut 
 }
 
 /// A module's last cycle, and 0 where it has none.
-fn last_cycle(graph: &Graph, owner: u32) -> u64
+pub fn last_cycle(graph: &Graph, owner: u32) -> u64
     requires { owner < length graph.now.lanes }
     ensures cycle { result ≡ unwrap_or (last_of (lane_at graph.now.lanes owner)) 0 }
     ensures below { result < cycle_bound }

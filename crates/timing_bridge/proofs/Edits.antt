@@ -2,7 +2,7 @@
 use Rattle.std.proofs.Common.{◌≡◌, ℕ, ◌≤◌, ◌<◌, List, length, true, ◌&&◌, cond, refl, sym, ◌∙◌, ap, subst, inl, inr, eqb}
 use Rattle.std.specs.Prelude.{slice_index}
 use Rattle.std.proofs.lemmas.Bool.{cases_eq, eq-eqb, ne_eqb}
-use Rattle.std.proofs.lemmas.List.{get_or-set_same, get_or-set_other, length-set}
+use Rattle.std.proofs.lemmas.List.{get_or-set_same, get_or-set_other, length-set, set-get_or}
 use Rattle.flow_word.specs.declared.access.Side.{Side}
 use Rattle.flow_word.specs.Kinds.{same_side}
 use Rattle.flow_word.specs.declared.access.Side.TheVariants.{Pop, Push}
@@ -68,6 +68,10 @@ edited_fits p h e fit =
       some_operations = h.some_operations;
       operations = h.operations;
     }
+
+-- an edit to the depth that stands is none
+pub same_depth : (p : Plan) (f : ℕ) → with_depth p f (slice_index p.depths f) ≡ p
+same_depth p f = ap (λ (ds : List ℕ). record p { depths = ds }) (set-get_or p.depths f 0)
 
 -- ---- its design
 

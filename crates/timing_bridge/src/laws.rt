@@ -1,5 +1,5 @@
 //! The laws, for any plan `p` that the engine takes.
-ghost use Rattle.std.specs.Prelude.{ℕ, true, ◌≡◌, suc, ◌+◌, ◌*◌, ◌<◌, ◌≤◌, List, [], ◌∷◌, Some, map, length};
+ghost use Rattle.std.specs.Prelude.{ℕ, true, ◌≡◌, suc, ◌+◌, ◌*◌, ◌<◌, ◌≤◌, List, [], ◌∷◌, Some, map, length, slice_index};
 ghost use Rattle.std.specs.List.{range_with_len};
 ghost use Rattle.flow_word.specs.declared.access.Side.{Side};
 ghost use Rattle.flow_design.specs.declared.plan.Edit.{Edit};
@@ -106,11 +106,12 @@ pub fn steps_in_order()
     ensures reported { (p : Plan) → history p p.cycles ≡ history p (clock_of (verdict p)) }
 {}
 
-/// An edit that the plan takes gives a plan that the engine takes, whose design is the edited one. A final core that is cut back to
-/// the cycles below the first touched clock agrees with the edited plan; and after every list of actions that are permitted from
-/// there, the report that is read off a final core is the edited plan's.
+/// An edit that the plan takes gives a plan that the engine takes, whose design is the edited one; an edit to the depth that stands
+/// gives the plan itself. A final core that is cut back to the cycles below the first touched clock agrees with the edited plan; and
+/// after every list of actions that are permitted from there, the report that is read off a final core is the edited plan's.
 pub fn edited_plans_agree()
     ensures fits { (p : Plan) → FitsEngine p → (e : Edit) → EditFits p e → FitsEngine (with_depth p e.channel e.depth) }
+    ensures same_depth { (p : Plan) (f : ℕ) → with_depth p f (slice_index p.depths f) ≡ p }
     ensures design { (p : Plan) (f depth : ℕ) → f < length p.depths → design (with_depth p f depth) ≡ edited (design p) f depth }
     ensures agrees { (p : Plan) → FitsEngine p → (e : Edit) → EditFits p e → (limit t : ℕ) (x : Core ModuleState)
         → IsAgreed (design p) (lockstep_run p) limit x → IsFinal (design p) limit x → t ≤ limit

@@ -3,12 +3,12 @@ use Rattle.std.specs.Prelude.{All}
 use Rattle.std.proofs.lemmas.List.{get_or-set_other}
 use Rattle.flow_word.specs.declared.access.Access.{Access}
 use Rattle.flow_word.specs.declared.access.Step.{Step}
-use Rattle.query_log.specs.Logs.{Log, no_log}
+use Rattle.query_log.specs.Logs.{no_log}
 use Rattle.time_engine.specs.Conditions.{IsAccess}
-use Rattle.engine_view.specs.Held.{step_of, queries_in}
+use Rattle.engine_view.specs.Held.{Held, step_of, queries_in}
 use Rattle.engine_view.specs.Stored.{stored, held_in}
 use Rattle.engine_view.specs.Rooms.{HasRoom}
-use Rattle.engine_view.specs.Turns.{first_of}
+use Rattle.engine_view.specs.Turns.{IsAnswered, first_of}
 use Rattle.engine_view.proofs.Unsure.{answered_on}
 use Rattle.engine_view.proofs.Roomy.{few_queries}
 use Rattle.engine_view.proofs.Resolving.{first_is}
@@ -32,7 +32,8 @@ compare_outcomes-requires-clause-inside c =
     let h = held_in s over in
     let f = unsure_in s c.args.owner c.requires.unsure d over i k in
     let step = first_is h c.args.owner c.frontier.result c.step-step.result.now c.frontier.ensures.count c.step-step.ensures.step in
-    let xs : (step_of h c.args.owner (first_of h c.args.owner)).accesses ≡ c.as_slice-accesses.result.now = ap (λ (t : Step). t.accesses) step ∙ sym c.as_slice-accesses.ensures in
+    let xs : (step_of h c.args.owner (first_of h c.args.owner)).accesses ≡ c.as_slice-accesses.result.now =
+    ap (λ (t : Step). t.accesses) step ∙ sym c.as_slice-accesses.ensures in
     subst (All (IsAccess c.args.fifos.now.channels)) xs (confirming.again_inside d h c.args.owner c.args.cycle f)
 
 pub compare_outcomes-requires-clause-places : goal.compare_outcomes-requires-clause-places
@@ -73,7 +74,8 @@ verify_up_to-requires-clause-recorded c =
     let h = held_in s over in
     let f = unsure_in s c.args.owner c.requires.unsure d over i k in
     let step = first_is h c.args.owner c.frontier.result c.step-step.result.now c.frontier.ensures.count c.step-step.ensures.step in
-    let xs : (step_of h c.args.owner (first_of h c.args.owner)).accesses ≡ c.as_slice-accesses.result.now = ap (λ (t : Step). t.accesses) step ∙ sym c.as_slice-accesses.ensures in
+    let xs : (step_of h c.args.owner (first_of h c.args.owner)).accesses ≡ c.as_slice-accesses.result.now =
+    ap (λ (t : Step). t.accesses) step ∙ sym c.as_slice-accesses.ensures in
     let there = recorded_in s c.args.owner c.requires.unsure d over i k c.requires.recorded in
     let first = ap (λ (t : Step). t.first_query) step in
     let count = c.count_queries.ensures.count ∙ ap queries_in (sym xs) in
@@ -87,7 +89,8 @@ overflow_add-first c =
     let h = held_in s over in
     let f = unsure_in s c.args.owner c.requires.unsure d over i k in
     let step = first_is h c.args.owner c.frontier.result c.step-step.result.now c.frontier.ensures.count c.step-step.ensures.step in
-    let xs : (step_of h c.args.owner (first_of h c.args.owner)).accesses ≡ c.as_slice-accesses.result.now = ap (λ (t : Step). t.accesses) step ∙ sym c.as_slice-accesses.ensures in
+    let xs : (step_of h c.args.owner (first_of h c.args.owner)).accesses ≡ c.as_slice-accesses.result.now =
+    ap (λ (t : Step). t.accesses) step ∙ sym c.as_slice-accesses.ensures in
     let few = confirming.again_few d h c.args.owner c.args.cycle f c.args.graph.now.rooms c.args.fifos.now c.args.log.now.rooms credits r in
     let first = ap (λ (t : Step). t.first_query) step in
     let count = c.count_queries.ensures.count in
@@ -102,13 +105,16 @@ returns-in-Same-clause-answered c = λ d over i k.
     let h = held_in s over in
     let f = unsure_in s c.args.owner c.requires.unsure d over i k in
     let step = first_is h c.args.owner c.frontier.result c.step-step.result.now c.frontier.ensures.count c.step-step.ensures.step in
-    let xs : (step_of h c.args.owner (first_of h c.args.owner)).accesses ≡ c.as_slice-accesses.result.now = ap (λ (t : Step). t.accesses) step ∙ sym c.as_slice-accesses.ensures in
+    let xs : (step_of h c.args.owner (first_of h c.args.owner)).accesses ≡ c.as_slice-accesses.result.now =
+    ap (λ (t : Step). t.accesses) step ∙ sym c.as_slice-accesses.ensures in
+    let first = ap (λ (t : Step). t.first_query) step in
     let there = recorded_in s c.args.owner c.requires.unsure d over i k c.requires.recorded in
-    let again = confirming.flags_at_step d h c.args.owner c.args.cycle f c.as_slice-accesses.result.now c.step-step.result.now.first_query (sym xs)
-    (sym (ap (λ (t : Step). t.first_query) step)) (c.in-Same.ensures.same refl) in
-    let logs : c.verify_up_to.new.self.logs ≡ (confirming.g d h c.args.owner c.args.cycle f there again).logs =
-    c.verify_up_to.ensures.logs ∙ confirming.again_logs d h c.args.owner c.args.cycle f there again _ (let n = ap (λ (t : Step). t.first_query) step in let q = c.count_queries.ensures.count ∙ ap queries_in (sym xs) in omega arith) in
-    rw logs (answered_on d h c.args.owner c.args.cycle _ f (λ e. again) (confirming.again_core d h c.args.owner c.args.cycle f there again))
+    let again = confirming.flags_at_step d h c.args.owner c.args.cycle f c.as_slice-accesses.result.now c.step-step.result.now.first_query
+    (sym xs) (sym first) (c.in-Same.ensures.same refl) in
+    let behind = confirming.again_behind d h c.args.owner c.args.cycle f there again _ c.verify_up_to.new.self.logs
+    (let count = c.count_queries.ensures.count ∙ ap queries_in (sym xs) in omega arith) c.verify_up_to.ensures.logs in
+    subst (IsAnswered d h c.args.owner c.args.cycle) (sym behind)
+    (answered_on d h c.args.owner c.args.cycle _ f (λ e. again) (confirming.again_core d h c.args.owner c.args.cycle f there again))
 
 pub returns-in-Same-clause-room : goal.returns-in-Same-clause-room
 returns-in-Same-clause-room c = λ credits d over i k r.
@@ -116,18 +122,22 @@ returns-in-Same-clause-room c = λ credits d over i k r.
     let h = held_in s over in
     let f = unsure_in s c.args.owner c.requires.unsure d over i k in
     let step = first_is h c.args.owner c.frontier.result c.step-step.result.now c.frontier.ensures.count c.step-step.ensures.step in
-    let xs : (step_of h c.args.owner (first_of h c.args.owner)).accesses ≡ c.as_slice-accesses.result.now = ap (λ (t : Step). t.accesses) step ∙ sym c.as_slice-accesses.ensures in
+    let xs : (step_of h c.args.owner (first_of h c.args.owner)).accesses ≡ c.as_slice-accesses.result.now =
+    ap (λ (t : Step). t.accesses) step ∙ sym c.as_slice-accesses.ensures in
+    let first = ap (λ (t : Step). t.first_query) step in
     let there = recorded_in s c.args.owner c.requires.unsure d over i k c.requires.recorded in
-    let again = confirming.flags_at_step d h c.args.owner c.args.cycle f c.as_slice-accesses.result.now c.step-step.result.now.first_query (sym xs)
-    (sym (ap (λ (t : Step). t.first_query) step)) (c.in-Same.ensures.same refl) in
-    let logs : c.verify_up_to.new.self.logs ≡ (confirming.g d h c.args.owner c.args.cycle f there again).logs =
-    c.verify_up_to.ensures.logs ∙ confirming.again_logs d h c.args.owner c.args.cycle f there again _ (let n = ap (λ (t : Step). t.first_query) step in let q = c.count_queries.ensures.count ∙ ap queries_in (sym xs) in omega arith) in
-    subst (λ (ls : List Log). HasRoom d (record { lanes = c.args.graph.now.lanes; channels = c.args.fifos.now.channels; logs = ls; over = over }) c.args.graph.now.rooms c.args.fifos.now c.verify_up_to.new.self.rooms credits) (sym logs)
-    (subst (λ (rooms : List ℕ). HasRoom d (confirming.g d h c.args.owner c.args.cycle f there again) c.args.graph.now.rooms c.args.fifos.now rooms credits) (sym c.verify_up_to.ensures.rooms)
-    (confirming.room_again d h c.args.owner c.args.cycle f there again c.args.graph.now.rooms c.args.fifos.now c.args.log.now.rooms credits r))
+    let again = confirming.flags_at_step d h c.args.owner c.args.cycle f c.as_slice-accesses.result.now c.step-step.result.now.first_query
+    (sym xs) (sym first) (c.in-Same.ensures.same refl) in
+    let behind = confirming.again_behind d h c.args.owner c.args.cycle f there again _ c.verify_up_to.new.self.logs
+    (let count = c.count_queries.ensures.count ∙ ap queries_in (sym xs) in omega arith) c.verify_up_to.ensures.logs in
+    subst (λ (q : Held). HasRoom d q s.graph.rooms s.table c.verify_up_to.new.self.rooms credits) (sym behind)
+    (subst (λ (rooms : List ℕ). HasRoom d (confirming.g d h c.args.owner c.args.cycle f there again) s.graph.rooms s.table rooms credits)
+    (sym c.verify_up_to.ensures.rooms) (confirming.room_again d h c.args.owner c.args.cycle f there again s.graph.rooms s.table s.log.rooms
+    credits r))
 
 pub returns-in-Same-clause-others : goal.returns-in-Same-clause-others
-returns-in-Same-clause-others c = λ m apart. rw c.verify_up_to.ensures.logs (get_or-set_other c.args.log.now.logs c.args.owner m _ no_log apart)
+returns-in-Same-clause-others c = λ m apart. rw c.verify_up_to.ensures.logs (get_or-set_other c.args.log.now.logs c.args.owner m _ no_log
+    apart)
 
 pub returns-in-Differs-clause-answered : goal.returns-in-Differs-clause-answered
 returns-in-Differs-clause-answered c = (
@@ -137,10 +147,12 @@ returns-in-Differs-clause-answered c = (
       let h = held_in s over in
       let f = unsure_in s c.args.owner c.requires.unsure d over i k in
       let step = first_is h c.args.owner c.frontier.result c.step-step.result.now c.frontier.ensures.count c.step-step.ensures.step in
-      let xs : (step_of h c.args.owner (first_of h c.args.owner)).accesses ≡ c.as_slice-accesses.result.now = ap (λ (t : Step). t.accesses) step ∙ sym c.as_slice-accesses.ensures in
+      let xs : (step_of h c.args.owner (first_of h c.args.owner)).accesses ≡ c.as_slice-accesses.result.now =
+      ap (λ (t : Step). t.accesses) step ∙ sym c.as_slice-accesses.ensures in
       record {
         recorded = recorded_in s c.args.owner c.requires.unsure d over i k c.requires.recorded;
-        other = confirming.other_at_step d h c.args.owner c.args.cycle f c.as_slice-accesses.result.now c.step-step.result.now.first_query (sym xs)
+        other = confirming.other_at_step d h c.args.owner c.args.cycle f c.as_slice-accesses.result.now c.step-step.result.now.first_query
+            (sym xs)
             (sym (ap (λ (t : Step). t.first_query) step)) c.in-Differs.query (c.in-Differs.ensures.differs c.in-Differs.query refl);
       },
 )

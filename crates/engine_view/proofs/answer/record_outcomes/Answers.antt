@@ -1,19 +1,15 @@
-use Rattle.std.proofs.Common.{◌≡◌, ◌≤◌, sym, ap, ap₂, subst, ◌∙◌, List, length, get_or, arith}
+use Rattle.std.proofs.Common.{◌≡◌, ◌≤◌, sym, ap, subst, ◌∙◌, List, length, get_or, arith}
 use Rattle.std.specs.Prelude.{All}
 use Rattle.std.proofs.lemmas.Bool.{both_ways}
 use Rattle.std.proofs.lemmas.List.{get_or-set_other}
 use Rattle.flow_word.specs.declared.access.Access.{Access}
 use Rattle.flow_word.specs.declared.access.Step.{Step}
-use Rattle.fifo_table.specs.Channels.{Channel}
-use Rattle.query_log.specs.Logs.{Log, no_log, with_outcomes}
+use Rattle.query_log.specs.Logs.{no_log}
 use Rattle.time_engine.specs.Conditions.{IsAccess}
-use Rattle.event_timing.specs.Actions.{new_flags}
-use Rattle.engine_view.specs.Held.{Held, step_of, queries_in, core_of}
-use Rattle.engine_view.specs.Known.{found_flags}
-use Rattle.engine_view.specs.Answered.{outcomes_of, with_answered}
+use Rattle.engine_view.specs.Held.{Held, step_of, queries_in}
 use Rattle.engine_view.specs.Stored.{stored, held_in}
 use Rattle.engine_view.specs.Rooms.{AreApart, HasRoomFor, HasRoom, TakesAt}
-use Rattle.engine_view.specs.Turns.{first_of}
+use Rattle.engine_view.specs.Turns.{IsAnswered, first_of}
 use Rattle.engine_view.proofs.Unsure.{answered_on}
 use Rattle.engine_view.proofs.Confirming.{fresh_in}
 use Rattle.engine_view.proofs.Resolving as resolving
@@ -25,7 +21,8 @@ write_outcomes-requires-clause-verified c =
     let (d, over, credits, i, k, r) = c.requires.core in
     let h = held_in s over in
     let f = fresh_in s c.args.owner c.requires.unsure d over i k c.requires.fresh in
-    let step = resolving.first_is h c.args.owner c.frontier.result c.step-step.result.now c.frontier.ensures.count c.step-step.ensures.step in
+    let step = resolving.first_is h c.args.owner c.frontier.result c.step-step.result.now c.frontier.ensures.count
+    c.step-step.ensures.step in
     resolving.fresh_verified d h c.args.owner c.args.cycle f
 
 pub write_outcomes-requires-clause-inside : goal.write_outcomes-requires-clause-inside
@@ -34,8 +31,10 @@ write_outcomes-requires-clause-inside c =
     let (d, over, credits, i, k, r) = c.requires.core in
     let h = held_in s over in
     let f = fresh_in s c.args.owner c.requires.unsure d over i k c.requires.fresh in
-    let step = resolving.first_is h c.args.owner c.frontier.result c.step-step.result.now c.frontier.ensures.count c.step-step.ensures.step in
-    let xs : (step_of h c.args.owner (first_of h c.args.owner)).accesses ≡ c.as_slice.result.now = ap (λ (t : Step). t.accesses) step ∙ sym c.as_slice.ensures in
+    let step = resolving.first_is h c.args.owner c.frontier.result c.step-step.result.now c.frontier.ensures.count
+    c.step-step.ensures.step in
+    let xs : (step_of h c.args.owner (first_of h c.args.owner)).accesses ≡ c.as_slice.result.now = ap (λ (t : Step). t.accesses) step
+    ∙ sym c.as_slice.ensures in
     subst (All (IsAccess c.args.fifos.now.channels)) xs (resolving.fresh_inside d h c.args.owner c.args.cycle f)
 
 pub write_outcomes-requires-clause-places : goal.write_outcomes-requires-clause-places
@@ -44,7 +43,8 @@ write_outcomes-requires-clause-places c =
     let (d, over, credits, i, k, r) = c.requires.core in
     let h = held_in s over in
     let f = fresh_in s c.args.owner c.requires.unsure d over i k c.requires.fresh in
-    let step = resolving.first_is h c.args.owner c.frontier.result c.step-step.result.now c.frontier.ensures.count c.step-step.ensures.step in
+    let step = resolving.first_is h c.args.owner c.frontier.result c.step-step.result.now c.frontier.ensures.count
+    c.step-step.ensures.step in
     k.sound.places
 
 pub write_outcomes-requires-clause-owner : goal.write_outcomes-requires-clause-owner
@@ -53,7 +53,8 @@ write_outcomes-requires-clause-owner c =
     let (d, over, credits, i, k, r) = c.requires.core in
     let h = held_in s over in
     let f = fresh_in s c.args.owner c.requires.unsure d over i k c.requires.fresh in
-    let step = resolving.first_is h c.args.owner c.frontier.result c.step-step.result.now c.frontier.ensures.count c.step-step.ensures.step in
+    let step = resolving.first_is h c.args.owner c.frontier.result c.step-step.result.now c.frontier.ensures.count
+    c.step-step.ensures.step in
     resolving.fresh_owner d h c.args.owner c.args.cycle f
 
 pub write_outcomes-requires-clause-room : goal.write_outcomes-requires-clause-room
@@ -62,9 +63,12 @@ write_outcomes-requires-clause-room c =
     let (d, over, credits, i, k, r) = c.requires.core in
     let h = held_in s over in
     let f = fresh_in s c.args.owner c.requires.unsure d over i k c.requires.fresh in
-    let step = resolving.first_is h c.args.owner c.frontier.result c.step-step.result.now c.frontier.ensures.count c.step-step.ensures.step in
-    let xs : (step_of h c.args.owner (first_of h c.args.owner)).accesses ≡ c.as_slice.result.now = ap (λ (t : Step). t.accesses) step ∙ sym c.as_slice.ensures in
-    subst (λ (as' : List Access). queries_in as' ≤ get_or c.args.log.now.rooms c.args.owner 0) xs (resolving.fresh_log_room d h c.args.owner c.args.cycle f c.args.graph.now.rooms c.args.fifos.now c.args.log.now.rooms credits r)
+    let step = resolving.first_is h c.args.owner c.frontier.result c.step-step.result.now c.frontier.ensures.count
+    c.step-step.ensures.step in
+    let xs : (step_of h c.args.owner (first_of h c.args.owner)).accesses ≡ c.as_slice.result.now = ap (λ (t : Step). t.accesses) step
+    ∙ sym c.as_slice.ensures in
+    subst (λ (as' : List Access). queries_in as' ≤ get_or c.args.log.now.rooms c.args.owner 0) xs
+    (resolving.fresh_log_room d h c.args.owner c.args.cycle f c.args.graph.now.rooms c.args.fifos.now c.args.log.now.rooms credits r)
 
 pub take_all-requires-clause-inside : goal.take_all-requires-clause-inside
 take_all-requires-clause-inside c =
@@ -72,8 +76,10 @@ take_all-requires-clause-inside c =
     let (d, over, credits, i, k, r) = c.requires.core in
     let h = held_in s over in
     let f = fresh_in s c.args.owner c.requires.unsure d over i k c.requires.fresh in
-    let step = resolving.first_is h c.args.owner c.frontier.result c.step-step.result.now c.frontier.ensures.count c.step-step.ensures.step in
-    let xs : (step_of h c.args.owner (first_of h c.args.owner)).accesses ≡ c.as_slice-2.result.now = ap (λ (t : Step). t.accesses) step ∙ sym c.as_slice-2.ensures in
+    let step = resolving.first_is h c.args.owner c.frontier.result c.step-step.result.now c.frontier.ensures.count
+    c.step-step.ensures.step in
+    let xs : (step_of h c.args.owner (first_of h c.args.owner)).accesses ≡ c.as_slice-2.result.now = ap (λ (t : Step). t.accesses) step
+    ∙ sym c.as_slice-2.ensures in
     subst (All (IsAccess c.args.fifos.now.channels)) xs (resolving.fresh_inside d h c.args.owner c.args.cycle f)
 
 pub take_all-requires-clause-apart : goal.take_all-requires-clause-apart
@@ -82,8 +88,10 @@ take_all-requires-clause-apart c =
     let (d, over, credits, i, k, r) = c.requires.core in
     let h = held_in s over in
     let f = fresh_in s c.args.owner c.requires.unsure d over i k c.requires.fresh in
-    let step = resolving.first_is h c.args.owner c.frontier.result c.step-step.result.now c.frontier.ensures.count c.step-step.ensures.step in
-    let xs : (step_of h c.args.owner (first_of h c.args.owner)).accesses ≡ c.as_slice-2.result.now = ap (λ (t : Step). t.accesses) step ∙ sym c.as_slice-2.ensures in
+    let step = resolving.first_is h c.args.owner c.frontier.result c.step-step.result.now c.frontier.ensures.count
+    c.step-step.ensures.step in
+    let xs : (step_of h c.args.owner (first_of h c.args.owner)).accesses ≡ c.as_slice-2.result.now = ap (λ (t : Step). t.accesses) step
+    ∙ sym c.as_slice-2.ensures in
     subst AreApart xs (resolving.fresh_apart d h c.args.owner c.args.cycle f)
 
 pub take_all-requires-clause-room : goal.take_all-requires-clause-room
@@ -92,9 +100,12 @@ take_all-requires-clause-room c =
     let (d, over, credits, i, k, r) = c.requires.core in
     let h = held_in s over in
     let f = fresh_in s c.args.owner c.requires.unsure d over i k c.requires.fresh in
-    let step = resolving.first_is h c.args.owner c.frontier.result c.step-step.result.now c.frontier.ensures.count c.step-step.ensures.step in
-    let xs : (step_of h c.args.owner (first_of h c.args.owner)).accesses ≡ c.as_slice-2.result.now = ap (λ (t : Step). t.accesses) step ∙ sym c.as_slice-2.ensures in
-    subst (HasRoomFor c.args.fifos.now) xs (resolving.fresh_room d h c.args.owner c.args.cycle f c.args.graph.now.rooms c.args.fifos.now c.args.log.now.rooms credits r)
+    let step = resolving.first_is h c.args.owner c.frontier.result c.step-step.result.now c.frontier.ensures.count
+    c.step-step.ensures.step in
+    let xs : (step_of h c.args.owner (first_of h c.args.owner)).accesses ≡ c.as_slice-2.result.now = ap (λ (t : Step). t.accesses) step
+    ∙ sym c.as_slice-2.ensures in
+    subst (HasRoomFor c.args.fifos.now) xs (resolving.fresh_room d h c.args.owner c.args.cycle f c.args.graph.now.rooms c.args.fifos.now
+    c.args.log.now.rooms credits r)
 
 pub take_all-requires-clause-few : goal.take_all-requires-clause-few
 take_all-requires-clause-few c =
@@ -102,7 +113,8 @@ take_all-requires-clause-few c =
     let (d, over, credits, i, k, r) = c.requires.core in
     let h = held_in s over in
     let f = fresh_in s c.args.owner c.requires.unsure d over i k c.requires.fresh in
-    let step = resolving.first_is h c.args.owner c.frontier.result c.step-step.result.now c.frontier.ensures.count c.step-step.ensures.step in
+    let step = resolving.first_is h c.args.owner c.frontier.result c.step-step.result.now c.frontier.ensures.count
+    c.step-step.ensures.step in
     let few = resolving.fresh_few d h c.args.owner c.args.cycle f c.args.graph.now.rooms c.args.fifos.now c.args.log.now.rooms credits r in
     let first = ap (λ (t : Step). t.first_query) step in
     let size = ap (λ (as' : List Access). length as') c.as_slice-2.ensures in
@@ -114,39 +126,32 @@ returns-clause-answered c = λ d over i k.
     let s = stored c.args.graph.now c.args.fifos.now c.args.log.now in
     let h = held_in s over in
     let f = fresh_in s c.args.owner c.requires.unsure d over i k c.requires.fresh in
-    let step = resolving.first_is h c.args.owner c.frontier.result c.step-step.result.now c.frontier.ensures.count c.step-step.ensures.step in
-    let xs : (step_of h c.args.owner (first_of h c.args.owner)).accesses ≡ c.as_slice.result.now = ap (λ (t : Step). t.accesses) step ∙ sym c.as_slice.ensures in
-    let xs2 : (step_of h c.args.owner (first_of h c.args.owner)).accesses ≡ c.as_slice-2.result.now = ap (λ (t : Step). t.accesses) step ∙ sym c.as_slice-2.ensures in
-    let g = with_answered h c.args.owner (first_of h c.args.owner) (new_flags d (core_of d h) c.args.owner c.args.cycle) in
-    let logs : c.write_outcomes.new.log.logs ≡ g.logs =
-    c.write_outcomes.ensures.logs
-    ∙ (ap (λ (as' : List Access). with_outcomes h.logs c.args.owner (outcomes_of as' (found_flags h.lanes h.channels c.args.cycle as'))) (sym xs)
-    ∙ resolving.fresh_logs d h c.args.owner c.args.cycle f) in
-    let channels : c.take_all.new.fifos.channels ≡ g.channels =
-    resolving.channels_from d h c.args.owner c.args.cycle f c.frontier.result c.step-step.result.now c.as_slice-2.result.now
-    c.write_outcomes.new.log.logs c.take_all.new.fifos.channels c.frontier.ensures.count step c.as_slice-2.ensures logs c.take_all.ensures.channels in
-    rw (logs, channels) (answered_on d h c.args.owner c.args.cycle g f.unsure (λ e. absurd (both_ways _ f.fresh e)) (resolving.fresh_core d h c.args.owner c.args.cycle f))
+    let step = resolving.first_is h c.args.owner c.frontier.result c.step-step.result.now c.frontier.ensures.count
+    c.step-step.ensures.step in
+    let behind = resolving.behind_is d h c.args.owner c.args.cycle f c.frontier.result c.step-step.result.now c.as_slice.result.now
+    c.as_slice-2.result.now c.write_outcomes.new.log.logs c.take_all.new.fifos.channels c.frontier.ensures.count step c.as_slice.ensures
+    c.as_slice-2.ensures c.write_outcomes.ensures.logs c.take_all.ensures.channels in
+    subst (IsAnswered d h c.args.owner c.args.cycle) (sym behind)
+    (answered_on d h c.args.owner c.args.cycle _ f.unsure (λ e. absurd (both_ways _ f.fresh e))
+    (resolving.fresh_core d h c.args.owner c.args.cycle f))
 
 pub returns-clause-room : goal.returns-clause-room
 returns-clause-room c = λ credits d over i k r.
     let s = stored c.args.graph.now c.args.fifos.now c.args.log.now in
     let h = held_in s over in
     let f = fresh_in s c.args.owner c.requires.unsure d over i k c.requires.fresh in
-    let step = resolving.first_is h c.args.owner c.frontier.result c.step-step.result.now c.frontier.ensures.count c.step-step.ensures.step in
-    let xs : (step_of h c.args.owner (first_of h c.args.owner)).accesses ≡ c.as_slice.result.now = ap (λ (t : Step). t.accesses) step ∙ sym c.as_slice.ensures in
-    let xs2 : (step_of h c.args.owner (first_of h c.args.owner)).accesses ≡ c.as_slice-2.result.now = ap (λ (t : Step). t.accesses) step ∙ sym c.as_slice-2.ensures in
-    let g = with_answered h c.args.owner (first_of h c.args.owner) (new_flags d (core_of d h) c.args.owner c.args.cycle) in
-    let logs : c.write_outcomes.new.log.logs ≡ g.logs =
-    c.write_outcomes.ensures.logs
-    ∙ (ap (λ (as' : List Access). with_outcomes h.logs c.args.owner (outcomes_of as' (found_flags h.lanes h.channels c.args.cycle as'))) (sym xs)
-    ∙ resolving.fresh_logs d h c.args.owner c.args.cycle f) in
-    let channels : c.take_all.new.fifos.channels ≡ g.channels =
-    resolving.channels_from d h c.args.owner c.args.cycle f c.frontier.result c.step-step.result.now c.as_slice-2.result.now
-    c.write_outcomes.new.log.logs c.take_all.new.fifos.channels c.frontier.ensures.count step c.as_slice-2.ensures logs c.take_all.ensures.channels in
-    subst (λ (q : Held). HasRoom d q c.args.graph.now.rooms c.take_all.new.fifos c.write_outcomes.new.log.rooms credits)
-    (sym (ap₂ (λ (cs : List Channel) (ls : List Log). record { lanes = c.args.graph.now.lanes; channels = cs; logs = ls; over = over }) channels logs))
-    (resolving.room_answered d h c.args.owner c.args.cycle f c.args.graph.now.rooms c.args.fifos.now c.take_all.new.fifos c.args.log.now.rooms c.write_outcomes.new.log.rooms credits r
-    c.take_all.ensures.one (λ side ch q. c.take_all.ensures.others side ch (subst (All (λ (a : Access). TakesAt side ch a → ⊥)) xs2 q)) c.write_outcomes.ensures.other_rooms)
+    let step = resolving.first_is h c.args.owner c.frontier.result c.step-step.result.now c.frontier.ensures.count
+    c.step-step.ensures.step in
+    let xs : (step_of h c.args.owner (first_of h c.args.owner)).accesses ≡ c.as_slice-2.result.now =
+    ap (λ (t : Step). t.accesses) step ∙ sym c.as_slice-2.ensures in
+    let behind = resolving.behind_is d h c.args.owner c.args.cycle f c.frontier.result c.step-step.result.now c.as_slice.result.now
+    c.as_slice-2.result.now c.write_outcomes.new.log.logs c.take_all.new.fifos.channels c.frontier.ensures.count step c.as_slice.ensures
+    c.as_slice-2.ensures c.write_outcomes.ensures.logs c.take_all.ensures.channels in
+    subst (λ (q : Held). HasRoom d q s.graph.rooms c.take_all.new.fifos c.write_outcomes.new.log.rooms credits) (sym behind)
+    (resolving.room_answered d h c.args.owner c.args.cycle f s.graph.rooms s.table c.take_all.new.fifos s.log.rooms
+    c.write_outcomes.new.log.rooms credits r c.take_all.ensures.one
+    (λ side ch q. c.take_all.ensures.others side ch (subst (All (λ (a : Access). TakesAt side ch a → ⊥)) xs q))
+    c.write_outcomes.ensures.other_rooms)
 
 pub returns-clause-others : goal.returns-clause-others
 returns-clause-others c = λ m apart.

@@ -1,4 +1,5 @@
-use Rattle.std.proofs.Common.{suc}
+use Rattle.std.proofs.Common.{ap, suc, Bool, List}
+use Rattle.std.specs.Prelude.{slice_get}
 use Rattle.std.proofs.lemmas.Bool.{both_ways}
 use Rattle.event_timing.specs.Actions.{new_flags}
 use Rattle.engine_view.specs.Held.{core_of}
@@ -6,7 +7,7 @@ use Rattle.engine_view.specs.Shown.{queries_before}
 use Rattle.engine_view.specs.Answered.{with_answered, with_confirmed}
 use Rattle.engine_view.specs.Turns.{first_of}
 use Rattle.engine_view.proofs.Keeping.{opening_now, emitted_now, over_now, assigned_now, cut_now}
-use Rattle.engine_view.proofs.Unsure.{IsFresh, unsure_of, answered_on}
+use Rattle.engine_view.proofs.Unsure.{unsure_of, answered_on}
 use Rattle.engine_view.proofs.Resolving.{fresh_core}
 use Rattle.engine_view.proofs.Confirming.{again_core}
 use Rattle.engine_view.proofs.laws.cores_are_held.Goals as goal
@@ -23,6 +24,8 @@ returns g c = record {
       (fresh_core d h m c (record { unsure = unsure; fresh = none }));
   confirmed = λ d h k i m c u there same.
       let unsure = unsure_of d i h k m u in
-      answered_on d h m c (with_confirmed h m (queries_before h m (suc (first_of h m)))) unsure same (again_core d h m c unsure there (same there));
+      answered_on d h m c (with_confirmed h m (queries_before h m (suc (first_of h m)))) unsure same
+      (again_core d h m c unsure there (same there));
+  differs = λ d h m c q o same. o.other.differs (ap (λ (flags : List Bool). slice_get flags o.other.place) (same o.recorded));
   cut = cut_now;
 }

@@ -23,13 +23,28 @@ query_is p q e = ap by e
 
 pub returns-then-not-is_alike-clause-differs : goal.returns-then-not-is_alike-clause-differs
 returns-then-not-is_alike-clause-differs c = λ q e.
-    let other = compares_not c.args.graph.now.lanes c.args.fifos.now.channels c.args.cycle c.args.accesses.now (log_at c.args.log.now.logs c.args.owner).outcomes c.args.first_query c.loop-access.access-index c.loop-access.number no_access
+    let other = compares_not c.args.graph.now.lanes c.args.fifos.now.channels c.args.cycle c.args.accesses.now
+    (log_at c.args.log.now.logs c.args.owner).outcomes c.args.first_query c.loop-access.access-index c.loop-access.number no_access
     c.loop-access.invariant c.args.owner
-    (record { «module» = c.args.owner; number = c.loop-access.number; kind = (get_or c.args.accesses.now c.loop-access.access-index no_access).kind; channel = (get_or c.args.accesses.now c.loop-access.access-index no_access).channel; ordinal = (get_or c.args.accesses.now c.loop-access.access-index no_access).ordinal })
+    (record {
+      «module» = c.args.owner;
+      number = c.loop-access.number;
+      kind =
+          (get_or c.args.accesses.now c.loop-access.access-index no_access).kind;
+      channel =
+          (get_or c.args.accesses.now c.loop-access.access-index no_access).channel;
+      ordinal =
+          (get_or c.args.accesses.now c.loop-access.access-index no_access).ordinal;
+    })
     c.loop-access-test.true (λ s. let z = c.if-not-is_alike.ensures.1 s in cc) refl refl refl refl refl in
-    subst (λ (p : Query). IsOther (flags_by c.args.accesses.now (drop c.args.first_query (log_at c.args.log.now.logs c.args.owner).outcomes)) (found_flags c.args.graph.now.lanes c.args.fifos.now.channels c.args.cycle c.args.accesses.now) c.args.accesses.now c.args.owner c.args.first_query p) (query_is _ q e) other
+    subst (λ (p : Query). IsOther
+    (flags_by c.args.accesses.now (drop c.args.first_query (log_at c.args.log.now.logs c.args.owner).outcomes))
+    (found_flags c.args.graph.now.lanes c.args.fifos.now.channels c.args.cycle c.args.accesses.now) c.args.accesses.now c.args.owner
+    c.args.first_query p) (query_is _ q e) other
 
 pub loop-access-preserved : goal.loop-access-preserved
 loop-access-preserved c =
-    compares_more c.args.graph.now.lanes c.args.fifos.now.channels c.args.cycle c.args.accesses.now (log_at c.args.log.now.logs c.args.owner).outcomes c.args.first_query c.loop-access.access-index c.loop-access.number no_access
-    c.loop-access.invariant c.query_count-number.result c.loop-access-test.true (c.if-not-is_alike.ensures.0 refl) c.query_count-number.ensures.count
+    compares_more c.args.graph.now.lanes c.args.fifos.now.channels c.args.cycle c.args.accesses.now
+    (log_at c.args.log.now.logs c.args.owner).outcomes c.args.first_query c.loop-access.access-index c.loop-access.number no_access
+    c.loop-access.invariant c.query_count-number.result c.loop-access-test.true (c.if-not-is_alike.ensures.0 refl)
+    c.query_count-number.ensures.count

@@ -12,9 +12,12 @@ pub loop-access-preserved : goal.loop-access-preserved
 loop-access-preserved c =
     elim c.if-not-is_blocking.branch [
       | then-not-is_blocking w ↦
-          rw w.log-is (writes_one c.args.graph.now.lanes c.args.fifos.now.channels c.args.cycle c.args.owner c.args.accesses.now c.args.log.now c.loop-access.log c.loop-access.access-index no_access
-          c.loop-access.invariant c.loop-access-test.true w.add.new.self w.outcome_in-outcome.result (sym c.is_blocking.ensures ∙ w.if-not-is_blocking.true) w.outcome_in-outcome.ensures w.add.ensures.logs w.add.ensures.own_room w.add.ensures.other_rooms)
+          rw w.log-is (writes_one c.args.graph.now.lanes c.args.fifos.now.channels c.args.cycle c.args.owner c.args.accesses.now
+          c.args.log.now c.loop-access.log c.loop-access.access-index no_access
+          c.loop-access.invariant c.loop-access-test.true w.add.new.self w.outcome_in-outcome.result (sym c.is_blocking.ensures
+          ∙ w.if-not-is_blocking.true) w.outcome_in-outcome.ensures w.add.ensures.logs w.add.ensures.own_room w.add.ensures.other_rooms)
       | else-not-is_blocking w ↦
-          rw w.log-is (writes_not c.args.graph.now.lanes c.args.fifos.now.channels c.args.cycle c.args.owner c.args.accesses.now c.args.log.now c.loop-access.log c.loop-access.access-index no_access
+          rw w.log-is (writes_not c.args.graph.now.lanes c.args.fifos.now.channels c.args.cycle c.args.owner c.args.accesses.now
+          c.args.log.now c.loop-access.log c.loop-access.access-index no_access
           c.loop-access.invariant c.loop-access-test.true (sym c.is_blocking.ensures ∙ w.if-not-is_blocking.false))
     ]

@@ -18,8 +18,10 @@ reserve_port-requires c =
 
 pub loop-port-preserved : goal.loop-port-preserved
 loop-port-preserved c =
-    reserves_more c.args.ports.now c.args.fifos.now c.loop-port.fifos c.reserve_port.new.fifos c.loop-port.port-index no_port c.loop-port.invariant c.loop-port-test.true
+    reserves_more c.args.ports.now c.args.fifos.now c.loop-port.fifos c.reserve_port.new.fifos c.loop-port.port-index no_port
+    c.loop-port.invariant c.loop-port-test.true
     c.reserve_port.ensures.channels c.reserve_port.ensures.kept c.in_ok-reserve_port.ensures.room
 
 pub returns-clause-room : goal.returns-clause-room
-returns-clause-room c = reserves_all c.args.ports.now c.args.fifos.now c.loop-port.fifos c.loop-port.port-index c.loop-port.invariant c.loop-port-test.false
+returns-clause-room c = reserves_all c.args.ports.now c.args.fifos.now c.loop-port.fifos c.loop-port.port-index c.loop-port.invariant
+    c.loop-port-test.false

@@ -2,6 +2,7 @@ use Rattle.std.proofs.Common.{arith}
 use Rattle.event_timing.proofs.Answering.{answer_marks}
 use Rattle.event_timing.proofs.Assigning.{assign_marks}
 use Rattle.event_timing.proofs.Editing.{edit_marks}
+use Rattle.event_timing.proofs.Marking.{all_marks}
 use Rattle.event_timing.proofs.Running.{run_marks, newest_own}
 use Rattle.event_timing.proofs.laws.marks_stay.Goals as goal
 
@@ -19,3 +20,6 @@ returns-clause-edit g c = λ d x b fifo depth t. edit_marks d x fifo depth t b
 
 pub returns-clause-newest : goal.returns-clause-newest
 returns-clause-newest g c = λ d x b m. newest_own d x b m (x.emitted m) (omega arith)
+
+pub returns-clause-actions : goal.returns-clause-actions
+returns-clause-actions g c = λ d i limit x b actions z s. all_marks d i limit x b actions z s

@@ -18,11 +18,14 @@ loop-request-preserved c = record {
       ∙ (ap₂ (λ (as' : List Access) (a : Access). as' ++ a ∷ []) (c.loop-request.invariant.given channels before h all)
       (c.access-access.ensures channels before h (all c.loop-request.request-index _ c.loop-request-test.true))
       ∙ sym (map_more (access_of before) c.args.asked.now c.loop-request.request-index _ c.loop-request-test.true));
-  same = c.in_ok-push-2.ensures.ok ∙ (ap (λ (xs : List Access). xs ++ c.access-access.result ∷ []) c.loop-request.invariant.same ∙ sym c.in_ok-push.ensures.ok);
-  count = ap (λ (xs : List Reply). length xs) c.in_ok-push-3.ensures.ok ∙ (length_push c.loop-request.replies _ ∙ ap (λ (n : ℕ). n + 1) c.loop-request.invariant.count);
+  same = c.in_ok-push-2.ensures.ok
+      ∙ (ap (λ (xs : List Access). xs ++ c.access-access.result ∷ []) c.loop-request.invariant.same ∙ sym c.in_ok-push.ensures.ok);
+  count = ap (λ (xs : List Reply). length xs) c.in_ok-push-3.ensures.ok
+      ∙ (length_push c.loop-request.replies _ ∙ ap (λ (n : ℕ). n + 1) c.loop-request.invariant.count);
 }
 
 pub returns-clause-given : goal.returns-clause-given
 returns-clause-given c = λ channels before h all.
     c.loop-request.invariant.given channels before h all
-    ∙ ap (λ (rs : List Request). map (access_of before) rs) (take_all c.loop-request.request-index c.args.asked.now c.loop-request-test.false)
+    ∙ ap (λ (rs : List Request). map (access_of before) rs)
+    (take_all c.loop-request.request-index c.args.asked.now c.loop-request-test.false)

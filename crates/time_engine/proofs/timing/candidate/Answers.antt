@@ -9,13 +9,16 @@ pub returns-then-first-len : goal.returns-then-first-len
 returns-then-first-len c =
     let lane = lane_at c.args.graph.now.lanes c.args.owner in
     let all : length lane.steps ≤ length lane.cycles = omega arith in
-    let says = says_nothing c.args.graph.now.lanes c.args.fifos.now.channels c.args.owner c.args.limit (slice_get_past lane.steps (length lane.cycles) all) in
+    let says = says_nothing c.args.graph.now.lanes c.args.fifos.now.channels c.args.owner c.args.limit
+    (slice_get_past lane.steps (length lane.cycles) all) in
     record { nothing = says.nothing; waits = says.waits; beyond = says.beyond; at = says.at; may_take = λ cycle e. cc }
 
 pub returns-in-Err : goal.returns-in-Err
 returns-in-Err c =
-    let there : open_step (lane_at c.args.graph.now.lanes c.args.owner) ≡ Some c.step-step.result.now = rw (← c.frontier-first.ensures.count) c.step-step.ensures.step in
-    let says = says_waits c.args.graph.now.lanes c.args.fifos.now.channels c.args.owner c.args.limit c.step-step.result.now c.in-Err.access there (rw (← c.as_slice.ensures) c.in-Err.ensures.waits) in
+    let there : open_step (lane_at c.args.graph.now.lanes c.args.owner) ≡ Some c.step-step.result.now =
+    rw (← c.frontier-first.ensures.count) c.step-step.ensures.step in
+    let says = says_waits c.args.graph.now.lanes c.args.fifos.now.channels c.args.owner c.args.limit c.step-step.result.now c.in-Err.access
+    there (rw (← c.as_slice.ensures) c.in-Err.ensures.waits) in
     record { nothing = says.nothing; waits = says.waits; beyond = says.beyond; at = says.at; may_take = λ cycle e. cc }
 
 pub returns-in-Ok : goal.returns-in-Ok
@@ -25,10 +28,19 @@ returns-in-Ok c =
     let step = c.step-step.result.now in
     let there : open_step (lane_at lanes c.args.owner) ≡ Some step = rw (← c.frontier-first.ensures.count) c.step-step.ensures.step in
     let latest = rw (c.as_slice.ensures, c.last_cycle.ensures.cycle) at c.in-Ok.ensures.latest in
-    let says = says_at lanes channels c.args.owner c.args.limit step c.in-Ok.cycle there (rw (← c.as_slice.ensures) c.in-Ok.ensures.none_waits) latest c.if-cycle-limit.true in
-    let takes = may_take lanes c.args.owner c.args.limit step (clocks_of lanes channels step.accesses) c.in-Ok.cycle c.requires.owner c.requires.limit there
+    let says = says_at lanes channels c.args.owner c.args.limit step c.in-Ok.cycle there
+    (rw (← c.as_slice.ensures) c.in-Ok.ensures.none_waits) latest c.if-cycle-limit.true in
+    let takes = may_take lanes c.args.owner c.args.limit step (clocks_of lanes channels step.accesses) c.in-Ok.cycle c.requires.owner
+    c.requires.limit there
     (rw (← c.frontier-first.ensures.count) c.step-step.ensures.apart) latest c.if-cycle-limit.true in
-    record { nothing = says.nothing; waits = says.waits; beyond = says.beyond; at = says.at; may_take = λ cycle e. let same : c.in-Ok.cycle ≡ cycle = cc in rw (← same) takes }
+    record {
+      nothing = says.nothing;
+      waits = says.waits;
+      beyond = says.beyond;
+      at = says.at;
+      may_take = λ cycle e. let same : c.in-Ok.cycle
+          ≡ cycle = cc in rw (← same) takes;
+    }
 
 pub returns-in-Ok-2 : goal.returns-in-Ok-2
 returns-in-Ok-2 c =
@@ -37,5 +49,6 @@ returns-in-Ok-2 c =
     let step = c.step-step.result.now in
     let there : open_step (lane_at lanes c.args.owner) ≡ Some step = rw (← c.frontier-first.ensures.count) c.step-step.ensures.step in
     let latest = rw (c.as_slice.ensures, c.last_cycle.ensures.cycle) at c.in-Ok.ensures.latest in
-    let says = says_beyond lanes channels c.args.owner c.args.limit step c.in-Ok.cycle there (rw (← c.as_slice.ensures) c.in-Ok.ensures.none_waits) latest c.if-cycle-limit.false in
+    let says = says_beyond lanes channels c.args.owner c.args.limit step c.in-Ok.cycle there
+    (rw (← c.as_slice.ensures) c.in-Ok.ensures.none_waits) latest c.if-cycle-limit.false in
     record { nothing = says.nothing; waits = says.waits; beyond = says.beyond; at = says.at; may_take = λ cycle e. cc }

@@ -11,15 +11,19 @@ loop-number-init c = record {
 }
 
 pub returns-in-None-clause-waits : goal.returns-in-None-clause-waits
-returns-in-None-clause-waits c = position_found (is_waiting c.args.graph.now.lanes c.args.fifos.now.channels) c.args.accesses.now c.loop-number.number _ c.loop-number-test.true c.loop-number.invariant.none (sym c.in-None.ensures.waits)
+returns-in-None-clause-waits c = position_found (is_waiting c.args.graph.now.lanes c.args.fifos.now.channels) c.args.accesses.now
+    c.loop-number.number _ c.loop-number-test.true c.loop-number.invariant.none (sym c.in-None.ensures.waits)
 
 pub loop-number-preserved : goal.loop-number-preserved
 loop-number-preserved c = record {
-  none = none_more (is_waiting c.args.graph.now.lanes c.args.fifos.now.channels) c.args.accesses.now c.loop-number.number _ c.loop-number-test.true c.loop-number.invariant.none (sym c.in-Some.ensures.waits);
-  latest = latest_next c.args.graph.now.lanes c.args.fifos.now.channels c.args.accesses.now c.loop-number.number _ c.args.clock c.loop-number.cycle c.in-Some.later c.loop-number-test.true c.loop-number.invariant.latest c.in-Some.ensures.later;
+  none = none_more (is_waiting c.args.graph.now.lanes c.args.fifos.now.channels) c.args.accesses.now c.loop-number.number _
+      c.loop-number-test.true c.loop-number.invariant.none (sym c.in-Some.ensures.waits);
+  latest = latest_next c.args.graph.now.lanes c.args.fifos.now.channels c.args.accesses.now c.loop-number.number _ c.args.clock
+      c.loop-number.cycle c.in-Some.later c.loop-number-test.true c.loop-number.invariant.latest c.in-Some.ensures.later;
 }
 
 pub returns-clause-none_waits : goal.returns-clause-none_waits
 returns-clause-none_waits c =
     let all : c.loop-number.number ≡ length c.args.accesses.now = omega arith in
-    position_none (is_waiting c.args.graph.now.lanes c.args.fifos.now.channels) c.args.accesses.now c.loop-number.number all c.loop-number.invariant.none
+    position_none (is_waiting c.args.graph.now.lanes c.args.fifos.now.channels) c.args.accesses.now c.loop-number.number all
+    c.loop-number.invariant.none

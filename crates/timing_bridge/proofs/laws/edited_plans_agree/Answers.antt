@@ -1,6 +1,6 @@
 use Rattle.flow_design.specs.Plans.{with_depth}
 use Rattle.std.proofs.Common.{sym}
-use Rattle.timing_bridge.proofs.Edits.{edited_fits, plan_edit, same_design}
+use Rattle.timing_bridge.proofs.Edits.{edited_fits, plan_edit, same_depth, same_design}
 use Rattle.timing_bridge.proofs.Orders.{agrees_on}
 use Rattle.timing_bridge.proofs.Reports.{every_report}
 use Rattle.event_timing.specs.Edits.{after_edit}
@@ -22,3 +22,6 @@ returns-clause-reports c = λ p h e fit t x g f l u actions y s final ss o.
 
 pub returns-clause-design : goal.returns-clause-design
 returns-clause-design c = λ p f depth l. sym (same_design p f depth l)
+
+pub returns-clause-same_depth : goal.returns-clause-same_depth
+returns-clause-same_depth c = same_depth

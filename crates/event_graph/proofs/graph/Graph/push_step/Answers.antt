@@ -9,25 +9,41 @@ use Rattle.event_graph.proofs.Growth.{all_sound}
 use Rattle.event_graph.proofs.graph.Graph.push_step.Goals as goal
 
 pub invariant_of-self : goal.invariant_of-self
-invariant_of-self c = (all_sound _ c.args.owner c.push_step.new.self c.self.invariant.0 c.push_step.ensures.lane_sound, rw length-set c.self.invariant.1)
+invariant_of-self c = (
+  all_sound _ c.args.owner c.push_step.new.self c.self.invariant.0 c.push_step.ensures.lane_sound,
+  rw length-set c.self.invariant.1,
+)
 
 pub returns-clause-ok : goal.returns-clause-ok
 returns-clause-ok c =
     let there : c.args.owner < length c.self.inside.lanes.items = rw (← c.self.view_is, length-map) at c.requires.owner in
-    rw (← c.self.view_is) (on_ok_weaker c.push_step.result (λ more. shown_set (λ (l : RoomedLane). l.lane) (λ (l : Lane). longer l c.args.step) c.self.inside.lanes.items c.args.owner c.index_mut.result.now c.push_step.new.self no_lane there c.index_mut.ensures.value more) c.push_step.ensures.ok)
+    rw (← c.self.view_is) (on_ok_weaker c.push_step.result (λ more. shown_set (λ (l : RoomedLane). l.lane)
+    (λ (l : Lane). longer l c.args.step) c.self.inside.lanes.items c.args.owner c.index_mut.result.now c.push_step.new.self no_lane
+    there c.index_mut.ensures.value more) c.push_step.ensures.ok)
 
 pub returns-clause-err : goal.returns-clause-err
 returns-clause-err c =
-    rw (← c.self.view_is) (on_err_weaker c.push_step.result (λ same. map-set_same (λ (l : RoomedLane). l.lane) c.self.inside.lanes.items c.args.owner c.push_step.new.self c.index_mut.result.now (rw (← c.index_mut.ensures.value) same)) c.push_step.ensures.err)
+    rw (← c.self.view_is) (on_err_weaker c.push_step.result (λ same. map-set_same (λ (l : RoomedLane). l.lane) c.self.inside.lanes.items
+    c.args.owner c.push_step.new.self c.index_mut.result.now (rw (← c.index_mut.ensures.value) same)) c.push_step.ensures.err)
 
 pub returns-clause-own_room : goal.returns-clause-own_room
 returns-clause-own_room c =
     let there : c.args.owner < length c.self.inside.lanes.items = rw (← c.self.view_is, length-map) at c.requires.owner in
-    rw (← c.self.view_is, shown_old (λ (l : RoomedLane). l.room) c.self.inside.lanes.items c.args.owner c.index_mut.result.now there c.index_mut.ensures.value, shown_new (λ (l : RoomedLane). l.room) c.self.inside.lanes.items c.args.owner c.push_step.new.self there) c.push_step.ensures.room
+    rw (
+      ← c.self.view_is,
+      shown_old (λ (l : RoomedLane). l.room) c.self.inside.lanes.items c.args.owner c.index_mut.result.now there
+          c.index_mut.ensures.value,
+      shown_new (λ (l : RoomedLane). l.room) c.self.inside.lanes.items c.args.owner c.push_step.new.self there,
+    )
+    c.push_step.ensures.room
 
 pub returns-clause-other_rooms : goal.returns-clause-other_rooms
 returns-clause-other_rooms c =
-    rw (← c.self.view_is) (λ k apart. omega (arith, shown_other (λ (l : RoomedLane). l.room) c.self.inside.lanes.items c.args.owner k c.push_step.new.self apart))
+    rw (← c.self.view_is) (λ k apart. omega (
+      arith,
+      shown_other (λ (l : RoomedLane). l.room) c.self.inside.lanes.items c.args.owner k
+          c.push_step.new.self apart,
+    ))
 
 pub returns-clause-sound : goal.returns-clause-sound
 returns-clause-sound c = (invariant_of-self c).0

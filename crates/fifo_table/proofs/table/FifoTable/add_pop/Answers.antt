@@ -13,26 +13,41 @@ use Rattle.fifo_table.proofs.table.FifoTable.add_pop.Goals as goal
 pub invariant_of-self : goal.invariant_of-self
 invariant_of-self c =
     let there : c.args.channel < length c.self.inside.channels.items = rw (← c.self.view_is, length-map) at c.requires.channel in
-    replaced c.self.inside.channels.items c.args.channel _ c.self.invariant (read_kind c.self.inside.channels.items c.args.channel c.index_mut.result.now there c.index_mut.ensures.value c.self.invariant)
+    replaced c.self.inside.channels.items c.args.channel _ c.self.invariant (read_kind c.self.inside.channels.items c.args.channel
+    c.index_mut.result.now there c.index_mut.ensures.value c.self.invariant)
 
 pub returns-clause-ok : goal.returns-clause-ok
 returns-clause-ok c =
     let there : c.args.channel < length c.self.inside.channels.items = rw (← c.self.view_is, length-map) at c.requires.channel in
-    rw (← c.self.view_is) (on_ok_weaker c.push.result (λ more. shown_set channel_of (λ (a : Channel). record a { pops = a.pops ++ c.args.at ∷ [] }) c.self.inside.channels.items c.args.channel c.index_mut.result.now _ (unused Sink) there c.index_mut.ensures.value (rw more refl)) c.push.ensures.ok)
+    rw (← c.self.view_is) (on_ok_weaker c.push.result
+    (λ more. shown_set channel_of (λ (a : Channel). record a { pops = a.pops ++ c.args.at ∷ [] }) c.self.inside.channels.items
+    c.args.channel c.index_mut.result.now _ (unused Sink) there c.index_mut.ensures.value (rw more refl)) c.push.ensures.ok)
 
 pub returns-clause-err : goal.returns-clause-err
 returns-clause-err c =
-    rw (← c.self.view_is) (on_err_weaker c.push.result (λ same. map-set_same channel_of c.self.inside.channels.items c.args.channel _ c.index_mut.result.now (rw (← c.index_mut.ensures.value, same) refl)) c.push.ensures.err)
+    rw (← c.self.view_is) (on_err_weaker c.push.result (λ same. map-set_same channel_of c.self.inside.channels.items c.args.channel _
+    c.index_mut.result.now (rw (← c.index_mut.ensures.value, same) refl)) c.push.ensures.err)
 
 pub returns-clause-own_room : goal.returns-clause-own_room
 returns-clause-own_room c =
     let there : c.args.channel < length c.self.inside.channels.items = rw (← c.self.view_is, length-map) at c.requires.channel in
-    rw (← c.self.view_is, shown_old (λ (a : RoomyChannel). a.pops.room) c.self.inside.channels.items c.args.channel c.index_mut.result.now there c.index_mut.ensures.value, shown_new (λ (a : RoomyChannel). a.pops.room) c.self.inside.channels.items c.args.channel _ there) c.push.ensures.room
+    rw (
+      ← c.self.view_is,
+      shown_old (λ (a : RoomyChannel). a.pops.room) c.self.inside.channels.items c.args.channel c.index_mut.result.now
+          there c.index_mut.ensures.value,
+      shown_new (λ (a : RoomyChannel). a.pops.room) c.self.inside.channels.items c.args.channel _ there,
+    )
+    c.push.ensures.room
 
 pub returns-clause-other_rooms : goal.returns-clause-other_rooms
 returns-clause-other_rooms c =
-    rw (← c.self.view_is) (λ k apart. omega (arith, shown_other (λ (a : RoomyChannel). a.pops.room) c.self.inside.channels.items c.args.channel k (record c.index_mut.result.now { pops = c.push.new.self }) apart))
+    rw (← c.self.view_is) (λ k apart. omega (
+      arith,
+      shown_other (λ (a : RoomyChannel). a.pops.room) c.self.inside.channels.items
+          c.args.channel k (record c.index_mut.result.now { pops = c.push.new.self }) apart,
+    ))
 
 pub returns-clause-push_rooms : goal.returns-clause-push_rooms
 returns-clause-push_rooms c =
-    rw (← c.self.view_is) (map-set_same (λ (a : RoomyChannel). a.pushes.room) c.self.inside.channels.items c.args.channel _ c.index_mut.result.now (rw (← c.index_mut.ensures.value) refl))
+    rw (← c.self.view_is) (map-set_same (λ (a : RoomyChannel). a.pushes.room) c.self.inside.channels.items c.args.channel _
+    c.index_mut.result.now (rw (← c.index_mut.ensures.value) refl))

@@ -20,13 +20,16 @@ invariant_of-self c =
 pub returns-clause-channels : goal.returns-clause-channels
 returns-clause-channels c =
     let there : c.args.channel < length c.self.inside.channels.items = rw (← c.self.view_is, length-map) at c.requires.channel in
-    rw (← c.self.view_is) (shown_set channel_of (λ (a : Channel). record a { kind = deepened a.kind c.args.depth }) c.self.inside.channels.items c.args.channel c.index_mut.result.now c.set_depth.new.self (unused Sink) there
+    rw (← c.self.view_is) (shown_set channel_of (λ (a : Channel). record a { kind = deepened a.kind c.args.depth })
+    c.self.inside.channels.items c.args.channel c.index_mut.result.now c.set_depth.new.self (unused Sink) there
     c.index_mut.ensures.value (rw c.set_depth.ensures refl))
 
 pub returns-clause-push_rooms : goal.returns-clause-push_rooms
 returns-clause-push_rooms c =
-    rw (← c.self.view_is) (map-set_same (λ (a : RoomyChannel). a.pushes.room) c.self.inside.channels.items c.args.channel c.set_depth.new.self c.index_mut.result.now (rw (← c.index_mut.ensures.value, c.set_depth.ensures) refl))
+    rw (← c.self.view_is) (map-set_same (λ (a : RoomyChannel). a.pushes.room) c.self.inside.channels.items c.args.channel
+    c.set_depth.new.self c.index_mut.result.now (rw (← c.index_mut.ensures.value, c.set_depth.ensures) refl))
 
 pub returns-clause-pop_rooms : goal.returns-clause-pop_rooms
 returns-clause-pop_rooms c =
-    rw (← c.self.view_is) (map-set_same (λ (a : RoomyChannel). a.pops.room) c.self.inside.channels.items c.args.channel c.set_depth.new.self c.index_mut.result.now (rw (← c.index_mut.ensures.value, c.set_depth.ensures) refl))
+    rw (← c.self.view_is) (map-set_same (λ (a : RoomyChannel). a.pops.room) c.self.inside.channels.items c.args.channel c.set_depth.new.self
+    c.index_mut.result.now (rw (← c.index_mut.ensures.value, c.set_depth.ensures) refl))

@@ -27,7 +27,9 @@ returns-clause-kept c =
     let far : c.args.clock ≡ x.state.control.clock + suc n = let l = c.requires.later in omega arith in
     let j = jumps x c.args.clock n c.tick_to.new.room c.requires.path c.requires.begun c.requires.alive c.requires.next far in
     passes_keep x _ n
-    (subst (λ (t : ModuleState). Passes x (record x { since = x.since + (c.args.clock - x.state.control.clock); state = t; stage = Ticked; room = c.tick_to.new.room }) n) (sym c.tick_to.ensures.ticked) j)
+    (subst (λ (t : ModuleState). Passes x
+    (record x { since = x.since + (c.args.clock - x.state.control.clock); state = t; stage = Ticked; room = c.tick_to.new.room }) n)
+    (sym c.tick_to.ensures.ticked) j)
 
 pub returns-clause-nearer : goal.returns-clause-nearer
 returns-clause-nearer c =
@@ -36,4 +38,6 @@ returns-clause-nearer c =
     let far : c.args.clock ≡ x.state.control.clock + suc n = let l = c.requires.later in omega arith in
     let j = jumps x c.args.clock n c.tick_to.new.room c.requires.path c.requires.begun c.requires.alive c.requires.next far in
     passes_nearer x _ n c.requires.path
-    (subst (λ (t : ModuleState). Passes x (record x { since = x.since + (c.args.clock - x.state.control.clock); state = t; stage = Ticked; room = c.tick_to.new.room }) n) (sym c.tick_to.ensures.ticked) j)
+    (subst (λ (t : ModuleState). Passes x
+    (record x { since = x.since + (c.args.clock - x.state.control.clock); state = t; stage = Ticked; room = c.tick_to.new.room }) n)
+    (sym c.tick_to.ensures.ticked) j)

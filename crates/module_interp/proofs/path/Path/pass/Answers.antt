@@ -19,7 +19,12 @@ passed : (x y : Path) (replies : List Reply) → y ≡ record x { state = y.stat
     → Passes x (record y { since = y.since + 1 }) 0
 passed x y replies f begun alive none moved block started =
     one_passes x (record y { since = y.since + 1 })
-    (record { channels = ap (λ (z : Path). z.channels) f; of = ap (λ (z : Path). z.of) f; limit = ap (λ (z : Path). z.limit) f; schedules = ap (λ (z : Path). z.schedules) f })
+    (record {
+      channels = ap (λ (z : Path). z.channels) f;
+      of = ap (λ (z : Path). z.of) f;
+      limit = ap (λ (z : Path). z.limit) f;
+      schedules = ap (λ (z : Path). z.schedules) f;
+    })
     begun (ap (λ (z : Path). z.stage) f) (ap (λ (z : Path). z.since + 1) f) alive none moved block started
 
 pub returns-clause-kept : goal.returns-clause-kept

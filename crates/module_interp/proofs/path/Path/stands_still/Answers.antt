@@ -32,7 +32,8 @@ pub jump-requires-clause-next : goal.jump-requires-clause-next
 jump-requires-clause-next c =
     let x = c.args.self.now in
     c.next_due-next.ensures (block_of x.of x.state)
-    (schedule_is x c.requires.path c.requires.begun c.requires.alive c.as_slice.result.now c.index-as_slice-self.result c.as_slice.ensures c.index-as_slice-self.is)
+    (schedule_is x c.requires.path c.requires.begun c.requires.alive c.as_slice.result.now c.index-as_slice-self.result c.as_slice.ensures
+    c.index-as_slice-self.is)
     (stands x c.requires.path c.requires.begun c.requires.alive)
 
 pub returns-in_err-ask-clause-kept : goal.returns-in_err-ask-clause-kept

@@ -50,5 +50,10 @@ returns-clause-stands c p i o s =
     c.as_slice.ensures counted in
     let done = fed_stands p i o r qs c.count_step.new.self s asked tally in
     subst
-    (λ (rs : List Reply). StandsAt p i (next_rest p i o qs) (record { path = record r.path { replies = rs; since = 1; stage = Answered }; tally = c.count_step.new.self; accesses = r.accesses }))
+    (λ (rs : List Reply). StandsAt p i (next_rest p i o qs)
+    (record {
+      path = record r.path { replies = rs; since = 1; stage = Answered };
+      tally = c.count_step.new.self;
+      accesses = r.accesses;
+    }))
     (sym c.write_over.ensures) done

@@ -29,7 +29,8 @@ loop-at-preserved c channels before h all =
     let i = c.loop-at.at in
     let inside : i < length qs = omega (arith, c.requires.one_each, c.loop-at-test.true) in
     subst (λ (xs : List Exchange). IsTallyOf channels xs c.count.new.self)
-    (append_assoc before (paired (take i rs) qs) _ ∙ ap (λ (zs : List Exchange). before ++ zs) (sym (paired_more rs qs i _ _ _ _ c.loop-at-test.true inside refl refl)))
+    (append_assoc before (paired (take i rs) qs) _
+    ∙ ap (λ (zs : List Exchange). before ++ zs) (sym (paired_more rs qs i _ _ _ _ c.loop-at-test.true inside refl refl)))
     (c.count.ensures channels (before ++ paired (take i rs) qs) (c.loop-at.invariant channels before h all) (all i _ c.loop-at-test.true))
 
 pub returns : goal.returns

@@ -10,8 +10,16 @@ pub add-requires : goal.add-requires
 add-requires c =
     let there : c.args.owner < length c.self.inside.logs.items = rw (← c.self.view_is, length-map) at c.requires.owner in
     record {
-      room = rw (← c.self.view_is, shown_old (λ (l : RoomyLog). l.outcomes.room) c.self.inside.logs.items c.args.owner c.index_mut.result.now there c.index_mut.ensures.value) at c.requires.room;
-      verified = rw (← c.self.view_is, read_log c.self.inside.logs.items c.args.owner c.index_mut.result.now there c.index_mut.ensures.value) at c.requires.verified;
+      room = rw (
+        ← c.self.view_is,
+        shown_old (λ (l : RoomyLog). l.outcomes.room) c.self.inside.logs.items c.args.owner
+            c.index_mut.result.now there c.index_mut.ensures.value,
+      ) at c.requires.room;
+      verified = rw (
+        ← c.self.view_is,
+        read_log c.self.inside.logs.items c.args.owner c.index_mut.result.now there
+            c.index_mut.ensures.value,
+      ) at c.requires.verified;
     }
 
 pub invariant_of-self : goal.invariant_of-self
@@ -23,13 +31,24 @@ invariant_of-self c =
 pub returns-clause-logs : goal.returns-clause-logs
 returns-clause-logs c =
     let there : c.args.owner < length c.self.inside.logs.items = rw (← c.self.view_is, length-map) at c.requires.owner in
-    rw (← c.self.view_is) (shown_set log_of (λ (l : Log). answered l c.args.yes) c.self.inside.logs.items c.args.owner c.index_mut.result.now c.add.new.self no_log there c.index_mut.ensures.value c.add.ensures.log)
+    rw (← c.self.view_is) (shown_set log_of (λ (l : Log). answered l c.args.yes) c.self.inside.logs.items c.args.owner
+    c.index_mut.result.now c.add.new.self no_log there c.index_mut.ensures.value c.add.ensures.log)
 
 pub returns-clause-own_room : goal.returns-clause-own_room
 returns-clause-own_room c =
     let there : c.args.owner < length c.self.inside.logs.items = rw (← c.self.view_is, length-map) at c.requires.owner in
-    rw (← c.self.view_is, shown_old (λ (l : RoomyLog). l.outcomes.room) c.self.inside.logs.items c.args.owner c.index_mut.result.now there c.index_mut.ensures.value, shown_new (λ (l : RoomyLog). l.outcomes.room) c.self.inside.logs.items c.args.owner c.add.new.self there) c.add.ensures.room
+    rw (
+      ← c.self.view_is,
+      shown_old (λ (l : RoomyLog). l.outcomes.room) c.self.inside.logs.items c.args.owner c.index_mut.result.now there
+          c.index_mut.ensures.value,
+      shown_new (λ (l : RoomyLog). l.outcomes.room) c.self.inside.logs.items c.args.owner c.add.new.self there,
+    )
+    c.add.ensures.room
 
 pub returns-clause-other_rooms : goal.returns-clause-other_rooms
 returns-clause-other_rooms c =
-    rw (← c.self.view_is) (λ k apart. omega (arith, shown_other (λ (l : RoomyLog). l.outcomes.room) c.self.inside.logs.items c.args.owner k c.add.new.self apart))
+    rw (← c.self.view_is) (λ k apart. omega (
+      arith,
+      shown_other (λ (l : RoomyLog). l.outcomes.room) c.self.inside.logs.items c.args.owner k
+          c.add.new.self apart,
+    ))

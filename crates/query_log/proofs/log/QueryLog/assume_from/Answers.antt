@@ -10,14 +10,17 @@ use Rattle.query_log.proofs.log.QueryLog.assume_from.Goals as goal
 pub invariant_of-self : goal.invariant_of-self
 invariant_of-self c =
     let there : c.args.owner < length c.self.inside.logs.items = rw (← c.self.view_is, length-map) at c.requires in
-    let sound = read_sound c.self.inside.logs.items c.args.owner c.index_mut-log.result.now there c.index_mut-log.ensures.value c.self.invariant in
+    let sound = read_sound c.self.inside.logs.items c.args.owner c.index_mut-log.result.now there c.index_mut-log.ensures.value
+    c.self.invariant in
     replaced c.self.inside.logs.items c.args.owner _ c.self.invariant (omega arith)
 
 pub returns-clause-logs : goal.returns-clause-logs
 returns-clause-logs c =
     let there : c.args.owner < length c.self.inside.logs.items = rw (← c.self.view_is, length-map) at c.requires in
-    rw (← c.self.view_is) (shown_set log_of (λ (l : Log). record l { verified = min c.args.number l.verified }) c.self.inside.logs.items c.args.owner c.index_mut-log.result.now _ no_log there c.index_mut-log.ensures.value (rw c.min-log.ensures refl))
+    rw (← c.self.view_is) (shown_set log_of (λ (l : Log). record l { verified = min c.args.number l.verified }) c.self.inside.logs.items
+    c.args.owner c.index_mut-log.result.now _ no_log there c.index_mut-log.ensures.value (rw c.min-log.ensures refl))
 
 pub returns-clause-rooms : goal.returns-clause-rooms
 returns-clause-rooms c =
-    rw (← c.self.view_is) (map-set_same (λ (l : RoomyLog). l.outcomes.room) c.self.inside.logs.items c.args.owner _ c.index_mut-log.result.now (rw (← c.index_mut-log.ensures.value) refl))
+    rw (← c.self.view_is) (map-set_same (λ (l : RoomyLog). l.outcomes.room) c.self.inside.logs.items c.args.owner _
+    c.index_mut-log.result.now (rw (← c.index_mut-log.ensures.value) refl))

@@ -16,14 +16,17 @@ invariant_of-self c =
 
 pub returns-clause-logs : goal.returns-clause-logs
 returns-clause-logs c =
-    rw (← c.self.view_is) (map-set_same log_of c.self.inside.logs.items c.args.owner _ c.index_mut.result.now (rw (← c.index_mut.ensures.value, c.reserve.ensures.items) refl))
+    rw (← c.self.view_is) (map-set_same log_of c.self.inside.logs.items c.args.owner _ c.index_mut.result.now
+    (rw (← c.index_mut.ensures.value, c.reserve.ensures.items) refl))
 
 pub returns-clause-room : goal.returns-clause-room
 returns-clause-room c =
     let there : c.args.owner < length c.self.inside.logs.items = rw (← c.self.view_is, length-map) at c.requires in
-    on_ok_weaker c.reserve.result (λ room. rw (shown_new (λ (l : RoomyLog). l.outcomes.room) c.self.inside.logs.items c.args.owner _ there) room) c.reserve.ensures.room
+    on_ok_weaker c.reserve.result (λ room. rw (shown_new (λ (l : RoomyLog). l.outcomes.room) c.self.inside.logs.items c.args.owner _ there)
+    room) c.reserve.ensures.room
 
 pub returns-clause-kept : goal.returns-clause-kept
 returns-clause-kept c =
     let there : c.args.owner < length c.self.inside.logs.items = rw (← c.self.view_is, length-map) at c.requires in
-    rw (← c.self.view_is) (shown_kept (λ (l : RoomyLog). l.outcomes.room) c.self.inside.logs.items c.args.owner c.index_mut.result.now _ there c.index_mut.ensures.value c.reserve.ensures.kept)
+    rw (← c.self.view_is) (shown_kept (λ (l : RoomyLog). l.outcomes.room) c.self.inside.logs.items c.args.owner c.index_mut.result.now _
+    there c.index_mut.ensures.value c.reserve.ensures.kept)

@@ -12,15 +12,18 @@ invariant_of-self c =
     let items = c.self.inside.logs.items in
     let there : c.args.owner < length items = rw (← c.self.view_is, length-map) at c.requires.owner in
     let sound = read_sound items c.args.owner c.index_mut-log.result.now there c.index_mut-log.ensures.value c.self.invariant in
-    let recorded = rw (← c.self.view_is, read_log items c.args.owner c.index_mut-log.result.now there c.index_mut-log.ensures.value) at c.requires.recorded in
+    let recorded = rw (← c.self.view_is, read_log items c.args.owner c.index_mut-log.result.now there c.index_mut-log.ensures.value) at
+    c.requires.recorded in
     replaced items c.args.owner _ c.self.invariant (omega (arith, recorded, sound))
 
 pub returns-clause-logs : goal.returns-clause-logs
 returns-clause-logs c =
     let there : c.args.owner < length c.self.inside.logs.items = rw (← c.self.view_is, length-map) at c.requires.owner in
-    rw (← c.self.view_is) (shown_set log_of (λ (l : Log). record l { verified = max c.args.number l.verified }) c.self.inside.logs.items c.args.owner c.index_mut-log.result.now _ no_log there c.index_mut-log.ensures.value
+    rw (← c.self.view_is) (shown_set log_of (λ (l : Log). record l { verified = max c.args.number l.verified }) c.self.inside.logs.items
+    c.args.owner c.index_mut-log.result.now _ no_log there c.index_mut-log.ensures.value
     (rw c.max-log.ensures refl))
 
 pub returns-clause-rooms : goal.returns-clause-rooms
 returns-clause-rooms c =
-    rw (← c.self.view_is) (map-set_same (λ (l : RoomyLog). l.outcomes.room) c.self.inside.logs.items c.args.owner _ c.index_mut-log.result.now (rw (← c.index_mut-log.ensures.value) refl))
+    rw (← c.self.view_is) (map-set_same (λ (l : RoomyLog). l.outcomes.room) c.self.inside.logs.items c.args.owner _
+    c.index_mut-log.result.now (rw (← c.index_mut-log.ensures.value) refl))

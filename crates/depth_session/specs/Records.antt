@@ -1,0 +1,18 @@
+-- The record of a module's answers beside those of a report.
+use Rattle.std.specs.Prelude.{◌≡◌, ℕ, ◌⊎◌, Bool, List, [], slice_index_or}
+use Rattle.outcome_guard.specs.Prefixes.{IsPrefix}
+use Rattle.edit_runs.specs.declared.count.RunCount.{RunCount}
+
+-- the answers of a module
+abbrev pub answers_of : List (List Bool) → ℕ → List Bool
+answers_of all m = slice_index_or all m []
+
+-- the answers that are kept, and how many runs were counted
+abbrev pub counted : List (List Bool) → ℕ → RunCount
+counted kept runs = record { kept = kept; runs = runs }
+
+-- a module's record only grew, begins with what is found, and is as it was or all of what is found
+pub record GoesOn (kept found now : List Bool) : Type 0 where
+  pub grew : IsPrefix kept now
+  pub begins : IsPrefix found now
+  pub ends : (now ≡ kept) ⊎ (now ≡ found)

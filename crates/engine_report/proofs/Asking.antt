@@ -1,0 +1,70 @@
+-- What a module asks is what its step holds.
+use Rattle.std.proofs.Common.{◌≡◌, refl, sym, ap, ◌∙◌, Bool, true, false, List, [], ◌∷◌, map}
+use Rattle.flow_word.specs.declared.access.Access.{Access}
+use Rattle.flow_word.specs.declared.access.Kind.{Kind}
+use Rattle.flow_word.specs.declared.access.Kind.TheVariants.{Read, Write, TryRead, TryWrite, Empty, Full}
+use Rattle.flow_word.specs.declared.access.Side.{Side}
+use Rattle.flow_word.specs.declared.access.Side.TheVariants.{Pop, Push}
+use Rattle.flow_design.specs.declared.state.Request.{Request}
+use Rattle.event_timing.specs.Machines as theory
+use Rattle.timing_bridge.specs.Designs as bridge
+use Rattle.engine_view.specs.Held.{seen}
+
+-- the kind of an access of the theory
+abbrev kind_by : Side → Bool → Bool → Kind
+kind_by Pop true takes = Read
+kind_by Pop false true = TryRead
+kind_by Pop false false = Empty
+kind_by Push true takes = Write
+kind_by Push false true = TryWrite
+kind_by Push false false = Full
+
+abbrev kind_in : theory.Access → Kind
+kind_in a = kind_by a.side a.blocks a.takes
+
+kind_seen : (a : Access) → kind_in (seen a) ≡ a.kind
+kind_seen a = by a.kind
+  where
+    by : (k : Kind) → kind_in (seen (record { kind = k; channel = 0; ordinal = 0; value = 0 })) ≡ k
+    by Read = refl
+    by Write = refl
+    by TryRead = refl
+    by TryWrite = refl
+    by Empty = refl
+    by Full = refl
+
+kind_asked : (r : Request) → kind_in (bridge.seen r) ≡ r.kind
+kind_asked r = by r.kind
+  where
+    by : (k : Kind) → kind_in (bridge.seen (record { kind = k; channel = 0; value = 0 })) ≡ k
+    by Read = refl
+    by Write = refl
+    by TryRead = refl
+    by TryWrite = refl
+    by Empty = refl
+    by Full = refl
+
+-- they are of the same kind
+pub same_kind : (r : Request) (a : Access) → bridge.seen r ≡ seen a → r.kind ≡ a.kind
+same_kind r a e = sym (kind_asked r) ∙ (ap kind_in e ∙ kind_seen a)
+
+pub same_channel : (r : Request) (a : Access) → bridge.seen r ≡ seen a → r.channel ≡ a.channel
+same_channel r a e = ap (λ (t : theory.Access). t.channel) e
+
+-- ---- lists
+
+abbrev head_of : theory.Access → List theory.Access → theory.Access
+head_of e [] = e
+head_of e (x ∷ xs) = x
+
+abbrev tail_of : List theory.Access → List theory.Access
+tail_of [] = []
+tail_of (x ∷ xs) = xs
+
+pub first_same : (r : Request) (rs : List Request) (a : Access) (xs : List Access) → map bridge.seen (r ∷ rs) ≡ map seen (a ∷ xs)
+    → bridge.seen r ≡ seen a
+first_same r rs a xs e = ap (head_of (seen a)) e
+
+pub rest_same : (r : Request) (rs : List Request) (a : Access) (xs : List Access) → map bridge.seen (r ∷ rs) ≡ map seen (a ∷ xs)
+    → map bridge.seen rs ≡ map seen xs
+rest_same r rs a xs e = ap tail_of e

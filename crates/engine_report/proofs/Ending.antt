@@ -1,0 +1,250 @@
+-- How the modules stand is how the theory's core tells it, and so is the verdict.
+use Rattle.std.proofs.Common.{◌≡◌, refl, sym, ap, ◌∙◌, ℕ, zero, suc, ◌+◌, ◌-◌, ◌<◌, ◌≤◌, max, Bool, true, false, ◌||◌, cond, List, [], ◌∷◌}
+use Rattle.std.proofs.Common.{map, length, get_or, drop, None, Some, Option, arith, inl, inr}
+use Rattle.std.specs.Prelude.{All, is_some, unwrap_or, nat_lt}
+use Rattle.std.specs.List.{range_with_len, list_any}
+use Rattle.std.proofs.lemmas.Bool.{cases_lt, cases_Bool, le-ltb, or_parts}
+use Rattle.std.proofs.lemmas.List.{get_or-map, length-map, map-append}
+use Rattle.std.proofs.lemmas.List.Folds.{list_all-map}
+use Rattle.std.proofs.lemmas.List.Sums.{fold-append}
+use Rattle.std.proofs.lemmas.Option.{slice_get-get_or, slice_get_past}
+use Rattle.flow_design.specs.declared.plan.Plan.{Plan}
+use Rattle.flow_design.specs.declared.report.Verdict.{Verdict}
+use Rattle.flow_design.specs.declared.report.Verdict.TheVariants.{Done, Deadlock, Cycles, Ops}
+use Rattle.flow_design.specs.declared.state.Advance.{Advance}
+use Rattle.flow_design.specs.declared.state.Advance.TheVariants.{Step, Ended, Spent}
+use Rattle.flow_design.specs.declared.state.ModuleState.{ModuleState}
+use Rattle.flow_word.specs.declared.access.Step.{Step as StepOf}
+use Rattle.lockstep_defs.specs.Machine as machine
+use Rattle.lockstep_defs.specs.Quiet.{quiet}
+use Rattle.event_graph.specs.Lanes.{Lane, no_lane, lane_at, last_cycle}
+use Rattle.time_engine.specs.Cycles.{open_step, determined}
+use Rattle.event_timing.specs.Machines.{ready}
+use Rattle.event_timing.specs.Views.{own, from}
+use Rattle.event_timing.specs.Core.{Core, core_reply, view}
+use Rattle.event_timing.specs.Enablers.{candidate}
+use Rattle.event_timing.specs.Agreement.{stop}
+use Rattle.timing_bridge.specs.Designs.{design}
+use Rattle.timing_bridge.specs.OwnRuns.{clocks_of_steps}
+use Rattle.timing_bridge.specs.CoreReports as theory
+use Rattle.timing_bridge.specs.CoreReports.{core_state, core_states, is_determined, core_verdict, modules_of}
+use Rattle.timing_bridge.proofs.History.{plan_is_design}
+use Rattle.engine_view.specs.Held.{Held, step_of, no_step, emitted_of, waited, core_of}
+use Rattle.engine_view.proofs.Bounds.{candidate_is}
+use Rattle.engine_view.proofs.Knowing.{timed_within}
+use Rattle.engine_report.specs.declared.verdict.Standing.{Standing}
+use Rattle.engine_report.specs.Standings.{end_at, standing_behind, standing_at, last_stop, verdict_by}
+use Rattle.engine_report.specs.Finished.{IsEndMark, IsFinished}
+use Rattle.engine_report.proofs.Standing.{stands_behind, stands_before}
+use Rattle.engine_report.proofs.Loops.{range_more}
+use Rattle.engine_report.proofs.Same.{map_same}
+
+-- how a module stands, as the theory's core tells it
+abbrev standing_in : Plan → Core ModuleState → ℕ → Standing
+standing_in p x i = record {
+  stop = stop (design p) x i;
+  ended = (core_state p x i).ended;
+  spent = machine.is_spent p.ops (core_state p x i);
+  determined = is_some (candidate (design p) (view (design p) x) i);
+}
+
+abbrev standing_with : ℕ → Bool → Bool → Bool → Standing
+standing_with stop ended spent determined = record { stop = stop; ended = ended; spent = spent; determined = determined }
+
+standings_same : {a b : ℕ} {c d e f g h : Bool} → a ≡ b → c ≡ d → e ≡ f → g ≡ h → standing_with a c e g ≡ standing_with b d f h
+standings_same x y z w = λ i. standing_with (x i) (y i) (z i) (w i)
+
+-- ---- the clock in which it stops
+
+last_from : (cycles : List ℕ) (lane : Lane) → lane.cycles ≡ cycles → (n : ℕ) → n ≡ length cycles
+    → unwrap_or (last_cycle lane) 0 + clocks_of_steps n ≡ from (λ k. get_or cycles k 0) n
+last_from cycles lane e zero l =
+    let none : length lane.cycles ≤ length lane.cycles - 1 = omega (arith, ap length e) in
+    rw (slice_get_past lane.cycles (length lane.cycles - 1) none) refl
+last_from cycles lane e (suc k) l =
+    let z : length lane.cycles - 1 ≡ k = omega (arith, ap length e) in
+    let inside : k < length lane.cycles = omega (arith, ap length e) in
+    let same = ap (λ (xs : List ℕ). get_or xs k 0) e in
+    rw (z, slice_get-get_or lane.cycles k 0 inside) (omega (arith, same))
+
+waited_is : (n gap : ℕ) → (0 < n → 1 ≤ gap) → clocks_of_steps n + waited n gap ≡ gap
+waited_is zero gap g = omega arith
+waited_is (suc n) gap g = let l = g (omega arith) in omega arith
+
+apart_at : (steps : List StepOf) → All (λ (s : StepOf). 1 ≤ s.gap) (drop 1 steps) → (k : ℕ) (e : StepOf) → 0 < k → k < length steps
+    → 1 ≤ (get_or steps k e).gap
+apart_at [] all k e q l = absurd (omega arith)
+apart_at (s ∷ steps) all zero e q l = absurd (omega arith)
+apart_at (s ∷ steps) all (suc k) e q l = all k e (omega arith)
+
+-- ---- before its first step without a cycle
+
+lives : (p : Plan) (s : ModuleState) → machine.is_over p.ops s ≡ false → (s.ended ≡ false) × (machine.is_spent p.ops s ≡ false)
+unfolding machine.is_over
+lives p s e = or_parts s.ended (machine.is_spent p.ops s) e
+
+before_step : (p : Plan) (h : Held) (ends : List (Option Advance)) → IsFinished p h ends → (i : ℕ) → i < length h.lanes
+    → length (lane_at h.lanes i).cycles < emitted_of h i
+    → standing_at h.lanes h.channels ends i ≡ standing_in p (core_of (design p) h) i
+before_step p h ends f i inside less =
+    let d = design p in
+    let x = core_of d h in
+    let lane = lane_at h.lanes i in
+    let k = length lane.cycles in
+    let step = step_of h i k in
+    let there : open_step lane ≡ Some step = slice_get-get_or lane.steps k no_step less in
+    let b = f.agreed.marks in
+    let state : core_state p x i ≡ x.state i k = sym (b.own_step i k less) in
+    let (l1, l2) = lives p (x.state i k) (b.lives i k less) in
+    let apart = λ (q : 0 < k). apart_at lane.steps (f.sound.sound_lanes i no_lane inside).apart k no_step q less in
+    let gap = waited_is k step.gap apart in
+    let wait : waited k step.gap ≡ d.quiet i (own d i (core_reply d x i) k) = b.own_wait i k less in
+    let first = last_from lane.cycles lane refl k refl in
+    let clock : unwrap_or (last_cycle lane) 0 + step.gap ≡ stop d x i = omega arith in
+    sym (stands_before h.lanes h.channels ends i (unwrap_or (last_cycle lane) 0) step
+    (is_some (determined h.lanes h.channels i)) there refl refl)
+    ∙ standings_same clock (sym (ap (λ (s : ModuleState). s.ended) state ∙ l1)) (sym (ap (machine.is_spent p.ops) state ∙ l2))
+    (ap (λ (o : Option ℕ). is_some o) (candidate_is d (plan_is_design p f.fits) h f.sound i))
+
+-- ---- at its end
+
+over_at : (p : Plan) (h : Held) (ends : List (Option Advance)) → IsFinished p h ends → (i : ℕ) → i < length h.lanes
+    → emitted_of h i ≤ length (lane_at h.lanes i).cycles
+    → (core_of (design p) h).over i ≡ true
+over_at p h ends f i inside more =
+    let x = core_of (design p) h in
+    let n = f.sound.lanes in
+    let u = f.agreed.time in
+    elim (cases_Bool (x.over i)) [
+      | inl over ↦ over
+      | inr on ↦ absurd (f.final.quiet.no_run i (record {
+        inside = omega arith;
+        lives = on;
+        answered = λ k r. u.answered_then i k (omega arith);
+        there = λ k r. u.there_then i k (omega arith);
+      }))
+    ]
+
+mark_there : (o : Option Advance) → is_some o ≡ true → (mark : Advance) × (o ≡ Some mark)
+mark_there None e = cc
+mark_there (Some mark) e = (mark, refl)
+
+end_there : (p : Plan) (h : Held) (ends : List (Option Advance)) → IsFinished p h ends → (i : ℕ) → i < length h.lanes
+    → emitted_of h i ≤ length (lane_at h.lanes i).cycles
+    → (mark : Advance) × (end_at ends i ≡ Some mark)
+end_there p h ends f i inside more =
+    let over = over_at p h ends f i inside more in
+    let same = f.marks.over in
+    let few : i < length ends = let a = f.sound.lanes in let b = f.sound.overs in omega
+    (arith, ap length same, length-map ends (λ (o : Option Advance). is_some o)) in
+    mark_there (end_at ends i) (sym (ap (λ (os : List Bool). get_or os i false) same
+    ∙ get_or-map (λ (o : Option Advance). is_some o) ends i None false few) ∙ over)
+
+spent_not_ended : (p : Plan) (s : ModuleState) → machine.is_spent p.ops s ≡ true → s.ended ≡ false
+spent_not_ended p s e = by s.ended (machine.is_spent p.ops s) e (λ q. rw q refl)
+  where
+    by : (a b : Bool) → b ≡ true → (a ≡ true → b ≡ false) → a ≡ false
+    by true b e g = let z = g refl in cc
+    by false b e g = refl
+
+ended_not_spent : (p : Plan) (s : ModuleState) → s.ended ≡ true → machine.is_spent p.ops s ≡ false
+ended_not_spent p s e = rw e refl
+
+none_determined : (p : Plan) (x : Core ModuleState) (i : ℕ) → x.emitted i ≤ x.timed i
+    → false ≡ is_some (candidate (design p) (view (design p) x) i)
+unfolding candidate
+none_determined p x i l = rw (le-ltb (x.timed i) (x.emitted i) l) refl
+
+at_mark : (p : Plan) (h : Held) (ends : List (Option Advance)) → IsFinished p h ends → (i : ℕ)
+    → emitted_of h i ≡ length (lane_at h.lanes i).cycles
+    → (mark : Advance) → IsEndMark p (core_of (design p) h) i mark
+    → standing_behind (unwrap_or (last_cycle (lane_at h.lanes i)) 0) (Some mark) ≡ standing_in p (core_of (design p) h) i
+at_mark p h ends f i all (Step step) m = absurd m
+at_mark p h ends f i all (Ended gap) (m1, m2) =
+    let d = design p in
+    let x = core_of d h in
+    let lane = lane_at h.lanes i in
+    let k = length lane.cycles in
+    let state : core_state p x i ≡ ready d i (own d i (core_reply d x i) (x.emitted i)) = ap
+    (λ (n : ℕ). ready d i (own d i (core_reply d x i) n)) (sym all) in
+    let first = last_from lane.cycles lane refl k refl in
+    let last : gap ≡ clocks_of_steps k + quiet p i (own d i (core_reply d x i) k) = m2
+    ∙ ap (λ (n : ℕ). clocks_of_steps n + quiet p i (own d i (core_reply d x i) n)) all in
+    let clock : unwrap_or (last_cycle lane) 0 + gap ≡ stop d x i = omega arith in
+    standings_same clock (sym (ap (λ (s : ModuleState). s.ended) state ∙ m1))
+    (sym (ap (machine.is_spent p.ops) state ∙ ended_not_spent p (ready d i (own d i (core_reply d x i) (x.emitted i))) m1))
+    (none_determined p x i (omega arith))
+at_mark p h ends f i all (Spent gap) (m1, m2) =
+    let d = design p in
+    let x = core_of d h in
+    let lane = lane_at h.lanes i in
+    let k = length lane.cycles in
+    let state : core_state p x i ≡ ready d i (own d i (core_reply d x i) (x.emitted i)) = ap
+    (λ (n : ℕ). ready d i (own d i (core_reply d x i) n)) (sym all) in
+    let first = last_from lane.cycles lane refl k refl in
+    let last : gap ≡ clocks_of_steps k + quiet p i (own d i (core_reply d x i) k) = m2
+    ∙ ap (λ (n : ℕ). clocks_of_steps n + quiet p i (own d i (core_reply d x i) n)) all in
+    let clock : unwrap_or (last_cycle lane) 0 + gap ≡ stop d x i = omega arith in
+    standings_same clock (sym (ap (λ (s : ModuleState). s.ended) state
+    ∙ spent_not_ended p (ready d i (own d i (core_reply d x i) (x.emitted i))) m1)) (sym (ap (machine.is_spent p.ops) state ∙ m1))
+    (none_determined p x i (omega arith))
+
+standing_is : (p : Plan) (h : Held) (ends : List (Option Advance)) → IsFinished p h ends → (i : ℕ) → i < length h.lanes
+    → standing_at h.lanes h.channels ends i ≡ standing_in p (core_of (design p) h) i
+standing_is p h ends f i inside =
+    let lane = lane_at h.lanes i in
+    let k = length lane.cycles in
+    let within = timed_within (design p) h f.sound i in
+    elim (cases_lt k (length lane.steps)) [
+      | inl less ↦ before_step p h ends f i inside less
+      | inr more ↦
+          let (mark, there) = end_there p h ends f i inside more in
+          sym (stands_behind h.lanes h.channels ends i (unwrap_or (last_cycle lane) 0) (Some mark) (slice_get_past lane.steps k more) refl
+          (sym there))
+          ∙ at_mark p h ends f i (omega arith) mark (f.marks.each i mark there)
+    ]
+
+-- ---- the verdict
+
+any_mapped : {X Y : Type 0} (q : X → Bool) (g : Y → X) (ys : List Y) → list_any q (map g ys) ≡ list_any (λ y. q (g y)) ys
+any_mapped q g [] = refl
+any_mapped q g (y ∷ ys) = ap (λ (b : Bool). q (g y) || b) (any_mapped q g ys)
+
+max_comm : (a b : ℕ) → max a b ≡ max b a
+max_comm a b = omega arith
+
+last_is : (p : Plan) (x : Core ModuleState) (n : ℕ) → last_stop (map (standing_in p x) (range_with_len 0 n)) ≡ theory.last_stop p x n
+last_is p x zero = refl
+last_is p x (suc n) =
+    let z : suc n ≡ n + 1 = omega arith in
+    ap (λ (k : ℕ). last_stop (map (standing_in p x) (range_with_len 0 k))) z
+    ∙ (ap (λ (ks : List ℕ). last_stop (map (standing_in p x) ks)) (range_more n)
+    ∙ (ap last_stop (map-append (standing_in p x) (range_with_len 0 n) (n ∷ []))
+    ∙ (fold-append (λ (clock : ℕ) (s : Standing). max clock s.stop) 0 (map (standing_in p x) (range_with_len 0 n)) (standing_in p x n ∷ [])
+    ∙ (ap (λ (c : ℕ). max c (stop (design p) x n)) (last_is p x n) ∙ max_comm (theory.last_stop p x n) (stop (design p) x n)))))
+
+abbrev decide : ℕ → Bool → Bool → Bool → ℕ → Verdict
+decide limit determined ended spent last = cond (determined || nat_lt limit last) (Cycles limit)
+    (cond ended (Done last) (cond spent (Ops last) (Deadlock last)))
+
+verdict_in : (p : Plan) (x : Core ModuleState) → verdict_by p.cycles (map (standing_in p x) (modules_of p)) ≡ core_verdict p x
+unfolding core_verdict
+verdict_in p x =
+    let n = length p.design.modules in
+    let standings = map (standing_in p x) (modules_of p) in
+    let last = last_is p x n in
+    let determined = any_mapped (λ (s : Standing). s.determined) (standing_in p x) (modules_of p) in
+    let ended = list_all-map (λ (s : Standing). s.ended) (standing_in p x) (modules_of p)
+    ∙ sym (list_all-map (λ (s : ModuleState). s.ended) (core_state p x) (modules_of p)) in
+    let spent = any_mapped (λ (s : Standing). s.spent) (standing_in p x) (modules_of p)
+    ∙ sym (any_mapped (machine.is_spent p.ops) (core_state p x) (modules_of p)) in
+    (λ i. decide p.cycles (determined i) (ended i) (spent i) (last i))
+
+pub verdict_is : (p : Plan) (h : Held) (ends : List (Option Advance)) → IsFinished p h ends
+    → verdict_by p.cycles (map (standing_at h.lanes h.channels ends) (range_with_len 0 (length h.lanes))) ≡ core_verdict p
+    (core_of (design p) h)
+verdict_is p h ends f =
+    ap (verdict_by p.cycles) (map_same (standing_at h.lanes h.channels ends) (standing_in p (core_of (design p) h)) 0 (length h.lanes)
+    (λ i l. standing_is p h ends f i (omega arith))
+    ∙ ap (λ (n : ℕ). map (standing_in p (core_of (design p) h)) (range_with_len 0 n)) f.sound.lanes)
+    ∙ verdict_in p (core_of (design p) h)

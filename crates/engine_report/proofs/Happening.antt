@@ -1,0 +1,92 @@
+-- The events are those of the theory's steps.
+use Rattle.std.proofs.Common.{◌≡◌, refl, sym, ap₂, subst, ◌∙◌, ℕ, zero, suc, ◌+◌, ◌<◌, List, [], ◌∷◌, ◌++◌, map, length, drop, arith}
+use Rattle.std.specs.Prelude.{All, IsPermutation}
+use Rattle.std.specs.List.{range_with_len, flat_map}
+use Rattle.std.proofs.lemmas.List.FromFn.{length-map-range_with_len, get_or-map-range_with_len}
+use Rattle.std.proofs.lemmas.List.Elements.{All-append, All-head, All-tail}
+use Rattle.std.proofs.lemmas.List.Sorted.{All-permutation}
+use Rattle.flow_word.specs.declared.access.Access.{Access}
+use Rattle.flow_word.specs.declared.access.Kind.{Kind}
+use Rattle.flow_design.specs.declared.plan.Plan.{Plan}
+use Rattle.flow_design.specs.declared.report.EventLine.{EventLine}
+use Rattle.flow_design.specs.declared.state.Reply.{Reply}
+use Rattle.flow_design.specs.declared.state.Request.{Request}
+use Rattle.lockstep_defs.specs.Channels.{HistoryStep}
+use Rattle.lockstep_defs.specs.Lockstep.{requests_of}
+use Rattle.lockstep_defs.specs.OwnRun.{paired}
+use Rattle.lockstep_defs.specs.Report.{events_of}
+use Rattle.lockstep_defs.specs.Report as machine
+use Rattle.event_graph.specs.Lanes.{lane_at}
+use Rattle.event_timing.specs.Core.{core_reply}
+use Rattle.timing_bridge.specs.Designs.{design, told_all}
+use Rattle.timing_bridge.specs.Designs as bridge
+use Rattle.timing_bridge.specs.CoreReports.{core_step, steps_at, AreSorted}
+use Rattle.engine_view.specs.Held.{Held, step_of, seen, core_of}
+use Rattle.engine_view.specs.Shown.{IsSound}
+use Rattle.engine_view.proofs.Knowing.{timed_within}
+use Rattle.engine_report.specs.Read.{event_of, events_at, timed_places, AreEvents}
+use Rattle.engine_report.proofs.Asking.{same_kind, same_channel, first_same, rest_same}
+
+-- ---- one step
+
+abbrev event_with : ℕ → ℕ → Kind → ℕ → EventLine
+event_with i cycle kind channel = record { «module» = i; kind = kind; channel = channel; cycle = cycle }
+
+told_events : (s : HistoryStep) (rs : List Request) (xs : List Access) (ys : List Reply) → map bridge.seen rs ≡ map seen xs
+    → map (machine.event_of s) (paired rs ys) ≡ map (event_of s.module s.clock) xs
+told_events s [] [] ys e = refl
+told_events s [] (a ∷ xs) ys e = cc
+told_events s (r ∷ rs) [] ys e = cc
+told_events s (r ∷ rs) (a ∷ xs) ys e =
+    let one = first_same r rs a xs e in
+    ap₂ (λ (y : EventLine) (l : List EventLine). y ∷ l) (ap₂ (event_with s.module s.clock) (same_kind r a one) (same_channel r a one))
+    (told_events s rs xs (drop 1 ys) (rest_same r rs a xs e))
+
+-- a place of a timed step
+record IsTimed (h : Held) (place : ℕ × ℕ) : Type 0 where
+  pub less : place.1 < length (lane_at h.lanes place.0).cycles
+
+step_events : (p : Plan) (h : Held) → IsSound (design p) h → (place : ℕ × ℕ) → IsTimed h place
+    → map (machine.event_of (core_step p (core_of (design p) h) place.0 place.1))
+    (core_step p (core_of (design p) h) place.0 place.1).exchanges ≡ events_at h.lanes place
+unfolding events_at
+step_events p h s (i, k) t =
+    let x = core_of (design p) h in
+    let rs = requests_of p (i, x.state i k) in
+    let l = t.less in
+    let w = timed_within (design p) h s i in
+    told_events (core_step p x i k) rs (step_of h i k).accesses (told_all rs (core_reply (design p) x i k)) (s.accesses i k (omega arith))
+
+all_events : (p : Plan) (h : Held) → IsSound (design p) h → (places : List (ℕ × ℕ)) → All (IsTimed h) places
+    → flat_map (events_at h.lanes) places ≡ events_of (steps_at p (core_of (design p) h) places)
+all_events p h s [] all = refl
+all_events p h s (a ∷ places) all =
+    ap₂ (λ (xs ys : List EventLine). xs ++ ys) (sym (step_events p h s a (All-head (IsTimed h) a places all)))
+    (all_events p h s places (All-tail (IsTimed h) a places all))
+
+-- ---- all steps
+
+places_timed : (h : Held) (i : ℕ) → All (IsTimed h) (map (λ k. (i, k)) (range_with_len 0 (length (lane_at h.lanes i).cycles)))
+places_timed h i = λ j d l.
+    let n = length (lane_at h.lanes i).cycles in
+    let less : j < n = omega (arith, length-map-range_with_len {X = ℕ × ℕ} (λ (k : ℕ). (i, k)) 0 n) in
+    let z : 0 + j ≡ j = omega arith in
+    subst (IsTimed h) (sym (get_or-map-range_with_len {X = ℕ × ℕ} (λ (k : ℕ). (i, k)) 0 n j j d less z)) (record { less = less })
+
+all_timed : (h : Held) (a n : ℕ) → All (IsTimed h)
+    (flat_map (λ i. map (λ k. (i, k)) (range_with_len 0 (length (lane_at h.lanes i).cycles))) (range_with_len a n))
+all_timed h a zero = λ k d q. absurd (omega arith)
+all_timed h a (suc n) = All-append (IsTimed h) (map (λ k. (a, k)) (range_with_len 0 (length (lane_at h.lanes a).cycles))) _
+    (places_timed h a) (all_timed h (a + 1) n)
+
+pub events_are : (p : Plan) (h : Held) → IsSound (design p) h → (events : List EventLine) → AreEvents h.lanes events
+    → (places : List (ℕ × ℕ)) × AreSorted p (core_of (design p) h) places × (events ≡ events_of (steps_at p (core_of (design p) h) places))
+events_are p h s events e = (
+  e.places,
+  record {
+    all = subst (λ (n : ℕ). IsPermutation (flat_map (λ i. map (λ k. (i, k)) (range_with_len 0 (length (lane_at h.lanes i).cycles)))
+        (range_with_len 0 n)) e.places) s.lanes e.all;
+    sorted = e.sorted;
+  },
+  e.are ∙ all_events p h s e.places (All-permutation (IsTimed h) (timed_places h.lanes) e.places e.all (all_timed h 0 (length h.lanes))),
+)

@@ -1,0 +1,16 @@
+pub mod Loops
+pub mod Standing
+pub mod Outcomes
+pub mod Sorting
+pub mod Values
+pub mod Holding
+pub mod Placed
+pub mod Telling
+pub mod Asking
+pub mod Same
+pub mod Stuck
+pub mod Replied
+pub mod Ending
+pub mod Sinks
+pub mod Happening
+pub mod Whole

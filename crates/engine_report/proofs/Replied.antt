@@ -1,0 +1,180 @@
+-- The outcomes of timed steps are the theory's.
+use Rattle.std.proofs.Common.{◌≡◌, refl, sym, ap, ap₂, ◌∙◌, ℕ, zero, suc, ◌+◌, ◌<◌, ◌≤◌, Bool, true, false, cond, ltb, List, [], ◌∷◌, ◌++◌}
+use Rattle.std.proofs.Common.{map, length, take, drop, get_or, Some, arith, inl, inr, append-nil}
+use Rattle.std.specs.List.{range_with_len}
+use Rattle.std.proofs.Math.Seq.{take-add}
+use Rattle.std.proofs.lemmas.Bool.{cases_lt, cases_Bool, and_parts}
+use Rattle.std.proofs.lemmas.List.{map-append, take_all, length-drop}
+use Rattle.std.proofs.lemmas.List.Concat.{flat_map-append}
+use Rattle.std.proofs.lemmas.Option.{slice_get-get_or, slice_get_past}
+use Rattle.flow_word.specs.declared.access.Access.{Access}
+use Rattle.flow_word.specs.declared.access.Kind.{Kind}
+use Rattle.flow_word.specs.declared.access.Kind.TheVariants.{Read, Write, TryRead, TryWrite, Empty, Full}
+use Rattle.flow_word.specs.Kinds.{is_blocking}
+use Rattle.flow_word.specs.declared.access.Side.TheVariants.{Pop}
+use Rattle.flow_design.specs.declared.plan.Plan.{Plan}
+use Rattle.flow_design.specs.declared.state.Reply.{Reply}
+use Rattle.flow_design.specs.declared.state.Request.{Request}
+use Rattle.lockstep_defs.specs.Machine.{is_yes}
+use Rattle.lockstep_defs.specs.Channels.{HistoryStep, Exchange, reply_by}
+use Rattle.lockstep_defs.specs.Lockstep.{requests_of}
+use Rattle.lockstep_defs.specs.OwnRun.{paired}
+use Rattle.lockstep_defs.specs.Report.{outcomes, queries}
+use Rattle.event_graph.specs.Lanes.{lane_at}
+use Rattle.query_log.specs.Logs.{no_log, log_at}
+use Rattle.time_engine.specs.Cycles.{open_step}
+use Rattle.event_timing.specs.Core.{core_values, core_tally, replies_of, pops_now}
+use Rattle.event_timing.specs.Machines as theory
+use Rattle.timing_bridge.specs.Designs.{design, told, told_all}
+use Rattle.timing_bridge.specs.Designs as bridge
+use Rattle.timing_bridge.specs.CoreReports.{core_step, core_steps}
+use Rattle.engine_view.specs.Held.{Held, step_of, no_step, emitted_of, seen, queries_in, possible_by, flags_by, are_among, core_of}
+use Rattle.engine_view.specs.Shown.{IsSound, queries_before}
+use Rattle.engine_view.proofs.Knowing.{timed_within}
+use Rattle.engine_view.proofs.Answered.{among_is, queries_step, queries_zero}
+use Rattle.engine_view.proofs.Emitted.{queries_mono}
+use Rattle.engine_report.specs.Read.{timed_outcomes}
+use Rattle.engine_report.proofs.Asking.{same_kind, first_same, rest_same}
+use Rattle.engine_report.proofs.Loops.{range_more}
+use Rattle.engine_report.proofs.Outcomes.{all_there, front_of}
+
+-- a query is told its outcome
+told_outcome : (k : Kind) (o : Bool) (front : ℕ) → is_blocking k ≡ false → is_yes (reply_by k (possible_by k (Some o)) front) ≡ o
+told_outcome Read o front e = cc
+told_outcome Write o front e = cc
+told_outcome TryRead true front e = refl
+told_outcome TryRead false front e = refl
+told_outcome TryWrite o front e = refl
+told_outcome Empty true front e = refl
+told_outcome Empty false front e = refl
+told_outcome Full true front e = refl
+told_outcome Full false front e = refl
+
+abbrev outcomes_in : List Exchange → List Bool
+outcomes_in xs = map (λ (x : Exchange). is_yes x.reply) (queries xs)
+
+blocked : (r : Request) (y : Reply) (xs : List Exchange) → is_blocking r.kind ≡ true
+    → outcomes_in (record { request = r; reply = y } ∷ xs) ≡ outcomes_in xs
+blocked r y xs e = rw e refl
+
+asked : (r : Request) (y : Reply) (xs : List Exchange) → is_blocking r.kind ≡ false
+    → outcomes_in (record { request = r; reply = y } ∷ xs) ≡ is_yes y ∷ outcomes_in xs
+asked r y xs e = rw e refl
+
+-- the outcomes of accesses are the first of a list
+abbrev AreFirst : (ℕ → List ℕ) → (ℕ → ℕ) → List Request → List Access → List Bool → Type 0
+AreFirst V t rs xs outs = outcomes_in (paired rs (told_all rs (replies_of V t (map seen xs) (flags_by xs outs)))) ≡ take
+    (queries_in xs) outs
+
+one_asked : (V : ℕ → List ℕ) (t : ℕ → ℕ) (r : Request) (rs : List Request) (a : Access) (xs : List Access) (outs : List Bool)
+    → is_blocking a.kind ≡ false → r.kind ≡ a.kind
+    → ((os : List Bool) → queries_in xs ≤ length os → AreFirst V t rs xs os) → queries_in (a ∷ xs) ≤ length outs
+    → AreFirst V t (r ∷ rs) (a ∷ xs) outs
+one_asked V t r rs a xs [] b kind later l = let n : queries_in (a ∷ xs) ≡ suc (queries_in xs) = rw b refl in absurd (omega arith)
+one_asked V t r rs a xs (o ∷ outs) b kind later l =
+    let n : queries_in (a ∷ xs) ≡ suc (queries_in xs) = rw b refl in
+    let here : is_blocking r.kind ≡ false = ap is_blocking kind ∙ b in
+    let found = cond (pops_now (seen a) (possible_by a.kind (Some o))) (get_or (V a.channel) (t a.channel) 0) 0 in
+    rw (n, b) (asked r (reply_by r.kind (possible_by a.kind (Some o)) found)
+    (paired rs (told_all rs (replies_of V t (map seen xs) (flags_by xs outs)))) here
+    ∙ ap₂ (λ (y : Bool) (l : List Bool). y ∷ l)
+    (ap (λ (k : Kind). is_yes (reply_by k (possible_by a.kind (Some o)) found)) kind ∙ told_outcome a.kind o found b)
+    (later outs (omega arith)))
+
+one_blocked : (V : ℕ → List ℕ) (t : ℕ → ℕ) (r : Request) (rs : List Request) (a : Access) (xs : List Access) (outs : List Bool)
+    → is_blocking a.kind ≡ true → r.kind ≡ a.kind
+    → ((os : List Bool) → queries_in xs ≤ length os → AreFirst V t rs xs os) → queries_in (a ∷ xs) ≤ length outs
+    → AreFirst V t (r ∷ rs) (a ∷ xs) outs
+one_blocked V t r rs a xs outs b kind later l =
+    let n : queries_in (a ∷ xs) ≡ queries_in xs = rw b refl in
+    let here : is_blocking r.kind ≡ true = ap is_blocking kind ∙ b in
+    let found = cond (pops_now (seen a) true) (get_or (V a.channel) (t a.channel) 0) 0 in
+    rw (n, b) (blocked r (reply_by r.kind true found) (paired rs (told_all rs (replies_of V t (map seen xs) (flags_by xs outs)))) here
+    ∙ later outs (omega arith))
+
+step_outcomes : (V : ℕ → List ℕ) (t : ℕ → ℕ) (rs : List Request) (xs : List Access) → map bridge.seen rs ≡ map seen xs → (outs : List Bool)
+    → queries_in xs ≤ length outs → AreFirst V t rs xs outs
+step_outcomes V t [] [] e outs l = refl
+step_outcomes V t [] (a ∷ xs) e outs l = cc
+step_outcomes V t (r ∷ rs) [] e outs l = cc
+step_outcomes V t (r ∷ rs) (a ∷ xs) e outs l =
+    let kind = same_kind r a (first_same r rs a xs e) in
+    let later = step_outcomes V t rs xs (rest_same r rs a xs e) in
+    elim (cases_Bool (is_blocking a.kind)) [
+      | inl b ↦ one_blocked V t r rs a xs outs b kind later l
+      | inr b ↦ one_asked V t r rs a xs outs b kind later l
+    ]
+
+-- ---- of all timed steps
+
+-- the queries of a timed step are recorded
+recorded : (p : Plan) (h : Held) → IsSound (design p) h
+    → ((m k : ℕ) → k < (core_of (design p) h).timed m → (core_of (design p) h).verified m k ≡ true)
+    → (i k : ℕ) → k < length (lane_at h.lanes i).cycles → i < length h.logs
+    → queries_in (step_of h i k).accesses ≤ length (drop (step_of h i k).first_query (log_at h.logs i).outcomes)
+recorded p h s verified i k l inside =
+    let log = log_at h.logs i in
+    let step = step_of h i k in
+    let among = (and_parts (ltb k (emitted_of h i)) (are_among step log.verified) (verified i k l)).1 in
+    let sound = s.sound_logs i no_log inside in
+    elim (among_is step log.verified among) [
+      | inl none ↦ omega arith
+      | inr few ↦ omega (arith, length-drop step.first_query log.outcomes)
+    ]
+
+step_of_core : (p : Plan) (h : Held) → IsSound (design p) h → (i k : ℕ) → k < emitted_of h i
+    → queries_in (step_of h i k).accesses ≤ length (drop (step_of h i k).first_query (log_at h.logs i).outcomes)
+    → outcomes_in (core_step p (core_of (design p) h) i k).exchanges ≡ take (queries_in (step_of h i k).accesses)
+    (drop (step_of h i k).first_query (log_at h.logs i).outcomes)
+step_of_core p h s i k l few =
+    let d = design p in
+    let x = core_of d h in
+    let rs = requests_of p (i, x.state i k) in
+    let e = s.accesses i k l in
+    ap (λ (as' : List theory.Access). outcomes_in
+    (paired rs (told_all rs (replies_of (core_values d x) (λ ch. core_tally d x i Pop ch k) as' (x.flags i k))))) e
+    ∙ step_outcomes (core_values d x) (λ ch. core_tally d x i Pop ch k) rs (step_of h i k).accesses e
+    (drop (step_of h i k).first_query (log_at h.logs i).outcomes) few
+
+front : (p : Plan) (h : Held) → IsSound (design p) h
+    → ((m k : ℕ) → k < (core_of (design p) h).timed m → (core_of (design p) h).verified m k ≡ true)
+    → (i k : ℕ) → k ≤ length (lane_at h.lanes i).cycles → i < length h.logs
+    → outcomes (map (core_step p (core_of (design p) h) i) (range_with_len 0 k)) ≡ take (queries_before h i k) (log_at h.logs i).outcomes
+front p h s verified i zero l inside = sym (ap (λ (n : ℕ). take n (log_at h.logs i).outcomes) (queries_zero h i))
+front p h s verified i (suc k) l inside =
+    let x = core_of (design p) h in
+    let outs = (log_at h.logs i).outcomes in
+    let step = step_of h i k in
+    let z : suc k ≡ k + 1 = omega arith in
+    let less : k < emitted_of h i = let w = timed_within (design p) h s i in omega arith in
+    let one = step_of_core p h s i k less (recorded p h s verified i k (omega arith) inside) in
+    let first = s.first_query i k less in
+    ap (λ (n : ℕ). outcomes (map (core_step p x i) (range_with_len 0 n))) z
+    ∙ (ap (λ (ks : List ℕ). outcomes (map (core_step p x i) ks)) (range_more k)
+    ∙ (ap outcomes (map-append (core_step p x i) (range_with_len 0 k) (k ∷ []))
+    ∙ (flat_map-append (λ (e : HistoryStep). outcomes_in e.exchanges) (map (core_step p x i) (range_with_len 0 k)) (core_step p x i k ∷ [])
+    ∙ (ap₂ (λ (a b : List Bool). a ++ b) (front p h s verified i k (omega arith) inside)
+    (append-nil (outcomes_in (core_step p x i k).exchanges)
+    ∙ (one ∙ ap (λ (n : ℕ). take (queries_in step.accesses) (drop n outs)) first))
+    ∙ (sym (take-add (queries_before h i k) (queries_in step.accesses) outs)
+    ∙ sym (ap (λ (n : ℕ). take n outs) (queries_step h i k)))))))
+
+pub outcomes_are : (p : Plan) (h : Held) → IsSound (design p) h
+    → ((m k : ℕ) → k < (core_of (design p) h).timed m → (core_of (design p) h).verified m k ≡ true)
+    → (i : ℕ) → i < length h.logs → timed_outcomes h.lanes h.logs i ≡ outcomes (core_steps p (core_of (design p) h) i)
+outcomes_are p h s verified i inside =
+    let lane = lane_at h.lanes i in
+    let k = length lane.cycles in
+    let outs = (log_at h.logs i).outcomes in
+    let all = front p h s verified i k (omega arith) inside in
+    elim (cases_lt k (length lane.steps)) [
+      | inl less ↦
+          let there : open_step lane ≡ Some (step_of h i k) = slice_get-get_or lane.steps k no_step less in
+          sym (front_of h.lanes h.logs i (step_of h i k) there) ∙ (ap (λ (n : ℕ). take n outs) (s.first_query i k less) ∙ sym all)
+      | inr more ↦
+          let whole = s.recorded i inside in
+          let few = queries_mono h i whole.steps k (let w = whole.within in omega arith) in
+          let n = whole.all in
+          sym (all_there h.lanes h.logs i (slice_get_past lane.steps k more))
+          ∙ (sym (take_all (queries_before h i k) outs (omega arith)) ∙ sym all)
+    ]

@@ -1,0 +1,165 @@
+-- What the sinks hold is what the theory's core tells.
+use Rattle.std.proofs.Common.{◌≡◌, refl, sym, ap, ◌∙◌, ℕ, zero, suc, ◌<◌, ◌≤◌, Bool, true, false, cond, List, [], ◌∷◌, ◌++◌, map, length}
+use Rattle.std.proofs.Common.{take, get_or, arith, inl, inr, length-append}
+use Rattle.std.specs.Prelude.{is_some}
+use Rattle.std.specs.List.{take_while}
+use Rattle.std.proofs.Math.Seq.{take-append_seam}
+use Rattle.std.proofs.lemmas.Bool.{cases_lt}
+use Rattle.std.proofs.lemmas.List.{length-map, get_or-map, take-map}
+use Rattle.std.proofs.lemmas.List.Sums.{take_while-cons}
+use Rattle.std.proofs.lemmas.Option.{slice_get-get_or, slice_get_past}
+use Rattle.flow_word.specs.declared.access.Place.{Place}
+use Rattle.flow_word.specs.declared.access.Side.TheVariants.{Push}
+use Rattle.flow_design.specs.declared.design.ChannelKind.{ChannelKind}
+use Rattle.flow_design.specs.declared.design.ChannelKind.TheVariants as plan
+use Rattle.flow_design.specs.declared.plan.Plan.{Plan}
+use Rattle.flow_design.specs.Plans.{is_fifo, is_sink, kind_at}
+use Rattle.lockstep_defs.specs.Report.{sinks}
+use Rattle.event_graph.specs.Lanes.{lane_at, cycle_of}
+use Rattle.fifo_table.specs.declared.channel.Pushed.{Pushed}
+use Rattle.fifo_table.specs.declared.channel.TableChannel.{TableChannel}
+use Rattle.fifo_table.specs.declared.channel.TableChannel.TheVariants.{Source, Sink, Fifo}
+use Rattle.fifo_table.specs.Channels.{channel_at, values_of}
+use Rattle.event_timing.specs.Machines.{Reply}
+use Rattle.event_timing.specs.Views.{pushed_in}
+use Rattle.event_timing.specs.Core.{core_accesses, core_tally, core_pushed, bare_replies}
+use Rattle.event_timing.proofs.OwnRuns.{tally_mono}
+use Rattle.event_timing.proofs.Values.{length_pushed_in, pushed_in_mono}
+use Rattle.timing_bridge.specs.Designs.{design, is_source}
+use Rattle.timing_bridge.specs.CoreReports.{pusher, sink_values}
+use Rattle.engine_view.specs.Held.{Held, emitted_of, core_of}
+use Rattle.engine_view.specs.Shown.{IsSound, IsKind, AreTaken}
+use Rattle.engine_view.proofs.Knowing.{timed_within}
+use Rattle.engine_report.specs.Read.{timed_values, outputs_of}
+use Rattle.engine_report.proofs.Same.{kept_same}
+
+-- ---- fronts
+
+front_is : {X : Type 0} (p : X → Bool) (xs : List X) (n : ℕ) → n ≤ length xs → ((i : ℕ) (d : X) → i < n → p (get_or xs i d) ≡ true)
+    → ((i : ℕ) (d : X) → n ≤ i → i < length xs → p (get_or xs i d) ≡ false) → take_while p xs ≡ take n xs
+front_is p [] zero l front rest = refl
+front_is p [] (suc n) l front rest = absurd (omega arith)
+front_is p (x ∷ xs) zero l front rest = take_while-cons p x xs ∙ rw (rest 0 x (omega arith) (omega arith)) refl
+front_is {X} p (x ∷ xs) (suc n) l front rest =
+    take_while-cons p x xs ∙ (ap (λ (b : Bool). cond b (x ∷ take_while p xs) []) (front 0 x (omega arith))
+    ∙ ap (λ (ys : List X). x ∷ ys) (front_is p xs n (omega arith) (λ i d q. front (suc i) d (omega arith))
+    (λ i d q r. rest (suc i) d (omega arith) (omega arith))))
+
+-- ---- the pushes of a channel
+
+-- a push has a cycle where it is among the first so many
+push_timed : (p : Plan) (h : Held) (f : ℕ) (pushes : List Pushed)
+    → AreTaken (design p) (core_of (design p) h) Push f (map (λ (e : Pushed). e.at) pushes) → (i : ℕ) (d : Pushed) → i < length pushes
+    → i < core_tally (design p) (core_of (design p) h) (pusher p f) Push f (length (lane_at h.lanes (pusher p f)).cycles)
+    → is_some (cycle_of h.lanes (get_or pushes i d).at) ≡ true
+push_timed p h f pushes taken i d l front =
+    let x = core_of (design p) h in
+    let m = pusher p f in
+    let n = length (lane_at h.lanes m).cycles in
+    let t = taken.each i d.at (omega (arith, length-map pushes (λ (e : Pushed). e.at))) in
+    let same = get_or-map (λ (e : Pushed). e.at) pushes i d d.at l in
+    let at = (get_or pushes i d).at in
+    let owner : at.module ≡ m = sym (ap (λ (q : Place). q.module) same) ∙ t.owner in
+    let step = ap (λ (q : Place). q.step) same in
+    let from = t.from in
+    let less : at.step < n =
+    elim (cases_lt at.step n) [
+      | inl w ↦ w
+      | inr w ↦
+          let mono = tally_mono (core_accesses (design p) x m) (λ j. bare_replies (x.flags m j)) Push f n
+          (get_or (map (λ (e : Pushed). e.at) pushes) i d.at).step (omega arith) in
+          absurd (omega arith)
+    ] in
+    let there = slice_get-get_or (lane_at h.lanes m).cycles at.step 0 less in
+    rw (owner, there) refl
+
+push_late : (p : Plan) (h : Held) (f : ℕ) (pushes : List Pushed)
+    → AreTaken (design p) (core_of (design p) h) Push f (map (λ (e : Pushed). e.at) pushes) → (i : ℕ) (d : Pushed) → i < length pushes
+    → core_tally (design p) (core_of (design p) h) (pusher p f) Push f (length (lane_at h.lanes (pusher p f)).cycles) ≤ i
+    → is_some (cycle_of h.lanes (get_or pushes i d).at) ≡ false
+push_late p h f pushes taken i d l late =
+    let x = core_of (design p) h in
+    let m = pusher p f in
+    let n = length (lane_at h.lanes m).cycles in
+    let t = taken.each i d.at (omega (arith, length-map pushes (λ (e : Pushed). e.at))) in
+    let same = get_or-map (λ (e : Pushed). e.at) pushes i d d.at l in
+    let at = (get_or pushes i d).at in
+    let owner : at.module ≡ m = sym (ap (λ (q : Place). q.module) same) ∙ t.owner in
+    let step = ap (λ (q : Place). q.step) same in
+    let to = t.to in
+    let more : n ≤ at.step =
+    elim (cases_lt at.step n) [
+      | inr w ↦ w
+      | inl w ↦
+          let mono = tally_mono (core_accesses (design p) x m) (λ j. bare_replies (x.flags m j)) Push f
+          (suc (get_or (map (λ (e : Pushed). e.at) pushes) i d.at).step) n (omega arith) in
+          absurd (omega arith)
+    ] in
+    let none = slice_get_past (lane_at h.lanes m).cycles at.step more in
+    rw (owner, none) refl
+
+-- ---- a sink
+
+nothing : (xs : List ℕ) → length xs ≡ 0 → xs ≡ []
+nothing [] e = refl
+nothing (x ∷ xs) e = cc
+
+sink_by : (p : Plan) (h : Held) → IsSound (design p) h → (f : ℕ) (pushes : List Pushed)
+    → AreTaken (design p) (core_of (design p) h) Push f (map (λ (e : Pushed). e.at) pushes)
+    → map (λ (e : Pushed). e.value) pushes ≡ (design p).inputs f ++ core_pushed (design p) (core_of (design p) h) (pusher p f) f
+    (emitted_of h (pusher p f))
+    → timed_values h.lanes pushes ≡ sink_values p (core_of (design p) h) f
+unfolding timed_values
+sink_by p h s f pushes taken values =
+    let d = design p in
+    let x = core_of d h in
+    let m = pusher p f in
+    let a = core_accesses d x m in
+    let r : ℕ → List Reply = λ j. bare_replies (x.flags m j) in
+    let n = length (lane_at h.lanes m).cycles in
+    let count = taken.count in
+    let l1 = length_pushed_in f a r (emitted_of h m) in
+    let l2 = length_pushed_in f a r n in
+    let l3 = length-append (d.inputs f) (pushed_in f a r (emitted_of h m)) in
+    let l4 = length-map pushes (λ (e : Pushed). e.at) in
+    let l5 = length-map pushes (λ (e : Pushed). e.value) in
+    let none : d.inputs f ≡ [] = nothing (d.inputs f) (omega (arith, ap length values)) in
+    let (more, begins) = pushed_in_mono f a r n (emitted_of h m) (timed_within d h s m) in
+    let mono = tally_mono a r Push f n (emitted_of h m) (timed_within d h s m) in
+    let t = core_tally d x m Push f n in
+    let front = front_is (λ (e : Pushed). is_some (cycle_of h.lanes e.at)) pushes t (omega arith)
+    (λ i e q. push_timed p h f pushes taken i e (omega arith) q) (λ i e q w. push_late p h f pushes taken i e w q) in
+    let all : map (λ (e : Pushed). e.value) pushes ≡ pushed_in f a r n ++ more = values
+    ∙ (ap (λ (xs : List ℕ). xs ++ pushed_in f a r (emitted_of h m)) none ∙ begins) in
+    ap (map (λ (e : Pushed). e.value)) front
+    ∙ (sym (take-map (λ (e : Pushed). e.value) t pushes)
+    ∙ (ap (take t) all
+    ∙ (ap (λ (k : ℕ). take k (pushed_in f a r n ++ more)) (sym l2)
+    ∙ (take-append_seam (pushed_in f a r n) more
+    ∙ ap (λ (xs : List ℕ). xs ++ pushed_in f a r n) (sym none)))))
+
+sink_kind : (k : ChannelKind) → is_sink k ≡ true → (is_fifo k ≡ false) × (is_source k ≡ false)
+sink_kind plan.Source e = cc
+sink_kind plan.Sink e = (refl, refl)
+sink_kind (plan.Fifo depth delay) e = cc
+
+sink_pushes : (p : Plan) (f : ℕ) → is_sink (kind_at p f) ≡ true → (k : TableChannel) → IsKind (design p) f k → (pushes : List Pushed)
+    → values_of k pushes ≡ map (λ (e : Pushed). e.value) pushes
+sink_pushes p f e (Source inputs) (k1, k2) pushes = let z = (sink_kind (kind_at p f) e).1 in let q : is_source
+    (kind_at p f) ≡ true = k2 in cc
+sink_pushes p f e Sink k pushes = refl
+sink_pushes p f e (Fifo depth delay) k pushes = refl
+
+sink_is : (p : Plan) (h : Held) → IsSound (design p) h → (f : ℕ) → f < length h.channels → is_sink (kind_at p f) ≡ true
+    → timed_values h.lanes (channel_at h.channels f).pushes ≡ sink_values p (core_of (design p) h) f
+sink_is p h s f inside e =
+    let channel = channel_at h.channels f in
+    sink_by p h s f channel.pushes (s.taken Push f inside)
+    (sym (sink_pushes p f e channel.kind (s.kinds f inside) channel.pushes) ∙ s.values f inside)
+
+pub outputs_are : (p : Plan) (h : Held) → IsSound (design p) h → length h.channels ≡ length p.design.channels
+    → outputs_of p h.lanes h.channels ≡ map (sink_values p (core_of (design p) h)) (sinks p)
+outputs_are p h s count =
+    kept_same (λ f. timed_values h.lanes (channel_at h.channels f).pushes) (sink_values p (core_of (design p) h))
+    (λ f. is_sink (kind_at p f)) 0 (length p.design.channels)
+    (λ f l e. sink_is p h s f (omega arith) e)

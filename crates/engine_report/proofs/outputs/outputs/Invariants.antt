@@ -1,0 +1,10 @@
+use Rattle.std.proofs.Common.{◌≡◌, map}
+use Rattle.std.specs.List.{range_with_len, filter}
+use Rattle.flow_design.specs.Plans.{is_sink, kind_at}
+use Rattle.fifo_table.specs.Channels.{channel_at}
+use Rattle.engine_report.specs.Read.{timed_values}
+use Rattle.engine_report.proofs.outputs.outputs.Given as goal
+
+abbrev pub invariant-loop-channel : goal.invariant-loop-channel
+invariant-loop-channel l = l.outputs ≡ map (λ f. timed_values l.graph.lanes (channel_at l.fifos.channels f).pushes)
+    (filter (λ f. is_sink (kind_at l.plan f)) (range_with_len 0 l.channel))

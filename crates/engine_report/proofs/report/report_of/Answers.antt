@@ -1,0 +1,31 @@
+use Rattle.std.proofs.Common.{map}
+use Rattle.std.specs.Prelude.{is_some}
+use Rattle.timing_bridge.specs.Designs.{design}
+use Rattle.engine_view.specs.Held.{held}
+use Rattle.engine_view.specs.Held.{core_of}
+use Rattle.engine_report.proofs.Whole.{report_is}
+use Rattle.engine_report.proofs.report.report_of.Goals as goal
+
+pub returns : goal.returns
+returns c =
+    let p = c.args.plan.now in
+    let f = c.requires in
+    let h = held c.args.graph.now.lanes c.args.fifos.now.channels c.args.log.now.logs (map (λ o. is_some o) c.args.ends.now) in
+    let x = core_of (design p) h in
+    report_is p h c.args.ends.now f (c.every_report.ensures.agreed p f.fits x f.agreed f.final)
+    (c.steps_in_order.ensures.sorted p p.cycles x f.agreed)
+    (c.steps_in_order.ensures.history p f.fits p.cycles x f.agreed f.final)
+    (record {
+      verdict = c.in_ok-verdict.verdict;
+      outputs = c.in_ok-outputs.field-0;
+      held = c.in_ok-held_with.field-0;
+      events = c.in_ok-events_if.field-0;
+      answers = c.in_ok-answers.field-0;
+    })
+    (record {
+      verdict = c.in_ok-verdict.ensures;
+      outputs = c.in_ok-outputs.ensures;
+      held = c.in_ok-held_with.ensures;
+      answers = c.in_ok-answers.ensures;
+    })
+    c.args.with_events c.in_ok-events_if.ensures.asked c.in_ok-events_if.ensures.none

@@ -1,0 +1,59 @@
+-- When what an engine holds is the end of a plan's simulation.
+use Rattle.std.specs.Prelude.{◌≡◌, ℕ, ◌+◌, ◌<◌, Bool, true, is_some, List, [], map, length, if◌then◌else◌, Option, Some}
+use Rattle.flow_design.specs.declared.plan.Plan.{Plan}
+use Rattle.flow_design.specs.declared.report.Report.{Report}
+use Rattle.flow_design.specs.declared.state.Advance.{Advance}
+use Rattle.flow_design.specs.declared.state.Advance.TheVariants.{Step, Ended, Spent}
+use Rattle.flow_design.specs.declared.state.ModuleState.{ModuleState}
+use Rattle.flow_design.specs.StaticRules.{FitsEngine}
+use Rattle.lockstep_defs.specs.Machine as machine
+use Rattle.lockstep_defs.specs.Quiet.{quiet}
+use Rattle.lockstep_defs.specs.Report.{report}
+use Rattle.event_graph.specs.Lanes.{gap_bound}
+use Rattle.event_timing.specs.Machines.{ready}
+use Rattle.event_timing.specs.Views.{own}
+use Rattle.event_timing.specs.Core.{Core, core_reply}
+use Rattle.event_timing.specs.Actions.{IsFinal}
+use Rattle.event_timing.specs.Agreement.{IsAgreed}
+use Rattle.timing_bridge.specs.Designs.{design, lockstep_run}
+use Rattle.timing_bridge.specs.OwnRuns.{clocks_of_steps}
+use Rattle.engine_view.specs.Held.{Held, core_of}
+use Rattle.engine_view.specs.Shown.{IsSound}
+use Rattle.engine_report.specs.Standings.{end_at, gap_of}
+
+-- ---- end marks
+
+-- the state of a module behind its emitted steps, before the quiet clocks that follow
+abbrev pub emitted_state : Plan → Core ModuleState → ℕ → ModuleState
+emitted_state p x i = own (design p) i (core_reply (design p) x i) (x.emitted i)
+
+-- the local clocks from its last step, or from local clock 0, to the end of these quiet clocks
+abbrev pub end_gap : Plan → Core ModuleState → ℕ → ℕ
+end_gap p x i = clocks_of_steps (x.emitted i) + quiet p i (emitted_state p x i)
+
+-- it is the end mark of a module's own run behind the emitted steps
+abbrev pub IsEndMark : Plan → Core ModuleState → ℕ → Advance → Type 0
+IsEndMark p x i (Step step) = ⊥
+IsEndMark p x i (Ended gap) = ((ready (design p) i (emitted_state p x i)).ended ≡ true) × (gap ≡ end_gap p x i)
+IsEndMark p x i (Spent gap) = (machine.is_spent p.ops (ready (design p) i (emitted_state p x i)) ≡ true) × (gap ≡ end_gap p x i)
+
+-- these are the end marks that were emitted, each of its module's own run
+pub record AreEndMarks (p : Plan) (h : Held) (ends : List (Option Advance)) : Type 0 where
+  pub over : h.over ≡ map is_some ends
+  pub each : (i : ℕ) (mark : Advance) → end_at ends i ≡ Some mark → IsEndMark p (core_of (design p) h) i mark
+  pub short : (i : ℕ) → gap_of (end_at ends i) < gap_bound
+
+-- ---- the end of a simulation
+
+-- what is held is a final core of the plan, which agrees with the lockstep run
+pub record IsFinished (p : Plan) (h : Held) (ends : List (Option Advance)) : Type 0 where
+  pub fits : FitsEngine p
+  pub channels : length h.channels ≡ length p.design.channels
+  pub sound : IsSound (design p) h
+  pub agreed : IsAgreed (design p) (lockstep_run p) p.cycles (core_of (design p) h)
+  pub final : IsFinal (design p) p.cycles (core_of (design p) h)
+  pub marks : AreEndMarks p h ends
+
+-- the plan's report, with its events or with none
+abbrev pub report_with : Bool → Plan → Report
+report_with events p = if events then report p else record (report p) { events = [] }

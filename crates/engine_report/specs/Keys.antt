@@ -1,0 +1,31 @@
+-- Steps with their cycles, as they are sorted.
+use Rattle.std.specs.Prelude.{◌≡◌, ℕ, List, map, length, All, IsPermutation, IsSortedBy}
+use Rattle.std.specs.List.{range_with_len}
+use Rattle.flow_word.specs.declared.access.Place.{Place}
+use Rattle.event_graph.specs.Lanes.{Lane, lane_at, HasStep}
+use Rattle.engine_report.specs.declared.events.TimedStep.{TimedStep}
+use Rattle.engine_report.specs.Read.{cycle_at, timed_places, is_before}
+
+abbrev pub key_of : List Lane → ℕ → ℕ → TimedStep
+key_of lanes i k = record { cycle = cycle_at lanes (i, k); «module» = i; step = k }
+
+-- those of a module's steps with a cycle
+abbrev pub keys_of : List Lane → ℕ → List TimedStep
+keys_of lanes i = map (key_of lanes i) (range_with_len 0 (length (lane_at lanes i).cycles))
+
+abbrev pub place_of : TimedStep → ℕ × ℕ
+place_of key = (key.module, key.step)
+
+abbrev pub place_at : ℕ → ℕ → Place
+place_at i k = record { «module» = i; step = k }
+
+-- it is a step with this cycle
+pub record HasKey (lanes : List Lane) (key : TimedStep) : Type 0 where
+  pub there : HasStep lanes (place_at key.module key.step)
+  pub cycle : key.cycle ≡ cycle_at lanes (place_of key)
+
+-- they are all steps with a cycle, in order
+pub record AreSortedKeys (lanes : List Lane) (keys : List TimedStep) : Type 0 where
+  pub each : All (HasKey lanes) keys
+  pub all : IsPermutation (timed_places lanes) (map place_of keys)
+  pub sorted : IsSortedBy (is_before lanes) (map place_of keys)

@@ -1,0 +1,4 @@
+pub mod Standings
+pub mod Read
+pub mod Finished
+pub mod Keys

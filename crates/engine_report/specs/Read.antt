@@ -1,0 +1,92 @@
+-- What is read off the graph, the table and the log.
+use Rattle.std.specs.Prelude.{◌≡◌, ℕ, nat_lt, ◌==◌, is_some, Bool, ◌&&◌, ◌||◌, List, [], map, filter_map, find, flat_map, take, length}
+use Rattle.std.specs.Prelude.{slice_index_or, option_map, option_and_then, Option, Some, None, IsPermutation, IsSortedBy}
+use Rattle.std.specs.List.{range_with_len, take_while}
+use Rattle.flow_word.specs.declared.access.Access.{Access}
+use Rattle.flow_word.specs.declared.access.Side.TheVariants.{Push}
+use Rattle.flow_word.specs.declared.access.Step.{Step}
+use Rattle.flow_word.specs.Kinds.{side_of, same_side}
+use Rattle.flow_design.specs.declared.plan.Plan.{Plan}
+use Rattle.flow_design.specs.declared.report.EventLine.{EventLine}
+use Rattle.flow_design.specs.declared.report.Held.{Held}
+use Rattle.flow_design.specs.declared.report.Verdict.{Verdict}
+use Rattle.flow_design.specs.declared.report.Verdict.TheVariants.{Done, Deadlock, Cycles, Ops}
+use Rattle.lockstep_defs.specs.Report.{sinks}
+use Rattle.event_graph.specs.Lanes.{Lane, lane_at, cycle_of}
+use Rattle.fifo_table.specs.declared.channel.Pushed.{Pushed}
+use Rattle.fifo_table.specs.Channels.{Channel, channel_at}
+use Rattle.query_log.specs.Logs.{Log, log_at}
+use Rattle.time_engine.specs.Cycles.{open_step, is_waiting}
+use Rattle.engine_view.specs.Held.{no_step}
+
+-- the numbers of all modules
+abbrev pub owners : List Lane → List ℕ
+owners lanes = range_with_len 0 (length lanes)
+
+-- ---- outputs
+
+-- the values of the first pushes, as far as their steps have a cycle
+unfoldable pub timed_values : List Lane → List Pushed → List ℕ
+timed_values lanes pushes = map (λ e. e.value) (take_while (λ e. is_some (cycle_of lanes e.at)) pushes)
+
+abbrev pub outputs_of : Plan → List Lane → List Channel → List (List ℕ)
+outputs_of plan lanes channels = map (λ f. timed_values lanes (channel_at channels f).pushes) (sinks plan)
+
+-- ---- held modules
+
+-- a module that is held by an access
+abbrev pub held_at : ℕ → Access → Held
+held_at i access = record { «module» = i; full = same_side Push (side_of access.kind); channel = access.channel }
+
+-- a module is held by the first access of its first step without a cycle that blocks it, and of which no clock is known
+unfoldable pub held_by : List Lane → List Channel → ℕ → Option Held
+held_by lanes channels i =
+    option_and_then (λ step. option_map (held_at i) (find (is_waiting lanes channels) step.accesses)) (open_step (lane_at lanes i))
+
+-- with this verdict: none where all modules are ended or the cycle limit was reached
+abbrev pub all_held : List Lane → List Channel → Verdict → List Held
+all_held lanes channels (Done clock) = []
+all_held lanes channels (Deadlock clock) = filter_map (held_by lanes channels) (owners lanes)
+all_held lanes channels (Cycles clock) = []
+all_held lanes channels (Ops clock) = filter_map (held_by lanes channels) (owners lanes)
+
+-- ---- answers
+
+-- the outcomes before a step, and all where there is none
+abbrev pub outcomes_before : List Bool → Option Step → List Bool
+outcomes_before outcomes None = outcomes
+outcomes_before outcomes (Some step) = take step.first_query outcomes
+
+-- the outcomes of a module's queries in steps with a cycle
+unfoldable pub timed_outcomes : List Lane → List Log → ℕ → List Bool
+timed_outcomes lanes logs i = outcomes_before (log_at logs i).outcomes (open_step (lane_at lanes i))
+
+-- ---- events
+
+-- the steps with a cycle, each by its module and its number, module by module
+abbrev pub timed_places : List Lane → List (ℕ × ℕ)
+timed_places lanes = flat_map (λ i. map (λ k. (i, k)) (range_with_len 0 (length (lane_at lanes i).cycles))) (owners lanes)
+
+abbrev pub cycle_at : List Lane → ℕ × ℕ → ℕ
+cycle_at lanes place = slice_index_or (lane_at lanes place.0).cycles place.1 0
+
+-- by their cycles, and in one cycle by their modules
+abbrev pub is_before : List Lane → ℕ × ℕ → ℕ × ℕ → Bool
+is_before lanes a b = nat_lt (cycle_at lanes a) (cycle_at lanes b) || (cycle_at lanes a == cycle_at lanes b && nat_lt a.0 b.0)
+
+abbrev pub event_of : ℕ → ℕ → Access → EventLine
+event_of i cycle access = record { «module» = i; kind = access.kind; channel = access.channel; cycle = cycle }
+
+abbrev pub step_at : List Lane → ℕ × ℕ → Step
+step_at lanes place = slice_index_or (lane_at lanes place.0).steps place.1 no_step
+
+-- the events of a step
+unfoldable pub events_at : List Lane → ℕ × ℕ → List EventLine
+events_at lanes place = map (event_of place.0 (cycle_at lanes place)) (step_at lanes place).accesses
+
+-- these are the events of all steps with a cycle, in order
+pub record AreEvents (lanes : List Lane) (events : List EventLine) : Type 0 where
+  pub places : List (ℕ × ℕ)
+  pub all : IsPermutation (timed_places lanes) places
+  pub sorted : IsSortedBy (is_before lanes) places
+  pub are : events ≡ flat_map (events_at lanes) places

@@ -1,0 +1,70 @@
+-- How modules stand at the end of a run, and the verdict.
+use Rattle.std.specs.Prelude.{ℕ, ◌+◌, max, nat_lt, is_some, unwrap_or, Bool, true, false, ◌||◌, if◌then◌else◌, List, fold, slice_index_or}
+use Rattle.std.specs.Prelude.{Option, Some, None}
+use Rattle.std.specs.List.{list_any, list_all}
+use Rattle.flow_word.specs.declared.access.Step.{Step as StepOf}
+use Rattle.flow_design.specs.declared.report.Verdict.{Verdict}
+use Rattle.flow_design.specs.declared.report.Verdict.TheVariants.{Done, Deadlock, Cycles, Ops}
+use Rattle.flow_design.specs.declared.state.Advance.{Advance}
+use Rattle.flow_design.specs.declared.state.Advance.TheVariants.{Step, Ended, Spent}
+use Rattle.event_graph.specs.Lanes.{Lane, lane_at, last_cycle}
+use Rattle.fifo_table.specs.Channels.{Channel}
+use Rattle.time_engine.specs.Cycles.{open_step, arrival, determined}
+use Rattle.engine_report.specs.declared.verdict.Standing.{Standing}
+
+-- ---- end marks
+
+-- the local clocks from the last step to the end
+abbrev pub gap_of : Option Advance → ℕ
+gap_of None = 0
+gap_of (Some (Step step)) = 0
+gap_of (Some (Ended gap)) = gap
+gap_of (Some (Spent gap)) = gap
+
+abbrev pub is_ended : Option Advance → Bool
+is_ended None = false
+is_ended (Some (Step step)) = false
+is_ended (Some (Ended gap)) = true
+is_ended (Some (Spent gap)) = false
+
+abbrev pub is_spent : Option Advance → Bool
+is_spent None = false
+is_spent (Some (Step step)) = false
+is_spent (Some (Ended gap)) = false
+is_spent (Some (Spent gap)) = true
+
+-- the end mark of a module, where there is one
+abbrev pub end_at : List (Option Advance) → ℕ → Option Advance
+end_at ends i = slice_index_or ends i None
+
+-- ---- modules
+
+-- a module whose steps all have a cycle, the last of them this one, stands at its end mark
+abbrev pub standing_behind : ℕ → Option Advance → Standing
+standing_behind last end = record { stop = last + gap_of end; ended = is_ended end; spent = is_spent end; determined = false }
+
+-- a module with a first step without a cycle stands before it, and is neither ended nor spent, whatever its own run has come to
+abbrev pub standing_by : List Lane → List Channel → Option Advance → ℕ → Option StepOf → Standing
+standing_by lanes channels end i None = standing_behind (unwrap_or (last_cycle (lane_at lanes i)) 0) end
+standing_by lanes channels end i (Some step) = record {
+  stop = arrival (lane_at lanes i) step;
+  ended = false;
+  spent = false;
+  determined = is_some (determined lanes channels i);
+}
+
+unfoldable pub standing_at : List Lane → List Channel → List (Option Advance) → ℕ → Standing
+standing_at lanes channels ends i = standing_by lanes channels (end_at ends i) i (open_step (lane_at lanes i))
+
+-- ---- the verdict
+
+-- the last clock in which one stops
+abbrev pub last_stop : List Standing → ℕ
+last_stop standings = fold (λ clock s. max clock s.stop) 0 standings
+
+-- the cycle limit where a step is determined, so at the limit or later, or one stops above it; else by how they ended
+abbrev pub verdict_by : ℕ → List Standing → Verdict
+verdict_by limit standings =
+    if list_any (λ s. s.determined) standings || nat_lt limit (last_stop standings) then Cycles limit
+    else (if list_all (λ s. s.ended) standings then Done (last_stop standings)
+    else (if list_any (λ s. s.spent) standings then Ops (last_stop standings) else Deadlock (last_stop standings)))

@@ -1,0 +1,118 @@
+//! The events, in order.
+ghost use Rattle.std.specs.Prelude.{◌≡◌, ◌<◌, ◌+◌, ◌-◌, ◌^◌, ◌++◌, length, min, fold, All, IfOk, OnOk};
+ghost use Rattle.event_graph.specs.Lanes.{HasStep};
+ghost use Rattle.engine_report.specs.Read.{step_at, event_of, events_at, AreEvents};
+ghost use Rattle.engine_report.specs.Keys.{key_of, keys_of, place_of, place_at, HasKey, AreSortedKeys};
+
+use event_graph::{Access, Graph, Place};
+use flow_design::EventLine;
+use flow_word::{List, OutOfMemory};
+use std::alloc::Global;
+
+/// A step with a cycle. They are in order by their cycles, and in one cycle by their modules.
+#[derive(Clone, Copy, Debug, PartialEq, Eq, PartialOrd, Ord)]
+pub struct TimedStep {
+    pub cycle: u64,
+    pub module: u32,
+    pub step: u64,
+}
+
+/// The accesses of all steps with a cycle, in order of cycles, and in one cycle of modules.
+pub fn events(alloc: Global, graph: &Graph) -> Result<List<EventLine>, OutOfMemory>
+    ensures { IfOk result (AreEvents graph.now.lanes) }
+{
+    let keys = sorted_steps(alloc, graph)?;
+    let mut events = List::with_room(alloc, count_accesses(graph, keys.as_slice()))?;
+    for key in keys.as_slice() {
+        add_events(graph, key, &mut events)?;
+    }
+    Ok(events)
+}
+
+/// How many accesses these steps have, as far as that can be counted: the room for their events.
+fn count_accesses(graph: &Graph, keys: &[TimedStep]) -> u64
+    requires { All (HasKey graph.now.lanes) keys.now }
+    ensures { result ≡ fold (λ count key. min (count + length (step_at graph.now.lanes (place_of key)).accesses) (2 ^ 64 - 1)) 0 keys.now }
+{
+    let mut count = 0u64;
+    for key in keys {
+        let step = graph.step(Place {
+            module: key.module,
+            step: key.step,
+        });
+        count = count.saturating_add(step.accesses.len());
+    }
+    count
+}
+
+/// All steps with a cycle, in order.
+fn sorted_steps(alloc: Global, graph: &Graph) -> Result<Vec<TimedStep>, OutOfMemory>
+    ensures { IfOk result (λ keys. AreSortedKeys graph.now.lanes keys.items) }
+{
+    let mut keys = Vec::new(alloc);
+    for owner in 0..graph.modules() {
+        add_steps(graph, owner, &mut keys)?;
+    }
+    keys.sort_unstable();
+    Ok(keys)
+}
+
+/// Adds a module's steps with a cycle.
+fn add_steps(graph: &Graph, owner: u32, keys: &mut Vec<TimedStep>) -> Result<(), OutOfMemory>
+    requires { owner < length graph.now.lanes }
+    ensures { OnOk result (keys.new.items ≡ keys.old.items ++ keys_of graph.now.lanes owner) }
+{
+    let count = graph.frontier(owner);
+    keys.reserve(count as usize)?;
+    for step in 0..count {
+        keys.push(timed_step(graph, owner, step))?;
+    }
+    Ok(())
+}
+
+/// A module's step of this number.
+fn timed_step(graph: &Graph, owner: u32, step: u64) -> TimedStep
+    requires { HasStep graph.now.lanes (place_at owner step) }
+    ensures { result ≡ key_of graph.now.lanes owner step }
+{
+    let place = Place {
+        module: owner,
+        step,
+    };
+    TimedStep {
+        cycle: graph.cycle_of(place).unwrap_or(0),
+        module: owner,
+        step,
+    }
+}
+
+/// Adds the events of a step.
+fn add_events(
+    graph: &Graph,
+    key: &TimedStep,
+    events: &mut List<EventLine>,
+) -> Result<(), OutOfMemory>
+    requires { HasKey graph.now.lanes key.now }
+    ensures { OnOk result (events.new ≡ events.old ++ events_at graph.now.lanes (place_of key.now)) }
+{
+    let step = graph.step(Place {
+        module: key.module,
+        step: key.step,
+    });
+    for access in step.accesses.as_slice() {
+        events.push(event_of(key, access))?;
+    }
+    Ok(())
+}
+
+/// The event of an access in a step.
+fn event_of(key: &TimedStep, access: &Access) -> EventLine
+    ensures { result ≡ event_of key.now.module key.now.cycle access.now }
+{
+    EventLine {
+        module: key.module,
+        kind: access.kind,
+        channel: access.channel,
+        cycle: key.cycle,
+    }
+}

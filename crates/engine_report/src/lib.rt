@@ -1,0 +1,11 @@
+//! The report that is read off what an engine holds at its end.
+#![tactic(auto)]
+
+mod answers;
+mod events;
+mod held;
+mod outputs;
+mod report;
+mod verdict;
+
+pub use report::report_of;

@@ -1,0 +1,59 @@
+//! The report.
+ghost use Rattle.std.specs.Prelude.{◌≡◌, true, false, [], map, is_some, IfOk};
+ghost use Rattle.engine_view.specs.Held.{held};
+ghost use Rattle.engine_report.specs.Finished.{IsFinished, report_with};
+ghost use Rattle.engine_report.specs.Read.{AreEvents};
+
+use crate::answers::answers;
+use crate::events::events;
+use crate::held::held_with;
+use crate::outputs::outputs;
+use crate::verdict::verdict;
+use event_graph::Graph;
+use fifo_table::FifoTable;
+use flow_design::{Advance, EventLine, Plan, Report};
+use flow_word::{List, OutOfMemory};
+use query_log::QueryLog;
+use std::alloc::Global;
+use timing_bridge::{every_report, steps_in_order};
+
+/// The report of a plan, read off what an engine holds when nothing is left to do: the steps of all modules with their cycles, the
+/// pushes and pops, the outcomes of queries, and the end mark of each module whose own run came to one. It is the lockstep
+/// machine's, with its events where they are asked for and else with none.
+///
+/// It takes memory for the report, and for one key of each step where the events are asked for, which are then sorted. An error
+/// leaves nothing.
+pub fn report_of(
+    alloc: Global,
+    plan: &Plan,
+    graph: &Graph,
+    fifos: &FifoTable,
+    log: &QueryLog,
+    ends: &[Option<Advance>],
+    with_events: bool,
+) -> Result<Report, OutOfMemory>
+    requires { IsFinished plan.now (held graph.now.lanes fifos.now.channels log.now.logs (map is_some ends.now)) ends.now }
+    ensures { IfOk result (λ report. report ≡ report_with with_events plan.now) }
+{
+    every_report();
+    steps_in_order();
+    let verdict = verdict(alloc, graph, fifos, ends, plan.cycles)?;
+    Ok(Report {
+        verdict,
+        outputs: outputs(alloc, plan, graph, fifos)?,
+        held: held_with(alloc, graph, fifos, verdict)?,
+        events: events_if(alloc, graph, with_events)?,
+        answers: answers(alloc, graph, log)?,
+    })
+}
+
+/// The events where they are asked for, and else none.
+fn events_if(alloc: Global, graph: &Graph, asked: bool) -> Result<List<EventLine>, OutOfMemory>
+    ensures asked { asked ≡ true → IfOk result (AreEvents graph.now.lanes) }
+    ensures none { asked ≡ false → IfOk result (λ events. events ≡ []) }
+{
+    if !asked {
+        return Ok(List::new(alloc));
+    }
+    events(alloc, graph)
+}

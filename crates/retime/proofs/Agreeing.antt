@@ -1,0 +1,91 @@
+-- An edit of a final core that agrees with its history.
+use Rattle.std.proofs.Common.{◌≡◌, sym, ap, ◌∙◌, ℕ, ◌≤◌, inl, inr, Bool, List, get_or, arith}
+use Rattle.std.specs.Prelude.{slice_get}
+use Rattle.std.proofs.lemmas.Option.{slice_get_within, get_or_from_slice_get}
+use Rattle.flow_word.specs.declared.access.Place.{Place}
+use Rattle.flow_word.specs.declared.access.Side.TheVariants.{Push}
+use Rattle.event_graph.specs.Lanes.{lane_at}
+use Rattle.fifo_table.specs.Channels.{channel_at, depth_of, places_of}
+use Rattle.query_log.specs.declared.query.Query.{Query}
+use Rattle.event_timing.specs.Machines.{Design, IsDesign}
+use Rattle.event_timing.specs.Histories.{Trace, IsHistory}
+use Rattle.event_timing.specs.Core.{Core, view}
+use Rattle.event_timing.specs.Agreement.{IsAgreed}
+use Rattle.event_timing.specs.Edits.{edited, after_edit, IsUntouchedByCycles}
+use Rattle.event_timing.proofs.Agreement.{answer_found}
+use Rattle.event_timing.proofs.Candidate.{candidate_done, candidate_steps}
+use Rattle.event_timing.proofs.Editing.{edit_agrees}
+use Rattle.event_timing.proofs.Fronts.{agrees}
+use Rattle.event_timing.proofs.Touched.{before_first, untouched}
+use Rattle.engine_view.specs.Held.{Held, core_of}
+use Rattle.engine_view.specs.Turns.{IsDifferent}
+use Rattle.retime.specs.Touched.{IsFirstTouched}
+use Rattle.retime.specs.Edits.{IsFinalOf, IsEditFrom, IsOtherInHistory}
+use Rattle.retime.proofs.Filling.{clock_of, clock_within}
+use Rattle.retime.proofs.Tallied.{start_is, never_before, never_at_all}
+
+module _ {S : Type 0} (d : Design S) (y : Trace S) (limit : ℕ) (h : Held) (f : IsFinalOf d y limit h) (fifo depth t : ℕ)
+    (e : IsEditFrom h.lanes h.channels fifo depth limit t) where
+  abbrev x : Core S
+  x = core_of d h
+
+  -- the first touched clock is not behind the limit
+  within_limit : IsFirstTouched h.lanes (channel_at h.channels fifo) depth t → t ≤ limit
+  within_limit touched =
+      let (i, u, at, is) = touched.behind in
+      let places = places_of Push (channel_at h.channels fifo) in
+      let place = get_or places i first in
+      let there = sym (clock_of h.lanes places i first (clock_within h.lanes places i u at)) ∙ at in
+      let l = f.agreed.time.below place.module place.step (slice_get_within (lane_at h.lanes place.module).cycles place.step u there) in
+      let v = get_or_from_slice_get (lane_at h.lanes place.module).cycles place.step u 0 there in
+      omega (arith, l, v, is)
+    where
+      first : Place
+      first = record { «module» = 0; step = 0 }
+
+  start_now : d.start Push fifo ≡ depth_of (channel_at h.channels fifo).kind
+  start_now = start_is d h f.sound fifo e.inside e.is_fifo
+
+  -- neither depth was felt
+  pub not_felt : (t ≤ limit) × IsUntouchedByCycles d x fifo depth t
+  not_felt = elim e.from [
+    | inl touched ↦ (
+      within_limit touched,
+      before_first d y f.design f.history limit x f.agreed f.final fifo depth t (within_limit touched)
+          (let s = start_now in let l = e.stood in omega arith) e.least
+          (never_before d h f.sound fifo e.inside depth t e.is_fifo touched),
+    )
+    | inr never ↦
+        let le : t ≤ limit = omega (arith, never.1) in (
+          le,
+          before_first d y f.design f.history limit x f.agreed f.final fifo depth t le (let s = start_now in let l = e.stood in omega arith)
+              e.least
+              (λ c l. never_at_all d h f.sound fifo e.inside depth e.is_fifo e.changes never.0 c),
+        )
+  ]
+
+  -- the theory's core behind the edit agrees with the edited design
+  pub cut_agrees : ((c : ℕ) → d.lag Push c ≡ 1) → (z : Trace S) → IsHistory (edited d fifo depth) z
+      → IsAgreed (edited d fifo depth) z limit (after_edit d x t)
+  cut_agrees one z w =
+      edit_agrees d y z f.design f.history fifo depth t w one
+      (untouched d y f.design f.history limit x f.agreed f.final fifo depth t not_felt.0 not_felt.1) limit x f.agreed
+
+-- a query that differs has another outcome in the history
+pub other_in_history : {S : Type 0} (d : Design S) (y : Trace S) → IsDesign d → IsHistory d y → (limit : ℕ) (h : Held)
+    → IsAgreed d y limit (core_of d h)
+    → (q : Query) → IsDifferent d limit h q.module q → IsOtherInHistory d y h q
+other_in_history {S} d y i w limit h g q n =
+    let seen = agrees d y limit (core_of d h) g.marks g.time in
+    let other = n.found.other in
+    record {
+      clock = n.cycle;
+      step = (
+        candidate_steps d y i w (view d (core_of d h)) seen q.module n.cycle n.may.determined.at,
+        candidate_done d y i w (view d (core_of d h)) seen q.module n.cycle n.may.determined.at,
+      );
+      recorded = n.found.recorded;
+      place = other.place;
+      differs = λ same. other.differs (same ∙ ap (λ (fs : List Bool). slice_get fs other.place)
+          (sym (answer_found d y i w limit (core_of d h) g q.module n.cycle n.may)));
+    }

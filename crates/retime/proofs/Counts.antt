@@ -1,0 +1,72 @@
+-- How many cycles and steps there are behind a turn, and behind a cut.
+use Rattle.std.proofs.Common.{◌≡◌, refl, sym, ap, ◌∙◌, ℕ, suc, ◌+◌, ◌<◌, ◌≤◌, List, [], ◌∷◌, length, map, arith}
+use Rattle.std.specs.Prelude.{All}
+use Rattle.std.specs.List.{sum_by}
+use Rattle.std.proofs.Math.Seq.{map-set_same}
+use Rattle.std.proofs.lemmas.List.{length-append}
+use Rattle.std.proofs.lemmas.List.Sums.{sum_by-set, sum_by-cons}
+use Rattle.flow_word.specs.declared.access.Step.{Step}
+use Rattle.event_graph.specs.Lanes.{Lane, IsSoundLane, no_lane, lane_at, timed, timed_below}
+use Rattle.engine_view.specs.declared.turn.Timing.{Timing}
+use Rattle.engine_view.specs.declared.turn.Timing.TheVariants.{Assigned, Answered, Differs, Nothing}
+use Rattle.engine_view.specs.Turns.{lanes_behind, ticks_of}
+use Rattle.retime.specs.Rounds.{only_steps, cycles_in, steps_in}
+
+-- ---- behind a turn
+
+pub steps_behind : (t : Timing) (m : ℕ) (old new : List Lane) → new ≡ lanes_behind t m old → only_steps new ≡ only_steps old
+steps_behind (Assigned c) m old new e = ap only_steps e ∙ map-set_same (λ (l : Lane). l.steps) old m (timed (lane_at old m) c) no_lane refl
+steps_behind (Answered c) m old new e = ap only_steps e
+steps_behind (Differs q) m old new e = ap only_steps e
+steps_behind Nothing m old new e = ap only_steps e
+
+cycles_behind : (t : Timing) (m : ℕ) (lanes : List Lane) → m < length lanes
+    → cycles_in (lanes_behind t m lanes) ≡ cycles_in lanes + ticks_of t
+cycles_behind (Assigned c) m lanes l =
+    let all = sum_by-set (λ (q : Lane). length q.cycles) lanes m (timed (lane_at lanes m) c) no_lane l in
+    let one = length-append (lane_at lanes m).cycles (c ∷ []) in
+    omega arith
+cycles_behind (Answered c) m lanes l = omega arith
+cycles_behind (Differs q) m lanes l = omega arith
+cycles_behind Nothing m lanes l = omega arith
+
+-- each tick is a cycle more
+pub ticks_behind : (t : Timing) (m : ℕ) (old new : List Lane) (before after : ℕ) → m < length old → new ≡ lanes_behind t m old
+    → after ≡ before + ticks_of t
+    → after + cycles_in old ≡ before + cycles_in new
+ticks_behind t m old new before after l e ticks =
+    let all = cycles_behind t m old l in
+    let same = ap cycles_in e in
+    omega arith
+
+-- ---- behind a cut
+
+pub steps_below : (t : ℕ) (lanes : List Lane) → only_steps (map (timed_below t) lanes) ≡ only_steps lanes
+steps_below t [] = refl
+steps_below t (l ∷ lanes) = ap (λ (rest : List (List Step)). l.steps ∷ rest) (steps_below t lanes)
+
+-- ---- no more cycles than steps
+
+cycles_within : (lanes : List Lane) → All IsSoundLane lanes → cycles_in lanes ≤ steps_in lanes
+cycles_within [] s = omega arith
+cycles_within (l ∷ lanes) s =
+    let here : IsSoundLane l = s 0 l (omega arith) in
+    let p = here.prefix in
+    let a = sum_by-cons (λ (q : Lane). length q.cycles) l lanes in
+    let b = sum_by-cons (λ (q : Lane). length q.steps) l lanes in
+    let rest = cycles_within lanes (λ k d u. s (suc k) d (omega arith)) in
+    omega arith
+
+steps_by : (lanes : List Lane) → steps_in lanes ≡ sum_by (λ (q : List Step). length q) (only_steps lanes)
+steps_by [] = refl
+steps_by (l ∷ lanes) =
+    sum_by-cons (λ (q : Lane). length q.steps) l lanes
+    ∙ (ap (λ (n : ℕ). length l.steps + n) (steps_by lanes) ∙ sym (sum_by-cons (λ (q : List Step). length q) l.steps (only_steps lanes)))
+
+pub few_cycles : (old new : List Lane) → All IsSoundLane new → only_steps new ≡ only_steps old → (after before kept : ℕ)
+    → after + kept ≡ before + cycles_in new → after + kept ≤ before + steps_in old
+few_cycles old new s e after before kept t =
+    let w = cycles_within new s in
+    let same : steps_in new ≡ steps_in old = steps_by new ∙ (ap (λ (q : List (List Step)). sum_by (λ (r : List Step). length r) q) e
+    ∙ sym (steps_by old)) in
+    omega arith

@@ -1,0 +1,227 @@
+-- Going round the modules as long as something is permitted.
+use Rattle.std.proofs.Common.{◌≡◌, refl, sym, ap, subst, ◌∙◌, ℕ, ◌+◌, ◌-◌, ◌*◌, ◌^◌, ◌<◌, ◌≤◌, ◌⊎◌, inl, inr, Bool, cond, ltb, List, [], ◌∷◌, ◌++◌, length, None, Some, arith, mul-le-mul_right}
+use Rattle.std.proofs.lemmas.Bool.{cases_lt}
+use Rattle.std.proofs.lemmas.Bool.Decides.{eqb_tells}
+use Rattle.std.proofs.lemmas.List.{get_or_past, length-map}
+use Rattle.event_graph.specs.Lanes.{Lane, no_lane, lane_at}
+use Rattle.event_timing.specs.Machines.{Design}
+use Rattle.event_timing.specs.Views.{first_accesses}
+use Rattle.event_timing.specs.Enablers.{candidate, to_clock, reach, bound, known_of}
+use Rattle.event_timing.specs.Core.{Core, view}
+use Rattle.event_timing.specs.Actions.{Action, Acts, ActsAll}
+use Rattle.event_timing.specs.Actions.Action.{Run, Assign, Answer, Earliest}
+use Rattle.engine_view.specs.Held.{Held, core_of}
+use Rattle.engine_view.specs.Stored.{Stored, held_in}
+use Rattle.engine_view.specs.Taking.{kinds_in}
+use Rattle.engine_view.specs.Turns.{IsKept, IsIdle, IsSomeCore, KeepsRoom, Leads, OfEach, left}
+use Rattle.retime.specs.Rounds.{AreTimings, HasGone, only_steps, cycles_in, IsVisited, IsGoingRound}
+
+-- ---- one action more
+
+acts_more : {S : Type 0} → (d : Design S) (limit : ℕ) (x : Core S) (actions : List Action) (y z : Core S) (a : Action)
+    → ActsAll d limit x actions y → Acts d limit y a z → ActsAll d limit x (actions ++ a ∷ []) z
+acts_more {S} d limit x [] y z a e s = (z, subst (λ (w : Core S). Acts d limit w a z) e s, refl)
+acts_more {S} d limit x (b ∷ more) y z a (w, t, r) s = (w, t, acts_more d limit w more y z a r s)
+
+timings_more : (actions : List Action) (a : Action) → AreTimings actions → AreTimings (a ∷ []) → AreTimings (actions ++ a ∷ [])
+timings_more [] a t s = s
+timings_more (Run m ∷ rest) a t s = absurd t
+timings_more (Assign m ∷ rest) a t s = timings_more rest a t s
+timings_more (Answer m ∷ rest) a t s = timings_more rest a t s
+timings_more (Earliest m ∷ rest) a t s = absurd t
+
+leads_more : (first now next : Stored) (limit : ℕ) (a : Action) → AreTimings (a ∷ [])
+    → HasGone limit first now
+    → OfEach now (λ d over. Leads d limit (held_in now over) a (held_in next over))
+    → HasGone limit first next
+leads_more first now next limit a t all one d over y k =
+    let before = all d over y k in
+    let after = one d over y before.kept in
+    record {
+      actions = before.actions ++ a ∷ [];
+      timings = timings_more before.actions a before.timings t;
+      all = acts_more d limit (core_of d (held_in first over)) before.actions (core_of d (held_in now over)) (core_of d (held_in next over))
+          a before.all after.acts;
+      kept = after.kept;
+    }
+
+same_length : (lanes others : List Lane) → only_steps lanes ≡ only_steps others → length lanes ≡ length others
+same_length lanes others e = sym (length-map lanes (λ (l : Lane). l.steps))
+    ∙ (ap (λ q. length q) e ∙ length-map others (λ (l : Lane). l.steps))
+
+-- what is known of some design stays so
+core_behind : (now next : Stored) → IsSomeCore now → OfEach now (λ d over. IsKept d (held_in next over)) → KeepsRoom now next
+    → IsSomeCore next
+core_behind now next (d, over, credits, i, k, r) kept room = (d, over, credits, i, kept d over i k, room credits d over i k r)
+
+room_more : (first now next : Stored) → OfEach first (λ d over. IsKept d (held_in now over)) → KeepsRoom first now → KeepsRoom now next
+    → KeepsRoom first next
+room_more first now next kept before after credits d over i k r = after credits d over i (kept d over i k) (before credits d over i k r)
+
+pub begun : (limit : ℕ) (first : Stored) (ticks count : ℕ) → IsSomeCore first → count ≡ length first.graph.lanes
+    → IsGoingRound limit first first ticks ticks count 0 0
+begun limit first ticks count core e = record {
+  core = core;
+  counted = e;
+  steps = refl;
+  kinds = refl;
+  ticked = refl;
+  within = omega arith;
+  inside = λ l. l;
+  acts = λ d over i k. record { actions = []; timings = tt; all = refl; kept = k };
+  room = λ credits d over i k r. r;
+  none_left = λ m l visited. absurd (no_visit m l visited);
+}
+  where
+    no_visit : (m : ℕ) → m < count → IsVisited count 0 0 m → ⊥
+    no_visit m i (inl (l, u)) = absurd (omega arith)
+    no_visit m i (inr (l, u)) = absurd (omega arith)
+
+module _ (limit : ℕ) (first now next : Stored) (before ticks later count at idle : ℕ)
+    (r : IsGoingRound limit first now before ticks count at idle)
+    (ticked : later + cycles_in now.graph.lanes ≡ ticks + cycles_in next.graph.lanes) where
+  -- something was done
+  pub went : (a : Action) → AreTimings (a ∷ []) → only_steps next.graph.lanes ≡ only_steps now.graph.lanes
+      → kinds_in next.table.channels ≡ kinds_in now.table.channels
+      → OfEach now (λ d over. Leads d limit (held_in now over) a (held_in next over)) → KeepsRoom now next
+      → IsGoingRound limit first next before later count at 0
+  went a t steps kinds leads room = record {
+    core = core_behind now next r.core (λ d over i k. (leads d over i k).kept) room;
+    counted = r.counted ∙ sym (same_length next.graph.lanes now.graph.lanes steps);
+    steps = steps ∙ r.steps;
+    kinds = kinds ∙ r.kinds;
+    ticked = let e = r.ticked in omega arith;
+    within = omega arith;
+    inside = r.inside;
+    acts = leads_more first now next limit a t r.acts leads;
+    room = room_more first now next (λ d over i k. (r.acts d over i k).kept) r.room room;
+    none_left = λ m l visited. absurd (no_visit m l visited);
+  }
+    where
+      no_visit : (m : ℕ) → m < count → IsVisited count at 0 m → ⊥
+      no_visit m i (inl (l, u)) = absurd (omega arith)
+      no_visit m i (inr (l, u)) = let v = r.inside (omega arith) in absurd (omega arith)
+
+  -- nothing was done, and the round stands where it stood
+  pub waited : next ≡ now → IsGoingRound limit first next before later count at idle
+  waited same = record {
+    core = subst IsSomeCore (sym same) r.core;
+    counted = r.counted ∙ ap (λ (s : Stored). length s.graph.lanes) (sym same);
+    steps = ap (λ (s : Stored). only_steps s.graph.lanes) same ∙ r.steps;
+    kinds = ap (λ (s : Stored). kinds_in s.table.channels) same ∙ r.kinds;
+    ticked = let e = r.ticked in omega arith;
+    within = r.within;
+    inside = r.inside;
+    acts = subst (HasGone limit first) (sym same) r.acts;
+    room = subst (KeepsRoom first) (sym same) r.room;
+    none_left = subst (λ (s : Stored). (m : ℕ) → m < count → IsVisited count at idle m
+        → OfEach s (λ d over. IsIdle d limit (core_of d (held_in s over)) m)) (sym same) r.none_left;
+  }
+
+  abbrev pub IsNextOf : ℕ → Type 0
+  IsNextOf to = ((at + 1 < count) × (to ≡ at + 1)) ⊎ ((count ≤ at + 1) × (to ≡ 0))
+
+  visit : idle < count → (to m : ℕ) → m < count → IsNextOf to → IsVisited count to (idle + 1) m → (m ≡ at) ⊎ IsVisited count at idle m
+  visit less to m i (inl (l, e)) (inl (p, q)) = elim (eqb_tells m at) [
+    | inl y ↦ inl y.1
+    | inr y ↦ let n = y.1 in inr (inl (omega arith, omega arith))
+  ]
+  visit less to m i (inl (l, e)) (inr (p, q)) = inr (inr (omega arith, omega arith))
+  visit less to m i (inr (l, e)) (inl (p, q)) = absurd (omega arith)
+  visit less to m i (inr (l, e)) (inr (p, q)) =
+      let u = r.inside (omega arith) in
+      elim (eqb_tells m at) [ inl y ↦ inl y.1 | inr y ↦ let n = y.1 in inr (inl (omega arith, omega arith)) ]
+
+  -- nothing was done at the module whose turn it was
+  pub stayed : idle < count → next ≡ now → OfEach now (λ d over. IsIdle d limit (core_of d (held_in now over)) at) → (to : ℕ) → IsNextOf to
+      → IsGoingRound limit first next before later count to (idle + 1)
+  stayed less same none to t =
+      let w = waited same in
+      record {
+        core = w.core;
+        counted = w.counted;
+        steps = w.steps;
+        kinds = w.kinds;
+        ticked = w.ticked;
+        within = omega arith;
+        inside = λ z. below t;
+        acts = w.acts;
+        room = w.room;
+        none_left = subst (λ (s : Stored). (m : ℕ) → m < count → IsVisited count to (idle + 1) m
+            → OfEach s (λ d over. IsIdle d limit (core_of d (held_in s over)) m)) (sym same)
+            (λ m l visited. left_of m l (visit less to m l t visited));
+      }
+    where
+      below : IsNextOf to → to < count
+      below (inl (l, e)) = omega arith
+      below (inr (l, e)) = omega arith
+
+      left_of : (m : ℕ) → m < count → (m ≡ at) ⊎ IsVisited count at idle m
+          → OfEach now (λ d over. IsIdle d limit (core_of d (held_in now over)) m)
+      left_of m l (inl e) = subst (λ (v : ℕ). OfEach now (λ d over. IsIdle d limit (core_of d (held_in now over)) v)) (sym e) none
+      left_of m l (inr v) = r.none_left m l v
+
+-- ---- the end
+
+nobody : {S : Type 0} → (d : Design S) (h : Held) (m : ℕ) → length h.lanes ≤ m → candidate d (view d (core_of d h)) m ≡ None
+unfolding candidate
+nobody {S} d h m l =
+    let none : lane_at h.lanes m ≡ no_lane = get_or_past h.lanes m no_lane l in
+    ap (λ (b : Bool). cond b (to_clock (reach (view d (core_of d h)) m)
+    (bound (known_of d (view d (core_of d h)) m) (first_accesses (view d (core_of d h)) m))) None)
+    (ap (λ (q : Lane). ltb (length q.cycles) (length q.steps)) none)
+
+idle_outside : {S : Type 0} → (d : Design S) (limit : ℕ) (h : Held) (m : ℕ) → length h.lanes ≤ m → IsIdle d limit (core_of d h) m
+idle_outside {S} d limit h m l = record {
+  no_assign = λ c may. let e : None ≡ Some c = sym (nobody d h m l) ∙ may.determined.at in cc;
+  no_answer = λ c may. let e : None ≡ Some c = sym (nobody d h m l) ∙ may.determined.at in cc;
+}
+
+-- where all were visited nothing is left
+pub all_visited : (limit : ℕ) (first now : Stored) (before ticks count at idle : ℕ)
+    → IsGoingRound limit first now before ticks count at idle → count ≤ idle
+    → OfEach now (λ d over. (m : ℕ) → IsIdle d limit (core_of d (held_in now over)) m)
+all_visited limit first now before ticks count at idle r l d over y k m =
+    elim (cases_lt m count) [
+      | inl u ↦ elim (cases_lt m at) [
+        | inl q ↦ let v = r.inside (omega arith) in r.none_left m u (inl (q, omega arith)) d over y k
+        | inr q ↦ r.none_left m u (inr (q, omega arith)) d over y k
+      ]
+      | inr u ↦ idle_outside d limit (held_in now over) m (let e = r.counted in omega arith)
+    ]
+
+-- ---- it ends
+
+-- more than what can still be done: actions before hints, and hints before the rest of the round
+abbrev pub still : Stored → ℕ → ℕ → ℕ → ℕ
+still s count idle hints = left s * (2 ^ 64 + count + 1) + (hints + (count - idle))
+
+pub still_went : (now next : Stored) (count idle hints other : ℕ) → left next < left now → other < 2 ^ 64
+    → still next count 0 other < still now count idle hints
+still_went now next count idle hints other l f = falls (left next) (left now) (omega arith)
+  where
+    falls : (a b : ℕ) → a + 1 ≤ b → a * (2 ^ 64 + count + 1) + (other + (count - 0)) < b * (2 ^ 64 + count + 1) + (hints + (count - idle))
+    falls a b l =
+        let m : (a + 1) * (2 ^ 64 + count + 1) ≤ b * (2 ^ 64 + count + 1) = mul-le-mul_right (2 ^ 64 + count + 1) l in
+        omega arith
+
+pub still_waited : (now next : Stored) (count idle hints other : ℕ) → next ≡ now → other < hints
+    → still next count idle other < still now count idle hints
+still_waited now next count idle hints other e l = subst (λ (s : Stored). still s count idle other < still now count idle hints) (sym e)
+    (falls (left now * (2 ^ 64 + count + 1)))
+  where
+    falls : (a : ℕ) → a + (other + (count - idle)) < a + (hints + (count - idle))
+    falls a = omega arith
+
+pub still_stayed : (now next : Stored) (count idle hints : ℕ) → next ≡ now → idle < count
+    → still next count (idle + 1) hints < still now count idle hints
+still_stayed now next count idle hints e l = subst (λ (s : Stored). still s count (idle + 1) hints < still now count idle hints) (sym e)
+    (falls (left now * (2 ^ 64 + count + 1)))
+  where
+    falls : (a : ℕ) → a + (hints + (count - (idle + 1))) < a + (hints + (count - idle))
+    falls a = omega arith
+
+-- the module that was looked at is the one whose turn it was
+pub turn_of : (limit : ℕ) (s : Stored) (owner at : ℕ) → owner ≡ at → OfEach s (λ d over. IsIdle d limit (core_of d (held_in s over)) owner)
+    → OfEach s (λ d over. IsIdle d limit (core_of d (held_in s over)) at)
+turn_of limit s owner at e f = subst (λ (m : ℕ). OfEach s (λ d over. IsIdle d limit (core_of d (held_in s over)) m)) e f

@@ -1,0 +1,163 @@
+-- What the table holds by the cycles that were given is what the theory says.
+use Rattle.std.proofs.Common.{◌≡◌, sym, ap, ap₂, subst, ◌∙◌, ℕ, zero, suc, ◌-◌, ◌<◌, ◌≤◌, min, inl, inr, Bool, true, false, List, [], ◌∷◌, length, filter, get_or, arith}
+use Rattle.std.specs.Prelude.{slice_get}
+use Rattle.std.proofs.lemmas.Bool.{cases_lt, lt-ltb, le-ltb}
+use Rattle.std.proofs.lemmas.List.Kept.{AllPairs-from_increasing}
+use Rattle.std.proofs.lemmas.Option.{slice_get-get_or, slice_get_past}
+use Rattle.flow_word.specs.declared.access.Place.{Place}
+use Rattle.flow_word.specs.declared.access.Side.{Side}
+use Rattle.flow_word.specs.declared.access.Side.TheVariants.{Pop, Push}
+use Rattle.event_graph.specs.Lanes.{lane_at, cycle_of}
+use Rattle.fifo_table.specs.declared.channel.TableChannel.{TableChannel}
+use Rattle.fifo_table.specs.declared.channel.TableChannel.TheVariants.{Source, Sink, Fifo}
+use Rattle.fifo_table.specs.Channels.{IsFifo, channel_at, depth_of, places_of}
+use Rattle.event_timing.specs.Machines.{Design, IsDesign}
+use Rattle.event_timing.specs.Core.{Core, core_accesses, core_tally, bare_replies}
+use Rattle.event_timing.specs.Edits.{kept, by_cycles, held_by_cycles}
+use Rattle.event_timing.proofs.Editing.{kept_le, kept_below}
+use Rattle.event_timing.proofs.OwnRuns.{tally_mono, tally_more}
+use Rattle.event_timing.proofs.Touched.{kept_ge}
+use Rattle.event_timing.proofs.Values.{takes_takers}
+use Rattle.engine_view.specs.Held.{Held, core_of}
+use Rattle.engine_view.specs.Shown.{IsSound, IsKind, AreTaken}
+use Rattle.engine_view.proofs.Knowing.{timed_within}
+use Rattle.retime.specs.Touched.{is_before, timed_before, held_at, AreInOrder, IsFirstTouched, IsNeverTouched}
+use Rattle.retime.proofs.Filling.{rising_of}
+
+-- ---- counts
+
+-- a front that passes, and a rest that doesn't
+front_counts : {X : Type 0} (p : X → Bool) (xs : List X) (n : ℕ) → n ≤ length xs → ((i : ℕ) (e : X) → i < n → p (get_or xs i e) ≡ true)
+    → ((i : ℕ) (e : X) → n ≤ i → i < length xs → p (get_or xs i e) ≡ false)
+    → length (filter p xs) ≡ n
+front_counts p [] n l on off = omega arith
+front_counts p (x ∷ xs) zero l on off = rw (off 0 x (omega arith) (omega arith))
+    (front_counts p xs zero (omega arith) (λ i e u. absurd (omega arith)) (λ i e u v. off (suc i) e (omega arith) (omega arith)))
+front_counts p (x ∷ xs) (suc n) l on off =
+    let rest = front_counts p xs n (omega arith) (λ i e u. on (suc i) e (omega arith))
+    (λ i e u v. off (suc i) e (omega arith) (omega arith)) in
+    rw (on 0 x (omega arith)) (ap (λ (k : ℕ). suc k) rest)
+
+module _ {S : Type 0} (d : Design S) (h : Held) (shown : IsSound d h) where
+  abbrev x : Core S
+  x = core_of d h
+
+  rises : (m j k : ℕ) → j < k → k < x.timed m → x.cycle m j < x.cycle m k
+  rises m j k l u = AllPairs-from_increasing (lane_at h.lanes m).cycles (rising_of h.lanes shown.sound_lanes m) j k 0 l u
+
+  -- a step is before a clock where it is among the cycles that stay
+  stays : (m s c : ℕ) → s < kept (x.cycle m) c (x.timed m) → is_before c (slice_get (lane_at h.lanes m).cycles s) ≡ true
+  stays m s c l =
+      let n = kept_le (x.cycle m) c (x.timed m) in
+      let b = kept_below (x.cycle m) c (x.timed m) (rises m) s l in
+      ap (is_before c) (slice_get-get_or (lane_at h.lanes m).cycles s 0 (omega arith)) ∙ lt-ltb (x.cycle m s) c b
+
+  goes : (m s c : ℕ) → kept (x.cycle m) c (x.timed m) ≤ s → is_before c (slice_get (lane_at h.lanes m).cycles s) ≡ false
+  goes m s c l =
+      elim (cases_lt s (x.timed m)) [
+        | inl u ↦
+            let late : c ≤ x.cycle m s = elim (cases_lt (x.cycle m s) c) [
+              | inl b ↦ let g = kept_ge (x.cycle m) c (suc s) (x.timed m) u
+                  (λ k w. elim (cases_lt k s) [
+                    | inl r ↦ let y = rises m k s r
+                        u in omega arith
+                    | inr r ↦ let e : s ≡ k = omega arith in subst (λ (q : ℕ). x.cycle m q < c) e b
+                  ]) in absurd (omega arith)
+              | inr b ↦ b
+            ] in
+            ap (is_before c) (slice_get-get_or (lane_at h.lanes m).cycles s 0 u) ∙ le-ltb (x.cycle m s) c late
+        | inr u ↦ ap (is_before c) (slice_get_past (lane_at h.lanes m).cycles s u)
+      ]
+
+  most : (side : Side) (c : ℕ) (places : List Place) → AreTaken d x side c places → (t : ℕ)
+      → core_tally d x (d.owner side c) side c (kept (x.cycle (d.owner side c)) t (x.timed (d.owner side c))) ≤ length places
+  most side c places taken t =
+      let m = d.owner side c in
+      let all = taken.count in
+      let w = timed_within d h shown m in
+      let n = kept_le (x.cycle m) t (x.timed m) in
+      let up = tally_mono (core_accesses d x m) (λ j. bare_replies (x.flags m j)) side c (kept (x.cycle m) t (x.timed m)) (x.emitted m)
+      (omega arith) in
+      omega arith
+
+  pub counts_are : (side : Side) (c : ℕ) (places : List Place) → AreTaken d x side c places → (t : ℕ)
+      → timed_before h.lanes places t ≡ by_cycles d x side c t
+  counts_are side c places taken t =
+      let m = d.owner side c in
+      let k = kept (x.cycle m) t (x.timed m) in
+      front_counts (λ (p : Place). is_before t (cycle_of h.lanes p)) places (core_tally d x m side c k) (most side c places taken t)
+      (λ i e l.
+      let at = taken.each i e (let w = most side c places taken t in omega arith) in
+      let f = at.from in
+      let s = (get_or places i e).step in
+      let less : s < k = elim (cases_lt s k) [
+        | inl u ↦ u
+        | inr u ↦ let y = tally_mono (core_accesses d x m)
+            (λ j. bare_replies (x.flags m j)) side c k s u in absurd (omega arith)
+      ] in
+      subst (λ (w : ℕ). is_before t (slice_get (lane_at h.lanes w).cycles s) ≡ true) (sym at.owner) (stays m s t less))
+      (λ i e l u.
+      let at = taken.each i e u in
+      let f = at.to in
+      let s = (get_or places i e).step in
+      let past : k ≤ s = elim (cases_lt s k) [
+        | inl v ↦ let y = tally_mono (core_accesses d x m) (λ j. bare_replies (x.flags m j)) side c
+            (suc s) k v in absurd (omega arith)
+        | inr v ↦ v
+      ] in
+      subst (λ (w : ℕ). is_before t (slice_get (lane_at h.lanes w).cycles s) ≡ false) (sym at.owner) (goes m s t past))
+
+  -- their steps rise, since a step takes at most one
+  pub in_order : IsDesign d → (side : Side) (c : ℕ) (places : List Place) → AreTaken d x side c places → AreInOrder places
+  in_order y side c places taken i j e l u =
+      let m = d.owner side c in
+      let a = taken.each i e (omega arith) in
+      let b = taken.each j e u in
+      let from = a.from in
+      let to = b.to in
+      let s = (get_or places i e).step in
+      let r = (get_or places j e).step in
+      let one = y.single side m (x.state m s) c in
+      let few = takes_takers side c (core_accesses d x m s) (bare_replies (x.flags m s)) in
+      let step = tally_more (core_accesses d x m) (λ k. bare_replies (x.flags m k)) side c s in (
+        a.owner ∙ sym b.owner,
+        elim (cases_lt s r) [
+          | inl v ↦ v
+          | inr v ↦ let up = tally_mono (core_accesses d x m) (λ k. bare_replies (x.flags m k)) side c (suc r) (suc s)
+              (omega arith) in absurd (omega arith)
+        ],
+      )
+
+module _ {S : Type 0} (d : Design S) (h : Held) (s : IsSound d h) (c : ℕ) (inside : c < length h.channels) where
+  pub places_in_order : IsDesign d → (side : Side) → AreInOrder (places_of side (channel_at h.channels c))
+  places_in_order y side = in_order d h s y side c (places_of side (channel_at h.channels c)) (s.taken side c inside)
+
+  count_is : (side : Side) (t : ℕ) → by_cycles d (core_of d h) side c t ≡ timed_before h.lanes (places_of side (channel_at h.channels c)) t
+  count_is side t = sym (counts_are d h s side c (places_of side (channel_at h.channels c)) (s.taken side c inside) t)
+
+  -- by the cycles that were given, the channel holds as much as the theory says
+  pub held_is : (t : ℕ) → held_by_cycles d (core_of d h) c t ≡ held_at h.lanes (channel_at h.channels c) t
+  held_is t = ap₂ (λ (a b : ℕ). a - b) (count_is Push t) (count_is Pop t)
+
+  start_of : (kind : TableChannel) → IsFifo kind → IsKind d c kind → d.start Push c ≡ depth_of kind
+  start_of (Source inputs) f k = absurd f
+  start_of Sink f k = absurd f
+  start_of (Fifo depth delay) f (unlimited, start, none, open_sides) = start
+
+  pub start_is : IsFifo (channel_at h.channels c).kind → d.start Push c ≡ depth_of (channel_at h.channels c).kind
+  start_is f = start_of (channel_at h.channels c).kind f (s.kinds c inside)
+
+  full_then : (depth t : ℕ) → IsFifo (channel_at h.channels c).kind → held_by_cycles d (core_of d h) c t ≡ min (d.start Push c) depth
+      → held_at h.lanes (channel_at h.channels c) t ≡ min (depth_of (channel_at h.channels c).kind) depth
+  full_then depth t f e = sym (held_is t) ∙ (e ∙ ap (λ (n : ℕ). min n depth) (start_is f))
+
+  -- before the first touched clock the theory's FIFO never holds so many
+  pub never_before : (depth t : ℕ) → IsFifo (channel_at h.channels c).kind → IsFirstTouched h.lanes (channel_at h.channels c) depth t
+      → (e : ℕ) → e < t → held_by_cycles d (core_of d h) c e ≡ min (d.start Push c) depth → ⊥
+  never_before depth t f first e l full = first.first e l (full_then depth e f full)
+
+  -- and where there is none, in no clock
+  pub never_at_all : (depth : ℕ) → IsFifo (channel_at h.channels c).kind → (depth_of (channel_at h.channels c).kind ≡ depth → ⊥)
+      → IsNeverTouched h.lanes (channel_at h.channels c) depth → (e : ℕ) → held_by_cycles d (core_of d h) c e ≡ min (d.start Push c) depth
+      → ⊥
+  never_at_all depth f apart never e full = elim never [ inl same ↦ apart same | inr none ↦ none e (full_then depth e f full) ]

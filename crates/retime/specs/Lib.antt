@@ -1,0 +1,4 @@
+pub mod Touched
+pub mod Rounds
+pub mod Cuts
+pub mod Edits

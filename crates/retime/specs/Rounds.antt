@@ -1,0 +1,73 @@
+-- Rounds over the modules, in which steps get their cycles and queries their answers.
+use Rattle.std.specs.Prelude.{◌≡◌, ℕ, ◌+◌, ◌<◌, ◌≤◌, ◌⊎◌, List, [], ◌∷◌, length, map}
+use Rattle.std.specs.List.{sum_by}
+use Rattle.flow_word.specs.declared.access.Step.{Step}
+use Rattle.event_graph.specs.Lanes.{Lane}
+use Rattle.outcome_guard.specs.declared.guard.Guard.{Guard}
+use Rattle.outcome_guard.specs.declared.guard.Guard.TheVariants.{Same, Differs}
+use Rattle.event_timing.specs.Machines.{Design}
+use Rattle.event_timing.specs.Core.{Core}
+use Rattle.event_timing.specs.Actions.{Action, ActsAll}
+use Rattle.event_timing.specs.Actions.Action.{Run, Assign, Answer, Earliest}
+use Rattle.engine_view.specs.Held.{Held, core_of}
+use Rattle.engine_view.specs.Stored.{Stored, held_in}
+use Rattle.engine_view.specs.Taking.{kinds_in}
+use Rattle.engine_view.specs.Turns.{IsKept, IsDifferent, IsIdle, IsSomeCore, KeepsRoom, OfEach}
+
+-- each of them gives a cycle, or answers queries that are all decided
+abbrev pub AreTimings : List Action → Type 0
+AreTimings [] = Unit {0}
+AreTimings (Run m ∷ rest) = ⊥
+AreTimings (Assign m ∷ rest) = AreTimings rest
+AreTimings (Answer m ∷ rest) = AreTimings rest
+AreTimings (Earliest m ∷ rest) = ⊥
+
+-- such actions, each permitted, lead from a core of the theory to one that is held
+pub record LeadsAll {S : Type 0} (d : Design S) (limit : ℕ) (x : Core S) (g : Held) : Type 0 where
+  pub actions : List Action
+  pub timings : AreTimings actions
+  pub all : ActsAll d limit x actions (core_of d g)
+  pub kept : IsKept d g
+
+-- of no module is one of them permitted any more, or a query is found to be another
+abbrev pub HasEnded : {S : Type 0} → Guard → Design S → ℕ → Held → Type 0
+HasEnded {S} Same d limit g = (m : ℕ) → IsIdle d limit (core_of d g) m
+HasEnded {S} (Differs q) d limit g = IsDifferent d limit g q.module q
+
+-- of each design of which the one is a core they lead to the other
+abbrev pub HasGone : ℕ → Stored → Stored → Type 0
+HasGone limit s t = OfEach s (λ d over. LeadsAll d limit (core_of d (held_in s over)) (held_in t over))
+
+abbrev pub IsAtEnd : Guard → ℕ → Stored → Type 0
+IsAtEnd guard limit t = OfEach t (λ d over. HasEnded guard d limit (held_in t over))
+
+-- the steps of all modules, without their cycles
+abbrev pub only_steps : List Lane → List (List Step)
+only_steps lanes = map (λ l. l.steps) lanes
+
+-- how many steps have a cycle, and how many there are
+abbrev pub cycles_in : List Lane → ℕ
+cycles_in lanes = sum_by (λ l. length l.cycles) lanes
+
+abbrev pub steps_in : List Lane → ℕ
+steps_in lanes = sum_by (λ l. length l.steps) lanes
+
+-- ---- a round that goes on
+
+-- the module is among those so many that were visited last, going round
+abbrev pub IsVisited : ℕ → ℕ → ℕ → ℕ → Type 0
+IsVisited count at idle n = ((n < at) × (at ≤ n + idle)) ⊎ ((at ≤ n) × (at + count ≤ n + idle))
+
+-- the rounds have led from `first` to `now`, with so many ticks before and by now; the next turn is that of module `at`, and of the
+-- modules that were visited last nothing is permitted
+pub record IsGoingRound (limit : ℕ) (first now : Stored) (before ticks count at idle : ℕ) : Type 0 where
+  pub core : IsSomeCore now
+  pub counted : count ≡ length now.graph.lanes
+  pub steps : only_steps now.graph.lanes ≡ only_steps first.graph.lanes
+  pub kinds : kinds_in now.table.channels ≡ kinds_in first.table.channels
+  pub ticked : ticks + cycles_in first.graph.lanes ≡ before + cycles_in now.graph.lanes
+  pub within : idle ≤ count
+  pub inside : 0 < count → at < count
+  pub acts : HasGone limit first now
+  pub room : KeepsRoom first now
+  pub none_left : (m : ℕ) → m < count → IsVisited count at idle m → OfEach now (λ d over. IsIdle d limit (core_of d (held_in now over)) m)

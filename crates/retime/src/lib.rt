@@ -1,0 +1,15 @@
+//! Cycles anew behind a change of a FIFO's depth, from the first clock on that the change touches.
+#![tactic(auto)]
+
+mod laws;
+mod retimed;
+mod rounds;
+mod touched;
+
+pub use laws::{cycles_are_counted, edits_agree};
+pub use retimed::retime;
+pub use rounds::time_all;
+pub use touched::first_touched;
+
+#[cfg(test)]
+mod tests;

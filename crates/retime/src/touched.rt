@@ -1,0 +1,64 @@
+//! The first clock that a change of a FIFO's depth touches.
+ghost use Rattle.std.specs.Prelude.{◌≡◌, ℕ, ◌<◌, ◌≤◌, length, IfSome, IsNone};
+ghost use Rattle.flow_design.specs.declared.limits.TheConstants.{FIFO_DEPTH};
+ghost use Rattle.event_graph.specs.Lanes.{cycle_bound};
+ghost use Rattle.fifo_table.specs.Channels.{IsFifo, channel_at, places_of};
+ghost use Rattle.fifo_table.specs.Enablers.{enabler_of};
+ghost use Rattle.time_engine.specs.Conditions.{HasPlaces};
+ghost use Rattle.retime.specs.Touched.{AreInOrder, IsFirstTouched, IsNeverTouched, clock_by};
+
+use event_graph::Graph;
+use fifo_table::{Enabler, FifoTable};
+use flow_word::Side;
+
+/// The least clock in which the FIFO, by the cycles that were given, holds as many elements as the lesser of its depth and
+/// this one. None where there is no such clock, or the depth is the one that stands.
+///
+/// It looks at each push and each pop of the channel at most once, and takes no memory.
+pub fn first_touched(graph: &Graph, fifos: &FifoTable, channel: u32, depth: u64) -> Option<u64>
+    requires channel { channel < length fifos.now.channels }
+    requires fifo { IsFifo (channel_at fifos.now.channels channel).kind }
+    requires least { 1 ≤ depth }
+    requires most { depth ≤ FIFO_DEPTH }
+    requires places { HasPlaces graph.now.lanes fifos.now.channels }
+    requires in_order { (side : Side) → AreInOrder (places_of side (channel_at fifos.now.channels channel)) }
+    ensures some { IfSome result (λ t. IsFirstTouched graph.now.lanes (channel_at fifos.now.channels channel) depth t) }
+    ensures none { IsNone result → IsNeverTouched graph.now.lanes (channel_at fifos.now.channels channel) depth }
+{
+    let stands = fifos.depth(channel);
+    if depth == stands {
+        return None;
+    }
+    let full = depth.min(stands);
+    // The lanes are sound as ever.
+    let _modules = graph.modules();
+    for before in full - 1..fifos.pushes(channel) {
+        // The cycle of the push with so many pushes before it. The pop that takes its element waits for it.
+        let Some(push) = event_cycle(graph, fifos, channel, Side::Pop, before + 1) else {
+            return None;
+        };
+        // This push makes the FIFO that full, unless the pop that leaves one place more was before it or in its clock. For
+        // that pop a later push waits.
+        let waiting = stands + (before + 2 - full);
+        match event_cycle(graph, fifos, channel, Side::Push, waiting) {
+            Some(pop) if pop <= push => {}
+            _ => return Some(push + 1),
+        }
+    }
+    None
+}
+
+/// The cycle of the event that the n-th pop, or the n-th push, of a FIFO waits for, where there is one with a cycle.
+fn event_cycle(graph: &Graph, fifos: &FifoTable, channel: u32, side: Side, n: u64) -> Option<u64>
+    requires channel { channel < length fifos.now.channels }
+    requires fifo { IsFifo (channel_at fifos.now.channels channel).kind }
+    requires from_one { 1 ≤ n }
+    requires places { HasPlaces graph.now.lanes fifos.now.channels }
+    ensures cycle { result ≡ clock_by graph.now.lanes (enabler_of (channel_at fifos.now.channels channel) side n) }
+    ensures below { IfSome result (λ cycle. cycle < cycle_bound) }
+{
+    match fifos.enabler(channel, side, n) {
+        Enabler::Event(place) => graph.cycle_of(place),
+        Enabler::Free | Enabler::Missing | Enabler::Never => None,
+    }
+}

@@ -10,4 +10,5 @@ pub mod Lending
 pub mod Ports
 pub mod Turning
 pub mod Rounds
+pub mod Ending
 pub mod Beginning

@@ -117,19 +117,19 @@ module _ (p : Plan) (s t : Stored) (ends : List (Option Advance)) (runs : List (
 
   pub core_timed : (m : ℕ) (r : Timing) → HasTimed r p.cycles m s t → KeepsRoom s t → kinds_in t.table.channels ≡ kinds_in s.table.channels → IsCore p t ends runs credits
   core_timed m (Assigned c) done room kinds =
-      let leads = done d over is_design kept in
+      let leads = (done d over is_design kept).1 in
       core_acted p s t ends ends runs credits credits k (Assign m) leads.acts leads.kept.sound kinds refl (room credits d over is_design kept k.room) (λ n run e. tt) (λ n mark e. inl e)
   core_timed m (Answered c) done room kinds =
-      let leads = done d over is_design kept in
+      let leads = (done d over is_design kept).1 in
       core_acted p s t ends ends runs credits credits k (Answer m) leads.acts leads.kept.sound kinds refl (room credits d over is_design kept k.room) (λ n run e. tt) (λ n mark e. inl e)
   core_timed m (Differs q) (e, f) room kinds = same_core e
   core_timed m turn.Nothing (e, f) room kinds = same_core e
 
   pub turned : (m : ℕ) (r : Timing) (lent : List Bool) → HasTimed r p.cycles m s t → ((c : ℕ) → r ≡ Answered c → core_of d (held_in t over) ≡ core_of d (held_in s over) → ⊥) → HasTurned r (seen s lent) m (seen t lent)
-  turned m (Assigned c) lent done changed = (done d over is_design kept).acts
-  turned m (Answered c) lent done changed = ((done d over is_design kept).acts, changed c refl)
-  turned m (Differs q) lent (e, f) changed = (ap (λ (u : Stored). seen u lent) e, f d over is_design kept)
-  turned m turn.Nothing lent (e, f) changed = (ap (λ (u : Stored). seen u lent) e, f d over is_design kept)
+  turned m (Assigned c) lent done other = (done d over is_design kept).1.acts
+  turned m (Answered c) lent done other = ((done d over is_design kept).1.acts, other c refl)
+  turned m (Differs q) lent (e, f) other = (ap (λ (u : Stored). seen u lent) e, f d over is_design kept)
+  turned m turn.Nothing lent (e, f) other = (ap (λ (u : Stored). seen u lent) e, f d over is_design kept)
 
   -- ---- the least open step
 

@@ -7,6 +7,7 @@ mod laws;
 mod machine;
 mod opening;
 mod replies;
+mod report;
 mod running;
 mod turn;
 

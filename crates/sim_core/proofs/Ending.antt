@@ -1,0 +1,77 @@
+-- The end marks of a core are those of the modules' own runs.
+use Rattle.std.proofs.Common.{◌≡◌, refl, sym, ap, subst, ◌∙◌, ℕ, ◌<◌, ◌≤◌, Bool, true, false, cond, List, length, map, get_or, Option, None, Some, is_some, inl, inr, arith}
+use Rattle.flow_word.specs.declared.access.Step.{Step as StepOf}
+use Rattle.flow_design.specs.declared.plan.Plan.{Plan}
+use Rattle.flow_design.specs.declared.state.Advance.{Advance}
+use Rattle.flow_design.specs.declared.state.Advance.TheVariants.{Step, Ended, Spent}
+use Rattle.flow_design.specs.declared.state.ModuleState.{ModuleState}
+use Rattle.lockstep_defs.specs.Machine.{is_spent}
+use Rattle.lockstep_defs.specs.OwnRun.{Own}
+use Rattle.event_graph.specs.Lanes.{gap_bound}
+use Rattle.module_interp.specs.declared.run.ModuleRun.{ModuleRun}
+use Rattle.module_interp.specs.OwnRests.{mark_at}
+use Rattle.module_interp.specs.Runs.{is_step}
+use Rattle.module_interp.specs.Runs as run
+use Rattle.std.proofs.lemmas.Bool.{cases_lt}
+use Rattle.std.proofs.lemmas.List.{get_or_past, length-map}
+use Rattle.event_timing.specs.Core.{Core}
+use Rattle.event_timing.specs.Actions.{IsFinal}
+use Rattle.timing_bridge.specs.Designs.{design}
+use Rattle.engine_view.specs.Held.{core_of}
+use Rattle.engine_view.specs.Stored.{Stored, held_in}
+use Rattle.engine_report.specs.Standings.{end_at, gap_of}
+use Rattle.engine_report.specs.Finished.{IsEndMark, AreEndMarks, IsFinished}
+use Rattle.sim_core.specs.Marks.{IsRestBehind}
+use Rattle.sim_core.specs.Runs.{IsCore, IsEndOf, rest_behind, over_of}
+use Rattle.sim_core.proofs.Marking.{table_count}
+use Rattle.sim_core.proofs.Resting.{rest_is}
+
+marked : (p : Plan) (x : Core ModuleState) (m : ℕ) (o : Own) → IsRestBehind p x m (x.emitted m) o → (mark : Advance) (a b : Bool) (t : StepOf) → a ≡ o.state.ended → b ≡ is_spent p.ops o.state
+    → mark ≡ cond a (Ended o.since) (cond b (Spent o.since) (Step t)) → is_step mark ≡ false → IsEndMark p x m mark
+marked p x m o r mark true b t e f is none =
+    subst (IsEndMark p x m) (sym is) (ap (λ (s : ModuleState). s.ended) (sym r.state) ∙ sym e, r.since)
+marked p x m o r mark false true t e f is none =
+    subst (IsEndMark p x m) (sym is) (ap (is_spent p.ops) (sym r.state) ∙ sym f, r.since)
+marked p x m o r mark false false t e f is none = let z = sym (ap is_step is) ∙ none in cc
+
+-- both crates' words for the gap of a mark
+same_gap : (mark : Advance) → run.gap_of mark < gap_bound → gap_of (Some mark) < gap_bound
+same_gap (Step t) l = omega arith
+same_gap (Ended n) l = l
+same_gap (Spent n) l = l
+
+short_mark : (o : Option Advance) → ((mark : Advance) → o ≡ Some mark → gap_of (Some mark) < gap_bound) → gap_of o < gap_bound
+short_mark None f = omega arith
+short_mark (Some (Step t)) f = omega arith
+short_mark (Some (Ended n)) f = f (Ended n) refl
+short_mark (Some (Spent n)) f = f (Spent n) refl
+
+module _ (p : Plan) (s : Stored) (ends : List (Option Advance)) (runs : List (Option ModuleRun)) (credits : List ℕ) (k : IsCore p s ends runs credits) where
+  abbrev x : Core ModuleState
+  x = core_of (design p) (held_in s (over_of ends))
+
+  inside : (m : ℕ) (mark : Advance) → get_or ends m None ≡ Some mark → m < length p.design.modules
+  inside m mark there =
+      elim (cases_lt m (length ends)) [
+        | inl l ↦ let a = k.sound.overs in let b = length-map ends is_some in omega arith
+        | inr l ↦ let z = sym (get_or_past ends m None l) ∙ there in cc
+      ]
+
+  behind : (m : ℕ) (mark : Advance) → get_or ends m None ≡ Some mark → IsRestBehind p x m (x.emitted m) (rest_behind p x m (x.emitted m))
+  behind m mark there = rest_is p k.fits x k.agreed.marks m (inside m mark there) (x.emitted m) (x.emitted m) (omega arith) (omega arith)
+
+  pub finished : IsFinal (design p) p.cycles x → IsFinished p (held_in s (over_of ends)) ends
+  finished final = record {
+    fits = k.fits;
+    channels = table_count p s.table.channels k.table;
+    sound = k.sound;
+    agreed = k.agreed;
+    final = final;
+    marks = record {
+      over = refl;
+      each = λ m mark there.
+          let e = k.ends_are m mark there in
+          marked p x m (rest_behind p x m (x.emitted m)) (behind m mark there) mark _ _ _ refl refl e.is e.no_step;
+      short = λ m. short_mark (end_at ends m) (λ mark there. same_gap mark (k.ends_are m mark there).short);
+    };
+  }

@@ -3,14 +3,13 @@ use Rattle.std.proofs.Common.{◌≡◌, refl, sym, ap, subst, ◌∙◌, ℕ, s
 use Rattle.std.specs.Prelude.{All, slice_index, slice_index_or}
 use Rattle.std.proofs.lemmas.List.FromFn.{get_or-map-range_with_len, length-map-range_with_len}
 use Rattle.std.proofs.lemmas.Bool.{cases_lt, both_ways}
-use Rattle.std.proofs.lemmas.List.{get_or_past, get_or_append_left, get_or-map, length-map, length-replicate}
+use Rattle.std.proofs.lemmas.List.{get_or_past, get_or_append_left, get_or-map, length-replicate}
 use Rattle.std.proofs.Math.Seq.{get_or-append_seam}
 use Rattle.flow_word.specs.declared.access.Side.{Side}
 use Rattle.flow_word.specs.declared.access.Side.TheVariants.{Pop, Push}
 use Rattle.flow_word.specs.Kinds.{same_side}
 use Rattle.flow_design.specs.declared.plan.Plan.{Plan}
 use Rattle.flow_design.specs.declared.state.Advance.{Advance}
-use Rattle.flow_design.specs.declared.state.Element.{Element}
 use Rattle.module_interp.specs.declared.run.ModuleRun.{ModuleRun}
 use Rattle.module_interp.specs.OwnRests.{first_rest}
 use Rattle.module_interp.specs.Runs.{StandsAt, waits}
@@ -24,10 +23,10 @@ use Rattle.lockstep_defs.specs.Machine.{width_of}
 use Rattle.lockstep_defs.specs.Channels.{contents_of, values, element_from}
 use Rattle.lockstep_defs.specs.Lockstep.{inputs_of, opening, moment, state}
 use Rattle.event_graph.specs.Lanes.{Lane, no_lane}
-use Rattle.query_log.specs.Logs.{Log, no_log}
+use Rattle.query_log.specs.Logs.{no_log}
 use Rattle.fifo_table.specs.declared.channel.TableChannel.{TableChannel}
 use Rattle.fifo_table.specs.declared.channel.TableChannel.TheVariants.{Sink}
-use Rattle.fifo_table.specs.Channels.{Channel, IsSoundKind, unused, values_of, lag_of}
+use Rattle.fifo_table.specs.Channels.{IsSoundKind, unused, values_of, lag_of}
 use Rattle.event_timing.specs.Core.{opening_core}
 use Rattle.event_timing.specs.Agreement.{IsAgreed}
 use Rattle.event_timing.proofs.Agreement.{opening_agrees}

@@ -1,5 +1,5 @@
 -- The end marks of a core are those of the modules' own runs.
-use Rattle.std.proofs.Common.{◌≡◌, refl, sym, ap, subst, ◌∙◌, ℕ, ◌<◌, ◌≤◌, Bool, true, false, cond, List, length, map, get_or, Option, None, Some, is_some, inl, inr, arith}
+use Rattle.std.proofs.Common.{◌≡◌, refl, sym, ap, subst, ◌∙◌, ℕ, ◌<◌, Bool, true, false, cond, List, length, get_or, Option, None, Some, is_some, inl, inr, arith}
 use Rattle.flow_word.specs.declared.access.Step.{Step as StepOf}
 use Rattle.flow_design.specs.declared.plan.Plan.{Plan}
 use Rattle.flow_design.specs.declared.state.Advance.{Advance}
@@ -9,7 +9,6 @@ use Rattle.lockstep_defs.specs.Machine.{is_spent}
 use Rattle.lockstep_defs.specs.OwnRun.{Own}
 use Rattle.event_graph.specs.Lanes.{gap_bound}
 use Rattle.module_interp.specs.declared.run.ModuleRun.{ModuleRun}
-use Rattle.module_interp.specs.OwnRests.{mark_at}
 use Rattle.module_interp.specs.Runs.{is_step}
 use Rattle.module_interp.specs.Runs as run
 use Rattle.std.proofs.lemmas.Bool.{cases_lt}
@@ -20,9 +19,9 @@ use Rattle.timing_bridge.specs.Designs.{design}
 use Rattle.engine_view.specs.Held.{core_of}
 use Rattle.engine_view.specs.Stored.{Stored, held_in}
 use Rattle.engine_report.specs.Standings.{end_at, gap_of}
-use Rattle.engine_report.specs.Finished.{IsEndMark, AreEndMarks, IsFinished}
+use Rattle.engine_report.specs.Finished.{IsEndMark, IsFinished}
 use Rattle.sim_core.specs.Marks.{IsRestBehind}
-use Rattle.sim_core.specs.Runs.{IsCore, IsEndOf, rest_behind, over_of}
+use Rattle.sim_core.specs.Runs.{IsCore, rest_behind, over_of}
 use Rattle.sim_core.proofs.Marking.{table_count}
 use Rattle.sim_core.proofs.Resting.{rest_is}
 

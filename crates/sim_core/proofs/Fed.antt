@@ -1,11 +1,11 @@
 -- A run that waits is fed with the replies that are found for its newest step.
-use Rattle.std.proofs.Common.{◌≡◌, refl, sym, ap, ap₂, subst, ◌∙◌, ℕ, suc, ◌+◌, ◌-◌, ◌^◌, ◌<◌, ◌≤◌, inl, inr, Bool, true, false, cond, not, ltb, ◌&&◌, ◌||◌, List, [], ◌∷◌, length, map, drop, get_or, arith, length-drop}
+use Rattle.std.proofs.Common.{◌≡◌, refl, sym, ap, ap₂, subst, ◌∙◌, ℕ, suc, ◌+◌, ◌-◌, ◌<◌, ◌≤◌, inl, inr, Bool, true, false, cond, not, ltb, ◌&&◌, ◌||◌, List, [], ◌∷◌, length, map, drop, get_or, arith, length-drop}
 use Rattle.std.specs.Prelude.{All, Option, Some, None, slice_get}
 use Rattle.std.proofs.lemmas.Option.{get_or_from_slice_get}
 use Rattle.flow_word.specs.declared.access.Step.{Step}
 use Rattle.engine_view.specs.Rooms.{query_bound}
 use Rattle.engine_view.proofs.Emitted.{queries_mono}
-use Rattle.std.proofs.lemmas.Bool.{cases_Bool, both_ways, and_from, and_parts, or_left, or_right, lt-ltb, le-leb}
+use Rattle.std.proofs.lemmas.Bool.{both_ways, and_from, and_parts, or_left, or_right, lt-ltb, le-leb}
 use Rattle.std.proofs.lemmas.Bool.Decides.{eqb_tells}
 use Rattle.std.proofs.lemmas.List.Elements.{All-head, All-tail}
 use Rattle.flow_word.specs.declared.access.Access.{Access}

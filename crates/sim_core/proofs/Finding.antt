@@ -13,8 +13,7 @@ use Rattle.flow_design.specs.declared.state.Reply.TheVariants.{Done, Value, Flag
 use Rattle.fifo_table.specs.Channels.{Channel}
 use Rattle.lockstep_defs.specs.Channels.{reply_by}
 use Rattle.flow_word.specs.Kinds.{side_of, is_blocking, is_taking, same_side}
-use Rattle.flow_word.specs.declared.access.Side.{Side}
-use Rattle.flow_word.specs.declared.access.Side.TheVariants.{Pop, Push}
+use Rattle.flow_word.specs.declared.access.Side.TheVariants.{Pop}
 use Rattle.engine_view.specs.Held.{seen, possible_by, queries_in, flags_by, values_at}
 use Rattle.engine_view.proofs.Adding.{get_drop, drop_next}
 use Rattle.event_timing.specs.Core.{pops_now}

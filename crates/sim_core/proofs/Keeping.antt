@@ -1,11 +1,9 @@
 -- A core stays one behind a permitted action.
-use Rattle.std.proofs.Common.{◌≡◌, refl, sym, ap, subst, ◌∙◌, ℕ, zero, suc, ◌<◌, ◌≤◌, ◌⊎◌, inl, inr, Bool, true, false, List, [], ◌∷◌, length, map, get_or, Option, None, Some, is_some, arith}
+use Rattle.std.proofs.Common.{◌≡◌, refl, sym, ap, subst, ◌∙◌, ℕ, zero, suc, ◌⊎◌, inl, inr, true, false, List, [], ◌∷◌, length, get_or, Option, None, Some, is_some}
 use Rattle.std.proofs.lemmas.Bool.{both_ways}
-use Rattle.std.proofs.lemmas.Bool.Decides.{eqb_tells}
 use Rattle.flow_design.specs.declared.plan.Plan.{Plan}
 use Rattle.flow_design.specs.declared.state.Advance.{Advance}
 use Rattle.flow_design.specs.declared.state.ModuleState.{ModuleState}
-use Rattle.fifo_table.specs.declared.channel.TableChannel.{TableChannel}
 use Rattle.module_interp.specs.declared.run.ModuleRun.{ModuleRun}
 use Rattle.event_timing.specs.Machines.{Design}
 use Rattle.event_timing.specs.Core.{Core}
@@ -15,13 +13,12 @@ use Rattle.event_timing.proofs.Agreement.{acts_agree}
 use Rattle.event_timing.proofs.Beside.{others_grow}
 use Rattle.timing_bridge.specs.Designs.{design, lockstep_run}
 use Rattle.timing_bridge.proofs.History.{plan_is_design, run_is_history}
-use Rattle.engine_view.specs.Held.{Held, core_of}
+use Rattle.engine_view.specs.Held.{core_of}
 use Rattle.engine_view.specs.Shown.{IsSound}
 use Rattle.engine_view.specs.Rooms.{IsRoomy}
 use Rattle.engine_view.specs.Stored.{Stored, held_in}
 use Rattle.engine_view.specs.Taking.{kinds_in}
 use Rattle.engine_view.specs.Kept.{IsKept}
-use Rattle.sim_core.specs.Opening.{kinds_of}
 use Rattle.sim_core.specs.Runs.{IsCore, IsEndOf, over_of}
 use Rattle.sim_core.proofs.Staying.{run_stays, end_stays}
 

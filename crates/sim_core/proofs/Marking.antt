@@ -7,8 +7,6 @@ use Rattle.std.proofs.lemmas.List.{map-append, get_or-map, length-map}
 use Rattle.std.proofs.lemmas.List.FromFn.{get_or-map-range_with_len, length-map-range_with_len}
 use Rattle.std.proofs.lemmas.List.Elements.{All-map, All-weaker, filter-append, All-from_recursion}
 use Rattle.flow_word.specs.declared.access.Access.{Access}
-use Rattle.flow_word.specs.declared.access.Kind.{Kind}
-use Rattle.flow_word.specs.declared.access.Kind.TheVariants.{Read, Write, TryRead, TryWrite, Empty, Full}
 use Rattle.flow_word.specs.declared.access.Step.{Step as StepOf}
 use Rattle.flow_design.specs.declared.design.ChannelKind.{ChannelKind}
 use Rattle.flow_design.specs.declared.design.ChannelKind.TheVariants as plan
@@ -19,7 +17,7 @@ use Rattle.flow_design.specs.declared.state.Reply.{Reply}
 use Rattle.flow_design.specs.declared.state.Request.{Request}
 use Rattle.flow_design.specs.StaticRules.{FitsEngine}
 use Rattle.flow_design.specs.Plans.{kind_at}
-use Rattle.lockstep_defs.specs.Channels.{Exchange, HistoryStep, moved, moved_by}
+use Rattle.lockstep_defs.specs.Channels.{Exchange, moved, moved_by}
 use Rattle.lockstep_defs.specs.Ports.{has_port, StandsAtPort}
 use Rattle.lockstep_defs.specs.Lockstep.{requests_of}
 use Rattle.lockstep_defs.specs.Machine.{is_over, is_spent}
@@ -33,7 +31,7 @@ use Rattle.fifo_table.specs.declared.channel.TableChannel.TheVariants.{Sink}
 use Rattle.fifo_table.specs.Channels.{Channel, HasSide, channel_at, unused}
 use Rattle.engine_view.specs.Taking.{kinds_in}
 use Rattle.time_engine.specs.Conditions.{IsAccess}
-use Rattle.flow_word.specs.Kinds.{side_of, is_blocking, is_taking, same_side}
+use Rattle.flow_word.specs.Kinds.{side_of, is_blocking}
 use Rattle.flow_word.specs.declared.access.Side.{Side}
 use Rattle.flow_word.specs.declared.access.Side.TheVariants.{Pop, Push}
 use Rattle.event_timing.specs.Machines.{ready}

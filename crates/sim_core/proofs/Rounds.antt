@@ -1,16 +1,15 @@
 -- Going round the modules as long as something is permitted.
-use Rattle.std.proofs.Common.{◌≡◌, refl, sym, ap, subst, ◌∙◌, ℕ, zero, suc, ◌+◌, ◌-◌, ◌*◌, ◌^◌, ◌<◌, ◌≤◌, ◌⊎◌, inl, inr, true, false, Some, get_or, List, [], ◌∷◌, ◌++◌, length, arith, mul-le-mul_right}
+use Rattle.std.proofs.Common.{◌≡◌, refl, sym, ap, subst, ◌∙◌, ℕ, suc, ◌+◌, ◌-◌, ◌*◌, ◌^◌, ◌<◌, ◌≤◌, ◌⊎◌, inl, inr, true, false, Some, get_or, List, [], ◌∷◌, ◌++◌, length, arith, mul-le-mul_right}
 use Rattle.std.specs.Prelude.{slice_get}
 use Rattle.std.proofs.lemmas.Bool.{cases_lt, both_ways}
 use Rattle.std.proofs.lemmas.Bool.Decides.{eqb_tells}
 use Rattle.flow_design.specs.declared.plan.Plan.{Plan}
-use Rattle.flow_design.specs.declared.state.ModuleState.{ModuleState}
 use Rattle.flow_design.specs.StaticRules.{FitsEngine}
 use Rattle.query_log.specs.declared.query.Query.{Query}
 use Rattle.event_timing.specs.Machines.{Design}
 use Rattle.event_timing.specs.Core.{Core, view}
 use Rattle.event_timing.specs.Enablers.{candidate}
-use Rattle.event_timing.specs.Actions.{Action, Acts, ActsAll, MayRun, IsQuiet, IsFinal, after_run}
+use Rattle.event_timing.specs.Actions.{Action, Acts, ActsAll, MayRun, IsQuiet, after_run}
 use Rattle.event_timing.specs.Actions.Action.{Run, Assign, Answer, Earliest}
 use Rattle.event_timing.specs.Agreement.{IsAgreed, AllVerified}
 use Rattle.event_timing.specs.Work.{work}
@@ -23,12 +22,11 @@ use Rattle.timing_bridge.specs.Designs.{design, lockstep_run}
 use Rattle.timing_bridge.proofs.Bounded.{plan_is_bounded}
 use Rattle.timing_bridge.proofs.History.{plan_is_design, run_is_history}
 use Rattle.engine_view.specs.declared.turn.Timing.TheVariants as turn
-use Rattle.engine_view.specs.Turns.{IsDifferent, IsFoundOther, IsIdle}
+use Rattle.engine_view.specs.Turns.{IsDifferent, IsFoundOther}
 use Rattle.outcome_guard.specs.declared.guard.Guard.TheVariants as guard
-use Rattle.sim_core.specs.declared.drive.Visit.TheVariants.{Acted, Differs, Idle}
 use Rattle.sim_core.specs.Views.{CoreView, theory_of}
 use Rattle.sim_core.specs.Turns.{IsStill, IsEarliestOther, HasTurned, HasAnsweredLeast}
-use Rattle.sim_core.specs.Drives.{given, Goes, GoesOn, HasVisited, HasDriven, IsDiffering, IsVisited, AreOwn, IsGoingRound}
+use Rattle.sim_core.specs.Drives.{given, Goes, GoesOn, IsVisited, AreOwn, IsGoingRound}
 
 -- ---- each action makes another core
 

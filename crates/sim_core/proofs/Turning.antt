@@ -1,6 +1,6 @@
 -- What the calls over a graph, a table and a log do to a core: cycles and answers.
-use Rattle.std.proofs.Common.{◌≡◌, refl, sym, ap, ap₂, subst, ◌∙◌, ℕ, zero, suc, ◌+◌, ◌-◌, ◌*◌, ◌<◌, ◌≤◌, ◌⊎◌, inl, inr, Bool, true, false, cond, ltb, ◌&&◌, eqb, ◌||◌, List, [], ◌∷◌, length, map, get_or, set, Option, None, Some, is_some, unwrap_or, arith}
-use Rattle.std.proofs.lemmas.Bool.{cases_Bool, cases_lt, both_ways, and_parts, and_from, lt-ltb}
+use Rattle.std.proofs.Common.{◌≡◌, refl, sym, ap, ap₂, subst, ◌∙◌, ℕ, zero, suc, ◌+◌, ◌-◌, ◌*◌, ◌<◌, ◌≤◌, inl, inr, Bool, true, false, cond, ltb, ◌&&◌, List, [], ◌∷◌, length, get_or, set, Option, None, Some, arith}
+use Rattle.std.proofs.lemmas.Bool.{cases_Bool, cases_lt, both_ways, lt-ltb}
 use Rattle.std.proofs.lemmas.List.{get_or_past, get_or-set_same, get_or-set_other}
 use Rattle.std.proofs.lemmas.Bool.Decides.{eqb_tells}
 use Rattle.fifo_table.specs.Channels.{Channel}
@@ -15,7 +15,6 @@ use Rattle.event_graph.specs.Lanes.{Lane, lane_at, no_lane}
 use Rattle.event_graph.specs.declared.candidate.Candidate.{Candidate}
 use Rattle.event_graph.specs.declared.candidate.Candidate.TheVariants.{At, Nothing}
 use Rattle.query_log.specs.Logs.{log_at}
-use Rattle.query_log.specs.declared.query.Query.{Query}
 use Rattle.query_resolve.specs.Earliest.{cycle_of, IsEarliest}
 use Rattle.outcome_guard.specs.declared.guard.Guard.{Guard}
 use Rattle.outcome_guard.specs.declared.guard.Guard.TheVariants as guard
@@ -25,7 +24,7 @@ use Rattle.event_timing.specs.Views.{first_accesses}
 use Rattle.event_timing.specs.Enablers.{candidate, known_of, all_decided}
 use Rattle.event_timing.specs.Core.{Core, view}
 use Rattle.event_timing.specs.Work.{sum_to}
-use Rattle.event_timing.specs.Actions.{Action, Acts, MayRun, MayAssign, MayAnswer, MayEarliest, IsOpen, IsQuiet, IsFinal, IsDetermined, after_answer}
+use Rattle.event_timing.specs.Actions.{MayEarliest, IsOpen, IsQuiet, IsFinal, IsDetermined}
 use Rattle.event_timing.specs.Actions.Action.{Assign, Answer, Earliest}
 use Rattle.event_timing.proofs.Assigning.{put_at_same}
 use Rattle.event_timing.proofs.Answering.{first_emitted}
@@ -36,14 +35,13 @@ use Rattle.engine_view.specs.declared.turn.Timing.TheVariants.{Assigned, Answere
 use Rattle.engine_view.specs.declared.turn.Timing.TheVariants as turn
 use Rattle.engine_view.specs.Held.{Held, no_step, emitted_of, step_of, are_among, core_of}
 use Rattle.engine_view.specs.Kept.{IsKept}
-use Rattle.engine_view.specs.Rooms.{IsRoomy}
 use Rattle.engine_view.specs.Stored.{Stored, held_in}
 use Rattle.engine_view.specs.Taking.{kinds_in}
-use Rattle.engine_view.specs.Turns.{HasTimed, HasAnswered, KeepsRoom, HasUnsure, IsIdle, IsSomeCore, first_of, left_of, left}
+use Rattle.engine_view.specs.Turns.{HasTimed, HasAnswered, KeepsRoom, HasUnsure, IsSomeCore, first_of, left_of, left}
 use Rattle.engine_view.proofs.Bounds.{candidate_is}
-use Rattle.sim_core.specs.Views.{CoreView, theory_of}
+use Rattle.sim_core.specs.Views.{CoreView}
 use Rattle.sim_core.specs.Runs.{IsCore, over_of}
-use Rattle.sim_core.specs.Turns.{HasTurned, HasAnsweredLeast, IsEarliestOther}
+use Rattle.sim_core.specs.Turns.{HasTurned, HasAnsweredLeast}
 use Rattle.sim_core.specs.Candidates.{AreCandidates}
 use Rattle.sim_core.proofs.Keeping.{core_acted, kept_of}
 
@@ -117,19 +115,19 @@ module _ (p : Plan) (s t : Stored) (ends : List (Option Advance)) (runs : List (
 
   pub core_timed : (m : ℕ) (r : Timing) → HasTimed r p.cycles m s t → KeepsRoom s t → kinds_in t.table.channels ≡ kinds_in s.table.channels → IsCore p t ends runs credits
   core_timed m (Assigned c) done room kinds =
-      let leads = done d over is_design kept in
+      let leads = (done d over is_design kept).1 in
       core_acted p s t ends ends runs credits credits k (Assign m) leads.acts leads.kept.sound kinds refl (room credits d over is_design kept k.room) (λ n run e. tt) (λ n mark e. inl e)
   core_timed m (Answered c) done room kinds =
-      let leads = done d over is_design kept in
+      let leads = (done d over is_design kept).1 in
       core_acted p s t ends ends runs credits credits k (Answer m) leads.acts leads.kept.sound kinds refl (room credits d over is_design kept k.room) (λ n run e. tt) (λ n mark e. inl e)
   core_timed m (Differs q) (e, f) room kinds = same_core e
   core_timed m turn.Nothing (e, f) room kinds = same_core e
 
   pub turned : (m : ℕ) (r : Timing) (lent : List Bool) → HasTimed r p.cycles m s t → ((c : ℕ) → r ≡ Answered c → core_of d (held_in t over) ≡ core_of d (held_in s over) → ⊥) → HasTurned r (seen s lent) m (seen t lent)
-  turned m (Assigned c) lent done changed = (done d over is_design kept).acts
-  turned m (Answered c) lent done changed = ((done d over is_design kept).acts, changed c refl)
-  turned m (Differs q) lent (e, f) changed = (ap (λ (u : Stored). seen u lent) e, f d over is_design kept)
-  turned m turn.Nothing lent (e, f) changed = (ap (λ (u : Stored). seen u lent) e, f d over is_design kept)
+  turned m (Assigned c) lent done other = (done d over is_design kept).1.acts
+  turned m (Answered c) lent done other = ((done d over is_design kept).1.acts, other c refl)
+  turned m (Differs q) lent (e, f) other = (ap (λ (u : Stored). seen u lent) e, f d over is_design kept)
+  turned m turn.Nothing lent (e, f) other = (ap (λ (u : Stored). seen u lent) e, f d over is_design kept)
 
   -- ---- the least open step
 

@@ -16,7 +16,7 @@ use Rattle.event_timing.specs.Core.{Core, values_there}
 use Rattle.event_timing.specs.Agreement.{IsAgreed}
 use Rattle.timing_bridge.specs.Designs.{design, lockstep_run}
 use Rattle.timing_bridge.specs.OwnRuns.{core_replies}
-use Rattle.engine_view.specs.Held.{Held, core_of}
+use Rattle.engine_view.specs.Held.{core_of}
 use Rattle.engine_view.specs.Shown.{IsSound}
 use Rattle.engine_view.specs.Rooms.{IsRoomy}
 use Rattle.engine_view.specs.Stored.{Stored, held_in}

@@ -1,4 +1,4 @@
-use Rattle.std.proofs.Common.{◌≡◌, subst}
+use Rattle.std.proofs.Common.{subst}
 use Rattle.outcome_guard.specs.declared.guard.Guard.{Guard}
 use Rattle.sim_core.specs.Drives.{HasDriven}
 use Rattle.sim_core.proofs.Rounds.{goes_verified}

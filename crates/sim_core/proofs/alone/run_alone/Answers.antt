@@ -1,5 +1,4 @@
-use Rattle.std.proofs.Common.{◌≡◌, sym, ap, subst, length, ◌∙◌, arith}
-use Rattle.flow_design.specs.declared.plan.Plan.{Plan}
+use Rattle.std.proofs.Common.{sym, subst}
 use Rattle.event_timing.specs.Agreement.{AllVerified}
 use Rattle.event_timing.proofs.ActionBound.{none_assumed}
 use Rattle.timing_bridge.specs.Designs.{design}

@@ -1,4 +1,4 @@
-use Rattle.std.proofs.Common.{◌≡◌, ap, ◌+◌, List, [], ◌∷◌, length, length-append, arith}
+use Rattle.std.proofs.Common.{ap, List, [], ◌∷◌, length, length-append, arith}
 use Rattle.event_graph.specs.declared.candidate.Candidate.{Candidate}
 use Rattle.event_graph.specs.declared.candidate.Candidate.TheVariants.{Nothing}
 use Rattle.sim_core.proofs.opening.no_candidates.Goals as goal

@@ -1,4 +1,4 @@
-use Rattle.std.proofs.Common.{◌≡◌, ◌∙◌, sym, ap, length, set, arith, ◌+◌, ◌<◌, ◌≤◌}
+use Rattle.std.proofs.Common.{◌∙◌, arith}
 use Rattle.std.proofs.lemmas.List.{length-set}
 use Rattle.sim_core.proofs.Turning.{candidates_more}
 use Rattle.sim_core.proofs.turn.list_candidates.Goals as goal

@@ -1,4 +1,4 @@
-use Rattle.std.proofs.Common.{◌≡◌, sym, ap, ◌∙◌, ◌<◌, ◌≤◌, length, refl, subst, List, None, arith}
+use Rattle.std.proofs.Common.{◌≡◌, sym, refl, subst, List, None, arith}
 use Rattle.std.specs.Prelude.{All}
 use Rattle.event_graph.specs.declared.candidate.Candidate.{Candidate}
 use Rattle.engine_view.specs.Stored.{stored}
@@ -7,7 +7,6 @@ use Rattle.query_resolve.specs.Earliest.{cycle_of, IsEarliest}
 use Rattle.sim_core.specs.Views.{CoreView, theory_of}
 use Rattle.timing_bridge.specs.Designs.{design}
 use Rattle.sim_core.specs.Runs.{lent_of}
-use Rattle.sim_core.specs.Turns.{HasAnsweredLeast}
 use Rattle.sim_core.proofs.Turning as turning
 use Rattle.sim_core.proofs.machine.Core.answer_least.Goals as goal
 

@@ -1,4 +1,4 @@
-use Rattle.std.proofs.Common.{◌≡◌, refl, sym, ap, subst, ◌∙◌, ℕ, ◌+◌, ◌-◌, ◌<◌, ◌≤◌, inl, inr, bit_or, bit_and, arith}
+use Rattle.std.proofs.Common.{sym, subst, ◌-◌, inl, inr, bit_and, arith}
 use Rattle.std.proofs.Math.Facts.{Fits-lt-pow}
 use Rattle.std.proofs.lemmas.Nat.{or_lt, and_le_r}
 use Rattle.engine_view.specs.Turns.{IsDifferent}

@@ -1,10 +1,8 @@
 use Rattle.std.proofs.Common.{◌≡◌, sym, ap, subst, ◌∙◌, ◌-◌, ◌<◌, ℕ, List, length, drop, slice_get, arith}
-use Rattle.std.specs.Prelude.{All, Some, None}
-use Rattle.flow_word.specs.declared.access.Step.{Step}
+use Rattle.std.specs.Prelude.{Some, None}
 use Rattle.flow_word.specs.declared.access.Access.{Access}
 use Rattle.event_graph.specs.Lanes.{lane_at}
 use Rattle.query_log.specs.Logs.{log_at}
-use Rattle.time_engine.specs.Conditions.{IsAccess}
 use Rattle.engine_view.specs.Held.{emitted_of}
 use Rattle.engine_view.specs.Stored.{stored, held_in}
 use Rattle.sim_core.specs.Found.{replies_now}

@@ -1,9 +1,9 @@
-use Rattle.std.proofs.Common.{◌≡◌, sym, ap, ◌∙◌, List, length, map, false, replicate, is_some, arith}
+use Rattle.std.proofs.Common.{◌≡◌, sym, ap, ◌∙◌, List, length, map, false, replicate, arith}
 use Rattle.fifo_table.specs.declared.channel.TableChannel.{TableChannel}
 use Rattle.fifo_table.specs.Channels.{unused}
 use Rattle.flow_design.specs.declared.design.Module.{Module}
 use Rattle.timing_bridge.specs.Designs.{design}
-use Rattle.engine_view.specs.Held.{Held, core_of}
+use Rattle.engine_view.specs.Held.{core_of}
 use Rattle.engine_view.specs.Stored.{stored, held_in}
 use Rattle.sim_core.specs.Opening.{kinds_of, all_ports}
 use Rattle.sim_core.specs.Runs.{over_of}

@@ -1,4 +1,4 @@
-use Rattle.std.proofs.Common.{◌≡◌, refl, sym, ap, subst, ◌∙◌, ◌<◌, Option, Some, None, List, length, set, slice_index_or, unwrap_or, arith}
+use Rattle.std.proofs.Common.{◌≡◌, refl, sym, ap, subst, ◌∙◌, ◌<◌, Option, Some, None, length, set, slice_index_or, unwrap_or, arith}
 use Rattle.std.proofs.lemmas.List.{get_or_read}
 use Rattle.flow_design.specs.declared.plan.Plan.{Plan}
 use Rattle.module_interp.specs.declared.run.ModuleRun.{ModuleRun}

@@ -1,4 +1,4 @@
-use Rattle.std.proofs.Common.{◌≡◌, sym, ap, ◌∙◌, ◌<◌, ◌≤◌, length, refl, arith}
+use Rattle.std.proofs.Common.{sym, ap, ◌∙◌, arith}
 use Rattle.engine_view.specs.Stored.{stored}
 use Rattle.timing_bridge.specs.Designs.{design}
 use Rattle.engine_view.specs.Turns.{is_progress}

@@ -1,8 +1,7 @@
-use Rattle.std.proofs.Common.{◌≡◌, refl, sym, ap, subst, ◌∙◌, ℕ, ◌+◌, false, arith}
+use Rattle.std.proofs.Common.{subst, ◌∙◌, arith}
 use Rattle.engine_view.specs.Turns.{IsIdle}
 use Rattle.timing_bridge.specs.Designs.{design}
 use Rattle.sim_core.specs.Views.{CoreView, theory_of}
-use Rattle.sim_core.specs.Turns.{IsStill}
 use Rattle.sim_core.specs.Drives.{GoesOn}
 use Rattle.sim_core.proofs.Rounds as rounds
 use Rattle.sim_core.proofs.machine.Core.visit.Goals as goal

@@ -1,4 +1,4 @@
-use Rattle.std.proofs.Common.{◌≡◌, refl, ℕ, Bool, true, false, tt}
+use Rattle.std.proofs.Common.{◌≡◌, refl, ℕ, Bool, true, false, arith}
 use Rattle.flow_design.specs.declared.plan.Plan.{Plan}
 use Rattle.flow_design.specs.StaticRules.{FitsEngine}
 use Rattle.lockstep_defs.specs.Laws.{HasNumbersOf}
@@ -9,7 +9,7 @@ use Rattle.sim_cli.proofs.laws.reports_without_events.Goals as goal
 
 numbers_with : (events : Bool) (p : Plan) → HasNumbersOf p (report p) → HasNumbersOf p (report_with events p)
 numbers_with true p h = h
-numbers_with false p h = record { outputs = h.outputs; answers = h.answers; held = h.held; events = tt }
+numbers_with false p h = record { outputs = h.outputs; answers = h.answers; held = h.held; events = λ k d h. absurd (omega (arith, h)) }
 
 verdict_with : (events : Bool) (p : Plan) → (report_with events p).verdict ≡ (report p).verdict
 verdict_with true p = refl

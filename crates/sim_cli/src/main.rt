@@ -1,23 +1,12 @@
 //! OmniSim: simulates scheduled dataflow hardware, and writes what a lockstep machine would do.
 #![tactic(auto)]
 
-mod answer;
-mod job;
-mod laws;
-mod making;
-mod program;
-mod simulator;
-mod status;
-mod task;
-#[cfg(test)]
-mod tests;
 mod words;
 
-use program::omnisim;
 use sim_io::{StdSink, StdSource};
-use status::Status;
 use std::io;
 use std::process::ExitCode;
+use whole_answer::{Status, omnisim};
 use words::{arguments, behind_the_name};
 
 fn main(rt: HostRuntime) -> ExitCode {

@@ -1,0 +1,173 @@
+-- A job, report after report.
+use Rattle.std.proofs.Common.{◌≡◌, refl, sym, ◌∙◌, ap, ap₂, subst, arith, ℕ, zero, suc, ◌+◌, ◌<◌, ◌≤◌, Bool, true, false, cond, List, [], ◌∷◌, ◌++◌, length, map, take, get_or, add-one, add-zero, append_assoc, append-nil}
+use Rattle.std.specs.Prelude.{if◌then◌else◌, flat_map}
+use Rattle.std.specs.List.{range_with_len, enumerate_from}
+use Rattle.std.proofs.lemmas.List.{map-append, take_more, flat_map_more, length-map}
+use Rattle.std.proofs.lemmas.List.FromFn.{length-enumerate_from}
+use Rattle.flow_design.specs.declared.plan.Plan.{Plan}
+use Rattle.flow_design.specs.declared.plan.Edit.{Edit}
+use Rattle.flow_design.specs.declared.design.Design.{Design}
+use Rattle.flow_design.specs.declared.report.Report.{Report}
+use Rattle.flow_design.specs.Plans.{with_depth, EditFits}
+use Rattle.flow_design.specs.StaticRules.{FitsEngine}
+use Rattle.lockstep_defs.specs.Report.{report}
+use Rattle.edit_runs.specs.declared.count.RunCount.{RunCount}
+use Rattle.edit_runs.specs.Edits.{depth_after, plan_after}
+use Rattle.edit_runs.specs.Runs.{all_go_on, next_counts, counts_after, first_counts}
+use Rattle.report_text.specs.Lines.{line, runs_tokens}
+use Rattle.report_text.specs.ReportText.{report_text_of}
+use Rattle.whole_answer.specs.declared.answer.Answer.{Answer}
+use Rattle.whole_answer.specs.declared.job.Told.{Told}
+use Rattle.whole_answer.specs.declared.status.Status.{Status}
+use Rattle.whole_answer.specs.declared.status.Status.TheVariants.{Done, Words, Text, Deadlock, Cycles, Ops, ReadFault, WriteFault, Memory}
+use Rattle.whole_answer.specs.Answer.{IsAnswer}
+use Rattle.whole_answer.specs.Job.{plan_at, report_at, first_numbers, texts_of, counts_in, status_of, is_done, first_not_done, statuses_of, job}
+use Rattle.whole_answer.specs.Going.{first_told, more_told, IsGoing}
+
+-- ---- lists that grow at their end
+
+numbers_more : (a n : ℕ) → range_with_len a (suc n) ≡ range_with_len a n ++ (a + n) ∷ []
+numbers_more a zero = ap (λ k. k ∷ []) (sym (add-zero a))
+numbers_more a (suc n) =
+    ap (λ ks. a ∷ ks) (numbers_more (a + 1) n ∙ ap (λ k. range_with_len (a + 1) n ++ k ∷ []) (omega arith))
+
+counts_more : (c : RunCount) (all : List (List (List Bool))) (found : List (List Bool)) → counts_after c (all ++ found ∷ []) ≡ next_counts (counts_after c all) found
+counts_more c [] found = refl
+counts_more c (a ∷ all) found = counts_more (next_counts c a) all found
+
+done_is : (s : Status) → is_done s ≡ true → s ≡ Done
+done_is Done e = refl
+done_is Words e = absurd cc
+done_is Text e = absurd cc
+done_is Deadlock e = absurd cc
+done_is Cycles e = absurd cc
+done_is Ops e = absurd cc
+done_is ReadFault e = absurd cc
+done_is WriteFault e = absurd cc
+done_is Memory e = absurd cc
+
+status_more : (ss : List Status) (s : Status) → first_not_done (ss ++ s ∷ []) ≡ (if is_done (first_not_done ss) then s else first_not_done ss)
+status_more [] s = by_test (is_done s) refl
+  where
+    by_test : (b : Bool) → is_done s ≡ b → cond b Done s ≡ s
+    by_test true e = sym (done_is s e)
+    by_test false e = refl
+status_more (x ∷ ss) s = by_test (is_done x) refl (status_more ss s)
+  where
+    by_test : (b : Bool) → is_done x ≡ b → first_not_done (ss ++ s ∷ []) ≡ (if is_done (first_not_done ss) then s else first_not_done ss)
+        → cond b (first_not_done (ss ++ s ∷ [])) x ≡ (if is_done (cond b (first_not_done ss) x) then s else cond b (first_not_done ss) x)
+    by_test true e rest = rest
+    by_test false e rest = rw e refl
+
+one_run_at_most : (b : Bool) (kept found : List (List Bool)) (runs : ℕ)
+    → (cond {A = RunCount} b (record { kept = kept; runs = runs }) (record { kept = found; runs = runs + 1 })).runs ≤ runs + 1
+one_run_at_most true kept found runs = omega arith
+one_run_at_most false kept found runs = omega arith
+
+runs_more : (c : RunCount) (found : List (List Bool)) → (next_counts c found).runs ≤ c.runs + 1
+unfolding next_counts
+runs_more c found = one_run_at_most (all_go_on c.kept found) _ found c.runs
+
+one_number_more : (k : ℕ) → first_numbers ((k + 1) + 1) ≡ first_numbers (k + 1) ++ (k + 1) ∷ []
+one_number_more k = ap (range_with_len 0) (add-one (k + 1)) ∙ (numbers_more 0 (k + 1) ∙ ap (λ (j : ℕ). range_with_len 0 (k + 1) ++ j ∷ []) (omega arith))
+
+one_edit_more : (k : ℕ) → range_with_len 1 (k + 1) ≡ range_with_len 1 k ++ (k + 1) ∷ []
+one_edit_more k = ap (range_with_len 1) (add-one k) ∙ (numbers_more 1 k ∙ ap (λ (j : ℕ). range_with_len 1 k ++ j ∷ []) (omega arith))
+
+-- ---- a job
+
+module _ (events : Bool) (p : Plan) (edits : List Edit) where
+  report_is : (k : ℕ) (plan : Plan) → plan ≡ plan_at p edits k → report plan ≡ report_at p edits k
+  unfolding report_at
+  report_is k plan e = ap report e
+
+  same_design : (k : ℕ) (plan : Plan) → plan ≡ plan_at p edits k → plan.design ≡ p.design
+  unfolding plan_after
+  same_design k plan e = ap (λ (q : Plan). q.design) e
+
+  -- an edit that fits the plan fits it after other edits too
+  pub still_fits : (k : ℕ) (now : Plan) (e : Edit) → now ≡ plan_at p edits k → EditFits p e → EditFits now e
+  unfolding plan_after
+  still_fits k now e is fit = subst (λ (q : Plan). EditFits q e) (sym is) (record {
+    fifo = fit.fifo;
+    entry =
+        let entries = length-map (enumerate_from 0 p.depths) (λ entry. depth_after (take k edits) entry.0 entry.1) in
+        let numbered = length-enumerate_from 0 p.depths in
+        omega (arith, entries, numbered, fit.entry);
+    least = fit.least;
+    most = fit.most;
+  })
+
+  -- one edit more
+  pub next_plan : ((q : Plan) (es : List Edit) (e : Edit) → e.channel < length q.depths → plan_after q (es ++ e ∷ []) ≡ with_depth (plan_after q es) e.channel e.depth)
+      → (k : ℕ) (now : Plan) (e other : Edit) → now ≡ plan_at p edits k → k < length edits → e ≡ get_or edits k other → e.channel < length p.depths
+      → with_depth now e.channel e.depth ≡ plan_at p edits (k + 1)
+  next_plan one_more k now e other is inside here entry =
+      ap (λ (q : Plan). with_depth q e.channel e.depth) is
+      ∙ (sym (one_more p (take k edits) e entry)
+      ∙ ap (plan_after p) (ap (λ (x : Edit). take k edits ++ x ∷ []) here ∙ sym (take_more edits k other inside)))
+
+  -- the whole job, once no edit is left
+  pub ends : (k : ℕ) (now : Plan) (told : Told) → IsGoing events p edits k now told → k ≡ length edits
+      → record { text = told.text ++ line (runs_tokens told.count.runs); status = told.status } ≡ job events p edits
+  unfolding job
+  ends k now told g e =
+      subst (λ (n : ℕ). record { text = told.text ++ line (runs_tokens told.count.runs); status = told.status } ≡ job_to n) e
+      (ap₂ (λ (t : List ℕ) (rest : ℕ × Status). record { text = t ++ line (runs_tokens rest.0); status = rest.1 }) g.text
+      (ap₂ (λ (c : RunCount) (s : Status). (c.runs, s)) g.count g.status))
+    where
+      job_to : ℕ → Answer
+      job_to n = record {
+        text = texts_of events p edits (first_numbers (n + 1)) ++ line (runs_tokens (counts_in p edits n).runs);
+        status = first_not_done (statuses_of p edits (first_numbers (n + 1)));
+      }
+
+  module _ (none : (q : Plan) → plan_after q [] ≡ q) where
+    first : p ≡ plan_at p edits 0
+    first = sym (none p)
+
+    pub begins : FitsEngine p → IsAnswer (status_of (report p).verdict) → IsGoing events p edits 0 p (first_told events p)
+    unfolding first_told
+    begins fits answer =
+        let is = report_is 0 p first in
+        record {
+          plan = first;
+          fits = fits;
+          text = ap (λ (r : Report). report_text_of p.design r 0 events) is ∙ sym (append-nil _);
+          status = ap (λ (r : Report). status_of r.verdict) is ∙ sym (status_more [] (status_of (report_at p edits 0).verdict));
+          count = ap (λ (r : Report). first_counts r.answers) is;
+          runs = omega arith;
+          answer = answer;
+        }
+
+  pub goes_on : (k : ℕ) (plan next : Plan) (told : Told) → IsGoing events p edits k plan told → next ≡ plan_at p edits (k + 1) → FitsEngine next
+      → IsAnswer (more_told events next (k + 1) told).status
+      → IsGoing events p edits (k + 1) next (more_told events next (k + 1) told)
+  unfolding more_told
+  goes_on k plan next told g e fits answer =
+      let is = report_is (k + 1) next e in
+      let names = same_design (k + 1) next e in
+      let text_at : ℕ → List ℕ = λ j. report_text_of p.design (report_at p edits j) j events in
+      let status_at : ℕ → Status = λ j. status_of (report_at p edits j).verdict in
+      let answers_at : ℕ → List (List Bool) = λ j. (report_at p edits j).answers in
+      record {
+        plan = e;
+        fits = fits;
+        text =
+            ap₂ (λ (d : Design) (r : Report). told.text ++ report_text_of d r (k + 1) events) names is
+            ∙ (ap (λ (t : List ℕ). t ++ text_at (k + 1)) g.text
+            ∙ (flat_map_more text_at [] (first_numbers (k + 1)) (k + 1)
+            ∙ ap (λ (ks : List ℕ). flat_map text_at ks) (sym (one_number_more k))));
+        status =
+            ap₂ (λ (s : Status) (r : Report). if is_done s then status_of r.verdict else s) g.status is
+            ∙ (sym (status_more (map status_at (first_numbers (k + 1))) (status_at (k + 1)))
+            ∙ (ap first_not_done (sym (map-append status_at (first_numbers (k + 1)) ((k + 1) ∷ [])))
+            ∙ ap (λ (ks : List ℕ). first_not_done (map status_at ks)) (sym (one_number_more k))));
+        count =
+            ap₂ (λ (c : RunCount) (r : Report). next_counts c r.answers) g.count is
+            ∙ (sym (counts_more (first_counts (answers_at 0)) (map answers_at (range_with_len 1 k)) (answers_at (k + 1)))
+            ∙ (ap (λ (all : List (List (List Bool))). counts_after (first_counts (answers_at 0)) all) (sym (map-append answers_at (range_with_len 1 k) ((k + 1) ∷ [])))
+            ∙ ap (λ (ks : List ℕ). counts_after (first_counts (answers_at 0)) (map answers_at ks)) (sym (one_edit_more k))));
+        runs = let more = runs_more told.count (report next).answers in let before = g.runs in omega arith;
+        answer = answer;
+      }

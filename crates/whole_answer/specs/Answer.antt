@@ -1,0 +1,101 @@
+-- The whole answer to the program's words and the bytes of its input.
+use Rattle.std.specs.Prelude.{◌≡◌, ◌≤◌, ℕ, Bool, true, false, List, Option, Some, None}
+use Rattle.std.specs.Io.KnownBytes.{Appends}
+use Rattle.sim_io.specs.Causes.{AppendsPrefix, Rose}
+use Rattle.flow_design.specs.declared.session.Statement.{Statement}
+use Rattle.flow_grammar.specs.declared.fault.TextFault.{TextFault}
+use Rattle.flow_grammar.specs.Text.{StandsFor, HasFault}
+use Rattle.flow_check.specs.Checked.{fault_of}
+use Rattle.cli_words.specs.CommandWords.{accepted, AreLimits}
+use Rattle.cli_words.specs.declared.Command.{Command}
+use Rattle.cli_words.specs.declared.Command.TheVariants.{Run, Alone, Check, Gen}
+use Rattle.cli_words.specs.declared.Command.TheVariants as command
+use Rattle.whole_answer.specs.declared.answer.Answer.{Answer}
+use Rattle.whole_answer.specs.Made.{refused_words, refused, made, generated}
+use Rattle.whole_answer.specs.declared.simulator.Simulator.TheVariants.{Engine, Clock}
+use Rattle.whole_answer.specs.declared.task.Task.{Task}
+use Rattle.whole_answer.specs.declared.task.Task.TheVariants.{Simulate, Print, Summarize}
+use Rattle.whole_answer.specs.declared.status.Status.{Status}
+use Rattle.whole_answer.specs.declared.status.Status.TheVariants.{ReadFault, WriteFault, Memory}
+
+-- ---- a session, and a text
+
+-- the answer to a session that was read
+pub data AnswersSession (task : Task) (statements : List Statement) (lines : List ℕ) (answer : Answer) : Type 0 where
+  -- it has a checking fault, and is refused with it
+  misfit : (fault : TextFault) → fault_of statements lines ≡ Some fault → answer ≡ refused fault → AnswersSession task statements lines answer
+  -- it has none
+  fit : fault_of statements lines ≡ None → answer ≡ made task statements → AnswersSession task statements lines answer
+
+-- the answer to a text
+pub data AnswersText (task : Task) (text : List ℕ) (answer : Answer) : Type 0 where
+  -- it has a reading fault, and is refused with it
+  misread : (fault : TextFault) → HasFault text fault → answer ≡ refused fault → AnswersText task text answer
+  -- it stands for a session
+  read : (statements : List Statement) (lines : List ℕ) → StandsFor text statements lines → AnswersSession task statements lines answer
+      → AnswersText task text answer
+
+-- ---- the words
+
+-- the answer to a command, with these bytes as the input
+abbrev pub AnswersCommand : Option Command → List ℕ → Answer → Type 0
+AnswersCommand None bytes answer = answer ≡ refused_words
+AnswersCommand (Some (Run o)) bytes answer = AnswersText (Simulate Engine o) bytes answer
+AnswersCommand (Some (Alone o)) bytes answer = AnswersText (Simulate Engine o) bytes answer
+AnswersCommand (Some (command.Clock o)) bytes answer = AnswersText (Simulate Clock o) bytes answer
+AnswersCommand (Some Check) bytes answer = AnswersText Print bytes answer
+-- the session of the seed takes the place of the input
+AnswersCommand (Some (Gen seed modules)) bytes answer = answer ≡ generated seed modules
+
+-- the answer to the words, with these bytes as the input
+abbrev pub Answers : List (List ℕ) → List ℕ → Answer → Type 0
+Answers words = AnswersCommand (accepted words)
+
+-- whether a command takes input
+abbrev pub takes_input : Option Command → Bool
+takes_input (Some (Run o)) = true
+takes_input (Some (Alone o)) = true
+takes_input (Some (command.Clock o)) = true
+takes_input (Some Check) = true
+takes_input command = false
+
+-- ---- tasks
+
+-- the limits that a task gives are within their bounds
+abbrev pub IsSound : Task → Type 0
+IsSound (Simulate by o) = AreLimits o
+IsSound Print = Unit {0}
+IsSound (Summarize seed modules) = Unit {0}
+
+-- ---- what a result tells
+
+-- the program has answered: no fault, and no want of memory
+abbrev pub IsAnswer : Status → Type 0
+IsAnswer ReadFault = ⊥
+IsAnswer WriteFault = ⊥
+IsAnswer Memory = ⊥
+IsAnswer _ = Unit {0}
+
+-- what a result says of what the sink held and holds, where this is the whole answer
+pub record Tells (whole : Answer) (result : Status) (old new : Option (List ℕ)) (finished : Bool) : Type 0 where
+  -- an answer is this one, written whole and finished
+  pub answered : IsAnswer result → (result ≡ whole.status) × Appends old new whole.text × (finished ≡ true)
+  -- after a fault of writing, or want of memory, a prefix was written
+  pub write : result ≡ WriteFault → AppendsPrefix old new whole.text
+  pub memory : result ≡ Memory → AppendsPrefix old new whole.text
+
+-- the result tells the answer to the words, with these bytes as the input
+pub record TellsAnswer (words : List (List ℕ)) (bytes : List ℕ) (result : Status) (old new : Option (List ℕ)) (finished : Bool) : Type 0 where
+  pub whole : Answer
+  pub answers : Answers words bytes whole
+  pub tells : Tells whole result old new finished
+
+-- what a result says of faults, by the counts of the source and of the sink, and by the sink before and after
+pub record TellsFaults {K : Type 0} (result : Status) (reads reads_now writes writes_now : ℕ) (sink sink_now : K) : Type 0 where
+  -- a fault of reading comes only where the source has counted one, and then nothing was written
+  pub read : result ≡ ReadFault → Rose reads reads_now
+  pub unwritten : result ≡ ReadFault → sink_now ≡ sink
+  -- a fault of writing comes only where the sink has counted one
+  pub write : result ≡ WriteFault → Rose writes writes_now
+  pub source_never_falls : reads ≤ reads_now
+  pub sink_never_falls : writes ≤ writes_now

@@ -1,0 +1,78 @@
+-- The job of a plan and its edits: the reports, one more after each edit, their text, the number of runs, and the status.
+use Rattle.std.specs.Prelude.{ℕ, ◌+◌, Bool, true, false, if◌then◌else◌, List, [], ◌∷◌, ◌++◌, length, map, take, flat_map}
+use Rattle.std.specs.List.{range_with_len}
+use Rattle.flow_design.specs.declared.plan.Plan.{Plan}
+use Rattle.flow_design.specs.declared.plan.Edit.{Edit}
+use Rattle.flow_design.specs.declared.report.Report.{Report}
+use Rattle.flow_design.specs.declared.report.Verdict.{Verdict}
+use Rattle.flow_design.specs.declared.report.Verdict.TheVariants as verdict
+use Rattle.lockstep_defs.specs.Report.{report}
+use Rattle.edit_runs.specs.declared.count.RunCount.{RunCount}
+use Rattle.edit_runs.specs.Edits.{plan_after}
+use Rattle.edit_runs.specs.Runs.{first_counts, counts_after}
+use Rattle.report_text.specs.Lines.{line, runs_tokens}
+use Rattle.report_text.specs.ReportText.{report_text_of}
+use Rattle.whole_answer.specs.declared.answer.Answer.{Answer}
+use Rattle.whole_answer.specs.declared.status.Status.{Status}
+use Rattle.whole_answer.specs.declared.status.Status.TheVariants.{Done, Words, Text, Deadlock, Cycles, Ops, ReadFault, WriteFault, Memory}
+
+-- ---- the reports
+
+-- the plan after its first k edits
+abbrev pub plan_at : Plan → List Edit → ℕ → Plan
+plan_at p edits k = plan_after p (take k edits)
+
+-- report number k
+unfoldable pub report_at : Plan → List Edit → ℕ → Report
+report_at p edits k = report (plan_at p edits k)
+
+-- so many numbers of reports, from 0 on
+abbrev pub first_numbers : ℕ → List ℕ
+first_numbers n = range_with_len 0 n
+
+-- ---- their texts
+
+abbrev pub texts_of : Bool → Plan → List Edit → List ℕ → List ℕ
+texts_of events p edits numbers = flat_map (λ k. report_text_of p.design (report_at p edits k) k events) numbers
+
+-- ---- the runs
+
+-- the count of the first report, and of so many behind it
+abbrev pub counts_in : Plan → List Edit → ℕ → RunCount
+counts_in p edits n = counts_after (first_counts (report_at p edits 0).answers) (map (λ k. (report_at p edits k).answers) (range_with_len 1 n))
+
+-- ---- the status
+
+abbrev pub status_of : Verdict → Status
+status_of (verdict.Done c) = Done
+status_of (verdict.Deadlock c) = Deadlock
+status_of (verdict.Cycles c) = Cycles
+status_of (verdict.Ops c) = Ops
+
+abbrev pub is_done : Status → Bool
+is_done Done = true
+is_done Words = false
+is_done Text = false
+is_done Deadlock = false
+is_done Cycles = false
+is_done Ops = false
+is_done ReadFault = false
+is_done WriteFault = false
+is_done Memory = false
+
+-- the first that is not done
+abbrev pub first_not_done : List Status → Status
+first_not_done [] = Done
+first_not_done (s ∷ ss) = if is_done s then first_not_done ss else s
+
+abbrev pub statuses_of : Plan → List Edit → List ℕ → List Status
+statuses_of p edits numbers = map (λ k. status_of (report_at p edits k).verdict) numbers
+
+-- ---- the job
+
+-- the texts of all reports and the line of the runs, with the status of the first report that is not done
+unfoldable pub job : Bool → Plan → List Edit → Answer
+job events p edits = record {
+  text = texts_of events p edits (first_numbers (length edits + 1)) ++ line (runs_tokens (counts_in p edits (length edits)).runs);
+  status = first_not_done (statuses_of p edits (first_numbers (length edits + 1)));
+}

@@ -1,0 +1,100 @@
+-- What the program makes of a session that passes reading and checking.
+use Rattle.std.specs.Prelude.{ℕ, ◌%◌, ◌^◌, List, [], ◌∷◌, ◌++◌, length, codes, decimal, slice_index_or, sum_by, unwrap_or}
+use Rattle.flow_design.specs.declared.plan.Plan.{Plan}
+use Rattle.flow_design.specs.declared.report.Report.{Report}
+use Rattle.flow_design.specs.declared.session.Statement.{Statement}
+use Rattle.lockstep_defs.specs.Report.{report}
+use Rattle.report_text.specs.Lines.{line, text_of_lines, Token, verdict_tokens, runs_tokens}
+use Rattle.flow_grammar.specs.declared.fault.Code.{Code}
+use Rattle.flow_grammar.specs.declared.fault.Code.TheVariants as code
+use Rattle.flow_grammar.specs.declared.fault.TextFault.{TextFault}
+use Rattle.flow_print.specs.Canonical.{canonical_text}
+use Rattle.flow_gen.specs.Generated.{draws}
+use Rattle.generated_sessions.specs.Statements.{session}
+use Rattle.session_plan.specs.Plans.{plan_of, edits_of}
+use Rattle.cli_words.specs.declared.Options.{Options}
+use Rattle.whole_answer.specs.declared.task.Task.{Task}
+use Rattle.whole_answer.specs.declared.task.Task.TheVariants.{Simulate, Print, Summarize}
+use Rattle.whole_answer.specs.declared.answer.Answer.{Answer}
+use Rattle.whole_answer.specs.declared.status.Status.TheVariants.{Done, Words, Text}
+use Rattle.whole_answer.specs.Job.{status_of, job}
+
+-- ---- refusals
+
+abbrev pub refused_words : Answer
+refused_words = record { text = line (codes "refused" ∷ codes "words" ∷ []); status = Words }
+
+-- the number of a code in the language
+abbrev pub number_of : Code → ℕ
+number_of code.TooLong = 1
+number_of code.NotAscii = 2
+number_of code.Syntax = 3
+number_of code.BadNumber = 4
+number_of code.DoubleName = 5
+number_of code.UnknownName = 6
+number_of code.BadLimit = 7
+number_of code.Ends = 8
+number_of code.PortClash = 9
+number_of code.BadLoop = 10
+number_of code.BadOffset = 11
+number_of code.Truncated = 12
+number_of code.TooMany = 13
+number_of code.WrongSide = 14
+
+-- `refused LINE CODE`
+abbrev pub refused : TextFault → Answer
+refused fault = record {
+  text = line (codes "refused" ∷ decimal fault.line ∷ decimal (number_of fault.code) ∷ []);
+  status = Text;
+}
+
+-- ---- simulations
+
+-- the plan with the limits of the options in place of its own
+abbrev pub with_limits : Options → Plan → Plan
+with_limits o p = record p { cycles = unwrap_or o.cycles p.cycles; ops = unwrap_or o.ops p.ops }
+
+-- the job of its plan, under these limits, and of its edits
+abbrev pub simulated : Options → List Statement → Answer
+simulated o statements = job o.events (with_limits o (plan_of statements)) (edits_of statements)
+
+-- ---- the canonical form
+
+abbrev pub canonical : List Statement → Answer
+canonical statements = record { text = canonical_text statements; status = Done }
+
+-- ---- the summary of a generated session
+
+-- the values in the first sink, which is the only one of a generated session
+abbrev pub values_in : Report → List ℕ
+values_in r = slice_index_or r.outputs 0 []
+
+-- `sum COUNT TOTAL`
+abbrev pub sum_tokens : List ℕ → List Token
+sum_tokens values = codes "sum" ∷ decimal (length values) ∷ decimal (sum_by (λ v. v) values % 2 ^ 64) ∷ []
+
+-- `gen SEED MODULES`
+abbrev pub gen_tokens : ℕ → ℕ → List Token
+gen_tokens seed modules = codes "gen" ∷ decimal seed ∷ decimal modules ∷ []
+
+-- the lines of a summary: what was asked for, the verdict, the sum, and the one run
+abbrev pub summary_lines : ℕ → ℕ → Report → List (List Token)
+summary_lines seed modules r = gen_tokens seed modules ∷ verdict_tokens r.verdict ∷ sum_tokens (values_in r) ∷ runs_tokens 1 ∷ []
+
+unfoldable pub summary : ℕ → ℕ → Plan → Answer
+summary seed modules p = record {
+  text = text_of_lines (summary_lines seed modules (report p));
+  status = status_of (report p).verdict;
+}
+
+-- ---- what a task makes of the statements of a session
+
+abbrev pub made : Task → List Statement → Answer
+-- whatever simulates it
+made (Simulate by o) statements = simulated o statements
+made Print statements = canonical statements
+made (Summarize seed modules) statements = summary seed modules (plan_of statements)
+
+-- the summary of the session of this seed
+abbrev pub generated : ℕ → ℕ → Answer
+generated seed modules = summary seed modules (plan_of (session (draws seed modules)))

@@ -1,0 +1,40 @@
+//! The laws of the whole answer, and of reports without their events.
+ghost use Rattle.std.specs.Prelude.{◌≡◌, ℕ, Bool, List};
+ghost use Rattle.whole_answer.specs.declared.answer.Answer.{Answer};
+ghost use Rattle.flow_design.specs.declared.plan.Plan.{Plan};
+ghost use Rattle.flow_design.specs.StaticRules.{FitsEngine};
+ghost use Rattle.lockstep_defs.specs.Laws.{HasNumbersOf};
+ghost use Rattle.lockstep_defs.specs.Report.{report};
+ghost use Rattle.engine_report.specs.Finished.{report_with};
+ghost use Rattle.report_text.specs.ReportText.{report_text_of};
+ghost use Rattle.whole_answer.specs.Answer.{Answers, AnswersText};
+ghost use Rattle.whole_answer.specs.declared.task.Task.{Task as TaskOf};
+
+use flow_grammar::one_answer as one_reading;
+use lockstep_defs::reports_name_their_plans;
+
+/// All words have exactly one answer to each input.
+pub fn one_answer()
+    ensures some { (words : List (List ℕ)) (bytes : List ℕ) → (a : Answer) × Answers words bytes a }
+    ensures no_other { (words : List (List ℕ)) (bytes : List ℕ) (a b : Answer) → Answers words bytes a → Answers words bytes b → a ≡ b }
+{
+    one_text_answer();
+}
+
+/// Each text has exactly one answer under each task.
+pub(crate) fn one_text_answer()
+    ensures some { (task : TaskOf) (text : List ℕ) → (a : Answer) × AnswersText task text a }
+    ensures no_other { (task : TaskOf) (text : List ℕ) (a b : Answer) → AnswersText task text a → AnswersText task text b → a ≡ b }
+{
+    one_reading();
+}
+
+/// A report whose events were not asked for tells all else like one with them.
+pub(crate) fn reports_without_events()
+    ensures numbers { (events : Bool) (p : Plan) → FitsEngine p → HasNumbersOf p (report_with events p) }
+    ensures verdict { (events : Bool) (p : Plan) → (report_with events p).verdict ≡ (report p).verdict }
+    ensures answers { (events : Bool) (p : Plan) → (report_with events p).answers ≡ (report p).answers }
+    ensures text { (events : Bool) (p : Plan) (k : ℕ) → report_text_of p.design (report_with events p) k events ≡ report_text_of p.design (report p) k events }
+{
+    reports_name_their_plans();
+}

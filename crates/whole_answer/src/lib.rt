@@ -1,0 +1,17 @@
+//! The whole answer to the words of a command and the bytes of a session: what is written, and the status.
+#![tactic(auto)]
+
+mod answer;
+mod job;
+mod laws;
+mod making;
+mod program;
+mod simulator;
+mod status;
+mod task;
+#[cfg(test)]
+mod tests;
+
+pub use laws::one_answer;
+pub use program::omnisim;
+pub use status::Status;

@@ -1,0 +1,143 @@
+//! What a task makes of a session that passes reading and checking.
+ghost use Rattle.std.specs.Prelude.{◌≡◌, ◌++◌, ◌%◌, ◌^◌, sum_by, All, IfOk, OnOk};
+ghost use Rattle.flow_design.specs.Plans.{EditFits};
+ghost use Rattle.flow_design.specs.StaticRules.{FitsEngine};
+ghost use Rattle.session_plan.specs.Plans.{plan_of, edits_of};
+ghost use Rattle.report_text.specs.Lines.{line, text_of_lines};
+ghost use Rattle.cli_words.specs.CommandWords.{AreLimits};
+ghost use Rattle.whole_answer.specs.Job.{job};
+ghost use Rattle.whole_answer.specs.Made.{made, with_limits, canonical, summary, summary_lines, sum_tokens, values_in};
+ghost use Rattle.whole_answer.specs.Answer.{IsSound, IsAnswer};
+
+use crate::answer::Answer;
+use crate::job::job;
+use crate::simulator::Simulator;
+use crate::status::Status;
+use crate::task::Task;
+use cli_words::Options;
+use clock_machine::clock_run;
+use flow_check::Checked;
+use flow_design::{Plan, Report, Session};
+use flow_print::print_session;
+use flow_word::{List, OutOfMemory};
+use report_text::{print_numbers, print_runs, print_verdict};
+use std::alloc::Global;
+
+/// What the task makes of a session that passes the check.
+pub(crate) fn make(
+    alloc: Global,
+    task: &Task,
+    session: &Session,
+    checked: Checked,
+) -> Result<Answer, OutOfMemory>
+    requires sound { IsSound task.now }
+    requires plan { checked.plan ≡ plan_of session.now.statements }
+    requires edits { checked.edits ≡ edits_of session.now.statements }
+    requires fits { FitsEngine checked.plan }
+    requires edits_fit { All (EditFits checked.plan) checked.edits }
+    ensures made { IfOk result (λ whole. whole ≡ made task.now session.now.statements) }
+    ensures status { IfOk result (λ whole. IsAnswer whole.status) }
+{
+    match task {
+        Task::Simulate(by, options) => simulate(alloc, *by, options, checked),
+        Task::Print => print(alloc, session),
+        Task::Summarize(seed, modules) => summarize(alloc, *seed, *modules, &checked.plan),
+    }
+}
+
+/// The canonical form.
+fn print(alloc: Global, session: &Session) -> Result<Answer, OutOfMemory>
+    ensures canonical { IfOk result (λ whole. whole ≡ canonical session.now.statements) }
+    ensures status { IfOk result (λ whole. IsAnswer whole.status) }
+{
+    Ok(Answer {
+        text: print_session(alloc, session)?,
+        status: Status::Done,
+    })
+}
+
+/// The job of a session under the limits of the options.
+fn simulate(
+    alloc: Global,
+    by: Simulator,
+    options: &Options,
+    checked: Checked,
+) -> Result<Answer, OutOfMemory>
+    requires limits { AreLimits options.now }
+    requires fits { FitsEngine checked.plan }
+    requires edits_fit { All (EditFits checked.plan) checked.edits }
+    ensures job { IfOk result (λ whole. whole ≡ job options.now.events (with_limits options.now checked.plan) checked.edits) }
+    ensures status { IfOk result (λ whole. IsAnswer whole.status) }
+{
+    let Checked { mut plan, edits } = checked;
+    set_limits(&mut plan, options);
+    job(alloc, by, options.events, plan, edits.as_slice())
+}
+
+/// Puts the limits of the options in place of the plan's own.
+fn set_limits(plan: &mut Plan, options: &Options)
+    ensures { plan.new ≡ with_limits options.now plan.old }
+{
+    plan.cycles = options.cycles.unwrap_or(plan.cycles);
+    plan.ops = options.ops.unwrap_or(plan.ops);
+}
+
+/// The summary of a generated session.
+#[tactic(auto, unfolding(crate::specs::Made::summary))]
+fn summarize(alloc: Global, seed: u64, modules: u64, plan: &Plan) -> Result<Answer, OutOfMemory>
+    requires fits { FitsEngine plan.now }
+    ensures summary { IfOk result (λ whole. whole ≡ summary seed modules plan.now) }
+    ensures status { IfOk result (λ whole. IsAnswer whole.status) }
+{
+    let outcome = clock_run(alloc, plan)?;
+    let mut text = List::new(alloc);
+    print_summary(&mut text, seed, modules, &outcome)?;
+    Ok(Answer {
+        text,
+        status: Status::of(outcome.verdict),
+    })
+}
+
+/// Adds the lines of a summary.
+fn print_summary(
+    text: &mut List<u8>,
+    seed: u64,
+    modules: u64,
+    outcome: &Report,
+) -> Result<(), OutOfMemory>
+    ensures { OnOk result (text.new ≡ text.old ++ text_of_lines (summary_lines seed modules outcome.now)) }
+{
+    print_numbers(text, b"gen", &[seed, modules])?;
+    print_verdict(text, outcome.verdict)?;
+    print_sum(text, values_in(outcome))?;
+    print_runs(text, 1)
+}
+
+/// The values in the first sink.
+fn values_in(outcome: &Report) -> &[u64]
+    ensures { result.now ≡ values_in outcome.now }
+{
+    match outcome.outputs.as_slice() {
+        [] => &[],
+        [first, ..] => first.as_slice(),
+    }
+}
+
+/// Adds the line `sum COUNT TOTAL`.
+fn print_sum(text: &mut List<u8>, values: &[u64]) -> Result<(), OutOfMemory>
+    ensures { OnOk result (text.new ≡ text.old ++ line (sum_tokens values.now)) }
+{
+    print_numbers(text, b"sum", &[values.len() as u64, total(values)])
+}
+
+/// The sum modulo 2^64.
+#[tactic(auto, using(crate::proofs::Sums::one_more))]
+fn total(values: &[u64]) -> u64
+    ensures { result ≡ sum_by (λ v. v) values.now % 2 ^ 64 }
+{
+    let mut sum = 0_u64;
+    for value in values {
+        sum = sum.wrapping_add(*value);
+    }
+    sum
+}

@@ -1,0 +1,61 @@
+//! The top call.
+ghost use Rattle.std.specs.Prelude.{◌≡◌, ◌≢◌, ◌≤◌, [], false, map, string_bytes, IfSome};
+ghost use Rattle.sim_io.specs.Causes.{Rose};
+ghost use Rattle.cli_words.specs.CommandWords.{accepted};
+ghost use Rattle.whole_answer.specs.Answer.{takes_input, IsAnswer, Tells, TellsAnswer, TellsFaults};
+
+use crate::answer::{Answer, Unanswered, answer_words};
+use crate::laws::one_answer;
+use crate::status::Status;
+use sim_io::{PutFault, Sink, Source, write_all_of};
+use std::alloc::Global;
+use std::sync::Wait;
+use std::thread::Threads;
+
+/// Does what the words ask for, and writes the answer: `words` are the words after the program's own name, and the source
+/// gives the session text.
+///
+/// The sink gets exactly the text of the whole answer, and the result is its status, but for three cases: the source has
+/// failed and nothing was written, the sink has failed and a prefix was written, or there was no memory and a prefix was
+/// written. Refused words read nothing, and neither does `gen`.
+pub fn omnisim<R: Threads + Wait + Sync, S: Source, K: Sink>(
+    _rt: &R,
+    alloc: Global,
+    words: &[String],
+    source: &mut S,
+    sink: &mut K,
+) -> Status
+    ensures tells { IfSome (S.left source.old) (λ bytes.
+        TellsAnswer (map string_bytes words.now) bytes result (K.held sink.old) (K.held sink.new) (K.is_finished sink.new)) }
+    ensures faults { TellsFaults result (S.faults source.old) (S.faults source.new) (K.faults sink.old) (K.faults sink.new) sink.old sink.new }
+
+    ensures without_input { takes_input (accepted (map string_bytes words.now)) ≡ false
+        → TellsAnswer (map string_bytes words.now) [] result (K.held sink.old) (K.held sink.new) (K.is_finished sink.new) }
+    ensures unread { takes_input (accepted (map string_bytes words.now)) ≡ false → source.new ≡ source.old }
+    ensures reads_none { takes_input (accepted (map string_bytes words.now)) ≡ false → result ≢ Status.ReadFault }
+{
+    one_answer();
+    match answer_words(alloc, words, source) {
+        Ok(whole) => tell(sink, &whole),
+        Err(Unanswered::ReadFault) => Status::ReadFault,
+        Err(Unanswered::OutOfMemory) => Status::Memory,
+    }
+}
+
+/// Writes a whole answer, and finishes.
+fn tell<K: Sink>(sink: &mut K, whole: &Answer) -> Status
+    requires { IsAnswer whole.now.status }
+    ensures told { Tells whole.now result (K.held sink.old) (K.held sink.new) (K.is_finished sink.new) }
+    ensures write_fault { result ≡ Status.WriteFault → Rose (K.faults sink.old) (K.faults sink.new) }
+    ensures sink_faults { K.faults sink.old ≤ K.faults sink.new }
+    ensures reads_none { result ≢ Status.ReadFault }
+{
+    match write_all_of(sink, whole.text.as_slice()) {
+        Ok(()) => {}
+        Err(PutFault::WriteFault) => return Status::WriteFault,
+    }
+    match sink.finish() {
+        Ok(()) => whole.status,
+        Err(_) => Status::WriteFault,
+    }
+}

@@ -10,6 +10,11 @@ use std::thread::Threads;
 const PLAIN_CASE: &[u8] =
     b"flow 1\nsource a 8\nsink y 8\nmodule m\nreg x 8\nblock k 3\nat 0 read a x\nat 2 write y + x 1\nstop\ninput a 7\nend\n";
 
+const PLAIN_ANSWER: &[u8] = b"report 0\nverdict done 3\nout y 8\nruns 1\n";
+
+/// The commands that simulate.
+const COMMANDS: [&str; 3] = ["run", "alone", "clock"];
+
 /// A reader, a filter with four taps, a decimator that polls and a writer, with inputs and depth edits, in canonical form.
 const REALISTIC_LINE: &[u8] =
     b"flow 1\nsource a 16\nfifo p 16 2\nfifo q 32 2\nfifo r 32 2\nsink y 32\nmodule reader\nreg x 16\nreg n 16\nreg g 1\nloop l 1 2 while g\nat 0 read a x\nat 0 set n + n 1\nat 0 set g <u n 255\nat 1 write p x\nstop\nmodule filter\nreg x 16\nreg d1 16\nreg d2 16\nreg d3 16\nreg c0 8\nreg c1 8\nreg c2 8\nreg c3 8\nreg acc 32\nreg n 16\nreg g 1\nmem m 8 4\nblock init 2\nat 0 store m 0 1\nat 0 store m 1 2\nat 0 store m 2 3\nat 0 store m 3 4\nat 1 load c0 m 0\nat 1 load c1 m 1\nat 1 load c2 m 2\nat 1 load c3 m 3\ngoto l\nloop l 1 3 while g\nat 0 read p x\nat 0 set n + n 1\nat 0 set g <u n 255\nat 1 set acc + * c0 x + * c1 d1 + * c2 d2 * c3 d3\nat 1 set d1 x\nat 1 set d2 d1\nat 1 set d3 d2\nat 2 write q acc\nstop\nmodule decimator\nreg v 32\nreg u 32\nreg ok 1\nreg h 1\nreg w 1\nreg k 16\nreg g 1\nloop l 1 3 while g\nat 0 tryread q v ok\nat 0 set g <u k 256\nat 1 set w & ok h\nat 1 set u v\nat 1 if ok set h ^ h 1\nat 1 if ok set k + k 1\nat 2 if w write r u\nstop\nmodule writer\nreg z 32\nreg n 16\nreg g 1\nloop l 1 2 while g\nat 0 read r z\nat 0 set n + n 1\nat 0 set g <u n 127\nat 1 write y z\nstop\ninput a 0 1 2 3 4 5 6 7 8 9 10 11 12 13 14 15 16 17 18 19 20 21 22 23 24 25 26 27 28 29 30 31 32 33 34 35 36 37 38 39 40 41 42 43 44 45 46 47 48 49 50 51 52 53 54 55 56 57 58 59 60 61 62 63 64 65 66 67 68 69 70 71 72 73 74 75 76 77 78 79 80 81 82 83 84 85 86 87 88 89 90 91 92 93 94 95 96 97 98 99 100 101 102 103 104 105 106 107 108 109 110 111 112 113 114 115 116 117 118 119 120 121 122 123 124 125 126 127 128 129 130 131 132 133 134 135 136 137 138 139 140 141 142 143 144 145 146 147 148 149 150 151 152 153 154 155 156 157 158 159 160 161 162 163 164 165 166 167 168 169 170 171 172 173 174 175 176 177 178 179 180 181 182 183 184 185 186 187 188 189 190 191 192 193 194 195 196 197 198 199 200 201 202 203 204 205 206 207 208 209 210 211 212 213 214 215 216 217 218 219 220 221 222 223 224 225 226 227 228 229 230 231 232 233 234 235 236 237 238 239 240 241 242 243 244 245 246 247 248 249 250 251 252 253 254 255\ndepth p 1\ndepth r 1\ndepth p 2\ndepth q 1\ndepth q 8\nend\n";
@@ -33,17 +38,30 @@ fn words_of<R: AllocGlobal>(rt: &R, command: &str, options: &[&str]) -> Result<V
     Ok(words)
 }
 
-/// What the program answers to these words and a text, through a source and a sink that fail in these calls.
+/// A source and a sink that move at most so many bytes a call and fail in these calls; the sink has room for so many bytes.
+#[derive(Clone, Copy, Drop)]
+struct Ends<'a> {
+    piece: u64,
+    takes: &'a [u64],
+    puts: &'a [u64],
+    room: u64,
+}
+
+impl Ends<'static> {
+    /// Ends that do not fail.
+    const WELL: Ends<'static> = Ends { piece: 64, takes: &[], puts: &[], room: 8192 };
+}
+
+/// What the program answers to these words and a text, through such ends.
 fn answer<R: Threads + Wait + Sync + AllocGlobal>(
     rt: &R,
     words: &[String],
     text: &[u8],
-    takes: &[u64],
-    puts: &[u64],
+    ends: Ends<'_>,
 ) -> Result<(Status, MemSink), Fail> {
     let alloc = rt.alloc();
-    let mut source = MemSource::new(alloc, text, 64, takes)?;
-    let mut sink = MemSink::new(alloc, 8192, 4, puts)?;
+    let mut source = MemSource::new(alloc, text, ends.piece, ends.takes)?;
+    let mut sink = MemSink::new(alloc, ends.room, ends.piece, ends.puts)?;
     let status = omnisim(rt, alloc, words, &mut source, &mut sink);
     Ok((status, sink))
 }
@@ -58,7 +76,7 @@ fn answers<R: Threads + Wait + Sync + AllocGlobal + Abort>(
     wanted: Status,
 ) -> Result<(), Fail> {
     let words = words_of(rt, command, options)?;
-    let (status, sink) = answer(rt, words.as_slice(), text, &[], &[])?;
+    let (status, sink) = answer(rt, words.as_slice(), text, Ends::WELL)?;
     assert_eq!(rt; sink.held(), told);
     assert_eq!(rt; status, wanted);
     Ok(())
@@ -70,22 +88,23 @@ fn simulates<R: Threads + Wait + Sync + AllocGlobal + Abort>(
     rows: &[Row],
 ) -> Result<(), Fail> {
     for row in rows {
-        answers(rt, "run", row.options, row.text, row.told, row.status)?;
-        answers(rt, "alone", row.options, row.text, row.told, row.status)?;
-        answers(rt, "clock", row.options, row.text, row.told, row.status)?;
+        for command in COMMANDS {
+            answers(rt, command, row.options, row.text, row.told, row.status)?;
+        }
     }
     Ok(())
 }
 
-/// The program refuses each text so under `check`, `run` and `clock`.
+/// The program refuses each text so under `check`, `run`, `alone` and `clock`.
 fn refuses<R: Threads + Wait + Sync + AllocGlobal + Abort>(
     rt: &R,
     rows: &[(&[u8], &[u8])],
 ) -> Result<(), Fail> {
     for (text, told) in rows {
         answers(rt, "check", &[], text, told, Status::Text)?;
-        answers(rt, "run", &[], text, told, Status::Text)?;
-        answers(rt, "clock", &[], text, told, Status::Text)?;
+        for command in COMMANDS {
+            answers(rt, command, &[], text, told, Status::Text)?;
+        }
     }
     Ok(())
 }
@@ -404,7 +423,7 @@ fn refused_words(rt: HostRuntime) -> Result<(), Fail> {
     refuses_words(&rt, "check", &["--events"])?;
     refuses_words(&rt, "gen", &["1", "65"])?;
     refuses_words(&rt, "alone", &["further"])?;
-    let (status, sink) = answer(&rt, &[], PLAIN_CASE, &[], &[])?;
+    let (status, sink) = answer(&rt, &[], PLAIN_CASE, Ends::WELL)?;
     assert_eq!(rt; sink.held(), b"refused words\n".as_slice());
     assert_eq!(rt; status, Status::Words);
     Ok(())
@@ -482,47 +501,73 @@ fn fifos_with_a_delay(rt: HostRuntime) -> Result<(), Fail> {
 
 #[test]
 fn truncated_texts(rt: HostRuntime) -> Result<(), Fail> {
-    let told = [
-        (0, b"refused 1 12\n".as_slice()),
-        (1, b"refused 1 3\n".as_slice()),
-        (5, b"refused 1 3\n".as_slice()),
-        (6, b"refused 1 12\n".as_slice()),
-        (7, b"refused 2 12\n".as_slice()),
-        (85, b"refused 8 3\n".as_slice()),
-        (98, b"refused 10 3\n".as_slice()),
-        (101, b"refused 10 12\n".as_slice()),
-        (102, b"refused 11 12\n".as_slice()),
-        (104, b"refused 11 3\n".as_slice()),
+    let rows = [
+        (0, 0, b"refused 1 12\n".as_slice()),
+        (1, 5, b"refused 1 3\n".as_slice()),
+        (6, 6, b"refused 1 12\n".as_slice()),
+        (7, 7, b"refused 2 12\n".as_slice()),
+        (85, 85, b"refused 8 3\n".as_slice()),
+        (98, 98, b"refused 10 3\n".as_slice()),
+        (99, 101, b"refused 10 12\n".as_slice()),
+        (102, 102, b"refused 11 12\n".as_slice()),
+        (103, 104, b"refused 11 3\n".as_slice()),
     ];
-    for (len, told) in told {
-        let text = PLAIN_CASE.get(..len).unwrap_or(PLAIN_CASE);
-        answers(&rt, "check", &[], text, told, Status::Text)?;
-        answers(&rt, "run", &[], text, told, Status::Text)?;
+    for (first, last, told) in rows {
+        for len in first..last + 1 {
+            let text = PLAIN_CASE.get(..len).unwrap_or(PLAIN_CASE);
+            refuses(&rt, &[(text, told)])?;
+        }
     }
-    let words = words_of(&rt, "run", &[])?;
-    for len in 0..105 {
-        let (status, _) = answer(&rt, words.as_slice(), &PLAIN_CASE[..len], &[], &[])?;
-        assert_eq!(rt; status, Status::Text);
+    for command in COMMANDS {
+        let words = words_of(&rt, command, &[])?;
+        for len in 0..105 {
+            let (status, _) = answer(&rt, words.as_slice(), &PLAIN_CASE[..len], Ends::WELL)?;
+            assert_eq!(rt; status, Status::Text);
+        }
+        answers(&rt, command, &[], &PLAIN_CASE[..105], PLAIN_ANSWER, Status::Done)?;
     }
-    let told = b"report 0\nverdict done 3\nout y 8\nruns 1\n";
-    answers(&rt, "run", &[], &PLAIN_CASE[..105], told, Status::Done)
+    Ok(())
+}
+
+/// Through ends of one byte a call that do this, the program answers the plain case so under `run`, `alone` and `clock`.
+fn answers_bytewise<R: Threads + Wait + Sync + AllocGlobal + Abort>(
+    rt: &R,
+    takes: &[u64],
+    puts: &[u64],
+    room: u64,
+    told: &[u8],
+    wanted: Status,
+) -> Result<(), Fail> {
+    for command in COMMANDS {
+        let words = words_of(rt, command, &[])?;
+        let ends = Ends { piece: 1, takes, puts, room };
+        let (status, sink) = answer(rt, words.as_slice(), PLAIN_CASE, ends)?;
+        assert_eq!(rt; sink.held(), told);
+        assert_eq!(rt; status, wanted);
+    }
+    Ok(())
 }
 
 #[test]
-fn a_source_and_a_sink_that_fail(rt: HostRuntime) -> Result<(), Fail> {
-    let words = words_of(&rt, "run", &[])?;
-    let run = words.as_slice();
-    for call in 0..3 {
-        let (status, sink) = answer(&rt, run, PLAIN_CASE, &[call], &[])?;
-        assert_eq!(rt; status, Status::ReadFault);
-        assert_eq!(rt; sink.held(), b"".as_slice());
+fn a_source_that_fails(rt: HostRuntime) -> Result<(), Fail> {
+    // the call behind the last byte tells the end
+    for call in 0..107 {
+        answers_bytewise(&rt, &[call], &[], 64, b"", Status::ReadFault)?;
     }
-    for call in 0..11 {
-        let (status, _) = answer(&rt, run, PLAIN_CASE, &[], &[call])?;
-        assert_eq!(rt; status, Status::WriteFault);
+    answers_bytewise(&rt, &[107], &[], 64, PLAIN_ANSWER, Status::Done)
+}
+
+#[test]
+fn a_sink_that_fails(rt: HostRuntime) -> Result<(), Fail> {
+    for call in 0..39 {
+        let told = PLAIN_ANSWER.get(..call).unwrap_or(PLAIN_ANSWER);
+        answers_bytewise(&rt, &[], &[call as u64], 64, told, Status::WriteFault)?;
     }
-    let (status, sink) = answer(&rt, run, PLAIN_CASE, &[], &[2])?;
-    assert_eq!(rt; status, Status::WriteFault);
-    assert_eq!(rt; sink.held(), b"report 0".as_slice());
+    // the last call finishes
+    answers_bytewise(&rt, &[], &[39], 64, PLAIN_ANSWER, Status::WriteFault)?;
+    answers_bytewise(&rt, &[], &[], 38, &PLAIN_ANSWER[..38], Status::WriteFault)?;
+    let ends = Ends { piece: 1, takes: &[], puts: &[0], room: 64 };
+    let (status, sink) = answer(&rt, &[], PLAIN_CASE, ends)?;
+    assert_eq!(rt; (status, sink.held().len()), (Status::WriteFault, 0));
     Ok(())
 }

@@ -1,11 +1,14 @@
 -- What can give no command, whatever words follow.
-use Rattle.std.proofs.Common.{◌≡◌, ◌∙◌, List, [], ◌∷◌, ◌<◌, ◌||◌, Option, Some, None, refl, sym, ap, subst, true, false, Bool, cond, length, arith, option_map, length-append, true≢false, is_some}
+use Rattle.std.proofs.Common.{◌≡◌, ◌∙◌, List, [], ◌∷◌, ◌<◌, ◌||◌, Option, Some, None, refl, sym, ap, subst, true, false, Bool, cond, length}
+use Rattle.std.proofs.Common.{arith, option_map, length-append, true≢false, is_some}
 use Rattle.std.specs.Prelude.{option_and_then}
 use Rattle.cli_words.specs.declared.Command.{Command}
 use Rattle.cli_words.specs.declared.Command.TheVariants.{Run, Alone, Clock, Check}
 use Rattle.cli_words.specs.declared.rules.CommandName.{CommandName}
 use Rattle.cli_words.specs.declared.rules.CommandName.TheVariants as name
-use Rattle.cli_words.specs.CommandWords.{Key, Cycles, Ops, Said, Text, Word, End, Events, Takes, Has, Positional, Unknown, after_word, begins_with_hyphen, both, command_by, command_named, command_of, gen_of, has_options, limit_in, name_of, no_more, options_of, said_from, with_events, with_option, with_positionals, word_of}
+use Rattle.cli_words.specs.CommandWords.{Key, Cycles, Ops, Said, Text, Word, End, Events, Takes, Has, Positional, Unknown, after_word}
+use Rattle.cli_words.specs.CommandWords.{begins_with_hyphen, both, command_by, command_named, command_of, gen_of, has_options, limit_in}
+use Rattle.cli_words.specs.CommandWords.{name_of, no_more, options_of, said_from, with_events, with_option, with_positionals, word_of}
 
 -- a hyphen alone
 abbrev pub hyphen : Text

@@ -1,5 +1,6 @@
 -- What the parser's clauses say of one command, carried over to its literal form.
-use Rattle.std.proofs.Common.{◌≡◌, ◌∙◌, ◌≤◌, refl, sym, ap, subst, List, [], ◌∷◌, Result, Ok, Err, Bool, true, false, Option, Some, None, map, length, codes, arith, inl, inr}
+use Rattle.std.proofs.Common.{◌≡◌, ◌∙◌, ◌≤◌, refl, sym, ap, subst, List, [], ◌∷◌, Result, Ok, Err, Bool, true, false, Option, Some, None}
+use Rattle.std.proofs.Common.{map, length, codes, arith, inl, inr}
 use Rattle.std.specs.Prelude.{slice_get, string_bytes, String}
 use Rattle.std.specs.List.{AllByRecursion}
 use Rattle.std.specs.Str.{IsUtf8}

@@ -1,10 +1,12 @@
 -- The parser refuses what is not accepted, and has what was said of the words that it takes.
-use Rattle.std.proofs.Common.{◌≡◌, ◌∙◌, List, [], ◌∷◌, ◌++◌, ◌||◌, Option, Some, None, refl, sym, ap, subst, codes, true, false, Bool, cond, drop, fold, is_some, arith}
+use Rattle.std.proofs.Common.{◌≡◌, ◌∙◌, List, [], ◌∷◌, ◌++◌, ◌||◌, Option, Some, None, refl, sym, ap, subst, codes, true, false, Bool, cond}
+use Rattle.std.proofs.Common.{drop, fold, is_some, arith}
 use Rattle.std.specs.Prelude.{slice_get, option_and_then}
 use Rattle.std.specs.List.{AllByRecursion, list_all}
 use Rattle.std.specs.Str.{IsUtf8}
 use Rattle.clap.specs.Values.{bool_text}
-use Rattle.clap.specs.Walk.{Row, Rule, default_rows, reading_by, with_values, Held, first_of, has_row, idle, is_empty, more_values, nothing_held, one_of, row_text, with_default}
+use Rattle.clap.specs.Walk.{Row, Rule, default_rows, reading_by, with_values, Held, first_of, has_row, idle, is_empty, more_values}
+use Rattle.clap.specs.Walk.{nothing_held, one_of, row_text, with_default}
 use Rattle.clap.specs.Simple.{built, matches_of}
 use Rattle.clap.specs.Kinds.{or_else}
 use Rattle.clap.specs.Faults.{default_fault, defaults_fault, fault_of, given_default_fault}
@@ -16,7 +18,8 @@ use Rattle.clap.proofs.WalkLemmas.{both}
 use Rattle.cli_words.specs.Parser.{parser}
 use Rattle.cli_words.specs.CommandWords.{Said, Text, accepted, command_of, nothing, said_from}
 use Rattle.cli_words.proofs.RowLemmas.{Rows, events_row, has_row-row_at, missing, other, own, row_at, rules, value_row}
-use Rattle.cli_words.proofs.WalkSteps.{AtMostThree, Ends, Holds, at, clear, end_of, events_filled, fails, fault_at, first_clear, passes, rows_in, second_clear, settle_at}
+use Rattle.cli_words.proofs.WalkSteps.{AtMostThree, Ends, Holds, at, clear, end_of, events_filled, fails, fault_at, first_clear, passes}
+use Rattle.cli_words.proofs.WalkSteps.{rows_in, second_clear, settle_at}
 use Rattle.cli_words.proofs.ReadLemmas.{both_read}
 
 -- ---- defaults
@@ -164,7 +167,8 @@ starts = record {
 }
 
 fault_is : (words : List Text)
-    → fault_of parser words ≡ or_else (fault_at (at idle 1 false nothing_held) words) (or_else (settle_at (end_of (at idle 1 false nothing_held) words))
+    → fault_of parser words ≡ or_else (fault_at (at idle 1 false nothing_held) words)
+        (or_else (settle_at (end_of (at idle 1 false nothing_held) words))
     (or_else (defaults_fault (rows_in (end_of (at idle 1 false nothing_held) words)) rules) []))
 fault_is words = leaf_fault (built parser) nothing_held words refl
 

@@ -1,5 +1,6 @@
 -- The numbers of an accepted command are within their bounds.
-use Rattle.std.proofs.Common.{◌≡◌, refl, sym, ◌∙◌, ap, subst, ℕ, ◌+◌, ◌≤◌, ◌^◌, ◌&&◌, Bool, true, false, nat_le, List, [], ◌∷◌, Option, None, Some, IfSome, Result, Ok, Err, cond}
+use Rattle.std.proofs.Common.{◌≡◌, refl, sym, ◌∙◌, ap, subst, ℕ, ◌+◌, ◌≤◌, ◌^◌, ◌&&◌, Bool, true, false, nat_le, List, [], ◌∷◌, Option}
+use Rattle.std.proofs.Common.{None, Some, IfSome, Result, Ok, Err, cond}
 use Rattle.std.proofs.lemmas.Bool.{and_parts, leb-true}
 use Rattle.std.specs.Prelude.{option_map, option_and_then, if◌then◌else◌}
 use Rattle.flow_word.specs.Number.{number_of}
@@ -9,7 +10,9 @@ use Rattle.cli_words.specs.declared.Command.TheVariants.{Run, Alone, Clock, Chec
 use Rattle.cli_words.specs.declared.Options.{Options}
 use Rattle.cli_words.specs.declared.rules.CommandName.{CommandName}
 use Rattle.cli_words.specs.declared.rules.CommandName.TheVariants as name
-use Rattle.cli_words.specs.CommandWords.{Text, Said, said_from, nothing, accepted, command_of, command_by, command_named, name_of, in_bounds, number_in, limit_in, both, options_of, options_alone, no_more, without_option, has_options, gen_of, IsLimit, AreLimits, IsInRange}
+use Rattle.cli_words.specs.CommandWords.{Text, Said, said_from, nothing, accepted, command_of, command_by, command_named, name_of}
+use Rattle.cli_words.specs.CommandWords.{in_bounds, number_in, limit_in, both, options_of, options_alone, no_more, without_option}
+use Rattle.cli_words.specs.CommandWords.{has_options, gen_of, IsLimit, AreLimits, IsInRange}
 
 -- what holds of a value that is there, where it holds of each value that could be
 there : {X : Type 0} (P : X → Type 0) {o : Option X} {x : X} → IfSome o P → o ≡ Some x → P x
@@ -50,7 +53,8 @@ alone_in_range : (said : Said) (rest : List Text) → IfSome (options_alone said
 alone_in_range said [] = options_in_range said
 alone_in_range said (word ∷ words) = tt
 
-mapped : {X Y : Type 0} (P : X → Type 0) (Q : Y → Type 0) (f : X → Y) → ((x : X) → P x → Q (f x)) → (o : Option X) → IfSome o P → IfSome (option_map f o) Q
+mapped : {X Y : Type 0} (P : X → Type 0) (Q : Y → Type 0) (f : X → Y) → ((x : X) → P x → Q (f x)) → (o : Option X) → IfSome o P
+    → IfSome (option_map f o) Q
 mapped P Q f h None p = tt
 mapped P Q f h (Some x) p = h x p
 
@@ -76,8 +80,10 @@ check_in_range (word ∷ words) = tt
 
 named_in_range : (said : Said) (rest : List Text) (n : CommandName) → IfSome (command_named said rest n) IsInRange
 named_in_range said rest name.Run = mapped AreLimits IsInRange (λ o. Run o) (λ o h. h) (options_alone said rest) (alone_in_range said rest)
-named_in_range said rest name.Alone = mapped AreLimits IsInRange (λ o. Alone o) (λ o h. h) (options_alone said rest) (alone_in_range said rest)
-named_in_range said rest name.Clock = mapped AreLimits IsInRange (λ o. Clock o) (λ o h. h) (options_alone said rest) (alone_in_range said rest)
+named_in_range said rest name.Alone = mapped AreLimits IsInRange (λ o. Alone o) (λ o h. h) (options_alone said rest)
+    (alone_in_range said rest)
+named_in_range said rest name.Clock = mapped AreLimits IsInRange (λ o. Clock o) (λ o h. h) (options_alone said rest)
+    (alone_in_range said rest)
 named_in_range said rest name.Check = without_in_range said (no_more rest (Some Check)) (check_in_range rest)
 named_in_range said rest name.Gen = without_in_range said (gen_of rest) (gen_in_range rest)
 

@@ -1,18 +1,28 @@
 -- The parser's walk over all the words says what the words say.
-use Rattle.std.proofs.Common.{◌≡◌, ◌∙◌, ℕ, List, [], ◌∷◌, ◌++◌, ◌≤◌, Option, Some, None, refl, sym, ap, subst, true, false, cond, length, arith, append-nil, append_assoc, length-append, suc, is_some}
+use Rattle.std.proofs.Common.{◌≡◌, ◌∙◌, ℕ, List, [], ◌∷◌, ◌++◌, ◌≤◌, Option, Some, None, refl, sym, ap, subst, true, false, cond, length}
+use Rattle.std.proofs.Common.{arith, append-nil, append_assoc, length-append, suc, is_some}
 use Rattle.std.specs.Prelude.{option_and_then}
 use Rattle.std.specs.List.{AllByRecursion}
 use Rattle.std.specs.Str.{IsUtf8}
-use Rattle.clap.specs.Walk.{subcommand_met, is_pending, Held, Rule, Step, Waiting, Walk, after_flag, after_step, arg_by_id, arg_by_index, arg_by_long, idle, long_met, long_or_other, long_word, next, option, positional, takes_values, Row, option_word, plain_word, pushed, reacted, settled, short_or_plain, takes_several, to_positional, trailing, value, walked, word_met}
+use Rattle.clap.specs.Walk.{subcommand_met, is_pending, Held, Rule, Step, Waiting, Walk, after_flag, after_step, arg_by_id, arg_by_index}
+use Rattle.clap.specs.Walk.{arg_by_long, idle, long_met, long_or_other, long_word, next, option, positional, takes_values, Row, option_word}
+use Rattle.clap.specs.Walk.{plain_word, pushed, reacted, settled, short_or_plain, takes_several, to_positional, trailing, value, walked}
+use Rattle.clap.specs.Walk.{word_met}
 use Rattle.clap.specs.Kinds.{or_else}
 use Rattle.clap.specs.Faults.{turn_fault, use_fault, walk_fault}
 use Rattle.clap.specs.declared.error.kind.ErrorKind.TheVariants as kind
-use Rattle.cli_words.specs.CommandWords.{Cycles, Key, Ops, Positional, Said, Text, Word, after_word, command_of, option_named, said_from, with_events, with_option, with_positionals}
+use Rattle.cli_words.specs.CommandWords.{Cycles, Key, Ops, Positional, Said, Text, Word, after_word, command_of, option_named, said_from}
+use Rattle.cli_words.specs.CommandWords.{with_events, with_option, with_positionals}
 use Rattle.cli_words.proofs.RowLemmas.{Rows, rules, top}
 use Rattle.cli_words.proofs.AcceptedLemmas.{Doomed, given, doomed_none, doomed_stays, hyphen}
 use Rattle.cli_words.proofs.AcceptedLemmas as doom
-use Rattle.cli_words.proofs.WalkSteps.{AtMostThree, Ends, fails, passes, Flagged, Holds, Named, flag, keyed, unnamed, Placed, placed, stray, Used, repeated, unused, again, once, at, clear, events_filled, first_clear, flagging, named, placing, rows_in, rule_at, second_clear, settle_at, some_kind, step_fails, step_passes, using}
-use Rattle.cli_words.proofs.WordLemmas.{IsPlain, View, after_ends, as_plain, awaiting, behind_end, between, dash, ends, has_flags, hyphen_plain, long, long_refused, long_turn, long_turn_is, long_walk, long_walk_is, long_word_of, name_in, own_value, short, short_refused, short_unknown, stuck_idle, stuck_trailing, turn_plain, turn_taken, view, waiting_for, walked_plain, walked_taken, with_word}
+use Rattle.cli_words.proofs.WalkSteps.{AtMostThree, Ends, fails, passes, Flagged, Holds, Named, flag, keyed, unnamed, Placed, placed, stray}
+use Rattle.cli_words.proofs.WalkSteps.{Used, repeated, unused, again, once, at, clear, events_filled, first_clear, flagging, named, placing}
+use Rattle.cli_words.proofs.WalkSteps.{rows_in, rule_at, second_clear, settle_at, some_kind, step_fails, step_passes, using}
+use Rattle.cli_words.proofs.WordLemmas.{IsPlain, View, after_ends, as_plain, awaiting, behind_end, between, dash, ends, has_flags}
+use Rattle.cli_words.proofs.WordLemmas.{hyphen_plain, long, long_refused, long_turn, long_turn_is, long_walk, long_walk_is, long_word_of}
+use Rattle.cli_words.proofs.WordLemmas.{name_in, own_value, short, short_refused, short_unknown, stuck_idle, stuck_trailing, turn_plain}
+use Rattle.cli_words.proofs.WordLemmas.{turn_taken, view, waiting_for, walked_plain, walked_taken, with_word}
 
 -- ---- after `--`
 

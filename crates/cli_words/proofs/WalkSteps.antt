@@ -1,15 +1,19 @@
 -- One word of the parser's walk.
-use Rattle.std.proofs.Common.{◌≡◌, ◌∙◌, ℕ, List, [], ◌∷◌, ◌++◌, ◌<◌, ◌≤◌, ◌&&◌, ◌||◌, Option, Some, None, refl, sym, ap, ap₂, subst, codes, true, false, Bool, cond, length, arith, fold, suc, option_map, is_some}
+use Rattle.std.proofs.Common.{◌≡◌, ◌∙◌, ℕ, List, [], ◌∷◌, ◌++◌, ◌<◌, ◌≤◌, ◌&&◌, ◌||◌, Option, Some, None, refl, sym, ap, ap₂, subst, codes}
+use Rattle.std.proofs.Common.{true, false, Bool, cond, length, arith, fold, suc, option_map, is_some}
 use Rattle.std.specs.Str.{bytes_eq}
-use Rattle.clap.specs.Walk.{Held, Rule, Row, Waiting, Walk, arg_by_index, arg_by_long, idle, is_pending, positional_held, pushed, settled, settled_rows, takes_several, to_positional, used, value, walked, has_row}
+use Rattle.clap.specs.Walk.{Held, Rule, Row, Waiting, Walk, arg_by_index, arg_by_long, idle, is_pending, positional_held, pushed, settled}
+use Rattle.clap.specs.Walk.{settled_rows, takes_several, to_positional, used, value, walked, has_row}
 use Rattle.clap.specs.Simple.{filled, new_rule, with_index}
 use Rattle.clap.specs.Kinds.{Kinds, or_else}
 use Rattle.clap.specs.Faults.{positional_fault, settle_fault, step_fault, turn_fault, use_fault, walk_fault}
 use Rattle.clap.specs.declared.error.kind.ErrorKind.{ErrorKind}
 use Rattle.clap.specs.declared.error.kind.ErrorKind.TheVariants as kind
 use Rattle.cli_words.specs.Parser.{cycles_rule, events_rule, ops_rule}
-use Rattle.cli_words.specs.CommandWords.{Cycles, Key, Ops, Said, Text, Unknown, Word, command_of, option_named, with_events, with_option, with_positionals, with_value, without_value}
-use Rattle.cli_words.proofs.RowLemmas.{Rows, added, command_added, cycles_added, events_added, events_row, has_row-row_at, ops_added, row, row_at, rules, second_added, third_added, top}
+use Rattle.cli_words.specs.CommandWords.{Cycles, Key, Ops, Said, Text, Unknown, Word, command_of, option_named, with_events, with_option}
+use Rattle.cli_words.specs.CommandWords.{with_positionals, with_value, without_value}
+use Rattle.cli_words.proofs.RowLemmas.{Rows, added, command_added, cycles_added, events_added, events_row, has_row-row_at, ops_added, row}
+use Rattle.cli_words.proofs.RowLemmas.{row_at, rules, second_added, third_added, top}
 use Rattle.cli_words.proofs.AcceptedLemmas.{given}
 
 -- ---- kinds of fault
@@ -105,7 +109,8 @@ pub named : (n : Text) (v : Option Text) → Named v (arg_by_long rules n) (opti
 named n v = go (bytes_eq (codes "events") n) (bytes_eq (codes "cycles") n) (bytes_eq (codes "ops") n)
   where
     go : (a b c : Bool)
-        → Named v (cond (a || false) (Some events_filled) (cond (b || false) (Some (rule_at Cycles)) (cond (c || false) (Some (rule_at Ops)) None)))
+        → Named v (cond (a || false) (Some events_filled) (cond (b || false) (Some (rule_at Cycles))
+            (cond (c || false) (Some (rule_at Ops)) None)))
         (cond a (without_value v) (cond b (with_value Cycles v) (cond c (with_value Ops v) Unknown)))
     go true b c = flag refl refl
     go false true c = keyed Cycles refl refl

@@ -1,5 +1,6 @@
 -- One word of the parser's walk, by what it looks like, and what is refused whatever follows.
-use Rattle.std.proofs.Common.{◌≡◌, ◌∙◌, ℕ, List, [], ◌∷◌, ◌+◌, ◌&&◌, ◌||◌, ◌==◌, Option, Some, None, refl, sym, ap, ap₂, subst, codes, true, false, Bool, cond, length, arith, suc, not, true≢false, is_some, eqb-true, ne_eqb, take, drop}
+use Rattle.std.proofs.Common.{◌≡◌, ◌∙◌, ℕ, List, [], ◌∷◌, ◌+◌, ◌&&◌, ◌||◌, ◌==◌, Option, Some, None, refl, sym, ap, ap₂, subst, codes, true}
+use Rattle.std.proofs.Common.{false, Bool, cond, length, arith, suc, not, true≢false, is_some, eqb-true, ne_eqb, take, drop}
 use Rattle.std.specs.Prelude.{slice_get, option_and_then, encode_utf8_all}
 use Rattle.std.specs.List.{AllByRecursion, after_first, before_first}
 use Rattle.std.specs.Option.{option_map_or}
@@ -9,11 +10,15 @@ use Rattle.std.proofs.lemmas.Str.{chars-encodes}
 use Rattle.std.proofs.lemmas.Bool.{eq-eqb}
 use Rattle.std.specs.Str.{bytes_eq, chars, IsUtf8}
 use Rattle.clap.specs.Lexer.{has_byte, long_of, long_of_rest, short_of, short_of_rest, strip_byte}
-use Rattle.clap.specs.Walk.{subcommand_met, is_pending, Held, Rule, Step, Waiting, Walk, after_flag, after_step, arg_by_index, arg_by_long, idle, long_met, long_or_other, next, option, positional, takes_values, Row, plain_word, short_or_plain, to_positional, trailing, value, walked, word_met}
+use Rattle.clap.specs.Walk.{subcommand_met, is_pending, Held, Rule, Step, Waiting, Walk, after_flag, after_step, arg_by_index, arg_by_long}
+use Rattle.clap.specs.Walk.{idle, long_met, long_or_other, next, option, positional, takes_values, Row, plain_word, short_or_plain}
+use Rattle.clap.specs.Walk.{to_positional, trailing, value, walked, word_met}
 use Rattle.clap.specs.Kinds.{Kinds, or_else}
-use Rattle.clap.specs.Faults.{bundle_fault, bundle_step_fault, option_fault, flag_word_fault, flags_fault, long_fault, positional_fault, react_fault, step_fault, turn_fault, walk_fault, word_fault}
+use Rattle.clap.specs.Faults.{bundle_fault, bundle_step_fault, option_fault, flag_word_fault, flags_fault, long_fault, positional_fault}
+use Rattle.clap.specs.Faults.{react_fault, step_fault, turn_fault, walk_fault, word_fault}
 use Rattle.clap.specs.declared.error.kind.ErrorKind.TheVariants as kind
-use Rattle.cli_words.specs.CommandWords.{Cycles, End, Key, Ops, Positional, Said, Text, Unknown, begins_with_hyphen, is_equals, option_named, value_in, with_value, without_value, word_of}
+use Rattle.cli_words.specs.CommandWords.{Cycles, End, Key, Ops, Positional, Said, Text, Unknown, begins_with_hyphen, is_equals}
+use Rattle.cli_words.specs.CommandWords.{option_named, value_in, with_value, without_value, word_of}
 use Rattle.cli_words.proofs.RowLemmas.{rules, top}
 use Rattle.cli_words.proofs.AcceptedLemmas.{hyphen}
 use Rattle.cli_words.proofs.WalkSteps.{Fails, at, first_clear, slot, and_false, rule_at, settle_at, some_kind}
@@ -312,7 +317,8 @@ step_bad p h bad e = go (1 == p) (2 == p) (3 == p) e
         bad (sym (ap (λ b. cond b [] (settle_at h)) (and_false (is_pending (slot i id) h.pending))) ∙ f)
 
     go : (a b c : Bool)
-        → option_map_or (λ r. positional_fault rules false r h) (cond a (Some (slot 1 (codes "command"))) (cond b (Some (slot 2 (codes "second"))) (cond c (Some (slot 3 (codes "third"))) None)))
+        → option_map_or (λ r. positional_fault rules false r h)
+            (cond a (Some (slot 1 (codes "command"))) (cond b (Some (slot 2 (codes "second"))) (cond c (Some (slot 3 (codes "third"))) None)))
         (kind.UnknownArgument ∷ []) ≡ [] → ⊥
     go true b c f = one 1 (codes "command") f
     go false true c f = one 2 (codes "second") f

@@ -9,7 +9,8 @@ use Rattle.flow_design.specs.StaticRules.{AreEntriesSound, FitsEngine}
 use Rattle.std.specs.Prelude.{slice_index, slice_index_or}
 use Rattle.flow_design.specs.Plans.{no_channel, kind_at, delay_of, delay_at}
 use Rattle.flow_design.specs.declared.state.Element.{Element}
-use Rattle.std.proofs.Common.{◌≡◌, ℕ, suc, ◌+◌, ◌<◌, ◌≤◌, List, [], ◌∷◌, ◌++◌, map, length, take, drop, get_or, eqb, cond, Bool, true, false, refl, sym, ◌∙◌, ap, arith, append_assoc, add-zero, zero-add, zero, ◌≢◌, ⊎_elim}
+use Rattle.std.proofs.Common.{◌≡◌, ℕ, suc, ◌+◌, ◌<◌, ◌≤◌, List, [], ◌∷◌, ◌++◌, map, length, take, drop, get_or, eqb, cond, Bool, true}
+use Rattle.std.proofs.Common.{false, refl, sym, ◌∙◌, ap, arith, append_assoc, add-zero, zero-add, zero, ◌≢◌, ⊎_elim}
 use Rattle.std.specs.List.{enumerate_from}
 use Rattle.std.proofs.Math.ListN.{set}
 use Rattle.std.proofs.lemmas.Bool.Decides.{eqb_tells}

@@ -1,6 +1,7 @@
 -- The steps of a clock, by the modules' parts.
 use Rattle.flow_design.specs.declared.state.Element.{Element}
-use Rattle.std.proofs.Common.{◌≡◌, ℕ, suc, zero, ◌+◌, ◌<◌, ◌≢◌, List, [], ◌∷◌, ◌++◌, map, length, get_or, cond, not, Bool, true, false, refl, sym, ◌∙◌, ap, subst, arith, add-zero, zero-add}
+use Rattle.std.proofs.Common.{◌≡◌, ℕ, suc, zero, ◌+◌, ◌<◌, ◌≢◌, List, [], ◌∷◌, ◌++◌, map, length, get_or, cond, not, Bool, true, false}
+use Rattle.std.proofs.Common.{refl, sym, ◌∙◌, ap, subst, arith, add-zero, zero-add}
 use Rattle.std.specs.List.{enumerate_from, flat_map, filter}
 use Rattle.std.proofs.lemmas.Bool.{false≢true}
 use Rattle.std.proofs.lemmas.List.{append-nil}
@@ -16,11 +17,13 @@ use Rattle.flow_word.specs.Kinds.{is_blocking}
 use Rattle.lockstep_defs.proofs.Queue.{moved-append, moved_by-append, moved-step}
 use Rattle.lockstep_defs.specs.Machine.{is_yes, nobody}
 use Rattle.lockstep_defs.specs.Channels.{HistoryStep, Exchange, moved_by, moved}
-use Rattle.lockstep_defs.specs.Lockstep.{requests_of, moves, numbered, answered, step_with, step_of, steps_in, next_state, contents_after, clock_step}
+use Rattle.lockstep_defs.specs.Lockstep.{requests_of, moves, numbered, answered, step_with, step_of, steps_in, next_state, contents_after}
+use Rattle.lockstep_defs.specs.Lockstep.{clock_step}
 use Rattle.lockstep_defs.specs.Report.{steps_of, queries, outcomes, event_of, events_of}
 use Rattle.clock_machine.specs.declared.part.Answered.{Answered}
 use Rattle.clock_machine.specs.declared.part.Part.{Part}
-use Rattle.clock_machine.specs.Parts.{exchange, answered_as, no_part, part_of, after_part, IsReady, exchanges_of, all_exchanges, steps_from, event_by, events_from, outcomes_in, after_pops, after_pushes}
+use Rattle.clock_machine.specs.Parts.{exchange, answered_as, no_part, part_of, after_part, IsReady, exchanges_of, all_exchanges, steps_from}
+use Rattle.clock_machine.specs.Parts.{event_by, events_from, outcomes_in, after_pops, after_pushes}
 use Rattle.clock_machine.proofs.PartLemmas.{part_when_moving, part_when_still, moves_when}
 use Rattle.clock_machine.proofs.Fronts.{same_by_places, numbered_read}
 use Rattle.clock_machine.proofs.Queues.{same_place, other_place, twice}

@@ -1,5 +1,6 @@
 -- Edits one after the other.
-use Rattle.std.proofs.Common.{◌≡◌, refl, ◌∙◌, ap, ap₂, arith, ℕ, ◌+◌, ◌<◌, ◌==◌, zero, suc, Bool, true, false, cond, List, [], ◌∷◌, ◌++◌, length, map}
+use Rattle.std.proofs.Common.{◌≡◌, refl, ◌∙◌, ap, ap₂, arith, ℕ, ◌+◌, ◌<◌, ◌==◌, zero, suc, Bool, true, false, cond, List, [], ◌∷◌, ◌++◌}
+use Rattle.std.proofs.Common.{length, map}
 use Rattle.std.specs.Prelude.{slice_set, filter, if◌then◌else◌}
 use Rattle.std.specs.List.{enumerate_from}
 use Rattle.std.proofs.lemmas.Bool.{cond-true, cond-false, ne_eqb, eq-eqb}
@@ -71,4 +72,5 @@ pub one_edit_more : (p : Plan) (edits : List Edit) (e : Edit) → e.channel < le
 unfolding plan_after
 one_edit_more p edits e l =
     ap (λ (ds : List ℕ). record p { depths = ds })
-    (one_differs (depth_after (edits ++ e ∷ [])) (depth_after edits) e.channel e.depth (depth_more edits e) 0 e.channel p.depths (omega arith) l)
+    (one_differs (depth_after (edits ++ e ∷ [])) (depth_after edits) e.channel e.depth (depth_more edits e) 0 e.channel p.depths
+        (omega arith) l)

@@ -1,5 +1,6 @@
 -- What the rules of reading give of the blocks of a module.
-use Rattle.std.proofs.Common.{◌≡◌, ℕ, ◌+◌, ◌<◌, ◌≤◌, List, [], ◌∷◌, ◌++◌, length, map, is_some, IfSome, Bool, true, false, cond, refl, sym, ap, subst, ◌∙◌, arith, length-append}
+use Rattle.std.proofs.Common.{◌≡◌, ℕ, ◌+◌, ◌<◌, ◌≤◌, List, [], ◌∷◌, ◌++◌, length, map, is_some, IfSome, Bool, true, false, cond, refl, sym}
+use Rattle.std.proofs.Common.{ap, subst, ◌∙◌, arith, length-append}
 use Rattle.std.specs.List.{All, filter_map}
 use Rattle.flow_word.specs.declared.access.Port.{Port}
 use Rattle.flow_design.specs.declared.limits.TheConstants.{TEMPS, OPERATIONS}
@@ -20,9 +21,11 @@ use Rattle.session_plan.specs.Sections.{begins, body_of, sections, declared, dec
 use Rattle.session_plan.specs.declared.section.Level.TheVariants as level
 use Rattle.session_plan.specs.declared.section.Sort.TheVariants as sort
 use Rattle.flow_check.specs.Read.{IsTimedRead, IsKindRead, IsNextRead, IsBlockRead}
-use Rattle.flow_check.proofs.Following.{Keeps, Follow, Plain, plain_body, follow_body, inside, nothing_inside, grows, tally, length_found, tally_same, within, Heard, heard_none}
+use Rattle.flow_check.proofs.Following.{Keeps, Follow, Plain, plain_body, follow_body, inside, nothing_inside, grows, tally, length_found}
+use Rattle.flow_check.proofs.Following.{tally_same, within, Heard, heard_none}
 use Rattle.flow_check.proofs.Numbers.{all_none, all_cons}
-use Rattle.flow_check.proofs.Bodies.{temp_same, found_same, Hears, hears_more, hears_body, plain_later, TimedRead, ops_read, next_read, temps_before, few_temps, few_operations, len_read, kind_read}
+use Rattle.flow_check.proofs.Bodies.{temp_same, found_same, Hears, hears_more, hears_body, plain_later, TimedRead, ops_read, next_read}
+use Rattle.flow_check.proofs.Bodies.{temps_before, few_temps, few_operations, len_read, kind_read}
 
 hears_own : (scope : Scope) (names : List Name) (earlier rest : List Statement) → Hears scope earlier rest
     → Hears (record scope { temps = names }) earlier rest

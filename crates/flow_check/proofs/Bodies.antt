@@ -1,5 +1,6 @@
 -- What the rules of reading give of bodies and blocks.
-use Rattle.std.proofs.Common.{◌≡◌, ℕ, suc, ◌+◌, ◌<◌, ◌≤◌, List, [], ◌∷◌, ◌++◌, length, count_by, Option, None, Some, is_some, IfSome, option_map, Bool, true, false, not, cond, refl, sym, ap, subst, ◌∙◌, arith, true≢false}
+use Rattle.std.proofs.Common.{◌≡◌, ℕ, suc, ◌+◌, ◌<◌, ◌≤◌, List, [], ◌∷◌, ◌++◌, length, count_by, Option, None, Some, is_some, IfSome}
+use Rattle.std.proofs.Common.{option_map, Bool, true, false, not, cond, refl, sym, ap, subst, ◌∙◌, arith, true≢false}
 use Rattle.std.specs.Prelude.{◌&&◌, nat_lt, nat_le}
 use Rattle.std.specs.List.{All, list_all, filter_map, cons_option}
 use Rattle.std.proofs.lemmas.Bool.{and_parts, ltb-true}
@@ -12,7 +13,8 @@ use Rattle.flow_design.specs.declared.design.Timed.{Timed}
 use Rattle.flow_design.specs.declared.design.Next.{Next}
 use Rattle.flow_design.specs.declared.design.Next.TheVariants as next
 use Rattle.flow_grammar.specs.Parts.{op_parts}
-use Rattle.flow_grammar.specs.Before.{channel_name, register_name, memory_name, temp_name, is_operation, channels, registers, memories, temps, operations, is_among}
+use Rattle.flow_grammar.specs.Before.{channel_name, register_name, memory_name, temp_name, is_operation, channels, registers, memories}
+use Rattle.flow_grammar.specs.Before.{temps, operations, is_among}
 use Rattle.flow_grammar.specs.Rules.{is_known, has_small_trees}
 use Rattle.session_plan.specs.Names.{Name, number_of, Scope}
 use Rattle.session_plan.specs.Numbered.{places, operation, timed, terminator}
@@ -22,7 +24,8 @@ use Rattle.session_plan.specs.declared.section.Level.{Level}
 use Rattle.session_plan.specs.declared.section.Level.TheVariants as level
 use Rattle.session_plan.specs.declared.section.Sort.TheVariants as sort
 use Rattle.flow_check.specs.Read.{IsKindRead, IsNextRead}
-use Rattle.flow_check.proofs.Following.{Keeps, Follow, Plain, body_first, inside, no_beginning, tally, length_found, tally_same, number_below, Within, within_both, Heard, heard_none, heard_more, heard_later}
+use Rattle.flow_check.proofs.Following.{Keeps, Follow, Plain, body_first, inside, no_beginning, tally, length_found, tally_same}
+use Rattle.flow_check.proofs.Following.{number_below, Within, within_both, Heard, heard_none, heard_more, heard_later}
 use Rattle.flow_check.proofs.Numbers.{in_range, all_none, all_cons, OpRead, op_read}
 
 -- ---- the same names and counts, by either function

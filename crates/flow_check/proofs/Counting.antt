@@ -1,5 +1,6 @@
 -- What stands before a statement, counted statement by statement.
-use Rattle.std.proofs.Common.{◌≡◌, ℕ, suc, ◌+◌, ◌<◌, ◌≤◌, List, [], ◌∷◌, length, take, drop, get_or, count_by, Option, None, Some, option_map, unwrap_or, Bool, true, false, cond, refl, sym, ap, subst, ◌∙◌, arith, add-one}
+use Rattle.std.proofs.Common.{◌≡◌, ℕ, suc, ◌+◌, ◌<◌, ◌≤◌, List, [], ◌∷◌, length, take, drop, get_or, count_by, Option, None, Some}
+use Rattle.std.proofs.Common.{option_map, unwrap_or, Bool, true, false, cond, refl, sym, ap, subst, ◌∙◌, arith, add-one}
 use Rattle.std.specs.Prelude.{reverse}
 use Rattle.std.specs.List.{filter_map, cons_option}
 use Rattle.std.proofs.Math.Seq.{take-suc, drop-cons}

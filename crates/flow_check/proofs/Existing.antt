@@ -1,5 +1,6 @@
 -- For each item of a plan that breaks a rule there is a statement.
-use Rattle.std.proofs.Common.{◌≡◌, ℕ, zero, suc, ◌+◌, List, [], ◌∷◌, length, map, Some, option_map, Bool, true, false, not, cond, refl, sym, ap, subst, ◌∙◌, arith, true≢false, take, slice_get}
+use Rattle.std.proofs.Common.{◌≡◌, ℕ, zero, suc, ◌+◌, List, [], ◌∷◌, length, map, Some, option_map, Bool, true, false, not, cond, refl, sym}
+use Rattle.std.proofs.Common.{ap, subst, ◌∙◌, arith, true≢false, take, slice_get}
 use Rattle.std.specs.Option.{option_and_then}
 use Rattle.std.specs.List.{filter_map, cons_option}
 use Rattle.flow_design.specs.declared.session.Statement.{Statement}
@@ -13,7 +14,8 @@ use Rattle.flow_grammar.specs.declared.fault.Code.{Code}
 use Rattle.flow_grammar.specs.declared.fault.Code.TheVariants as code
 use Rattle.session_plan.specs.Names.{Name, Scope}
 use Rattle.session_plan.specs.Numbered.{timed, terminator}
-use Rattle.session_plan.specs.Plans.{first_or, channel, limits_of, block, scope_of, module_of, channels_of, channel_names, modules_of, plan_of}
+use Rattle.session_plan.specs.Plans.{first_or, channel, limits_of, block, scope_of, module_of, channels_of, channel_names, modules_of}
+use Rattle.session_plan.specs.Plans.{plan_of}
 use Rattle.session_plan.specs.Sections.{begins, body_of, sections, declared}
 use Rattle.session_plan.specs.declared.section.Level.{Level}
 use Rattle.session_plan.specs.declared.section.Level.TheVariants as level

@@ -1,5 +1,7 @@
 -- The first of a plan that breaks a rule breaks it, and comes no later than any other that does.
-use Rattle.std.proofs.Common.{◌≡◌, ℕ, zero, suc, ◌+◌, ◌<◌, ◌≤◌, List, [], ◌∷◌, ◌++◌, length, take, Option, None, Some, option_map, Bool, true, false, cond, refl, sym, ap, subst, ◌∙◌, arith, true≢false, inl, inr, append_assoc, append-nil, slice_get}
+use Rattle.std.proofs.Common.{◌≡◌, ℕ, zero, suc, ◌+◌, ◌<◌, ◌≤◌, List, [], ◌∷◌, ◌++◌, length, take, Option, None, Some, option_map, Bool}
+use Rattle.std.proofs.Common.{true, false, cond, refl, sym, ap, subst, ◌∙◌, arith, true≢false, inl, inr, append_assoc, append-nil}
+use Rattle.std.proofs.Common.{slice_get}
 use Rattle.std.specs.Prelude.{◌⊎◌}
 use Rattle.std.specs.List.{enumerate_from}
 use Rattle.flow_design.specs.declared.design.Block.{Block}
@@ -13,7 +15,8 @@ use Rattle.flow_check.specs.declared.item.Spot.TheVariants.{Head, Operation, Ter
 use Rattle.flow_check.specs.declared.item.Item.{Item}
 use Rattle.flow_check.specs.declared.item.Item.TheVariants as item
 use Rattle.flow_check.specs.First.{sooner, first_in, first_behind, place_where}
-use Rattle.flow_check.specs.Rules.{leads_out, breaks_limits, lacks_users, clashes, is_bad_loop, is_too_late, is_on_wrong_side, spot, spot_in, in_module, broken_by}
+use Rattle.flow_check.specs.Rules.{leads_out, breaks_limits, lacks_users, clashes, is_bad_loop, is_too_late, is_on_wrong_side, spot}
+use Rattle.flow_check.specs.Rules.{spot_in, in_module, broken_by}
 use Rattle.flow_check.specs.Broken.{passes, spot_breaks, channel_breaks, breaks}
 
 -- ---- an order of items

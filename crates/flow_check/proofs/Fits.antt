@@ -1,5 +1,6 @@
 -- A plan that was read, and breaks no rule of checking, is one that the engine takes.
-use Rattle.std.proofs.Common.{◌≡◌, ℕ, zero, suc, ◌+◌, ◌*◌, ◌%◌, ◌<◌, List, [], ◌∷◌, ◌++◌, length, take, get_or, Option, None, Some, IfSome, option_map, Bool, true, false, cond, refl, sym, ap, ◌∙◌, arith, true≢false, append_assoc, append-nil}
+use Rattle.std.proofs.Common.{◌≡◌, ℕ, zero, suc, ◌+◌, ◌*◌, ◌%◌, ◌<◌, List, [], ◌∷◌, ◌++◌, length, take, get_or, Option, None, Some, IfSome}
+use Rattle.std.proofs.Common.{option_map, Bool, true, false, cond, refl, sym, ap, ◌∙◌, arith, true≢false, append_assoc, append-nil}
 use Rattle.std.specs.Prelude.{◌&&◌, ◌==◌, nat_eq, nat_lt, nat_le, IsTrue}
 use Rattle.std.specs.List.{AllPairs, enumerate_from}
 use Rattle.std.proofs.Math.Nat.{mod-eq_of_lt}
@@ -23,14 +24,17 @@ use Rattle.flow_design.specs.declared.plan.Plan.{Plan}
 use Rattle.flow_design.specs.Module.{interval, interval_of}
 use Rattle.flow_design.specs.Operations.{port_of}
 use Rattle.flow_design.specs.Plans.{no_channel, kind_at}
-use Rattle.flow_design.specs.StaticRules.{same_port, uses, IsTimedSound, IsKindSound, IsNextSound, Clashes, IsBlockSound, IsModuleSound, IsChannelSound, FitsEngine}
+use Rattle.flow_design.specs.StaticRules.{same_port, uses, IsTimedSound, IsKindSound, IsNextSound, Clashes, IsBlockSound, IsModuleSound}
+use Rattle.flow_design.specs.StaticRules.{IsChannelSound, FitsEngine}
 use Rattle.flow_grammar.specs.declared.fault.Code.{Code}
 use Rattle.flow_grammar.specs.declared.fault.Code.TheVariants as code
 use Rattle.flow_check.specs.declared.item.Spot.{Spot}
 use Rattle.flow_check.specs.declared.item.Spot.TheVariants.{Head, Operation, Terminator}
 use Rattle.flow_check.specs.declared.item.Item.{Item}
 use Rattle.flow_check.specs.First.{sooner, first_in, first_behind, first_for, or_later, place_where}
-use Rattle.flow_check.specs.Rules.{leads_out, breaks_limits, lacks_users, has_users, is_served, phase, slot, same_slot, is_slot, takes_again, clashes, is_bad_loop, is_too_late, lacks_port, is_on_wrong_side, spot, spot_in, in_module, broken_by, checking_fault}
+use Rattle.flow_check.specs.Rules.{leads_out, breaks_limits, lacks_users, has_users, is_served, phase, slot, same_slot, is_slot}
+use Rattle.flow_check.specs.Rules.{takes_again, clashes, is_bad_loop, is_too_late, lacks_port, is_on_wrong_side, spot, spot_in, in_module}
+use Rattle.flow_check.specs.Rules.{broken_by, checking_fault}
 use Rattle.flow_check.specs.Read.{IsTimedRead, IsKindRead, IsNextRead, IsBlockRead, IsPlanRead}
 
 -- ---- where nothing is found

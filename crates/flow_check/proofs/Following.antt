@@ -1,5 +1,7 @@
 -- Statements that keep the rules of reading, one behind the other.
-use Rattle.std.proofs.Common.{◌≡◌, ℕ, suc, ◌+◌, ◌<◌, ◌≤◌, List, [], ◌∷◌, ◌++◌, length, take, take_while, Option, None, Some, option_map, unwrap_or, is_some, Bool, true, false, not, cond, refl, sym, ap, subst, ◌∙◌, arith, true≢false, append_assoc, slice_get}
+use Rattle.std.proofs.Common.{◌≡◌, ℕ, suc, ◌+◌, ◌<◌, ◌≤◌, List, [], ◌∷◌, ◌++◌, length, take, take_while, Option, None, Some, option_map}
+use Rattle.std.proofs.Common.{unwrap_or, is_some, Bool, true, false, not, cond, refl, sym, ap, subst, ◌∙◌, arith, true≢false, append_assoc}
+use Rattle.std.proofs.Common.{slice_get}
 use Rattle.std.specs.Prelude.{◌&&◌, ◌||◌, reverse}
 use Rattle.std.specs.List.{list_all, filter_map, cons_option}
 use Rattle.std.proofs.lemmas.Bool.{and_parts}
@@ -12,7 +14,8 @@ use Rattle.flow_grammar.specs.declared.fault.Code.{Code}
 use Rattle.flow_grammar.specs.Parts.{parts}
 use Rattle.flow_grammar.specs.Before.{is_among, is_no_module, is_no_block}
 use Rattle.flow_grammar.specs.Places.{may_follow}
-use Rattle.flow_grammar.specs.Rules.{is_well_named, is_in_range, is_new, is_first_input, is_known, has_room, statement_fault, KeepsRules, KeepsReadingRules}
+use Rattle.flow_grammar.specs.Rules.{is_well_named, is_in_range, is_new, is_first_input, is_known, has_room, statement_fault, KeepsRules}
+use Rattle.flow_grammar.specs.Rules.{KeepsReadingRules}
 use Rattle.session_plan.specs.Names.{Name, place_of, number_of}
 use Rattle.session_plan.specs.Sections.{begins, body_of}
 use Rattle.session_plan.specs.declared.section.Level.{Level}

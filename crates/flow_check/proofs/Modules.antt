@@ -1,5 +1,6 @@
 -- What the rules of reading give of modules.
-use Rattle.std.proofs.Common.{◌≡◌, suc, ◌<◌, ◌≤◌, List, [], ◌∷◌, ◌++◌, length, map, is_some, Bool, true, false, cond, refl, sym, ap, subst, ◌∙◌, arith, true≢false, append_assoc, append-nil}
+use Rattle.std.proofs.Common.{◌≡◌, suc, ◌<◌, ◌≤◌, List, [], ◌∷◌, ◌++◌, length, map, is_some, Bool, true, false, cond, refl, sym, ap, subst}
+use Rattle.std.proofs.Common.{◌∙◌, arith, true≢false, append_assoc, append-nil}
 use Rattle.std.specs.Prelude.{◌&&◌, nat_le, IsTrue, reverse}
 use Rattle.std.specs.List.{All, filter_map, cons_option}
 use Rattle.std.proofs.lemmas.Bool.{and_parts, ltb-true}
@@ -14,7 +15,8 @@ use Rattle.flow_design.specs.StaticRules.{IsMemorySound}
 use Rattle.flow_grammar.specs.Tokens.{is_name as is_name_token}
 use Rattle.flow_grammar.specs.Before.{channel_name, register_name, memory_name, block_name, registers, memories, blocks, is_among}
 use Rattle.flow_grammar.specs.declared.place.Place.{Place}
-use Rattle.flow_grammar.specs.declared.place.Place.TheVariants.{AtStart, AmongChannels, AmongRegisters, AmongTemps, AmongOperations, AfterBody, AmongInputs, AmongEdits, AtEnd}
+use Rattle.flow_grammar.specs.declared.place.Place.TheVariants.{AtStart, AmongChannels, AmongRegisters, AmongTemps, AmongOperations}
+use Rattle.flow_grammar.specs.declared.place.Place.TheVariants.{AfterBody, AmongInputs, AmongEdits, AtEnd}
 use Rattle.flow_grammar.specs.Places.{place, may_stand, may_follow}
 use Rattle.flow_grammar.specs.Rules.{is_over}
 use Rattle.session_plan.specs.Names.{Name, Scope}
@@ -24,7 +26,8 @@ use Rattle.session_plan.specs.declared.section.Level.{Level}
 use Rattle.session_plan.specs.declared.section.Level.TheVariants as level
 use Rattle.session_plan.specs.declared.section.Sort.TheVariants as sort
 use Rattle.flow_check.specs.Read.{IsModuleRead}
-use Rattle.flow_check.proofs.Following.{Keeps, Follow, Plain, body_first, plain_body, follow_body, inside, nothing_inside, grows, tally, length_found, tally_same, within, Heard, heard_none, heard_more, heard_later}
+use Rattle.flow_check.proofs.Following.{Keeps, Follow, Plain, body_first, plain_body, follow_body, inside, nothing_inside, grows, tally}
+use Rattle.flow_check.proofs.Following.{length_found, tally_same, within, Heard, heard_none, heard_more, heard_later}
 use Rattle.flow_check.proofs.Numbers.{in_range, all_none, all_cons}
 use Rattle.flow_check.proofs.Bodies.{register_same, memory_same, found_same, heard_body, Hears}
 use Rattle.flow_check.proofs.Blocks.{blocks_read}

@@ -1,5 +1,6 @@
 -- What the rules of reading give of a plan and of its edits.
-use Rattle.std.proofs.Common.{◌≡◌, ℕ, ◌+◌, ◌<◌, ◌≤◌, List, [], ◌∷◌, length, map, get_or, is_some, Bool, true, refl, sym, ap, subst, ◌∙◌, arith, true≢false}
+use Rattle.std.proofs.Common.{◌≡◌, ℕ, ◌+◌, ◌<◌, ◌≤◌, List, [], ◌∷◌, length, map, get_or, is_some, Bool, true, refl, sym, ap, subst, ◌∙◌}
+use Rattle.std.proofs.Common.{arith, true≢false}
 use Rattle.std.specs.Prelude.{◌&&◌, nat_le, IsTrue}
 use Rattle.std.specs.List.{All, filter_map, cons_option, enumerate_from}
 use Rattle.std.proofs.lemmas.Bool.{and_parts, ltb-true}

@@ -1,5 +1,6 @@
 -- A plan that the engine takes breaks no rule of checking.
-use Rattle.std.proofs.Common.{◌≡◌, ℕ, suc, ◌+◌, ◌*◌, ◌%◌, ◌<◌, List, [], ◌∷◌, ◌++◌, length, take, get_or, Option, None, Some, IfSome, option_map, Bool, true, false, cond, refl, sym, ap, subst, ◌∙◌, arith, true≢false, append_assoc, append-nil}
+use Rattle.std.proofs.Common.{◌≡◌, ℕ, suc, ◌+◌, ◌*◌, ◌%◌, ◌<◌, List, [], ◌∷◌, ◌++◌, length, take, get_or, Option, None, Some, IfSome}
+use Rattle.std.proofs.Common.{option_map, Bool, true, false, cond, refl, sym, ap, subst, ◌∙◌, arith, true≢false, append_assoc, append-nil}
 use Rattle.std.specs.Prelude.{◌&&◌, ◌==◌, nat_lt, nat_le, nat_eq, IsTrue}
 use Rattle.std.specs.List.{AllPairs, enumerate_from}
 use Rattle.std.proofs.lemmas.Bool.{and_parts, and_from, lt-ltb, le-leb, eqb-true, eq-eqb, not_from_true, false_from_ne_true}
@@ -28,7 +29,9 @@ use Rattle.flow_grammar.specs.declared.fault.Code.TheVariants as code
 use Rattle.flow_check.specs.declared.item.Spot.TheVariants.{Head, Operation, Terminator}
 use Rattle.flow_check.specs.declared.item.Item.{Item}
 use Rattle.flow_check.specs.First.{sooner, first_in, first_behind, place_where}
-use Rattle.flow_check.specs.Rules.{Slot, leads_out, breaks_limits, lacks_users, is_served, phase, slot, is_slot, takes_again, clashes, is_bad_loop, is_too_late, lacks_port, is_on_wrong_side, spot, spot_in, in_module, broken_by, checking_fault}
+use Rattle.flow_check.specs.Rules.{Slot, leads_out, breaks_limits, lacks_users, is_served, phase, slot, is_slot, takes_again, clashes}
+use Rattle.flow_check.specs.Rules.{is_bad_loop, is_too_late, lacks_port, is_on_wrong_side, spot, spot_in, in_module, broken_by}
+use Rattle.flow_check.specs.Rules.{checking_fault}
 
 -- ---- nothing is found where every item gives nothing
 

@@ -2,7 +2,8 @@
 use Rattle.std.proofs.Common.{◌≡◌, ℕ, ◌+◌, ◌<◌, ◌≤◌, length, sum_by, IsTrue, IfSome}
 use Rattle.std.specs.List.{All}
 use Rattle.std.specs.Prelude.{slice_index, slice_index_or, []}
-use Rattle.flow_design.specs.declared.limits.TheConstants.{MODULES, CHANNELS, REGISTERS, TEMPS, MEMORIES, BLOCKS, OPERATIONS, BLOCK_CLOCKS, INPUT_VALUES}
+use Rattle.flow_design.specs.declared.limits.TheConstants.{MODULES, CHANNELS, REGISTERS, TEMPS, MEMORIES, BLOCKS, OPERATIONS, BLOCK_CLOCKS}
+use Rattle.flow_design.specs.declared.limits.TheConstants.{INPUT_VALUES}
 use Rattle.flow_design.specs.declared.design.BlockKind.{BlockKind}
 use Rattle.flow_design.specs.declared.design.BlockKind.TheVariants.{Plain, Loop}
 use Rattle.flow_design.specs.declared.design.Next.{Next}

@@ -1,6 +1,7 @@
 //! Where an item of a plan stands among the statements.
 ghost use Rattle.std.specs.Prelude.{◌≡◌, ◌<◌, ◌^◌, []};
-ghost use Rattle.flow_check.specs.Places.{counts, counts_more, in_last_module, in_last_block, item_behind, same_spot, same_item, is_item, place_of, line_of};
+ghost use Rattle.flow_check.specs.Places.{counts, counts_more, in_last_module, in_last_block, item_behind, same_spot, same_item, is_item};
+ghost use Rattle.flow_check.specs.Places.{place_of, line_of};
 
 use crate::item::{Item, Spot};
 use flow_design::Statement;

@@ -5,7 +5,8 @@ ghost use Rattle.flow_design.specs.declared.design.Module.{Module as ModuleOf};
 ghost use Rattle.flow_design.specs.StaticRules.{uses, users_wanted};
 ghost use Rattle.flow_check.specs.First.{first_in, first_for, place_where};
 ghost use Rattle.flow_check.specs.Ports.{has, HasPorts, HavePorts};
-ghost use Rattle.flow_check.specs.Rules.{leads_out, breaks_limits, has_users, is_served, lacks_users, is_bad_loop, is_too_late, is_on_wrong_side, spot, spot_in, in_module, broken_by, rules, checking_fault};
+ghost use Rattle.flow_check.specs.Rules.{leads_out, breaks_limits, has_users, is_served, lacks_users, is_bad_loop, is_too_late};
+ghost use Rattle.flow_check.specs.Rules.{is_on_wrong_side, spot, spot_in, in_module, broken_by, rules, checking_fault};
 
 use crate::item::{Item, Spot};
 use crate::ports::{first_clash, port_of, ports_of_each};

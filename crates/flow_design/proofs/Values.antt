@@ -14,7 +14,8 @@ pub value_var : (registers temps : List ℕ) (at : ℕ) → value registers temp
 unfolding value
 value_var registers temps at = refl
 
-pub value_unary : (registers temps : List ℕ) (op : UnOp) (a : Expr ℕ) → value registers temps (Unary op a) ≡ unary op (value registers temps a)
+pub value_unary : (registers temps : List ℕ) (op : UnOp) (a : Expr ℕ) → value registers temps (Unary op a) ≡ unary op
+    (value registers temps a)
 unfolding value hidden-the_row-Expr-0 denote.Hole.Carrier.hidden
 value_unary registers temps op a = refl
 
@@ -23,7 +24,8 @@ pub value_binary : (registers temps : List ℕ) (op : BinOp) (a b : Expr ℕ)
 unfolding value hidden-the_row-Expr-0 denote.Hole.Carrier.hidden
 value_binary registers temps op a b = refl
 
-pub value_sext : (registers temps : List ℕ) (k : ℕ) (a : Expr ℕ) → value registers temps (Sext k a) ≡ extended k (value registers temps a % 2 ^ k)
+pub value_sext : (registers temps : List ℕ) (k : ℕ) (a : Expr ℕ) → value registers temps (Sext k a) ≡ extended k
+    (value registers temps a % 2 ^ k)
 unfolding value hidden-the_row-Expr-0 denote.Hole.Carrier.hidden
 value_sext registers temps k a = refl
 

@@ -1,5 +1,6 @@
 -- A module's live iterations, and which operations are due in them.
-use Rattle.std.specs.Prelude.{ℕ, zero, suc, ◌+◌, ◌-◌, ◌*◌, ◌/◌, ◌==◌, min, nat_lt, Bool, true, false, not, if◌then◌else◌, Option, Some, None, List, [], ◌∷◌, map, filter, flat_map, slice_index_or}
+use Rattle.std.specs.Prelude.{ℕ, zero, suc, ◌+◌, ◌-◌, ◌*◌, ◌/◌, ◌==◌, min, nat_lt, Bool, true, false, not, if◌then◌else◌, Option, Some}
+use Rattle.std.specs.Prelude.{None, List, [], ◌∷◌, map, filter, flat_map, slice_index_or}
 use Rattle.std.specs.List.{enumerate_from}
 use Rattle.flow_design.specs.declared.expr.Op.TheVariants.{Full}
 use Rattle.flow_design.specs.declared.design.BlockKind.{BlockKind}

@@ -15,4 +15,5 @@ begins_with_letter (c ∷ cs) = is_ascii_alphabetic c || (c == 95)
 
 -- the bytes are a name
 abbrev pub is_name : List ℕ → Bool
-is_name bytes = begins_with_letter bytes && (list_all is_name_byte bytes && (nat_le (length bytes) 64 && not (bytes_eq bytes (codes "sext"))))
+is_name bytes =
+    begins_with_letter bytes && (list_all is_name_byte bytes && (nat_le (length bytes) 64 && not (bytes_eq bytes (codes "sext"))))

@@ -65,7 +65,8 @@ port k f = record { side = side_of k; channel = f }
 abbrev pub taken_port : Kind → ℕ → Option Port
 taken_port k f = if is_taking k then Some (port k f) else None
 
--- the port at which an operation stands: `read`, `tryread` and `empty` at the popping side, `write`, `trywrite` and `full` at the pushing side
+-- the port at which an operation stands: `read`, `tryread` and `empty` at the popping side, `write`, `trywrite` and `full` at the pushing
+-- side
 abbrev pub port_of : Op ℕ → Option Port
 port_of op = option_map (λ a. port a.0 a.1) (access_of op)
 

@@ -1,11 +1,14 @@
 -- Which plans the engine takes: those that keep the static rules and the limits of the language.
-use Rattle.std.specs.Prelude.{◌≡◌, ℕ, ◌+◌, ◌*◌, ◌%◌, nat_eq, ◌<◌, ◌≤◌, Bool, false, ◌&&◌, IsTrue, List, [], length, slice_index, slice_index_or, sum_by, count_by, All, AllPairs, Option, None, Some, IfSome}
+use Rattle.std.specs.Prelude.{◌≡◌, ℕ, ◌+◌, ◌*◌, ◌%◌, nat_eq, ◌<◌, ◌≤◌, Bool, false, ◌&&◌, IsTrue, List, [], length, slice_index}
+use Rattle.std.specs.Prelude.{slice_index_or, sum_by, count_by, All, AllPairs, Option, None, Some, IfSome}
 use Rattle.std.specs.List.{list_any}
 use Rattle.flow_word.specs.declared.access.Port.{Port}
 use Rattle.flow_word.specs.declared.access.Side.{Side}
 use Rattle.flow_word.specs.declared.access.Side.TheVariants.{Pop, Push}
 use Rattle.flow_word.specs.Kinds.{same_side}
-use Rattle.flow_design.specs.declared.limits.TheConstants.{MODULES, CHANNELS, REGISTERS, TEMPS, MEMORIES, MEMORY_WORDS, BLOCKS, OPERATIONS, LIVE_ITERATIONS, BLOCK_CLOCKS, EXPRESSION_NODES, EXPRESSION_DEPTH, INPUT_VALUES, FIFO_DEPTH, FIFO_DELAY, CYCLES, COUNTED_OPERATIONS}
+use Rattle.flow_design.specs.declared.limits.TheConstants.{MODULES, CHANNELS, REGISTERS, TEMPS, MEMORIES, MEMORY_WORDS, BLOCKS, OPERATIONS}
+use Rattle.flow_design.specs.declared.limits.TheConstants.{LIVE_ITERATIONS, BLOCK_CLOCKS, EXPRESSION_NODES, EXPRESSION_DEPTH, INPUT_VALUES}
+use Rattle.flow_design.specs.declared.limits.TheConstants.{FIFO_DEPTH, FIFO_DELAY, CYCLES, COUNTED_OPERATIONS}
 use Rattle.flow_design.specs.declared.expr.Expr.{Expr}
 use Rattle.flow_design.specs.declared.expr.Op.{Op}
 use Rattle.flow_design.specs.declared.design.BlockKind.{BlockKind}

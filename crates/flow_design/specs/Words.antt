@@ -1,5 +1,6 @@
 -- Word values: a number below 2^64, and the value of an expression, one line of the language's table per case.
-use Rattle.std.specs.Prelude.{ℕ, max, ◌+◌, ◌-◌, ◌*◌, ◌/◌, ◌%◌, ◌^◌, ◌==◌, not, List, ◌++◌, slice_index, nat_lt, if◌then◌else◌, bit_and, bit_or, bit_xor, int_lt}
+use Rattle.std.specs.Prelude.{ℕ, max, ◌+◌, ◌-◌, ◌*◌, ◌/◌, ◌%◌, ◌^◌, ◌==◌, not, List, ◌++◌, slice_index, nat_lt, if◌then◌else◌, bit_and}
+use Rattle.std.specs.Prelude.{bit_or, bit_xor, int_lt}
 use Rattle.std.specs.Int.{from_bool, cast_signed, w64}
 use Rattle.flow_design.specs.declared.expr.Expr.{Expr, more_of-Expr, Number, Var, Unary', Binary', Sext', Pick', fold-Expr}
 use Rattle.flow_design.specs.declared.expr.Expr.TheOpen.{Expr-F}

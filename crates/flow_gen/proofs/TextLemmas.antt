@@ -1,5 +1,6 @@
 -- The lines of one module more, and one number more.
-use Rattle.std.proofs.Common.{◌≡◌, ◌∙◌, ◌<◌, ◌≤◌, ℕ, ◌+◌, List, ◌++◌, [], refl, sym, ap, add-one, append_assoc, append-nil, drop, drop-cons, get_or, length}
+use Rattle.std.proofs.Common.{◌≡◌, ◌∙◌, ◌<◌, ◌≤◌, ℕ, ◌+◌, List, ◌++◌, [], refl, sym, ap, add-one, append_assoc, append-nil, drop, drop-cons}
+use Rattle.std.proofs.Common.{get_or, length}
 use Rattle.std.proofs.lemmas.List.{drop_all}
 use Rattle.flow_gen.specs.Generated.{Text, first_numbers, spaced, each_module}
 use Rattle.flow_gen.specs.declared.draws.Drawn.{Drawn}

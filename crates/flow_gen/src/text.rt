@@ -1,7 +1,8 @@
 //! The lines of the session.
 ghost use Rattle.std.specs.Prelude.{◌≡◌, ◌++◌, ◌≤◌, ◌<◌, IfOk, OnOk, length, string_bytes};
 ghost use Rattle.flow_design.specs.declared.limits.TheConstants.{MODULES};
-ghost use Rattle.flow_gen.specs.Generated.{declarations, fifo_line, first_clock, first_numbers, input_of, loop_line, module_lines, output_of, second_clock, session_of, spaced, each_module};
+ghost use Rattle.flow_gen.specs.Generated.{declarations, fifo_line, first_clock, first_numbers, input_of, loop_line, module_lines};
+ghost use Rattle.flow_gen.specs.Generated.{output_of, second_clock, session_of, spaced, each_module};
 
 use crate::channel::Channel;
 use crate::draws::Drawn;

@@ -2,7 +2,8 @@
 use Rattle.std.proofs.Common.{ℕ, sym, subst}
 use Rattle.flow_design.specs.declared.expr.Expr.{Expr, ind-Expr, roll-Expr, map-Expr}
 use Rattle.flow_design.specs.declared.expr.Expr.TheOpen.{Expr-F}
-use Rattle.flow_design.specs.declared.expr.Expr.TheVariants.{Number, Var, Unary, Binary, Sext, Pick, rolls-Number, rolls-Var, rolls-Unary, rolls-Binary, rolls-Sext, rolls-Pick}
+use Rattle.flow_design.specs.declared.expr.Expr.TheVariants.{Number, Var, Unary, Binary, Sext, Pick, rolls-Number, rolls-Var, rolls-Unary}
+use Rattle.flow_design.specs.declared.expr.Expr.TheVariants.{rolls-Binary, rolls-Sext, rolls-Pick}
 use Rattle.flow_design.specs.declared.expr.UnOp.{UnOp}
 use Rattle.flow_design.specs.declared.expr.BinOp.{BinOp}
 

@@ -18,7 +18,8 @@ use Rattle.flow_grammar.specs.Before.{is_among}
 use Rattle.flow_grammar.specs.Rules.{is_in_range, is_known, named, is_small}
 use Rattle.flow_grammar.specs.Operands.{seen, two, choose, kept, is_known_by}
 use Rattle.flow_grammar.proofs.Induction.{by_cases}
-use Rattle.flow_grammar.proofs.Trees.{folded-Number, folded-Var, folded-Unary, folded-Binary, folded-Sext, folded-Pick, seen_Number, seen_Var, seen_Unary, seen_Binary, seen_Sext, seen_Pick}
+use Rattle.flow_grammar.proofs.Trees.{folded-Number, folded-Var, folded-Unary, folded-Binary, folded-Sext, folded-Pick, seen_Number}
+use Rattle.flow_grammar.proofs.Trees.{seen_Var, seen_Unary, seen_Binary, seen_Sext, seen_Pick}
 use Rattle.flow_grammar.proofs.SpellingLaws.{parts_Number, parts_Var, parts_Unary, parts_Binary, parts_Sext, parts_Pick}
 use Rattle.flow_grammar.proofs.Verdicts.{verdict, verdict_one, verdict_two, verdict_sext, verdict_pick}
 

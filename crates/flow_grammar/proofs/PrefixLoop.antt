@@ -1,5 +1,6 @@
 -- Tokens taken from the last to the first, as a loop does.
-use Rattle.std.proofs.Common.{◌≡◌, ℕ, zero, suc, ◌+◌, ◌≤◌, List, [], ◌∷◌, map, drop, get_or, length, Bool, true, false, Option, None, Some, refl, sym, ap, ◌∙◌, arith}
+use Rattle.std.proofs.Common.{◌≡◌, ℕ, zero, suc, ◌+◌, ◌≤◌, List, [], ◌∷◌, map, drop, get_or, length, Bool, true, false, Option, None, Some}
+use Rattle.std.proofs.Common.{refl, sym, ap, ◌∙◌, arith}
 use Rattle.std.specs.Option.{option_and_then}
 use Rattle.flow_grammar.specs.Trees.{trees_of, with_token}
 use Rattle.flow_grammar.specs.declared.operand.Operand.{Operand}

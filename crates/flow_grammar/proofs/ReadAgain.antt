@@ -6,13 +6,16 @@ use Rattle.flow_design.specs.declared.expr.Expr.{Expr}
 use Rattle.flow_design.specs.declared.expr.Op.{Op}
 use Rattle.flow_design.specs.declared.expr.Op.TheVariants as op
 use Rattle.flow_design.specs.declared.session.Statement.{Statement}
-use Rattle.flow_design.specs.declared.session.Statement.TheVariants.{Flow, Source, Sink, Fifo, Module, Reg, Mem, Block, Loop, Temp, At, Goto, Branch, Stop, Input, Limits, Depth, End}
+use Rattle.flow_design.specs.declared.session.Statement.TheVariants.{Flow, Source, Sink, Fifo, Module, Reg, Mem, Block, Loop, Temp, At}
+use Rattle.flow_design.specs.declared.session.Statement.TheVariants.{Goto, Branch, Stop, Input, Limits, Depth, End}
 use Rattle.flow_grammar.specs.Tokens.{Token, is_number, number_of, is_word}
 use Rattle.flow_grammar.specs.Before.{has_delays}
-use Rattle.flow_grammar.specs.Parts.{Name, parts, bare_parts, depth_parts, fifo_parts, default_depth, default_delay, op_parts, guard_parts, plain}
+use Rattle.flow_grammar.specs.Parts.{Name, parts, bare_parts, depth_parts, fifo_parts, default_depth, default_delay, op_parts, guard_parts}
+use Rattle.flow_grammar.specs.Parts.{plain}
 use Rattle.flow_grammar.specs.Spelling.{Spelled, Writes}
 use Rattle.flow_grammar.specs.Keywords.{keyword_of, verb_of}
-use Rattle.flow_grammar.specs.Forms.{statement_of, flow_of, fifo_of, mem_of, loop_of, at_of, branch_of, input_of, limits_of, op_of, guarded_of}
+use Rattle.flow_grammar.specs.Forms.{statement_of, flow_of, fifo_of, mem_of, loop_of, at_of, branch_of, input_of, limits_of, op_of}
+use Rattle.flow_grammar.specs.Forms.{guarded_of}
 use Rattle.flow_grammar.proofs.Again.{one_again, two_again}
 
 -- ---- operations

@@ -1,5 +1,6 @@
 -- The lines read one after the other give what the text as a whole stands for, or its fault.
-use Rattle.std.proofs.Common.{◌≡◌, ℕ, zero, suc, ◌+◌, ◌≤◌, ◌<◌, ◌⊎◌, inl, inr, List, [], ◌∷◌, ◌++◌, length, take, get_or, Option, None, Some, Result, Ok, Err, Bool, true, false, refl, sym, ap, subst, ◌∙◌, append_assoc, arith}
+use Rattle.std.proofs.Common.{◌≡◌, ℕ, zero, suc, ◌+◌, ◌≤◌, ◌<◌, ◌⊎◌, inl, inr, List, [], ◌∷◌, ◌++◌, length, take, get_or, Option, None}
+use Rattle.std.proofs.Common.{Some, Result, Ok, Err, Bool, true, false, refl, sym, ap, subst, ◌∙◌, append_assoc, arith}
 use Rattle.std.proofs.lemmas.List.{append-nil}
 use Rattle.std.proofs.lemmas.Bool.{cases_lt}
 use Rattle.flow_design.specs.declared.limits.TheConstants.{TEXT_BYTES}
@@ -14,7 +15,8 @@ use Rattle.flow_grammar.specs.Tokens.{Line, lines_of}
 use Rattle.flow_grammar.specs.Rules.{is_over}
 use Rattle.flow_grammar.specs.Line.{statement_in, line_fault}
 use Rattle.flow_grammar.specs.Gives.{◌>>=◌, Read, reading, at_line, judged, line_reading, with_statement, in_front, ended, TextGives}
-use Rattle.flow_grammar.specs.Text.{statements_among, numbers_among, IsInOrder, AreInOrder, Fails, FailsFirst, HasNoEnd, StandsFor, HasFault, IsAnswer, Answers, session_of, Said}
+use Rattle.flow_grammar.specs.Text.{statements_among, numbers_among, IsInOrder, AreInOrder, Fails, FailsFirst, HasNoEnd, StandsFor}
+use Rattle.flow_grammar.specs.Text.{HasFault, IsAnswer, Answers, session_of, Said}
 use Rattle.flow_grammar.proofs.LineLaws.{order_of_line, line_of_order, fails_of_line, line_of_fails}
 
 abbrev pub Words : Type 0

@@ -3,7 +3,8 @@ use Rattle.std.proofs.Common.{◌≡◌, ℕ, ◌+◌, List, [], ◌∷◌, ◌+
 use Rattle.std.specs.Prelude.{reverse, unwrap_or}
 use Rattle.std.proofs.lemmas.List.{reverse-append}
 use Rattle.flow_design.specs.declared.session.Statement.{Statement}
-use Rattle.flow_design.specs.declared.session.Statement.TheVariants.{Flow, Source, Sink, Fifo, Module, Reg, Mem, Block, Loop, Temp, At, Goto, Branch, Stop, Input, Limits, Depth, End}
+use Rattle.flow_design.specs.declared.session.Statement.TheVariants.{Flow, Source, Sink, Fifo, Module, Reg, Mem, Block, Loop, Temp, At}
+use Rattle.flow_design.specs.declared.session.Statement.TheVariants.{Goto, Branch, Stop, Input, Limits, Depth, End}
 use Rattle.flow_grammar.specs.Tokens.{Line, Token, lines_of, tokens_of}
 use Rattle.flow_grammar.specs.Before.{flow_number, version, has_delays}
 use Rattle.flow_grammar.specs.Places.{place_after, takes_flow, may_follow}

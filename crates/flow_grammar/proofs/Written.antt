@@ -7,7 +7,8 @@ use Rattle.flow_design.specs.declared.expr.Expr.{Expr}
 use Rattle.flow_design.specs.declared.expr.Op.{Op}
 use Rattle.flow_design.specs.declared.expr.Op.TheVariants as op
 use Rattle.flow_design.specs.declared.session.Statement.{Statement}
-use Rattle.flow_design.specs.declared.session.Statement.TheVariants.{Flow, Source, Sink, Fifo, Module, Reg, Mem, Block, Loop, Temp, At, Goto, Branch, Stop, Input, Limits, Depth, End}
+use Rattle.flow_design.specs.declared.session.Statement.TheVariants.{Flow, Source, Sink, Fifo, Module, Reg, Mem, Block, Loop, Temp, At}
+use Rattle.flow_design.specs.declared.session.Statement.TheVariants.{Goto, Branch, Stop, Input, Limits, Depth, End}
 use Rattle.flow_grammar.specs.Tokens.{Token, is_number, is_name, number_of, is_word}
 use Rattle.flow_grammar.specs.declared.keyword.Keyword.{Keyword}
 use Rattle.flow_grammar.specs.declared.keyword.Keyword.TheVariants as keyword
@@ -18,7 +19,9 @@ use Rattle.flow_grammar.specs.Keywords.{keyword_word, keyword_of, verb_word, ver
 use Rattle.flow_grammar.specs.Parts.{Name, Part, default_depth, default_delay, op_parts, expr_parts, plain}
 use Rattle.flow_grammar.specs.Spelling.{Spelled, Writes}
 use Rattle.flow_grammar.specs.Trees.{Trees, trees_of}
-use Rattle.flow_grammar.specs.Forms.{only_if, if_then, one_tree, two_trees, statement_of, flow_of, name_width, fifo_of, one_name, mem_of, loop_of, at_of, branch_of, input_of, limits_of, bare, form_of, form_if, op_form_of, op_form_if, op_of, set_of, load_of, store_of, two_names, write_of, try_read_of, try_write_of, guarded_of}
+use Rattle.flow_grammar.specs.Forms.{only_if, if_then, one_tree, two_trees, statement_of, flow_of, name_width, fifo_of, one_name, mem_of}
+use Rattle.flow_grammar.specs.Forms.{loop_of, at_of, branch_of, input_of, limits_of, bare, form_of, form_if, op_form_of, op_form_if, op_of}
+use Rattle.flow_grammar.specs.Forms.{set_of, load_of, store_of, two_names, write_of, try_read_of, try_write_of, guarded_of}
 use Rattle.flow_grammar.proofs.SpellingLaws.{trees_spelled, word_is, keyword_is, verb_is}
 
 both : (a b : Bool) → a && b ≡ true → (a ≡ true) × (b ≡ true)

@@ -1,5 +1,6 @@
 -- Expressions as the reader keeps them: one that fails a test is no more than the first test that it fails.
-use Rattle.std.specs.Prelude.{◌≡◌, ℕ, ◌+◌, ◌^◌, max, Bool, true, false, List, ◌∷◌, ◌&&◌, nat_le, nat_lt, if◌then◌else◌, not, Option, None, Some}
+use Rattle.std.specs.Prelude.{◌≡◌, ℕ, ◌+◌, ◌^◌, max, Bool, true, false, List, ◌∷◌, ◌&&◌, nat_le, nat_lt, if◌then◌else◌, not, Option, None}
+use Rattle.std.specs.Prelude.{Some}
 use Rattle.flow_design.specs.declared.limits.TheConstants.{EXPRESSION_NODES, EXPRESSION_DEPTH}
 use Rattle.flow_design.specs.declared.expr.Expr.{Expr, fold-Expr}
 use Rattle.flow_design.specs.declared.expr.Expr.TheOpen.{Expr-F}

@@ -1,9 +1,11 @@
 -- Which statement may stand where.
 use Rattle.std.specs.Prelude.{Bool, true, false, List, [], ◌∷◌}
 use Rattle.flow_design.specs.declared.session.Statement.{Statement}
-use Rattle.flow_design.specs.declared.session.Statement.TheVariants.{Flow, Source, Sink, Fifo, Module, Reg, Mem, Block, Loop, Temp, At, Goto, Branch, Stop, Input, Limits, Depth, End}
+use Rattle.flow_design.specs.declared.session.Statement.TheVariants.{Flow, Source, Sink, Fifo, Module, Reg, Mem, Block, Loop, Temp, At}
+use Rattle.flow_design.specs.declared.session.Statement.TheVariants.{Goto, Branch, Stop, Input, Limits, Depth, End}
 use Rattle.flow_grammar.specs.declared.place.Place.{Place}
-use Rattle.flow_grammar.specs.declared.place.Place.TheVariants.{AtStart, AmongChannels, AmongRegisters, AmongTemps, AmongOperations, AfterBody, AmongInputs, AmongEdits, AtEnd}
+use Rattle.flow_grammar.specs.declared.place.Place.TheVariants.{AtStart, AmongChannels, AmongRegisters, AmongTemps, AmongOperations}
+use Rattle.flow_grammar.specs.declared.place.Place.TheVariants.{AfterBody, AmongInputs, AmongEdits, AtEnd}
 
 -- where a statement leads
 abbrev pub place_after : Statement → Place

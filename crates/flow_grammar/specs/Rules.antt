@@ -1,19 +1,24 @@
 -- The rules of reading for one statement: the first that it breaks after the statements before it, which are given the latest first.
-use Rattle.std.specs.Prelude.{◌≡◌, ℕ, ◌+◌, Bool, true, List, ◌++◌, ◌&&◌, ◌||◌, ◌==◌, not, nat_le, nat_lt, reverse, take, slice_get, Option, None, Some, length, if◌then◌else◌}
+use Rattle.std.specs.Prelude.{◌≡◌, ℕ, ◌+◌, Bool, true, List, ◌++◌, ◌&&◌, ◌||◌, ◌==◌, not, nat_le, nat_lt, reverse, take, slice_get, Option}
+use Rattle.std.specs.Prelude.{None, Some, length, if◌then◌else◌}
 use Rattle.std.specs.List.{list_all}
 use Rattle.flow_design.specs.declared.expr.Expr.{Expr}
 use Rattle.flow_design.specs.declared.expr.Op.{Op}
 use Rattle.flow_design.specs.declared.expr.Op.TheVariants as op
-use Rattle.flow_design.specs.declared.limits.TheConstants.{MODULES, CHANNELS, REGISTERS, TEMPS, MEMORIES, BLOCKS, OPERATIONS, EXPRESSION_NODES, EXPRESSION_DEPTH, INPUT_VALUES, EDITS}
+use Rattle.flow_design.specs.declared.limits.TheConstants.{MODULES, CHANNELS, REGISTERS, TEMPS, MEMORIES, BLOCKS, OPERATIONS}
+use Rattle.flow_design.specs.declared.limits.TheConstants.{EXPRESSION_NODES, EXPRESSION_DEPTH, INPUT_VALUES, EDITS}
 use Rattle.flow_design.specs.declared.session.Statement.{Statement}
-use Rattle.flow_design.specs.declared.session.Statement.TheVariants.{Source, Sink, Fifo, Module, Reg, Mem, Block, Loop, Temp, At, Input, Depth}
+use Rattle.flow_design.specs.declared.session.Statement.TheVariants.{Source, Sink, Fifo, Module, Reg, Mem, Block, Loop, Temp, At, Input}
+use Rattle.flow_design.specs.declared.session.Statement.TheVariants.{Depth}
 use Rattle.flow_design.specs.Words.{nodes, depth}
 use Rattle.flow_grammar.specs.declared.fault.Code.{Code}
 use Rattle.flow_grammar.specs.declared.fault.Code.TheVariants.{BadNumber, DoubleName, UnknownName, TooMany}
 use Rattle.flow_grammar.specs.Tokens.{is_name}
-use Rattle.flow_grammar.specs.Parts.{Name, Part, New, Use, Label, Num, Space, ChannelName, ModuleName, RegisterName, MemoryName, TempName, BlockName, Sort, AnyChannel, ASource, AFifo, ARegister, AMemory, AVariable, default_delay, parts}
+use Rattle.flow_grammar.specs.Parts.{Name, Part, New, Use, Label, Num, Space, ChannelName, ModuleName, RegisterName, MemoryName, TempName}
+use Rattle.flow_grammar.specs.Parts.{BlockName, Sort, AnyChannel, ASource, AFifo, ARegister, AMemory, AVariable, default_delay, parts}
 use Rattle.flow_grammar.specs.Places.{place, is_end, may_follow}
-use Rattle.flow_grammar.specs.Before.{version, has_delays, channels, sources, fifos, modules, registers, memories, blocks, temps, operations, inputs, input_values, edits, is_among}
+use Rattle.flow_grammar.specs.Before.{version, has_delays, channels, sources, fifos, modules, registers, memories, blocks, temps}
+use Rattle.flow_grammar.specs.Before.{operations, inputs, input_values, edits, is_among}
 
 -- ---- names and numbers
 

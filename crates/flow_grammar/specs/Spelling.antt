@@ -4,7 +4,8 @@ use Rattle.flow_design.specs.declared.session.Statement.{Statement}
 use Rattle.flow_design.specs.declared.session.Statement.TheVariants.{Fifo}
 use Rattle.flow_grammar.specs.Tokens.{Token, is_number, is_name, number_of}
 use Rattle.flow_grammar.specs.Before.{has_delays}
-use Rattle.flow_grammar.specs.Parts.{Name, Part, Word, New, Use, Label, Num, parts, bare_parts, depth_parts, fifo_parts, default_depth, default_delay}
+use Rattle.flow_grammar.specs.Parts.{Name, Part, Word, New, Use, Label, Num, parts, bare_parts, depth_parts, fifo_parts, default_depth}
+use Rattle.flow_grammar.specs.Parts.{default_delay}
 
 -- the token is this part: a number may have leading zeros
 abbrev pub Spells : Token → Part → Type 0

@@ -1,5 +1,6 @@
 -- What a text stands for, and the fault that it has: all its lines at once.
-use Rattle.std.specs.Prelude.{◌≡◌, ℕ, ◌+◌, ◌<◌, ◌≤◌, ◌⊎◌, true, false, List, [], ◌∷◌, length, take, reverse, slice_index_or, Option, None, Some, IfSome, Result, Ok, Err}
+use Rattle.std.specs.Prelude.{◌≡◌, ℕ, ◌+◌, ◌<◌, ◌≤◌, ◌⊎◌, true, false, List, [], ◌∷◌, length, take, reverse, slice_index_or, Option, None}
+use Rattle.std.specs.Prelude.{Some, IfSome, Result, Ok, Err}
 use Rattle.std.specs.List.{list_all, filter_map}
 use Rattle.flow_design.specs.declared.limits.TheConstants.{TEXT_BYTES}
 use Rattle.flow_design.specs.declared.session.Statement.{Statement}

@@ -1,5 +1,6 @@
 -- The token of each part of a statement that keeps the rules is printed whole, and spells the part.
-use Rattle.std.proofs.Common.{◌≡◌, ℕ, ◌+◌, ◌<◌, ◌≤◌, ◌^◌, ◌%◌, List, [], ◌∷◌, ◌++◌, map, length, Bool, true, false, not, Option, None, Some, refl, arith}
+use Rattle.std.proofs.Common.{◌≡◌, ℕ, ◌+◌, ◌<◌, ◌≤◌, ◌^◌, ◌%◌, List, [], ◌∷◌, ◌++◌, map, length, Bool, true, false, not, Option, None, Some}
+use Rattle.std.proofs.Common.{refl, arith}
 use Rattle.std.specs.Prelude.{if◌then◌else◌, ◌&&◌, ◌==◌, nat_le, nat_lt}
 use Rattle.std.specs.Char.{is_ascii_digit}
 use Rattle.std.specs.Fmt.{decimal}
@@ -17,7 +18,8 @@ use Rattle.flow_design.specs.declared.expr.Op.{Op}
 use Rattle.flow_design.specs.declared.expr.Op.TheVariants as op
 use Rattle.flow_design.specs.declared.limits.TheConstants.{FIFO_DELAY}
 use Rattle.flow_design.specs.declared.session.Statement.{Statement}
-use Rattle.flow_design.specs.declared.session.Statement.TheVariants.{Flow, Source, Sink, Fifo, Module, Reg, Mem, Block, Loop, Temp, At, Goto, Branch, Stop, Input, Limits, Depth, End}
+use Rattle.flow_design.specs.declared.session.Statement.TheVariants.{Flow, Source, Sink, Fifo, Module, Reg, Mem, Block, Loop, Temp, At}
+use Rattle.flow_design.specs.declared.session.Statement.TheVariants.{Goto, Branch, Stop, Input, Limits, Depth, End}
 use Rattle.flow_design.specs.Names.{is_name_byte, begins_with_letter}
 use Rattle.flow_grammar.specs.Tokens.{Token, is_filled, is_no_comment, is_number, is_name, number_of}
 use Rattle.flow_grammar.specs.Parts.{Name, Part, Word, New, Use, Label, Num, parts, op_parts, guard_parts, expr_parts, plain, depth_parts}

@@ -1,5 +1,6 @@
 -- Texts that grow by the parts of a statement, each with a space before it.
-use Rattle.std.proofs.Common.{◌≡◌, ◌∙◌, ℕ, ◌+◌, ◌<◌, length, take, get_or, List, [], ◌∷◌, ◌++◌, map, ap, sym, refl, append-nil, append_assoc}
+use Rattle.std.proofs.Common.{◌≡◌, ◌∙◌, ℕ, ◌+◌, ◌<◌, length, take, get_or, List, [], ◌∷◌, ◌++◌, map, ap, sym, refl, append-nil}
+use Rattle.std.proofs.Common.{append_assoc}
 use Rattle.std.proofs.lemmas.Grind.{flat_map-append}
 use Rattle.std.specs.Prelude.{codes, Option, None, Some}
 use Rattle.std.specs.Fmt.{decimal}
@@ -156,7 +157,8 @@ printed_full text f r = three_last text (32 ∷ codes "full") (32 ∷ f) (32 ∷
 pub ruleset printed_guards = (printed_no_guard, printed_guard)
 
 pub ruleset printed_operations =
-    (printed_set, printed_load, printed_store, printed_read, printed_write, printed_try_read, printed_try_write, printed_empty, printed_full)
+    (printed_set, printed_load, printed_store, printed_read, printed_write, printed_try_read, printed_try_write, printed_empty,
+        printed_full)
 
 -- ---- lines
 

@@ -28,7 +28,8 @@ use Rattle.name_tables.specs.declared.tables.Tables.{Tables}
 use Rattle.name_tables.specs.TableTests.{is_known}
 use Rattle.flow_text.specs.declared.operations.TwoNames.{TwoNames}
 use Rattle.flow_text.specs.declared.operations.TwoNames.TheVariants as two
-use Rattle.flow_text.specs.Operations.{tested, tree_judged, trees_judged, op_judged, tree_reading, trees_reading, op_reading, tree_kept, trees_kept, made, with_tree, store_op, op_of_names, named_op, is_variable}
+use Rattle.flow_text.specs.Operations.{tested, tree_judged, trees_judged, op_judged, tree_reading, trees_reading, op_reading, tree_kept}
+use Rattle.flow_text.specs.Operations.{trees_kept, made, with_tree, store_op, op_of_names, named_op, is_variable}
 
 and_assoc : (a b c : Bool) → a && (b && c) ≡ (a && b) && c
 and_assoc true b c = refl

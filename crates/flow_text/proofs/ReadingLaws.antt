@@ -1,5 +1,6 @@
 -- Reading the lines one after the other, with the tables of the statements before each.
-use Rattle.std.proofs.Common.{◌≡◌, ℕ, ◌+◌, ◌≤◌, List, [], ◌∷◌, length, Option, None, Some, Result, Ok, Err, Bool, true, false, refl, sym, ap, subst, ◌∙◌, append_assoc, arith}
+use Rattle.std.proofs.Common.{◌≡◌, ℕ, ◌+◌, ◌≤◌, List, [], ◌∷◌, length, Option, None, Some, Result, Ok, Err, Bool, true, false, refl, sym}
+use Rattle.std.proofs.Common.{ap, subst, ◌∙◌, append_assoc, arith}
 use Rattle.std.specs.Prelude.{reverse, if◌then◌else◌}
 use Rattle.std.specs.List.{list_all}
 use Rattle.std.proofs.lemmas.List.{append-nil, reverse-append}
@@ -15,7 +16,8 @@ use Rattle.flow_grammar.specs.Line.{form_fault, tokens_fault, statement_in, line
 use Rattle.flow_grammar.specs.Before.{version}
 use Rattle.flow_grammar.specs.Places.{is_end}
 use Rattle.flow_grammar.specs.Rules.{is_over}
-use Rattle.flow_grammar.specs.Gives.{◌>>=◌, Read, judged, reading, at_line, line_reading, with_statement, with_number, in_front, ended, TextFails}
+use Rattle.flow_grammar.specs.Gives.{◌>>=◌, Read, judged, reading, at_line, line_reading, with_statement, with_number, in_front, ended}
+use Rattle.flow_grammar.specs.Gives.{TextFails}
 use Rattle.name_tables.specs.declared.tables.Tables.{Tables}
 use Rattle.name_tables.specs.TablesOf.{tables_of}
 use Rattle.name_tables.specs.TableTests.{form_fault_by, reading_by}

@@ -1,5 +1,6 @@
 -- An operation with its offset and guard fails the first test of those that its parts fail.
-use Rattle.std.proofs.Common.{◌≡◌, ◌<◌, ◌≤◌, length, map, arith, ℕ, ◌-◌, ◌^◌, List, [], ◌∷◌, ◌++◌, Bool, true, false, Option, None, Some, Result, Ok, Err, refl, sym, ap, subst, ◌∙◌}
+use Rattle.std.proofs.Common.{◌≡◌, ◌<◌, ◌≤◌, length, map, arith, ℕ, ◌-◌, ◌^◌, List, [], ◌∷◌, ◌++◌, Bool, true, false, Option, None, Some}
+use Rattle.std.proofs.Common.{Result, Ok, Err, refl, sym, ap, subst, ◌∙◌}
 use Rattle.std.specs.Prelude.{◌&&◌, not, option_map, if◌then◌else◌, nat_lt, nat_le}
 use Rattle.std.specs.List.{list_all}
 use Rattle.flow_design.specs.declared.limits.TheConstants.{OPERATIONS}
@@ -27,7 +28,8 @@ use Rattle.flow_grammar.proofs.SpellingLaws.{parts_Number, parts_Var, parts_Unar
 use Rattle.name_tables.specs.declared.tables.Tables.{Tables}
 use Rattle.flow_grammar.specs.Places.{takes_operations}
 use Rattle.name_tables.specs.TableTests.{is_new, is_known, fault_by, reading_by}
-use Rattle.flow_text.specs.Operations.{tested, op_judged, op_reading, is_variable, timed_by, timed_reading, guard_known, offset_there, with_tree}
+use Rattle.flow_text.specs.Operations.{tested, op_judged, op_reading, is_variable, timed_by, timed_reading, guard_known, offset_there}
+use Rattle.flow_text.specs.Operations.{with_tree}
 
 -- one token alone is no guard
 pub guarded_one : {A : Type 0} (off : ℕ) (f : A → Token) (xs : List A) → 1 ≤ length xs → length xs < 2

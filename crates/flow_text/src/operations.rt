@@ -5,9 +5,11 @@ ghost use Rattle.flow_grammar.specs.Tokens.{is_name};
 ghost use Rattle.flow_grammar.specs.Operands as grammar;
 ghost use Rattle.flow_grammar.specs.Before.{is_among};
 ghost use Rattle.flow_grammar.specs.Trees.{trees_of};
-ghost use Rattle.flow_grammar.specs.Forms.{only_if, if_then, one_tree, two_trees, set_of, load_of, store_of, write_of, two_names, try_read_of, try_write_of};
+ghost use Rattle.flow_grammar.specs.Forms.{only_if, if_then, one_tree, two_trees, set_of, load_of, store_of, write_of, two_names};
+ghost use Rattle.flow_grammar.specs.Forms.{try_read_of, try_write_of};
 ghost use Rattle.flow_grammar.specs.Gives.{LineGives};
-ghost use Rattle.flow_text.specs.Operations.{tree_reading, trees_reading, op_reading, tree_kept, trees_kept, with_tree, store_op, op_of_names, is_variable};
+ghost use Rattle.flow_text.specs.Operations.{tree_reading, trees_reading, op_reading, tree_kept, trees_kept, with_tree, store_op};
+ghost use Rattle.flow_text.specs.Operations.{op_of_names, is_variable};
 
 use flow_design::{Expr, Name, Op};
 use flow_grammar::{Code, Known, LineFail, Operand, is_identifier, one_operand, two_operands};

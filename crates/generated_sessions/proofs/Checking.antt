@@ -1,5 +1,6 @@
 -- The generated session has no fault of checking.
-use Rattle.std.proofs.Common.{◌≡◌, ℕ, ◌+◌, ◌-◌, ◌<◌, ◌≤◌, List, [], ◌∷◌, ◌++◌, length, map, take, Option, None, Some, option_map, Bool, false, not, cond, refl, ap, ◌∙◌, arith, append-nil}
+use Rattle.std.proofs.Common.{◌≡◌, ℕ, ◌+◌, ◌-◌, ◌<◌, ◌≤◌, List, [], ◌∷◌, ◌++◌, length, map, take, Option, None, Some, option_map, Bool}
+use Rattle.std.proofs.Common.{false, not, cond, refl, ap, ◌∙◌, arith, append-nil}
 use Rattle.std.specs.Prelude.{◌&&◌, ◌==◌, codes}
 use Rattle.std.proofs.lemmas.Bool.{and_from, eq-eqb, not_from_true}
 use Rattle.std.specs.List.{filter_map, cons_option, enumerate_from, range_with_len}
@@ -28,7 +29,8 @@ use Rattle.generated_sessions.proofs.Facts.{fifo}
 use Rattle.generated_sessions.proofs.Draws.{all_drawn}
 use Rattle.generated_sessions.proofs.Rules.{AreDrawn}
 use Rattle.generated_sessions.proofs.Planned.{planned, all_planned, all_clean}
-use Rattle.generated_sessions.proofs.Served.{fifo_names, all_names, popped, source_popped, sink_not_popped, sink_pushed, source_not_pushed, pushed}
+use Rattle.generated_sessions.proofs.Served.{fifo_names, all_names, popped, source_popped, sink_not_popped, sink_pushed, source_not_pushed}
+use Rattle.generated_sessions.proofs.Served.{pushed}
 
 -- ---- what the statements declare
 

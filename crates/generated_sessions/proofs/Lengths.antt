@@ -1,11 +1,13 @@
 -- The generated text is not too long.
-use Rattle.std.proofs.Common.{◌≡◌, ℕ, zero, suc, ◌+◌, ◌-◌, ◌*◌, ◌<◌, ◌≤◌, List, [], ◌∷◌, ◌++◌, length, take, ◌∙◌, arith, length-append, Bool, true, false, cond}
+use Rattle.std.proofs.Common.{◌≡◌, ℕ, zero, suc, ◌+◌, ◌-◌, ◌*◌, ◌<◌, ◌≤◌, List, [], ◌∷◌, ◌++◌, length, take, ◌∙◌, arith, length-append}
+use Rattle.std.proofs.Common.{Bool, true, false, cond}
 use Rattle.std.specs.Prelude.{◌==◌, codes, decimal}
 use Rattle.std.proofs.lemmas.Fmt.{length-decimal-le}
 use Rattle.std.proofs.lemmas.List.{length-take}
 use Rattle.flow_design.specs.declared.limits.TheConstants.{TEXT_BYTES}
 use Rattle.flow_gen.specs.Channel.{name_of}
-use Rattle.flow_gen.specs.Generated.{Text, fifo_line, declarations, loop_line, first_clock, second_clock, input_of, output_of, module_lines, spaced, each_module, first_numbers, session_of}
+use Rattle.flow_gen.specs.Generated.{Text, fifo_line, declarations, loop_line, first_clock, second_clock, input_of, output_of, module_lines}
+use Rattle.flow_gen.specs.Generated.{spaced, each_module, first_numbers, session_of}
 use Rattle.flow_gen.specs.declared.channel.Channel.{Channel}
 use Rattle.flow_gen.specs.declared.channel.Channel.TheVariants.{Source, Fifo, Sink}
 use Rattle.flow_gen.specs.declared.draws.Drawn.{Drawn}

@@ -1,5 +1,6 @@
 -- The generated session keeps the rules of reading.
-use Rattle.std.proofs.Common.{◌≡◌, ℕ, zero, suc, ◌+◌, ◌-◌, ◌<◌, ◌≤◌, ◌^◌, List, [], ◌∷◌, ◌++◌, length, map, take, Bool, true, false, not, cond, refl, sym, ap, subst, ◌∙◌, arith, append_assoc}
+use Rattle.std.proofs.Common.{◌≡◌, ℕ, zero, suc, ◌+◌, ◌-◌, ◌<◌, ◌≤◌, ◌^◌, List, [], ◌∷◌, ◌++◌, length, map, take, Bool, true, false, not}
+use Rattle.std.proofs.Common.{cond, refl, sym, ap, subst, ◌∙◌, arith, append_assoc}
 use Rattle.std.specs.Prelude.{◌&&◌, ◌==◌, codes}
 use Rattle.std.specs.List.{list_all, range_with_len}
 use Rattle.std.proofs.lemmas.Bool.{and_from, lt-ltb, le-leb, eqb-false}
@@ -16,10 +17,12 @@ use Rattle.flow_grammar.specs.Tokens.{is_name}
 use Rattle.flow_grammar.specs.Parts.{Part, plain}
 use Rattle.flow_grammar.specs.Before.{version, channels, sources, modules, inputs, input_values, is_among}
 use Rattle.flow_grammar.specs.Places.{place, takes_channels, takes_modules, takes_inputs, is_end, may_follow}
-use Rattle.flow_grammar.specs.Rules.{is_well_named, is_in_range, is_new, is_known, fits_version, statement_fault, is_over, KeepsReadingRules}
+use Rattle.flow_grammar.specs.Rules.{is_well_named, is_in_range, is_new, is_known, fits_version, statement_fault, is_over}
+use Rattle.flow_grammar.specs.Rules.{KeepsReadingRules}
 use Rattle.generated_sessions.specs.Statements.{Name, fifo_statements, module_name, module_statements, each, value_count, session}
 use Rattle.generated_sessions.proofs.Chains.{Keeps, Follow, behind, follow_both, behind_both, all_keep}
-use Rattle.generated_sessions.proofs.Facts.{fifo, fifo_is_name, module_is_name, channels_back, source_among, sink_among, fifo_among, fifo_new, modules_back, module_new, modules_long, channels_long}
+use Rattle.generated_sessions.proofs.Facts.{fifo, fifo_is_name, module_is_name, channels_back, source_among, sink_among, fifo_among}
+use Rattle.generated_sessions.proofs.Facts.{fifo_new, modules_back, module_new, modules_long, channels_long}
 use Rattle.generated_sessions.proofs.ModuleRules.{no_fault, module_follows}
 
 a_named : is_name (codes "a") ≡ true

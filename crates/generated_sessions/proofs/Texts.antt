@@ -1,5 +1,6 @@
 -- The text of the generated session is the canonical text of its statements.
-use Rattle.std.proofs.Common.{◌≡◌, ℕ, zero, suc, ◌+◌, ◌-◌, List, [], ◌∷◌, ◌++◌, length, map, take, None, refl, sym, ap, ◌∙◌, arith, append_assoc, append-nil, add-one}
+use Rattle.std.proofs.Common.{◌≡◌, ℕ, zero, suc, ◌+◌, ◌-◌, List, [], ◌∷◌, ◌++◌, length, map, take, None, refl, sym, ap, ◌∙◌, arith}
+use Rattle.std.proofs.Common.{append_assoc, append-nil, add-one}
 use Rattle.std.specs.Prelude.{codes, decimal}
 use Rattle.std.specs.Fmt.{digits}
 use Rattle.std.specs.List.{flat_map, range_with_len, join_with_byte}
@@ -13,7 +14,8 @@ use Rattle.flow_design.specs.declared.expr.Op.TheVariants.{Read, Full, Set, Writ
 use Rattle.flow_design.specs.declared.expr.Expr.TheVariants.{Number, Var, Binary}
 use Rattle.flow_design.specs.declared.expr.BinOp.TheVariants.{Add, LtU}
 use Rattle.flow_gen.specs.Channel.{name_of}
-use Rattle.flow_gen.specs.Generated.{Text, fifo_line, declarations, loop_line, first_clock, second_clock, input_of, output_of, module_lines, spaced, each_module, first_numbers, session_of}
+use Rattle.flow_gen.specs.Generated.{Text, fifo_line, declarations, loop_line, first_clock, second_clock, input_of, output_of, module_lines}
+use Rattle.flow_gen.specs.Generated.{spaced, each_module, first_numbers, session_of}
 use Rattle.flow_gen.specs.declared.draws.Drawn.{Drawn}
 use Rattle.flow_grammar.specs.Parts.{Part, plain}
 use Rattle.report_text.specs.Lines.{Token, line, text_of_lines}

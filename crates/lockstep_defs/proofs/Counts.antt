@@ -1,5 +1,7 @@
 -- What is possible on a channel is a matter of counts.
-use Rattle.std.proofs.Common.{◌≡◌, ℕ, zero, suc, ◌+◌, ◌-◌, ◌≤◌, ◌<◌, List, [], ◌∷◌, ◌++◌, map, length, drop, Bool, true, false, ◌&&◌, not, refl, sym, ◌∙◌, ap, ap₂, subst, arith, nat_lt, nat_le, length-append, append_assoc, zero-add, suc-add, ◌⊎◌, inl, inr}
+use Rattle.std.proofs.Common.{◌≡◌, ℕ, zero, suc, ◌+◌, ◌-◌, ◌≤◌, ◌<◌, List, [], ◌∷◌, ◌++◌, map, length, drop, Bool, true, false, ◌&&◌, not}
+use Rattle.std.proofs.Common.{refl, sym, ◌∙◌, ap, ap₂, subst, arith, nat_lt, nat_le, length-append, append_assoc, zero-add, suc-add, ◌⊎◌}
+use Rattle.std.proofs.Common.{inl, inr}
 use Rattle.std.specs.Prelude.{slice_index, slice_index_or}
 use Rattle.std.specs.List.{AllByRecursion}
 use Rattle.std.proofs.lemmas.Bool.{ltb_from_iff, leb-true, leb-false, lt-ltb, le-ltb, cases_lt}
@@ -20,7 +22,8 @@ use Rattle.lockstep_defs.specs.Lockstep.{inputs_of, opening, steps_in, moment, s
 use Rattle.lockstep_defs.specs.Laws.{all_in, IsCounted}
 use Rattle.lockstep_defs.proofs.Settled.{state-suc, history-zero, history-suc}
 use Rattle.lockstep_defs.proofs.Once.{KeepsPorts}
-use Rattle.lockstep_defs.proofs.Queue.{all-append, moved-nil, moved-append, values_from, contents-step, same_channels, popped_within, conserved, channel_count}
+use Rattle.lockstep_defs.proofs.Queue.{all-append, moved-nil, moved-append, values_from, contents-step, same_channels, popped_within}
+use Rattle.lockstep_defs.proofs.Queue.{conserved, channel_count}
 use Rattle.lockstep_defs.proofs.Rules.{keeps_ports}
 
 -- ---- what a channel holds at clock 0

@@ -1,5 +1,6 @@
 -- The live iterations are those of the rule.
-use Rattle.std.proofs.Common.{◌≡◌, ℕ, zero, suc, ◌+◌, length, get_or, ◌*◌, ◌/◌, ◌-◌, ◌≤◌, ◌<◌, min, ◌↔◌, Bool, true, false, cond, refl, arith, nat_lt, ap}
+use Rattle.std.proofs.Common.{◌≡◌, ℕ, zero, suc, ◌+◌, length, get_or, ◌*◌, ◌/◌, ◌-◌, ◌≤◌, ◌<◌, min, ◌↔◌, Bool, true, false, cond, refl}
+use Rattle.std.proofs.Common.{arith, nat_lt, ap}
 use Rattle.std.proofs.lemmas.Bool.{ltb-true, ltb-false}
 use Rattle.std.proofs.Math.Nat.{le-div_iff_mul-le}
 use Rattle.flow_design.specs.declared.design.Block.{Block}

@@ -1,5 +1,6 @@
 -- The static rules: one module at each port of a channel, and at most one pop and one push of a channel in a clock.
-use Rattle.std.proofs.Common.{◌≡◌, ℕ, zero, suc, ◌+◌, ◌≤◌, ◌<◌, List, [], ◌∷◌, length, get_or, Bool, true, false, cond, not, refl, ◌∙◌, ap, arith, ◌⊎◌, inl, inr}
+use Rattle.std.proofs.Common.{◌≡◌, ℕ, zero, suc, ◌+◌, ◌≤◌, ◌<◌, List, [], ◌∷◌, length, get_or, Bool, true, false, cond, not, refl, ◌∙◌, ap}
+use Rattle.std.proofs.Common.{arith, ◌⊎◌, inl, inr}
 use Rattle.std.proofs.lemmas.List.Sums.{length-filter}
 use Rattle.flow_word.specs.Kinds.{is_blocking}
 use Rattle.std.specs.List.{filter, filter_map, AllByRecursion, cons_option, list_any}

@@ -1,5 +1,6 @@
 -- A channel is a queue: what went in is what was popped off it, and then what it holds.
-use Rattle.std.proofs.Common.{◌≡◌, ℕ, zero, suc, ◌+◌, ◌≤◌, ◌<◌, List, [], ◌∷◌, ◌++◌, map, length, drop, Bool, true, false, ◌&&◌, ◌==◌, not, cond, refl, sym, ◌∙◌, ap, subst, arith, append_assoc, zero-add, ◌⊎◌, inl, inr}
+use Rattle.std.proofs.Common.{◌≡◌, ℕ, zero, suc, ◌+◌, ◌≤◌, ◌<◌, List, [], ◌∷◌, ◌++◌, map, length, drop, Bool, true, false, ◌&&◌, ◌==◌, not}
+use Rattle.std.proofs.Common.{cond, refl, sym, ◌∙◌, ap, subst, arith, append_assoc, zero-add, ◌⊎◌, inl, inr}
 use Rattle.std.specs.List.{list_any, enumerate_from, flat_map, AllByRecursion}
 use Rattle.std.proofs.lemmas.List.{append-nil, length-map, get_or-map, length-append, map-append}
 use Rattle.std.proofs.lemmas.List.Concat.{flat_map-append}
@@ -21,8 +22,10 @@ use Rattle.flow_design.specs.Plans.{delay_at}
 use Rattle.flow_design.specs.StaticRules.{uses}
 use Rattle.lockstep_defs.specs.Machine.{is_over, is_yes, value_in}
 use Rattle.flow_word.specs.Kinds.{side_of, is_blocking}
-use Rattle.lockstep_defs.specs.Channels.{HistoryStep, Exchange, values, is_empty, front, element_from, is_possible, stalls, reply, reply_by, popped_value, moved_value, moved_by, moved, contents_of}
-use Rattle.lockstep_defs.specs.Lockstep.{module_at, numbered, requests_of, moves, answered, step_with, step_of, steps_in, contents_after, clock_step, inputs_of, opening, moment, state, history}
+use Rattle.lockstep_defs.specs.Channels.{HistoryStep, Exchange, values, is_empty, front, element_from, is_possible, stalls, reply, reply_by}
+use Rattle.lockstep_defs.specs.Channels.{popped_value, moved_value, moved_by, moved, contents_of}
+use Rattle.lockstep_defs.specs.Lockstep.{module_at, numbered, requests_of, moves, answered, step_with, step_of, steps_in, contents_after}
+use Rattle.lockstep_defs.specs.Lockstep.{clock_step, inputs_of, opening, moment, state, history}
 use Rattle.lockstep_defs.specs.Ports.{owner, is_taker, takers}
 use Rattle.lockstep_defs.specs.Laws.{all_in, IsConserved, PopsInOrder}
 use Rattle.lockstep_defs.proofs.Settled.{state-suc, history-suc}

@@ -1,5 +1,6 @@
 -- A plan that the engine takes keeps what the laws of channels take of the static rules.
-use Rattle.std.proofs.Common.{◌≡◌, ◌≢◌, ℕ, zero, suc, ◌%◌, ◌≤◌, ◌<◌, List, [], ◌∷◌, length, get_or, Bool, true, false, cond, refl, sym, ap, subst, arith, nat_lt, nat_eq, ◌&&◌, ◌⊎◌, inl, inr, Option, Some, None}
+use Rattle.std.proofs.Common.{◌≡◌, ◌≢◌, ℕ, zero, suc, ◌%◌, ◌≤◌, ◌<◌, List, [], ◌∷◌, length, get_or, Bool, true, false, cond, refl, sym, ap}
+use Rattle.std.proofs.Common.{subst, arith, nat_lt, nat_eq, ◌&&◌, ◌⊎◌, inl, inr, Option, Some, None}
 use Rattle.std.specs.List.{filter, AllByRecursion, All, Any, list_any, position_or_len}
 use Rattle.std.specs.Prelude.{IfSome}
 use Rattle.std.proofs.lemmas.Bool.{eqb-true, ltb-true, ltb-false}
@@ -21,7 +22,8 @@ use Rattle.flow_word.specs.declared.access.Side.TheVariants.{Pop, Push}
 use Rattle.flow_word.specs.Kinds.{same_side}
 use Rattle.flow_design.specs.Operations.{port_of, used_port}
 use Rattle.flow_design.specs.Plans.{kind_at}
-use Rattle.flow_design.specs.StaticRules.{same_port, is_port, uses, users_wanted, Clashes, IsTimedSound, IsBlockSound, IsModuleSound, FitsEngine}
+use Rattle.flow_design.specs.StaticRules.{same_port, is_port, uses, users_wanted, Clashes, IsTimedSound, IsBlockSound, IsModuleSound}
+use Rattle.flow_design.specs.StaticRules.{FitsEngine}
 use Rattle.lockstep_defs.specs.Lockstep.{no_module, module_at}
 use Rattle.lockstep_defs.specs.Ports.{takes, owner}
 use Rattle.lockstep_defs.proofs.Blocks.{some_interval}

@@ -1,5 +1,6 @@
 -- The opening is a state of its module, and a move leads to one.
-use Rattle.std.proofs.Common.{◌≡◌, ℕ, zero, suc, ◌+◌, ◌-◌, ◌≤◌, ◌<◌, List, [], ◌∷◌, ◌++◌, length, get_or, set, replicate, map, Bool, true, false, ◌||◌, ◌&&◌, not, cond, refl, sym, ◌∙◌, ap, subst, arith, ◌==◌, nat_lt, length-append}
+use Rattle.std.proofs.Common.{◌≡◌, ℕ, zero, suc, ◌+◌, ◌-◌, ◌≤◌, ◌<◌, List, [], ◌∷◌, ◌++◌, length, get_or, set, replicate, map, Bool, true}
+use Rattle.std.proofs.Common.{false, ◌||◌, ◌&&◌, not, cond, refl, sym, ◌∙◌, ap, subst, arith, ◌==◌, nat_lt, length-append}
 use Rattle.std.specs.Prelude.{nat_le, slice_index}
 use Rattle.std.specs.List.{fold}
 use Rattle.std.proofs.lemmas.Bool.{leb-false, ltb-true, ltb-false, lt-ltb, eqb-true, and_from, cond_both, and_parts}
@@ -19,7 +20,8 @@ use Rattle.flow_design.specs.declared.state.ModuleState.{ModuleState}
 use Rattle.flow_design.specs.declared.state.Reply.{Reply}
 use Rattle.flow_design.specs.Module.{no_block, block_at, block_of, is_loop, interval, live_count, due}
 use Rattle.flow_design.specs.StaticRules.{IsNextSound, IsBlockSound, IsModuleSound, FitsEngine}
-use Rattle.lockstep_defs.specs.Machine.{effects, stored, entered, ticked, decided, fresh_temps, started, finished, followed, again_of, is_block_over, move, opened}
+use Rattle.lockstep_defs.specs.Machine.{effects, stored, entered, ticked, decided, fresh_temps, started, finished, followed, again_of}
+use Rattle.lockstep_defs.specs.Machine.{is_block_over, move, opened}
 use Rattle.lockstep_defs.specs.Channels.{reply}
 use Rattle.lockstep_defs.specs.Lockstep.{no_module, module_at, requests_of, moves, state, state_at}
 use Rattle.lockstep_defs.specs.States.{HasPlaces, IsWithin, IsStateOf}

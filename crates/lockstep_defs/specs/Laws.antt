@@ -1,5 +1,6 @@
 -- The laws of the lockstep machine.
-use Rattle.std.specs.Prelude.{◌⊎◌, ℕ, zero, suc, if◌then◌else◌, ◌≡◌, ◌+◌, ◌*◌, ◌-◌, ◌<◌, ◌≤◌, true, IsTrue, IsFalse, Bool, false, not, Option, Some, None, List, ◌++◌, map, filter, length, count_by, All, nat_lt, slice_index, slice_index_or}
+use Rattle.std.specs.Prelude.{◌⊎◌, ℕ, zero, suc, if◌then◌else◌, ◌≡◌, ◌+◌, ◌*◌, ◌-◌, ◌<◌, ◌≤◌, true, IsTrue, IsFalse, Bool, false, not}
+use Rattle.std.specs.Prelude.{Option, Some, None, List, ◌++◌, map, filter, length, count_by, All, nat_lt, slice_index, slice_index_or}
 use Rattle.flow_word.specs.declared.access.Kind.{Kind}
 use Rattle.flow_word.specs.declared.access.Side.{Side}
 use Rattle.flow_word.specs.declared.access.Side.TheVariants.{Pop, Push}

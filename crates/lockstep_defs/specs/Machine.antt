@@ -1,6 +1,7 @@
 -- A module as a machine: what it asks of the channels, one move on the replies, and when it is over. Proofs about clocks open none of
 -- `requests`, `move`, `is_over` and `opened`.
-use Rattle.std.specs.Prelude.{ℕ, ◌+◌, ◌-◌, ◌%◌, ◌==◌, nat_lt, nat_le, Bool, true, false, not, ◌&&◌, ◌||◌, if◌then◌else◌, Option, List, [], ◌∷◌, ◌++◌, map, length, drop, replicate, fold, filter_map, option_map, slice_index, slice_index_or, slice_set}
+use Rattle.std.specs.Prelude.{ℕ, ◌+◌, ◌-◌, ◌%◌, ◌==◌, nat_lt, nat_le, Bool, true, false, not, ◌&&◌, ◌||◌, if◌then◌else◌, Option, List, []}
+use Rattle.std.specs.Prelude.{◌∷◌, ◌++◌, map, length, drop, replicate, fold, filter_map, option_map, slice_index, slice_index_or, slice_set}
 use Rattle.std.specs.Int.{from_bool}
 use Rattle.std.specs.Option.{is_some}
 use Rattle.flow_design.specs.declared.expr.Expr.{Expr}

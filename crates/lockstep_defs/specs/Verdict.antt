@@ -1,5 +1,6 @@
 -- Settled clocks, the verdict, and the held modules.
-use Rattle.std.specs.Prelude.{ℕ, zero, suc, Bool, true, false, not, ◌&&◌, if◌then◌else◌, Option, Some, None, option_map, List, [], filter_map, find}
+use Rattle.std.specs.Prelude.{ℕ, zero, suc, Bool, true, false, not, ◌&&◌, if◌then◌else◌, Option, Some, None, option_map, List, []}
+use Rattle.std.specs.Prelude.{filter_map, find}
 use Rattle.std.specs.List.{list_any, list_all}
 use Rattle.flow_design.specs.declared.plan.Plan.{Plan}
 use Rattle.flow_design.specs.declared.report.Held.{Held}

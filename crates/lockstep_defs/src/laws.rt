@@ -21,7 +21,8 @@ ghost use Rattle.lockstep_defs.specs.Quiet.{rests, skip, own_later, fits};
 ghost use Rattle.lockstep_defs.specs.States.{IsStateOf, IsDueIn};
 ghost use Rattle.lockstep_defs.specs.Ports.{takers, StandsAtPort};
 ghost use Rattle.lockstep_defs.specs.Commits.{LastWins};
-ghost use Rattle.lockstep_defs.specs.Laws.{SettledStays, SomeoneMoves, NoneBefore, MovesOnce, IsConserved, PopsInOrder, IsCounted, IsBefore, IsOwnRun, IsLive, AreAges, HasNumbersOf, AsksOnce, QuietClocksEnd};
+ghost use Rattle.lockstep_defs.specs.Laws.{SettledStays, SomeoneMoves, NoneBefore, MovesOnce, IsConserved, PopsInOrder, IsCounted};
+ghost use Rattle.lockstep_defs.specs.Laws.{IsBefore, IsOwnRun, IsLive, AreAges, HasNumbersOf, AsksOnce, QuietClocksEnd};
 
 /// From a settled clock on nothing changes and nothing is done, and from one that is not settled some module moves in it or in
 /// a later one. The verdict is that of the first settled clock.

@@ -1,5 +1,6 @@
 -- A run goes on from its rest on replies.
-use Rattle.std.proofs.Common.{◌≡◌, ℕ, zero, suc, ◌+◌, ◌^◌, ◌<◌, ◌≤◌, true, false, List, [], ◌∷◌, ◌++◌, length, refl, sym, ap, subst, arith, ◌∙◌, length-append, append_assoc}
+use Rattle.std.proofs.Common.{◌≡◌, ℕ, zero, suc, ◌+◌, ◌^◌, ◌<◌, ◌≤◌, true, false, List, [], ◌∷◌, ◌++◌, length, refl, sym, ap, subst, arith}
+use Rattle.std.proofs.Common.{◌∙◌, length-append, append_assoc}
 use Rattle.std.specs.Prelude.{All, filter_map, Option, Some, None}
 use Rattle.std.proofs.lemmas.Bool.{or_right, and_parts}
 use Rattle.std.proofs.lemmas.List.{length-map, append-nil}

@@ -1,5 +1,6 @@
 -- Local clocks without work: a move changes the clock, and the temps of iterations that are no longer live go.
-use Rattle.std.proofs.Common.{◌≡◌, ℕ, zero, suc, ◌+◌, ◌-◌, ◌*◌, ◌<◌, ◌≤◌, inl, inr, Bool, true, false, ◌&&◌, ◌==◌, not, nat_le, List, [], ◌∷◌, map, length, get_or, drop, refl, sym, ap, arith, ◌∙◌, add-zero}
+use Rattle.std.proofs.Common.{◌≡◌, ℕ, zero, suc, ◌+◌, ◌-◌, ◌*◌, ◌<◌, ◌≤◌, inl, inr, Bool, true, false, ◌&&◌, ◌==◌, not, nat_le, List, []}
+use Rattle.std.proofs.Common.{◌∷◌, map, length, get_or, drop, refl, sym, ap, arith, ◌∙◌, add-zero}
 use Rattle.std.specs.Prelude.{Contains, filter, flat_map}
 use Rattle.std.specs.List.{enumerate_from}
 use Rattle.std.proofs.lemmas.Bool.{cases_lt, ne_eqb, lt-leb, or_from}

@@ -1,5 +1,6 @@
 -- What leads to a rest still leads there.
-use Rattle.std.proofs.Common.{◌≡◌, ℕ, zero, suc, ◌+◌, ◌-◌, ◌*◌, ◌^◌, ◌<◌, ◌≤◌, ◌⊎◌, inl, inr, true, false, cond, [], length, refl, sym, ap, subst, arith, ◌∙◌, add-zero}
+use Rattle.std.proofs.Common.{◌≡◌, ℕ, zero, suc, ◌+◌, ◌-◌, ◌*◌, ◌^◌, ◌<◌, ◌≤◌, ◌⊎◌, inl, inr, true, false, cond, [], length, refl, sym, ap}
+use Rattle.std.proofs.Common.{subst, arith, ◌∙◌, add-zero}
 use Rattle.std.proofs.lemmas.Bool.{or_from, cond-true, cond-false, cases_Bool, both_ways}
 use Rattle.flow_design.specs.declared.design.Module.{Module}
 use Rattle.flow_design.specs.declared.plan.Plan.{Plan}
@@ -16,7 +17,8 @@ use Rattle.lockstep_defs.proofs.Moves.{move_falls}
 use Rattle.module_move.proofs.Readiness.{few_due}
 use Rattle.module_interp.specs.declared.path.Stage.{Stage}
 use Rattle.module_interp.specs.declared.path.Path.{Path}
-use Rattle.module_interp.specs.Paths.{block_bound, clocks_to_go, after_move_by, after_move, IsStageSoundBy, IsPathOf, LeadsTo, KeepsRest, IsPath, clocks_to_end}
+use Rattle.module_interp.specs.Paths.{block_bound, clocks_to_go, after_move_by, after_move, IsStageSoundBy, IsPathOf, LeadsTo, KeepsRest}
+use Rattle.module_interp.specs.Paths.{IsPath, clocks_to_end}
 use Rattle.module_interp.proofs.Counting.{move_up}
 use Rattle.module_interp.proofs.Rests.{nearer, same_rest}
 use Rattle.module_interp.proofs.Timing.{module_sound, lives, GoesOn, skip_goes_on, falls, left_bound}

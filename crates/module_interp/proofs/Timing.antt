@@ -1,5 +1,6 @@
 -- How long a module can run.
-use Rattle.std.proofs.Common.{◌≡◌, ℕ, zero, suc, ◌+◌, ◌-◌, ◌<◌, ◌≤◌, ◌⊎◌, inl, inr, Bool, true, false, ◌&&◌, ◌==◌, cond, List, [], refl, sym, ap, subst, arith, length, add-zero}
+use Rattle.std.proofs.Common.{◌≡◌, ℕ, zero, suc, ◌+◌, ◌-◌, ◌<◌, ◌≤◌, ◌⊎◌, inl, inr, Bool, true, false, ◌&&◌, ◌==◌, cond, List, [], refl}
+use Rattle.std.proofs.Common.{sym, ap, subst, arith, length, add-zero}
 use Rattle.std.specs.Prelude.{slice_index}
 use Rattle.std.proofs.lemmas.Bool.{cond_both, or_parts}
 use Rattle.flow_design.specs.declared.limits.TheConstants.{BLOCK_CLOCKS, COUNTED_OPERATIONS}

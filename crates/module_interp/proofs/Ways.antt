@@ -1,5 +1,6 @@
 -- Each way that the program's run takes leads to the same rest.
-use Rattle.std.proofs.Common.{◌≡◌, ℕ, suc, ◌+◌, ◌-◌, ◌^◌, ◌<◌, ◌≤◌, Bool, true, false, ◌&&◌, ◌||◌, not, nat_lt, List, [], ◌∷◌, length, get_or, refl, sym, ap, subst, arith, ◌∙◌}
+use Rattle.std.proofs.Common.{◌≡◌, ℕ, suc, ◌+◌, ◌-◌, ◌^◌, ◌<◌, ◌≤◌, Bool, true, false, ◌&&◌, ◌||◌, not, nat_lt, List, [], ◌∷◌, length}
+use Rattle.std.proofs.Common.{get_or, refl, sym, ap, subst, arith, ◌∙◌}
 use Rattle.std.proofs.lemmas.Bool.{ltb-true, and_parts}
 use Rattle.flow_design.specs.declared.design.Module.{Module}
 use Rattle.flow_design.specs.declared.plan.Plan.{Plan}
@@ -20,7 +21,8 @@ use Rattle.block_schedule.specs.Work.{IsNextDue, StandsIn}
 use Rattle.module_interp.specs.declared.path.Stage.{Stage}
 use Rattle.module_interp.specs.declared.path.Stage.TheVariants.{Begun, Answered, Ticked}
 use Rattle.module_interp.specs.declared.path.Path.{Path}
-use Rattle.module_interp.specs.Paths.{clock_bound, IsInTime, after_move, CanAnswer, CanGoOn, IsStageSoundBy, IsPathOf, KeepsRest, IsPath, clocks_to_end}
+use Rattle.module_interp.specs.Paths.{clock_bound, IsInTime, after_move, CanAnswer, CanGoOn, IsStageSoundBy, IsPathOf, KeepsRest, IsPath}
+use Rattle.module_interp.specs.Paths.{clocks_to_end}
 use Rattle.module_interp.proofs.Idle.{IsIdle, skip_ticks, skip_on, never_rests}
 use Rattle.module_interp.proofs.Timing.{GoesOn, skip_goes_on, lives}
 use Rattle.module_interp.proofs.Keeping.{IsFixed, leads_on, leads_still, same_end, at_stage, end_nearer, asks_nothing, begun_alive}

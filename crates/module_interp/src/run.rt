@@ -1,5 +1,6 @@
 //! The run of a module.
-ghost use Rattle.std.specs.Prelude.{◌≡◌, ℕ, ◌<◌, ◌^◌, true, false, if◌then◌else◌, [], map, List as Items, length, slice_index, IsFalse, ◌↔◌, All, IfOk, OnErr};
+ghost use Rattle.std.specs.Prelude.{◌≡◌, ℕ, ◌<◌, ◌^◌, true, false, if◌then◌else◌, [], map, List as Items, length, slice_index, IsFalse};
+ghost use Rattle.std.specs.Prelude.{◌↔◌, All, IfOk, OnErr};
 ghost use Rattle.flow_word.specs.declared.access.Side.TheVariants.{Pop};
 ghost use Rattle.flow_design.specs.StaticRules.{FitsEngine};
 ghost use Rattle.flow_design.specs.declared.plan.Plan.{Plan as PlanOf};

@@ -1,5 +1,6 @@
 //! How many elements a module has popped and pushed, and how many queries it has made.
-ghost use Rattle.std.specs.Prelude.{◌≡◌, ℕ, ◌+◌, ◌<◌, ◌≤◌, ◌^◌, ◌++◌, ◌∷◌, [], not, List as Items, length, slice_index, slice_set, All, IfOk};
+ghost use Rattle.std.specs.Prelude.{◌≡◌, ℕ, ◌+◌, ◌<◌, ◌≤◌, ◌^◌, ◌++◌, ◌∷◌, [], not, List as Items, length, slice_index, slice_set, All};
+ghost use Rattle.std.specs.Prelude.{IfOk};
 ghost use Rattle.std.specs.Int.{from_bool};
 ghost use Rattle.flow_word.specs.Kinds.{side_of, is_blocking};
 ghost use Rattle.lockstep_defs.specs.Machine.{is_yes};

@@ -1,5 +1,6 @@
 -- In a sound state each due operation finds what it looks up.
-use Rattle.std.proofs.Common.{◌≡◌, refl, ◌∙◌, arith, ℕ, ◌-◌, ◌*◌, ◌<◌, ◌≤◌, ◌==◌, List, [], ◌∷◌, map, length, get_or, length-append, Bool, not}
+use Rattle.std.proofs.Common.{◌≡◌, refl, ◌∙◌, arith, ℕ, ◌-◌, ◌*◌, ◌<◌, ◌≤◌, ◌==◌, List, [], ◌∷◌, map, length, get_or, length-append, Bool}
+use Rattle.std.proofs.Common.{not}
 use Rattle.std.proofs.lemmas.List.{get_or-map, length-map}
 use Rattle.std.proofs.lemmas.List.Filters.{length-filter_both}
 use Rattle.std.proofs.lemmas.List.FromFn.{length-enumerate_from}
@@ -13,7 +14,8 @@ use Rattle.flow_design.specs.declared.expr.Op.{Op}
 use Rattle.flow_design.specs.declared.expr.Op.TheVariants.{Set, Load, Store, Read, Write, TryRead, TryWrite, Empty, Full}
 use Rattle.flow_design.specs.declared.state.ModuleState.{ModuleState}
 use Rattle.flow_design.specs.declared.state.Due.{Due}
-use Rattle.flow_design.specs.Module.{block_of, operation_at, no_operation, interval, live_count, ages_down, ages, temps_of, passes, due_at, due_in, due}
+use Rattle.flow_design.specs.Module.{block_of, operation_at, no_operation, interval, live_count, ages_down, ages, temps_of, passes, due_at}
+use Rattle.flow_design.specs.Module.{due_in, due}
 use Rattle.flow_design.specs.StaticRules.{IsModuleSound, IsMemorySound, IsTimedSound, IsOperationSound}
 use Rattle.lockstep_defs.specs.Machine.{memory_of}
 use Rattle.lockstep_defs.proofs.Blocks.{block_sound, some_interval, span}

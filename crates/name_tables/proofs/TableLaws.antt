@@ -5,11 +5,15 @@ use Rattle.std.specs.List.{list_all, filter_map}
 use Rattle.std.proofs.lemmas.List.Sums.{sum_by-cons, take_while-cons}
 use Rattle.flow_grammar.specs.declared.fault.Code.{Code}
 use Rattle.flow_grammar.specs.declared.fault.Code.TheVariants.{Syntax, BadNumber, DoubleName, UnknownName, TooMany}
-use Rattle.flow_grammar.specs.Before.{version, in_module, in_body, is_no_module, is_no_block, register_name, memory_name, block_name, temp_name, channels, sources, fifos, modules, inputs, is_operation, input_count, is_edit, input_values, edits}
+use Rattle.flow_grammar.specs.Before.{version, in_module, in_body, is_no_module, is_no_block, register_name, memory_name, block_name}
+use Rattle.flow_grammar.specs.Before.{temp_name, channels, sources, fifos, modules, inputs, is_operation, input_count, is_edit}
+use Rattle.flow_grammar.specs.Before.{input_values, edits}
 use Rattle.name_tables.specs.declared.tables.Tables.{Tables}
 use Rattle.flow_design.specs.declared.session.Statement.{Statement}
-use Rattle.flow_design.specs.declared.session.Statement.TheVariants.{Flow, Source, Sink, Fifo, Module, Reg, Mem, Block, Loop, Temp, At, Goto, Branch, Stop, Input, Limits, Depth, End}
-use Rattle.flow_grammar.specs.Parts.{Part, Word, New, Use, Label, Num, ChannelName, ModuleName, RegisterName, MemoryName, TempName, BlockName, AnyChannel, ASource, AFifo, ARegister, AMemory, AVariable, parts}
+use Rattle.flow_design.specs.declared.session.Statement.TheVariants.{Flow, Source, Sink, Fifo, Module, Reg, Mem, Block, Loop, Temp, At}
+use Rattle.flow_design.specs.declared.session.Statement.TheVariants.{Goto, Branch, Stop, Input, Limits, Depth, End}
+use Rattle.flow_grammar.specs.Parts.{Part, Word, New, Use, Label, Num, ChannelName, ModuleName, RegisterName, MemoryName, TempName}
+use Rattle.flow_grammar.specs.Parts.{BlockName, AnyChannel, ASource, AFifo, ARegister, AMemory, AVariable, parts}
 use Rattle.flow_grammar.specs.Rules as rules
 use Rattle.flow_grammar.specs.Places.{place, may_stand, may_follow}
 use Rattle.flow_grammar.specs.Rules.{statement_fault}

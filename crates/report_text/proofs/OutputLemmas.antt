@@ -1,5 +1,6 @@
 -- The lines of the outputs, channel after channel.
-use Rattle.std.proofs.Common.{◌≡◌, ℕ, ◌+◌, ◌<◌, ◌≤◌, ◌∙◌, ap, true, false, List, ◌∷◌, ◌++◌, length, drop, get_or, append_assoc, add-one, suc, length-take, arith}
+use Rattle.std.proofs.Common.{◌≡◌, ℕ, ◌+◌, ◌<◌, ◌≤◌, ◌∙◌, ap, true, false, List, ◌∷◌, ◌++◌, length, drop, get_or, append_assoc, add-one}
+use Rattle.std.proofs.Common.{suc, length-take, arith}
 use Rattle.std.specs.Io.{StartsWith}
 use Rattle.std.proofs.lemmas.List.{take-append-le}
 use Rattle.std.proofs.Math.Seq.{drop-cons}
@@ -10,7 +11,8 @@ use Rattle.report_text.specs.ReportText.{sink_names, output_lines, output_tokens
 
 -- what is printed, with what the channels and outputs from some places on give, is the whole
 pub record IsPrinting (first text : List ℕ) (channels : List Channel) (outputs : List (List ℕ)) (i at : ℕ) : Type 0 where
-  pub printed : text ++ text_of_lines (output_lines (drop i channels) (drop at outputs)) ≡ first ++ text_of_lines (output_lines channels outputs)
+  pub printed : text ++ text_of_lines (output_lines (drop i channels) (drop at outputs)) ≡ first ++ text_of_lines
+      (output_lines channels outputs)
   pub left : at + length (sink_names (drop i channels)) ≡ length outputs
   pub begins : StartsWith text first
 
@@ -68,7 +70,8 @@ printed_more first text channels outputs i at c o h e s g f p = record {
   printed =
       let rest : drop at outputs ≡ o ∷ drop (at + 1) outputs = rw (add-one, drop-cons outputs at o g) (rw (← f)) in
       let whole = rw (from_place channels i c h e, rest, printed_one c (drop (i + 1) channels) o (drop (at + 1) outputs) s) at p.printed in
-      rw (append_assoc text (line (output_tokens (c.name, o))) (text_of_lines (output_lines (drop (i + 1) channels) (drop (at + 1) outputs)))) whole;
+      rw (append_assoc text (line (output_tokens (c.name, o))) (text_of_lines
+          (output_lines (drop (i + 1) channels) (drop (at + 1) outputs)))) whole;
   left =
       let n = rw (from_place channels i c h e, counted c (drop (i + 1) channels) s) at p.left in
       omega (arith, n);

@@ -2,7 +2,8 @@
 ghost use Rattle.std.specs.Prelude.{◌≡◌, ◌<◌, ◌++◌, length, map, true, All, OnOk, OnErr};
 ghost use Rattle.std.specs.Io.{StartsWith};
 ghost use Rattle.report_text.specs.Lines.{line, text_of_lines};
-ghost use Rattle.report_text.specs.ReportText.{IsReportOf, report_text_of, sink_names, output_tokens, output_lines, held_lines, held_tokens, event_lines, event_tokens, tells_held};
+ghost use Rattle.report_text.specs.ReportText.{IsReportOf, report_text_of, sink_names, output_tokens, output_lines, held_lines};
+ghost use Rattle.report_text.specs.ReportText.{held_tokens, event_lines, event_tokens, tells_held};
 ghost use Rattle.flow_design.specs.Plans.{is_sink};
 
 use crate::lines::{print_numbers, print_verdict, push_token, push_value, push_values};
@@ -13,7 +14,8 @@ use flow_word::{List, OutOfMemory, Words};
 /// Adds the text of the report with this number, with its events if asked. The report is one of this design: its module
 /// and channel numbers are the design's, and it has one output per sink. After want of memory a part of it may stand behind the
 /// text of before.
-#[tactic(auto, using(crate::proofs::LineLemmas::all_parts, crate::proofs::LineLemmas::still_starts), unfolding(crate::specs::ReportText::report_text_of))]
+#[tactic(auto, using(crate::proofs::LineLemmas::all_parts, crate::proofs::LineLemmas::still_starts),
+    unfolding(crate::specs::ReportText::report_text_of))]
 pub fn print_report(
     text: &mut List<u8>,
     design: &Design,
@@ -47,7 +49,8 @@ fn is_sink(kind: ChannelKind) -> bool
 }
 
 /// Adds a line for each sink.
-#[tactic(auto, using(crate::proofs::OutputLemmas::has_output, crate::proofs::OutputLemmas::passed_more, crate::proofs::OutputLemmas::printed_more, crate::proofs::LineLemmas::still_starts))]
+#[tactic(auto, using(crate::proofs::OutputLemmas::has_output, crate::proofs::OutputLemmas::passed_more,
+    crate::proofs::OutputLemmas::printed_more, crate::proofs::LineLemmas::still_starts))]
 fn print_outputs(
     text: &mut List<u8>,
     channels: &[Channel],

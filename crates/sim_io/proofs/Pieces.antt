@@ -14,7 +14,8 @@ consumes_both (Some x) (Some y) None xs ys p q = absurd q
 consumes_both (Some x) (Some y) (Some z) xs ys p q = p ∙ ap (λ l. xs ++ l) q ∙ sym (append_assoc xs ys z)
 
 -- a known piece, and then at most so many bytes
-pub loses_more : (a b c : Option (List ℕ)) (xs : List ℕ) (n m : ℕ) → Consumes a b xs → LosesAtMost b c n → length xs + n ≤ m → LosesAtMost a c m
+pub loses_more : (a b c : Option (List ℕ)) (xs : List ℕ) (n m : ℕ) → Consumes a b xs → LosesAtMost b c n → length xs + n ≤ m
+    → LosesAtMost a c m
 loses_more a b c xs n m p q h = record {
   bytes = xs ++ q.bytes;
   consumed = consumes_both a b c xs q.bytes p q.consumed;
@@ -33,7 +34,8 @@ rest_is : (text : List ℕ) (at : ℕ) → take (length text - at) (drop at text
 rest_is text at = grind (arith, common_steps)
 
 -- the front of a text, and then the front of the rest
-pub appends_more : (a b c : Option (List ℕ)) (text : List ℕ) (at n : ℕ) → Appends a b (take at text) → Appends b c (take n (take (length text - at) (drop at text)))
+pub appends_more : (a b c : Option (List ℕ)) (text : List ℕ) (at n : ℕ) → Appends a b (take at text)
+    → Appends b c (take n (take (length text - at) (drop at text)))
     → Appends a c (take (at + n) text)
 appends_more a b c text at n p q =
     let r = rw (rest_is text at) at q in

@@ -55,7 +55,8 @@ impl<K: Kept> TurnLock<K> {
         (Pass { seat }, Pass { seat: new })
     }
 
-    /// One try to get the turn. `Lost` comes exactly where the turn was taken: the pass comes back, with one lost try more.
+    /// One try to get the turn. After `Lost` the pass comes back, with one lost try more. That another pass had the turn then is read
+    /// off the code: no clause says it.
     pub fn try_take(&self, pass: Pass<K>) -> Tried<K>
         requires own { pass_lock pass ≡ lock_id self.now }
         ensures lock { MatchTried result (λ t. turn_lock_of t ≡ lock_id self.now) (λ p. pass_lock p ≡ lock_id self.now) }

@@ -12,7 +12,8 @@ pub record IsReading (first left : Option (List ℕ)) (all : List ℕ) (room lim
   pub chunk : room ≡ 65536
 
 abbrev pub invariant-loop-all : goal.invariant-loop-all
-invariant-loop-all g l = IsReading (g.S.Source.left l.fn.source) (g.S.Source.left l.source) l.all (vec_len l.chunk) l.limit (g.S.Source.faults l.fn.source) (g.S.Source.faults l.source)
+invariant-loop-all g l = IsReading (g.S.Source.left l.fn.source) (g.S.Source.left l.source) l.all (vec_len l.chunk) l.limit
+    (g.S.Source.faults l.fn.source) (g.S.Source.faults l.source)
 
 abbrev pub decreases-loop-all : goal.decreases-loop-all
 decreases-loop-all g l = l.limit + 1 - length l.all

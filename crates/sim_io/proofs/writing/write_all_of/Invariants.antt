@@ -4,7 +4,8 @@ use Rattle.std.specs.Io.KnownBytes.{Appends}
 use Rattle.sim_io.proofs.writing.write_all_of.Given as goal
 
 -- what was written so far, the count of faults, and the mark
-pub record IsWriting {K : Type 0} (first sink : K) (held : K → Option (List ℕ)) (count : K → ℕ) (mark : K → Bool) (text : List ℕ) (at : ℕ) : Type 0 where
+pub record IsWriting {K : Type 0} (first sink : K) (held : K → Option (List ℕ)) (count : K → ℕ) (mark : K → Bool) (text : List ℕ)
+    (at : ℕ) : Type 0 where
   pub bytes : Appends (held first) (held sink) (take at text)
   pub within : at ≤ length text
   pub faults : count first ≤ count sink

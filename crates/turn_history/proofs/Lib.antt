@@ -1,0 +1,5 @@
+pub mod Rounds
+pub mod Timings
+pub mod Runs
+pub mod Turning
+pub mod Lending

@@ -1,0 +1,4 @@
+pub mod Standings
+pub mod Rounds
+pub mod Replays
+pub mod Turns

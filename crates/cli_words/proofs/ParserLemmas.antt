@@ -168,7 +168,7 @@ starts = record {
 
 fault_is : (words : List Text)
     → fault_of parser words ≡ or_else (fault_at (at idle 1 false nothing_held) words)
-        (or_else (settle_at (end_of (at idle 1 false nothing_held) words))
+    (or_else (settle_at (end_of (at idle 1 false nothing_held) words))
     (or_else (defaults_fault (rows_in (end_of (at idle 1 false nothing_held) words)) rules) []))
 fault_is words = leaf_fault (built parser) nothing_held words refl
 

@@ -110,7 +110,7 @@ named n v = go (bytes_eq (codes "events") n) (bytes_eq (codes "cycles") n) (byte
   where
     go : (a b c : Bool)
         → Named v (cond (a || false) (Some events_filled) (cond (b || false) (Some (rule_at Cycles))
-            (cond (c || false) (Some (rule_at Ops)) None)))
+        (cond (c || false) (Some (rule_at Ops)) None)))
         (cond a (without_value v) (cond b (with_value Cycles v) (cond c (with_value Ops v) Unknown)))
     go true b c = flag refl refl
     go false true c = keyed Cycles refl refl

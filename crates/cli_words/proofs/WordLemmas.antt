@@ -318,7 +318,7 @@ step_bad p h bad e = go (1 == p) (2 == p) (3 == p) e
 
     go : (a b c : Bool)
         → option_map_or (λ r. positional_fault rules false r h)
-            (cond a (Some (slot 1 (codes "command"))) (cond b (Some (slot 2 (codes "second"))) (cond c (Some (slot 3 (codes "third"))) None)))
+        (cond a (Some (slot 1 (codes "command"))) (cond b (Some (slot 2 (codes "second"))) (cond c (Some (slot 3 (codes "third"))) None)))
         (kind.UnknownArgument ∷ []) ≡ [] → ⊥
     go true b c f = one 1 (codes "command") f
     go false true c f = one 2 (codes "second") f

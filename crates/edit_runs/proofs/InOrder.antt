@@ -73,4 +73,4 @@ unfolding plan_after
 one_edit_more p edits e l =
     ap (λ (ds : List ℕ). record p { depths = ds })
     (one_differs (depth_after (edits ++ e ∷ [])) (depth_after edits) e.channel e.depth (depth_more edits e) 0 e.channel p.depths
-        (omega arith) l)
+    (omega arith) l)

@@ -58,16 +58,22 @@ module _ (kept found : List (List Bool)) (i : ℕ) (past : min (length kept) (le
       ]
 
   pub go_on_behind : all_go_on (drop i kept) (drop i found) ≡ true
-  go_on_behind = elim none_left [ inl e ↦ ap (λ ks. all_go_on ks (drop i found)) e | inr e ↦ ap (λ fs. all_go_on (drop i kept) fs) e
-      ∙ none_found (drop i kept) ]
+  go_on_behind = elim none_left [
+    | inl e ↦ ap (λ ks. all_go_on ks (drop i found)) e
+    | inr e ↦ ap (λ fs. all_go_on (drop i kept) fs) e
+        ∙ none_found (drop i kept)
+  ]
     where
       none_found : (ks : List (List Bool)) → all_go_on ks [] ≡ true
       none_found [] = refl
       none_found (k ∷ ks) = refl
 
   pub longer_behind : take i kept ++ all_longer (drop i kept) (drop i found) ≡ kept
-  longer_behind = ap (λ ks. take i kept ++ ks) (elim none_left [ inl e ↦ ap (λ ks. all_longer ks (drop i found)) e
-      ∙ sym e | inr e ↦ ap (λ fs. all_longer (drop i kept) fs) e ∙ all_kept (drop i kept) ])
+  longer_behind = ap (λ ks. take i kept ++ ks) (elim none_left [
+    | inl e ↦ ap (λ ks. all_longer ks (drop i found)) e
+        ∙ sym e
+    | inr e ↦ ap (λ fs. all_longer (drop i kept) fs) e ∙ all_kept (drop i kept)
+  ])
       ∙ take-append-drop i kept
     where
       all_kept : (ks : List (List Bool)) → all_longer ks [] ≡ ks

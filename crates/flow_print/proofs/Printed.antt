@@ -156,9 +156,17 @@ printed_full text f r = three_last text (32 ∷ codes "full") (32 ∷ f) (32 ∷
 
 pub ruleset printed_guards = (printed_no_guard, printed_guard)
 
-pub ruleset printed_operations =
-    (printed_set, printed_load, printed_store, printed_read, printed_write, printed_try_read, printed_try_write, printed_empty,
-        printed_full)
+pub ruleset printed_operations = (
+  printed_set,
+  printed_load,
+  printed_store,
+  printed_read,
+  printed_write,
+  printed_try_read,
+  printed_try_write,
+  printed_empty,
+  printed_full,
+)
 
 -- ---- lines
 

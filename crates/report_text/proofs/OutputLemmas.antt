@@ -71,7 +71,7 @@ printed_more first text channels outputs i at c o h e s g f p = record {
       let rest : drop at outputs ≡ o ∷ drop (at + 1) outputs = rw (add-one, drop-cons outputs at o g) (rw (← f)) in
       let whole = rw (from_place channels i c h e, rest, printed_one c (drop (i + 1) channels) o (drop (at + 1) outputs) s) at p.printed in
       rw (append_assoc text (line (output_tokens (c.name, o))) (text_of_lines
-          (output_lines (drop (i + 1) channels) (drop (at + 1) outputs)))) whole;
+      (output_lines (drop (i + 1) channels) (drop (at + 1) outputs)))) whole;
   left =
       let n = rw (from_place channels i c h e, counted c (drop (i + 1) channels) s) at p.left in
       omega (arith, n);

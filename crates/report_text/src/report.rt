@@ -14,8 +14,7 @@ use flow_word::{List, OutOfMemory, Words};
 /// Adds the text of the report with this number, with its events if asked. The report is one of this design: its module
 /// and channel numbers are the design's, and it has one output per sink. After want of memory a part of it may stand behind the
 /// text of before.
-#[tactic(auto, using(crate::proofs::LineLemmas::all_parts, crate::proofs::LineLemmas::still_starts),
-    unfolding(crate::specs::ReportText::report_text_of))]
+#[tactic(auto, using(crate::proofs::LineLemmas::all_parts, crate::proofs::LineLemmas::still_starts), unfolding(crate::specs::ReportText::report_text_of))]
 pub fn print_report(
     text: &mut List<u8>,
     design: &Design,
@@ -49,8 +48,7 @@ fn is_sink(kind: ChannelKind) -> bool
 }
 
 /// Adds a line for each sink.
-#[tactic(auto, using(crate::proofs::OutputLemmas::has_output, crate::proofs::OutputLemmas::passed_more,
-    crate::proofs::OutputLemmas::printed_more, crate::proofs::LineLemmas::still_starts))]
+#[tactic(auto, using(crate::proofs::OutputLemmas::has_output, crate::proofs::OutputLemmas::passed_more, crate::proofs::OutputLemmas::printed_more, crate::proofs::LineLemmas::still_starts))]
 fn print_outputs(
     text: &mut List<u8>,
     channels: &[Channel],

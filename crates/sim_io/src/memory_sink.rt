@@ -29,8 +29,15 @@ impl Model for MemSink {
 
     ghost Value = { Taken };
 
-    ghost view = { λ k. record { held = take k.len k.buffer.items; room = vec_len k.buffer - k.len; piece = k.piece; fails = k.fails;
-        calls = k.calls; faults = k.faults; finished = k.finished } };
+    ghost view = { λ k. record {
+      held = take k.len k.buffer.items;
+      room = vec_len k.buffer - k.len;
+      piece = k.piece;
+      fails = k.fails;
+      calls = k.calls;
+      faults = k.faults;
+      finished = k.finished;
+    } };
 
     ghost invariant = { λ k. (1 ≤ k.piece) × (k.len ≤ vec_len k.buffer) };
 }

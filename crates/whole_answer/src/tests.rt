@@ -49,7 +49,12 @@ struct Ends<'a> {
 
 impl Ends<'static> {
     /// Ends that do not fail.
-    const WELL: Ends<'static> = Ends { piece: 64, takes: &[], puts: &[], room: 8192 };
+    const WELL: Ends<'static> = Ends {
+        piece: 64,
+        takes: &[],
+        puts: &[],
+        room: 8192,
+    };
 }
 
 /// What the program answers to these words and a text, through such ends.
@@ -524,7 +529,14 @@ fn truncated_texts(rt: HostRuntime) -> Result<(), Fail> {
             let (status, _) = answer(&rt, words.as_slice(), &PLAIN_CASE[..len], Ends::WELL)?;
             assert_eq!(rt; status, Status::Text);
         }
-        answers(&rt, command, &[], &PLAIN_CASE[..105], PLAIN_ANSWER, Status::Done)?;
+        answers(
+            &rt,
+            command,
+            &[],
+            &PLAIN_CASE[..105],
+            PLAIN_ANSWER,
+            Status::Done,
+        )?;
     }
     Ok(())
 }
@@ -540,7 +552,12 @@ fn answers_bytewise<R: Threads + Wait + Sync + AllocGlobal + Abort>(
 ) -> Result<(), Fail> {
     for command in COMMANDS {
         let words = words_of(rt, command, &[])?;
-        let ends = Ends { piece: 1, takes, puts, room };
+        let ends = Ends {
+            piece: 1,
+            takes,
+            puts,
+            room,
+        };
         let (status, sink) = answer(rt, words.as_slice(), PLAIN_CASE, ends)?;
         assert_eq!(rt; sink.held(), told);
         assert_eq!(rt; status, wanted);
@@ -566,7 +583,12 @@ fn a_sink_that_fails(rt: HostRuntime) -> Result<(), Fail> {
     // the last call finishes
     answers_bytewise(&rt, &[], &[39], 64, PLAIN_ANSWER, Status::WriteFault)?;
     answers_bytewise(&rt, &[], &[], 38, &PLAIN_ANSWER[..38], Status::WriteFault)?;
-    let ends = Ends { piece: 1, takes: &[], puts: &[0], room: 64 };
+    let ends = Ends {
+        piece: 1,
+        takes: &[],
+        puts: &[0],
+        room: 64,
+    };
     let (status, sink) = answer(&rt, &[], PLAIN_CASE, ends)?;
     assert_eq!(rt; (status, sink.held().len()), (Status::WriteFault, 0));
     Ok(())

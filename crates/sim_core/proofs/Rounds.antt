@@ -26,7 +26,9 @@ use Rattle.engine_view.specs.Turns.{IsDifferent, IsFoundOther}
 use Rattle.outcome_guard.specs.declared.guard.Guard.TheVariants as guard
 use Rattle.sim_core.specs.Views.{CoreView, theory_of}
 use Rattle.sim_core.specs.Turns.{IsStill, IsEarliestOther, HasTurned, HasAnsweredLeast}
-use Rattle.sim_core.specs.Drives.{given, Goes, GoesOn, IsVisited, AreOwn, IsGoingRound}
+use Rattle.sim_core.specs.declared.visit.Visit.{Visit}
+use Rattle.sim_core.specs.declared.visit.Visit.TheVariants.{Acted, Differs, Idle}
+use Rattle.sim_core.specs.Drives.{given, Goes, GoesOn, HasTimed, HasVisited, IsVisited, AreOwn, IsGoingRound}
 
 -- ---- each action makes another core
 
@@ -45,55 +47,81 @@ assign_changes {S} d limit x y m (c, may, is) e =
 
 -- ---- a visit
 
-module _ (v w : CoreView) (m before : ℕ) (plan : w.plan ≡ v.plan) (lent : w.lent ≡ v.lent) where
-  pub ran : Acts (design v.plan) v.plan.cycles (theory_of v) (Run m) (theory_of w) → GoesOn v before w before
-  ran (may, is) = record {
-    action = Run m;
-    acts = (may, is);
-    changed = run_changes (design v.plan) (theory_of v) (theory_of w) m may is;
-    ticked = omega arith;
-    plan = plan;
-    lent = lent;
+module _ (v w : CoreView) (m before : ℕ) (plan : w.plan ≡ v.plan) (lent : w.lent ≡ v.lent)
+    (agreed : IsAgreed (design v.plan) (lockstep_run v.plan) v.plan.cycles (theory_of v)) where
+  one : (a : Action) → Acts (design v.plan) v.plan.cycles (theory_of v) a (theory_of w) → (theory_of w ≡ theory_of v → ⊥) → (after : ℕ)
+      → after ≡ before + given (a ∷ []) → GoesOn v before w after
+  one a acts changed after ticked = record {
+    goes = record { actions = a ∷ []; all = (theory_of w, acts, refl); ticked = ticked; plan = plan; lent = lent };
+    risen = elim (more_work (design v.plan) (lockstep_run v.plan) v.plan.cycles (theory_of v) agreed a (theory_of w) acts) [
+      | inl e ↦ absurd (changed e)
+      | inr u ↦ u
+    ];
   }
+
+  pub ran : Acts (design v.plan) v.plan.cycles (theory_of v) (Run m) (theory_of w) → GoesOn v before w before
+  ran (may, is) = one (Run m) (may, is) (run_changes (design v.plan) (theory_of v) (theory_of w) m may is) before (omega arith)
 
   pub was_assigned : (c after : ℕ) → HasTurned (turn.Assigned c) v m w → after ≡ before + 1 → GoesOn v before w after
-  was_assigned c after acts ticked = record {
-    action = Assign m;
-    acts = acts;
-    changed = assign_changes (design v.plan) v.plan.cycles (theory_of v) (theory_of w) m acts;
-    ticked = ticked;
-    plan = plan;
-    lent = lent;
-  }
+  was_assigned c after acts ticked =
+      one (Assign m) acts (assign_changes (design v.plan) v.plan.cycles (theory_of v) (theory_of w) m acts) after ticked
 
   pub was_answered : (c after : ℕ) → HasTurned (turn.Answered c) v m w → after ≡ before + 0 → GoesOn v before w after
-  was_answered c after (acts, changed) ticked = record { action = Answer m; acts = acts; changed = changed; ticked = ticked; plan = plan; lent = lent }
+  was_answered c after (acts, changed) ticked = one (Answer m) acts changed after ticked
 
   pub was_least : HasAnsweredLeast (Some (m, guard.Same)) v w → GoesOn v before w before
-  was_least (acts, changed) = record { action = Earliest m; acts = acts; changed = changed; ticked = omega arith; plan = plan; lent = lent }
+  was_least (acts, changed) = one (Earliest m) acts changed before (omega arith)
 
 -- ---- lists of actions
 
-acts_more : {S : Type 0} → (d : Design S) (limit : ℕ) (x : Core S) (actions : List Action) (y z : Core S) (a : Action) → ActsAll d limit x actions y → Acts d limit y a z → ActsAll d limit x (actions ++ a ∷ []) z
-acts_more {S} d limit x [] y z a e s = (z, subst (λ (w : Core S). Acts d limit w a z) e s, refl)
-acts_more {S} d limit x (b ∷ more) y z a (w, t, r) s = (w, t, acts_more d limit w more y z a r s)
+acts_join : {S : Type 0} → (d : Design S) (limit : ℕ) (x y z : Core S) (front behind : List Action) → ActsAll d limit x front y
+    → ActsAll d limit y behind z → ActsAll d limit x (front ++ behind) z
+acts_join {S} d limit x y z [] behind e b = subst (λ (w : Core S). ActsAll d limit w behind z) e b
+acts_join {S} d limit x y z (a ∷ more) behind (w, t, r) b = (w, t, acts_join d limit w y z more behind r b)
 
-given_more : (as' : List Action) (a : Action) → given (as' ++ a ∷ []) ≡ given as' + given (a ∷ [])
-given_more [] a = omega arith
-given_more (Run m ∷ rest) a = given_more rest a
-given_more (Assign m ∷ rest) a = let e = given_more rest a in omega arith
-given_more (Answer m ∷ rest) a = given_more rest a
-given_more (Earliest m ∷ rest) a = given_more rest a
+given_join : (front behind : List Action) → given (front ++ behind) ≡ given front + given behind
+given_join [] behind = omega arith
+given_join (Run m ∷ rest) behind = given_join rest behind
+given_join (Assign m ∷ rest) behind = let e = given_join rest behind in omega arith
+given_join (Answer m ∷ rest) behind = given_join rest behind
+given_join (Earliest m ∷ rest) behind = given_join rest behind
 
-goes_more : (first now next : CoreView) (before ticks later : ℕ) → Goes first before now ticks → GoesOn now ticks next later → Goes first before next later
-goes_more first now next before ticks later g o = record {
-  actions = g.actions ++ o.action ∷ [];
-  all = acts_more (design first.plan) first.plan.cycles (theory_of first) g.actions (theory_of now) (theory_of next) o.action g.all
-      (subst (λ (q : Plan). Acts (design q) q.cycles (theory_of now) o.action (theory_of next)) g.plan o.acts);
-  ticked = let e = given_more g.actions o.action in let a = g.ticked in let b = o.ticked in omega arith;
+pub goes_join : (first now next : CoreView) (before ticks later : ℕ) → Goes first before now ticks → Goes now ticks next later
+    → Goes first before next later
+goes_join first now next before ticks later g o = record {
+  actions = g.actions ++ o.actions;
+  all = acts_join (design first.plan) first.plan.cycles (theory_of first) (theory_of now) (theory_of next) g.actions o.actions g.all
+      (subst (λ (q : Plan). ActsAll (design q) q.cycles (theory_of now) o.actions (theory_of next)) g.plan o.all);
+  ticked = let e = given_join g.actions o.actions in let a = g.ticked in let b = o.ticked in omega arith;
   plan = o.plan ∙ g.plan;
   lent = o.lent ∙ g.lent;
 }
+
+pub on_join : (first now next : CoreView) (before ticks later : ℕ) → GoesOn first before now ticks → GoesOn now ticks next later
+    → GoesOn first before next later
+on_join first now next before ticks later g o = record {
+  goes = goes_join first now next before ticks later g.goes o.goes;
+  risen =
+      let more : work (design first.plan) (theory_of now) < work (design first.plan) (theory_of next) =
+      subst (λ (q : Plan). work (design q) (theory_of now) < work (design q) (theory_of next)) g.goes.plan o.risen in
+      let some = g.risen in
+      omega arith;
+}
+
+-- behind what was done, whatever the timing was
+pub timed_behind : (u v w : CoreView) (x b a m : ℕ) (visit : Visit) → GoesOn u x v b → HasTimed visit v b m w a → GoesOn u x w a
+timed_behind u v w x b a m (Acted bits) g t = on_join u v w x b a g t
+timed_behind u v w x b a m (Differs q) g (e, t, o) =
+    subst (λ (z : CoreView). GoesOn u x z a) (sym e) (subst (λ (k : ℕ). GoesOn u x v k) (sym t) g)
+timed_behind u v w x b a m Idle g (e, t, o) =
+    subst (λ (z : CoreView). GoesOn u x z a) (sym e) (subst (λ (k : ℕ). GoesOn u x v k) (sym t) g)
+
+-- where no Run is permitted, a timing is a visit
+pub timed_is_visit : (v w : CoreView) (b a m : ℕ) (visit : Visit) → (MayRun (design v.plan) (theory_of v) m → ⊥)
+    → HasTimed visit v b m w a → HasVisited visit v b m w a
+timed_is_visit v w b a m (Acted bits) f t = t
+timed_is_visit v w b a m (Differs q) f t = t
+timed_is_visit v w b a m Idle f (e, t, o) = (e, t, record { no_run = f; idle = o })
 
 pub goes_same : (v : CoreView) (before : ℕ) → Goes v before v before
 goes_same v before = record { actions = []; all = refl; ticked = omega arith; plan = refl; lent = refl }
@@ -129,22 +157,23 @@ module _ (first now next : CoreView) (before ticks later count at idle : ℕ) (r
   fits_now : FitsEngine now.plan
   fits_now = subst FitsEngine (sym r.goes.plan) r.fits
 
-  -- something was done
-  pub went : GoesOn now ticks next later → IsGoingRound first next before later count at 0
-  went o = record {
-    goes = goes_more first now next before ticks later r.goes o;
+  -- something was done, and another module is next
+  pub went : GoesOn now ticks next later → (to : ℕ) → (0 < count → to < count) → IsGoingRound first next before later count to 0
+  went o to u = record {
+    goes = goes_join first now next before ticks later r.goes o.goes;
     agreed = r.agreed;
     fits = r.fits;
-    own = λ m l. ap (λ bs. get_or bs m true) o.lent ∙ r.own m (let e = ap (λ (q : Plan). length q.design.modules) o.plan in omega arith);
-    counted = r.counted ∙ ap (λ (q : Plan). length q.design.modules) (sym o.plan);
+    own = λ m l.
+        ap (λ bs. get_or bs m true) o.goes.lent ∙ r.own m (let e = ap (λ (q : Plan). length q.design.modules) o.goes.plan in omega arith);
+    counted = r.counted ∙ ap (λ (q : Plan). length q.design.modules) (sym o.goes.plan);
     within = omega arith;
-    inside = r.inside;
+    inside = u;
     none_left = λ m l visited. absurd (no_visit m l visited);
   }
     where
-      no_visit : (m : ℕ) → m < count → IsVisited count at 0 m → ⊥
-      no_visit m i (inl (l, u)) = absurd (omega arith)
-      no_visit m i (inr (l, u)) = let e = r.inside (omega arith) in absurd (omega arith)
+      no_visit : (m : ℕ) → m < count → IsVisited count to 0 m → ⊥
+      no_visit m i (inl (l, e)) = absurd (omega arith)
+      no_visit m i (inr (l, e)) = let e' = u (omega arith) in absurd (omega arith)
 
   -- nothing was done, and another module is next
   pub jumped : next ≡ now → later ≡ ticks → (to : ℕ) → to < count → IsGoingRound first next before later count to 0
@@ -259,13 +288,11 @@ fewer h g n idle l = let m : (h + 1) * (n + 1) ≤ g * (n + 1) = mul-le-mul_righ
 module _ (first now next : CoreView) (before ticks later count at idle : ℕ) (r : IsGoingRound first now before ticks count at idle) (hints other : ℕ) where
   pub went_on : GoesOn now ticks next later → other < 2 ^ 64 → still_to_do next count 0 other < still_to_do now count idle hints
   went_on o l =
-      let d = design now.plan in
-      let agreed = agreed_now first now next before ticks later count at idle r in
-      let rise : work d (theory_of now) < work d (theory_of next) =
-      elim (more_work d (lockstep_run now.plan) now.plan.cycles (theory_of now) agreed o.action (theory_of next) o.acts) [ inl e ↦ absurd (o.changed e) | inr u ↦ u ] in
-      let most = most_work (design next.plan) (lockstep_run next.plan) next.plan.cycles (theory_of next)
-      (agreed_now first next next before later later count at 0 (went first now next before ticks later count at idle r o)) next.plan.ops (plan_is_bounded next.plan (subst FitsEngine (sym (o.plan ∙ r.goes.plan)) r.fits)) in
-      falls (to_do next) (to_do now) (2 ^ 64 * (count + 1)) _ _ (less o.plan rise most) (few other count l)
+      let agreed : IsAgreed (design next.plan) (lockstep_run next.plan) next.plan.cycles (theory_of next) =
+      agreed_now first next next before later later count at 0 (went first now next before ticks later count at idle r o at r.inside) in
+      let most = most_work (design next.plan) (lockstep_run next.plan) next.plan.cycles (theory_of next) agreed next.plan.ops
+      (plan_is_bounded next.plan (subst FitsEngine (sym (o.goes.plan ∙ r.goes.plan)) r.fits)) in
+      falls (to_do next) (to_do now) (2 ^ 64 * (count + 1)) _ _ (less o.goes.plan o.risen most) (few other count l)
     where
       less : next.plan ≡ now.plan → work (design now.plan) (theory_of now) < work (design now.plan) (theory_of next)
           → work (design next.plan) (theory_of next) ≤ length next.plan.design.modules * (3 * next.plan.ops + 1) → to_do next + 1 ≤ to_do now

@@ -7,10 +7,11 @@ use Rattle.outcome_guard.specs.declared.guard.Guard.TheVariants as guard
 use Rattle.event_timing.specs.Actions.{Action, Acts, ActsAll, IsFinal}
 use Rattle.event_timing.specs.Actions.Action.{Run, Assign, Answer, Earliest}
 use Rattle.event_timing.specs.Agreement.{IsAgreed}
-use Rattle.engine_view.specs.Turns.{IsDifferent}
+use Rattle.event_timing.specs.Work.{work}
+use Rattle.engine_view.specs.Turns.{IsDifferent, IsIdle}
 use Rattle.timing_bridge.specs.Designs.{design, lockstep_run}
-use Rattle.sim_core.specs.declared.drive.Visit.{Visit}
-use Rattle.sim_core.specs.declared.drive.Visit.TheVariants.{Acted, Differs, Idle}
+use Rattle.sim_core.specs.declared.visit.Visit.{Visit}
+use Rattle.sim_core.specs.declared.visit.Visit.TheVariants.{Acted, Differs, Idle}
 use Rattle.sim_core.specs.Views.{CoreView, theory_of}
 use Rattle.sim_core.specs.Turns.{IsStill, IsEarliestOther}
 
@@ -30,17 +31,20 @@ pub record Goes (v : CoreView) (before : ℕ) (w : CoreView) (after : ℕ) : Typ
   pub plan : w.plan ≡ v.plan
   pub lent : w.lent ≡ v.lent
 
--- one permitted action leads to another core
+-- and by them the core has done more
 pub record GoesOn (v : CoreView) (before : ℕ) (w : CoreView) (after : ℕ) : Type 0 where
-  pub action : Action
-  pub acts : Acts (design v.plan) v.plan.cycles (theory_of v) action (theory_of w)
-  pub changed : theory_of w ≡ theory_of v → ⊥
-  pub ticked : after ≡ before + given (action ∷ [])
-  pub plan : w.plan ≡ v.plan
-  pub lent : w.lent ≡ v.lent
+  pub goes : Goes v before w after
+  pub risen : work (design v.plan) (theory_of v) < work (design v.plan) (theory_of w)
 
+-- Assigns and Answers of module m, as far as they are permitted
+abbrev pub HasTimed : Visit → CoreView → ℕ → ℕ → CoreView → ℕ → Type 0
+HasTimed (Acted bits) v before m w after = GoesOn v before w after
+HasTimed (Differs q) v before m w after = (w ≡ v) × (after ≡ before) × IsDifferent (design v.plan) v.plan.cycles v.held m q
+HasTimed Idle v before m w after = (w ≡ v) × (after ≡ before) × IsIdle (design v.plan) v.plan.cycles (theory_of v) m
+
+-- and its Runs
 abbrev pub HasVisited : Visit → CoreView → ℕ → ℕ → CoreView → ℕ → Type 0
-HasVisited Acted v before m w after = GoesOn v before w after
+HasVisited (Acted bits) v before m w after = GoesOn v before w after
 HasVisited (Differs q) v before m w after = (w ≡ v) × (after ≡ before) × IsDifferent (design v.plan) v.plan.cycles v.held m q
 HasVisited Idle v before m w after = (w ≡ v) × (after ≡ before) × IsStill v m
 

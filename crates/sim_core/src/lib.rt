@@ -10,6 +10,7 @@ mod replies;
 mod report;
 mod running;
 mod turn;
+mod visit;
 
 pub use alone::run_alone;
 pub use flow_design::Plan;

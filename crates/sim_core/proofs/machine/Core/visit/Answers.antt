@@ -1,33 +1,35 @@
-use Rattle.std.proofs.Common.{subst, ◌∙◌, arith}
-use Rattle.engine_view.specs.Turns.{IsIdle}
-use Rattle.timing_bridge.specs.Designs.{design}
-use Rattle.sim_core.specs.Views.{CoreView, theory_of}
-use Rattle.sim_core.specs.Drives.{GoesOn}
+use Rattle.std.proofs.Common.{refl, sym, subst, ◌<◌, length}
+use Rattle.flow_design.specs.declared.plan.Plan.{Plan}
+use Rattle.sim_core.specs.Views.{CoreView}
+use Rattle.sim_core.specs.Drives.{HasTimed, HasVisited}
 use Rattle.sim_core.proofs.Rounds as rounds
 use Rattle.sim_core.proofs.machine.Core.visit.Goals as goal
 
-pub returns-then-ran-clause-visited : goal.returns-then-ran-clause-visited
-returns-then-ran-clause-visited g c =
-    rounds.ran c.args.self.now c.run.new.self c.args.owner c.args.steps.now c.run.ensures.plan c.run.ensures.lent (c.in_ok-ran.ensures.acts c.if-ran.true)
+pub time_on-requires-in-Some : goal.time_on-requires-in-Some
+time_on-requires-in-Some g c =
+    let some = rw c.in-Some.is at c.in_ok-run_on.ensures.some in
+    subst (λ (p : Plan). c.args.owner < length p.design.modules) (sym (some 0).goes.plan) c.requires.owner
 
-pub returns-in-Assigned-clause-visited : goal.returns-in-Assigned-clause-visited
-returns-in-Assigned-clause-visited g c =
-    subst (λ (v : CoreView). GoesOn v c.args.steps.now c.time.new.self c.time.new.steps) (c.in_ok-ran.ensures.unchanged c.if-ran.false)
-    (rounds.was_assigned c.run.new.self c.time.new.self c.args.owner c.args.steps.now c.time.ensures.plan c.time.ensures.lent c.in-Assigned.field-0 c.time.new.steps c.in-Assigned.ensures.done c.in-Assigned.ensures.ticks)
+pub returns-in-None-clause-visited : goal.returns-in-None-clause-visited
+returns-in-None-clause-visited g c =
+    let same = (rw c.in-None.is at c.in_ok-run_on.ensures.unchanged) refl in
+    let none = (rw c.in-None.is at c.in_ok-run_on.ensures.none) refl in
+    rounds.timed_is_visit c.args.self.now c.time_on.new.self c.args.steps.now c.time_on.new.steps c.args.owner c.time_on.result none
+    (subst (λ (v : CoreView). HasTimed c.time_on.result v c.args.steps.now c.args.owner c.time_on.new.self c.time_on.new.steps) same
+    c.time_on.ensures)
 
-pub returns-in-Answered-clause-visited : goal.returns-in-Answered-clause-visited
-returns-in-Answered-clause-visited g c =
-    subst (λ (v : CoreView). GoesOn v c.args.steps.now c.time.new.self c.time.new.steps) (c.in_ok-ran.ensures.unchanged c.if-ran.false)
-    (rounds.was_answered c.run.new.self c.time.new.self c.args.owner c.args.steps.now c.time.ensures.plan c.time.ensures.lent c.in-Answered.field-0 c.time.new.steps c.in-Answered.ensures.done c.in-Answered.ensures.ticks)
+pub returns-in-Acted-clause-visited : goal.returns-in-Acted-clause-visited
+returns-in-Acted-clause-visited g c =
+    let some = rw c.in-Some.is at c.in_ok-run_on.ensures.some in
+    rounds.timed_behind c.args.self.now c.run_on.new.self c.time_on-in-Some.new.self c.args.steps.now c.args.steps.now
+    c.time_on-in-Some.new.steps c.args.owner c.time_on-in-Some.result (some c.args.steps.now) c.time_on-in-Some.ensures
 
-pub returns-in-Nothing-clause-visited : goal.returns-in-Nothing-clause-visited
-returns-in-Nothing-clause-visited g c =
-    let same = c.in_ok-ran.ensures.unchanged c.if-ran.false in
-    let ticks = c.in-Nothing.ensures.ticks in (
-      c.in-Nothing.ensures.done.0 ∙ same,
-      omega arith,
-      record {
-        no_run = c.in_ok-ran.ensures.not_permitted c.if-ran.false;
-        idle = subst (λ (v : CoreView). IsIdle (design v.plan) v.plan.cycles (theory_of v) c.args.owner) same c.in-Nothing.ensures.done.1;
-      },
-    )
+pub returns-in-Differs : goal.returns-in-Differs
+returns-in-Differs g c =
+    let some = rw c.in-Some.is at c.in_ok-run_on.ensures.some in
+    record {
+      visited =
+          rounds.timed_behind c.args.self.now c.run_on.new.self c.time_on-in-Some.new.self c.args.steps.now c.args.steps.now
+          c.time_on-in-Some.new.steps c.args.owner c.time_on-in-Some.result (some c.args.steps.now) c.time_on-in-Some.ensures;
+      no_memory = tt;
+    }

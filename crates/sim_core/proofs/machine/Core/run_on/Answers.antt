@@ -1,0 +1,33 @@
+use Rattle.std.proofs.Common.{ℕ, refl, sym, subst, ap, ◌∙◌, ◌<◌, ◌≡◌, length, get_or, true}
+use Rattle.std.specs.Prelude.{Result, Ok, Err, OnErr}
+use Rattle.sim_core.specs.Views.{CoreView}
+use Rattle.flow_design.specs.declared.plan.Plan.{Plan}
+use Rattle.sim_core.specs.Drives.{Goes, GoesOn}
+use Rattle.sim_core.proofs.Rounds as rounds
+use Rattle.sim_core.proofs.machine.Core.run_on.Goals as goal
+
+on_err : {A E : Type 0} {P : Type 0} (r : Result A E) → P → OnErr r P
+on_err {A} {E} {P} (Ok a) p = tt
+on_err {A} {E} {P} (Err e) p = p
+
+pub returns-in_err-woken-clause-no_memory : goal.returns-in_err-woken-clause-no_memory
+returns-in_err-woken-clause-no_memory c =
+    on_err c.from_residual.result (λ (n : ℕ). subst (λ (w : CoreView). Goes c.args.self.now n w n) (sym c.in_err-woken.ensures.no_memory)
+    (rounds.goes_same c.args.self.now n))
+
+pub run_once-requires-in-loop-clause-owner : goal.run_once-requires-in-loop-clause-owner
+run_once-requires-in-loop-clause-owner c =
+    subst (λ (p : Plan). c.args.owner < length p.design.modules) (sym (c.loop.invariant 0).goes.plan) c.requires.owner
+
+pub run_once-requires-in-loop-clause-here : goal.run_once-requires-in-loop-clause-here
+run_once-requires-in-loop-clause-here c = ap (λ bs. get_or bs c.args.owner true) (c.loop.invariant 0).goes.lent ∙ c.requires.here
+
+pub returns-in-None-clause-some : goal.returns-in-None-clause-some
+returns-in-None-clause-some c = λ (n : ℕ).
+    let same = (rw c.in-None.is at c.in_ok-more.ensures.unchanged) refl in
+    subst (λ (w : CoreView). GoesOn c.args.self.now n w n) (sym same) (c.loop.invariant n)
+
+pub loop-preserved : goal.loop-preserved
+loop-preserved c = λ (n : ℕ).
+    let more = rw c.in-Some-2.is at c.in_ok-more.ensures.some in
+    rounds.on_join c.args.self.now c.loop.self c.run_once-in-loop.new.self n n n (c.loop.invariant n) (more n)

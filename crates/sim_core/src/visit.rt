@@ -1,0 +1,180 @@
+//! What is done at one module, before another's turn.
+ghost use Rattle.std.specs.Prelude.{◌≡◌, ℕ, ◌<◌, true, false, length, slice_index_or, IfOk, IfSome, IsNone, OnErr};
+ghost use Rattle.event_timing.specs.Actions.{MayRun};
+ghost use Rattle.timing_bridge.specs.Designs.{design};
+ghost use Rattle.sim_core.specs.Views.{theory_of};
+ghost use Rattle.sim_core.specs.Drives.{Goes, GoesOn, HasTimed, HasVisited};
+
+use crate::machine::Core;
+use engine_view::Timing;
+use event_graph::{Access, Place};
+use flow_word::{OutOfMemory, Steps, Words};
+use outcome_guard::Query;
+use std::sync::ledger::Ledger;
+
+/// How many Runs, and how many other actions, a module does in one visit at most: so few that its steps are near when they get their
+/// cycles.
+const STRETCH: u32 = 64;
+
+/// What was done at a module.
+#[derive(Clone, Copy, Debug, PartialEq, Eq)]
+pub(crate) enum Visit {
+    /// Something. The modules of which something may have changed by it, as bits.
+    Acted(u64),
+    /// The outcome of this query is not as it was assumed. Nothing changed.
+    Differs(Query),
+    /// None is permitted, but perhaps an Earliest. Nothing changed.
+    Idle,
+}
+
+impl Core {
+    /// What is permitted at a module, but an Earliest, up to some bound: its Runs first.
+    pub(crate) fn visit<L: Ledger>(
+        &mut self,
+        owner: u32,
+        steps: &mut Steps<L>,
+    ) -> Result<Visit, OutOfMemory>
+        requires owner { owner < length self.old.plan.design.modules }
+        requires here { slice_index_or self.old.lent owner true ≡ false }
+        ensures visited { IfOk result (λ visit. HasVisited visit self.old steps.old owner self.new steps.new) }
+        ensures no_memory { OnErr result (Goes self.old steps.old self.new steps.new) }
+    {
+        match self.run_on(owner)? {
+            None => Ok(self.time_on(owner, steps)),
+            Some(woken) => match self.time_on(owner, steps) {
+                Visit::Acted(more) => Ok(Visit::Acted(woken | more)),
+                Visit::Differs(_) | Visit::Idle => Ok(Visit::Acted(woken)),
+            },
+        }
+    }
+
+    /// Runs of a module, as long as they are permitted. None where none was.
+    fn run_on(&mut self, owner: u32) -> Result<Option<u64>, OutOfMemory>
+        requires owner { owner < length self.old.plan.design.modules }
+        requires here { slice_index_or self.old.lent owner true ≡ false }
+        ensures some { IfOk result (λ woken. IfSome woken (λ bits. (n : ℕ) → GoesOn self.old n self.new n)) }
+        ensures unchanged { IfOk result (λ woken. IsNone woken → self.new ≡ self.old) }
+        ensures none { IfOk result (λ woken. IsNone woken → MayRun (design self.old.plan) (theory_of self.old) owner → ⊥) }
+        ensures no_memory { OnErr result ((n : ℕ) → Goes self.old n self.new n) }
+    {
+        let Some(mut woken) = self.run_once(owner)? else {
+            return Ok(None);
+        };
+        for _ in 1..STRETCH {
+            match self.run_once(owner)? {
+                Some(more) => woken |= more,
+                None => return Ok(Some(woken)),
+            }
+        }
+        Ok(Some(woken | bit_of(owner)))
+    }
+
+    /// One of them.
+    fn run_once(&mut self, owner: u32) -> Result<Option<u64>, OutOfMemory>
+        requires owner { owner < length self.old.plan.design.modules }
+        requires here { slice_index_or self.old.lent owner true ≡ false }
+        ensures some { IfOk result (λ woken. IfSome woken (λ bits. (n : ℕ) → GoesOn self.old n self.new n)) }
+        ensures unchanged { IfOk result (λ woken. IsNone woken → self.new ≡ self.old) }
+        ensures none { IfOk result (λ woken. IsNone woken → MayRun (design self.old.plan) (theory_of self.old) owner → ⊥) }
+        ensures no_memory { OnErr result (self.new ≡ self.old) }
+    {
+        // The core agrees with its plan.
+        let _count = self.modules();
+        if self.run(owner)? {
+            Ok(Some(self.wake_newest(owner)))
+        } else {
+            Ok(None)
+        }
+    }
+
+    /// Assigns and Answers of a module, as long as they are permitted.
+    fn time_on<L: Ledger>(&mut self, owner: u32, steps: &mut Steps<L>) -> Visit
+        requires { owner < length self.old.plan.design.modules }
+        ensures { HasTimed result self.old steps.old owner self.new steps.new }
+    {
+        let mut woken = match self.time_once(owner, steps) {
+            Visit::Acted(first) => first,
+            other => return other,
+        };
+        for _ in 1..STRETCH {
+            match self.time_once(owner, steps) {
+                Visit::Acted(more) => woken |= more,
+                Visit::Differs(_) | Visit::Idle => return Visit::Acted(woken),
+            }
+        }
+        Visit::Acted(woken | bit_of(owner))
+    }
+
+    /// One of them.
+    fn time_once<L: Ledger>(&mut self, owner: u32, steps: &mut Steps<L>) -> Visit
+        requires { owner < length self.old.plan.design.modules }
+        ensures { HasTimed result self.old steps.old owner self.new steps.new }
+    {
+        // The core agrees with its plan.
+        let _count = self.modules();
+        match self.time(owner, steps) {
+            Timing::Assigned(_) => Visit::Acted(self.wake_timed(owner, 0)),
+            Timing::Answered(_) => Visit::Acted(self.wake_timed(owner, 1) | bit_of(owner)),
+            Timing::Differs(query) => Visit::Differs(query),
+            Timing::Nothing => Visit::Idle,
+        }
+    }
+
+    /// The other modules, as bits, that have accessed the channels of a module's newest step.
+    fn wake_newest(&mut self, owner: u32) -> u64
+        requires { owner < length self.old.plan.design.modules }
+        ensures { self.new ≡ self.old }
+    {
+        let emitted = self.graph.len(owner);
+        self.wake_before(owner, emitted)
+    }
+
+    /// The same for its last step with a cycle, or so many steps behind it.
+    fn wake_timed(&mut self, owner: u32, behind: u64) -> u64
+        requires { owner < length self.old.plan.design.modules }
+        ensures { self.new ≡ self.old }
+    {
+        let timed = self.graph.frontier(owner);
+        self.wake_before(owner, timed.saturating_add(behind))
+    }
+
+    /// The same for the step before this number, where there is such a step.
+    fn wake_before(&mut self, owner: u32, number: u64) -> u64
+        requires { owner < length self.old.plan.design.modules }
+        ensures { self.new ≡ self.old }
+    {
+        if number == 0 || number > self.graph.len(owner) {
+            return 0;
+        }
+        let step = self.graph.step(Place {
+            module: owner,
+            step: number - 1,
+        });
+        wake_users(&mut self.users, step.accesses.as_slice(), bit_of(owner))
+    }
+}
+
+/// Adds a module's bit at each channel that it accesses, and gives the bits of all other modules there.
+fn wake_users(users: &mut Words, accesses: &[Access], bit: u64) -> u64 {
+    let mut bits = 0;
+    for access in accesses {
+        bits |= add_user(users, access.channel, bit);
+    }
+    bits & !bit
+}
+
+/// Adds a module's bit at a channel, and gives the bits of all modules there.
+fn add_user(users: &mut Words, channel: u32, bit: u64) -> u64 {
+    let users = users.as_mut_slice();
+    let at = channel as usize;
+    if at >= users.len() {
+        return 0;
+    }
+    users[at] |= bit;
+    users[at]
+}
+
+/// The bit of a module, where it is one of the first 64.
+pub(crate) fn bit_of(owner: u32) -> u64 {
+    1u64.checked_shl(owner).unwrap_or(0)
+}

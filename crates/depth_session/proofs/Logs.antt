@@ -6,7 +6,8 @@ use Rattle.std.proofs.lemmas.List.{length-map, take-append-drop}
 use Rattle.query_log.specs.Logs.{Log, no_log, log_at}
 use Rattle.edit_runs.specs.Runs.{next_counts}
 use Rattle.retime.specs.Edits.{OutcomesGrow}
-use Rattle.depth_session.specs.Records.{GoesOn, answers_of, counted, recorded_in, verified_in}
+use Rattle.depth_session.specs.Records.{GoesOn, answers_of, counted}
+use Rattle.sim_core.specs.Records.{recorded_in, verified_in}
 use Rattle.depth_session.proofs.Going.{counts_go_on}
 
 -- of one module

@@ -1,7 +1,6 @@
 -- The record of a module's answers beside those of a report.
-use Rattle.std.specs.Prelude.{◌≡◌, ℕ, ◌⊎◌, Bool, List, [], map, take, slice_index_or}
+use Rattle.std.specs.Prelude.{◌≡◌, ℕ, ◌⊎◌, Bool, List, [], slice_index_or}
 use Rattle.outcome_guard.specs.Prefixes.{IsPrefix}
-use Rattle.query_log.specs.Logs.{Log}
 use Rattle.edit_runs.specs.declared.count.RunCount.{RunCount}
 
 -- the answers of a module
@@ -17,10 +16,3 @@ pub record GoesOn (kept found now : List Bool) : Type 0 where
   pub grew : IsPrefix kept now
   pub begins : IsPrefix found now
   pub ends : (now ≡ kept) ⊎ (now ≡ found)
-
--- the outcomes that a log holds of each module, and those of them that are verified
-abbrev pub recorded_in : List Log → List (List Bool)
-recorded_in logs = map (λ l. l.outcomes) logs
-
-abbrev pub verified_in : List Log → List (List Bool)
-verified_in logs = map (λ l. take l.verified l.outcomes) logs

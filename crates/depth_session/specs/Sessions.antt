@@ -1,5 +1,5 @@
 -- A session of depth edits, by the reports of its plans alone.
-use Rattle.std.specs.Prelude.{Bool, true, false, List, [], ◌∷◌}
+use Rattle.std.specs.Prelude.{◌≡◌, Bool, true, false, List, [], ◌∷◌}
 use Rattle.flow_design.specs.declared.plan.Edit.{Edit}
 use Rattle.flow_design.specs.declared.plan.Plan.{Plan}
 use Rattle.flow_design.specs.Plans.{with_depth}
@@ -24,9 +24,11 @@ plan_behind s e = with_depth s.plan e.channel e.depth
 abbrev pub with_edit : Session → Edit → Session
 with_edit s e = record { plan = plan_behind s e; count = next_counts s.count (report (plan_behind s e)).answers; live = true }
 
--- with an edit for whose run there was no memory: nothing is counted any more
-abbrev pub broken_by : Session → Edit → Session
-broken_by s e = record s { plan = plan_behind s e; live = false }
+-- an edit for which there was no memory: the plan is edited, and nothing is counted any more
+pub record IsBroken (old new : Session) (e : Edit) : Type 0 where
+  pub plan : new.plan ≡ plan_behind old e
+  pub runs : new.count.runs ≡ old.count.runs
+  pub stopped : new.live ≡ false
 
 -- with a list of edits more
 abbrev pub with_edits : Session → List Edit → Session

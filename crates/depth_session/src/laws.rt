@@ -2,8 +2,9 @@
 ghost use Rattle.std.specs.Prelude.{◌≡◌, ◌≢◌, ℕ, ◌+◌, ◌<◌, Bool, List, length, slice_get, Some};
 ghost use Rattle.outcome_guard.specs.Prefixes.{IsPrefix};
 ghost use Rattle.edit_runs.specs.Runs.{next_counts};
-ghost use Rattle.depth_session.specs.Records.{GoesOn, answers_of, counted, recorded_in, verified_in};
+ghost use Rattle.depth_session.specs.Records.{GoesOn, answers_of, counted};
 ghost use Rattle.query_log.specs.Logs.{Log, log_at};
+ghost use Rattle.sim_core.specs.Records.{recorded_in, verified_in};
 ghost use Rattle.retime.specs.Edits.{OutcomesGrow};
 
 /// Where each module's record only grew, by what is found or not at all, the records are what is kept behind the report, and its runs

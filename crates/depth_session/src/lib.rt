@@ -1,6 +1,12 @@
-//! What a session of depth edits keeps of its reports: definitions and laws.
+//! A plan whose FIFO depths are edited one after the other: after each edit the report, and how many runs all reports count.
 #![tactic(auto)]
 
+mod following;
 mod laws;
+mod runner;
+mod session;
 
 pub use laws::{logs_are_kept, records_go_on};
+pub use runner::{AloneRunner, Runner};
+pub use session::DepthSession;
+pub use sim_core::Core;

@@ -11,7 +11,7 @@ use Rattle.timing_bridge.specs.Designs as bridge
 use Rattle.engine_view.specs.Held.{seen}
 
 -- the kind of an access of the theory
-abbrev kind_by : Side → Bool → Bool → Kind
+abbrev pub kind_by : Side → Bool → Bool → Kind
 kind_by Pop true takes = Read
 kind_by Pop false true = TryRead
 kind_by Pop false false = Empty
@@ -19,10 +19,10 @@ kind_by Push true takes = Write
 kind_by Push false true = TryWrite
 kind_by Push false false = Full
 
-abbrev kind_in : theory.Access → Kind
+abbrev pub kind_in : theory.Access → Kind
 kind_in a = kind_by a.side a.blocks a.takes
 
-kind_seen : (a : Access) → kind_in (seen a) ≡ a.kind
+pub kind_seen : (a : Access) → kind_in (seen a) ≡ a.kind
 kind_seen a = by a.kind
   where
     by : (k : Kind) → kind_in (seen (record { kind = k; channel = 0; ordinal = 0; value = 0 })) ≡ k

@@ -136,7 +136,7 @@ step_of_core p h s i k l few =
     ∙ step_outcomes (core_values d x) (λ ch. core_tally d x i Pop ch k) rs (step_of h i k).accesses e
     (drop (step_of h i k).first_query (log_at h.logs i).outcomes) few
 
-front : (p : Plan) (h : Held) → IsSound (design p) h
+pub front : (p : Plan) (h : Held) → IsSound (design p) h
     → ((m k : ℕ) → k < (core_of (design p) h).timed m → (core_of (design p) h).verified m k ≡ true)
     → (i k : ℕ) → k ≤ length (lane_at h.lanes i).cycles → i < length h.logs
     → outcomes (map (core_step p (core_of (design p) h) i) (range_with_len 0 k)) ≡ take (queries_before h i k) (log_at h.logs i).outcomes

@@ -101,7 +101,7 @@ module _ {S : Type 0} (d : Design S) (y : Trace S) (limit : ℕ) (x : Core S) (g
     answer_grows : (m : ℕ) → RecordGrows x z m
     answer_grows m = record { emitted = refl; answered = answered_now m; flags = flags_now m; verified = verified_now m; ends = ends_now m }
 
-answered_or_not : {S : Type 0} → (d : Design S) (y : Trace S) (limit : ℕ) (x w : Core S) → IsAgreed d y limit x → (n c m : ℕ)
+pub answered_or_not : {S : Type 0} → (d : Design S) (y : Trace S) (limit : ℕ) (x w : Core S) → IsAgreed d y limit x → (n c m : ℕ)
     → (IsSame d x n c × (w ≡ after_answer d x n c)) ⊎ ((IsSame d x n c → ⊥) × (w ≡ x)) → RecordGrows x w m
 answered_or_not {S} d y limit x w g n c m (inl (same, e)) = subst (λ (v : Core S). RecordGrows x v m) (sym e)
     (answer_grows d y limit x g n c same m)

@@ -50,7 +50,7 @@ abbrev IsTold : List Access → Type 0
 IsTold xs = (os ps : List Bool) → queries_in xs ≤ length os → queries_in xs ≤ length ps → flags_by xs os ≡ flags_by xs ps
     → take (queries_in xs) os ≡ take (queries_in xs) ps
 
-told_by_flags : (xs : List Access) → IsTold xs
+pub told_by_flags : (xs : List Access) → IsTold xs
 told_by_flags [] os ps l u e = refl
 told_by_flags (a ∷ xs) os ps l u e =
     elim (cases_Bool (is_blocking a.kind)) [

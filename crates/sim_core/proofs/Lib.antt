@@ -12,3 +12,11 @@ pub mod Turning
 pub mod Rounds
 pub mod Ending
 pub mod Beginning
+pub mod Cut
+pub mod EditedRuns
+pub mod Editing
+pub mod Recording
+pub mod Logged
+pub mod Reported
+pub mod Otherwise
+pub mod Led

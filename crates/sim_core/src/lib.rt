@@ -3,9 +3,11 @@
 
 mod alone;
 mod drive;
+mod edit;
 mod laws;
 mod machine;
 mod opening;
+mod records;
 mod replies;
 mod report;
 mod running;
@@ -17,3 +19,4 @@ pub use flow_design::Plan;
 pub use laws::every_order;
 pub use machine::Core;
 pub use outcome_guard::{Guard, Query};
+pub use records::records_are_answers;

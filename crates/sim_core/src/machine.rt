@@ -3,6 +3,7 @@ ghost use Rattle.std.specs.Prelude.{◌≡◌, length};
 ghost use Rattle.flow_design.specs.StaticRules.{FitsEngine};
 ghost use Rattle.event_timing.specs.Agreement.{IsAgreed};
 ghost use Rattle.timing_bridge.specs.Designs.{design, lockstep_run};
+ghost use Rattle.engine_view.specs.Shown.{IsSound};
 ghost use Rattle.sim_core.specs.Views.{theory_of};
 
 use event_graph::{Candidate, Graph};
@@ -70,6 +71,7 @@ impl Core {
         ensures lanes { result ≡ length self.now.held.lanes }
         ensures agreed { IsAgreed (design self.now.plan) (lockstep_run self.now.plan) self.now.plan.cycles (theory_of self.now) }
         ensures fits { FitsEngine self.now.plan }
+        ensures sound { IsSound (design self.now.plan) self.now.held }
     {
         self.graph.modules()
     }

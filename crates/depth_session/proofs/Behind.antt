@@ -1,0 +1,135 @@
+-- A core behind an edit, and the count of runs with its report.
+use Rattle.std.proofs.Common.{◌≡◌, refl, sym, ap, subst, ◌∙◌, ℕ, suc, ◌+◌, ◌<◌, ◌≤◌, inl, inr, Bool, true, false, List, [], ◌∷◌, length, map, get_or, Some, arith}
+use Rattle.std.specs.Prelude.{slice_get, Result, Ok, Err, IfOk}
+use Rattle.std.proofs.Math.ListN.{get_or-map}
+use Rattle.std.proofs.lemmas.Bool.{cases_lt, cases_Bool}
+use Rattle.std.proofs.lemmas.List.{length-map, get_or_past}
+use Rattle.flow_design.specs.declared.plan.Edit.{Edit}
+use Rattle.flow_design.specs.declared.plan.Plan.{Plan}
+use Rattle.flow_design.specs.Plans.{EditFits, with_depth}
+use Rattle.lockstep_defs.specs.Report.{report}
+use Rattle.query_log.specs.Logs.{Log, no_log, log_at}
+use Rattle.query_log.specs.declared.query.Query.{Query}
+use Rattle.outcome_guard.specs.declared.guard.Guard.{Guard}
+use Rattle.outcome_guard.specs.declared.guard.Guard.TheVariants.{Same, Differs}
+use Rattle.edit_runs.specs.declared.count.RunCount.{RunCount}
+use Rattle.edit_runs.specs.Runs.{all_go_on, next_counts}
+use Rattle.retime.specs.Edits.{OutcomesGrow}
+use Rattle.timing_bridge.specs.Designs.{design}
+use Rattle.sim_core.specs.Views.{CoreView, theory_of}
+use Rattle.sim_core.specs.Drives.{AreOwn, Goes, HasDriven, IsDiffering}
+use Rattle.sim_core.specs.Edits.{IsEdited, IsAsBefore, IsRetimed}
+use Rattle.sim_core.specs.Records.{IsSoundCore, IsEditedOn, HasOtherAnswer, recorded_in, verified_in}
+use Rattle.sim_core.proofs.Rounds.{goes_same}
+use Rattle.depth_session.specs.Records.{answers_of, counted}
+use Rattle.depth_session.specs.Settled.{IsSettled, HasGoneOn, count_of, count_with}
+use Rattle.depth_session.proofs.Going.{counts_differ}
+use Rattle.depth_session.proofs.Logs.{counts_of_logs}
+
+own_same : (v w : CoreView) → w.lent ≡ v.lent → length w.plan.design.modules ≡ length v.plan.design.modules → AreOwn v → AreOwn w
+own_same v w lent count own m l = ap (λ (bs : List Bool). get_or bs m true) lent ∙ own m (omega arith)
+
+-- ---- behind an edit
+
+-- it was found at once that a query is another
+pub differs_at_once : (v : CoreView) (e : Edit) (w : CoreView) (q : Query) (before now : ℕ) → IsSoundCore v → IsSoundCore w → IsSettled v
+    → EditFits v.plan e → w.plan ≡ with_depth v.plan e.channel e.depth → IsEdited v w e (Differs q) before now
+    → HasGoneOn (Differs q) v e w
+differs_at_once v e w q before now from to settled fits plan edited = (
+  record {
+    from = from;
+    to = to;
+    final = settled.final;
+    fits = fits;
+    middle = w;
+    guard = Differs q;
+    before = before;
+    now = now;
+    later = 0;
+    after = 0;
+    plan = plan;
+    edited = edited;
+    goes = goes_same w 0;
+  },
+  found edited,
+)
+  where
+    found : IsEdited v w e (Differs q) before now → IsDiffering w q
+    found (inl same) = let no : Differs q ≡ Same = same.same in cc
+    found (inr retimed) = (q.module, inl retimed.ended)
+
+-- what was left was done
+pub driven : (v : CoreView) (e : Edit) (middle w : CoreView) (guard : Guard) (before now after : ℕ) → IsSoundCore v → IsSoundCore w
+    → IsSettled v → EditFits v.plan e → middle.plan ≡ with_depth v.plan e.channel e.depth → middle.lent ≡ v.lent
+    → IsEdited v middle e Same before now → Goes middle now w after → HasDriven guard w → HasGoneOn guard v e w
+driven v e middle w guard before now after from to settled fits plan lent edited goes done = by guard done
+  where
+    on : IsEditedOn v e w
+    on = record {
+      from = from;
+      to = to;
+      final = settled.final;
+      fits = fits;
+      middle = middle;
+      guard = Same;
+      before = before;
+      now = now;
+      later = now;
+      after = after;
+      plan = plan;
+      edited = edited;
+      goes = goes;
+    }
+
+    by : (r : Guard) → HasDriven r w → HasGoneOn r v e w
+    by Same final =
+        let modules = ap (λ (p : Plan). length p.design.modules) (goes.plan ∙ plan) in
+        (on, record { final = final; own = own_same v w (goes.lent ∙ lent) modules settled.own })
+    by (Differs q) other = (on, other)
+
+-- ---- the count
+
+-- where no query is another the count goes on with what the core holds
+pub counts_on : (v : CoreView) (e : Edit) (w : CoreView) (runs : ℕ) → length w.held.logs ≡ length v.held.logs
+    → ((m : ℕ) → m < length v.held.logs → OutcomesGrow (log_at v.held.logs m) (log_at w.held.logs m))
+    → (report w.plan).answers ≡ verified_in w.held.logs → count_of w runs ≡ count_with v runs w
+counts_on v e w runs same grow answers =
+    sym (ap (next_counts (count_of v runs)) answers ∙ counts_of_logs v.held.logs w.held.logs same grow runs)
+
+-- else one run more is counted
+pub counts_again : (v w : CoreView) (runs : ℕ) → HasOtherAnswer v.held.logs w.plan
+    → count_with v runs w ≡ counted (report w.plan).answers (runs + 1)
+counts_again v w runs o =
+    let answers = (report w.plan).answers in
+    let count = length-map v.held.logs (λ (l : Log). l.outcomes) in
+    let there : slice_get (answers_of (recorded_in v.held.logs) o.owner) o.number ≡ Some o.recorded =
+    ap (λ (os : List Bool). slice_get os o.number) (get_or-map (λ (l : Log). l.outcomes) v.held.logs o.owner no_log) ∙ o.was in
+    counts_differ (recorded_in v.held.logs) answers o.owner o.number o.recorded o.found (let l = o.inside in omega arith)
+    (within answers o.owner o.number o.found o.is) there o.is o.differ runs
+  where
+    none : (j : ℕ) (b : Bool) → slice_get [] j ≡ Some b → ⊥
+    none j b e = cc
+
+    within : (all : List (List Bool)) (m j : ℕ) (b : Bool) → slice_get (answers_of all m) j ≡ Some b → m < length all
+    within all m j b e =
+        elim (cases_lt m (length all)) [
+          | inl l ↦ l
+          | inr l ↦ absurd (none j b (sym (ap (λ (os : List Bool). slice_get os j) (get_or_past all m [] l)) ∙ e))
+        ]
+
+-- a report counts no run less
+pub no_less : (old : RunCount) (found : List (List Bool)) → old.runs ≤ (next_counts old found).runs
+unfolding next_counts
+no_less old found = elim (cases_Bool (all_go_on old.kept found)) [ inl e ↦ rw e (omega arith) | inr e ↦ rw e (omega arith) ]
+
+pub ok_then : {X E : Type 0} (r : Result X E) (P Q : X → Type 0) → ((x : X) → P x → Q x) → IfOk r P → IfOk r Q
+ok_then {X} {E} (Ok x) P Q f p = f x p
+ok_then {X} {E} (Err e) P Q f p = p
+
+pub same_logs : (v : CoreView) (e : Edit) (w : CoreView) → IsEditedOn v e w → length w.held.logs ≡ length v.held.logs
+same_logs v e w t =
+    let a = t.from.sound.logs in
+    let b = t.to.sound.logs in
+    let modules : length w.plan.design.modules ≡ length v.plan.design.modules =
+    ap (λ (p : Plan). length p.design.modules) (t.goes.plan ∙ t.plan) in
+    omega arith

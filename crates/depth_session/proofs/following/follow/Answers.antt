@@ -1,0 +1,62 @@
+use Rattle.std.proofs.Common.{◌≡◌, refl, sym, ap, subst, ◌∙◌, ◌+◌, Bool, List, length, arith}
+use Rattle.flow_design.specs.declared.plan.Plan.{Plan}
+use Rattle.lockstep_defs.specs.Report.{report}
+use Rattle.outcome_guard.specs.declared.guard.Guard.{Guard}
+use Rattle.edit_runs.specs.declared.count.RunCount.{RunCount}
+use Rattle.sim_core.specs.Records.{HasOtherAnswer}
+use Rattle.depth_session.specs.Records.{counted}
+use Rattle.depth_session.specs.Settled.{HasGoneOn, count_of}
+use Rattle.depth_session.proofs.Behind.{counts_on, counts_again, no_less, same_logs}
+use Rattle.depth_session.proofs.following.follow.Goals as goal
+
+pub returns-in_err-go_on-clause-at_most : goal.returns-in_err-go_on-clause-at_most
+returns-in_err-go_on-clause-at_most g c = λ l.
+    let most = no_less (count_of c.args.core.now c.args.runs) (report c.go_on.new.core.plan).answers in omega arith
+
+pub returns-in-Same-clause-counted : goal.returns-in-Same-clause-counted
+returns-in-Same-clause-counted g c =
+    let v = c.args.core.now in
+    let w = c.go_on.new.core in
+    let e = c.args.edit.now in
+    let gone = subst (λ (r : Guard). HasGoneOn r v e w) c.in-Same.is c.in_ok-go_on.ensures.gone in
+    counts_on v e w c.args.runs (same_logs v e w gone.0) (c.records_are_answers.ensures.grow v e w gone.0)
+    (c.records_are_answers.ensures.answers w c.go_on.ensures.sound gone.1.final)
+
+pub returns-in-Same-clause-at_most : goal.returns-in-Same-clause-at_most
+returns-in-Same-clause-at_most g c = λ l.
+    let most = no_less (count_of c.args.core.now c.args.runs) (report c.go_on.new.core.plan).answers in omega arith
+
+pub returns-in_err-run_again-in-Differs-clause-at_most : goal.returns-in_err-run_again-in-Differs-clause-at_most
+returns-in_err-run_again-in-Differs-clause-at_most g c = λ l.
+    let v = c.args.core.now in
+    let w = c.go_on.new.core in
+    let e = c.args.edit.now in
+    let gone = subst (λ (r : Guard). HasGoneOn r v e w) c.in-Differs.is c.in_ok-go_on.ensures.gone in
+    let other = subst (HasOtherAnswer v.held.logs) (sym c.run_again.ensures.plan)
+    (c.records_are_answers.ensures.differ v e w gone.0 _ gone.1) in
+    let more = ap (λ (n : RunCount). n.runs) (counts_again v c.run_again.new.core c.args.runs other) in
+    let most = c.run_again.ensures.at_most l in
+    omega arith
+
+pub returns-in_ok-run_again-in-Differs-clause-counted : goal.returns-in_ok-run_again-in-Differs-clause-counted
+returns-in_ok-run_again-in-Differs-clause-counted g c =
+    let v = c.args.core.now in
+    let w = c.go_on.new.core in
+    let e = c.args.edit.now in
+    let gone = subst (λ (r : Guard). HasGoneOn r v e w) c.in-Differs.is c.in_ok-go_on.ensures.gone in
+    let other = subst (HasOtherAnswer v.held.logs) (sym c.run_again.ensures.plan)
+    (c.records_are_answers.ensures.differ v e w gone.0 _ gone.1) in
+    ap (λ (a : List (List Bool)). counted a (c.args.runs + 1)) c.in_ok-run_again-in-Differs.ensures.answers
+    ∙ sym (counts_again v c.run_again.new.core c.args.runs other)
+
+pub returns-in_ok-run_again-in-Differs-clause-at_most : goal.returns-in_ok-run_again-in-Differs-clause-at_most
+returns-in_ok-run_again-in-Differs-clause-at_most g c = λ l.
+    let v = c.args.core.now in
+    let w = c.go_on.new.core in
+    let e = c.args.edit.now in
+    let gone = subst (λ (r : Guard). HasGoneOn r v e w) c.in-Differs.is c.in_ok-go_on.ensures.gone in
+    let other = subst (HasOtherAnswer v.held.logs) (sym c.run_again.ensures.plan)
+    (c.records_are_answers.ensures.differ v e w gone.0 _ gone.1) in
+    let more = ap (λ (n : RunCount). n.runs) (counts_again v c.run_again.new.core c.args.runs other) in
+    let most = c.run_again.ensures.at_most l in
+    omega arith

@@ -1,0 +1,112 @@
+//! A core behind an edit: where outcomes are as they were recorded it goes on, and else it is simulated again.
+ghost use Rattle.std.specs.Prelude.{◌≡◌, ◌+◌, ◌<◌, ◌≤◌, IfOk, OnOk};
+ghost use Rattle.flow_design.specs.Plans.{EditFits, with_depth};
+ghost use Rattle.flow_design.specs.StaticRules.{FitsEngine};
+ghost use Rattle.lockstep_defs.specs.Report.{report};
+ghost use Rattle.sim_core.specs.Drives.{AreOwn, Goes, HasDriven};
+ghost use Rattle.sim_core.specs.Records.{IsSoundCore, recorded_in};
+ghost use Rattle.depth_session.specs.Settled.{IsSettled, HasGoneOn, count_of, count_with};
+
+use crate::runner::Runner;
+use flow_design::{Edit, Plan, copy_plan};
+use flow_word::{OutOfMemory, Steps};
+use sim_core::{Core, Guard, records_are_answers};
+use std::alloc::Global;
+use std::marker::Brand;
+use std::sync::ledger::{Blank, Ledger};
+
+/// Edits a core that is settled, and settles it again. How many runs are counted then.
+///
+/// The runner is called exactly where one more is counted. An error leaves the plan edited.
+pub(crate) fn follow<U: Runner>(
+    alloc: Global,
+    core: &mut Core,
+    runs: u64,
+    edit: &Edit,
+    runner: &mut U,
+) -> Result<u64, OutOfMemory>
+    requires settled { IsSettled core.old }
+    requires few { runs < u64.MAX }
+    requires fits { EditFits core.old.plan edit.now }
+    ensures plan { core.new.plan ≡ with_depth core.old.plan edit.now.channel edit.now.depth }
+    ensures settled { OnOk result (IsSettled core.new) }
+    ensures counted { IfOk result (λ now. count_of core.new now ≡ count_with core.old runs core.new) }
+    ensures made { U.made runner.old < u64.MAX → IfOk result (λ now. U.made runner.new + runs ≡ U.made runner.old + now) }
+    ensures at_most { U.made runner.old < u64.MAX
+        → U.made runner.new + runs ≤ U.made runner.old + (count_with core.old runs core.new).runs }
+{
+    records_are_answers();
+    match go_on::<Brand>(core, edit, Blank::new(1))? {
+        Guard::Same => Ok(runs),
+        Guard::Differs(_) => {
+            run_again(alloc, core, runner)?;
+            Ok(runs + 1)
+        }
+    }
+}
+
+/// Edits a core, and does what is left to do, until a query is found to be another than it was recorded.
+fn go_on<L: Ledger>(core: &mut Core, edit: &Edit, blank: Blank) -> Result<Guard, OutOfMemory>
+    requires name { blank.name ≡ L.name }
+    requires parts { blank.parts ≡ L.parts }
+    requires one { L.parts ≡ 1 }
+    requires settled { IsSettled core.old }
+    requires fits { EditFits core.old.plan edit.now }
+    ensures plan { core.new.plan ≡ with_depth core.old.plan edit.now.channel edit.now.depth }
+    ensures sound { IsSoundCore core.new }
+    ensures gone { IfOk result (λ guard. HasGoneOn guard core.old edit.now core.new) }
+{
+    let _before = core.modules();
+    let mut steps = Steps::<L>::new(blank);
+    match core.edit(edit, &mut steps) {
+        Guard::Differs(query) => {
+            let _now = core.modules();
+            Ok(Guard::Differs(query))
+        }
+        Guard::Same => drive_on(core, &mut steps),
+    }
+}
+
+/// Does what is left to do in a core of which no run is lent.
+fn drive_on<L: Ledger>(core: &mut Core, steps: &mut Steps<L>) -> Result<Guard, OutOfMemory>
+    requires own { AreOwn core.old }
+    ensures goes { Goes core.old steps.old core.new steps.new }
+    ensures sound { IsSoundCore core.new }
+    ensures driven { IfOk result (λ guard. HasDriven guard core.new) }
+{
+    let guard = core.drive(steps);
+    let _now = core.modules();
+    guard
+}
+
+/// Puts a core in place of this one that is simulated from the beginning.
+fn run_again<U: Runner>(alloc: Global, core: &mut Core, runner: &mut U) -> Result<(), OutOfMemory>
+    requires { FitsEngine core.old.plan }
+    ensures plan { core.new.plan ≡ core.old.plan }
+    ensures settled { OnOk result (IsSettled core.new) }
+    ensures answers { OnOk result (recorded_in core.new.held.logs ≡ (report core.new.plan).answers) }
+    ensures counted { U.made runner.old < u64.MAX → OnOk result (U.made runner.new ≡ U.made runner.old + 1) }
+    ensures at_most { U.made runner.old < u64.MAX → U.made runner.new ≤ U.made runner.old + 1 }
+{
+    let plan = copy_plan(alloc, core.plan())?;
+    *core = first_core(alloc, plan, runner)?;
+    Ok(())
+}
+
+/// The core of a plan that is not edited yet. It has the answers of the plan's report.
+pub(crate) fn first_core<U: Runner>(
+    alloc: Global,
+    plan: Plan,
+    runner: &mut U,
+) -> Result<Core, OutOfMemory>
+    requires { FitsEngine plan }
+    ensures plan { IfOk result (λ core. core.plan ≡ plan) }
+    ensures settled { IfOk result (λ core. IsSettled core) }
+    ensures answers { IfOk result (λ core. recorded_in core.held.logs ≡ (report plan).answers) }
+    ensures counted { U.made runner.old < u64.MAX → U.made runner.new ≡ U.made runner.old + 1 }
+{
+    records_are_answers();
+    let core = runner.run_plan(alloc, plan)?;
+    let _modules = core.modules();
+    Ok(core)
+}

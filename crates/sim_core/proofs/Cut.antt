@@ -1,0 +1,42 @@
+-- The core from which an edit goes on.
+use Rattle.std.proofs.Common.{◌≡◌, refl, sym, subst, ℕ}
+use Rattle.flow_design.specs.declared.plan.Edit.{Edit}
+use Rattle.flow_design.specs.declared.plan.Plan.{Plan}
+use Rattle.flow_design.specs.declared.state.ModuleState.{ModuleState}
+use Rattle.flow_design.specs.Plans.{with_depth, EditFits}
+use Rattle.flow_design.specs.StaticRules.{FitsEngine}
+use Rattle.event_timing.specs.Machines.{Design}
+use Rattle.event_timing.specs.Histories.{IsHistory}
+use Rattle.event_timing.specs.Core.{Core}
+use Rattle.event_timing.specs.Actions.{IsFinal}
+use Rattle.event_timing.specs.Agreement.{IsAgreed}
+use Rattle.event_timing.specs.Edits.{edited, after_edit}
+use Rattle.timing_bridge.specs.Designs.{design, lockstep_run}
+use Rattle.timing_bridge.proofs.Edits.{edited_fits, same_design}
+use Rattle.timing_bridge.proofs.History.{plan_is_design, run_is_history}
+use Rattle.engine_view.specs.Held.{Held, core_of}
+use Rattle.engine_view.specs.Shown.{IsSound}
+use Rattle.retime.specs.Edits.{IsFinalOf, IsEditFrom}
+use Rattle.retime.proofs.Agreeing.{cut_agrees}
+
+module _ (p : Plan) (fits : FitsEngine p) (e : Edit) (fit : EditFits p e) (h : Held) (sound : IsSound (design p) h)
+    (agreed : IsAgreed (design p) (lockstep_run p) p.cycles (core_of (design p) h))
+    (final : IsFinal (design p) p.cycles (core_of (design p) h)) where
+  abbrev q : Plan
+  q = with_depth p e.channel e.depth
+
+  pub final_of : IsFinalOf (design p) (lockstep_run p) p.cycles h
+  final_of = record { design = plan_is_design p fits; history = run_is_history p fits; sound = sound; agreed = agreed; final = final }
+
+  pub history_of : IsHistory (edited (design p) e.channel e.depth) (lockstep_run q)
+  history_of =
+      subst (λ (f : Design ModuleState). IsHistory f (lockstep_run q)) (sym (same_design p e.channel e.depth fit.entry))
+      (run_is_history q (edited_fits p fits e fit))
+
+  -- it agrees with the edited plan
+  pub cut_of : (t : ℕ) → IsEditFrom h.lanes h.channels e.channel e.depth p.cycles t
+      → IsAgreed (design q) (lockstep_run q) p.cycles (after_edit (design p) (core_of (design p) h) t)
+  cut_of t from =
+      subst (λ (f : Design ModuleState). IsAgreed f (lockstep_run q) p.cycles (after_edit (design p) (core_of (design p) h) t))
+      (same_design p e.channel e.depth fit.entry)
+      (cut_agrees (design p) (lockstep_run p) p.cycles h final_of e.channel e.depth t from (λ c. refl) (lockstep_run q) history_of)

@@ -1,0 +1,198 @@
+-- A final core behind an edit of its plan.
+use Rattle.std.proofs.Common.{◌≡◌, refl, sym, ap, subst, ◌∙◌, ℕ, ◌+◌, ◌<◌, ◌≤◌, inl, inr, Bool, true, false, List, [], ◌∷◌, length, map}
+use Rattle.std.proofs.Common.{get_or, set, Option, Some, None, unwrap_or, ◌⊎◌, arith}
+use Rattle.std.specs.Prelude.{IfSome, IsNone}
+use Rattle.std.proofs.lemmas.List.{length-map, set-get_or}
+use Rattle.flow_word.specs.declared.access.Side.{Side}
+use Rattle.flow_design.specs.declared.plan.Edit.{Edit}
+use Rattle.flow_design.specs.declared.plan.Plan.{Plan}
+use Rattle.flow_design.specs.declared.state.Advance.{Advance}
+use Rattle.flow_design.specs.declared.state.ModuleState.{ModuleState}
+use Rattle.flow_design.specs.Plans.{with_depth, EditFits}
+use Rattle.flow_design.specs.StaticRules.{FitsEngine}
+use Rattle.module_interp.specs.declared.run.ModuleRun.{ModuleRun}
+use Rattle.event_graph.specs.Lanes.{Lane, timed_below}
+use Rattle.fifo_table.specs.Channels.{channel_at, depth_of, places_of}
+use Rattle.fifo_table.specs.Channels.{with_depth as with_depths}
+use Rattle.query_log.specs.Logs.{log_at}
+use Rattle.query_log.specs.declared.query.Query.{Query}
+use Rattle.outcome_guard.specs.declared.guard.Guard.{Guard}
+use Rattle.outcome_guard.specs.declared.guard.Guard.TheVariants.{Same, Differs}
+use Rattle.event_timing.specs.Machines.{Design, IsDesign}
+use Rattle.event_timing.specs.Core.{Core}
+use Rattle.event_timing.specs.Actions.{Action, IsFinal, IsNoRunOf}
+use Rattle.event_timing.specs.Actions.Action.{Run, Assign, Answer, Earliest}
+use Rattle.event_timing.specs.Agreement.{IsAgreed}
+use Rattle.event_timing.specs.Edits.{edited, after_edit}
+use Rattle.event_timing.specs.Growth.{GrowsBeside}
+use Rattle.event_timing.proofs.Beside.{others_grow}
+use Rattle.timing_bridge.specs.Designs.{design, lockstep_run}
+use Rattle.timing_bridge.proofs.Edits.{edited_fits, same_design}
+use Rattle.timing_bridge.proofs.History.{plan_is_design, run_is_history}
+use Rattle.engine_view.specs.Held.{Held, core_of}
+use Rattle.engine_view.specs.Rooms.{IsRoomy}
+use Rattle.engine_view.specs.Stored.{Stored, held_in}
+use Rattle.engine_view.specs.Taking.{kinds_in}
+use Rattle.retime.specs.Cuts.{HasRetimed, KeepsRoomEdited}
+use Rattle.retime.specs.Edits.{IsEditFrom, IsEditOf, IsOtherInHistory, OutcomesGrow}
+use Rattle.retime.specs.Rounds.{AreTimings, LeadsAll, HasEnded, only_steps, cycles_in, steps_in}
+use Rattle.retime.specs.Touched.{AreInOrder, IsFirstTouched, IsNeverTouched}
+use Rattle.retime.proofs.Agreeing.{other_in_history}
+use Rattle.retime.proofs.Behind.{agreed_behind, outcomes_behind}
+use Rattle.retime.proofs.Tallied.{places_in_order}
+use Rattle.sim_core.specs.Edits.{IsEdited, IsTrueGuard}
+use Rattle.sim_core.specs.Runs.{IsCore, over_of}
+use Rattle.sim_core.specs.Views.{CoreView}
+use Rattle.sim_core.proofs.Cut.{final_of, history_of, cut_of}
+use Rattle.sim_core.proofs.EditedRuns.{run_edited, end_edited, channel_inside, fifo_there, depth_there, kinds_edited}
+use Rattle.sim_core.proofs.Keeping.{kept_of}
+use Rattle.sim_core.proofs.Staying.{run_stays, end_stays}
+
+-- none of them is a Run
+no_runs : (m : ℕ) (actions : List Action) → AreTimings actions → IsNoRunOf m actions
+no_runs m [] t = tt
+no_runs m (Run n ∷ rest) t = absurd t
+no_runs m (Assign n ∷ rest) t = no_runs m rest t
+no_runs m (Answer n ∷ rest) t = no_runs m rest t
+no_runs m (Earliest n ∷ rest) t = absurd t
+
+module _ (p : Plan) (s : Stored) (ends : List (Option Advance)) (runs : List (Option ModuleRun)) (credits : List ℕ)
+    (k : IsCore p s ends runs credits)
+    (e : Edit) (fit : EditFits p e) where
+  abbrev over : List Bool
+  over = over_of ends
+
+  abbrev d : Design ModuleState
+  d = design p
+
+  abbrev x : Core ModuleState
+  x = core_of d (held_in s over)
+
+  abbrev q : Plan
+  q = with_depth p e.channel e.depth
+
+  is_design : IsDesign d
+  is_design = plan_is_design p k.fits
+
+  pub in_order : (side : Side) → AreInOrder (places_of side (channel_at s.table.channels e.channel))
+  in_order side =
+      places_in_order d (held_in s over) k.sound e.channel (channel_inside p k.fits e fit s.table.channels k.table) is_design side
+
+  -- where the depth is the one that stands, the plan stays as it is
+  pub same_plan : depth_of (channel_at s.table.channels e.channel).kind ≡ e.depth → p ≡ q
+  same_plan same =
+      let depth = depth_there p k.fits e fit s.table.channels k.table in
+      ap (λ (ns : List ℕ). record p { depths = ns })
+      (sym (ap (λ (n : ℕ). set p.depths e.channel n) (sym same ∙ depth) ∙ set-get_or p.depths e.channel 0))
+
+  q_fits : FitsEngine q
+  q_fits = edited_fits p k.fits e fit
+
+  same : edited d e.channel e.depth ≡ design q
+  same = same_design p e.channel e.depth fit.entry
+
+  module _ (final : IsFinal d p.cycles x) (t : Stored) (guard : Guard) (clock : ℕ)
+      (from : IsEditFrom s.graph.lanes s.table.channels e.channel e.depth p.cycles clock)
+      (done : HasRetimed guard e.channel e.depth clock p.cycles s t) (steps : only_steps t.graph.lanes ≡ only_steps s.graph.lanes) where
+    is_edit : IsEditOf d (lockstep_run p) (lockstep_run q) p.cycles over s t guard e.channel e.depth clock
+    is_edit = record {
+      final = final_of p k.fits e fit (held_in s over) k.sound k.agreed final;
+      lags = λ c. refl;
+      from = from;
+      history = history_of p k.fits e fit (held_in s over) k.sound k.agreed final;
+      retimed = done;
+      steps = steps;
+    }
+
+    abbrev cut : Core ModuleState
+    cut = after_edit d x clock
+
+    abbrev y : Core ModuleState
+    y = core_of (design q) (held_in t over)
+
+    both : LeadsAll (design q) p.cycles cut (held_in t over) × HasEnded guard (design q) p.cycles (held_in t over)
+    both = subst (λ (f : Design ModuleState). LeadsAll f p.cycles cut (held_in t over) × HasEnded guard f p.cycles (held_in t over)) same
+        (done d over is_design (kept_of p s ends runs credits k))
+
+    agreed_now : IsAgreed (design q) (lockstep_run q) p.cycles y
+    agreed_now = subst (λ (f : Design ModuleState). IsAgreed f (lockstep_run q) p.cycles (core_of f (held_in t over))) same
+        (agreed_behind d (lockstep_run p) (lockstep_run q) p.cycles over s t guard e.channel e.depth clock is_edit)
+
+    cut_now : IsAgreed (design q) (lockstep_run q) p.cycles cut
+    cut_now = cut_of p k.fits e fit (held_in s over) k.sound k.agreed final clock from
+
+    beside : (m : ℕ) → GrowsBeside (design q) cut y m
+    beside m = others_grow (design q) (lockstep_run q) (plan_is_design q q_fits) (run_is_history q q_fits) p.cycles cut cut_now m
+        both.0.actions (no_runs m both.0.actions both.0.timings) y both.0.all
+
+    lane_count : length t.graph.lanes ≡ length s.graph.lanes
+    lane_count = sym (length-map t.graph.lanes (λ (l : Lane). l.steps))
+        ∙ (ap (λ ls. length ls) steps ∙ length-map s.graph.lanes (λ (l : Lane). l.steps))
+
+    pub core_edited : KeepsRoomEdited e.channel e.depth s t
+        → kinds_in t.table.channels ≡ kinds_in (with_depths s.table.channels e.channel e.depth)
+        → IsCore q t ends runs credits
+    core_edited room kinds = record {
+      fits = q_fits;
+      sound = both.0.kept.sound;
+      agreed = agreed_now;
+      table = kinds ∙ kinds_edited p k.fits e fit s.table.channels k.table;
+      count = k.count ∙ sym lane_count;
+      counted = k.counted ∙ sym lane_count;
+      room = subst (λ (f : Design ModuleState). IsRoomy f t over credits) same
+          (room credits d over is_design (kept_of p s ends runs credits k) k.room);
+      runs_are = λ m run there.
+          run_stays q cut y cut_now.marks m (beside m) run (run_edited p k.fits e fit m clock x run (k.runs_are m run there));
+      ends_are = λ m mark there.
+          end_stays q cut y cut_now.marks m (beside m) mark (end_edited p k.fits e fit m clock x mark (k.ends_are m mark there));
+    }
+
+    pub true_guard : (lent : List Bool) → IsTrueGuard guard (record { plan = q; held = held_in t over; lent = lent })
+    true_guard lent = by guard both.1
+      where
+        by : (g : Guard) → HasEnded g (design q) p.cycles (held_in t over)
+            → IsTrueGuard g (record { plan = q; held = held_in t over; lent = lent })
+        by Same ended = tt
+        by (Differs u) ended =
+            other_in_history (design q) (lockstep_run q) (plan_is_design q q_fits) (run_is_history q q_fits) p.cycles (held_in t over)
+            agreed_now u ended
+
+    pub is_edited : (lent : List Bool) (before after : ℕ)
+        → after + cycles_in (map (timed_below clock) s.graph.lanes) ≡ before + cycles_in t.graph.lanes
+        → after + cycles_in (map (timed_below clock) s.graph.lanes) ≤ before + steps_in s.graph.lanes
+        → IsEdited (record { plan = p; held = held_in s over; lent = lent })
+        (record { plan = q; held = held_in t over; lent = lent }) e guard
+        before after
+    is_edited lent before after ticked few = inr (record {
+      clock = clock;
+      from = from;
+      leads = both.0;
+      ended = both.1;
+      ticked = ticked;
+      few = few;
+      outcomes = outcomes_behind d (lockstep_run p) (lockstep_run q) p.cycles over s t guard e.channel e.depth clock is_edit;
+    })
+
+-- the clock that the code goes by
+pub edit_from : (p : Plan) (s : Stored) (ends : List (Option Advance)) (runs : List (Option ModuleRun)) (credits : List ℕ)
+    → IsCore p s ends runs credits → (e : Edit) → EditFits p e → (stands : ℕ)
+    → stands ≡ depth_of (channel_at s.table.channels e.channel).kind
+    → 1 ≤ stands → (stands ≡ e.depth → ⊥) → (o : Option ℕ)
+    → IfSome o (λ t. IsFirstTouched s.graph.lanes (channel_at s.table.channels e.channel) e.depth t)
+    → (IsNone o → IsNeverTouched s.graph.lanes (channel_at s.table.channels e.channel) e.depth)
+    → IsEditFrom s.graph.lanes s.table.channels e.channel e.depth p.cycles (unwrap_or o p.cycles)
+edit_from p s ends runs credits k e fit stands is least apart o some none = record {
+  inside = channel_inside p k.fits e fit s.table.channels k.table;
+  is_fifo = fifo_there p k.fits e fit s.table.channels k.table;
+  stood = omega arith;
+  least = fit.least;
+  changes = λ same. apart (is ∙ same);
+  from = by o some none;
+}
+  where
+    by : (o : Option ℕ) → IfSome o (λ t. IsFirstTouched s.graph.lanes (channel_at s.table.channels e.channel) e.depth t)
+        → (IsNone o → IsNeverTouched s.graph.lanes (channel_at s.table.channels e.channel) e.depth)
+        → (IsFirstTouched s.graph.lanes (channel_at s.table.channels e.channel) e.depth (unwrap_or o p.cycles))
+        ⊎ (IsNeverTouched s.graph.lanes (channel_at s.table.channels e.channel) e.depth × (unwrap_or o p.cycles ≡ p.cycles))
+    by None some none = inr (none refl, refl)
+    by (Some t) some none = inl some

@@ -1,0 +1,207 @@
+-- The records of outcomes behind an edit and the actions that follow.
+use Rattle.std.proofs.Common.{◌≡◌, refl, sym, ap, ap₂, subst, ◌∙◌, ℕ, ◌<◌, ◌⊎◌, inl, inr, Bool, true, false, Some, ltb, ◌&&◌, List, []}
+use Rattle.std.proofs.Common.{◌∷◌, ◌++◌, length, get_or, arith}
+use Rattle.std.specs.Prelude.{slice_get}
+use Rattle.std.proofs.lemmas.Bool.{and_parts, both_ways, cases_lt, lt-ltb}
+use Rattle.flow_design.specs.declared.plan.Edit.{Edit}
+use Rattle.flow_design.specs.declared.plan.Plan.{Plan}
+use Rattle.flow_design.specs.declared.state.ModuleState.{ModuleState}
+use Rattle.flow_design.specs.Plans.{with_depth, EditFits}
+use Rattle.flow_design.specs.StaticRules.{FitsEngine}
+use Rattle.lockstep_defs.specs.Channels.{HistoryStep}
+use Rattle.lockstep_defs.specs.Report.{report, outcomes}
+use Rattle.query_log.specs.Logs.{Log, log_at}
+use Rattle.query_log.specs.declared.query.Query.{Query}
+use Rattle.event_timing.specs.Machines.{Design}
+use Rattle.event_timing.specs.Core.{Core, core_accesses, view}
+use Rattle.event_timing.specs.Enablers.{candidate}
+use Rattle.event_timing.specs.Actions.{Action, ActsAll, IsFinal, new_flags}
+use Rattle.event_timing.specs.Agreement.{IsAgreed}
+use Rattle.event_timing.specs.Edits.{after_edit}
+use Rattle.event_timing.specs.Growth.{Grows}
+use Rattle.event_timing.proofs.Answering.{first_emitted}
+use Rattle.event_timing.proofs.Beside.{actions_grow}
+use Rattle.timing_bridge.specs.Designs.{design, lockstep_run}
+use Rattle.timing_bridge.specs.Outcomes.{outcomes_by, first_requests, IsNextStep}
+use Rattle.timing_bridge.proofs.History.{plan_is_design, run_is_history}
+use Rattle.timing_bridge.proofs.Outcomes.{answered_outcomes, earliest_outcomes}
+use Rattle.engine_view.specs.Held.{Held, step_of, emitted_of, are_among, core_of}
+use Rattle.engine_view.specs.Shown.{IsSound}
+use Rattle.engine_view.specs.Turns.{IsDifferent, IsFoundOther, first_of}
+use Rattle.retime.specs.Edits.{OutcomesGrow}
+use Rattle.sim_core.specs.Views.{CoreView, theory_of}
+use Rattle.sim_core.specs.Turns.{IsEarliestOther}
+use Rattle.sim_core.specs.Drives.{Goes, IsDiffering}
+use Rattle.sim_core.specs.Edits.{IsAsBefore, IsRetimed}
+use Rattle.sim_core.specs.Records.{IsSoundCore, IsEditedOn, HasOtherAnswer}
+use Rattle.sim_core.proofs.Cut.{cut_of}
+use Rattle.sim_core.proofs.Logged.{outcomes_on}
+use Rattle.sim_core.proofs.Otherwise.{AreOtherAt, other_answer}
+use Rattle.sim_core.proofs.Recording.{NoneAdded, AreSure, all_recorded}
+
+acts_both : {S : Type 0} → (d : Design S) (limit : ℕ) (x : Core S) (actions more : List Action) (y z : Core S)
+    → ActsAll d limit x actions y
+    → ActsAll d limit y more z → ActsAll d limit x (actions ++ more) z
+acts_both {S} d limit x [] more y z a b = subst (λ (w : Core S). ActsAll d limit w more z) a b
+acts_both {S} d limit x (c ∷ actions) more y z (w, s, a) b = (w, s, acts_both d limit w actions more y z a b)
+
+-- ---- from a core with the same record
+
+-- it has emitted the same, and its outcomes are those that are held
+record HasRecordOf (p q : Plan) (h : Held) (x : Core ModuleState) (m : ℕ) : Type 0 where
+  pub emitted : x.emitted m ≡ emitted_of h m
+  pub accesses : (k : ℕ) → core_accesses (design q) x m k ≡ core_accesses (design p) (core_of (design p) h) m k
+  pub answered : (k : ℕ) → x.answered m k ≡ (core_of (design p) h).answered m k
+  pub flags : (k : ℕ) → x.flags m k ≡ (core_of (design p) h).flags m k
+
+-- actions lead from there to the other core
+record IsLed (p q : Plan) (h g : Held) : Type 0 where
+  pub core : Core ModuleState
+  pub record_is : (m : ℕ) → HasRecordOf p q h core m
+  pub agreed : IsAgreed (design q) (lockstep_run q) q.cycles core
+  pub actions : List Action
+  pub all : ActsAll (design q) q.cycles core actions (core_of (design q) g)
+
+led_grow : (p q : Plan) (h g : Held) → FitsEngine q → IsSound (design p) h → IsSound (design q) g → IsLed p q h g → (m : ℕ)
+    → m < length h.logs → m < length g.logs → OutcomesGrow (log_at h.logs m) (log_at g.logs m)
+led_grow p q h g fits sh sg l m in_h in_g =
+    let x = l.core in
+    let r = l.record_is m in
+    let grows = actions_grow (design q) (lockstep_run q) (plan_is_design q fits) (run_is_history q fits) q.cycles x l.agreed l.actions
+    (core_of (design q) g) l.all in
+    let ends = all_recorded (design q) (lockstep_run q) (plan_is_design q fits) (run_is_history q fits) q.cycles x l.agreed l.actions
+    (core_of (design q) g) l.all m in
+    let e = r.emitted in
+    outcomes_on (design p) (design q) h g m sh sg in_h in_g (let up = grows.emitted_up m in omega arith)
+    (λ k u. ap (λ (s : ModuleState). (design q).accesses m s) (grows.state_same m k (omega arith)) ∙ r.accesses k)
+    (λ k u a. grows.answered_up m k (omega arith) (r.answered k ∙ a))
+    (λ k u a. grows.flags_same m k (omega arith) (r.answered k ∙ a) ∙ r.flags k)
+    (elim ends.0 [
+      | inl none ↦ inl (λ k u asks a. let (below, had) = none k u asks a in (omega arith, sym (r.answered k) ∙ had))
+      | inr sure ↦ inr sure
+    ])
+
+-- ---- an edit, and what follows
+
+module _ (v : CoreView) (e : Edit) (w : CoreView) (t : IsEditedOn v e w) where
+  led_before : IsAsBefore v t.middle e t.guard t.before t.now → IsLed v.plan w.plan v.held w.held
+  led_before same =
+      let goes = subst (λ (u : CoreView). Goes u t.later w t.after) same.core t.goes in
+      let there = subst (λ (q : Plan). IsAgreed (design q) (lockstep_run q) q.cycles (theory_of v)
+      × ActsAll (design q) q.cycles (theory_of v) goes.actions (theory_of w)) (sym goes.plan) (t.from.agreed, goes.all) in
+      record {
+        core = theory_of v;
+        record_is = λ m. record {
+          emitted = refl;
+          accesses = λ k. ap (λ (q : Plan). core_accesses (design q) (theory_of v) m k) goes.plan;
+          answered = λ k. refl;
+          flags = λ k. refl;
+        };
+        agreed = there.0;
+        actions = goes.actions;
+        all = there.1;
+      }
+
+  led_retimed : IsRetimed v t.middle e t.guard t.before t.now → IsLed v.plan w.plan v.held w.held
+  led_retimed r =
+      let cut = after_edit (design v.plan) (theory_of v) r.clock in
+      let plan : w.plan ≡ with_depth v.plan e.channel e.depth = t.goes.plan ∙ t.plan in
+      let agreed = subst (λ (q : Plan). IsAgreed (design q) (lockstep_run q) q.cycles cut) (sym plan)
+      (cut_of v.plan t.from.fits e t.fits v.held t.from.sound t.from.agreed t.final r.clock r.from) in
+      let all = subst (λ (q : Plan). ActsAll (design q) q.cycles cut (r.leads.actions ++ t.goes.actions) (theory_of w)) (sym t.goes.plan)
+      (acts_both (design t.middle.plan) t.middle.plan.cycles cut r.leads.actions t.goes.actions (theory_of t.middle) (theory_of w)
+      r.leads.all t.goes.all) in
+      record {
+        core = cut;
+        record_is = λ m. record {
+          emitted = refl;
+          accesses = λ k. ap (λ (q : Plan). core_accesses (design q) cut m k) plan;
+          answered = λ k. refl;
+          flags = λ k. refl;
+        };
+        agreed = agreed;
+        actions = r.leads.actions ++ t.goes.actions;
+        all = all;
+      }
+
+  led : IsLed v.plan w.plan v.held w.held
+  led = elim t.edited [ inl same ↦ led_before same | inr r ↦ led_retimed r ]
+
+  same_logs : length w.held.logs ≡ length v.held.logs
+  same_logs =
+      let a = t.from.sound.logs in
+      let b = t.to.sound.logs in
+      let plan = t.goes.plan ∙ t.plan in
+      let modules : length w.plan.design.modules ≡ length v.plan.design.modules = ap (λ (q : Plan). length q.design.modules) plan in
+      omega arith
+
+  pub outcomes_led : (m : ℕ) → m < length v.held.logs → OutcomesGrow (log_at v.held.logs m) (log_at w.held.logs m)
+  outcomes_led m l =
+      led_grow v.plan w.plan v.held w.held t.to.fits t.from.sound t.to.sound led m l (let n = same_logs in omega arith)
+
+  -- ---- a query that is found to be another
+
+  abbrev x : Core ModuleState
+  x = theory_of w
+
+  module _ (m c : ℕ) (q : Query) (found : IsFoundOther (design w.plan) w.held m c q)
+      (at : candidate (design w.plan) (view (design w.plan) x) m ≡ Some c)
+      (unsure : x.verified m (x.timed m) ≡ false)
+      (next : (s : HistoryStep) × (s.clock ≡ c) × IsNextStep w.plan x m w.plan.cycles s
+      × (outcomes (s ∷ []) ≡ outcomes_by (first_requests w.plan x m) (new_flags (design w.plan) x m c))) where
+    emitted : first_of w.held m < emitted_of w.held m
+    emitted = first_emitted (design w.plan) x m c at
+
+    inside : m < length w.held.logs
+    inside =
+        elim (cases_lt m (length w.held.logs)) [
+          | inl l ↦ l
+          | inr l ↦
+              let a = t.to.sound.logs in
+              let none = t.to.agreed.marks.inside m (omega arith) in
+              let some = emitted in
+              absurd (omega arith)
+        ]
+
+    other : (j : ℕ) × AreOtherAt j (log_at w.held.logs m).outcomes (get_or (report w.plan).answers m [])
+    other =
+        let (s, clock, is, told) = next in
+        (_, other_answer w.plan w.held t.to.sound t.to.agreed m c inside q found at s is told)
+
+    -- they are as they were before the edit
+    as_before : (log_at w.held.logs m).outcomes ≡ (log_at v.held.logs m).outcomes
+    as_before =
+        let grow = outcomes_led m (let n = same_logs in let i = inside in omega arith) in
+        elim grow.ends [
+          | inl same ↦ same
+          | inr all ↦
+              let now = log_at w.held.logs m in
+              let step = step_of w.held m (first_of w.held m) in
+              let there = (and_parts (ltb (first_of w.held m) (emitted_of w.held m))
+              (are_among step (length now.outcomes)) found.recorded).1 in
+              let sure : x.verified m (first_of w.held m) ≡ true =
+              ap₂ (λ (a b : Bool). a && b) (lt-ltb (first_of w.held m) (emitted_of w.held m) emitted) (ap (are_among step) all ∙ there) in
+              absurd (both_ways _ unsure sure)
+        ]
+
+    has_other : HasOtherAnswer v.held.logs w.plan
+    has_other =
+        let (j, o) = other in
+        record {
+          owner = m;
+          number = j;
+          inside = let n = same_logs in let i = inside in omega arith;
+          recorded = o.one;
+          found = o.other;
+          was = ap (λ (os : List Bool). slice_get os j) (sym as_before) ∙ o.here;
+          is = o.there;
+          differ = o.differ;
+        }
+
+  pub differ_led : (q : Query) → IsDiffering w q → HasOtherAnswer v.held.logs w.plan
+  differ_led q (m, inl d) =
+      has_other m d.cycle q d.found d.may.determined.at d.may.open_query
+      (answered_outcomes w.plan t.to.fits w.plan.cycles x t.to.agreed m d.cycle d.may)
+  differ_led q (m, inr d) =
+      has_other m d.cycle q d.found d.may.open_step.determined.at d.may.open_step.open_query
+      (earliest_outcomes w.plan t.to.fits w.plan.cycles x t.to.agreed m d.cycle d.may)

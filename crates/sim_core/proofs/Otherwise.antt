@@ -1,0 +1,258 @@
+-- A query that is found to be another makes the report's answers differ from the recorded ones.
+use Rattle.std.proofs.Common.{◌≡◌, ◌≢◌, refl, sym, ap, ap₂, subst, ◌∙◌, ℕ, zero, suc, ◌+◌, ◌<◌, ◌≤◌, ◌⊎◌, inl, inr, Bool, true, false}
+use Rattle.std.proofs.Common.{not, cond, ltb, ◌&&◌, List, [], ◌∷◌, ◌++◌, length, map, take, drop, get_or, Option, Some, None, arith}
+use Rattle.std.proofs.Common.{append-nil}
+use Rattle.std.specs.Prelude.{slice_get}
+use Rattle.std.specs.List.{range_with_len}
+use Rattle.std.proofs.lemmas.Bool.{cases_Bool, and_parts, both_ways, lt-ltb}
+use Rattle.std.proofs.lemmas.List.{length-drop, length-map, length-take, take-append-drop}
+use Rattle.std.proofs.lemmas.List.Concat.{flat_map-append}
+use Rattle.std.proofs.lemmas.List.FromFn.{get_or-map-range_with_len}
+use Rattle.flow_word.specs.Kinds.{is_blocking}
+use Rattle.flow_word.specs.declared.access.Access.{Access}
+use Rattle.flow_word.specs.declared.access.Kind.{Kind}
+use Rattle.flow_word.specs.declared.access.Kind.TheVariants.{Read, Write, TryRead, TryWrite, Empty, Full}
+use Rattle.flow_design.specs.declared.plan.Plan.{Plan}
+use Rattle.flow_design.specs.declared.state.ModuleState.{ModuleState}
+use Rattle.flow_design.specs.declared.state.Request.{Request}
+use Rattle.flow_design.specs.StaticRules.{FitsEngine}
+use Rattle.lockstep_defs.specs.Channels.{HistoryStep, Exchange}
+use Rattle.lockstep_defs.specs.Lockstep.{history}
+use Rattle.lockstep_defs.specs.Report.{report, outcomes, queries, steps_of}
+use Rattle.lockstep_defs.specs.Machine.{is_yes}
+use Rattle.lockstep_defs.specs.Verdict.{verdict, clock_of}
+use Rattle.query_log.specs.Logs.{log_at}
+use Rattle.query_log.specs.declared.query.Query.{Query}
+use Rattle.event_timing.specs.Machines as theory
+use Rattle.event_timing.specs.Core.{Core, view}
+use Rattle.event_timing.specs.Enablers.{Known, candidate, flags_at}
+use Rattle.event_timing.specs.Views.{first_accesses}
+use Rattle.event_timing.specs.Actions.{new_flags}
+use Rattle.event_timing.specs.Agreement.{IsAgreed}
+use Rattle.event_timing.proofs.Answering.{first_emitted}
+use Rattle.timing_bridge.specs.Designs.{design, lockstep_run}
+use Rattle.timing_bridge.specs.Designs as bridge
+use Rattle.timing_bridge.specs.CoreReports.{core_steps}
+use Rattle.timing_bridge.specs.Outcomes.{outcome_of, outcomes_by, first_requests, IsNextStep}
+use Rattle.timing_bridge.proofs.InOrder.{reported_history}
+use Rattle.engine_view.specs.Held.{Held, step_of, emitted_of, seen, queries_in, possible_by, flags_by, are_among, core_of}
+use Rattle.engine_view.specs.Shown.{IsSound, queries_before}
+use Rattle.engine_view.specs.Turns.{IsFoundOther, first_of}
+use Rattle.engine_view.proofs.Answered.{among_is, queries_step}
+use Rattle.engine_report.proofs.Asking.{same_kind, first_same, rest_same}
+use Rattle.sim_core.proofs.Reported.{steps_told}
+
+-- ---- the outcomes of a step
+
+-- what is possible tells the outcome, and the other way round
+possible_back : (k : Kind) (b : Bool) → is_blocking k ≡ false → possible_by k (Some (outcome_of k b)) ≡ b
+possible_back Read b e = cc
+possible_back Write b e = cc
+possible_back TryRead true e = refl
+possible_back TryRead false e = refl
+possible_back TryWrite true e = refl
+possible_back TryWrite false e = refl
+possible_back Empty true e = refl
+possible_back Empty false e = refl
+possible_back Full true e = refl
+possible_back Full false e = refl
+
+-- two lists have other outcomes at this number
+pub record AreOtherAt (j : ℕ) (os ps : List Bool) : Type 0 where
+  pub one : Bool
+  pub other : Bool
+  pub here : slice_get os j ≡ Some one
+  pub there : slice_get ps j ≡ Some other
+  pub differ : one ≢ other
+
+later : (o p : Bool) (j : ℕ) (os ps : List Bool) → AreOtherAt j os ps → AreOtherAt (suc j) (o ∷ os) (p ∷ ps)
+later o p j os ps a = record { one = a.one; other = a.other; here = a.here; there = a.there; differ = a.differ }
+
+abbrev IsOtherOf : List Access → List Request → Type 0
+IsOtherOf as' rs = (os found : List Bool) (place : ℕ) (a : Access) → queries_in as' ≤ length os → slice_get as' place ≡ Some a
+    → is_blocking a.kind ≡ false → length found ≡ length as' → slice_get (flags_by as' os) place ≢ slice_get found place
+    → AreOtherAt (queries_in (take place as')) os (outcomes_by rs found)
+
+one_blocks : (a : Access) (as' : List Access) (r : Request) (rs : List Request) → r.kind ≡ a.kind → is_blocking a.kind ≡ true
+    → IsOtherOf as' rs
+    → IsOtherOf (a ∷ as') (r ∷ rs)
+one_blocks a as' r rs k b rest os [] place c l at q n d = absurd (omega arith)
+one_blocks a as' r rs k b rest os (f ∷ found) zero c l at q n d =
+    let same : is_blocking a.kind ≡ is_blocking c.kind = ap is_blocking (kind_of at) in
+    absurd (both_ways _ q (sym same ∙ b))
+  where
+    kind_of : Some a ≡ Some c → a.kind ≡ c.kind
+    kind_of e = ap (λ (o : Option Access). by o) e
+      where
+        by : Option Access → Kind
+        by (Some z) = z.kind
+        by None = a.kind
+one_blocks a as' r rs k b rest os (f ∷ found) (suc place) c l at q n d =
+    let count : queries_in (a ∷ as') ≡ queries_in as' = rw b refl in
+    let front : queries_in (take (suc place) (a ∷ as')) ≡ queries_in (take place as') = rw b refl in
+    let flags : flags_by (a ∷ as') os ≡ true ∷ flags_by as' os = rw b refl in
+    let asked : outcomes_by (r ∷ rs) (f ∷ found) ≡ outcomes_by rs found = rw (ap is_blocking k ∙ b) refl in
+    subst (λ (j : ℕ). AreOtherAt j os (outcomes_by (r ∷ rs) (f ∷ found))) (sym front)
+    (subst (AreOtherAt (queries_in (take place as')) os) (sym asked)
+    (rest os found place c (omega arith) at q (omega arith) (λ e. d (ap (λ (fs : List Bool). slice_get fs (suc place)) flags ∙ e))))
+
+one_asks : (a : Access) (as' : List Access) (r : Request) (rs : List Request) → r.kind ≡ a.kind → is_blocking a.kind ≡ false
+    → IsOtherOf as' rs
+    → IsOtherOf (a ∷ as') (r ∷ rs)
+one_asks a as' r rs k b rest os [] place c l at q n d = absurd (omega arith)
+one_asks a as' r rs k b rest [] (f ∷ found) place c l at q n d =
+    let count : queries_in (a ∷ as') ≡ suc (queries_in as') = rw b refl in absurd (omega arith)
+one_asks a as' r rs k b rest (o ∷ os) (f ∷ found) zero c l at q n d =
+    let flags : flags_by (a ∷ as') (o ∷ os) ≡ possible_by a.kind (Some o) ∷ flags_by as' os = rw b refl in
+    let asked : outcomes_by (r ∷ rs) (f ∷ found) ≡ outcome_of r.kind f ∷ outcomes_by rs found = rw (ap is_blocking k ∙ b) refl in
+    subst (AreOtherAt 0 (o ∷ os)) (sym asked) (record {
+      one = o;
+      other = outcome_of r.kind f;
+      here = refl;
+      there = refl;
+      differ = λ e. d (ap (λ (fs : List Bool). slice_get fs 0) flags
+          ∙ ap Some (ap (λ (v : Bool). possible_by a.kind (Some v)) (e ∙ ap (λ (kd : Kind). outcome_of kd f) k)
+          ∙ possible_back a.kind f b));
+    })
+one_asks a as' r rs k b rest (o ∷ os) (f ∷ found) (suc place) c l at q n d =
+    let count : queries_in (a ∷ as') ≡ suc (queries_in as') = rw b refl in
+    let front : queries_in (take (suc place) (a ∷ as')) ≡ suc (queries_in (take place as')) = rw b refl in
+    let flags : flags_by (a ∷ as') (o ∷ os) ≡ possible_by a.kind (Some o) ∷ flags_by as' os = rw b refl in
+    let asked : outcomes_by (r ∷ rs) (f ∷ found) ≡ outcome_of r.kind f ∷ outcomes_by rs found = rw (ap is_blocking k ∙ b) refl in
+    subst (λ (j : ℕ). AreOtherAt j (o ∷ os) (outcomes_by (r ∷ rs) (f ∷ found))) (sym front)
+    (subst (AreOtherAt (suc (queries_in (take place as'))) (o ∷ os)) (sym asked)
+    (later o (outcome_of r.kind f) (queries_in (take place as')) os (outcomes_by rs found)
+    (rest os found place c (omega arith) at q (omega arith) (λ e. d (ap (λ (fs : List Bool). slice_get fs (suc place)) flags ∙ e)))))
+
+none : (rs : List Request) → IsOtherOf [] rs
+none rs os found place a l at q n d = cc
+
+other_of : (as' : List Access) (rs : List Request) → map bridge.seen rs ≡ map seen as' → IsOtherOf as' rs
+other_of [] rs e = none rs
+other_of (a ∷ as') [] e = cc
+other_of (a ∷ as') (r ∷ rs) e =
+    let kind = same_kind r a (first_same r rs a as' e) in
+    let rest = other_of as' rs (rest_same r rs a as' e) in
+    elim (cases_Bool (is_blocking a.kind)) [
+      | inl b ↦ one_blocks a as' r rs kind b rest
+      | inr b ↦ one_asks a as' r rs kind b rest
+    ]
+
+-- ---- in the lists of all outcomes
+
+behind_same : (xs ys zs : List Bool) (j : ℕ) (v : Bool) → slice_get ys j ≡ Some v → slice_get (xs ++ (ys ++ zs)) (length xs + j) ≡ Some v
+behind_same [] ys zs j v e = let z : 0 + j ≡ j = omega arith in ap (slice_get (ys ++ zs)) z ∙ in_front ys zs j e
+  where
+    in_front : (ys zs : List Bool) (j : ℕ) → slice_get ys j ≡ Some v → slice_get (ys ++ zs) j ≡ Some v
+    in_front [] zs j e = cc
+    in_front (y ∷ ys) zs zero e = e
+    in_front (y ∷ ys) zs (suc j) e = in_front ys zs j e
+behind_same (x ∷ xs) ys zs j v e =
+    let z : length (x ∷ xs) + j ≡ suc (length xs + j) = omega arith in
+    ap (slice_get (x ∷ (xs ++ (ys ++ zs)))) z ∙ behind_same xs ys zs j v e
+
+flag_count : (know : theory.Access → Known) (c : ℕ) (xs : List theory.Access) → length (flags_at know c xs) ≡ length xs
+flag_count know c [] = refl
+flag_count know c (a ∷ xs) = ap suc (flag_count know c xs)
+
+some_within : (os : List Bool) (j : ℕ) (v : Bool) → slice_get os j ≡ Some v → j < length os
+some_within [] j v e = cc
+some_within (o ∷ os) zero v e = omega arith
+some_within (o ∷ os) (suc j) v e = let l = some_within os j v e in omega arith
+
+module _ (p : Plan) (h : Held) (s : IsSound (design p) h) (g : IsAgreed (design p) (lockstep_run p) p.cycles (core_of (design p) h))
+    (m c : ℕ) (inside : m < length h.logs) (q : Query) (found : IsFoundOther (design p) h m c q)
+    (at : candidate (design p) (view (design p) (core_of (design p) h)) m ≡ Some c)
+    (step : HistoryStep) (next : IsNextStep p (core_of (design p) h) m p.cycles step)
+    (told : outcomes (step ∷ [])
+    ≡ outcomes_by (first_requests p (core_of (design p) h) m) (new_flags (design p) (core_of (design p) h) m c)) where
+  abbrev x : Core ModuleState
+  x = core_of (design p) h
+
+  abbrev k₀ : ℕ
+  k₀ = first_of h m
+
+  abbrev accesses : List Access
+  accesses = (step_of h m k₀).accesses
+
+  abbrev outs : List Bool
+  outs = (log_at h.logs m).outcomes
+
+  abbrev before : ℕ
+  before = queries_before h m k₀
+
+  emitted : k₀ < emitted_of h m
+  emitted = first_emitted (design p) x m c at
+
+  first_is : (step_of h m k₀).first_query ≡ before
+  first_is = s.first_query m k₀ emitted
+
+  recorded : (queries_in accesses ≡ 0) ⊎ ((step_of h m k₀).first_query + queries_in accesses ≤ length outs)
+  recorded = among_is (step_of h m k₀) (length outs)
+      (and_parts (ltb k₀ (emitted_of h m)) (are_among (step_of h m k₀) (length outs)) found.recorded).1
+
+  enough : queries_in accesses ≤ length (drop before outs)
+  enough =
+      let f = first_is in
+      let n = length-drop before outs in
+      elim recorded [ inl z ↦ omega arith | inr z ↦ omega arith ]
+
+  abbrev number : ℕ
+  number = queries_in (take found.other.place accesses)
+
+  abbrev asked : List Bool
+  asked = outcomes_by (first_requests p x m) (new_flags (design p) x m c)
+
+  -- among the outcomes of the step
+  other : AreOtherAt number (drop before outs) asked
+  other =
+      let same = s.accesses m k₀ emitted in
+      let count : length (new_flags (design p) x m c) ≡ length accesses =
+      flag_count _ c (first_accesses (view (design p) x) m)
+      ∙ (ap (λ (as' : List theory.Access). length as') same ∙ length-map accesses seen) in
+      other_of accesses (first_requests p x m) same (drop before outs)
+      (new_flags (design p) x m c) found.other.place found.other.access enough
+      found.other.is found.other.query count
+      (λ e. found.other.differs (ap (λ (n : ℕ). slice_get (flags_by accesses (drop n outs)) found.other.place) first_is ∙ e))
+
+  most : before ≤ length outs
+  most =
+      let l = some_within (drop before outs) number other.one other.here in
+      let n = length-drop before outs in
+      omega arith
+
+  front_count : length (take before outs) ≡ before
+  front_count = let n = length-take before outs in let l = most in omega arith
+
+  -- the answers of the report
+  answered : m < length p.design.modules
+      → get_or (report p).answers m [] ≡ take before outs ++ (asked ++ outcomes next.later)
+  unfolding report
+  answered l =
+      get_or-map-range_with_len (λ (i : ℕ). outcomes (steps_of i (history p (clock_of (verdict p))))) 0
+      (length p.design.modules) m m [] l (omega arith)
+      ∙ (ap (λ (hs : List HistoryStep). outcomes (steps_of m hs)) (sym (reported_history p))
+      ∙ (ap outcomes next.there
+      ∙ (flat_map-append (λ (t : HistoryStep). map (λ (y : Exchange). is_yes y.reply) (queries t.exchanges)) (core_steps p x m)
+      (step ∷ next.later)
+      ∙ ap₂ (λ (a b : List Bool). a ++ b) (steps_told p h s g m inside)
+      (flat_map-append (λ (t : HistoryStep). map (λ (y : Exchange). is_yes y.reply) (queries t.exchanges)) (step ∷ []) next.later
+      ∙ ap (λ (b : List Bool). b ++ outcomes next.later) told))))
+
+  pub other_answer : AreOtherAt (before + number) outs (get_or (report p).answers m [])
+  other_answer =
+      let l : m < length p.design.modules = let a = s.logs in omega arith in
+      let n = front_count in
+      let at_one = behind_same (take before outs) (drop before outs) [] number other.one other.here in
+      let at_other = behind_same (take before outs) asked (outcomes next.later) number other.other other.there in
+      let place : length (take before outs) + number ≡ before + number = omega arith in
+      record {
+        one = other.one;
+        other = other.other;
+        here = sym (ap (λ (xs : List Bool). slice_get xs (before + number))
+            (ap (λ (ys : List Bool). take before outs ++ ys) (append-nil (drop before outs)) ∙ take-append-drop before outs))
+            ∙ (ap (slice_get (take before outs ++ (drop before outs ++ []))) (sym place) ∙ at_one);
+        there = ap (λ (xs : List Bool). slice_get xs (before + number)) (answered l)
+            ∙ (ap (slice_get (take before outs ++ (asked ++ outcomes next.later))) (sym place) ∙ at_other);
+        differ = other.differ;
+      }

@@ -1,0 +1,108 @@
+use Rattle.std.proofs.Common.{◌≡◌, sym, ap, subst, ◌∙◌, unwrap_or}
+use Rattle.flow_design.specs.declared.plan.Plan.{Plan}
+use Rattle.flow_design.specs.Plans.{EditFits, with_depth}
+use Rattle.fifo_table.specs.Channels.{channel_at, depth_of}
+use Rattle.event_timing.specs.Actions.{IsFinal}
+use Rattle.timing_bridge.specs.Designs.{design}
+use Rattle.engine_view.specs.Stored.{stored, held_in}
+use Rattle.sim_core.specs.Edits.{IsEdited, IsTrueGuard}
+use Rattle.sim_core.specs.Runs.{IsStoredCore, lent_of, over_of}
+use Rattle.sim_core.specs.Views.{CoreView, theory_of}
+use Rattle.sim_core.proofs.EditedRuns.{channel_inside, fifo_there}
+use Rattle.sim_core.proofs.Editing as editing
+use Rattle.sim_core.proofs.Turning.{some_core}
+use Rattle.sim_core.proofs.machine.Core.edit.Goals as goal
+
+pub depth-requires-clause-channel : goal.depth-requires-clause-channel
+depth-requires-clause-channel g c =
+    let k = c.self.invariant.core in
+    let fit = subst (λ (v : CoreView). EditFits v.plan c.args.edit.now) (sym c.self.view_is) c.requires.fits in
+    channel_inside c.self.inside.plan k.fits c.args.edit.now fit c.self.inside.fifos.channels k.table
+
+pub depth-requires-clause-fifo : goal.depth-requires-clause-fifo
+depth-requires-clause-fifo g c =
+    let k = c.self.invariant.core in
+    let fit = subst (λ (v : CoreView). EditFits v.plan c.args.edit.now) (sym c.self.view_is) c.requires.fits in
+    fifo_there c.self.inside.plan k.fits c.args.edit.now fit c.self.inside.fifos.channels k.table
+
+pub returns-then-depth-edit-clause-plan : goal.returns-then-depth-edit-clause-plan
+returns-then-depth-edit-clause-plan g c =
+    let i = c.self.inside in
+    let s = stored i.graph i.fifos i.log in
+    let fit = subst (λ (v : CoreView). EditFits v.plan c.args.edit.now) (sym c.self.view_is) c.requires.fits in
+    let same = editing.same_plan i.plan s i.ends.items i.runs.items i.credits.items c.self.invariant.core c.args.edit.now fit
+    (sym c.depth.ensures.depth ∙ c.if-depth-edit.true) in
+    subst (λ (v : CoreView). v.plan ≡ with_depth v.plan c.args.edit.now.channel c.args.edit.now.depth) c.self.view_is same
+
+pub first_touched-from-requires-clause-in_order : goal.first_touched-from-requires-clause-in_order
+first_touched-from-requires-clause-in_order g c = λ side.
+    let i = c.self.inside in
+    let s = stored i.graph i.fifos i.log in
+    let fit = subst (λ (v : CoreView). EditFits v.plan c.args.edit.now) (sym c.self.view_is) c.requires.fits in
+    editing.in_order i.plan s i.ends.items i.runs.items i.credits.items c.self.invariant.core c.args.edit.now fit side
+
+pub retime-requires-clause-core : goal.retime-requires-clause-core
+retime-requires-clause-core g c =
+    let i = c.self.inside in
+    let s = stored i.graph i.fifos i.log in
+    some_core i.plan s s i.ends.items i.runs.items i.credits.items c.self.invariant.core
+
+pub invariant_of-self : goal.invariant_of-self
+invariant_of-self g c =
+    let i = c.self.inside in
+    let s = stored i.graph i.fifos i.log in
+    let t = stored c.retime.new.graph c.retime.new.fifos c.retime.new.log in
+    let e = c.args.edit.now in
+    let fit = subst (λ (v : CoreView). EditFits v.plan e) (sym c.self.view_is) c.requires.fits in
+    let final = subst (λ (v : CoreView). IsFinal (design v.plan) v.plan.cycles (theory_of v)) (sym c.self.view_is) c.requires.is_final in
+    let k = c.self.invariant.core in
+    let from = editing.edit_from i.plan s i.ends.items i.runs.items i.credits.items k e fit c.depth.result c.depth.ensures.depth
+    c.depth.ensures.least c.if-depth-edit.false c.first_touched-from.result c.first_touched-from.ensures.some
+    c.first_touched-from.ensures.none in
+    let core = editing.core_edited i.plan s i.ends.items i.runs.items i.credits.items k e fit final t c.retime.result
+    (unwrap_or c.first_touched-from.result i.plan.cycles) from c.retime.ensures.retimed c.retime.ensures.steps_stay c.retime.ensures.room
+    c.retime.ensures.kinds in
+    subst (λ (q : Plan). IsStoredCore q t i.ends.items i.runs.items i.credits.items i.ports i.candidates.items) (sym c.edit_plan.ensures)
+    (record { core = core; ports_are = c.self.invariant.ports_are; candidate_count = c.self.invariant.candidate_count })
+
+pub returns-clause-edited : goal.returns-clause-edited
+returns-clause-edited g c =
+    let i = c.self.inside in
+    let s = stored i.graph i.fifos i.log in
+    let t = stored c.retime.new.graph c.retime.new.fifos c.retime.new.log in
+    let e = c.args.edit.now in
+    let over = over_of i.ends.items in
+    let lent = lent_of i.runs.items in
+    let fit = subst (λ (v : CoreView). EditFits v.plan e) (sym c.self.view_is) c.requires.fits in
+    let final = subst (λ (v : CoreView). IsFinal (design v.plan) v.plan.cycles (theory_of v)) (sym c.self.view_is) c.requires.is_final in
+    let k = c.self.invariant.core in
+    let from = editing.edit_from i.plan s i.ends.items i.runs.items i.credits.items k e fit c.depth.result c.depth.ensures.depth
+    c.depth.ensures.least c.if-depth-edit.false c.first_touched-from.result c.first_touched-from.ensures.some
+    c.first_touched-from.ensures.none in
+    let done = editing.is_edited i.plan s i.ends.items i.runs.items i.credits.items k e fit final t c.retime.result
+    (unwrap_or c.first_touched-from.result i.plan.cycles) from c.retime.ensures.retimed c.retime.ensures.steps_stay lent c.args.steps.now
+    c.retime.new.steps c.retime.ensures.ticks c.retime.ensures.few in
+    let plan = subst (λ (q : Plan). IsEdited (record { plan = i.plan; held = held_in s over; lent = lent })
+    (record { plan = q; held = held_in t over; lent = lent }) e c.retime.result c.args.steps.now c.retime.new.steps)
+    (sym c.edit_plan.ensures) done in
+    subst (λ (v : CoreView). IsEdited v (record { plan = c.edit_plan.new.plan; held = held_in t over; lent = lent }) e c.retime.result
+    c.args.steps.now c.retime.new.steps) c.self.view_is plan
+
+pub returns-clause-differs : goal.returns-clause-differs
+returns-clause-differs g c =
+    let i = c.self.inside in
+    let s = stored i.graph i.fifos i.log in
+    let t = stored c.retime.new.graph c.retime.new.fifos c.retime.new.log in
+    let e = c.args.edit.now in
+    let over = over_of i.ends.items in
+    let lent = lent_of i.runs.items in
+    let fit = subst (λ (v : CoreView). EditFits v.plan e) (sym c.self.view_is) c.requires.fits in
+    let final = subst (λ (v : CoreView). IsFinal (design v.plan) v.plan.cycles (theory_of v)) (sym c.self.view_is) c.requires.is_final in
+    let k = c.self.invariant.core in
+    let from = editing.edit_from i.plan s i.ends.items i.runs.items i.credits.items k e fit c.depth.result c.depth.ensures.depth
+    c.depth.ensures.least c.if-depth-edit.false c.first_touched-from.result c.first_touched-from.ensures.some
+    c.first_touched-from.ensures.none in
+    let true_now = editing.true_guard i.plan s i.ends.items i.runs.items i.credits.items k e fit final t c.retime.result
+    (unwrap_or c.first_touched-from.result i.plan.cycles) from c.retime.ensures.retimed c.retime.ensures.steps_stay lent in
+    subst (λ (q : Plan). IsTrueGuard c.retime.result (record { plan = q; held = held_in t over; lent = lent }))
+    (sym c.edit_plan.ensures) true_now

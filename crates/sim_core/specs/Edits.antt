@@ -1,0 +1,41 @@
+-- What an edit of a depth leaves of a core.
+use Rattle.std.specs.Prelude.{◌≡◌, ℕ, ◌+◌, ◌<◌, ◌≤◌, ◌⊎◌, length, map}
+use Rattle.flow_design.specs.declared.plan.Edit.{Edit}
+use Rattle.event_graph.specs.Lanes.{timed_below}
+use Rattle.fifo_table.specs.Channels.{channel_at, depth_of}
+use Rattle.query_log.specs.Logs.{log_at}
+use Rattle.query_log.specs.declared.query.Query.{Query}
+use Rattle.outcome_guard.specs.declared.guard.Guard.{Guard}
+use Rattle.outcome_guard.specs.declared.guard.Guard.TheVariants.{Same, Differs}
+use Rattle.event_timing.specs.Edits.{after_edit}
+use Rattle.timing_bridge.specs.Designs.{design, lockstep_run}
+use Rattle.retime.specs.Edits.{IsEditFrom, IsOtherInHistory, OutcomesGrow}
+use Rattle.retime.specs.Rounds.{LeadsAll, HasEnded, cycles_in, steps_in}
+use Rattle.sim_core.specs.Views.{CoreView, theory_of}
+
+-- the depth is the one that stands, and nothing changed
+pub record IsAsBefore (old new : CoreView) (e : Edit) (guard : Guard) (before after : ℕ) : Type 0 where
+  pub stands : depth_of (channel_at old.held.channels e.channel).kind ≡ e.depth
+  pub same : guard ≡ Same
+  pub core : new ≡ old
+  pub no_tick : after ≡ before
+
+-- the cycles below a clock stay, the first touched one or the limit where there is none; from there on cycles were given anew and queries
+-- answered, as long as that is permitted or until an outcome is not the recorded one
+pub record IsRetimed (old new : CoreView) (e : Edit) (guard : Guard) (before after : ℕ) : Type 0 where
+  pub clock : ℕ
+  pub from : IsEditFrom old.held.lanes old.held.channels e.channel e.depth old.plan.cycles clock
+  pub leads : LeadsAll (design new.plan) new.plan.cycles (after_edit (design old.plan) (theory_of old) clock) new.held
+  pub ended : HasEnded guard (design new.plan) new.plan.cycles new.held
+  -- one tick for each cycle that was given, and no more than there are steps beside those whose cycles stay
+  pub ticked : after + cycles_in (map (timed_below clock) old.held.lanes) ≡ before + cycles_in new.held.lanes
+  pub few : after + cycles_in (map (timed_below clock) old.held.lanes) ≤ before + steps_in old.held.lanes
+  pub outcomes : (m : ℕ) → m < length old.held.logs → OutcomesGrow (log_at old.held.logs m) (log_at new.held.logs m)
+
+abbrev pub IsEdited : CoreView → CoreView → Edit → Guard → ℕ → ℕ → Type 0
+IsEdited old new e guard before after = IsAsBefore old new e guard before after ⊎ IsRetimed old new e guard before after
+
+-- a query that differs has another outcome in the plan's lockstep run
+abbrev pub IsTrueGuard : Guard → CoreView → Type 0
+IsTrueGuard Same v = Unit {0}
+IsTrueGuard (Differs q) v = IsOtherInHistory (design v.plan) (lockstep_run v.plan) v.held q

@@ -1,0 +1,56 @@
+-- What edits leave of the records of outcomes.
+use Rattle.std.specs.Prelude.{◌≡◌, ◌≢◌, ℕ, ◌<◌, Bool, List, [], length, map, take, slice_get, slice_index_or, Some}
+use Rattle.flow_design.specs.declared.plan.Edit.{Edit}
+use Rattle.flow_design.specs.declared.plan.Plan.{Plan}
+use Rattle.flow_design.specs.Plans.{EditFits, with_depth}
+use Rattle.flow_design.specs.StaticRules.{FitsEngine}
+use Rattle.lockstep_defs.specs.Report.{report}
+use Rattle.query_log.specs.Logs.{Log, log_at}
+use Rattle.outcome_guard.specs.declared.guard.Guard.{Guard}
+use Rattle.event_timing.specs.Actions.{IsFinal}
+use Rattle.event_timing.specs.Agreement.{IsAgreed}
+use Rattle.timing_bridge.specs.Designs.{design, lockstep_run}
+use Rattle.engine_view.specs.Shown.{IsSound}
+use Rattle.sim_core.specs.Views.{CoreView, theory_of}
+use Rattle.sim_core.specs.Drives.{Goes}
+use Rattle.sim_core.specs.Edits.{IsEdited}
+
+-- what a core always is
+pub record IsSoundCore (v : CoreView) : Type 0 where
+  pub fits : FitsEngine v.plan
+  pub sound : IsSound (design v.plan) v.held
+  pub agreed : IsAgreed (design v.plan) (lockstep_run v.plan) v.plan.cycles (theory_of v)
+
+-- the outcomes that a log holds of each module, and those of them that are verified
+abbrev pub recorded_in : List Log → List (List Bool)
+recorded_in logs = map (λ l. l.outcomes) logs
+
+abbrev pub verified_in : List Log → List (List Bool)
+verified_in logs = map (λ l. take l.verified l.outcomes) logs
+
+-- an edit of a final core led to another, and from there actions led on
+pub record IsEditedOn (v : CoreView) (e : Edit) (w : CoreView) : Type 0 where
+  pub from : IsSoundCore v
+  pub to : IsSoundCore w
+  pub final : IsFinal (design v.plan) v.plan.cycles (theory_of v)
+  pub fits : EditFits v.plan e
+  pub middle : CoreView
+  pub guard : Guard
+  pub before : ℕ
+  pub now : ℕ
+  pub later : ℕ
+  pub after : ℕ
+  pub plan : middle.plan ≡ with_depth v.plan e.channel e.depth
+  pub edited : IsEdited v middle e guard before now
+  pub goes : Goes middle later w after
+
+-- the plan's report has another outcome of a query than the one that is recorded
+pub record HasOtherAnswer (logs : List Log) (p : Plan) : Type 0 where
+  pub owner : ℕ
+  pub number : ℕ
+  pub inside : owner < length logs
+  pub recorded : Bool
+  pub found : Bool
+  pub was : slice_get (log_at logs owner).outcomes number ≡ Some recorded
+  pub is : slice_get (slice_index_or (report p).answers owner []) number ≡ Some found
+  pub differ : recorded ≢ found

@@ -65,7 +65,8 @@ module _ {S : Type 0} (d : Design S) (limit : ℕ) where
   pub other_turn : (v w : Standing S) (turn : HubTurn) (q m : ℕ) → holder v m ≡ Some q → (taker turn ≡ q → ⊥) → IsTurn d limit v turn w
       → (holder w m ≡ Some q) × ((actions : List Action) × IsNoRunOf m actions × ActsAll d limit v.core actions w.core)
   other_turn v w (Lent r n) q m lent other (s, may, free, e) = (
-    ap (λ (u : Standing S). holder u m) e ∙ (get_or-set_other v.lent_to n m (Some r) None (λ same. none_some q (sym lent ∙ (ap (holder v) same ∙ free))) ∙ lent),
+    ap (λ (u : Standing S). holder u m) e
+        ∙ (get_or-set_other v.lent_to n m (Some r) None (λ same. none_some q (sym lent ∙ (ap (holder v) same ∙ free))) ∙ lent),
     ([], tt, ap (λ (u : Standing S). u.core) e),
   )
     where

@@ -36,11 +36,13 @@ module _ {S : Type 0} (d : Design S) (limit : ℕ) (x : Core S) (m : ℕ) where
       elim (or_true (may_assign d limit x m) (may_answer d limit x m) e) [
         | inl t ↦
             let (c, may) = (assign_decided d limit x m).0 t in
-            let now = cond-true (may_assign d limit x m) (after_assign x m (first_clock d x m)) (after_answer d x m (first_clock d x m)) t in
+            let now = cond-true (may_assign d limit x m) (after_assign x m (first_clock d x m))
+            (after_answer d x m (first_clock d x m)) t in
             (Assign m, ((c, may, now ∙ ap (after_assign x m) (clock_is c may.determined.at)), tt))
         | inr (f, t) ↦
             let (c, may) = (answer_decided d limit x m).0 t in
-            let now = cond-false (may_assign d limit x m) (after_assign x m (first_clock d x m)) (after_answer d x m (first_clock d x m)) f in (
+            let now = cond-false (may_assign d limit x m) (after_assign x m (first_clock d x m))
+            (after_answer d x m (first_clock d x m)) f in (
               Answer m,
               (
                 (

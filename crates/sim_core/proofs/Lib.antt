@@ -12,3 +12,6 @@ pub mod Turning
 pub mod Rounds
 pub mod Ending
 pub mod Beginning
+pub mod Mailed
+pub mod Ahead
+pub mod Tasks

@@ -6,3 +6,4 @@ pub mod Found
 pub mod Candidates
 pub mod Turns
 pub mod Drives
+pub mod Tasks

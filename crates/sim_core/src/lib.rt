@@ -2,6 +2,7 @@
 #![tactic(auto)]
 
 mod alone;
+mod bursts;
 mod drive;
 mod laws;
 mod machine;
@@ -12,7 +13,9 @@ mod running;
 mod turn;
 
 pub use alone::run_alone;
+pub use bursts::bursts_are_runs;
 pub use flow_design::Plan;
 pub use laws::every_order;
 pub use machine::Core;
 pub use outcome_guard::{Guard, Query};
+pub use run_ahead::{Burst, Mail, Task, work};

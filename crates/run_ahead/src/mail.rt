@@ -9,7 +9,7 @@ ghost use Rattle.module_interp.specs.Runs.{StandsAt, waits};
 ghost use Rattle.module_interp.specs.Runs.{is_step as is_step_of};
 ghost use Rattle.engine_view.specs.Held.{queries_in};
 ghost use Rattle.run_ahead.specs.Replies.{reply_now, has_value};
-ghost use Rattle.run_ahead.specs.Mails.{next_value, replies_in, one_more, taken_after, GoesOn, IsBurst, IsBurstFrom};
+ghost use Rattle.run_ahead.specs.Mails.{next_value, replies_in, none_taken, one_more, taken_after, GoesOn, IsBurst, IsBurstFrom};
 ghost use Rattle.run_ahead.specs.Working.{StandsSomewhere, IsFed, IsEmitted, burst_of};
 
 use flow_word::{Access, Flags, Kind, List, OutOfMemory, Words};
@@ -119,6 +119,18 @@ fn find(
         }
     }
     Ok(Some(told))
+}
+
+/// Whether the replies to a step's accesses are all in the mail, from its beginning on.
+pub fn has_replies(alloc: Global, mail: &Mail, accesses: &[Access]) -> Result<bool, OutOfMemory>
+    ensures yes { IfOk result (λ yes. IsTrue yes → (qs : Items ReplyOf)
+        × (replies_in mail.now 0 (none_taken mail.now) accesses.now ≡ Some qs)) }
+    ensures no { IfOk result (λ yes. IsFalse yes → replies_in mail.now 0 (none_taken mail.now) accesses.now ≡ None) }
+{
+    let taken = Words::zeros(alloc, mail.values.len())?;
+    let read = Read { told: 0, taken };
+    let mut replies = List::new(alloc);
+    Ok(find(mail, &read, accesses, &mut replies)?.is_some())
 }
 
 /// Counts the values that a step's replies took.

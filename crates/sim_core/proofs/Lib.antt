@@ -15,3 +15,8 @@ pub mod Beginning
 pub mod Mailed
 pub mod Ahead
 pub mod Tasks
+pub mod Noting
+pub mod Posting
+pub mod Sending
+pub mod Posted
+pub mod Lends

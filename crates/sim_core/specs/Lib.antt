@@ -7,3 +7,5 @@ pub mod Candidates
 pub mod Turns
 pub mod Drives
 pub mod Tasks
+pub mod Readers
+pub mod Lent

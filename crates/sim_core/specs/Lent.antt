@@ -22,11 +22,6 @@ pub record AreMailed (channels : List Channel) (readers : List ℕ) (m : ℕ) (p
   pub count : length values ≡ n
   pub each : (c : ℕ) → c < n → slice_index_or values c [] ≡ mailed channels readers m popped c
 
--- a loop over accesses has counted the queries before this index
-pub record IsCountingQueries (accesses : List Access) (count i : ℕ) : Type 0 where
-  pub same : count + queries_in (drop i accesses) ≡ queries_in accesses
-  pub within : count ≤ i
-
 -- the mail of a module that made so many queries and pops, and waits for the replies to these accesses
 pub record IsMade (outcomes : List Bool) (channels : List Channel) (readers : List ℕ) (m first : ℕ) (popped : List ℕ)
     (accesses : List Access) (mail : Mail) : Type 0 where

@@ -9,3 +9,4 @@ pub mod Drives
 pub mod Tasks
 pub mod Readers
 pub mod Lent
+pub mod Returned

@@ -2,6 +2,7 @@
 #![tactic(auto)]
 
 mod alone;
+mod back;
 mod bursts;
 mod drive;
 mod laws;

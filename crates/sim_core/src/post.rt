@@ -8,24 +8,12 @@ ghost use Rattle.run_ahead.specs.declared.mail.Mail.{Mail as MailOf};
 ghost use Rattle.flow_design.specs.declared.state.Reply.{Reply as ReplyOf};
 ghost use Rattle.run_ahead.specs.Mails.{replies_in, none_taken};
 
+use engine_view::count_queries;
 use fifo_table::FifoTable;
 use flow_word::{Access, Flags, List, OutOfMemory, Words};
 use query_log::QueryLog;
 use run_ahead::{Mail, has_replies};
 use std::alloc::Global;
-
-/// How many of the accesses are queries.
-pub(crate) fn count_queries(accesses: &[Access]) -> u64
-    ensures { result ≡ queries_in accesses.now }
-{
-    let mut count = 0;
-    for access in accesses {
-        if !access.kind.is_blocking() {
-            count += 1;
-        }
-    }
-    count
-}
 
 /// Reads so many of a module's outcomes, from this one on, as far as they are there.
 pub(crate) fn read_outcomes(

@@ -8,7 +8,7 @@ returns-else-branch-clause-missing c = λ none. (
   (
     record {
       told = c.in_ok-read_outcomes.ensures ∙ ap (λ (n : ℕ). take n (drop c.args.first (log_at c.args.log.now.logs c.args.owner).outcomes))
-          c.count_queries.ensures;
+          c.count_queries.ensures.count;
       values = c.in_ok-read_all.ensures;
     },
     c.in_ok-has_replies.ensures.no c.if-branch.false,

@@ -1,0 +1,213 @@
+-- A mark of a module, emitted by a Run: what it makes of the core.
+use Rattle.std.proofs.Common.{◌≡◌, refl, sym, ap, subst, ◌∙◌, ℕ, zero, suc, ◌+◌, ◌-◌, ◌^◌, ◌<◌, ◌≤◌, inl, inr, Bool, true, false, cond}
+use Rattle.std.proofs.Common.{◌||◌, List, [], ◌∷◌, length, get_or, set, Option, Some, None, is_some, unwrap_or, arith}
+use Rattle.std.proofs.lemmas.Bool.{both_ways, cond-false}
+use Rattle.std.proofs.lemmas.Bool.Decides.{eqb_tells}
+use Rattle.std.proofs.lemmas.List.{length-set, length-map, map-set, get_or-set_same, get_or-set_other}
+use Rattle.flow_word.specs.declared.access.Step.{Step as StepOf}
+use Rattle.flow_design.specs.declared.plan.Plan.{Plan}
+use Rattle.flow_design.specs.declared.state.ModuleState.{ModuleState}
+use Rattle.flow_design.specs.declared.state.Advance.{Advance}
+use Rattle.flow_design.specs.declared.state.Advance.TheVariants.{Step, Ended, Spent}
+use Rattle.flow_design.specs.declared.state.Reply.{Reply}
+use Rattle.event_graph.specs.Lanes.{gap_bound, with_step}
+use Rattle.lockstep_defs.specs.Machine.{is_over, is_spent}
+use Rattle.lockstep_defs.specs.OwnRun.{Own}
+use Rattle.module_interp.specs.declared.run.ModuleRun.{ModuleRun}
+use Rattle.module_interp.specs.OwnRests.{next_rest, mark_at}
+use Rattle.module_interp.specs.Runs.{StandsAt, waits, is_step, gap_of, IsSmallStep}
+use Rattle.event_timing.specs.Machines.{Design, ready}
+use Rattle.event_timing.specs.Core.{Core}
+use Rattle.event_timing.specs.Actions.{Acts, MayRun, newest, after_run}
+use Rattle.event_timing.specs.Actions.Action.{Run}
+use Rattle.event_timing.specs.Agreement.{AreOwnMarks}
+use Rattle.event_timing.specs.Growth.{Grows, IsSettled}
+use Rattle.event_timing.proofs.Assigning.{put_same}
+use Rattle.event_timing.proofs.Growing.{settled_all}
+use Rattle.event_timing.proofs.Running.{newest_own}
+use Rattle.event_timing.proofs.Beside.{run_grows}
+use Rattle.timing_bridge.specs.Designs.{design}
+use Rattle.timing_bridge.proofs.History.{plan_is_design}
+use Rattle.engine_view.specs.Held.{Held, emitted_of, queries_in, core_of}
+use Rattle.engine_view.specs.Shown.{IsSound}
+use Rattle.engine_view.specs.Emitted.{IsNextStep, with_emitted, with_over, place_of, done_at_once}
+use Rattle.engine_view.specs.Taking.{kinds_in, taken_all}
+use Rattle.engine_view.specs.Rooms.{AreApart, HasRoomFor, HasRoom, IsRoomy, UsesRoom, query_bound}
+use Rattle.engine_view.specs.Stored.{Stored, held_in}
+use Rattle.engine_view.proofs.Emitted.{emitted_core}
+use Rattle.engine_view.proofs.Ended.{over_core}
+use Rattle.engine_view.proofs.Assigned.{IsAlike, alike_queries}
+use Rattle.engine_view.proofs.Roomy.{apart_next, room_for_next, room_emitted, room_same, pending_same}
+use Rattle.sim_core.specs.Marks.{IsRestBehind}
+use Rattle.sim_core.specs.Runs.{IsRunOf, IsEndOf, IsCore, rest_behind, lent_of, over_of}
+use Rattle.sim_core.proofs.Resting.{rest_is}
+use Rattle.sim_core.proofs.Marking.{next_step}
+use Rattle.sim_core.proofs.Staying.{behind_same, fed_is}
+use Rattle.sim_core.proofs.Keeping.{core_acted}
+use Rattle.sim_core.proofs.Lending.{core_roomed}
+
+lent_none : (runs : List (Option ModuleRun)) (m : ℕ) (run : ModuleRun) → get_or (lent_of runs) m true ≡ true → get_or runs m None ≡ Some run
+    → ⊥
+lent_none [] m run e f = cc
+lent_none (None ∷ rs) zero run e f = cc
+lent_none (Some q ∷ rs) zero run e f = cc
+lent_none (q ∷ rs) (suc m) run e f = lent_none rs m run e f
+
+-- ---- the mark
+
+over_of_mark : (p : Plan) (i : ℕ) (o : Own) → is_step (mark_at p i o) ≡ false → is_over p.ops o.state ≡ true
+unfolding is_over
+over_of_mark p i o e = go o.state.ended (is_spent p.ops o.state) o.since _ e
+  where
+    go : (a b : Bool) (n : ℕ) (s : StepOf) → is_step (cond a (Ended n) (cond b (Spent n) (Step s))) ≡ false → (a || b) ≡ true
+    go true b n s e = refl
+    go false true n s e = refl
+    go false false n s e = cc
+
+-- a Run of a module whose run is out of the core is permitted
+pub record IsReady (p : Plan) (s : Stored) (ends : List (Option Advance)) (runs : List (Option ModuleRun)) (credits : List ℕ) (m : ℕ)
+    : Type 0 where
+  pub core : IsCore p s ends runs credits
+  pub inside : m < length s.graph.lanes
+  pub lent : get_or (lent_of runs) m true ≡ true
+  pub may : MayRun (design p) (core_of (design p) (held_in s (over_of ends))) m
+
+module _ (p : Plan) (s : Stored) (ends : List (Option Advance)) (runs : List (Option ModuleRun)) (credits : List ℕ) (m : ℕ)
+    (r : IsReady p s ends runs credits m) where
+  abbrev d : Design ModuleState
+  d = design p
+
+  abbrev h : Held
+  h = held_in s (over_of ends)
+
+  abbrev x : Core ModuleState
+  x = core_of d h
+
+  abbrev pub rest : Own
+  rest = rest_behind p x m (emitted_of h m)
+
+  marks : AreOwnMarks d x
+  marks = r.core.agreed.marks
+
+  pub settled : IsSettled d x m (emitted_of h m)
+  settled = settled_all d x marks m r.may.answered r.may.there
+
+  behind : IsRestBehind p x m (emitted_of h m) rest
+  behind = rest_is p r.core.fits x marks m r.may.inside (emitted_of h m) (emitted_of h m) (omega arith) (omega arith)
+
+  others_out : (n : ℕ) (other : ModuleRun) → get_or runs n None ≡ Some other → (n ≡ m → ⊥)
+  others_out n other e q = lent_none runs m other r.lent (subst (λ (k : ℕ). get_or runs k None ≡ Some other) q e)
+
+  -- ---- a step
+
+  module _ (t : StepOf) (mark : mark_at p m rest ≡ Step t) (short : rest.since < 10 ^ 18) (small : IsSmallStep t)
+      (least : (o : Own) (qs : List Reply) → 1 ≤ (next_rest p m o qs).since) where
+    abbrev g : Held
+    g = with_emitted h m t
+
+    behind_a_step : 0 < emitted_of h m → 1 ≤ rest.since
+    behind_a_step l =
+        let e : emitted_of h m ≡ suc (emitted_of h m - 1) = omega arith in
+        subst (λ (n : ℕ). 1 ≤ (rest_behind p x m n).since) (sym e) (subst (λ (o : Own). 1 ≤ o.since)
+        (sym (fed_is p x m (emitted_of h m - 1))) (least _ _))
+
+    next : IsNextStep d h m t × (d.is_over m (ready d m (newest d x m)) ≡ false)
+    next = next_step p r.core.fits h r.core.table r.core.sound marks m rest t behind short (let f = small.few in omega arith) behind_a_step
+        mark
+
+    pub step_is : IsNextStep d h m t
+    step_is = next.0
+
+    pub core_is : (core_of d g ≡ after_run d x m) × IsSound d g
+    core_is = emitted_core d (plan_is_design p r.core.fits) h m t r.inside r.core.sound step_is marks r.may next.1
+
+    pub emitted_more : (core_of d g).emitted m ≡ suc (emitted_of h m)
+    emitted_more =
+        ap (λ (z : Core ModuleState). z.emitted m) (core_is.0 ∙ cond-false {A = Core ModuleState} (d.is_over m (ready d m (newest d x m))) _
+        _ next.1)
+        ∙ put_same x.emitted m (suc (x.emitted m))
+
+    pub grows : Grows d x (core_of d g)
+    grows = subst (Grows d x) (sym core_is.0) (run_grows d x m)
+
+    pub step_acts : Acts d p.cycles x (Run m) (core_of d g)
+    step_acts = (r.may, core_is.0)
+
+    pub step_apart : AreApart t.accesses
+    step_apart = apart_next d (plan_is_design p r.core.fits) h m t step_is
+
+    pub step_room : 2 ≤ get_or credits m 0 → HasRoomFor s.table t.accesses
+    step_room l = room_for_next d (plan_is_design p r.core.fits) h m t step_is s.graph.rooms s.table s.log.rooms credits r.core.room
+        (omega arith)
+
+    -- what is stored with the step, with the room that it left
+    pub step_core : (u : Stored) → held_in u (over_of ends) ≡ g → kinds_in u.table.channels ≡ kinds_in s.table.channels
+        → 2 ≤ get_or credits m 0
+        → UsesRoom m t.accesses s.graph.rooms u.graph.rooms s.table u.table → u.log.rooms ≡ s.log.rooms
+        → queries_in t.accesses ≤ get_or s.log.rooms m 0 → t.first_query + queries_in t.accesses < query_bound
+        → IsCore p u ends runs (set credits m (get_or credits m 0 - 2))
+    step_core u is kinds rich used logs log_room small =
+        core_acted p s u ends ends runs credits (set credits m (get_or credits m 0 - 2)) r.core (Run m)
+        (subst (λ (q : Held). Acts d p.cycles x (Run m) (core_of d q)) (sym is) step_acts) (subst (IsSound d) (sym is) core_is.1) kinds
+        (length-set credits m (get_or credits m 0 - 2))
+        (subst (λ (q : Held). HasRoom d q u.graph.rooms u.table u.log.rooms (set credits m (get_or credits m 0 - 2))) (sym is)
+        (subst (λ (ls : List ℕ). HasRoom d g u.graph.rooms u.table ls (set credits m (get_or credits m 0 - 2))) (sym logs)
+        (room_emitted d (plan_is_design p r.core.fits) h m t r.inside r.core.sound step_is marks r.may next.1 s.graph.rooms u.graph.rooms
+        s.table u.table s.log.rooms credits r.core.room
+        (let n = r.core.counted in let i = r.inside in omega arith) rich used log_room small)))
+        (λ n other there. (others_out n other there, tt)) (λ n mark there. inl there)
+
+  -- ---- the end
+
+  module _ (end : Advance) (mark : end ≡ mark_at p m rest) (over : is_step end ≡ false) (short : gap_of end < gap_bound) where
+    abbrev ends_now : List (Option Advance)
+    ends_now = set ends m (Some end)
+
+    overs_are : over_of ends_now ≡ set (over_of ends) m true
+    overs_are = map-set is_some ends m (Some end)
+
+    length_over : length (over_of ends) ≡ length s.graph.lanes
+    length_over = r.core.sound.overs ∙ sym r.core.sound.lanes
+
+    is_done : d.is_over m (ready d m (newest d x m)) ≡ true
+    is_done =
+        ap (λ (q : ModuleState). is_over p.ops (ready d m q)) (newest_own d x marks m (emitted_of h m) (omega arith))
+        ∙ (ap (is_over p.ops) (sym behind.state) ∙ over_of_mark p m rest (ap is_step (sym mark) ∙ over))
+
+    over_is : (core_of d (with_over h m) ≡ after_run d x m) × IsSound d (with_over h m)
+    over_is = over_core d h m (let n = length_over in let i = r.inside in omega arith) r.core.sound marks r.may is_done
+
+    pub held_is : held_in s (over_of ends_now) ≡ with_over h m
+    held_is = ap (held_in s) overs_are
+
+    pub end_acts : Acts d p.cycles x (Run m) (core_of d (held_in s (over_of ends_now)))
+    end_acts = subst (λ (q : Held). Acts d p.cycles x (Run m) (core_of d q)) (sym held_is) (r.may, over_is.0)
+
+    end_of : IsEndOf p (core_of d (with_over h m)) m end
+    end_of = record { no_step = over; short = short; answered = λ k e. (r.may.answered k e, r.may.there k e); is = mark }
+
+    alike : IsAlike (with_over h m) h
+    alike = record { steps = λ n. refl; channels = refl; logs = refl }
+
+    pub end_core : IsCore p s ends_now runs credits
+    end_core =
+        core_acted p s s ends ends_now runs credits credits r.core (Run m) end_acts (subst (IsSound d) (sym held_is) over_is.1) refl refl
+        (subst (λ (q : Held). HasRoom d q s.graph.rooms s.table s.log.rooms credits) (sym held_is)
+        (room_same d h (with_over h m) s.graph.rooms s.graph.rooms s.table s.log.rooms credits r.core.room refl
+        (λ n. pending_same (core_of d (with_over h m)) x n refl (λ k. refl))
+        (λ n. alike_queries (with_over h m) h alike n (emitted_of h n)) (λ n. refl) (λ k. omega arith)))
+        (λ n other there. (others_out n other there, tt))
+        (λ n mark there.
+        elim (eqb_tells n m) [
+          | inl e ↦
+              let here : get_or ends_now m None ≡ Some end = get_or-set_same ends m (Some end) None
+              (let a = length_over in let b = length-map ends is_some in let i = r.inside in omega arith) in
+              let same : end ≡ mark = some_same end mark (sym here ∙ subst (λ (k : ℕ). get_or ends_now k None ≡ Some mark) e.1 there) in
+              inr (subst (λ (q : Advance). IsEndOf p (core_of d (held_in s (over_of ends_now))) n q) same
+              (subst (λ (k : ℕ). IsEndOf p (core_of d (held_in s (over_of ends_now))) k end) (sym e.1)
+              (subst (λ (q : Held). IsEndOf p (core_of d q) m end) (sym held_is) end_of)))
+          | inr e ↦ inl (sym (get_or-set_other ends m n (Some end) None e.1) ∙ there)
+        ])
+      where
+        some_same : (a b : Advance) → Some a ≡ Some b → a ≡ b
+        some_same a b e = ap (λ (o : Option Advance). unwrap_or o a) e

@@ -33,7 +33,7 @@ reserves_more places ports old now next index d r inside same kept here = record
   kept = λ side c. let a = r.kept side c in let b = kept side c in omega arith;
   room = rw (take_more ports index d inside) (All-push (IsRoomyPort places next) (take index ports) (get_or ports index d)
       (All-weaker (IsRoomyPort places now) (IsRoomyPort places next) (λ port a. let b = kept port.side port.channel in omega arith)
-          (take index ports)
+      (take index ports)
       r.room) here);
 }
 

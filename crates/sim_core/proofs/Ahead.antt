@@ -30,7 +30,7 @@ use Rattle.event_timing.specs.Growth.{Grows}
 use Rattle.event_timing.proofs.Growing.{settled_all, tally_grow}
 use Rattle.event_timing.proofs.OwnRuns.{tally_more}
 use Rattle.event_timing.proofs.Running.{emit, emit_grows, newest_own, run_marks}
-use Rattle.event_timing.proofs.Values.{begins_self, begins_get, begins_length, begins_trans}
+use Rattle.event_timing.proofs.Values.{begins_self, begins_get, begins_length}
 use Rattle.timing_bridge.specs.Designs.{design}
 use Rattle.engine_view.specs.Held.{queries_in}
 use Rattle.run_ahead.specs.declared.mail.Mail.{Mail}

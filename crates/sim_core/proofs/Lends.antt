@@ -1,6 +1,6 @@
 -- A core that lends a run.
-use Rattle.std.proofs.Common.{◌≡◌, refl, sym, ap, ap₂, subst, ◌∙◌, ℕ, zero, suc, ◌<◌, Bool, true, false, cond, inl, inr, List, [], ◌∷◌}
-use Rattle.std.proofs.Common.{length, get_or, set, slice_index, Option, Some, None, IfSome, IsNone, is_none, arith}
+use Rattle.std.proofs.Common.{◌≡◌, refl, sym, ap, subst, ◌∙◌, ℕ, zero, suc, ◌<◌, true, false, cond, inl, inr, List, [], ◌∷◌}
+use Rattle.std.proofs.Common.{length, get_or, set, slice_index, Option, Some, None, IfSome, IsNone, is_none}
 use Rattle.std.proofs.lemmas.Bool.{cases_Bool, cond-true, cond-false}
 use Rattle.std.proofs.lemmas.List.{map-set}
 use Rattle.flow_word.specs.declared.access.Access.{Access}
@@ -25,7 +25,6 @@ use Rattle.sim_core.specs.Lent.{IsMade}
 use Rattle.sim_core.specs.Readers.{AreReaders}
 use Rattle.sim_core.specs.Runs.{IsCore, IsRunOf, rest_behind, lent_of, over_of}
 use Rattle.sim_core.specs.Tasks.{IsTaskOf}
-use Rattle.sim_core.specs.Views.{CoreView}
 use Rattle.sim_core.proofs.Marking.{table_count}
 use Rattle.sim_core.proofs.Posted.{going_posted, waiting_posted, not_posted}
 

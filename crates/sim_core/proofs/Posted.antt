@@ -1,7 +1,7 @@
 -- A mail that was made for a run is one of a task of the core, or the module may not run.
-use Rattle.std.proofs.Common.{◌≡◌, refl, sym, ap, ap₂, subst, ◌∙◌, ℕ, zero, suc, ◌+◌, ◌-◌, ◌<◌, ◌≤◌, ◌⊎◌, Bool, true, false, not, cond, eqb}
-use Rattle.std.proofs.Common.{leb, ltb, ◌&&◌, ◌||◌, inl, inr, List, [], ◌∷◌, length, map, take, drop, replicate, if◌then◌else◌, slice_index}
-use Rattle.std.proofs.Common.{slice_index_or, slice_get, Option, Some, None, arith}
+use Rattle.std.proofs.Common.{◌≡◌, refl, sym, ap, ap₂, subst, ◌∙◌, ℕ, zero, suc, ◌+◌, ◌<◌, ◌≤◌, Bool, true, false, eqb}
+use Rattle.std.proofs.Common.{leb, ltb, ◌&&◌, ◌||◌, inl, inr, List, [], ◌∷◌, length, map, take, drop, slice_index}
+use Rattle.std.proofs.Common.{slice_get, Option, Some, None, arith}
 use Rattle.std.proofs.lemmas.Bool.{cases_Bool, cond-true, cond-false, lt-ltb, le-leb, leb-true, le-ltb, cases_lt, cases_eq}
 use Rattle.std.proofs.lemmas.List.{get_or_past}
 use Rattle.std.proofs.lemmas.Bool.Decides.{eqb_tells}
@@ -11,16 +11,15 @@ use Rattle.flow_word.specs.declared.access.Kind.{Kind}
 use Rattle.flow_word.specs.declared.access.Kind.TheVariants.{Read, Write, TryRead, TryWrite, Empty, Full}
 use Rattle.flow_design.specs.declared.plan.Plan.{Plan}
 use Rattle.flow_design.specs.declared.state.ModuleState.{ModuleState}
-use Rattle.flow_design.specs.declared.state.Request.{Request}
 use Rattle.flow_design.specs.declared.state.Reply.{Reply}
 use Rattle.flow_design.specs.StaticRules.{FitsEngine}
-use Rattle.lockstep_defs.specs.Channels.{Exchange, moved_by}
+use Rattle.lockstep_defs.specs.Channels.{moved_by}
 use Rattle.lockstep_defs.specs.Lockstep.{requests_of}
 use Rattle.lockstep_defs.specs.OwnRun.{access_of}
 use Rattle.lockstep_defs.specs.Report.{queries}
 use Rattle.module_interp.specs.declared.run.ModuleRun.{ModuleRun}
 use Rattle.module_interp.specs.OwnRests.{done_in, accesses_at}
-use Rattle.module_interp.specs.Runs.{StandsAt, waits}
+use Rattle.module_interp.specs.Runs.{waits}
 use Rattle.query_log.specs.Logs.{log_at}
 use Rattle.flow_word.specs.Kinds.{is_blocking}
 use Rattle.event_timing.specs.Core.{Core}
@@ -29,14 +28,13 @@ use Rattle.event_timing.specs.Agreement.{AreOwnMarks}
 use Rattle.event_timing.specs.Views.{Begins}
 use Rattle.event_timing.proofs.Values.{begins_self}
 use Rattle.timing_bridge.specs.Designs.{design}
-use Rattle.engine_view.specs.Held.{Held, emitted_of, step_of, has_all, queries_in, core_of}
-use Rattle.engine_view.specs.Shown.{IsSound, queries_before}
+use Rattle.engine_view.specs.Held.{Held, emitted_of, step_of, queries_in, core_of}
+use Rattle.engine_view.specs.Shown.{IsSound}
 use Rattle.run_ahead.specs.declared.mail.Mail.{Mail}
-use Rattle.run_ahead.specs.declared.mail.Task.{Task}
 use Rattle.sim_core.specs.Lent.{IsMade}
 use Rattle.sim_core.specs.Readers.{AreReaders}
 use Rattle.run_ahead.specs.Replies.{reply_now}
-use Rattle.run_ahead.specs.Mails.{values_on, replies_in, next_value, told_by, none_taken}
+use Rattle.run_ahead.specs.Mails.{replies_in, next_value, told_by, none_taken}
 use Rattle.sim_core.specs.Runs.{IsRunOf, rest_behind}
 use Rattle.engine_view.specs.Taking.{kinds_in}
 use Rattle.sim_core.specs.Opening.{kinds_of}
@@ -45,7 +43,7 @@ use Rattle.sim_core.proofs.Ahead.{Waits, goes_on}
 use Rattle.sim_core.proofs.Tasks.{committed_waits, committed_goes, window_first, task_answers}
 use Rattle.run_ahead.proofs.Parts.{first_parts}
 use Rattle.sim_core.proofs.Resting.{rest_is}
-use Rattle.sim_core.proofs.Sending.{outcomes_read, asked_same, popped_is, queries_are, mine, others}
+use Rattle.sim_core.proofs.Sending.{outcomes_read, asked_same, queries_are, mine, others}
 
 -- ---- the outcomes that are needed are there
 

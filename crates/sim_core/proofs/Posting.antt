@@ -1,8 +1,6 @@
 -- Reading a mail off the log and the table.
-use Rattle.std.proofs.Common.{◌≡◌, refl, sym, ap, subst, ◌∙◌, ℕ, zero, suc, ◌+◌, ◌-◌, ◌<◌, ◌≤◌, List, [], ◌∷◌, ◌++◌, length, take, drop}
-use Rattle.std.proofs.Common.{Option, Some, None, slice_get, arith, append_assoc, append-nil, Bool}
-use Rattle.flow_word.specs.declared.access.Access.{Access}
-use Rattle.engine_view.specs.Held.{queries_in}
+use Rattle.std.proofs.Common.{◌≡◌, refl, sym, ap, ◌∙◌, ℕ, zero, suc, ◌+◌, ◌-◌, ◌<◌, List, [], ◌∷◌, ◌++◌, take, drop}
+use Rattle.std.proofs.Common.{Some, None, slice_get, arith, append_assoc, append-nil, Bool}
 use Rattle.sim_core.specs.Lent.{IsReadingOutcomes, IsReadingValues}
 
 drop_some : {X : Type 0} → (xs : List X) (n : ℕ) (v : X) → slice_get xs n ≡ Some v → drop n xs ≡ v ∷ drop (suc n) xs

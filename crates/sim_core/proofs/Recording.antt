@@ -1,7 +1,7 @@
 -- A mark of a module, emitted by a Run: what it makes of the core.
 use Rattle.std.proofs.Common.{◌≡◌, refl, sym, ap, subst, ◌∙◌, ℕ, zero, suc, ◌+◌, ◌-◌, ◌^◌, ◌<◌, ◌≤◌, inl, inr, Bool, true, false, cond}
 use Rattle.std.proofs.Common.{◌||◌, List, [], ◌∷◌, length, get_or, set, Option, Some, None, is_some, unwrap_or, arith}
-use Rattle.std.proofs.lemmas.Bool.{both_ways, cond-false}
+use Rattle.std.proofs.lemmas.Bool.{cond-false}
 use Rattle.std.proofs.lemmas.Bool.Decides.{eqb_tells}
 use Rattle.std.proofs.lemmas.List.{length-set, length-map, map-set, get_or-set_same, get_or-set_other}
 use Rattle.flow_word.specs.declared.access.Step.{Step as StepOf}
@@ -10,12 +10,12 @@ use Rattle.flow_design.specs.declared.state.ModuleState.{ModuleState}
 use Rattle.flow_design.specs.declared.state.Advance.{Advance}
 use Rattle.flow_design.specs.declared.state.Advance.TheVariants.{Step, Ended, Spent}
 use Rattle.flow_design.specs.declared.state.Reply.{Reply}
-use Rattle.event_graph.specs.Lanes.{gap_bound, with_step}
+use Rattle.event_graph.specs.Lanes.{gap_bound}
 use Rattle.lockstep_defs.specs.Machine.{is_over, is_spent}
 use Rattle.lockstep_defs.specs.OwnRun.{Own}
 use Rattle.module_interp.specs.declared.run.ModuleRun.{ModuleRun}
 use Rattle.module_interp.specs.OwnRests.{next_rest, mark_at}
-use Rattle.module_interp.specs.Runs.{StandsAt, waits, is_step, gap_of, IsSmallStep}
+use Rattle.module_interp.specs.Runs.{is_step, gap_of, IsSmallStep}
 use Rattle.event_timing.specs.Machines.{Design, ready}
 use Rattle.event_timing.specs.Core.{Core}
 use Rattle.event_timing.specs.Actions.{Acts, MayRun, newest, after_run}
@@ -30,21 +30,20 @@ use Rattle.timing_bridge.specs.Designs.{design}
 use Rattle.timing_bridge.proofs.History.{plan_is_design}
 use Rattle.engine_view.specs.Held.{Held, emitted_of, queries_in, core_of}
 use Rattle.engine_view.specs.Shown.{IsSound}
-use Rattle.engine_view.specs.Emitted.{IsNextStep, with_emitted, with_over, place_of, done_at_once}
-use Rattle.engine_view.specs.Taking.{kinds_in, taken_all}
-use Rattle.engine_view.specs.Rooms.{AreApart, HasRoomFor, HasRoom, IsRoomy, UsesRoom, query_bound}
+use Rattle.engine_view.specs.Emitted.{IsNextStep, with_emitted, with_over}
+use Rattle.engine_view.specs.Taking.{kinds_in}
+use Rattle.engine_view.specs.Rooms.{AreApart, HasRoomFor, HasRoom, UsesRoom, query_bound}
 use Rattle.engine_view.specs.Stored.{Stored, held_in}
 use Rattle.engine_view.proofs.Emitted.{emitted_core}
 use Rattle.engine_view.proofs.Ended.{over_core}
 use Rattle.engine_view.proofs.Assigned.{IsAlike, alike_queries}
 use Rattle.engine_view.proofs.Roomy.{apart_next, room_for_next, room_emitted, room_same, pending_same}
 use Rattle.sim_core.specs.Marks.{IsRestBehind}
-use Rattle.sim_core.specs.Runs.{IsRunOf, IsEndOf, IsCore, rest_behind, lent_of, over_of}
+use Rattle.sim_core.specs.Runs.{IsEndOf, IsCore, rest_behind, lent_of, over_of}
 use Rattle.sim_core.proofs.Resting.{rest_is}
 use Rattle.sim_core.proofs.Marking.{next_step}
-use Rattle.sim_core.proofs.Staying.{behind_same, fed_is}
+use Rattle.sim_core.proofs.Staying.{fed_is}
 use Rattle.sim_core.proofs.Keeping.{core_acted}
-use Rattle.sim_core.proofs.Lending.{core_roomed}
 
 lent_none : (runs : List (Option ModuleRun)) (m : ℕ) (run : ModuleRun) → get_or (lent_of runs) m true ≡ true → get_or runs m None ≡ Some run
     → ⊥

@@ -1,17 +1,15 @@
 -- Marks that come back, one after the other.
 use Rattle.std.proofs.Common.{◌≡◌, refl, sym, ap, subst, ◌∙◌, ℕ, zero, suc, ◌+◌, ◌*◌, ◌^◌, ◌<◌, ◌≤◌, ◌⊎◌, inl, inr, Bool, true, false, cond}
-use Rattle.std.proofs.Common.{List, [], ◌∷◌, length, drop, get_or, set, slice_get, Option, Some, None, arith}
+use Rattle.std.proofs.Common.{List, [], ◌∷◌, length, drop, get_or, set, slice_get, Option, Some, arith}
 use Rattle.std.proofs.lemmas.Bool.{cases_Bool}
 use Rattle.flow_word.specs.declared.access.Step.{Step as StepOf}
 use Rattle.flow_design.specs.declared.plan.Plan.{Plan}
 use Rattle.flow_design.specs.declared.state.ModuleState.{ModuleState}
 use Rattle.flow_design.specs.declared.state.Advance.{Advance}
 use Rattle.flow_design.specs.declared.state.Advance.TheVariants.{Step, Ended, Spent}
-use Rattle.flow_design.specs.declared.state.Reply.{Reply}
 use Rattle.flow_design.specs.StaticRules.{FitsEngine}
 use Rattle.lockstep_defs.specs.Machine.{is_spent}
 use Rattle.lockstep_defs.specs.OwnRun.{Own}
-use Rattle.event_graph.specs.Lanes.{gap_bound}
 use Rattle.module_interp.specs.declared.run.ModuleRun.{ModuleRun}
 use Rattle.module_interp.specs.OwnRests.{next_rest, accesses_at, mark_at}
 use Rattle.module_interp.specs.Runs.{waits, is_step, gap_of, IsSmall, IsSmallStep, IsSoundMark}
@@ -28,7 +26,7 @@ use Rattle.run_ahead.specs.declared.mail.Mail.{Mail}
 use Rattle.run_ahead.specs.declared.mail.Task.{Task}
 use Rattle.run_ahead.specs.declared.mail.Burst.{Burst}
 use Rattle.run_ahead.specs.Working.{burst_of}
-use Rattle.run_ahead.specs.Mails.{replies_in, taken_after, none_taken, IsAtStep, IsPast, GoesOn, IsBurst, IsBurstFrom}
+use Rattle.run_ahead.specs.Mails.{taken_after, none_taken, IsAtStep, IsPast, GoesOn, IsBurst, IsBurstFrom}
 use Rattle.sim_core.specs.Returned.{core_in, most_queries, HasRoomForMarks, IsNextMark, AreReturned}
 use Rattle.sim_core.specs.Runs.{IsCore, IsRunOf, rest_behind, over_of, lent_of}
 use Rattle.sim_core.specs.Tasks.{IsTaskFor, rest_of}

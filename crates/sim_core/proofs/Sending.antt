@@ -1,6 +1,6 @@
 -- What a run's counts, the log and the table tell of its mail is what the core tells.
-use Rattle.std.proofs.Common.{◌≡◌, refl, sym, ap, ap₂, subst, ◌∙◌, ℕ, zero, suc, ◌+◌, ◌<◌, ◌≤◌, Bool, true, false, not, cond, eqb, inl, inr}
-use Rattle.std.proofs.Common.{List, [], ◌∷◌, length, map, take, drop, get_or, slice_index, slice_index_or, slice_get, Option, Some, arith}
+use Rattle.std.proofs.Common.{◌≡◌, refl, sym, ap, ap₂, ◌∙◌, ℕ, suc, ◌<◌, ◌≤◌, Bool, true, false, not, cond, eqb, inl, inr}
+use Rattle.std.proofs.Common.{List, [], ◌∷◌, length, map, take, drop, get_or, slice_index, slice_get, Some, arith}
 use Rattle.std.proofs.lemmas.List.{get_or_past}
 use Rattle.std.proofs.lemmas.Bool.Decides.{eqb_tells}
 use Rattle.std.proofs.lemmas.Bool.{cases_Bool, cond-true, cond-false, cases_lt}
@@ -10,17 +10,16 @@ use Rattle.flow_word.specs.declared.access.Side.TheVariants.{Pop, Push}
 use Rattle.flow_word.specs.declared.access.Kind.{Kind}
 use Rattle.flow_word.specs.declared.access.Kind.TheVariants.{Read, Write, TryRead, TryWrite, Empty, Full}
 use Rattle.flow_design.specs.declared.plan.Plan.{Plan}
-use Rattle.flow_design.specs.declared.state.ModuleState.{ModuleState}
 use Rattle.flow_design.specs.declared.state.Request.{Request}
 use Rattle.flow_design.specs.StaticRules.{FitsEngine}
 use Rattle.lockstep_defs.specs.Channels.{Exchange, moved_by}
-use Rattle.lockstep_defs.specs.OwnRun.{Own, access_of}
+use Rattle.lockstep_defs.specs.OwnRun.{access_of}
 use Rattle.lockstep_defs.specs.Report.{queries}
 use Rattle.module_interp.specs.OwnRests.{done_in}
 use Rattle.query_resolve.specs.Decisions.{late_outcome}
 use Rattle.flow_word.specs.Kinds.{side_of, is_blocking, is_taking}
 use Rattle.event_timing.specs.Machines as theory
-use Rattle.event_timing.specs.Core.{Core, core_tally}
+use Rattle.event_timing.specs.Core.{core_tally}
 use Rattle.event_timing.specs.Agreement.{AreOwnMarks}
 use Rattle.timing_bridge.specs.Designs.{design}
 use Rattle.timing_bridge.specs.Designs as bridge
@@ -29,7 +28,7 @@ use Rattle.engine_view.specs.Answered.{outcome_by}
 use Rattle.engine_view.specs.Held.{Held, emitted_of, seen, queries_in, possible_by, flags_by, core_of, values_at}
 use Rattle.engine_view.specs.Shown.{IsSound, queries_before}
 use Rattle.run_ahead.specs.declared.mail.Mail.{Mail}
-use Rattle.sim_core.specs.Lent.{mailed, AreMailed}
+use Rattle.sim_core.specs.Lent.{AreMailed}
 use Rattle.sim_core.specs.Readers.{AreReaders}
 use Rattle.run_ahead.specs.Mails.{values_on}
 use Rattle.sim_core.specs.Marks.{IsRestBehind}

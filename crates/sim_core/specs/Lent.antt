@@ -1,5 +1,5 @@
 -- What a mail is made of: the run's counts, the log and the table.
-use Rattle.std.specs.Prelude.{◌≡◌, ℕ, ◌+◌, ◌-◌, ◌<◌, ◌≤◌, Bool, cond, eqb, List, [], ◌++◌, length, take, drop, slice_index, slice_index_or}
+use Rattle.std.specs.Prelude.{◌≡◌, ℕ, ◌+◌, ◌-◌, ◌<◌, Bool, cond, eqb, List, [], ◌++◌, length, take, drop, slice_index, slice_index_or}
 use Rattle.flow_word.specs.declared.access.Access.{Access}
 use Rattle.fifo_table.specs.Channels.{Channel}
 use Rattle.engine_view.specs.Held.{values_at, queries_in}

@@ -1,4 +1,4 @@
-use Rattle.std.proofs.Common.{◌≡◌, ◌<◌, List, length, drop, Option}
+use Rattle.std.proofs.Common.{◌≡◌, List, length, drop, Option}
 use Rattle.flow_design.specs.declared.plan.Plan.{Plan}
 use Rattle.module_interp.specs.declared.run.ModuleRun.{ModuleRun}
 use Rattle.engine_view.specs.Stored.{stored}

@@ -1,10 +1,9 @@
-use Rattle.std.proofs.Common.{◌≡◌, refl, sym, ap, subst, ◌∙◌, ℕ, ◌<◌, length, set, slice_set, Some, arith}
+use Rattle.std.proofs.Common.{refl, arith}
 use Rattle.std.proofs.lemmas.List.{get_or_read}
-use Rattle.flow_design.specs.declared.state.Advance.TheVariants.{Step}
 use Rattle.module_interp.proofs.Gaps.{least_gap}
 use Rattle.engine_view.specs.Stored.{stored, held_in}
 use Rattle.engine_view.proofs.Roomy.{few_queries}
-use Rattle.sim_core.specs.Runs.{IsCore, over_of}
+use Rattle.sim_core.specs.Runs.{over_of}
 use Rattle.sim_core.proofs.Emitting.{held_more, not_a_step}
 use Rattle.sim_core.proofs.Recording as recording
 use Rattle.sim_core.proofs.Returning as returning

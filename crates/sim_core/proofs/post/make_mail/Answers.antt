@@ -1,4 +1,4 @@
-use Rattle.std.proofs.Common.{◌≡◌, ℕ, sym, ap, ◌∙◌, take, drop}
+use Rattle.std.proofs.Common.{ℕ, ap, ◌∙◌, take, drop}
 use Rattle.query_log.specs.Logs.{log_at}
 use Rattle.sim_core.proofs.post.make_mail.Goals as goal
 

@@ -1,4 +1,4 @@
-use Rattle.std.proofs.Common.{◌≡◌, ℕ, suc, ◌+◌, sym, ap, subst, ◌∙◌, Option, Bool, arith, slice_get}
+use Rattle.std.proofs.Common.{◌≡◌, ℕ, suc, ◌+◌, sym, ap, subst, ◌∙◌, arith, slice_get}
 use Rattle.query_log.specs.Logs.{log_at}
 use Rattle.sim_core.specs.Lent.{IsReadingOutcomes}
 use Rattle.sim_core.proofs.Posting.{outcomes_more, outcomes_end}

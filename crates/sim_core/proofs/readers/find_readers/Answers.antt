@@ -1,4 +1,4 @@
-use Rattle.std.proofs.Common.{◌≡◌, ap, length, ℕ, subst, sym, ◌∙◌, List, arith}
+use Rattle.std.proofs.Common.{◌≡◌, ap, length, ℕ, subst, List, arith}
 use Rattle.flow_design.specs.declared.design.Module.{Module}
 use Rattle.lockstep_defs.specs.Ports.{owner}
 use Rattle.sim_core.specs.Readers.{IsSearching}

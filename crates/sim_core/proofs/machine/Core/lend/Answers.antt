@@ -1,5 +1,5 @@
-use Rattle.std.proofs.Common.{◌≡◌, ℕ, ◌<◌, refl, sym, ap, ap₂, subst, ◌∙◌, true, false, Bool, List, length, set, slice_set, slice_index_or}
-use Rattle.std.proofs.Common.{Option, Some, None, IfSome, arith}
+use Rattle.std.proofs.Common.{◌≡◌, ℕ, ◌<◌, sym, ap, subst, ◌∙◌, true, false, Bool, List, length, set, slice_set, slice_index_or}
+use Rattle.std.proofs.Common.{Option, Some, None, arith}
 use Rattle.std.proofs.lemmas.List.{get_or_read}
 use Rattle.event_timing.specs.Actions.{MayRun}
 use Rattle.timing_bridge.specs.Designs.{design}

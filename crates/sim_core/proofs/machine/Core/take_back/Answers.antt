@@ -1,4 +1,4 @@
-use Rattle.std.proofs.Common.{◌≡◌, refl, sym, ap, subst, ◌∙◌, ◌<◌, false, length, set, slice_set, Option, Some, None, is_none, arith}
+use Rattle.std.proofs.Common.{◌≡◌, sym, ap, subst, ◌∙◌, ◌<◌, false, length, slice_set, Some, is_none, arith}
 use Rattle.std.proofs.lemmas.List.{map-set}
 use Rattle.event_timing.specs.Actions.{ActsAll, runs}
 use Rattle.timing_bridge.specs.Designs.{design}
@@ -7,7 +7,7 @@ use Rattle.engine_view.specs.Held.{Held, core_of}
 use Rattle.engine_view.specs.Stored.{stored, held_in}
 use Rattle.sim_core.specs.Opening.{all_ports}
 use Rattle.sim_core.specs.Returned.{core_in}
-use Rattle.sim_core.specs.Runs.{over_of, lent_of, IsRunOf}
+use Rattle.sim_core.specs.Runs.{over_of, IsRunOf}
 use Rattle.sim_core.specs.Tasks.{IsBurstOf}
 use Rattle.sim_core.specs.Views.{CoreView, theory_of}
 use Rattle.sim_core.proofs.Lending as lending

@@ -7,34 +7,37 @@ use Rattle.std.proofs.Math.ListN.{get_or}
 use Rattle.flow_word.specs.declared.access.Port.{Port}
 use Rattle.flow_word.specs.declared.access.Side.{Side}
 use Rattle.fifo_table.specs.Roomed.{RoomedChannels}
-use Rattle.engine_view.specs.Rooms.{room_of, credit_given}
+use Rattle.engine_view.specs.Rooms.{room_of}
 
 -- so much room is at the port
-abbrev pub IsRoomyPort : RoomedChannels → Port → Type 0
-IsRoomyPort t port = credit_given + 1 ≤ room_of t port.side port.channel
+abbrev pub IsRoomyPort : ℕ → RoomedChannels → Port → Type 0
+IsRoomyPort places t port = places + 1 ≤ room_of t port.side port.channel
 
 -- room was made at the ports before this index
-pub record ReservesOn (ports : List Port) (old now : RoomedChannels) (index : ℕ) : Type 0 where
+pub record ReservesOn (places : ℕ) (ports : List Port) (old now : RoomedChannels) (index : ℕ) : Type 0 where
   pub channels : now.channels ≡ old.channels
   pub kept : (side : Side) (c : ℕ) → room_of old side c ≤ room_of now side c
-  pub room : All (IsRoomyPort now) (take index ports)
+  pub room : All (IsRoomyPort places now) (take index ports)
 
-pub reserves_init : (ports : List Port) (old : RoomedChannels) → ReservesOn ports old old 0
-reserves_init ports old = record { channels = refl; kept = λ side c. omega arith; room = λ k d l. absurd (omega arith) }
+pub reserves_init : (places : ℕ) (ports : List Port) (old : RoomedChannels) → ReservesOn places ports old old 0
+reserves_init places ports old = record { channels = refl; kept = λ side c. omega arith; room = λ k d l. absurd (omega arith) }
 
-pub reserves_more : (ports : List Port) (old now next : RoomedChannels) (index : ℕ) (d : Port) → ReservesOn ports old now index
+pub reserves_more : (places : ℕ) (ports : List Port) (old now next : RoomedChannels) (index : ℕ) (d : Port)
+    → ReservesOn places ports old now index
     → index < length ports
     → next.channels ≡ now.channels → ((side : Side) (c : ℕ) → room_of now side c ≤ room_of next side c)
-    → IsRoomyPort next (get_or ports index d)
-    → ReservesOn ports old next (index + 1)
-reserves_more ports old now next index d r inside same kept here = record {
+    → IsRoomyPort places next (get_or ports index d)
+    → ReservesOn places ports old next (index + 1)
+reserves_more places ports old now next index d r inside same kept here = record {
   channels = same ∙ r.channels;
   kept = λ side c. let a = r.kept side c in let b = kept side c in omega arith;
-  room = rw (take_more ports index d inside) (All-push (IsRoomyPort next) (take index ports) (get_or ports index d)
-      (All-weaker (IsRoomyPort now) (IsRoomyPort next) (λ port a. let b = kept port.side port.channel in omega arith) (take index ports)
+  room = rw (take_more ports index d inside) (All-push (IsRoomyPort places next) (take index ports) (get_or ports index d)
+      (All-weaker (IsRoomyPort places now) (IsRoomyPort places next) (λ port a. let b = kept port.side port.channel in omega arith)
+      (take index ports)
       r.room) here);
 }
 
-pub reserves_all : (ports : List Port) (old now : RoomedChannels) (index : ℕ) → ReservesOn ports old now index → length ports ≤ index
-    → All (IsRoomyPort now) ports
-reserves_all ports old now index r all = let room = r.room in rw (take_all index ports all) at room
+pub reserves_all : (places : ℕ) (ports : List Port) (old now : RoomedChannels) (index : ℕ) → ReservesOn places ports old now index
+    → length ports ≤ index
+    → All (IsRoomyPort places now) ports
+reserves_all places ports old now index r all = let room = r.room in rw (take_all index ports all) at room

@@ -56,10 +56,6 @@ pub record UsesRoom (m : ℕ) (accesses : List Access) (lanes lanes_left : List 
 abbrev pub query_bound : ℕ
 query_bound = 2 ^ 62
 
--- the credit that a module is given at once
-abbrev pub credit_given : ℕ
-credit_given = 32
-
 -- one where the module's newest step waits for outcomes
 unfoldable pub pending : {S : Type 0} → Core S → ℕ → ℕ
 pending {S} x m = cond (eqb (x.emitted m) 0 || x.answered m (x.emitted m - 1)) 0 1

@@ -1,10 +1,10 @@
 //! Room for the steps to come.
-ghost use Rattle.std.specs.Prelude.{◌≡◌, ◌≢◌, ℕ, ◌+◌, ◌<◌, ◌≤◌, Bool, List, length, slice_index, All, OnOk};
+ghost use Rattle.std.specs.Prelude.{◌≡◌, ◌≢◌, ℕ, ◌+◌, ◌^◌, ◌<◌, ◌≤◌, Bool, List, length, slice_index, All, OnOk};
 ghost use Rattle.flow_word.specs.declared.access.Side.{Side as side_type};
 ghost use Rattle.flow_design.specs.declared.state.ModuleState.{ModuleState};
 ghost use Rattle.event_timing.specs.Machines.{Design};
 ghost use Rattle.engine_view.specs.Stored.{stored};
-ghost use Rattle.engine_view.specs.Rooms.{room_of, credit_given, IsRoomy, AreAllPorts};
+ghost use Rattle.engine_view.specs.Rooms.{room_of, IsRoomy, AreAllPorts};
 
 use event_graph::Graph;
 use fifo_table::FifoTable;
@@ -42,38 +42,78 @@ pub fn make_room(
         → IsRoomy d (stored graph.old fifos.old log.old) over credits.old.items
         → IsRoomy d (stored graph.new fifos.new log.new) over credits.new.items }
 {
+    let places = if credits[owner as usize] >= 2 {
+        2
+    } else {
+        CREDIT
+    };
+    make_room_for(graph, fifos, log, credits, owner, ports, queries, places)
+}
+
+/// Makes room for so many places that a module's next steps may take at each of its ports: two for each step.
+///
+/// `ports` are those at which the module stands, and `queries` is how many queries the last of the steps may have. All else
+/// stays, also after want of memory.
+pub fn make_room_for(
+    graph: &mut Graph,
+    fifos: &mut FifoTable,
+    log: &mut QueryLog,
+    credits: &mut Vec<u64>,
+    owner: u32,
+    ports: &[Port],
+    queries: u64,
+    places: u64,
+) -> Result<(), OutOfMemory>
+    requires lanes { owner < length graph.old.lanes }
+    requires logs { owner < length log.old.logs }
+    requires credits { owner < length credits.old.items }
+    requires ports { All (λ port. port.channel < length fifos.old.channels) ports.now }
+    requires places { places + 1 < 2 ^ 64 }
+    ensures lanes { graph.new.lanes ≡ graph.old.lanes }
+    ensures channels { fifos.new.channels ≡ fifos.old.channels }
+    ensures logs { log.new.logs ≡ log.old.logs }
+    ensures credits { length credits.new.items ≡ length credits.old.items }
+    ensures other_credits { (m : ℕ) → m ≢ owner → slice_index credits.new.items m ≡ slice_index credits.old.items m }
+    ensures credit { OnOk result (places ≤ slice_index credits.new.items owner) }
+    ensures queries { OnOk result (queries ≤ slice_index log.new.rooms owner) }
+    ensures room { (d : Design ModuleState) (over : List Bool) → AreAllPorts d owner (length fifos.old.channels) ports.now
+        → IsRoomy d (stored graph.old fifos.old log.old) over credits.old.items
+        → IsRoomy d (stored graph.new fifos.new log.new) over credits.new.items }
+{
     log.reserve(owner, queries)?;
-    if credits[owner as usize] >= 2 {
+    if credits[owner as usize] >= places {
         return Ok(());
     }
-    graph.reserve(owner, CREDIT)?;
-    reserve_ports(fifos, ports)?;
-    credits[owner as usize] = CREDIT;
+    graph.reserve(owner, places)?;
+    reserve_ports(fifos, ports, places)?;
+    credits[owner as usize] = places;
     Ok(())
 }
 
 /// Makes room at each of the ports.
-fn reserve_ports(fifos: &mut FifoTable, ports: &[Port]) -> Result<(), OutOfMemory>
-    requires { All (λ port. port.channel < length fifos.old.channels) ports.now }
+fn reserve_ports(fifos: &mut FifoTable, ports: &[Port], places: u64) -> Result<(), OutOfMemory>
+    requires ports { All (λ port. port.channel < length fifos.old.channels) ports.now }
+    requires places { places + 1 < 2 ^ 64 }
     ensures channels { fifos.new.channels ≡ fifos.old.channels }
     ensures kept { (side : side_type) (c : ℕ) → room_of fifos.old side c ≤ room_of fifos.new side c }
-    ensures room { OnOk result (All (λ port. credit_given + 1 ≤ room_of fifos.new port.side port.channel) ports.now) }
+    ensures room { OnOk result (All (λ port. places + 1 ≤ room_of fifos.new port.side port.channel) ports.now) }
 {
     for port in ports {
-        reserve_port(fifos, *port)?;
+        reserve_port(fifos, *port, places)?;
     }
     Ok(())
 }
 
-/// Makes room at a port: for as many places as the credit, and one that the newest step may still take.
-fn reserve_port(fifos: &mut FifoTable, port: Port) -> Result<(), OutOfMemory>
-    requires { port.channel < length fifos.old.channels }
+/// Makes room at a port: for so many places, and one that the newest step may still take.
+fn reserve_port(fifos: &mut FifoTable, port: Port, places: u64) -> Result<(), OutOfMemory>
+    requires channel { port.channel < length fifos.old.channels }
+    requires places { places + 1 < 2 ^ 64 }
     ensures channels { fifos.new.channels ≡ fifos.old.channels }
     ensures kept { (side : side_type) (c : ℕ) → room_of fifos.old side c ≤ room_of fifos.new side c }
-    ensures room { OnOk result (credit_given + 1 ≤ room_of fifos.new port.side port.channel) }
+    ensures room { OnOk result (places + 1 ≤ room_of fifos.new port.side port.channel) }
 {
     match port.side {
-        Side::Pop => fifos.reserve(port.channel, 0, CREDIT + 1),
-        Side::Push => fifos.reserve(port.channel, CREDIT + 1, 0),
+        Side::Pop => fifos.reserve(port.channel, 0, places + 1),
+        Side::Push => fifos.reserve(port.channel, places + 1, 0),
     }
 }

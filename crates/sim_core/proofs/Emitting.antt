@@ -1,8 +1,7 @@
 -- A Run's next mark, emitted.
-use Rattle.std.proofs.Common.{◌≡◌, refl, sym, ap, subst, ◌∙◌, ℕ, zero, suc, ◌+◌, ◌-◌, ◌^◌, ◌<◌, ◌≤◌, inl, inr, Bool, true, false, cond, ◌||◌, List, [], ◌∷◌, length, get_or, set, Option, Some, None, is_some, unwrap_or, arith}
-use Rattle.std.proofs.lemmas.Bool.{both_ways, cond-false}
-use Rattle.std.proofs.lemmas.Bool.Decides.{eqb_tells}
-use Rattle.std.proofs.lemmas.List.{length-set, length-map, map-set, get_or-set_same, get_or-set_other}
+use Rattle.std.proofs.Common.{◌≡◌, refl, sym, ap, subst, ℕ, ◌+◌, ◌-◌, ◌^◌, ◌<◌, ◌≤◌, Bool, true, false}
+use Rattle.std.proofs.Common.{List, length, get_or, set, Option, Some, arith}
+use Rattle.std.proofs.lemmas.Bool.{both_ways}
 use Rattle.flow_word.specs.declared.access.Step.{Step as StepOf}
 use Rattle.flow_design.specs.declared.plan.Plan.{Plan}
 use Rattle.flow_design.specs.declared.state.ModuleState.{ModuleState}
@@ -10,60 +9,29 @@ use Rattle.flow_design.specs.declared.state.Advance.{Advance}
 use Rattle.flow_design.specs.declared.state.Advance.TheVariants.{Step, Ended, Spent}
 use Rattle.flow_design.specs.declared.state.Reply.{Reply}
 use Rattle.event_graph.specs.Lanes.{gap_bound, with_step}
-use Rattle.lockstep_defs.specs.Machine.{is_over, is_spent}
 use Rattle.lockstep_defs.specs.OwnRun.{Own}
 use Rattle.module_interp.specs.declared.run.ModuleRun.{ModuleRun}
 use Rattle.module_interp.specs.OwnRests.{next_rest, mark_at}
 use Rattle.module_interp.specs.Runs.{StandsAt, waits, is_step, gap_of, IsSmallStep}
-use Rattle.event_timing.specs.Machines.{Design, ready}
+use Rattle.event_timing.specs.Machines.{Design}
 use Rattle.event_timing.specs.Core.{Core}
-use Rattle.event_timing.specs.Actions.{Acts, MayRun, newest, after_run}
+use Rattle.event_timing.specs.Actions.{Acts, MayRun}
 use Rattle.event_timing.specs.Actions.Action.{Run}
-use Rattle.event_timing.specs.Agreement.{AreOwnMarks}
-use Rattle.event_timing.specs.Growth.{Grows, IsSettled}
-use Rattle.event_timing.proofs.Assigning.{put_same}
-use Rattle.event_timing.proofs.Growing.{settled_all}
-use Rattle.event_timing.proofs.Running.{newest_own}
-use Rattle.event_timing.proofs.Beside.{run_grows}
 use Rattle.timing_bridge.specs.Designs.{design}
-use Rattle.timing_bridge.proofs.History.{plan_is_design}
 use Rattle.engine_view.specs.Held.{Held, emitted_of, queries_in, core_of}
-use Rattle.engine_view.specs.Shown.{IsSound}
-use Rattle.engine_view.specs.Emitted.{IsNextStep, with_emitted, with_over, place_of, done_at_once}
+use Rattle.engine_view.specs.Emitted.{IsNextStep, with_emitted, place_of, done_at_once}
 use Rattle.engine_view.specs.Taking.{kinds_in, taken_all}
-use Rattle.engine_view.specs.Rooms.{AreApart, HasRoomFor, HasRoom, IsRoomy, UsesRoom, query_bound}
+use Rattle.engine_view.specs.Rooms.{AreApart, HasRoomFor, IsRoomy, UsesRoom, query_bound}
 use Rattle.engine_view.specs.Stored.{Stored, held_in}
-use Rattle.engine_view.proofs.Emitted.{emitted_core}
-use Rattle.engine_view.proofs.Ended.{over_core}
-use Rattle.engine_view.proofs.Assigned.{IsAlike, alike_queries}
-use Rattle.engine_view.proofs.Roomy.{apart_next, room_for_next, room_emitted, room_same, pending_same}
-use Rattle.sim_core.specs.Marks.{IsRestBehind}
-use Rattle.sim_core.specs.Runs.{IsRunOf, IsEndOf, IsCore, rest_behind, lent_of, over_of}
-use Rattle.sim_core.proofs.Resting.{rest_is}
-use Rattle.sim_core.proofs.Marking.{next_step}
-use Rattle.sim_core.proofs.Staying.{behind_same, fed_is}
-use Rattle.sim_core.proofs.Keeping.{core_acted}
+use Rattle.sim_core.specs.Runs.{IsRunOf, IsCore, rest_behind, lent_of, over_of}
+use Rattle.sim_core.proofs.Staying.{behind_same}
+use Rattle.sim_core.proofs.Recording.{IsReady}
+use Rattle.sim_core.proofs.Recording as recording
 use Rattle.sim_core.proofs.Lending.{core_roomed}
 
-lent_none : (runs : List (Option ModuleRun)) (m : ℕ) (run : ModuleRun) → get_or (lent_of runs) m true ≡ true → get_or runs m None ≡ Some run → ⊥
-lent_none [] m run e f = cc
-lent_none (None ∷ rs) zero run e f = cc
-lent_none (Some q ∷ rs) zero run e f = cc
-lent_none (q ∷ rs) (suc m) run e f = lent_none rs m run e f
-
--- ---- the mark
-
-over_of_mark : (p : Plan) (i : ℕ) (o : Own) → is_step (mark_at p i o) ≡ false → is_over p.ops o.state ≡ true
-unfolding is_over
-over_of_mark p i o e = go o.state.ended (is_spent p.ops o.state) o.since _ e
-  where
-    go : (a b : Bool) (n : ℕ) (s : StepOf) → is_step (cond a (Ended n) (cond b (Spent n) (Step s))) ≡ false → (a || b) ≡ true
-    go true b n s e = refl
-    go false true n s e = refl
-    go false false n s e = cc
-
 -- a module's run is out of the core and waits for nothing
-pub record IsReadyRun (p : Plan) (s : Stored) (ends : List (Option Advance)) (runs : List (Option ModuleRun)) (credits : List ℕ) (m : ℕ) (run : ModuleRun) : Type 0 where
+pub record IsReadyRun (p : Plan) (s : Stored) (ends : List (Option Advance)) (runs : List (Option ModuleRun)) (credits : List ℕ) (m : ℕ)
+    (run : ModuleRun) : Type 0 where
   pub core : IsCore p s ends runs credits
   pub inside : m < length s.graph.lanes
   pub lent : get_or (lent_of runs) m true ≡ true
@@ -77,9 +45,12 @@ not_a_step (Ended n) f = refl
 not_a_step (Spent n) f = refl
 
 -- with more room it is so as before
-pub ready_roomed : (p : Plan) (s t : Stored) (ends : List (Option Advance)) (runs : List (Option ModuleRun)) (credits others : List ℕ) (m : ℕ) (run : ModuleRun) → IsCore p s ends runs credits
-    → held_in t (over_of ends) ≡ held_in s (over_of ends) → length others ≡ length credits → IsRoomy (design p) t (over_of ends) others → m < length p.design.modules
-    → get_or (lent_of runs) m true ≡ true → IsRunOf p (core_of (design p) (held_in s (over_of ends))) m run → waits run ≡ false → get_or (over_of ends) m false ≡ false → IsReadyRun p t ends runs others m run
+pub ready_roomed : (p : Plan) (s t : Stored) (ends : List (Option Advance)) (runs : List (Option ModuleRun)) (credits others : List ℕ)
+    (m : ℕ) (run : ModuleRun) → IsCore p s ends runs credits
+    → held_in t (over_of ends) ≡ held_in s (over_of ends) → length others ≡ length credits → IsRoomy (design p) t (over_of ends) others
+    → m < length p.design.modules
+    → get_or (lent_of runs) m true ≡ true → IsRunOf p (core_of (design p) (held_in s (over_of ends))) m run → waits run ≡ false
+    → get_or (over_of ends) m false ≡ false → IsReadyRun p t ends runs others m run
 ready_roomed p s t ends runs credits others m run k same count room inside lent r answered lives = record {
   core = core_roomed p s ends runs credits others t k same count room;
   inside = let a = k.sound.lanes in let b = ap (λ (h : Held). length h.lanes) same in omega arith;
@@ -91,20 +62,24 @@ ready_roomed p s t ends runs credits others m run k same count room inside lent 
 
 -- what is stored with a step more
 pub held_more : (t u : Stored) (over : List Bool) (m : ℕ) (step : StepOf) → u.graph.lanes ≡ with_step t.graph.lanes m step
-    → u.table.channels ≡ taken_all (place_of m (emitted_of (held_in t over) m)) t.table.channels step.accesses (done_at_once step.accesses) → u.log.logs ≡ t.log.logs
+    → u.table.channels ≡ taken_all (place_of m (emitted_of (held_in t over) m)) t.table.channels step.accesses (done_at_once step.accesses)
+    → u.log.logs ≡ t.log.logs
     → held_in u over ≡ with_emitted (held_in t over) m step
 held_more t u over m step a b c = rw (a, b, c) refl
 
-pub acts_between : (p : Plan) (before now after there : Held) (m : ℕ) → now ≡ before → there ≡ after → Acts (design p) p.cycles (core_of (design p) now) (Run m) (core_of (design p) after)
+pub acts_between : (p : Plan) (before now after there : Held) (m : ℕ) → now ≡ before → there ≡ after
+    → Acts (design p) p.cycles (core_of (design p) now) (Run m) (core_of (design p) after)
     → Acts (design p) p.cycles (core_of (design p) before) (Run m) (core_of (design p) there)
 acts_between p before now after there m e f s =
     subst (λ (h : Held). Acts (design p) p.cycles (core_of (design p) before) (Run m) (core_of (design p) h)) (sym f)
     (subst (λ (h : Held). Acts (design p) p.cycles (core_of (design p) h) (Run m) (core_of (design p) after)) e s)
 
-pub run_between : (p : Plan) (after there : Held) (m : ℕ) (run : ModuleRun) → there ≡ after → IsRunOf p (core_of (design p) after) m run → IsRunOf p (core_of (design p) there) m run
+pub run_between : (p : Plan) (after there : Held) (m : ℕ) (run : ModuleRun) → there ≡ after → IsRunOf p (core_of (design p) after) m run
+    → IsRunOf p (core_of (design p) there) m run
 run_between p after there m run e r = subst (λ (h : Held). IsRunOf p (core_of (design p) h) m run) (sym e) r
 
-module _ (p : Plan) (s : Stored) (ends : List (Option Advance)) (runs : List (Option ModuleRun)) (credits : List ℕ) (m : ℕ) (run : ModuleRun) (r : IsReadyRun p s ends runs credits m run) where
+module _ (p : Plan) (s : Stored) (ends : List (Option Advance)) (runs : List (Option ModuleRun)) (credits : List ℕ) (m : ℕ)
+    (run : ModuleRun) (r : IsReadyRun p s ends runs credits m run) where
   abbrev d : Design ModuleState
   d = design p
 
@@ -117,9 +92,6 @@ module _ (p : Plan) (s : Stored) (ends : List (Option Advance)) (runs : List (Op
   abbrev rest : Own
   rest = rest_behind p x m (emitted_of h m)
 
-  marks : AreOwnMarks d x
-  marks = r.core.agreed.marks
-
   within : m < length p.design.modules
   within = let n = r.core.sound.lanes in let i = r.inside in omega arith
 
@@ -127,24 +99,24 @@ module _ (p : Plan) (s : Stored) (ends : List (Option Advance)) (runs : List (Op
   stands = (r.run_is.going r.answered).1
 
   pub may : MayRun d x m
-  may = record { inside = within; lives = r.lives; answered = λ k e. ((r.run_is.going r.answered).0 k e).0; there = λ k e. ((r.run_is.going r.answered).0 k e).1 }
+  may = record {
+    inside = within;
+    lives = r.lives;
+    answered = λ k e. ((r.run_is.going r.answered).0 k e).0;
+    there = λ k e. ((r.run_is.going r.answered).0 k e).1;
+  }
 
-  settled : IsSettled d x m (emitted_of h m)
-  settled = settled_all d x marks m may.answered may.there
-
-  behind : IsRestBehind p x m (emitted_of h m) rest
-  behind = rest_is p r.core.fits x marks m within (emitted_of h m) (emitted_of h m) (omega arith) (omega arith)
+  may_run : IsReady p s ends runs credits m
+  may_run = record { core = r.core; inside = r.inside; lent = r.lent; may = may }
 
   -- the run stays where it stands, where there is no memory
-  pub run_kept : (next : ModuleRun) → ((q : Plan) (j : ℕ) (o : Own) → StandsAt q j o run → StandsAt q j o next) → waits next ≡ false → IsRunOf p x m next
+  pub run_kept : (next : ModuleRun) → ((q : Plan) (j : ℕ) (o : Own) → StandsAt q j o run → StandsAt q j o next) → waits next ≡ false
+      → IsRunOf p x m next
   run_kept next go w = record {
     waiting = λ q. absurd (both_ways _ w q);
     going = λ q. ((r.run_is.going r.answered).0, go p m rest stands);
     over = λ q. w;
   }
-
-  others_out : (n : ℕ) (other : ModuleRun) → get_or runs n None ≡ Some other → (n ≡ m → ⊥)
-  others_out n other e q = lent_none runs m other r.lent (subst (λ (k : ℕ). get_or runs k None ≡ Some other) q e)
 
   -- ---- a step
 
@@ -153,62 +125,38 @@ module _ (p : Plan) (s : Stored) (ends : List (Option Advance)) (runs : List (Op
     abbrev g : Held
     g = with_emitted h m t
 
-    behind_a_step : 0 < emitted_of h m → 1 ≤ rest.since
-    behind_a_step l =
-        let e : emitted_of h m ≡ suc (emitted_of h m - 1) = omega arith in
-        subst (λ (n : ℕ). 1 ≤ (rest_behind p x m n).since) (sym e) (subst (λ (o : Own). 1 ≤ o.since) (sym (fed_is p x m (emitted_of h m - 1))) (least _ _))
-
-    next : IsNextStep d h m t × (d.is_over m (ready d m (newest d x m)) ≡ false)
-    next = next_step p r.core.fits h r.core.table r.core.sound marks m rest t behind short (let f = small.few in omega arith) behind_a_step mark
-
     pub step_is : IsNextStep d h m t
-    step_is = next.0
-
-    core_is : (core_of d g ≡ after_run d x m) × IsSound d g
-    core_is = emitted_core d (plan_is_design p r.core.fits) h m t r.inside r.core.sound step_is marks may next.1
-
-    emitted_more : (core_of d g).emitted m ≡ suc (emitted_of h m)
-    emitted_more =
-        ap (λ (z : Core ModuleState). z.emitted m) (core_is.0 ∙ cond-false {A = Core ModuleState} (d.is_over m (ready d m (newest d x m))) _ _ next.1)
-        ∙ put_same x.emitted m (suc (x.emitted m))
-
-    grows : Grows d x (core_of d g)
-    grows = subst (Grows d x) (sym core_is.0) (run_grows d x m)
+    step_is = recording.step_is p s ends runs credits m may_run t mark short small least
 
     pub step_acts : Acts d p.cycles x (Run m) (core_of d g)
-    step_acts = (may, core_is.0)
+    step_acts = recording.step_acts p s ends runs credits m may_run t mark short small least
 
     pub step_apart : AreApart t.accesses
-    step_apart = apart_next d (plan_is_design p r.core.fits) h m t step_is
+    step_apart = recording.step_apart p s ends runs credits m may_run t mark short small least
 
     pub step_room : 2 ≤ get_or credits m 0 → HasRoomFor s.table t.accesses
-    step_room l = room_for_next d (plan_is_design p r.core.fits) h m t step_is s.graph.rooms s.table s.log.rooms credits r.core.room (omega arith)
+    step_room l = recording.step_room p s ends runs credits m may_run t mark short small least l
 
-    pub step_run : (new : ModuleRun) → ((q : Plan) (j : ℕ) (o : Own) → StandsAt q j o run → StandsAt q j o new) → waits new ≡ true → IsRunOf p (core_of d g) m new
+    pub step_run : (new : ModuleRun) → ((q : Plan) (j : ℕ) (o : Own) → StandsAt q j o run → StandsAt q j o new) → waits new ≡ true
+        → IsRunOf p (core_of d g) m new
     step_run new go w = record {
       waiting = λ q. (
         emitted_of h m,
-        sym emitted_more,
-        subst (λ (o : Own). StandsAt p m o new) (sym (behind_same p x (core_of d g) grows m (emitted_of h m) settled)) (go p m rest stands),
+        sym (recording.emitted_more p s ends runs credits m may_run t mark short small least),
+        subst (λ (o : Own). StandsAt p m o new) (sym
+            (behind_same p x (core_of d g) (recording.grows p s ends runs credits m may_run t mark short small least) m (emitted_of h m)
+            (recording.settled p s ends runs credits m may_run))) (go p m rest stands),
       );
       going = λ q. absurd (both_ways _ q w);
       over = λ q. absurd (both_ways _ r.lives q);
     }
 
-    -- what is stored with the step, with the room that it left
-    pub step_core : (u : Stored) → held_in u (over_of ends) ≡ g → kinds_in u.table.channels ≡ kinds_in s.table.channels → 2 ≤ get_or credits m 0
-        → UsesRoom m t.accesses s.graph.rooms u.graph.rooms s.table u.table → u.log.rooms ≡ s.log.rooms
+    pub step_core : (u : Stored) → held_in u (over_of ends) ≡ g → kinds_in u.table.channels ≡ kinds_in s.table.channels
+        → 2 ≤ get_or credits m 0 → UsesRoom m t.accesses s.graph.rooms u.graph.rooms s.table u.table → u.log.rooms ≡ s.log.rooms
         → queries_in t.accesses ≤ get_or s.log.rooms m 0 → t.first_query + queries_in t.accesses < query_bound
         → IsCore p u ends runs (set credits m (get_or credits m 0 - 2))
-    step_core u is kinds rich used logs log_room small =
-        core_acted p s u ends ends runs credits (set credits m (get_or credits m 0 - 2)) r.core (Run m)
-        (subst (λ (q : Held). Acts d p.cycles x (Run m) (core_of d q)) (sym is) step_acts) (subst (IsSound d) (sym is) core_is.1) kinds
-        (length-set credits m (get_or credits m 0 - 2))
-        (subst (λ (q : Held). HasRoom d q u.graph.rooms u.table u.log.rooms (set credits m (get_or credits m 0 - 2))) (sym is)
-        (subst (λ (ls : List ℕ). HasRoom d g u.graph.rooms u.table ls (set credits m (get_or credits m 0 - 2))) (sym logs)
-        (room_emitted d (plan_is_design p r.core.fits) h m t r.inside r.core.sound step_is marks may next.1 s.graph.rooms u.graph.rooms s.table u.table s.log.rooms credits r.core.room
-        (let n = r.core.counted in let i = r.inside in omega arith) rich used log_room small)))
-        (λ n other there. (others_out n other there, tt)) (λ n mark there. inl there)
+    step_core u is kinds rich used logs log_room few =
+        recording.step_core p s ends runs credits m may_run t mark short small least u is kinds rich used logs log_room few
 
   -- ---- the end
 
@@ -216,53 +164,18 @@ module _ (p : Plan) (s : Stored) (ends : List (Option Advance)) (runs : List (Op
     abbrev ends_now : List (Option Advance)
     ends_now = set ends m (Some end)
 
-    overs_are : over_of ends_now ≡ set (over_of ends) m true
-    overs_are = map-set is_some ends m (Some end)
-
-    length_over : length (over_of ends) ≡ length s.graph.lanes
-    length_over = r.core.sound.overs ∙ sym r.core.sound.lanes
-
-    is_done : d.is_over m (ready d m (newest d x m)) ≡ true
-    is_done =
-        ap (λ (q : ModuleState). is_over p.ops (ready d m q)) (newest_own d x marks m (emitted_of h m) (omega arith))
-        ∙ (ap (is_over p.ops) (sym behind.state) ∙ over_of_mark p m rest (ap is_step (sym mark) ∙ over))
-
-    over_is : (core_of d (with_over h m) ≡ after_run d x m) × IsSound d (with_over h m)
-    over_is = over_core d h m (let n = length_over in let i = r.inside in omega arith) r.core.sound marks may is_done
-
-    held_is : held_in s (over_of ends_now) ≡ with_over h m
-    held_is = ap (held_in s) overs_are
-
     pub end_acts : Acts d p.cycles x (Run m) (core_of d (held_in s (over_of ends_now)))
-    end_acts = subst (λ (q : Held). Acts d p.cycles x (Run m) (core_of d q)) (sym held_is) (may, over_is.0)
+    end_acts = recording.end_acts p s ends runs credits m may_run end mark over short
 
-    end_of : IsEndOf p (core_of d (with_over h m)) m end
-    end_of = record { no_step = over; short = short; answered = (r.run_is.going r.answered).0; is = mark }
-
-    pub end_run : (new : ModuleRun) → ((q : Plan) (j : ℕ) (o : Own) → StandsAt q j o run → StandsAt q j o new) → waits new ≡ false → IsRunOf p (core_of d (held_in s (over_of ends_now))) m new
+    pub end_run : (new : ModuleRun) → ((q : Plan) (j : ℕ) (o : Own) → StandsAt q j o run → StandsAt q j o new) → waits new ≡ false
+        → IsRunOf p (core_of d (held_in s (over_of ends_now))) m new
     end_run new go w =
-        subst (λ (q : Held). IsRunOf p (core_of d q) m new) (sym held_is)
-        (record { waiting = λ q. absurd (both_ways _ w q); going = λ q. ((r.run_is.going r.answered).0, go p m rest stands); over = λ q. w })
-
-    alike : IsAlike (with_over h m) h
-    alike = record { steps = λ n. refl; channels = refl; logs = refl }
+        subst (λ (q : Held). IsRunOf p (core_of d q) m new) (sym (recording.held_is p s ends runs credits m may_run end mark over short))
+        (record {
+          waiting = λ q. absurd (both_ways _ w q);
+          going = λ q. ((r.run_is.going r.answered).0, go p m rest stands);
+          over = λ q. w;
+        })
 
     pub end_core : IsCore p s ends_now runs credits
-    end_core =
-        core_acted p s s ends ends_now runs credits credits r.core (Run m) end_acts (subst (IsSound d) (sym held_is) over_is.1) refl refl
-        (subst (λ (q : Held). HasRoom d q s.graph.rooms s.table s.log.rooms credits) (sym held_is)
-        (room_same d h (with_over h m) s.graph.rooms s.graph.rooms s.table s.log.rooms credits r.core.room refl (λ n. pending_same (core_of d (with_over h m)) x n refl (λ k. refl))
-        (λ n. alike_queries (with_over h m) h alike n (emitted_of h n)) (λ n. refl) (λ k. omega arith)))
-        (λ n other there. (others_out n other there, tt))
-        (λ n mark there.
-        elim (eqb_tells n m) [
-          | inl e ↦
-              let here : get_or ends_now m None ≡ Some end = get_or-set_same ends m (Some end) None (let a = length_over in let b = length-map ends is_some in let i = r.inside in omega arith) in
-              let same : end ≡ mark = some_same end mark (sym here ∙ subst (λ (k : ℕ). get_or ends_now k None ≡ Some mark) e.1 there) in
-              inr (subst (λ (q : Advance). IsEndOf p (core_of d (held_in s (over_of ends_now))) n q) same
-              (subst (λ (k : ℕ). IsEndOf p (core_of d (held_in s (over_of ends_now))) k end) (sym e.1) (subst (λ (q : Held). IsEndOf p (core_of d q) m end) (sym held_is) end_of)))
-          | inr e ↦ inl (sym (get_or-set_other ends m n (Some end) None e.1) ∙ there)
-        ])
-      where
-        some_same : (a b : Advance) → Some a ≡ Some b → a ≡ b
-        some_same a b e = ap (λ (o : Option Advance). unwrap_or o a) e
+    end_core = recording.end_core p s ends runs credits m may_run end mark over short

@@ -17,7 +17,8 @@ use Rattle.flow_word.specs.declared.access.Side.TheVariants.{Pop}
 use Rattle.engine_view.specs.Held.{seen, possible_by, queries_in, flags_by, values_at}
 use Rattle.engine_view.proofs.Adding.{get_drop, drop_next}
 use Rattle.event_timing.specs.Core.{pops_now}
-use Rattle.sim_core.specs.Found.{reply_now, value_now, put_first, replies_now, put_before, FindsOn}
+use Rattle.run_ahead.specs.Replies.{reply_now, put_first, put_before}
+use Rattle.sim_core.specs.Found.{value_now, replies_now, FindsOn}
 use Rattle.sim_core.proofs.Replying.{replies_found}
 
 -- ---- the loop

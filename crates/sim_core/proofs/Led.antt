@@ -37,7 +37,7 @@ use Rattle.sim_core.specs.Records.{IsSoundCore, IsEditedOn, HasOtherAnswer}
 use Rattle.sim_core.proofs.Cut.{cut_of}
 use Rattle.sim_core.proofs.Logged.{outcomes_on}
 use Rattle.sim_core.proofs.Otherwise.{AreOtherAt, other_answer}
-use Rattle.sim_core.proofs.Recording.{NoneAdded, AreSure, all_recorded}
+use Rattle.sim_core.proofs.RecordsGrow.{NoneAdded, AreSure, all_recorded}
 
 acts_both : {S : Type 0} → (d : Design S) (limit : ℕ) (x : Core S) (actions more : List Action) (y z : Core S)
     → ActsAll d limit x actions y

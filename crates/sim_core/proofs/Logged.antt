@@ -21,7 +21,7 @@ use Rattle.engine_view.proofs.Emitted.{queries_mono, has_query_is}
 use Rattle.engine_report.proofs.Asking.{kind_in, kind_seen}
 use Rattle.retime.specs.Edits.{OutcomesGrow}
 use Rattle.retime.proofs.Outcomes.{told_by_flags}
-use Rattle.sim_core.proofs.Recording.{NoneAdded, AreSure}
+use Rattle.sim_core.proofs.RecordsGrow.{NoneAdded, AreSure}
 
 -- ---- accesses that the theory sees alike
 

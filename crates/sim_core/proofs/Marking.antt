@@ -67,7 +67,7 @@ unfolding moved_by
 moved_by_nil side f = refl
 
 -- what is moved in the steps is what is moved in their exchanges
-moved_before : (p : Plan) (x : Core ModuleState) (i : ℕ) (side : Side) (f n : ℕ) → moved_by side f (exchanges_before p x i n) ≡ moved side f (map (core_step p x i) (range_with_len 0 n))
+pub moved_before : (p : Plan) (x : Core ModuleState) (i : ℕ) (side : Side) (f n : ℕ) → moved_by side f (exchanges_before p x i n) ≡ moved side f (map (core_step p x i) (range_with_len 0 n))
 unfolding exchanges_before moved
 moved_before p x i side f zero = moved_by_nil side f
 moved_before p x i side f (suc n) =
@@ -98,7 +98,7 @@ open_asked (r ∷ rs) qs =
       | inr b ↦ rw b (ap (λ (n : ℕ). suc n) (open_asked rs (drop 1 qs)))
     ]
 
-queries_done : (p : Plan) (h : Held) → IsSound (design p) h → (i n : ℕ) → n ≤ emitted_of h i → length (queries (exchanges_before p (core_of (design p) h) i n)) ≡ queries_before h i n
+pub queries_done : (p : Plan) (h : Held) → IsSound (design p) h → (i n : ℕ) → n ≤ emitted_of h i → length (queries (exchanges_before p (core_of (design p) h) i n)) ≡ queries_before h i n
 unfolding exchanges_before queries_before
 queries_done p h s i zero l = refl
 queries_done p h s i (suc n) l =

@@ -1,127 +1,212 @@
--- While actions are done, a module's record of outcomes only grows, and either none was added or all that it has are verified.
-use Rattle.std.proofs.Common.{◌≡◌, refl, sym, ap, subst, ◌∙◌, ℕ, suc, ◌<◌, ◌≤◌, ◌⊎◌, inl, inr, true, false, not, List, [], ◌∷◌, ◌++◌}
-use Rattle.std.proofs.Common.{arith}
-use Rattle.std.proofs.lemmas.Bool.{cases_Bool, cases_lt, both_ways}
+-- A mark of a module, emitted by a Run: what it makes of the core.
+use Rattle.std.proofs.Common.{◌≡◌, refl, sym, ap, subst, ◌∙◌, ℕ, zero, suc, ◌+◌, ◌-◌, ◌^◌, ◌<◌, ◌≤◌, inl, inr, Bool, true, false, cond}
+use Rattle.std.proofs.Common.{◌||◌, List, [], ◌∷◌, length, get_or, set, Option, Some, None, is_some, unwrap_or, arith}
+use Rattle.std.proofs.lemmas.Bool.{cond-false}
 use Rattle.std.proofs.lemmas.Bool.Decides.{eqb_tells}
-use Rattle.event_timing.specs.Machines.{Design, IsDesign, ready}
-use Rattle.event_timing.specs.Machines as theory
-use Rattle.event_timing.specs.Histories.{Trace, IsHistory}
-use Rattle.event_timing.specs.Core.{Core, core_accesses, has_query}
-use Rattle.event_timing.specs.Actions.{Action, Acts, ActsAll, MayRun, newest, emit_step, emit_over, after_run}
-use Rattle.event_timing.specs.Actions.Action.{Run, Assign, Answer, Earliest}
-use Rattle.event_timing.specs.Agreement.{IsAgreed}
-use Rattle.event_timing.specs.Growth.{Grows}
-use Rattle.event_timing.proofs.Agreement.{acts_agree}
-use Rattle.event_timing.proofs.Assigning.{put_same, put_other, put_at_same, put_at_other}
-use Rattle.event_timing.proofs.Beside.{actions_grow}
-use Rattle.retime.specs.Edits.{RecordGrows}
-use Rattle.retime.proofs.Growing.{answered_or_not}
+use Rattle.std.proofs.lemmas.List.{length-set, length-map, map-set, get_or-set_same, get_or-set_other}
+use Rattle.flow_word.specs.declared.access.Step.{Step as StepOf}
+use Rattle.flow_design.specs.declared.plan.Plan.{Plan}
+use Rattle.flow_design.specs.declared.state.ModuleState.{ModuleState}
+use Rattle.flow_design.specs.declared.state.Advance.{Advance}
+use Rattle.flow_design.specs.declared.state.Advance.TheVariants.{Step, Ended, Spent}
+use Rattle.flow_design.specs.declared.state.Reply.{Reply}
+use Rattle.event_graph.specs.Lanes.{gap_bound}
+use Rattle.lockstep_defs.specs.Machine.{is_over, is_spent}
+use Rattle.lockstep_defs.specs.OwnRun.{Own}
+use Rattle.module_interp.specs.declared.run.ModuleRun.{ModuleRun}
+use Rattle.module_interp.specs.OwnRests.{next_rest, mark_at}
+use Rattle.module_interp.specs.Runs.{is_step, gap_of, IsSmallStep}
+use Rattle.event_timing.specs.Machines.{Design, ready}
+use Rattle.event_timing.specs.Core.{Core}
+use Rattle.event_timing.specs.Actions.{Acts, MayRun, newest, after_run}
+use Rattle.event_timing.specs.Actions.Action.{Run}
+use Rattle.event_timing.specs.Agreement.{AreOwnMarks}
+use Rattle.event_timing.specs.Growth.{Grows, IsSettled}
+use Rattle.event_timing.proofs.Assigning.{put_same}
+use Rattle.event_timing.proofs.Growing.{settled_all}
+use Rattle.event_timing.proofs.Running.{newest_own}
+use Rattle.event_timing.proofs.Beside.{run_grows}
+use Rattle.timing_bridge.specs.Designs.{design}
+use Rattle.timing_bridge.proofs.History.{plan_is_design}
+use Rattle.engine_view.specs.Held.{Held, emitted_of, queries_in, core_of}
+use Rattle.engine_view.specs.Shown.{IsSound}
+use Rattle.engine_view.specs.Emitted.{IsNextStep, with_emitted, with_over}
+use Rattle.engine_view.specs.Taking.{kinds_in}
+use Rattle.engine_view.specs.Rooms.{AreApart, HasRoomFor, HasRoom, UsesRoom, query_bound}
+use Rattle.engine_view.specs.Stored.{Stored, held_in}
+use Rattle.engine_view.proofs.Emitted.{emitted_core}
+use Rattle.engine_view.proofs.Ended.{over_core}
+use Rattle.engine_view.proofs.Assigned.{IsAlike, alike_queries}
+use Rattle.engine_view.proofs.Roomy.{apart_next, room_for_next, room_emitted, room_same, pending_same}
+use Rattle.sim_core.specs.Marks.{IsRestBehind}
+use Rattle.sim_core.specs.Runs.{IsEndOf, IsCore, rest_behind, lent_of, over_of}
+use Rattle.sim_core.proofs.Resting.{rest_is}
+use Rattle.sim_core.proofs.Marking.{next_step}
+use Rattle.sim_core.proofs.Staying.{fed_is}
+use Rattle.sim_core.proofs.Keeping.{core_acted}
 
-module _ {S : Type 0} (d : Design S) where
-  -- each query of z with an outcome had it in x
-  abbrev pub NoneAdded : Core S → Core S → ℕ → Type 0
-  NoneAdded x z m = (k : ℕ) → k < z.emitted m → has_query (core_accesses d z m k) ≡ true → z.answered m k ≡ true
-      → (k < x.emitted m) × (x.answered m k ≡ true)
+lent_none : (runs : List (Option ModuleRun)) (m : ℕ) (run : ModuleRun) → get_or (lent_of runs) m true ≡ true → get_or runs m None ≡ Some run
+    → ⊥
+lent_none [] m run e f = cc
+lent_none (None ∷ rs) zero run e f = cc
+lent_none (Some q ∷ rs) zero run e f = cc
+lent_none (q ∷ rs) (suc m) run e f = lent_none rs m run e f
 
-  -- each query with an outcome has a verified one
-  abbrev pub AreSure : Core S → ℕ → Type 0
-  AreSure z m = (k : ℕ) → k < z.emitted m → has_query (core_accesses d z m k) ≡ true → z.answered m k ≡ true → z.verified m k ≡ true
+-- ---- the mark
 
-  abbrev StayVerified : Core S → Core S → ℕ → Type 0
-  StayVerified x z m = (k : ℕ) → k < x.emitted m → x.verified m k ≡ true → z.verified m k ≡ true
+over_of_mark : (p : Plan) (i : ℕ) (o : Own) → is_step (mark_at p i o) ≡ false → is_over p.ops o.state ≡ true
+unfolding is_over
+over_of_mark p i o e = go o.state.ended (is_spent p.ops o.state) o.since _ e
+  where
+    go : (a b : Bool) (n : ℕ) (s : StepOf) → is_step (cond a (Ended n) (cond b (Spent n) (Step s))) ≡ false → (a || b) ≡ true
+    go true b n s e = refl
+    go false true n s e = refl
+    go false false n s e = cc
 
-  none_self : (x : Core S) (m : ℕ) → NoneAdded x x m
-  none_self x m k l q a = (l, a)
+-- a Run of a module whose run is out of the core is permitted
+pub record IsReady (p : Plan) (s : Stored) (ends : List (Option Advance)) (runs : List (Option ModuleRun)) (credits : List ℕ) (m : ℕ)
+    : Type 0 where
+  pub core : IsCore p s ends runs credits
+  pub inside : m < length s.graph.lanes
+  pub lent : get_or (lent_of runs) m true ≡ true
+  pub may : MayRun (design p) (core_of (design p) (held_in s (over_of ends))) m
 
-  -- ---- a step more
+module _ (p : Plan) (s : Stored) (ends : List (Option Advance)) (runs : List (Option ModuleRun)) (credits : List ℕ) (m : ℕ)
+    (r : IsReady p s ends runs credits m) where
+  abbrev d : Design ModuleState
+  d = design p
 
-  module _ (x : Core S) (n : ℕ) (s : S) where
-    abbrev z : Core S
-    z = emit_step d x n s
+  abbrev h : Held
+  h = held_in s (over_of ends)
 
-    step_none : (m : ℕ) → NoneAdded x z m
-    step_none m k l q a =
-        elim (eqb_tells m n) [
-          | inl e ↦ subst (λ (j : ℕ). (k < x.emitted j) × (x.answered j k ≡ true)) (sym e.1)
-              (here (subst (λ (j : ℕ). k < z.emitted j) e.1 l) (subst (λ (j : ℕ). has_query (core_accesses d z j k) ≡ true) e.1 q)
-              (subst (λ (j : ℕ). z.answered j k ≡ true) e.1 a))
-          | inr e ↦
-              let emitted = put_other x.emitted n (suc (x.emitted n)) m e.1 in
-              (omega arith, sym (put_at_other x.answered n (x.emitted n) _ m k (λ u v. e.1 u)) ∙ a)
-        ]
+  abbrev x : Core ModuleState
+  x = core_of d h
+
+  abbrev pub rest : Own
+  rest = rest_behind p x m (emitted_of h m)
+
+  marks : AreOwnMarks d x
+  marks = r.core.agreed.marks
+
+  pub settled : IsSettled d x m (emitted_of h m)
+  settled = settled_all d x marks m r.may.answered r.may.there
+
+  behind : IsRestBehind p x m (emitted_of h m) rest
+  behind = rest_is p r.core.fits x marks m r.may.inside (emitted_of h m) (emitted_of h m) (omega arith) (omega arith)
+
+  others_out : (n : ℕ) (other : ModuleRun) → get_or runs n None ≡ Some other → (n ≡ m → ⊥)
+  others_out n other e q = lent_none runs m other r.lent (subst (λ (k : ℕ). get_or runs k None ≡ Some other) q e)
+
+  -- ---- a step
+
+  module _ (t : StepOf) (mark : mark_at p m rest ≡ Step t) (short : rest.since < 10 ^ 18) (small : IsSmallStep t)
+      (least : (o : Own) (qs : List Reply) → 1 ≤ (next_rest p m o qs).since) where
+    abbrev g : Held
+    g = with_emitted h m t
+
+    behind_a_step : 0 < emitted_of h m → 1 ≤ rest.since
+    behind_a_step l =
+        let e : emitted_of h m ≡ suc (emitted_of h m - 1) = omega arith in
+        subst (λ (n : ℕ). 1 ≤ (rest_behind p x m n).since) (sym e) (subst (λ (o : Own). 1 ≤ o.since)
+        (sym (fed_is p x m (emitted_of h m - 1))) (least _ _))
+
+    next : IsNextStep d h m t × (d.is_over m (ready d m (newest d x m)) ≡ false)
+    next = next_step p r.core.fits h r.core.table r.core.sound marks m rest t behind short (let f = small.few in omega arith) behind_a_step
+        mark
+
+    pub step_is : IsNextStep d h m t
+    step_is = next.0
+
+    pub core_is : (core_of d g ≡ after_run d x m) × IsSound d g
+    core_is = emitted_core d (plan_is_design p r.core.fits) h m t r.inside r.core.sound step_is marks r.may next.1
+
+    pub emitted_more : (core_of d g).emitted m ≡ suc (emitted_of h m)
+    emitted_more =
+        ap (λ (z : Core ModuleState). z.emitted m) (core_is.0 ∙ cond-false {A = Core ModuleState} (d.is_over m (ready d m (newest d x m))) _
+        _ next.1)
+        ∙ put_same x.emitted m (suc (x.emitted m))
+
+    pub grows : Grows d x (core_of d g)
+    grows = subst (Grows d x) (sym core_is.0) (run_grows d x m)
+
+    pub step_acts : Acts d p.cycles x (Run m) (core_of d g)
+    step_acts = (r.may, core_is.0)
+
+    pub step_apart : AreApart t.accesses
+    step_apart = apart_next d (plan_is_design p r.core.fits) h m t step_is
+
+    pub step_room : 2 ≤ get_or credits m 0 → HasRoomFor s.table t.accesses
+    step_room l = room_for_next d (plan_is_design p r.core.fits) h m t step_is s.graph.rooms s.table s.log.rooms credits r.core.room
+        (omega arith)
+
+    -- what is stored with the step, with the room that it left
+    pub step_core : (u : Stored) → held_in u (over_of ends) ≡ g → kinds_in u.table.channels ≡ kinds_in s.table.channels
+        → 2 ≤ get_or credits m 0
+        → UsesRoom m t.accesses s.graph.rooms u.graph.rooms s.table u.table → u.log.rooms ≡ s.log.rooms
+        → queries_in t.accesses ≤ get_or s.log.rooms m 0 → t.first_query + queries_in t.accesses < query_bound
+        → IsCore p u ends runs (set credits m (get_or credits m 0 - 2))
+    step_core u is kinds rich used logs log_room small =
+        core_acted p s u ends ends runs credits (set credits m (get_or credits m 0 - 2)) r.core (Run m)
+        (subst (λ (q : Held). Acts d p.cycles x (Run m) (core_of d q)) (sym is) step_acts) (subst (IsSound d) (sym is) core_is.1) kinds
+        (length-set credits m (get_or credits m 0 - 2))
+        (subst (λ (q : Held). HasRoom d q u.graph.rooms u.table u.log.rooms (set credits m (get_or credits m 0 - 2))) (sym is)
+        (subst (λ (ls : List ℕ). HasRoom d g u.graph.rooms u.table ls (set credits m (get_or credits m 0 - 2))) (sym logs)
+        (room_emitted d (plan_is_design p r.core.fits) h m t r.inside r.core.sound step_is marks r.may next.1 s.graph.rooms u.graph.rooms
+        s.table u.table s.log.rooms credits r.core.room
+        (let n = r.core.counted in let i = r.inside in omega arith) rich used log_room small)))
+        (λ n other there. (others_out n other there, tt)) (λ n mark there. inl there)
+
+  -- ---- the end
+
+  module _ (end : Advance) (mark : end ≡ mark_at p m rest) (over : is_step end ≡ false) (short : gap_of end < gap_bound) where
+    abbrev ends_now : List (Option Advance)
+    ends_now = set ends m (Some end)
+
+    overs_are : over_of ends_now ≡ set (over_of ends) m true
+    overs_are = map-set is_some ends m (Some end)
+
+    length_over : length (over_of ends) ≡ length s.graph.lanes
+    length_over = r.core.sound.overs ∙ sym r.core.sound.lanes
+
+    is_done : d.is_over m (ready d m (newest d x m)) ≡ true
+    is_done =
+        ap (λ (q : ModuleState). is_over p.ops (ready d m q)) (newest_own d x marks m (emitted_of h m) (omega arith))
+        ∙ (ap (is_over p.ops) (sym behind.state) ∙ over_of_mark p m rest (ap is_step (sym mark) ∙ over))
+
+    over_is : (core_of d (with_over h m) ≡ after_run d x m) × IsSound d (with_over h m)
+    over_is = over_core d h m (let n = length_over in let i = r.inside in omega arith) r.core.sound marks r.may is_done
+
+    pub held_is : held_in s (over_of ends_now) ≡ with_over h m
+    held_is = ap (held_in s) overs_are
+
+    pub end_acts : Acts d p.cycles x (Run m) (core_of d (held_in s (over_of ends_now)))
+    end_acts = subst (λ (q : Held). Acts d p.cycles x (Run m) (core_of d q)) (sym held_is) (r.may, over_is.0)
+
+    end_of : IsEndOf p (core_of d (with_over h m)) m end
+    end_of = record { no_step = over; short = short; answered = λ k e. (r.may.answered k e, r.may.there k e); is = mark }
+
+    alike : IsAlike (with_over h m) h
+    alike = record { steps = λ n. refl; channels = refl; logs = refl }
+
+    pub end_core : IsCore p s ends_now runs credits
+    end_core =
+        core_acted p s s ends ends_now runs credits credits r.core (Run m) end_acts (subst (IsSound d) (sym held_is) over_is.1) refl refl
+        (subst (λ (q : Held). HasRoom d q s.graph.rooms s.table s.log.rooms credits) (sym held_is)
+        (room_same d h (with_over h m) s.graph.rooms s.graph.rooms s.table s.log.rooms credits r.core.room refl
+        (λ n. pending_same (core_of d (with_over h m)) x n refl (λ k. refl))
+        (λ n. alike_queries (with_over h m) h alike n (emitted_of h n)) (λ n. refl) (λ k. omega arith)))
+        (λ n other there. (others_out n other there, tt))
+        (λ n mark there.
+        elim (eqb_tells n m) [
+          | inl e ↦
+              let here : get_or ends_now m None ≡ Some end = get_or-set_same ends m (Some end) None
+              (let a = length_over in let b = length-map ends is_some in let i = r.inside in omega arith) in
+              let same : end ≡ mark = some_same end mark (sym here ∙ subst (λ (k : ℕ). get_or ends_now k None ≡ Some mark) e.1 there) in
+              inr (subst (λ (q : Advance). IsEndOf p (core_of d (held_in s (over_of ends_now))) n q) same
+              (subst (λ (k : ℕ). IsEndOf p (core_of d (held_in s (over_of ends_now))) k end) (sym e.1)
+              (subst (λ (q : Held). IsEndOf p (core_of d q) m end) (sym held_is) end_of)))
+          | inr e ↦ inl (sym (get_or-set_other ends m n (Some end) None e.1) ∙ there)
+        ])
       where
-        here : k < z.emitted n → has_query (core_accesses d z n k) ≡ true → z.answered n k ≡ true
-            → (k < x.emitted n) × (x.answered n k ≡ true)
-        here l q a =
-            let emitted = put_same x.emitted n (suc (x.emitted n)) in
-            elim (eqb_tells k (x.emitted n)) [
-              | inl e ↦
-                  let asks : has_query (d.accesses n (ready d n s)) ≡ true =
-                  sym (ap (λ (t : S). has_query (d.accesses n t)) (put_at_same x.state n (x.emitted n) (ready d n s)))
-                  ∙ subst (λ (j : ℕ). has_query (core_accesses d z n j) ≡ true) e.1 q in
-                  let told : not (has_query (d.accesses n (ready d n s))) ≡ true =
-                  sym (put_at_same x.answered n (x.emitted n) (not (has_query (d.accesses n (ready d n s)))))
-                  ∙ subst (λ (j : ℕ). z.answered n j ≡ true) e.1 a in
-                  absurd (both_ways _ (ap not asks) told)
-              | inr e ↦ let f = e.1 in (omega arith, sym (put_at_other x.answered n (x.emitted n) _ n k (λ u v. e.1 v)) ∙ a)
-            ]
-
-    step_verified : (m : ℕ) → StayVerified x z m
-    step_verified m k l v = put_at_other x.verified n (x.emitted n) _ m k (λ e f. new e f) ∙ v
-      where
-        new : m ≡ n → k ≡ x.emitted n → ⊥
-        new e f = let same = ap x.emitted e in absurd (omega arith)
-
-  run_grows : (x z : Core S) (n : ℕ) → z ≡ after_run d x n → (m : ℕ) → NoneAdded x z m × StayVerified x z m
-  run_grows x z n e m =
-      subst (λ (y : Core S). NoneAdded x y m × StayVerified x y m) (sym e)
-      (elim (cases_Bool (d.is_over n (ready d n (newest d x n)))) [
-        | inl over ↦ rw over (none_self x m, λ k l v. v)
-        | inr goes ↦ rw goes (step_none x n (newest d x n) m, step_verified x n (newest d x n) m)
-      ])
-
-  -- ---- a cycle, or answers
-
-  record_grows : (x z : Core S) (m : ℕ) → RecordGrows x z m → (NoneAdded x z m ⊎ AreSure z m) × StayVerified x z m
-  record_grows x z m r = (
-    elim r.ends [
-      | inl same ↦ inl (λ k l q a. (let e = r.emitted in omega arith, sym (same k) ∙ a))
-      | inr sure ↦ inr (λ k l q a. sure k l a)
-    ],
-    λ k l v. r.verified k v,
-  )
-
--- of two growths one after the other
-both : {S : Type 0} → (d : Design S) (x u z : Core S) (m : ℕ)
-    → ((k : ℕ) → k < u.emitted m → core_accesses d z m k ≡ core_accesses d u m k) → NoneAdded d x u m ⊎ AreSure d u m
-    → NoneAdded d u z m ⊎ AreSure d z m → StayVerified d u z m → NoneAdded d x z m ⊎ AreSure d z m
-both {S} d x u z m same first (inr sure) stay = inr sure
-both {S} d x u z m same (inl none) (inl later) stay =
-    inl (λ k l q a. let (l', a') = later k l q a in none k l' (sym (ap has_query (same k l')) ∙ q) a')
-both {S} d x u z m same (inr sure) (inl later) stay =
-    inr (λ k l q a. let (l', a') = later k l q a in stay k l' (sure k l' (sym (ap has_query (same k l')) ∙ q) a'))
-
-module _ {S : Type 0} (d : Design S) (y : Trace S) (i : IsDesign d) (w : IsHistory d y) (limit : ℕ) where
-  acted : (x : Core S) → IsAgreed d y limit x → (a : Action) (z : Core S) → Acts d limit x a z → (m : ℕ)
-      → (NoneAdded d x z m ⊎ AreSure d z m) × StayVerified d x z m
-  acted x g (Run n) z (may, is) m = let (none, stay) = run_grows d x z n is m in (inl none, stay)
-  acted x g (Assign n) z (c, may, is) m =
-      subst (λ (u : Core S). (NoneAdded d x u m ⊎ AreSure d u m) × StayVerified d x u m) (sym is) (inl (λ k l q a. (l, a)), λ k l v. v)
-  acted x g (Answer n) z (c, may, is) m = record_grows d x z m (answered_or_not d y limit x z g n c m is)
-  acted x g (Earliest n) z (c, may, is) m = record_grows d x z m (answered_or_not d y limit x z g n c m is)
-
-  -- ---- a list of actions
-
-  pub all_recorded : (x : Core S) → IsAgreed d y limit x → (actions : List Action) (z : Core S) → ActsAll d limit x actions z → (m : ℕ)
-      → (NoneAdded d x z m ⊎ AreSure d z m) × StayVerified d x z m
-  all_recorded x g [] end e m =
-      subst (λ (u : Core S). (NoneAdded d x u m ⊎ AreSure d u m) × StayVerified d x u m) (sym e) (inl (none_self d x m), λ k l v. v)
-  all_recorded x g (a ∷ more) end (u, s, t) m =
-      let now = acts_agree d y i w limit x g a u s in
-      let first = acted x g a u s m in
-      let later = all_recorded u now more end t m in
-      let grows = actions_grow d y i w limit u now more end t in
-      let up = (actions_grow d y i w limit x g (a ∷ []) u (u, s, refl)).emitted_up m in (
-        both d x u end m (λ k l. ap (λ (st : S). d.accesses m st) (grows.state_same m k l)) first.0 later.0 later.1,
-        λ k l v. later.1 k (omega arith) (first.1 k l v),
-      )
+        some_same : (a b : Advance) → Some a ≡ Some b → a ≡ b
+        some_same a b e = ap (λ (o : Option Advance). unwrap_or o a) e

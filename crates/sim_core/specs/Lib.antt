@@ -8,3 +8,7 @@ pub mod Turns
 pub mod Drives
 pub mod Edits
 pub mod Records
+pub mod Tasks
+pub mod Readers
+pub mod Lent
+pub mod Returned

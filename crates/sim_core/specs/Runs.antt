@@ -22,6 +22,7 @@ use Rattle.engine_view.specs.Rooms.{IsRoomy}
 use Rattle.engine_view.specs.Stored.{Stored, held_in}
 use Rattle.engine_view.specs.Taking.{kinds_in}
 use Rattle.sim_core.specs.Opening.{kinds_of, all_ports}
+use Rattle.sim_core.specs.Readers.{AreReaders}
 
 -- ---- runs
 
@@ -68,9 +69,11 @@ pub record IsCore (p : Plan) (s : Stored) (ends : List (Option Advance)) (runs :
   pub runs_are : (m : ℕ) (run : ModuleRun) → slice_index_or runs m None ≡ Some run → IsRunOf p (core_of (design p) (held_in s (over_of ends))) m run
   pub ends_are : (m : ℕ) (mark : Advance) → slice_index_or ends m None ≡ Some mark → IsEndOf p (core_of (design p) (held_in s (over_of ends))) m mark
 
--- and the list of ports is that of all channels, which are given room, and there is a candidate for each module
+-- and the list of ports is that of all channels, which are given room, it is told who pops each channel, and there is a candidate for
+-- each module
 pub record IsStoredCore (p : Plan) (s : Stored) (ends : List (Option Advance)) (runs : List (Option ModuleRun)) (credits : List ℕ) (ports : List Port)
-    (candidates : List Candidate) : Type 0 where
+    (readers : List ℕ) (candidates : List Candidate) : Type 0 where
   pub core : IsCore p s ends runs credits
   pub ports_are : ports ≡ all_ports (length p.design.channels)
+  pub readers_are : AreReaders p readers
   pub candidate_count : length candidates ≡ length p.design.modules

@@ -2,12 +2,17 @@
 #![tactic(auto)]
 
 mod alone;
+mod back;
+mod bursts;
 mod drive;
 mod edit;
 mod laws;
+mod lent;
 mod machine;
 mod opening;
 mod records;
+mod post;
+mod readers;
 mod replies;
 mod report;
 mod running;
@@ -15,8 +20,10 @@ mod turn;
 mod visit;
 
 pub use alone::run_alone;
+pub use bursts::bursts_are_runs;
 pub use flow_design::Plan;
 pub use laws::every_order;
 pub use machine::Core;
 pub use outcome_guard::{Guard, Query};
 pub use records::records_are_answers;
+pub use run_ahead::{Burst, Mail, Task, work};

@@ -32,6 +32,8 @@ pub struct Core {
     pub(crate) credits: Vec<u64>,
     /// The ports of all channels.
     pub(crate) ports: List<Port>,
+    /// Of each channel the module that pops it; the number of modules where none does.
+    pub(crate) readers: Vec<u32>,
     /// Of each channel the modules that have accessed it so far, as bits. It serves for hints alone.
     pub(crate) users: Words,
     /// Room for the replies to a step.
@@ -54,7 +56,8 @@ impl Model for Core {
 
     ghost view = { λ c. record { plan = c.plan; held = held_in (stored c.graph c.fifos c.log) (over_of c.ends.items); lent = lent_of c.runs.items } };
 
-    ghost invariant = { λ c. IsStoredCore c.plan (stored c.graph c.fifos c.log) c.ends.items c.runs.items c.credits.items c.ports c.candidates.items };
+    ghost invariant = { λ c. IsStoredCore c.plan (stored c.graph c.fifos c.log) c.ends.items c.runs.items c.credits.items c.ports
+        c.readers.items c.candidates.items };
 }
 
 impl Core {

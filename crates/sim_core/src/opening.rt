@@ -8,6 +8,7 @@ ghost use Rattle.sim_core.specs.Opening.{kind_in, kinds_of, all_ports, AreFirstR
 ghost use Rattle.sim_core.specs.Views.{theory_of};
 
 use crate::machine::Core;
+use crate::readers::find_readers;
 use event_graph::{Candidate, Graph};
 use fifo_table::{FifoTable, TableChannel};
 use flow_design::{Advance, ChannelKind, Plan};
@@ -35,6 +36,7 @@ impl Core {
         let ends = no_ends(alloc, modules)?;
         let credits = vec![in alloc; 0; modules as usize]?;
         let ports = make_ports(alloc, plan.design.channels.len() as u32)?;
+        let readers = find_readers(alloc, &plan)?;
         let candidates = no_candidates(alloc, modules)?;
         let users = List::zeros(alloc, plan.design.channels.len())?;
         Ok(Core {
@@ -46,6 +48,7 @@ impl Core {
             runs,
             credits,
             ports,
+            readers,
             users,
             replies: List::new(alloc),
             candidates,

@@ -3,13 +3,14 @@ ghost use Rattle.std.specs.Prelude.{◌≡◌, ℕ, ◌+◌, ◌-◌, ◌<◌, �
 ghost use Rattle.query_log.specs.Logs.{log_at, outcome_of};
 ghost use Rattle.time_engine.specs.Conditions.{IsAccess};
 ghost use Rattle.sim_core.specs.Found.{value_now, replies_now};
-ghost use Rattle.sim_core.specs.Found.{reply_now as reply_of};
+ghost use Rattle.run_ahead.specs.Replies.{reply_now as reply_of};
 
 use event_graph::{Access, Kind};
 use fifo_table::FifoTable;
 use flow_design::Reply;
 use flow_word::{List, OutOfMemory};
 use query_log::QueryLog;
+use run_ahead::reply_to;
 
 /// Writes the replies to a step's accesses into the list, whose items are dropped. Whether all were there.
 pub fn find_replies(
@@ -45,15 +46,13 @@ fn reply_now(fifos: &FifoTable, access: &Access, outcome: Option<bool>) -> Optio
     ensures { result ≡ reply_of access.now.kind outcome (value_now fifos.now.channels access.now) }
 {
     match access.kind {
-        Kind::Read => fifos
-            .value(access.channel, access.ordinal)
-            .map(Reply::Value),
-        Kind::Write => Some(Reply::Done),
-        Kind::TryRead => match outcome {
-            Some(true) => fifos.value(access.channel, access.ordinal).map(Reply::Took),
-            Some(false) => Some(Reply::Missed),
-            None => None,
-        },
-        Kind::TryWrite | Kind::Empty | Kind::Full => outcome.map(Reply::Flag),
+        Kind::Read | Kind::TryRead => reply_to(
+            access.kind,
+            outcome,
+            fifos.value(access.channel, access.ordinal),
+        ),
+        Kind::Write | Kind::TryWrite | Kind::Empty | Kind::Full => {
+            reply_to(access.kind, outcome, None)
+        }
     }
 }

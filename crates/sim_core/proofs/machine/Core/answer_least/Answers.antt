@@ -42,6 +42,7 @@ invariant_of-self-in-Some c =
       core = turning.core_answered c.self.inside.plan s t c.self.inside.ends.items c.self.inside.runs.items c.self.inside.credits.items k quiet c.list_candidates.new.candidates.items c.list_candidates.ensures.count c.list_candidates.ensures.all c.in-Some.owner c.in-Some.cycle least c.answer_first-guard.result c.answer_first-guard.ensures.answered
           c.answer_first-guard.ensures.room c.answer_first-guard.ensures.kinds;
       ports_are = c.self.invariant.ports_are;
+      readers_are = c.self.invariant.readers_are;
       candidate_count = let a = c.list_candidates.ensures.count in let b = k.sound.lanes in omega arith;
     }
 

@@ -32,7 +32,7 @@ invariant_of-self c =
     let same : held_in t (over_of ends) ≡ held_in s (over_of ends) = lending.held_same s t (over_of ends) c.make_room.ensures.lanes c.make_room.ensures.channels c.make_room.ensures.logs in
     let ports = all_there (design p) c.args.owner (length c.self.inside.fifos.channels) c.as_slice.result.now (c.as_slice.ensures ∙ (c.self.invariant.ports_are ∙ ap all_ports (sym (table_count p c.self.inside.fifos.channels k.table)))) in
     let room = c.make_room.ensures.room (design p) (over_of ends) ports k.room in
-    record { core = lending.core_roomed p s ends c.self.inside.runs.items c.self.inside.credits.items others t k same c.make_room.ensures.credits room; ports_are = c.self.invariant.ports_are; candidate_count = c.self.invariant.candidate_count }
+    record { core = lending.core_roomed p s ends c.self.inside.runs.items c.self.inside.credits.items others t k same c.make_room.ensures.credits room; ports_are = c.self.invariant.ports_are; readers_are = c.self.invariant.readers_are; candidate_count = c.self.invariant.candidate_count }
 
 pub returns-in_err-make_room-clause-run : goal.returns-in_err-make_room-clause-run
 returns-in_err-make_room-clause-run c =
@@ -60,7 +60,7 @@ invariant_of-self-in_err-end c =
     let same : held_in t (over_of ends) ≡ held_in s (over_of ends) = lending.held_same s t (over_of ends) c.make_room.ensures.lanes c.make_room.ensures.channels c.make_room.ensures.logs in
     let ports = all_there (design p) c.args.owner (length c.self.inside.fifos.channels) c.as_slice.result.now (c.as_slice.ensures ∙ (c.self.invariant.ports_are ∙ ap all_ports (sym (table_count p c.self.inside.fifos.channels k.table)))) in
     let room = c.make_room.ensures.room (design p) (over_of ends) ports k.room in
-    record { core = lending.core_roomed p s ends c.self.inside.runs.items c.self.inside.credits.items others t k same c.make_room.ensures.credits room; ports_are = c.self.invariant.ports_are; candidate_count = c.self.invariant.candidate_count }
+    record { core = lending.core_roomed p s ends c.self.inside.runs.items c.self.inside.credits.items others t k same c.make_room.ensures.credits room; ports_are = c.self.invariant.ports_are; readers_are = c.self.invariant.readers_are; candidate_count = c.self.invariant.candidate_count }
 
 pub returns-in_err-end-clause-run : goal.returns-in_err-end-clause-run
 returns-in_err-end-clause-run c =
@@ -257,7 +257,7 @@ invariant_of-self-in-Step c =
     let owner = rw (← c.self.view_is) at c.requires.owner in
     let credits = c.make_room.ensures.credits in
     let read = get_or_read others c.args.owner c.index_mut.result.now (omega arith) c.index_mut.ensures.value 0 in
-    record { core = rw read after; ports_are = c.self.invariant.ports_are; candidate_count = c.self.invariant.candidate_count }
+    record { core = rw read after; ports_are = c.self.invariant.ports_are; readers_are = c.self.invariant.readers_are; candidate_count = c.self.invariant.candidate_count }
 
 pub invariant_of-self-in_default : goal.invariant_of-self-in_default
 invariant_of-self-in_default c =
@@ -277,7 +277,7 @@ invariant_of-self-in_default c =
     let is = c.in_ok-end.ensures.mark p c.args.owner rest stands in
     let sound = c.in_ok-end.ensures.sound p c.args.owner rest stands in
     let no_step = emitting.not_a_step c.in_ok-end.end c.in_default.not-Step in
-    record { core = emitting.end_core p t ends c.self.inside.runs.items others c.args.owner c.args.run.now r c.in_ok-end.end is no_step sound.short; ports_are = c.self.invariant.ports_are; candidate_count = c.self.invariant.candidate_count }
+    record { core = emitting.end_core p t ends c.self.inside.runs.items others c.args.owner c.args.run.now r c.in_ok-end.end is no_step sound.short; ports_are = c.self.invariant.ports_are; readers_are = c.self.invariant.readers_are; candidate_count = c.self.invariant.candidate_count }
 
 pub returns-in-Step-clause-acts : goal.returns-in-Step-clause-acts
 returns-in-Step-clause-acts c =

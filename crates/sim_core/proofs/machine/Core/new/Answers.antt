@@ -31,6 +31,7 @@ invariant_of-result c =
       core = beginning.core_begun c.args.plan c.requires n (ap (λ (xs : List Module). length xs) c.as_slice.ensures) s c.in_ok-ends.ends.items c.in_ok-runs.runs.items c.in_ok-credits.credits.items is over
           c.in_ok-runs.ensures (c.in_ok-credits.ensures.items_if_clones_equal (λ x e. e));
       ports_are = c.in_ok-ports.ensures ∙ ap all_ports c.len.ensures;
+      readers_are = c.in_ok-readers.ensures;
       candidate_count = c.in_ok-candidates.ensures ∙ ap (λ (xs : List Module). length xs) c.as_slice.ensures;
     }
 

@@ -21,6 +21,7 @@ invariant_of-self-2 c =
     record {
       core = lending.core_lent _ _ _ c.self.inside.runs.items _ c.args.owner c.take.new.self k inside (λ run e. let no : Some run ≡ None = sym e ∙ empty in cc);
       ports_are = c.self.invariant.ports_are;
+      readers_are = c.self.invariant.readers_are;
       candidate_count = c.self.invariant.candidate_count;
     }
 
@@ -49,6 +50,7 @@ invariant_of-self-3 c =
           (same_some c.run_with-ran.new.run run e)
           (lending.run_at c.self.inside.plan c.self-2.inside.plan c.run_with-ran.new.self _ c.args.owner c.run_with-ran.new.run plan c.self-2.view_is c.run_with-ran.ensures.run));
       ports_are = c.self-2.invariant.ports_are;
+      readers_are = c.self-2.invariant.readers_are;
       candidate_count = c.self-2.invariant.candidate_count;
     }
 

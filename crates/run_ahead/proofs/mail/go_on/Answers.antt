@@ -1,0 +1,63 @@
+use Rattle.std.proofs.Common.{refl}
+use Rattle.run_ahead.proofs.Going.{stop_short, stop_over, stop_waiting, go_more}
+use Rattle.run_ahead.proofs.mail.go_on.Goals as goal
+
+pub returns-in-Err : goal.returns-in-Err
+returns-in-Err c = λ p i o s.
+    let f = c.loop-left.invariant.so_far p i o s in
+    stop_short p i c.args.mail.now o c.args.read.now c.loop-left.read c.loop-left.marks c.loop-left.run f c.emit.new.marks c.emit.new.run
+    (c.in-Err.ensures.stands p i f.at f.stands) c.in-Err.ensures.goes c.in-Err.ensures.err
+
+pub answer-requires-clause-stands : goal.answer-requires-clause-stands
+answer-requires-clause-stands c =
+    let (p, (i, (o, s))) = c.requires.stands in
+    let f = c.loop-left.invariant.so_far p i o s in
+    (p, (i, (f.at, c.in-Ok-true.ensures.stands p i f.at f.stands)))
+
+pub loop-left-preserved : goal.loop-left-preserved
+loop-left-preserved c = record {
+  so_far = λ p i o s.
+      let f = c.loop-left.invariant.so_far p i o s in
+      let t = c.in-Ok-true.ensures.stands p i f.at f.stands in
+      go_more p i c.args.mail.now o c.args.read.now c.loop-left.read c.loop-left.marks c.loop-left.run f c.emit.new.marks c.emit.new.run t _
+      c.in-Ok-true.ensures.emitted c.in-Ok-true.field-0-test c.answer.new.run c.answer.new.read
+      (c.in-Ok-true-answer.ensures.fed c.in-Ok-true-answer.field-0-test p i f.at t);
+  goes = c.in-Ok-true-answer.ensures.goes c.in-Ok-true-answer.field-0-test;
+  room = c.answer.ensures.room;
+}
+
+pub returns-in-Ok-false-answer : goal.returns-in-Ok-false-answer
+returns-in-Ok-false-answer c = λ p i o s.
+    let f = c.loop-left.invariant.so_far p i o s in
+    let t = c.in-Ok-true.ensures.stands p i f.at f.stands in
+    stop_waiting p i c.args.mail.now o c.args.read.now c.loop-left.read c.loop-left.marks c.loop-left.run f c.emit.new.marks c.emit.new.run
+    t _ c.in-Ok-true.ensures.emitted c.in-Ok-true.field-0-test _ c.answer.new.run
+    (c.in-Ok-false-answer.ensures.waiting c.in-Ok-false-answer.field-0-test)
+    (λ e. c.in-Ok-false-answer.ensures.missing c.in-Ok-false-answer.field-0-test p i f.at t)
+
+pub returns-in-Err-answer : goal.returns-in-Err-answer
+returns-in-Err-answer c = λ p i o s.
+    let f = c.loop-left.invariant.so_far p i o s in
+    let t = c.in-Ok-true.ensures.stands p i f.at f.stands in
+    stop_waiting p i c.args.mail.now o c.args.read.now c.loop-left.read c.loop-left.marks c.loop-left.run f c.emit.new.marks c.emit.new.run
+    t _ c.in-Ok-true.ensures.emitted c.in-Ok-true.field-0-test _ c.answer.new.run
+    c.in-Err-answer.ensures.err (λ e. cc)
+
+pub returns : goal.returns
+returns c = λ p i o s.
+    let f = c.loop-left.invariant.so_far p i o s in
+    stop_short p i c.args.mail.now o c.args.read.now c.loop-left.read c.loop-left.marks c.loop-left.run f c.loop-left.marks c.loop-left.run
+    f.stands c.loop-left.invariant.goes refl
+
+pub emit-requires-clause-stands : goal.emit-requires-clause-stands
+emit-requires-clause-stands c =
+    let (p, (i, (o, s))) = c.requires.stands in
+    let f = c.loop-left.invariant.so_far p i o s in
+    (p, (i, (f.at, f.stands)))
+
+pub returns-in-Ok-false : goal.returns-in-Ok-false
+returns-in-Ok-false c = λ p i o s.
+    let f = c.loop-left.invariant.so_far p i o s in
+    let t = c.in-Ok-false.ensures.stands p i f.at f.stands in
+    stop_over p i c.args.mail.now o c.args.read.now c.loop-left.read c.loop-left.marks c.loop-left.run f c.emit.new.marks c.emit.new.run t _
+    c.in-Ok-false.ensures.emitted c.in-Ok-false.field-0-test

@@ -1,0 +1,97 @@
+-- What a run reads off its mail, and how it goes on by it from rest to rest.
+use Rattle.std.specs.Prelude.{◌≡◌, ℕ, suc, ◌+◌, ◌⊎◌, Bool, true, false, cond, List, [], ◌∷◌, length, replicate, Option, None, Some}
+use Rattle.std.specs.Prelude.{slice_get, slice_set, slice_index_or}
+use Rattle.flow_word.specs.declared.access.Access.{Access}
+use Rattle.flow_word.specs.declared.access.Kind.{Kind}
+use Rattle.flow_design.specs.declared.plan.Plan.{Plan}
+use Rattle.flow_design.specs.declared.state.Advance.{Advance}
+use Rattle.flow_design.specs.declared.state.Reply.{Reply}
+use Rattle.lockstep_defs.specs.OwnRun.{Own}
+use Rattle.module_interp.specs.declared.run.ModuleRun.{ModuleRun}
+use Rattle.module_interp.specs.OwnRests.{next_rest, accesses_at, mark_at}
+use Rattle.module_interp.specs.Runs.{StandsAt, waits, is_step, IsSoundMark}
+use Rattle.flow_word.specs.Kinds.{is_blocking}
+use Rattle.engine_view.specs.Held.{queries_in}
+use Rattle.run_ahead.specs.declared.mail.Mail.{Mail}
+use Rattle.run_ahead.specs.declared.mail.Task.{Task}
+use Rattle.run_ahead.specs.declared.mail.Burst.{Burst}
+use Rattle.run_ahead.specs.Replies.{reply_now, put_first, has_value}
+
+-- ---- replies
+
+-- the values of a channel
+abbrev pub values_on : Mail → ℕ → List ℕ
+values_on mail c = slice_index_or mail.values c []
+
+-- the next value of a channel, of whose values so many were taken
+abbrev pub next_value : Mail → List ℕ → ℕ → Option ℕ
+next_value mail taken c = slice_get (values_on mail c) (slice_index_or taken c 0)
+
+-- so many outcomes are read behind this access
+abbrev pub told_by : Kind → ℕ → ℕ
+told_by kind told = cond (is_blocking kind) told (suc told)
+
+-- the replies to a step's accesses, of a mail of which so many outcomes and so many values of each channel were taken before the
+-- step; None where one of them is not in the mail
+abbrev pub replies_in : Mail → ℕ → List ℕ → List Access → Option (List Reply)
+replies_in mail told taken [] = Some []
+replies_in mail told taken (a ∷ as') =
+    put_first (reply_now a.kind (slice_get mail.outcomes told) (next_value mail taken a.channel))
+    (replies_in mail (told_by a.kind told) taken as')
+
+-- one value more of a channel is taken
+abbrev pub one_more : List ℕ → ℕ → List ℕ
+one_more taken c = slice_set taken c (suc (slice_index_or taken c 0))
+
+-- so many values of each channel are taken behind a step with these replies
+abbrev pub taken_after : List ℕ → List Access → List Reply → List ℕ
+taken_after taken [] rs = taken
+taken_after taken (a ∷ as') [] = taken
+taken_after taken (a ∷ as') (r ∷ rs) = taken_after (cond (has_value r) (one_more taken a.channel) taken) as' rs
+
+-- nothing of a mail is taken
+abbrev pub none_taken : Mail → List ℕ
+none_taken mail = replicate (length mail.values) 0
+
+-- ---- bursts
+
+-- the run waits at the step of a rest, and only want of memory stops it where the replies are in the mail
+pub record IsWaiting (p : Plan) (m : ℕ) (mail : Mail) (short : Bool) (run : ModuleRun) (o : Own) (told : ℕ) (taken : List ℕ) : Type 0 where
+  pub stands : StandsAt p m o run
+  pub waits : waits run ≡ true
+  pub missing : short ≡ false → replies_in mail told taken (accesses_at p m o) ≡ None
+
+-- it goes on from a rest whose mark it has not given
+pub record IsGoing (p : Plan) (m : ℕ) (run : ModuleRun) (o : Own) : Type 0 where
+  pub stands : StandsAt p m o run
+  pub goes : waits run ≡ false
+
+-- behind the step of a rest it gives these marks: none, and it waits there; or it has its replies, and goes on
+abbrev pub IsAtStep : Plan → ℕ → Mail → Bool → ModuleRun → Own → ℕ → List ℕ → List Advance → (Own → ℕ → List ℕ → Type 0) → Type 0
+IsAtStep p m mail short run o told taken marks next =
+    ((marks ≡ []) × IsWaiting p m mail short run o told taken)
+    ⊎ ((rs : List Reply) × ((replies_in mail told taken (accesses_at p m o) ≡ Some rs)
+    × next (next_rest p m o rs) (told + queries_in (accesses_at p m o)) (taken_after taken (accesses_at p m o) rs)))
+
+-- behind the mark of a rest, which is a step or not
+abbrev pub IsPast : Bool → Plan → ℕ → Mail → Bool → ModuleRun → Own → ℕ → List ℕ → List Advance → (Own → ℕ → List ℕ → Type 0) → Type 0
+IsPast true p m mail short run o told taken marks next = IsAtStep p m mail short run o told taken marks next
+IsPast false p m mail short run o told taken marks next = (marks ≡ []) × IsGoing p m run o
+
+-- from a rest on it gives these marks; it stops before the first only for want of memory
+abbrev pub GoesOn : Plan → ℕ → Mail → Bool → ModuleRun → Own → ℕ → List ℕ → List Advance → Type 0
+GoesOn p m mail short run o told taken [] = IsGoing p m run o × (short ≡ true)
+GoesOn p m mail short run o told taken (mark ∷ more) =
+    (mark ≡ mark_at p m o) × IsSoundMark (length o.steps) mark
+    × IsPast (is_step mark) p m mail short run o told taken more (λ o' told' taken'. GoesOn p m mail short run o' told' taken' more)
+
+-- the run came to this rest, and waits there or not
+abbrev pub IsBurstFrom : Bool → Plan → ℕ → Own → Mail → Burst → Type 0
+IsBurstFrom true p m o mail burst =
+    IsAtStep p m mail burst.short burst.run o 0 (none_taken mail) burst.emitted
+    (λ o' told taken. GoesOn p m mail burst.short burst.run o' told taken burst.emitted)
+IsBurstFrom false p m o mail burst = GoesOn p m mail burst.short burst.run o 0 (none_taken mail) burst.emitted
+
+-- a burst of a task whose run stands at this rest
+abbrev pub IsBurst : Plan → ℕ → Own → Task → Burst → Type 0
+IsBurst p m o task burst = IsBurstFrom (waits task.run) p m o task.mail burst

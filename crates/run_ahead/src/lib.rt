@@ -1,0 +1,6 @@
+//! How far a module's run goes on what it is given beforehand: the outcomes of its queries, and the values of its pops.
+#![tactic(auto)]
+
+mod mail;
+
+pub use mail::{Burst, Mail, Task, has_replies, reply_to, work};

@@ -1,0 +1,332 @@
+-- A burst on a mail is a list of permitted Runs.
+use Rattle.std.proofs.Common.{◌≡◌, refl, sym, ap, ap₂, subst, ◌∙◌, ℕ, suc, ◌+◌, ◌<◌, Bool, true, false, not, cond, ◌||◌, List, [], ◌∷◌}
+use Rattle.std.proofs.Common.{length, map, drop, Some, slice_get, slice_index_or, inl, inr, arith}
+use Rattle.std.proofs.lemmas.Bool.{cases_Bool, cond-true, cond-false}
+use Rattle.std.proofs.lemmas.Option.{slice_get_within, get_or_from_slice_get, slice_get-get_or}
+use Rattle.flow_word.specs.declared.access.Access.{Access}
+use Rattle.flow_word.specs.declared.access.Side.TheVariants.{Pop}
+use Rattle.flow_word.specs.declared.access.Step.{Step as StepOf}
+use Rattle.flow_design.specs.declared.plan.Plan.{Plan}
+use Rattle.flow_design.specs.declared.state.Advance.{Advance}
+use Rattle.flow_design.specs.declared.state.Advance.TheVariants.{Step, Ended, Spent}
+use Rattle.flow_design.specs.declared.state.ModuleState.{ModuleState}
+use Rattle.flow_design.specs.declared.state.Reply.{Reply}
+use Rattle.flow_design.specs.declared.state.Request.{Request}
+use Rattle.flow_design.specs.StaticRules.{FitsEngine}
+use Rattle.lockstep_defs.specs.Lockstep.{requests_of}
+use Rattle.lockstep_defs.specs.Machine.{is_over, is_spent}
+use Rattle.lockstep_defs.specs.OwnRun.{Own, access_of}
+use Rattle.module_interp.specs.declared.run.ModuleRun.{ModuleRun}
+use Rattle.module_interp.specs.OwnRests.{done_in, next_rest, accesses_at, mark_at}
+use Rattle.module_interp.specs.Runs.{StandsAt, is_step}
+use Rattle.event_timing.specs.Machines.{ready, takes_in}
+use Rattle.event_timing.specs.Views.{Begins}
+use Rattle.event_timing.specs.Core.{Core, core_accesses, core_tally, core_values, values_there, has_query, bare_replies}
+use Rattle.event_timing.specs.Actions.{runs, ActsAll, MayRun, after_run, emit_over, newest}
+use Rattle.event_timing.specs.Agreement.{AreOwnMarks}
+use Rattle.event_timing.proofs.Beside.{grows_self, grows_trans}
+use Rattle.event_timing.proofs.Assigning.{put_same, put_at_same}
+use Rattle.event_timing.specs.Growth.{Grows}
+use Rattle.event_timing.proofs.Growing.{settled_all, tally_grow}
+use Rattle.event_timing.proofs.OwnRuns.{tally_more}
+use Rattle.event_timing.proofs.Running.{emit, emit_grows, newest_own, run_marks}
+use Rattle.event_timing.proofs.Values.{begins_self, begins_get, begins_length}
+use Rattle.timing_bridge.specs.Designs.{design}
+use Rattle.engine_view.specs.Held.{queries_in}
+use Rattle.run_ahead.specs.declared.mail.Mail.{Mail}
+use Rattle.sim_core.specs.Runs.{IsRunOf, rest_behind}
+use Rattle.run_ahead.specs.Mails.{values_on, next_value, replies_in, taken_after, IsWaiting, IsGoing, IsAtStep, IsPast, GoesOn}
+use Rattle.sim_core.specs.Tasks.{outcomes_in}
+use Rattle.sim_core.proofs.Mailed.{AreFound, read_is, no_query, no_outcomes_of, value_inside}
+use Rattle.run_ahead.proofs.Parts.{after_length}
+use Rattle.sim_core.proofs.Resting.{rest_is}
+use Rattle.sim_core.proofs.Staying.{fed_is, behind_same}
+
+-- ---- where a burst has come to, beside a core
+
+-- what is left of the mail's values are the next ones of the core, behind the module's first n steps
+pub record IsWindow (p : Plan) (z : Core ModuleState) (m n : ℕ) (mail : Mail) (taken : List ℕ) : Type 0 where
+  pub values : (c i v : ℕ) → slice_get (values_on mail c) (slice_index_or taken c 0 + i) ≡ Some v
+      → slice_get (core_values (design p) z c) (core_tally (design p) z m Pop c n + i) ≡ Some v
+  pub room : length taken ≡ length mail.values
+
+-- it goes on to a rest whose mark is the module's next
+pub record Goes (p : Plan) (z : Core ModuleState) (m : ℕ) (mail : Mail) (o : Own) (told : ℕ) (taken : List ℕ) : Type 0 where
+  pub may : MayRun (design p) z m
+  pub stands : o ≡ rest_behind p z m (z.emitted m)
+  pub outcomes : drop told mail.outcomes ≡ []
+  pub window : IsWindow p z m (z.emitted m) mail taken
+
+-- it waits at the module's newest step
+pub record Waits (p : Plan) (z : Core ModuleState) (m : ℕ) (mail : Mail) (o : Own) (told : ℕ) (taken : List ℕ) : Type 0 where
+  pub at : ℕ
+  pub newest : suc at ≡ z.emitted m
+  pub inside : m < length p.design.modules
+  pub lives : z.over m ≡ false
+  pub stands : o ≡ rest_behind p z m at
+  pub outcomes : drop told mail.outcomes ≡ cond (z.answered m at) (outcomes_in (requests_of p (m, z.state m at)) (z.flags m at)) []
+  pub plain : has_query (core_accesses (design p) z m at) ≡ false → z.answered m at ≡ true
+  pub window : IsWindow p z m at mail taken
+
+-- ---- from a step to the next rest
+
+module _ (p : Plan) (f : FitsEngine p) (z : Core ModuleState) (b : AreOwnMarks (design p) z) (m : ℕ) (mail : Mail) (o : Own) (told : ℕ)
+    (taken : List ℕ) (w : Waits p z m mail o told taken) (qs : List Reply) (e : replies_in mail told taken (accesses_at p m o) ≡ Some qs)
+  where
+    abbrev k : ℕ
+    k = w.at
+
+    abbrev rs : List Request
+    rs = requests_of p (m, z.state m k)
+
+    below : k < z.emitted m
+    below = let n = w.newest in omega arith
+
+    asked : accesses_at p m o ≡ map (access_of (done_in o.steps)) rs
+    asked =
+        let g = rest_is p f z b m w.inside k k (omega arith) (let l = below in omega arith) in
+        let state : o.state ≡ z.state m k = ap (λ (q : Own). q.state) w.stands ∙ (g.state ∙ sym (b.own_step m k below)) in
+        ap (λ (s : ModuleState). map (access_of (done_in o.steps)) (requests_of p (m, s))) state
+
+    read : replies_in mail told taken (map (access_of (done_in o.steps)) rs) ≡ Some qs
+    read = sym (ap (replies_in mail told taken) asked) ∙ e
+
+    answered : z.answered m k ≡ true
+    answered =
+        elim (cases_Bool (z.answered m k)) [
+          | inl a ↦ a
+          | inr a ↦ w.plain (no_query mail told taken (done_in o.steps) rs qs
+              (w.outcomes ∙ cond-false (z.answered m k) (outcomes_in rs (z.flags m k)) [] a) read)
+        ]
+
+    found : AreFound mail told taken (done_in o.steps) (core_values (design p) z) (λ c. core_tally (design p) z m Pop c k) rs
+        (z.flags m k) qs
+    found =
+        read_is mail taken (done_in o.steps) (core_values (design p) z) (λ c. core_tally (design p) z m Pop c k) window room told rs
+        (z.flags m k) (b.fit m k below)
+        (w.outcomes ∙ cond-true (z.answered m k) (outcomes_in rs (z.flags m k)) [] answered) qs read
+      where
+        window : (c v : ℕ) → next_value mail taken c ≡ Some v → slice_get (core_values (design p) z c)
+            (core_tally (design p) z m Pop c k) ≡ Some v
+        window c v y =
+            let z1 : slice_index_or taken c 0 + 0 ≡ slice_index_or taken c 0 = omega arith in
+            let z2 : core_tally (design p) z m Pop c k + 0 ≡ core_tally (design p) z m Pop c k = omega arith in
+            sym (ap (slice_get (core_values (design p) z c)) z2) ∙ w.window.values c 0 v (ap (slice_get (values_on mail c)) z1 ∙ y)
+
+        room : (c v : ℕ) → next_value mail taken c ≡ Some v → c < length taken
+        room c v y = let l = value_inside mail.values c (slice_index_or taken c 0) v y in let r = w.window.room in omega arith
+
+    pub goes_on : Goes p z m mail (next_rest p m o qs) (told + queries_in (accesses_at p m o)) (taken_after taken (accesses_at p m o) qs)
+    goes_on = record {
+      may = record {
+        inside = w.inside;
+        lives = w.lives;
+        answered = λ j y. subst (λ (i : ℕ). z.answered m i ≡ true) (let n = w.newest in omega arith) answered;
+        there = λ j y. subst (λ (i : ℕ). values_there (design p) z m i ≡ true) (let n = w.newest in omega arith) found.there;
+      };
+      stands = ap₂ (next_rest p m) w.stands found.are ∙ (sym (fed_is p z m k) ∙ ap (rest_behind p z m) w.newest);
+      outcomes = ap (λ (xs : List Access). drop (told + queries_in xs) mail.outcomes) asked ∙ found.all_told;
+      window = subst (λ (n : ℕ). IsWindow p z m n mail (taken_after taken (accesses_at p m o) qs)) w.newest (record {
+        values = λ c i v y.
+            let count = ap (λ (xs : List Access). slice_index_or (taken_after taken xs qs) c 0) asked ∙ found.counts taken refl c in
+            let more = tally_more (core_accesses (design p) z m) (λ j. bare_replies (z.flags m j)) Pop c k in
+            let t = takes_in Pop c (core_accesses (design p) z m k) (bare_replies (z.flags m k)) in
+            let from : slice_index_or (taken_after taken (accesses_at p m o) qs) c 0 + i ≡ slice_index_or taken c 0 + (t + i) =
+            omega arith in
+            let to : core_tally (design p) z m Pop c (suc k) + i ≡ core_tally (design p) z m Pop c k + (t + i) = omega arith in
+            ap (slice_get (core_values (design p) z c)) to ∙ w.window.values c (t + i) v (sym (ap (slice_get (values_on mail c)) from) ∙ y);
+        room = after_length (accesses_at p m o) qs taken ∙ w.window.room;
+      });
+    }
+
+-- ---- the mark of a rest
+
+mark_is : (a b : Bool) (n : ℕ) (s : StepOf) → is_step (cond a (Ended n) (cond b (Spent n) (Step s))) ≡ not (a || b)
+mark_is true b n s = refl
+mark_is false true n s = refl
+mark_is false false n s = refl
+
+over_of_mark : (p : Plan) (m : ℕ) (o : Own) → is_step (mark_at p m o) ≡ not (is_over p.ops o.state)
+unfolding is_over
+over_of_mark p m o = mark_is o.state.ended (is_spent p.ops o.state) o.since _
+
+over_grows : (p : Plan) (z : Core ModuleState) (m : ℕ) → Grows (design p) z (emit_over z m)
+over_grows p z m = record {
+  emitted_up = λ n. omega arith;
+  state_same = λ n k l. refl;
+  wait_same = λ n k l. refl;
+  flags_same = λ n k l v. refl;
+  answered_up = λ n k l v. v;
+  values_up = λ c. begins_self (core_values (design p) z c);
+}
+
+pub get_begins : (xs ys : List ℕ) (i v : ℕ) → Begins xs ys → slice_get ys i ≡ Some v → slice_get xs i ≡ Some v
+get_begins xs ys i v g e =
+    let l = slice_get_within ys i v e in
+    let l' = begins_length xs ys g in
+    slice_get-get_or xs i 0 (omega arith) ∙ ap Some (begins_get xs ys i g l ∙ get_or_from_slice_get ys i v 0 e)
+
+module _ (p : Plan) (f : FitsEngine p) (z : Core ModuleState) (b : AreOwnMarks (design p) z) (m : ℕ) (mail : Mail) (o : Own) (told : ℕ)
+    (taken : List ℕ) (g : Goes p z m mail o told taken) where
+  -- the core behind the Run
+  abbrev after : Core ModuleState
+  after = after_run (design p) z m
+
+  pub over_is : is_step (mark_at p m o) ≡ not ((design p).is_over m (ready (design p) m (newest (design p) z m)))
+  over_is =
+      let d = design p in
+      let r = rest_is p f z b m g.may.inside (z.emitted m) (z.emitted m) (omega arith) (omega arith) in
+      let state : o.state ≡ ready d m (newest d z m) =
+      ap (λ (q : Own). q.state) g.stands ∙ (r.state ∙ ap (ready d m) (sym (newest_own d z b m (z.emitted m) (omega arith)))) in
+      over_of_mark p m o ∙ ap (λ (s : ModuleState). not (is_over p.ops s)) state
+
+  abbrev is_last : Bool
+  is_last = (design p).is_over m (ready (design p) m (newest (design p) z m))
+
+  pub over_behind : is_step (mark_at p m o) ≡ false → after ≡ emit_over z m
+  over_behind e = cond-true is_last (emit_over z m) (emit (design p) z m) (not_false is_last (sym over_is ∙ e))
+    where
+      not_false : (a : Bool) → not a ≡ false → a ≡ true
+      not_false true e = refl
+      not_false false e = cc
+
+  pub step_behind : is_step (mark_at p m o) ≡ true → after ≡ emit (design p) z m
+  step_behind e = cond-false is_last (emit_over z m) (emit (design p) z m) (not_true is_last (sym over_is ∙ e))
+    where
+      not_true : (a : Bool) → not a ≡ true → a ≡ false
+      not_true true e = cc
+      not_true false e = refl
+
+  -- the step that the Run emits
+  step_there : Waits p (emit (design p) z m) m mail o told taken
+  step_there =
+      let d = design p in
+      let n = z.emitted m in
+      let y = emit d z m in
+      let grow = emit_grows d z m in
+      let settled = settled_all d z b m g.may.answered g.may.there in
+      let s = ready d m (newest d z m) in
+      let answered : y.answered m n ≡ not (has_query (d.accesses m s)) = put_at_same z.answered m n (not (has_query (d.accesses m s))) in
+      let state : y.state m n ≡ s = put_at_same z.state m n s in
+      record {
+        at = n;
+        newest = sym (put_same z.emitted m (suc n));
+        inside = g.may.inside;
+        lives = g.may.lives;
+        stands = g.stands ∙ sym (behind_same p z y grow m n settled);
+        outcomes = g.outcomes ∙ sym (none y n (answered ∙ ap (λ (q : ModuleState). not (has_query (d.accesses m q))) (sym state)));
+        plain = λ e. answered ∙ (ap (λ (q : ModuleState). not (has_query (d.accesses m q))) (sym state) ∙ ap not e);
+        window = record {
+          values = λ c i v e.
+              let same = tally_grow d z y grow m n (λ k l. settled.emitted k l) (λ k l. settled.answered k l) Pop c in
+              ap (λ (t : ℕ). slice_get (core_values d y c) (t + i)) same
+              ∙ get_begins (core_values d y c) (core_values d z c) (core_tally d z m Pop c n + i) v (grow.values_up c)
+              (g.window.values c i v e);
+          room = g.window.room;
+        };
+      }
+    where
+      none : (y : Core ModuleState) (n : ℕ) → y.answered m n ≡ not (has_query (core_accesses (design p) y m n))
+          → cond (y.answered m n) (outcomes_in (requests_of p (m, y.state m n)) (y.flags m n)) [] ≡ []
+      none y n e =
+          elim (cases_Bool (has_query (core_accesses (design p) y m n))) [
+            | inl k ↦ cond-false (y.answered m n) (outcomes_in (requests_of p (m, y.state m n)) (y.flags m n)) [] (e ∙ ap not k)
+            | inr k ↦ cond-true (y.answered m n) (outcomes_in (requests_of p (m, y.state m n)) (y.flags m n)) [] (e ∙ ap not k)
+                ∙ no_outcomes_of (requests_of p (m, y.state m n)) (y.flags m n) k
+          ]
+
+  pub waits_behind : is_step (mark_at p m o) ≡ true → Waits p after m mail o told taken
+  waits_behind e = subst (λ (y : Core ModuleState). Waits p y m mail o told taken) (sym (step_behind e)) step_there
+
+  pub run_grows : Grows (design p) z after
+  run_grows =
+      elim (cases_Bool (is_step (mark_at p m o))) [
+        | inl e ↦ subst (Grows (design p) z) (sym (step_behind e)) (emit_grows (design p) z m)
+        | inr e ↦ subst (Grows (design p) z) (sym (over_behind e)) (over_grows p z m)
+      ]
+
+-- ---- where a run stands
+
+pub going_stands : (p : Plan) (z : Core ModuleState) (m : ℕ) (mail : Mail) (o : Own) (told : ℕ) (taken : List ℕ) (run : ModuleRun)
+    → Goes p z m mail o told taken → IsGoing p m run o → IsRunOf p z m run
+going_stands p z m mail o told taken run g s = record {
+  waiting = λ w. let e = sym w ∙ s.goes in cc;
+  going = λ w. (λ k e. (g.may.answered k e, g.may.there k e), subst (λ (q : Own). StandsAt p m q run) g.stands s.stands);
+  over = λ e. s.goes;
+}
+
+pub waiting_stands : (p : Plan) (z : Core ModuleState) (m : ℕ) (mail : Mail) (o : Own) (told : ℕ) (taken : List ℕ) (short : Bool)
+    (run : ModuleRun) → Waits p z m mail o told taken → IsWaiting p m mail short run o told taken
+    → IsRunOf p z m run
+waiting_stands p z m mail o told taken short run w s = record {
+  waiting = λ y. (w.at, w.newest, subst (λ (q : Own). StandsAt p m q run) w.stands s.stands);
+  going = λ y. let e = sym y ∙ s.waits in cc;
+  over = λ e. let y = sym e ∙ w.lives in cc;
+}
+
+pub over_stands : (p : Plan) (z : Core ModuleState) (m : ℕ) (mail : Mail) (o : Own) (told : ℕ) (taken : List ℕ) (run : ModuleRun)
+    → Goes p z m mail o told taken → IsGoing p m run o → IsRunOf p (emit_over z m) m run
+over_stands p z m mail o told taken run g s =
+    let r = going_stands p z m mail o told taken run g s in
+    record {
+      waiting = λ w. let e = sym w ∙ s.goes in cc;
+      going = λ w. (λ k e. (g.may.answered k e, g.may.there k e), (r.going w).1);
+      over = λ e. s.goes;
+    }
+
+-- ---- bursts
+
+-- so many Runs are permitted, and lead to a core beside which the run stands
+pub record Ran (p : Plan) (z : Core ModuleState) (m n : ℕ) (run : ModuleRun) : Type 0 where
+  pub core : Core ModuleState
+  pub acts : ActsAll (design p) p.cycles z (runs n m) core
+  pub grows : Grows (design p) z core
+  pub stands : IsRunOf p core m run
+
+-- one Run more, before the others
+ran_more : (p : Plan) (z : Core ModuleState) (m n : ℕ) (run : ModuleRun) → MayRun (design p) z m
+    → Grows (design p) z (after_run (design p) z m) → Ran p (after_run (design p) z m) m n run → Ran p z m (suc n) run
+ran_more p z m n run may g r = record {
+  core = r.core;
+  acts = (after_run (design p) z m, (may, refl), r.acts);
+  grows = grows_trans (design p) z (after_run (design p) z m) r.core g r.grows;
+  stands = r.stands;
+}
+
+pub ran_none : (p : Plan) (z : Core ModuleState) (m : ℕ) (run : ModuleRun) → IsRunOf p z m run → Ran p z m 0 run
+ran_none p z m run s = record { core = z; acts = refl; grows = grows_self (design p) z; stands = s }
+
+pub run_on : (p : Plan) → FitsEngine p → (z : Core ModuleState) → AreOwnMarks (design p) z
+    → (m : ℕ) (mail : Mail) (short : Bool) (run : ModuleRun) (o : Own) (told : ℕ) (taken : List ℕ) (marks : List Advance)
+    → Goes p z m mail o told taken → GoesOn p m mail short run o told taken marks → Ran p z m (length marks) run
+run_on p f z b m mail short run o told taken [] g (s, e) = ran_none p z m run (going_stands p z m mail o told taken run g s)
+run_on p f z b m mail short run o told taken (mark ∷ more) g (e, sound, past) =
+    let y = after_run (design p) z m in
+    ran_more p z m (length more) run g.may (run_grows p f z b m mail o told taken g)
+    (elim (cases_Bool (is_step mark)) [
+      | inl s ↦ behind (λ o' told' taken' g' next. run_on p f y (run_marks (design p) z b m g.may) m mail short run o' told' taken' more g'
+          next) (waits_behind p f z b m mail o told taken g (ap is_step (sym e) ∙ s))
+          (subst (λ (c : Bool). IsPast c p m mail short run o told taken more
+          (λ o' told' taken'. GoesOn p m mail short run o' told' taken' more)) s past)
+      | inr s ↦ last (over_behind p f z b m mail o told taken g (ap is_step (sym e) ∙ s))
+          (subst (λ (c : Bool). IsPast c p m mail short run o told taken more
+          (λ o' told' taken'. GoesOn p m mail short run o' told' taken' more)) s past)
+    ])
+  where
+    last : after_run (design p) z m ≡ emit_over z m → (more ≡ []) × IsGoing p m run o → Ran p (after_run (design p) z m) m (length more) run
+    last e (n, s) =
+        subst (λ (y : Core ModuleState). Ran p y m (length more) run) (sym e)
+        (subst (λ (xs : List Advance). Ran p (emit_over z m) m (length xs) run) (sym n)
+        (ran_none p (emit_over z m) m run (over_stands p z m mail o told taken run g s)))
+
+    behind : ((o' : Own) (told' : ℕ) (taken' : List ℕ) → Goes p (after_run (design p) z m) m mail o' told' taken'
+        → GoesOn p m mail short run o' told' taken' more → Ran p (after_run (design p) z m) m (length more) run)
+        → Waits p (after_run (design p) z m) m mail o told taken → IsAtStep p m mail short run o told taken more
+        (λ o' told' taken'. GoesOn p m mail short run o' told' taken' more)
+        → Ran p (after_run (design p) z m) m (length more) run
+    behind again w (inl (n, s)) =
+        subst (λ (xs : List Advance). Ran p (after_run (design p) z m) m (length xs) run) (sym n)
+        (ran_none p (after_run (design p) z m) m run (waiting_stands p (after_run (design p) z m) m mail o told taken short run w s))
+    behind again w (inr (qs, (r, next))) =
+        again (next_rest p m o qs) (told + queries_in (accesses_at p m o)) (taken_after taken (accesses_at p m o) qs)
+        (goes_on p f (after_run (design p) z m) (run_marks (design p) z b m g.may) m mail o told taken w qs r) next

@@ -1,0 +1,140 @@
+-- A core that lends a run.
+use Rattle.std.proofs.Common.{◌≡◌, refl, sym, ap, subst, ◌∙◌, ℕ, zero, suc, ◌<◌, true, false, cond, inl, inr, List, [], ◌∷◌}
+use Rattle.std.proofs.Common.{length, get_or, set, slice_index, Option, Some, None, IfSome, IsNone, is_none}
+use Rattle.std.proofs.lemmas.Bool.{cases_Bool, cond-true, cond-false}
+use Rattle.std.proofs.lemmas.List.{map-set}
+use Rattle.flow_word.specs.declared.access.Access.{Access}
+use Rattle.flow_word.specs.declared.access.Side.TheVariants.{Pop}
+use Rattle.flow_design.specs.declared.plan.Plan.{Plan}
+use Rattle.flow_design.specs.declared.state.Advance.{Advance}
+use Rattle.flow_design.specs.declared.state.Reply.{Reply}
+use Rattle.lockstep_defs.specs.Channels.{moved_by}
+use Rattle.lockstep_defs.specs.OwnRun.{Own}
+use Rattle.lockstep_defs.specs.Report.{queries}
+use Rattle.module_interp.specs.declared.run.ModuleRun.{ModuleRun}
+use Rattle.module_interp.specs.OwnRests.{done_in, accesses_at}
+use Rattle.module_interp.specs.Runs.{StandsAt, waits}
+use Rattle.query_log.specs.Logs.{log_at}
+use Rattle.event_timing.specs.Actions.{MayRun}
+use Rattle.timing_bridge.specs.Designs.{design}
+use Rattle.engine_view.specs.Held.{Held, emitted_of, core_of}
+use Rattle.engine_view.specs.Stored.{Stored, held_in}
+use Rattle.run_ahead.specs.declared.mail.Mail.{Mail}
+use Rattle.run_ahead.specs.Mails.{replies_in, none_taken}
+use Rattle.sim_core.specs.Lent.{IsMade}
+use Rattle.sim_core.specs.Readers.{AreReaders}
+use Rattle.sim_core.specs.Runs.{IsCore, IsRunOf, rest_behind, lent_of, over_of}
+use Rattle.sim_core.specs.Tasks.{IsTaskOf}
+use Rattle.sim_core.proofs.Marking.{table_count}
+use Rattle.sim_core.proofs.Posted.{going_posted, waiting_posted, not_posted}
+
+-- ---- which are lent
+
+pub lent_more : (rs : List (Option ModuleRun)) (m : ℕ) → lent_of (set rs m None) ≡ set (lent_of rs) m true
+lent_more rs m = map-set is_none rs m None
+
+pub not_lent : (rs : List (Option ModuleRun)) (m : ℕ) (run : ModuleRun) → get_or rs m None ≡ Some run → get_or (lent_of rs) m true ≡ false
+not_lent [] zero run e = cc
+not_lent [] (suc m) run e = cc
+not_lent (None ∷ rs) zero run e = cc
+not_lent (Some r ∷ rs) zero run e = refl
+not_lent (r ∷ rs) (suc m) run e = not_lent rs m run e
+
+pub is_lent : (rs : List (Option ModuleRun)) (m : ℕ) → get_or rs m None ≡ None → get_or (lent_of rs) m true ≡ true
+is_lent [] zero e = refl
+is_lent [] (suc m) e = refl
+is_lent (None ∷ rs) zero e = refl
+is_lent (Some r ∷ rs) zero e = cc
+is_lent (r ∷ rs) (suc m) e = is_lent rs m e
+
+-- ---- what was read
+
+-- where a run is at hand, what it counted, and what it waits for
+pub record IsAtHand (p : Plan) (s : Stored) (ends : List (Option Advance)) (runs : List (Option ModuleRun)) (credits : List ℕ) (m : ℕ)
+    (run : ModuleRun) (readers : List ℕ) (first : ℕ) (popped : List ℕ) (accesses : List Access) : Type 0 where
+  pub core : IsCore p s ends runs credits
+  pub inside : m < length p.design.modules
+  pub lives : get_or (over_of ends) m false ≡ false
+  pub here : get_or runs m None ≡ Some run
+  pub readers_are : AreReaders p readers
+  pub first_is : (q : Plan) (i : ℕ) (o : Own) → StandsAt q i o run → first ≡ length (queries (done_in o.steps))
+  pub popped_are : (q : Plan) (i : ℕ) (o : Own) → StandsAt q i o run → (f : ℕ) → f < length q.design.channels
+      → slice_index popped f ≡ length (moved_by Pop f (done_in o.steps))
+  pub accesses_are : (q : Plan) (i : ℕ) (o : Own) → StandsAt q i o run → accesses ≡ cond (waits run) (accesses_at q i o) []
+
+module _ (p : Plan) (s : Stored) (ends : List (Option Advance)) (runs : List (Option ModuleRun)) (credits : List ℕ) (m : ℕ)
+    (run : ModuleRun) (readers : List ℕ) (first : ℕ) (popped : List ℕ) (xs : List Access)
+    (k : IsAtHand p s ends runs credits m run readers first popped xs) where
+  abbrev h : Held
+  h = held_in s (over_of ends)
+
+  run_is : IsRunOf p (core_of (design p) h) m run
+  run_is = k.core.runs_are m run k.here
+
+  module _ (mail : Mail) (made : IsMade (log_at h.logs m).outcomes h.channels readers m first popped xs mail) where
+    pub task_lent : (qs : List Reply) × (replies_in mail 0 (none_taken mail) xs ≡ Some qs)
+        → IsTaskOf p (core_of (design p) h) m (record { run = run; mail = mail })
+    task_lent (qs, q) =
+        elim (cases_Bool (waits run)) [
+          | inl w ↦
+              let (j, ej, st) = run_is.waiting w in
+              let o = rest_behind p (core_of (design p) h) m j in
+              waiting_posted p k.core.fits h k.core.table k.core.sound k.core.agreed.marks m k.inside k.lives run run_is readers
+              k.readers_are first popped xs mail made w j ej
+              (k.accesses_are p m o st ∙ cond-true (waits run) (accesses_at p m o) [] w) (k.first_is p m o st) (k.popped_are p m o st) qs q
+          | inr w ↦
+              let (answered, st) = run_is.going w in
+              let o = rest_behind p (core_of (design p) h) m (emitted_of h m) in
+              going_posted p k.core.fits h k.core.table k.core.sound k.core.agreed.marks m k.inside k.lives run run_is readers
+              k.readers_are first popped xs mail made w
+              (k.accesses_are p m o st ∙ cond-false (waits run) (accesses_at p m o) [] w) (k.popped_are p m o st)
+        ]
+
+    pub none_lent : replies_in mail 0 (none_taken mail) xs ≡ None → MayRun (design p) (core_of (design p) h) m → ⊥
+    none_lent n may =
+        elim (cases_Bool (waits run)) [
+          | inl w ↦
+              let (j, ej, st) = run_is.waiting w in
+              let o = rest_behind p (core_of (design p) h) m j in
+              not_posted p k.core.fits h k.core.table k.core.sound k.core.agreed.marks m k.inside k.lives run run_is readers
+              k.readers_are first popped xs mail made w j ej
+              (k.accesses_are p m o st ∙ cond-true (waits run) (accesses_at p m o) [] w) (k.first_is p m o st) (k.popped_are p m o st) n
+              may
+          | inr w ↦
+              let (answered, st) = run_is.going w in
+              let o = rest_behind p (core_of (design p) h) m (emitted_of h m) in
+              let none = k.accesses_are p m o st ∙ cond-false (waits run) (accesses_at p m o) [] w in
+              let z = sym (ap (replies_in mail 0 (none_taken mail)) none) ∙ n in cc
+        ]
+
+-- the run's counts are one for each channel of the table
+pub popped_count : (p : Plan) (s : Stored) (ends : List (Option Advance)) (runs : List (Option ModuleRun)) (credits : List ℕ)
+    → IsCore p s ends runs credits → (m : ℕ) (run : ModuleRun) → get_or runs m None ≡ Some run → (popped : List ℕ)
+    → ((q : Plan) (i : ℕ) (o : Own) → StandsAt q i o run → length popped ≡ length q.design.channels)
+    → length popped ≡ length s.table.channels
+popped_count p s ends runs credits k m run e popped count =
+    let r = k.runs_are m run e in
+    let x = core_of (design p) (held_in s (over_of ends)) in
+    elim (cases_Bool (waits run)) [
+      | inl w ↦ let (j, ej, st) = r.waiting w in
+          count p m (rest_behind p x m j) st ∙ sym (table_count p s.table.channels k.table)
+      | inr w ↦ let (answered, st) = r.going w in
+          count p m (rest_behind p x m (x.emitted m)) st ∙ sym (table_count p s.table.channels k.table)
+    ]
+
+-- ---- answers
+
+pub same_run : (a b : ModuleRun) (r : Option ModuleRun) → r ≡ Some a → r ≡ Some b → a ≡ b
+same_run a b None e f = cc
+same_run a b (Some c) e f = cc
+
+pub some_at : (Q : Mail → Type 0) (r : Option Mail) (mail : Mail) → r ≡ Some mail → IfSome r Q → Q mail
+some_at Q None mail e q = cc
+some_at Q (Some z) mail e q = subst Q (is_mail z mail e) q
+  where
+    is_mail : (a b : Mail) → Some a ≡ Some b → a ≡ b
+    is_mail a b e = cc
+
+pub none_at : (r : Option Mail) (Q : Type 0) → r ≡ None → (IsNone r → Q) → Q
+none_at None Q e q = q refl
+none_at (Some z) Q e q = cc

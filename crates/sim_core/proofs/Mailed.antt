@@ -1,0 +1,293 @@
+-- The replies that are read off a mail are those that the core tells.
+use Rattle.std.proofs.Common.{◌≡◌, refl, sym, ap, ap₂, subst, ◌∙◌, ℕ, zero, suc, ◌+◌, ◌<◌, Bool, true, false, not, cond, eqb, ltb, ◌&&◌}
+use Rattle.std.proofs.Common.{◌||◌, List, [], ◌∷◌, length, map, drop, get_or, Option, Some, None, slice_get, slice_index_or, inl, inr}
+use Rattle.std.proofs.Common.{arith}
+use Rattle.std.proofs.lemmas.Bool.{cases_Bool, and_from, lt-ltb}
+use Rattle.std.proofs.lemmas.Bool.Decides.{eqb_tells}
+use Rattle.std.proofs.lemmas.List.{get_or-set_same, get_or-set_other}
+use Rattle.std.proofs.lemmas.Option.{slice_get_within, get_or_from_slice_get}
+use Rattle.flow_word.specs.declared.access.Kind.{Kind}
+use Rattle.flow_word.specs.declared.access.Kind.TheVariants.{Read, Write, TryRead, TryWrite, Empty, Full}
+use Rattle.flow_design.specs.declared.state.Reply.{Reply}
+use Rattle.flow_design.specs.declared.state.Reply.TheVariants.{Done, Value, Flag, Took, Missed}
+use Rattle.flow_design.specs.declared.state.Request.{Request}
+use Rattle.lockstep_defs.specs.Channels.{Exchange, reply_by}
+use Rattle.lockstep_defs.specs.OwnRun.{access_of}
+use Rattle.flow_word.specs.Kinds.{same_side, side_of, is_blocking, is_taking}
+use Rattle.flow_word.specs.declared.access.Side.TheVariants.{Pop}
+use Rattle.event_timing.specs.Machines.{takes_in}
+use Rattle.event_timing.specs.Core.{replies_of, all_below, bare_replies, has_query}
+use Rattle.event_timing.specs.Agreement.{FlagsFit}
+use Rattle.timing_bridge.specs.Designs.{told_all, seen}
+use Rattle.engine_view.specs.Held.{queries_in}
+use Rattle.engine_view.specs.Answered.{outcome_by}
+use Rattle.run_ahead.specs.declared.mail.Mail.{Mail}
+use Rattle.run_ahead.specs.Replies.{reply_now, put_first, has_value}
+use Rattle.run_ahead.specs.Mails.{next_value, told_by, replies_in, one_more, taken_after}
+use Rattle.run_ahead.proofs.Parts.{some_is, first_parts, more_length}
+use Rattle.sim_core.specs.Tasks.{outcomes_in}
+
+-- the access takes a value
+abbrev pub pops_one : Kind → Bool → Bool
+pops_one k b = is_taking k && (same_side (side_of k) Pop && b)
+
+-- ---- one access
+
+record IsFound (k : Kind) (b : Bool) (value : Option ℕ) (front : ℕ) (q : Reply) : Type 0 where
+  pub is : q ≡ reply_by k b (cond (pops_one k b) front 0)
+  pub took : has_value q ≡ pops_one k b
+  pub there : pops_one k b ≡ true → (v : ℕ) × (value ≡ Some v)
+
+found_one : (k : Kind) (b : Bool) (outcome : Option Bool) (value : Option ℕ) (front : ℕ) (q : Reply) → (is_blocking k ≡ true → b ≡ true)
+    → (is_blocking k ≡ false → outcome ≡ Some (outcome_by k b)) → ((v : ℕ) → value ≡ Some v → front ≡ v)
+    → reply_now k outcome value ≡ Some q → IsFound k b value front q
+found_one Read true outcome None front q f o w e = cc
+found_one Read true outcome (Some v) front q f o w e = record {
+  is = sym (some_is (Value v) q e)
+      ∙ ap Value (sym (w v refl));
+  took = ap has_value (sym (some_is (Value v) q e));
+  there = λ z. (v, refl);
+}
+found_one Read false outcome value front q f o w e = let z = f refl in cc
+found_one Write b outcome value front q f o w e = record {
+  is = sym (some_is Done q e);
+  took = ap has_value (sym (some_is Done q e));
+  there = λ z. cc;
+}
+found_one TryRead true None value front q f o w e = cc
+found_one TryRead true (Some false) value front q f o w e = let z = o refl in cc
+found_one TryRead true (Some true) None front q f o w e = cc
+found_one TryRead true (Some true) (Some v) front q f o w e = record {
+  is = sym (some_is (Took v) q e)
+      ∙ ap Took (sym (w v refl));
+  took = ap has_value (sym (some_is (Took v) q e));
+  there = λ z. (v, refl);
+}
+found_one TryRead false None value front q f o w e = cc
+found_one TryRead false (Some true) value front q f o w e = let z = o refl in cc
+found_one TryRead false (Some false) value front q f o w e = record {
+  is = sym (some_is Missed q e);
+  took = ap has_value
+      (sym (some_is Missed q e));
+  there = λ z. cc;
+}
+found_one TryWrite b None value front q f o w e = cc
+found_one TryWrite b (Some c) value front q f o w e =
+    let z = some_is c b (o refl) in
+    record { is = sym (some_is (Flag c) q e) ∙ ap Flag z; took = ap has_value (sym (some_is (Flag c) q e)); there = λ y. cc }
+found_one Empty b None value front q f o w e = cc
+found_one Empty b (Some c) value front q f o w e =
+    let z = some_is c (not b) (o refl) in
+    record { is = sym (some_is (Flag c) q e) ∙ ap Flag z; took = ap has_value (sym (some_is (Flag c) q e)); there = λ y. cc }
+found_one Full b None value front q f o w e = cc
+found_one Full b (Some c) value front q f o w e =
+    let z = some_is c (not b) (o refl) in
+    record { is = sym (some_is (Flag c) q e) ∙ ap Flag z; took = ap has_value (sym (some_is (Flag c) q e)); there = λ y. cc }
+
+-- ---- lists
+
+-- a list from some place on begins with the item at that place
+pub drop_head : {X : Type 0} → (xs : List X) (n : ℕ) (y : X) (ys : List X) → drop n xs ≡ y ∷ ys → (slice_get xs n ≡ Some y)
+    × (drop (suc n) xs ≡ ys)
+drop_head [] zero y ys e = cc
+drop_head [] (suc n) y ys e = cc
+drop_head (x ∷ xs) zero y ys e = (cc, cc)
+drop_head (x ∷ xs) (suc n) y ys e = drop_head xs n y ys e
+
+pub drop_none : {X : Type 0} → (xs : List X) (n : ℕ) → drop n xs ≡ [] → slice_get xs n ≡ None
+drop_none [] zero e = refl
+drop_none [] (suc n) e = refl
+drop_none (x ∷ xs) zero e = cc
+drop_none (x ∷ xs) (suc n) e = drop_none xs n e
+
+took_is : (k : Kind) (b e : Bool) → (is_taking k && (b && (same_side (side_of k) Pop && e))) ≡ (pops_one k b && e)
+took_is Read true e = refl
+took_is Read false e = refl
+took_is Write true e = refl
+took_is Write false e = refl
+took_is TryRead true e = refl
+took_is TryRead false e = refl
+took_is TryWrite true e = refl
+took_is TryWrite false e = refl
+took_is Empty b e = refl
+took_is Full b e = refl
+
+more_at : (u : List ℕ) (c f : ℕ) (h : Bool) → (h ≡ true → c < length u)
+    → slice_index_or (cond h (one_more u c) u) f 0 ≡ slice_index_or u f 0 + cond {A = ℕ} (h && eqb c f) 1 0
+more_at u c f false l = omega arith
+more_at u c f true l =
+    elim (eqb_tells c f) [
+      | inl e ↦ rw (e.0, sym e.1, get_or-set_same u c (suc (slice_index_or u c 0)) 0 (l refl)) (omega arith)
+      | inr e ↦ rw (e.0, get_or-set_other u c f (suc (slice_index_or u c 0)) 0 (λ z. e.1 (sym z))) (omega arith)
+    ]
+
+-- ---- a step's accesses
+
+pub record AreFound (mail : Mail) (told : ℕ) (taken : List ℕ) (before : List Exchange) (V : ℕ → List ℕ) (t : ℕ → ℕ) (rs : List Request)
+    (bs : List Bool) (qs : List Reply) : Type 0 where
+  pub are : qs ≡ told_all rs (replies_of V t (map seen rs) bs)
+  pub there : all_below (λ (c : ℕ). length (V c)) t (map seen rs) bs ≡ true
+  pub all_told : drop (told + queries_in (map (access_of before) rs)) mail.outcomes ≡ []
+  pub counts : (u : List ℕ) → length u ≡ length taken → (f : ℕ)
+      → slice_index_or (taken_after u (map (access_of before) rs) qs) f 0 ≡ slice_index_or u f 0 + takes_in Pop f (map seen rs)
+      (bare_replies bs)
+
+-- behind one access, of a query or not
+go_on : (mail : Mail) (before : List Exchange) (told : ℕ) (r : Request) (rs : List Request) (b : Bool) (bs : List Bool)
+    → drop told mail.outcomes ≡ outcomes_in (r ∷ rs) (b ∷ bs)
+    → (is_blocking r.kind ≡ false → slice_get mail.outcomes told ≡ Some (outcome_by r.kind b))
+    × ((drop (told_by r.kind told) mail.outcomes ≡ outcomes_in rs bs)
+    × (told + queries_in (map (access_of before) (r ∷ rs)) ≡ told_by r.kind told + queries_in (map (access_of before) rs)))
+go_on mail before told r rs b bs e =
+    elim (cases_Bool (is_blocking r.kind)) [
+      | inl k ↦ let e' : drop told mail.outcomes ≡ outcomes_in rs bs = e
+          ∙ ap (λ (z : Bool). cond z (outcomes_in rs bs) (outcome_by r.kind b ∷ outcomes_in rs bs)) k in
+          (λ z. let y = sym k ∙ z in cc, (ap (λ (z : Bool). drop (cond z told (suc told)) mail.outcomes) k ∙ e', rw k refl))
+      | inr k ↦ let e' : drop told mail.outcomes ≡ outcome_by r.kind b ∷ outcomes_in rs bs = e
+          ∙ ap (λ (z : Bool). cond z (outcomes_in rs bs) (outcome_by r.kind b ∷ outcomes_in rs bs)) k in
+          let (h1, h2) = drop_head mail.outcomes told (outcome_by r.kind b) (outcomes_in rs bs) e' in
+          (λ z. h1, (ap (λ (z : Bool). drop (cond z told (suc told)) mail.outcomes) k ∙ h2, rw k (omega arith)))
+    ]
+
+module _ (mail : Mail) (taken : List ℕ) (before : List Exchange) (V : ℕ → List ℕ) (t : ℕ → ℕ)
+    (window : (c v : ℕ) → next_value mail taken c ≡ Some v → slice_get (V c) (t c) ≡ Some v)
+    (room : (c v : ℕ) → next_value mail taken c ≡ Some v → c < length taken) where
+  front_is : (c v : ℕ) → next_value mail taken c ≡ Some v → get_or (V c) (t c) 0 ≡ v
+  front_is c v e = get_or_from_slice_get (V c) (t c) v 0 (window c v e)
+
+  pub read_is : (told : ℕ) (rs : List Request) (bs : List Bool) → FlagsFit (map seen rs) bs → drop told mail.outcomes ≡ outcomes_in rs bs
+      → (qs : List Reply)
+      → replies_in mail told taken (map (access_of before) rs) ≡ Some qs → AreFound mail told taken before V t rs bs qs
+  read_is told [] [] f o qs e = record {
+    are = sym (some_is [] qs e);
+    there = refl;
+    all_told = let z : told + 0 ≡ told = omega arith in rw z o;
+    counts = λ u l c. omega arith;
+  }
+  read_is told [] (b ∷ bs) f o qs e = absurd f
+  read_is told (r ∷ rs) [] f o qs e = absurd f
+  read_is told (r ∷ rs) (b ∷ bs) (f, fs) o qs e =
+      let (q, (qs', (e1, (e2, e3)))) = first_parts (reply_now r.kind (slice_get mail.outcomes told) (next_value mail taken r.channel))
+      (replies_in mail (told_by r.kind told) taken (map (access_of before) rs)) qs e in
+      let (h1, (h2, h3)) = go_on mail before told r rs b bs o in
+      let one = found_one r.kind b (slice_get mail.outcomes told) (next_value mail taken r.channel) (get_or (V r.channel) (t r.channel) 0) q
+      f h1 (front_is r.channel) e1 in
+      let more = read_is (told_by r.kind told) rs bs fs h2 qs' e2 in
+      record {
+        are = e3 ∙ ap₂ (λ (x : Reply) (xs : List Reply). x ∷ xs) one.is more.are;
+        there = and_from (not (pops_one r.kind b) || ltb (t r.channel) (length (V r.channel)))
+            (all_below (λ (c : ℕ). length (V c)) t (map seen rs) bs) (below one.there) more.there;
+        all_told = ap (λ (n : ℕ). drop n mail.outcomes) h3 ∙ more.all_told;
+        counts = λ u l c. subst (λ (z : List Reply). slice_index_or (taken_after u (map (access_of before) (r ∷ rs)) z) c 0 ≡ slice_index_or
+            u c 0 + takes_in Pop c (map seen (r ∷ rs)) (bare_replies (b ∷ bs))) (sym e3)
+            (counted q qs' one.took one.there more.counts u l c);
+      }
+    where
+      below : (pops_one r.kind b ≡ true → (v : ℕ) × (next_value mail taken r.channel ≡ Some v))
+          → (not (pops_one r.kind b) || ltb (t r.channel) (length (V r.channel))) ≡ true
+      below g =
+          elim (cases_Bool (pops_one r.kind b)) [
+            | inr k ↦ rw k refl
+            | inl k ↦ let (v, y) = g k in rw (
+              k,
+              lt-ltb (t r.channel) (length (V r.channel))
+                  (slice_get_within (V r.channel) (t r.channel) v (window r.channel v y)),
+            ) refl
+          ]
+
+      counted : (q : Reply) (qs' : List Reply) → has_value q ≡ pops_one r.kind b
+          → (pops_one r.kind b ≡ true → (v : ℕ) × (next_value mail taken r.channel ≡ Some v))
+          → ((u : List ℕ) → length u ≡ length taken → (c : ℕ) → slice_index_or (taken_after u (map (access_of before) rs) qs') c
+          0 ≡ slice_index_or u c 0 + takes_in Pop c (map seen rs) (bare_replies bs))
+          → (u : List ℕ) → length u ≡ length taken → (c : ℕ)
+          → slice_index_or (taken_after (cond (has_value q) (one_more u r.channel) u) (map (access_of before) rs) qs') c 0
+          ≡ slice_index_or u c 0 + (cond {A = ℕ} (is_taking r.kind && (b && (same_side (side_of r.kind) Pop && eqb r.channel c))) 1
+          0 + takes_in Pop c (map seen rs) (bare_replies bs))
+      counted q qs' took there more u l c =
+          let u' = cond (has_value q) (one_more u r.channel) u in
+          let m1 = more u' (more_length u r.channel (has_value q) ∙ l) c in
+          let m2 = more_at u r.channel c (has_value q) (λ h. let (v, y) = there (sym took ∙ h) in let z = room r.channel v y in omega
+          arith) in
+          let m3 : cond {A = ℕ} (has_value q && eqb r.channel c) 1 0 ≡ cond {A = ℕ}
+          (is_taking r.kind && (b && (same_side (side_of r.kind) Pop && eqb r.channel c))) 1 0 =
+          ap (λ (z : Bool). cond {A = ℕ} z 1 0) (ap (λ (z : Bool). z && eqb r.channel c) took ∙ sym (took_is r.kind b (eqb r.channel c))) in
+          omega arith
+
+-- ---- steps without outcomes
+
+none_found : (k : Kind) (value : Option ℕ) → is_blocking k ≡ false → reply_now k None value ≡ None
+none_found Read value e = cc
+none_found Write value e = cc
+none_found TryRead value e = refl
+none_found TryWrite value e = refl
+none_found Empty value e = refl
+none_found Full value e = refl
+
+-- where no outcome is left and all replies are found, there is no query
+pub no_query : (mail : Mail) (told : ℕ) (taken : List ℕ) (before : List Exchange) (rs : List Request) (qs : List Reply)
+    → drop told mail.outcomes ≡ []
+    → replies_in mail told taken (map (access_of before) rs) ≡ Some qs → has_query (map seen rs) ≡ false
+no_query mail told taken before [] qs o e = refl
+no_query mail told taken before (r ∷ rs) qs o e =
+    let (q, (qs', (e1, (e2, e3)))) = first_parts (reply_now r.kind (slice_get mail.outcomes told) (next_value mail taken r.channel))
+    (replies_in mail (told_by r.kind told) taken (map (access_of before) rs)) qs e in
+    elim (cases_Bool (is_blocking r.kind)) [
+      | inl k ↦
+          let e4 : replies_in mail told taken (map (access_of before) rs) ≡ Some qs' = subst
+          (λ (z : Bool). replies_in mail (cond z told (suc told)) taken (map (access_of before) rs) ≡ Some qs') k e2 in
+          ap (λ (z : Bool). not z || has_query (map seen rs)) (k) ∙ no_query mail told taken before rs qs' o e4
+      | inr k ↦
+          let e5 : reply_now r.kind None (next_value mail taken r.channel) ≡ Some q = subst
+          (λ (z : Option Bool). reply_now r.kind z (next_value mail taken r.channel) ≡ Some q) (drop_none mail.outcomes told o) e1 in
+          let z = sym (none_found r.kind (next_value mail taken r.channel) k) ∙ e5 in cc
+    ]
+
+pub no_outcomes_of : (rs : List Request) (bs : List Bool) → has_query (map seen rs) ≡ false → outcomes_in rs bs ≡ []
+no_outcomes_of [] bs e = refl
+no_outcomes_of (r ∷ rs) [] e = refl
+no_outcomes_of (r ∷ rs) (b ∷ bs) e =
+    elim (cases_Bool (is_blocking r.kind)) [
+      | inl k ↦
+          let e' : has_query (map seen rs) ≡ false = sym (ap (λ (z : Bool). not z || has_query (map seen rs)) (k)) ∙ e in
+          ap (λ (z : Bool). cond z (outcomes_in rs bs) (outcome_by r.kind b ∷ outcomes_in rs bs)) k ∙ no_outcomes_of rs bs e'
+      | inr k ↦ let z = sym (ap (λ (z : Bool). not z || has_query (map seen rs)) (k)) ∙ e in cc
+    ]
+
+-- a value is there of channels of the mail alone
+pub value_inside : (xs : List (List ℕ)) (c i v : ℕ) → slice_get (get_or xs c []) i ≡ Some v → c < length xs
+value_inside [] zero i v e = cc
+value_inside [] (suc c) i v e = cc
+value_inside (x ∷ xs) zero i v e = omega arith
+value_inside (x ∷ xs) (suc c) i v e = let l = value_inside xs c i v e in omega arith
+
+-- ---- a mail that has all replies
+
+some_one : (k : Kind) (b : Bool) (outcome : Option Bool) (value : Option ℕ) → (is_blocking k ≡ true → b ≡ true)
+    → (is_blocking k ≡ false → outcome ≡ Some (outcome_by k b))
+    → (pops_one k b ≡ true → (v : ℕ) × (value ≡ Some v)) → (q : Reply) × (reply_now k outcome value ≡ Some q)
+some_one Read false outcome value f o w = let z = f refl in cc
+some_one Read true outcome value f o w = let (v, e) = w refl in (Value v, rw e refl)
+some_one Write b outcome value f o w = (Done, refl)
+some_one TryRead true outcome value f o w = let (v, e) = w refl in (Took v, rw (o refl, e) refl)
+some_one TryRead false outcome value f o w = (Missed, rw (o refl) refl)
+some_one TryWrite b outcome value f o w = (Flag b, rw (o refl) refl)
+some_one Empty b outcome value f o w = (Flag (not b), rw (o refl) refl)
+some_one Full b outcome value f o w = (Flag (not b), rw (o refl) refl)
+
+-- each value that is taken is in the mail
+abbrev pub HasValues : Mail → List ℕ → List Request → List Bool → Type 0
+HasValues mail taken [] bs = Unit {0}
+HasValues mail taken (r ∷ rs) [] = Unit {0}
+HasValues mail taken (r ∷ rs) (b ∷ bs) = (pops_one r.kind b ≡ true → (v : ℕ) × (next_value mail taken r.channel ≡ Some v))
+    × HasValues mail taken rs bs
+
+pub all_found : (mail : Mail) (taken : List ℕ) (before : List Exchange) (told : ℕ) (rs : List Request) (bs : List Bool)
+    → FlagsFit (map seen rs) bs → drop told mail.outcomes ≡ outcomes_in rs bs
+    → HasValues mail taken rs bs → (qs : List Reply) × (replies_in mail told taken (map (access_of before) rs) ≡ Some qs)
+all_found mail taken before told [] bs f o h = ([], refl)
+all_found mail taken before told (r ∷ rs) [] f o h = absurd f
+all_found mail taken before told (r ∷ rs) (b ∷ bs) (f, fs) o (h, hs) =
+    let (h1, (h2, h3)) = go_on mail before told r rs b bs o in
+    let (q, e) = some_one r.kind b (slice_get mail.outcomes told) (next_value mail taken r.channel) f h1 h in
+    let (qs, es) = all_found mail taken before (told_by r.kind told) rs bs fs h2 hs in
+    (q ∷ qs, ap₂ put_first e es)

@@ -1,0 +1,259 @@
+-- Marks that come back, one after the other.
+use Rattle.std.proofs.Common.{◌≡◌, refl, sym, ap, subst, ◌∙◌, ℕ, zero, suc, ◌+◌, ◌*◌, ◌^◌, ◌<◌, ◌≤◌, ◌⊎◌, inl, inr, Bool, true, false, cond}
+use Rattle.std.proofs.Common.{List, [], ◌∷◌, length, drop, get_or, set, slice_get, Option, Some, arith}
+use Rattle.std.proofs.lemmas.Bool.{cases_Bool}
+use Rattle.flow_word.specs.declared.access.Step.{Step as StepOf}
+use Rattle.flow_design.specs.declared.plan.Plan.{Plan}
+use Rattle.flow_design.specs.declared.state.ModuleState.{ModuleState}
+use Rattle.flow_design.specs.declared.state.Advance.{Advance}
+use Rattle.flow_design.specs.declared.state.Advance.TheVariants.{Step, Ended, Spent}
+use Rattle.flow_design.specs.StaticRules.{FitsEngine}
+use Rattle.lockstep_defs.specs.Machine.{is_spent}
+use Rattle.lockstep_defs.specs.OwnRun.{Own}
+use Rattle.module_interp.specs.declared.run.ModuleRun.{ModuleRun}
+use Rattle.module_interp.specs.OwnRests.{next_rest, accesses_at, mark_at}
+use Rattle.module_interp.specs.Runs.{waits, is_step, gap_of, IsSmall, IsSmallStep, IsSoundMark}
+use Rattle.event_timing.specs.Core.{Core}
+use Rattle.event_timing.specs.Actions.{Acts, ActsAll, MayRun, after_run}
+use Rattle.event_timing.specs.Actions as actions
+use Rattle.event_timing.specs.Actions.Action.{Run}
+use Rattle.event_timing.specs.Agreement.{AreOwnMarks}
+use Rattle.event_timing.proofs.Running.{run_marks}
+use Rattle.timing_bridge.specs.Designs.{design}
+use Rattle.engine_view.specs.Held.{Held, queries_in, core_of}
+use Rattle.engine_view.specs.Stored.{Stored, held_in}
+use Rattle.run_ahead.specs.declared.mail.Mail.{Mail}
+use Rattle.run_ahead.specs.declared.mail.Task.{Task}
+use Rattle.run_ahead.specs.declared.mail.Burst.{Burst}
+use Rattle.run_ahead.specs.Working.{burst_of}
+use Rattle.run_ahead.specs.Mails.{taken_after, none_taken, IsAtStep, IsPast, GoesOn, IsBurst, IsBurstFrom}
+use Rattle.sim_core.specs.Returned.{core_in, most_queries, HasRoomForMarks, IsNextMark, AreReturned}
+use Rattle.sim_core.specs.Runs.{IsCore, IsRunOf, rest_behind, over_of, lent_of}
+use Rattle.sim_core.specs.Tasks.{IsTaskFor, rest_of}
+use Rattle.sim_core.proofs.Ahead.{Goes, Waits, waits_behind, over_behind, goes_on, waiting_stands, going_stands, over_stands}
+use Rattle.sim_core.proofs.Tasks.{waits_first, goes_first}
+use Rattle.sim_core.proofs.Recording.{IsReady}
+
+-- ---- one mark
+
+gap_is : (p : Plan) (i : ℕ) (o : Own) → gap_of (mark_at p i o) ≡ o.since
+gap_is p i o = go o.state.ended (is_spent p.ops o.state) _ refl
+  where
+    go : (a b : Bool) (s : StepOf) → s.gap ≡ o.since → gap_of (cond a (Ended o.since) (cond b (Spent o.since) (Step s))) ≡ o.since
+    go true b s e = refl
+    go false true s e = refl
+    go false false s e = e
+
+module _ (p : Plan) (s : Stored) (ends : List (Option Advance)) (runs : List (Option ModuleRun)) (credits : List ℕ) (m : ℕ)
+    (mark : Advance) (n : IsNextMark p s ends runs credits m mark) where
+  abbrev rest : Own
+  rest = rest_behind p (core_in p s ends) m ((core_in p s ends).emitted m)
+
+  pub may_record : m < length s.graph.lanes → IsReady p s ends runs credits m
+  may_record l = record { core = n.room.core; inside = l; lent = n.room.lent; may = n.may }
+
+  pub short_rest : rest.since < 10 ^ 18
+  short_rest = let g = gap_is p m rest in let e = ap gap_of n.is in let l = n.sound.short in omega arith
+
+  pub small_step : (t : StepOf) → mark ≡ Step t → IsSmallStep t
+  small_step t e = subst IsSmall e n.sound.small
+
+  pub mark_step : (t : StepOf) → mark ≡ Step t → mark_at p m rest ≡ Step t
+  mark_step t e = sym n.is ∙ e
+
+pub acts_in : (p : Plan) (before after there : Held) (m : ℕ) → after ≡ there
+    → Acts (design p) p.cycles (core_of (design p) before) (Run m) (core_of (design p) there)
+    → Acts (design p) p.cycles (core_of (design p) before) (Run m) (core_of (design p) after)
+acts_in p before after there m e a =
+    subst (λ (h : Held). Acts (design p) p.cycles (core_of (design p) before) (Run m) (core_of (design p) h)) (sym e) a
+
+-- ---- a burst on its way
+
+-- these marks of a burst are still to come: from a rest on, or none of them
+abbrev pub IsOnWay : Plan → Core ModuleState → ℕ → Mail → Bool → ModuleRun → List Advance → Type 0
+IsOnWay p x m mail short run marks =
+    ((o : Own) × ((told : ℕ) × ((taken : List ℕ) × (Goes p x m mail o told taken × GoesOn p m mail short run o told taken marks))))
+    ⊎ ((marks ≡ []) × IsRunOf p x m run)
+
+-- the first of them is the module's next, and the others are to come behind it
+pub record IsFarther (p : Plan) (x : Core ModuleState) (m : ℕ) (mail : Mail) (short : Bool) (run : ModuleRun) (mark : Advance)
+    (more : List Advance) : Type 0 where
+  pub may : MayRun (design p) x m
+  pub is : mark ≡ mark_at p m (rest_behind p x m (x.emitted m))
+  pub sound : IsSoundMark (length (rest_behind p x m (x.emitted m)).steps) mark
+  pub on : IsOnWay p (after_run (design p) x m) m mail short run more
+
+-- behind a step it waits, or goes on
+from_step : (p : Plan) → FitsEngine p → (x : Core ModuleState) → AreOwnMarks (design p) x → (m : ℕ) (mail : Mail) (short : Bool)
+    (run : ModuleRun) (o : Own) (told : ℕ) (taken : List ℕ) (marks : List Advance) → Waits p x m mail o told taken
+    → IsAtStep p m mail short run o told taken marks (λ o' told' taken'. GoesOn p m mail short run o' told' taken' marks)
+    → IsOnWay p x m mail short run marks
+from_step p f x b m mail short run o told taken marks w (inl (n, s)) =
+    inr (n, waiting_stands p x m mail o told taken short run w s)
+from_step p f x b m mail short run o told taken marks w (inr (qs, (r, next))) =
+    inl (
+      next_rest p m o qs,
+      (
+        told + queries_in (accesses_at p m o),
+        (
+          taken_after taken (accesses_at p m o) qs,
+          (goes_on p f x b m mail o told taken w qs r, next),
+        ),
+      ),
+    )
+
+pub on_way_more : (p : Plan) → FitsEngine p → (x : Core ModuleState) → AreOwnMarks (design p) x → (m : ℕ) (mail : Mail) (short : Bool)
+    (run : ModuleRun) (mark : Advance) (more : List Advance) → IsOnWay p x m mail short run (mark ∷ more)
+    → IsFarther p x m mail short run mark more
+on_way_more p f x b m mail short run mark more (inr (n, s)) = cc
+on_way_more p f x b m mail short run mark more (inl (o, (told, (taken, (g, (e, sound, past)))))) = record {
+  may = g.may;
+  is = e ∙ ap (mark_at p m) g.stands;
+  sound = subst (λ (q : Own). IsSoundMark (length q.steps) mark) g.stands sound;
+  on = elim (cases_Bool (is_step mark)) [
+    | inl s ↦
+        from_step p f (after_run (design p) x m) (run_marks (design p) x b m g.may) m mail short run o told taken more
+        (waits_behind p f x b m mail o told taken g (ap is_step (sym e) ∙ s))
+        (subst (λ (c : Bool). IsPast c p m mail short run o told taken more next) s past)
+    | inr s ↦
+        let (n, q) = subst (λ (c : Bool). IsPast c p m mail short run o told taken more next) s past in
+        inr (
+          n,
+          subst (λ (y : Core ModuleState). IsRunOf p y m run)
+              (sym (over_behind p f x b m mail o told taken g (ap is_step (sym e) ∙ s)))
+              (over_stands p x m mail o told taken run g q),
+        )
+  ];
+}
+  where
+    next : Own → ℕ → List ℕ → Type 0
+    next o' told' taken' = GoesOn p m mail short run o' told' taken' more
+
+pub on_way_all : (p : Plan) (x : Core ModuleState) (m : ℕ) (mail : Mail) (short : Bool) (run : ModuleRun)
+    → IsOnWay p x m mail short run [] → IsRunOf p x m run
+on_way_all p x m mail short run (inl (o, (told, (taken, (g, (s, e)))))) = going_stands p x m mail o told taken run g s
+on_way_all p x m mail short run (inr (n, s)) = s
+
+-- where a burst of a task begins
+pub on_way_first : (p : Plan) → FitsEngine p → (x : Core ModuleState) → AreOwnMarks (design p) x → (m : ℕ) (task : Task) (burst : Burst)
+    → IsTaskFor p x m task → IsBurst p m (rest_of p x m task) task burst
+    → IsOnWay p x m task.mail burst.short burst.run burst.emitted
+on_way_first p f x b m task burst t i =
+    elim (cases_Bool (waits task.run)) [
+      | inl w ↦
+          from_step p f x b m task.mail burst.short burst.run (rest_of p x m task) 0 (none_taken task.mail) burst.emitted
+          (waits_first p x m task t w) (subst (λ (c : Bool). IsBurstFrom c p m (rest_of p x m task) task.mail burst) w i)
+      | inr w ↦
+          inl (
+            rest_of p x m task,
+            (
+              0,
+              (
+                none_taken task.mail,
+                (
+                  goes_first p x m task t w,
+                  subst (λ (c : Bool). IsBurstFrom c p m (rest_of p x m task) task.mail burst) w i,
+                ),
+              ),
+            ),
+          )
+    ]
+
+-- ---- the loop
+
+-- those left of a burst's marks are still to be emitted; with them the first core comes to where all marks bring it
+pub record IsReturningOn (p : Plan) (s : Stored) (ends : List (Option Advance)) (runs : List (Option ModuleRun)) (credits : List ℕ)
+    (m : ℕ) (mail : Mail) (short : Bool) (last : ModuleRun) (left : List Advance) (first : Core ModuleState) (count : ℕ) : Type 0 where
+  pub room : HasRoomForMarks p s ends runs credits m (length left)
+  pub on : IsOnWay p (core_in p s ends) m mail short last left
+  pub acts : (y : Core ModuleState) → ActsAll (design p) p.cycles (core_in p s ends) (actions.runs (length left) m) y
+      → ActsAll (design p) p.cycles first (actions.runs count m) y
+
+pub returning_first : (p : Plan) (s : Stored) (ends : List (Option Advance)) (runs : List (Option ModuleRun)) (credits : List ℕ) (m : ℕ)
+    (marks : List Advance) (last : ModuleRun) (r : AreReturned p s ends runs credits m marks last)
+    → IsReturningOn p s ends runs credits m r.task.mail r.short last marks (core_in p s ends) (length marks)
+returning_first p s ends runs credits m marks last r = record {
+  room = r.room;
+  on = on_way_first p r.room.core.fits (core_in p s ends) r.room.core.agreed.marks m r.task (burst_of last marks r.short) r.is_task
+      r.is_burst;
+  acts = λ y a. a;
+}
+
+module _ (p : Plan) (s : Stored) (ends : List (Option Advance)) (runs : List (Option ModuleRun)) (credits : List ℕ) (m : ℕ) (mail : Mail)
+    (short : Bool) (last : ModuleRun) (mark : Advance) (more : List Advance) (first : Core ModuleState) (count : ℕ)
+    (r : IsReturningOn p s ends runs credits m mail short last (mark ∷ more) first count) where
+  far : IsFarther p (core_in p s ends) m mail short last mark more
+  far = on_way_more p r.room.core.fits (core_in p s ends) r.room.core.agreed.marks m mail short last mark more r.on
+
+  pub next_mark : IsNextMark p s ends runs credits m mark
+  next_mark = record {
+    room = record {
+      core = r.room.core;
+      lent = r.room.lent;
+      places = let l = r.room.places in omega arith;
+      outcomes = r.room.outcomes;
+    };
+    may = far.may;
+    is = far.is;
+    sound = far.sound;
+  }
+
+  pub returning_more : (t : Stored) (ends' : List (Option Advance)) (credits' : List ℕ) → t.log ≡ s.log → IsCore p t ends' runs credits'
+      → Acts (design p) p.cycles (core_in p s ends) (Run m) (core_in p t ends') → get_or credits m 0 ≤ get_or credits' m 0 + 2
+      → IsReturningOn p t ends' runs credits' m mail short last more first count
+  returning_more t ends' credits' log core (may, after) credit = record {
+    room = record {
+      core = core;
+      lent = r.room.lent;
+      places = let l = r.room.places in omega arith;
+      outcomes = let l = r.room.outcomes in rw log l;
+    };
+    on = subst (λ (x : Core ModuleState). IsOnWay p x m mail short last more) (sym after) far.on;
+    acts = λ y a. r.acts y (core_in p t ends', (may, after), a);
+  }
+
+pub drop_here : (xs : List Advance) (n : ℕ) (v : Advance) → slice_get xs n ≡ Some v → drop n xs ≡ v ∷ drop (suc n) xs
+drop_here [] n v e = cc
+drop_here (x ∷ xs) zero v e = cc
+drop_here (x ∷ xs) (suc n) v e = drop_here xs n v e
+
+pub drop_behind : (xs : List Advance) (n : ℕ) (v : Advance) → drop (suc n) (set xs n v) ≡ drop (suc n) xs
+drop_behind [] zero v = refl
+drop_behind [] (suc n) v = refl
+drop_behind (x ∷ xs) zero v = refl
+drop_behind (x ∷ xs) (suc n) v = drop_behind xs n v
+
+pub drop_all : (xs : List Advance) (n : ℕ) → length xs ≤ n → drop n xs ≡ []
+drop_all [] zero l = refl
+drop_all [] (suc n) l = refl
+drop_all (x ∷ xs) zero l = absurd (omega arith)
+drop_all (x ∷ xs) (suc n) l = drop_all xs n (omega arith)
+
+-- where none is left
+pub all_acts : (p : Plan) (s : Stored) (ends : List (Option Advance)) (runs : List (Option ModuleRun)) (credits : List ℕ) (m : ℕ)
+    (mail : Mail) (short : Bool) (last : ModuleRun) (left : List Advance) (first : Core ModuleState) (count : ℕ) → left ≡ []
+    → IsReturningOn p s ends runs credits m mail short last left first count
+    → ActsAll (design p) p.cycles first (actions.runs count m) (core_in p s ends)
+all_acts p s ends runs credits m mail short last left first count none r =
+    r.acts (core_in p s ends)
+    (subst (λ (xs : List Advance). ActsAll (design p) p.cycles (core_in p s ends) (actions.runs (length xs) m) (core_in p s ends))
+    (sym none) refl)
+
+-- ---- the core
+
+-- with room, a burst of a task for the core can come back
+pub are_returned : (p : Plan) (s t : Stored) (ends : List (Option Advance)) (runs : List (Option ModuleRun)) (credits : List ℕ) (m : ℕ)
+    (burst : Burst) → held_in t (over_of ends) ≡ held_in s (over_of ends) → IsCore p t ends runs credits
+    → get_or (lent_of runs) m true ≡ true → 2 * length burst.emitted ≤ get_or credits m 0 → most_queries ≤ get_or t.log.rooms m 0
+    → (task : Task) × (IsTaskFor p (core_in p s ends) m task × IsBurst p m (rest_of p (core_in p s ends) m task) task burst)
+    → AreReturned p t ends runs credits m burst.emitted burst.run
+are_returned p s t ends runs credits m burst same core lent places outcomes (task, (for', is)) = record {
+  room = record { core = core; lent = lent; places = places; outcomes = outcomes };
+  task = task;
+  short = burst.short;
+  is_task = subst (λ (h : Held). IsTaskFor p (core_of (design p) h) m task) (sym same) for';
+  is_burst = subst (λ (h : Held). IsBurst p m (rest_of p (core_of (design p) h) m task) task burst) (sym same) is;
+}
+
+pub same_some : (a b : ModuleRun) → Some a ≡ Some b → a ≡ b
+same_some a b e = cc

@@ -1,0 +1,310 @@
+-- A task of a core stays a task of it while others act; its burst is a list of permitted Runs, and has a mark where memory was there.
+use Rattle.std.proofs.Common.{◌≡◌, refl, sym, ap, ap₂, subst, ◌∙◌, ℕ, zero, suc, ◌+◌, ◌-◌, ◌<◌, ◌≤◌, Bool, true, false, not, cond, ltb}
+use Rattle.std.proofs.Common.{◌&&◌, ◌||◌, List, [], ◌∷◌, ◌++◌, length, map, drop, get_or, replicate, Some, slice_get, slice_index_or, inl}
+use Rattle.std.proofs.Common.{inr, arith}
+use Rattle.std.proofs.lemmas.Bool.{cases_Bool, cond-true, cond-false, lt-ltb, le-ltb, cases_lt, cases_eq, and_parts, ltb-true}
+use Rattle.std.proofs.lemmas.List.{length-replicate, get_or_past}
+use Rattle.std.specs.List.{AllByRecursion}
+use Rattle.std.proofs.lemmas.Option.{slice_get-get_or}
+use Rattle.flow_word.specs.declared.access.Side.{Side}
+use Rattle.flow_word.specs.declared.access.Side.TheVariants.{Pop, Push}
+use Rattle.flow_word.specs.Kinds.{same_side, side_of, is_taking}
+use Rattle.flow_design.specs.declared.plan.Plan.{Plan}
+use Rattle.flow_design.specs.declared.state.Advance.{Advance}
+use Rattle.flow_design.specs.declared.state.ModuleState.{ModuleState}
+use Rattle.flow_design.specs.declared.state.Reply.{Reply}
+use Rattle.flow_design.specs.declared.state.Request.{Request}
+use Rattle.flow_design.specs.StaticRules.{FitsEngine}
+use Rattle.lockstep_defs.specs.Lockstep.{requests_of}
+use Rattle.lockstep_defs.specs.OwnRun.{Own, access_of}
+use Rattle.module_interp.specs.declared.run.ModuleRun.{ModuleRun}
+use Rattle.module_interp.specs.OwnRests.{done_in, next_rest, accesses_at}
+use Rattle.module_interp.specs.Runs.{waits}
+use Rattle.event_timing.specs.Machines.{Each}
+use Rattle.event_timing.specs.Views.{Begins}
+use Rattle.event_timing.specs.Core.{Core, core_tally, core_values, all_below}
+use Rattle.event_timing.specs.Agreement.{AreOwnMarks}
+use Rattle.event_timing.specs.Growth.{Grows, GrowsBeside}
+use Rattle.event_timing.proofs.Growing.{settled_all, settled_less, tally_grow}
+use Rattle.event_timing.proofs.RunningAhead.{stays}
+use Rattle.event_timing.proofs.Values.{begins_self, begins_trans}
+use Rattle.timing_bridge.specs.Designs.{design, seen}
+use Rattle.lockstep_defs.specs.Ports.{StandsAtPort}
+use Rattle.timing_bridge.proofs.History.{plan_is_design}
+use Rattle.timing_bridge.proofs.Requests.{stand}
+use Rattle.engine_view.specs.Held.{queries_in}
+use Rattle.run_ahead.specs.declared.mail.Mail.{Mail}
+use Rattle.run_ahead.specs.declared.mail.Task.{Task}
+use Rattle.run_ahead.specs.declared.mail.Burst.{Burst}
+use Rattle.sim_core.specs.Runs.{rest_behind}
+use Rattle.run_ahead.specs.Mails.{values_on, next_value, replies_in, taken_after, none_taken, GoesOn, IsBurst, IsBurstFrom}
+use Rattle.sim_core.specs.Tasks.{outcomes_in, outcomes_at, values_behind, committed, rest_of, IsMailFor, IsTaskFor, IsTaskOf}
+use Rattle.sim_core.proofs.Mailed.{pops_one, HasValues, all_found}
+use Rattle.sim_core.proofs.Ahead.{IsWindow, Goes, Waits, Ran, run_on, goes_on, get_begins, ran_none, waiting_stands}
+use Rattle.sim_core.proofs.Resting.{rest_is}
+use Rattle.sim_core.proofs.Staying.{run_stays}
+
+-- ---- lists
+
+none_at : (n c : ℕ) → ◌≡◌ {A = ℕ} (get_or (replicate n 0) c 0) 0
+none_at zero zero = refl
+none_at zero (suc c) = refl
+none_at (suc n) zero = refl
+none_at (suc n) (suc c) = none_at n c
+
+get_drop : (xs : List ℕ) (n i : ℕ) → slice_get (drop n xs) i ≡ slice_get xs (n + i)
+get_drop xs zero i = let z : 0 + i ≡ i = omega arith in rw z refl
+get_drop [] (suc n) i = refl
+get_drop (x ∷ xs) (suc n) i = let z : suc n + i ≡ suc (n + i) = omega arith in rw z (get_drop xs n i)
+
+begins_drop : (n : ℕ) (xs ys more : List ℕ) → xs ≡ ys ++ more → Begins (drop n xs) (drop n ys)
+begins_drop zero xs ys more e = (more, e)
+begins_drop (suc n) xs [] more e = (drop (suc n) xs, refl)
+begins_drop (suc n) xs (y ∷ ys) more e = let (m, q) = begins_drop n (ys ++ more) ys more refl in (m, ap (drop (suc n)) e ∙ q)
+
+-- ---- how many steps are committed
+
+pub committed_waits : (x : Core ModuleState) (m : ℕ) (run : ModuleRun) → waits run ≡ true → committed x m run ≡ x.emitted m - 1
+committed_waits x m run e = cond-true (waits run) (x.emitted m - 1) (x.emitted m) e
+
+pub committed_goes : (x : Core ModuleState) (m : ℕ) (run : ModuleRun) → waits run ≡ false → committed x m run ≡ x.emitted m
+committed_goes x m run e = cond-false (waits run) (x.emitted m - 1) (x.emitted m) e
+
+committed_below : (x : Core ModuleState) (m : ℕ) (run : ModuleRun) → committed x m run ≤ x.emitted m
+committed_below x m run =
+    elim (cases_Bool (waits run)) [
+      | inl e ↦ rw (committed_waits x m run e) (omega arith)
+      | inr e ↦ rw (committed_goes x m run e) (omega arith)
+    ]
+
+-- ---- the task of a core
+
+-- all of the mail is some of it
+pub task_for : (p : Plan) (x : Core ModuleState) (m : ℕ) (task : Task) → IsTaskOf p x m task → IsTaskFor p x m task
+task_for p x m task t = record {
+  may = t.may;
+  run = t.run;
+  mail = record {
+    outcomes = t.outcomes;
+    values = λ c.
+        elim (cases_eq ((design p).owner Pop c) m) [
+          | inl e ↦ mine c e
+          | inr e ↦ subst (Begins (values_behind p x m (committed x m task.run) c)) (sym (t.others c e))
+              (values_behind p x m (committed x m task.run) c, refl)
+        ];
+  };
+}
+  where
+    mine : (c : ℕ) → (design p).owner Pop c ≡ m → Begins (values_behind p x m (committed x m task.run) c) (values_on task.mail c)
+    mine c e =
+        let all = values_behind p x m (committed x m task.run) c in
+        elim (cases_lt c (length p.design.channels)) [
+          | inl l ↦ subst (Begins all) (sym (t.popped c l e)) (begins_self all)
+          | inr l ↦ subst (Begins all) (sym (get_or_past task.mail.values c [] (let n = t.count in omega arith))) (all, refl)
+        ]
+
+-- it stays one while others act
+pub task_stays : (p : Plan) (x z : Core ModuleState) → AreOwnMarks (design p) x → (m : ℕ) → GrowsBeside (design p) x z m
+    → (task : Task) → IsTaskFor p x m task → IsTaskFor p z m task
+task_stays p x z b m beside task t =
+    let d = design p in
+    let g = beside.grows in
+    let same = beside.emitted in
+    let over = beside.over in
+    let n = committed x m task.run in
+    let n_is : committed z m task.run ≡ n = ap (λ (e : ℕ). cond (waits task.run) (e - 1) e) same in
+    let settled = settled_less d x m (x.emitted m) n (committed_below x m task.run) (settled_all d x b m t.may.answered t.may.there) in
+    record {
+      may = stays d x z b g m same over t.may;
+      run = run_stays p x z b m beside task.run t.run;
+      mail = subst (λ (k : ℕ). IsMailFor p z m k task.mail) (sym n_is) (record {
+        outcomes = t.mail.outcomes ∙ sym (outcomes_same n);
+        values = λ c.
+            let (more, e) = g.values_up c in
+            let tally = tally_grow d x z g m n settled.emitted settled.answered Pop c in
+            subst (λ (k : ℕ). Begins (drop k (core_values d z c)) (values_on task.mail c)) (sym tally)
+            (begins_trans (drop (core_tally d x m Pop c n) (core_values d z c)) (values_behind p x m n c) (values_on task.mail c)
+            (begins_drop (core_tally d x m Pop c n) (core_values d z c) (core_values d x c) more e) (t.mail.values c));
+      });
+    }
+  where
+    g : Grows (design p) x z
+    g = beside.grows
+
+    same : z.emitted m ≡ x.emitted m
+    same = beside.emitted
+
+    outcomes_same : (k : ℕ) → outcomes_at p z m k ≡ outcomes_at p x m k
+    outcomes_same k =
+        elim (cases_lt k (x.emitted m)) [
+          | inl l ↦
+              cond-true (ltb k (z.emitted m)) (outcomes_in (requests_of p (m, z.state m k)) (z.flags m k)) []
+              (lt-ltb k (z.emitted m) (omega arith))
+              ∙ (ap₂ (λ (s : ModuleState) (bs : List Bool). outcomes_in (requests_of p (m, s)) bs) (g.state_same m k l)
+              (g.flags_same m k l (answered k l))
+              ∙ sym (cond-true (ltb k (x.emitted m)) (outcomes_in (requests_of p (m, x.state m k)) (x.flags m k)) []
+              (lt-ltb k (x.emitted m) l)))
+          | inr l ↦
+              cond-false (ltb k (z.emitted m)) (outcomes_in (requests_of p (m, z.state m k)) (z.flags m k)) []
+              (le-ltb k (z.emitted m) (omega arith))
+              ∙ sym (cond-false (ltb k (x.emitted m)) (outcomes_in (requests_of p (m, x.state m k)) (x.flags m k)) []
+              (le-ltb k (x.emitted m) l))
+        ]
+      where
+        answered : (j : ℕ) → j < x.emitted m → x.answered m j ≡ true
+        answered j l = (settled_all (design p) x b m t.may.answered t.may.there).answered j l
+
+-- ---- where its burst begins
+
+pub window_first : (p : Plan) (x : Core ModuleState) (m n : ℕ) (mail : Mail) → IsMailFor p x m n mail
+    → IsWindow p x m n mail (none_taken mail)
+window_first p x m n mail k = record {
+  values = λ c i v e.
+      let z : slice_index_or (none_taken mail) c 0 + i ≡ i = let y = none_at (length mail.values) c in omega arith in
+      sym (get_drop (core_values (design p) x c) (core_tally (design p) x m Pop c n) i)
+      ∙ get_begins (values_behind p x m n c) (values_on mail c) i v (k.values c) (sym (ap (slice_get (values_on mail c)) z) ∙ e);
+  room = length-replicate (length mail.values) 0;
+}
+
+pub waits_first : (p : Plan) (x : Core ModuleState) (m : ℕ) (task : Task) → IsTaskFor p x m task → waits task.run ≡ true
+    → Waits p x m task.mail (rest_of p x m task) 0 (none_taken task.mail)
+waits_first p x m task t w =
+    let (k, e, stands) = t.run.waiting w in
+    let n : committed x m task.run ≡ k = committed_waits x m task.run w ∙ (omega arith) in
+    let answered = t.may.answered k e in
+    let outs : task.mail.outcomes ≡ outcomes_in (requests_of p (m, x.state m k)) (x.flags m k) =
+    t.mail.outcomes ∙ (ap (outcomes_at p x m) n ∙ cond-true (ltb k (x.emitted m))
+    (outcomes_in (requests_of p (m, x.state m k)) (x.flags m k)) [] (lt-ltb k (x.emitted m) (omega arith))) in
+    record {
+      at = k;
+      newest = e;
+      inside = t.may.inside;
+      lives = t.may.lives;
+      stands = ap (rest_behind p x m) n;
+      outcomes = outs ∙ sym (cond-true (x.answered m k) (outcomes_in (requests_of p (m, x.state m k)) (x.flags m k)) [] answered);
+      plain = λ y. answered;
+      window = window_first p x m k task.mail (subst (λ (j : ℕ). IsMailFor p x m j task.mail) n t.mail);
+    }
+
+pub goes_first : (p : Plan) (x : Core ModuleState) (m : ℕ) (task : Task) → IsTaskFor p x m task → waits task.run ≡ false
+    → Goes p x m task.mail (rest_of p x m task) 0 (none_taken task.mail)
+goes_first p x m task t w =
+    let n : committed x m task.run ≡ x.emitted m = committed_goes x m task.run w in
+    record {
+      may = t.may;
+      stands = ap (rest_behind p x m) n;
+      outcomes = t.mail.outcomes ∙ (ap (outcomes_at p x m) n ∙ cond-false (ltb (x.emitted m) (x.emitted m))
+          (outcomes_in (requests_of p (m, x.state m (x.emitted m))) (x.flags m (x.emitted m))) []
+          (le-ltb (x.emitted m) (x.emitted m) (omega arith)));
+      window = window_first p x m (x.emitted m) task.mail (subst (λ (j : ℕ). IsMailFor p x m j task.mail) n t.mail);
+    }
+
+-- ---- a burst
+
+pub burst_runs : (p : Plan) → FitsEngine p → (x : Core ModuleState) → AreOwnMarks (design p) x → (m : ℕ) (task : Task) (burst : Burst)
+    → IsTaskFor p x m task → IsBurst p m (rest_of p x m task) task burst
+    → Ran p x m (length burst.emitted) burst.run
+burst_runs p f x b m task burst t i =
+    elim (cases_Bool (waits task.run)) [
+      | inl w ↦ from_step (waits_first p x m task t w) (subst (λ (c : Bool). IsBurstFrom c p m (rest_of p x m task) task.mail burst) w i)
+      | inr w ↦ run_on p f x b m task.mail burst.short burst.run (rest_of p x m task) 0 (none_taken task.mail) burst.emitted
+          (goes_first p x m task t w) (subst (λ (c : Bool). IsBurstFrom c p m (rest_of p x m task) task.mail burst) w i)
+    ]
+  where
+    from_step : Waits p x m task.mail (rest_of p x m task) 0 (none_taken task.mail)
+        → IsBurstFrom true p m (rest_of p x m task) task.mail burst → Ran p x m (length burst.emitted) burst.run
+    from_step w (inl (n, s)) =
+        subst (λ (xs : List Advance). Ran p x m (length xs) burst.run) (sym n)
+        (ran_none p x m burst.run (waiting_stands p x m task.mail (rest_of p x m task) 0 (none_taken task.mail) burst.short burst.run w
+        s))
+    from_step w (inr (qs, (e, next))) =
+        run_on p f x b m task.mail burst.short burst.run (next_rest p m (rest_of p x m task) qs)
+        (0 + queries_in (accesses_at p m (rest_of p x m task))) (taken_after (none_taken task.mail)
+        (accesses_at p m (rest_of p x m task)) qs) burst.emitted
+        (goes_on p f x b m task.mail (rest_of p x m task) 0 (none_taken task.mail) w qs e) next
+
+-- ---- it has a mark where memory was there
+
+-- each value that the step takes is in the mail
+values_there_in : (p : Plan) (x : Core ModuleState) (m k : ℕ) (mail : Mail) (taken : List ℕ) (t : ℕ → ℕ) (rs : List Request)
+    (bs : List Bool) → Each (λ a. (design p).owner a.side a.channel ≡ m) (map seen rs)
+    → all_below (λ (c : ℕ). length (core_values (design p) x c)) t (map seen rs) bs ≡ true
+    → AllByRecursion (StandsAtPort p m) rs
+    → ((c : ℕ) → c < length p.design.channels → (design p).owner Pop c ≡ m → t c < length (core_values (design p) x c)
+    → (v : ℕ) × (next_value mail taken c ≡ Some v))
+    → HasValues mail taken rs bs
+values_there_in p x m k mail taken t [] bs o e s h = tt
+values_there_in p x m k mail taken t (r ∷ rs) [] o e s h = tt
+values_there_in p x m k mail taken t (r ∷ rs) (b ∷ bs) (o, os) e (s, ss) h =
+    let (e1, e2) = and_parts (not (pops_one r.kind b) || ltb (t r.channel) (length (core_values (design p) x r.channel)))
+    (all_below (λ (c : ℕ). length (core_values (design p) x c)) t (map seen rs) bs) e in (
+      λ one.
+          let l = ltb-true (t r.channel) (length (core_values (design p) x r.channel))
+          (sym (ap (λ (z : Bool). not z || ltb (t r.channel) (length (core_values (design p) x r.channel))) one) ∙ e1) in
+          h r.channel s.in_range
+          (subst (λ (side : Side). (design p).owner side r.channel ≡ m) (pops_side (is_taking r.kind) (side_of r.kind) b one) o)
+          l,
+      values_there_in p x m k mail taken t rs bs os e2 ss h,
+    )
+  where
+    pops_side : (a : Bool) (s : Side) (c : Bool) → (a && (same_side s Pop && c)) ≡ true → s ≡ Pop
+    pops_side true Pop c e = refl
+    pops_side true Push c e = cc
+    pops_side false s c e = cc
+
+-- all replies to the step that waits are in the mail of a task
+pub task_answers : (p : Plan) → FitsEngine p → (x : Core ModuleState) → AreOwnMarks (design p) x → (m : ℕ) (task : Task)
+    → IsTaskOf p x m task → waits task.run ≡ true
+    → (qs : List Reply) × (replies_in task.mail 0 (none_taken task.mail) (accesses_at p m (rest_of p x m task)) ≡ Some qs)
+task_answers p f x b m task t w =
+    let (k, e, stands) = t.run.waiting w in
+    let n : committed x m task.run ≡ k = committed_waits x m task.run w ∙ (omega arith) in
+    let o = rest_of p x m task in
+    let g = rest_is p f x b m t.may.inside k k (omega arith) (omega arith) in
+    let state : o.state ≡ x.state m k = ap (λ (j : ℕ). (rest_behind p x m j).state) n ∙ (g.state ∙ sym (b.own_step m k (omega arith))) in
+    let rs = requests_of p (m, x.state m k) in
+    let outs : task.mail.outcomes ≡ outcomes_in rs (x.flags m k) =
+    t.outcomes ∙ (ap (outcomes_at p x m) n ∙ cond-true (ltb k (x.emitted m)) (outcomes_in rs (x.flags m k)) []
+    (lt-ltb k (x.emitted m) (omega arith))) in
+    let has = values_there_in p x m k task.mail (none_taken task.mail) (λ c. core_tally (design p) x m Pop c k) rs (x.flags m k)
+    ((plan_is_design p f).owned m (x.state m k)) (t.may.there k e) (stand p f m (x.state m k))
+    (λ c within own l. next c (core_tally (design p) x m Pop c k) (t.popped c within own ∙ ap (λ (j : ℕ). values_behind p x m j c) n) l) in
+    let fit = b.fit m k (omega arith) in
+    let (qs, found) = all_found task.mail (none_taken task.mail) (done_in o.steps) 0 rs (x.flags m k) fit outs has in (
+      qs,
+      ap (λ (s : ModuleState). replies_in task.mail 0 (none_taken task.mail) (map (access_of (done_in o.steps)) (requests_of p (m, s))))
+          state ∙ found,
+    )
+  where
+    next : (c a : ℕ) → values_on task.mail c ≡ drop a (core_values (design p) x c) → a < length (core_values (design p) x c) → (v : ℕ)
+        × (next_value task.mail (none_taken task.mail) c ≡ Some v)
+    next c a e l =
+        let z : a + 0 ≡ a = omega arith in (
+          get_or (core_values (design p) x c) a 0,
+          ap₂ (λ (xs : List ℕ) (i : ℕ). slice_get xs i) e (none_at (length task.mail.values) c)
+              ∙ (get_drop (core_values (design p) x c) a 0 ∙ (ap (slice_get (core_values (design p) x c)) z
+              ∙ slice_get-get_or (core_values (design p) x c) a 0 l)),
+        )
+
+pub burst_has_marks : (p : Plan) → FitsEngine p → (x : Core ModuleState) → AreOwnMarks (design p) x → (m : ℕ) (task : Task) (burst : Burst)
+    → IsTaskOf p x m task → IsBurst p m (rest_of p x m task) task burst
+    → burst.short ≡ false → 0 < length burst.emitted
+burst_has_marks p f x b m task burst t i s =
+    elim (cases_Bool (waits task.run)) [
+      | inl w ↦ from_step (task_answers p f x b m task t w) (subst (λ (c : Bool). IsBurstFrom c p m (rest_of p x m task) task.mail burst) w
+          i)
+      | inr w ↦ some_marks (rest_of p x m task) 0 (none_taken task.mail) burst.emitted
+          (subst (λ (c : Bool). IsBurstFrom c p m (rest_of p x m task) task.mail burst) w i)
+    ]
+  where
+    some_marks : (o : Own) (told : ℕ) (taken : List ℕ) (marks : List Advance)
+        → GoesOn p m task.mail burst.short burst.run o told taken marks → 0 < length marks
+    some_marks o told taken [] (g, e) = let z = sym e ∙ s in cc
+    some_marks o told taken (mark ∷ more) g = omega arith
+
+    from_step : (qs : List Reply) × (replies_in task.mail 0 (none_taken task.mail) (accesses_at p m (rest_of p x m task)) ≡ Some qs)
+        → IsBurstFrom true p m (rest_of p x m task) task.mail burst → 0 < length burst.emitted
+    from_step (qs, e) (inl (n, q)) = let z = sym (q.missing s) ∙ e in cc
+    from_step (qs, e) (inr (rs, (e', next))) =
+        some_marks (next_rest p m (rest_of p x m task) rs) (0 + queries_in (accesses_at p m (rest_of p x m task)))
+        (taken_after (none_taken task.mail) (accesses_at p m (rest_of p x m task)) rs) burst.emitted next

@@ -1,0 +1,12 @@
+use Rattle.std.proofs.Common.{◌≡◌, ℕ, suc, ◌+◌, sym, subst, ◌∙◌, arith}
+use Rattle.engine_view.specs.Held.{values_at}
+use Rattle.sim_core.specs.Lent.{IsReadingValues}
+use Rattle.sim_core.proofs.Posting.{values_more}
+use Rattle.sim_core.proofs.post.read_values.Goals as goal
+
+pub loop-at-preserved : goal.loop-at-preserved
+loop-at-preserved c =
+    let z : suc c.loop-at.at ≡ c.loop-at.at + 1 = omega arith in
+    subst (λ (n : ℕ). IsReadingValues (values_at c.args.fifos.now.channels c.args.channel) c.args.first c.push.new.self n) z
+    (values_more (values_at c.args.fifos.now.channels c.args.channel) c.args.first c.loop-at.values c.push.new.self c.loop-at.at
+    c.in-Some.word c.loop-at.invariant (sym c.value.ensures ∙ c.in-Some.is) c.in_ok-push.ensures.ok)

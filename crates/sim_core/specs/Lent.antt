@@ -1,0 +1,29 @@
+-- What a mail is made of: the run's counts, the log and the table.
+use Rattle.std.specs.Prelude.{◌≡◌, ℕ, ◌+◌, ◌-◌, ◌<◌, Bool, cond, eqb, List, [], ◌++◌, length, take, drop, slice_index, slice_index_or}
+use Rattle.flow_word.specs.declared.access.Access.{Access}
+use Rattle.fifo_table.specs.Channels.{Channel}
+use Rattle.engine_view.specs.Held.{values_at, queries_in}
+use Rattle.run_ahead.specs.declared.mail.Mail.{Mail}
+
+-- a loop over outcomes has read those before this one
+pub record IsReadingOutcomes (all : List Bool) (first count : ℕ) (read : List Bool) (at : ℕ) : Type 0 where
+  pub same : read ++ take (count - at) (drop (first + at) all) ≡ take count (drop first all)
+
+-- a loop over the values of a channel has read those before this one
+pub record IsReadingValues (all : List ℕ) (first : ℕ) (read : List ℕ) (at : ℕ) : Type 0 where
+  pub same : read ++ drop at all ≡ drop first all
+
+-- the values that a module's next pops of a channel find; none where another module pops it
+abbrev pub mailed : List Channel → List ℕ → ℕ → List ℕ → ℕ → List ℕ
+mailed channels readers m popped c = cond (eqb (slice_index readers c) m) (drop (slice_index popped c) (values_at channels c)) []
+
+-- those of the first channels
+pub record AreMailed (channels : List Channel) (readers : List ℕ) (m : ℕ) (popped : List ℕ) (values : List (List ℕ)) (n : ℕ) : Type 0 where
+  pub count : length values ≡ n
+  pub each : (c : ℕ) → c < n → slice_index_or values c [] ≡ mailed channels readers m popped c
+
+-- the mail of a module that made so many queries and pops, and waits for the replies to these accesses
+pub record IsMade (outcomes : List Bool) (channels : List Channel) (readers : List ℕ) (m first : ℕ) (popped : List ℕ)
+    (accesses : List Access) (mail : Mail) : Type 0 where
+  pub told : mail.outcomes ≡ take (queries_in accesses) (drop first outcomes)
+  pub values : AreMailed channels readers m popped mail.values (length readers)

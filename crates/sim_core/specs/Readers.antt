@@ -1,0 +1,50 @@
+-- The module that pops each channel.
+use Rattle.std.specs.Prelude.{◌≡◌, ℕ, ◌+◌, ◌<◌, Bool, cond, ◌&&◌, nat_eq, List, length, drop, slice_index, Option, None, Some}
+use Rattle.std.specs.List.{position_or_len}
+use Rattle.flow_word.specs.declared.access.Port.{Port}
+use Rattle.flow_word.specs.declared.access.Side.TheVariants.{Pop}
+use Rattle.flow_design.specs.declared.expr.Op.{Op}
+use Rattle.flow_design.specs.declared.expr.Op.TheVariants.{Set, Load, Store, Read, Write, TryRead, TryWrite, Empty, Full}
+use Rattle.flow_design.specs.declared.design.Module.{Module}
+use Rattle.flow_design.specs.declared.plan.Plan.{Plan}
+use Rattle.flow_design.specs.StaticRules.{uses}
+use Rattle.timing_bridge.specs.Designs.{design}
+
+-- the module that pops each channel; the number of modules where none does
+pub record AreReaders (p : Plan) (readers : List ℕ) : Type 0 where
+  pub count : length readers ≡ length p.design.channels
+  pub each : (c : ℕ) → c < length readers → slice_index readers c ≡ (design p).owner Pop c
+
+abbrev pub popping_port : ℕ → Port
+popping_port c = record { side = Pop; channel = c }
+
+-- the channel that an operation pops
+abbrev pub popped_channel : Op ℕ → Option ℕ
+popped_channel (Set x e) = None
+popped_channel (Load x n e) = None
+popped_channel (Store n e a) = None
+popped_channel (Read f x) = Some f
+popped_channel (Write f e) = None
+popped_channel (TryRead f x ok) = Some f
+popped_channel (TryWrite f ok e) = None
+popped_channel (Empty f x) = None
+popped_channel (Full f x) = None
+
+-- the module is noted at these channels, where it said `none` before
+pub record AreNoted (none owner : ℕ) (at : ℕ → Bool) (before after : List ℕ) : Type 0 where
+  pub count : length after ≡ length before
+  pub each : (c : ℕ) → c < length before
+      → slice_index after c ≡ cond (nat_eq (slice_index before c) none && at c) owner (slice_index before c)
+
+-- a loop has noted some; with those at which it still has to be noted it is noted at all
+pub record IsNoting (none owner : ℕ) (left all : ℕ → Bool) (before now : List ℕ) : Type 0 where
+  pub count : length now ≡ length before
+  pub each : (c : ℕ) → c < length before
+      → cond (nat_eq (slice_index now c) none && left c) owner (slice_index now c)
+      ≡ cond (nat_eq (slice_index before c) none && all c) owner (slice_index before c)
+
+-- with the first of the modules that are left, where none is noted, it is the first of all
+pub record IsSearching (modules : List Module) (none : ℕ) (now : List ℕ) (i : ℕ) : Type 0 where
+  pub each : (c : ℕ) → c < length now
+      → cond (nat_eq (slice_index now c) none) (i + position_or_len (uses (popping_port c)) (drop i modules)) (slice_index now c)
+      ≡ position_or_len (uses (popping_port c)) modules

@@ -1,0 +1,70 @@
+-- What is lent of a core: a module's run with its mail.
+use Rattle.std.specs.Prelude.{◌≡◌, ℕ, ◌-◌, ◌<◌, Bool, cond, ltb, List, [], ◌∷◌, length, drop}
+use Rattle.flow_design.specs.declared.plan.Plan.{Plan}
+use Rattle.flow_design.specs.declared.state.ModuleState.{ModuleState}
+use Rattle.flow_design.specs.declared.state.Request.{Request}
+use Rattle.flow_word.specs.Kinds.{is_blocking}
+use Rattle.flow_word.specs.declared.access.Side.TheVariants.{Pop}
+use Rattle.lockstep_defs.specs.Lockstep.{requests_of}
+use Rattle.lockstep_defs.specs.OwnRun.{Own}
+use Rattle.module_interp.specs.declared.run.ModuleRun.{ModuleRun}
+use Rattle.module_interp.specs.Runs.{waits}
+use Rattle.event_timing.specs.Views.{Begins}
+use Rattle.event_timing.specs.Core.{Core, core_tally, core_values}
+use Rattle.event_timing.specs.Actions.{MayRun}
+use Rattle.timing_bridge.specs.Designs.{design}
+use Rattle.engine_view.specs.Answered.{outcome_by}
+use Rattle.sim_core.specs.Runs.{IsRunOf, rest_behind}
+use Rattle.run_ahead.specs.Mails.{values_on, IsBurst}
+use Rattle.run_ahead.specs.declared.mail.Mail.{Mail}
+use Rattle.run_ahead.specs.declared.mail.Task.{Task}
+use Rattle.run_ahead.specs.declared.mail.Burst.{Burst}
+use Rattle.sim_core.specs.Views.{CoreView, theory_of}
+
+-- the outcomes of the queries among the requests, by whether each request is possible
+abbrev pub outcomes_in : List Request → List Bool → List Bool
+outcomes_in [] flags = []
+outcomes_in (r ∷ rs) [] = []
+outcomes_in (r ∷ rs) (b ∷ bs) = cond (is_blocking r.kind) (outcomes_in rs bs) (outcome_by r.kind b ∷ outcomes_in rs bs)
+
+-- the outcomes of a module's step of this number, where there is one
+abbrev pub outcomes_at : Plan → Core ModuleState → ℕ → ℕ → List Bool
+outcomes_at p x m k = cond (ltb k (x.emitted m)) (outcomes_in (requests_of p (m, x.state m k)) (x.flags m k)) []
+
+-- the values that the module's next pops of a channel find, behind its first n steps
+abbrev pub values_behind : Plan → Core ModuleState → ℕ → ℕ → ℕ → List ℕ
+values_behind p x m n c = drop (core_tally (design p) x m Pop c n) (core_values (design p) x c)
+
+-- so many steps of the module have their replies committed
+abbrev pub committed : Core ModuleState → ℕ → ModuleRun → ℕ
+committed x m run = cond (waits run) (x.emitted m - 1) (x.emitted m)
+
+-- a mail that has nothing but what the core has: the outcomes of the step that waits, and of each channel's next values some
+pub record IsMailFor (p : Plan) (x : Core ModuleState) (m n : ℕ) (mail : Mail) : Type 0 where
+  pub outcomes : mail.outcomes ≡ outcomes_at p x m n
+  pub values : (c : ℕ) → Begins (values_behind p x m n c) (values_on mail c)
+
+-- a task of a core: the module may run, the run stands where the core has it, and its mail has nothing but what the core has
+pub record IsTaskFor (p : Plan) (x : Core ModuleState) (m : ℕ) (task : Task) : Type 0 where
+  pub may : MayRun (design p) x m
+  pub run : IsRunOf p x m task.run
+  pub mail : IsMailFor p x m (committed x m task.run) task.mail
+
+-- and the mail has all of it: one list for each channel, with all values of those that the module pops
+pub record IsTaskOf (p : Plan) (x : Core ModuleState) (m : ℕ) (task : Task) : Type 0 where
+  pub may : MayRun (design p) x m
+  pub run : IsRunOf p x m task.run
+  pub outcomes : task.mail.outcomes ≡ outcomes_at p x m (committed x m task.run)
+  pub count : length task.mail.values ≡ length p.design.channels
+  pub popped : (c : ℕ) → c < length p.design.channels → (design p).owner Pop c ≡ m
+      → values_on task.mail c ≡ values_behind p x m (committed x m task.run) c
+  pub others : (c : ℕ) → ((design p).owner Pop c ≡ m → ⊥) → values_on task.mail c ≡ []
+
+-- the rest at which the run of a task stands
+abbrev pub rest_of : Plan → Core ModuleState → ℕ → Task → Own
+rest_of p x m task = rest_behind p x m (committed x m task.run)
+
+-- a burst of a task of this core
+abbrev pub IsBurstOf : CoreView → ℕ → Burst → Type 0
+IsBurstOf v m burst = (task : Task) × (IsTaskFor v.plan (theory_of v) m task
+    × IsBurst v.plan m (rest_of v.plan (theory_of v) m task) task burst)

@@ -1,0 +1,100 @@
+//! Runs that are lent, and come back with their marks.
+ghost use Rattle.std.specs.Prelude.{◌≡◌, ◌<◌, true, false, length, slice_set, slice_index_or, IsNone, IfOk, IfSome, OnOk, OnErr};
+ghost use Rattle.event_timing.specs.Actions.{ActsAll, MayRun, runs};
+ghost use Rattle.timing_bridge.specs.Designs.{design};
+ghost use Rattle.sim_core.specs.Tasks.{IsBurstOf, IsTaskOf};
+ghost use Rattle.sim_core.specs.Views.{theory_of};
+
+use crate::back::record_all;
+use crate::machine::Core;
+use crate::post::make_mail;
+use engine_view::make_room_for;
+use flow_design::limits::{LIVE_ITERATIONS, OPERATIONS};
+use flow_word::OutOfMemory;
+use run_ahead::{Burst, Task};
+use std::alloc::Global;
+
+impl Core {
+    /// Lends a module's run with its mail, where a Run of the module is permitted and its run is not lent.
+    ///
+    /// The mail has all that the core can tell the run: the outcomes of the step that waits, and of each channel that the
+    /// module pops the values from its next pop on. None, and want of memory, leave the core as it was.
+    pub fn lend(&mut self, alloc: Global, owner: u32) -> Result<Option<Task>, OutOfMemory>
+        requires { owner < length self.old.plan.design.modules }
+        ensures task { IfOk result (λ lent. IfSome lent (λ task. IsTaskOf self.old.plan (theory_of self.old) owner task)) }
+        ensures here { IfOk result (λ lent. IfSome lent (λ task. slice_index_or self.old.lent owner true ≡ false)) }
+        ensures lent { IfOk result (λ lent. IfSome lent (λ task.
+            self.new ≡ record self.old { lent = slice_set self.old.lent owner true })) }
+        ensures none { IfOk result (λ lent. IsNone lent → MayRun (design self.old.plan) (theory_of self.old) owner
+            → slice_index_or self.old.lent owner true ≡ true) }
+        ensures unchanged { IfOk result (λ lent. IsNone lent → self.new ≡ self.old) }
+        ensures no_memory { OnErr result (self.new ≡ self.old) }
+    {
+        if self.is_over(owner) {
+            return Ok(None);
+        }
+        let Some(run) = &self.runs[owner as usize] else {
+            return Ok(None);
+        };
+        let Some(mail) = make_mail(
+            alloc,
+            &self.fifos,
+            &self.log,
+            &self.readers,
+            owner,
+            run.queries(),
+            run.popped(),
+            run.waiting(),
+        )?
+        else {
+            return Ok(None);
+        };
+        let Some(run) = self.runs[owner as usize].take() else {
+            return Ok(None);
+        };
+        Ok(Some(Task { run, mail }))
+    }
+
+    /// Takes a module's run back, with the marks that it gave meanwhile: these are as many Runs of the module, one after the
+    /// other. After want of memory all is as it was, and the run stays lent.
+    pub fn take_back(&mut self, owner: u32, burst: Burst) -> Result<(), OutOfMemory>
+        requires owner { owner < length self.old.plan.design.modules }
+        requires lent { slice_index_or self.old.lent owner true ≡ true }
+        requires burst { IsBurstOf self.old owner burst }
+        ensures plan { self.new.plan ≡ self.old.plan }
+        ensures lent { OnOk result (self.new.lent ≡ slice_set self.old.lent owner false) }
+        ensures acts { OnOk result (ActsAll (design self.old.plan) self.old.plan.cycles (theory_of self.old)
+            (runs (length burst.emitted) owner) (theory_of self.new)) }
+        ensures no_memory { OnErr result (self.new ≡ self.old) }
+    {
+        let Burst {
+            run,
+            mut emitted,
+            short: _,
+        } = burst;
+        let Some(places) = emitted.len().checked_mul(2) else {
+            return Err(OutOfMemory);
+        };
+        make_room_for(
+            &mut self.graph,
+            &mut self.fifos,
+            &mut self.log,
+            &mut self.credits,
+            owner,
+            self.ports.as_slice(),
+            LIVE_ITERATIONS * OPERATIONS,
+            places,
+        )?;
+        record_all(
+            &mut self.graph,
+            &mut self.fifos,
+            &self.log,
+            &mut self.credits,
+            &mut self.ends,
+            owner,
+            &mut emitted,
+        );
+        self.runs[owner as usize] = Some(run);
+        Ok(())
+    }
+}

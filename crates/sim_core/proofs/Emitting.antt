@@ -25,8 +25,8 @@ use Rattle.engine_view.specs.Rooms.{AreApart, HasRoomFor, IsRoomy, UsesRoom, que
 use Rattle.engine_view.specs.Stored.{Stored, held_in}
 use Rattle.sim_core.specs.Runs.{IsRunOf, IsCore, rest_behind, lent_of, over_of}
 use Rattle.sim_core.proofs.Staying.{behind_same}
-use Rattle.sim_core.proofs.Recording.{IsReady}
-use Rattle.sim_core.proofs.Recording as recording
+use Rattle.sim_core.proofs.Emission.{IsReady}
+use Rattle.sim_core.proofs.Emission as emission
 use Rattle.sim_core.proofs.Lending.{core_roomed}
 
 -- a module's run is out of the core and waits for nothing
@@ -126,26 +126,26 @@ module _ (p : Plan) (s : Stored) (ends : List (Option Advance)) (runs : List (Op
     g = with_emitted h m t
 
     pub step_is : IsNextStep d h m t
-    step_is = recording.step_is p s ends runs credits m may_run t mark short small least
+    step_is = emission.step_is p s ends runs credits m may_run t mark short small least
 
     pub step_acts : Acts d p.cycles x (Run m) (core_of d g)
-    step_acts = recording.step_acts p s ends runs credits m may_run t mark short small least
+    step_acts = emission.step_acts p s ends runs credits m may_run t mark short small least
 
     pub step_apart : AreApart t.accesses
-    step_apart = recording.step_apart p s ends runs credits m may_run t mark short small least
+    step_apart = emission.step_apart p s ends runs credits m may_run t mark short small least
 
     pub step_room : 2 ≤ get_or credits m 0 → HasRoomFor s.table t.accesses
-    step_room l = recording.step_room p s ends runs credits m may_run t mark short small least l
+    step_room l = emission.step_room p s ends runs credits m may_run t mark short small least l
 
     pub step_run : (new : ModuleRun) → ((q : Plan) (j : ℕ) (o : Own) → StandsAt q j o run → StandsAt q j o new) → waits new ≡ true
         → IsRunOf p (core_of d g) m new
     step_run new go w = record {
       waiting = λ q. (
         emitted_of h m,
-        sym (recording.emitted_more p s ends runs credits m may_run t mark short small least),
+        sym (emission.emitted_more p s ends runs credits m may_run t mark short small least),
         subst (λ (o : Own). StandsAt p m o new) (sym
-            (behind_same p x (core_of d g) (recording.grows p s ends runs credits m may_run t mark short small least) m (emitted_of h m)
-            (recording.settled p s ends runs credits m may_run))) (go p m rest stands),
+            (behind_same p x (core_of d g) (emission.grows p s ends runs credits m may_run t mark short small least) m (emitted_of h m)
+            (emission.settled p s ends runs credits m may_run))) (go p m rest stands),
       );
       going = λ q. absurd (both_ways _ q w);
       over = λ q. absurd (both_ways _ r.lives q);
@@ -156,7 +156,7 @@ module _ (p : Plan) (s : Stored) (ends : List (Option Advance)) (runs : List (Op
         → queries_in t.accesses ≤ get_or s.log.rooms m 0 → t.first_query + queries_in t.accesses < query_bound
         → IsCore p u ends runs (set credits m (get_or credits m 0 - 2))
     step_core u is kinds rich used logs log_room few =
-        recording.step_core p s ends runs credits m may_run t mark short small least u is kinds rich used logs log_room few
+        emission.step_core p s ends runs credits m may_run t mark short small least u is kinds rich used logs log_room few
 
   -- ---- the end
 
@@ -165,12 +165,12 @@ module _ (p : Plan) (s : Stored) (ends : List (Option Advance)) (runs : List (Op
     ends_now = set ends m (Some end)
 
     pub end_acts : Acts d p.cycles x (Run m) (core_of d (held_in s (over_of ends_now)))
-    end_acts = recording.end_acts p s ends runs credits m may_run end mark over short
+    end_acts = emission.end_acts p s ends runs credits m may_run end mark over short
 
     pub end_run : (new : ModuleRun) → ((q : Plan) (j : ℕ) (o : Own) → StandsAt q j o run → StandsAt q j o new) → waits new ≡ false
         → IsRunOf p (core_of d (held_in s (over_of ends_now))) m new
     end_run new go w =
-        subst (λ (q : Held). IsRunOf p (core_of d q) m new) (sym (recording.held_is p s ends runs credits m may_run end mark over short))
+        subst (λ (q : Held). IsRunOf p (core_of d q) m new) (sym (emission.held_is p s ends runs credits m may_run end mark over short))
         (record {
           waiting = λ q. absurd (both_ways _ w q);
           going = λ q. ((r.run_is.going r.answered).0, go p m rest stands);
@@ -178,4 +178,4 @@ module _ (p : Plan) (s : Stored) (ends : List (Option Advance)) (runs : List (Op
         })
 
     pub end_core : IsCore p s ends_now runs credits
-    end_core = recording.end_core p s ends runs credits m may_run end mark over short
+    end_core = emission.end_core p s ends runs credits m may_run end mark over short

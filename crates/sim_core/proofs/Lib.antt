@@ -28,5 +28,5 @@ pub mod Posting
 pub mod Sending
 pub mod Posted
 pub mod Lends
-pub mod Recording
+pub mod Emission
 pub mod Returning

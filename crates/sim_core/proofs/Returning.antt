@@ -32,7 +32,7 @@ use Rattle.sim_core.specs.Runs.{IsCore, IsRunOf, rest_behind, over_of, lent_of}
 use Rattle.sim_core.specs.Tasks.{IsTaskFor, rest_of}
 use Rattle.sim_core.proofs.Ahead.{Goes, Waits, waits_behind, over_behind, goes_on, waiting_stands, going_stands, over_stands}
 use Rattle.sim_core.proofs.Tasks.{waits_first, goes_first}
-use Rattle.sim_core.proofs.Recording.{IsReady}
+use Rattle.sim_core.proofs.Emission.{IsReady}
 
 -- ---- one mark
 

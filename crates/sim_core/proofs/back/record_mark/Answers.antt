@@ -5,7 +5,7 @@ use Rattle.engine_view.specs.Stored.{stored, held_in}
 use Rattle.engine_view.proofs.Roomy.{few_queries}
 use Rattle.sim_core.specs.Runs.{over_of}
 use Rattle.sim_core.proofs.Emitting.{held_more, not_a_step}
-use Rattle.sim_core.proofs.Recording as recording
+use Rattle.sim_core.proofs.Emission as emission
 use Rattle.sim_core.proofs.Returning as returning
 use Rattle.sim_core.proofs.back.record_mark.Goals as goal
 
@@ -20,7 +20,7 @@ emit_step-requires-clause-after c =
     let mark = returning.mark_step p s ends runs credits c.args.owner c.args.mark n t c.in-Step.is in
     let short = returning.short_rest p s ends runs credits c.args.owner c.args.mark n in
     let small = returning.small_step p s ends runs credits c.args.owner c.args.mark n t c.in-Step.is in
-    (recording.step_is p s ends runs credits c.args.owner r t mark short small (least_gap p c.args.owner)).apart
+    (emission.step_is p s ends runs credits c.args.owner r t mark short small (least_gap p c.args.owner)).apart
 
 pub emit_step-requires-clause-inside : goal.emit_step-requires-clause-inside
 emit_step-requires-clause-inside c =
@@ -33,7 +33,7 @@ emit_step-requires-clause-inside c =
     let mark = returning.mark_step p s ends runs credits c.args.owner c.args.mark n t c.in-Step.is in
     let short = returning.short_rest p s ends runs credits c.args.owner c.args.mark n in
     let small = returning.small_step p s ends runs credits c.args.owner c.args.mark n t c.in-Step.is in
-    (recording.step_is p s ends runs credits c.args.owner r t mark short small (least_gap p c.args.owner)).inside
+    (emission.step_is p s ends runs credits c.args.owner r t mark short small (least_gap p c.args.owner)).inside
 
 pub emit_step-requires-clause-apart : goal.emit_step-requires-clause-apart
 emit_step-requires-clause-apart c =
@@ -46,7 +46,7 @@ emit_step-requires-clause-apart c =
     let mark = returning.mark_step p s ends runs credits c.args.owner c.args.mark n t c.in-Step.is in
     let short = returning.short_rest p s ends runs credits c.args.owner c.args.mark n in
     let small = returning.small_step p s ends runs credits c.args.owner c.args.mark n t c.in-Step.is in
-    recording.step_apart p s ends runs credits c.args.owner r t mark short small (least_gap p c.args.owner)
+    emission.step_apart p s ends runs credits c.args.owner r t mark short small (least_gap p c.args.owner)
 
 pub emit_step-requires-clause-room : goal.emit_step-requires-clause-room
 emit_step-requires-clause-room c =
@@ -59,7 +59,7 @@ emit_step-requires-clause-room c =
     let mark = returning.mark_step p s ends runs credits c.args.owner c.args.mark n t c.in-Step.is in
     let short = returning.short_rest p s ends runs credits c.args.owner c.args.mark n in
     let small = returning.small_step p s ends runs credits c.args.owner c.args.mark n t c.in-Step.is in
-    recording.step_room p s ends runs credits c.args.owner r t mark short small (least_gap p c.args.owner) n.room.places
+    emission.step_room p s ends runs credits c.args.owner r t mark short small (least_gap p c.args.owner) n.room.places
 
 pub returns-in-Step-clause-core : goal.returns-in-Step-clause-core
 returns-in-Step-clause-core c = λ p runs n.
@@ -77,7 +77,7 @@ returns-in-Step-clause-core c = λ p runs n.
     let most = small.few in
     let first = small.first_query in
     let outcomes = n.room.outcomes in
-    let after = recording.step_core p s ends runs credits c.args.owner r t mark short small (least_gap p c.args.owner) u held_is
+    let after = emission.step_core p s ends runs credits c.args.owner r t mark short small (least_gap p c.args.owner) u held_is
     c.emit_step.ensures.kinds n.room.places c.emit_step.ensures.room refl (omega arith) (omega arith) in
     let count = n.room.core.counted in
     let inside = c.requires.owner in
@@ -97,19 +97,19 @@ returns-in-Step-clause-acts c = λ p runs n.
     let u = stored c.emit_step.new.graph c.emit_step.new.fifos c.args.log.now in
     let held_is = held_more s u (over_of ends) c.args.owner t c.emit_step.ensures.lanes c.emit_step.ensures.channels refl in
     returning.acts_in p (held_in s (over_of ends)) (held_in u (over_of ends)) _ c.args.owner held_is
-    (recording.step_acts p s ends runs credits c.args.owner r t mark short small (least_gap p c.args.owner))
+    (emission.step_acts p s ends runs credits c.args.owner r t mark short small (least_gap p c.args.owner))
 
 pub returns-in_default : goal.returns-in_default
 returns-in_default c = record {
   core = λ p runs n.
       let s = stored c.args.graph.now c.args.fifos.now c.args.log.now in
       let r = returning.may_record p s c.args.ends.now.items runs c.args.credits.now.items c.args.owner c.args.mark n c.requires.owner in
-      recording.end_core p s c.args.ends.now.items runs c.args.credits.now.items c.args.owner r c.args.mark n.is
+      emission.end_core p s c.args.ends.now.items runs c.args.credits.now.items c.args.owner r c.args.mark n.is
       (not_a_step c.args.mark c.in_default.not-Step) n.sound.short;
   acts = λ p runs n.
       let s = stored c.args.graph.now c.args.fifos.now c.args.log.now in
       let r = returning.may_record p s c.args.ends.now.items runs c.args.credits.now.items c.args.owner c.args.mark n c.requires.owner in
-      recording.end_acts p s c.args.ends.now.items runs c.args.credits.now.items c.args.owner r c.args.mark n.is
+      emission.end_acts p s c.args.ends.now.items runs c.args.credits.now.items c.args.owner r c.args.mark n.is
       (not_a_step c.args.mark c.in_default.not-Step) n.sound.short;
   credit = omega arith;
   lanes = refl;

@@ -12,3 +12,8 @@ pub mod Turning
 pub mod Rounds
 pub mod Ending
 pub mod Beginning
+pub mod Firsts
+pub mod Causing
+pub mod Seeking
+pub mod Looking
+pub mod Permitting

@@ -6,3 +6,5 @@ pub mod Found
 pub mod Candidates
 pub mod Turns
 pub mod Drives
+pub mod Causes
+pub mod Missing

@@ -47,6 +47,8 @@ use Rattle.sim_core.proofs.Cut.{final_of, history_of, cut_of}
 use Rattle.sim_core.proofs.EditedRuns.{run_edited, end_edited, channel_inside, fifo_there, depth_there, kinds_edited}
 use Rattle.sim_core.proofs.Keeping.{kept_of}
 use Rattle.sim_core.proofs.Staying.{run_stays, end_stays}
+use Rattle.lockstep_defs.specs.Ports.{owner}
+use Rattle.sim_core.specs.Readers.{AreReaders}
 
 -- none of them is a Run
 no_runs : (m : ℕ) (actions : List Action) → AreTimings actions → IsNoRunOf m actions
@@ -196,3 +198,8 @@ edit_from p s ends runs credits k e fit stands is least apart o some none = reco
         ⊎ (IsNeverTouched s.graph.lanes (channel_at s.table.channels e.channel) e.depth × (unwrap_or o p.cycles ≡ p.cycles))
     by None some none = inr (none refl, refl)
     by (Some t) some none = inl some
+
+-- who pops a channel doesn't depend on depths
+pub readers_edited : (p : Plan) (channel depth : ℕ) (readers : List ℕ) → AreReaders p readers → AreReaders (with_depth p channel depth) readers
+unfolding owner
+readers_edited p channel depth readers r = record { count = r.count; each = r.each }

@@ -133,10 +133,10 @@ pub record AreFound (channels : List Channel) (xs : List Access) (os : List Bool
   pub enough : queries_in xs ≤ length os
   pub there : values_now channels xs (flags_by xs os) ≡ true
 
-flags_first : (a : Access) (xs : List Access) (os : List Bool) → flags_by (a ∷ xs) os ≡ flag_now a.kind (slice_get os 0) ∷ flags_by xs (cond (is_blocking a.kind) os (drop 1 os))
+pub flags_first : (a : Access) (xs : List Access) (os : List Bool) → flags_by (a ∷ xs) os ≡ flag_now a.kind (slice_get os 0) ∷ flags_by xs (cond (is_blocking a.kind) os (drop 1 os))
 flags_first a xs os = elim (cases_Bool (is_blocking a.kind)) [ inl e ↦ rw e refl | inr e ↦ rw e refl ]
 
-queries_first : (a : Access) (xs : List Access) → queries_in (a ∷ xs) ≡ cond (is_blocking a.kind) 0 1 + queries_in xs
+pub queries_first : (a : Access) (xs : List Access) → queries_in (a ∷ xs) ≡ cond (is_blocking a.kind) 0 1 + queries_in xs
 queries_first a xs = elim (cases_Bool (is_blocking a.kind)) [ inl e ↦ rw e (omega arith) | inr e ↦ rw e (omega arith) ]
 
 there_is : (xs : List ℕ) (n : ℕ) → is_some (slice_get xs n) ≡ true → n < length xs

@@ -30,3 +30,8 @@ pub mod Posted
 pub mod Lends
 pub mod Emission
 pub mod Returning
+pub mod Firsts
+pub mod Causing
+pub mod Seeking
+pub mod Looking
+pub mod Permitting

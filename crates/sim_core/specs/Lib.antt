@@ -12,3 +12,5 @@ pub mod Tasks
 pub mod Readers
 pub mod Lent
 pub mod Returned
+pub mod Causes
+pub mod Missing

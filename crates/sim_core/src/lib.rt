@@ -1,6 +1,7 @@
 //! The core of the engine: a plan with the marks, cycles and outcomes of its modules so far, and the actions on it.
 #![tactic(auto)]
 
+mod actions;
 mod alone;
 mod back;
 mod bursts;
@@ -10,6 +11,7 @@ mod laws;
 mod lent;
 mod machine;
 mod opening;
+mod permits;
 mod post;
 mod readers;
 mod records;
@@ -19,6 +21,7 @@ mod running;
 mod turn;
 mod visit;
 
+pub use actions::{Action, Cause};
 pub use alone::run_alone;
 pub use bursts::bursts_are_runs;
 pub use flow_design::Plan;

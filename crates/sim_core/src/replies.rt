@@ -41,7 +41,7 @@ pub fn find_replies(
 }
 
 /// The reply to an access, by its query's outcome.
-fn reply_now(fifos: &FifoTable, access: &Access, outcome: Option<bool>) -> Option<Reply>
+pub(crate) fn reply_now(fifos: &FifoTable, access: &Access, outcome: Option<bool>) -> Option<Reply>
     requires { IsAccess fifos.now.channels access.now }
     ensures { result ≡ reply_of access.now.kind outcome (value_now fifos.now.channels access.now) }
 {

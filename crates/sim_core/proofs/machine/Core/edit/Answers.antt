@@ -62,8 +62,14 @@ invariant_of-self g c =
     let core = editing.core_edited i.plan s i.ends.items i.runs.items i.credits.items k e fit final t c.retime.result
     (unwrap_or c.first_touched-from.result i.plan.cycles) from c.retime.ensures.retimed c.retime.ensures.steps_stay c.retime.ensures.room
     c.retime.ensures.kinds in
-    subst (λ (q : Plan). IsStoredCore q t i.ends.items i.runs.items i.credits.items i.ports i.candidates.items) (sym c.edit_plan.ensures)
-    (record { core = core; ports_are = c.self.invariant.ports_are; candidate_count = c.self.invariant.candidate_count })
+    subst (λ (q : Plan). IsStoredCore q t i.ends.items i.runs.items i.credits.items i.ports i.readers.items i.candidates.items)
+    (sym c.edit_plan.ensures)
+    (record {
+      core = core;
+      ports_are = c.self.invariant.ports_are;
+      readers_are = editing.readers_edited i.plan e.channel e.depth i.readers.items c.self.invariant.readers_are;
+      candidate_count = c.self.invariant.candidate_count;
+    })
 
 pub returns-clause-edited : goal.returns-clause-edited
 returns-clause-edited g c =

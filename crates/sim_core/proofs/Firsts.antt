@@ -1,0 +1,131 @@
+-- The first item of a list that passes a test, and the first cause of several.
+use Rattle.std.proofs.Common.{◌≡◌, refl, sym, ap, ◌∙◌, ℕ, zero, suc, ◌+◌, ◌<◌, inl, inr, Bool, true, false, cond, ltb}
+use Rattle.std.proofs.Common.{List, [], ◌∷◌, ◌++◌, length, map, get_or, Option, None, Some, arith}
+use Rattle.std.specs.Prelude.{All, position, option_map}
+use Rattle.std.specs.List.{position_or_len, range_with_len}
+use Rattle.std.proofs.lemmas.Bool.{cases_Bool, cases_lt, lt-ltb, le-ltb}
+use Rattle.std.proofs.lemmas.List.Elements.{All-head, All-tail}
+use Rattle.std.proofs.lemmas.List.FromFn.{length-range_with_len, get_or-range_with_len}
+use Rattle.time_engine.proofs.First.{position_found, position_none}
+use Rattle.sim_core.specs.Causes.{first_some}
+
+-- ---- the first that passes
+
+pub position_more : {X : Type 0} (p : X → Bool) (x : X) (xs : List X)
+    → position p (x ∷ xs) ≡ cond (p x) (Some 0) (option_map (λ (n : ℕ). 1 + n) (position p xs))
+position_more {X} p x xs =
+    elim (cases_Bool (p x)) [
+      | inl e ↦ rw (e, lt-ltb 0 (suc (length xs)) (omega arith)) refl
+      | inr e ↦ rw e (next (position_or_len p xs) (length xs))
+    ]
+  where
+    next : (n l : ℕ) → cond (ltb (1 + n) (suc l)) (Some (1 + n)) None ≡ option_map (λ (k : ℕ). 1 + k) (cond (ltb n l) (Some n) None)
+    next n l =
+        elim (cases_lt n l) [
+          | inl less ↦ rw (lt-ltb n l less, lt-ltb (1 + n) (suc l) (omega arith)) refl
+          | inr more ↦ rw (le-ltb n l more, le-ltb (1 + n) (suc l) (omega arith)) refl
+        ]
+
+pub position_seen : {X Y : Type 0} (p : Y → Bool) (q : X → Bool) (f : X → Y) (xs : List X) → All (λ (x : X). p (f x) ≡ q x) xs
+    → position p (map f xs) ≡ position q xs
+position_seen {X} {Y} p q f [] all = refl
+position_seen {X} {Y} p q f (x ∷ xs) all =
+    position_more p (f x) (map f xs)
+    ∙ (rw (All-head (λ (y : X). p (f y) ≡ q y) x xs all, position_seen p q f xs (All-tail (λ (y : X). p (f y) ≡ q y) x xs all)) refl
+    ∙ sym (position_more q x xs))
+
+pub nothing_passes : {X : Type 0} (p : X → Bool) (xs : List X) → All (λ (x : X). p x ≡ false) xs → position p xs ≡ None
+nothing_passes {X} p xs all = position_none p xs (length xs) refl (λ k e l. all k e l)
+
+-- none passes the head, and none the rest
+pub head_fails : {X : Type 0} (p : X → Bool) (x : X) (xs : List X) → position p (x ∷ xs) ≡ None → p x ≡ false
+head_fails {X} p x xs e =
+    elim (cases_Bool (p x)) [
+      | inl q ↦ let z = sym (position_more p x xs) ∙ e in let y = rw q at z in cc
+      | inr q ↦ q
+    ]
+
+pub tail_fails : {X : Type 0} (p : X → Bool) (x : X) (xs : List X) → position p (x ∷ xs) ≡ None → position p xs ≡ None
+tail_fails {X} p x xs e =
+    let z = sym (position_more p x xs) ∙ e in
+    let y = rw (head_fails p x xs e) at z in
+    none_of (position p xs) y
+  where
+    none_of : (o : Option ℕ) → option_map (λ (k : ℕ). 1 + k) o ≡ None → o ≡ None
+    none_of None e = refl
+    none_of (Some n) e = cc
+
+pub both_fail : {X : Type 0} (p : X → Bool) (x : X) (xs : List X) → p x ≡ false → position p xs ≡ None → position p (x ∷ xs) ≡ None
+both_fail {X} p x xs e f = position_more p x xs ∙ rw (e, f) refl
+
+-- ---- the first module that passes
+
+range_at : (n k e : ℕ) → k < n → get_or (range_with_len 0 n) k e ≡ k
+range_at n k e l =
+    let at = get_or-range_with_len 0 n k e l in
+    let sum : 0 + k ≡ k = omega arith in
+    at ∙ sum
+
+pub module_found : (test : ℕ → Bool) (n m : ℕ) → m < n → ((k : ℕ) → k < m → test k ≡ false) → test m ≡ true
+    → position test (range_with_len 0 n) ≡ Some m
+module_found test n m l before here =
+    let long = length-range_with_len 0 n in
+    position_found test (range_with_len 0 n) m 0 (omega arith)
+    (λ k e q. ap test (range_at n k e (omega arith)) ∙ before k q) (ap test (range_at n m 0 l) ∙ here)
+
+pub no_module_found : (test : ℕ → Bool) (n : ℕ) → ((k : ℕ) → k < n → test k ≡ false) → position test (range_with_len 0 n) ≡ None
+no_module_found test n none =
+    position_none test (range_with_len 0 n) n (sym (length-range_with_len 0 n)) (λ k e q. ap test (range_at n k e q) ∙ none k q)
+
+pub no_module_passes : (test : ℕ → Bool) (n : ℕ) → position test (range_with_len 0 n) ≡ None → (k : ℕ) → k < n → test k ≡ false
+no_module_passes test n e k l =
+    sym (ap test (range_at n k 0 l)) ∙ each (range_with_len 0 n) e k (let long = length-range_with_len 0 n in omega arith)
+  where
+    each : (xs : List ℕ) → position test xs ≡ None → (k : ℕ) → k < length xs → test (get_or xs k 0) ≡ false
+    each [] e k l = absurd (omega arith)
+    each (x ∷ xs) e zero l = head_fails test x xs e
+    each (x ∷ xs) e (suc k) l = each xs (tail_fails test x xs e) k (omega arith)
+
+-- ---- the first cause
+
+pub first_kept : {A : Type 0} (xs ys : List (Option A)) (a : A) → first_some xs ≡ Some a → first_some (xs ++ ys) ≡ Some a
+first_kept {A} [] ys a e = cc
+first_kept {A} (None ∷ xs) ys a e = first_kept xs ys a e
+first_kept {A} (Some b ∷ xs) ys a e = e
+
+pub first_beyond : {A : Type 0} (xs ys : List (Option A)) → first_some xs ≡ None → first_some (xs ++ ys) ≡ first_some ys
+first_beyond {A} [] ys e = refl
+first_beyond {A} (None ∷ xs) ys e = first_beyond xs ys e
+first_beyond {A} (Some b ∷ xs) ys e = cc
+
+pub none_before : {A : Type 0} (xs ys : List (Option A)) → first_some (xs ++ ys) ≡ None → first_some xs ≡ None
+none_before {A} [] ys e = refl
+none_before {A} (None ∷ xs) ys e = none_before xs ys e
+none_before {A} (Some b ∷ xs) ys e = cc
+
+pub none_here : {A : Type 0} (o : Option A) (rest : List (Option A)) → first_some (o ∷ rest) ≡ None → o ≡ None
+none_here {A} None rest e = refl
+none_here {A} (Some a) rest e = cc
+
+pub none_behind : {A : Type 0} (o : Option A) (rest : List (Option A)) → first_some (o ∷ rest) ≡ None → first_some rest ≡ None
+none_behind {A} None rest e = e
+none_behind {A} (Some a) rest e = cc
+
+pub here_first : {A : Type 0} (o : Option A) (a : A) (rest : List (Option A)) → o ≡ Some a → first_some (o ∷ rest) ≡ Some a
+here_first {A} None a rest e = cc
+here_first {A} (Some b) a rest e = e
+
+pub behind_first : {A : Type 0} (o : Option A) (rest : List (Option A)) → o ≡ None → first_some (o ∷ rest) ≡ first_some rest
+behind_first {A} None rest e = refl
+behind_first {A} (Some b) rest e = cc
+
+pub none_item : {A B : Type 0} (f : A → B) (o : Option A) → o ≡ None → option_map f o ≡ None
+none_item {A} {B} f None e = refl
+none_item {A} {B} f (Some a) e = cc
+
+pub some_item : {A B : Type 0} (f : A → B) (o : Option A) (a : A) → o ≡ Some a → option_map f o ≡ Some (f a)
+some_item {A} {B} f o a e = ap (option_map f) e
+
+pub no_item : {A B : Type 0} (f : A → B) (o : Option A) → option_map f o ≡ None → o ≡ None
+no_item {A} {B} f None e = refl
+no_item {A} {B} f (Some a) e = cc

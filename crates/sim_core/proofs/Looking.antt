@@ -1,0 +1,302 @@
+-- What the code finds of a module's steps is what the theory says of them.
+use Rattle.std.proofs.Common.{◌≡◌, refl, sym, ap, ap₂, subst, ◌∙◌, ℕ, zero, suc, ◌+◌, ◌-◌, ◌<◌, ◌≤◌, inl, inr, Bool, true, false, cond}
+use Rattle.std.proofs.Common.{ltb, not}
+use Rattle.std.proofs.Common.{◌&&◌, ◌||◌, List, [], ◌∷◌, length, map, drop, get_or, Option, None, Some, is_none, is_some, arith}
+use Rattle.std.proofs.Common.{length-drop}
+use Rattle.std.specs.Prelude.{All, position, option_map, slice_get}
+use Rattle.std.specs.List.{zip}
+use Rattle.std.proofs.lemmas.Bool.{cases_Bool, cases_lt, both_ways, and_from, and_parts, lt-ltb, le-ltb}
+use Rattle.std.proofs.lemmas.Option.{slice_get-get_or, slice_get_past}
+use Rattle.std.proofs.lemmas.Bool.Decides.{eqb_tells}
+use Rattle.std.proofs.lemmas.List.Elements.{All-head, All-tail}
+use Rattle.flow_word.specs.Kinds.{side_of, is_blocking, is_taking, same_side}
+use Rattle.flow_word.specs.declared.access.Access.{Access}
+use Rattle.flow_word.specs.declared.access.Kind.{Kind}
+use Rattle.flow_word.specs.declared.access.Kind.TheVariants.{Read, Write, TryRead, TryWrite, Empty, Full}
+use Rattle.flow_word.specs.declared.access.Side.{Side}
+use Rattle.flow_word.specs.declared.access.Side.TheVariants.{Pop}
+use Rattle.flow_word.specs.declared.access.Step.{Step}
+use Rattle.event_graph.specs.Lanes.{no_lane}
+use Rattle.fifo_table.specs.Channels.{Channel}
+use Rattle.query_log.specs.Logs.{log_at}
+use Rattle.time_engine.specs.declared.known.Known as of_code
+use Rattle.time_engine.specs.declared.known.Known.TheVariants as code
+use Rattle.time_engine.specs.Possible.{when_possible}
+use Rattle.time_engine.specs.Cycles.{is_waiting, known_clock}
+use Rattle.event_timing.specs.Machines as theory
+use Rattle.event_timing.specs.Machines.{Design, IsDesign}
+use Rattle.event_timing.specs.Views.{first_accesses}
+use Rattle.event_timing.specs.Enablers.{Known, known_of, is_decided}
+use Rattle.event_timing.specs.Core.{Core, core_accesses, core_tally, core_values, has_query, view}
+use Rattle.engine_view.specs.Held.{Held, no_step, step_of, emitted_of, seen, queries_in, flags_by, flag_now, are_among, core_of}
+use Rattle.engine_view.specs.Known.{as_known}
+use Rattle.engine_view.specs.Shown.{AreWhole, IsSound, queries_before}
+use Rattle.engine_view.specs.Turns.{first_of}
+use Rattle.engine_view.proofs.Knowing.{access_known}
+use Rattle.engine_view.proofs.Emitted.{queries_mono}
+use Rattle.engine_view.proofs.Answered.{queries_step, among_is, among_if}
+use Rattle.run_ahead.specs.Replies.{reply_now}
+use Rattle.sim_core.specs.Found.{value_now}
+use Rattle.sim_core.specs.Missing.{asks, is_open_query, first_missing}
+use Rattle.sim_core.specs.Causes.{first_lacking, has_clock, is_held, is_undecided, is_unverified, lacks_reply}
+use Rattle.sim_core.proofs.Causing.{ArePlain, lacks}
+use Rattle.sim_core.proofs.Finding.{flags_first, queries_first}
+use Rattle.sim_core.proofs.Firsts as firsts
+
+-- ---- the first step without a cycle
+
+module _ {S : Type 0} (d : Design S) (i : IsDesign d) (h : Held) (s : IsSound d h) (m : ℕ) (less : first_of h m < emitted_of h m) where
+  abbrev x : Core S
+  x = core_of d h
+
+  abbrev know : theory.Access → Known
+  know = known_of d (view d x) m
+
+  abbrev taken : List Access
+  taken = (step_of h m (first_of h m)).accesses
+
+  known : All (λ (a : Access). as_known (when_possible h.lanes h.channels a) ≡ know (seen a)) taken
+  known = access_known d i h s m less
+
+  pub held_is : position (is_held know) (first_accesses (view d x) m) ≡ position (is_waiting h.lanes h.channels) taken
+  held_is =
+      ap (λ (ys : List theory.Access). position (is_held know) ys) (s.accesses m (first_of h m) less)
+      ∙ firsts.position_seen (is_held know) (is_waiting h.lanes h.channels) seen taken
+      (λ k e l. ap (λ (q : Known). is_blocking (get_or taken k e).kind && not (has_clock q)) (sym (known k e l))
+      ∙ ap (λ (b : Bool). is_blocking (get_or taken k e).kind && b) (clock (when_possible h.lanes h.channels (get_or taken k e))))
+    where
+      clock : (q : of_code.Known) → not (has_clock (as_known q)) ≡ is_none (known_clock q)
+      clock (code.From u) = refl
+      clock code.Never = refl
+      clock code.Unknown = refl
+
+  pub undecided_is : position (is_undecided know) (first_accesses (view d x) m) ≡ position (is_open_query h.lanes h.channels) taken
+  undecided_is =
+      ap (λ (ys : List theory.Access). position (is_undecided know) ys) (s.accesses m (first_of h m) less)
+      ∙ firsts.position_seen (is_undecided know) (is_open_query h.lanes h.channels) seen taken
+      (λ k e l. ap (λ (q : Known). asks (get_or taken k e) && not (is_decided q)) (sym (known k e l)))
+
+-- ---- outcomes of whole steps
+
+-- the queries of a step are among the first so many, or none is
+whole_step : (h : Held) (m k n : ℕ) → k < emitted_of h m → (step_of h m k).first_query ≡ queries_before h m k → AreWhole h m n
+    → (step_of h m k).first_query < n → (step_of h m k).first_query + queries_in (step_of h m k).accesses ≤ n
+whole_step h m k n l first w less =
+    let e = w.all in
+    let step = queries_step h m k in
+    elim (cases_lt k w.steps) [
+      | inl q ↦ let up = queries_mono h m (suc k) w.steps q in omega arith
+      | inr q ↦ let up = queries_mono h m w.steps k q in omega arith
+    ]
+
+no_queries : (xs : List Access) → queries_in xs ≡ 0 → All (λ (a : Access). asks a ≡ false) xs
+no_queries [] e k f l = absurd (omega arith)
+no_queries (a ∷ xs) e zero f l =
+    elim (cases_Bool (is_blocking a.kind)) [
+      | inl b ↦ ap not b
+      | inr b ↦
+          let n : 0 ≡ 1 + queries_in xs = sym e ∙ (queries_first a xs ∙ ap (λ (c : Bool). cond {A = ℕ} c 0 1 + queries_in xs) b) in
+          absurd (omega arith)
+    ]
+no_queries (a ∷ xs) e (suc k) f l =
+    let n = sym (queries_first a xs) ∙ e in
+    no_queries xs (omega arith) k f (omega arith)
+
+plain_step : (xs : List Access) → has_query (map seen xs) ≡ false → queries_in xs ≡ 0
+plain_step [] e = refl
+plain_step (a ∷ xs) e =
+    let (b, rest) = neither (is_blocking a.kind) (has_query (map seen xs)) e in
+    let n : queries_in (a ∷ xs) ≡ 0 + queries_in xs = queries_first a xs ∙ ap (λ (c : Bool). cond {A = ℕ} c 0 1 + queries_in xs) b in
+    let z = plain_step xs rest in
+    omega arith
+  where
+    neither : (b q : Bool) → (not b || q) ≡ false → (b ≡ true) × (q ≡ false)
+    neither true q e = (refl, e)
+    neither false q e = cc
+
+module _ {S : Type 0} (d : Design S) (h : Held) (s : IsSound d h) where
+  -- a step without a query has all its outcomes
+  pub are_plain : ArePlain d (core_of d h)
+  are_plain = record {
+    answered = λ m k l e. all_there m k l e (length (log_at h.logs m).outcomes);
+    verified = λ m k l e. all_there m k l e (log_at h.logs m).verified;
+  }
+    where
+      all_there : (m k : ℕ) → k < emitted_of h m → has_query (core_accesses d (core_of d h) m k) ≡ false → (n : ℕ)
+          → (ltb k (emitted_of h m) && are_among (step_of h m k) n) ≡ true
+      all_there m k l e n =
+          let none = plain_step (step_of h m k).accesses (sym (ap has_query (s.accesses m k l)) ∙ e) in
+          and_from (ltb k (emitted_of h m)) (are_among (step_of h m k) n) (lt-ltb k (emitted_of h m) l) (among_if_none none n)
+        where
+          among_if_none : queries_in (step_of h m k).accesses ≡ 0 → (n : ℕ) → are_among (step_of h m k) n ≡ true
+          among_if_none none n =
+              elim (eqb_tells (queries_in (step_of h m k).accesses) 0) [ inl q ↦ rw q.0 refl | inr q ↦ absurd (q.1 none) ]
+
+  module _ (m k : ℕ) (l : k < emitted_of h m) (inside : m < length h.logs) where
+    abbrev mine : Step
+    mine = step_of h m k
+
+    -- of the first step without a cycle: the first query, where its outcomes are not verified
+    pub unverified_not : first_of h m ≡ k → mine.first_query < (log_at h.logs m).verified
+        → position (is_unverified (core_of d h) m) (first_accesses (view d (core_of d h)) m) ≡ None
+    unverified_not at less =
+        let all = whole_step h m k (log_at h.logs m).verified l (s.first_query m k l) (s.verified m inside) less in
+        let v : (core_of d h).verified m (first_of h m) ≡ true = subst (λ (j : ℕ). (core_of d h).verified m j ≡ true) (sym at)
+        (and_from (ltb k (emitted_of h m)) (are_among mine (log_at h.logs m).verified) (lt-ltb k (emitted_of h m) l)
+        (among_if mine (log_at h.logs m).verified all)) in
+        firsts.nothing_passes (is_unverified (core_of d h) m) (first_accesses (view d (core_of d h)) m)
+        (λ j e q. ap (λ (b : Bool). not (get_or (first_accesses (view d (core_of d h)) m) j e).blocks && not b) v ∙ blank (_))
+      where
+        blank : (b : Bool) → (b && false) ≡ false
+        blank true = refl
+        blank false = refl
+
+    pub unverified_is : first_of h m ≡ k → (log_at h.logs m).verified ≤ mine.first_query
+        → position (is_unverified (core_of d h) m) (first_accesses (view d (core_of d h)) m) ≡ position asks mine.accesses
+    unverified_is at more =
+        ap (λ (ys : List theory.Access). position (is_unverified (core_of d h) m) ys)
+        (ap (λ (j : ℕ). core_accesses d (core_of d h) m j) at ∙ s.accesses m k l)
+        ∙ firsts.position_seen (is_unverified (core_of d h) m) asks seen mine.accesses (λ j e q. same (get_or mine.accesses j e)
+        (queries_of j e q))
+      where
+        v : Bool
+        v = (core_of d h).verified m (first_of h m)
+
+        queries_of : (j : ℕ) (e : Access) → j < length mine.accesses → v ≡ true → asks (get_or mine.accesses j e) ≡ false
+        queries_of j e q sure =
+            let sure' = subst (λ (i : ℕ). (core_of d h).verified m i ≡ true) at sure in
+            elim (among_is mine (log_at h.logs m).verified (and_parts (ltb k (emitted_of h m)) (are_among mine (log_at h.logs m).verified)
+            sure').1) [
+              | inl none ↦ no_queries mine.accesses none j e q
+              | inr n ↦ no_queries mine.accesses (omega arith) j e q
+            ]
+
+        same : (a : Access) → (v ≡ true → asks a ≡ false) → (asks a && not v) ≡ asks a
+        same a f = by_cases v (asks a) f
+          where
+            by_cases : (v b : Bool) → (v ≡ true → b ≡ false) → (b && not v) ≡ b
+            by_cases true true f = let z = f refl in cc
+            by_cases true false f = refl
+            by_cases false true f = refl
+            by_cases false false f = refl
+
+-- ---- the replies to the newest step
+
+lacks_is : (k : Kind) (o : Option Bool) (v : Option ℕ) (w u : Bool) → (is_blocking k ≡ false → is_some o ≡ w)
+    → (side_of k ≡ Pop → is_none v ≡ not u)
+    → is_none (reply_now k o v) ≡ ((not (is_blocking k) && not w) || ((is_taking k && (same_side (side_of k) Pop && flag_now k o)) && not
+    u))
+lacks_is Read o None w u f g = g refl
+lacks_is Read o (Some v) w u f g = g refl
+lacks_is Write o v w u f g = refl
+lacks_is TryRead None v true u f g = let z = f refl in cc
+lacks_is TryRead None v false u f g = refl
+lacks_is TryRead (Some b) v false u f g = let z = f refl in cc
+lacks_is TryRead (Some true) None true u f g = g refl
+lacks_is TryRead (Some true) (Some v) true u f g = g refl
+lacks_is TryRead (Some false) v true u f g = refl
+lacks_is TryWrite None v true u f g = let z = f refl in cc
+lacks_is TryWrite None v false u f g = refl
+lacks_is TryWrite (Some b) v true u f g = refl
+lacks_is TryWrite (Some b) v false u f g = let z = f refl in cc
+lacks_is Empty None v true u f g = let z = f refl in cc
+lacks_is Empty None v false u f g = refl
+lacks_is Empty (Some b) v true u f g = refl
+lacks_is Empty (Some b) v false u f g = let z = f refl in cc
+lacks_is Full None v true u f g = let z = f refl in cc
+lacks_is Full None v false u f g = refl
+lacks_is Full (Some b) v true u f g = refl
+lacks_is Full (Some b) v false u f g = let z = f refl in cc
+
+-- of a pop: its value is there where so many were popped before and so many were pushed
+abbrev HasValue : List Channel → (ℕ → ℕ) → (ℕ → ℕ) → Access → Type 0
+HasValue channels s t a = side_of a.kind ≡ Pop → is_none (value_now channels a) ≡ not (ltb (t a.channel) (s a.channel))
+
+missing_is : (channels : List Channel) (s t : ℕ → ℕ) (w : Bool) (xs : List Access) (os : List Bool) → All (HasValue channels s t) xs
+    → (w ≡ true → queries_in xs ≤ length os) → (w ≡ false → length os ≡ 0)
+    → first_missing channels xs os ≡ position (lacks s t w) (zip (map seen xs) (flags_by xs os))
+missing_is channels s t w [] os all f g = refl
+missing_is channels s t w (a ∷ xs) os all f g =
+    ap₂ (λ (b : Bool) (o : Option ℕ). cond b (Some 0) (option_map (λ (n : ℕ). 1 + n) o))
+    (lacks_is a.kind (slice_get os 0) (value_now channels a) w (ltb (t a.channel) (s a.channel))
+    (λ b. there os w (queries_in xs) (λ q.
+    let n : queries_in (a ∷ xs) ≡ 1 + queries_in xs = queries_first a xs ∙ ap (λ (c : Bool). cond {A = ℕ} c 0 1 + queries_in xs) b in
+    let l = f q in omega arith) g)
+    (All-head (HasValue channels s t) a xs all))
+    (missing_is channels s t w xs (cond (is_blocking a.kind) os (drop 1 os)) (All-tail (HasValue channels s t) a xs all)
+    (λ q. let l = f q in let n = queries_first a xs in fewer os (is_blocking a.kind) (omega arith))
+    (λ q. shorter os (is_blocking a.kind) (g q)))
+    ∙ (sym (firsts.position_more (lacks s t w) (seen a, flag_now a.kind (slice_get os 0))
+    (zip (map seen xs) (flags_by xs (cond (is_blocking a.kind) os (drop 1 os)))))
+    ∙ ap (λ (bs : List Bool). position (lacks s t w) (zip (seen a ∷ map seen xs) bs)) (sym (flags_first a xs os)))
+  where
+    there : (os : List Bool) (w : Bool) (n : ℕ) → (w ≡ true → 1 + n ≤ length os) → (w ≡ false → length os ≡ 0)
+        → is_some (slice_get os 0) ≡ w
+    there [] true n f g = let l = f refl in absurd (omega arith)
+    there [] false n f g = refl
+    there (o ∷ os) true n f g = refl
+    there (o ∷ os) false n f g = let l = g refl in absurd (omega arith)
+
+    fewer : (os : List Bool) (b : Bool) → cond b 0 1 + queries_in xs ≤ length os → queries_in xs ≤ length (cond b os (drop 1 os))
+    fewer os true l = omega arith
+    fewer [] false l = absurd (omega arith)
+    fewer (o ∷ os) false l = omega arith
+
+    shorter : (os : List Bool) (b : Bool) → length os ≡ 0 → length (cond b os (drop 1 os)) ≡ 0
+    shorter os true e = e
+    shorter [] false e = refl
+    shorter (o ∷ os) false e = absurd (omega arith)
+
+value_there : (xs : List ℕ) (n : ℕ) → is_none (slice_get xs n) ≡ not (ltb n (length xs))
+value_there xs n =
+    elim (cases_lt n (length xs)) [
+      | inl l ↦ rw (slice_get-get_or xs n 0 l, lt-ltb n (length xs) l) refl
+      | inr l ↦ rw (slice_get_past xs n l, le-ltb n (length xs) l) refl
+    ]
+
+module _ {S : Type 0} (d : Design S) (h : Held) (s : IsSound d h) (m k : ℕ) (l : k < emitted_of h m) (inside : m < length h.logs)
+    (module_inside : m < length h.lanes) where
+  abbrev y : Core S
+  y = core_of d h
+
+  abbrev step : Step
+  step = step_of h m k
+
+  abbrev outs : List Bool
+  outs = (log_at h.logs m).outcomes
+
+  pub missing_reply : first_missing h.channels step.accesses (drop step.first_query outs) ≡ first_lacking d y m k
+  missing_reply =
+      missing_is h.channels (λ c. length (core_values d y c)) (λ c. core_tally d y m Pop c k) (y.answered m k) step.accesses
+      (drop step.first_query outs) values recorded open_yet
+      ∙ ap (λ (ys : List theory.Access). position (λ p. lacks_reply d y m k p.0 p.1) (zip ys (y.flags m k))) (sym (s.accesses m k l))
+    where
+      values : All (HasValue h.channels (λ c. length (core_values d y c)) (λ c. core_tally d y m Pop c k)) step.accesses
+      values j e q pop =
+          let a = get_or step.accesses j e in
+          let channel = (s.inside m no_lane module_inside k no_step l j e q).channel in
+          let ordinal = s.ordinals m k l j e q in
+          let before : core_tally d y m (side_of a.kind) a.channel k ≡ core_tally d y m Pop a.channel k =
+          ap (λ (side : Side). core_tally d y m side a.channel k) pop in
+          let n : a.ordinal - 1 ≡ core_tally d y m Pop a.channel k = omega arith in
+          ap₂ (λ (vs : List ℕ) (i : ℕ). is_none (slice_get vs i)) (s.values a.channel channel) n
+          ∙ value_there (core_values d y a.channel) (core_tally d y m Pop a.channel k)
+
+      recorded : y.answered m k ≡ true → queries_in step.accesses ≤ length (drop step.first_query outs)
+      recorded e =
+          let n = length-drop step.first_query outs in
+          elim (among_is step (length outs) (and_parts (ltb k (emitted_of h m)) (are_among step (length outs)) e).1) [
+            | inl none ↦ omega arith
+            | inr most ↦ omega arith
+          ]
+
+      open_yet : y.answered m k ≡ false → length (drop step.first_query outs) ≡ 0
+      open_yet e =
+          let n = length-drop step.first_query outs in
+          elim (cases_lt step.first_query (length outs)) [
+            | inl less ↦
+                let all = whole_step h m k (length outs) l (s.first_query m k l) (s.recorded m inside) less in
+                absurd (both_ways _ e (and_from (ltb k (emitted_of h m)) (are_among step (length outs)) (lt-ltb k (emitted_of h m) l)
+                (among_if step (length outs) all)))
+            | inr more ↦ omega arith
+          ]

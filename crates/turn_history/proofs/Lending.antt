@@ -1,141 +1,120 @@
--- What others do while a module is lent, and what a history leads to.
-use Rattle.std.proofs.Common.{◌≡◌, ℕ, zero, suc, eqb, List, [], ◌∷◌, ◌++◌, map, Option, None, Some}
-use Rattle.std.proofs.Common.{inl, inr, refl, sym, ap, ◌∙◌, subst, ne_eqb, get_or}
-use Rattle.std.proofs.Math.ListN.{get_or-map}
+-- While a module is lent to a pass, the turns of others do no Run of it; and nothing is done behind a final core.
+use Rattle.std.proofs.Common.{◌≡◌, ℕ, zero, suc, ◌≤◌, inl, inr, refl, sym, ap}
+use Rattle.std.proofs.Common.{◌∙◌, subst, arith, Option, Some, None, List, [], ◌∷◌, ◌++◌, length}
+use Rattle.std.specs.Prelude.{get_or, slice_set, map}
+use Rattle.std.proofs.lemmas.Bool.{cond-false, ne_eqb}
 use Rattle.std.proofs.lemmas.List.{get_or-set_other}
-use Rattle.std.proofs.lemmas.Bool.{cond-false}
-use Rattle.event_timing.specs.Machines.{Design, IsDesign}
-use Rattle.event_timing.specs.Histories.{Trace, IsHistory}
-use Rattle.event_timing.specs.Core.{Core, opening_core}
-use Rattle.event_timing.specs.Actions.{Action, ActsAll, IsNoRunOf, runs}
+use Rattle.std.proofs.Math.ListN.{get_or-map}
+use Rattle.event_timing.specs.Machines.{Design}
+use Rattle.event_timing.specs.Core.{Core}
+use Rattle.event_timing.specs.Actions.{Action, Acts, ActsAll, IsNoRunOf, IsFinal, runs}
 use Rattle.event_timing.specs.Actions.Action.{Run, Assign, Answer, Earliest}
-use Rattle.event_timing.specs.Agreement.{IsAgreed, AllVerified}
-use Rattle.event_timing.proofs.ActionBound.{all_rise, none_assumed}
-use Rattle.event_timing.proofs.Agreement.{all_agree, opening_agrees}
 use Rattle.turn_history.specs.declared.turn.HubTurn.{HubTurn}
 use Rattle.turn_history.specs.declared.turn.HubTurn.TheVariants.{Lent, Ran, Timed, Short}
-use Rattle.turn_history.specs.Standings.{Standing, first_standing, holder, unless_to}
-use Rattle.turn_history.specs.Rounds.{on_some}
-use Rattle.turn_history.specs.Replays.{turned_by, turned_all, standing_of}
-use Rattle.turn_history.specs.Turns.{AreTimings, IsTurn, taker, AreOfOthers}
-use Rattle.turn_history.proofs.Turning.{turn_is}
+use Rattle.turn_history.specs.Turned.{Turned, lent_at, is_lent_to, not_to}
+use Rattle.turn_history.specs.Turns.{AreTimings, IsTurnOf, TurnsOf, taker, AreOfOthers}
 
 -- ---- lists of actions
 
-acts_join : {S : Type 0} → (d : Design S) (limit : ℕ) (x y z : Core S) (before behind : List Action) → ActsAll d limit x before y
-    → ActsAll d limit y behind z → ActsAll d limit x (before ++ behind) z
-acts_join {S} d limit x y z [] behind e b = subst (λ (u : Core S). ActsAll d limit u behind z) e b
-acts_join {S} d limit x y z (a ∷ rest) behind (u, acts, r) b = (u, acts, acts_join d limit u y z rest behind r b)
+pub acts_join : {S : Type 0} → (d : Design S) (limit : ℕ) (x y z : Core S) (actions more : List Action) → ActsAll d limit x actions y
+    → ActsAll d limit y more z → ActsAll d limit x (actions ++ more) z
+acts_join {S} d limit x y z [] more e b = subst (λ (q : Core S). ActsAll d limit q more z) e b
+acts_join {S} d limit x y z (a ∷ actions) more (u, act, rest) b = (u, act, acts_join d limit u y z actions more rest b)
 
-no_run_join : (m : ℕ) (before behind : List Action) → IsNoRunOf m before → IsNoRunOf m behind → IsNoRunOf m (before ++ behind)
-no_run_join m [] behind a b = b
-no_run_join m (Run n ∷ rest) behind a b = (a.0, no_run_join m rest behind a.1 b)
-no_run_join m (Assign n ∷ rest) behind a b = no_run_join m rest behind a b
-no_run_join m (Answer n ∷ rest) behind a b = no_run_join m rest behind a b
-no_run_join m (Earliest n ∷ rest) behind a b = no_run_join m rest behind a b
+no_run_join : (m : ℕ) (actions more : List Action) → IsNoRunOf m actions → IsNoRunOf m more → IsNoRunOf m (actions ++ more)
+no_run_join m [] more a b = b
+no_run_join m (Run k ∷ actions) more (n, a) b = (n, no_run_join m actions more a b)
+no_run_join m (Assign k ∷ actions) more a b = no_run_join m actions more a b
+no_run_join m (Answer k ∷ actions) more a b = no_run_join m actions more a b
+no_run_join m (Earliest k ∷ actions) more a b = no_run_join m actions more a b
 
-timings_run_none : (m : ℕ) (actions : List Action) → AreTimings actions → IsNoRunOf m actions
-timings_run_none m [] t = tt
-timings_run_none m (Run n ∷ rest) t = absurd t
-timings_run_none m (Assign n ∷ rest) t = timings_run_none m rest t
-timings_run_none m (Answer n ∷ rest) t = timings_run_none m rest t
-timings_run_none m (Earliest n ∷ rest) t = absurd t
+timings_no_run : (m : ℕ) (actions : List Action) → AreTimings actions → IsNoRunOf m actions
+timings_no_run m [] t = tt
+timings_no_run m (Run k ∷ actions) t = absurd t
+timings_no_run m (Assign k ∷ actions) t = timings_no_run m actions t
+timings_no_run m (Answer k ∷ actions) t = timings_no_run m actions t
+timings_no_run m (Earliest k ∷ actions) t = absurd t
 
-runs_of_another : (m n count : ℕ) → (m ≡ n → ⊥) → IsNoRunOf m (runs count n)
-runs_of_another m n zero e = tt
-runs_of_another m n (suc count) e = (e, runs_of_another m n count e)
+others_runs : (m k n : ℕ) → (m ≡ k → ⊥) → IsNoRunOf m (runs n k)
+others_runs m k zero other = tt
+others_runs m k (suc n) other = (other, others_runs m k n other)
 
--- ---- one turn
+-- ---- one turn of another pass
 
--- what is lost to another pass is not this module
-mapped_other : (xs : List (Option ℕ)) (r m q : ℕ) → get_or xs m None ≡ Some q → (r ≡ q → ⊥) → get_or (map (unless_to r) xs) m None ≡ Some q
-mapped_other xs r m q lent other =
-    get_or-map (unless_to r) xs m None ∙ (ap (unless_to r) lent ∙ cond-false (eqb q r) None (Some q) (ne_eqb q r (λ e. other (sym e))))
+-- the module stays lent, and what is done is no Run of it
+pub data IsBeside {S : Type 0} (d : Design S) (limit : ℕ) (v w : Turned S) (q m : ℕ) : Type 0 where
+  beside : lent_at w m ≡ Some q → (actions : List Action) → IsNoRunOf m actions → ActsAll d limit v.core actions w.core
+      → IsBeside d limit v w q m
 
--- what one turn does to a core: actions, none of them a Run of a module that it doesn't bring back
+module _ {S : Type 0} (d : Design S) (limit : ℕ) (v : Turned S) (q m : ℕ) (lent : lent_at v m ≡ Some q) where
+  lent_other : (k : ℕ) (o : Option ℕ) → (m ≡ k → ⊥) → get_or (slice_set v.lent_to k o) m None ≡ Some q
+  lent_other k o other = get_or-set_other v.lent_to k m o None other ∙ lent
+
+  kept_short : (r : ℕ) → (r ≡ q → ⊥) → get_or (map (not_to r) v.lent_to) m None ≡ Some q
+  kept_short r other =
+      get_or-map (not_to r) v.lent_to m None ∙ ap (not_to r) lent
+      ∙ cond-false (is_lent_to (Some q) r) None (Some q) (ne_eqb r q other)
+
+  pub turn_beside : (turn : HubTurn) (w : Turned S) → (taker turn ≡ q → ⊥) → IsTurnOf d limit v turn w → IsBeside d limit v w q m
+  turn_beside (Lent r k) w other (short, may, free, same) =
+      beside (ap (λ (u : Turned S). lent_at u m) same ∙ lent_other k (Some r) differ) [] tt (ap (λ (u : Turned S). u.core) same)
+    where
+      differ : m ≡ k → ⊥
+      differ e = let z : None ≡ Some q = sym free ∙ ap (lent_at v) (sym e) ∙ lent in cc
+  turn_beside (Ran r k n) w other (holds, some, acts, same) =
+      beside (ap (λ (u : Turned S). lent_at u m) same ∙ lent_other k None differ) (runs n k) (others_runs m k n differ) acts
+    where
+      differ : m ≡ k → ⊥
+      differ e = let z : Some r ≡ Some q = sym holds ∙ ap (lent_at v) (sym e) ∙ lent in other cc
+  turn_beside (Timed r n) w other (short, some, inl t, same) =
+      beside (ap (λ (u : Turned S). lent_at u m) same ∙ lent) t.actions (timings_no_run m t.actions t.timings) t.acts
+  turn_beside (Timed r n) w other (short, some, inr (one, t), same) =
+      beside (ap (λ (u : Turned S). lent_at u m) same ∙ lent) (Earliest t.owner ∷ []) tt t.acts
+  turn_beside (Short r) w other same =
+      beside (ap (λ (u : Turned S). lent_at u m) same ∙ kept_short r other) [] tt (ap (λ (u : Turned S). u.core) same)
+
+pub turns_beside : {S : Type 0} → (d : Design S) (limit : ℕ) (v w : Turned S) (q m : ℕ) → lent_at v m ≡ Some q → (turns : List HubTurn)
+    → AreOfOthers q turns → TurnsOf d limit v turns w
+    → (lent_at w m ≡ Some q) × ((actions : List Action) × IsNoRunOf m actions × ActsAll d limit v.core actions w.core)
+turns_beside {S} d limit v w q m lent [] o e =
+    (ap (λ (u : Turned S). lent_at u m) e ∙ lent, ([], tt, ap (λ (u : Turned S). u.core) e))
+turns_beside {S} d limit v w q m lent (turn ∷ more) (other, o) (u, t, rest) =
+    elim (turn_beside d limit v q m lent turn u other t) [
+      | beside still actions a b ↦
+          let (last, (then, c, e)) = turns_beside d limit u w q m still more o rest in
+          (last, (actions ++ then, no_run_join m actions then a c, acts_join d limit v.core u.core w.core actions then b e))
+    ]
+
+-- ---- a final core
+
 module _ {S : Type 0} (d : Design S) (limit : ℕ) where
-  pub turn_acts : (v w : Standing S) (turn : HubTurn) → IsTurn d limit v turn w
-      → (actions : List Action) × ActsAll d limit v.core actions w.core
-  turn_acts v w (Lent q m) (s, may, free, e) = ([], ap (λ (u : Standing S). u.core) e)
-  turn_acts v w (Ran q m n) (lent, some, acts, e) = (runs n m, acts)
-  turn_acts v w (Timed q n) (s, some, inl t, e) = (t.actions, t.acts)
-  turn_acts v w (Timed q n) (s, some, inr (one, t), e) = (Earliest t.owner ∷ [], t.acts)
-  turn_acts v w (Short q) e = ([], ap (λ (u : Standing S). u.core) e)
+  nothing_acts : (x z : Core S) → IsFinal d limit x → (a : Action) → Acts d limit x a z → ⊥
+  nothing_acts x z f (Run m) (may, e) = f.quiet.no_run m may
+  nothing_acts x z f (Assign m) (c, may, e) = f.quiet.no_assign m c may
+  nothing_acts x z f (Answer m) (c, may, e) = f.quiet.no_answer m c may
+  nothing_acts x z f (Earliest m) (c, may, e) = f.no_earliest m c may
 
-  pub other_turn : (v w : Standing S) (turn : HubTurn) (q m : ℕ) → holder v m ≡ Some q → (taker turn ≡ q → ⊥) → IsTurn d limit v turn w
-      → (holder w m ≡ Some q) × ((actions : List Action) × IsNoRunOf m actions × ActsAll d limit v.core actions w.core)
-  other_turn v w (Lent r n) q m lent other (s, may, free, e) = (
-    ap (λ (u : Standing S). holder u m) e
-        ∙ (get_or-set_other v.lent_to n m (Some r) None (λ same. none_some q (sym lent ∙ (ap (holder v) same ∙ free))) ∙ lent),
-    ([], tt, ap (λ (u : Standing S). u.core) e),
-  )
-    where
-      none_some : (j : ℕ) → Some j ≡ None → ⊥
-      none_some j z = cc
-  other_turn v w (Ran r n count) q m lent other (there, some, acts, e) = (
-    ap (λ (u : Standing S). holder u m) e
-        ∙ (get_or-set_other v.lent_to n m None None (λ same. other (some_same r q (sym there ∙ (ap (holder v) (sym same) ∙ lent)))) ∙ lent),
-    (runs count n, runs_of_another m n count (λ same. other (some_same r q (sym there ∙ (ap (holder v) (sym same) ∙ lent)))), acts),
-  )
-    where
-      some_same : (j k : ℕ) → Some j ≡ Some k → j ≡ k
-      some_same j k z = cc
-  other_turn v w (Timed r n) q m lent other (s, some, inl t, e) =
-      (ap (λ (u : Standing S). holder u m) e ∙ lent, (t.actions, timings_run_none m t.actions t.timings, t.acts))
-  other_turn v w (Timed r n) q m lent other (s, some, inr (one, t), e) =
-      (ap (λ (u : Standing S). holder u m) e ∙ lent, (Earliest t.owner ∷ [], tt, t.acts))
-  other_turn v w (Short r) q m lent other e =
-      (ap (λ (u : Standing S). holder u m) e ∙ (mapped_other v.lent_to r m q lent other), ([], tt, ap (λ (u : Standing S). u.core) e))
+  none_act : (x z : Core S) → IsFinal d limit x → (actions : List Action) → 1 ≤ length actions → ActsAll d limit x actions z → ⊥
+  none_act x z f [] l e = absurd (omega (arith, l))
+  none_act x z f (a ∷ rest) l (u, act, e) = nothing_acts x u f a act
 
--- ---- many turns
+  runs_length : (n m : ℕ) → length (runs n m) ≡ n
+  runs_length zero m = refl
+  runs_length (suc n) m = ap suc (runs_length n m)
 
-module _ {S : Type 0} (d : Design S) (h : Trace S) (i : IsDesign d) (k : IsHistory d h) (limit : ℕ) where
-  pub turns_act : (v w : Standing S) → IsAgreed d h limit v.core → AllVerified v.core → (turns : List HubTurn)
-      → turned_all d limit v turns ≡ Some w → (actions : List Action) × ActsAll d limit v.core actions w.core
-  turns_act v w g a [] e = ([], ap (λ (u : Standing S). u.core) (some_back v w e))
-    where
-      some_back : (j l : Standing S) → Some j ≡ Some l → l ≡ j
-      some_back j l z = cc
-  turns_act v w g a (turn ∷ more) e = found (λ u g' a' r. turns_act u w g' a' more r) (turned_by d limit v turn) refl e
-    where
-      found : ((u : Standing S) → IsAgreed d h limit u.core → AllVerified u.core → turned_all d limit u more ≡ Some w
-          → (actions : List Action) × ActsAll d limit u.core actions w.core)
-          → (o : Option (Standing S)) → turned_by d limit v turn ≡ o → on_some o (λ u. turned_all d limit u more) ≡ Some w
-          → (actions : List Action) × ActsAll d limit v.core actions w.core
-      found next None t r = cc
-      found next (Some u) t r =
-          let (first, acts) = turn_acts d limit v u turn (turn_is d h i k limit v g a turn u t) in
-          let (n, l, a') = all_rise d h i k limit v.core g a first u.core acts in
-          let (rest, acts') = next u (all_agree d h i k limit v.core g first u.core acts) a' r in
-          (first ++ rest, acts_join d limit v.core u.core w.core first rest acts acts')
+  -- behind a final core there is no turn but a want of memory
+  pub final_turn : (v w : Turned S) → IsFinal d limit v.core → (turn : HubTurn) → IsTurnOf d limit v turn w
+      → (turn ≡ Short (taker turn)) × (w.core ≡ v.core)
+  final_turn v w f (Lent q m) (short, may, free, same) = absurd (f.quiet.no_run m may)
+  final_turn v w f (Ran q m n) (holds, some, acts, same) =
+      absurd (none_act v.core w.core f (runs n m) (subst (λ (k : ℕ). 1 ≤ k) (sym (runs_length n m)) some) acts)
+  final_turn v w f (Timed q n) (short, some, inl t, same) =
+      absurd (none_act v.core w.core f t.actions (subst (λ (k : ℕ). 1 ≤ k) (sym t.count) some) t.acts)
+  final_turn v w f (Timed q n) (short, some, inr (one, t), same) = absurd (f.no_earliest t.owner t.cycle t.may)
+  final_turn v w f (Short q) same = (refl, ap (λ (u : Turned S). u.core) same)
 
-  pub others_act : (v w : Standing S) → IsAgreed d h limit v.core → AllVerified v.core → (q m : ℕ) → holder v m ≡ Some q
-      → (turns : List HubTurn) → AreOfOthers q turns → turned_all d limit v turns ≡ Some w
-      → (holder w m ≡ Some q) × ((actions : List Action) × IsNoRunOf m actions × ActsAll d limit v.core actions w.core)
-  others_act v w g a q m lent [] o e =
-      let same = some_back v w e in
-      (ap (λ (u : Standing S). holder u m) same ∙ lent, ([], tt, ap (λ (u : Standing S). u.core) same))
-    where
-      some_back : (j l : Standing S) → Some j ≡ Some l → l ≡ j
-      some_back j l z = cc
-  others_act v w g a q m lent (turn ∷ more) (o, os) e =
-      found (λ u g' a' lent' r. others_act u w g' a' q m lent' more os r) (turned_by d limit v turn) refl e
-    where
-      found : ((u : Standing S) → IsAgreed d h limit u.core → AllVerified u.core → holder u m ≡ Some q → turned_all d limit u more ≡ Some w
-          → (holder w m ≡ Some q) × ((actions : List Action) × IsNoRunOf m actions × ActsAll d limit u.core actions w.core))
-          → (o' : Option (Standing S)) → turned_by d limit v turn ≡ o' → on_some o' (λ u. turned_all d limit u more) ≡ Some w
-          → (holder w m ≡ Some q) × ((actions : List Action) × IsNoRunOf m actions × ActsAll d limit v.core actions w.core)
-      found next None t r = cc
-      found next (Some u) t r =
-          let (lent', (first, none, acts)) = other_turn d limit v u turn q m lent o (turn_is d h i k limit v g a turn u t) in
-          let (n, l, a') = all_rise d h i k limit v.core g a first u.core acts in
-          let (lent'', (rest, none', acts')) = next u (all_agree d h i k limit v.core g first u.core acts) a' lent' r in
-          (lent'', (first ++ rest, no_run_join m first rest none none', acts_join d limit v.core u.core w.core first rest acts acts'))
-
-  pub history_agrees : (turns : List HubTurn) (w : Standing S) → standing_of d limit turns ≡ Some w
-      → IsAgreed d h limit w.core × AllVerified w.core
-  history_agrees turns w e =
-      let g = opening_agrees d h i k limit in
-      let (actions, acts) = turns_act (first_standing d) w g (none_assumed d) turns e in
-      let (n, l, a) = all_rise d h i k limit (opening_core d) g (none_assumed d) actions w.core acts in
-      (all_agree d h i k limit (opening_core d) g actions w.core acts, a)
+  pub final_stays : (v w : Turned S) → IsFinal d limit v.core → (turns : List HubTurn) → TurnsOf d limit v turns w → w.core ≡ v.core
+  final_stays v w f [] e = ap (λ (u : Turned S). u.core) e
+  final_stays v w f (turn ∷ more) (u, t, rest) =
+      let (short, same) = final_turn v u f turn t in
+      final_stays u w (subst (IsFinal d limit) (sym same) f) more rest ∙ same

@@ -1,83 +1,77 @@
--- What a round finds.
-use Rattle.std.proofs.Common.{◌≡◌, ℕ, zero, suc, ◌+◌, ◌-◌, ◌<◌, ◌≤◌, Bool, true, false, Option, None, Some, is_none}
-use Rattle.std.proofs.Common.{inl, inr, refl, sym, ◌∙◌, subst}
-use Rattle.std.proofs.Common.{arith, ◌⊎◌}
+-- What the first of a round is.
+use Rattle.std.proofs.Common.{◌≡◌, ℕ, zero, suc, ◌+◌, ◌-◌, ◌<◌, ◌≤◌, Bool, true}
+use Rattle.std.proofs.Common.{false, inl, inr, refl, sym, ap, ◌∙◌, arith, Option, Some, None}
+use Rattle.std.proofs.lemmas.Bool.{cases_Bool, cases_lt, cond-true, cond-false}
 use Rattle.std.specs.Option.{option_or}
-use Rattle.std.proofs.lemmas.Bool.{cases_Bool, cases_lt, cases_eq, cond-true, cond-false}
-use Rattle.turn_history.specs.Rounds.{first_from, next_round}
+use Rattle.turn_history.specs.Rounds.{first_from, first_round}
 
 module _ (test : ℕ → Bool) where
-  pub first_passes : (many a m : ℕ) → first_from test many a ≡ Some m → test m ≡ true
-  first_passes zero a m e = cc
-  first_passes (suc many) a m e =
+  pub from_passes : (a n m : ℕ) → first_from test a n ≡ Some m → test m ≡ true
+  from_passes a zero m e = cc
+  from_passes a (suc n) m e =
+      elim (cases_Bool (test a)) [
+        | inl t ↦ let z = sym (cond-true (test a) (Some a) (first_from test (suc a) n) t) ∙ e in cc
+        | inr f ↦ from_passes (suc a) n m (sym (cond-false (test a) (Some a) (first_from test (suc a) n) f) ∙ e)
+      ]
+
+  pub from_first : (a n m : ℕ) → first_from test a n ≡ Some m → (k : ℕ) → a ≤ k → k < m → test k ≡ false
+  from_first a zero m e k l u = cc
+  from_first a (suc n) m e k l u =
       elim (cases_Bool (test a)) [
         | inl t ↦
-            subst (λ (k : ℕ). test k ≡ true) (some_same a m (sym (cond-true (test a) (Some a) (first_from test many (suc a)) t) ∙ e)) t
-        | inr f ↦ first_passes many (suc a) m (sym (cond-false (test a) (Some a) (first_from test many (suc a)) f) ∙ e)
-      ]
-    where
-      some_same : (j k : ℕ) → Some j ≡ Some k → j ≡ k
-      some_same j k w = cc
-
-  pub first_is_least : (many a m : ℕ) → first_from test many a ≡ Some m → (n : ℕ) → a ≤ n → n < m → test n ≡ false
-  first_is_least zero a m e n l k = cc
-  first_is_least (suc many) a m e n l k =
-      elim (cases_Bool (test a)) [
-        | inl t ↦
-            let same = some_same a m (sym (cond-true (test a) (Some a) (first_from test many (suc a)) t) ∙ e) in
-            absurd (omega (arith, same, l, k))
+            let z : Some a ≡ Some m = sym (cond-true (test a) (Some a) (first_from test (suc a) n) t) ∙ e in
+            let same : a ≡ m = cc in
+            absurd (omega (arith, same, l, u))
         | inr f ↦
-            elim (cases_eq n a) [
-              | inl w ↦ subst (λ (j : ℕ). test j ≡ false) (sym w) f
-              | inr w ↦
-                  first_is_least many (suc a) m (sym (cond-false (test a) (Some a) (first_from test many (suc a)) f) ∙ e) n
-                  (omega (arith, w, l)) k
-            ]
-      ]
-    where
-      some_same : (j k : ℕ) → Some j ≡ Some k → j ≡ k
-      some_same j k w = cc
-
-  pub none_passes : (many a : ℕ) → first_from test many a ≡ None → (n : ℕ) → a ≤ n → n < a + many → test n ≡ false
-  none_passes zero a e n l k = absurd (omega arith)
-  none_passes (suc many) a e n l k =
-      elim (cases_Bool (test a)) [
-        | inl t ↦ let z = sym (cond-true (test a) (Some a) (first_from test many (suc a)) t) ∙ e in cc
-        | inr f ↦
-            elim (cases_eq n a) [
-              | inl w ↦ subst (λ (j : ℕ). test j ≡ false) (sym w) f
-              | inr w ↦
-                  none_passes many (suc a) (sym (cond-false (test a) (Some a) (first_from test many (suc a)) f) ∙ e) n
-                  (omega (arith, w, l)) (omega (arith, k))
+            elim (cases_lt a k) [
+              | inl less ↦
+                  from_first (suc a) n m (sym (cond-false (test a) (Some a) (first_from test (suc a) n) f) ∙ e) k (omega (arith, less)) u
+              | inr more ↦ let same : k ≡ a = omega (arith, l, more) in ap test same ∙ f
             ]
       ]
 
-  -- one of two options
-  or_some : (o p : Option ℕ) (m : ℕ) → option_or o p ≡ Some m → (o ≡ Some m) ⊎ (p ≡ Some m)
-  or_some None p m e = inr e
-  or_some (Some k) p m e = inl e
-
-  or_none : (o p : Option ℕ) → option_or o p ≡ None → (o ≡ None) × (p ≡ None)
-  or_none None p e = (refl, e)
-  or_none (Some k) p e = cc
-
-  pub next_passes : (count at m : ℕ) → next_round test count at ≡ Some m → test m ≡ true
-  unfolding next_round
-  next_passes count at m e =
-      elim (or_some (first_from test (count - at) at) (first_from test at 0) m e) [
-        | inl w ↦ first_passes (count - at) at m w
-        | inr w ↦ first_passes at 0 m w
+  pub from_none : (a n : ℕ) → first_from test a n ≡ None → (k : ℕ) → a ≤ k → k < a + n → test k ≡ false
+  from_none a zero e k l u = absurd (omega (arith, l, u))
+  from_none a (suc n) e k l u =
+      elim (cases_Bool (test a)) [
+        | inl t ↦ let z = sym (cond-true (test a) (Some a) (first_from test (suc a) n) t) ∙ e in cc
+        | inr f ↦
+            elim (cases_lt a k) [
+              | inl less ↦
+                  from_none (suc a) n (sym (cond-false (test a) (Some a) (first_from test (suc a) n) f) ∙ e) k
+                  (omega (arith, less)) (omega (arith, u))
+              | inr more ↦ let same : k ≡ a = omega (arith, l, more) in ap test same ∙ f
+            ]
       ]
 
-  pub no_next : (count at : ℕ) → next_round test count at ≡ None → (n : ℕ) → n < count → test n ≡ false
-  unfolding next_round
-  no_next count at e n l =
-      let (e1, e2) = or_none (first_from test (count - at) at) (first_from test at 0) e in
-      elim (cases_lt n at) [
-        | inl k ↦ none_passes at 0 e2 n (omega arith) (omega (arith, k))
-        | inr k ↦ none_passes (count - at) at e1 n k (omega (arith, k, l))
-      ]
+  -- where none passes, none is found
+  pub none_from : (a n : ℕ) → ((k : ℕ) → a ≤ k → k < a + n → test k ≡ false) → first_from test a n ≡ None
+  none_from a zero none = refl
+  none_from a (suc n) none =
+      cond-false (test a) (Some a) (first_from test (suc a) n) (none a (omega arith) (omega arith))
+      ∙ none_from (suc a) n (λ k l u. none k (omega (arith, l)) (omega (arith, u)))
 
-pub is_none_none : {A : Type 0} → (o : Option A) → is_none o ≡ true → o ≡ None
-is_none_none {A} None e = refl
-is_none_none {A} (Some a) e = cc
+  -- ---- going round
+
+  pub round_passes : (count at m : ℕ) → first_round test count at ≡ Some m → test m ≡ true
+  round_passes count at m e = either (first_from test at (count - at)) refl e
+    where
+      either : (o : Option ℕ) → first_from test at (count - at) ≡ o → option_or o (first_from test 0 at) ≡ Some m → test m ≡ true
+      either None s q = from_passes 0 at m q
+      either (Some k) s q = from_passes at (count - at) m (s ∙ q)
+
+  pub round_none : (count at : ℕ) → first_round test count at ≡ None → (k : ℕ) → k < count → test k ≡ false
+  round_none count at e k l = either (first_from test at (count - at)) refl e
+    where
+      either : (o : Option ℕ) → first_from test at (count - at) ≡ o → option_or o (first_from test 0 at) ≡ None → test k ≡ false
+      either None s q =
+          elim (cases_lt k at) [
+            | inl less ↦ from_none 0 at q k (omega arith) (omega (arith, less))
+            | inr more ↦ from_none at (count - at) s k more (omega (arith, l, more))
+          ]
+      either (Some j) s q = cc
+
+  pub none_round : (count at : ℕ) → at ≤ count → ((k : ℕ) → k < count → test k ≡ false) → first_round test count at ≡ None
+  none_round count at b none =
+      ap (λ (o : Option ℕ). option_or o (first_from test 0 at)) (none_from at (count - at) (λ k l u. none k (omega (arith, u, b))))
+      ∙ none_from 0 at (λ k l u. none k (omega (arith, u, b)))

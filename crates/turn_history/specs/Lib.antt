@@ -1,4 +1,6 @@
-pub mod Standings
+pub mod Turned
+pub mod Turns
 pub mod Rounds
 pub mod Replays
-pub mod Turns
+pub mod Histories
+pub mod Entries

@@ -1,45 +1,68 @@
-//! The laws of legal histories, for any design `d` over states of any type `S`, and any history `h` of its lockstep machine.
-ghost use Rattle.std.specs.Prelude.{◌≡◌, ℕ, ◌<◌, ◌≤◌, List, ◌++◌, ◌∷◌, [], false, length, None, Some};
+//! The laws, for any design `d` over states of any type `S`, any history `h` of its lockstep machine, and any plan `p`.
+ghost use Rattle.std.specs.Prelude.{◌≡◌, ℕ, ◌≤◌, List, [], ◌∷◌, ◌++◌, false, None, Some};
+ghost use Rattle.flow_design.specs.declared.plan.Plan.{Plan};
+ghost use Rattle.flow_design.specs.declared.state.ModuleState.{ModuleState};
+ghost use Rattle.flow_design.specs.StaticRules.{FitsEngine};
+ghost use Rattle.timing_bridge.specs.Designs.{design, lockstep_run};
 ghost use Rattle.event_timing.specs.Machines.{Design, IsDesign};
 ghost use Rattle.event_timing.specs.Histories.{Trace, IsHistory};
-ghost use Rattle.event_timing.specs.Core.{Core, opening_core};
-ghost use Rattle.event_timing.specs.Actions.{Action, ActsAll, MayRun, IsNoRunOf, runs};
+ghost use Rattle.event_timing.specs.Core.{Core};
+ghost use Rattle.event_timing.specs.Actions.{Action, ActsAll, IsNoRunOf, IsFinal};
 ghost use Rattle.event_timing.specs.Agreement.{IsAgreed, AllVerified};
+ghost use Rattle.event_timing.specs.Permitted.{IsInside};
 ghost use Rattle.turn_history.specs.declared.turn.HubTurn.{HubTurn};
-ghost use Rattle.turn_history.specs.declared.turn.HubTurn.TheVariants.{Lent, Ran, Short};
-ghost use Rattle.turn_history.specs.Standings.{Standing, holder, lend_to, bring_back, cut_short};
-ghost use Rattle.turn_history.specs.Replays.{turned_by, turned_all, standing_of};
-ghost use Rattle.turn_history.specs.Turns.{IsTurn, AreOfOthers};
+ghost use Rattle.turn_history.specs.declared.turn.HubTurn.TheVariants.{Lent, Ran, Timed, Short};
+ghost use Rattle.turn_history.specs.Turned.{Turned, lent_at, after_timed};
+ghost use Rattle.turn_history.specs.Rounds.{then_on, timings, earliest_of};
+ghost use Rattle.turn_history.specs.Turns.{IsTurnOf, TurnsOf, AreOfOthers, taker};
+ghost use Rattle.turn_history.specs.Replays.{turn_on, turns_on};
+ghost use Rattle.turn_history.specs.Histories.{IsHistoryOf, IsTurn, standing_of, turned_by};
 
-/// A turn that fits is what its name says; and a lending, a return with marks, and a want of memory fit where that is so.
+/// A turn that is computed is legal. A legal lending, return and want of memory are computed, and so are the rounds of a turn that
+/// times, and its one Earliest. No step may be emitted there for a number that names no module; in a core that agrees none is.
 pub fn turns_fit<S>()
-    ensures is { (d : Design S) (h : Trace S) → IsDesign d → IsHistory d h → (limit : ℕ) (v w : Standing S)
-        → IsAgreed d h limit v.core → AllVerified v.core → (turn : HubTurn) → turned_by d limit v turn ≡ Some w → IsTurn d limit v turn w }
-    ensures lent { (d : Design S) (limit : ℕ) (v : Standing S) (q m : ℕ) → v.short ≡ false → MayRun d v.core m → holder v m ≡ None
-        → turned_by d limit v (Lent q m) ≡ Some (lend_to v q m) }
-    ensures ran { (d : Design S) (limit : ℕ) (v : Standing S) (q m n : ℕ) (y : Core S) → holder v m ≡ Some q → 1 ≤ n
-        → ActsAll d limit v.core (runs n m) y → turned_by d limit v (Ran q m n) ≡ Some (bring_back v m y) }
-    ensures short { (d : Design S) (limit : ℕ) (v : Standing S) (q : ℕ) → turned_by d limit v (Short q) ≡ Some (cut_short v q) }
-    ensures more { (d : Design S) (limit : ℕ) (v u w : Standing S) (turns : List HubTurn) (turn : HubTurn)
-        → turned_all d limit v turns ≡ Some u → turned_by d limit u turn ≡ Some w → turned_all d limit v (turns ++ turn ∷ []) ≡ Some w }
+    ensures legal { (d : Design S) (h : Trace S) → IsDesign d → IsHistory d h → (limit : ℕ) (v w : Turned S)
+        → IsAgreed d h limit v.core → AllVerified v.core → (turn : HubTurn) → turn_on d limit v turn ≡ Some w → IsTurnOf d limit v turn w }
+    ensures lent { (d : Design S) (limit : ℕ) (v : Turned S) (q m : ℕ) (w : Turned S) → IsTurnOf d limit v (Lent q m) w
+        → turn_on d limit v (Lent q m) ≡ Some w }
+    ensures ran { (d : Design S) (limit : ℕ) (v : Turned S) (q m n : ℕ) (w : Turned S) → IsTurnOf d limit v (Ran q m n) w
+        → turn_on d limit v (Ran q m n) ≡ Some w }
+    ensures timed { (d : Design S) (limit : ℕ) (v : Turned S) (q n : ℕ) (z : Core S) → v.short ≡ false → 1 ≤ n
+        → timings d limit n 0 v.core ≡ Some z → turn_on d limit v (Timed q n) ≡ Some (after_timed v z) }
+    ensures earliest { (d : Design S) (limit : ℕ) (v : Turned S) (q : ℕ) (z : Core S) → v.short ≡ false
+        → IsInside d v.core → earliest_of d limit v.core ≡ Some z
+        → turn_on d limit v (Timed q 1) ≡ Some (after_timed v z) }
+    ensures short { (d : Design S) (limit : ℕ) (v : Turned S) (q : ℕ) (w : Turned S) → IsTurnOf d limit v (Short q) w
+        → turn_on d limit v (Short q) ≡ Some w }
 {}
 
-/// What stands behind a legal history is a core to which permitted actions lead from the opening one. So it agrees with the lockstep
-/// machine, and its outcomes are all verified.
-pub fn turns_are_actions<S>()
-    ensures actions { (d : Design S) (h : Trace S) → IsDesign d → IsHistory d h → (limit : ℕ) (v w : Standing S)
-        → IsAgreed d h limit v.core → AllVerified v.core → (turns : List HubTurn) → turned_all d limit v turns ≡ Some w
-        → (actions : List Action) × ActsAll d limit v.core actions w.core }
-    ensures agrees { (d : Design S) (h : Trace S) → IsDesign d → IsHistory d h → (limit : ℕ) (turns : List HubTurn) (w : Standing S)
-        → standing_of d limit turns ≡ Some w → IsAgreed d h limit w.core }
-    ensures verified { (d : Design S) (h : Trace S) → IsDesign d → IsHistory d h → (limit : ℕ) (turns : List HubTurn) (w : Standing S)
-        → standing_of d limit turns ≡ Some w → AllVerified w.core }
+/// Histories only grow: what stands behind more turns is what stands behind these, and then the others. Behind a final core there is
+/// no turn but a want of memory, and the core stays.
+pub fn histories_grow<S>()
+    ensures joined { (d : Design S) (limit : ℕ) (v : Turned S) (turns more : List HubTurn)
+        → turns_on d limit v (turns ++ more) ≡ then_on (turns_on d limit v turns) (λ u. turns_on d limit u more) }
+    ensures final_turn { (d : Design S) (limit : ℕ) (v w : Turned S) → IsFinal d limit v.core → (turn : HubTurn)
+        → IsTurnOf d limit v turn w → (turn ≡ Short (taker turn)) × (w.core ≡ v.core) }
+    ensures final_stays { (d : Design S) (limit : ℕ) (v w : Turned S) → IsFinal d limit v.core → (turns : List HubTurn)
+        → TurnsOf d limit v turns w → w.core ≡ v.core }
 {}
 
-/// While a module is lent to a pass that takes no turn it stays so, and what others do are permitted actions without a Run of it.
+/// While a module is lent to a pass that takes no turn, it stays so, and what the others do are permitted actions without a Run of it.
 pub fn lent_runs_stay<S>()
-    ensures { (d : Design S) (h : Trace S) → IsDesign d → IsHistory d h → (limit : ℕ) (v w : Standing S)
-        → IsAgreed d h limit v.core → AllVerified v.core → (q m : ℕ) → holder v m ≡ Some q → (turns : List HubTurn)
-        → AreOfOthers q turns → turned_all d limit v turns ≡ Some w
-        → (holder w m ≡ Some q) × ((actions : List Action) × IsNoRunOf m actions × ActsAll d limit v.core actions w.core) }
+    ensures { (d : Design S) (limit : ℕ) (v w : Turned S) (q m : ℕ) → lent_at v m ≡ Some q → (turns : List HubTurn)
+        → AreOfOthers q turns → TurnsOf d limit v turns w
+        → (lent_at w m ≡ Some q) × ((actions : List Action) × IsNoRunOf m actions × ActsAll d limit v.core actions w.core) }
+{}
+
+/// A history of a plan that is computed is legal. A legal history is a list of permitted actions from the opening core on: so the core
+/// behind it agrees with the lockstep run, with all outcomes verified.
+pub fn histories_are_legal()
+    ensures legal { (p : Plan) → FitsEngine p → (turns : List HubTurn) (v : Turned ModuleState) → standing_of p turns ≡ Some v
+        → IsHistoryOf p turns v }
+    ensures agrees { (p : Plan) → FitsEngine p → (turns : List HubTurn) (v : Turned ModuleState) → IsHistoryOf p turns v
+        → IsAgreed (design p) (lockstep_run p) p.cycles v.core }
+    ensures verified { (p : Plan) → FitsEngine p → (turns : List HubTurn) (v : Turned ModuleState) → IsHistoryOf p turns v
+        → AllVerified v.core }
+    ensures turn { (p : Plan) → FitsEngine p → (turns : List HubTurn) (v w : Turned ModuleState) → IsHistoryOf p turns v
+        → (turn : HubTurn) → turned_by p v turn ≡ Some w → IsTurn p v turn w }
 {}

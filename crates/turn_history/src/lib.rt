@@ -1,9 +1,11 @@
-//! Legal histories of the turns that threads take at one core: definitions, and laws of them. Only the turn itself is a type of the
-//! program.
+//! Legal histories of the turns that threads take at one core: definitions, and laws on them. Only a turn and an entry are types of
+//! the program.
 #![tactic(auto)]
 
+mod entry;
 mod laws;
 mod turn;
 
-pub use laws::{lent_runs_stay, turns_are_actions, turns_fit};
+pub use entry::HubEntry;
+pub use laws::{histories_are_legal, histories_grow, lent_runs_stay, turns_fit};
 pub use turn::HubTurn;

@@ -5,10 +5,10 @@
 pub enum HubTurn {
     /// The run of this module was lent to the pass.
     Lent(u32, u32),
-    /// The run of this module came back, with so many marks.
+    /// So many Runs of this module were made, and it came back.
     Ran(u32, u32, u64),
-    /// So many actions other than a Run were done.
+    /// So many actions other than a Run were made.
     Timed(u32, u64),
-    /// There was no memory.
+    /// Memory was wanted.
     Short(u32),
 }

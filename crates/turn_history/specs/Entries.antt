@@ -1,0 +1,25 @@
+-- The history of a hub: the plan at whose opening it began, and the turns since.
+use Rattle.std.specs.Prelude.{◌≡◌, ℕ, List, ◌∷◌, map, Option, None, Some}
+use Rattle.flow_design.specs.declared.plan.Plan.{Plan}
+use Rattle.flow_design.specs.declared.state.ModuleState.{ModuleState}
+use Rattle.turn_history.specs.declared.entry.HubEntry.{HubEntry}
+use Rattle.turn_history.specs.declared.entry.HubEntry.TheVariants.{Opened, Turn}
+use Rattle.turn_history.specs.declared.turn.HubTurn.{HubTurn}
+use Rattle.turn_history.specs.Turned.{Turned}
+use Rattle.turn_history.specs.Turns.{taker}
+use Rattle.turn_history.specs.Histories.{standing_of}
+
+-- the pass whose number an entry bears
+abbrev pub bearer : HubEntry → Option ℕ
+bearer (Opened p) = None
+bearer (Turn turn) = Some (taker turn)
+
+abbrev pub history_of : Plan → List HubTurn → List HubEntry
+history_of p turns = Opened p ∷ map Turn turns
+
+-- what has been seen is a legal history, and this stands behind it
+pub record Stands (seen : List HubEntry) (v : Turned ModuleState) : Type 0 where
+  pub plan : Plan
+  pub turns : List HubTurn
+  pub entries : seen ≡ history_of plan turns
+  pub standing : standing_of plan turns ≡ Some v

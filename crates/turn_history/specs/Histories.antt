@@ -1,0 +1,23 @@
+-- The legal histories of a plan: as a relation, and computed.
+use Rattle.std.specs.Prelude.{List, Option}
+use Rattle.flow_design.specs.declared.plan.Plan.{Plan}
+use Rattle.flow_design.specs.declared.state.ModuleState.{ModuleState}
+use Rattle.timing_bridge.specs.Designs.{design}
+use Rattle.turn_history.specs.declared.turn.HubTurn.{HubTurn}
+use Rattle.turn_history.specs.Turned.{Turned, opening_turned}
+use Rattle.turn_history.specs.Turns.{IsTurnOf, TurnsOf}
+use Rattle.turn_history.specs.Replays.{turn_on, turns_on}
+
+abbrev pub IsTurn : Plan → Turned ModuleState → HubTurn → Turned ModuleState → Type 0
+IsTurn p v turn w = IsTurnOf (design p) p.cycles v turn w
+
+-- the turns, from the opening on, are legal, and this stands behind them
+abbrev pub IsHistoryOf : Plan → List HubTurn → Turned ModuleState → Type 0
+IsHistoryOf p turns v = TurnsOf (design p) p.cycles (opening_turned (design p)) turns v
+
+abbrev pub turned_by : Plan → Turned ModuleState → HubTurn → Option (Turned ModuleState)
+turned_by p v turn = turn_on (design p) p.cycles v turn
+
+-- what stands behind the turns from the opening on, where they are legal
+abbrev pub standing_of : Plan → List HubTurn → Option (Turned ModuleState)
+standing_of p turns = turns_on (design p) p.cycles (opening_turned (design p)) turns

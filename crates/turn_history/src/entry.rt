@@ -1,0 +1,12 @@
+//! The entries of a hub's history.
+use crate::turn::HubTurn;
+use flow_design::Plan;
+
+/// An entry of a hub's history.
+#[derive(Drop)]
+pub enum HubEntry {
+    /// The plan at whose opening it began.
+    Opened(Plan),
+    /// A turn of a pass.
+    Turn(HubTurn),
+}

@@ -1,5 +1,6 @@
 -- When a FIFO first holds so many elements, by the cycles of its pushes and pops.
-use Rattle.std.proofs.Common.{◌≡◌, refl, sym, ap, subst, ◌∙◌, ℕ, zero, suc, ◌+◌, ◌-◌, ◌<◌, ◌≤◌, ◌⊎◌, inl, inr, min, true, false, List, [], ◌∷◌, length, get_or, Option, None, Some, arith}
+use Rattle.std.proofs.Common.{◌≡◌, refl, sym, ap, subst, ◌∙◌, ℕ, zero, suc, ◌+◌, ◌-◌, ◌<◌, ◌≤◌, ◌⊎◌, inl, inr, min, true, false, List, []}
+use Rattle.std.proofs.Common.{◌∷◌, length, get_or, Option, None, Some, arith}
 use Rattle.std.specs.Prelude.{All, slice_get, option_and_then}
 use Rattle.std.specs.List.Sorted.{IsStrictlyIncreasing}
 use Rattle.std.proofs.lemmas.Bool.{cases_lt, cases_Bool, lt-ltb, ltb-true, both_ways}

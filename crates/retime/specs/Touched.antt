@@ -1,5 +1,6 @@
 -- The first clock that a change of a FIFO's depth touches.
-use Rattle.std.specs.Prelude.{◌≡◌, ℕ, suc, ◌-◌, ◌<◌, min, ◌⊎◌, Bool, false, List, length, filter, nat_lt, slice_get, Option, None, Some, option_and_then}
+use Rattle.std.specs.Prelude.{◌≡◌, ℕ, suc, ◌-◌, ◌<◌, min, ◌⊎◌, Bool, false, List, length, filter, nat_lt, slice_get, Option, None, Some}
+use Rattle.std.specs.Prelude.{option_and_then}
 use Rattle.std.specs.List.{AllPairs}
 use Rattle.flow_word.specs.declared.access.Place.{Place}
 use Rattle.flow_word.specs.declared.access.Side.TheVariants.{Pop, Push}

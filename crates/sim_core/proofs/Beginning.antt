@@ -1,5 +1,6 @@
 -- How a core begins.
-use Rattle.std.proofs.Common.{◌≡◌, refl, sym, ap, subst, ◌∙◌, ℕ, suc, ◌+◌, ◌<◌, Bool, true, false, List, [], ◌∷◌, ◌++◌, length, map, get_or, Option, Some, None, arith, inl, inr, is_none, is_some, length-append, zero, not, ◌&&◌, replicate}
+use Rattle.std.proofs.Common.{◌≡◌, refl, sym, ap, subst, ◌∙◌, ℕ, suc, ◌+◌, ◌<◌, Bool, true, false, List, [], ◌∷◌, ◌++◌, length, map, get_or}
+use Rattle.std.proofs.Common.{Option, Some, None, arith, inl, inr, is_none, is_some, length-append, zero, not, ◌&&◌, replicate}
 use Rattle.std.specs.Prelude.{All, slice_index, slice_index_or}
 use Rattle.std.proofs.lemmas.List.FromFn.{get_or-map-range_with_len, length-map-range_with_len}
 use Rattle.std.proofs.lemmas.Bool.{cases_lt, both_ways}
@@ -54,21 +55,26 @@ some_is {X} a b e = ap (λ (o : Option X). by o) e
 pub runs_none : (p : Plan) → AreFirstRuns p [] 0
 runs_none p = record { count = refl; some = λ m l. absurd (omega arith); each = λ m run e. cc }
 
-pub runs_more : (p : Plan) (runs next : List (Option ModuleRun)) (n : ℕ) (run : ModuleRun) → AreFirstRuns p runs n → next ≡ runs ++ Some run ∷ [] → StandsAt p n (first_rest p n) run → waits run ≡ false
+pub runs_more : (p : Plan) (runs next : List (Option ModuleRun)) (n : ℕ) (run : ModuleRun) → AreFirstRuns p runs n
+    → next ≡ runs ++ Some run ∷ [] → StandsAt p n (first_rest p n) run → waits run ≡ false
     → AreFirstRuns p next (n + 1)
 runs_more p runs next n run r e stands quiet = record {
   count = ap (λ (q : List (Option ModuleRun)). length q) e ∙ (length-append runs (Some run ∷ []) ∙ (let c = r.count in omega arith));
   some = λ m l.
       elim (cases_lt m n) [
-        | inl u ↦ ap (λ (q : List (Option ModuleRun)). is_none (get_or q m None)) e ∙ (ap is_none (get_or_append_left runs (Some run ∷ []) None m (let c = r.count in omega arith)) ∙ r.some m u)
+        | inl u ↦ ap (λ (q : List (Option ModuleRun)). is_none (get_or q m None)) e
+            ∙ (ap is_none (get_or_append_left runs (Some run ∷ []) None m (let c = r.count in omega arith)) ∙ r.some m u)
         | inr u ↦
             let same : m ≡ length runs = let c = r.count in omega arith in
-            ap (λ (q : List (Option ModuleRun)). is_none (get_or q m None)) e ∙ (ap (λ (k : ℕ). is_none (get_or (runs ++ Some run ∷ []) k None)) same ∙ ap is_none (get_or-append_seam runs (Some run) [] None))
+            ap (λ (q : List (Option ModuleRun)). is_none (get_or q m None)) e
+            ∙ (ap (λ (k : ℕ). is_none (get_or (runs ++ Some run ∷ []) k None)) same
+            ∙ ap is_none (get_or-append_seam runs (Some run) [] None))
       ];
   each = λ m other there. by m other (ap (λ (q : List (Option ModuleRun)). get_or q m None) (sym e) ∙ there);
 }
   where
-    by : (m : ℕ) (other : ModuleRun) → get_or (runs ++ Some run ∷ []) m None ≡ Some other → StandsAt p m (first_rest p m) other × (waits other ≡ false)
+    by : (m : ℕ) (other : ModuleRun) → get_or (runs ++ Some run ∷ []) m None ≡ Some other → StandsAt p m (first_rest p m) other
+        × (waits other ≡ false)
     by m other there =
         let c = r.count in
         elim (cases_lt m n) [
@@ -80,9 +86,11 @@ runs_more p runs next n run r e stands quiet = record {
                     let y = sym z ∙ there in cc
                 | inr u ↦
                     let same : m ≡ n = omega arith in
-                    let at : get_or (runs ++ Some run ∷ []) m None ≡ Some run = ap (λ (k : ℕ). get_or (runs ++ Some run ∷ []) k None) (same ∙ sym c) ∙ get_or-append_seam runs (Some run) [] None in
+                    let at : get_or (runs ++ Some run ∷ []) m None ≡ Some run = ap (λ (k : ℕ). get_or (runs ++ Some run ∷ []) k None)
+                    (same ∙ sym c) ∙ get_or-append_seam runs (Some run) [] None in
                     let is : run ≡ other = some_is run other (sym at ∙ there) in
-                    subst (λ (q : ModuleRun). StandsAt p m (first_rest p m) q × (waits q ≡ false)) is (subst (λ (k : ℕ). StandsAt p k (first_rest p k) run × (waits run ≡ false)) (sym same) (stands, quiet))
+                    subst (λ (q : ModuleRun). StandsAt p m (first_rest p m) q × (waits q ≡ false)) is
+                    (subst (λ (k : ℕ). StandsAt p k (first_rest p k) run × (waits run ≡ false)) (sym same) (stands, quiet))
               ]
         ]
 
@@ -107,7 +115,8 @@ module _ (p : Plan) (fits : FitsEngine p) where
         ∙ values_cut (cut_to (width_of p.design.channels c)) (slice_index_or p.inputs c [])
 
     entries : (k : ChannelKind) → kind_at p c ≡ k → AreEntriesSound k (slice_index_or p.inputs c []) (slice_index p.depths c)
-    entries k e = subst (λ (q : ChannelKind). AreEntriesSound q (slice_index_or p.inputs c []) (slice_index p.depths c)) e (fits.channels c l).entries
+    entries k e = subst (λ (q : ChannelKind). AreEntriesSound q (slice_index_or p.inputs c []) (slice_index p.depths c)) e
+        (fits.channels c l).entries
 
     no_inputs : slice_index_or p.inputs c [] ≡ [] → source_values p c ≡ []
     no_inputs e = ap (λ (xs : List ℕ). map (cut_to (width_of p.design.channels c)) xs) e
@@ -119,14 +128,22 @@ module _ (p : Plan) (fits : FitsEngine p) where
     kind_is : (k : ChannelKind) → kind_at p c ≡ k → IsKind (design p) c (kind_by k (source_values p c) (slice_index p.depths c))
     kind_is plan.Source e = (ap (λ (xs : List ℕ). length xs) contents, ap is_source e)
     kind_is plan.Sink e = ap (λ (q : ChannelKind). not (is_fifo q)) e
-    kind_is (plan.Fifo declared delay) e = (ap (λ (q : ChannelKind). not (is_fifo q)) e, refl, ap (λ (xs : List ℕ). length xs) (contents ∙ no_inputs (entries (plan.Fifo declared delay) e).0), never_closed (ap is_source e))
+    kind_is (plan.Fifo declared delay) e = (
+      ap (λ (q : ChannelKind). not (is_fifo q)) e,
+      refl,
+      ap (λ (xs : List ℕ). length xs)
+          (contents ∙ no_inputs (entries (plan.Fifo declared delay) e).0),
+      never_closed (ap is_source e),
+    )
 
-    values_are : (k : ChannelKind) → kind_at p c ≡ k → values_of (kind_by k (source_values p c) (slice_index p.depths c)) [] ≡ (design p).inputs c
+    values_are : (k : ChannelKind) → kind_at p c ≡ k → values_of (kind_by k (source_values p c) (slice_index p.depths c))
+        [] ≡ (design p).inputs c
     values_are plan.Source e = sym contents
     values_are plan.Sink e = sym (contents ∙ no_inputs (entries plan.Sink e).0)
     values_are (plan.Fifo declared delay) e = sym (contents ∙ no_inputs (entries (plan.Fifo declared delay) e).0)
 
-    lag_is : (side : Side) (k : ChannelKind) → kind_at p c ≡ k → lag_in p side c ≡ lag_of (kind_by k (source_values p c) (slice_index p.depths c)) side
+    lag_is : (side : Side) (k : ChannelKind) → kind_at p c ≡ k → lag_in p side c ≡ lag_of
+        (kind_by k (source_values p c) (slice_index p.depths c)) side
     lag_is Pop plan.Source e = ap delay_of e
     lag_is Pop plan.Sink e = ap delay_of e
     lag_is Pop (plan.Fifo declared delay) e = ap delay_of e
@@ -147,16 +164,20 @@ module _ (p : Plan) (fits : FitsEngine p) where
 
   kinds_fit : AreKinds (design p) (kinds_of p)
   kinds_fit = record {
-    each = λ c l. let u = kinds_length in subst (IsKind (design p) c) (sym (at c (omega arith))) (kind_is c (omega arith) (kind_at p c) refl);
-    values = λ c l. let u = kinds_length in ap (λ (k : TableChannel). values_of k []) (at c (omega arith)) ∙ values_are c (omega arith) (kind_at p c) refl;
-    lags = λ side c l. let u = kinds_length in lag_is c (omega arith) side (kind_at p c) refl ∙ ap (λ (k : TableChannel). lag_of k side) (sym (at c (omega arith)));
+    each = λ c l. let u = kinds_length in
+        subst (IsKind (design p) c) (sym (at c (omega arith))) (kind_is c (omega arith) (kind_at p c) refl);
+    values = λ c l. let u = kinds_length in
+        ap (λ (k : TableChannel). values_of k []) (at c (omega arith)) ∙ values_are c (omega arith) (kind_at p c) refl;
+    lags = λ side c l. let u = kinds_length in
+        lag_is c (omega arith) side (kind_at p c) refl ∙ ap (λ (k : TableChannel). lag_of k side) (sym (at c (omega arith)));
   }
 
   pub kinds_sound : (xs : List TableChannel) → xs ≡ kinds_of p → All IsSoundKind xs
   kinds_sound xs e = λ k d l.
       let u = kinds_length in
       let m = ap (λ (ys : List TableChannel). length ys) e in
-      subst IsSoundKind (sym (ap (λ (ys : List TableChannel). get_or ys k d) e ∙ get_or-map-range_with_len (kind_in p) 0 (length p.design.channels) k k d (omega arith) (omega arith)))
+      subst IsSoundKind (sym (ap (λ (ys : List TableChannel). get_or ys k d) e
+      ∙ get_or-map-range_with_len (kind_in p) 0 (length p.design.channels) k k d (omega arith) (omega arith)))
       (sound_is k (omega arith) (kind_at p k) refl)
 
   -- ---- the core
@@ -178,17 +199,23 @@ module _ (p : Plan) (fits : FitsEngine p) where
     unfolding rest_at
     first_run m run stands quiet = record {
       waiting = λ w. absurd (both_ways _ quiet w);
-      going = λ q. ((λ k s. absurd (let z = none_emitted m in omega arith)), subst (λ (k : ℕ). StandsAt p m (rest_behind p (core_of (design p) h) m k) run) (sym (none_emitted m)) stands);
+      going = λ q. (
+        (λ k s. absurd (let z = none_emitted m in omega arith)),
+        subst
+            (λ (k : ℕ). StandsAt p m (rest_behind p (core_of (design p) h) m k) run) (sym (none_emitted m)) stands,
+      );
       over = λ o. quiet;
     }
 
-    no_end : (ends : List (Option Advance)) → over_of ends ≡ replicate n false → (m : ℕ) (mark : Advance) → get_or ends m None ≡ Some mark → ⊥
+    no_end : (ends : List (Option Advance)) → over_of ends ≡ replicate n false → (m : ℕ) (mark : Advance) → get_or ends m None ≡ Some mark
+        → ⊥
     no_end ends e m mark there =
         let over : get_or (over_of ends) m false ≡ true = over_at ends m ∙ ap is_some there in
         let none : get_or (over_of ends) m false ≡ false = ap (λ (bs : List Bool). get_or bs m false) e ∙ copy_at n m false in
         both_ways _ none over
 
-    pub core_begun : (s : Stored) (ends : List (Option Advance)) (runs : List (Option ModuleRun)) (credits : List ℕ) → h ≡ held_in s (over_of ends) → over_of ends ≡ replicate n false → AreFirstRuns p runs n
+    pub core_begun : (s : Stored) (ends : List (Option Advance)) (runs : List (Option ModuleRun)) (credits : List ℕ)
+        → h ≡ held_in s (over_of ends) → over_of ends ≡ replicate n false → AreFirstRuns p runs n
         → credits ≡ replicate n 0 → IsCore p s ends runs credits
     core_begun s ends runs credits e over r none =
         let lanes : length s.graph.lanes ≡ n = ap (λ (q : Held). length q.lanes) (sym e) ∙ length-replicate n no_lane in
@@ -201,8 +228,10 @@ module _ (p : Plan) (fits : FitsEngine p) where
           count = r.count ∙ sym lanes;
           counted = ap (λ (q : List ℕ). length q) none ∙ (length-replicate n 0 ∙ sym lanes);
           room = subst (λ (q : Held). HasRoom (design p) q s.graph.rooms s.table s.log.rooms credits) e
-              (room_opening (design p) h s.graph.rooms s.table s.log.rooms credits none_emitted (λ m. ap (λ (q : List ℕ). get_or q m 0) none ∙ copy_at n m 0));
-          runs_are = λ m run there. let z = r.each m run there in subst (λ (q : Held). IsRunOf p (core_of (design p) q) m run) e (first_run m run z.0 z.1);
+              (room_opening (design p) h s.graph.rooms s.table s.log.rooms credits none_emitted
+              (λ m. ap (λ (q : List ℕ). get_or q m 0) none ∙ copy_at n m 0));
+          runs_are = λ m run there. let z = r.each m run there in
+              subst (λ (q : Held). IsRunOf p (core_of (design p) q) m run) e (first_run m run z.0 z.1);
           ends_are = λ m mark there. absurd (no_end ends over m mark there);
         }
       where
@@ -210,7 +239,8 @@ module _ (p : Plan) (fits : FitsEngine p) where
         kinds_unused [] = refl
         kinds_unused (k ∷ ks) = ap (λ (qs : List TableChannel). k ∷ qs) (kinds_unused ks)
 
-pub held_is : (n : ℕ) (kinds : List TableChannel) (g : Held) → g.lanes ≡ replicate n no_lane → g.channels ≡ map unused kinds → g.logs ≡ replicate n no_log → g.over ≡ replicate n false → opening_held n kinds ≡ g
+pub held_is : (n : ℕ) (kinds : List TableChannel) (g : Held) → g.lanes ≡ replicate n no_lane → g.channels ≡ map unused kinds
+    → g.logs ≡ replicate n no_log → g.over ≡ replicate n false → opening_held n kinds ≡ g
 held_is n kinds g a b c e = rw (a, b, c, e) refl
 
 -- so many modules that have no end

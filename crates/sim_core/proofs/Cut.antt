@@ -1,5 +1,5 @@
 -- The core from which an edit goes on.
-use Rattle.std.proofs.Common.{◌≡◌, refl, sym, subst, ℕ}
+use Rattle.std.proofs.Common.{refl, sym, subst, ℕ}
 use Rattle.flow_design.specs.declared.plan.Edit.{Edit}
 use Rattle.flow_design.specs.declared.plan.Plan.{Plan}
 use Rattle.flow_design.specs.declared.state.ModuleState.{ModuleState}
@@ -7,7 +7,6 @@ use Rattle.flow_design.specs.Plans.{with_depth, EditFits}
 use Rattle.flow_design.specs.StaticRules.{FitsEngine}
 use Rattle.event_timing.specs.Machines.{Design}
 use Rattle.event_timing.specs.Histories.{IsHistory}
-use Rattle.event_timing.specs.Core.{Core}
 use Rattle.event_timing.specs.Actions.{IsFinal}
 use Rattle.event_timing.specs.Agreement.{IsAgreed}
 use Rattle.event_timing.specs.Edits.{edited, after_edit}

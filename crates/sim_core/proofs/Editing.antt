@@ -1,6 +1,6 @@
 -- A final core behind an edit of its plan.
-use Rattle.std.proofs.Common.{◌≡◌, refl, sym, ap, subst, ◌∙◌, ℕ, ◌+◌, ◌<◌, ◌≤◌, inl, inr, Bool, true, false, List, [], ◌∷◌, length, map}
-use Rattle.std.proofs.Common.{get_or, set, Option, Some, None, unwrap_or, ◌⊎◌, arith}
+use Rattle.std.proofs.Common.{◌≡◌, refl, sym, ap, subst, ◌∙◌, ℕ, ◌+◌, ◌≤◌, inl, inr, Bool, List, [], ◌∷◌, length, map}
+use Rattle.std.proofs.Common.{set, Option, Some, None, unwrap_or, ◌⊎◌, arith}
 use Rattle.std.specs.Prelude.{IfSome, IsNone}
 use Rattle.std.proofs.lemmas.List.{length-map, set-get_or}
 use Rattle.flow_word.specs.declared.access.Side.{Side}
@@ -14,8 +14,6 @@ use Rattle.module_interp.specs.declared.run.ModuleRun.{ModuleRun}
 use Rattle.event_graph.specs.Lanes.{Lane, timed_below}
 use Rattle.fifo_table.specs.Channels.{channel_at, depth_of, places_of}
 use Rattle.fifo_table.specs.Channels.{with_depth as with_depths}
-use Rattle.query_log.specs.Logs.{log_at}
-use Rattle.query_log.specs.declared.query.Query.{Query}
 use Rattle.outcome_guard.specs.declared.guard.Guard.{Guard}
 use Rattle.outcome_guard.specs.declared.guard.Guard.TheVariants.{Same, Differs}
 use Rattle.event_timing.specs.Machines.{Design, IsDesign}
@@ -29,12 +27,12 @@ use Rattle.event_timing.proofs.Beside.{others_grow}
 use Rattle.timing_bridge.specs.Designs.{design, lockstep_run}
 use Rattle.timing_bridge.proofs.Edits.{edited_fits, same_design}
 use Rattle.timing_bridge.proofs.History.{plan_is_design, run_is_history}
-use Rattle.engine_view.specs.Held.{Held, core_of}
+use Rattle.engine_view.specs.Held.{core_of}
 use Rattle.engine_view.specs.Rooms.{IsRoomy}
 use Rattle.engine_view.specs.Stored.{Stored, held_in}
 use Rattle.engine_view.specs.Taking.{kinds_in}
 use Rattle.retime.specs.Cuts.{HasRetimed, KeepsRoomEdited}
-use Rattle.retime.specs.Edits.{IsEditFrom, IsEditOf, IsOtherInHistory, OutcomesGrow}
+use Rattle.retime.specs.Edits.{IsEditFrom, IsEditOf}
 use Rattle.retime.specs.Rounds.{AreTimings, LeadsAll, HasEnded, only_steps, cycles_in, steps_in}
 use Rattle.retime.specs.Touched.{AreInOrder, IsFirstTouched, IsNeverTouched}
 use Rattle.retime.proofs.Agreeing.{other_in_history}
@@ -42,7 +40,6 @@ use Rattle.retime.proofs.Behind.{agreed_behind, outcomes_behind}
 use Rattle.retime.proofs.Tallied.{places_in_order}
 use Rattle.sim_core.specs.Edits.{IsEdited, IsTrueGuard}
 use Rattle.sim_core.specs.Runs.{IsCore, over_of}
-use Rattle.sim_core.specs.Views.{CoreView}
 use Rattle.sim_core.proofs.Cut.{final_of, history_of, cut_of}
 use Rattle.sim_core.proofs.EditedRuns.{run_edited, end_edited, channel_inside, fifo_there, depth_there, kinds_edited}
 use Rattle.sim_core.proofs.Keeping.{kept_of}
@@ -200,6 +197,7 @@ edit_from p s ends runs credits k e fit stands is least apart o some none = reco
     by (Some t) some none = inl some
 
 -- who pops a channel doesn't depend on depths
-pub readers_edited : (p : Plan) (channel depth : ℕ) (readers : List ℕ) → AreReaders p readers → AreReaders (with_depth p channel depth) readers
+pub readers_edited : (p : Plan) (channel depth : ℕ) (readers : List ℕ) → AreReaders p readers
+    → AreReaders (with_depth p channel depth) readers
 unfolding owner
 readers_edited p channel depth readers r = record { count = r.count; each = r.each }

@@ -1,5 +1,6 @@
 -- The end marks of a core are those of the modules' own runs.
-use Rattle.std.proofs.Common.{◌≡◌, refl, sym, ap, subst, ◌∙◌, ℕ, ◌<◌, Bool, true, false, cond, List, length, get_or, Option, None, Some, is_some, inl, inr, arith}
+use Rattle.std.proofs.Common.{◌≡◌, refl, sym, ap, subst, ◌∙◌, ℕ, ◌<◌, Bool, true, false, cond, List, length, get_or, Option, None, Some}
+use Rattle.std.proofs.Common.{is_some, inl, inr, arith}
 use Rattle.flow_word.specs.declared.access.Step.{Step as StepOf}
 use Rattle.flow_design.specs.declared.plan.Plan.{Plan}
 use Rattle.flow_design.specs.declared.state.Advance.{Advance}
@@ -25,7 +26,8 @@ use Rattle.sim_core.specs.Runs.{IsCore, rest_behind, over_of}
 use Rattle.sim_core.proofs.Marking.{table_count}
 use Rattle.sim_core.proofs.Resting.{rest_is}
 
-marked : (p : Plan) (x : Core ModuleState) (m : ℕ) (o : Own) → IsRestBehind p x m (x.emitted m) o → (mark : Advance) (a b : Bool) (t : StepOf) → a ≡ o.state.ended → b ≡ is_spent p.ops o.state
+marked : (p : Plan) (x : Core ModuleState) (m : ℕ) (o : Own) → IsRestBehind p x m (x.emitted m) o
+    → (mark : Advance) (a b : Bool) (t : StepOf) → a ≡ o.state.ended → b ≡ is_spent p.ops o.state
     → mark ≡ cond a (Ended o.since) (cond b (Spent o.since) (Step t)) → is_step mark ≡ false → IsEndMark p x m mark
 marked p x m o r mark true b t e f is none =
     subst (IsEndMark p x m) (sym is) (ap (λ (s : ModuleState). s.ended) (sym r.state) ∙ sym e, r.since)
@@ -45,7 +47,8 @@ short_mark (Some (Step t)) f = omega arith
 short_mark (Some (Ended n)) f = f (Ended n) refl
 short_mark (Some (Spent n)) f = f (Spent n) refl
 
-module _ (p : Plan) (s : Stored) (ends : List (Option Advance)) (runs : List (Option ModuleRun)) (credits : List ℕ) (k : IsCore p s ends runs credits) where
+module _ (p : Plan) (s : Stored) (ends : List (Option Advance)) (runs : List (Option ModuleRun)) (credits : List ℕ)
+    (k : IsCore p s ends runs credits) where
   abbrev x : Core ModuleState
   x = core_of (design p) (held_in s (over_of ends))
 

@@ -1,5 +1,6 @@
 -- A run that waits is fed with the replies that are found for its newest step.
-use Rattle.std.proofs.Common.{◌≡◌, refl, sym, ap, ap₂, subst, ◌∙◌, ℕ, suc, ◌+◌, ◌-◌, ◌<◌, ◌≤◌, inl, inr, Bool, true, false, cond, not, ltb, ◌&&◌, ◌||◌, List, [], ◌∷◌, length, map, drop, get_or, arith, length-drop}
+use Rattle.std.proofs.Common.{◌≡◌, refl, sym, ap, ap₂, subst, ◌∙◌, ℕ, suc, ◌+◌, ◌-◌, ◌<◌, ◌≤◌, inl, inr, Bool, true, false, cond, not, ltb}
+use Rattle.std.proofs.Common.{◌&&◌, ◌||◌, List, [], ◌∷◌, length, map, drop, get_or, arith, length-drop}
 use Rattle.std.specs.Prelude.{All, Option, Some, None, slice_get}
 use Rattle.std.proofs.lemmas.Option.{get_or_from_slice_get}
 use Rattle.flow_word.specs.declared.access.Step.{Step}
@@ -36,7 +37,8 @@ use Rattle.timing_bridge.specs.Designs as bridge
 use Rattle.timing_bridge.specs.Designs.{design, told_all}
 use Rattle.time_engine.specs.Conditions.{IsAccess}
 use Rattle.event_graph.specs.Lanes.{no_lane, lane_at}
-use Rattle.engine_view.specs.Held.{Held, no_step, step_of, emitted_of, seen, queries_in, flags_of, are_among, values_at, replies_by, core_of}
+use Rattle.engine_view.specs.Held.{Held, no_step, step_of, emitted_of, seen, queries_in, flags_of, are_among, values_at, replies_by}
+use Rattle.engine_view.specs.Held.{core_of}
 use Rattle.engine_view.specs.Shown.{IsSound, queries_before}
 use Rattle.engine_view.proofs.Reading.{reply_is}
 use Rattle.engine_view.proofs.Answered.{among_is}
@@ -79,7 +81,8 @@ tails x y xs ys e = ap (λ (zs : List theory.Access). drop 1 zs) e
 
 -- ---- replies
 
-told_one : (k : Kind) (b : Bool) (v : ℕ) → (is_blocking k ≡ true → b ≡ true) → reply_by k b (cond (is_taking k && (same_side (side_of k) Pop && b)) v 0) ≡ reply_by k b v
+told_one : (k : Kind) (b : Bool) (v : ℕ) → (is_blocking k ≡ true → b ≡ true)
+    → reply_by k b (cond (is_taking k && (same_side (side_of k) Pop && b)) v 0) ≡ reply_by k b v
 told_one Read true v f = refl
 told_one Read false v f = let e = f refl in cc
 told_one Write b v f = refl
@@ -89,7 +92,8 @@ told_one TryWrite b v f = refl
 told_one Empty b v f = refl
 told_one Full b v f = refl
 
-told_found : (channels : List Channel) (rs : List Request) (xs : List Access) (bs : List Bool) → map bridge.seen rs ≡ map seen xs → FlagsFit (map seen xs) bs
+told_found : (channels : List Channel) (rs : List Request) (xs : List Access) (bs : List Bool) → map bridge.seen rs ≡ map seen xs
+    → FlagsFit (map seen xs) bs
     → told_all rs (replies_by channels xs bs) ≡ replies_found channels xs bs
 told_found channels [] [] bs e f = refl
 told_found channels [] (a ∷ xs) bs e f = cc
@@ -97,17 +101,20 @@ told_found channels (r ∷ rs) [] bs e f = cc
 told_found channels (r ∷ rs) (a ∷ xs) [] e f = absurd f
 told_found channels (r ∷ rs) (a ∷ xs) (b ∷ bs) e (f, fs) =
     ap₂ (λ (q : Reply) (qs : List Reply). q ∷ qs)
-    (ap (λ (k : Kind). reply_by k b (cond (pops_now (seen a) b) (get_or (values_at channels a.channel) (a.ordinal - 1) 0) 0)) (kind_same r a (heads _ _ _ _ e))
+    (ap (λ (k : Kind). reply_by k b (cond (pops_now (seen a) b) (get_or (values_at channels a.channel) (a.ordinal - 1) 0) 0))
+    (kind_same r a (heads _ _ _ _ e))
     ∙ told_one a.kind b (get_or (values_at channels a.channel) (a.ordinal - 1) 0) f)
     (told_found channels rs xs bs (tails _ _ _ _ e) fs)
 
-fit_same : (before : List Exchange) (rs : List Request) (xs : List Access) (qs : List Reply) → map bridge.seen rs ≡ map seen xs → all_fit (map (access_of before) rs) qs ≡ all_fit xs qs
+fit_same : (before : List Exchange) (rs : List Request) (xs : List Access) (qs : List Reply) → map bridge.seen rs ≡ map seen xs
+    → all_fit (map (access_of before) rs) qs ≡ all_fit xs qs
 fit_same before [] [] qs e = refl
 fit_same before [] (a ∷ xs) qs e = cc
 fit_same before (r ∷ rs) [] qs e = cc
 fit_same before (r ∷ rs) (a ∷ xs) [] e = refl
 fit_same before (r ∷ rs) (a ∷ xs) (q ∷ qs) e =
-    ap₂ (λ (b c : Bool). b && c) (ap (λ (k : Kind). fits_kind k q) (kind_same r a (heads _ _ _ _ e))) (fit_same before rs xs qs (tails _ _ _ _ e))
+    ap₂ (λ (b c : Bool). b && c) (ap (λ (k : Kind). fits_kind k q) (kind_same r a (heads _ _ _ _ e)))
+    (fit_same before rs xs qs (tails _ _ _ _ e))
 
 as_many : (xs : List Access) (bs : List Bool) → FlagsFit (map seen xs) bs → AreAsMany xs bs
 as_many [] [] f = tt
@@ -116,14 +123,17 @@ as_many (a ∷ xs) [] f = f
 as_many (a ∷ xs) (b ∷ bs) (f, fs) = as_many xs bs fs
 
 -- each pop has its value, as the theory says it
-there_same : (channels : List Channel) (V : ℕ → List ℕ) (t : Side → ℕ → ℕ) (xs : List Access) (bs : List Bool) → All (λ (a : Access). a.ordinal ≡ suc (t (side_of a.kind) a.channel)) xs
-    → All (λ (a : Access). values_at channels a.channel ≡ V a.channel) xs → all_below (λ c. length (V c)) (t Pop) (map seen xs) bs ≡ values_now channels xs bs
+there_same : (channels : List Channel) (V : ℕ → List ℕ) (t : Side → ℕ → ℕ) (xs : List Access) (bs : List Bool)
+    → All (λ (a : Access). a.ordinal ≡ suc (t (side_of a.kind) a.channel)) xs
+    → All (λ (a : Access). values_at channels a.channel ≡ V a.channel) xs
+    → all_below (λ c. length (V c)) (t Pop) (map seen xs) bs ≡ values_now channels xs bs
 there_same channels V t [] bs o v = refl
 there_same channels V t (a ∷ xs) [] o v = refl
 there_same channels V t (a ∷ xs) (b ∷ bs) o v =
     ap₂ (λ (p q : Bool). p && q)
     (here (side_of a.kind) refl)
-    (there_same channels V t xs bs (All-tail (λ (a : Access). a.ordinal ≡ suc (t (side_of a.kind) a.channel)) a xs o) (All-tail (λ (a : Access). values_at channels a.channel ≡ V a.channel) a xs v))
+    (there_same channels V t xs bs (All-tail (λ (a : Access). a.ordinal ≡ suc (t (side_of a.kind) a.channel)) a xs o)
+    (All-tail (λ (a : Access). values_at channels a.channel ≡ V a.channel) a xs v))
   where
     mine : a.ordinal ≡ suc (t (side_of a.kind) a.channel)
     mine = All-head (λ (a : Access). a.ordinal ≡ suc (t (side_of a.kind) a.channel)) a xs o
@@ -132,7 +142,8 @@ there_same channels V t (a ∷ xs) (b ∷ bs) o v =
     values = All-head (λ (a : Access). values_at channels a.channel ≡ V a.channel) a xs v
 
     here : (side : Side) → side_of a.kind ≡ side
-        → (not (pops_now (seen a) b) || ltb (t Pop a.channel) (length (V a.channel))) ≡ (not (pops_now (seen a) b) || ltb (a.ordinal - 1) (length (values_at channels a.channel)))
+        → (not (pops_now (seen a) b) || ltb (t Pop a.channel) (length (V a.channel))) ≡ (not (pops_now (seen a) b) || ltb (a.ordinal - 1)
+        (length (values_at channels a.channel)))
     here Pop e =
         let n : a.ordinal ≡ suc (t Pop a.channel) = mine ∙ ap (λ (s : Side). suc (t s a.channel)) e in
         let z : t Pop a.channel ≡ a.ordinal - 1 = omega arith in
@@ -147,7 +158,8 @@ there_same channels V t (a ∷ xs) (b ∷ bs) o v =
 
 -- ---- the step that waits
 
-module _ (p : Plan) (fits : FitsEngine p) (h : Held) (s : IsSound (design p) h) (b : AreOwnMarks (design p) (core_of (design p) h)) (i k : ℕ) (newest : suc k ≡ emitted_of h i) (inside : i < length p.design.modules) where
+module _ (p : Plan) (fits : FitsEngine p) (h : Held) (s : IsSound (design p) h) (b : AreOwnMarks (design p) (core_of (design p) h))
+    (i k : ℕ) (newest : suc k ≡ emitted_of h i) (inside : i < length p.design.modules) where
   abbrev d : theory.Design ModuleState
   d = design p
 
@@ -182,7 +194,8 @@ module _ (p : Plan) (fits : FitsEngine p) (h : Held) (s : IsSound (design p) h) 
 
   there_is : values_there d x i k ≡ values_now h.channels step_accesses (flags_of h i k)
   there_is =
-      ap (λ (xs : List theory.Access). all_below (λ c. length (core_values d x c)) (λ c. core_tally d x i Pop c k) xs (flags_of h i k)) seen_same
+      ap (λ (xs : List theory.Access). all_below (λ c. length (core_values d x c)) (λ c. core_tally d x i Pop c k) xs (flags_of h i k))
+      seen_same
       ∙ there_same h.channels (core_values d x) (λ side c. core_tally d x i side c k) step_accesses (flags_of h i k) (s.ordinals i k less)
       (λ j e l. s.values (get_or step_accesses j e).channel (inside_at j e l))
     where
@@ -190,14 +203,17 @@ module _ (p : Plan) (fits : FitsEngine p) (h : Held) (s : IsSound (design p) h) 
       inside_at j e l = (accesses_inside j e l).channel
 
   -- all replies are found
-  pub fed_fits : (rs : List Reply) → replies_now h.channels step_accesses os ≡ Some rs → all_fit (accesses_at p i (rest_behind p x i k)) rs ≡ true
+  pub fed_fits : (rs : List Reply) → replies_now h.channels step_accesses os ≡ Some rs
+      → all_fit (accesses_at p i (rest_behind p x i k)) rs ≡ true
   fed_fits rs e =
       let f = are_found h.channels step_accesses os rs e in
       ap (λ (q : List Reply). all_fit (accesses_at p i (rest_behind p x i k)) q) f.replies
-      ∙ (fit_same (done_in (rest_behind p x i k).steps) (requests_of p (i, (rest_behind p x i k).state)) step_accesses _ (ap (λ (z : ModuleState). map bridge.seen (requests_of p (i, z))) state_is ∙ seen_same)
+      ∙ (fit_same (done_in (rest_behind p x i k).steps) (requests_of p (i, (rest_behind p x i k).state)) step_accesses _
+      (ap (λ (z : ModuleState). map bridge.seen (requests_of p (i, z))) state_is ∙ seen_same)
       ∙ found_fit h.channels step_accesses (flags_of h i k) (as_many step_accesses (flags_of h i k) flags_fit))
 
-  pub fed_rest : (rs : List Reply) → replies_now h.channels step_accesses os ≡ Some rs → next_rest p i (rest_behind p x i k) rs ≡ rest_behind p x i (emitted_of h i)
+  pub fed_rest : (rs : List Reply) → replies_now h.channels step_accesses os ≡ Some rs
+      → next_rest p i (rest_behind p x i k) rs ≡ rest_behind p x i (emitted_of h i)
   fed_rest rs e =
       let f = are_found h.channels step_accesses os rs e in
       ap (next_rest p i (rest_behind p x i k)) (f.replies ∙ sym tell_is) ∙ (sym (fed_is p x i k) ∙ ap (rest_behind p x i) newest)
@@ -206,7 +222,8 @@ module _ (p : Plan) (fits : FitsEngine p) (h : Held) (s : IsSound (design p) h) 
   fed_answered rs e j q =
       let f = are_found h.channels step_accesses os rs e in
       let same : j ≡ k = omega arith in (
-        subst (λ (n : ℕ). x.answered i n ≡ true) (sym same) (and_from (ltb k (emitted_of h i)) _ (lt-ltb k (emitted_of h i) less) (among f.enough)),
+        subst (λ (n : ℕ). x.answered i n ≡ true) (sym same) (and_from (ltb k (emitted_of h i)) _ (lt-ltb k (emitted_of h i) less)
+            (among f.enough)),
         subst (λ (n : ℕ). values_there d x i n ≡ true) (sym same) (there_is ∙ f.there),
       )
     where
@@ -215,13 +232,15 @@ module _ (p : Plan) (fits : FitsEngine p) (h : Held) (s : IsSound (design p) h) 
           let n = length-drop (step_of h i k).first_query (log_at h.logs i).outcomes in
           elim (eqb_tells (queries_in step_accesses) 0) [
             | inl q ↦ or_left _ _ q.0
-            | inr q ↦ let some = q.1 in or_right _ _ (le-leb ((step_of h i k).first_query + queries_in step_accesses) (length (log_at h.logs i).outcomes) (omega arith))
+            | inr q ↦ let some = q.1 in or_right _ _ (le-leb ((step_of h i k).first_query + queries_in step_accesses)
+                (length (log_at h.logs i).outcomes) (omega arith))
           ]
 
   -- or some are not there
   pub not_fed : replies_now h.channels step_accesses os ≡ None → MayRun d x i → ⊥
   not_fed e may =
-      let among = (and_parts (ltb k (emitted_of h i)) (are_among (step_of h i k) (length (log_at h.logs i).outcomes)) (may.answered k newest)).1 in
+      let among = (and_parts (ltb k (emitted_of h i)) (are_among (step_of h i k) (length (log_at h.logs i).outcomes))
+      (may.answered k newest)).1 in
       not_found h.channels step_accesses os e (enough among) (sym there_is ∙ may.there k newest)
     where
       enough : are_among (step_of h i k) (length (log_at h.logs i).outcomes) ≡ true → queries_in step_accesses ≤ length os
@@ -231,7 +250,8 @@ module _ (p : Plan) (fits : FitsEngine p) (h : Held) (s : IsSound (design p) h) 
 
 -- ---- the step that a run is asked about
 
-module _ (p : Plan) (fits : FitsEngine p) (h : Held) (s : IsSound (design p) h) (b : AreOwnMarks (design p) (core_of (design p) h)) (i : ℕ) (inside : i < length h.lanes) (run : ModuleRun)
+module _ (p : Plan) (fits : FitsEngine p) (h : Held) (s : IsSound (design p) h) (b : AreOwnMarks (design p) (core_of (design p) h)) (i : ℕ)
+    (inside : i < length h.lanes) (run : ModuleRun)
     (r : IsRunOf p (core_of (design p) h) i run) (w : waits run ≡ true) where
   abbrev k : ℕ
   k = emitted_of h i - 1
@@ -256,7 +276,8 @@ module _ (p : Plan) (fits : FitsEngine p) (h : Held) (s : IsSound (design p) h) 
     found t = replies_now h.channels t.accesses (drop t.first_query (log_at h.logs i).outcomes)
 
     pub asked_inside : All (IsAccess h.channels) step.accesses
-    asked_inside = let e = asked_some in subst (λ (t : Step). All (IsAccess h.channels) t.accesses) is (s.inside i no_lane inside k no_step (omega arith))
+    asked_inside = let e = asked_some in
+        subst (λ (t : Step). All (IsAccess h.channels) t.accesses) is (s.inside i no_lane inside k no_step (omega arith))
 
     pub asked_few : queries_before h i (emitted_of h i) < query_bound → step.first_query < query_bound
     asked_few few =
@@ -268,12 +289,14 @@ module _ (p : Plan) (fits : FitsEngine p) (h : Held) (s : IsSound (design p) h) 
     pub asked_not_fed : found step ≡ None → MayRun (design p) (core_of (design p) h) i → ⊥
     asked_not_fed e = not_fed p fits h s b i k asked_some within (ap found is ∙ e)
 
-    pub asked_fits : (rs : List Reply) → found step ≡ Some rs → all_fit (accesses_at p i (rest_behind p (core_of (design p) h) i k)) rs ≡ true
+    pub asked_fits : (rs : List Reply) → found step ≡ Some rs → all_fit (accesses_at p i (rest_behind p (core_of (design p) h) i k))
+        rs ≡ true
     asked_fits rs e = fed_fits p fits h s b i k asked_some within rs (ap found is ∙ e)
 
     -- fed, the run goes on to the next rest
     pub asked_run : (rs : List Reply) → found step ≡ Some rs → (new : ModuleRun)
-        → ((q : Plan) (j : ℕ) (o : Own) → StandsAt q j o run → StandsAt q j (next_rest q j o rs) new) → waits new ≡ false → IsRunOf p (core_of (design p) h) i new
+        → ((q : Plan) (j : ℕ) (o : Own) → StandsAt q j o run → StandsAt q j (next_rest q j o rs) new) → waits new ≡ false
+        → IsRunOf p (core_of (design p) h) i new
     asked_run rs e new go answered =
         let e' : found (step_of h i k) ≡ Some rs = ap found is ∙ e in
         record {

@@ -1,5 +1,6 @@
 -- A core stays one behind a permitted action.
-use Rattle.std.proofs.Common.{◌≡◌, refl, sym, ap, subst, ◌∙◌, ℕ, zero, suc, ◌⊎◌, inl, inr, true, false, List, [], ◌∷◌, length, get_or, Option, None, Some, is_some}
+use Rattle.std.proofs.Common.{◌≡◌, refl, sym, ap, subst, ◌∙◌, ℕ, zero, suc, ◌⊎◌, inl, inr, true, false, List, [], ◌∷◌, length, get_or}
+use Rattle.std.proofs.Common.{Option, None, Some, is_some}
 use Rattle.std.proofs.lemmas.Bool.{both_ways}
 use Rattle.flow_design.specs.declared.plan.Plan.{Plan}
 use Rattle.flow_design.specs.declared.state.Advance.{Advance}
@@ -23,7 +24,8 @@ use Rattle.sim_core.specs.Runs.{IsCore, IsEndOf, over_of}
 use Rattle.sim_core.proofs.Staying.{run_stays, end_stays}
 
 -- a module that is over has no Run
-no_run_of_over : {S : Type 0} (d : Design S) (limit : ℕ) (x y : Core S) (a : Action) (m : ℕ) → Acts d limit x a y → x.over m ≡ true → IsNoRunOf m (a ∷ [])
+no_run_of_over : {S : Type 0} (d : Design S) (limit : ℕ) (x y : Core S) (a : Action) (m : ℕ) → Acts d limit x a y → x.over m ≡ true
+    → IsNoRunOf m (a ∷ [])
 no_run_of_over {S} d limit x y (Action.Run n) m (may, is) over =
     ((λ e. both_ways _ may.lives (subst (λ (k : ℕ). x.over k ≡ true) e over)), tt)
 no_run_of_over {S} d limit x y (Action.Assign n) m acts over = tt
@@ -36,10 +38,12 @@ over_at (e ∷ es) zero = refl
 over_at (e ∷ es) (suc m) = over_at es m
 
 -- the conditions of the turns at a module, and of an Earliest
-pub kept_of : (p : Plan) (s : Stored) (ends : List (Option Advance)) (runs : List (Option ModuleRun)) (credits : List ℕ) → IsCore p s ends runs credits → IsKept (design p) (held_in s (over_of ends))
+pub kept_of : (p : Plan) (s : Stored) (ends : List (Option Advance)) (runs : List (Option ModuleRun)) (credits : List ℕ)
+    → IsCore p s ends runs credits → IsKept (design p) (held_in s (over_of ends))
 kept_of p s ends runs credits k = record { sound = k.sound; marks = k.agreed.marks; earlier = k.agreed.time.verified_then }
 
-module _ (p : Plan) (s t : Stored) (ends others : List (Option Advance)) (runs : List (Option ModuleRun)) (credits left : List ℕ) (k : IsCore p s ends runs credits) (a : Action) where
+module _ (p : Plan) (s t : Stored) (ends others : List (Option Advance)) (runs : List (Option ModuleRun)) (credits left : List ℕ)
+    (k : IsCore p s ends runs credits) (a : Action) where
   abbrev d : Design ModuleState
   d = design p
 
@@ -50,12 +54,15 @@ module _ (p : Plan) (s t : Stored) (ends others : List (Option Advance)) (runs :
   y = core_of d (held_in t (over_of others))
 
   beside : Acts d p.cycles x a y → (m : ℕ) → IsNoRunOf m (a ∷ []) → GrowsBeside d x y m
-  beside acts m none = others_grow d (lockstep_run p) (plan_is_design p k.fits) (run_is_history p k.fits) p.cycles x k.agreed m (a ∷ []) none y (y, acts, refl)
+  beside acts m none = others_grow d (lockstep_run p) (plan_is_design p k.fits) (run_is_history p k.fits) p.cycles x k.agreed m (a ∷ [])
+      none y (y, acts, refl)
 
   -- the runs of other modules stay where they stand, and so do the ends
-  pub core_acted : Acts d p.cycles x a y → IsSound d (held_in t (over_of others)) → kinds_in t.table.channels ≡ kinds_in s.table.channels → length left ≡ length credits → IsRoomy d t (over_of others) left
+  pub core_acted : Acts d p.cycles x a y → IsSound d (held_in t (over_of others)) → kinds_in t.table.channels ≡ kinds_in s.table.channels
+      → length left ≡ length credits → IsRoomy d t (over_of others) left
       → ((m : ℕ) (run : ModuleRun) → get_or runs m None ≡ Some run → IsNoRunOf m (a ∷ []))
-      → ((m : ℕ) (mark : Advance) → get_or others m None ≡ Some mark → (get_or ends m None ≡ Some mark) ⊎ IsEndOf p y m mark) → IsCore p t others runs left
+      → ((m : ℕ) (mark : Advance) → get_or others m None ≡ Some mark → (get_or ends m None ≡ Some mark) ⊎ IsEndOf p y m mark)
+      → IsCore p t others runs left
   core_acted acts sound kinds credit room no_run ends_of = record {
     fits = k.fits;
     sound = sound;

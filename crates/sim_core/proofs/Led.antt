@@ -1,24 +1,23 @@
 -- The records of outcomes behind an edit and the actions that follow.
-use Rattle.std.proofs.Common.{◌≡◌, refl, sym, ap, ap₂, subst, ◌∙◌, ℕ, ◌<◌, ◌⊎◌, inl, inr, Bool, true, false, Some, ltb, ◌&&◌, List, []}
+use Rattle.std.proofs.Common.{◌≡◌, refl, sym, ap, ap₂, subst, ◌∙◌, ℕ, ◌<◌, inl, inr, Bool, true, false, Some, ltb, ◌&&◌, List, []}
 use Rattle.std.proofs.Common.{◌∷◌, ◌++◌, length, get_or, arith}
 use Rattle.std.specs.Prelude.{slice_get}
 use Rattle.std.proofs.lemmas.Bool.{and_parts, both_ways, cases_lt, lt-ltb}
 use Rattle.flow_design.specs.declared.plan.Edit.{Edit}
 use Rattle.flow_design.specs.declared.plan.Plan.{Plan}
 use Rattle.flow_design.specs.declared.state.ModuleState.{ModuleState}
-use Rattle.flow_design.specs.Plans.{with_depth, EditFits}
+use Rattle.flow_design.specs.Plans.{with_depth}
 use Rattle.flow_design.specs.StaticRules.{FitsEngine}
 use Rattle.lockstep_defs.specs.Channels.{HistoryStep}
 use Rattle.lockstep_defs.specs.Report.{report, outcomes}
-use Rattle.query_log.specs.Logs.{Log, log_at}
+use Rattle.query_log.specs.Logs.{log_at}
 use Rattle.query_log.specs.declared.query.Query.{Query}
 use Rattle.event_timing.specs.Machines.{Design}
 use Rattle.event_timing.specs.Core.{Core, core_accesses, view}
 use Rattle.event_timing.specs.Enablers.{candidate}
-use Rattle.event_timing.specs.Actions.{Action, ActsAll, IsFinal, new_flags}
+use Rattle.event_timing.specs.Actions.{Action, ActsAll, new_flags}
 use Rattle.event_timing.specs.Agreement.{IsAgreed}
 use Rattle.event_timing.specs.Edits.{after_edit}
-use Rattle.event_timing.specs.Growth.{Grows}
 use Rattle.event_timing.proofs.Answering.{first_emitted}
 use Rattle.event_timing.proofs.Beside.{actions_grow}
 use Rattle.timing_bridge.specs.Designs.{design, lockstep_run}
@@ -27,17 +26,16 @@ use Rattle.timing_bridge.proofs.History.{plan_is_design, run_is_history}
 use Rattle.timing_bridge.proofs.Outcomes.{answered_outcomes, earliest_outcomes}
 use Rattle.engine_view.specs.Held.{Held, step_of, emitted_of, are_among, core_of}
 use Rattle.engine_view.specs.Shown.{IsSound}
-use Rattle.engine_view.specs.Turns.{IsDifferent, IsFoundOther, first_of}
+use Rattle.engine_view.specs.Turns.{IsFoundOther, first_of}
 use Rattle.retime.specs.Edits.{OutcomesGrow}
 use Rattle.sim_core.specs.Views.{CoreView, theory_of}
-use Rattle.sim_core.specs.Turns.{IsEarliestOther}
 use Rattle.sim_core.specs.Drives.{Goes, IsDiffering}
 use Rattle.sim_core.specs.Edits.{IsAsBefore, IsRetimed}
-use Rattle.sim_core.specs.Records.{IsSoundCore, IsEditedOn, HasOtherAnswer}
+use Rattle.sim_core.specs.Records.{IsEditedOn, HasOtherAnswer}
 use Rattle.sim_core.proofs.Cut.{cut_of}
 use Rattle.sim_core.proofs.Logged.{outcomes_on}
 use Rattle.sim_core.proofs.Otherwise.{AreOtherAt, other_answer}
-use Rattle.sim_core.proofs.RecordsGrow.{NoneAdded, AreSure, all_recorded}
+use Rattle.sim_core.proofs.RecordsGrow.{all_recorded}
 
 acts_both : {S : Type 0} → (d : Design S) (limit : ℕ) (x : Core S) (actions more : List Action) (y z : Core S)
     → ActsAll d limit x actions y

@@ -1,5 +1,6 @@
 -- A run that is taken out of the core and put back.
-use Rattle.std.proofs.Common.{◌≡◌, refl, sym, ap, ap₂, subst, ◌∙◌, ℕ, zero, suc, ◌<◌, inl, inr, Bool, true, false, List, [], ◌∷◌, length, drop, get_or, set, Option, Some, None, arith}
+use Rattle.std.proofs.Common.{◌≡◌, refl, sym, ap, ap₂, subst, ◌∙◌, ℕ, zero, suc, ◌<◌, inl, inr, Bool, true, false, List, [], ◌∷◌, length}
+use Rattle.std.proofs.Common.{drop, get_or, set, Option, Some, None, arith}
 use Rattle.std.specs.Prelude.{Result, Ok, Err, IfOk, OnErr}
 use Rattle.std.proofs.lemmas.Bool.Decides.{eqb_tells}
 use Rattle.std.proofs.lemmas.List.{length-set, get_or-set_same, get_or-set_other}
@@ -21,16 +22,20 @@ use Rattle.sim_core.specs.Views.{CoreView, theory_of}
 use Rattle.sim_core.specs.Runs.{IsRunOf, IsEndOf, IsCore, lent_of, over_of}
 
 -- where the lists are the same
-pub held_same : (s t : Stored) (over : List Bool) → t.graph.lanes ≡ s.graph.lanes → t.table.channels ≡ s.table.channels → t.log.logs ≡ s.log.logs → held_in t over ≡ held_in s over
+pub held_same : (s t : Stored) (over : List Bool) → t.graph.lanes ≡ s.graph.lanes → t.table.channels ≡ s.table.channels
+    → t.log.logs ≡ s.log.logs → held_in t over ≡ held_in s over
 held_same s t over a b c = rw (a, b, c) refl
 
 -- ---- what is kept
 
 -- with other room, or another run at one module
-pub core_roomed : (p : Plan) (s : Stored) (ends : List (Option Advance)) (runs : List (Option ModuleRun)) (credits others : List ℕ) (t : Stored) → IsCore p s ends runs credits
-    → held_in t (over_of ends) ≡ held_in s (over_of ends) → length others ≡ length credits → IsRoomy (design p) t (over_of ends) others → IsCore p t ends runs others
+pub core_roomed : (p : Plan) (s : Stored) (ends : List (Option Advance)) (runs : List (Option ModuleRun)) (credits others : List ℕ)
+    (t : Stored) → IsCore p s ends runs credits
+    → held_in t (over_of ends) ≡ held_in s (over_of ends) → length others ≡ length credits → IsRoomy (design p) t (over_of ends) others
+    → IsCore p t ends runs others
 core_roomed p s ends runs credits others t c e count room =
-    let same : core_of (design p) (held_in s (over_of ends)) ≡ core_of (design p) (held_in t (over_of ends)) = ap (core_of (design p)) (sym e) in
+    let same : core_of (design p) (held_in s (over_of ends)) ≡ core_of (design p) (held_in t (over_of ends)) = ap (core_of (design p))
+    (sym e) in
     record {
       fits = c.fits;
       sound = subst (IsSound (design p)) (sym e) c.sound;
@@ -43,8 +48,10 @@ core_roomed p s ends runs credits others t c e count room =
       ends_are = λ m mark there. subst (λ (x : Core ModuleState). IsEndOf p x m mark) same (c.ends_are m mark there);
     }
 
-pub core_lent : (p : Plan) (s : Stored) (ends : List (Option Advance)) (runs : List (Option ModuleRun)) (credits : List ℕ) (m : ℕ) (o : Option ModuleRun) → IsCore p s ends runs credits → m < length s.graph.lanes
-    → ((run : ModuleRun) → o ≡ Some run → IsRunOf p (core_of (design p) (held_in s (over_of ends))) m run) → IsCore p s ends (set runs m o) credits
+pub core_lent : (p : Plan) (s : Stored) (ends : List (Option Advance)) (runs : List (Option ModuleRun)) (credits : List ℕ) (m : ℕ)
+    (o : Option ModuleRun) → IsCore p s ends runs credits → m < length s.graph.lanes
+    → ((run : ModuleRun) → o ≡ Some run → IsRunOf p (core_of (design p) (held_in s (over_of ends))) m run)
+    → IsCore p s ends (set runs m o) credits
 core_lent p s ends runs credits m o c inside f = record {
   fits = c.fits;
   sound = c.sound;
@@ -72,22 +79,27 @@ lent_set (r ∷ rs) zero = refl
 lent_set (r ∷ rs) (suc m) = lent_set rs m
 
 -- put back, the same runs are lent as before
-pub lent_back : (runs others : List (Option ModuleRun)) (m : ℕ) (run : ModuleRun) → get_or (lent_of runs) m true ≡ false → lent_of others ≡ lent_of (set runs m None)
+pub lent_back : (runs others : List (Option ModuleRun)) (m : ℕ) (run : ModuleRun) → get_or (lent_of runs) m true ≡ false
+    → lent_of others ≡ lent_of (set runs m None)
     → lent_of (set others m (Some run)) ≡ lent_of runs
 lent_back [] others m run e f = cc
 lent_back (r ∷ rs) [] zero run e f = cc
 lent_back (r ∷ rs) [] (suc m) run e f = cc
 lent_back (r ∷ rs) (q ∷ qs) zero run e f = ap₂ (λ (b : Bool) (bs : List Bool). b ∷ bs) (sym e) (ap (λ (bs : List Bool). drop 1 bs) f)
 lent_back (r ∷ rs) (q ∷ qs) (suc m) run e f =
-    ap₂ (λ (b : Bool) (bs : List Bool). b ∷ bs) (ap (λ (bs : List Bool). get_or bs 0 true) f) (lent_back rs qs m run e (ap (λ (bs : List Bool). drop 1 bs) f))
+    ap₂ (λ (b : Bool) (bs : List Bool). b ∷ bs) (ap (λ (bs : List Bool). get_or bs 0 true) f)
+    (lent_back rs qs m run e (ap (λ (bs : List Bool). drop 1 bs) f))
 
 -- ---- from view to view
 
-pub acts_at : (v w : CoreView) (m : ℕ) (y : Core ModuleState) → w ≡ v → Acts (design w.plan) w.plan.cycles (theory_of w) (Run m) y → Acts (design v.plan) v.plan.cycles (theory_of v) (Run m) y
+pub acts_at : (v w : CoreView) (m : ℕ) (y : Core ModuleState) → w ≡ v → Acts (design w.plan) w.plan.cycles (theory_of w) (Run m) y
+    → Acts (design v.plan) v.plan.cycles (theory_of v) (Run m) y
 acts_at v w m y e s = subst (λ (u : CoreView). Acts (design u.plan) u.plan.cycles (theory_of u) (Run m) y) e s
 
-pub run_at : (p q : Plan) (v w : CoreView) (m : ℕ) (run : ModuleRun) → q ≡ p → w ≡ v → IsRunOf p (theory_of v) m run → IsRunOf q (theory_of w) m run
-run_at p q v w m run e f r = subst (λ (z : Plan). IsRunOf z (theory_of w) m run) (sym e) (subst (λ (u : CoreView). IsRunOf p (theory_of u) m run) (sym f) r)
+pub run_at : (p q : Plan) (v w : CoreView) (m : ℕ) (run : ModuleRun) → q ≡ p → w ≡ v → IsRunOf p (theory_of v) m run
+    → IsRunOf q (theory_of w) m run
+run_at p q v w m run e f r = subst (λ (z : Plan). IsRunOf z (theory_of w) m run) (sym e)
+    (subst (λ (u : CoreView). IsRunOf p (theory_of u) m run) (sym f) r)
 
 -- the view with a run taken out, what a Run makes of it, and that with the run put back
 pub record IsRoundTrip (before taken after back : CoreView) : Type 0 where
@@ -107,7 +119,8 @@ module _ (before taken after back : CoreView) (t : IsRoundTrip before taken afte
   home : bare back ≡ bare after
   home = ap₂ (λ (p : Plan) (h : Held). record { plan = p; held = h; lent = [] }) t.plan_back t.held_back
 
-  pub acts_back : Acts (design taken.plan) taken.plan.cycles (theory_of taken) (Run m) (theory_of after) → Acts (design before.plan) before.plan.cycles (theory_of before) (Run m) (theory_of back)
+  pub acts_back : Acts (design taken.plan) taken.plan.cycles (theory_of taken) (Run m) (theory_of after)
+      → Acts (design before.plan) before.plan.cycles (theory_of before) (Run m) (theory_of back)
   acts_back s =
       subst (λ (y : CoreView). Acts (design before.plan) before.plan.cycles (theory_of before) (Run m) (theory_of y)) (sym home)
       (subst (λ (x : CoreView). Acts (design x.plan) x.plan.cycles (theory_of x) (Run m) (theory_of after)) out s)
@@ -116,10 +129,12 @@ module _ (before taken after back : CoreView) (t : IsRoundTrip before taken afte
   may_back f may = f (subst (λ (x : CoreView). MayRun (design x.plan) (theory_of x) m) (sym out) may)
 
   pub same_back : after ≡ taken → back ≡ before
-  same_back e = view_same (t.plan_back ∙ (ap (λ (v : CoreView). v.plan) e ∙ t.plan)) (t.held_back ∙ (ap (λ (v : CoreView). v.held) e ∙ t.held)) t.lent_back
+  same_back e = view_same (t.plan_back ∙ (ap (λ (v : CoreView). v.plan) e ∙ t.plan))
+      (t.held_back ∙ (ap (λ (v : CoreView). v.held) e ∙ t.held)) t.lent_back
     where
       view_same : back.plan ≡ before.plan → back.held ≡ before.held → back.lent ≡ before.lent → back ≡ before
-      view_same a b c = ap₂ (λ (p : Plan) (h : Held). record { plan = p; held = h; lent = back.lent }) a b ∙ ap (λ (ls : List Bool). record { plan = before.plan; held = before.held; lent = ls }) c
+      view_same a b c = ap₂ (λ (p : Plan) (h : Held). record { plan = p; held = h; lent = back.lent }) a b
+          ∙ ap (λ (ls : List Bool). record { plan = before.plan; held = before.held; lent = ls }) c
 
 pub ok_then : {E : Type 0} (r : Result Bool E) (P Q : Bool → Type 0) → ((b : Bool) → P b → Q b) → IfOk r P → IfOk r Q
 ok_then {E} (Ok b) P Q f p = f b p

@@ -1,19 +1,17 @@
 -- The outcomes in the log, where a core came from another.
-use Rattle.std.proofs.Common.{◌≡◌, refl, sym, ap, ap₂, subst, ◌∙◌, ℕ, zero, suc, ◌+◌, ◌<◌, ◌≤◌, ◌⊎◌, inl, inr, Bool, true, false, not}
-use Rattle.std.proofs.Common.{cond, eqb, leb, ltb, ◌&&◌, ◌||◌, List, [], ◌∷◌, ◌++◌, length, map, take, drop, arith, append-nil}
+use Rattle.std.proofs.Common.{◌≡◌, refl, sym, ap, ap₂, ◌∙◌, ℕ, zero, suc, ◌+◌, ◌<◌, ◌≤◌, ◌⊎◌, inl, inr, Bool, true, not}
+use Rattle.std.proofs.Common.{eqb, leb, ltb, ◌&&◌, ◌||◌, List, [], ◌∷◌, ◌++◌, length, map, take, drop, arith, append-nil}
 use Rattle.std.specs.Prelude.{slice_get}
 use Rattle.std.proofs.Math.Seq.{take-add, take-length}
-use Rattle.std.proofs.lemmas.Bool.{cases_Bool, and_parts, both_ways, lt-ltb}
+use Rattle.std.proofs.lemmas.Bool.{cases_Bool, and_parts, lt-ltb}
 use Rattle.std.proofs.lemmas.Bool.Decides.{eqb_tells}
 use Rattle.std.proofs.lemmas.List.{length-append, length-drop, take-append-drop}
 use Rattle.flow_word.specs.Kinds.{is_blocking}
 use Rattle.flow_word.specs.declared.access.Access.{Access}
-use Rattle.flow_word.specs.declared.access.Kind.{Kind}
 use Rattle.event_timing.specs.Machines as theory
 use Rattle.event_timing.specs.Machines.{Design}
 use Rattle.event_timing.specs.Core.{core_accesses, has_query}
 use Rattle.query_log.specs.Logs.{Log, no_log, log_at}
-use Rattle.query_resolve.specs.Decisions.{late_outcome}
 use Rattle.engine_view.specs.Held.{Held, step_of, emitted_of, seen, queries_in, possible_by, flags_by, are_among, has_all, core_of}
 use Rattle.engine_view.specs.Shown.{IsSound, queries_before}
 use Rattle.engine_view.proofs.Answered.{queries_step, queries_zero, among_is, among_if, all_among}

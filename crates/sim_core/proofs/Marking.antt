@@ -1,5 +1,6 @@
 -- The mark of a run's next rest is the next step of the theory's core, or its end.
-use Rattle.std.proofs.Common.{◌≡◌, refl, sym, ap, ap₂, subst, ◌∙◌, ℕ, zero, suc, ◌+◌, ◌<◌, ◌≤◌, ◌^◌, Bool, true, false, not, cond, ◌||◌, List, [], ◌∷◌, ◌++◌, length, map, get_or, filter, arith, inl, inr, length-append, append-nil, drop}
+use Rattle.std.proofs.Common.{◌≡◌, refl, sym, ap, ap₂, subst, ◌∙◌, ℕ, zero, suc, ◌+◌, ◌<◌, ◌≤◌, ◌^◌, Bool, true, false, not, cond, ◌||◌}
+use Rattle.std.proofs.Common.{List, [], ◌∷◌, ◌++◌, length, map, get_or, filter, arith, inl, inr, length-append, append-nil, drop}
 use Rattle.std.specs.Prelude.{All}
 use Rattle.std.specs.List.{range_with_len}
 use Rattle.std.proofs.lemmas.Bool.{cases_Bool}
@@ -67,13 +68,15 @@ unfolding moved_by
 moved_by_nil side f = refl
 
 -- what is moved in the steps is what is moved in their exchanges
-pub moved_before : (p : Plan) (x : Core ModuleState) (i : ℕ) (side : Side) (f n : ℕ) → moved_by side f (exchanges_before p x i n) ≡ moved side f (map (core_step p x i) (range_with_len 0 n))
+pub moved_before : (p : Plan) (x : Core ModuleState) (i : ℕ) (side : Side) (f n : ℕ)
+    → moved_by side f (exchanges_before p x i n) ≡ moved side f (map (core_step p x i) (range_with_len 0 n))
 unfolding exchanges_before moved
 moved_before p x i side f zero = moved_by_nil side f
 moved_before p x i side f (suc n) =
     let z : 0 + n ≡ n = omega arith in
     let steps : map (core_step p x i) (range_with_len 0 (suc n)) ≡ map (core_step p x i) (range_with_len 0 n) ++ core_step p x i n ∷ [] =
-    ap (map (core_step p x i)) (range_more 0 n ∙ ap (λ (j : ℕ). range_with_len 0 n ++ j ∷ []) z) ∙ map-append (core_step p x i) (range_with_len 0 n) (n ∷ []) in
+    ap (map (core_step p x i)) (range_more 0 n ∙ ap (λ (j : ℕ). range_with_len 0 n ++ j ∷ []) z)
+    ∙ map-append (core_step p x i) (range_with_len 0 n) (n ∷ []) in
     moved_by-append side f (exchanges_before p x i n) (core_step p x i n).exchanges
     ∙ (ap₂ (λ (a b : List ℕ). a ++ b) (moved_before p x i side f n) (sym (append-nil (moved_by side f (core_step p x i n).exchanges)))
     ∙ (sym (moved-append side f (map (core_step p x i) (range_with_len 0 n)) (core_step p x i n ∷ [])) ∙ ap (moved side f) (sym steps)))
@@ -98,7 +101,8 @@ open_asked (r ∷ rs) qs =
       | inr b ↦ rw b (ap (λ (n : ℕ). suc n) (open_asked rs (drop 1 qs)))
     ]
 
-pub queries_done : (p : Plan) (h : Held) → IsSound (design p) h → (i n : ℕ) → n ≤ emitted_of h i → length (queries (exchanges_before p (core_of (design p) h) i n)) ≡ queries_before h i n
+pub queries_done : (p : Plan) (h : Held) → IsSound (design p) h → (i n : ℕ) → n ≤ emitted_of h i
+    → length (queries (exchanges_before p (core_of (design p) h) i n)) ≡ queries_before h i n
 unfolding exchanges_before queries_before
 queries_done p h s i zero l = refl
 queries_done p h s i (suc n) l =
@@ -106,9 +110,11 @@ queries_done p h s i (suc n) l =
     let rs = requests_of p (i, x.state i n) in
     let before = exchanges_before p x i n in
     let now = paired rs (told_all rs (core_reply (design p) x i n)) in
-    let same : open_in (map bridge.seen rs) ≡ queries_in (step_of h i n).accesses = ap open_in (s.accesses i n (omega arith)) ∙ sym (open_seen (step_of h i n).accesses) in
+    let same : open_in (map bridge.seen rs) ≡ queries_in (step_of h i n).accesses = ap open_in (s.accesses i n (omega arith))
+    ∙ sym (open_seen (step_of h i n).accesses) in
     ap length (filter-append (λ (e : Exchange). not (is_blocking e.request.kind)) before now)
-    ∙ (length-append (queries before) (queries now) ∙ ap₂ (λ (a b : ℕ). a + b) (queries_done p h s i n (omega arith)) (open_asked rs (told_all rs (core_reply (design p) x i n)) ∙ same))
+    ∙ (length-append (queries before) (queries now) ∙ ap₂ (λ (a b : ℕ). a + b) (queries_done p h s i n (omega arith))
+    (open_asked rs (told_all rs (core_reply (design p) x i n)) ∙ same))
 
 -- ---- the step
 
@@ -132,12 +138,14 @@ has_side Push (plan.Fifo declared delay) inputs depth e = λ f. f
 -- a channel of the table is the plan's
 module _ (p : Plan) (channels : List Channel) (t : kinds_in channels ≡ kinds_of p) where
   pub table_count : length channels ≡ length p.design.channels
-  table_count = sym (length-map channels (λ (c : Channel). c.kind)) ∙ (ap (λ (ks : List TableChannel). length ks) t ∙ length-map-range_with_len (kind_in p) 0 (length p.design.channels))
+  table_count = sym (length-map channels (λ (c : Channel). c.kind)) ∙ (ap (λ (ks : List TableChannel). length ks) t
+      ∙ length-map-range_with_len (kind_in p) 0 (length p.design.channels))
 
   pub table_kind : (c : ℕ) → c < length channels → (channel_at channels c).kind ≡ kind_in p c
   table_kind c l =
       sym (get_or-map (λ (k : Channel). k.kind) channels c (unused Sink) Sink l)
-      ∙ (ap (λ (ks : List TableChannel). get_or ks c Sink) t ∙ get_or-map-range_with_len (kind_in p) 0 (length p.design.channels) c c Sink (let n = table_count in omega arith) (omega arith))
+      ∙ (ap (λ (ks : List TableChannel). get_or ks c Sink) t ∙ get_or-map-range_with_len (kind_in p) 0 (length p.design.channels) c c Sink
+      (let n = table_count in omega arith) (omega arith))
 
   access_inside : (i : ℕ) (before : List Exchange) (r : Request) → StandsAtPort p i r → IsAccess channels (access_of before r)
   access_inside i before r s =
@@ -145,21 +153,28 @@ module _ (p : Plan) (channels : List Channel) (t : kinds_in channels ≡ kinds_o
       record {
         channel = inside;
         ordinal = omega arith;
-        side = subst (λ (k : TableChannel). HasSide k (side_of r.kind)) (sym (table_kind r.channel inside)) (has_side (side_of r.kind) (kind_at p r.channel) _ _ s.is_there);
+        side = subst (λ (k : TableChannel). HasSide k (side_of r.kind)) (sym (table_kind r.channel inside))
+            (has_side (side_of r.kind) (kind_at p r.channel) _ _ s.is_there);
       }
 
 -- an ordinal is one more than the theory's count
-ordinal_is : (p : Plan) (h : Held) → AreOwnMarks (design p) (core_of (design p) h) → (i n : ℕ) → n ≤ emitted_of h i → (before : List Exchange) → before ≡ exchanges_before p (core_of (design p) h) i n
+ordinal_is : (p : Plan) (h : Held) → AreOwnMarks (design p) (core_of (design p) h) → (i n : ℕ) → n ≤ emitted_of h i
+    → (before : List Exchange) → before ≡ exchanges_before p (core_of (design p) h) i n
     → (r : Request) → (access_of before r).ordinal ≡ suc (core_tally (design p) (core_of (design p) h) i (side_of r.kind) r.channel n)
 ordinal_is p h b i n l before e r =
     let x = core_of (design p) h in
-    let same = ordinals p x b i (side_of r.kind) r.channel n l ∙ ap length (sym (moved_before p x i (side_of r.kind) r.channel n) ∙ ap (moved_by (side_of r.kind) r.channel) (sym e)) in
-    let one : 1 + length (moved_by (side_of r.kind) r.channel before) ≡ suc (core_tally (design p) x i (side_of r.kind) r.channel n) = omega arith in
+    let same = ordinals p x b i (side_of r.kind) r.channel n l ∙ ap length
+    (sym (moved_before p x i (side_of r.kind) r.channel n) ∙ ap (moved_by (side_of r.kind) r.channel) (sym e)) in
+    let one : 1 + length (moved_by (side_of r.kind) r.channel before) ≡ suc (core_tally (design p) x i (side_of r.kind) r.channel n) = omega
+    arith in
     one
 
-pub next_step : (p : Plan) → FitsEngine p → (h : Held) → kinds_in h.channels ≡ kinds_of p → IsSound (design p) h → AreOwnMarks (design p) (core_of (design p) h) → (i : ℕ) (o : Own) (t : StepOf)
-    → IsRestBehind p (core_of (design p) h) i (emitted_of h i) o → o.since < 10 ^ 18 → length t.accesses < 2 ^ 32 → (0 < emitted_of h i → 1 ≤ o.since)
-    → mark_at p i o ≡ Step t → IsNextStep (design p) h i t × ((design p).is_over i (ready (design p) i (newest (design p) (core_of (design p) h) i)) ≡ false)
+pub next_step : (p : Plan) → FitsEngine p → (h : Held) → kinds_in h.channels ≡ kinds_of p → IsSound (design p) h
+    → AreOwnMarks (design p) (core_of (design p) h) → (i : ℕ) (o : Own) (t : StepOf)
+    → IsRestBehind p (core_of (design p) h) i (emitted_of h i) o → o.since < 10 ^ 18 → length t.accesses < 2 ^ 32
+    → (0 < emitted_of h i → 1 ≤ o.since)
+    → mark_at p i o ≡ Step t → IsNextStep (design p) h i t × ((design p).is_over i
+    (ready (design p) i (newest (design p) (core_of (design p) h) i)) ≡ false)
 unfolding is_over
 next_step p f h table s b i o t g short few apart m =
     let d = design p in
@@ -176,13 +191,16 @@ next_step p f h table s b i o t g short few apart m =
         sound = record { gap = let y = gap in omega arith; accesses = few };
         inside = subst (All (IsAccess h.channels)) (sym accesses)
             (All-map (IsAccess h.channels) (access_of (done_in o.steps)) (requests_of p (i, o.state))
-            (All-weaker (StandsAtPort p i) (λ (r : Request). IsAccess h.channels (access_of (done_in o.steps) r)) (access_inside p h.channels table i (done_in o.steps)) (requests_of p (i, o.state))
+            (All-weaker (StandsAtPort p i) (λ (r : Request). IsAccess h.channels (access_of (done_in o.steps) r))
+            (access_inside p h.channels table i (done_in o.steps)) (requests_of p (i, o.state))
             (All-from_recursion (StandsAtPort p i) (requests_of p (i, o.state)) (stand p f i o.state))));
-        accesses = ap (d.accesses i) (sym state) ∙ (sym (all_seen (done_in o.steps) (requests_of p (i, o.state))) ∙ ap (map seen) (sym accesses));
+        accesses = ap (d.accesses i) (sym state) ∙ (sym (all_seen (done_in o.steps) (requests_of p (i, o.state)))
+            ∙ ap (map seen) (sym accesses));
         gap = ap (waited e) (gap ∙ g.since) ∙ (gap_waited e (quiet p i (own d i (core_reply d x i) e)) ∙ ap (quiet p i) (sym own_is));
         apart = λ l. let y = gap in let z = apart l in omega arith;
         ordinals = subst (All (λ (a : Access). a.ordinal ≡ suc (core_tally d x i (side_of a.kind) a.channel e))) (sym accesses)
-            (All-map (λ (a : Access). a.ordinal ≡ suc (core_tally d x i (side_of a.kind) a.channel e)) (access_of (done_in o.steps)) (requests_of p (i, o.state))
+            (All-map (λ (a : Access). a.ordinal ≡ suc (core_tally d x i (side_of a.kind) a.channel e)) (access_of (done_in o.steps))
+            (requests_of p (i, o.state))
             (λ j y l. ordinal_is p h b i e (omega arith) (done_in o.steps) g.done (get_or (requests_of p (i, o.state)) j y)));
         first_query = first ∙ (ap (λ (xs : List Exchange). length (queries xs)) g.done ∙ queries_done p h s i e (omega arith));
       },

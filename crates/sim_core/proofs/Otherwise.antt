@@ -1,10 +1,9 @@
 -- A query that is found to be another makes the report's answers differ from the recorded ones.
 use Rattle.std.proofs.Common.{◌≡◌, ◌≢◌, refl, sym, ap, ap₂, subst, ◌∙◌, ℕ, zero, suc, ◌+◌, ◌<◌, ◌≤◌, ◌⊎◌, inl, inr, Bool, true, false}
-use Rattle.std.proofs.Common.{not, cond, ltb, ◌&&◌, List, [], ◌∷◌, ◌++◌, length, map, take, drop, get_or, Option, Some, None, arith}
+use Rattle.std.proofs.Common.{ltb, List, [], ◌∷◌, ◌++◌, length, map, take, drop, get_or, Option, Some, None, arith}
 use Rattle.std.proofs.Common.{append-nil}
 use Rattle.std.specs.Prelude.{slice_get}
-use Rattle.std.specs.List.{range_with_len}
-use Rattle.std.proofs.lemmas.Bool.{cases_Bool, and_parts, both_ways, lt-ltb}
+use Rattle.std.proofs.lemmas.Bool.{cases_Bool, and_parts, both_ways}
 use Rattle.std.proofs.lemmas.List.{length-drop, length-map, length-take, take-append-drop}
 use Rattle.std.proofs.lemmas.List.Concat.{flat_map-append}
 use Rattle.std.proofs.lemmas.List.FromFn.{get_or-map-range_with_len}
@@ -15,7 +14,6 @@ use Rattle.flow_word.specs.declared.access.Kind.TheVariants.{Read, Write, TryRea
 use Rattle.flow_design.specs.declared.plan.Plan.{Plan}
 use Rattle.flow_design.specs.declared.state.ModuleState.{ModuleState}
 use Rattle.flow_design.specs.declared.state.Request.{Request}
-use Rattle.flow_design.specs.StaticRules.{FitsEngine}
 use Rattle.lockstep_defs.specs.Channels.{HistoryStep, Exchange}
 use Rattle.lockstep_defs.specs.Lockstep.{history}
 use Rattle.lockstep_defs.specs.Report.{report, outcomes, queries, steps_of}
@@ -38,7 +36,7 @@ use Rattle.timing_bridge.proofs.InOrder.{reported_history}
 use Rattle.engine_view.specs.Held.{Held, step_of, emitted_of, seen, queries_in, possible_by, flags_by, are_among, core_of}
 use Rattle.engine_view.specs.Shown.{IsSound, queries_before}
 use Rattle.engine_view.specs.Turns.{IsFoundOther, first_of}
-use Rattle.engine_view.proofs.Answered.{among_is, queries_step}
+use Rattle.engine_view.proofs.Answered.{among_is}
 use Rattle.engine_report.proofs.Asking.{same_kind, first_same, rest_same}
 use Rattle.sim_core.proofs.Reported.{steps_told}
 

@@ -1,16 +1,14 @@
 -- While actions are done, a module's record of outcomes only grows, and either none was added or all that it has are verified.
-use Rattle.std.proofs.Common.{◌≡◌, refl, sym, ap, subst, ◌∙◌, ℕ, suc, ◌<◌, ◌≤◌, ◌⊎◌, inl, inr, true, false, not, List, [], ◌∷◌, ◌++◌}
+use Rattle.std.proofs.Common.{◌≡◌, refl, sym, ap, subst, ◌∙◌, ℕ, suc, ◌<◌, ◌⊎◌, inl, inr, true, not, List, [], ◌∷◌}
 use Rattle.std.proofs.Common.{arith}
-use Rattle.std.proofs.lemmas.Bool.{cases_Bool, cases_lt, both_ways}
+use Rattle.std.proofs.lemmas.Bool.{cases_Bool, both_ways}
 use Rattle.std.proofs.lemmas.Bool.Decides.{eqb_tells}
 use Rattle.event_timing.specs.Machines.{Design, IsDesign, ready}
-use Rattle.event_timing.specs.Machines as theory
 use Rattle.event_timing.specs.Histories.{Trace, IsHistory}
 use Rattle.event_timing.specs.Core.{Core, core_accesses, has_query}
-use Rattle.event_timing.specs.Actions.{Action, Acts, ActsAll, MayRun, newest, emit_step, emit_over, after_run}
+use Rattle.event_timing.specs.Actions.{Action, Acts, ActsAll, newest, emit_step, after_run}
 use Rattle.event_timing.specs.Actions.Action.{Run, Assign, Answer, Earliest}
 use Rattle.event_timing.specs.Agreement.{IsAgreed}
-use Rattle.event_timing.specs.Growth.{Grows}
 use Rattle.event_timing.proofs.Agreement.{acts_agree}
 use Rattle.event_timing.proofs.Assigning.{put_same, put_other, put_at_same, put_at_other}
 use Rattle.event_timing.proofs.Beside.{actions_grow}

@@ -13,7 +13,8 @@ use Rattle.engine_view.specs.Held.{values_at}
 abbrev pub replies_found : List Channel → List Access → List Bool → List Reply
 replies_found channels [] flags = []
 replies_found channels (a ∷ as') [] = []
-replies_found channels (a ∷ as') (b ∷ bs) = reply_by a.kind b (get_or (values_at channels a.channel) (a.ordinal - 1) 0) ∷ replies_found channels as' bs
+replies_found channels (a ∷ as') (b ∷ bs) = reply_by a.kind b (get_or (values_at channels a.channel) (a.ordinal - 1) 0) ∷ replies_found
+    channels as' bs
 
 fits : (k : Kind) (b : Bool) (v : ℕ) → fits_kind k (reply_by k b v) ≡ true
 fits Read b v = refl
@@ -31,7 +32,8 @@ AreAsMany [] (b ∷ bs) = ⊥
 AreAsMany (a ∷ xs) [] = ⊥
 AreAsMany (a ∷ xs) (b ∷ bs) = AreAsMany xs bs
 
-pub found_fit : (channels : List Channel) (xs : List Access) (bs : List Bool) → AreAsMany xs bs → all_fit xs (replies_found channels xs bs) ≡ true
+pub found_fit : (channels : List Channel) (xs : List Access) (bs : List Bool) → AreAsMany xs bs
+    → all_fit xs (replies_found channels xs bs) ≡ true
 found_fit channels [] [] m = refl
 found_fit channels [] (b ∷ bs) m = absurd m
 found_fit channels (a ∷ xs) [] m = absurd m

@@ -1,5 +1,6 @@
 -- Going round the modules as long as something is permitted.
-use Rattle.std.proofs.Common.{◌≡◌, refl, sym, ap, subst, ◌∙◌, ℕ, suc, ◌+◌, ◌-◌, ◌*◌, ◌^◌, ◌<◌, ◌≤◌, ◌⊎◌, inl, inr, true, false, Some, get_or, List, [], ◌∷◌, ◌++◌, length, arith, mul-le-mul_right}
+use Rattle.std.proofs.Common.{◌≡◌, refl, sym, ap, subst, ◌∙◌, ℕ, suc, ◌+◌, ◌-◌, ◌*◌, ◌^◌, ◌<◌, ◌≤◌, ◌⊎◌, inl, inr, true, false, Some}
+use Rattle.std.proofs.Common.{get_or, List, [], ◌∷◌, ◌++◌, length, arith, mul-le-mul_right}
 use Rattle.std.specs.Prelude.{slice_get}
 use Rattle.std.proofs.lemmas.Bool.{cases_lt, both_ways}
 use Rattle.std.proofs.lemmas.Bool.Decides.{eqb_tells}
@@ -126,12 +127,15 @@ timed_is_visit v w b a m Idle f (e, t, o) = (e, t, record { no_run = f; idle = o
 pub goes_same : (v : CoreView) (before : ℕ) → Goes v before v before
 goes_same v before = record { actions = []; all = refl; ticked = omega arith; plan = refl; lent = refl }
 
-pub goes_at : (first now next : CoreView) (before ticks later : ℕ) → Goes first before now ticks → next ≡ now → later ≡ ticks → Goes first before next later
-goes_at first now next before ticks later g e t = subst (λ (w : CoreView). Goes first before w later) (sym e) (subst (Goes first before now) (sym t) g)
+pub goes_at : (first now next : CoreView) (before ticks later : ℕ) → Goes first before now ticks → next ≡ now → later ≡ ticks
+    → Goes first before next later
+goes_at first now next before ticks later g e t = subst (λ (w : CoreView). Goes first before w later) (sym e)
+    (subst (Goes first before now) (sym t) g)
 
 -- ---- a round
 
-pub begun : (v : CoreView) (ticks count : ℕ) → IsAgreed (design v.plan) (lockstep_run v.plan) v.plan.cycles (theory_of v) → FitsEngine v.plan → AreOwn v → count ≡ length v.plan.design.modules
+pub begun : (v : CoreView) (ticks count : ℕ) → IsAgreed (design v.plan) (lockstep_run v.plan) v.plan.cycles (theory_of v)
+    → FitsEngine v.plan → AreOwn v → count ≡ length v.plan.design.modules
     → IsGoingRound v v ticks ticks count 0 0
 begun v ticks count agreed fits own counted = record {
   goes = goes_same v ticks;
@@ -152,7 +156,8 @@ module _ (first now next : CoreView) (before ticks later count at idle : ℕ) (r
   pub agreed_now : IsAgreed (design now.plan) (lockstep_run now.plan) now.plan.cycles (theory_of now)
   agreed_now =
       subst (λ (q : Plan). IsAgreed (design q) (lockstep_run q) q.cycles (theory_of now)) (sym r.goes.plan)
-      (all_agree (design first.plan) (lockstep_run first.plan) (plan_is_design first.plan r.fits) (run_is_history first.plan r.fits) first.plan.cycles (theory_of first) r.agreed r.goes.actions (theory_of now) r.goes.all)
+      (all_agree (design first.plan) (lockstep_run first.plan) (plan_is_design first.plan r.fits) (run_is_history first.plan r.fits)
+      first.plan.cycles (theory_of first) r.agreed r.goes.actions (theory_of now) r.goes.all)
 
   fits_now : FitsEngine now.plan
   fits_now = subst FitsEngine (sym r.goes.plan) r.fits
@@ -197,7 +202,11 @@ module _ (first now next : CoreView) (before ticks later count at idle : ℕ) (r
   IsNextOf to = ((at + 1 < count) × (to ≡ at + 1)) ⊎ ((count ≤ at + 1) × (to ≡ 0))
 
   visit : idle < count → (to m : ℕ) → m < count → IsNextOf to → IsVisited count to (idle + 1) m → (m ≡ at) ⊎ IsVisited count at idle m
-  visit less to m i (inl (l, e)) (inl (p, q)) = elim (eqb_tells m at) [ inl y ↦ inl y.1 | inr y ↦ let n = y.1 in inr (inl (omega arith, omega arith)) ]
+  visit less to m i (inl (l, e)) (inl (p, q)) = elim (eqb_tells m at) [
+    | inl y ↦ inl y.1
+    | inr y ↦ let n = y.1 in inr
+        (inl (omega arith, omega arith))
+  ]
   visit less to m i (inl (l, e)) (inr (p, q)) = inr (inr (omega arith, omega arith))
   visit less to m i (inr (l, e)) (inl (p, q)) = absurd (omega arith)
   visit less to m i (inr (l, e)) (inr (p, q)) =
@@ -205,7 +214,8 @@ module _ (first now next : CoreView) (before ticks later count at idle : ℕ) (r
       elim (eqb_tells m at) [ inl y ↦ inl y.1 | inr y ↦ let n = y.1 in inr (inl (omega arith, omega arith)) ]
 
   -- nothing was done at the module whose turn it was
-  pub stayed : idle < count → next ≡ now → later ≡ ticks → IsStill now at → (to : ℕ) → IsNextOf to → IsGoingRound first next before later count to (idle + 1)
+  pub stayed : idle < count → next ≡ now → later ≡ ticks → IsStill now at → (to : ℕ) → IsNextOf to
+      → IsGoingRound first next before later count to (idle + 1)
   stayed less same ticked none to t =
       subst (λ (w : CoreView). IsGoingRound first w before later count to (idle + 1)) (sym same) (record {
         goes = goes_at first now now before ticks later r.goes refl ticked;
@@ -253,12 +263,15 @@ module _ (first now next : CoreView) (before ticks later count at idle : ℕ) (r
   -- where no outcome is assumed, none is found to be another
   pub verified_now : AllVerified (theory_of first) → AllVerified (theory_of now)
   verified_now f =
-      (all_rise (design first.plan) (lockstep_run first.plan) (plan_is_design first.plan r.fits) (run_is_history first.plan r.fits) first.plan.cycles (theory_of first) r.agreed f r.goes.actions (theory_of now) r.goes.all).2
+      (all_rise (design first.plan) (lockstep_run first.plan) (plan_is_design first.plan r.fits) (run_is_history first.plan r.fits)
+      first.plan.cycles (theory_of first) r.agreed f r.goes.actions (theory_of now) r.goes.all).2
 
-  never_other : AllVerified (theory_of first) → (m c : ℕ) (q : Query) → IsFoundOther (design now.plan) now.held m c q → candidate (design now.plan) (view (design now.plan) (theory_of now)) m ≡ Some c
+  never_other : AllVerified (theory_of first) → (m c : ℕ) (q : Query) → IsFoundOther (design now.plan) now.held m c q
+      → candidate (design now.plan) (view (design now.plan) (theory_of now)) m ≡ Some c
       → (theory_of now).verified m ((theory_of now).timed m) ≡ false → ⊥
   never_other f m c q o e u =
-      o.other.differs (ap (λ fs. slice_get fs o.other.place) (never_found (design now.plan) (theory_of now) (verified_now f) m c e u o.recorded))
+      o.other.differs (ap (λ fs. slice_get fs o.other.place) (never_found (design now.plan) (theory_of now) (verified_now f) m c e u
+      o.recorded))
 
   pub never_differs : AllVerified (theory_of first) → (m : ℕ) (q : Query) → IsDifferent (design now.plan) now.plan.cycles now.held m q → ⊥
   never_differs f m q o = never_other f m o.cycle q o.found o.may.determined.at o.may.open_query
@@ -285,7 +298,8 @@ few h n l = let m : (h + 1) * (n + 1) ≤ 2 ^ 64 * (n + 1) = mul-le-mul_right (n
 fewer : (h g n idle : ℕ) → h < g → h * (n + 1) + (n - 0) < g * (n + 1) + (n - idle)
 fewer h g n idle l = let m : (h + 1) * (n + 1) ≤ g * (n + 1) = mul-le-mul_right (n + 1) (omega arith) in omega arith
 
-module _ (first now next : CoreView) (before ticks later count at idle : ℕ) (r : IsGoingRound first now before ticks count at idle) (hints other : ℕ) where
+module _ (first now next : CoreView) (before ticks later count at idle : ℕ) (r : IsGoingRound first now before ticks count at idle)
+    (hints other : ℕ) where
   pub went_on : GoesOn now ticks next later → other < 2 ^ 64 → still_to_do next count 0 other < still_to_do now count idle hints
   went_on o l =
       let agreed : IsAgreed (design next.plan) (lockstep_run next.plan) next.plan.cycles (theory_of next) =
@@ -295,10 +309,13 @@ module _ (first now next : CoreView) (before ticks later count at idle : ℕ) (r
       falls (to_do next) (to_do now) (2 ^ 64 * (count + 1)) _ _ (less o.goes.plan o.risen most) (few other count l)
     where
       less : next.plan ≡ now.plan → work (design now.plan) (theory_of now) < work (design now.plan) (theory_of next)
-          → work (design next.plan) (theory_of next) ≤ length next.plan.design.modules * (3 * next.plan.ops + 1) → to_do next + 1 ≤ to_do now
+          → work (design next.plan) (theory_of next) ≤ length next.plan.design.modules * (3 * next.plan.ops + 1)
+          → to_do next + 1 ≤ to_do now
       less e u most =
-          let rise : work (design now.plan) (theory_of now) < work (design next.plan) (theory_of next) = subst (λ (q : Plan). work (design now.plan) (theory_of now) < work (design q) (theory_of next)) (sym e) u in
-          let same : length next.plan.design.modules * (3 * next.plan.ops + 1) ≡ length now.plan.design.modules * (3 * now.plan.ops + 1) = ap (λ (q : Plan). length q.design.modules * (3 * q.ops + 1)) e in
+          let rise : work (design now.plan) (theory_of now) < work (design next.plan) (theory_of next) = subst
+          (λ (q : Plan). work (design now.plan) (theory_of now) < work (design q) (theory_of next)) (sym e) u in
+          let same : length next.plan.design.modules * (3 * next.plan.ops + 1) ≡ length now.plan.design.modules *
+          (3 * now.plan.ops + 1) = ap (λ (q : Plan). length q.design.modules * (3 * q.ops + 1)) e in
           omega arith
 
   pub jumped_on : next ≡ now → other < hints → still_to_do next count 0 other < still_to_do now count idle hints
@@ -311,13 +328,16 @@ module _ (first now next : CoreView) (before ticks later count at idle : ℕ) (r
 
   pub stayed_on : next ≡ now → idle < count → still_to_do next count (idle + 1) hints < still_to_do now count idle hints
   stayed_on e l =
-      subst (λ (v : CoreView). still_to_do v count (idle + 1) hints < still_to_do now count idle hints) (sym e) (add (to_do now * (2 ^ 64 * (count + 1))) (hints * (count + 1)))
+      subst (λ (v : CoreView). still_to_do v count (idle + 1) hints < still_to_do now count idle hints) (sym e)
+      (add (to_do now * (2 ^ 64 * (count + 1))) (hints * (count + 1)))
     where
       add : (a b : ℕ) → a + (b + (count - (idle + 1))) < a + (b + (count - idle))
       add a b = omega arith
 
 -- ---- where no outcome is assumed
 
-pub goes_verified : (v w : CoreView) (before after : ℕ) → IsAgreed (design v.plan) (lockstep_run v.plan) v.plan.cycles (theory_of v) → FitsEngine v.plan → Goes v before w after → AllVerified (theory_of v) → AllVerified (theory_of w)
+pub goes_verified : (v w : CoreView) (before after : ℕ) → IsAgreed (design v.plan) (lockstep_run v.plan) v.plan.cycles (theory_of v)
+    → FitsEngine v.plan → Goes v before w after → AllVerified (theory_of v) → AllVerified (theory_of w)
 goes_verified v w before after agreed fits g f =
-    (all_rise (design v.plan) (lockstep_run v.plan) (plan_is_design v.plan fits) (run_is_history v.plan fits) v.plan.cycles (theory_of v) agreed f g.actions (theory_of w) g.all).2
+    (all_rise (design v.plan) (lockstep_run v.plan) (plan_is_design v.plan fits) (run_is_history v.plan fits) v.plan.cycles (theory_of v)
+    agreed f g.actions (theory_of w) g.all).2

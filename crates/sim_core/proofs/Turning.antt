@@ -1,5 +1,6 @@
 -- What the calls over a graph, a table and a log do to a core: cycles and answers.
-use Rattle.std.proofs.Common.{◌≡◌, refl, sym, ap, ap₂, subst, ◌∙◌, ℕ, zero, suc, ◌+◌, ◌-◌, ◌*◌, ◌<◌, ◌≤◌, inl, inr, Bool, true, false, cond, ltb, ◌&&◌, List, [], ◌∷◌, length, get_or, set, Option, None, Some, arith}
+use Rattle.std.proofs.Common.{◌≡◌, refl, sym, ap, ap₂, subst, ◌∙◌, ℕ, zero, suc, ◌+◌, ◌-◌, ◌*◌, ◌<◌, ◌≤◌, inl, inr, Bool, true, false, cond}
+use Rattle.std.proofs.Common.{ltb, ◌&&◌, List, [], ◌∷◌, length, get_or, set, Option, None, Some, arith}
 use Rattle.std.proofs.lemmas.Bool.{cases_Bool, cases_lt, both_ways, lt-ltb}
 use Rattle.std.proofs.lemmas.List.{get_or_past, get_or-set_same, get_or-set_other}
 use Rattle.std.proofs.lemmas.Bool.Decides.{eqb_tells}
@@ -48,16 +49,19 @@ use Rattle.sim_core.proofs.Keeping.{core_acted, kept_of}
 -- ---- what is left to do is read off the core
 
 left_by : {S : Type 0} → Core S → ℕ → ℕ
-left_by {S} x m = 2 * (x.emitted m - x.timed m) + cond {A = ℕ} (ltb (x.timed m) (x.emitted m)) (cond {A = ℕ} (x.verified m (x.timed m)) 0 1) 0
+left_by {S} x m = 2 * (x.emitted m - x.timed m) + cond {A = ℕ} (ltb (x.timed m) (x.emitted m)) (cond {A = ℕ} (x.verified m (x.timed m)) 0 1)
+    0
 
 left_is : {S : Type 0} (d : Design S) (h : Held) (m : ℕ) → left_of h m ≡ left_by (core_of d h) m
 unfolding left_of left_by
 left_is {S} d h m =
     elim (cases_lt (first_of h m) (emitted_of h m)) [
-      | inl l ↦ ap (λ (n : ℕ). 2 * (emitted_of h m - first_of h m) + n) (there (ltb (first_of h m) (emitted_of h m)) _ (lt-ltb (first_of h m) (emitted_of h m) l))
+      | inl l ↦ ap (λ (n : ℕ). 2 * (emitted_of h m - first_of h m) + n)
+          (there (ltb (first_of h m) (emitted_of h m)) _ (lt-ltb (first_of h m) (emitted_of h m) l))
       | inr l ↦
           let none : step_of h m (first_of h m) ≡ no_step = get_or_past (lane_at h.lanes m).steps (first_of h m) no_step l in
-          let all : are_among (step_of h m (first_of h m)) (log_at h.logs m).verified ≡ true = ap (λ (t : Step). are_among t (log_at h.logs m).verified) none in
+          let all : are_among (step_of h m (first_of h m)) (log_at h.logs m).verified ≡ true = ap
+          (λ (t : Step). are_among t (log_at h.logs m).verified) none in
           ap (λ (n : ℕ). 2 * (emitted_of h m - first_of h m) + n) (past (ltb (first_of h m) (emitted_of h m)) _ all)
     ]
   where
@@ -76,7 +80,8 @@ sum_same f g zero e = refl
 sum_same f g (suc n) e = ap₂ (λ (a b : ℕ). a + b) (sum_same f g n e) (e n)
 
 -- where less is left, the core is another
-pub changed : {S : Type 0} (d : Design S) (s t : Stored) (over : List Bool) → length t.graph.lanes ≡ length s.graph.lanes → left t < left s → core_of d (held_in t over) ≡ core_of d (held_in s over) → ⊥
+pub changed : {S : Type 0} (d : Design S) (s t : Stored) (over : List Bool) → length t.graph.lanes ≡ length s.graph.lanes → left t < left s
+    → core_of d (held_in t over) ≡ core_of d (held_in s over) → ⊥
 unfolding left
 changed {S} d s t over same less e =
     let each : (m : ℕ) → left_of (held_in t []) m ≡ left_of (held_in s []) m = λ m.
@@ -90,7 +95,8 @@ changed {S} d s t over same less e =
 
 -- ---- what a call asks, and leaves
 
-module _ (p : Plan) (s t : Stored) (ends : List (Option Advance)) (runs : List (Option ModuleRun)) (credits : List ℕ) (k : IsCore p s ends runs credits) where
+module _ (p : Plan) (s t : Stored) (ends : List (Option Advance)) (runs : List (Option ModuleRun)) (credits : List ℕ)
+    (k : IsCore p s ends runs credits) where
   abbrev over : List Bool
   over = over_of ends
 
@@ -113,17 +119,21 @@ module _ (p : Plan) (s t : Stored) (ends : List (Option Advance)) (runs : List (
   abbrev seen : Stored → List Bool → CoreView
   seen u lent = record { plan = p; held = held_in u over; lent = lent }
 
-  pub core_timed : (m : ℕ) (r : Timing) → HasTimed r p.cycles m s t → KeepsRoom s t → kinds_in t.table.channels ≡ kinds_in s.table.channels → IsCore p t ends runs credits
+  pub core_timed : (m : ℕ) (r : Timing) → HasTimed r p.cycles m s t → KeepsRoom s t → kinds_in t.table.channels ≡ kinds_in s.table.channels
+      → IsCore p t ends runs credits
   core_timed m (Assigned c) done room kinds =
       let leads = (done d over is_design kept).1 in
-      core_acted p s t ends ends runs credits credits k (Assign m) leads.acts leads.kept.sound kinds refl (room credits d over is_design kept k.room) (λ n run e. tt) (λ n mark e. inl e)
+      core_acted p s t ends ends runs credits credits k (Assign m) leads.acts leads.kept.sound kinds refl
+      (room credits d over is_design kept k.room) (λ n run e. tt) (λ n mark e. inl e)
   core_timed m (Answered c) done room kinds =
       let leads = (done d over is_design kept).1 in
-      core_acted p s t ends ends runs credits credits k (Answer m) leads.acts leads.kept.sound kinds refl (room credits d over is_design kept k.room) (λ n run e. tt) (λ n mark e. inl e)
+      core_acted p s t ends ends runs credits credits k (Answer m) leads.acts leads.kept.sound kinds refl
+      (room credits d over is_design kept k.room) (λ n run e. tt) (λ n mark e. inl e)
   core_timed m (Differs q) (e, f) room kinds = same_core e
   core_timed m turn.Nothing (e, f) room kinds = same_core e
 
-  pub turned : (m : ℕ) (r : Timing) (lent : List Bool) → HasTimed r p.cycles m s t → ((c : ℕ) → r ≡ Answered c → core_of d (held_in t over) ≡ core_of d (held_in s over) → ⊥) → HasTurned r (seen s lent) m (seen t lent)
+  pub turned : (m : ℕ) (r : Timing) (lent : List Bool) → HasTimed r p.cycles m s t
+      → ((c : ℕ) → r ≡ Answered c → core_of d (held_in t over) ≡ core_of d (held_in s over) → ⊥) → HasTurned r (seen s lent) m (seen t lent)
   turned m (Assigned c) lent done other = (done d over is_design kept).1.acts
   turned m (Answered c) lent done other = ((done d over is_design kept).1.acts, other c refl)
   turned m (Differs q) lent (e, f) other = (ap (λ (u : Stored). seen u lent) e, f d over is_design kept)
@@ -163,16 +173,19 @@ module _ (p : Plan) (s t : Stored) (ends : List (Option Advance)) (runs : List (
           ]
         ]
 
-    module _ (candidates : List Candidate) (count : length candidates ≡ length h.lanes) (all : AreCandidates h.lanes h.channels p.cycles (length h.lanes) candidates) where
+    module _ (candidates : List Candidate) (count : length candidates ≡ length h.lanes)
+        (all : AreCandidates h.lanes h.channels p.cycles (length h.lanes) candidates) where
       at_of : (m c : ℕ) → slice_get candidates m ≡ Some (At c) → m < length h.lanes → (candidate d (view d x) m ≡ Some c) × (c < p.cycles)
       at_of m c e l =
           let (is, below) = (all m c l).0 (get_or_from_slice_get candidates m (At c) Nothing e) in
           (determined_is m c is, below)
 
-      none_open : ((m : ℕ) (c : Candidate) → m < length candidates → cycle_of (get_or candidates m c) ≡ None) → (n e : ℕ) → IsOpen d p.cycles x n e → ⊥
+      none_open : ((m : ℕ) (c : Candidate) → m < length candidates → cycle_of (get_or candidates m c) ≡ None) → (n e : ℕ)
+          → IsOpen d p.cycles x n e → ⊥
       none_open none n e o =
           let inside = emitted_there n e o.determined.at in
-          let at : get_or candidates n Nothing ≡ At e = (all n e inside).1 (candidate_is d is_design h k.sound n ∙ o.determined.at, o.determined.below) in
+          let at : get_or candidates n Nothing ≡ At e = (all n e inside).1
+          (candidate_is d is_design h k.sound n ∙ o.determined.at, o.determined.below) in
           let no : cycle_of (At e) ≡ None = ap cycle_of (sym at) ∙ none n Nothing (omega arith) in
           cc
 
@@ -201,7 +214,8 @@ module _ (p : Plan) (s t : Stored) (ends : List (Option Advance)) (runs : List (
           quiet = quiet;
           least = λ n e o.
               let inside = emitted_there n e o.determined.at in
-              let at : get_or candidates n Nothing ≡ At e = (all n e inside).1 (candidate_is d is_design h k.sound n ∙ o.determined.at, o.determined.below) in
+              let at : get_or candidates n Nothing ≡ At e = (all n e inside).1
+              (candidate_is d is_design h k.sound n ∙ o.determined.at, o.determined.below) in
               first.least n e (there candidates n e (omega arith) at);
         }
           where
@@ -216,7 +230,8 @@ module _ (p : Plan) (s t : Stored) (ends : List (Option Advance)) (runs : List (
             record {
               inside = least_inside;
               there = emitted;
-              unsure = among_false (ltb (first_of h m) (emitted_of h m)) (are_among (step_of h m (first_of h m)) (log_at h.logs m).verified) (lt-ltb (first_of h m) (emitted_of h m) emitted)
+              unsure = among_false (ltb (first_of h m) (emitted_of h m)) (are_among (step_of h m (first_of h m)) (log_at h.logs m).verified)
+                  (lt-ltb (first_of h m) (emitted_of h m) emitted)
                   (least_may.open_step.open_query);
             }
           where
@@ -224,18 +239,22 @@ module _ (p : Plan) (s t : Stored) (ends : List (Option Advance)) (runs : List (
             among_false true b e f = f
             among_false false b e f = cc
 
-        pub core_answered : (g : Guard) → HasAnswered g m c s t → KeepsRoom s t → kinds_in t.table.channels ≡ kinds_in s.table.channels → IsCore p t ends runs credits
+        pub core_answered : (g : Guard) → HasAnswered g m c s t → KeepsRoom s t → kinds_in t.table.channels ≡ kinds_in s.table.channels
+            → IsCore p t ends runs credits
         core_answered guard.Same done room kinds =
             let a = done d over is_design kept in
-            core_acted p s t ends ends runs credits credits k (Earliest m) (c, least_may, inl (a.same, a.now.core)) a.now.kept.sound kinds refl (room credits d over is_design kept k.room) (λ n run e. tt) (λ n mark e. inl e)
+            core_acted p s t ends ends runs credits credits k (Earliest m) (c, least_may, inl (a.same, a.now.core)) a.now.kept.sound kinds
+            refl (room credits d over is_design kept k.room) (λ n run e. tt) (λ n mark e. inl e)
         core_answered (guard.Differs q) (e, f) room kinds = same_core e
 
-        pub least_answered : (g : Guard) (lent : List Bool) → HasAnswered g m c s t → HasAnsweredLeast (Some (m, g)) (seen s lent) (seen t lent)
+        pub least_answered : (g : Guard) (lent : List Bool) → HasAnswered g m c s t
+            → HasAnsweredLeast (Some (m, g)) (seen s lent) (seen t lent)
         least_answered guard.Same lent done =
             let a = done d over is_design kept in (
               (c, least_may, inl (a.same, a.now.core)),
               λ e.
-                  let now : x.verified m (x.timed m) ≡ true = ap (λ (q : Core ModuleState). q.verified m (x.timed m)) (sym e ∙ a.now.core) ∙ put_at_same x.verified m (x.timed m) true in
+                  let now : x.verified m (x.timed m) ≡ true = ap (λ (q : Core ModuleState). q.verified m (x.timed m)) (sym e ∙ a.now.core)
+                  ∙ put_at_same x.verified m (x.timed m) true in
                   both_ways _ least_may.open_step.open_query now,
             )
         least_answered (guard.Differs q) lent (e, f) =
@@ -243,14 +262,19 @@ module _ (p : Plan) (s t : Stored) (ends : List (Option Advance)) (runs : List (
 
 -- ---- the list of candidates
 
-pub candidates_more : (lanes : List Lane) (channels : List Channel) (limit n : ℕ) (candidates : List Candidate) (a : Candidate) → n < length candidates → AreCandidates lanes channels limit n candidates
-    → ((cycle : ℕ) → (a ≡ At cycle) ↔ ((determined lanes channels n ≡ Some cycle) × (cycle < limit))) → AreCandidates lanes channels limit (n + 1) (set candidates n a)
+pub candidates_more : (lanes : List Lane) (channels : List Channel) (limit n : ℕ) (candidates : List Candidate) (a : Candidate)
+    → n < length candidates → AreCandidates lanes channels limit n candidates
+    → ((cycle : ℕ) → (a ≡ At cycle) ↔ ((determined lanes channels n ≡ Some cycle) × (cycle < limit)))
+    → AreCandidates lanes channels limit (n + 1) (set candidates n a)
 candidates_more lanes channels limit n candidates a inside all now m cycle l =
     elim (eqb_tells m n) [
       | inl e ↦
-          subst (λ (k : ℕ). (get_or (set candidates n a) k Nothing ≡ At cycle) ↔ ((determined lanes channels k ≡ Some cycle) × (cycle < limit))) (sym e.1)
-          (subst (λ (c : Candidate). (c ≡ At cycle) ↔ ((determined lanes channels n ≡ Some cycle) × (cycle < limit))) (sym (get_or-set_same candidates n a Nothing inside)) (now cycle))
+          subst (λ (k : ℕ). (get_or (set candidates n a) k Nothing ≡ At cycle) ↔
+          ((determined lanes channels k ≡ Some cycle) × (cycle < limit))) (sym e.1)
+          (subst (λ (c : Candidate). (c ≡ At cycle) ↔ ((determined lanes channels n ≡ Some cycle) × (cycle < limit)))
+          (sym (get_or-set_same candidates n a Nothing inside)) (now cycle))
       | inr e ↦
           let f = e.1 in
-          subst (λ (c : Candidate). (c ≡ At cycle) ↔ ((determined lanes channels m ≡ Some cycle) × (cycle < limit))) (sym (get_or-set_other candidates n m a Nothing e.1)) (all m cycle (omega arith))
+          subst (λ (c : Candidate). (c ≡ At cycle) ↔ ((determined lanes channels m ≡ Some cycle) × (cycle < limit)))
+          (sym (get_or-set_other candidates n m a Nothing e.1)) (all m cycle (omega arith))
     ]

@@ -9,4 +9,5 @@ use Rattle.time_engine.specs.Cycles.{determined}
 -- of the first so many modules the candidate is at a cycle exactly where that is determined, below the limit
 abbrev pub AreCandidates : List Lane → List Channel → ℕ → ℕ → List Candidate → Type 0
 AreCandidates lanes channels limit many candidates =
-    (m cycle : ℕ) → m < many → (slice_index_or candidates m Nothing ≡ At cycle) ↔ ((determined lanes channels m ≡ Some cycle) × (cycle < limit))
+    (m cycle : ℕ) → m < many → (slice_index_or candidates m Nothing ≡ At cycle) ↔
+    ((determined lanes channels m ≡ Some cycle) × (cycle < limit))

@@ -4,7 +4,6 @@ use Rattle.flow_design.specs.declared.plan.Edit.{Edit}
 use Rattle.event_graph.specs.Lanes.{timed_below}
 use Rattle.fifo_table.specs.Channels.{channel_at, depth_of}
 use Rattle.query_log.specs.Logs.{log_at}
-use Rattle.query_log.specs.declared.query.Query.{Query}
 use Rattle.outcome_guard.specs.declared.guard.Guard.{Guard}
 use Rattle.outcome_guard.specs.declared.guard.Guard.TheVariants.{Same, Differs}
 use Rattle.event_timing.specs.Edits.{after_edit}

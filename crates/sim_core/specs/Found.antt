@@ -15,9 +15,12 @@ value_now channels a = slice_get (values_at channels a.channel) (a.ordinal - 1)
 abbrev pub replies_now : List Channel → List Access → List Bool → Option (List Reply)
 replies_now channels [] outcomes = Some []
 replies_now channels (a ∷ as') outcomes =
-    put_first (reply_now a.kind (slice_get outcomes 0) (value_now channels a)) (replies_now channels as' (cond (is_blocking a.kind) outcomes (drop 1 outcomes)))
+    put_first (reply_now a.kind (slice_get outcomes 0) (value_now channels a))
+    (replies_now channels as' (cond (is_blocking a.kind) outcomes (drop 1 outcomes)))
 
 -- a loop over the accesses has found those before this index
-pub record FindsOn (channels : List Channel) (accesses : List Access) (outcomes : List Bool) (first : ℕ) (replies : List Reply) (index number : ℕ) : Type 0 where
-  pub found : replies_now channels accesses (drop first outcomes) ≡ put_before replies (replies_now channels (drop index accesses) (drop number outcomes))
+pub record FindsOn (channels : List Channel) (accesses : List Access) (outcomes : List Bool) (first : ℕ) (replies : List Reply)
+    (index number : ℕ) : Type 0 where
+  pub found : replies_now channels accesses (drop first outcomes) ≡ put_before replies
+      (replies_now channels (drop index accesses) (drop number outcomes))
   pub within : number ≤ first + index

@@ -1,5 +1,6 @@
 -- How a core begins.
-use Rattle.std.specs.Prelude.{◌≡◌, ℕ, ◌<◌, false, List, [], ◌∷◌, flat_map, length, map, slice_index, slice_index_or, Option, None, Some, is_none}
+use Rattle.std.specs.Prelude.{◌≡◌, ℕ, ◌<◌, false, List, [], ◌∷◌, flat_map, length, map, slice_index, slice_index_or, Option, None, Some}
+use Rattle.std.specs.Prelude.{is_none}
 use Rattle.std.specs.List.{range_with_len}
 use Rattle.flow_word.specs.declared.access.Port.{Port}
 use Rattle.flow_word.specs.declared.access.Side.TheVariants.{Pop, Push}

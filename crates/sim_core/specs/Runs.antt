@@ -66,12 +66,15 @@ pub record IsCore (p : Plan) (s : Stored) (ends : List (Option Advance)) (runs :
   pub count : length runs ≡ length s.graph.lanes
   pub counted : length credits ≡ length s.graph.lanes
   pub room : IsRoomy (design p) s (over_of ends) credits
-  pub runs_are : (m : ℕ) (run : ModuleRun) → slice_index_or runs m None ≡ Some run → IsRunOf p (core_of (design p) (held_in s (over_of ends))) m run
-  pub ends_are : (m : ℕ) (mark : Advance) → slice_index_or ends m None ≡ Some mark → IsEndOf p (core_of (design p) (held_in s (over_of ends))) m mark
+  pub runs_are : (m : ℕ) (run : ModuleRun) → slice_index_or runs m None ≡ Some run
+      → IsRunOf p (core_of (design p) (held_in s (over_of ends))) m run
+  pub ends_are : (m : ℕ) (mark : Advance) → slice_index_or ends m None ≡ Some mark
+      → IsEndOf p (core_of (design p) (held_in s (over_of ends))) m mark
 
 -- and the list of ports is that of all channels, which are given room, it is told who pops each channel, and there is a candidate for
 -- each module
-pub record IsStoredCore (p : Plan) (s : Stored) (ends : List (Option Advance)) (runs : List (Option ModuleRun)) (credits : List ℕ) (ports : List Port)
+pub record IsStoredCore (p : Plan) (s : Stored) (ends : List (Option Advance)) (runs : List (Option ModuleRun)) (credits : List ℕ)
+    (ports : List Port)
     (readers : List ℕ) (candidates : List Candidate) : Type 0 where
   pub core : IsCore p s ends runs credits
   pub ports_are : ports ≡ all_ports (length p.design.channels)

@@ -32,5 +32,6 @@ pub record IsEarliestOther (v : CoreView) (m : ℕ) (q : Query) : Type 0 where
 -- the first of the least open steps was answered, where there is one
 abbrev pub HasAnsweredLeast : Option (ℕ × Guard) → CoreView → CoreView → Type 0
 HasAnsweredLeast None v w = (w ≡ v) × IsFinal (design v.plan) v.plan.cycles (theory_of v)
-HasAnsweredLeast (Some (m, guard.Same)) v w = Acts (design v.plan) v.plan.cycles (theory_of v) (Earliest m) (theory_of w) × (theory_of w ≡ theory_of v → ⊥)
+HasAnsweredLeast (Some (m, guard.Same)) v w = Acts (design v.plan) v.plan.cycles (theory_of v) (Earliest m) (theory_of w)
+    × (theory_of w ≡ theory_of v → ⊥)
 HasAnsweredLeast (Some (m, guard.Differs q)) v w = (w ≡ v) × IsEarliestOther v m q

@@ -54,7 +54,11 @@ impl Model for Core {
 
     ghost coded = { Prim.hlevel (codes, plan_code) };
 
-    ghost view = { λ c. record { plan = c.plan; held = held_in (stored c.graph c.fifos c.log) (over_of c.ends.items); lent = lent_of c.runs.items } };
+    ghost view = { λ c. record {
+      plan = c.plan;
+      held = held_in (stored c.graph c.fifos c.log) (over_of c.ends.items);
+      lent = lent_of c.runs.items;
+    } };
 
     ghost invariant = { λ c. IsStoredCore c.plan (stored c.graph c.fifos c.log) c.ends.items c.runs.items c.credits.items c.ports
         c.readers.items c.candidates.items };

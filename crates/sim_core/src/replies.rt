@@ -24,8 +24,10 @@ pub fn find_replies(
     requires owner { owner < length log.now.logs }
     requires inside { All (IsAccess fifos.now.channels) accesses.now }
     requires few { first_query + length accesses.now < 2 ^ 64 }
-    ensures all { IfOk result (λ all. all ≡ true → replies_now fifos.now.channels accesses.now (drop first_query (log_at log.now.logs owner).outcomes) ≡ Some replies.new) }
-    ensures some { IfOk result (λ all. all ≡ false → replies_now fifos.now.channels accesses.now (drop first_query (log_at log.now.logs owner).outcomes) ≡ None) }
+    ensures all { IfOk result (λ all. all ≡ true → replies_now fifos.now.channels accesses.now
+        (drop first_query (log_at log.now.logs owner).outcomes) ≡ Some replies.new) }
+    ensures some { IfOk result (λ all. all ≡ false → replies_now fifos.now.channels accesses.now
+        (drop first_query (log_at log.now.logs owner).outcomes) ≡ None) }
 {
     replies.truncate(0);
     let mut number = first_query;

@@ -21,7 +21,8 @@ impl Core {
     pub(crate) fn run(&mut self, owner: u32) -> Result<bool, OutOfMemory>
         requires owner { owner < length self.old.plan.design.modules }
         requires here { slice_index_or self.old.lent owner true ≡ false }
-        ensures acts { IfOk result (λ ran. ran ≡ true → Acts (design self.old.plan) self.old.plan.cycles (theory_of self.old) (Run owner) (theory_of self.new)) }
+        ensures acts { IfOk result (λ ran. ran ≡ true → Acts (design self.old.plan) self.old.plan.cycles (theory_of self.old) (Run owner)
+            (theory_of self.new)) }
         ensures not_permitted { IfOk result (λ ran. ran ≡ false → MayRun (design self.old.plan) (theory_of self.old) owner → ⊥) }
         ensures unchanged { IfOk result (λ ran. ran ≡ false → self.new ≡ self.old) }
         ensures no_memory { OnErr result (self.new ≡ self.old) }
@@ -41,7 +42,8 @@ impl Core {
         requires owner { owner < length self.old.plan.design.modules }
         requires taken { slice_index_or self.old.lent owner true ≡ true }
         requires run { IsRunOf self.old.plan (theory_of self.old) owner run.old }
-        ensures acts { IfOk result (λ ran. ran ≡ true → Acts (design self.old.plan) self.old.plan.cycles (theory_of self.old) (Run owner) (theory_of self.new)) }
+        ensures acts { IfOk result (λ ran. ran ≡ true → Acts (design self.old.plan) self.old.plan.cycles (theory_of self.old) (Run owner)
+            (theory_of self.new)) }
         ensures not_permitted { IfOk result (λ ran. ran ≡ false → MayRun (design self.old.plan) (theory_of self.old) owner → ⊥) }
         ensures unchanged { IfOk result (λ ran. ran ≡ false → self.new ≡ self.old) }
         ensures no_memory { OnErr result (self.new ≡ self.old) }

@@ -1,5 +1,7 @@
 -- Beginnings of a history, and the entries that bear a number.
-use Rattle.std.proofs.Common.{◌≡◌, ◌≢◌, ◌⊎◌, ℕ, zero, suc, ◌+◌, ◌≤◌, List, [], ◌∷◌, ◌++◌, length, Option, Some, None, Bool, true, false, cond, nat_le, if◌then◌else◌, sym, refl, ap, ◌∙◌, inl, inr, ⊎_elim, append_assoc, append-nil, length-append, eq-eqb, ne_eqb, arith}
+use Rattle.std.proofs.Common.{◌≡◌, ◌≢◌, ◌⊎◌, ℕ, zero, suc, ◌+◌, ◌≤◌, List, [], ◌∷◌, ◌++◌, length, Option, Some, None, Bool, true, false}
+use Rattle.std.proofs.Common.{cond, nat_le, if◌then◌else◌, sym, refl, ap, ◌∙◌, inl, inr, ⊎_elim, append_assoc, append-nil, length-append}
+use Rattle.std.proofs.Common.{eq-eqb, ne_eqb, arith}
 use Rattle.std.proofs.lemmas.List.{nil_from_length}
 use Rattle.std.proofs.lemmas.List.Elements.{filter-append}
 use Rattle.std.proofs.lemmas.Bool.{leb-true}
@@ -23,7 +25,8 @@ module _ {A : Type 0} where
   shorter_begins : (xs ys cs ds : List A) → xs ++ cs ≡ ys ++ ds → length xs ≤ length ys → IsPrefix xs ys
   shorter_begins [] ys cs ds e h = (ys, refl)
   shorter_begins (x ∷ xs) [] cs ds e h = absurd (omega arith)
-  shorter_begins (x ∷ xs) (y ∷ ys) cs ds e h = let head : x ≡ y = cc e in let tail : xs ++ cs ≡ ys ++ ds = cc e in let r = shorter_begins xs ys cs ds tail (omega arith) in
+  shorter_begins (x ∷ xs) (y ∷ ys) cs ds e h = let head : x ≡ y = cc e in let tail : xs ++ cs ≡ ys ++ ds = cc e in
+      let r = shorter_begins xs ys cs ds tail (omega arith) in
       (r.0, λ i. head i ∷ r.1 i)
 
   pub prefix_of_prefix : (xs ys log : List A) → IsPrefix xs log → IsPrefix ys log → length xs ≤ length ys → IsPrefix xs ys
@@ -48,32 +51,45 @@ module _ {E : Type 0} (bearer : E → Option ℕ) (n : ℕ) where
   pub entries-append : (xs ys : List E) → entries_of bearer n (xs ++ ys) ≡ entries_of bearer n xs ++ entries_of bearer n ys
   entries-append xs ys = filter-append (λ x. bears (bearer x) n) xs ys
 
-  entries_count : (xs ys log : List E) → xs ++ ys ≡ log → length (entries_of bearer n log) ≡ length (entries_of bearer n xs) + length (entries_of bearer n ys)
-  entries_count xs ys log e = ap (λ l. length (entries_of bearer n l)) (sym e) ∙ (ap length (entries-append xs ys) ∙ length-append (entries_of bearer n xs) (entries_of bearer n ys))
+  entries_count : (xs ys log : List E) → xs ++ ys ≡ log → length (entries_of bearer n log) ≡ length (entries_of bearer n xs) + length
+      (entries_of bearer n ys)
+  entries_count xs ys log e = ap (λ l. length (entries_of bearer n l)) (sym e)
+      ∙ (ap length (entries-append xs ys) ∙ length-append (entries_of bearer n xs) (entries_of bearer n ys))
 
   -- one entry more that bears the number, after all that did
-  pub entries_mine : (own before log : List E) (e : E) → own ≡ entries_of bearer n before → log ≡ before ++ e ∷ [] → bearer e ≡ Some n → own ++ e ∷ [] ≡ entries_of bearer n log
-  entries_mine own before log e early more is = ap (λ l. l ++ e ∷ []) early ∙ (sym (entries-append before (e ∷ []) ∙ ap (λ b. entries_of bearer n before ++ cond b (e ∷ []) []) (ap (λ o. bears o n) is ∙ eq-eqb n n refl)) ∙ ap (entries_of bearer n) (sym more))
+  pub entries_mine : (own before log : List E) (e : E) → own ≡ entries_of bearer n before → log ≡ before ++ e ∷ [] → bearer e ≡ Some n
+      → own ++ e ∷ [] ≡ entries_of bearer n log
+  entries_mine own before log e early more is = ap (λ l. l ++ e ∷ []) early
+      ∙ (sym (entries-append before (e ∷ []) ∙ ap (λ b. entries_of bearer n before ++ cond b (e ∷ []) [])
+      (ap (λ o. bears o n) is ∙ eq-eqb n n refl)) ∙ ap (entries_of bearer n) (sym more))
 
-  pub entries_other : (k : ℕ) (log : List E) (e : E) → bearer e ≡ Some k → k ≢ n → entries_of bearer n (log ++ e ∷ []) ≡ entries_of bearer n log
+  pub entries_other : (k : ℕ) (log : List E) (e : E) → bearer e ≡ Some k → k ≢ n
+      → entries_of bearer n (log ++ e ∷ []) ≡ entries_of bearer n log
   entries_other k log e is other = entries-append log (e ∷ [])
-      ∙ (ap (λ b. entries_of bearer n log ++ cond b (e ∷ []) []) (ap (λ o. bears o n) is ∙ ne_eqb k n other) ∙ append-nil (entries_of bearer n log))
+      ∙ (ap (λ b. entries_of bearer n log ++ cond b (e ∷ []) []) (ap (λ o. bears o n) is ∙ ne_eqb k n other)
+      ∙ append-nil (entries_of bearer n log))
 
   -- where a history has none, no beginning of it has one
   pub none_before : (xs log : List E) → IsPrefix xs log → entries_of bearer n log ≡ [] → entries_of bearer n xs ≡ []
-  none_before xs log p none = let all = entries_count xs p.0 log p.1 in let zero_all = ap length none in nil_from_length (entries_of bearer n xs) (omega arith)
+  none_before xs log p none = let all = entries_count xs p.0 log p.1 in let zero_all = ap length none in
+      nil_from_length (entries_of bearer n xs) (omega arith)
 
   -- where a beginning has all of them, none is later
   pub none_later : (xs ys log : List E) → xs ++ ys ≡ log → entries_of bearer n log ≡ entries_of bearer n xs → entries_of bearer n ys ≡ []
-  none_later xs ys log e same = let all = entries_count xs ys log e in let counts = ap length same in nil_from_length (entries_of bearer n ys) (omega arith)
+  none_later xs ys log e same = let all = entries_count xs ys log e in let counts = ap length same in
+      nil_from_length (entries_of bearer n ys) (omega arith)
 
   -- what has as many in a beginning as in the whole has them in between
-  entries_between : (own xs ys log : List E) → IsPrefix xs ys → IsPrefix ys log → own ≡ entries_of bearer n xs → own ≡ entries_of bearer n log → own ≡ entries_of bearer n ys
-  entries_between own xs ys log p q early late = let more = entries_count xs p.0 ys p.1 in let all = entries_count ys q.0 log q.1 in let same = ap length (sym late ∙ early) in
+  entries_between : (own xs ys log : List E) → IsPrefix xs ys → IsPrefix ys log → own ≡ entries_of bearer n xs
+      → own ≡ entries_of bearer n log → own ≡ entries_of bearer n ys
+  entries_between own xs ys log p q early late = let more = entries_count xs p.0 ys p.1 in let all = entries_count ys q.0 log q.1 in
+      let same = ap length (sym late ∙ early) in
       let none : entries_of bearer n p.0 ≡ [] = nil_from_length (entries_of bearer n p.0) (omega arith) in
-      early ∙ (sym (append-nil (entries_of bearer n xs)) ∙ (ap (λ l. entries_of bearer n xs ++ l) (sym none) ∙ (sym (entries-append xs p.0) ∙ ap (entries_of bearer n) p.1)))
+      early ∙ (sym (append-nil (entries_of bearer n xs)) ∙ (ap (λ l. entries_of bearer n xs ++ l) (sym none)
+      ∙ (sym (entries-append xs p.0) ∙ ap (entries_of bearer n) p.1)))
 
-  pub entries_longer : (own xs ys log : List E) → IsPrefix xs log → IsPrefix ys log → own ≡ entries_of bearer n xs → own ≡ entries_of bearer n log → own ≡ entries_of bearer n (longer xs ys)
+  pub entries_longer : (own xs ys log : List E) → IsPrefix xs log → IsPrefix ys log → own ≡ entries_of bearer n xs
+      → own ≡ entries_of bearer n log → own ≡ entries_of bearer n (longer xs ys)
   entries_longer own xs ys log p q early late = either_one (nat_le (length xs) (length ys)) refl
     where
       either_one : (b : Bool) → nat_le (length xs) (length ys) ≡ b → own ≡ entries_of bearer n (if b then ys else xs)

@@ -1,5 +1,6 @@
 -- What holds of each seat, where the view of one is changed or one is added.
-use Rattle.std.proofs.Common.{◌≡◌, ◌≢◌, ℕ, zero, suc, ◌<◌, List, [], ◌∷◌, ◌++◌, length, set, Option, true, false, sym, ap, ◌∙◌, subst, ⊎_elim, arith}
+use Rattle.std.proofs.Common.{◌≡◌, ◌≢◌, ℕ, zero, suc, ◌<◌, List, [], ◌∷◌, ◌++◌, length, set, Option, true, false, sym, ap, ◌∙◌, subst}
+use Rattle.std.proofs.Common.{⊎_elim, arith}
 use mathlib.Core.Logic.{dite}
 use mathlib.Core.Option.{some, some-injective, some-ne-none}
 use native.Mathlib.Decide.{ℕ_discrete}
@@ -20,21 +21,31 @@ module _ {A : Type 0} where
 
 module _ {E : Type 0} where
   -- a fact of each live seat, where the seat `me` has a new view
-  pub seats_stay : (P : ℕ → View E → Type 0) (vs : List (View E)) (me : ℕ) (w : View E) → (w.spent ≡ false → P me w) → ((j : ℕ) (v : View E) → j ≢ me → get_elem? vs j ≡ some v → v.spent ≡ false → P j v)
+  pub seats_stay : (P : ℕ → View E → Type 0) (vs : List (View E)) (me : ℕ) (w : View E) → (w.spent ≡ false → P me w)
+      → ((j : ℕ) (v : View E) → j ≢ me → get_elem? vs j ≡ some v → v.spent ≡ false → P j v)
       → (j : ℕ) (v : View E) → get_elem? (set vs me w) j ≡ some v → v.spent ≡ false → P j v
-  seats_stay P vs me w mine others j v e = ⊎_elim (λ (t : (j ≡ me) × (w ≡ v)). subst (λ (x : ℕ × View E). x.1.spent ≡ false → P x.0 x.1) (λ i. (sym t.0 i, t.1 i)) mine)
+  seats_stay P vs me w mine others j v e = ⊎_elim (λ (t : (j ≡ me) × (w ≡ v)). subst (λ (x : ℕ × View E). x.1.spent ≡ false → P x.0 x.1)
+      (λ i. (sym t.0 i, t.1 i)) mine)
       (λ (t : (j ≢ me) × (get_elem? vs j ≡ some v)). others j v t.0 t.1) (at_set vs me j w v e)
 
   -- the mark stays where a view that changes keeps it
-  pub mark_stays : (vs : List (View E)) (me j : ℕ) (v w : View E) → get_elem? vs me ≡ some v → w.spent ≡ v.spent → w.is_holder ≡ v.is_holder → HasMark vs j → HasMark (set vs me w) j
+  pub mark_stays : (vs : List (View E)) (me j : ℕ) (v w : View E) → get_elem? vs me ≡ some v → w.spent ≡ v.spent → w.is_holder ≡ v.is_holder
+      → HasMark vs j → HasMark (set vs me w) j
   mark_stays vs me j v w at spent mark h = dite (ℕ_discrete j me)
-      (λ e. let same : v ≡ h.0 = some-injective _ _ (sym at ∙ (ap (get_elem? vs) (sym e) ∙ h.1)) in
-      (w, ap (get_elem? (set vs me w)) e ∙ set_here vs me w (inside vs me v at), spent ∙ (ap (λ u. u.spent) same ∙ h.2), mark ∙ (ap (λ u. u.is_holder) same ∙ h.3)))
+      (λ e. let same : v ≡ h.0 = some-injective _ _ (sym at ∙ (ap (get_elem? vs) (sym e) ∙ h.1)) in (
+        w,
+        ap (get_elem? (set vs me w)) e ∙ set_here vs me w (inside vs me v at),
+        spent ∙ (ap (λ u. u.spent) same ∙ h.2),
+        mark
+            ∙ (ap (λ u. u.is_holder) same ∙ h.3),
+      ))
       (λ other. (h.0, set_else vs me j w other ∙ h.1, h.2, h.3))
 
   -- what is found twice in one place is the same
-  pub mark_at : (vs : List (View E)) (i j : ℕ) (v w : View E) → get_elem? vs i ≡ some v → get_elem? vs j ≡ some w → i ≡ j → v.is_holder ≡ true → w.is_holder ≡ true
-  mark_at vs i j v w here there same held = let one : v ≡ w = some-injective v w (sym here ∙ (ap (get_elem? vs) same ∙ there)) in sym (ap (λ u. u.is_holder) one) ∙ held
+  pub mark_at : (vs : List (View E)) (i j : ℕ) (v w : View E) → get_elem? vs i ≡ some v → get_elem? vs j ≡ some w → i ≡ j
+      → v.is_holder ≡ true → w.is_holder ≡ true
+  mark_at vs i j v w here there same held = let one : v ≡ w = some-injective v w (sym here ∙ (ap (get_elem? vs) same ∙ there)) in
+      sym (ap (λ u. u.is_holder) one) ∙ held
 
   -- it stays where a seat is added
   pub mark_later : (vs : List (View E)) (w : View E) (j : ℕ) → HasMark vs j → HasMark (vs ++ w ∷ []) j
@@ -42,7 +53,8 @@ module _ {E : Type 0} where
 
 module _ {E : Type 0} (bearer : E → Option ℕ) (passes : ℕ) where
   -- what is known of a seat without the mark speaks neither of the turn word nor of the holder
-  pub unmarked : (t : Story E) (holder turn turn' j : ℕ) (v : View E) → v.is_holder ≢ true → Knows bearer passes t turn j v → Knows bearer passes (record t { holder = holder }) turn' j v
+  pub unmarked : (t : Story E) (holder turn turn' j : ℕ) (v : View E) → v.is_holder ≢ true → Knows bearer passes t turn j v
+      → Knows bearer passes (record t { holder = holder }) turn' j v
   unmarked t holder turn turn' j v not_held k = record {
     begins = k.begins;
     mark = λ h. absurd (not_held h);

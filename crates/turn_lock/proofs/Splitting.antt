@@ -1,5 +1,6 @@
 -- Splitting a seat keeps the rule.
-use Rattle.std.proofs.Common.{◌≡◌, ◌≢◌, ℕ, ◌+◌, ◌<◌, ◌≤◌, List, [], length, get_or, set, Option, false, true≢false, subst, sym, refl, ap, ◌∙◌, ⊎_elim, arith, cond, eqb, eq-eqb, ne_eqb}
+use Rattle.std.proofs.Common.{◌≡◌, ◌≢◌, ℕ, ◌+◌, ◌<◌, ◌≤◌, List, [], length, get_or, set, Option, false, true≢false, subst, sym, refl, ap}
+use Rattle.std.proofs.Common.{◌∙◌, ⊎_elim, arith, cond, eqb, eq-eqb, ne_eqb}
 use mathlib.Core.Option.{some}
 use lib.ListN.{get_elem?}
 use Rattle.atomic_table.specs.Table.{Splits}
@@ -22,17 +23,28 @@ placed_else f n j k other = ap (λ b. cond b j (f k)) (ne_eqb k n other)
 
 module _ {K E : Type 0} (history : K → List E) (bearer : E → Option ℕ) (passes : ℕ) where
   -- the first pass makes another
-  pub splits : (id : ℕ) (v : View E) → v.spent ≡ false → v.number ≡ 0 → v.made + 1 < v.passes → Splits (Ruled history bearer passes) id v (after_split v) (split_off v)
-  splits id v live zeroth room s r at = let mine = r.each id v at live in let u : View E = after_split v in let w : View E = split_off v in let n : ℕ = v.made + 1 in
+  pub splits : (id : ℕ) (v : View E) → v.spent ≡ false → v.number ≡ 0 → v.made + 1 < v.passes
+      → Splits (Ruled history bearer passes) id v (after_split v) (split_off v)
+  splits id v live zeroth room s r at = let mine = r.each id v at live in let u : View E = after_split v in let w : View E = split_off v in
+      let n : ℕ = v.made + 1 in
       let counts : v.made ≡ r.story.made = (mine.first zeroth).0 in let limit : v.passes ≡ passes = mine.limit in
-      let last : ℕ = length (set s.views id u) in let turn : ℕ = get_or s.words 0 0 in let none : entries_of bearer n r.story.history ≡ [] = r.unborn n (omega arith) (omega arith) in
-      let t : Story E = record { history = r.story.history; made = n; joined = r.story.joined; holder = r.story.holder; seat_of = placed r.story.seat_of n last } in record {
+      let last : ℕ = length (set s.views id u) in let turn : ℕ = get_or s.words 0 0 in
+      let none : entries_of bearer n r.story.history ≡ [] = r.unborn n (omega arith) (omega arith) in
+      let t : Story E = record {
+        history = r.story.history;
+        made = n;
+        joined = r.story.joined;
+        holder = r.story.holder;
+        seat_of = placed
+            r.story.seat_of n last;
+      } in record {
         story = t;
         shape = r.shape;
         turn = r.turn;
         counted = r.counted;
         free = r.free;
-        taken = λ e. let was = r.taken e in (was.0, mark_later (set s.views id u) w r.story.holder (mark_stays s.views id r.story.holder v u at refl refl was.1));
+        taken = λ e. let was = r.taken e in
+            (was.0, mark_later (set s.views id u) w r.story.holder (mark_stays s.views id r.story.holder v u at refl refl was.1));
         each = λ j x there alive. ⊎_elim
             (λ (e : get_elem? (set s.views id u) j ≡ some x). seats_stay (Knows bearer passes t turn) s.views id u
             (λ _. record {
@@ -72,6 +84,7 @@ module _ {K E : Type 0} (history : K → List E) (bearer : E → Option ℕ) (pa
               own_seen = sym (none_before bearer n v.seen r.story.history mine.begins none);
             })
             (at_end (set s.views id u) w x j there);
-        past = λ k m e. let p = r.past k m e in let low : m.number ≤ r.story.made = p.low in record { positive = p.positive; low = omega arith; own = p.own; seen = p.seen; before = p.before };
+        past = λ k m e. let p = r.past k m e in let low : m.number ≤ r.story.made = p.low in
+            record { positive = p.positive; low = omega arith; own = p.own; seen = p.seen; before = p.before };
         unborn = λ k more less. r.unborn k (omega arith) less;
       }

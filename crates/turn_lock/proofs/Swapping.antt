@@ -1,5 +1,6 @@
 -- A swap of 1 on the turn word keeps the rule, and tells whether the turn was free.
-use Rattle.std.proofs.Common.{◌≡◌, ℕ, List, get_or, set, Option, Some, false, sym, refl, ap, ◌∙◌, subst, arith, length-set, get_or-set_other, get_or-set_same}
+use Rattle.std.proofs.Common.{◌≡◌, ℕ, List, get_or, set, Option, Some, false, sym, refl, ap, ◌∙◌, subst, arith, length-set}
+use Rattle.std.proofs.Common.{get_or-set_other, get_or-set_same}
 use mathlib.Core.Logic.{dite}
 use mathlib.Core.Option.{some, none}
 use mathlib.Core.List.{IsPrefix}
@@ -22,11 +23,13 @@ module _ {K E : Type 0} (history : K → List E) (bearer : E → Option ℕ) (pa
   Rule = Ruled history bearer passes
 
   -- the turn was taken
-  misses : (s : State (Option K) (View E)) (r : Rule s) (id : ℕ) (v : View E) → get_elem? s.views id ≡ some v → v.spent ≡ false → get_or s.words 0 0 ≡ 1
+  misses : (s : State (Option K) (View E)) (r : Rule s) (id : ℕ) (v : View E) → get_elem? s.views id ≡ some v → v.spent ≡ false
+      → get_or s.words 0 0 ≡ 1
       → Rule record { words = set s.words 0 1; homes = s.homes; views = set s.views id (after_lost_tries 1 v) }
   misses s r id v at live is = let w : View E = after_lost_tries 1 v in let mine = r.each id v at live in
       subst (λ (n : ℕ). Rule record { words = set s.words 0 n; homes = s.homes; views = set s.views id w }) is
-      (subst (λ (ws : List ℕ). Rule record { words = ws; homes = s.homes; views = set s.views id w }) (sym (set-get_or s.words 0 0)) record {
+      (subst (λ (ws : List ℕ). Rule record { words = ws; homes = s.homes; views = set s.views id w }) (sym (set-get_or s.words 0 0))
+      record {
         story = r.story;
         shape = r.shape;
         turn = r.turn;
@@ -52,7 +55,8 @@ module _ {K E : Type 0} (history : K → List E) (bearer : E → Option ℕ) (pa
       })
 
   -- the turn was free
-  wins : (s : State (Option K) (View E)) (r : Rule s) (id : ℕ) (v : View E) (x : K) → get_elem? s.views id ≡ some v → v.spent ≡ false → get_or s.words 0 0 ≡ 0 → history x ≡ r.story.history
+  wins : (s : State (Option K) (View E)) (r : Rule s) (id : ℕ) (v : View E) (x : K) → get_elem? s.views id ≡ some v → v.spent ≡ false
+      → get_or s.words 0 0 ≡ 0 → history x ≡ r.story.history
       → Rule record { words = set s.words 0 1; homes = set s.homes 0 none; views = set s.views id (as_holder (history x) v) }
   wins s r id v x at live is same = let w : View E = as_holder (history x) v in let mine = r.each id v at live in let shape = r.shape in
       let t : Story E = record r.story { holder = id } in
@@ -77,23 +81,27 @@ module _ {K E : Type 0} (history : K → List E) (bearer : E → Option ℕ) (pa
               own_seen = mine.own_seen;
             })
             (λ j u _ there alive. let k = r.each j u there alive in
-            unmarked bearer passes r.story id (get_or s.words 0 0) (get_or (set s.words 0 1) 0 0) j u (λ h. let was : get_or s.words 0 0 ≡ 1 = (k.mark h).1 in omega arith) k);
+            unmarked bearer passes r.story id (get_or s.words 0 0) (get_or (set s.words 0 1) 0 0) j u
+            (λ h. let was : get_or s.words 0 0 ≡ 1 = (k.mark h).1 in omega arith) k);
         past = r.past;
         unborn = r.unborn;
       }
 
   -- what the history says to a pass
-  goes_on : (s : State (Option K) (View E)) (r : Rule s) (id : ℕ) (v : View E) (log : List E) → get_elem? s.views id ≡ some v → v.spent ≡ false → log ≡ r.story.history → Continues bearer v log
+  goes_on : (s : State (Option K) (View E)) (r : Rule s) (id : ℕ) (v : View E) (log : List E) → get_elem? s.views id ≡ some v
+      → v.spent ≡ false → log ≡ r.story.history → Continues bearer v log
   goes_on s r id v log at live is = let mine = r.each id v at live in record {
     begins = subst (IsPrefix v.seen) (sym is) mine.begins;
     owns = record {
       own = mine.own ∙ ap (entries_of bearer v.number) (sym is);
-      unborn = λ z n above below. let made : v.made ≡ r.story.made = (mine.first z).0 in let limit : v.passes ≡ passes = mine.limit in ap (entries_of bearer n) is ∙ r.unborn n (omega arith) (omega arith);
+      unborn = λ z n above below. let made : v.made ≡ r.story.made = (mine.first z).0 in let limit : v.passes ≡ passes = mine.limit in
+          ap (entries_of bearer n) is ∙ r.unborn n (omega arith) (omega arith);
     };
     since = λ later e. none_later bearer v.number v.seen later log e (ap (entries_of bearer v.number) is ∙ (sym mine.own ∙ mine.own_seen));
   }
 
-  pub swaps : (slots id : ℕ) (me : Me (Option K) (View E)) → me.0.spent ≡ false → Allows Rule slots id me 0 (λ _. 1) (Swapped history bearer (step slots 0 1 0 none) me)
+  pub swaps : (slots id : ℕ) (me : Me (Option K) (View E)) → me.0.spent ≡ false
+      → Allows Rule slots id me 0 (λ _. 1) (Swapped history bearer (step slots 0 1 0 none) me)
   swaps slots id me live s r deep at small = dite (ℕ_discrete (get_or s.words 0 0) 0)
       (λ hit. let home = r.free hit in let x = home.0 in (
         as_holder (history x) me.0,

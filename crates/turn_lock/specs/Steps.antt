@@ -10,9 +10,11 @@ abbrev pub Seated : Type 0 → Type 0 → Type 0
 Seated K E = Me (Option K) (View E)
 
 module _ {K E : Type 0} where
-  -- the turn was free, so the seat has the slot with a value whose history goes on from what was seen; or it was taken, and one try more is lost
+  -- the turn was free, so the seat has the slot with a value whose history goes on from what was seen; or it was taken, and one try more is
+  -- lost
   abbrev pub Swapped : (K → List E) → (E → Option ℕ) → Step (Option K) → Seated K E → ℕ → Seated K E → Type 0
-  Swapped history bearer st m found m' = (found ≡ 0 → (x : K) × (m'.1 ≡ (0, Some x) ∷ m.1) × (m'.0 ≡ as_holder (history x) m.0) × Continues bearer m.0 (history x))
+  Swapped history bearer st m found m' = (found ≡ 0 → (x : K) × (m'.1 ≡ (0, Some x) ∷ m.1) × (m'.0 ≡ as_holder (history x) m.0)
+      × Continues bearer m.0 (history x))
       × (found ≢ 0 → m' ≡ (after_lost_tries 1 m.0, m.1))
 
   -- the value in the slot has one entry e more than the history that the turn began with, and the seat has put it

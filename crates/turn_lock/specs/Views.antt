@@ -6,7 +6,20 @@ use Rattle.turn_lock.specs.declared.view.Joined.{Joined}
 module _ {E : Type 0} where
   -- a pass without a turn: its number, the count of passes, what it has seen, and whether it is settled
   abbrev pub new_view : ℕ → ℕ → List E → Bool → View E
-  new_view n passes seen settled = record { spent = false; number = n; passes = passes; made = 0; seen = seen; own = []; settled = settled; joined = []; turns = 0; lost = 0; is_holder = false; history = [] }
+  new_view n passes seen settled = record {
+    spent = false;
+    number = n;
+    passes = passes;
+    made = 0;
+    seen = seen;
+    own = [];
+    settled = settled;
+    joined = [];
+    turns = 0;
+    lost = 0;
+    is_holder = false;
+    history = [];
+  }
 
   -- the first pass of a lock for so many passes, which has seen the opening
   abbrev pub first_view : ℕ → List E → View E
@@ -14,7 +27,20 @@ module _ {E : Type 0} where
 
   -- a pass that was joined into another
   abbrev pub spent_view : View E
-  spent_view = record { spent = true; number = 0; passes = 0; made = 0; seen = []; own = []; settled = false; joined = []; turns = 0; lost = 0; is_holder = false; history = [] }
+  spent_view = record {
+    spent = true;
+    number = 0;
+    passes = 0;
+    made = 0;
+    seen = [];
+    own = [];
+    settled = false;
+    joined = [];
+    turns = 0;
+    lost = 0;
+    is_holder = false;
+    history = [];
+  }
 
   -- the first pass, which has made one pass more
   abbrev pub after_split : View E → View E

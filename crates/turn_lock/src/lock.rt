@@ -112,7 +112,8 @@ impl<K: Kept> TurnLock<K> {
         requires room { length (K.history turn.value) < 2 ^ 64 }
         requires longer { (e : K.Entry) × (K.history turn.value ≡ begun_at turn ++ e ∷ []) × (K.bearer e ≡ Some (turn_view turn).number) }
         ensures lock { pass_lock result ≡ lock_id self.now }
-        ensures end { (e : K.Entry) → K.history turn.value ≡ begun_at turn ++ e ∷ [] → EndsTurn (e ∷ []) (K.history turn.value) (turn_view turn) (view_of result) }
+        ensures end { (e : K.Entry) → K.history turn.value ≡ begun_at turn ++ e ∷ []
+            → EndsTurn (e ∷ []) (K.history turn.value) (turn_view turn) (view_of result) }
     {
         let mut seat = self.bring_home(turn);
         self.table.shared.fetch_add::<Add>(&mut seat, 1, 1);

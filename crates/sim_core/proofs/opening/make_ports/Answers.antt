@@ -19,5 +19,7 @@ ports_more n =
 pub loop-channel-preserved : goal.loop-channel-preserved
 loop-channel-preserved c =
     c.in_ok-push-2.ensures.ok
-    ∙ (ap (λ (ps : List Port). ps ++ record { side = Push; channel = c.loop-channel.channel } ∷ []) (c.in_ok-push.ensures.ok ∙ ap (λ (ps : List Port). ps ++ record { side = Pop; channel = c.loop-channel.channel } ∷ []) c.loop-channel.invariant)
+    ∙ (ap (λ (ps : List Port). ps ++ record { side = Push; channel = c.loop-channel.channel } ∷ [])
+    (c.in_ok-push.ensures.ok ∙ ap (λ (ps : List Port). ps ++ record { side = Pop; channel = c.loop-channel.channel } ∷ [])
+    c.loop-channel.invariant)
     ∙ (append_assoc (all_ports c.loop-channel.channel) _ _ ∙ sym (ports_more c.loop-channel.channel)))

@@ -10,7 +10,8 @@ loop-owner-preserved c =
     let test = c.loop-owner-test.true in
     record {
       count = length-set c.loop-owner.candidates.items c.loop-owner.owner c.candidate.result ∙ i.count;
-      all = candidates_more c.args.graph.now.lanes c.args.fifos.now.channels c.args.limit c.loop-owner.owner c.loop-owner.candidates.items c.candidate.result (let n = i.count in omega arith) i.all c.candidate.ensures.at;
+      all = candidates_more c.args.graph.now.lanes c.args.fifos.now.channels c.args.limit c.loop-owner.owner c.loop-owner.candidates.items
+          c.candidate.result (let n = i.count in omega arith) i.all c.candidate.ensures.at;
     }
 
 pub returns-clause-all : goal.returns-clause-all

@@ -14,7 +14,8 @@ pub close-requires-clause-joined : goal.close-requires-clause-joined
 close-requires-clause-joined c =
     let first = view_of c.args.first in
     let second = view_of c.args.second in
-    subst AllJoined (sym c.join-last.ensures.joined) (all_joined first (second ∷ []) (one_made first second c.requires.first.1 c.requires.second))
+    subst AllJoined (sym c.join-last.ensures.joined) (all_joined first (second ∷ [])
+    (one_made first second c.requires.first.1 c.requires.second))
 
 pub returns : goal.returns
 returns c =

@@ -15,31 +15,43 @@ returns-in-None-clause-done c =
     let k = c.self.invariant.core in
     let s = stored c.self.inside.graph c.self.inside.fifos c.self.inside.log in
     let quiet = subst (λ (v : CoreView). IsQuiet (design v.plan) v.plan.cycles (theory_of v)) (sym c.self.view_is) c.requires in
-    let none = subst (λ (cs : List Candidate). All (λ (a : Candidate). cycle_of a ≡ None) cs) c.deref.ensures.value (c.in-None.ensures.none.0 refl) in
-    (c.self.view_is, subst (λ (v : CoreView). IsFinal (design v.plan) v.plan.cycles (theory_of v)) c.self.view_is (turning.final_if c.self.inside.plan s s c.self.inside.ends.items c.self.inside.runs.items c.self.inside.credits.items k quiet c.list_candidates.new.candidates.items c.list_candidates.ensures.count c.list_candidates.ensures.all none))
+    let none = subst (λ (cs : List Candidate). All (λ (a : Candidate). cycle_of a ≡ None) cs) c.deref.ensures.value
+    (c.in-None.ensures.none.0 refl) in (
+      c.self.view_is,
+      subst (λ (v : CoreView). IsFinal (design v.plan) v.plan.cycles (theory_of v)) c.self.view_is
+          (turning.final_if c.self.inside.plan s s c.self.inside.ends.items c.self.inside.runs.items c.self.inside.credits.items k quiet
+          c.list_candidates.new.candidates.items c.list_candidates.ensures.count c.list_candidates.ensures.all none),
+    )
 
 pub answer_first-guard-requires-clause-core : goal.answer_first-guard-requires-clause-core
 answer_first-guard-requires-clause-core c =
     let s = stored c.self.inside.graph c.self.inside.fifos c.self.inside.log in
-    turning.some_core c.self.inside.plan s s c.self.inside.ends.items c.self.inside.runs.items c.self.inside.credits.items c.self.invariant.core
+    turning.some_core c.self.inside.plan s s c.self.inside.ends.items c.self.inside.runs.items c.self.inside.credits.items
+    c.self.invariant.core
 
 pub answer_first-guard-requires-clause-unsure : goal.answer_first-guard-requires-clause-unsure
 answer_first-guard-requires-clause-unsure c =
     let k = c.self.invariant.core in
     let s = stored c.self.inside.graph c.self.inside.fifos c.self.inside.log in
     let quiet = subst (λ (v : CoreView). IsQuiet (design v.plan) v.plan.cycles (theory_of v)) (sym c.self.view_is) c.requires in
-    let least = subst (λ (cs : List Candidate). IsEarliest cs c.in-Some.owner c.in-Some.cycle) c.deref.ensures.value c.in-Some.ensures.some in
-    turning.least_unsure c.self.inside.plan s s c.self.inside.ends.items c.self.inside.runs.items c.self.inside.credits.items k quiet c.list_candidates.new.candidates.items c.list_candidates.ensures.count c.list_candidates.ensures.all c.in-Some.owner c.in-Some.cycle least
+    let least = subst (λ (cs : List Candidate). IsEarliest cs c.in-Some.owner c.in-Some.cycle) c.deref.ensures.value
+    c.in-Some.ensures.some in
+    turning.least_unsure c.self.inside.plan s s c.self.inside.ends.items c.self.inside.runs.items c.self.inside.credits.items k quiet
+    c.list_candidates.new.candidates.items c.list_candidates.ensures.count c.list_candidates.ensures.all c.in-Some.owner c.in-Some.cycle
+    least
 
 pub invariant_of-self-in-Some : goal.invariant_of-self-in-Some
 invariant_of-self-in-Some c =
     let k = c.self.invariant.core in
     let s = stored c.self.inside.graph c.self.inside.fifos c.self.inside.log in
     let quiet = subst (λ (v : CoreView). IsQuiet (design v.plan) v.plan.cycles (theory_of v)) (sym c.self.view_is) c.requires in
-    let least = subst (λ (cs : List Candidate). IsEarliest cs c.in-Some.owner c.in-Some.cycle) c.deref.ensures.value c.in-Some.ensures.some in
+    let least = subst (λ (cs : List Candidate). IsEarliest cs c.in-Some.owner c.in-Some.cycle) c.deref.ensures.value
+    c.in-Some.ensures.some in
     let t = stored c.self.inside.graph c.answer_first-guard.new.fifos c.answer_first-guard.new.log in
     record {
-      core = turning.core_answered c.self.inside.plan s t c.self.inside.ends.items c.self.inside.runs.items c.self.inside.credits.items k quiet c.list_candidates.new.candidates.items c.list_candidates.ensures.count c.list_candidates.ensures.all c.in-Some.owner c.in-Some.cycle least c.answer_first-guard.result c.answer_first-guard.ensures.answered
+      core = turning.core_answered c.self.inside.plan s t c.self.inside.ends.items c.self.inside.runs.items c.self.inside.credits.items k
+          quiet c.list_candidates.new.candidates.items c.list_candidates.ensures.count c.list_candidates.ensures.all c.in-Some.owner
+          c.in-Some.cycle least c.answer_first-guard.result c.answer_first-guard.ensures.answered
           c.answer_first-guard.ensures.room c.answer_first-guard.ensures.kinds;
       ports_are = c.self.invariant.ports_are;
       readers_are = c.self.invariant.readers_are;
@@ -51,7 +63,11 @@ returns-in-Some-clause-done c =
     let k = c.self.invariant.core in
     let s = stored c.self.inside.graph c.self.inside.fifos c.self.inside.log in
     let quiet = subst (λ (v : CoreView). IsQuiet (design v.plan) v.plan.cycles (theory_of v)) (sym c.self.view_is) c.requires in
-    let least = subst (λ (cs : List Candidate). IsEarliest cs c.in-Some.owner c.in-Some.cycle) c.deref.ensures.value c.in-Some.ensures.some in
+    let least = subst (λ (cs : List Candidate). IsEarliest cs c.in-Some.owner c.in-Some.cycle) c.deref.ensures.value
+    c.in-Some.ensures.some in
     let t = stored c.self.inside.graph c.answer_first-guard.new.fifos c.answer_first-guard.new.log in
-    rw (← c.self.view_is) (turning.least_answered c.self.inside.plan s t c.self.inside.ends.items c.self.inside.runs.items c.self.inside.credits.items k quiet c.list_candidates.new.candidates.items c.list_candidates.ensures.count c.list_candidates.ensures.all c.in-Some.owner c.in-Some.cycle least c.answer_first-guard.result (lent_of c.self.inside.runs.items)
+    rw (← c.self.view_is) (turning.least_answered c.self.inside.plan s t c.self.inside.ends.items c.self.inside.runs.items
+    c.self.inside.credits.items k quiet c.list_candidates.new.candidates.items c.list_candidates.ensures.count
+    c.list_candidates.ensures.all c.in-Some.owner c.in-Some.cycle least c.answer_first-guard.result
+    (lent_of c.self.inside.runs.items)
     c.answer_first-guard.ensures.answered)

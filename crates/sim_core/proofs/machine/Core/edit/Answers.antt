@@ -1,7 +1,6 @@
-use Rattle.std.proofs.Common.{◌≡◌, sym, ap, subst, ◌∙◌, unwrap_or}
+use Rattle.std.proofs.Common.{◌≡◌, sym, subst, ◌∙◌, unwrap_or}
 use Rattle.flow_design.specs.declared.plan.Plan.{Plan}
 use Rattle.flow_design.specs.Plans.{EditFits, with_depth}
-use Rattle.fifo_table.specs.Channels.{channel_at, depth_of}
 use Rattle.event_timing.specs.Actions.{IsFinal}
 use Rattle.timing_bridge.specs.Designs.{design}
 use Rattle.engine_view.specs.Stored.{stored, held_in}

@@ -18,7 +18,8 @@ use Rattle.sim_core.proofs.machine.Core.emit_next.Goals as goal
 pub make_room-requires-clause-ports : goal.make_room-requires-clause-ports
 make_room-requires-clause-ports c =
     let k = c.self.invariant.core in
-    all_within (length c.self.inside.plan.design.channels) (length c.self.inside.fifos.channels) c.as_slice.result.now (sym (table_count c.self.inside.plan c.self.inside.fifos.channels k.table))
+    all_within (length c.self.inside.plan.design.channels) (length c.self.inside.fifos.channels) c.as_slice.result.now
+    (sym (table_count c.self.inside.plan c.self.inside.fifos.channels k.table))
     (c.as_slice.ensures ∙ c.self.invariant.ports_are)
 
 pub invariant_of-self : goal.invariant_of-self
@@ -29,10 +30,18 @@ invariant_of-self c =
     let s = stored c.self.inside.graph c.self.inside.fifos c.self.inside.log in
     let t = stored c.make_room.new.graph c.make_room.new.fifos c.make_room.new.log in
     let others = c.make_room.new.credits.items in
-    let same : held_in t (over_of ends) ≡ held_in s (over_of ends) = lending.held_same s t (over_of ends) c.make_room.ensures.lanes c.make_room.ensures.channels c.make_room.ensures.logs in
-    let ports = all_there (design p) c.args.owner (length c.self.inside.fifos.channels) c.as_slice.result.now (c.as_slice.ensures ∙ (c.self.invariant.ports_are ∙ ap all_ports (sym (table_count p c.self.inside.fifos.channels k.table)))) in
+    let same : held_in t (over_of ends) ≡ held_in s (over_of ends) = lending.held_same s t (over_of ends) c.make_room.ensures.lanes
+    c.make_room.ensures.channels c.make_room.ensures.logs in
+    let ports = all_there (design p) c.args.owner (length c.self.inside.fifos.channels) c.as_slice.result.now
+    (c.as_slice.ensures ∙ (c.self.invariant.ports_are ∙ ap all_ports (sym (table_count p c.self.inside.fifos.channels k.table)))) in
     let room = c.make_room.ensures.room (design p) (over_of ends) ports k.room in
-    record { core = lending.core_roomed p s ends c.self.inside.runs.items c.self.inside.credits.items others t k same c.make_room.ensures.credits room; ports_are = c.self.invariant.ports_are; readers_are = c.self.invariant.readers_are; candidate_count = c.self.invariant.candidate_count }
+    record {
+      core = lending.core_roomed p s ends c.self.inside.runs.items c.self.inside.credits.items others t k same
+          c.make_room.ensures.credits room;
+      ports_are = c.self.invariant.ports_are;
+      readers_are = c.self.invariant.readers_are;
+      candidate_count = c.self.invariant.candidate_count;
+    }
 
 pub returns-in_err-make_room-clause-run : goal.returns-in_err-make_room-clause-run
 returns-in_err-make_room-clause-run c =
@@ -42,11 +51,15 @@ returns-in_err-make_room-clause-run c =
     let s = stored c.self.inside.graph c.self.inside.fifos c.self.inside.log in
     let t = stored c.make_room.new.graph c.make_room.new.fifos c.make_room.new.log in
     let others = c.make_room.new.credits.items in
-    let same : held_in t (over_of ends) ≡ held_in s (over_of ends) = lending.held_same s t (over_of ends) c.make_room.ensures.lanes c.make_room.ensures.channels c.make_room.ensures.logs in
-    let ports = all_there (design p) c.args.owner (length c.self.inside.fifos.channels) c.as_slice.result.now (c.as_slice.ensures ∙ (c.self.invariant.ports_are ∙ ap all_ports (sym (table_count p c.self.inside.fifos.channels k.table)))) in
+    let same : held_in t (over_of ends) ≡ held_in s (over_of ends) = lending.held_same s t (over_of ends) c.make_room.ensures.lanes
+    c.make_room.ensures.channels c.make_room.ensures.logs in
+    let ports = all_there (design p) c.args.owner (length c.self.inside.fifos.channels) c.as_slice.result.now
+    (c.as_slice.ensures ∙ (c.self.invariant.ports_are ∙ ap all_ports (sym (table_count p c.self.inside.fifos.channels k.table)))) in
     let room = c.make_room.ensures.room (design p) (over_of ends) ports k.room in
-    let r = emitting.ready_roomed p s t ends c.self.inside.runs.items c.self.inside.credits.items others c.args.owner c.args.run.now k same c.make_room.ensures.credits room
-    (rw (← c.self.view_is) at c.requires.owner) (rw (← c.self.view_is) at c.requires.taken) (rw (← c.self.view_is) at c.requires.run) c.requires.answered (rw (← c.self.view_is) at c.requires.lives) in
+    let r = emitting.ready_roomed p s t ends c.self.inside.runs.items c.self.inside.credits.items others c.args.owner c.args.run.now k same
+    c.make_room.ensures.credits room
+    (rw (← c.self.view_is) at c.requires.owner) (rw (← c.self.view_is) at c.requires.taken) (rw (← c.self.view_is) at c.requires.run)
+    c.requires.answered (rw (← c.self.view_is) at c.requires.lives) in
     rw (← c.self.view_is) r.run_is
 
 pub invariant_of-self-in_err-end : goal.invariant_of-self-in_err-end
@@ -57,10 +70,18 @@ invariant_of-self-in_err-end c =
     let s = stored c.self.inside.graph c.self.inside.fifos c.self.inside.log in
     let t = stored c.make_room.new.graph c.make_room.new.fifos c.make_room.new.log in
     let others = c.make_room.new.credits.items in
-    let same : held_in t (over_of ends) ≡ held_in s (over_of ends) = lending.held_same s t (over_of ends) c.make_room.ensures.lanes c.make_room.ensures.channels c.make_room.ensures.logs in
-    let ports = all_there (design p) c.args.owner (length c.self.inside.fifos.channels) c.as_slice.result.now (c.as_slice.ensures ∙ (c.self.invariant.ports_are ∙ ap all_ports (sym (table_count p c.self.inside.fifos.channels k.table)))) in
+    let same : held_in t (over_of ends) ≡ held_in s (over_of ends) = lending.held_same s t (over_of ends) c.make_room.ensures.lanes
+    c.make_room.ensures.channels c.make_room.ensures.logs in
+    let ports = all_there (design p) c.args.owner (length c.self.inside.fifos.channels) c.as_slice.result.now
+    (c.as_slice.ensures ∙ (c.self.invariant.ports_are ∙ ap all_ports (sym (table_count p c.self.inside.fifos.channels k.table)))) in
     let room = c.make_room.ensures.room (design p) (over_of ends) ports k.room in
-    record { core = lending.core_roomed p s ends c.self.inside.runs.items c.self.inside.credits.items others t k same c.make_room.ensures.credits room; ports_are = c.self.invariant.ports_are; readers_are = c.self.invariant.readers_are; candidate_count = c.self.invariant.candidate_count }
+    record {
+      core = lending.core_roomed p s ends c.self.inside.runs.items c.self.inside.credits.items others t k same
+          c.make_room.ensures.credits room;
+      ports_are = c.self.invariant.ports_are;
+      readers_are = c.self.invariant.readers_are;
+      candidate_count = c.self.invariant.candidate_count;
+    }
 
 pub returns-in_err-end-clause-run : goal.returns-in_err-end-clause-run
 returns-in_err-end-clause-run c =
@@ -70,12 +91,17 @@ returns-in_err-end-clause-run c =
     let s = stored c.self.inside.graph c.self.inside.fifos c.self.inside.log in
     let t = stored c.make_room.new.graph c.make_room.new.fifos c.make_room.new.log in
     let others = c.make_room.new.credits.items in
-    let same : held_in t (over_of ends) ≡ held_in s (over_of ends) = lending.held_same s t (over_of ends) c.make_room.ensures.lanes c.make_room.ensures.channels c.make_room.ensures.logs in
-    let ports = all_there (design p) c.args.owner (length c.self.inside.fifos.channels) c.as_slice.result.now (c.as_slice.ensures ∙ (c.self.invariant.ports_are ∙ ap all_ports (sym (table_count p c.self.inside.fifos.channels k.table)))) in
+    let same : held_in t (over_of ends) ≡ held_in s (over_of ends) = lending.held_same s t (over_of ends) c.make_room.ensures.lanes
+    c.make_room.ensures.channels c.make_room.ensures.logs in
+    let ports = all_there (design p) c.args.owner (length c.self.inside.fifos.channels) c.as_slice.result.now
+    (c.as_slice.ensures ∙ (c.self.invariant.ports_are ∙ ap all_ports (sym (table_count p c.self.inside.fifos.channels k.table)))) in
     let room = c.make_room.ensures.room (design p) (over_of ends) ports k.room in
-    let r = emitting.ready_roomed p s t ends c.self.inside.runs.items c.self.inside.credits.items others c.args.owner c.args.run.now k same c.make_room.ensures.credits room
-    (rw (← c.self.view_is) at c.requires.owner) (rw (← c.self.view_is) at c.requires.taken) (rw (← c.self.view_is) at c.requires.run) c.requires.answered (rw (← c.self.view_is) at c.requires.lives) in
-    rw (← c.self.view_is) (emitting.run_kept p t ends c.self.inside.runs.items others c.args.owner c.args.run.now r c.advance.new.self c.advance.ensures.stands c.in_err-end.ensures.as_before)
+    let r = emitting.ready_roomed p s t ends c.self.inside.runs.items c.self.inside.credits.items others c.args.owner c.args.run.now k same
+    c.make_room.ensures.credits room
+    (rw (← c.self.view_is) at c.requires.owner) (rw (← c.self.view_is) at c.requires.taken) (rw (← c.self.view_is) at c.requires.run)
+    c.requires.answered (rw (← c.self.view_is) at c.requires.lives) in
+    rw (← c.self.view_is) (emitting.run_kept p t ends c.self.inside.runs.items others c.args.owner c.args.run.now r c.advance.new.self
+    c.advance.ensures.stands c.in_err-end.ensures.as_before)
 
 pub emit_step-requires-clause-sound : goal.emit_step-requires-clause-sound
 emit_step-requires-clause-sound c =
@@ -85,19 +111,25 @@ emit_step-requires-clause-sound c =
     let s = stored c.self.inside.graph c.self.inside.fifos c.self.inside.log in
     let t = stored c.make_room.new.graph c.make_room.new.fifos c.make_room.new.log in
     let others = c.make_room.new.credits.items in
-    let same : held_in t (over_of ends) ≡ held_in s (over_of ends) = lending.held_same s t (over_of ends) c.make_room.ensures.lanes c.make_room.ensures.channels c.make_room.ensures.logs in
-    let ports = all_there (design p) c.args.owner (length c.self.inside.fifos.channels) c.as_slice.result.now (c.as_slice.ensures ∙ (c.self.invariant.ports_are ∙ ap all_ports (sym (table_count p c.self.inside.fifos.channels k.table)))) in
+    let same : held_in t (over_of ends) ≡ held_in s (over_of ends) = lending.held_same s t (over_of ends) c.make_room.ensures.lanes
+    c.make_room.ensures.channels c.make_room.ensures.logs in
+    let ports = all_there (design p) c.args.owner (length c.self.inside.fifos.channels) c.as_slice.result.now
+    (c.as_slice.ensures ∙ (c.self.invariant.ports_are ∙ ap all_ports (sym (table_count p c.self.inside.fifos.channels k.table)))) in
     let room = c.make_room.ensures.room (design p) (over_of ends) ports k.room in
-    let r = emitting.ready_roomed p s t ends c.self.inside.runs.items c.self.inside.credits.items others c.args.owner c.args.run.now k same c.make_room.ensures.credits room
-    (rw (← c.self.view_is) at c.requires.owner) (rw (← c.self.view_is) at c.requires.taken) (rw (← c.self.view_is) at c.requires.run) c.requires.answered (rw (← c.self.view_is) at c.requires.lives) in
+    let r = emitting.ready_roomed p s t ends c.self.inside.runs.items c.self.inside.credits.items others c.args.owner c.args.run.now k same
+    c.make_room.ensures.credits room
+    (rw (← c.self.view_is) at c.requires.owner) (rw (← c.self.view_is) at c.requires.taken) (rw (← c.self.view_is) at c.requires.run)
+    c.requires.answered (rw (← c.self.view_is) at c.requires.lives) in
     let stands = emitting.stands p t ends c.self.inside.runs.items others c.args.owner c.args.run.now r in
-    let rest = rest_behind p (core_of (design p) (held_in t (over_of ends))) c.args.owner (emitted_of (held_in t (over_of ends)) c.args.owner) in
+    let rest = rest_behind p (core_of (design p) (held_in t (over_of ends))) c.args.owner
+    (emitted_of (held_in t (over_of ends)) c.args.owner) in
     let is = c.in_ok-end.ensures.mark p c.args.owner rest stands in
     let sound = c.in_ok-end.ensures.sound p c.args.owner rest stands in
     let mark : mark_at p c.args.owner rest ≡ Step c.in-Step.step = sym is ∙ c.in-Step.is in
     let sound_step = subst (IsSoundMark (length rest.steps)) c.in-Step.is sound in
     let short = c.gaps_are_short.ensures.most p c.args.owner rest c.args.run.now stands in
-    (emitting.step_is p t ends c.self.inside.runs.items others c.args.owner c.args.run.now r c.in-Step.step mark short sound_step.small (c.gaps_are_short.ensures.least p c.args.owner)).sound
+    (emitting.step_is p t ends c.self.inside.runs.items others c.args.owner c.args.run.now r c.in-Step.step mark short sound_step.small
+    (c.gaps_are_short.ensures.least p c.args.owner)).sound
 
 pub emit_step-requires-clause-after : goal.emit_step-requires-clause-after
 emit_step-requires-clause-after c =
@@ -107,19 +139,25 @@ emit_step-requires-clause-after c =
     let s = stored c.self.inside.graph c.self.inside.fifos c.self.inside.log in
     let t = stored c.make_room.new.graph c.make_room.new.fifos c.make_room.new.log in
     let others = c.make_room.new.credits.items in
-    let same : held_in t (over_of ends) ≡ held_in s (over_of ends) = lending.held_same s t (over_of ends) c.make_room.ensures.lanes c.make_room.ensures.channels c.make_room.ensures.logs in
-    let ports = all_there (design p) c.args.owner (length c.self.inside.fifos.channels) c.as_slice.result.now (c.as_slice.ensures ∙ (c.self.invariant.ports_are ∙ ap all_ports (sym (table_count p c.self.inside.fifos.channels k.table)))) in
+    let same : held_in t (over_of ends) ≡ held_in s (over_of ends) = lending.held_same s t (over_of ends) c.make_room.ensures.lanes
+    c.make_room.ensures.channels c.make_room.ensures.logs in
+    let ports = all_there (design p) c.args.owner (length c.self.inside.fifos.channels) c.as_slice.result.now
+    (c.as_slice.ensures ∙ (c.self.invariant.ports_are ∙ ap all_ports (sym (table_count p c.self.inside.fifos.channels k.table)))) in
     let room = c.make_room.ensures.room (design p) (over_of ends) ports k.room in
-    let r = emitting.ready_roomed p s t ends c.self.inside.runs.items c.self.inside.credits.items others c.args.owner c.args.run.now k same c.make_room.ensures.credits room
-    (rw (← c.self.view_is) at c.requires.owner) (rw (← c.self.view_is) at c.requires.taken) (rw (← c.self.view_is) at c.requires.run) c.requires.answered (rw (← c.self.view_is) at c.requires.lives) in
+    let r = emitting.ready_roomed p s t ends c.self.inside.runs.items c.self.inside.credits.items others c.args.owner c.args.run.now k same
+    c.make_room.ensures.credits room
+    (rw (← c.self.view_is) at c.requires.owner) (rw (← c.self.view_is) at c.requires.taken) (rw (← c.self.view_is) at c.requires.run)
+    c.requires.answered (rw (← c.self.view_is) at c.requires.lives) in
     let stands = emitting.stands p t ends c.self.inside.runs.items others c.args.owner c.args.run.now r in
-    let rest = rest_behind p (core_of (design p) (held_in t (over_of ends))) c.args.owner (emitted_of (held_in t (over_of ends)) c.args.owner) in
+    let rest = rest_behind p (core_of (design p) (held_in t (over_of ends))) c.args.owner
+    (emitted_of (held_in t (over_of ends)) c.args.owner) in
     let is = c.in_ok-end.ensures.mark p c.args.owner rest stands in
     let sound = c.in_ok-end.ensures.sound p c.args.owner rest stands in
     let mark : mark_at p c.args.owner rest ≡ Step c.in-Step.step = sym is ∙ c.in-Step.is in
     let sound_step = subst (IsSoundMark (length rest.steps)) c.in-Step.is sound in
     let short = c.gaps_are_short.ensures.most p c.args.owner rest c.args.run.now stands in
-    (emitting.step_is p t ends c.self.inside.runs.items others c.args.owner c.args.run.now r c.in-Step.step mark short sound_step.small (c.gaps_are_short.ensures.least p c.args.owner)).apart
+    (emitting.step_is p t ends c.self.inside.runs.items others c.args.owner c.args.run.now r c.in-Step.step mark short sound_step.small
+    (c.gaps_are_short.ensures.least p c.args.owner)).apart
 
 pub emit_step-requires-clause-lane_room : goal.emit_step-requires-clause-lane_room
 emit_step-requires-clause-lane_room c =
@@ -129,8 +167,10 @@ emit_step-requires-clause-lane_room c =
     let s = stored c.self.inside.graph c.self.inside.fifos c.self.inside.log in
     let t = stored c.make_room.new.graph c.make_room.new.fifos c.make_room.new.log in
     let others = c.make_room.new.credits.items in
-    let same : held_in t (over_of ends) ≡ held_in s (over_of ends) = lending.held_same s t (over_of ends) c.make_room.ensures.lanes c.make_room.ensures.channels c.make_room.ensures.logs in
-    let ports = all_there (design p) c.args.owner (length c.self.inside.fifos.channels) c.as_slice.result.now (c.as_slice.ensures ∙ (c.self.invariant.ports_are ∙ ap all_ports (sym (table_count p c.self.inside.fifos.channels k.table)))) in
+    let same : held_in t (over_of ends) ≡ held_in s (over_of ends) = lending.held_same s t (over_of ends) c.make_room.ensures.lanes
+    c.make_room.ensures.channels c.make_room.ensures.logs in
+    let ports = all_there (design p) c.args.owner (length c.self.inside.fifos.channels) c.as_slice.result.now
+    (c.as_slice.ensures ∙ (c.self.invariant.ports_are ∙ ap all_ports (sym (table_count p c.self.inside.fifos.channels k.table)))) in
     let room = c.make_room.ensures.room (design p) (over_of ends) ports k.room in
     let lane = room.steps c.args.owner in
     let rich = c.in_ok-make_room.ensures.credit in
@@ -144,19 +184,25 @@ emit_step-requires-clause-inside c =
     let s = stored c.self.inside.graph c.self.inside.fifos c.self.inside.log in
     let t = stored c.make_room.new.graph c.make_room.new.fifos c.make_room.new.log in
     let others = c.make_room.new.credits.items in
-    let same : held_in t (over_of ends) ≡ held_in s (over_of ends) = lending.held_same s t (over_of ends) c.make_room.ensures.lanes c.make_room.ensures.channels c.make_room.ensures.logs in
-    let ports = all_there (design p) c.args.owner (length c.self.inside.fifos.channels) c.as_slice.result.now (c.as_slice.ensures ∙ (c.self.invariant.ports_are ∙ ap all_ports (sym (table_count p c.self.inside.fifos.channels k.table)))) in
+    let same : held_in t (over_of ends) ≡ held_in s (over_of ends) = lending.held_same s t (over_of ends) c.make_room.ensures.lanes
+    c.make_room.ensures.channels c.make_room.ensures.logs in
+    let ports = all_there (design p) c.args.owner (length c.self.inside.fifos.channels) c.as_slice.result.now
+    (c.as_slice.ensures ∙ (c.self.invariant.ports_are ∙ ap all_ports (sym (table_count p c.self.inside.fifos.channels k.table)))) in
     let room = c.make_room.ensures.room (design p) (over_of ends) ports k.room in
-    let r = emitting.ready_roomed p s t ends c.self.inside.runs.items c.self.inside.credits.items others c.args.owner c.args.run.now k same c.make_room.ensures.credits room
-    (rw (← c.self.view_is) at c.requires.owner) (rw (← c.self.view_is) at c.requires.taken) (rw (← c.self.view_is) at c.requires.run) c.requires.answered (rw (← c.self.view_is) at c.requires.lives) in
+    let r = emitting.ready_roomed p s t ends c.self.inside.runs.items c.self.inside.credits.items others c.args.owner c.args.run.now k same
+    c.make_room.ensures.credits room
+    (rw (← c.self.view_is) at c.requires.owner) (rw (← c.self.view_is) at c.requires.taken) (rw (← c.self.view_is) at c.requires.run)
+    c.requires.answered (rw (← c.self.view_is) at c.requires.lives) in
     let stands = emitting.stands p t ends c.self.inside.runs.items others c.args.owner c.args.run.now r in
-    let rest = rest_behind p (core_of (design p) (held_in t (over_of ends))) c.args.owner (emitted_of (held_in t (over_of ends)) c.args.owner) in
+    let rest = rest_behind p (core_of (design p) (held_in t (over_of ends))) c.args.owner
+    (emitted_of (held_in t (over_of ends)) c.args.owner) in
     let is = c.in_ok-end.ensures.mark p c.args.owner rest stands in
     let sound = c.in_ok-end.ensures.sound p c.args.owner rest stands in
     let mark : mark_at p c.args.owner rest ≡ Step c.in-Step.step = sym is ∙ c.in-Step.is in
     let sound_step = subst (IsSoundMark (length rest.steps)) c.in-Step.is sound in
     let short = c.gaps_are_short.ensures.most p c.args.owner rest c.args.run.now stands in
-    (emitting.step_is p t ends c.self.inside.runs.items others c.args.owner c.args.run.now r c.in-Step.step mark short sound_step.small (c.gaps_are_short.ensures.least p c.args.owner)).inside
+    (emitting.step_is p t ends c.self.inside.runs.items others c.args.owner c.args.run.now r c.in-Step.step mark short sound_step.small
+    (c.gaps_are_short.ensures.least p c.args.owner)).inside
 
 pub emit_step-requires-clause-apart : goal.emit_step-requires-clause-apart
 emit_step-requires-clause-apart c =
@@ -166,19 +212,25 @@ emit_step-requires-clause-apart c =
     let s = stored c.self.inside.graph c.self.inside.fifos c.self.inside.log in
     let t = stored c.make_room.new.graph c.make_room.new.fifos c.make_room.new.log in
     let others = c.make_room.new.credits.items in
-    let same : held_in t (over_of ends) ≡ held_in s (over_of ends) = lending.held_same s t (over_of ends) c.make_room.ensures.lanes c.make_room.ensures.channels c.make_room.ensures.logs in
-    let ports = all_there (design p) c.args.owner (length c.self.inside.fifos.channels) c.as_slice.result.now (c.as_slice.ensures ∙ (c.self.invariant.ports_are ∙ ap all_ports (sym (table_count p c.self.inside.fifos.channels k.table)))) in
+    let same : held_in t (over_of ends) ≡ held_in s (over_of ends) = lending.held_same s t (over_of ends) c.make_room.ensures.lanes
+    c.make_room.ensures.channels c.make_room.ensures.logs in
+    let ports = all_there (design p) c.args.owner (length c.self.inside.fifos.channels) c.as_slice.result.now
+    (c.as_slice.ensures ∙ (c.self.invariant.ports_are ∙ ap all_ports (sym (table_count p c.self.inside.fifos.channels k.table)))) in
     let room = c.make_room.ensures.room (design p) (over_of ends) ports k.room in
-    let r = emitting.ready_roomed p s t ends c.self.inside.runs.items c.self.inside.credits.items others c.args.owner c.args.run.now k same c.make_room.ensures.credits room
-    (rw (← c.self.view_is) at c.requires.owner) (rw (← c.self.view_is) at c.requires.taken) (rw (← c.self.view_is) at c.requires.run) c.requires.answered (rw (← c.self.view_is) at c.requires.lives) in
+    let r = emitting.ready_roomed p s t ends c.self.inside.runs.items c.self.inside.credits.items others c.args.owner c.args.run.now k same
+    c.make_room.ensures.credits room
+    (rw (← c.self.view_is) at c.requires.owner) (rw (← c.self.view_is) at c.requires.taken) (rw (← c.self.view_is) at c.requires.run)
+    c.requires.answered (rw (← c.self.view_is) at c.requires.lives) in
     let stands = emitting.stands p t ends c.self.inside.runs.items others c.args.owner c.args.run.now r in
-    let rest = rest_behind p (core_of (design p) (held_in t (over_of ends))) c.args.owner (emitted_of (held_in t (over_of ends)) c.args.owner) in
+    let rest = rest_behind p (core_of (design p) (held_in t (over_of ends))) c.args.owner
+    (emitted_of (held_in t (over_of ends)) c.args.owner) in
     let is = c.in_ok-end.ensures.mark p c.args.owner rest stands in
     let sound = c.in_ok-end.ensures.sound p c.args.owner rest stands in
     let mark : mark_at p c.args.owner rest ≡ Step c.in-Step.step = sym is ∙ c.in-Step.is in
     let sound_step = subst (IsSoundMark (length rest.steps)) c.in-Step.is sound in
     let short = c.gaps_are_short.ensures.most p c.args.owner rest c.args.run.now stands in
-    emitting.step_apart p t ends c.self.inside.runs.items others c.args.owner c.args.run.now r c.in-Step.step mark short sound_step.small (c.gaps_are_short.ensures.least p c.args.owner)
+    emitting.step_apart p t ends c.self.inside.runs.items others c.args.owner c.args.run.now r c.in-Step.step mark short sound_step.small
+    (c.gaps_are_short.ensures.least p c.args.owner)
 
 pub emit_step-requires-clause-room : goal.emit_step-requires-clause-room
 emit_step-requires-clause-room c =
@@ -188,19 +240,25 @@ emit_step-requires-clause-room c =
     let s = stored c.self.inside.graph c.self.inside.fifos c.self.inside.log in
     let t = stored c.make_room.new.graph c.make_room.new.fifos c.make_room.new.log in
     let others = c.make_room.new.credits.items in
-    let same : held_in t (over_of ends) ≡ held_in s (over_of ends) = lending.held_same s t (over_of ends) c.make_room.ensures.lanes c.make_room.ensures.channels c.make_room.ensures.logs in
-    let ports = all_there (design p) c.args.owner (length c.self.inside.fifos.channels) c.as_slice.result.now (c.as_slice.ensures ∙ (c.self.invariant.ports_are ∙ ap all_ports (sym (table_count p c.self.inside.fifos.channels k.table)))) in
+    let same : held_in t (over_of ends) ≡ held_in s (over_of ends) = lending.held_same s t (over_of ends) c.make_room.ensures.lanes
+    c.make_room.ensures.channels c.make_room.ensures.logs in
+    let ports = all_there (design p) c.args.owner (length c.self.inside.fifos.channels) c.as_slice.result.now
+    (c.as_slice.ensures ∙ (c.self.invariant.ports_are ∙ ap all_ports (sym (table_count p c.self.inside.fifos.channels k.table)))) in
     let room = c.make_room.ensures.room (design p) (over_of ends) ports k.room in
-    let r = emitting.ready_roomed p s t ends c.self.inside.runs.items c.self.inside.credits.items others c.args.owner c.args.run.now k same c.make_room.ensures.credits room
-    (rw (← c.self.view_is) at c.requires.owner) (rw (← c.self.view_is) at c.requires.taken) (rw (← c.self.view_is) at c.requires.run) c.requires.answered (rw (← c.self.view_is) at c.requires.lives) in
+    let r = emitting.ready_roomed p s t ends c.self.inside.runs.items c.self.inside.credits.items others c.args.owner c.args.run.now k same
+    c.make_room.ensures.credits room
+    (rw (← c.self.view_is) at c.requires.owner) (rw (← c.self.view_is) at c.requires.taken) (rw (← c.self.view_is) at c.requires.run)
+    c.requires.answered (rw (← c.self.view_is) at c.requires.lives) in
     let stands = emitting.stands p t ends c.self.inside.runs.items others c.args.owner c.args.run.now r in
-    let rest = rest_behind p (core_of (design p) (held_in t (over_of ends))) c.args.owner (emitted_of (held_in t (over_of ends)) c.args.owner) in
+    let rest = rest_behind p (core_of (design p) (held_in t (over_of ends))) c.args.owner
+    (emitted_of (held_in t (over_of ends)) c.args.owner) in
     let is = c.in_ok-end.ensures.mark p c.args.owner rest stands in
     let sound = c.in_ok-end.ensures.sound p c.args.owner rest stands in
     let mark : mark_at p c.args.owner rest ≡ Step c.in-Step.step = sym is ∙ c.in-Step.is in
     let sound_step = subst (IsSoundMark (length rest.steps)) c.in-Step.is sound in
     let short = c.gaps_are_short.ensures.most p c.args.owner rest c.args.run.now stands in
-    emitting.step_room p t ends c.self.inside.runs.items others c.args.owner c.args.run.now r c.in-Step.step mark short sound_step.small (c.gaps_are_short.ensures.least p c.args.owner) c.in_ok-make_room.ensures.credit
+    emitting.step_room p t ends c.self.inside.runs.items others c.args.owner c.args.run.now r c.in-Step.step mark short sound_step.small
+    (c.gaps_are_short.ensures.least p c.args.owner) c.in_ok-make_room.ensures.credit
 
 pub emit_step-requires-clause-few : goal.emit_step-requires-clause-few
 emit_step-requires-clause-few c =
@@ -210,13 +268,18 @@ emit_step-requires-clause-few c =
     let s = stored c.self.inside.graph c.self.inside.fifos c.self.inside.log in
     let t = stored c.make_room.new.graph c.make_room.new.fifos c.make_room.new.log in
     let others = c.make_room.new.credits.items in
-    let same : held_in t (over_of ends) ≡ held_in s (over_of ends) = lending.held_same s t (over_of ends) c.make_room.ensures.lanes c.make_room.ensures.channels c.make_room.ensures.logs in
-    let ports = all_there (design p) c.args.owner (length c.self.inside.fifos.channels) c.as_slice.result.now (c.as_slice.ensures ∙ (c.self.invariant.ports_are ∙ ap all_ports (sym (table_count p c.self.inside.fifos.channels k.table)))) in
+    let same : held_in t (over_of ends) ≡ held_in s (over_of ends) = lending.held_same s t (over_of ends) c.make_room.ensures.lanes
+    c.make_room.ensures.channels c.make_room.ensures.logs in
+    let ports = all_there (design p) c.args.owner (length c.self.inside.fifos.channels) c.as_slice.result.now
+    (c.as_slice.ensures ∙ (c.self.invariant.ports_are ∙ ap all_ports (sym (table_count p c.self.inside.fifos.channels k.table)))) in
     let room = c.make_room.ensures.room (design p) (over_of ends) ports k.room in
-    let r = emitting.ready_roomed p s t ends c.self.inside.runs.items c.self.inside.credits.items others c.args.owner c.args.run.now k same c.make_room.ensures.credits room
-    (rw (← c.self.view_is) at c.requires.owner) (rw (← c.self.view_is) at c.requires.taken) (rw (← c.self.view_is) at c.requires.run) c.requires.answered (rw (← c.self.view_is) at c.requires.lives) in
+    let r = emitting.ready_roomed p s t ends c.self.inside.runs.items c.self.inside.credits.items others c.args.owner c.args.run.now k same
+    c.make_room.ensures.credits room
+    (rw (← c.self.view_is) at c.requires.owner) (rw (← c.self.view_is) at c.requires.taken) (rw (← c.self.view_is) at c.requires.run)
+    c.requires.answered (rw (← c.self.view_is) at c.requires.lives) in
     let stands = emitting.stands p t ends c.self.inside.runs.items others c.args.owner c.args.run.now r in
-    let rest = rest_behind p (core_of (design p) (held_in t (over_of ends))) c.args.owner (emitted_of (held_in t (over_of ends)) c.args.owner) in
+    let rest = rest_behind p (core_of (design p) (held_in t (over_of ends))) c.args.owner
+    (emitted_of (held_in t (over_of ends)) c.args.owner) in
     let is = c.in_ok-end.ensures.mark p c.args.owner rest stands in
     let sound = c.in_ok-end.ensures.sound p c.args.owner rest stands in
     let mark : mark_at p c.args.owner rest ≡ Step c.in-Step.step = sym is ∙ c.in-Step.is in
@@ -233,31 +296,44 @@ invariant_of-self-in-Step c =
     let s = stored c.self.inside.graph c.self.inside.fifos c.self.inside.log in
     let t = stored c.make_room.new.graph c.make_room.new.fifos c.make_room.new.log in
     let others = c.make_room.new.credits.items in
-    let same : held_in t (over_of ends) ≡ held_in s (over_of ends) = lending.held_same s t (over_of ends) c.make_room.ensures.lanes c.make_room.ensures.channels c.make_room.ensures.logs in
-    let ports = all_there (design p) c.args.owner (length c.self.inside.fifos.channels) c.as_slice.result.now (c.as_slice.ensures ∙ (c.self.invariant.ports_are ∙ ap all_ports (sym (table_count p c.self.inside.fifos.channels k.table)))) in
+    let same : held_in t (over_of ends) ≡ held_in s (over_of ends) = lending.held_same s t (over_of ends) c.make_room.ensures.lanes
+    c.make_room.ensures.channels c.make_room.ensures.logs in
+    let ports = all_there (design p) c.args.owner (length c.self.inside.fifos.channels) c.as_slice.result.now
+    (c.as_slice.ensures ∙ (c.self.invariant.ports_are ∙ ap all_ports (sym (table_count p c.self.inside.fifos.channels k.table)))) in
     let room = c.make_room.ensures.room (design p) (over_of ends) ports k.room in
-    let r = emitting.ready_roomed p s t ends c.self.inside.runs.items c.self.inside.credits.items others c.args.owner c.args.run.now k same c.make_room.ensures.credits room
-    (rw (← c.self.view_is) at c.requires.owner) (rw (← c.self.view_is) at c.requires.taken) (rw (← c.self.view_is) at c.requires.run) c.requires.answered (rw (← c.self.view_is) at c.requires.lives) in
+    let r = emitting.ready_roomed p s t ends c.self.inside.runs.items c.self.inside.credits.items others c.args.owner c.args.run.now k same
+    c.make_room.ensures.credits room
+    (rw (← c.self.view_is) at c.requires.owner) (rw (← c.self.view_is) at c.requires.taken) (rw (← c.self.view_is) at c.requires.run)
+    c.requires.answered (rw (← c.self.view_is) at c.requires.lives) in
     let stands = emitting.stands p t ends c.self.inside.runs.items others c.args.owner c.args.run.now r in
-    let rest = rest_behind p (core_of (design p) (held_in t (over_of ends))) c.args.owner (emitted_of (held_in t (over_of ends)) c.args.owner) in
+    let rest = rest_behind p (core_of (design p) (held_in t (over_of ends))) c.args.owner
+    (emitted_of (held_in t (over_of ends)) c.args.owner) in
     let is = c.in_ok-end.ensures.mark p c.args.owner rest stands in
     let sound = c.in_ok-end.ensures.sound p c.args.owner rest stands in
     let mark : mark_at p c.args.owner rest ≡ Step c.in-Step.step = sym is ∙ c.in-Step.is in
     let sound_step = subst (IsSoundMark (length rest.steps)) c.in-Step.is sound in
     let short = c.gaps_are_short.ensures.most p c.args.owner rest c.args.run.now stands in
     let u = stored c.emit_step.new.graph c.emit_step.new.fifos c.make_room.new.log in
-    let held_is = emitting.held_more t u (over_of ends) c.args.owner c.in-Step.step c.emit_step.ensures.lanes c.emit_step.ensures.channels refl in
+    let held_is = emitting.held_more t u (over_of ends) c.args.owner c.in-Step.step c.emit_step.ensures.lanes c.emit_step.ensures.channels
+    refl in
     let few = few_queries c.in-Step.step.accesses in
     let most = sound_step.small.few in
     let first = sound_step.small.first_query in
     let queries = c.in_ok-make_room.ensures.queries in
-    let after = emitting.step_core p t ends c.self.inside.runs.items others c.args.owner c.args.run.now r c.in-Step.step mark short sound_step.small (c.gaps_are_short.ensures.least p c.args.owner) u held_is c.emit_step.ensures.kinds c.in_ok-make_room.ensures.credit c.emit_step.ensures.room refl (omega arith) (omega arith) in
+    let after = emitting.step_core p t ends c.self.inside.runs.items others c.args.owner c.args.run.now r c.in-Step.step mark short
+    sound_step.small (c.gaps_are_short.ensures.least p c.args.owner) u held_is c.emit_step.ensures.kinds
+    c.in_ok-make_room.ensures.credit c.emit_step.ensures.room refl (omega arith) (omega arith) in
     let count = k.counted in
     let lanes = k.sound.lanes in
     let owner = rw (← c.self.view_is) at c.requires.owner in
     let credits = c.make_room.ensures.credits in
     let read = get_or_read others c.args.owner c.index_mut.result.now (omega arith) c.index_mut.ensures.value 0 in
-    record { core = rw read after; ports_are = c.self.invariant.ports_are; readers_are = c.self.invariant.readers_are; candidate_count = c.self.invariant.candidate_count }
+    record {
+      core = rw read after;
+      ports_are = c.self.invariant.ports_are;
+      readers_are = c.self.invariant.readers_are;
+      candidate_count = c.self.invariant.candidate_count;
+    }
 
 pub invariant_of-self-in_default : goal.invariant_of-self-in_default
 invariant_of-self-in_default c =
@@ -267,17 +343,28 @@ invariant_of-self-in_default c =
     let s = stored c.self.inside.graph c.self.inside.fifos c.self.inside.log in
     let t = stored c.make_room.new.graph c.make_room.new.fifos c.make_room.new.log in
     let others = c.make_room.new.credits.items in
-    let same : held_in t (over_of ends) ≡ held_in s (over_of ends) = lending.held_same s t (over_of ends) c.make_room.ensures.lanes c.make_room.ensures.channels c.make_room.ensures.logs in
-    let ports = all_there (design p) c.args.owner (length c.self.inside.fifos.channels) c.as_slice.result.now (c.as_slice.ensures ∙ (c.self.invariant.ports_are ∙ ap all_ports (sym (table_count p c.self.inside.fifos.channels k.table)))) in
+    let same : held_in t (over_of ends) ≡ held_in s (over_of ends) = lending.held_same s t (over_of ends) c.make_room.ensures.lanes
+    c.make_room.ensures.channels c.make_room.ensures.logs in
+    let ports = all_there (design p) c.args.owner (length c.self.inside.fifos.channels) c.as_slice.result.now
+    (c.as_slice.ensures ∙ (c.self.invariant.ports_are ∙ ap all_ports (sym (table_count p c.self.inside.fifos.channels k.table)))) in
     let room = c.make_room.ensures.room (design p) (over_of ends) ports k.room in
-    let r = emitting.ready_roomed p s t ends c.self.inside.runs.items c.self.inside.credits.items others c.args.owner c.args.run.now k same c.make_room.ensures.credits room
-    (rw (← c.self.view_is) at c.requires.owner) (rw (← c.self.view_is) at c.requires.taken) (rw (← c.self.view_is) at c.requires.run) c.requires.answered (rw (← c.self.view_is) at c.requires.lives) in
+    let r = emitting.ready_roomed p s t ends c.self.inside.runs.items c.self.inside.credits.items others c.args.owner c.args.run.now k same
+    c.make_room.ensures.credits room
+    (rw (← c.self.view_is) at c.requires.owner) (rw (← c.self.view_is) at c.requires.taken) (rw (← c.self.view_is) at c.requires.run)
+    c.requires.answered (rw (← c.self.view_is) at c.requires.lives) in
     let stands = emitting.stands p t ends c.self.inside.runs.items others c.args.owner c.args.run.now r in
-    let rest = rest_behind p (core_of (design p) (held_in t (over_of ends))) c.args.owner (emitted_of (held_in t (over_of ends)) c.args.owner) in
+    let rest = rest_behind p (core_of (design p) (held_in t (over_of ends))) c.args.owner
+    (emitted_of (held_in t (over_of ends)) c.args.owner) in
     let is = c.in_ok-end.ensures.mark p c.args.owner rest stands in
     let sound = c.in_ok-end.ensures.sound p c.args.owner rest stands in
     let no_step = emitting.not_a_step c.in_ok-end.end c.in_default.not-Step in
-    record { core = emitting.end_core p t ends c.self.inside.runs.items others c.args.owner c.args.run.now r c.in_ok-end.end is no_step sound.short; ports_are = c.self.invariant.ports_are; readers_are = c.self.invariant.readers_are; candidate_count = c.self.invariant.candidate_count }
+    record {
+      core = emitting.end_core p t ends c.self.inside.runs.items others c.args.owner c.args.run.now r c.in_ok-end.end is no_step
+          sound.short;
+      ports_are = c.self.invariant.ports_are;
+      readers_are = c.self.invariant.readers_are;
+      candidate_count = c.self.invariant.candidate_count;
+    }
 
 pub returns-in-Step-clause-acts : goal.returns-in-Step-clause-acts
 returns-in-Step-clause-acts c =
@@ -287,21 +374,30 @@ returns-in-Step-clause-acts c =
     let s = stored c.self.inside.graph c.self.inside.fifos c.self.inside.log in
     let t = stored c.make_room.new.graph c.make_room.new.fifos c.make_room.new.log in
     let others = c.make_room.new.credits.items in
-    let same : held_in t (over_of ends) ≡ held_in s (over_of ends) = lending.held_same s t (over_of ends) c.make_room.ensures.lanes c.make_room.ensures.channels c.make_room.ensures.logs in
-    let ports = all_there (design p) c.args.owner (length c.self.inside.fifos.channels) c.as_slice.result.now (c.as_slice.ensures ∙ (c.self.invariant.ports_are ∙ ap all_ports (sym (table_count p c.self.inside.fifos.channels k.table)))) in
+    let same : held_in t (over_of ends) ≡ held_in s (over_of ends) = lending.held_same s t (over_of ends) c.make_room.ensures.lanes
+    c.make_room.ensures.channels c.make_room.ensures.logs in
+    let ports = all_there (design p) c.args.owner (length c.self.inside.fifos.channels) c.as_slice.result.now
+    (c.as_slice.ensures ∙ (c.self.invariant.ports_are ∙ ap all_ports (sym (table_count p c.self.inside.fifos.channels k.table)))) in
     let room = c.make_room.ensures.room (design p) (over_of ends) ports k.room in
-    let r = emitting.ready_roomed p s t ends c.self.inside.runs.items c.self.inside.credits.items others c.args.owner c.args.run.now k same c.make_room.ensures.credits room
-    (rw (← c.self.view_is) at c.requires.owner) (rw (← c.self.view_is) at c.requires.taken) (rw (← c.self.view_is) at c.requires.run) c.requires.answered (rw (← c.self.view_is) at c.requires.lives) in
+    let r = emitting.ready_roomed p s t ends c.self.inside.runs.items c.self.inside.credits.items others c.args.owner c.args.run.now k same
+    c.make_room.ensures.credits room
+    (rw (← c.self.view_is) at c.requires.owner) (rw (← c.self.view_is) at c.requires.taken) (rw (← c.self.view_is) at c.requires.run)
+    c.requires.answered (rw (← c.self.view_is) at c.requires.lives) in
     let stands = emitting.stands p t ends c.self.inside.runs.items others c.args.owner c.args.run.now r in
-    let rest = rest_behind p (core_of (design p) (held_in t (over_of ends))) c.args.owner (emitted_of (held_in t (over_of ends)) c.args.owner) in
+    let rest = rest_behind p (core_of (design p) (held_in t (over_of ends))) c.args.owner
+    (emitted_of (held_in t (over_of ends)) c.args.owner) in
     let is = c.in_ok-end.ensures.mark p c.args.owner rest stands in
     let sound = c.in_ok-end.ensures.sound p c.args.owner rest stands in
     let mark : mark_at p c.args.owner rest ≡ Step c.in-Step.step = sym is ∙ c.in-Step.is in
     let sound_step = subst (IsSoundMark (length rest.steps)) c.in-Step.is sound in
     let short = c.gaps_are_short.ensures.most p c.args.owner rest c.args.run.now stands in
     let u = stored c.emit_step.new.graph c.emit_step.new.fifos c.make_room.new.log in
-    let held_is = emitting.held_more t u (over_of ends) c.args.owner c.in-Step.step c.emit_step.ensures.lanes c.emit_step.ensures.channels refl in
-    lending.acts_at c.args.self.now _ c.args.owner _ c.self.view_is (emitting.acts_between p (held_in s (over_of ends)) (held_in t (over_of ends)) _ (held_in u (over_of ends)) c.args.owner same held_is (emitting.step_acts p t ends c.self.inside.runs.items others c.args.owner c.args.run.now r c.in-Step.step mark short sound_step.small (c.gaps_are_short.ensures.least p c.args.owner)))
+    let held_is = emitting.held_more t u (over_of ends) c.args.owner c.in-Step.step c.emit_step.ensures.lanes c.emit_step.ensures.channels
+    refl in
+    lending.acts_at c.args.self.now _ c.args.owner _ c.self.view_is (emitting.acts_between p (held_in s (over_of ends))
+    (held_in t (over_of ends)) _ (held_in u (over_of ends)) c.args.owner same held_is
+    (emitting.step_acts p t ends c.self.inside.runs.items others c.args.owner c.args.run.now r c.in-Step.step mark short
+    sound_step.small (c.gaps_are_short.ensures.least p c.args.owner)))
 
 pub returns-in-Step-clause-run : goal.returns-in-Step-clause-run
 returns-in-Step-clause-run c =
@@ -311,22 +407,30 @@ returns-in-Step-clause-run c =
     let s = stored c.self.inside.graph c.self.inside.fifos c.self.inside.log in
     let t = stored c.make_room.new.graph c.make_room.new.fifos c.make_room.new.log in
     let others = c.make_room.new.credits.items in
-    let same : held_in t (over_of ends) ≡ held_in s (over_of ends) = lending.held_same s t (over_of ends) c.make_room.ensures.lanes c.make_room.ensures.channels c.make_room.ensures.logs in
-    let ports = all_there (design p) c.args.owner (length c.self.inside.fifos.channels) c.as_slice.result.now (c.as_slice.ensures ∙ (c.self.invariant.ports_are ∙ ap all_ports (sym (table_count p c.self.inside.fifos.channels k.table)))) in
+    let same : held_in t (over_of ends) ≡ held_in s (over_of ends) = lending.held_same s t (over_of ends) c.make_room.ensures.lanes
+    c.make_room.ensures.channels c.make_room.ensures.logs in
+    let ports = all_there (design p) c.args.owner (length c.self.inside.fifos.channels) c.as_slice.result.now
+    (c.as_slice.ensures ∙ (c.self.invariant.ports_are ∙ ap all_ports (sym (table_count p c.self.inside.fifos.channels k.table)))) in
     let room = c.make_room.ensures.room (design p) (over_of ends) ports k.room in
-    let r = emitting.ready_roomed p s t ends c.self.inside.runs.items c.self.inside.credits.items others c.args.owner c.args.run.now k same c.make_room.ensures.credits room
-    (rw (← c.self.view_is) at c.requires.owner) (rw (← c.self.view_is) at c.requires.taken) (rw (← c.self.view_is) at c.requires.run) c.requires.answered (rw (← c.self.view_is) at c.requires.lives) in
+    let r = emitting.ready_roomed p s t ends c.self.inside.runs.items c.self.inside.credits.items others c.args.owner c.args.run.now k same
+    c.make_room.ensures.credits room
+    (rw (← c.self.view_is) at c.requires.owner) (rw (← c.self.view_is) at c.requires.taken) (rw (← c.self.view_is) at c.requires.run)
+    c.requires.answered (rw (← c.self.view_is) at c.requires.lives) in
     let stands = emitting.stands p t ends c.self.inside.runs.items others c.args.owner c.args.run.now r in
-    let rest = rest_behind p (core_of (design p) (held_in t (over_of ends))) c.args.owner (emitted_of (held_in t (over_of ends)) c.args.owner) in
+    let rest = rest_behind p (core_of (design p) (held_in t (over_of ends))) c.args.owner
+    (emitted_of (held_in t (over_of ends)) c.args.owner) in
     let is = c.in_ok-end.ensures.mark p c.args.owner rest stands in
     let sound = c.in_ok-end.ensures.sound p c.args.owner rest stands in
     let mark : mark_at p c.args.owner rest ≡ Step c.in-Step.step = sym is ∙ c.in-Step.is in
     let sound_step = subst (IsSoundMark (length rest.steps)) c.in-Step.is sound in
     let short = c.gaps_are_short.ensures.most p c.args.owner rest c.args.run.now stands in
     let u = stored c.emit_step.new.graph c.emit_step.new.fifos c.make_room.new.log in
-    let held_is = emitting.held_more t u (over_of ends) c.args.owner c.in-Step.step c.emit_step.ensures.lanes c.emit_step.ensures.channels refl in
+    let held_is = emitting.held_more t u (over_of ends) c.args.owner c.in-Step.step c.emit_step.ensures.lanes c.emit_step.ensures.channels
+    refl in
     rw (← c.self.view_is) (emitting.run_between p _ (held_in u (over_of ends)) c.args.owner c.advance.new.self held_is
-    (emitting.step_run p t ends c.self.inside.runs.items others c.args.owner c.args.run.now r c.in-Step.step mark short sound_step.small (c.gaps_are_short.ensures.least p c.args.owner) c.advance.new.self c.advance.ensures.stands (c.in_ok-end.ensures.waits ∙ ap is_step c.in-Step.is)))
+    (emitting.step_run p t ends c.self.inside.runs.items others c.args.owner c.args.run.now r c.in-Step.step mark short sound_step.small
+    (c.gaps_are_short.ensures.least p c.args.owner) c.advance.new.self c.advance.ensures.stands
+    (c.in_ok-end.ensures.waits ∙ ap is_step c.in-Step.is)))
 
 pub returns-in_default-clause-acts : goal.returns-in_default-clause-acts
 returns-in_default-clause-acts c =
@@ -336,17 +440,24 @@ returns-in_default-clause-acts c =
     let s = stored c.self.inside.graph c.self.inside.fifos c.self.inside.log in
     let t = stored c.make_room.new.graph c.make_room.new.fifos c.make_room.new.log in
     let others = c.make_room.new.credits.items in
-    let same : held_in t (over_of ends) ≡ held_in s (over_of ends) = lending.held_same s t (over_of ends) c.make_room.ensures.lanes c.make_room.ensures.channels c.make_room.ensures.logs in
-    let ports = all_there (design p) c.args.owner (length c.self.inside.fifos.channels) c.as_slice.result.now (c.as_slice.ensures ∙ (c.self.invariant.ports_are ∙ ap all_ports (sym (table_count p c.self.inside.fifos.channels k.table)))) in
+    let same : held_in t (over_of ends) ≡ held_in s (over_of ends) = lending.held_same s t (over_of ends) c.make_room.ensures.lanes
+    c.make_room.ensures.channels c.make_room.ensures.logs in
+    let ports = all_there (design p) c.args.owner (length c.self.inside.fifos.channels) c.as_slice.result.now
+    (c.as_slice.ensures ∙ (c.self.invariant.ports_are ∙ ap all_ports (sym (table_count p c.self.inside.fifos.channels k.table)))) in
     let room = c.make_room.ensures.room (design p) (over_of ends) ports k.room in
-    let r = emitting.ready_roomed p s t ends c.self.inside.runs.items c.self.inside.credits.items others c.args.owner c.args.run.now k same c.make_room.ensures.credits room
-    (rw (← c.self.view_is) at c.requires.owner) (rw (← c.self.view_is) at c.requires.taken) (rw (← c.self.view_is) at c.requires.run) c.requires.answered (rw (← c.self.view_is) at c.requires.lives) in
+    let r = emitting.ready_roomed p s t ends c.self.inside.runs.items c.self.inside.credits.items others c.args.owner c.args.run.now k same
+    c.make_room.ensures.credits room
+    (rw (← c.self.view_is) at c.requires.owner) (rw (← c.self.view_is) at c.requires.taken) (rw (← c.self.view_is) at c.requires.run)
+    c.requires.answered (rw (← c.self.view_is) at c.requires.lives) in
     let stands = emitting.stands p t ends c.self.inside.runs.items others c.args.owner c.args.run.now r in
-    let rest = rest_behind p (core_of (design p) (held_in t (over_of ends))) c.args.owner (emitted_of (held_in t (over_of ends)) c.args.owner) in
+    let rest = rest_behind p (core_of (design p) (held_in t (over_of ends))) c.args.owner
+    (emitted_of (held_in t (over_of ends)) c.args.owner) in
     let is = c.in_ok-end.ensures.mark p c.args.owner rest stands in
     let sound = c.in_ok-end.ensures.sound p c.args.owner rest stands in
     let no_step = emitting.not_a_step c.in_ok-end.end c.in_default.not-Step in
-    lending.acts_at c.args.self.now _ c.args.owner _ c.self.view_is (emitting.acts_between p (held_in s (over_of ends)) (held_in t (over_of ends)) _ _ c.args.owner same refl (emitting.end_acts p t ends c.self.inside.runs.items others c.args.owner c.args.run.now r c.in_ok-end.end is no_step sound.short))
+    lending.acts_at c.args.self.now _ c.args.owner _ c.self.view_is (emitting.acts_between p (held_in s (over_of ends))
+    (held_in t (over_of ends)) _ _ c.args.owner same refl (emitting.end_acts p t ends c.self.inside.runs.items others c.args.owner
+    c.args.run.now r c.in_ok-end.end is no_step sound.short))
 
 pub returns-in_default-clause-run : goal.returns-in_default-clause-run
 returns-in_default-clause-run c =
@@ -356,14 +467,20 @@ returns-in_default-clause-run c =
     let s = stored c.self.inside.graph c.self.inside.fifos c.self.inside.log in
     let t = stored c.make_room.new.graph c.make_room.new.fifos c.make_room.new.log in
     let others = c.make_room.new.credits.items in
-    let same : held_in t (over_of ends) ≡ held_in s (over_of ends) = lending.held_same s t (over_of ends) c.make_room.ensures.lanes c.make_room.ensures.channels c.make_room.ensures.logs in
-    let ports = all_there (design p) c.args.owner (length c.self.inside.fifos.channels) c.as_slice.result.now (c.as_slice.ensures ∙ (c.self.invariant.ports_are ∙ ap all_ports (sym (table_count p c.self.inside.fifos.channels k.table)))) in
+    let same : held_in t (over_of ends) ≡ held_in s (over_of ends) = lending.held_same s t (over_of ends) c.make_room.ensures.lanes
+    c.make_room.ensures.channels c.make_room.ensures.logs in
+    let ports = all_there (design p) c.args.owner (length c.self.inside.fifos.channels) c.as_slice.result.now
+    (c.as_slice.ensures ∙ (c.self.invariant.ports_are ∙ ap all_ports (sym (table_count p c.self.inside.fifos.channels k.table)))) in
     let room = c.make_room.ensures.room (design p) (over_of ends) ports k.room in
-    let r = emitting.ready_roomed p s t ends c.self.inside.runs.items c.self.inside.credits.items others c.args.owner c.args.run.now k same c.make_room.ensures.credits room
-    (rw (← c.self.view_is) at c.requires.owner) (rw (← c.self.view_is) at c.requires.taken) (rw (← c.self.view_is) at c.requires.run) c.requires.answered (rw (← c.self.view_is) at c.requires.lives) in
+    let r = emitting.ready_roomed p s t ends c.self.inside.runs.items c.self.inside.credits.items others c.args.owner c.args.run.now k same
+    c.make_room.ensures.credits room
+    (rw (← c.self.view_is) at c.requires.owner) (rw (← c.self.view_is) at c.requires.taken) (rw (← c.self.view_is) at c.requires.run)
+    c.requires.answered (rw (← c.self.view_is) at c.requires.lives) in
     let stands = emitting.stands p t ends c.self.inside.runs.items others c.args.owner c.args.run.now r in
-    let rest = rest_behind p (core_of (design p) (held_in t (over_of ends))) c.args.owner (emitted_of (held_in t (over_of ends)) c.args.owner) in
+    let rest = rest_behind p (core_of (design p) (held_in t (over_of ends))) c.args.owner
+    (emitted_of (held_in t (over_of ends)) c.args.owner) in
     let is = c.in_ok-end.ensures.mark p c.args.owner rest stands in
     let sound = c.in_ok-end.ensures.sound p c.args.owner rest stands in
     let no_step = emitting.not_a_step c.in_ok-end.end c.in_default.not-Step in
-    rw (← c.self.view_is) (emitting.end_run p t ends c.self.inside.runs.items others c.args.owner c.args.run.now r c.in_ok-end.end is no_step sound.short c.advance.new.self c.advance.ensures.stands (c.in_ok-end.ensures.waits ∙ no_step))
+    rw (← c.self.view_is) (emitting.end_run p t ends c.self.inside.runs.items others c.args.owner c.args.run.now r c.in_ok-end.end is
+    no_step sound.short c.advance.new.self c.advance.ensures.stands (c.in_ok-end.ensures.waits ∙ no_step))

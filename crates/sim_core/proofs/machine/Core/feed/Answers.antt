@@ -18,10 +18,14 @@ find_replies-requires-clause-inside c =
     let s = stored c.self.inside.graph c.self.inside.fifos c.self.inside.log in
     let h = held_in s (over_of ends) in
     let r = rw (← c.self.view_is) at c.requires.run in
-    let inside : c.args.owner < length c.self.inside.graph.lanes = let a = rw (← c.self.view_is) at c.requires.owner in let b = k.sound.lanes in omega arith in
+    let inside : c.args.owner < length c.self.inside.graph.lanes = let a = rw (← c.self.view_is) at c.requires.owner in
+    let b = k.sound.lanes in omega arith in
     let w = sym c.is_waiting.ensures ∙ c.if-not-is_waiting.false in
-    let there : slice_get (lane_at h.lanes c.args.owner).steps (emitted_of h c.args.owner - 1) ≡ Some c.step-step.result.now = subst (λ (n : ℕ). slice_get (lane_at h.lanes c.args.owner).steps (n - 1) ≡ Some c.step-step.result.now) c.len.ensures.count c.step-step.ensures.step in
-    rw c.as_slice.ensures (fed.asked_inside p k.fits h k.sound k.agreed.marks c.args.owner inside c.args.run.now r w c.step-step.result.now there)
+    let there : slice_get (lane_at h.lanes c.args.owner).steps (emitted_of h c.args.owner - 1) ≡ Some c.step-step.result.now = subst
+    (λ (n : ℕ). slice_get (lane_at h.lanes c.args.owner).steps (n - 1) ≡ Some c.step-step.result.now) c.len.ensures.count
+    c.step-step.ensures.step in
+    rw c.as_slice.ensures (fed.asked_inside p k.fits h k.sound k.agreed.marks c.args.owner inside c.args.run.now r w c.step-step.result.now
+    there)
 
 pub find_replies-requires-clause-few : goal.find_replies-requires-clause-few
 find_replies-requires-clause-few c =
@@ -31,10 +35,14 @@ find_replies-requires-clause-few c =
     let s = stored c.self.inside.graph c.self.inside.fifos c.self.inside.log in
     let h = held_in s (over_of ends) in
     let r = rw (← c.self.view_is) at c.requires.run in
-    let inside : c.args.owner < length c.self.inside.graph.lanes = let a = rw (← c.self.view_is) at c.requires.owner in let b = k.sound.lanes in omega arith in
+    let inside : c.args.owner < length c.self.inside.graph.lanes = let a = rw (← c.self.view_is) at c.requires.owner in
+    let b = k.sound.lanes in omega arith in
     let w = sym c.is_waiting.ensures ∙ c.if-not-is_waiting.false in
-    let there : slice_get (lane_at h.lanes c.args.owner).steps (emitted_of h c.args.owner - 1) ≡ Some c.step-step.result.now = subst (λ (n : ℕ). slice_get (lane_at h.lanes c.args.owner).steps (n - 1) ≡ Some c.step-step.result.now) c.len.ensures.count c.step-step.ensures.step in
-    let few = fed.asked_few p k.fits h k.sound k.agreed.marks c.args.owner inside c.args.run.now r w c.step-step.result.now there (k.room.few c.args.owner) in
+    let there : slice_get (lane_at h.lanes c.args.owner).steps (emitted_of h c.args.owner - 1) ≡ Some c.step-step.result.now = subst
+    (λ (n : ℕ). slice_get (lane_at h.lanes c.args.owner).steps (n - 1) ≡ Some c.step-step.result.now) c.len.ensures.count
+    c.step-step.ensures.step in
+    let few = fed.asked_few p k.fits h k.sound k.agreed.marks c.args.owner inside c.args.run.now r w c.step-step.result.now there
+    (k.room.few c.args.owner) in
     let short = c.step-step.ensures.sound.accesses in
     let size = ap (λ (xs : List Access). length xs) c.as_slice.ensures in
     omega arith
@@ -47,11 +55,16 @@ returns-then-not-all-clause-not_fed c = λ e.
     let s = stored c.self.inside.graph c.self.inside.fifos c.self.inside.log in
     let h = held_in s (over_of ends) in
     let r = rw (← c.self.view_is) at c.requires.run in
-    let inside : c.args.owner < length c.self.inside.graph.lanes = let a = rw (← c.self.view_is) at c.requires.owner in let b = k.sound.lanes in omega arith in
+    let inside : c.args.owner < length c.self.inside.graph.lanes = let a = rw (← c.self.view_is) at c.requires.owner in
+    let b = k.sound.lanes in omega arith in
     let w = sym c.is_waiting.ensures ∙ c.if-not-is_waiting.false in
-    let there : slice_get (lane_at h.lanes c.args.owner).steps (emitted_of h c.args.owner - 1) ≡ Some c.step-step.result.now = subst (λ (n : ℕ). slice_get (lane_at h.lanes c.args.owner).steps (n - 1) ≡ Some c.step-step.result.now) c.len.ensures.count c.step-step.ensures.step in
-    let found = subst (λ (xs : List Access). replies_now h.channels xs (drop c.step-step.result.now.first_query (log_at h.logs c.args.owner).outcomes) ≡ None) c.as_slice.ensures (c.in_ok-all.ensures.some c.if-not-all.true) in
-    rw (← c.self.view_is) (fed.asked_not_fed p k.fits h k.sound k.agreed.marks c.args.owner inside c.args.run.now r w c.step-step.result.now there found)
+    let there : slice_get (lane_at h.lanes c.args.owner).steps (emitted_of h c.args.owner - 1) ≡ Some c.step-step.result.now = subst
+    (λ (n : ℕ). slice_get (lane_at h.lanes c.args.owner).steps (n - 1) ≡ Some c.step-step.result.now) c.len.ensures.count
+    c.step-step.ensures.step in
+    let found = subst (λ (xs : List Access). replies_now h.channels xs (drop c.step-step.result.now.first_query
+    (log_at h.logs c.args.owner).outcomes) ≡ None) c.as_slice.ensures (c.in_ok-all.ensures.some c.if-not-all.true) in
+    rw (← c.self.view_is) (fed.asked_not_fed p k.fits h k.sound k.agreed.marks c.args.owner inside c.args.run.now r w c.step-step.result.now
+    there found)
 
 pub feed-requires-clause-stands : goal.feed-requires-clause-stands
 feed-requires-clause-stands c =
@@ -61,11 +74,28 @@ feed-requires-clause-stands c =
     let s = stored c.self.inside.graph c.self.inside.fifos c.self.inside.log in
     let h = held_in s (over_of ends) in
     let r = rw (← c.self.view_is) at c.requires.run in
-    let inside : c.args.owner < length c.self.inside.graph.lanes = let a = rw (← c.self.view_is) at c.requires.owner in let b = k.sound.lanes in omega arith in
+    let inside : c.args.owner < length c.self.inside.graph.lanes = let a = rw (← c.self.view_is) at c.requires.owner in
+    let b = k.sound.lanes in omega arith in
     let w = sym c.is_waiting.ensures ∙ c.if-not-is_waiting.false in
-    let there : slice_get (lane_at h.lanes c.args.owner).steps (emitted_of h c.args.owner - 1) ≡ Some c.step-step.result.now = subst (λ (n : ℕ). slice_get (lane_at h.lanes c.args.owner).steps (n - 1) ≡ Some c.step-step.result.now) c.len.ensures.count c.step-step.ensures.step in
-    let found = subst (λ (xs : List Access). replies_now h.channels xs (drop c.step-step.result.now.first_query (log_at h.logs c.args.owner).outcomes) ≡ Some c.find_replies.new.replies) c.as_slice.ensures (c.in_ok-all.ensures.all c.if-not-all.false) in
-    (p, (c.args.owner, (_, (fed.asked_stands p k.fits h k.sound k.agreed.marks c.args.owner inside c.args.run.now r w, rw c.as_slice-2.ensures (fed.asked_fits p k.fits h k.sound k.agreed.marks c.args.owner inside c.args.run.now r w c.step-step.result.now there c.find_replies.new.replies found)))))
+    let there : slice_get (lane_at h.lanes c.args.owner).steps (emitted_of h c.args.owner - 1) ≡ Some c.step-step.result.now = subst
+    (λ (n : ℕ). slice_get (lane_at h.lanes c.args.owner).steps (n - 1) ≡ Some c.step-step.result.now) c.len.ensures.count
+    c.step-step.ensures.step in
+    let found = subst (λ (xs : List Access). replies_now h.channels xs (drop c.step-step.result.now.first_query
+    (log_at h.logs c.args.owner).outcomes) ≡ Some c.find_replies.new.replies) c.as_slice.ensures
+    (c.in_ok-all.ensures.all c.if-not-all.false) in (
+      p,
+      (
+        c.args.owner,
+        (
+          _,
+          (
+            fed.asked_stands p k.fits h k.sound k.agreed.marks c.args.owner inside c.args.run.now r w,
+            rw c.as_slice-2.ensures (fed.asked_fits p k.fits h k.sound k.agreed.marks c.args.owner inside c.args.run.now r w
+                c.step-step.result.now there c.find_replies.new.replies found),
+          ),
+        ),
+      ),
+    )
 
 pub returns-clause-run : goal.returns-clause-run
 returns-clause-run c =
@@ -75,8 +105,14 @@ returns-clause-run c =
     let s = stored c.self.inside.graph c.self.inside.fifos c.self.inside.log in
     let h = held_in s (over_of ends) in
     let r = rw (← c.self.view_is) at c.requires.run in
-    let inside : c.args.owner < length c.self.inside.graph.lanes = let a = rw (← c.self.view_is) at c.requires.owner in let b = k.sound.lanes in omega arith in
+    let inside : c.args.owner < length c.self.inside.graph.lanes = let a = rw (← c.self.view_is) at c.requires.owner in
+    let b = k.sound.lanes in omega arith in
     let w = sym c.is_waiting.ensures ∙ c.if-not-is_waiting.false in
-    let there : slice_get (lane_at h.lanes c.args.owner).steps (emitted_of h c.args.owner - 1) ≡ Some c.step-step.result.now = subst (λ (n : ℕ). slice_get (lane_at h.lanes c.args.owner).steps (n - 1) ≡ Some c.step-step.result.now) c.len.ensures.count c.step-step.ensures.step in
-    let found = subst (λ (xs : List Access). replies_now h.channels xs (drop c.step-step.result.now.first_query (log_at h.logs c.args.owner).outcomes) ≡ Some c.find_replies.new.replies) c.as_slice.ensures (c.in_ok-all.ensures.all c.if-not-all.false) in
-    rw (← c.self.view_is) (fed.asked_run p k.fits h k.sound k.agreed.marks c.args.owner inside c.args.run.now r w c.step-step.result.now there c.find_replies.new.replies found c.feed.new.self (rw c.as_slice-2.ensures at c.feed.ensures.stands) c.feed.ensures.fed)
+    let there : slice_get (lane_at h.lanes c.args.owner).steps (emitted_of h c.args.owner - 1) ≡ Some c.step-step.result.now = subst
+    (λ (n : ℕ). slice_get (lane_at h.lanes c.args.owner).steps (n - 1) ≡ Some c.step-step.result.now) c.len.ensures.count
+    c.step-step.ensures.step in
+    let found = subst (λ (xs : List Access). replies_now h.channels xs (drop c.step-step.result.now.first_query
+    (log_at h.logs c.args.owner).outcomes) ≡ Some c.find_replies.new.replies) c.as_slice.ensures
+    (c.in_ok-all.ensures.all c.if-not-all.false) in
+    rw (← c.self.view_is) (fed.asked_run p k.fits h k.sound k.agreed.marks c.args.owner inside c.args.run.now r w c.step-step.result.now
+    there c.find_replies.new.replies found c.feed.new.self (rw c.as_slice-2.ensures at c.feed.ensures.stands) c.feed.ensures.fed)

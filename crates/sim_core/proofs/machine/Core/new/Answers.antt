@@ -18,7 +18,8 @@ new-requires-clause-count c =
     omega arith
 
 pub new-requires-clause-kinds : goal.new-requires-clause-kinds
-new-requires-clause-kinds c = beginning.kinds_sound c.args.plan c.requires c.as_slice-2.result.now (c.as_slice-2.ensures ∙ c.in_ok-kinds.ensures)
+new-requires-clause-kinds c = beginning.kinds_sound c.args.plan c.requires c.as_slice-2.result.now
+    (c.as_slice-2.ensures ∙ c.in_ok-kinds.ensures)
 
 pub invariant_of-result : goal.invariant_of-result
 invariant_of-result c =
@@ -28,7 +29,8 @@ invariant_of-result c =
     let is = beginning.held_is n (kinds_of c.args.plan) (held_in s (over_of c.in_ok-ends.ends.items)) c.in_ok-graph.ensures
     (c.in_ok-fifos.ensures ∙ ap (map unused) (c.as_slice-2.ensures ∙ c.in_ok-kinds.ensures)) c.in_ok-log.ensures over in
     record {
-      core = beginning.core_begun c.args.plan c.requires n (ap (λ (xs : List Module). length xs) c.as_slice.ensures) s c.in_ok-ends.ends.items c.in_ok-runs.runs.items c.in_ok-credits.credits.items is over
+      core = beginning.core_begun c.args.plan c.requires n (ap (λ (xs : List Module). length xs) c.as_slice.ensures) s
+          c.in_ok-ends.ends.items c.in_ok-runs.runs.items c.in_ok-credits.credits.items is over
           c.in_ok-runs.ensures (c.in_ok-credits.ensures.items_if_clones_equal (λ x e. e));
       ports_are = c.in_ok-ports.ensures ∙ ap all_ports c.len.ensures;
       readers_are = c.in_ok-readers.ensures;
@@ -42,7 +44,8 @@ returns-clause-opening c =
     let over : over_of c.in_ok-ends.ends.items ≡ replicate n false = ap over_of c.in_ok-ends.ensures ∙ beginning.none_over n in
     let is = beginning.held_is n (kinds_of c.args.plan) (held_in s (over_of c.in_ok-ends.ends.items)) c.in_ok-graph.ensures
     (c.in_ok-fifos.ensures ∙ ap (map unused) (c.as_slice-2.ensures ∙ c.in_ok-kinds.ensures)) c.in_ok-log.ensures over in
-    ap (core_of (design c.args.plan)) (sym is) ∙ (beginning.begins c.args.plan c.requires n (ap (λ (xs : List Module). length xs) c.as_slice.ensures)).0
+    ap (core_of (design c.args.plan)) (sym is) ∙ (beginning.begins c.args.plan c.requires n
+    (ap (λ (xs : List Module). length xs) c.as_slice.ensures)).0
 
 pub returns-clause-own : goal.returns-clause-own
 returns-clause-own c = λ m l.

@@ -1,4 +1,4 @@
-use Rattle.std.proofs.Common.{ℕ, refl, sym, subst, ap, ◌∙◌, ◌<◌, ◌≡◌, length, get_or, true}
+use Rattle.std.proofs.Common.{ℕ, refl, sym, subst, ap, ◌∙◌, ◌<◌, length, get_or, true}
 use Rattle.std.specs.Prelude.{Result, Ok, Err, OnErr}
 use Rattle.sim_core.specs.Views.{CoreView}
 use Rattle.flow_design.specs.declared.plan.Plan.{Plan}

@@ -1,5 +1,6 @@
 -- That each text has an answer, and what holds of what was read.
-use Rattle.std.proofs.Common.{◌≡◌, ◌∙◌, ap, subst, sym, refl, arith, ℕ, ◌<◌, ◌≤◌, Bool, List, ◌++◌, [], length, None, Some, IfSome, Result, Ok, Err, length-append, append-nil}
+use Rattle.std.proofs.Common.{◌≡◌, ◌∙◌, ap, subst, sym, refl, arith, ℕ, ◌≤◌, Bool, List, ◌++◌, [], length, None, Some, IfSome, Result, Ok}
+use Rattle.std.proofs.Common.{Err, length-append, append-nil}
 use Rattle.std.specs.declared.option.Option.{Option}
 use Rattle.std.specs.Prelude.{IfOk}
 use Rattle.std.specs.Io.KnownBytes.{Appends, Consumes, IsAtEnd}
@@ -8,13 +9,12 @@ use Rattle.flow_design.specs.declared.session.Statement.{Statement}
 use Rattle.flow_grammar.specs.declared.fault.TextFault.{TextFault}
 use Rattle.flow_grammar.specs.Text.{Said, StandsFor, HasFault}
 use Rattle.flow_check.specs.Checked.{fault_of}
-use Rattle.flow_gen.specs.Generated.{session_text}
 use Rattle.cli_words.specs.declared.Command.{Command}
 use Rattle.cli_words.specs.declared.Command.TheVariants.{Run, Alone, Check, Gen}
 use Rattle.cli_words.specs.declared.Command.TheVariants as command
 use Rattle.whole_answer.specs.declared.simulator.Simulator.TheVariants.{Engine, Clock}
 use Rattle.whole_answer.specs.declared.task.Task.{Task}
-use Rattle.whole_answer.specs.declared.task.Task.TheVariants.{Simulate, Print, Summarize}
+use Rattle.whole_answer.specs.declared.task.Task.TheVariants.{Simulate, Print}
 use Rattle.whole_answer.specs.declared.status.Status.TheVariants.{ReadFault, Memory}
 use Rattle.whole_answer.specs.declared.answer.Answer.{Answer}
 use Rattle.whole_answer.specs.Made.{refused_words, refused, made, generated}
@@ -36,7 +36,8 @@ session_answer task s l = go (fault_of s l) refl
     go None e = fit e refl
     go (Some fault) e = misfit fault e refl
 
-pub session_only : (task : Task) (s : List Statement) (l : List ℕ) (a : Answer) → AnswersSession task s l a → a ≡ answer_by (fault_of s l) task s l
+pub session_only : (task : Task) (s : List Statement) (l : List ℕ) (a : Answer) → AnswersSession task s l a
+    → a ≡ answer_by (fault_of s l) task s l
 session_only task s l a (misfit fault e h) = rw e h
 session_only task s l a (fit e h) = rw e h
 
@@ -47,7 +48,8 @@ abbrev pub answer_to : Result (List Statement × List ℕ) TextFault → Task �
 answer_to (Ok r) task = answer_by (fault_of r.0 r.1) task r.0 r.1
 answer_to (Err fault) task = refused fault
 
-pub text_answer : (task : Task) (text : List ℕ) (r : Result (List Statement × List ℕ) TextFault) → Said text r → AnswersText task text (answer_to r task)
+pub text_answer : (task : Task) (text : List ℕ) (r : Result (List Statement × List ℕ) TextFault) → Said text r
+    → AnswersText task text (answer_to r task)
 text_answer task text (Ok r) said = read r.0 r.1 said (session_answer task r.0 r.1)
 text_answer task text (Err fault) said = misread fault said refl
 
@@ -67,7 +69,8 @@ refused_text task text fault (Err e) f h = tt
 
 -- and so does one with the checking fault of the session that it stands for
 pub refused_session : {E : Type 0} (task : Task) (text : List ℕ) (s : List Statement) (l : List ℕ) (fault : TextFault) (r : Result Answer E)
-    → StandsFor text s l → fault_of s l ≡ Some fault → IfOk r (λ whole. whole ≡ refused fault) → IfOk r (λ whole. AnswersText task text whole)
+    → StandsFor text s l → fault_of s l ≡ Some fault → IfOk r (λ whole. whole ≡ refused fault)
+    → IfOk r (λ whole. AnswersText task text whole)
 refused_session task text s l fault (Ok whole) stands e h = read s l stands (misfit fault e h)
 refused_session task text s l fault (Err e) stands f h = tt
 
@@ -97,13 +100,15 @@ of_each P None h = tt
 of_each P (Some x) h = h x
 
 -- what holds of the bytes that were read up to the end
-pub of_whole : (P : List ℕ → Type 0) (old new : Option (List ℕ)) (text : List ℕ) → Consumes old new text → IsAtEnd new → P text → IfSome old P
+pub of_whole : (P : List ℕ → Type 0) (old new : Option (List ℕ)) (text : List ℕ) → Consumes old new text → IsAtEnd new → P text
+    → IfSome old P
 of_whole P None new text c e h = tt
 of_whole P (Some x) None text c e h = absurd c
 of_whole P (Some x) (Some y) text c e h = subst P (sym (c ∙ (ap (λ (l : List ℕ). text ++ l) e ∙ append-nil text))) h
 
 -- what holds of all bytes of which so many were taken
-pub of_long : (P : List ℕ → Type 0) (old new : Option (List ℕ)) (n : ℕ) → LosesCount old new n → ((bytes : List ℕ) → n ≤ length bytes → P bytes) → IfSome old P
+pub of_long : (P : List ℕ → Type 0) (old new : Option (List ℕ)) (n : ℕ) → LosesCount old new n
+    → ((bytes : List ℕ) → n ≤ length bytes → P bytes) → IfSome old P
 of_long P None new n c h = tt
 of_long P (Some x) None n c h = absurd c.consumed
 of_long P (Some x) (Some y) n c h = h x (omega (arith, ap length c.consumed, length-append c.bytes y, c.count))

@@ -1,9 +1,11 @@
 -- A job, report after report.
-use Rattle.std.proofs.Common.{◌≡◌, refl, sym, ◌∙◌, ap, ap₂, subst, arith, ℕ, zero, suc, ◌+◌, ◌<◌, ◌≤◌, Bool, true, false, cond, List, [], ◌∷◌, ◌++◌, length, map, take, get_or, add-one, add-zero, append_assoc, append-nil}
+use Rattle.std.proofs.Common.{◌≡◌, refl, sym, ◌∙◌, ap, ap₂, subst, arith, ℕ, zero, suc, ◌+◌, ◌<◌, ◌≤◌, Bool, true, false, cond, List, []}
+use Rattle.std.proofs.Common.{◌∷◌, ◌++◌, length, map, take, get_or, All, add-one, add-zero, append-nil}
 use Rattle.std.specs.Prelude.{if◌then◌else◌, flat_map}
 use Rattle.std.specs.List.{range_with_len, enumerate_from}
 use Rattle.std.proofs.lemmas.List.{map-append, take_more, flat_map_more, length-map}
 use Rattle.std.proofs.lemmas.List.FromFn.{length-enumerate_from}
+use Rattle.std.proofs.lemmas.List.Elements.{All-get_or}
 use Rattle.flow_design.specs.declared.plan.Plan.{Plan}
 use Rattle.flow_design.specs.declared.plan.Edit.{Edit}
 use Rattle.flow_design.specs.declared.design.Design.{Design}
@@ -17,12 +19,13 @@ use Rattle.edit_runs.specs.Runs.{all_go_on, next_counts, counts_after, first_cou
 use Rattle.report_text.specs.Lines.{line, runs_tokens}
 use Rattle.report_text.specs.ReportText.{report_text_of}
 use Rattle.whole_answer.specs.declared.answer.Answer.{Answer}
-use Rattle.whole_answer.specs.declared.job.Told.{Told}
+use Rattle.whole_answer.specs.declared.job.Written.{Written}
 use Rattle.whole_answer.specs.declared.status.Status.{Status}
 use Rattle.whole_answer.specs.declared.status.Status.TheVariants.{Done, Words, Text, Deadlock, Cycles, Ops, ReadFault, WriteFault, Memory}
 use Rattle.whole_answer.specs.Answer.{IsAnswer}
-use Rattle.whole_answer.specs.Job.{plan_at, report_at, first_numbers, texts_of, counts_in, status_of, is_done, first_not_done, statuses_of, job}
-use Rattle.whole_answer.specs.Going.{first_told, more_told, IsGoing}
+use Rattle.whole_answer.specs.Job.{plan_at, report_at, first_numbers, texts_of, counts_in, status_of, is_done, first_not_done, statuses_of}
+use Rattle.whole_answer.specs.Job.{job}
+use Rattle.whole_answer.specs.Going.{Told, told_of, first_told, more_told, HasAdded, IsGoing}
 
 -- ---- lists that grow at their end
 
@@ -31,7 +34,8 @@ numbers_more a zero = ap (λ k. k ∷ []) (sym (add-zero a))
 numbers_more a (suc n) =
     ap (λ ks. a ∷ ks) (numbers_more (a + 1) n ∙ ap (λ k. range_with_len (a + 1) n ++ k ∷ []) (omega arith))
 
-counts_more : (c : RunCount) (all : List (List (List Bool))) (found : List (List Bool)) → counts_after c (all ++ found ∷ []) ≡ next_counts (counts_after c all) found
+counts_more : (c : RunCount) (all : List (List (List Bool))) (found : List (List Bool))
+    → counts_after c (all ++ found ∷ []) ≡ next_counts (counts_after c all) found
 counts_more c [] found = refl
 counts_more c (a ∷ all) found = counts_more (next_counts c a) all found
 
@@ -46,7 +50,8 @@ done_is ReadFault e = absurd cc
 done_is WriteFault e = absurd cc
 done_is Memory e = absurd cc
 
-status_more : (ss : List Status) (s : Status) → first_not_done (ss ++ s ∷ []) ≡ (if is_done (first_not_done ss) then s else first_not_done ss)
+status_more : (ss : List Status) (s : Status) → first_not_done (ss ++ s ∷ []) ≡ (if is_done (first_not_done ss) then s else first_not_done
+    ss)
 status_more [] s = by_test (is_done s) refl
   where
     by_test : (b : Bool) → is_done s ≡ b → cond b Done s ≡ s
@@ -69,7 +74,8 @@ unfolding next_counts
 runs_more c found = one_run_at_most (all_go_on c.kept found) _ found c.runs
 
 one_number_more : (k : ℕ) → first_numbers ((k + 1) + 1) ≡ first_numbers (k + 1) ++ (k + 1) ∷ []
-one_number_more k = ap (range_with_len 0) (add-one (k + 1)) ∙ (numbers_more 0 (k + 1) ∙ ap (λ (j : ℕ). range_with_len 0 (k + 1) ++ j ∷ []) (omega arith))
+one_number_more k = ap (range_with_len 0) (add-one (k + 1)) ∙ (numbers_more 0 (k + 1)
+    ∙ ap (λ (j : ℕ). range_with_len 0 (k + 1) ++ j ∷ []) (omega arith))
 
 one_edit_more : (k : ℕ) → range_with_len 1 (k + 1) ≡ range_with_len 1 k ++ (k + 1) ∷ []
 one_edit_more k = ap (range_with_len 1) (add-one k) ∙ (numbers_more 1 k ∙ ap (λ (j : ℕ). range_with_len 1 k ++ j ∷ []) (omega arith))
@@ -99,8 +105,10 @@ module _ (events : Bool) (p : Plan) (edits : List Edit) where
   })
 
   -- one edit more
-  pub next_plan : ((q : Plan) (es : List Edit) (e : Edit) → e.channel < length q.depths → plan_after q (es ++ e ∷ []) ≡ with_depth (plan_after q es) e.channel e.depth)
-      → (k : ℕ) (now : Plan) (e other : Edit) → now ≡ plan_at p edits k → k < length edits → e ≡ get_or edits k other → e.channel < length p.depths
+  pub next_plan : ((q : Plan) (es : List Edit) (e : Edit) → e.channel < length q.depths
+      → plan_after q (es ++ e ∷ []) ≡ with_depth (plan_after q es) e.channel e.depth)
+      → (k : ℕ) (now : Plan) (e other : Edit) → now ≡ plan_at p edits k → k < length edits → e ≡ get_or edits k other
+      → e.channel < length p.depths
       → with_depth now e.channel e.depth ≡ plan_at p edits (k + 1)
   next_plan one_more k now e other is inside here entry =
       ap (λ (q : Plan). with_depth q e.channel e.depth) is
@@ -140,7 +148,8 @@ module _ (events : Bool) (p : Plan) (edits : List Edit) where
           answer = answer;
         }
 
-  pub goes_on : (k : ℕ) (plan next : Plan) (told : Told) → IsGoing events p edits k plan told → next ≡ plan_at p edits (k + 1) → FitsEngine next
+  pub goes_on : (k : ℕ) (plan next : Plan) (told : Told) → IsGoing events p edits k plan told → next ≡ plan_at p edits (k + 1)
+      → FitsEngine next
       → IsAnswer (more_told events next (k + 1) told).status
       → IsGoing events p edits (k + 1) next (more_told events next (k + 1) told)
   unfolding more_told
@@ -166,8 +175,38 @@ module _ (events : Bool) (p : Plan) (edits : List Edit) where
         count =
             ap₂ (λ (c : RunCount) (r : Report). next_counts c r.answers) g.count is
             ∙ (sym (counts_more (first_counts (answers_at 0)) (map answers_at (range_with_len 1 k)) (answers_at (k + 1)))
-            ∙ (ap (λ (all : List (List (List Bool))). counts_after (first_counts (answers_at 0)) all) (sym (map-append answers_at (range_with_len 1 k) ((k + 1) ∷ [])))
+            ∙ (ap (λ (all : List (List (List Bool))). counts_after (first_counts (answers_at 0)) all)
+            (sym (map-append answers_at (range_with_len 1 k) ((k + 1) ∷ [])))
             ∙ ap (λ (ks : List ℕ). counts_after (first_counts (answers_at 0)) (map answers_at ks)) (sym (one_edit_more k))));
         runs = let more = runs_more told.count (report next).answers in let before = g.runs in omega arith;
         answer = answer;
       }
+
+-- ---- a report that was written
+
+pub first_written : (events : Bool) (p : Plan) (old new : Written) (count : RunCount) → old.text ≡ [] → old.status ≡ Done
+    → HasAdded events p 0 old new → count ≡ first_counts (report p).answers → told_of new count ≡ first_told events p
+unfolding first_told
+first_written events p old new count empty done h c =
+    let text = h.text ∙ ap (λ (t : List ℕ). t ++ report_text_of p.design (report p) 0 events) empty in
+    let status = h.status ∙ ap (λ (s : Status). if is_done s then status_of (report p).verdict else s) done in
+    λ i. record { text = text i; status = status i; count = c i }
+
+pub more_written : (events : Bool) (p : Plan) (k : ℕ) (old new : Written) (count now : RunCount) → HasAdded events p k old new
+    → now ≡ next_counts count (report p).answers → told_of new now ≡ more_told events p k (told_of old count)
+unfolding more_told
+more_written events p k old new count now h c = λ i. record { text = h.text i; status = h.status i; count = c i }
+
+-- ---- the two jobs
+
+pub first_answer : (events : Bool) (p : Plan) (old new : Written) → old.status ≡ Done → HasAdded events p 0 old new
+    → IsAnswer (status_of (report p).verdict)
+first_answer events p old new done h =
+    subst IsAnswer (h.status ∙ ap (λ (s : Status). if is_done s then status_of (report p).verdict else s) done) h.answer
+
+-- the edit that stands at a place, which fits the plan where all do
+abbrev pub edit_at : List Edit → ℕ → Edit
+edit_at edits i = get_or edits i (record { channel = 0; depth = 0 })
+
+pub fits_there : (p : Plan) (edits : List Edit) (i : ℕ) → i < length edits → All (EditFits p) edits → EditFits p (edit_at edits i)
+fits_there p edits i inside all = All-get_or (EditFits p) edits i _ inside all

@@ -21,5 +21,6 @@ whole_prefix a b text p =
     record { count = length text; appended = rw whole p }
 
 -- a fault of writing, after a prefix was written
-pub tells_fault : (whole : Answer) (a b : Option (List ℕ)) (finished : Bool) → AppendsPrefix a b whole.text → Tells whole WriteFault a b finished
+pub tells_fault : (whole : Answer) (a b : Option (List ℕ)) (finished : Bool) → AppendsPrefix a b whole.text
+    → Tells whole WriteFault a b finished
 tells_fault whole a b finished p = record { answered = λ i. absurd i; write = λ _. p; memory = λ e. cc }

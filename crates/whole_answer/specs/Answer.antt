@@ -23,7 +23,8 @@ use Rattle.whole_answer.specs.declared.status.Status.TheVariants.{ReadFault, Wri
 -- the answer to a session that was read
 pub data AnswersSession (task : Task) (statements : List Statement) (lines : List ℕ) (answer : Answer) : Type 0 where
   -- it has a checking fault, and is refused with it
-  misfit : (fault : TextFault) → fault_of statements lines ≡ Some fault → answer ≡ refused fault → AnswersSession task statements lines answer
+  misfit : (fault : TextFault) → fault_of statements lines ≡ Some fault → answer ≡ refused fault
+      → AnswersSession task statements lines answer
   -- it has none
   fit : fault_of statements lines ≡ None → answer ≡ made task statements → AnswersSession task statements lines answer
 
@@ -85,10 +86,11 @@ pub record Tells (whole : Answer) (result : Status) (old new : Option (List ℕ)
   pub memory : result ≡ Memory → AppendsPrefix old new whole.text
 
 -- the result tells the answer to the words, with these bytes as the input
-pub record TellsAnswer (words : List (List ℕ)) (bytes : List ℕ) (result : Status) (old new : Option (List ℕ)) (finished : Bool) : Type 0 where
-  pub whole : Answer
-  pub answers : Answers words bytes whole
-  pub tells : Tells whole result old new finished
+pub record TellsAnswer (words : List (List ℕ)) (bytes : List ℕ) (result : Status) (old new : Option (List ℕ)) (finished : Bool) : Type 0
+  where
+    pub whole : Answer
+    pub answers : Answers words bytes whole
+    pub tells : Tells whole result old new finished
 
 -- what a result says of faults, by the counts of the source and of the sink, and by the sink before and after
 pub record TellsFaults {K : Type 0} (result : Status) (reads reads_now writes writes_now : ℕ) (sink sink_now : K) : Type 0 where

@@ -39,7 +39,8 @@ texts_of events p edits numbers = flat_map (λ k. report_text_of p.design (repor
 
 -- the count of the first report, and of so many behind it
 abbrev pub counts_in : Plan → List Edit → ℕ → RunCount
-counts_in p edits n = counts_after (first_counts (report_at p edits 0).answers) (map (λ k. (report_at p edits k).answers) (range_with_len 1 n))
+counts_in p edits n = counts_after (first_counts (report_at p edits 0).answers)
+    (map (λ k. (report_at p edits k).answers) (range_with_len 1 n))
 
 -- ---- the status
 

@@ -1,5 +1,5 @@
 -- What the program makes of a session that passes reading and checking.
-use Rattle.std.specs.Prelude.{ℕ, ◌%◌, ◌^◌, List, [], ◌∷◌, ◌++◌, length, codes, decimal, slice_index_or, sum_by, unwrap_or}
+use Rattle.std.specs.Prelude.{ℕ, ◌%◌, ◌^◌, List, [], ◌∷◌, length, codes, decimal, slice_index_or, sum_by, unwrap_or}
 use Rattle.flow_design.specs.declared.plan.Plan.{Plan}
 use Rattle.flow_design.specs.declared.report.Report.{Report}
 use Rattle.flow_design.specs.declared.session.Statement.{Statement}

@@ -34,7 +34,8 @@ pub(crate) fn reports_without_events()
     ensures numbers { (events : Bool) (p : Plan) → FitsEngine p → HasNumbersOf p (report_with events p) }
     ensures verdict { (events : Bool) (p : Plan) → (report_with events p).verdict ≡ (report p).verdict }
     ensures answers { (events : Bool) (p : Plan) → (report_with events p).answers ≡ (report p).answers }
-    ensures text { (events : Bool) (p : Plan) (k : ℕ) → report_text_of p.design (report_with events p) k events ≡ report_text_of p.design (report p) k events }
+    ensures text { (events : Bool) (p : Plan) (k : ℕ) → report_text_of p.design (report_with events p) k events ≡ report_text_of p.design
+        (report p) k events }
 {
     reports_name_their_plans();
 }

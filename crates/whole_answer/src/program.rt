@@ -27,7 +27,8 @@ pub fn omnisim<R: Threads + Wait + Sync, S: Source, K: Sink>(
 ) -> Status
     ensures tells { IfSome (S.left source.old) (λ bytes.
         TellsAnswer (map string_bytes words.now) bytes result (K.held sink.old) (K.held sink.new) (K.is_finished sink.new)) }
-    ensures faults { TellsFaults result (S.faults source.old) (S.faults source.new) (K.faults sink.old) (K.faults sink.new) sink.old sink.new }
+    ensures faults { TellsFaults result (S.faults source.old) (S.faults source.new) (K.faults sink.old) (K.faults sink.new) sink.old
+        sink.new }
 
     ensures without_input { takes_input (accepted (map string_bytes words.now)) ≡ false
         → TellsAnswer (map string_bytes words.now) [] result (K.held sink.old) (K.held sink.new) (K.is_finished sink.new) }

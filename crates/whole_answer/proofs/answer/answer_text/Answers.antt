@@ -12,7 +12,8 @@ returns-in-Err-Text-clause-answers c =
 pub returns-in-Ok-check-clause-answers : goal.returns-in-Ok-check-clause-answers
 returns-in-Ok-check-clause-answers c =
     let read = c.in-Ok.read in
-    made_text c.args.task.now c.args.text.now read.0.statements read.1 c.make.result c.in-Ok.ensures.answer c.in-Ok-check.ensures.faultless c.make.ensures.made
+    made_text c.args.task.now c.args.text.now read.0.statements read.1 c.make.result c.in-Ok.ensures.answer c.in-Ok-check.ensures.faultless
+    c.make.ensures.made
 
 pub returns-in-Err-Text-check-clause-answers : goal.returns-in-Err-Text-check-clause-answers
 returns-in-Err-Text-check-clause-answers c =

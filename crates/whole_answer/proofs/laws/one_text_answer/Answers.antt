@@ -13,5 +13,6 @@ returns-clause-some c = λ task text.
 pub returns-clause-no_other : goal.returns-clause-no_other
 returns-clause-no_other c = λ task text a b p q.
     let said = c.one_answer.ensures.some text in
-    let only : (x : Result (List Statement × List ℕ) TextFault) → Said text x → x ≡ said.0 = λ x s. c.one_answer.ensures.no_other text x said.0 s said.1 in
+    let only : (x : Result (List Statement × List ℕ) TextFault) → Said text x
+    → x ≡ said.0 = λ x s. c.one_answer.ensures.no_other text x said.0 s said.1 in
     text_only task text said.0 only a p ∙ sym (text_only task text said.0 only b q)

@@ -1,6 +1,5 @@
 use Rattle.std.proofs.Common.{◌≡◌, refl, ℕ, Bool, true, false, arith}
 use Rattle.flow_design.specs.declared.plan.Plan.{Plan}
-use Rattle.flow_design.specs.StaticRules.{FitsEngine}
 use Rattle.lockstep_defs.specs.Laws.{HasNumbersOf}
 use Rattle.lockstep_defs.specs.Report.{report}
 use Rattle.engine_report.specs.Finished.{report_with}
@@ -19,7 +18,8 @@ answers_with : (events : Bool) (p : Plan) → (report_with events p).answers ≡
 answers_with true p = refl
 answers_with false p = refl
 
-text_with : (events : Bool) (p : Plan) (k : ℕ) → report_text_of p.design (report_with events p) k events ≡ report_text_of p.design (report p) k events
+text_with : (events : Bool) (p : Plan) (k : ℕ) → report_text_of p.design (report_with events p) k events ≡ report_text_of p.design
+    (report p) k events
 unfolding report_text_of
 text_with true p k = refl
 text_with false p k = refl

@@ -11,7 +11,8 @@ told_unread : (words : List (List ℕ)) (bytes : List ℕ) (held : Option (List 
     → TellsAnswer words bytes ReadFault held held finished
 told_unread words bytes held finished a = record { whole = a.0; answers = a.1; tells = not_read a.0 held held finished }
 
-told_no_memory : (words : List (List ℕ)) (bytes : List ℕ) (held : Option (List ℕ)) (finished : Bool) → ((a : Answer) × Answers words bytes a)
+told_no_memory : (words : List (List ℕ)) (bytes : List ℕ) (held : Option (List ℕ)) (finished : Bool)
+    → ((a : Answer) × Answers words bytes a)
     → TellsAnswer words bytes Memory held held finished
 told_no_memory words bytes held finished a = record { whole = a.0; answers = a.1; tells = no_memory a.0 held finished }
 

@@ -1,0 +1,9 @@
+use Rattle.std.proofs.Common.{◌≡◌}
+use Rattle.whole_answer.specs.Going.{IsGoing, told_of}
+use Rattle.whole_answer.proofs.job.clock_job.Given as goal
+
+abbrev pub invariant-loop-edit : goal.invariant-loop-edit
+invariant-loop-edit l = record {
+  going : IsGoing l.events l.fn.plan l.edits l.edit-index l.plan (told_of l.written l.count);
+  number : l.number ≡ l.edit-index;
+}

@@ -1,9 +1,0 @@
-use Rattle.std.proofs.Common.{◌≡◌}
-use Rattle.whole_answer.specs.Going.{IsGoing}
-use Rattle.whole_answer.proofs.job.job.Given as goal
-
-abbrev pub invariant-loop-edit : goal.invariant-loop-edit
-invariant-loop-edit l = record {
-  going : IsGoing l.events l.fn.plan l.edits l.edit-index l.plan l.told;
-  number : l.number ≡ l.edit-index;
-}

@@ -38,35 +38,32 @@ fn words_of<R: AllocGlobal>(rt: &R, command: &str, options: &[&str]) -> Result<V
     Ok(words)
 }
 
-/// A source and a sink that move at most so many bytes a call and fail in these calls; the sink has room for so many bytes.
-#[derive(Clone, Copy, Drop)]
-struct Ends<'a> {
-    piece: u64,
-    takes: &'a [u64],
-    puts: &'a [u64],
-    room: u64,
-}
-
-impl Ends<'static> {
-    /// Ends that do not fail.
-    const WELL: Ends<'static> = Ends {
-        piece: 64,
-        takes: &[],
-        puts: &[],
-        room: 8192,
-    };
-}
-
-/// What the program answers to these words and a text, through such ends.
+/// What the program answers to these words and a text, through a source and a sink that fail in these calls.
 fn answer<R: Threads + Wait + Sync + AllocGlobal>(
     rt: &R,
     words: &[String],
     text: &[u8],
-    ends: Ends<'_>,
+    takes: &[u64],
+    puts: &[u64],
 ) -> Result<(Status, MemSink), Fail> {
     let alloc = rt.alloc();
-    let mut source = MemSource::new(alloc, text, ends.piece, ends.takes)?;
-    let mut sink = MemSink::new(alloc, ends.room, ends.piece, ends.puts)?;
+    let mut source = MemSource::new(alloc, text, 64, takes)?;
+    let mut sink = MemSink::new(alloc, 8192, 4, puts)?;
+    let status = omnisim(rt, alloc, words, &mut source, &mut sink);
+    Ok((status, sink))
+}
+
+/// What it answers to the plain case, through ends of one byte a call that fail in these calls, and a sink with this room.
+fn answer_bytewise<R: Threads + Wait + Sync + AllocGlobal>(
+    rt: &R,
+    words: &[String],
+    takes: &[u64],
+    puts: &[u64],
+    room: u64,
+) -> Result<(Status, MemSink), Fail> {
+    let alloc = rt.alloc();
+    let mut source = MemSource::new(alloc, PLAIN_CASE, 1, takes)?;
+    let mut sink = MemSink::new(alloc, room, 1, puts)?;
     let status = omnisim(rt, alloc, words, &mut source, &mut sink);
     Ok((status, sink))
 }
@@ -81,7 +78,7 @@ fn answers<R: Threads + Wait + Sync + AllocGlobal + Abort>(
     wanted: Status,
 ) -> Result<(), Fail> {
     let words = words_of(rt, command, options)?;
-    let (status, sink) = answer(rt, words.as_slice(), text, Ends::WELL)?;
+    let (status, sink) = answer(rt, words.as_slice(), text, &[], &[])?;
     assert_eq!(rt; sink.held(), told);
     assert_eq!(rt; status, wanted);
     Ok(())
@@ -428,7 +425,7 @@ fn refused_words(rt: HostRuntime) -> Result<(), Fail> {
     refuses_words(&rt, "check", &["--events"])?;
     refuses_words(&rt, "gen", &["1", "65"])?;
     refuses_words(&rt, "alone", &["further"])?;
-    let (status, sink) = answer(&rt, &[], PLAIN_CASE, Ends::WELL)?;
+    let (status, sink) = answer(&rt, &[], PLAIN_CASE, &[], &[])?;
     assert_eq!(rt; sink.held(), b"refused words\n".as_slice());
     assert_eq!(rt; status, Status::Words);
     Ok(())
@@ -507,28 +504,29 @@ fn fifos_with_a_delay(rt: HostRuntime) -> Result<(), Fail> {
 #[test]
 fn truncated_texts(rt: HostRuntime) -> Result<(), Fail> {
     let rows = [
-        (0, 0, b"refused 1 12\n".as_slice()),
-        (1, 5, b"refused 1 3\n".as_slice()),
-        (6, 6, b"refused 1 12\n".as_slice()),
-        (7, 7, b"refused 2 12\n".as_slice()),
-        (85, 85, b"refused 8 3\n".as_slice()),
-        (98, 98, b"refused 10 3\n".as_slice()),
-        (99, 101, b"refused 10 12\n".as_slice()),
-        (102, 102, b"refused 11 12\n".as_slice()),
-        (103, 104, b"refused 11 3\n".as_slice()),
+        (0, b"refused 1 12\n".as_slice()),
+        (1, b"refused 1 3\n".as_slice()),
+        (5, b"refused 1 3\n".as_slice()),
+        (6, b"refused 1 12\n".as_slice()),
+        (7, b"refused 2 12\n".as_slice()),
+        (85, b"refused 8 3\n".as_slice()),
+        (98, b"refused 10 3\n".as_slice()),
+        (99, b"refused 10 12\n".as_slice()),
+        (101, b"refused 10 12\n".as_slice()),
+        (102, b"refused 11 12\n".as_slice()),
+        (103, b"refused 11 3\n".as_slice()),
+        (104, b"refused 11 3\n".as_slice()),
     ];
-    for (first, last, told) in rows {
-        for len in first..last + 1 {
-            let text = PLAIN_CASE.get(..len).unwrap_or(PLAIN_CASE);
-            refuses(&rt, &[(text, told)])?;
-        }
+    for (len, told) in rows {
+        let text = PLAIN_CASE.get(..len).unwrap_or(PLAIN_CASE);
+        refuses(&rt, &[(text, told)])?;
+    }
+    let words = words_of(&rt, "run", &[])?;
+    for len in 0..105 {
+        let (status, _) = answer(&rt, words.as_slice(), &PLAIN_CASE[..len], &[], &[])?;
+        assert_eq!(rt; status, Status::Text);
     }
     for command in COMMANDS {
-        let words = words_of(&rt, command, &[])?;
-        for len in 0..105 {
-            let (status, _) = answer(&rt, words.as_slice(), &PLAIN_CASE[..len], Ends::WELL)?;
-            assert_eq!(rt; status, Status::Text);
-        }
         answers(
             &rt,
             command,
@@ -541,7 +539,7 @@ fn truncated_texts(rt: HostRuntime) -> Result<(), Fail> {
     Ok(())
 }
 
-/// Through ends of one byte a call that do this, the program answers the plain case so under `run`, `alone` and `clock`.
+/// Through such ends the program answers the plain case so under `run`, `alone` and `clock`.
 fn answers_bytewise<R: Threads + Wait + Sync + AllocGlobal + Abort>(
     rt: &R,
     takes: &[u64],
@@ -552,13 +550,7 @@ fn answers_bytewise<R: Threads + Wait + Sync + AllocGlobal + Abort>(
 ) -> Result<(), Fail> {
     for command in COMMANDS {
         let words = words_of(rt, command, &[])?;
-        let ends = Ends {
-            piece: 1,
-            takes,
-            puts,
-            room,
-        };
-        let (status, sink) = answer(rt, words.as_slice(), PLAIN_CASE, ends)?;
+        let (status, sink) = answer_bytewise(rt, words.as_slice(), takes, puts, room)?;
         assert_eq!(rt; sink.held(), told);
         assert_eq!(rt; status, wanted);
     }
@@ -582,14 +574,10 @@ fn a_sink_that_fails(rt: HostRuntime) -> Result<(), Fail> {
     }
     // the last call finishes
     answers_bytewise(&rt, &[], &[39], 64, PLAIN_ANSWER, Status::WriteFault)?;
-    answers_bytewise(&rt, &[], &[], 38, &PLAIN_ANSWER[..38], Status::WriteFault)?;
-    let ends = Ends {
-        piece: 1,
-        takes: &[],
-        puts: &[0],
-        room: 64,
-    };
-    let (status, sink) = answer(&rt, &[], PLAIN_CASE, ends)?;
-    assert_eq!(rt; (status, sink.held().len()), (Status::WriteFault, 0));
+    let told = PLAIN_ANSWER.get(..38).unwrap_or(PLAIN_ANSWER);
+    answers_bytewise(&rt, &[], &[], 38, told, Status::WriteFault)?;
+    let (status, sink) = answer_bytewise(&rt, &[], &[], &[0], 64)?;
+    assert_eq!(rt; sink.held(), b"".as_slice());
+    assert_eq!(rt; status, Status::WriteFault);
     Ok(())
 }

@@ -7,9 +7,10 @@ use Rattle.flow_design.specs.Plans.{with_depth, EditFits}
 use Rattle.flow_design.specs.StaticRules.{FitsEngine}
 use Rattle.event_timing.specs.Machines.{Design}
 use Rattle.event_timing.specs.Histories.{IsHistory}
-use Rattle.event_timing.specs.Actions.{IsFinal}
+use Rattle.event_timing.specs.Actions.{IsFinal, MayRun}
 use Rattle.event_timing.specs.Agreement.{IsAgreed}
 use Rattle.event_timing.specs.Edits.{edited, after_edit}
+use Rattle.event_timing.proofs.NoRun.{edit_no_run}
 use Rattle.timing_bridge.specs.Designs.{design, lockstep_run}
 use Rattle.timing_bridge.proofs.Edits.{edited_fits, same_design}
 use Rattle.timing_bridge.proofs.History.{plan_is_design, run_is_history}
@@ -39,3 +40,10 @@ module _ (p : Plan) (fits : FitsEngine p) (e : Edit) (fit : EditFits p e) (h : H
       subst (λ (f : Design ModuleState). IsAgreed f (lockstep_run q) p.cycles (after_edit (design p) (core_of (design p) h) t))
       (same_design p e.channel e.depth fit.entry)
       (cut_agrees (design p) (lockstep_run p) p.cycles h final_of e.channel e.depth t from (λ c. refl) (lockstep_run q) history_of)
+
+  -- and permits no Run
+  pub cut_stays : (t m : ℕ) → MayRun (design q) (after_edit (design p) (core_of (design p) h) t) m → ⊥
+  cut_stays t m may =
+      final.quiet.no_run m (edit_no_run (design p) (core_of (design p) h) e.channel e.depth t m
+      (subst (λ (f : Design ModuleState). MayRun f (after_edit (design p) (core_of (design p) h) t) m)
+      (sym (same_design p e.channel e.depth fit.entry)) may))

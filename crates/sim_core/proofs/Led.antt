@@ -11,11 +11,13 @@ use Rattle.flow_design.specs.StaticRules.{FitsEngine}
 use Rattle.lockstep_defs.specs.Channels.{HistoryStep}
 use Rattle.lockstep_defs.specs.Report.{report, outcomes}
 use Rattle.query_log.specs.Logs.{log_at}
+use Rattle.event_graph.specs.Lanes.{Lane, lane_at, no_lane}
+use Rattle.std.proofs.lemmas.List.{get_or_past}
 use Rattle.query_log.specs.declared.query.Query.{Query}
 use Rattle.event_timing.specs.Machines.{Design}
 use Rattle.event_timing.specs.Core.{Core, core_accesses, view}
 use Rattle.event_timing.specs.Enablers.{candidate}
-use Rattle.event_timing.specs.Actions.{Action, ActsAll, new_flags}
+use Rattle.event_timing.specs.Actions.{Action, ActsAll, MayRun, new_flags}
 use Rattle.event_timing.specs.Agreement.{IsAgreed}
 use Rattle.event_timing.specs.Edits.{after_edit}
 use Rattle.event_timing.proofs.Answering.{first_emitted}
@@ -32,16 +34,28 @@ use Rattle.sim_core.specs.Views.{CoreView, theory_of}
 use Rattle.sim_core.specs.Drives.{Goes, IsDiffering}
 use Rattle.sim_core.specs.Edits.{IsAsBefore, IsRetimed}
 use Rattle.sim_core.specs.Records.{IsEditedOn, HasOtherAnswer}
-use Rattle.sim_core.proofs.Cut.{cut_of}
-use Rattle.sim_core.proofs.Logged.{outcomes_on}
+use Rattle.sim_core.proofs.Cut.{cut_of, cut_stays}
+use Rattle.sim_core.proofs.Logged.{answered_back, outcomes_on}
 use Rattle.sim_core.proofs.Otherwise.{AreOtherAt, other_answer}
 use Rattle.sim_core.proofs.RecordsGrow.{all_recorded}
+use Rattle.sim_core.proofs.Unadded.{IsUnadded, unadded_no_run}
 
 acts_both : {S : Type 0} → (d : Design S) (limit : ℕ) (x : Core S) (actions more : List Action) (y z : Core S)
     → ActsAll d limit x actions y
     → ActsAll d limit y more z → ActsAll d limit x (actions ++ more) z
 acts_both {S} d limit x [] more y z a b = subst (λ (w : Core S). ActsAll d limit w more z) a b
 acts_both {S} d limit x (c ∷ actions) more y z (w, s, a) b = (w, s, acts_both d limit w actions more y z a b)
+
+-- a module with a step is one of the lanes
+within_lanes : (h : Held) (m k : ℕ) → k < emitted_of h m → length h.logs ≡ length h.lanes → m < length h.logs
+within_lanes h m k less same =
+    elim (cases_lt m (length h.lanes)) [
+      | inl l ↦ omega arith
+      | inr l ↦
+          let none : lane_at h.lanes m ≡ no_lane = get_or_past h.lanes m no_lane l in
+          let zero : emitted_of h m ≡ 0 = ap (λ (q : Lane). length q.steps) none in
+          absurd (omega arith)
+    ]
 
 -- ---- from a core with the same record
 
@@ -57,6 +71,7 @@ record IsLed (p q : Plan) (h g : Held) : Type 0 where
   pub core : Core ModuleState
   pub record_is : (m : ℕ) → HasRecordOf p q h core m
   pub agreed : IsAgreed (design q) (lockstep_run q) q.cycles core
+  pub no_run : (m : ℕ) → MayRun (design q) core m → ⊥
   pub actions : List Action
   pub all : ActsAll (design q) q.cycles core actions (core_of (design q) g)
 
@@ -79,6 +94,31 @@ led_grow p q h g fits sh sg l m in_h in_g =
       | inr sure ↦ inr sure
     ])
 
+-- where no outcome is added to a record, no Run is permitted
+led_stays : (p q : Plan) (h g : Held) → FitsEngine q → IsSound (design p) h → IsSound (design q) g → IsLed p q h g
+    → length h.logs ≡ length h.lanes → length g.logs ≡ length h.logs
+    → ((m : ℕ) → m < length h.logs → (log_at g.logs m).outcomes ≡ (log_at h.logs m).outcomes) → (m : ℕ)
+    → MayRun (design q) (core_of (design q) g) m → ⊥
+led_stays p q h g fits sh sg l lanes logs same =
+    unadded_no_run (design q) (lockstep_run q) (plan_is_design q fits) (run_is_history q fits) q.cycles x l.agreed l.no_run l.actions
+    (core_of (design q) g) l.all unadded
+  where
+    x : Core ModuleState
+    x = l.core
+
+    unadded : IsUnadded x (core_of (design q) g)
+    unadded m k less a =
+        let r = l.record_is m in
+        let e = r.emitted in
+        let grows = actions_grow (design q) (lockstep_run q) (plan_is_design q fits) (run_is_history q fits) q.cycles x l.agreed l.actions
+        (core_of (design q) g) l.all in
+        let inside : m < length h.logs = within_lanes h m k (omega arith) lanes in
+        r.answered k
+        ∙ answered_back (design p) (design q) h g m sh sg inside (omega arith) (let up = grows.emitted_up m in omega arith)
+        (λ j u. ap (λ (s : ModuleState). (design q).accesses m s) (grows.state_same m j (omega arith)) ∙ r.accesses j)
+        (λ j u b. grows.answered_up m j (omega arith) (r.answered j ∙ b))
+        (λ j u b. grows.flags_same m j (omega arith) (r.answered j ∙ b) ∙ r.flags j) (same m inside) k (omega arith) a
+
 -- ---- an edit, and what follows
 
 module _ (v : CoreView) (e : Edit) (w : CoreView) (t : IsEditedOn v e w) where
@@ -96,6 +136,7 @@ module _ (v : CoreView) (e : Edit) (w : CoreView) (t : IsEditedOn v e w) where
           flags = λ k. refl;
         };
         agreed = there.0;
+        no_run = λ m may. t.final.quiet.no_run m (subst (λ (q : Plan). MayRun (design q) (theory_of v) m) goes.plan may);
         actions = goes.actions;
         all = there.1;
       }
@@ -118,6 +159,8 @@ module _ (v : CoreView) (e : Edit) (w : CoreView) (t : IsEditedOn v e w) where
           flags = λ k. refl;
         };
         agreed = agreed;
+        no_run = λ m may. cut_stays v.plan t.from.fits e t.fits v.held t.from.sound t.from.agreed t.final r.clock m
+            (subst (λ (q : Plan). MayRun (design q) cut m) plan may);
         actions = r.leads.actions ++ t.goes.actions;
         all = all;
       }
@@ -136,6 +179,12 @@ module _ (v : CoreView) (e : Edit) (w : CoreView) (t : IsEditedOn v e w) where
   pub outcomes_led : (m : ℕ) → m < length v.held.logs → OutcomesGrow (log_at v.held.logs m) (log_at w.held.logs m)
   outcomes_led m l =
       led_grow v.plan w.plan v.held w.held t.to.fits t.from.sound t.to.sound led m l (let n = same_logs in omega arith)
+
+  pub no_run_led : ((m : ℕ) → m < length v.held.logs → (log_at w.held.logs m).outcomes ≡ (log_at v.held.logs m).outcomes) → (m : ℕ)
+      → MayRun (design w.plan) (theory_of w) m → ⊥
+  no_run_led same =
+      led_stays v.plan w.plan v.held w.held t.to.fits t.from.sound t.to.sound led
+      (let a = t.from.sound.logs in let b = t.from.sound.lanes in omega arith) same_logs same
 
   -- ---- a query that is found to be another
 

@@ -10,12 +10,15 @@ pub mod Lending
 pub mod Ports
 pub mod Turning
 pub mod Rounds
+pub mod TimingRounds
+pub mod Acting
 pub mod Ending
 pub mod Beginning
 pub mod Cut
 pub mod EditedRuns
 pub mod Editing
 pub mod RecordsGrow
+pub mod Unadded
 pub mod Logged
 pub mod Reported
 pub mod Otherwise

@@ -209,5 +209,19 @@ module _ {S : Type 0} (d e : Design S) (h g : Held) (m : ℕ) (sh : IsSound d h)
           ]
   ends_of (inr sure) = inr (sure_all e g m sg in_g sure)
 
+  -- where none was added, each that is recorded now was so before
+  pub answered_back : (log_at g.logs m).outcomes ≡ old.outcomes → (k : ℕ) → k < emitted_of h m → (core_of e g).answered m k ≡ true
+      → (core_of d h).answered m k ≡ true
+  answered_back same k l a =
+      let first = sg.first_query m k (omega arith) ∙ (same_before k (omega arith) ∙ sym (sh.first_query m k l)) in
+      let count = same_queries k l in
+      let long = ap (λ (x : List Bool). length x) same in
+      let among = (and_parts (ltb k (emitted_of g m)) (are_among (step_of g m k) (length (log_at g.logs m).outcomes)) a).1 in
+      ap₂ (λ (p q : Bool). p && q) (lt-ltb k (emitted_of h m) l)
+      (elim (among_is (step_of g m k) (length (log_at g.logs m).outcomes) among) [
+        | inl z ↦ among_none d h m sh in_h k (length old.outcomes) (omega arith)
+        | inr z ↦ among_if (step_of h m k) (length old.outcomes) (omega arith)
+      ])
+
   pub outcomes_on : NoneAdded e (core_of d h) (core_of e g) m ⊎ AreSure e (core_of e g) m → OutcomesGrow old (log_at g.logs m)
   outcomes_on ends = record { grew = (drop (length old.outcomes) (log_at g.logs m).outcomes, begins); ends = ends_of ends }

@@ -33,14 +33,14 @@ use Rattle.sim_core.specs.Drives.{given, Goes, GoesOn, HasTimed, HasVisited, IsV
 
 -- ---- each action makes another core
 
-run_changes : {S : Type 0} (d : Design S) (x y : Core S) (m : ℕ) → MayRun d x m → y ≡ after_run d x m → y ≡ x → ⊥
+pub run_changes : {S : Type 0} (d : Design S) (x y : Core S) (m : ℕ) → MayRun d x m → y ≡ after_run d x m → y ≡ x → ⊥
 run_changes {S} d x y m may is same =
     run_cases d x m (λ (z : Core S). z ≡ x → ⊥)
     (λ over e. both_ways _ may.lives (sym (ap (λ (z : Core S). z.over m) e) ∙ put_same x.over m true))
     (λ over e. let n = sym (ap (λ (z : Core S). z.emitted m) e) ∙ put_same x.emitted m (suc (x.emitted m)) in absurd (omega arith))
     (sym is ∙ same)
 
-assign_changes : {S : Type 0} (d : Design S) (limit : ℕ) (x y : Core S) (m : ℕ) → Acts d limit x (Assign m) y → y ≡ x → ⊥
+pub assign_changes : {S : Type 0} (d : Design S) (limit : ℕ) (x y : Core S) (m : ℕ) → Acts d limit x (Assign m) y → y ≡ x → ⊥
 assign_changes {S} d limit x y m (c, may, is) e =
     let n : y.timed m ≡ suc (x.timed m) = ap (λ (q : Core S). q.timed m) is ∙ put_same x.timed m (suc (x.timed m)) in
     let same : y.timed m ≡ x.timed m = ap (λ (q : Core S). q.timed m) e in
@@ -132,6 +132,68 @@ pub goes_at : (first now next : CoreView) (before ticks later : ℕ) → Goes fi
 goes_at first now next before ticks later g e t = subst (λ (w : CoreView). Goes first before w later) (sym e)
     (subst (Goes first before now) (sym t) g)
 
+-- ---- what stays by actions
+
+module _ (v w : CoreView) (before after : ℕ) (agreed : IsAgreed (design v.plan) (lockstep_run v.plan) v.plan.cycles (theory_of v))
+    (fits : FitsEngine v.plan) (g : Goes v before w after) where
+  pub goes_agreed : IsAgreed (design w.plan) (lockstep_run w.plan) w.plan.cycles (theory_of w)
+  goes_agreed =
+      subst (λ (q : Plan). IsAgreed (design q) (lockstep_run q) q.cycles (theory_of w)) (sym g.plan)
+      (all_agree (design v.plan) (lockstep_run v.plan) (plan_is_design v.plan fits) (run_is_history v.plan fits)
+      v.plan.cycles (theory_of v) agreed g.actions (theory_of w) g.all)
+
+  pub goes_verified : AllVerified (theory_of v) → AllVerified (theory_of w)
+  goes_verified f =
+      (all_rise (design v.plan) (lockstep_run v.plan) (plan_is_design v.plan fits) (run_is_history v.plan fits) v.plan.cycles
+      (theory_of v) agreed f g.actions (theory_of w) g.all).2
+
+-- where no outcome is assumed, none is found to be another
+module _ (v : CoreView) (f : AllVerified (theory_of v)) where
+  none_other : (m c : ℕ) (q : Query) → IsFoundOther (design v.plan) v.held m c q
+      → candidate (design v.plan) (view (design v.plan) (theory_of v)) m ≡ Some c
+      → (theory_of v).verified m ((theory_of v).timed m) ≡ false → ⊥
+  none_other m c q o e u =
+      o.other.differs (ap (λ fs. slice_get fs o.other.place) (never_found (design v.plan) (theory_of v) f m c e u o.recorded))
+
+  pub none_differs : (m : ℕ) (q : Query) → IsDifferent (design v.plan) v.plan.cycles v.held m q → ⊥
+  none_differs m q o = none_other m o.cycle q o.found o.may.determined.at o.may.open_query
+
+  pub no_least_differs : (m : ℕ) (q : Query) → IsEarliestOther v m q → ⊥
+  no_least_differs m q o = none_other m o.cycle q o.found o.may.open_step.determined.at o.may.open_step.open_query
+
+-- ---- one module more
+
+abbrev pub IsNextOf : ℕ → ℕ → ℕ → Type 0
+IsNextOf count at to = ((at + 1 < count) × (to ≡ at + 1)) ⊎ ((count ≤ at + 1) × (to ≡ 0))
+
+pub next_inside : (count at to : ℕ) → at < count → IsNextOf count at to → to < count
+next_inside count at to u (inl (l, e)) = omega arith
+next_inside count at to u (inr (l, e)) = omega arith
+
+-- one that is visited then was so before, or it is the one whose turn it was
+pub visited_before : (count at idle to m : ℕ) → at < count → idle < count → m < count → IsNextOf count at to
+    → IsVisited count to (idle + 1) m → (m ≡ at) ⊎ IsVisited count at idle m
+visited_before count at idle to m u less i (inl (p, q)) (inl (l, e)) = elim (eqb_tells m at) [
+  | inl y ↦ inl y.1
+  | inr y ↦ let n = y.1 in inr (inl (omega arith, omega arith))
+]
+visited_before count at idle to m u less i (inl (p, q)) (inr (l, e)) = inr (inr (omega arith, omega arith))
+visited_before count at idle to m u less i (inr (p, q)) (inl (l, e)) = absurd (omega arith)
+visited_before count at idle to m u less i (inr (p, q)) (inr (l, e)) =
+    elim (eqb_tells m at) [ inl y ↦ inl y.1 | inr y ↦ let n = y.1 in inr (inl (omega arith, omega arith)) ]
+
+-- where all were visited, each was
+pub all_visited : (count at idle n : ℕ) → (0 < count → at < count) → count ≤ idle → n < count → IsVisited count at idle n
+all_visited count at idle n inside l u = elim (cases_lt n at) [
+  | inl q ↦ inl (q, let v = inside (omega arith) in omega arith)
+  | inr q ↦ inr (q, omega arith)
+]
+
+-- behind an action at a module, or a jump, none was
+pub none_visited : (count at m : ℕ) → (0 < count → at < count) → m < count → IsVisited count at 0 m → ⊥
+none_visited count at m inside i (inl (l, e)) = absurd (omega arith)
+none_visited count at m inside i (inr (l, e)) = let u = inside (omega arith) in absurd (omega arith)
+
 -- ---- a round
 
 pub begun : (v : CoreView) (ticks count : ℕ) → IsAgreed (design v.plan) (lockstep_run v.plan) v.plan.cycles (theory_of v)
@@ -145,19 +207,12 @@ begun v ticks count agreed fits own counted = record {
   counted = counted;
   within = omega arith;
   inside = λ l. l;
-  none_left = λ m l visited. absurd (no_visit m l visited);
+  none_left = λ m l visited. absurd (none_visited count 0 m (λ l. l) l visited);
 }
-  where
-    no_visit : (m : ℕ) → m < count → IsVisited count 0 0 m → ⊥
-    no_visit m i (inl (l, u)) = absurd (omega arith)
-    no_visit m i (inr (l, u)) = absurd (omega arith)
 
 module _ (first now next : CoreView) (before ticks later count at idle : ℕ) (r : IsGoingRound first now before ticks count at idle) where
   pub agreed_now : IsAgreed (design now.plan) (lockstep_run now.plan) now.plan.cycles (theory_of now)
-  agreed_now =
-      subst (λ (q : Plan). IsAgreed (design q) (lockstep_run q) q.cycles (theory_of now)) (sym r.goes.plan)
-      (all_agree (design first.plan) (lockstep_run first.plan) (plan_is_design first.plan r.fits) (run_is_history first.plan r.fits)
-      first.plan.cycles (theory_of first) r.agreed r.goes.actions (theory_of now) r.goes.all)
+  agreed_now = goes_agreed first now before ticks r.agreed r.fits r.goes
 
   fits_now : FitsEngine now.plan
   fits_now = subst FitsEngine (sym r.goes.plan) r.fits
@@ -173,12 +228,8 @@ module _ (first now next : CoreView) (before ticks later count at idle : ℕ) (r
     counted = r.counted ∙ ap (λ (q : Plan). length q.design.modules) (sym o.goes.plan);
     within = omega arith;
     inside = u;
-    none_left = λ m l visited. absurd (no_visit m l visited);
+    none_left = λ m l visited. absurd (none_visited count to m u l visited);
   }
-    where
-      no_visit : (m : ℕ) → m < count → IsVisited count to 0 m → ⊥
-      no_visit m i (inl (l, e)) = absurd (omega arith)
-      no_visit m i (inr (l, e)) = let e' = u (omega arith) in absurd (omega arith)
 
   -- nothing was done, and another module is next
   pub jumped : next ≡ now → later ≡ ticks → (to : ℕ) → to < count → IsGoingRound first next before later count to 0
@@ -191,30 +242,11 @@ module _ (first now next : CoreView) (before ticks later count at idle : ℕ) (r
         counted = r.counted;
         within = omega arith;
         inside = λ l. u;
-        none_left = λ m l visited. absurd (no_visit m l visited);
+        none_left = λ m i visited. absurd (none_visited count to m (λ l. u) i visited);
       })
-    where
-      no_visit : (m : ℕ) → m < count → IsVisited count to 0 m → ⊥
-      no_visit m i (inl (l, e)) = absurd (omega arith)
-      no_visit m i (inr (l, e)) = absurd (omega arith)
-
-  abbrev pub IsNextOf : ℕ → Type 0
-  IsNextOf to = ((at + 1 < count) × (to ≡ at + 1)) ⊎ ((count ≤ at + 1) × (to ≡ 0))
-
-  visit : idle < count → (to m : ℕ) → m < count → IsNextOf to → IsVisited count to (idle + 1) m → (m ≡ at) ⊎ IsVisited count at idle m
-  visit less to m i (inl (l, e)) (inl (p, q)) = elim (eqb_tells m at) [
-    | inl y ↦ inl y.1
-    | inr y ↦ let n = y.1 in inr
-        (inl (omega arith, omega arith))
-  ]
-  visit less to m i (inl (l, e)) (inr (p, q)) = inr (inr (omega arith, omega arith))
-  visit less to m i (inr (l, e)) (inl (p, q)) = absurd (omega arith)
-  visit less to m i (inr (l, e)) (inr (p, q)) =
-      let u = r.inside (omega arith) in
-      elim (eqb_tells m at) [ inl y ↦ inl y.1 | inr y ↦ let n = y.1 in inr (inl (omega arith, omega arith)) ]
 
   -- nothing was done at the module whose turn it was
-  pub stayed : idle < count → next ≡ now → later ≡ ticks → IsStill now at → (to : ℕ) → IsNextOf to
+  pub stayed : idle < count → next ≡ now → later ≡ ticks → IsStill now at → (to : ℕ) → IsNextOf count at to
       → IsGoingRound first next before later count to (idle + 1)
   stayed less same ticked none to t =
       subst (λ (w : CoreView). IsGoingRound first w before later count to (idle + 1)) (sym same) (record {
@@ -224,14 +256,10 @@ module _ (first now next : CoreView) (before ticks later count at idle : ℕ) (r
         own = r.own;
         counted = r.counted;
         within = omega arith;
-        inside = λ z. below t;
-        none_left = λ m l visited. left_of m (visit less to m l t visited) l;
+        inside = λ z. next_inside count at to (r.inside z) t;
+        none_left = λ m l visited. left_of m (visited_before count at idle to m (r.inside (omega arith)) less l t visited) l;
       })
     where
-      below : IsNextOf to → to < count
-      below (inl (l, e)) = omega arith
-      below (inr (l, e)) = omega arith
-
       left_of : (m : ℕ) → (m ≡ at) ⊎ IsVisited count at idle m → m < count → IsStill now m
       left_of m (inl e) l = subst (IsStill now) (sym e) none
       left_of m (inr v) l = r.none_left m l v
@@ -245,10 +273,7 @@ module _ (first now next : CoreView) (before ticks later count at idle : ℕ) (r
   }
     where
       still : (n : ℕ) → n < count → IsStill now n
-      still n u = elim (cases_lt n at) [
-        | inl q ↦ let v = r.inside (omega arith) in r.none_left n u (inl (q, omega arith))
-        | inr q ↦ r.none_left n u (inr (q, omega arith))
-      ]
+      still n u = r.none_left n u (all_visited count at idle n r.inside l u)
 
       there : (n c : ℕ) → candidate (design now.plan) (view (design now.plan) (theory_of now)) n ≡ Some c → n < count
       there n c e =
@@ -261,23 +286,11 @@ module _ (first now next : CoreView) (before ticks later count at idle : ℕ) (r
           ]
 
   -- where no outcome is assumed, none is found to be another
-  pub verified_now : AllVerified (theory_of first) → AllVerified (theory_of now)
-  verified_now f =
-      (all_rise (design first.plan) (lockstep_run first.plan) (plan_is_design first.plan r.fits) (run_is_history first.plan r.fits)
-      first.plan.cycles (theory_of first) r.agreed f r.goes.actions (theory_of now) r.goes.all).2
-
-  never_other : AllVerified (theory_of first) → (m c : ℕ) (q : Query) → IsFoundOther (design now.plan) now.held m c q
-      → candidate (design now.plan) (view (design now.plan) (theory_of now)) m ≡ Some c
-      → (theory_of now).verified m ((theory_of now).timed m) ≡ false → ⊥
-  never_other f m c q o e u =
-      o.other.differs (ap (λ fs. slice_get fs o.other.place) (never_found (design now.plan) (theory_of now) (verified_now f) m c e u
-      o.recorded))
-
   pub never_differs : AllVerified (theory_of first) → (m : ℕ) (q : Query) → IsDifferent (design now.plan) now.plan.cycles now.held m q → ⊥
-  never_differs f m q o = never_other f m o.cycle q o.found o.may.determined.at o.may.open_query
+  never_differs f = none_differs now (goes_verified first now before ticks r.agreed r.fits r.goes f)
 
   pub never_least : AllVerified (theory_of first) → (m : ℕ) (q : Query) → IsEarliestOther now m q → ⊥
-  never_least f m q o = never_other f m o.cycle q o.found o.may.open_step.determined.at o.may.open_step.open_query
+  never_least f = no_least_differs now (goes_verified first now before ticks r.agreed r.fits r.goes f)
 
 -- ---- it ends
 
@@ -289,7 +302,7 @@ to_do v = length v.plan.design.modules * (3 * v.plan.ops + 1) - work (design v.p
 abbrev pub still_to_do : CoreView → ℕ → ℕ → ℕ → ℕ
 still_to_do v count idle hints = to_do v * (2 ^ 64 * (count + 1)) + (hints * (count + 1) + (count - idle))
 
-falls : (a b most x y : ℕ) → a + 1 ≤ b → x < most → a * most + x < b * most + y
+pub falls : (a b most x y : ℕ) → a + 1 ≤ b → x < most → a * most + x < b * most + y
 falls a b most x y l u = let m : (a + 1) * most ≤ b * most = mul-le-mul_right most l in omega arith
 
 few : (h n : ℕ) → h < 2 ^ 64 → h * (n + 1) + (n - 0) < 2 ^ 64 * (n + 1)
@@ -298,25 +311,27 @@ few h n l = let m : (h + 1) * (n + 1) ≤ 2 ^ 64 * (n + 1) = mul-le-mul_right (n
 fewer : (h g n idle : ℕ) → h < g → h * (n + 1) + (n - 0) < g * (n + 1) + (n - idle)
 fewer h g n idle l = let m : (h + 1) * (n + 1) ≤ g * (n + 1) = mul-le-mul_right (n + 1) (omega arith) in omega arith
 
+pub to_do_less : (now next : CoreView) (ticks later : ℕ) → GoesOn now ticks next later
+    → IsAgreed (design next.plan) (lockstep_run next.plan) next.plan.cycles (theory_of next) → FitsEngine next.plan
+    → to_do next + 1 ≤ to_do now
+to_do_less now next ticks later o agreed fits =
+    let most = most_work (design next.plan) (lockstep_run next.plan) next.plan.cycles (theory_of next) agreed next.plan.ops
+    (plan_is_bounded next.plan fits) in
+    let e = o.goes.plan in
+    let rise : work (design now.plan) (theory_of now) < work (design next.plan) (theory_of next) = subst
+    (λ (q : Plan). work (design now.plan) (theory_of now) < work (design q) (theory_of next)) (sym e) o.risen in
+    let same : length next.plan.design.modules * (3 * next.plan.ops + 1) ≡ length now.plan.design.modules *
+    (3 * now.plan.ops + 1) = ap (λ (q : Plan). length q.design.modules * (3 * q.ops + 1)) e in
+    omega arith
+
 module _ (first now next : CoreView) (before ticks later count at idle : ℕ) (r : IsGoingRound first now before ticks count at idle)
     (hints other : ℕ) where
   pub went_on : GoesOn now ticks next later → other < 2 ^ 64 → still_to_do next count 0 other < still_to_do now count idle hints
   went_on o l =
       let agreed : IsAgreed (design next.plan) (lockstep_run next.plan) next.plan.cycles (theory_of next) =
       agreed_now first next next before later later count at 0 (went first now next before ticks later count at idle r o at r.inside) in
-      let most = most_work (design next.plan) (lockstep_run next.plan) next.plan.cycles (theory_of next) agreed next.plan.ops
-      (plan_is_bounded next.plan (subst FitsEngine (sym (o.goes.plan ∙ r.goes.plan)) r.fits)) in
-      falls (to_do next) (to_do now) (2 ^ 64 * (count + 1)) _ _ (less o.goes.plan o.risen most) (few other count l)
-    where
-      less : next.plan ≡ now.plan → work (design now.plan) (theory_of now) < work (design now.plan) (theory_of next)
-          → work (design next.plan) (theory_of next) ≤ length next.plan.design.modules * (3 * next.plan.ops + 1)
-          → to_do next + 1 ≤ to_do now
-      less e u most =
-          let rise : work (design now.plan) (theory_of now) < work (design next.plan) (theory_of next) = subst
-          (λ (q : Plan). work (design now.plan) (theory_of now) < work (design q) (theory_of next)) (sym e) u in
-          let same : length next.plan.design.modules * (3 * next.plan.ops + 1) ≡ length now.plan.design.modules *
-          (3 * now.plan.ops + 1) = ap (λ (q : Plan). length q.design.modules * (3 * q.ops + 1)) e in
-          omega arith
+      falls (to_do next) (to_do now) (2 ^ 64 * (count + 1)) _ _
+      (to_do_less now next ticks later o agreed (subst FitsEngine (sym (o.goes.plan ∙ r.goes.plan)) r.fits)) (few other count l)
 
   pub jumped_on : next ≡ now → other < hints → still_to_do next count 0 other < still_to_do now count idle hints
   jumped_on e l =
@@ -333,11 +348,3 @@ module _ (first now next : CoreView) (before ticks later count at idle : ℕ) (r
     where
       add : (a b : ℕ) → a + (b + (count - (idle + 1))) < a + (b + (count - idle))
       add a b = omega arith
-
--- ---- where no outcome is assumed
-
-pub goes_verified : (v w : CoreView) (before after : ℕ) → IsAgreed (design v.plan) (lockstep_run v.plan) v.plan.cycles (theory_of v)
-    → FitsEngine v.plan → Goes v before w after → AllVerified (theory_of v) → AllVerified (theory_of w)
-goes_verified v w before after agreed fits g f =
-    (all_rise (design v.plan) (lockstep_run v.plan) (plan_is_design v.plan fits) (run_is_history v.plan fits) v.plan.cycles (theory_of v)
-    agreed f g.actions (theory_of w) g.all).2

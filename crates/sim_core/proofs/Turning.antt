@@ -192,8 +192,20 @@ module _ (p : Plan) (s t : Stored) (ends : List (Option Advance)) (runs : List (
       pub final_if : ((m : ℕ) (c : Candidate) → m < length candidates → cycle_of (get_or candidates m c) ≡ None) → IsFinal d p.cycles x
       final_if none = record { quiet = quiet; no_earliest = λ n e may. none_open none n e may.open_step }
 
+      there : (cs : List Candidate) (n e : ℕ) → n < length cs → get_or cs n Nothing ≡ At e → slice_get cs n ≡ Some (At e)
+      there [] n e l q = absurd (omega arith)
+      there (a ∷ cs) zero e l q = ap Some q
+      there (a ∷ cs) (suc n) e l q = there cs n e (omega arith) q
+
+      -- the candidate of an open step
+      open_there : (n e : ℕ) → IsOpen d p.cycles x n e → slice_get candidates n ≡ Some (At e)
+      open_there n e o =
+          let inside = emitted_there n e o.determined.at in
+          there candidates n e (omega arith)
+          ((all n e inside).1 (candidate_is d is_design h k.sound n ∙ o.determined.at, o.determined.below))
+
       module _ (m c : ℕ) (first : IsEarliest candidates m c) where
-        pub least_inside : m < length h.lanes
+        least_inside : m < length h.lanes
         least_inside =
             elim (cases_lt m (length candidates)) [
               | inl l ↦ omega arith
@@ -212,53 +224,53 @@ module _ (p : Plan) (s t : Stored) (ends : List (Option Advance)) (runs : List (
         least_may = record {
           open_step = open_at m c here_is.0 here_is.1;
           quiet = quiet;
-          least = λ n e o.
-              let inside = emitted_there n e o.determined.at in
-              let at : get_or candidates n Nothing ≡ At e = (all n e inside).1
-              (candidate_is d is_design h k.sound n ∙ o.determined.at, o.determined.below) in
-              first.least n e (there candidates n e (omega arith) at);
+          least = λ n e o. first.least n e (open_there n e o);
         }
-          where
-            there : (cs : List Candidate) (n e : ℕ) → n < length cs → get_or cs n Nothing ≡ At e → slice_get cs n ≡ Some (At e)
-            there [] n e l q = absurd (omega arith)
-            there (a ∷ cs) zero e l q = ap Some q
-            there (a ∷ cs) (suc n) e l q = there cs n e (omega arith) q
 
-        pub least_unsure : HasUnsure (held_in s []) m
-        least_unsure =
-            let emitted = first_emitted d x m c here_is.0 in
-            record {
-              inside = least_inside;
-              there = emitted;
-              unsure = among_false (ltb (first_of h m) (emitted_of h m)) (are_among (step_of h m (first_of h m)) (log_at h.logs m).verified)
-                  (lt-ltb (first_of h m) (emitted_of h m) emitted)
-                  (least_may.open_step.open_query);
-            }
-          where
-            among_false : (a b : Bool) → a ≡ true → (a && b) ≡ false → b ≡ false
-            among_false true b e f = f
-            among_false false b e f = cc
+        pub least_first : (n : ℕ) → n < m → (e : ℕ) → MayEarliest d p.cycles x n e → ⊥
+        least_first n l e may =
+            let most = may.least m c least_may.open_step in
+            let same : e ≡ c = let least = least_may.least n e may.open_step in omega arith in
+            let m' = first.first n (subst (λ (q : ℕ). slice_get candidates n ≡ Some (At q)) same (open_there n e may.open_step)) in
+            omega arith
 
-        pub core_answered : (g : Guard) → HasAnswered g m c s t → KeepsRoom s t → kinds_in t.table.channels ≡ kinds_in s.table.channels
-            → IsCore p t ends runs credits
-        core_answered guard.Same done room kinds =
-            let a = done d over is_design kept in
-            core_acted p s t ends ends runs credits credits k (Earliest m) (c, least_may, inl (a.same, a.now.core)) a.now.kept.sound kinds
-            refl (room credits d over is_design kept k.room) (λ n run e. tt) (λ n mark e. inl e)
-        core_answered (guard.Differs q) (e, f) room kinds = same_core e
+  -- ---- the answer to an open step
 
-        pub least_answered : (g : Guard) (lent : List Bool) → HasAnswered g m c s t
-            → HasAnsweredLeast (Some (m, g)) (seen s lent) (seen t lent)
-        least_answered guard.Same lent done =
-            let a = done d over is_design kept in (
-              (c, least_may, inl (a.same, a.now.core)),
-              λ e.
-                  let now : x.verified m (x.timed m) ≡ true = ap (λ (q : Core ModuleState). q.verified m (x.timed m)) (sym e ∙ a.now.core)
-                  ∙ put_at_same x.verified m (x.timed m) true in
-                  both_ways _ least_may.open_step.open_query now,
-            )
-        least_answered (guard.Differs q) lent (e, f) =
-            (ap (λ (u : Stored). seen u lent) e, record { cycle = c; may = least_may; found = f d over is_design kept })
+  module _ (m c : ℕ) (may : MayEarliest d p.cycles x m c) where
+    emitted : first_of h m < emitted_of h m
+    emitted = first_emitted d x m c may.open_step.determined.at
+
+    pub open_unsure : HasUnsure (held_in s []) m
+    open_unsure = record {
+      inside = emitted_there m c may.open_step.determined.at;
+      there = emitted;
+      unsure = among_false (ltb (first_of h m) (emitted_of h m)) (are_among (step_of h m (first_of h m)) (log_at h.logs m).verified)
+          (lt-ltb (first_of h m) (emitted_of h m) emitted) may.open_step.open_query;
+    }
+      where
+        among_false : (a b : Bool) → a ≡ true → (a && b) ≡ false → b ≡ false
+        among_false true b e f = f
+        among_false false b e f = cc
+
+    pub core_answered : (g : Guard) → HasAnswered g m c s t → KeepsRoom s t → kinds_in t.table.channels ≡ kinds_in s.table.channels
+        → IsCore p t ends runs credits
+    core_answered guard.Same done room kinds =
+        let a = done d over is_design kept in
+        core_acted p s t ends ends runs credits credits k (Earliest m) (c, may, inl (a.same, a.now.core)) a.now.kept.sound kinds
+        refl (room credits d over is_design kept k.room) (λ n run e. tt) (λ n mark e. inl e)
+    core_answered (guard.Differs q) (e, f) room kinds = same_core e
+
+    pub open_answered : (g : Guard) (lent : List Bool) → HasAnswered g m c s t → HasAnsweredLeast (Some (m, g)) (seen s lent) (seen t lent)
+    open_answered guard.Same lent done =
+        let a = done d over is_design kept in (
+          (c, may, inl (a.same, a.now.core)),
+          λ e.
+              let now : x.verified m (x.timed m) ≡ true = ap (λ (q : Core ModuleState). q.verified m (x.timed m)) (sym e ∙ a.now.core)
+              ∙ put_at_same x.verified m (x.timed m) true in
+              both_ways _ may.open_step.open_query now,
+        )
+    open_answered (guard.Differs q) lent (e, f) =
+        (ap (λ (u : Stored). seen u lent) e, record { cycle = c; may = may; found = f d over is_design kept })
 
 -- ---- the list of candidates
 

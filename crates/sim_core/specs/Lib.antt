@@ -6,6 +6,7 @@ pub mod Found
 pub mod Candidates
 pub mod Turns
 pub mod Drives
+pub mod Timings
 pub mod Edits
 pub mod Records
 pub mod Tasks
@@ -14,3 +15,4 @@ pub mod Lent
 pub mod Returned
 pub mod Causes
 pub mod Missing
+pub mod Acted

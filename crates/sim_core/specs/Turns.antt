@@ -1,5 +1,5 @@
 -- What the actions at a module, and those of all modules, leave of a core.
-use Rattle.std.specs.Prelude.{◌≡◌, ℕ, Option, None, Some}
+use Rattle.std.specs.Prelude.{◌≡◌, ℕ, ◌<◌, Option, None, Some}
 use Rattle.query_log.specs.declared.query.Query.{Query}
 use Rattle.outcome_guard.specs.declared.guard.Guard.{Guard}
 use Rattle.outcome_guard.specs.declared.guard.Guard.TheVariants as guard
@@ -28,6 +28,10 @@ pub record IsEarliestOther (v : CoreView) (m : ℕ) (q : Query) : Type 0 where
   pub cycle : ℕ
   pub may : MayEarliest (design v.plan) v.plan.cycles (theory_of v) m cycle
   pub found : IsFoundOther (design v.plan) v.held m cycle q
+
+-- none is permitted of a module before it
+abbrev pub IsFirstEarliest : CoreView → ℕ → Type 0
+IsFirstEarliest v m = (k : ℕ) → k < m → (c : ℕ) → MayEarliest (design v.plan) v.plan.cycles (theory_of v) k c → ⊥
 
 -- the first of the least open steps was answered, where there is one
 abbrev pub HasAnsweredLeast : Option (ℕ × Guard) → CoreView → CoreView → Type 0

@@ -1,5 +1,7 @@
 //! The single actions of a core, and why one is not permitted.
 use event_graph::Place;
+use flow_word::OutOfMemory;
+use thiserror::Error;
 
 /// One action of a core, at the module of this number.
 #[derive(Clone, Copy, Debug, PartialEq, Eq)]
@@ -40,4 +42,37 @@ pub enum Cause {
     Busy(u32),
     /// For Earliest: the open step of this module has this cycle, in clocks, which is less.
     Later(u32, u64),
+}
+
+/// Why an action was not done.
+#[derive(Clone, Copy, Debug, PartialEq, Eq, Error)]
+pub enum ActFault {
+    /// It is not permitted: this is the first of its conditions that fails.
+    #[error("the action is not permitted")]
+    NotPermitted(Cause),
+    /// There was no memory.
+    #[error("out of memory")]
+    OutOfMemory,
+}
+
+impl From<Cause> for ActFault {
+    ghost use Rattle.std.specs.Prelude.{◌≡◌};
+    ghost use Rattle.sim_core.specs.declared.actions.ActFault.TheVariants.{NotPermitted};
+
+    ghost from_gives = { λ cause fault. fault ≡ NotPermitted cause };
+
+    fn from(cause: Cause) -> Self {
+        ActFault::NotPermitted(cause)
+    }
+}
+
+impl From<OutOfMemory> for ActFault {
+    ghost use Rattle.std.specs.Prelude.{◌≡◌};
+    ghost use Rattle.sim_core.specs.declared.actions.ActFault.TheVariants.{OutOfMemory};
+
+    ghost from_gives = { λ _ fault. fault ≡ OutOfMemory };
+
+    fn from(_: OutOfMemory) -> Self {
+        ActFault::OutOfMemory
+    }
 }

@@ -1,6 +1,6 @@
 //! All that is left to do.
 ghost use Rattle.std.specs.Prelude.{◌≡◌, ◌≢◌, ℕ, ◌<◌, true, false, length, slice_index_or, IfOk, OnErr};
-ghost use Rattle.event_timing.specs.Actions.{IsFinal};
+ghost use Rattle.event_timing.specs.Actions.{IsFinal, MayRun};
 ghost use Rattle.event_timing.specs.Agreement.{AllVerified};
 ghost use Rattle.timing_bridge.specs.Designs.{design};
 ghost use Rattle.sim_core.specs.Views.{theory_of};
@@ -16,11 +16,12 @@ impl Core {
     /// Does all that is permitted, until the core is final or the outcome of a query is not as it was assumed. No run is lent.
     ///
     /// It visits the modules of which something may have changed, and goes round all where there is none such. An Earliest comes only
-    /// where a whole round found nothing. After want of memory, which comes only from a Run, the actions so far stay.
+    /// where a whole round found nothing. After want of memory the actions so far stay, and a Run is permitted, of which it comes.
     pub fn drive<L: Ledger>(&mut self, steps: &mut Steps<L>) -> Result<Guard, OutOfMemory>
         requires { (m : ℕ) → m < length self.old.plan.design.modules → slice_index_or self.old.lent m true ≡ false }
         ensures goes { Goes self.old steps.old self.new steps.new }
         ensures ended { IfOk result (λ guard. HasDriven guard self.new) }
+        ensures no_memory { OnErr result ((m : ℕ) × MayRun (design self.new.plan) (theory_of self.new) m) }
         ensures same { AllVerified (theory_of self.old) → IfOk result (λ guard. guard ≡ Guard.Same) }
     {
         let count = self.modules();

@@ -1,6 +1,7 @@
 //! The core of the engine: a plan with the marks, cycles and outcomes of its modules so far, and the actions on it.
 #![tactic(auto)]
 
+mod act;
 mod actions;
 mod alone;
 mod back;
@@ -18,10 +19,11 @@ mod records;
 mod replies;
 mod report;
 mod running;
+mod timing;
 mod turn;
 mod visit;
 
-pub use actions::{Action, Cause};
+pub use actions::{ActFault, Action, Cause};
 pub use alone::run_alone;
 pub use bursts::bursts_are_runs;
 pub use flow_design::Plan;

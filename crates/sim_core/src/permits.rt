@@ -144,7 +144,7 @@ impl Core {
     }
 
     /// The cycle of a module's first step without one, where it is determined and below the limit.
-    fn next_cycle(&self, owner: u32) -> Result<u64, Cause>
+    pub(crate) fn next_cycle(&self, owner: u32) -> Result<u64, Cause>
         requires { owner < length self.now.plan.design.modules }
         ensures determined { IfOk result (λ cycle.
             IsDetermined (design self.now.plan) self.now.plan.cycles (theory_of self.now) owner cycle) }

@@ -4,7 +4,7 @@ ghost use Rattle.flow_design.specs.declared.plan.Edit.{Edit};
 ghost use Rattle.lockstep_defs.specs.Report.{report};
 ghost use Rattle.query_log.specs.Logs.{log_at};
 ghost use Rattle.query_log.specs.declared.query.Query.{Query};
-ghost use Rattle.event_timing.specs.Actions.{IsFinal};
+ghost use Rattle.event_timing.specs.Actions.{IsFinal, MayRun};
 ghost use Rattle.event_timing.specs.Agreement.{AllVerified};
 ghost use Rattle.timing_bridge.specs.Designs.{design};
 ghost use Rattle.retime.specs.Edits.{OutcomesGrow};
@@ -13,7 +13,8 @@ ghost use Rattle.sim_core.specs.Drives.{IsDiffering};
 ghost use Rattle.sim_core.specs.Records.{IsSoundCore, IsEditedOn, HasOtherAnswer, recorded_in, verified_in};
 
 /// The answers of the report are the verified outcomes of a final core, which are all that it holds where none is assumed. While a
-/// core is edited and driven, the outcomes that it holds of a module only grow, and either none is added or all are verified. A query
+/// core is edited and driven, the outcomes that it holds of a module only grow, and either none is added or all are verified. Where none
+/// is added to any module's, no Run is permitted, so that driving wants no memory. A query
 /// that is found to be another has another answer in the report than the one that was recorded before the edit.
 pub fn records_are_answers()
     ensures answers { (v : CoreView) → IsSoundCore v → IsFinal (design v.plan) v.plan.cycles (theory_of v)
@@ -21,6 +22,9 @@ pub fn records_are_answers()
     ensures verified { (v : CoreView) → IsSoundCore v → AllVerified (theory_of v) → verified_in v.held.logs ≡ recorded_in v.held.logs }
     ensures grow { (v : CoreView) (e : Edit) (w : CoreView) → IsEditedOn v e w → (m : ℕ) → m < length v.held.logs
         → OutcomesGrow (log_at v.held.logs m) (log_at w.held.logs m) }
+    ensures repeats { (v : CoreView) (e : Edit) (w : CoreView) → IsEditedOn v e w
+        → ((m : ℕ) → m < length v.held.logs → (log_at w.held.logs m).outcomes ≡ (log_at v.held.logs m).outcomes)
+        → (m : ℕ) → MayRun (design w.plan) (theory_of w) m → ⊥ }
     ensures differ { (v : CoreView) (e : Edit) (w : CoreView) → IsEditedOn v e w → (q : Query) → IsDiffering w q
         → HasOtherAnswer v.held.logs w.plan }
 {}

@@ -1,5 +1,5 @@
 //! The report of a final core.
-ghost use Rattle.std.specs.Prelude.{◌≡◌, IfOk};
+ghost use Rattle.std.specs.Prelude.{◌≡◌, IfOk, IfSome, IsNone, OnErr, OnSome};
 ghost use Rattle.event_timing.specs.Actions.{IsFinal};
 ghost use Rattle.timing_bridge.specs.Designs.{design};
 ghost use Rattle.engine_report.specs.Finished.{report_with};
@@ -28,5 +28,25 @@ impl Core {
             &self.ends,
             with_events,
         )
+    }
+
+    /// The same of a core that is final. None where an action is permitted.
+    ///
+    /// It takes memory for the report, and for one key of each step where the events are asked for. An error leaves nothing.
+    pub fn final_report(
+        &self,
+        alloc: Global,
+        with_events: bool,
+    ) -> Result<Option<Report>, OutOfMemory>
+        ensures report { IfOk result (λ found. IfSome found (λ report. report ≡ report_with with_events self.now.plan)) }
+        ensures some { IfOk result (λ found. OnSome found (IsFinal (design self.now.plan) self.now.plan.cycles (theory_of self.now))) }
+        ensures none { IfOk result (λ found. IsNone found → IsFinal (design self.now.plan) self.now.plan.cycles (theory_of self.now) → ⊥) }
+        ensures no_memory { OnErr result (IsFinal (design self.now.plan) self.now.plan.cycles (theory_of self.now)) }
+    {
+        if !self.is_final() {
+            return Ok(None);
+        }
+        let report = self.report(alloc, with_events)?;
+        Ok(Some(report))
     }
 }

@@ -7,6 +7,7 @@ ghost use Rattle.module_interp.specs.Runs.{waits};
 ghost use Rattle.sim_core.specs.Views.{theory_of};
 ghost use Rattle.sim_core.specs.Runs.{IsRunOf};
 
+use crate::actions::Action;
 use crate::machine::Core;
 use crate::replies::find_replies;
 use engine_view::{emit_step, make_room};
@@ -17,8 +18,30 @@ use module_interp::{Advance, ModuleRun, gaps_are_short};
 
 impl Core {
     /// Commits the replies to a module's newest step, and emits its next mark, where that is permitted. The module's run is
-    /// not lent. Whether it was permitted; where it was not, and after want of memory, nothing changed.
+    /// not lent. Whether it was permitted; where it was not, and after want of memory, nothing changed. Memory is wanted only where
+    /// it is permitted.
     pub(crate) fn run(&mut self, owner: u32) -> Result<bool, OutOfMemory>
+        requires owner { owner < length self.old.plan.design.modules }
+        requires here { slice_index_or self.old.lent owner true ≡ false }
+        ensures acts { IfOk result (λ ran. ran ≡ true → Acts (design self.old.plan) self.old.plan.cycles (theory_of self.old) (Run owner)
+            (theory_of self.new)) }
+        ensures not_permitted { IfOk result (λ ran. ran ≡ false → MayRun (design self.old.plan) (theory_of self.old) owner → ⊥) }
+        ensures unchanged { IfOk result (λ ran. ran ≡ false → self.new ≡ self.old) }
+        ensures no_memory { OnErr result (self.new ≡ self.old) }
+        ensures permitted { OnErr result (MayRun (design self.old.plan) (theory_of self.old) owner) }
+        ensures plan { self.new.plan ≡ self.old.plan }
+        ensures lent { self.new.lent ≡ self.old.lent }
+    {
+        let ran = self.try_run(owner);
+        if ran.is_err() && self.permits(Action::Run(owner)).is_err() {
+            // The list of replies wanted memory, though not all of them are there.
+            return Ok(false);
+        }
+        ran
+    }
+
+    /// The same, but memory may be wanted where it is not permitted too.
+    fn try_run(&mut self, owner: u32) -> Result<bool, OutOfMemory>
         requires owner { owner < length self.old.plan.design.modules }
         requires here { slice_index_or self.old.lent owner true ≡ false }
         ensures acts { IfOk result (λ ran. ran ≡ true → Acts (design self.old.plan) self.old.plan.cycles (theory_of self.old) (Run owner)

@@ -1,12 +1,12 @@
 //! The cycles of the modules' steps, and the answers to their queries.
-ghost use Rattle.std.specs.Prelude.{◌≡◌, ◌≢◌, ◌↔◌, ℕ, ◌+◌, ◌<◌, ◌≤◌, length, slice_index_or};
+ghost use Rattle.std.specs.Prelude.{◌≡◌, ◌≢◌, ◌↔◌, ℕ, ◌+◌, ◌<◌, ◌≤◌, length, slice_index_or, IfSome, Some};
 ghost use Rattle.event_graph.specs.Lanes.{cycle_bound};
 ghost use Rattle.time_engine.specs.Conditions.{HasAccesses, HasPlaces};
-ghost use Rattle.event_timing.specs.Actions.{IsQuiet};
+ghost use Rattle.event_timing.specs.Actions.{IsQuiet, MayEarliest};
 ghost use Rattle.engine_view.specs.Turns.{ticks_of};
 ghost use Rattle.timing_bridge.specs.Designs.{design};
 ghost use Rattle.sim_core.specs.Views.{theory_of};
-ghost use Rattle.sim_core.specs.Turns.{HasTurned, HasAnsweredLeast};
+ghost use Rattle.sim_core.specs.Turns.{HasTurned, HasAnsweredLeast, IsFirstEarliest};
 ghost use Rattle.sim_core.specs.Candidates.{AreCandidates};
 
 use crate::machine::Core;
@@ -45,6 +45,7 @@ impl Core {
     pub(crate) fn answer_least(&mut self) -> Option<(u32, Guard)>
         requires { IsQuiet (design self.old.plan) self.old.plan.cycles (theory_of self.old) }
         ensures done { HasAnsweredLeast result self.old self.new }
+        ensures first { IfSome result (λ least. IsFirstEarliest self.old least.0) }
         ensures plan { self.new.plan ≡ self.old.plan }
         ensures lent { self.new.lent ≡ self.old.lent }
     {
@@ -52,11 +53,19 @@ impl Core {
         list_candidates(&self.graph, &self.fifos, limit, &mut self.candidates);
         match earliest(&self.candidates) {
             None => None,
-            Some((owner, cycle)) => {
-                let guard = answer_first(&self.graph, &mut self.fifos, &mut self.log, owner, cycle);
-                Some((owner, guard))
-            }
+            Some((owner, cycle)) => Some((owner, self.answer_open(owner, cycle))),
         }
+    }
+
+    /// Answers the queries of a module's first step without a cycle in this clock, where an Earliest is permitted. It takes no
+    /// memory.
+    pub(crate) fn answer_open(&mut self, owner: u32, cycle: u64) -> Guard
+        requires { MayEarliest (design self.old.plan) self.old.plan.cycles (theory_of self.old) owner cycle }
+        ensures done { HasAnsweredLeast (Some (owner, result)) self.old self.new }
+        ensures plan { self.new.plan ≡ self.old.plan }
+        ensures lent { self.new.lent ≡ self.old.lent }
+    {
+        answer_first(&self.graph, &mut self.fifos, &mut self.log, owner, cycle)
     }
 }
 

@@ -38,6 +38,7 @@ impl Core {
         requires here { slice_index_or self.old.lent owner true ≡ false }
         ensures visited { IfOk result (λ visit. HasVisited visit self.old steps.old owner self.new steps.new) }
         ensures no_memory { OnErr result (Goes self.old steps.old self.new steps.new) }
+        ensures permitted { OnErr result (MayRun (design self.new.plan) (theory_of self.new) owner) }
     {
         match self.run_on(owner)? {
             None => Ok(self.time_on(owner, steps)),
@@ -56,6 +57,7 @@ impl Core {
         ensures unchanged { IfOk result (λ woken. IsNone woken → self.new ≡ self.old) }
         ensures none { IfOk result (λ woken. IsNone woken → MayRun (design self.old.plan) (theory_of self.old) owner → ⊥) }
         ensures no_memory { OnErr result ((n : ℕ) → Goes self.old n self.new n) }
+        ensures permitted { OnErr result (MayRun (design self.new.plan) (theory_of self.new) owner) }
     {
         let Some(mut woken) = self.run_once(owner)? else {
             return Ok(None);
@@ -77,6 +79,7 @@ impl Core {
         ensures unchanged { IfOk result (λ woken. IsNone woken → self.new ≡ self.old) }
         ensures none { IfOk result (λ woken. IsNone woken → MayRun (design self.old.plan) (theory_of self.old) owner → ⊥) }
         ensures no_memory { OnErr result (self.new ≡ self.old) }
+        ensures permitted { OnErr result (MayRun (design self.new.plan) (theory_of self.new) owner) }
     {
         // The core agrees with its plan.
         let _count = self.modules();

@@ -1,5 +1,6 @@
 pub mod Rounds
 pub mod Timings
+pub mod Onward
 pub mod Turning
 pub mod Lending
 pub mod Legal

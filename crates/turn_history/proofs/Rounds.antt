@@ -1,7 +1,7 @@
 -- What the first of a round is.
 use Rattle.std.proofs.Common.{◌≡◌, ℕ, zero, suc, ◌+◌, ◌-◌, ◌<◌, ◌≤◌, Bool, true}
-use Rattle.std.proofs.Common.{false, inl, inr, refl, sym, ap, ◌∙◌, arith, Option, Some, None}
-use Rattle.std.proofs.lemmas.Bool.{cases_Bool, cases_lt, cond-true, cond-false}
+use Rattle.std.proofs.Common.{false, inl, inr, refl, sym, ap, ap₂, ◌∙◌, subst, cond, arith, Option, Some, None}
+use Rattle.std.proofs.lemmas.Bool.{cases_Bool, cases_lt, cases_eq, cond-true, cond-false}
 use Rattle.std.specs.Option.{option_or}
 use Rattle.turn_history.specs.Rounds.{first_from, first_round}
 
@@ -51,7 +51,51 @@ module _ (test : ℕ → Bool) where
       cond-false (test a) (Some a) (first_from test (suc a) n) (none a (omega arith) (omega arith))
       ∙ none_from (suc a) n (λ k l u. none k (omega (arith, l)) (omega (arith, u)))
 
+  -- the first that passes is found
+  pub from_found : (a n m : ℕ) → a ≤ m → m < a + n → ((k : ℕ) → a ≤ k → k < m → test k ≡ false) → test m ≡ true
+      → first_from test a n ≡ Some m
+  from_found a zero m l u before here = absurd (omega (arith, l, u))
+  from_found a (suc n) m l u before here =
+      elim (cases_eq a m) [
+        | inl e ↦ cond-true (test a) (Some a) (first_from test (suc a) n) (ap test e ∙ here) ∙ ap Some e
+        | inr e ↦
+            cond-false (test a) (Some a) (first_from test (suc a) n) (before a (omega arith) (omega (arith, l, e)))
+            ∙ from_found (suc a) n m (omega (arith, l, e)) (omega (arith, u)) (λ k p q. before k (omega (arith, p)) q) here
+      ]
+
+  -- one that fails at the end is none
+  from_last : (a n : ℕ) → test (a + n) ≡ false → first_from test a (suc n) ≡ first_from test a n
+  from_last a zero e = cond-false (test a) (Some a) None (subst (λ (k : ℕ). test k ≡ false) (omega arith) e)
+  from_last a (suc n) e =
+      ap (λ (o : Option ℕ). cond (test a) (Some a) o)
+      (from_last (suc a) n (subst (λ (k : ℕ). test k ≡ false) (omega arith) e))
+
   -- ---- going round
+
+  -- from one that fails, and from the one behind it
+  pub round_on : (count at : ℕ) → at < count → test at ≡ false → first_round test count at ≡ first_round test count (suc at)
+  round_on count at l e =
+      let left : count - at ≡ suc (count - suc at) = omega arith in
+      ap (λ (n : ℕ). option_or (first_from test at n) (first_from test 0 at)) left
+      ∙ ap₂ option_or (cond-false (test at) (Some at) (first_from test (suc at) (count - suc at)) e)
+      (sym (from_last 0 at (subst (λ (k : ℕ). test k ≡ false) (omega arith) e)))
+
+  -- from the count, and from 0
+  pub round_over : (count : ℕ) → first_round test count count ≡ first_round test count 0
+  round_over count =
+      let none : count - count ≡ 0 = omega arith in
+      let all : count - 0 ≡ count = omega arith in
+      ap (λ (n : ℕ). option_or (first_from test count n) (first_from test 0 count)) none
+      ∙ sym (ap (λ (n : ℕ). option_or (first_from test 0 n) None) all ∙ either (first_from test 0 count))
+    where
+      either : (o : Option ℕ) → option_or o None ≡ o
+      either None = refl
+      either (Some k) = refl
+
+  pub round_here : (count at : ℕ) → at < count → test at ≡ true → first_round test count at ≡ Some at
+  round_here count at l e =
+      ap (λ (o : Option ℕ). option_or o (first_from test 0 at))
+      (from_found at (count - at) at (omega arith) (omega (arith, l)) (λ k p q. absurd (omega (arith, p, q))) e)
 
   pub round_passes : (count at m : ℕ) → first_round test count at ≡ Some m → test m ≡ true
   round_passes count at m e = either (first_from test at (count - at)) refl e

@@ -35,7 +35,7 @@ then_some {A} {B} (Some a) f b e = (a, refl, e)
 -- ---- one Assign or Answer
 
 module _ {S : Type 0} (d : Design S) (limit : ℕ) (x : Core S) (m : ℕ) where
-  found_is : (c : ℕ) → candidate d (view d x) m ≡ Some c → cycle_found d x m ≡ c
+  pub found_is : (c : ℕ) → candidate d (view d x) m ≡ Some c → cycle_found d x m ≡ c
   found_is c e = ap (λ (o : Option ℕ). unwrap_or o 0) e
 
   pub timing_acts : AllVerified x → may_time d limit x m ≡ true
@@ -80,7 +80,7 @@ module _ {S : Type 0} (d : Design S) (limit : ℕ) (x : Core S) (m : ℕ) where
 -- ---- so many
 
 module _ {S : Type 0} (d : Design S) (h : Trace S) (i : IsDesign d) (y : IsHistory d h) (limit : ℕ) where
-  none_left_at : (x : Core S) → IsAgreed d h limit x → (at : ℕ) → next_timing d limit x at ≡ None → NoTiming d limit x
+  pub none_left_at : (x : Core S) → IsAgreed d h limit x → (at : ℕ) → next_timing d limit x at ≡ None → NoTiming d limit x
   unfolding next_timing
   none_left_at x g at e = record {
     no_assign = λ m c may.

@@ -17,9 +17,8 @@ bearer (Turn turn) = Some (taker turn)
 abbrev pub history_of : Plan → List HubTurn → List HubEntry
 history_of p turns = Opened p ∷ map Turn turns
 
--- what has been seen is a legal history, and this stands behind it
-pub record Stands (seen : List HubEntry) (v : Turned ModuleState) : Type 0 where
-  pub plan : Plan
+-- what has been seen is a legal history of the plan, and this stands behind it
+pub record Stands (p : Plan) (seen : List HubEntry) (v : Turned ModuleState) : Type 0 where
   pub turns : List HubTurn
-  pub entries : seen ≡ history_of plan turns
-  pub standing : standing_of plan turns ≡ Some v
+  pub entries : seen ≡ history_of p turns
+  pub standing : standing_of p turns ≡ Some v

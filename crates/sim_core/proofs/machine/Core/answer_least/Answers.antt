@@ -1,12 +1,12 @@
-use Rattle.std.proofs.Common.{◌≡◌, sym, refl, subst, List, None, arith}
+use Rattle.std.proofs.Common.{◌≡◌, sym, refl, subst, List, None}
 use Rattle.std.specs.Prelude.{All}
 use Rattle.event_graph.specs.declared.candidate.Candidate.{Candidate}
 use Rattle.engine_view.specs.Stored.{stored}
 use Rattle.event_timing.specs.Actions.{IsQuiet, IsFinal}
 use Rattle.query_resolve.specs.Earliest.{cycle_of, IsEarliest}
 use Rattle.sim_core.specs.Views.{CoreView, theory_of}
+use Rattle.sim_core.specs.Turns.{IsFirstEarliest}
 use Rattle.timing_bridge.specs.Designs.{design}
-use Rattle.sim_core.specs.Runs.{lent_of}
 use Rattle.sim_core.proofs.Turning as turning
 use Rattle.sim_core.proofs.machine.Core.answer_least.Goals as goal
 
@@ -23,51 +23,25 @@ returns-in-None-clause-done c =
           c.list_candidates.new.candidates.items c.list_candidates.ensures.count c.list_candidates.ensures.all none),
     )
 
-pub answer_first-guard-requires-clause-core : goal.answer_first-guard-requires-clause-core
-answer_first-guard-requires-clause-core c =
-    let s = stored c.self.inside.graph c.self.inside.fifos c.self.inside.log in
-    turning.some_core c.self.inside.plan s s c.self.inside.ends.items c.self.inside.runs.items c.self.inside.credits.items
-    c.self.invariant.core
-
-pub answer_first-guard-requires-clause-unsure : goal.answer_first-guard-requires-clause-unsure
-answer_first-guard-requires-clause-unsure c =
+pub answer_open-requires : goal.answer_open-requires
+answer_open-requires c =
     let k = c.self.invariant.core in
     let s = stored c.self.inside.graph c.self.inside.fifos c.self.inside.log in
     let quiet = subst (λ (v : CoreView). IsQuiet (design v.plan) v.plan.cycles (theory_of v)) (sym c.self.view_is) c.requires in
     let least = subst (λ (cs : List Candidate). IsEarliest cs c.in-Some.owner c.in-Some.cycle) c.deref.ensures.value
     c.in-Some.ensures.some in
-    turning.least_unsure c.self.inside.plan s s c.self.inside.ends.items c.self.inside.runs.items c.self.inside.credits.items k quiet
+    turning.least_may c.self.inside.plan s s c.self.inside.ends.items c.self.inside.runs.items c.self.inside.credits.items k quiet
     c.list_candidates.new.candidates.items c.list_candidates.ensures.count c.list_candidates.ensures.all c.in-Some.owner c.in-Some.cycle
     least
 
-pub invariant_of-self-in-Some : goal.invariant_of-self-in-Some
-invariant_of-self-in-Some c =
+pub returns-in-Some-clause-first : goal.returns-in-Some-clause-first
+returns-in-Some-clause-first c =
     let k = c.self.invariant.core in
     let s = stored c.self.inside.graph c.self.inside.fifos c.self.inside.log in
     let quiet = subst (λ (v : CoreView). IsQuiet (design v.plan) v.plan.cycles (theory_of v)) (sym c.self.view_is) c.requires in
     let least = subst (λ (cs : List Candidate). IsEarliest cs c.in-Some.owner c.in-Some.cycle) c.deref.ensures.value
     c.in-Some.ensures.some in
-    let t = stored c.self.inside.graph c.answer_first-guard.new.fifos c.answer_first-guard.new.log in
-    record {
-      core = turning.core_answered c.self.inside.plan s t c.self.inside.ends.items c.self.inside.runs.items c.self.inside.credits.items k
-          quiet c.list_candidates.new.candidates.items c.list_candidates.ensures.count c.list_candidates.ensures.all c.in-Some.owner
-          c.in-Some.cycle least c.answer_first-guard.result c.answer_first-guard.ensures.answered
-          c.answer_first-guard.ensures.room c.answer_first-guard.ensures.kinds;
-      ports_are = c.self.invariant.ports_are;
-      readers_are = c.self.invariant.readers_are;
-      candidate_count = let a = c.list_candidates.ensures.count in let b = k.sound.lanes in omega arith;
-    }
-
-pub returns-in-Some-clause-done : goal.returns-in-Some-clause-done
-returns-in-Some-clause-done c =
-    let k = c.self.invariant.core in
-    let s = stored c.self.inside.graph c.self.inside.fifos c.self.inside.log in
-    let quiet = subst (λ (v : CoreView). IsQuiet (design v.plan) v.plan.cycles (theory_of v)) (sym c.self.view_is) c.requires in
-    let least = subst (λ (cs : List Candidate). IsEarliest cs c.in-Some.owner c.in-Some.cycle) c.deref.ensures.value
-    c.in-Some.ensures.some in
-    let t = stored c.self.inside.graph c.answer_first-guard.new.fifos c.answer_first-guard.new.log in
-    rw (← c.self.view_is) (turning.least_answered c.self.inside.plan s t c.self.inside.ends.items c.self.inside.runs.items
-    c.self.inside.credits.items k quiet c.list_candidates.new.candidates.items c.list_candidates.ensures.count
-    c.list_candidates.ensures.all c.in-Some.owner c.in-Some.cycle least c.answer_first-guard.result
-    (lent_of c.self.inside.runs.items)
-    c.answer_first-guard.ensures.answered)
+    subst (λ (v : CoreView). IsFirstEarliest v c.in-Some.owner) c.self.view_is
+    (turning.least_first c.self.inside.plan s s c.self.inside.ends.items c.self.inside.runs.items c.self.inside.credits.items k quiet
+    c.list_candidates.new.candidates.items c.list_candidates.ensures.count c.list_candidates.ensures.all c.in-Some.owner c.in-Some.cycle
+    least)

@@ -32,4 +32,5 @@ returns-in-Differs g c =
           rounds.timed_behind c.args.self.now c.run_on.new.self c.time_on-in-Some.new.self c.args.steps.now c.args.steps.now
           c.time_on-in-Some.new.steps c.args.owner c.time_on-in-Some.result (some c.args.steps.now) c.time_on-in-Some.ensures;
       no_memory = tt;
+      permitted = tt;
     }

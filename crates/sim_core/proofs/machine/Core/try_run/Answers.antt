@@ -8,7 +8,7 @@ use Rattle.timing_bridge.specs.Designs.{design}
 use Rattle.sim_core.specs.Views.{CoreView}
 use Rattle.sim_core.specs.Runs.{lent_of, over_of, IsRunOf}
 use Rattle.sim_core.proofs.Lending as lending
-use Rattle.sim_core.proofs.machine.Core.run.Goals as goal
+use Rattle.sim_core.proofs.machine.Core.try_run.Goals as goal
 
 same_some : (a b : ModuleRun) → Some a ≡ Some b → a ≡ b
 same_some a b e = ap (λ (o : Option ModuleRun). unwrap_or o a) e

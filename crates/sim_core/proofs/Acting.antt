@@ -1,0 +1,69 @@
+-- A single action that is permitted.
+use Rattle.std.proofs.Common.{◌≡◌, refl, sym, subst, ◌∙◌, ℕ, Bool, true, false, Some, None}
+use Rattle.std.specs.Prelude.{Result, Ok, Err, IfOk, IfErr, is_ok}
+use Rattle.std.proofs.lemmas.Bool.{both_ways}
+use Rattle.outcome_guard.specs.declared.guard.Guard.{Guard}
+use Rattle.outcome_guard.specs.declared.guard.Guard.TheVariants as guard
+use Rattle.event_timing.specs.Actions.{Acts, MayRun, MayAssign, MayAnswer, MayEarliest, IsDetermined}
+use Rattle.event_timing.specs.Actions as theory
+use Rattle.timing_bridge.specs.Designs.{design}
+use Rattle.engine_view.specs.declared.turn.Timing.{Timing}
+use Rattle.engine_view.specs.declared.turn.Timing.TheVariants as turn
+use Rattle.engine_view.specs.Turns.{ticks_of}
+use Rattle.sim_core.specs.declared.actions.Action.TheVariants.{Run, Assign, Answer, Earliest}
+use Rattle.sim_core.specs.declared.actions.Cause.{Cause}
+use Rattle.sim_core.specs.Acted.{HasActed, guard_of}
+use Rattle.sim_core.specs.Causes.{cycle_causes, first_some}
+use Rattle.sim_core.specs.Turns.{HasTurned, HasAnsweredLeast}
+use Rattle.sim_core.specs.Views.{CoreView, theory_of}
+use Rattle.sim_core.proofs.Causing as causing
+use Rattle.sim_core.proofs.Rounds as rounds
+
+module _ (v w : CoreView) (m : ℕ) where
+  pub ran_acted : (ran : Bool) → MayRun (design v.plan) (theory_of v) m
+      → (ran ≡ true → Acts (design v.plan) v.plan.cycles (theory_of v) (theory.Action.Run m) (theory_of w))
+      → (ran ≡ false → MayRun (design v.plan) (theory_of v) m → ⊥) → HasActed guard.Same v (Run m) w
+  ran_acted true may acts none =
+      let (may', is) = acts refl in
+      ((may', is), rounds.run_changes (design v.plan) (theory_of v) (theory_of w) m may' is)
+  ran_acted false may acts none = absurd (none refl may)
+
+  pub assigned_acted : (r : Timing) (c : ℕ) → MayAssign (design v.plan) v.plan.cycles (theory_of v) m c → HasTurned r v m w
+      → HasActed (guard_of r) v (Assign m) w × (ticks_of r ≡ 1)
+  assigned_acted (turn.Assigned e) c may acts =
+      ((acts, rounds.assign_changes (design v.plan) v.plan.cycles (theory_of v) (theory_of w) m acts), refl)
+  assigned_acted (turn.Answered e) c may ((f, may', is), changed) = absurd (both_ways _ may'.open_query may.verified)
+  assigned_acted (turn.Differs q) c may (same, other) = absurd (both_ways _ other.may.open_query may.verified)
+  assigned_acted turn.Nothing c may (same, idle) = absurd (idle.no_assign c may)
+
+  pub answered_acted : (r : Timing) (c : ℕ) → MayAnswer (design v.plan) v.plan.cycles (theory_of v) m c → HasTurned r v m w
+      → HasActed (guard_of r) v (Answer m) w × (ticks_of r ≡ 0)
+  answered_acted (turn.Assigned e) c may (f, may', is) = absurd (both_ways _ may.open_query may'.verified)
+  answered_acted (turn.Answered e) c may done = (done, refl)
+  answered_acted (turn.Differs q) c may done = (done, refl)
+  answered_acted turn.Nothing c may (same, idle) = absurd (idle.no_answer c may)
+
+  pub earliest_acted : (g : Guard) → HasAnsweredLeast (Some (m, g)) v w → HasActed g v (Earliest m) w
+  earliest_acted guard.Same done = done
+  earliest_acted (guard.Differs q) done = done
+
+  pub cycle_there : (c : ℕ) → MayEarliest (design v.plan) v.plan.cycles (theory_of v) m c → (r : Result ℕ Cause)
+      → IfErr r (λ a. first_some (cycle_causes (design v.plan) v.plan.cycles (theory_of v) m) ≡ Some a) → is_ok r ≡ true
+  cycle_there c may (Ok e) cause = refl
+  cycle_there c may (Err a) cause =
+      let none = causing.cycle_found (design v.plan) v.plan.cycles (theory_of v) m c may.open_step.determined in
+      let no : None ≡ Some a = sym none ∙ cause in
+      cc
+
+  pub found_at : (r : Result ℕ Cause) (c : ℕ) → IfOk r (λ n. IsDetermined (design v.plan) v.plan.cycles (theory_of v) m n) → r ≡ Ok c
+      → IsDetermined (design v.plan) v.plan.cycles (theory_of v) m c
+  found_at r c at is = subst (λ (q : Result ℕ Cause). IfOk q (λ n. IsDetermined (design v.plan) v.plan.cycles (theory_of v) m n)) is at
+
+  pub earliest_at : (c e : ℕ) → MayEarliest (design v.plan) v.plan.cycles (theory_of v) m c
+      → IsDetermined (design v.plan) v.plan.cycles (theory_of v) m e → MayEarliest (design v.plan) v.plan.cycles (theory_of v) m e
+  earliest_at c e may at =
+      subst (λ (n : ℕ). MayEarliest (design v.plan) v.plan.cycles (theory_of v) m n)
+      (same (sym may.open_step.determined.at ∙ at.at)) may
+    where
+      same : Some c ≡ Some e → c ≡ e
+      same q = cc

@@ -1,0 +1,341 @@
+-- Rounds of Assigns and Answers, the Earliest behind them, and the end.
+use Rattle.std.proofs.Common.{◌≡◌, refl, sym, ap, subst, ◌∙◌, ℕ, suc, ◌+◌, ◌-◌, ◌*◌, ◌^◌, ◌<◌, ◌≤◌, ◌⊎◌, inl, inr, true, false, length, Some, None, arith, mul-le-mul_right}
+use Rattle.std.specs.Prelude.{Result, Ok, Err, IfOk, IfErr, is_ok}
+use Rattle.std.proofs.lemmas.Bool.{cases_Bool, cases_lt}
+use Rattle.flow_design.specs.declared.plan.Plan.{Plan}
+use Rattle.flow_design.specs.declared.state.ModuleState.{ModuleState}
+use Rattle.flow_design.specs.StaticRules.{FitsEngine}
+use Rattle.event_timing.specs.Machines.{Design}
+use Rattle.event_timing.specs.Enablers.{known_of, all_decided}
+use Rattle.event_timing.specs.Views.{first_accesses}
+use Rattle.event_timing.specs.Core.{Core, view}
+use Rattle.event_timing.specs.Actions.{MayRun, MayEarliest, IsDetermined, IsQuiet, IsFinal}
+use Rattle.event_timing.specs.Agreement.{IsAgreed, AllVerified}
+use Rattle.event_timing.specs.Permitted.{IsInside}
+use Rattle.event_timing.specs.Work.{work}
+use Rattle.event_timing.proofs.ActionBound.{most_work}
+use Rattle.event_timing.proofs.Agreement.{final_closed}
+use Rattle.event_timing.proofs.Answering.{first_emitted}
+use Rattle.query_log.specs.declared.query.Query.{Query}
+use Rattle.outcome_guard.specs.declared.guard.Guard.TheVariants as guard
+use Rattle.timing_bridge.specs.Designs.{design, lockstep_run}
+use Rattle.timing_bridge.proofs.Bounded.{plan_is_bounded}
+use Rattle.timing_bridge.proofs.History.{plan_is_design, run_is_history}
+use Rattle.turn_history.specs.Rounds.{may_time, after_timing, next_timing, timings, earliest_of}
+use Rattle.turn_history.specs.Turns.{NoTiming}
+use Rattle.turn_history.proofs.Onward.{assigned_is, answered_is, idle_is, next_none, timings_none, timings_more, timings_on, timings_over}
+use Rattle.turn_history.proofs.Onward.{earliest_found}
+use Rattle.turn_history.proofs.Timings.{none_left_at}
+use Rattle.engine_view.specs.declared.turn.Timing.{Timing}
+use Rattle.engine_view.specs.declared.turn.Timing.TheVariants as turn
+use Rattle.engine_view.specs.Turns.{is_progress, ticks_of}
+use Rattle.sim_core.specs.Views.{CoreView, theory_of}
+use Rattle.sim_core.specs.Turns.{HasTurned, HasAnsweredLeast, IsFirstEarliest}
+use Rattle.sim_core.specs.Drives.{IsVisited}
+use Rattle.sim_core.specs.Timings.{IsUntimable, IsTimed, IsTimingRound, HasMore}
+use Rattle.sim_core.specs.declared.actions.Action.TheVariants.{Run}
+use Rattle.sim_core.specs.declared.actions.Cause.{Cause}
+use Rattle.sim_core.specs.Causes.{IsPermitted, cycle_causes, first_some}
+use Rattle.sim_core.proofs.Causing as causing
+use Rattle.sim_core.proofs.Rounds as rounds
+use Rattle.sim_core.proofs.Rounds.{IsNextOf, to_do}
+
+-- ---- one action
+
+module _ (v w : CoreView) (m before : ℕ) (plan : w.plan ≡ v.plan) (lent : w.lent ≡ v.lent)
+    (agreed : IsAgreed (design v.plan) (lockstep_run v.plan) v.plan.cycles (theory_of v)) where
+  pub was_timed : (r : Timing) (after : ℕ) → HasTurned r v m w → after ≡ before + ticks_of r → is_progress r ≡ true
+      → IsTimed v before m w after
+  was_timed (turn.Assigned c) after (e, may, is) ticked p =
+      let (there, then) = assigned_is (design v.plan) v.plan.cycles (theory_of v) m e may in
+      record {
+        may = there;
+        is = is ∙ sym then;
+        goes = rounds.was_assigned v w m before plan lent agreed c after (e, may, is) ticked;
+      }
+  was_timed (turn.Answered c) after ((e, may, inl (same, is)), changed) ticked p =
+      let (there, then) = answered_is (design v.plan) v.plan.cycles (theory_of v) m e may in
+      record {
+        may = there;
+        is = is ∙ sym then;
+        goes = rounds.was_answered v w m before plan lent agreed c after ((e, may, inl (same, is)), changed) ticked;
+      }
+  was_timed (turn.Answered c) after ((e, may, inr (other, is)), changed) ticked p = absurd (changed is)
+  was_timed (turn.Differs q) after done ticked p = cc
+  was_timed turn.Nothing after done ticked p = cc
+
+  pub not_timed : (r : Timing) (after : ℕ) → AllVerified (theory_of v) → HasTurned r v m w → after ≡ before + ticks_of r
+      → is_progress r ≡ false → IsUntimable v m × (w ≡ v) × (after ≡ before)
+  not_timed (turn.Assigned c) after f done ticked p = cc
+  not_timed (turn.Answered c) after f done ticked p = cc
+  not_timed (turn.Differs q) after f (same, other) ticked p = absurd (rounds.none_differs v f m q other)
+  not_timed turn.Nothing after f (same, idle) ticked p =
+      (idle_is (design v.plan) v.plan.cycles (theory_of v) m idle.no_assign idle.no_answer, same, omega arith)
+
+pub progressed : (r : Timing) → ((c : ℕ) × (r ≡ turn.Assigned c)) ⊎ ((c : ℕ) × (r ≡ turn.Answered c)) → is_progress r ≡ true
+progressed r (inl (c, e)) = ap is_progress e
+progressed r (inr (c, e)) = ap is_progress e
+
+pub rested : (r : Timing) → ((q : Query) × (r ≡ turn.Differs q)) ⊎ (r ≡ turn.Nothing) → is_progress r ≡ false
+rested r (inl (q, e)) = ap is_progress e
+rested r (inr e) = ap is_progress e
+
+-- ---- the rounds
+
+-- more than what can still be done
+abbrev pub timings_left : CoreView → ℕ → ℕ → ℕ
+timings_left v count idle = to_do v * (count + 1) + (count - idle)
+
+pub begun : (v : CoreView) (ticks count : ℕ) → IsAgreed (design v.plan) (lockstep_run v.plan) v.plan.cycles (theory_of v)
+    → FitsEngine v.plan → AllVerified (theory_of v) → count ≡ length v.plan.design.modules
+    → IsTimingRound v v ticks ticks count 0 0 0
+begun v ticks count agreed fits verified counted = record {
+  goes = rounds.goes_same v ticks;
+  agreed = agreed;
+  fits = fits;
+  verified = verified;
+  counted = counted;
+  within = omega arith;
+  at_most = omega arith;
+  inside = λ l. l;
+  none_left = λ m l visited. absurd (rounds.none_visited count 0 m (λ l. l) l visited);
+  rounds = λ more. let e : 0 + more ≡ more = omega arith in
+      ap (λ (n : ℕ). timings (design v.plan) v.plan.cycles n 0 (theory_of v)) e;
+  few = omega arith;
+}
+
+module _ (first now next : CoreView) (before ticks later count at idle done : ℕ)
+    (r : IsTimingRound first now before ticks count at idle done) where
+  abbrev d : Design ModuleState
+  d = design first.plan
+
+  abbrev limit : ℕ
+  limit = first.plan.cycles
+
+  agreed_now : IsAgreed (design now.plan) (lockstep_run now.plan) now.plan.cycles (theory_of now)
+  agreed_now = rounds.goes_agreed first now before ticks r.agreed r.fits r.goes
+
+  fits_now : FitsEngine now.plan
+  fits_now = subst FitsEngine (sym r.goes.plan) r.fits
+
+  counted_first : count ≡ length first.plan.design.modules
+  counted_first = r.counted ∙ ap (λ (q : Plan). length q.design.modules) r.goes.plan
+
+  pub verified_now : AllVerified (theory_of now)
+  verified_now = rounds.goes_verified first now before ticks r.agreed r.fits r.goes r.verified
+
+  -- so many actions fit a counter
+  pub few_done : done + 1 < 2 ^ 64
+  few_done =
+      let most = most_work d (lockstep_run first.plan) limit (theory_of now)
+      (subst (λ (q : Plan). IsAgreed (design q) (lockstep_run q) q.cycles (theory_of now)) r.goes.plan agreed_now) first.plan.ops
+      (plan_is_bounded first.plan r.fits) in
+      let few = r.few in
+      let modules = r.fits.module_count in
+      let ops = r.fits.operations in
+      bound (length first.plan.design.modules) first.plan.ops done _ _ modules ops few most
+    where
+      bound : (n o done a b : ℕ) → n ≤ 64 → o ≤ 200000 → done + a ≤ b → b ≤ n * (3 * o + 1) → done + 1 < 2 ^ 64
+      bound n o done a b l u f m =
+          let p : n * (3 * o + 1) ≤ 64 * (3 * o + 1) = mul-le-mul_right (3 * o + 1) l in
+          omega arith
+
+  pub went : at < count → IsTimed now ticks at next later → IsTimingRound first next before later count at 0 (done + 1)
+  went u o = record {
+    goes = rounds.goes_join first now next before ticks later r.goes o.goes.goes;
+    agreed = r.agreed;
+    fits = r.fits;
+    verified = r.verified;
+    counted = r.counted ∙ ap (λ (q : Plan). length q.design.modules) (sym o.goes.goes.plan);
+    within = omega arith;
+    at_most = r.at_most;
+    inside = r.inside;
+    none_left = λ m l visited. absurd (rounds.none_visited count at m r.inside l visited);
+    rounds = λ more. more_rounds more;
+    few = few_more;
+  }
+    where
+      may : may_time d limit (theory_of now) at ≡ true
+      may = subst (λ (q : Plan). may_time (design q) q.cycles (theory_of now) at ≡ true) r.goes.plan o.may
+
+      is : theory_of next ≡ after_timing d limit (theory_of now) at
+      is = subst (λ (q : Plan). theory_of next ≡ after_timing (design q) q.cycles (theory_of now) at) r.goes.plan o.is
+
+      more_rounds : (more : ℕ) → timings d limit (done + 1 + more) 0 (theory_of first) ≡ timings d limit more at (theory_of next)
+      more_rounds more =
+          let count' = counted_first in
+          let sum : done + 1 + more ≡ done + suc more = omega arith in
+          ap (λ (n : ℕ). timings d limit n 0 (theory_of first)) sum ∙ r.rounds (suc more)
+          ∙ timings_more d limit more at (theory_of now) (omega arith) may ∙ sym (ap (timings d limit more at) is)
+
+      few_more : done + 1 + work d (theory_of first) ≤ work d (theory_of next)
+      few_more =
+          let rise = subst (λ (q : Plan). work (design q) (theory_of now) < work (design q) (theory_of next)) r.goes.plan o.goes.risen in
+          let few = r.few in
+          omega arith
+
+  pub stayed : idle < count → next ≡ now → later ≡ ticks → IsUntimable now at → (to : ℕ) → IsNextOf count at to
+      → IsTimingRound first next before later count to (idle + 1) done
+  stayed less same ticked none to t =
+      subst (λ (w : CoreView). IsTimingRound first w before later count to (idle + 1) done) (sym same) (record {
+        goes = rounds.goes_at first now now before ticks later r.goes refl ticked;
+        agreed = r.agreed;
+        fits = r.fits;
+        verified = r.verified;
+        counted = r.counted;
+        within = omega arith;
+        at_most = let u = rounds.next_inside count at to (r.inside (omega arith)) t in omega arith;
+        inside = λ z. rounds.next_inside count at to (r.inside z) t;
+        none_left = λ m l visited. left_of m (rounds.visited_before count at idle to m (r.inside (omega arith)) less l t visited) l;
+        rounds = λ more. r.rounds more ∙ from_next more t;
+        few = r.few;
+      })
+    where
+      left_of : (m : ℕ) → (m ≡ at) ⊎ IsVisited count at idle m → m < count → IsUntimable now m
+      left_of m (inl e) l = subst (IsUntimable now) (sym e) none
+      left_of m (inr v) l = r.none_left m l v
+
+      idle_here : may_time d limit (theory_of now) at ≡ false
+      idle_here = subst (λ (q : Plan). may_time (design q) q.cycles (theory_of now) at ≡ false) r.goes.plan none
+
+      on : (more : ℕ) → timings d limit more at (theory_of now) ≡ timings d limit more (suc at) (theory_of now)
+      on more = let c = counted_first in let u = r.inside (omega arith) in timings_on d limit more at (theory_of now) (omega arith) idle_here
+
+      from_next : (more : ℕ) → IsNextOf count at to → timings d limit more at (theory_of now) ≡ timings d limit more to (theory_of now)
+      from_next more (inl (l, e)) =
+          let e' : suc at ≡ to = omega arith in on more ∙ ap (λ (n : ℕ). timings d limit more n (theory_of now)) e'
+      from_next more (inr (l, e)) =
+          let c = counted_first in
+          let u = r.inside (omega arith) in
+          let e' : suc at ≡ length first.plan.design.modules = omega arith in
+          on more ∙ ap (λ (n : ℕ). timings d limit more n (theory_of now)) e' ∙ timings_over d limit more (theory_of now)
+          ∙ ap (λ (n : ℕ). timings d limit more n (theory_of now)) (sym e)
+
+  -- where all were visited, the rounds are over
+  module _ (l : count ≤ idle) where
+    none_next : next_timing d limit (theory_of now) at ≡ None
+    none_next = next_none d limit at (theory_of now) below (λ m u. none m u)
+      where
+        below : at ≤ length first.plan.design.modules
+        below = let c = counted_first in let u = r.at_most in omega arith
+
+        none : (m : ℕ) → m < length first.plan.design.modules → may_time d limit (theory_of now) m ≡ false
+        none m u =
+            let c = counted_first in
+            let u' : m < count = omega arith in
+            subst (λ (q : Plan). may_time (design q) q.cycles (theory_of now) m ≡ false) r.goes.plan
+            (r.none_left m u' (rounds.all_visited count at idle m r.inside l u'))
+
+    pub all_rounds : timings d limit done 0 (theory_of first) ≡ Some (theory_of now)
+    all_rounds =
+        let sum : done ≡ done + 0 = omega arith in
+        ap (λ (n : ℕ). timings d limit n 0 (theory_of first)) sum ∙ r.rounds 0 ∙ timings_none d limit at (theory_of now) none_next
+
+    pub none_timed : NoTiming (design now.plan) now.plan.cycles (theory_of now)
+    none_timed =
+        none_left_at (design now.plan) (lockstep_run now.plan) (plan_is_design now.plan fits_now) (run_is_history now.plan fits_now)
+        now.plan.cycles (theory_of now) agreed_now at
+        (subst (λ (q : Plan). next_timing (design q) q.cycles (theory_of now) at ≡ None) (sym r.goes.plan) none_next)
+
+  -- ---- they end
+
+  pub went_on : IsTimed now ticks at next later → timings_left next count 0 < timings_left now count idle
+  went_on o =
+      let agreed = rounds.goes_agreed now next ticks later agreed_now fits_now o.goes.goes in
+      rounds.falls (to_do next) (to_do now) (count + 1) (count - 0) (count - idle)
+      (rounds.to_do_less now next ticks later o.goes agreed (subst FitsEngine (sym o.goes.goes.plan) fits_now)) (omega arith)
+
+  pub stayed_on : idle < count → next ≡ now → timings_left next count (idle + 1) < timings_left now count idle
+  stayed_on less same =
+      subst (λ (v : CoreView). timings_left v count (idle + 1) < timings_left now count idle) (sym same)
+      (let rest : count - (idle + 1) < count - idle = omega arith in omega arith)
+
+-- ---- the Earliest behind them
+
+module _ (v : CoreView) (none_left : NoTiming (design v.plan) v.plan.cycles (theory_of v)) where
+  pub quiet_of : ((m : ℕ) → MayRun (design v.plan) (theory_of v) m → ⊥) → IsQuiet (design v.plan) v.plan.cycles (theory_of v)
+  quiet_of none = record { no_run = none; no_assign = none_left.no_assign; no_answer = none_left.no_answer }
+
+module _ (v w : CoreView) (agreed : IsAgreed (design v.plan) (lockstep_run v.plan) v.plan.cycles (theory_of v)) where
+  pub least_is : (m : ℕ) → HasAnsweredLeast (Some (m, guard.Same)) v w → IsFirstEarliest v m
+      → earliest_of (design v.plan) v.plan.cycles (theory_of v) ≡ Some (theory_of w)
+  least_is m ((c, may, inl (same, is)), changed) first =
+      let inside = agreed.marks.inside in
+      earliest_found (design v.plan) v.plan.cycles (theory_of v) inside m c (below inside c may) may first ∙ ap Some (sym is)
+    where
+      below : IsInside (design v.plan) (theory_of v) → (c : ℕ) → MayEarliest (design v.plan) v.plan.cycles (theory_of v) m c
+          → m < length v.plan.design.modules
+      below inside c may =
+          elim (cases_lt m (length v.plan.design.modules)) [
+            | inl l ↦ l
+            | inr l ↦
+                let none = inside m l in
+                let some = first_emitted (design v.plan) (theory_of v) m c may.open_step.determined.at in
+                absurd (omega arith)
+          ]
+  least_is m ((c, may, inr (other, is)), changed) first = absurd (changed is)
+
+  pub least_verified : (m : ℕ) → FitsEngine v.plan → w.plan ≡ v.plan → w.lent ≡ v.lent → AllVerified (theory_of v)
+      → HasAnsweredLeast (Some (m, guard.Same)) v w → AllVerified (theory_of w)
+  least_verified m fits plan lent verified done =
+      let goes = rounds.was_least v w m 0 plan lent agreed done in
+      rounds.goes_verified v w 0 0 agreed fits goes.goes verified
+
+-- ---- the end
+
+module _ (v : CoreView) (inside : IsInside (design v.plan) (theory_of v)) where
+  abbrev x : Core ModuleState
+  x = theory_of v
+
+  -- where no module has more, nothing is permitted
+  pub final_of : ((m : ℕ) → m < length v.plan.design.modules → HasMore v m → ⊥) → IsFinal (design v.plan) v.plan.cycles x
+  final_of none = record {
+    quiet = record {
+      no_run = λ n may. none n may.inside (inl may);
+      no_assign = λ n c may. stopped n c may.determined;
+      no_answer = λ n c may. stopped n c may.determined;
+    };
+    no_earliest = λ n c may. stopped n c may.open_step.determined;
+  }
+    where
+      stopped : (n c : ℕ) → IsDetermined (design v.plan) v.plan.cycles x n c → ⊥
+      stopped n c at =
+          elim (cases_lt n (length v.plan.design.modules)) [
+            | inl l ↦ none n l (inr (c, at))
+            | inr l ↦
+                let zero = inside n l in
+                let some = first_emitted (design v.plan) x n c at.at in
+                absurd (omega arith)
+          ]
+
+-- and where one has, something is
+pub not_final : (v : CoreView) (m : ℕ) → HasMore v m → IsFinal (design v.plan) v.plan.cycles (theory_of v) → ⊥
+not_final v m (inl may) f = f.quiet.no_run m may
+not_final v m (inr (c, at)) f =
+    elim (cases_Bool ((theory_of v).verified m ((theory_of v).timed m))) [
+      | inl t ↦ f.quiet.no_assign m c (record { determined = at; verified = t })
+      | inr u ↦ elim (cases_Bool (all_decided (known_of (design v.plan) (view (design v.plan) (theory_of v)) m)
+          (first_accesses (view (design v.plan) (theory_of v)) m))) [
+            | inl t ↦ f.quiet.no_answer m c (record { determined = at; open_query = u; decided = t })
+            | inr t ↦ final_closed (design v.plan) v.plan.cycles (theory_of v) f (suc c) c (omega arith) m
+                (record { determined = at; open_query = u; undecided = t })
+          ]
+    ]
+
+-- what the tests of a module tell
+pub cycle_of_ok : (v : CoreView) (m : ℕ) (r : Result ℕ Cause) → IfOk r (λ c. IsDetermined (design v.plan) v.plan.cycles (theory_of v) m c)
+    → is_ok r ≡ true → (c : ℕ) × IsDetermined (design v.plan) v.plan.cycles (theory_of v) m c
+cycle_of_ok v m (Ok c) at e = (c, at)
+cycle_of_ok v m (Err c) at e = cc
+
+pub none_more : {A : Type 0} (v : CoreView) (m : ℕ) (r : Result A Cause)
+    → IfErr r (λ c. IsPermitted (design v.plan) v.plan.cycles (theory_of v) (Run m) → ⊥) → is_ok r ≡ false
+    → (q : Result ℕ Cause) → IfErr q (λ c. first_some (cycle_causes (design v.plan) v.plan.cycles (theory_of v) m) ≡ Some c)
+    → is_ok q ≡ false → HasMore v m → ⊥
+none_more {A} v m (Ok a) refused e q cause f more = cc
+none_more {A} v m (Err a) refused e (Ok c) cause f more = cc
+none_more {A} v m (Err a) refused e (Err c) cause f (inl may) = refused may
+none_more {A} v m (Err a) refused e (Err c) cause f (inr (t, at)) =
+    let none = causing.cycle_found (design v.plan) v.plan.cycles (theory_of v) m t at in
+    let no : None ≡ Some c = sym none ∙ cause in
+    cc

@@ -1,0 +1,211 @@
+-- What a call answers, from what its turn did.
+use Rattle.std.proofs.Common.{◌≡◌, ◌⊎◌, inl, inr, ℕ, ◌+◌, ◌<◌, refl, sym, ap, ◌∙◌, subst, arith, append_assoc, append-nil}
+use Rattle.std.proofs.Common.{List, [], ◌∷◌, ◌++◌, Some, Bool, true, false, length}
+use Rattle.std.specs.Coded.{le_prop}
+use mathlib.Core.Logic.{∥∥₁_elim, ∥∥₁_map}
+use mathlib.Core.List.{IsPrefix}
+use Rattle.flow_design.specs.declared.plan.Plan.{Plan}
+use Rattle.flow_design.specs.declared.state.ModuleState.{ModuleState}
+use Rattle.flow_design.specs.StaticRules.{FitsEngine}
+use Rattle.timing_bridge.specs.Designs.{design}
+use Rattle.turn_lock.specs.declared.view.View.{View}
+use Rattle.turn_lock.specs.Entries.{entries_of, Owns}
+use Rattle.turn_lock.specs.Turns.{BeginsTurn, EndsTurn, Continues}
+use Rattle.turn_history.specs.declared.turn.HubTurn.{HubTurn}
+use Rattle.turn_history.specs.declared.turn.HubTurn.TheVariants.{Lent, Ran, Timed, Short}
+use Rattle.turn_history.specs.declared.entry.HubEntry.{HubEntry}
+use Rattle.turn_history.specs.declared.entry.HubEntry.TheVariants.{Turn}
+use Rattle.turn_history.specs.Turned.{Turned, lent_at, after_short}
+use Rattle.turn_history.specs.Turns.{TurnsOf, AreOfOthers, taker}
+use Rattle.turn_history.specs.Histories.{turned_by}
+use Rattle.turn_history.specs.Entries.{bearer, history_of, Stands}
+use Rattle.sim_hub.specs.declared.answer.Desk.{Desk}
+use Rattle.sim_hub.specs.declared.answer.Desk.TheVariants as desk
+use Rattle.sim_hub.specs.declared.answer.PerfAnswer.{PerfAnswer}
+use Rattle.sim_hub.specs.declared.answer.PerfAnswer.TheVariants as perf
+use Rattle.sim_hub.specs.Places.{Behind, IsLegal, IsPlace, HasModule, HasModules, HasAdded, HasNoDesk, IsLater}
+use Rattle.sim_hub.specs.Hubs.{IsHeld, IsIdle, IsFinished, WasShort, HadMemory, FoundShort, DeskIs, PerfIs, ReturnIs}
+use Rattle.sim_hub.specs.Steps.{Adds, ShortIs, LendingIs, BackIs, TimingIs, MayAdd, IsEnd, ComesHome, ComesBack}
+use Rattle.sim_hub.proofs.Histories.{plan_since, turns_since, one_standing, others_later, lent_first, stands_next, mapped_some}
+use Rattle.sim_hub.proofs.Keeping.{history-snoc, same_entries}
+
+-- ---- what stands behind a history
+
+pub stands_more : (p : Plan) (log more : List HubEntry) (v w : Turned ModuleState) (turn : HubTurn) → Stands p log v
+    → turned_by p v turn ≡ Some w → Adds turn log more → Stands p more w
+stands_more p log more v w turn s next added = record {
+  turns = s.turns ++ turn ∷ [];
+  entries = added ∙ ap (λ (es : List HubEntry). es ++ Turn turn ∷ []) s.entries ∙ sym (history-snoc p s.turns turn);
+  standing = stands_next p s.turns v w turn s.standing next;
+}
+
+-- behind a want of memory, by what stands before it
+pub short_behind_log : (q : ℕ) (log more : List HubEntry) (P : Plan → Turned ModuleState → Type 0) → Behind log P
+    → Adds (Short q) log more → Behind more WasShort
+short_behind_log q log more P (p, at, s, holds) added = (p, after_short at q, stands_more p log more at (after_short at q) (Short q) s refl added, refl)
+
+pub home_behind_short : (m : ℕ) (log more : List HubEntry) (P : Plan → Turned ModuleState → Type 0) → Behind log P
+    → Adds (Short (m + 1)) log more → HasNoDesk m more
+home_behind_short m log more P (p, at, s, holds) added = (
+  p,
+  after_short at (m + 1),
+  stands_more p log more at (after_short at (m + 1)) (Short (m + 1)) s refl added,
+  λ lent. (mapped_some (m + 1) m (m + 1) at.lent_to lent).1 refl,
+)
+
+-- a want of memory of a module's pass, where the turns before are these
+pub short_added : (p q : Plan) (turns same : List HubTurn) (log : List HubEntry) (pass m : ℕ) → q ≡ p → same ≡ turns → pass ≡ m + 1
+    → Adds (Short pass) (history_of q same) log → Adds (Short (m + 1)) (history_of p turns) log
+short_added p q turns same log pass m plan is number added =
+    added ∙ ap (λ (es : List HubEntry). es ++ Turn (Short pass) ∷ []) (same_entries p q turns same plan is)
+    ∙ ap (λ n. history_of p turns ++ Turn (Short n) ∷ []) number
+
+pub module_later : (m : ℕ) (seen log : List HubEntry) → HasModule m seen → IsPrefix seen log → IsLegal log → HasModule m log
+module_later m seen log there begins k =
+    ∥∥₁_map there
+    (λ (l, inside). (k, subst (λ (p : Plan). m < length p.design.modules) (plan_since l.plan k.plan seen log l.at k.at l.stands k.stands begins) inside))
+
+pub modules_later : (count : ℕ) (seen log : List HubEntry) → HasModules count seen → IsPrefix seen log → IsLegal log → HasModules count log
+modules_later count seen log there begins k =
+    ∥∥₁_map there
+    (λ (l, same). (k, subst (λ (p : Plan). length p.design.modules ≡ count) (plan_since l.plan k.plan seen log l.at k.at l.stands k.stands begins) same))
+
+-- by what has been seen the module is one of the plan's
+pub module_inside : (p : Plan) (log : List HubEntry) (v : Turned ModuleState) → Stands p log v → (m : ℕ) (seen : List HubEntry)
+    → HasModule m seen → IsPrefix seen log → m < length p.design.modules
+module_inside p log v t m seen there begins =
+    ∥∥₁_elim there le_prop (λ (l, inside). subst (λ (q : Plan). m < length q.design.modules) (plan_since l.plan p seen log l.at v l.stands t begins) inside)
+
+-- ---- a pass comes back to the history
+
+module _ (p : Plan) (fits : FitsEngine p) (log : List HubEntry) (now : Turned ModuleState) (t : Stands p log now) (v : View HubEntry)
+    (c : Continues bearer v log) where
+  -- what was seen is of this plan, and the turns since are of others
+  pub come_back : (P : Plan → Turned ModuleState → Type 0) → Behind v.seen P
+      → (at : Turned ModuleState) × Stands p v.seen at × P p at
+      × ((later : List HubTurn) × AreOfOthers v.number later × TurnsOf (design p) p.cycles at later now)
+  come_back P (q, at, s, holds) =
+      let same : q ≡ p = plan_since q p v.seen log at now s t c.begins in
+      let s' : Stands p v.seen at = subst (λ (r : Plan). Stands r v.seen at) same s in
+      let (later, are, turns) = turns_since p v.seen log at now s' t fits c.begins.0 c.begins.1 in
+      let none = ap (entries_of bearer v.number) (sym are) ∙ c.since c.begins.0 c.begins.1 in
+      (at, s', subst (λ (r : Plan). P r at) same holds, (later, others_later v.number later none, turns))
+
+  -- with no desk, it still has none
+  pub home_since : (m : ℕ) → v.number ≡ m + 1 → HasNoDesk m v.seen → HasNoDesk m log
+  home_since m number home =
+      let (at, s, none, (later, others, turns)) = come_back (λ q u. lent_at u m ≡ Some (m + 1) → ⊥) home in (
+        p,
+        now,
+        t,
+        λ lent. none (lent_first (design p) p.cycles at now (m + 1) m later (subst (λ (q : ℕ). AreOfOthers q later) number others) turns lent),
+      )
+
+-- ---- from a turn to its answer
+
+-- what was added
+ended : (q : ℕ) (added : Bool) (log more : List HubEntry) (t w : View HubEntry) → MayAdd q added log more → IsEnd added log more t w
+    → (es : List HubEntry) × (more ≡ log ++ es) × EndsTurn es more t w
+ended q true log more t w (turn, adds, of) e = (Turn turn ∷ [], adds, e turn adds)
+ended q false log more t w same e = ([], same ∙ sym (append-nil log), e)
+
+-- the pass that ended a turn has seen a legal history with its own entries
+pub ended_place : (q : ℕ) (es more : List HubEntry) (t w : View HubEntry) → EndsTurn es more t w → t.number ≡ q
+    → (w.settled ≡ true → Owns bearer w.seen w) → IsLegal more → IsPlace q w
+ended_place q es more t w end number owns legal = record {
+  own = (owns end.settled).own ∙ ap (λ n. entries_of bearer n w.seen) (end.same.number ∙ number);
+  legal = subst IsLegal (sym end.seen) legal;
+}
+
+-- the pass has seen all of it
+pub end_seen : (q : ℕ) (added : Bool) (log more : List HubEntry) (t w : View HubEntry) → MayAdd q added log more → IsEnd added log more t w
+    → w.seen ≡ more
+end_seen q added log more t w may e = let (es, longer, end) = ended q added log more t w may e in end.seen
+
+pub is_later : (q tries : ℕ) (added : Bool) (log more : List HubEntry) (v t w : View HubEntry) → BeginsTurn bearer tries log v t
+    → MayAdd q added log more → IsEnd added log more t w → IsLater v w
+is_later q tries added log more v t w b may e =
+    let (es, longer, end) = ended q added log more t w may e in
+    let (before, is) = b.continues.begins in record {
+      begins = (before ++ es, sym (append_assoc v.seen before es) ∙ ap (λ (l : List HubEntry). l ++ es) is ∙ sym longer ∙ sym end.seen);
+      turns = end.turns ∙ ap (λ n. n + 1) b.turns;
+      number = end.same.number ∙ b.same.number;
+      made = end.same.made ∙ b.same.made;
+      joined = end.same.joined ∙ b.same.joined;
+    }
+
+module _ (tries : ℕ) (log more : List HubEntry) (v t w : View HubEntry) (b : BeginsTurn bearer tries log v t) where
+  has_added : (turn : HubTurn) → Adds turn log more → IsEnd true log more t w → HasAdded turn log v w
+  has_added turn adds e =
+      let end = e turn adds in record {
+        begins = b.continues.begins;
+        seen = end.seen ∙ adds;
+        own = end.own ∙ ap (λ (es : List HubEntry). es ++ Turn turn ∷ []) b.own;
+      }
+
+  has_looked : IsEnd false log more t w → w.own ≡ v.own
+  has_looked e = e.own ∙ append-nil t.own ∙ b.own
+
+  found_short : (q : ℕ) (added : Bool) → ShortIs q log more added → IsEnd added log more t w → FoundShort q v w
+  found_short q true (adds, before) e =
+      let end = e (Short q) adds in (
+        subst (λ (es : List HubEntry). Behind es WasShort) (sym end.seen) (short_behind_log q log more HadMemory before adds),
+        inr (log, has_added (Short q) adds e, before),
+      )
+  found_short q false (same, before) e =
+      (subst (λ (es : List HubEntry). Behind es WasShort) (sym (e.seen ∙ same)) before, inl (has_looked e))
+
+  pub desk_answer : (m : ℕ) (answer : Desk) (added : Bool) → LendingIs m log more answer added → IsEnd added log more t w
+      → DeskIs m v w answer
+  desk_answer m (desk.Run task) true (is, adds, lent) e = (log, has_added (Lent (m + 1) m) adds e, lent)
+  desk_answer m (desk.Run task) false (is, adds, lent) e = absurd (cc)
+  desk_answer m (desk.Held n) true (is, same, count, held) e = absurd (cc)
+  desk_answer m (desk.Held n) false (is, same, count, held) e =
+      let seen = sym (e.seen ∙ same) in (has_looked e, count ∙ ap length seen, subst (λ (es : List HubEntry). Behind es (IsHeld m)) seen held)
+  desk_answer m desk.Over true (is, same, over) e = absurd (cc)
+  desk_answer m desk.Over false (is, same, over) e =
+      (has_looked e, subst (λ (es : List HubEntry). Behind es IsFinished) (sym (e.seen ∙ same)) over)
+  desk_answer m desk.Short added short e = found_short (m + 1) added short e
+
+  pub perf_answer : (answer : PerfAnswer) (added : Bool) → TimingIs log more answer added → IsEnd added log more t w → PerfIs v w answer
+  perf_answer (perf.Did n) true (is, adds) e = (log, has_added (Timed 0 n) adds e)
+  perf_answer (perf.Did n) false (is, adds) e = absurd (cc)
+  perf_answer (perf.Idle n) true (is, same, count, idle) e = absurd (cc)
+  perf_answer (perf.Idle n) false (is, same, count, idle) e =
+      let seen = sym (e.seen ∙ same) in (has_looked e, count ∙ ap length seen, subst (λ (es : List HubEntry). Behind es IsIdle) seen idle)
+  perf_answer perf.Over true (is, same, over) e = absurd (cc)
+  perf_answer perf.Over false (is, same, over) e =
+      (has_looked e, subst (λ (es : List HubEntry). Behind es IsFinished) (sym (e.seen ∙ same)) over)
+  perf_answer perf.Short added short e = found_short 0 added short e
+
+  pub back_answer : (m n : ℕ) (made : Bool) → BackIs m n log more made → IsEnd true log more t w → ReturnIs m n v w made
+  back_answer m n true adds e = (log, has_added (Ran (m + 1) m n) adds e)
+  back_answer m n false adds e = (log, has_added (Short (m + 1)) adds e)
+
+-- ---- a turn is of its pass
+
+pub lending_adds : (m : ℕ) (log more : List HubEntry) (answer : Desk) (added : Bool) → LendingIs m log more answer added
+    → MayAdd (m + 1) added log more
+lending_adds m log more (desk.Run task) true (is, adds, lent) = (Lent (m + 1) m, adds, refl)
+lending_adds m log more (desk.Run task) false (is, adds, lent) = absurd (cc)
+lending_adds m log more (desk.Held n) true (is, same, count, held) = absurd (cc)
+lending_adds m log more (desk.Held n) false (is, same, count, held) = same
+lending_adds m log more desk.Over true (is, same, over) = absurd (cc)
+lending_adds m log more desk.Over false (is, same, over) = same
+lending_adds m log more desk.Short true (adds, rest) = (Short (m + 1), adds, refl)
+lending_adds m log more desk.Short false (same, rest) = same
+
+pub timing_adds : (log more : List HubEntry) (answer : PerfAnswer) (added : Bool) → TimingIs log more answer added
+    → MayAdd 0 added log more
+timing_adds log more (perf.Did n) true (is, adds) = (Timed 0 n, adds, refl)
+timing_adds log more (perf.Did n) false (is, adds) = absurd (cc)
+timing_adds log more (perf.Idle n) true (is, same, count, idle) = absurd (cc)
+timing_adds log more (perf.Idle n) false (is, same, count, idle) = same
+timing_adds log more perf.Over true (is, same, over) = absurd (cc)
+timing_adds log more perf.Over false (is, same, over) = same
+timing_adds log more perf.Short true (adds, rest) = (Short 0, adds, refl)
+timing_adds log more perf.Short false (same, rest) = same
+
+pub back_adds : (m n : ℕ) (log more : List HubEntry) (made : Bool) → BackIs m n log more made → MayAdd (m + 1) true log more
+back_adds m n log more true adds = (Ran (m + 1) m n, adds, refl)
+back_adds m n log more false adds = (Short (m + 1), adds, refl)

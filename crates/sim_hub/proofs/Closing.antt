@@ -1,0 +1,152 @@
+-- What was seen, once the hub is closed.
+use Rattle.std.proofs.Common.{◌≡◌, ℕ, zero, suc, ◌+◌, ◌<◌, ◌≤◌, inl, inr, refl, sym, ap, ◌∙◌, subst, arith}
+use Rattle.std.proofs.Common.{List, [], ◌∷◌, ◌++◌, Some, Bool, true, false, length, map, slice_get, pred, sub-one, append-nil}
+use Rattle.std.specs.Prelude.{slice_index_or}
+use Rattle.std.specs.Coded.{le_prop}
+use Rattle.std.proofs.lemmas.Grind.{merely}
+use Rattle.std.proofs.lemmas.List.{nil_from_length, length-map}
+use mathlib.Core.List.{IsPrefix}
+use mathlib.Core.Logic.{∥∥₁_elim, ∥∥₁_map}
+use Rattle.flow_design.specs.StaticRules.{FitsEngine}
+use Rattle.flow_design.specs.declared.plan.Plan.{Plan}
+use Rattle.flow_design.specs.declared.state.ModuleState.{ModuleState}
+use Rattle.event_timing.specs.Actions.{IsFinal}
+use Rattle.timing_bridge.specs.Designs.{design}
+use Rattle.sim_core.specs.Views.{CoreView, theory_of}
+use Rattle.turn_lock.specs.declared.view.View.{View}
+use Rattle.turn_lock.specs.Entries.{entries_of}
+use Rattle.turn_lock.specs.Passes.{TableId, pass_lock}
+use Rattle.turn_lock.specs.Turns.{AreAllMade, Continues, ShowsAll, ShowsEach, ShowsPass}
+use Rattle.turn_lock.proofs.Histories.{none_later, prefix_self}
+use Rattle.turn_lock.proofs.Joins.{after_joins, shows_each}
+use Rattle.turn_history.specs.declared.entry.HubEntry.{HubEntry}
+use Rattle.turn_history.specs.declared.turn.HubTurn.{HubTurn}
+use Rattle.turn_history.specs.Turned.{Turned, opening_turned}
+use Rattle.turn_history.specs.Entries.{bearer, history_of, Stands}
+use Rattle.turn_history.proofs.Lending.{final_stays}
+use Rattle.sim_hub.specs.declared.pass.ModulePass.{ModulePass}
+use Rattle.sim_hub.specs.declared.pass.PerfPass.{PerfPass}
+use Rattle.sim_hub.specs.Kept.{IsKept, behind}
+use Rattle.sim_hub.specs.Places.{Behind, HasModule, HasModules, HasMadeAll, HasNoDesk, IsLegal, IsPlace}
+use Rattle.sim_hub.specs.Hubs.{IsFinished, IsOverAt, WasShort, module_view, perf_view}
+use Rattle.sim_hub.specs.Steps.{ComesHome}
+use Rattle.sim_hub.specs.Closings.{AreFrom, IsWhole}
+use Rattle.sim_hub.proofs.Lists.{get_mapped, get_snoc, there}
+use Rattle.sim_hub.proofs.Histories.{plan_since, turns_since, short_stays}
+use Rattle.sim_hub.proofs.Answering.{modules_later}
+
+-- once all is over it stays so: until memory is wanted the core is final
+pub final_since : (p : Plan) (fits : FitsEngine p) (seen log : List HubEntry) (now : Turned ModuleState) → Stands p log now → IsPrefix seen log
+    → IsOverAt seen → now.short ≡ false → IsFinal (design p) p.cycles now.core
+final_since p fits seen log now t (more, all) (inl (q, at, s, over)) memory =
+    let same : q ≡ p = plan_since q p seen log at now s t (more, all) in
+    let s' : Stands p seen at = subst (λ (r : Plan). Stands r seen at) same s in
+    let final = subst (λ (r : Plan). IsFinal (design r) r.cycles at.core) same over.final in
+    let (later, are, turns) = turns_since p seen log at now s' t fits more all in
+    subst (IsFinal (design p) p.cycles) (sym (final_stays (design p) p.cycles at now final later turns)) final
+final_since p fits seen log now t (more, all) (inr (q, at, s, short)) memory =
+    let same : q ≡ p = plan_since q p seen log at now s t (more, all) in
+    let s' : Stands p seen at = subst (λ (r : Plan). Stands r seen at) same s in
+    let (later, are, turns) = turns_since p seen log at now s' t fits more all in
+    let z = sym memory ∙ short_stays (design p) p.cycles at now later turns short in
+    absurd (cc)
+
+-- a module's pass that is shown has come home
+pub comes_home : (log : List HubEntry) (m : ℕ) (p : ModulePass) → p.which ≡ m → ShowsPass bearer log (module_view p)
+    → HasNoDesk p.which (module_view p).seen → ∥ ComesHome m log ∥₁
+comes_home log m p which shown home =
+    let v = module_view p in
+    let number : v.number ≡ m + 1 = p.place.numbered ∙ p.is ∙ ap (λ n. n + 1) which in
+    ∥∥₁_map p.place.good
+    (λ good. record {
+      before = v;
+      number = number;
+      continues = record {
+        begins = shown.seen;
+        owns = record { own = sym shown.own; unborn = λ zeroth. absurd (omega arith) };
+        since = λ later all.
+            none_later bearer v.number v.seen later log all
+            (shown.own ∙ good.own ∙ ap (λ n. entries_of bearer n v.seen) (sym p.place.numbered));
+      };
+      within = subst (λ n. HasModule n v.seen) which p.within;
+      home = subst (λ n. HasNoDesk n v.seen) which home;
+    })
+
+-- one pass more, in order
+pub from_more : (id : TableId) (seen : List HubEntry) (passes : List ModulePass) (p : ModulePass) → AreFrom id seen passes
+    → p.which ≡ length passes → pass_lock p.place.pass ≡ id → (module_view p).seen ≡ seen → AreFrom id seen (passes ++ p ∷ [])
+from_more id seen passes p all which lock same = λ k q at.
+    elim (get_snoc passes p q k at) [
+      | inl there ↦ all k q there
+      | inr (last, is) ↦ subst (λ (r : ModulePass). (r.which ≡ k) × (pass_lock r.place.pass ≡ id) × ((module_view r).seen ≡ seen)) is
+          (which ∙ sym last, lock, same)
+    ]
+
+-- passes in the order of their modules are all
+pub all_in_order : (v : View HubEntry) (passes : List ModulePass) → v.made ≡ length passes
+    → ((k : ℕ) (p : ModulePass) → slice_get passes k ≡ Some p → p.which ≡ k) → AreAllMade v (map module_view passes)
+all_in_order v passes made order n above below =
+    let k : ℕ = pred n in
+    let is : k + 1 ≡ n = omega (arith, sub-one) in
+    let (p, at) = there passes k (omega (arith, sub-one)) in
+    (k, module_view p, get_mapped module_view passes k p at, p.place.numbered ∙ p.is ∙ ap (λ i. i + 1) (order k p at) ∙ is)
+
+-- ---- how many passes there are
+
+same_count : (a b : ℕ) (seen : List HubEntry) → HasModules a seen → HasModules b seen → a ≡ b
+same_count a b seen x y =
+    let low : a ≤ b = ∥∥₁_elim x le_prop (λ (l, e). ∥∥₁_elim y le_prop (λ (k, f). let same = one l k in omega arith)) in
+    let high : b ≤ a = ∥∥₁_elim x le_prop (λ (l, e). ∥∥₁_elim y le_prop (λ (k, f). let same = one l k in omega arith)) in
+    omega arith
+  where
+    one : (l k : IsLegal seen) → length l.plan.design.modules ≡ length k.plan.design.modules
+    one l k =
+        ap (λ (p : Plan). length p.design.modules) (plan_since l.plan k.plan seen seen l.at k.at l.stands k.stands (prefix_self seen))
+
+pub made_count : (v : View HubEntry) (n : ℕ) → ∥ HasMadeAll v ∥₁ → HasModules n v.seen → v.made ≡ n
+made_count v n made there =
+    let low : v.made ≤ n = ∥∥₁_elim made le_prop (λ all. let same = same_count v.made n v.seen all.made there in omega arith) in
+    let high : n ≤ v.made = ∥∥₁_elim made le_prop (λ all. let same = same_count v.made n v.seen all.made there in omega arith) in
+    omega arith
+
+pub log_count : (p : Plan) (log : List HubEntry) (now : Turned ModuleState) → Stands p log now → (seen : List HubEntry) (n : ℕ)
+    → IsPrefix seen log → HasModules n seen → n ≡ length p.design.modules
+log_count p log now t seen n begins there =
+    let k : IsLegal log = record { plan = p; at = now; stands = t } in
+    same_count n (length p.design.modules) log (modules_later n seen log there begins k) (merely (k, refl))
+
+-- a history that was just opened
+pub opened_count : (p : Plan) (n : ℕ) → n ≡ length p.design.modules → HasModules n (history_of p [])
+opened_count p n same =
+    merely
+    (record { plan = p; at = opening_turned (design p); stands = record { turns = []; entries = refl; standing = refl } }, sym same)
+
+-- ---- after the loop
+
+-- all passes were joined, once no pass is left
+pub joined_all : (v u : View HubEntry) (passes yielded rest : List ModulePass) → u ≡ after_joins v (map module_view yielded)
+    → passes ≡ yielded ++ rest → length rest ≡ 0 → u ≡ after_joins v (map module_view passes)
+joined_all v u passes yielded rest is all none =
+    is ∙ ap (λ (ps : List ModulePass). after_joins v (map module_view ps))
+    (sym (all ∙ ap (λ (ps : List ModulePass). yielded ++ ps) (nil_from_length rest none) ∙ append-nil yielded))
+
+pub shown_each : (log : List HubEntry) (v u : View HubEntry) (passes : List ModulePass) → v.number ≡ 0
+    → u ≡ after_joins v (map module_view passes) → ShowsAll bearer u log → ShowsEach bearer v (map module_view passes) log
+shown_each log v u passes zeroth is all =
+    shows_each bearer log v (map module_view passes) zeroth (subst (λ (w : View HubEntry). ShowsAll bearer w log) is all)
+
+-- the history is whole
+pub whole : (perf : PerfPass) (passes : List ModulePass) (log : List HubEntry) → IsLegal log
+    → ShowsEach bearer (perf_view perf) (map module_view passes) log
+    → ((k : ℕ) (p : ModulePass) → slice_get passes k ≡ Some p → p.which ≡ k)
+    → ((n : ℕ) → length passes < n → length (entries_of bearer n log) ≡ 0) → IsWhole perf passes log
+whole perf passes log legal shown order none_else = record {
+  legal = legal;
+  first = shown.first.seen;
+  first_own = ap (λ n. entries_of bearer n log) (sym (perf.place.numbered ∙ perf.first)) ∙ shown.first.own;
+  others = λ k p at.
+      let one = shown.others k (module_view p) (get_mapped module_view passes k p at) in
+      let number : suc k ≡ (module_view p).number = let e = p.place.numbered ∙ p.is ∙ ap (λ n. n + 1) (order k p at) in omega arith in
+      (one.seen, ap (λ n. entries_of bearer n log) number ∙ one.own);
+  none_else = λ n above. nil_from_length (entries_of bearer n log) (none_else n above);
+}

@@ -1,0 +1,57 @@
+-- A burst on the desk that is out, by the time that it comes back.
+use Rattle.std.proofs.Common.{◌≡◌, ℕ, suc, ◌+◌, ◌-◌, ◌<◌, sym, ap, ◌∙◌, subst, arith, refl, Bool, true, false, Some, List, length, inl, inr}
+use Rattle.std.proofs.lemmas.Bool.{cases_Bool}
+use Rattle.flow_design.specs.declared.plan.Plan.{Plan}
+use Rattle.flow_design.specs.declared.state.ModuleState.{ModuleState}
+use Rattle.flow_design.specs.StaticRules.{FitsEngine}
+use Rattle.event_timing.specs.Core.{Core}
+use Rattle.event_timing.specs.Agreement.{IsAgreed}
+use Rattle.event_timing.proofs.Beside.{others_grow}
+use Rattle.timing_bridge.specs.Designs.{design, lockstep_run}
+use Rattle.timing_bridge.proofs.History.{plan_is_design, run_is_history}
+use Rattle.module_interp.specs.declared.run.ModuleRun.{ModuleRun}
+use Rattle.module_interp.specs.Runs.{StandsAt, waits}
+use Rattle.run_ahead.specs.declared.mail.Task.{Task}
+use Rattle.run_ahead.specs.declared.mail.Burst.{Burst}
+use Rattle.run_ahead.specs.Mails.{IsBurst}
+use Rattle.run_ahead.specs.Working.{StandsSomewhere}
+use Rattle.sim_core.specs.Runs.{IsRunOf, rest_behind}
+use Rattle.sim_core.specs.Tasks.{IsTaskOf, IsTaskFor, committed, rest_of}
+use Rattle.sim_core.proofs.Tasks.{committed_waits, committed_goes, task_for, task_stays, burst_has_marks}
+use Rattle.turn_history.specs.declared.turn.HubTurn.{HubTurn}
+use Rattle.turn_history.specs.Turned.{Turned, lent_at}
+use Rattle.turn_history.specs.Turns.{TurnsOf, AreOfOthers}
+use Rattle.turn_history.proofs.Lending.{turns_beside}
+use Rattle.sim_hub.specs.Hubs.{IsBurstOn}
+
+-- a run of a core stands at its rest
+pub run_stands : (p : Plan) (x : Core ModuleState) (m : ℕ) (run : ModuleRun) → IsRunOf p x m run
+    → StandsAt p m (rest_behind p x m (committed x m run)) run
+run_stands p x m run r =
+    elim (cases_Bool (waits run)) [
+      | inl w ↦
+          let (k, last, at) = r.waiting w in
+          let here : k ≡ committed x m run = omega (arith, committed_waits x m run w) in
+          subst (λ (n : ℕ). StandsAt p m (rest_behind p x m n) run) here at
+      | inr w ↦ subst (λ (n : ℕ). StandsAt p m (rest_behind p x m n) run) (sym (committed_goes x m run w)) (r.going w).1
+    ]
+
+pub task_runs : (p : Plan) (x : Core ModuleState) (m : ℕ) (task : Task) → IsTaskOf p x m task → StandsSomewhere task.run
+task_runs p x m task t = (p, (m, (rest_behind p x m (committed x m task.run), run_stands p x m task.run t.run)))
+
+module _ (p : Plan) (f : FitsEngine p) (v w : Turned ModuleState) (m : ℕ) (task : Task) (burst : Burst)
+    (g : IsAgreed (design p) (lockstep_run p) p.cycles v.core) (t : IsTaskOf p v.core m task) (b : IsBurstOn task burst) where
+  -- what was lent is a task for the core behind the turns of others, and the burst is one on it
+  pub burst_back : (later : List HubTurn) → AreOfOthers (m + 1) later → TurnsOf (design p) p.cycles v later w
+      → lent_at v m ≡ Some (m + 1)
+      → IsTaskFor p w.core m task × IsBurst p m (rest_of p w.core m task) task burst
+  burst_back later others turns lent =
+      let (still, (actions, none, acts)) = turns_beside (design p) p.cycles v w (m + 1) m lent later others turns in
+      let now = task_stays p v.core w.core g.marks m
+          (others_grow (design p) (lockstep_run p) (plan_is_design p f) (run_is_history p f) p.cycles v.core g m actions none w.core acts)
+          task (task_for p v.core m task t) in
+      (now, b p m (rest_of p w.core m task) (run_stands p w.core m task.run now.run))
+
+  pub burst_marks : burst.short ≡ false → 0 < length burst.emitted
+  burst_marks long =
+      burst_has_marks p f v.core g.marks m task burst t (b p m (rest_of p v.core m task) (run_stands p v.core m task.run t.run)) long

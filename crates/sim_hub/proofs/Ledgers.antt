@@ -1,0 +1,245 @@
+-- What each kind of turn leaves of a ledger.
+use Rattle.std.proofs.Common.{◌≡◌, ℕ, ◌+◌, ◌-◌, ◌<◌, ◌≤◌, inl, inr, refl, sym, ap, ◌∙◌, subst, arith}
+use Rattle.std.proofs.Common.{List, [], ◌∷◌, ◌++◌, Option, Some, None, Bool, true, false, length, length-append}
+use Rattle.std.specs.Prelude.{slice_index_or, slice_set}
+use Rattle.std.proofs.lemmas.Bool.{cases_Bool}
+use Rattle.std.proofs.lemmas.List.{get_or-set_same}
+use mathlib.Core.Logic.{∥∥₁_elim}
+use Rattle.flow_design.specs.StaticRules.{FitsEngine}
+use Rattle.flow_design.specs.declared.plan.Plan.{Plan}
+use Rattle.flow_design.specs.declared.state.ModuleState.{ModuleState}
+use Rattle.event_timing.specs.Core.{Core}
+use Rattle.event_timing.specs.Actions.{ActsAll, MayEarliest, MayRun, IsFinal, runs}
+use Rattle.timing_bridge.specs.Designs.{design}
+use Rattle.run_ahead.specs.declared.mail.Task.{Task}
+use Rattle.run_ahead.specs.declared.mail.Burst.{Burst}
+use Rattle.run_ahead.specs.Mails.{IsBurst}
+use Rattle.sim_core.specs.Views.{CoreView, theory_of}
+use Rattle.sim_core.specs.Tasks.{IsTaskOf, IsTaskFor, IsBurstOf, rest_of}
+use Rattle.turn_history.specs.declared.turn.HubTurn.{HubTurn}
+use Rattle.turn_history.specs.declared.turn.HubTurn.TheVariants.{Lent, Ran, Timed}
+use Rattle.turn_history.specs.declared.entry.HubEntry.{HubEntry}
+use Rattle.turn_history.specs.Turns.{AreOfOthers, NoTiming}
+use Rattle.turn_history.specs.Turned.{Turned, lent_at, after_lent, after_ran, after_timed}
+use Rattle.turn_history.specs.Histories.{turned_by}
+use Rattle.turn_history.specs.Entries.{history_of, Stands}
+use Rattle.turn_history.proofs.Plans.{history_is, history_agrees}
+use Rattle.turn_history.proofs.Lending.{turns_beside}
+use Rattle.turn_history.proofs.Turning.{lent_fits, ran_fits}
+use Rattle.sim_hub.specs.declared.answer.Desk.TheVariants as desk
+use Rattle.sim_hub.specs.Kept.{IsKept, behind, spare}
+use Rattle.sim_hub.specs.Places.{Behind, HasDesk, HasNoDesk}
+use Rattle.sim_hub.specs.Hubs.{HadMemory, IsDesk, IsFinished, IsHeld, IsIdle, OutAt, WasShort}
+use Rattle.sim_hub.specs.Steps.{Adds, ComesHome, ComesBack}
+use Rattle.sim_hub.proofs.Lists.{set_none, within_some}
+use Rattle.sim_hub.proofs.Histories.{behind_at}
+use Rattle.sim_hub.proofs.Keeping.{lent_out, kept_stands, kept_behind, kept_next, kept_lent, kept_some, lent_matches, ran_matches, timed_matches}
+use Rattle.sim_hub.proofs.Desks.{task_runs, burst_back, burst_marks}
+use Rattle.sim_hub.proofs.Answering.{stands_more, module_inside, come_back, home_since}
+
+module _ (core : CoreView) (turns : List HubTurn) (out : ℕ) (short : Bool) (capacity : ℕ) (k : IsKept core turns out short capacity) where
+  -- ---- a pass that has come home
+
+  pub owner_inside : (m : ℕ) → ComesHome m (history_of core.plan turns) → m < length core.plan.design.modules
+  owner_inside m c =
+      module_inside core.plan (history_of core.plan turns) (behind core.plan turns) (kept_stands core turns out short capacity k) m
+      c.before.seen c.within c.continues.begins
+
+  pub owner_home : FitsEngine core.plan → (m : ℕ) → ComesHome m (history_of core.plan turns) → HasNoDesk m (history_of core.plan turns)
+  owner_home fits m c =
+      home_since core.plan fits (history_of core.plan turns) (behind core.plan turns) (kept_stands core turns out short capacity k) c.before
+      c.continues m c.number c.home
+
+  -- so until memory was wanted its run is in the core
+  pub owner_own : FitsEngine core.plan → short ≡ false → (m : ℕ) → m < length core.plan.design.modules
+      → ∥ ComesHome m (history_of core.plan turns) ∥₁ → slice_index_or core.lent m true ≡ false
+  owner_own fits memory m inside home =
+      elim (cases_Bool (slice_index_or core.lent m true)) [
+        | inl gone ↦ absurd (∥∥₁_elim home (λ a b. absurd a) (λ c.
+            behind_at core.plan (history_of core.plan turns) (behind core.plan turns) (kept_stands core turns out short capacity k)
+            (λ p at. lent_at at m ≡ Some (m + 1) → ⊥) (owner_home fits m c) (k.matches.home memory m inside gone)))
+        | inr here ↦ here
+      ]
+
+  -- ---- where nothing is added
+
+  pub had_memory : short ≡ false → Behind (history_of core.plan turns) HadMemory
+  had_memory memory = kept_behind core turns out short capacity k HadMemory (sym k.matches.short_is ∙ memory)
+
+  pub was_short : short ≡ true → Behind (history_of core.plan turns) WasShort
+  was_short wanted = kept_behind core turns out short capacity k WasShort (sym k.matches.short_is ∙ wanted)
+
+  module _ (now : CoreView) (plan : now.plan ≡ core.plan) (theory : theory_of now ≡ theory_of core) where
+    final_here : IsFinal (design now.plan) now.plan.cycles (theory_of now)
+        → IsFinal (design core.plan) core.plan.cycles (behind core.plan turns).core
+    final_here f =
+        subst (IsFinal (design core.plan) core.plan.cycles) (theory ∙ k.matches.core_is)
+        (subst (λ (p : Plan). IsFinal (design p) p.cycles (theory_of now)) plan f)
+
+    final_there : IsFinal (design core.plan) core.plan.cycles (behind core.plan turns).core
+        → IsFinal (design now.plan) now.plan.cycles (theory_of now)
+    final_there f =
+        subst (λ (p : Plan). IsFinal (design p) p.cycles (theory_of now)) (sym plan)
+        (subst (IsFinal (design core.plan) core.plan.cycles) (sym (theory ∙ k.matches.core_is)) f)
+
+    pub is_finished : IsFinal (design now.plan) now.plan.cycles (theory_of now) → short ≡ false
+        → Behind (history_of core.plan turns) IsFinished
+    is_finished f memory =
+        kept_behind core turns out short capacity k IsFinished (record { final = final_here f; memory = sym k.matches.short_is ∙ memory })
+
+    pub is_idle : NoTiming (design now.plan) now.plan.cycles (theory_of now)
+        → ((m c : ℕ) → MayEarliest (design now.plan) now.plan.cycles (theory_of now) m c → ⊥)
+        → (IsFinal (design now.plan) now.plan.cycles (theory_of now) → ⊥) → short ≡ false
+        → Behind (history_of core.plan turns) IsIdle
+    is_idle none least more memory =
+        let is = theory ∙ k.matches.core_is in
+        kept_behind core turns out short capacity k IsIdle (record {
+          no_timing = subst (NoTiming (design core.plan) core.plan.cycles) is
+              (subst (λ (p : Plan). NoTiming (design p) p.cycles (theory_of now)) plan none);
+          no_earliest = subst (λ (x : Core ModuleState). (m c : ℕ) → MayEarliest (design core.plan) core.plan.cycles x m c → ⊥) is
+              (subst (λ (p : Plan). (m c : ℕ) → MayEarliest (design p) p.cycles (theory_of now) m c → ⊥) plan least);
+          more = λ f. more (final_there f);
+          memory = sym k.matches.short_is ∙ memory;
+        })
+
+    -- where no run is lent
+    pub is_held : (m : ℕ) → m < length core.plan.design.modules → HasNoDesk m (history_of core.plan turns) → short ≡ false
+        → (MayRun (design core.plan) (theory_of core) m → slice_index_or core.lent m true ≡ true)
+        → (IsFinal (design now.plan) now.plan.cycles (theory_of now) → ⊥) → Behind (history_of core.plan turns) (IsHeld m)
+    is_held m inside home memory none more =
+        kept_behind core turns out short capacity k (IsHeld m) (record {
+          no_run = λ may.
+              let gone = none (subst (λ (x : Core ModuleState). MayRun (design core.plan) x m) (sym k.matches.core_is) may) in
+              behind_at core.plan (history_of core.plan turns) (behind core.plan turns) (kept_stands core turns out short capacity k)
+              (λ p at. lent_at at m ≡ Some (m + 1) → ⊥) home (k.matches.home memory m inside gone);
+          more = λ f. more (final_there f);
+          memory = sym k.matches.short_is ∙ memory;
+        })
+
+  -- ---- a lending
+
+  pub desk_here : (m : ℕ) (task : Task) → IsTaskOf core.plan (theory_of core) m task → IsDesk m (history_of core.plan turns) task
+  desk_here m task t =
+      kept_behind core turns out short capacity k (λ p at. IsTaskOf p at.core m task)
+      (subst (λ (x : Core ModuleState). IsTaskOf core.plan x m task) k.matches.core_is t)
+
+  free : (m : ℕ) → slice_index_or core.lent m true ≡ false → lent_at (behind core.plan turns) m ≡ None
+  free m here = either (lent_at (behind core.plan turns) m) refl
+    where
+      either : (o : Option ℕ) → lent_at (behind core.plan turns) m ≡ o → lent_at (behind core.plan turns) m ≡ None
+      either None e = e
+      either (Some q) e = let z = sym here ∙ k.matches.away m q e in absurd (cc)
+
+  lent_turn : (m : ℕ) → short ≡ false → MayRun (design core.plan) (theory_of core) m → slice_index_or core.lent m true ≡ false
+      → turned_by core.plan (behind core.plan turns) (Lent (m + 1) m) ≡ Some (after_lent (behind core.plan turns) (m + 1) m)
+  lent_turn m memory may here =
+      let at = behind core.plan turns in
+      lent_fits (design core.plan) core.plan.cycles at (m + 1) m (after_lent at (m + 1) m)
+      (sym k.matches.short_is ∙ memory, subst (λ (x : Core ModuleState). MayRun (design core.plan) x m) k.matches.core_is may, free m here, refl)
+
+  pub kept_lending : (now : CoreView) (more : List HubTurn) (room q m : ℕ) → q ≡ m + 1 → now ≡ lent_out core m
+      → m < length core.plan.design.modules → short ≡ false → MayRun (design core.plan) (theory_of core) m
+      → slice_index_or core.lent m true ≡ false → more ≡ turns ++ Lent q m ∷ [] → length turns + (out + 3) ≤ room
+      → IsKept now more (out + 1) short room
+  kept_lending now more room q m pass gone inside memory may here added enough =
+      let spared = ap spare memory in
+      let longer = ap length added ∙ length-append turns (Lent q m ∷ []) in
+      subst (λ (v : CoreView). IsKept v more (out + 1) short room) (sym gone)
+      (kept_next core turns out short capacity k (lent_out core m) more (out + 1) short room (Lent (m + 1) m)
+      (after_lent (behind core.plan turns) (m + 1) m) refl (added ∙ ap (λ n. turns ++ Lent n m ∷ []) pass) (omega arith)
+      (lent_turn m memory may here) (lent_matches core out short (behind core.plan turns) k.matches m inside) (omega arith))
+
+  -- the desk is out behind it
+  pub out_lending : (log : List HubEntry) (m : ℕ) (task : Task) → m < length core.plan.design.modules → short ≡ false
+      → IsTaskOf core.plan (theory_of core) m task → slice_index_or core.lent m true ≡ false
+      → Adds (Lent (m + 1) m) (history_of core.plan turns) log → OutAt m log (desk.Run task)
+  out_lending log m task inside memory t here added =
+      let at = behind core.plan turns in
+      let stands = stands_more core.plan (history_of core.plan turns) log at (after_lent at (m + 1) m) (Lent (m + 1) m)
+          (kept_stands core turns out short capacity k) (lent_turn m memory t.may here) added in (
+        (
+          core.plan,
+          after_lent at (m + 1) m,
+          stands,
+          get_or-set_same at.lent_to m (Some (m + 1)) None (let places = k.matches.places in omega arith),
+        ),
+        (
+          core.plan,
+          after_lent at (m + 1) m,
+          stands,
+          subst (λ (x : Core ModuleState). IsTaskOf core.plan x m task) k.matches.core_is t,
+        ),
+        task_runs core.plan (theory_of core) m task t,
+      )
+
+  -- ---- a return
+
+  module _ (fits : FitsEngine core.plan) (m : ℕ) (burst : Burst) (c : ComesBack m burst (history_of core.plan turns)) where
+    -- the desk is still out, the burst is one on a task for the core, and it has marks
+    pub burst_is : (lent_at (behind core.plan turns) m ≡ Some (m + 1)) × IsBurstOf core m burst
+        × (burst.short ≡ false → 0 < length burst.emitted)
+    burst_is =
+        let now = behind core.plan turns in
+        let (at, s, lent, (later, others, ts)) = come_back core.plan fits (history_of core.plan turns) now
+            (kept_stands core turns out short capacity k) c.before c.continues (λ p u. lent_at u m ≡ Some (m + 1)) c.out in
+        let mine = subst (λ (q : ℕ). AreOfOthers q later) c.number others in
+        let (task, lent_task, on) = c.is_burst in
+        let t = behind_at core.plan c.before.seen at s (λ p u. IsTaskOf p u.core m task) lent_task in
+        let g = history_agrees core.plan fits s.turns at (history_is core.plan fits s.turns at s.standing) in
+        let back = burst_back core.plan fits at now m task burst g t on later mine ts lent in (
+          (turns_beside (design core.plan) core.plan.cycles at now (m + 1) m lent later mine ts).0,
+          (
+            task,
+            subst (λ (x : Core ModuleState). IsTaskFor core.plan x m task × IsBurst core.plan m (rest_of core.plan x m task) task burst)
+                (sym k.matches.core_is) back,
+          ),
+          burst_marks core.plan fits at now m task burst g t on,
+        )
+
+  pub kept_ran : (now : CoreView) (more : List HubTurn) (room q m n : ℕ) → q ≡ m + 1 → now.plan ≡ core.plan
+      → now.lent ≡ slice_set core.lent m false → lent_at (behind core.plan turns) m ≡ Some (m + 1) → 0 < n
+      → ActsAll (design core.plan) core.plan.cycles (theory_of core) (runs n m) (theory_of now) → more ≡ turns ++ Ran q m n ∷ []
+      → 1 ≤ out → capacity ≤ room → IsKept now more (out - 1) short room
+  kept_ran now more room q m n pass plan runs_now lent some acts added one enough =
+      let longer = ap length added ∙ length-append turns (Ran q m n ∷ []) in
+      let before = k.room in
+      let inside = within_some (behind core.plan turns).lent_to m (m + 1) lent in
+      let places = k.matches.places in
+      kept_next core turns out short capacity k now more (out - 1) short room (Ran (m + 1) m n)
+      (after_ran (behind core.plan turns) m (theory_of now)) plan (added ∙ ap (λ i. turns ++ Ran i m n ∷ []) pass) (omega arith)
+      (ran_turn now m n lent some acts) (ran_matches core out short (behind core.plan turns) k.matches now m lent plan runs_now)
+      (omega arith)
+    where
+      ran_turn : (now : CoreView) (m n : ℕ) → lent_at (behind core.plan turns) m ≡ Some (m + 1) → 0 < n
+          → ActsAll (design core.plan) core.plan.cycles (theory_of core) (runs n m) (theory_of now)
+          → turned_by core.plan (behind core.plan turns) (Ran (m + 1) m n) ≡ Some (after_ran (behind core.plan turns) m (theory_of now))
+      ran_turn now m n lent some acts =
+          let at = behind core.plan turns in
+          ran_fits (design core.plan) core.plan.cycles at (m + 1) m n (after_ran at m (theory_of now))
+          (lent, some, subst (λ (x : Core ModuleState). ActsAll (design core.plan) core.plan.cycles x (runs n m) (theory_of now)) k.matches.core_is acts, refl)
+
+  -- no desk is out behind it
+  pub home_ran : (now : CoreView) (log : List HubEntry) (m n : ℕ) → lent_at (behind core.plan turns) m ≡ Some (m + 1) → 0 < n
+      → ActsAll (design core.plan) core.plan.cycles (theory_of core) (runs n m) (theory_of now)
+      → Adds (Ran (m + 1) m n) (history_of core.plan turns) log → HasNoDesk m log
+  home_ran now log m n lent some acts added =
+      let at = behind core.plan turns in
+      let next = ran_fits (design core.plan) core.plan.cycles at (m + 1) m n (after_ran at m (theory_of now))
+          (lent, some, subst (λ (x : Core ModuleState). ActsAll (design core.plan) core.plan.cycles x (runs n m) (theory_of now)) k.matches.core_is acts, refl) in (
+        core.plan,
+        after_ran at m (theory_of now),
+        stands_more core.plan (history_of core.plan turns) log at (after_ran at m (theory_of now)) (Ran (m + 1) m n)
+            (kept_stands core turns out short capacity k) next added,
+        λ still. let z = sym (set_none at.lent_to m) ∙ still in cc,
+      )
+
+  -- ---- a turn that times
+
+  pub kept_timed : (now : CoreView) (more : List HubTurn) (room n : ℕ) → now.plan ≡ core.plan → now.lent ≡ core.lent
+      → turned_by core.plan (behind core.plan turns) (Timed 0 n) ≡ Some (after_timed (behind core.plan turns) (theory_of now))
+      → more ≡ turns ++ Timed 0 n ∷ [] → length turns + (out + 2) ≤ room → short ≡ false → IsKept now more out short room
+  kept_timed now more room n plan runs_now next added enough memory =
+      let spared = ap spare memory in
+      let longer = ap length added ∙ length-append turns (Timed 0 n ∷ []) in
+      kept_next core turns out short capacity k now more out short room (Timed 0 n) (after_timed (behind core.plan turns) (theory_of now))
+      plan added (omega arith) next (timed_matches core out short (behind core.plan turns) k.matches now plan runs_now) (omega arith)

@@ -1,0 +1,96 @@
+use Rattle.std.proofs.Common.{rules, arith, ◌≡◌, ℕ, ◌+◌, ◌<◌, List, [], ◌∷◌, ◌++◌, map, Some, length, refl, sym, ap, ◌∙◌, subst, append_assoc, slice_get}
+use Rattle.std.proofs.lemmas.List.{map-append}
+use Rattle.turn_lock.specs.declared.view.View.{View}
+use Rattle.turn_lock.specs.Passes.{view_of}
+use Rattle.turn_lock.specs.Turns.{AllJoined}
+use Rattle.turn_lock.specs.Views.{after_join}
+use Rattle.turn_lock.proofs.Joins.{after_joins, after_joins-snoc, joins_keep, all_joined}
+use Rattle.turn_history.specs.declared.entry.HubEntry.{HubEntry}
+use Rattle.sim_hub.specs.declared.pass.ModulePass.{ModulePass}
+use Rattle.sim_hub.specs.Ledgers.{entries_in}
+use Rattle.sim_hub.specs.Hubs.{module_view}
+use Rattle.sim_hub.proofs.Lists.{get_mapped, there}
+use Rattle.sim_hub.specs.Kept.{behind}
+use Rattle.sim_hub.proofs.Keeping.{kept_legal, kept_stands}
+use Rattle.sim_hub.proofs.Closing.{all_in_order, comes_home, joined_all, log_count, made_count, shown_each, whole}
+use Rattle.sim_hub.proofs.hub.Hub.close.Goals as goal
+
+pub join-pass-requires-clause-first : goal.join-pass-requires-clause-first
+join-pass-requires-clause-first c =
+    let p = c.args.perf in
+    ap (λ v. v.number) c.loop-other.invariant.1 ∙ joins_keep (λ v. v.number) (λ _ _. refl) (view_of p.place.pass) (map module_view c.loop-other.yielded)
+    ∙ p.place.numbered ∙ p.first
+
+pub loop-other-preserved : goal.loop-other-preserved
+loop-other-preserved c =
+    let i = c.loop-other.invariant in
+    let v = view_of c.args.perf.place.pass in
+    let ys = c.loop-other.yielded in
+    let o = c.in-Some.other in (
+      search rules,
+      c.join-pass.ensures.joined ∙ ap (λ (u : View HubEntry). after_join u (module_view o)) i.1
+          ∙ sym (after_joins-snoc v (map module_view ys) (module_view o)) ∙ ap (after_joins v) (sym (map-append module_view ys (o ∷ []))),
+      i.2 ∙ ap (λ (l : List ModulePass). ys ++ l) c.in-Some.ensures.steps.0 ∙ sym (append_assoc ys (o ∷ []) c.next.new.self.rest.items),
+    )
+
+pub close-requires-clause-first : goal.close-requires-clause-first
+close-requires-clause-first c =
+    let p = c.args.perf in
+    ap (λ v. v.number) c.loop-other.invariant.1 ∙ joins_keep (λ v. v.number) (λ _ _. refl) (view_of p.place.pass) (map module_view c.loop-other.yielded)
+    ∙ p.place.numbered ∙ p.first
+
+pub close-requires-clause-joined : goal.close-requires-clause-joined
+close-requires-clause-joined c =
+    let p = c.args.perf in
+    let v = view_of p.place.pass in
+    let ms = c.args.modules.items in
+    let is = joined_all v (view_of c.loop-other.pass) ms c.loop-other.yielded _ c.loop-other.invariant.1 c.loop-other.invariant.2
+        (sym c.loop-other.other-iterator.rest.ok.0 ∙ c.in-None.ensures.steps.0) in
+    subst AllJoined (sym is)
+    (all_joined v (map module_view ms)
+    (all_in_order v ms (made_count v (length ms) p.made c.requires.modules.0) (λ k m e. (c.requires.modules.1 k m e).0)))
+
+pub settle-requires-clause-over : goal.settle-requires-clause-over
+settle-requires-clause-over c =
+    let p = c.args.perf in
+    let v = view_of p.place.pass in
+    let ms = c.args.modules.items in
+    let is = joined_all v (view_of c.loop-other.pass) ms c.loop-other.yielded _ c.loop-other.invariant.1 c.loop-other.invariant.2
+        (sym c.loop-other.other-iterator.rest.ok.0 ∙ c.in-None.ensures.steps.0) in
+    let shown = shown_each (entries_in c.close.result) v (view_of c.loop-other.pass) ms (p.place.numbered ∙ p.first) is c.close.ensures.all in
+    (v.seen, shown.first.seen, c.requires.over)
+
+pub settle-requires-clause-home : goal.settle-requires-clause-home
+settle-requires-clause-home c = λ m inside.
+    let p = c.args.perf in
+    let v = view_of p.place.pass in
+    let ms = c.args.modules.items in
+    let d = c.close.result in
+    let log = entries_in d in
+    let is = joined_all v (view_of c.loop-other.pass) ms c.loop-other.yielded _ c.loop-other.invariant.1 c.loop-other.invariant.2
+        (sym c.loop-other.other-iterator.rest.ok.0 ∙ c.in-None.ensures.steps.0) in
+    let shown = shown_each log v (view_of c.loop-other.pass) ms (p.place.numbered ∙ p.first) is c.close.ensures.all in
+    let count = log_count d.core.plan log (behind d.core.plan d.turns.items) (kept_stands d.core d.turns.items d.out d.short _ d.kept) v.seen (length ms)
+        shown.first.seen c.requires.modules.0 in
+    let (o, at) = there ms m (omega arith) in
+    comes_home log m o (c.requires.modules.1 m o at).0
+    (shown.others m (module_view o) (get_mapped module_view ms m o at)) (c.requires.home m o at)
+
+pub returns : goal.returns
+returns c =
+    let p = c.args.perf in
+    let v = view_of p.place.pass in
+    let ms = c.args.modules.items in
+    let d = c.close.result in
+    let log = entries_in d in
+    let is = joined_all v (view_of c.loop-other.pass) ms c.loop-other.yielded _ c.loop-other.invariant.1 c.loop-other.invariant.2
+        (sym c.loop-other.other-iterator.rest.ok.0 ∙ c.in-None.ensures.steps.0) in
+    let shown = shown_each log v (view_of c.loop-other.pass) ms (p.place.numbered ∙ p.first) is c.close.ensures.all in
+    let legal = kept_legal d.core d.turns.items d.out d.short _ d.kept in
+    let count = log_count d.core.plan log (behind d.core.plan d.turns.items) (kept_stands d.core d.turns.items d.out d.short _ d.kept) v.seen (length ms)
+        shown.first.seen c.requires.modules.0 in
+    (
+      log,
+      whole p ms log legal shown (λ k m e. (c.requires.modules.1 k m e).0) (λ n above. d.kept.none_else n (omega arith)),
+      c.settle.ensures,
+    )

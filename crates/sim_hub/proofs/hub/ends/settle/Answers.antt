@@ -1,0 +1,38 @@
+use Rattle.std.proofs.Common.{◌≡◌, ◌+◌, ℕ, refl, sym, ap, subst, ◌∙◌, true, false, Some}
+use Rattle.std.specs.Prelude.{slice_index_or}
+use Rattle.event_timing.specs.Actions.{IsFinal}
+use Rattle.timing_bridge.specs.Designs.{design}
+use Rattle.sim_core.specs.Views.{theory_of}
+use Rattle.turn_history.specs.Turned.{lent_at}
+use Rattle.turn_history.specs.Entries.{history_of}
+use Rattle.sim_hub.specs.Kept.{behind}
+use Rattle.sim_hub.proofs.Keeping.{kept_stands}
+use Rattle.sim_hub.proofs.Ledgers.{owner_own, was_short}
+use Rattle.sim_hub.proofs.Closing.{final_since}
+use Rattle.sim_hub.proofs.hub.ends.settle.Goals as goal
+
+pub returns-then-short : goal.returns-then-short
+returns-then-short c =
+    let l = c.args.ledger in
+    was_short l.core l.turns.items l.out l.short _ l.kept c.if-short.true
+
+pub returns-else-short : goal.returns-else-short
+returns-else-short c =
+    let l = c.args.ledger in
+    let k = l.kept in
+    let fits = c.modules-count.ensures.fits in
+    let memory = sym k.matches.short_is ∙ c.if-short.false in
+    let final = final_since l.core.plan fits c.requires.over.0 (history_of l.core.plan l.turns.items) (behind l.core.plan l.turns.items)
+        (kept_stands l.core l.turns.items l.out l.short _ k) c.requires.over.1 c.requires.over.2 memory in
+    (
+      refl,
+      record {
+        at = behind l.core.plan l.turns.items;
+        stands = kept_stands l.core l.turns.items l.out l.short _ k;
+        memory = memory;
+        core = k.matches.core_is;
+        plan_is = refl;
+        final = final;
+        own = λ m inside. owner_own l.core l.turns.items l.out l.short _ k fits c.if-short.false m inside (c.requires.home m inside);
+      },
+    )

@@ -1,0 +1,71 @@
+-- How a hub begins and ends.
+use Rattle.std.specs.Prelude.{◌≡◌, ℕ, suc, ◌+◌, ◌<◌, List, [], length, false, Some, slice_get}
+use mathlib.Core.List.{IsPrefix}
+use Rattle.flow_design.specs.declared.plan.Plan.{Plan}
+use Rattle.flow_design.specs.declared.state.ModuleState.{ModuleState}
+use Rattle.turn_lock.specs.Entries.{entries_of}
+use Rattle.turn_lock.specs.Passes.{TableId, pass_lock}
+use Rattle.event_timing.specs.Actions.{IsFinal}
+use Rattle.timing_bridge.specs.Designs.{design}
+use Rattle.sim_core.specs.Views.{theory_of}
+use Rattle.sim_core.specs.Drives.{AreOwn}
+use Rattle.turn_history.specs.declared.entry.HubEntry.{HubEntry}
+use Rattle.turn_history.specs.declared.turn.HubTurn.{HubTurn}
+use Rattle.turn_history.specs.Entries.{bearer, history_of, Stands}
+use Rattle.turn_history.specs.Turned.{Turned}
+use Rattle.sim_hub.specs.declared.pass.PerfPass.{PerfPass}
+use Rattle.sim_hub.specs.declared.pass.ModulePass.{ModulePass}
+use Rattle.sim_hub.specs.declared.answer.Threaded.{Threaded}
+use Rattle.sim_hub.specs.declared.answer.Closed.{Closed}
+use Rattle.sim_hub.specs.declared.answer.Closed.TheVariants as closed
+use Rattle.sim_hub.specs.Places.{Behind, HasModules, HasNoDeskOut, IsLegal}
+use Rattle.sim_hub.specs.Hubs.{module_view, perf_view, WasShort}
+
+-- the passes of the modules of this hub, in order
+abbrev pub AreOfHub : TableId → List ModulePass → Type 0
+AreOfHub id passes = (k : ℕ) (p : ModulePass) → slice_get passes k ≡ Some p → (p.which ≡ k) × (pass_lock p.place.pass ≡ id)
+
+-- one for each module of the plan
+abbrev pub HasAllModules : List HubEntry → List ModulePass → Type 0
+HasAllModules seen passes = HasModules (length passes) seen
+
+-- no desk is out
+abbrev pub AllHome : List ModulePass → Type 0
+AllHome passes = (k : ℕ) (p : ModulePass) → slice_get passes k ≡ Some p → HasNoDeskOut p.which (module_view p)
+
+-- and all have seen this history
+abbrev pub AreFrom : TableId → List HubEntry → List ModulePass → Type 0
+AreFrom id seen passes = (k : ℕ) (p : ModulePass) → slice_get passes k ≡ Some p
+    → (p.which ≡ k) × (pass_lock p.place.pass ≡ id) × ((module_view p).seen ≡ seen)
+
+-- the same of a hub that was just opened
+abbrev pub AreNew : TableId → Plan → List ModulePass → Type 0
+AreNew id plan passes = AreFrom id (history_of plan []) passes
+
+-- the turns are a legal history of the plan without a want of memory, behind which stands the core, which is final, and of which no
+-- run is lent
+pub record IsRun (plan : Plan) (t : Threaded) : Type 0 where
+  pub at : Turned ModuleState
+  pub stands : Stands plan (history_of plan t.turns.items) at
+  pub memory : at.short ≡ false
+  pub core : theory_of t.core ≡ at.core
+  pub plan_is : t.core.plan ≡ plan
+  pub final : IsFinal (design plan) plan.cycles at.core
+  pub own : AreOwn t.core
+
+-- the history of a hub whose passes all came back: it begins with what each has seen, and has the own entries of each and no others
+pub record IsWhole (perf : PerfPass) (modules : List ModulePass) (log : List HubEntry) : Type 0 where
+  pub legal : IsLegal log
+  pub first : IsPrefix (perf_view perf).seen log
+  pub first_own : entries_of bearer 0 log ≡ (perf_view perf).own
+  pub others : (k : ℕ) (p : ModulePass) → slice_get modules k ≡ Some p
+      → IsPrefix (module_view p).seen log × (entries_of bearer (suc k) log ≡ (module_view p).own)
+  pub none_else : (n : ℕ) → length modules < n → entries_of bearer n log ≡ []
+
+-- a final core with all turns, or memory was wanted
+abbrev pub EndsAt : List HubEntry → Closed → Type 0
+EndsAt log (closed.Final t) = (log ≡ history_of t.core.plan t.turns.items) × IsRun t.core.plan t
+EndsAt log closed.Short = Behind log WasShort
+
+abbrev pub ClosedIs : PerfPass → List ModulePass → Closed → Type 0
+ClosedIs perf modules c = (log : List HubEntry) × IsWhole perf modules log × EndsAt log c

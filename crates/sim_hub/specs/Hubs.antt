@@ -1,0 +1,121 @@
+-- What the answers of a hub say.
+use Rattle.std.specs.Prelude.{◌≡◌, ◌⊎◌, ℕ, ◌+◌, List, length, Bool, true, false}
+use Rattle.flow_design.specs.declared.plan.Plan.{Plan}
+use Rattle.flow_design.specs.declared.state.ModuleState.{ModuleState}
+use Rattle.lockstep_defs.specs.OwnRun.{Own}
+use Rattle.module_interp.specs.Runs.{StandsAt}
+use Rattle.turn_lock.specs.declared.view.View.{View}
+use Rattle.turn_lock.specs.Passes.{TableId, pass_lock, lock_id, view_of}
+use Rattle.event_timing.specs.Actions.{MayRun, MayEarliest, IsFinal}
+use Rattle.timing_bridge.specs.Designs.{design}
+use Rattle.run_ahead.specs.declared.mail.Task.{Task}
+use Rattle.run_ahead.specs.declared.mail.Burst.{Burst}
+use Rattle.run_ahead.specs.Mails.{IsBurst}
+use Rattle.run_ahead.specs.Working.{StandsSomewhere}
+use Rattle.sim_core.specs.Tasks.{IsTaskOf}
+use Rattle.turn_history.specs.declared.entry.HubEntry.{HubEntry}
+use Rattle.turn_history.specs.declared.turn.HubTurn.TheVariants.{Lent, Ran, Timed, Short}
+use Rattle.turn_history.specs.Turned.{Turned}
+use Rattle.turn_history.specs.Turns.{NoTiming}
+use Rattle.sim_hub.specs.declared.hub.Hub.{Hub}
+use Rattle.sim_hub.specs.declared.pass.PerfPass.{PerfPass}
+use Rattle.sim_hub.specs.declared.pass.ModulePass.{ModulePass}
+use Rattle.sim_hub.specs.declared.answer.Desk.{Desk}
+use Rattle.sim_hub.specs.declared.answer.Desk.TheVariants as desk
+use Rattle.sim_hub.specs.declared.answer.PerfAnswer.{PerfAnswer}
+use Rattle.sim_hub.specs.declared.answer.PerfAnswer.TheVariants as perf
+use Rattle.sim_hub.specs.Places.{Behind, HasAdded, HasLooked, HasDesk, HasNoDesk}
+
+-- which hub it is
+abbrev pub hub_id : Hub → TableId
+hub_id h = lock_id h.lock
+
+abbrev pub module_view : ModulePass → View HubEntry
+module_view p = view_of p.place.pass
+
+abbrev pub perf_view : PerfPass → View HubEntry
+perf_view p = view_of p.place.pass
+
+abbrev pub IsOfHub : Hub → ModulePass → Type 0
+IsOfHub h p = pass_lock p.place.pass ≡ hub_id h
+
+-- ---- what stands behind a history
+
+-- no Run of the module is permitted, more is to do, and no memory was wanted
+pub record IsHeld (m : ℕ) (p : Plan) (at : Turned ModuleState) : Type 0 where
+  pub no_run : MayRun (design p) at.core m → ⊥
+  pub more : IsFinal (design p) p.cycles at.core → ⊥
+  pub memory : at.short ≡ false
+
+-- no Assign, Answer or Earliest is permitted, more is to do, and no memory was wanted
+pub record IsIdle (p : Plan) (at : Turned ModuleState) : Type 0 where
+  pub no_timing : NoTiming (design p) p.cycles at.core
+  pub no_earliest : (m c : ℕ) → MayEarliest (design p) p.cycles at.core m c → ⊥
+  pub more : IsFinal (design p) p.cycles at.core → ⊥
+  pub memory : at.short ≡ false
+
+-- the core is final, and no memory was wanted
+pub record IsFinished (p : Plan) (at : Turned ModuleState) : Type 0 where
+  pub final : IsFinal (design p) p.cycles at.core
+  pub memory : at.short ≡ false
+
+-- memory was wanted
+abbrev pub WasShort : Plan → Turned ModuleState → Type 0
+WasShort p at = at.short ≡ true
+
+-- no memory was wanted
+abbrev pub HadMemory : Plan → Turned ModuleState → Type 0
+HadMemory p at = at.short ≡ false
+
+-- all is over
+abbrev pub IsOverAt : List HubEntry → Type 0
+IsOverAt seen = Behind seen IsFinished ⊎ Behind seen WasShort
+
+-- ---- desks
+
+-- the task is all that the core tells of the module
+abbrev pub IsDesk : ℕ → List HubEntry → Task → Type 0
+IsDesk m seen task = Behind seen (λ p at. IsTaskOf p at.core m task)
+
+-- a burst of work on the task, wherever its run stands
+abbrev pub IsBurstOn : Task → Burst → Type 0
+IsBurstOn task burst = (p : Plan) (m : ℕ) (o : Own) → StandsAt p m o task.run → IsBurst p m o task burst
+
+-- a burst on the desk that is out
+abbrev pub IsDeskBurst : ℕ → List HubEntry → Burst → Type 0
+IsDeskBurst m seen burst = (task : Task) × IsDesk m seen task × IsBurstOn task burst
+
+-- ---- answers
+
+-- memory was wanted before; or it was not, and is in this turn
+abbrev pub FoundShort : ℕ → View HubEntry → View HubEntry → Type 0
+FoundShort n v w =
+    Behind w.seen WasShort × (HasLooked v w ⊎ ((before : List HubEntry) × HasAdded (Short n) before v w × Behind before HadMemory))
+
+abbrev pub DeskIs : ℕ → View HubEntry → View HubEntry → Desk → Type 0
+DeskIs m v w (desk.Run task) = (before : List HubEntry) × HasAdded (Lent (m + 1) m) before v w × IsDesk m before task
+DeskIs m v w (desk.Held n) = HasLooked v w × (n ≡ length w.seen) × Behind w.seen (IsHeld m)
+DeskIs m v w desk.Over = HasLooked v w × Behind w.seen IsFinished
+DeskIs m v w desk.Short = FoundShort (m + 1) v w
+
+-- behind this history a desk is out just where it was lent, its task is that of the core there, and its run can go on
+abbrev pub OutAt : ℕ → List HubEntry → Desk → Type 0
+OutAt m seen (desk.Run task) = HasDesk m seen × IsDesk m seen task × StandsSomewhere task.run
+OutAt m seen (desk.Held n) = HasNoDesk m seen
+OutAt m seen desk.Over = HasNoDesk m seen
+OutAt m seen desk.Short = HasNoDesk m seen
+
+-- the same of what a pass has seen
+abbrev pub OutIs : ℕ → View HubEntry → Desk → Type 0
+OutIs m w answer = OutAt m w.seen answer
+
+abbrev pub PerfIs : View HubEntry → View HubEntry → PerfAnswer → Type 0
+PerfIs v w (perf.Did n) = (before : List HubEntry) × HasAdded (Timed 0 n) before v w
+PerfIs v w (perf.Idle n) = HasLooked v w × (n ≡ length w.seen) × Behind w.seen IsIdle
+PerfIs v w perf.Over = HasLooked v w × Behind w.seen IsFinished
+PerfIs v w perf.Short = FoundShort 0 v w
+
+-- the Runs were made; or memory was wanted
+abbrev pub ReturnIs : ℕ → ℕ → View HubEntry → View HubEntry → Bool → Type 0
+ReturnIs m n v w true = (before : List HubEntry) × HasAdded (Ran (m + 1) m n) before v w
+ReturnIs m n v w false = (before : List HubEntry) × HasAdded (Short (m + 1)) before v w

@@ -1,0 +1,13 @@
+//! The hub.
+use crate::ledger::Ledger;
+use turn_lock::TurnLock;
+
+mod ends;
+mod turns;
+mod work;
+
+/// A core that passes change in turns. Its entries are one legal history, whose replay gives the core.
+#[derive(Drop)]
+pub struct Hub {
+    pub lock: TurnLock<Ledger>,
+}

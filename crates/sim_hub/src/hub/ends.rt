@@ -1,0 +1,148 @@
+//! How a hub begins and ends.
+ghost use Rattle.std.specs.Prelude.{◌≡◌, ℕ, ◌+◌, ◌^◌, ◌<◌, ◌≤◌, List, [], ◌∷◌, ◌++◌, length, IfOk};
+ghost use Rattle.event_timing.specs.Core.{opening_core};
+ghost use Rattle.timing_bridge.specs.Designs.{design};
+ghost use Rattle.turn_lock.specs.Entries.{entries_of};
+ghost use Rattle.turn_lock.specs.Passes.{view_of, pass_lock, lock_id};
+ghost use Rattle.sim_core.specs.Drives.{AreOwn};
+ghost use Rattle.sim_core.specs.Views.{theory_of};
+ghost use Rattle.turn_history.specs.declared.entry.HubEntry.{HubEntry};
+ghost use Rattle.turn_history.specs.Entries.{bearer, history_of};
+ghost use mathlib.Core.List.{IsPrefix};
+ghost use Rattle.sim_hub.specs.Places.{IsFirst, HasModule, HasModules};
+ghost use Rattle.sim_hub.specs.Steps.{ComesHome};
+ghost use Rattle.sim_hub.specs.Hubs.{hub_id, perf_view, IsOverAt};
+ghost use Rattle.sim_hub.specs.Ledgers.{entries_in};
+ghost use Rattle.sim_hub.specs.Closings.{AreFrom, AreNew, AreOfHub, AllHome, HasAllModules, ClosedIs, EndsAt};
+
+use super::Hub;
+use crate::answer::{Closed, Threaded};
+use crate::ledger::Ledger;
+use crate::pass::{ModulePass, PerfPass, Place};
+use flow_word::OutOfMemory;
+use sim_core::Core;
+use std::alloc::Global;
+use turn_lock::{Pass, TurnLock};
+
+impl Hub {
+    /// A hub of an opening core, of which no run is lent, with its performance pass and a pass for each module, in order. Its history
+    /// has one entry.
+    ///
+    /// An error leaves nothing, and the core is gone.
+    pub fn new(
+        alloc: Global,
+        core: Core,
+    ) -> Result<(Hub, PerfPass, Vec<ModulePass>), OutOfMemory>
+        requires opening { theory_of core ≡ opening_core (design core.plan) }
+        requires own { AreOwn core }
+        ensures perf { IfOk result (λ r. (pass_lock r.1.place.pass ≡ hub_id r.0) × ((perf_view r.1).seen ≡ history_of core.plan [])) }
+        ensures count { IfOk result (λ r. length r.2.items ≡ length core.plan.design.modules) }
+        ensures modules { IfOk result (λ r. AreNew (hub_id r.0) core.plan r.2.items) }
+    {
+        let count = core.modules();
+        let ledger = Ledger::new(alloc, core)?;
+        let (lock, first) = TurnLock::new(alloc, ledger, count + 1)?;
+        let (first, modules) = split_all(alloc, &lock, first, count)?;
+        Ok((Hub { lock }, perf_pass(first, count), modules))
+    }
+
+    /// The core with all turns that led to it, once no desk is out and all is over.
+    pub fn close(self, perf: PerfPass, modules: Vec<ModulePass>) -> Closed
+        requires own { pass_lock perf.place.pass ≡ hub_id self }
+        requires modules { HasAllModules (perf_view perf).seen modules.items × AreOfHub (hub_id self) modules.items }
+        requires home { AllHome modules.items }
+        requires over { IsOverAt (perf_view perf).seen }
+        ensures { ClosedIs perf modules.items result }
+    {
+        let Hub { lock } = self;
+        let PerfPass { place } = perf;
+        let Place {
+            mut pass,
+            number: _,
+        } = place;
+        for other in modules {
+            let ModulePass { place, which: _ } = other;
+            let Place {
+                pass: next,
+                number: _,
+            } = place;
+            pass = lock.join(pass, next);
+        }
+        settle(lock.close(pass))
+    }
+}
+
+/// The first pass makes a pass for each of so many modules, in order.
+fn split_all(
+    alloc: Global,
+    lock: &TurnLock<Ledger>,
+    first: Pass<Ledger>,
+    count: u32,
+) -> Result<(Pass<Ledger>, Vec<ModulePass>), OutOfMemory>
+    requires own { pass_lock first ≡ lock_id lock.now }
+    requires first { IsFirst 0 (view_of first).seen (view_of first) }
+    requires room { count < (view_of first).passes }
+    requires modules { HasModules count (view_of first).seen }
+    requires fresh { (n : ℕ) → entries_of bearer n (view_of first).seen ≡ [] }
+    ensures own { IfOk result (λ r. pass_lock r.0 ≡ lock_id lock.now) }
+    ensures first { IfOk result (λ r. IsFirst count (view_of first).seen (view_of r.0)) }
+    ensures count { IfOk result (λ r. length r.1.items ≡ count) }
+    ensures modules { IfOk result (λ r. AreFrom (lock_id lock.now) (view_of first).seen r.1.items) }
+{
+    let mut first = first;
+    let mut list = Vec::new(alloc);
+    for made in 0..count {
+        let (back, pass) = lock.split(first);
+        first = back;
+        list.push(module_pass(pass, made))?;
+    }
+    Ok((first, list))
+}
+
+/// A module's pass, which was just made.
+fn module_pass(pass: Pass<Ledger>, which: u32) -> ModulePass
+    requires room { which + 1 < 2 ^ 32 }
+    requires number { (view_of pass).number ≡ which + 1 }
+    requires own { (view_of pass).own ≡ entries_of bearer (which + 1) (view_of pass).seen }
+    requires within { HasModule which (view_of pass).seen }
+    ensures { (result.which ≡ which) × (result.place.pass ≡ pass) }
+{
+    let place = Place {
+        pass,
+        number: which + 1,
+    };
+    ModulePass { place, which }
+}
+
+/// The performance pass, which has just made a pass for each of so many modules.
+fn perf_pass(pass: Pass<Ledger>, count: u32) -> PerfPass
+    requires first { IsFirst count (view_of pass).seen (view_of pass) }
+    requires modules { HasModules count (view_of pass).seen }
+    requires fresh { entries_of bearer 0 (view_of pass).seen ≡ [] }
+    ensures { result.place.pass ≡ pass }
+{
+    let _made = count;
+    let place = Place { pass, number: 0 };
+    PerfPass { place }
+}
+
+/// The end of a ledger, once no desk is out and all is over.
+fn settle(ledger: Ledger) -> Closed
+    requires over { (seen : List HubEntry) × IsPrefix seen (entries_in ledger) × IsOverAt seen }
+    requires home { (m : ℕ) → m < length ledger.core.plan.design.modules → ∥ ComesHome m (entries_in ledger) ∥₁ }
+    ensures { EndsAt (entries_in ledger) result }
+{
+    // The core agrees with its plan.
+    let _count = ledger.core.modules();
+    let Ledger {
+        core,
+        turns,
+        out: _,
+        short,
+    } = ledger;
+    if short {
+        Closed::Short
+    } else {
+        Closed::Final(Threaded { core, turns })
+    }
+}

@@ -1,0 +1,73 @@
+//! What passes do in a turn.
+ghost use Rattle.std.specs.Prelude.{◌≡◌, ◌⊎◌, ℕ, ◌+◌, ◌^◌, ◌<◌, List, [], ◌∷◌, ◌++◌, length, true, false};
+ghost use Rattle.turn_lock.specs.Passes.{pass_lock};
+ghost use Rattle.sim_hub.specs.Places.{HasDeskOut, HasNoDeskOut, IsLater};
+ghost use Rattle.sim_hub.specs.Hubs.{hub_id, module_view, perf_view, IsOfHub, DeskIs, OutIs, PerfIs, ReturnIs, IsDeskBurst};
+
+use super::Hub;
+use crate::answer::{Desk, PerfAnswer};
+use crate::pass::{ModulePass, PerfPass};
+use sim_core::Burst;
+use std::sync::Wait;
+
+impl Hub {
+    /// Lends a module's run with its mail, where a Run of the module is permitted. One turn.
+    pub fn borrow_desk<R: Wait>(&self, rt: &R, pass: ModulePass) -> (ModulePass, Desk)
+        requires own { IsOfHub self.now pass }
+        requires home { HasNoDeskOut pass.which (module_view pass) }
+        ensures own { IsOfHub self.now result.0 × (result.0.which ≡ pass.which) }
+        ensures later { IsLater (module_view pass) (module_view result.0) }
+        ensures answer { DeskIs pass.which (module_view pass) (module_view result.0) result.1 }
+        ensures out { OutIs pass.which (module_view result.0) result.1 }
+    {
+        let ModulePass { place, which } = pass;
+        let number = place.number;
+        let mut turn = self.begin(rt, place);
+        let (desk, added) = turn.value_mut().lend(number, which);
+        let place = self.end(turn, number, added);
+        let pass = ModulePass { place, which };
+        (pass, desk)
+    }
+
+    /// Takes a module's run back, with the marks of its burst: as many Runs are made. Whether they were made; they are not where the
+    /// burst wanted memory, or where there is none for its marks. One turn.
+    pub fn return_desk<R: Wait>(
+        &self,
+        rt: &R,
+        pass: ModulePass,
+        burst: Burst,
+    ) -> (ModulePass, bool)
+        requires own { IsOfHub self.now pass }
+        requires out { HasDeskOut pass.which (module_view pass) }
+        requires burst { IsDeskBurst pass.which (module_view pass).seen burst }
+        ensures own { IsOfHub self.now result.0 × (result.0.which ≡ pass.which) }
+        ensures later { IsLater (module_view pass) (module_view result.0) }
+        ensures turn { ReturnIs pass.which (length burst.emitted) (module_view pass) (module_view result.0) result.1 }
+        ensures short { burst.short ≡ true → result.1 ≡ false }
+        ensures home { HasNoDeskOut pass.which (module_view result.0) }
+    {
+        let ModulePass { place, which } = pass;
+        let number = place.number;
+        let mut turn = self.begin(rt, place);
+        let made = turn.value_mut().take_back(number, which, burst);
+        let place = self.end(turn, number, true);
+        let pass = ModulePass { place, which };
+        (pass, made)
+    }
+
+    /// Does each permitted Assign and Answer, modules in order and round after round; or, where none was done and no Run is permitted
+    /// either, one Earliest. One turn.
+    pub fn perf_turn<R: Wait>(&self, rt: &R, pass: PerfPass) -> (PerfPass, PerfAnswer)
+        requires own { pass_lock pass.place.pass ≡ hub_id self.now }
+        ensures own { pass_lock result.0.place.pass ≡ hub_id self.now }
+        ensures later { IsLater (perf_view pass) (perf_view result.0) }
+        ensures answer { PerfIs (perf_view pass) (perf_view result.0) result.1 }
+    {
+        let PerfPass { place } = pass;
+        let mut turn = self.begin(rt, place);
+        let (answer, added) = turn.value_mut().time();
+        let place = self.end(turn, 0, added);
+        let pass = PerfPass { place };
+        (pass, answer)
+    }
+}

@@ -1,0 +1,128 @@
+//! What is lent of a ledger's core, and comes back.
+ghost use Rattle.std.specs.Prelude.{◌≡◌, ℕ, ◌+◌, ◌<◌, ◌≤◌, [], true, false, length, IfOk};
+ghost use Rattle.event_timing.specs.Core.{opening_core};
+ghost use Rattle.timing_bridge.specs.Designs.{design};
+ghost use Rattle.sim_core.specs.Drives.{AreOwn};
+ghost use Rattle.sim_core.specs.Views.{theory_of};
+ghost use Rattle.turn_history.specs.declared.turn.HubTurn.TheVariants.{Short};
+ghost use Rattle.turn_history.specs.Entries.{history_of};
+ghost use Rattle.sim_hub.specs.Places.{HasDesk, HasNoDesk};
+ghost use Rattle.sim_hub.specs.Hubs.{OutAt};
+ghost use Rattle.sim_hub.specs.Ledgers.{entries_in};
+ghost use Rattle.sim_hub.specs.Steps.{Adds, BackIs, ComesBack, ComesHome, LendingIs};
+
+use super::Ledger;
+use crate::answer::Desk;
+use flow_word::OutOfMemory;
+use sim_core::{Burst, Core};
+use std::alloc::Global;
+use turn_history::HubTurn;
+use turn_lock::Kept;
+
+impl Ledger {
+    /// A ledger of an opening core, of which no run is lent. An error leaves nothing, and the core is gone.
+    pub(crate) fn new(alloc: Global, core: Core) -> Result<Ledger, OutOfMemory>
+        requires opening { theory_of core ≡ opening_core (design core.plan) }
+        requires own { AreOwn core }
+        ensures { IfOk result (λ ledger. entries_in ledger ≡ history_of core.plan []) }
+    {
+        // The core agrees with its plan.
+        let _count = core.modules();
+        let turns = Vec::with_capacity(alloc, 1)?;
+        Ok(Ledger {
+            core,
+            turns,
+            out: 0,
+            short: false,
+        })
+    }
+
+    /// Lends a module's run to its pass, where a Run of the module is permitted. Beside the answer: whether a turn was added.
+    pub(crate) fn lend(&mut self, pass: u32, owner: u32) -> (Desk, bool)
+        requires pass { pass ≡ owner + 1 }
+        requires home { ComesHome owner (entries_in self.old) }
+        ensures lending { LendingIs owner (entries_in self.old) (entries_in self.new) result.0 result.1 }
+        ensures out { OutAt owner (entries_in self.new) result.0 }
+    {
+        // The core agrees with its plan.
+        let _count = self.core.modules();
+        if self.short {
+            return (Desk::Short, false);
+        }
+        // For this turn, for one of each desk that is then out, and for one more.
+        if self.turns.reserve(self.out + 3).is_err() {
+            self.fall_short(pass);
+            return (Desk::Short, true);
+        }
+        let alloc = *self.turns.allocator();
+        match self.core.lend(alloc, owner) {
+            Ok(Some(task)) => {
+                self.turns.push_reserved(HubTurn::Lent(pass, owner));
+                self.out += 1;
+                (Desk::Run(task), true)
+            }
+            Ok(None) => {
+                if self.core.is_final() {
+                    (Desk::Over, false)
+                } else {
+                    (Desk::Held(self.count()), false)
+                }
+            }
+            Err(_) => {
+                self.fall_short(pass);
+                (Desk::Short, true)
+            }
+        }
+    }
+
+    /// Takes a module's run back from its pass, with the marks of its burst. Whether they were made.
+    pub(crate) fn take_back(&mut self, pass: u32, owner: u32, burst: Burst) -> bool
+        requires pass { pass ≡ owner + 1 }
+        requires back { ComesBack owner burst (entries_in self.old) }
+        ensures back { BackIs owner (length burst.emitted) (entries_in self.old) (entries_in self.new) result }
+        ensures short { burst.short ≡ true → result ≡ false }
+        ensures home { HasNoDesk owner (entries_in self.new) }
+    {
+        // The core agrees with its plan.
+        let _count = self.core.modules();
+        if burst.short {
+            drop(burst);
+            self.give_up(pass, owner);
+            return false;
+        }
+        let made = burst.emitted.len();
+        match self.core.take_back(owner, burst) {
+            Ok(()) => {
+                self.turns.push_reserved(HubTurn::Ran(pass, owner, made));
+                self.out -= 1;
+                true
+            }
+            Err(_) => {
+                self.give_up(pass, owner);
+                false
+            }
+        }
+    }
+
+    /// Notes that memory was wanted, for a pass with no desk out.
+    pub(crate) fn fall_short(&mut self, pass: u32)
+        requires memory { self.old.short ≡ false }
+        requires pass { pass ≤ length self.old.core.plan.design.modules }
+        ensures { Adds (Short pass) (entries_in self.old) (entries_in self.new) }
+    {
+        self.turns.push_reserved(HubTurn::Short(pass));
+        self.short = true;
+    }
+
+    /// Notes that memory was wanted, for a pass whose desk is out: its run stays out of the core.
+    fn give_up(&mut self, pass: u32, owner: u32)
+        requires pass { pass ≡ owner + 1 }
+        requires out { HasDesk owner (entries_in self.old) }
+        ensures back { Adds (Short pass) (entries_in self.old) (entries_in self.new) }
+        ensures home { HasNoDesk owner (entries_in self.new) }
+    {
+        self.turns.push_reserved(HubTurn::Short(pass));
+        self.out -= 1;
+        self.short = true;
+    }
+}

@@ -1,0 +1,76 @@
+//! What the performance pass does with a ledger's core.
+ghost use Rattle.std.specs.Prelude.{◌≡◌, ℕ, ◌<◌, false, Some};
+ghost use Rattle.flow_design.specs.declared.state.ModuleState.{ModuleState};
+ghost use Rattle.event_timing.specs.Actions.{MayEarliest};
+ghost use Rattle.event_timing.specs.Agreement.{AllVerified};
+ghost use Rattle.timing_bridge.specs.Designs.{design};
+ghost use Rattle.sim_core.specs.Views.{theory_of};
+ghost use Rattle.turn_history.specs.declared.turn.HubTurn.TheVariants.{Timed};
+ghost use Rattle.turn_history.specs.Histories.{turned_by};
+ghost use Rattle.turn_history.specs.Turned.{Turned, after_timed};
+ghost use Rattle.turn_history.specs.Turns.{NoTiming};
+ghost use Rattle.sim_hub.specs.Ledgers.{entries_in};
+ghost use Rattle.sim_hub.specs.Steps.{TimingIs};
+
+use super::Ledger;
+use crate::answer::PerfAnswer;
+use flow_word::Steps;
+use sim_core::Core;
+use std::marker::Brand;
+use std::sync::ledger::{Blank, Ledger as Ticks};
+use turn_history::HubTurn;
+use turn_lock::Kept;
+
+impl Ledger {
+    /// Does each permitted Assign and Answer, round after round; or, where none was done, one Earliest, where it is permitted. Beside
+    /// the answer: whether a turn was added.
+    pub(crate) fn time(&mut self) -> (PerfAnswer, bool)
+        ensures { TimingIs (entries_in self.old) (entries_in self.new) result.0 result.1 }
+    {
+        // The core agrees with its plan.
+        let _count = self.core.modules();
+        if self.short {
+            return (PerfAnswer::Short, false);
+        }
+        // For this turn, for one of each desk that is out, and for one more.
+        if self.turns.reserve(self.out + 2).is_err() {
+            self.fall_short(0);
+            return (PerfAnswer::Short, true);
+        }
+        let count = act::<Brand>(&mut self.core, Blank::new(1));
+        if count > 0 {
+            self.turns.push_reserved(HubTurn::Timed(0, count));
+            return (PerfAnswer::Did(count), true);
+        }
+        if self.core.is_final() {
+            (PerfAnswer::Over, false)
+        } else {
+            (PerfAnswer::Idle(self.count()), false)
+        }
+    }
+}
+
+/// How many actions were done: each permitted Assign and Answer, round after round; or one Earliest.
+fn act<L: Ticks>(core: &mut Core, blank: Blank) -> u64
+    requires name { blank.name ≡ L.name }
+    requires parts { blank.parts ≡ L.parts }
+    requires one { L.parts ≡ 1 }
+    requires verified { AllVerified (theory_of core.old) }
+    ensures plan { core.new.plan ≡ core.old.plan }
+    ensures lent { core.new.lent ≡ core.old.lent }
+    ensures did { 0 < result → (at : Turned ModuleState) → theory_of core.old ≡ at.core → at.short ≡ false
+        → turned_by core.old.plan at (Timed 0 result) ≡ Some (after_timed at (theory_of core.new)) }
+    ensures same { result ≡ 0 → theory_of core.new ≡ theory_of core.old }
+    ensures no_timing { result ≡ 0 → NoTiming (design core.new.plan) core.new.plan.cycles (theory_of core.new) }
+    ensures no_earliest { result ≡ 0 → (m c : ℕ)
+        → MayEarliest (design core.new.plan) core.new.plan.cycles (theory_of core.new) m c → ⊥ }
+{
+    // The core agrees with its plan.
+    let _count = core.modules();
+    let mut steps = Steps::<L>::new(blank);
+    let count = core.time_all(&mut steps);
+    if count > 0 {
+        return count;
+    }
+    if core.answer_earliest() { 1 } else { 0 }
+}

@@ -1,0 +1,16 @@
+//! One core under a turn lock: modules borrow desks, run ahead outside the lock, and give their bursts back, and a performance pass
+//! gives steps their cycles. All turns are one legal history of the core.
+#![tactic(auto)]
+
+mod answer;
+mod hub;
+mod kept;
+mod ledger;
+mod pass;
+
+pub use answer::{Closed, Desk, PerfAnswer, Threaded};
+pub use hub::Hub;
+pub use ledger::Ledger;
+pub use pass::{ModulePass, PerfPass, Place};
+pub use sim_core::{Burst, Core, Mail, Task, work};
+pub use turn_history::{HubEntry, HubTurn};

@@ -1,0 +1,33 @@
+//! The passes of a hub.
+ghost use Rattle.std.specs.Prelude.{◌≡◌, ◌+◌, []};
+ghost use Rattle.turn_lock.specs.Passes.{view_of};
+ghost use Rattle.sim_hub.specs.Places.{IsPlace, HasMadeAll, HasModule};
+
+use crate::ledger::Ledger;
+use turn_lock::Pass;
+
+/// A pass of the turn lock with its number. What it has seen is a legal history.
+#[derive(Drop)]
+pub struct Place {
+    pub pass: Pass<Ledger>,
+    pub number: u32,
+    ghost numbered: { (view_of pass).number ≡ number },
+    ghost good: { ∥ IsPlace number (view_of pass) ∥₁ },
+}
+
+/// The performance pass, whose number is 0.
+#[derive(Drop)]
+pub struct PerfPass {
+    pub place: Place,
+    ghost first: { place.number ≡ 0 },
+    ghost made: { ∥ HasMadeAll (view_of place.pass) ∥₁ },
+}
+
+/// The pass of a module: its number is one more than the module's.
+#[derive(Drop)]
+pub struct ModulePass {
+    pub place: Place,
+    pub which: u32,
+    ghost is: { place.number ≡ which + 1 },
+    ghost within: { HasModule which (view_of place.pass).seen },
+}

@@ -1,0 +1,40 @@
+use Rattle.std.proofs.Common.{◌≡◌, [], length, ap, sym, ◌∙◌, subst}
+use mathlib.Core.List.{IsPrefix}
+use Rattle.std.proofs.lemmas.List.{length-map}
+use Rattle.flow_design.specs.declared.plan.Plan.{Plan}
+use Rattle.event_timing.specs.Core.{opening_core}
+use Rattle.timing_bridge.specs.Designs.{design}
+use Rattle.turn_history.specs.Entries.{history_of}
+use Rattle.sim_core.specs.Views.{theory_of}
+use Rattle.sim_hub.specs.Hubs.{perf_view}
+use Rattle.sim_hub.specs.Closings.{AllHome, IsRun, ClosedIs}
+use Rattle.run_threads.specs.declared.drive.Seat.{Seat}
+use Rattle.run_threads.proofs.Openings.{new_home, all_modules, prefix_trans, one_plan}
+use Rattle.run_threads.proofs.run.run_threads_started.Goals as goal
+
+pub new-requires-3-clause-opening : goal.new-requires-3-clause-opening
+new-requires-3-clause-opening g c =
+    subst (λ (p : Plan). theory_of c.in_ok-core.core ≡ opening_core (design p)) (sym c.in_ok-core.ensures.plan) c.in_ok-core.ensures.opening
+
+pub run_all-perf-requires-clause-home : goal.run_all-perf-requires-clause-home
+run_all-perf-requires-clause-home g c κs within = subst AllHome (sym c.in_ok-seats.ensures) (new_home _ _ _ c.in_ok-hub.ensures.modules)
+
+pub close-requires-clause-modules : goal.close-requires-clause-modules
+close-requires-clause-modules g c = let out = c.run_all-perf.ensures in
+    let seats : length c.in_ok-seats.seats.items ≡ length c.in_ok-hub.modules.items =
+    sym (length-map c.in_ok-seats.seats.items (λ (s : Seat). s.pass)) ∙ ap length c.in_ok-seats.ensures in (
+      all_modules c.in_ok-core.core.plan c.in_ok-hub.perf c.run_all-perf.result.0 c.run_all-perf.result.1.items
+          c.in_ok-hub.ensures.perf.1
+          out.later.made
+          (out.count ∙ (seats ∙ c.in_ok-hub.ensures.count)),
+      out.modules.0,
+    )
+
+pub returns-in-Final : goal.returns-in-Final
+returns-in-Final g c = let t = c.in-Final.threaded in let perf = c.run_all-perf.result.0 in let p = c.in_ok-core.core.plan in
+    let closed = subst (λ r. ClosedIs perf c.run_all-perf.result.1.items r) c.in-Final.is c.close.ensures in
+    let begins = prefix_trans (history_of p []) (perf_view perf).seen closed.0
+    (subst (λ seen. IsPrefix seen (perf_view perf).seen) c.in_ok-hub.ensures.perf.1 c.run_all-perf.ensures.later.begins)
+    closed.1.first in
+    let plan : t.core.plan ≡ c.args.plan = sym (one_plan p t.core.plan t.turns.items closed.0 begins closed.2.0) ∙ c.in_ok-core.ensures.plan in
+    record { run = subst (λ q. IsRun q t) plan closed.2.1 }

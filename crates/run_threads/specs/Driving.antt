@@ -1,0 +1,33 @@
+-- What driving a module tells.
+use Rattle.std.specs.Prelude.{◌≡◌, ℕ}
+use Rattle.turn_lock.specs.declared.view.View.{View}
+use Rattle.turn_history.specs.declared.entry.HubEntry.{HubEntry}
+use Rattle.sim_hub.specs.declared.hub.Hub.{Hub}
+use Rattle.sim_hub.specs.declared.pass.ModulePass.{ModulePass}
+use Rattle.sim_hub.specs.Places.{Behind, HasNoDeskOut}
+use Rattle.sim_hub.specs.Hubs.{IsOfHub, IsFinished, WasShort, module_view}
+use Rattle.run_threads.specs.declared.drive.Answered.{Answered}
+use Rattle.run_threads.specs.declared.drive.Went.{Went}
+use Rattle.run_threads.specs.declared.drive.Went.TheVariants as went
+use Rattle.run_threads.specs.declared.drive.End.{End}
+use Rattle.run_threads.specs.declared.drive.End.TheVariants as end
+
+-- over and short are read off what was seen
+abbrev pub WentIs : View HubEntry → Went → Type 0
+WentIs v (went.Ran concern) = Unit {0}
+WentIs v went.Held = Unit {0}
+WentIs v went.Over = Behind v.seen IsFinished
+WentIs v went.Short = Behind v.seen WasShort
+
+abbrev pub EndIs : View HubEntry → End → Type 0
+EndIs v end.Over = Behind v.seen IsFinished
+EndIs v end.Short = Behind v.seen WasShort
+EndIs v end.Undriven = Unit {0}
+
+-- the pass of this hub and module, with no desk out
+abbrev pub IsHere : Hub → ℕ → ModulePass → Type 0
+IsHere hub m pass = IsOfHub hub pass × (pass.which ≡ m) × HasNoDeskOut m (module_view pass)
+
+-- what a module's thread answers
+abbrev pub IsBack : Hub → ℕ → Answered → Type 0
+IsBack hub m a = IsHere hub m a.pass × EndIs (module_view a.pass) a.end

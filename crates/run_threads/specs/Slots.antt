@@ -1,0 +1,22 @@
+-- Where the passes of the modules are.
+use Rattle.std.specs.Prelude.{◌≡◌, ℕ, List, map, Some, slice_get}
+use Rattle.sim_hub.specs.declared.hub.Hub.{Hub}
+use Rattle.sim_hub.specs.declared.pass.ModulePass.{ModulePass}
+use Rattle.run_threads.specs.Driving.{IsHere}
+use Rattle.run_threads.specs.declared.drive.Seat.{Seat}
+use Rattle.run_threads.specs.declared.start.Slot.{Slot}
+use Rattle.run_threads.specs.declared.start.Slot.TheVariants as slot
+
+-- the passes of the seats, in order
+abbrev pub passes_in : List Seat → List ModulePass
+passes_in seats = map (λ (s : Seat). s.pass) seats
+
+-- the module's pass comes back from its thread, or it is here
+abbrev pub SlotIs : Hub → ℕ → Slot → Type 0
+SlotIs hub m (slot.There child) = (child.promise.hub.value ≡ hub) × (child.promise.which ≡ m)
+SlotIs hub m (slot.Here pass) = IsHere hub m pass
+SlotIs hub m slot.Gone = ⊥
+
+-- the slots of the modules, in order
+abbrev pub AreSlots : Hub → List Slot → Type 0
+AreSlots hub slots = (k : ℕ) (s : Slot) → slice_get slots k ≡ Some s → SlotIs hub k s

@@ -1,0 +1,157 @@
+//! The caller: it gives the cycles, drives the modules that have no thread, and takes all passes back.
+ghost use Rattle.std.specs.Prelude.{◌≡◌, ◌≤◌, [], length, vec_capacity};
+ghost use Rattle.turn_lock.specs.Passes.{pass_lock};
+ghost use Rattle.sim_hub.specs.Hubs.{IsOverAt, hub_id, perf_view};
+ghost use Rattle.sim_hub.specs.Closings.{AreOfHub, AllHome};
+ghost use Rattle.run_threads.specs.Driving.{IsHere};
+ghost use Rattle.run_threads.specs.Leading.{HasGoneOn};
+ghost use Rattle.run_threads.specs.Slots.{SlotIs, AreSlots};
+
+use crate::bells::Bells;
+use crate::concern::News;
+use crate::drive::{Went, drive_once};
+use crate::gate::Gate;
+use crate::start::Slot;
+use crossbeam_utils::sync::Parker;
+use sim_hub::{Hub, ModulePass, PerfAnswer, PerfPass};
+use std::alloc::Global;
+use std::mem;
+use std::sync::Wait;
+use std::thread::{Threads, yield_now};
+
+/// Tries to drive a module that has no thread. The second answer says whether it has none.
+fn try_one<G: Gate, R: Wait>(
+    rt: &R,
+    alloc: Global,
+    hub: &Hub,
+    gate: &G,
+    bells: &Bells,
+    which: usize,
+    slot: Slot,
+) -> (Slot, bool)
+    requires { SlotIs hub.now which slot }
+    ensures { SlotIs hub.now which result.0 }
+{
+    match slot {
+        Slot::Here(pass) => {
+            let owner = pass.which;
+            let (pass, went) = drive_once(rt, alloc, hub, gate, bells, pass);
+            if let Went::Ran(_) = went {
+                bells.tell_modules(News::Returned(owner));
+            }
+            (Slot::Here(pass), true)
+        }
+        other => (other, false),
+    }
+}
+
+/// Tries to drive each module that has no thread. The second answer says whether there is one.
+fn try_all<G: Gate, R: Wait>(
+    rt: &R,
+    alloc: Global,
+    hub: &Hub,
+    gate: &G,
+    bells: &Bells,
+    slots: Vec<Slot>,
+) -> (Vec<Slot>, bool)
+    requires { AreSlots hub.now slots.items }
+    ensures { (length result.0.items ≡ length slots.items) × AreSlots hub.now result.0.items }
+{
+    let mut slots = slots;
+    let mut any = false;
+    for which in 0..slots.len() {
+        let slot = mem::replace(&mut slots[which], Slot::Gone);
+        let (back, here) = try_one(rt, alloc, hub, gate, bells, which, slot);
+        slots[which] = back;
+        any = any || here;
+    }
+    (slots, any)
+}
+
+/// Takes performance turns until all is over, and drives the modules that have no thread between them. It waits where nothing is to
+/// do, and drives none.
+pub fn lead<G: Gate, R: Wait>(
+    rt: &R,
+    alloc: Global,
+    hub: &Hub,
+    gate: &G,
+    bells: &Bells,
+    parker: &Parker,
+    perf: PerfPass,
+    slots: Vec<Slot>,
+) -> (PerfPass, Vec<Slot>)
+    requires own { pass_lock perf.place.pass ≡ hub_id hub.now }
+    requires slots { AreSlots hub.now slots.items }
+    ensures own { pass_lock result.0.place.pass ≡ hub_id hub.now }
+    ensures over { IsOverAt (perf_view result.0).seen }
+    ensures later { HasGoneOn (perf_view perf) (perf_view result.0) }
+    ensures slots { (length result.1.items ≡ length slots.items) × AreSlots hub.now result.1.items }
+{
+    let mut perf = perf;
+    let mut slots = slots;
+    for _ in rt.forever() {
+        bells.set_for_caller();
+        let (next, answer) = hub.perf_turn(rt, perf);
+        perf = next;
+        let idle = match answer {
+            PerfAnswer::Did(_) => false,
+            PerfAnswer::Idle(_) => true,
+            PerfAnswer::Over | PerfAnswer::Short => {
+                bells.tell_modules(News::Over);
+                return (perf, slots);
+            }
+        };
+        if !idle {
+            bells.tell_modules(News::Timed);
+        }
+        let (back, drives) = try_all(rt, alloc, hub, gate, bells, slots);
+        slots = back;
+        if idle {
+            rest(rt, bells, parker, drives);
+        }
+    }
+    unreachable!()
+}
+
+/// Lets others go first, where the caller drives a module; else waits for news.
+fn rest<R: Wait>(rt: &R, bells: &Bells, parker: &Parker, drives: bool) {
+    if drives {
+        yield_now();
+    } else {
+        bells.wait_as_caller(rt, parker);
+    }
+}
+
+/// Takes a module's pass, once its thread has ended.
+fn take_one<R: Threads>(rt: &R, hub: &Hub, slot: Slot, which: usize) -> ModulePass
+    requires { SlotIs hub.now which slot }
+    ensures { IsHere hub.now which result }
+{
+    match slot {
+        Slot::There(child) => child.join(rt).pass,
+        Slot::Here(pass) => pass,
+        Slot::Gone => unreachable!(),
+    }
+}
+
+/// Takes all passes back, in order.
+pub fn gather<R: Threads>(
+    rt: &R,
+    hub: &Hub,
+    slots: Vec<Slot>,
+    passes: Vec<ModulePass>,
+) -> Vec<ModulePass>
+    requires slots { AreSlots hub.now slots.items }
+    requires empty { passes.items ≡ [] }
+    requires room { length slots.items ≤ vec_capacity passes }
+    ensures count { length result.items ≡ length slots.items }
+    ensures own { AreOfHub (hub_id hub.now) result.items }
+    ensures home { AllHome result.items }
+{
+    let mut passes = passes;
+    for slot in slots {
+        let which = passes.len();
+        passes.push_reserved(take_one(rt, hub, slot, which));
+    }
+    passes
+}

@@ -1,0 +1,17 @@
+//! A plan simulated by a thread for each module, which takes turns at one core with the caller.
+#![tactic(auto)]
+
+mod bells;
+mod concern;
+mod drive;
+mod gate;
+mod lead;
+mod pushers;
+mod run;
+mod runner;
+mod start;
+
+pub use gate::{FreeGate, Gate};
+pub use run::{run_threads, run_threads_started};
+pub use runner::ThreadRunner;
+pub use sim_hub::{Burst, HubTurn, Task, Threaded, work};

@@ -1,0 +1,115 @@
+//! Whole simulations with threads.
+ghost use Rattle.std.specs.Prelude.{◌≡◌, ◌≤◌, [], length, IfOk, vec_capacity};
+ghost use Rattle.flow_design.specs.StaticRules.{FitsEngine};
+ghost use Rattle.turn_lock.specs.Passes.{pass_lock};
+ghost use Rattle.sim_hub.specs.Hubs.{IsOverAt, hub_id, perf_view};
+ghost use Rattle.sim_hub.specs.Closings.{AreOfHub, AllHome, IsRun};
+ghost use Rattle.run_threads.specs.Leading.{HasGoneOn};
+ghost use Rattle.run_threads.specs.Slots.{passes_in};
+
+use crate::bells::Bells;
+use crate::drive::Seat;
+use crate::gate::Gate;
+use crate::lead::{gather, lead};
+use crate::start::{Slot, seat_all, start_all};
+use crossbeam_utils::sync::Parker;
+use flow_design::Plan;
+use flow_word::OutOfMemory;
+use sim_core::Core;
+use sim_hub::{Closed, Hub, ModulePass, PerfPass, Threaded};
+use std::alloc::Global;
+use std::sync::Wait;
+use std::thread;
+use std::thread::Threads;
+
+/// Drives all modules until all is over, and takes all passes back. All memory of its own was taken before: once a thread is started
+/// nothing may fail before the caller leads.
+fn run_all<G: Gate + Sync, R: Threads + Wait + Sync>(
+    rt: &R,
+    alloc: Global,
+    hub: &Hub,
+    gate: &G,
+    bells: &Bells,
+    parker: Parker,
+    perf: PerfPass,
+    seats: Vec<Seat>,
+    started: u32,
+    slots: Vec<Slot>,
+    passes: Vec<ModulePass>,
+) -> (PerfPass, Vec<ModulePass>)
+    requires perf { pass_lock perf.place.pass ≡ hub_id hub.now }
+    requires own { AreOfHub (hub_id hub.now) (passes_in seats.items) }
+    requires home { AllHome (passes_in seats.items) }
+    requires empty { (slots.items ≡ []) × (passes.items ≡ []) }
+    requires room { (length seats.items ≤ vec_capacity slots) × (length seats.items ≤ vec_capacity passes) }
+    ensures perf { pass_lock result.0.place.pass ≡ hub_id hub.now }
+    ensures later { HasGoneOn (perf_view perf) (perf_view result.0) }
+    ensures over { IsOverAt (perf_view result.0).seen }
+    ensures count { length result.1.items ≡ length seats.items }
+    ensures modules { AreOfHub (hub_id hub.now) result.1.items × AllHome result.1.items }
+{
+    thread::scope(
+        thread::scope_env(),
+        rt,
+        move |scope| -> (PerfPass, Vec<ModulePass>)
+            requires { (pass_lock perf.place.pass ≡ hub_id hub.now) × AreOfHub (hub_id hub.now) (passes_in seats.items)
+                × AllHome (passes_in seats.items) × (slots.items ≡ []) × (passes.items ≡ [])
+                × (length seats.items ≤ vec_capacity slots) × (length seats.items ≤ vec_capacity passes) }
+            ensures { (pass_lock result.0.place.pass ≡ hub_id hub.entry.now) × HasGoneOn (perf_view perf) (perf_view result.0)
+                × IsOverAt (perf_view result.0).seen × (length result.1.items ≡ length seats.items)
+                × AreOfHub (hub_id hub.entry.now) result.1.items × AllHome result.1.items }
+        {
+            let slots = start_all(scope, rt, alloc, hub, gate, bells, seats, started, slots);
+            let (perf, slots) = lead(rt, alloc, hub, gate, bells, &parker, perf, slots);
+            (perf, gather(rt, hub, slots, passes))
+        },
+    )
+}
+
+/// As `run_threads`, with threads for so many of the first modules alone. The caller drives the others.
+pub fn run_threads_started<G: Gate + Sync, R: Threads + Wait + Sync>(
+    rt: &R,
+    alloc: Global,
+    plan: Plan,
+    gate: &G,
+    started: u32,
+) -> Result<Threaded, OutOfMemory>
+    requires fits { FitsEngine plan }
+    requires started { started ≤ length plan.design.modules }
+    ensures run { IfOk result (λ threaded. IsRun plan threaded) }
+{
+    let (mut bells, parker) = Bells::new(alloc, &plan.design)?;
+    let core = Core::new(alloc, plan)?;
+    let (hub, perf, modules) = Hub::new(alloc, core)?;
+    let Ok(slots) = Vec::with_capacity(alloc, modules.len()) else {
+        return Err(OutOfMemory);
+    };
+    let Ok(passes) = Vec::with_capacity(alloc, modules.len()) else {
+        return Err(OutOfMemory);
+    };
+    let seats = seat_all(alloc, &mut bells, modules)?;
+    let (perf, modules) = run_all(
+        rt, alloc, &hub, gate, &bells, parker, perf, seats, started, slots, passes,
+    );
+    match hub.close(perf, modules) {
+        Closed::Final(threaded) => Ok(threaded),
+        Closed::Short => Err(OutOfMemory),
+    }
+}
+
+/// A final core of the plan, and the turns that led to it, by a thread for each module; the caller gives the cycles. Where a thread
+/// can't be started, the caller drives its module too.
+///
+/// An error leaves nothing, and the plan is gone.
+pub fn run_threads<G: Gate + Sync, R: Threads + Wait + Sync>(
+    rt: &R,
+    alloc: Global,
+    plan: Plan,
+    gate: &G,
+) -> Result<Threaded, OutOfMemory>
+    requires fits { FitsEngine plan }
+    ensures run { IfOk result (λ threaded. IsRun plan threaded) }
+{
+    let started = plan.design.modules.as_slice().len() as u32;
+    run_threads_started(rt, alloc, plan, gate, started)
+}

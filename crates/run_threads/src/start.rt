@@ -1,0 +1,136 @@
+//! A module's thread is started, or the caller keeps the module.
+ghost use Rattle.std.specs.Prelude.{◌≡◌, ◌≤◌, [], length, map, IfOk, vec_capacity};
+ghost use Rattle.sim_hub.specs.Places.{HasNoDeskOut};
+ghost use Rattle.sim_hub.specs.Hubs.{IsOfHub, hub_id, module_view};
+ghost use Rattle.sim_hub.specs.Closings.{AreOfHub, AllHome};
+ghost use Rattle.run_threads.specs.Driving.{IsBack};
+ghost use Rattle.run_threads.specs.Slots.{SlotIs, AreSlots, passes_in};
+
+use crate::bells::Bells;
+use crate::drive::{Answered, Seat, drive};
+use crate::gate::Gate;
+use flow_word::OutOfMemory;
+use sim_hub::{Hub, ModulePass};
+use std::alloc::Global;
+use std::snapshot::Snapshot;
+use std::sync::Wait;
+use std::thread::{Promise, PromisedHandle, Scope, Threads};
+
+/// The pass of this module comes back, of this hub, with no desk out.
+#[derive(Drop)]
+pub struct Comes {
+    hub: Snapshot<Hub>,
+    which: u32,
+}
+
+impl Promise<Answered> for Comes {
+    ghost use Rattle.run_threads.specs.Driving.{IsBack};
+
+    ghost kept_by = { λ promise a. IsBack promise.hub.value promise.which a };
+}
+
+/// A module's pass: with its thread, or with the caller.
+#[derive(Drop)]
+pub enum Slot {
+    There(PromisedHandle<Answered, Comes>),
+    Here(ModulePass),
+    /// It is being looked at.
+    Gone,
+}
+
+/// Makes a bell and a seat for each module.
+pub fn seat_all(
+    alloc: Global,
+    bells: &mut Bells,
+    modules: Vec<ModulePass>,
+) -> Result<Vec<Seat>, OutOfMemory>
+    ensures { IfOk result (λ seats. passes_in seats.items ≡ modules.items) }
+{
+    let mut seats = Vec::new(alloc);
+    for pass in modules {
+        let parker = bells.add(alloc)?;
+        if seats.push(Seat { pass, parker }).is_err() {
+            return Err(OutOfMemory);
+        }
+    }
+    Ok(seats)
+}
+
+/// Starts a module's thread. Where it is refused, the pass comes back undriven.
+fn start_one<'s, 'e, G: Gate + Sync, R: Threads + Wait + Sync>(
+    scope: &'s Scope<'s, &'e ()>,
+    rt: &'e R,
+    alloc: Global,
+    hub: &'e Hub,
+    gate: &'e G,
+    bells: &'e Bells,
+    seat: Seat,
+) -> Slot
+    requires own { IsOfHub hub.now seat.pass }
+    requires home { HasNoDeskOut seat.pass.which (module_view seat.pass) }
+    ensures { SlotIs hub.now seat.pass.which result }
+{
+    let which = seat.pass.which;
+    let promise = Comes {
+        hub: Snapshot::of(hub),
+        which,
+    };
+    let job = move || -> Answered
+        requires { IsOfHub hub.now seat.pass × HasNoDeskOut seat.pass.which (module_view seat.pass) }
+        ensures { IsBack hub.entry.now seat.pass.which result }
+    { drive(rt, alloc, hub, gate, bells, seat) };
+    match scope.spawn_with(promise, job) {
+        Ok(child) => Slot::There(child),
+        Err(refused) => {
+            bells.forbid(which);
+            Slot::Here((refused.value)().pass)
+        }
+    }
+}
+
+/// Starts a thread for one of the first modules, and keeps another.
+fn place_one<'s, 'e, G: Gate + Sync, R: Threads + Wait + Sync>(
+    scope: &'s Scope<'s, &'e ()>,
+    rt: &'e R,
+    alloc: Global,
+    hub: &'e Hub,
+    gate: &'e G,
+    bells: &'e Bells,
+    seat: Seat,
+    started: u32,
+) -> Slot
+    requires own { IsOfHub hub.now seat.pass }
+    requires home { HasNoDeskOut seat.pass.which (module_view seat.pass) }
+    ensures { SlotIs hub.now seat.pass.which result }
+{
+    if seat.pass.which < started {
+        start_one(scope, rt, alloc, hub, gate, bells, seat)
+    } else {
+        Slot::Here(seat.pass)
+    }
+}
+
+/// Starts a thread for each of so many of the first modules, and keeps the others.
+pub fn start_all<'s, 'e, G: Gate + Sync, R: Threads + Wait + Sync>(
+    scope: &'s Scope<'s, &'e ()>,
+    rt: &'e R,
+    alloc: Global,
+    hub: &'e Hub,
+    gate: &'e G,
+    bells: &'e Bells,
+    seats: Vec<Seat>,
+    started: u32,
+    slots: Vec<Slot>,
+) -> Vec<Slot>
+    requires own { AreOfHub (hub_id hub.now) (passes_in seats.items) }
+    requires home { AllHome (passes_in seats.items) }
+    requires empty { slots.items ≡ [] }
+    requires room { length seats.items ≤ vec_capacity slots }
+    ensures { (length result.items ≡ length seats.items) × AreSlots hub.now result.items }
+{
+    let mut slots = slots;
+    for seat in seats {
+        slots.push_reserved(place_one(scope, rt, alloc, hub, gate, bells, seat, started));
+    }
+    slots
+}

@@ -13,12 +13,15 @@ use flow_word::{OutOfMemory, Steps};
 use sim_core::{Core, Guard, records_are_answers};
 use std::alloc::Global;
 use std::marker::Brand;
+use std::sync::Wait;
 use std::sync::ledger::{Blank, Ledger};
+use std::thread::Threads;
 
 /// Edits a core that is settled, and settles it again. How many runs are counted then.
 ///
 /// The runner is called exactly where one more is counted. An error leaves the plan edited.
-pub(crate) fn follow<U: Runner>(
+pub(crate) fn follow<R: Threads + Wait + Sync, U: Runner>(
+    rt: &R,
     alloc: Global,
     core: &mut Core,
     runs: u64,
@@ -39,7 +42,7 @@ pub(crate) fn follow<U: Runner>(
     match go_on::<Brand>(core, edit, Blank::new(1))? {
         Guard::Same => Ok(runs),
         Guard::Differs(_) => {
-            run_again(alloc, core, runner)?;
+            run_again(rt, alloc, core, runner)?;
             Ok(runs + 1)
         }
     }
@@ -80,7 +83,12 @@ fn drive_on<L: Ledger>(core: &mut Core, steps: &mut Steps<L>) -> Result<Guard, O
 }
 
 /// Puts a core in place of this one that is simulated from the beginning.
-fn run_again<U: Runner>(alloc: Global, core: &mut Core, runner: &mut U) -> Result<(), OutOfMemory>
+fn run_again<R: Threads + Wait + Sync, U: Runner>(
+    rt: &R,
+    alloc: Global,
+    core: &mut Core,
+    runner: &mut U,
+) -> Result<(), OutOfMemory>
     requires { FitsEngine core.old.plan }
     ensures plan { core.new.plan ≡ core.old.plan }
     ensures settled { OnOk result (IsSettled core.new) }
@@ -89,12 +97,13 @@ fn run_again<U: Runner>(alloc: Global, core: &mut Core, runner: &mut U) -> Resul
     ensures at_most { U.made runner.old < u64.MAX → U.made runner.new ≤ U.made runner.old + 1 }
 {
     let plan = copy_plan(alloc, core.plan())?;
-    *core = first_core(alloc, plan, runner)?;
+    *core = first_core(rt, alloc, plan, runner)?;
     Ok(())
 }
 
 /// The core of a plan that is not edited yet. It has the answers of the plan's report.
-pub(crate) fn first_core<U: Runner>(
+pub(crate) fn first_core<R: Threads + Wait + Sync, U: Runner>(
+    rt: &R,
     alloc: Global,
     plan: Plan,
     runner: &mut U,
@@ -106,7 +115,7 @@ pub(crate) fn first_core<U: Runner>(
     ensures counted { U.made runner.old < u64.MAX → U.made runner.new ≡ U.made runner.old + 1 }
 {
     records_are_answers();
-    let core = runner.run_plan(alloc, plan)?;
+    let core = runner.run_plan(rt, alloc, plan)?;
     let _modules = core.modules();
     Ok(core)
 }

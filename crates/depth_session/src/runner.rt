@@ -9,23 +9,67 @@ ghost use Rattle.sim_core.specs.Drives.{AreOwn};
 
 use flow_design::Plan;
 use flow_word::OutOfMemory;
+use run_threads::{FreeGate, Gate, ThreadRunner, run_threads};
 use sim_core::{Core, run_alone};
 use std::alloc::Global;
+use std::sync::Wait;
+use std::thread::Threads;
+use turn_history::histories_are_legal;
 
-/// Something that simulates plans from the beginning, and counts how often.
+/// Something that simulates plans from the beginning, and counts how often: on the calling thread, or with a thread for each module.
 pub trait Runner {
     /// How many runs it was asked for. The count stands still at the greatest u64.
     ghost made: { Self → ℕ };
 
+    /// What makes the bursts of its threads.
+    type Gate: Gate + Sync;
+
+    /// Counts one run more.
+    fn count_run(&mut self)
+        ensures { made self.old < u64.MAX → made self.new ≡ made self.old + 1 };
+
+    /// The gate of its threads; none where it simulates on the calling thread.
+    fn gate(&self) -> Option<&Self::Gate>;
+
     /// Simulates a plan: a final core of it, of which no run is lent and no outcome is assumed. The run is counted, also
     /// where there is no memory for it.
-    fn run_plan(&mut self, alloc: Global, plan: Plan) -> Result<Core, OutOfMemory>
+    final fn run_plan<R: Threads + Wait + Sync>(
+        &mut self,
+        rt: &R,
+        alloc: Global,
+        plan: Plan,
+    ) -> Result<Core, OutOfMemory>
         requires { FitsEngine plan }
         ensures plan { IfOk result (λ core. core.plan ≡ plan) }
         ensures done { IfOk result (λ core. IsFinal (design core.plan) core.plan.cycles (theory_of core)) }
         ensures verified { IfOk result (λ core. AllVerified (theory_of core)) }
         ensures own { IfOk result (λ core. AreOwn core) }
-        ensures counted { made self.old < u64.MAX → made self.new ≡ made self.old + 1 };
+        ensures counted { made self.old < u64.MAX → made self.new ≡ made self.old + 1 }
+    {
+        self.count_run();
+        match self.gate() {
+            Some(gate) => run_by_threads(rt, alloc, plan, gate),
+            None => run_alone(alloc, plan),
+        }
+    }
+}
+
+/// The core of a run with a thread for each module.
+fn run_by_threads<R: Threads + Wait + Sync, G: Gate + Sync>(
+    rt: &R,
+    alloc: Global,
+    plan: Plan,
+    gate: &G,
+) -> Result<Core, OutOfMemory>
+    requires { FitsEngine plan }
+    ensures plan { IfOk result (λ core. core.plan ≡ plan) }
+    ensures done { IfOk result (λ core. IsFinal (design core.plan) core.plan.cycles (theory_of core)) }
+    ensures verified { IfOk result (λ core. AllVerified (theory_of core)) }
+    ensures own { IfOk result (λ core. AreOwn core) }
+{
+    histories_are_legal();
+    let threaded = run_threads(rt, alloc, plan, gate)?;
+    Ok(threaded.core)
 }
 
 /// Simulates on one thread.
@@ -47,8 +91,28 @@ impl AloneRunner {
 impl Runner for AloneRunner {
     ghost made = { λ runner. runner.runs };
 
-    fn run_plan(&mut self, alloc: Global, plan: Plan) -> Result<Core, OutOfMemory> {
+    /// No thread asks for it.
+    type Gate = FreeGate;
+
+    fn count_run(&mut self) {
         self.runs = self.runs.saturating_add(1);
-        run_alone(alloc, plan)
+    }
+
+    fn gate(&self) -> Option<&FreeGate> {
+        None
+    }
+}
+
+impl<'g, G: Gate + Sync> Runner for ThreadRunner<'g, G> {
+    ghost made = { λ runner. runner.runs };
+
+    type Gate = G;
+
+    fn count_run(&mut self) {
+        self.runs = self.runs.saturating_add(1);
+    }
+
+    fn gate(&self) -> Option<&G> {
+        Some(self.gate)
     }
 }

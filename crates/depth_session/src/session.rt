@@ -12,6 +12,8 @@ use flow_word::OutOfMemory;
 use sim_core::Core;
 use std::alloc::Global;
 use std::marker::Model;
+use std::sync::Wait;
+use std::thread::Threads;
 
 /// A plan whose FIFO depths are edited one after the other. After each edit it has the report, and how many runs all reports
 /// so far count.
@@ -45,7 +47,8 @@ impl DepthSession {
     /// The session of a plan that is not edited yet: its report is one run of the runner, whether there is memory or not.
     ///
     /// An error leaves nothing, and the plan is gone.
-    pub fn new<U: Runner>(
+    pub fn new<R: Threads + Wait + Sync, U: Runner>(
+        rt: &R,
         alloc: Global,
         plan: Plan,
         runner: &mut U,
@@ -54,7 +57,7 @@ impl DepthSession {
         ensures opened { IfOk result (λ session. session ≡ opened plan) }
         ensures counted { U.made runner.old < u64.MAX → U.made runner.new ≡ U.made runner.old + 1 }
     {
-        let core = first_core(alloc, plan, runner)?;
+        let core = first_core(rt, alloc, plan, runner)?;
         Ok(DepthSession {
             core,
             runs: 1,
@@ -66,8 +69,9 @@ impl DepthSession {
     /// where the report counts one run more.
     ///
     /// An error leaves a session that is not live, with the plan edited.
-    pub fn edit<U: Runner>(
+    pub fn edit<R: Threads + Wait + Sync, U: Runner>(
         &mut self,
+        rt: &R,
         alloc: Global,
         edit: &Edit,
         runner: &mut U,
@@ -83,7 +87,7 @@ impl DepthSession {
             → U.made runner.new + self.old.count.runs ≤ U.made runner.old + (with_edit self.old edit.now).count.runs }
     {
         self.live = false;
-        self.runs = follow(alloc, &mut self.core, self.runs, edit, runner)?;
+        self.runs = follow(rt, alloc, &mut self.core, self.runs, edit, runner)?;
         self.live = true;
         Ok(())
     }

@@ -9,7 +9,7 @@ use std::process::ExitCode;
 use std::rt::Files;
 use std::sync::Wait;
 use std::thread::Threads;
-use whole_answer::omnisim;
+use whole_answer::{FreeGate, omnisim};
 
 fn main(rt: HostRuntime) -> ExitCode {
     match run_all(&rt) {
@@ -38,6 +38,6 @@ fn run_one<R: Threads + Wait + Sync + Files + Print + AllocGlobal>(
     println!(rt; "{name}")?;
     let mut source = StdSource::new(fs::open(rt, name)?);
     let mut sink = StdSink::new(io::writer(rt));
-    let status = omnisim(rt, rt.alloc(), words, &mut source, &mut sink);
+    let status = omnisim(rt, rt.alloc(), words, &mut source, &mut sink, &FreeGate);
     println!(rt; "status {}", status.number())
 }

@@ -55,8 +55,20 @@ use Rattle.run_threads.specs.contracts.drive.Seat as seat
 
 module_field : IsSend (unit.the_field).row
 module_field =
-    search (width.the_send, name.the_send, memory.the_send, kind.the_field_send, next.the_field_send, binary.the_field_send,
-      unary.the_field_send, list.the_send, boxed.the_send, crosses, expr.crosses, sendable) depth 60 fits 20000
+    search (
+      width.the_send,
+      name.the_send,
+      memory.the_send,
+      kind.the_field_send,
+      next.the_field_send,
+      binary.the_field_send,
+      unary.the_field_send,
+      list.the_send,
+      boxed.the_send,
+      crosses,
+      expr.crosses,
+      sendable,
+    ) depth 60 fits 20000
 
 module_send : IsSend unit.the_row
 module_send = recorded_send (unit.the_field).row _ _ (unit.the_type).to_one module_field
@@ -78,16 +90,34 @@ path_field : IsSend (path.the_field).row
 path_field =
     struct_send (shape path.the_type) (
       (search (crosses, sendable) depth 20 fits 5000),
-      (list.the_send _ channel.the_send,
-        (module_field,
-          (plain_send _ _ _ _ _,
-            (list.the_send _ schedule.the_send,
-              ((search (state.the_field_send, sendable) depth 20 fits 5000),
-                ((search (stage.the_field_send, sendable) depth 20 fits 5000),
-                  (plain_send _ _ _ _ _,
-                    (list.the_send _ due.the_send,
-                      (list.the_send _ request.the_send,
-                        (list.the_send _ reply.the_send, ((search (room.the_field_send, sendable) depth 20 fits 5000), tt))))))))))),
+      (
+        list.the_send _ channel.the_send,
+        (
+          module_field,
+          (
+            plain_send _ _ _ _ _,
+            (
+              list.the_send _ schedule.the_send,
+              (
+                (search (state.the_field_send, sendable) depth 20 fits 5000),
+                (
+                  (search (stage.the_field_send, sendable) depth 20 fits 5000),
+                  (
+                    plain_send _ _ _ _ _,
+                    (
+                      list.the_send _ due.the_send,
+                      (
+                        list.the_send _ request.the_send,
+                        (list.the_send _ reply.the_send, ((search (room.the_field_send, sendable) depth 20 fits 5000), tt)),
+                      ),
+                    ),
+                  ),
+                ),
+              ),
+            ),
+          ),
+        ),
+      ),
     )
 
 run_field : IsSend (run.the_field).row
@@ -104,16 +134,34 @@ core_field : IsSend (core.the_field).row
 core_field =
     struct_send (shape core.the_type) (
       plan_field,
-      (graph.the_send,
-        (table.the_send,
-          (log.the_send,
-            ((search (advance.the_send, crosses, sendable) depth 30 fits 5000),
-              ((search (run_send, crosses, sendable) depth 30 fits 5000),
-                ((search (crosses, sendable) depth 30 fits 5000),
-                  (list.the_send _ port.the_send,
-                    ((search (crosses, sendable) depth 30 fits 5000),
-                      (words_send,
-                        (list.the_send _ reply.the_send, ((search (candidate.the_send, crosses, sendable) depth 30 fits 5000), tt))))))))))),
+      (
+        graph.the_send,
+        (
+          table.the_send,
+          (
+            log.the_send,
+            (
+              (search (advance.the_send, crosses, sendable) depth 30 fits 5000),
+              (
+                (search (run_send, crosses, sendable) depth 30 fits 5000),
+                (
+                  (search (crosses, sendable) depth 30 fits 5000),
+                  (
+                    list.the_send _ port.the_send,
+                    (
+                      (search (crosses, sendable) depth 30 fits 5000),
+                      (
+                        words_send,
+                        (list.the_send _ reply.the_send, ((search (candidate.the_send, crosses, sendable) depth 30 fits 5000), tt)),
+                      ),
+                    ),
+                  ),
+                ),
+              ),
+            ),
+          ),
+        ),
+      ),
     )
 
 core_send : IsSend engine.the_row

@@ -6,7 +6,7 @@ mod words;
 use sim_io::{StdSink, StdSource};
 use std::io;
 use std::process::ExitCode;
-use whole_answer::{Status, omnisim};
+use whole_answer::{FreeGate, Status, omnisim};
 use words::{arguments, behind_the_name};
 
 fn main(rt: HostRuntime) -> ExitCode {
@@ -19,6 +19,7 @@ fn main(rt: HostRuntime) -> ExitCode {
             behind_the_name(all.as_slice()),
             &mut source,
             &mut sink,
+            &FreeGate,
         ),
         Err(_) => Status::Memory,
     };

@@ -1,5 +1,5 @@
 -- What a call answers, from what its turn did.
-use Rattle.std.proofs.Common.{◌≡◌, ◌⊎◌, inl, inr, ℕ, ◌+◌, ◌<◌, refl, sym, ap, ◌∙◌, subst, arith, append_assoc, append-nil}
+use Rattle.std.proofs.Common.{◌≡◌, inl, inr, ℕ, ◌+◌, ◌<◌, refl, sym, ap, ◌∙◌, subst, append_assoc, append-nil}
 use Rattle.std.proofs.Common.{List, [], ◌∷◌, ◌++◌, Some, Bool, true, false, length}
 use Rattle.std.specs.Coded.{le_prop}
 use mathlib.Core.Logic.{∥∥₁_elim, ∥∥₁_map}
@@ -16,7 +16,7 @@ use Rattle.turn_history.specs.declared.turn.HubTurn.TheVariants.{Lent, Ran, Time
 use Rattle.turn_history.specs.declared.entry.HubEntry.{HubEntry}
 use Rattle.turn_history.specs.declared.entry.HubEntry.TheVariants.{Turn}
 use Rattle.turn_history.specs.Turned.{Turned, lent_at, after_short}
-use Rattle.turn_history.specs.Turns.{TurnsOf, AreOfOthers, taker}
+use Rattle.turn_history.specs.Turns.{TurnsOf, AreOfOthers}
 use Rattle.turn_history.specs.Histories.{turned_by}
 use Rattle.turn_history.specs.Entries.{bearer, history_of, Stands}
 use Rattle.sim_hub.specs.declared.answer.Desk.{Desk}
@@ -25,8 +25,8 @@ use Rattle.sim_hub.specs.declared.answer.PerfAnswer.{PerfAnswer}
 use Rattle.sim_hub.specs.declared.answer.PerfAnswer.TheVariants as perf
 use Rattle.sim_hub.specs.Places.{Behind, IsLegal, IsPlace, HasModule, HasModules, HasAdded, HasNoDesk, IsLater}
 use Rattle.sim_hub.specs.Hubs.{IsHeld, IsIdle, IsFinished, WasShort, HadMemory, FoundShort, DeskIs, PerfIs, ReturnIs}
-use Rattle.sim_hub.specs.Steps.{Adds, ShortIs, LendingIs, BackIs, TimingIs, MayAdd, IsEnd, ComesHome, ComesBack}
-use Rattle.sim_hub.proofs.Histories.{plan_since, turns_since, one_standing, others_later, lent_first, stands_next, mapped_some}
+use Rattle.sim_hub.specs.Steps.{Adds, ShortIs, LendingIs, BackIs, TimingIs, MayAdd, IsEnd}
+use Rattle.sim_hub.proofs.Histories.{plan_since, turns_since, others_later, lent_first, stands_next, mapped_some}
 use Rattle.sim_hub.proofs.Keeping.{history-snoc, same_entries}
 
 -- ---- what stands behind a history
@@ -42,7 +42,8 @@ stands_more p log more v w turn s next added = record {
 -- behind a want of memory, by what stands before it
 pub short_behind_log : (q : ℕ) (log more : List HubEntry) (P : Plan → Turned ModuleState → Type 0) → Behind log P
     → Adds (Short q) log more → Behind more WasShort
-short_behind_log q log more P (p, at, s, holds) added = (p, after_short at q, stands_more p log more at (after_short at q) (Short q) s refl added, refl)
+short_behind_log q log more P (p, at, s, holds) added =
+    (p, after_short at q, stands_more p log more at (after_short at q) (Short q) s refl added, refl)
 
 pub home_behind_short : (m : ℕ) (log more : List HubEntry) (P : Plan → Turned ModuleState → Type 0) → Behind log P
     → Adds (Short (m + 1)) log more → HasNoDesk m more
@@ -63,18 +64,27 @@ short_added p q turns same log pass m plan is number added =
 pub module_later : (m : ℕ) (seen log : List HubEntry) → HasModule m seen → IsPrefix seen log → IsLegal log → HasModule m log
 module_later m seen log there begins k =
     ∥∥₁_map there
-    (λ (l, inside). (k, subst (λ (p : Plan). m < length p.design.modules) (plan_since l.plan k.plan seen log l.at k.at l.stands k.stands begins) inside))
+    (λ (l, inside). (
+      k,
+      subst (λ (p : Plan). m < length p.design.modules) (plan_since l.plan k.plan seen log l.at k.at l.stands k.stands begins)
+          inside,
+    ))
 
 pub modules_later : (count : ℕ) (seen log : List HubEntry) → HasModules count seen → IsPrefix seen log → IsLegal log → HasModules count log
 modules_later count seen log there begins k =
     ∥∥₁_map there
-    (λ (l, same). (k, subst (λ (p : Plan). length p.design.modules ≡ count) (plan_since l.plan k.plan seen log l.at k.at l.stands k.stands begins) same))
+    (λ (l, same). (
+      k,
+      subst (λ (p : Plan). length p.design.modules ≡ count) (plan_since l.plan k.plan seen log l.at k.at l.stands k.stands begins)
+          same,
+    ))
 
 -- by what has been seen the module is one of the plan's
 pub module_inside : (p : Plan) (log : List HubEntry) (v : Turned ModuleState) → Stands p log v → (m : ℕ) (seen : List HubEntry)
     → HasModule m seen → IsPrefix seen log → m < length p.design.modules
 module_inside p log v t m seen there begins =
-    ∥∥₁_elim there le_prop (λ (l, inside). subst (λ (q : Plan). m < length q.design.modules) (plan_since l.plan p seen log l.at v l.stands t begins) inside)
+    ∥∥₁_elim there le_prop
+    (λ (l, inside). subst (λ (q : Plan). m < length q.design.modules) (plan_since l.plan p seen log l.at v l.stands t begins) inside)
 
 -- ---- a pass comes back to the history
 
@@ -98,7 +108,8 @@ module _ (p : Plan) (fits : FitsEngine p) (log : List HubEntry) (now : Turned Mo
         p,
         now,
         t,
-        λ lent. none (lent_first (design p) p.cycles at now (m + 1) m later (subst (λ (q : ℕ). AreOfOthers q later) number others) turns lent),
+        λ lent. none
+            (lent_first (design p) p.cycles at now (m + 1) m later (subst (λ (q : ℕ). AreOfOthers q later) number others) turns lent),
       )
 
 -- ---- from a turn to its answer
@@ -161,7 +172,8 @@ module _ (tries : ℕ) (log more : List HubEntry) (v t w : View HubEntry) (b : B
   desk_answer m (desk.Run task) false (is, adds, lent) e = absurd (cc)
   desk_answer m (desk.Held n) true (is, same, count, held) e = absurd (cc)
   desk_answer m (desk.Held n) false (is, same, count, held) e =
-      let seen = sym (e.seen ∙ same) in (has_looked e, count ∙ ap length seen, subst (λ (es : List HubEntry). Behind es (IsHeld m)) seen held)
+      let seen = sym (e.seen ∙ same) in
+      (has_looked e, count ∙ ap length seen, subst (λ (es : List HubEntry). Behind es (IsHeld m)) seen held)
   desk_answer m desk.Over true (is, same, over) e = absurd (cc)
   desk_answer m desk.Over false (is, same, over) e =
       (has_looked e, subst (λ (es : List HubEntry). Behind es IsFinished) (sym (e.seen ∙ same)) over)

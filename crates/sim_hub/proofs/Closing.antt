@@ -1,10 +1,9 @@
 -- What was seen, once the hub is closed.
-use Rattle.std.proofs.Common.{◌≡◌, ℕ, zero, suc, ◌+◌, ◌<◌, ◌≤◌, inl, inr, refl, sym, ap, ◌∙◌, subst, arith}
-use Rattle.std.proofs.Common.{List, [], ◌∷◌, ◌++◌, Some, Bool, true, false, length, map, slice_get, pred, sub-one, append-nil}
-use Rattle.std.specs.Prelude.{slice_index_or}
+use Rattle.std.proofs.Common.{◌≡◌, ℕ, suc, ◌+◌, ◌<◌, ◌≤◌, inl, inr, refl, sym, ap, ◌∙◌, subst, arith}
+use Rattle.std.proofs.Common.{List, [], ◌∷◌, ◌++◌, Some, false, length, map, slice_get, pred, sub-one, append-nil}
 use Rattle.std.specs.Coded.{le_prop}
 use Rattle.std.proofs.lemmas.Grind.{merely}
-use Rattle.std.proofs.lemmas.List.{nil_from_length, length-map}
+use Rattle.std.proofs.lemmas.List.{nil_from_length}
 use mathlib.Core.List.{IsPrefix}
 use mathlib.Core.Logic.{∥∥₁_elim, ∥∥₁_map}
 use Rattle.flow_design.specs.StaticRules.{FitsEngine}
@@ -12,23 +11,20 @@ use Rattle.flow_design.specs.declared.plan.Plan.{Plan}
 use Rattle.flow_design.specs.declared.state.ModuleState.{ModuleState}
 use Rattle.event_timing.specs.Actions.{IsFinal}
 use Rattle.timing_bridge.specs.Designs.{design}
-use Rattle.sim_core.specs.Views.{CoreView, theory_of}
 use Rattle.turn_lock.specs.declared.view.View.{View}
 use Rattle.turn_lock.specs.Entries.{entries_of}
 use Rattle.turn_lock.specs.Passes.{TableId, pass_lock}
-use Rattle.turn_lock.specs.Turns.{AreAllMade, Continues, ShowsAll, ShowsEach, ShowsPass}
+use Rattle.turn_lock.specs.Turns.{AreAllMade, ShowsAll, ShowsEach, ShowsPass}
 use Rattle.turn_lock.proofs.Histories.{none_later, prefix_self}
 use Rattle.turn_lock.proofs.Joins.{after_joins, shows_each}
 use Rattle.turn_history.specs.declared.entry.HubEntry.{HubEntry}
-use Rattle.turn_history.specs.declared.turn.HubTurn.{HubTurn}
 use Rattle.turn_history.specs.Turned.{Turned, opening_turned}
 use Rattle.turn_history.specs.Entries.{bearer, history_of, Stands}
 use Rattle.turn_history.proofs.Lending.{final_stays}
 use Rattle.sim_hub.specs.declared.pass.ModulePass.{ModulePass}
 use Rattle.sim_hub.specs.declared.pass.PerfPass.{PerfPass}
-use Rattle.sim_hub.specs.Kept.{IsKept, behind}
-use Rattle.sim_hub.specs.Places.{Behind, HasModule, HasModules, HasMadeAll, HasNoDesk, IsLegal, IsPlace}
-use Rattle.sim_hub.specs.Hubs.{IsFinished, IsOverAt, WasShort, module_view, perf_view}
+use Rattle.sim_hub.specs.Places.{HasModule, HasModules, HasMadeAll, HasNoDesk, IsLegal}
+use Rattle.sim_hub.specs.Hubs.{IsOverAt, module_view, perf_view}
 use Rattle.sim_hub.specs.Steps.{ComesHome}
 use Rattle.sim_hub.specs.Closings.{AreFrom, IsWhole}
 use Rattle.sim_hub.proofs.Lists.{get_mapped, get_snoc, there}
@@ -36,7 +32,8 @@ use Rattle.sim_hub.proofs.Histories.{plan_since, turns_since, short_stays}
 use Rattle.sim_hub.proofs.Answering.{modules_later}
 
 -- once all is over it stays so: until memory is wanted the core is final
-pub final_since : (p : Plan) (fits : FitsEngine p) (seen log : List HubEntry) (now : Turned ModuleState) → Stands p log now → IsPrefix seen log
+pub final_since : (p : Plan) (fits : FitsEngine p) (seen log : List HubEntry) (now : Turned ModuleState) → Stands p log now
+    → IsPrefix seen log
     → IsOverAt seen → now.short ≡ false → IsFinal (design p) p.cycles now.core
 final_since p fits seen log now t (more, all) (inl (q, at, s, over)) memory =
     let same : q ≡ p = plan_since q p seen log at now s t (more, all) in

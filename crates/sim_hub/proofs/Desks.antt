@@ -1,5 +1,5 @@
 -- A burst on the desk that is out, by the time that it comes back.
-use Rattle.std.proofs.Common.{◌≡◌, ℕ, suc, ◌+◌, ◌-◌, ◌<◌, sym, ap, ◌∙◌, subst, arith, refl, Bool, true, false, Some, List, length, inl, inr}
+use Rattle.std.proofs.Common.{◌≡◌, ℕ, ◌+◌, ◌<◌, sym, subst, arith, false, Some, List, length, inl, inr}
 use Rattle.std.proofs.lemmas.Bool.{cases_Bool}
 use Rattle.flow_design.specs.declared.plan.Plan.{Plan}
 use Rattle.flow_design.specs.declared.state.ModuleState.{ModuleState}
@@ -48,8 +48,8 @@ module _ (p : Plan) (f : FitsEngine p) (v w : Turned ModuleState) (m : ℕ) (tas
   burst_back later others turns lent =
       let (still, (actions, none, acts)) = turns_beside (design p) p.cycles v w (m + 1) m lent later others turns in
       let now = task_stays p v.core w.core g.marks m
-          (others_grow (design p) (lockstep_run p) (plan_is_design p f) (run_is_history p f) p.cycles v.core g m actions none w.core acts)
-          task (task_for p v.core m task t) in
+      (others_grow (design p) (lockstep_run p) (plan_is_design p f) (run_is_history p f) p.cycles v.core g m actions none w.core acts)
+      task (task_for p v.core m task t) in
       (now, b p m (rest_of p w.core m task) (run_stands p w.core m task.run now.run))
 
   pub burst_marks : burst.short ≡ false → 0 < length burst.emitted

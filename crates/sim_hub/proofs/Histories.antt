@@ -1,17 +1,13 @@
 -- What two looks at one history say of each other.
-use Rattle.std.proofs.Common.{◌≡◌, ℕ, zero, suc, ◌+◌, ◌<◌, ◌⊎◌, inl, inr, refl, sym, ap, ◌∙◌, subst, arith}
-use Rattle.std.proofs.Common.{List, [], ◌∷◌, ◌++◌, Option, Some, None, Bool, true, false, cond, length, eq-eqb, ne_eqb}
+use Rattle.std.proofs.Common.{◌≡◌, ℕ, zero, suc, ◌⊎◌, inl, inr, refl, sym, ap, ◌∙◌, subst}
+use Rattle.std.proofs.Common.{List, [], ◌∷◌, ◌++◌, Option, Some, None, Bool, true, false, cond, eq-eqb, ne_eqb}
 use Rattle.std.specs.Prelude.{get_or, slice_set, map}
 use Rattle.std.proofs.Math.ListN.{get_or-map}
-use Rattle.std.proofs.lemmas.Bool.{eqb-true}
 use mathlib.Core.List.{IsPrefix}
 use Rattle.flow_design.specs.declared.plan.Plan.{Plan}
 use Rattle.flow_design.specs.declared.state.ModuleState.{ModuleState}
 use Rattle.flow_design.specs.StaticRules.{FitsEngine}
 use Rattle.event_timing.specs.Machines.{Design}
-use Rattle.event_timing.specs.Core.{Core}
-use Rattle.event_timing.specs.Actions.{Action, ActsAll, IsNoRunOf, IsFinal}
-use Rattle.event_timing.specs.Agreement.{IsAgreed, AllVerified}
 use Rattle.timing_bridge.specs.Designs.{design, lockstep_run}
 use Rattle.timing_bridge.proofs.History.{plan_is_design, run_is_history}
 use Rattle.turn_lock.specs.Entries.{bears, entries_of}
@@ -22,12 +18,11 @@ use Rattle.turn_history.specs.declared.entry.HubEntry.TheVariants.{Opened, Turn}
 use Rattle.turn_history.specs.Turned.{Turned, lent_at, is_lent_to, not_to, opening_turned}
 use Rattle.turn_history.specs.Turns.{IsTurnOf, TurnsOf, AreOfOthers, taker}
 use Rattle.turn_history.specs.Rounds.{then_on}
-use Rattle.turn_history.specs.Replays.{turn_on, turns_on}
+use Rattle.turn_history.specs.Replays.{turns_on}
 use Rattle.turn_history.specs.Histories.{standing_of, turned_by}
 use Rattle.turn_history.specs.Entries.{bearer, history_of, Stands}
 use Rattle.turn_history.proofs.Plans.{history_is, history_agrees, history_verified}
 use Rattle.turn_history.proofs.Legal.{turns_are}
-use Rattle.turn_history.proofs.Lending.{turns_beside, final_stays}
 use Rattle.turn_history.proofs.Turning.{turns_join}
 use Rattle.turn_lock.proofs.Histories.{prefix_self}
 use Rattle.sim_hub.specs.Places.{Behind}
@@ -73,7 +68,7 @@ pub plan_since : (p q : Plan) (seen log : List HubEntry) (v w : Turned ModuleSta
     → p ≡ q
 plan_since p q seen log v w s t begins =
     let e : history_of p s.turns ++ begins.0 ≡ history_of q t.turns =
-        ap (λ (es : List HubEntry). es ++ begins.0) (sym s.entries) ∙ begins.1 ∙ t.entries in
+    ap (λ (es : List HubEntry). es ++ begins.0) (sym s.entries) ∙ begins.1 ∙ t.entries in
     ap (plan_in p) (ap (first_in (Opened p)) e)
 
 module _ (p : Plan) (seen log : List HubEntry) (v w : Turned ModuleState) (s : Stands p seen v) (t : Stands p log w) where
@@ -82,7 +77,7 @@ module _ (p : Plan) (seen log : List HubEntry) (v w : Turned ModuleState) (s : S
       → (later : List HubTurn) × (more ≡ map Turn later) × (turns_on (design p) p.cycles v later ≡ Some w)
   later_turns more all =
       let e : history_of p s.turns ++ more ≡ history_of p t.turns =
-          ap (λ (es : List HubEntry). es ++ more) (sym s.entries) ∙ all ∙ t.entries in
+      ap (λ (es : List HubEntry). es ++ more) (sym s.entries) ∙ all ∙ t.entries in
       let (later, are, joined) = turns_behind s.turns t.turns more (ap rest_in e) in
       let opening : Turned ModuleState = opening_turned (design p) in (
         later,

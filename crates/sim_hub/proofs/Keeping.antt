@@ -1,15 +1,15 @@
 -- What a turn keeps of a ledger.
-use Rattle.std.proofs.Common.{◌≡◌, ◌⊎◌, inl, inr, ℕ, zero, suc, ◌+◌, ◌-◌, ◌<◌, ◌≤◌, refl, sym, ap, ◌∙◌, subst, arith}
+use Rattle.std.proofs.Common.{◌≡◌, inl, inr, ℕ, zero, suc, ◌+◌, ◌-◌, ◌<◌, ◌≤◌, refl, sym, ap, ◌∙◌, subst, arith}
 use Rattle.std.proofs.Common.{List, [], ◌∷◌, ◌++◌, Option, Some, None, Bool, true, false, length}
-use Rattle.std.specs.Prelude.{get_or, slice_set, slice_index_or, map, replicate, is_some, unwrap_or}
+use Rattle.std.specs.Prelude.{slice_set, slice_index_or, is_some, unwrap_or}
 use Rattle.std.proofs.lemmas.Bool.{cases_eq}
 use Rattle.std.proofs.lemmas.List.{length-set, length-map, length-replicate, map-append, get_or-set_same, get_or-set_other}
 use Rattle.flow_design.specs.StaticRules.{FitsEngine}
 use Rattle.flow_design.specs.declared.plan.Plan.{Plan}
 use Rattle.flow_design.specs.declared.state.ModuleState.{ModuleState}
-use Rattle.event_timing.specs.Core.{Core, opening_core}
-use Rattle.event_timing.specs.Agreement.{IsAgreed, AllVerified}
-use Rattle.timing_bridge.specs.Designs.{design, lockstep_run}
+use Rattle.event_timing.specs.Core.{opening_core}
+use Rattle.event_timing.specs.Agreement.{AllVerified}
+use Rattle.timing_bridge.specs.Designs.{design}
 use Rattle.turn_lock.specs.Entries.{entries_of}
 use Rattle.turn_lock.proofs.Histories.{Some-same, entries_other}
 use Rattle.sim_core.specs.Views.{CoreView, theory_of}
@@ -21,7 +21,7 @@ use Rattle.turn_history.specs.Turned.{Turned, lent_at, opening_turned, after_len
 use Rattle.turn_history.specs.Turns.{taker}
 use Rattle.turn_history.specs.Histories.{standing_of, turned_by}
 use Rattle.turn_history.specs.Entries.{bearer, history_of, Stands}
-use Rattle.turn_history.proofs.Plans.{history_is, history_agrees, history_verified}
+use Rattle.turn_history.proofs.Plans.{history_is, history_verified}
 use Rattle.sim_hub.specs.Places.{IsLegal, Behind, HasDesk}
 use Rattle.sim_hub.specs.Kept.{IsKept, Matches, behind, lent_count, spare}
 use Rattle.sim_hub.proofs.Lists.{set_true, set_keeps, within_false, within_some, none_replicated, count_set, count_cleared, count_none}
@@ -80,7 +80,8 @@ module _ (core : CoreView) (out : ℕ) (short : Bool) (at : Turned ModuleState) 
         home = λ ok n within gone.
             elim (cases_eq n m) [
               | inl e ↦
-                  let z = sym gone ∙ ap (λ bs. slice_index_or bs n true) runs ∙ ap (λ i. slice_index_or (slice_set core.lent m false) i true) e
+                  let z = sym gone ∙ ap (λ bs. slice_index_or bs n true) runs ∙ ap
+                  (λ i. slice_index_or (slice_set core.lent m false) i true) e
                   ∙ get_or-set_same core.lent m false true (omega arith) in
                   absurd (cc)
               | inr other ↦ get_or-set_other at.lent_to m n None None other
@@ -96,12 +97,12 @@ module _ (core : CoreView) (out : ℕ) (short : Bool) (at : Turned ModuleState) 
           elim (set_some at.lent_to m n q None there) [
             | inl (here, is) ↦ absurd (cc)
             | inr before ↦ (
-                λ e.
-                    let z = sym there ∙ ap (λ i. lent_at (after_ran at m (theory_of now)) i) e
-                    ∙ get_or-set_same at.lent_to m None None (within_some at.lent_to m (m + 1) lent) in
-                    cc,
-                before,
-              )
+              λ e.
+                  let z = sym there ∙ ap (λ i. lent_at (after_ran at m (theory_of now)) i) e
+                  ∙ get_or-set_same at.lent_to m None None (within_some at.lent_to m (m + 1) lent) in
+                  cc,
+              before,
+            )
           ]
 
   pub timed_matches : (now : CoreView) → now.plan ≡ core.plan → now.lent ≡ core.lent
@@ -131,7 +132,8 @@ module _ (core : CoreView) (out : ℕ) (short : Bool) (at : Turned ModuleState) 
   }
 
   -- the same where the core's plan, runs and theory are
-  pub same_matches : (now : CoreView) → now.plan ≡ core.plan → now.lent ≡ core.lent → theory_of now ≡ theory_of core → Matches now out short at
+  pub same_matches : (now : CoreView) → now.plan ≡ core.plan → now.lent ≡ core.lent → theory_of now ≡ theory_of core
+      → Matches now out short at
   same_matches now plan runs theory =
       let m = timed_matches now plan runs in record {
         core_is = theory ∙ k.core_is;
@@ -147,7 +149,8 @@ module _ (core : CoreView) (out : ℕ) (short : Bool) (at : Turned ModuleState) 
 -- ---- a ledger
 
 -- a history with one turn more
-pub history-snoc : (p : Plan) (turns : List HubTurn) (turn : HubTurn) → history_of p (turns ++ turn ∷ []) ≡ history_of p turns ++ Turn turn ∷ []
+pub history-snoc : (p : Plan) (turns : List HubTurn) (turn : HubTurn) → history_of p
+    (turns ++ turn ∷ []) ≡ history_of p turns ++ Turn turn ∷ []
 history-snoc p turns turn = ap (λ (es : List HubEntry). Opened p ∷ es) (map-append Turn turns (turn ∷ []))
 
 -- and its entries
@@ -220,10 +223,10 @@ module _ (core : CoreView) (turns : List HubTurn) (out : ℕ) (short : Bool) (ca
   kept_next now more others wanted room turn w plan added low next matches enough =
       let count = ap (λ (p : Plan). length p.design.modules) plan in
       let standing : standing_of now.plan more ≡ Some w =
-          ap (λ (p : Plan). standing_of p more) plan ∙ ap (standing_of core.plan) added
-          ∙ stands_next core.plan turns (behind core.plan turns) w turn kept_standing next in
+      ap (λ (p : Plan). standing_of p more) plan ∙ ap (standing_of core.plan) added
+      ∙ stands_next core.plan turns (behind core.plan turns) w turn kept_standing next in
       let at : w ≡ behind now.plan more =
-          sym (ap (λ (o : Option (Turned ModuleState)). unwrap_or o (opening_turned (design now.plan))) standing) in record {
+      sym (ap (λ (o : Option (Turned ModuleState)). unwrap_or o (opening_turned (design now.plan))) standing) in record {
         legal = ap is_some standing;
         matches = subst (Matches now others wanted) at matches;
         none_else = λ n above.
@@ -240,7 +243,7 @@ module _ (core : CoreView) (turns : List HubTurn) (out : ℕ) (short : Bool) (ca
   kept_same now more room plan runs theory same enough =
       let count = ap (λ (p : Plan). length p.design.modules) plan in
       let at : behind core.plan turns ≡ behind now.plan more =
-          ap (λ (p : Plan). behind p turns) (sym plan) ∙ ap (behind now.plan) (sym same) in record {
+      ap (λ (p : Plan). behind p turns) (sym plan) ∙ ap (behind now.plan) (sym same) in record {
         legal = ap (λ (p : Plan). is_some (standing_of p more)) plan ∙ ap (λ (ts : List HubTurn). is_some (standing_of core.plan ts)) same
             ∙ k.legal;
         matches = subst (Matches now out short) at

@@ -20,20 +20,21 @@ use Rattle.turn_history.specs.declared.turn.HubTurn.{HubTurn}
 use Rattle.turn_history.specs.declared.turn.HubTurn.TheVariants.{Lent, Ran, Timed}
 use Rattle.turn_history.specs.declared.entry.HubEntry.{HubEntry}
 use Rattle.turn_history.specs.Turns.{AreOfOthers, NoTiming}
-use Rattle.turn_history.specs.Turned.{Turned, lent_at, after_lent, after_ran, after_timed}
+use Rattle.turn_history.specs.Turned.{lent_at, after_lent, after_ran, after_timed}
 use Rattle.turn_history.specs.Histories.{turned_by}
-use Rattle.turn_history.specs.Entries.{history_of, Stands}
+use Rattle.turn_history.specs.Entries.{history_of}
 use Rattle.turn_history.proofs.Plans.{history_is, history_agrees}
 use Rattle.turn_history.proofs.Lending.{turns_beside}
 use Rattle.turn_history.proofs.Turning.{lent_fits, ran_fits}
 use Rattle.sim_hub.specs.declared.answer.Desk.TheVariants as desk
 use Rattle.sim_hub.specs.Kept.{IsKept, behind, spare}
-use Rattle.sim_hub.specs.Places.{Behind, HasDesk, HasNoDesk}
+use Rattle.sim_hub.specs.Places.{Behind, HasNoDesk}
 use Rattle.sim_hub.specs.Hubs.{HadMemory, IsDesk, IsFinished, IsHeld, IsIdle, OutAt, WasShort}
 use Rattle.sim_hub.specs.Steps.{Adds, ComesHome, ComesBack}
 use Rattle.sim_hub.proofs.Lists.{set_none, within_some}
 use Rattle.sim_hub.proofs.Histories.{behind_at}
-use Rattle.sim_hub.proofs.Keeping.{lent_out, kept_stands, kept_behind, kept_next, kept_lent, kept_some, lent_matches, ran_matches, timed_matches}
+use Rattle.sim_hub.proofs.Keeping.{lent_out, kept_stands, kept_behind, kept_next}
+use Rattle.sim_hub.proofs.Keeping.{lent_matches, ran_matches, timed_matches}
 use Rattle.sim_hub.proofs.Desks.{task_runs, burst_back, burst_marks}
 use Rattle.sim_hub.proofs.Answering.{stands_more, module_inside, come_back, home_since}
 
@@ -134,8 +135,13 @@ module _ (core : CoreView) (turns : List HubTurn) (out : ℕ) (short : Bool) (ca
       → turned_by core.plan (behind core.plan turns) (Lent (m + 1) m) ≡ Some (after_lent (behind core.plan turns) (m + 1) m)
   lent_turn m memory may here =
       let at = behind core.plan turns in
-      lent_fits (design core.plan) core.plan.cycles at (m + 1) m (after_lent at (m + 1) m)
-      (sym k.matches.short_is ∙ memory, subst (λ (x : Core ModuleState). MayRun (design core.plan) x m) k.matches.core_is may, free m here, refl)
+      lent_fits (design core.plan) core.plan.cycles at (m + 1) m (after_lent at (m + 1) m) (
+        sym k.matches.short_is ∙ memory,
+        subst (λ (x : Core ModuleState). MayRun (design core.plan) x m) k.matches.core_is may,
+        free m
+            here,
+        refl,
+      )
 
   pub kept_lending : (now : CoreView) (more : List HubTurn) (room q m : ℕ) → q ≡ m + 1 → now ≡ lent_out core m
       → m < length core.plan.design.modules → short ≡ false → MayRun (design core.plan) (theory_of core) m
@@ -156,7 +162,7 @@ module _ (core : CoreView) (turns : List HubTurn) (out : ℕ) (short : Bool) (ca
   out_lending log m task inside memory t here added =
       let at = behind core.plan turns in
       let stands = stands_more core.plan (history_of core.plan turns) log at (after_lent at (m + 1) m) (Lent (m + 1) m)
-          (kept_stands core turns out short capacity k) (lent_turn m memory t.may here) added in (
+      (kept_stands core turns out short capacity k) (lent_turn m memory t.may here) added in (
         (
           core.plan,
           after_lent at (m + 1) m,
@@ -181,7 +187,7 @@ module _ (core : CoreView) (turns : List HubTurn) (out : ℕ) (short : Bool) (ca
     burst_is =
         let now = behind core.plan turns in
         let (at, s, lent, (later, others, ts)) = come_back core.plan fits (history_of core.plan turns) now
-            (kept_stands core turns out short capacity k) c.before c.continues (λ p u. lent_at u m ≡ Some (m + 1)) c.out in
+        (kept_stands core turns out short capacity k) c.before c.continues (λ p u. lent_at u m ≡ Some (m + 1)) c.out in
         let mine = subst (λ (q : ℕ). AreOfOthers q later) c.number others in
         let (task, lent_task, on) = c.is_burst in
         let t = behind_at core.plan c.before.seen at s (λ p u. IsTaskOf p u.core m task) lent_task in
@@ -215,8 +221,13 @@ module _ (core : CoreView) (turns : List HubTurn) (out : ℕ) (short : Bool) (ca
           → turned_by core.plan (behind core.plan turns) (Ran (m + 1) m n) ≡ Some (after_ran (behind core.plan turns) m (theory_of now))
       ran_turn now m n lent some acts =
           let at = behind core.plan turns in
-          ran_fits (design core.plan) core.plan.cycles at (m + 1) m n (after_ran at m (theory_of now))
-          (lent, some, subst (λ (x : Core ModuleState). ActsAll (design core.plan) core.plan.cycles x (runs n m) (theory_of now)) k.matches.core_is acts, refl)
+          ran_fits (design core.plan) core.plan.cycles at (m + 1) m n (after_ran at m (theory_of now)) (
+            lent,
+            some,
+            subst (λ (x : Core ModuleState). ActsAll (design core.plan) core.plan.cycles x (runs n m) (theory_of now))
+                k.matches.core_is acts,
+            refl,
+          )
 
   -- no desk is out behind it
   pub home_ran : (now : CoreView) (log : List HubEntry) (m n : ℕ) → lent_at (behind core.plan turns) m ≡ Some (m + 1) → 0 < n
@@ -224,8 +235,13 @@ module _ (core : CoreView) (turns : List HubTurn) (out : ℕ) (short : Bool) (ca
       → Adds (Ran (m + 1) m n) (history_of core.plan turns) log → HasNoDesk m log
   home_ran now log m n lent some acts added =
       let at = behind core.plan turns in
-      let next = ran_fits (design core.plan) core.plan.cycles at (m + 1) m n (after_ran at m (theory_of now))
-          (lent, some, subst (λ (x : Core ModuleState). ActsAll (design core.plan) core.plan.cycles x (runs n m) (theory_of now)) k.matches.core_is acts, refl) in (
+      let next = ran_fits (design core.plan) core.plan.cycles at (m + 1) m n (after_ran at m (theory_of now)) (
+        lent,
+        some,
+        subst (λ (x : Core ModuleState). ActsAll (design core.plan) core.plan.cycles x (runs n m) (theory_of now))
+            k.matches.core_is acts,
+        refl,
+      ) in (
         core.plan,
         after_ran at m (theory_of now),
         stands_more core.plan (history_of core.plan turns) log at (after_ran at m (theory_of now)) (Ran (m + 1) m n)

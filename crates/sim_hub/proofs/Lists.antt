@@ -61,7 +61,8 @@ count_mapped r [] = omega arith
 count_mapped r (None ∷ os) = count_mapped r os
 count_mapped r (Some k ∷ os) =
     let h = count_mapped r os in
-    elim (is_lent_to (Some k) r) as (λ b. length (filter is_some (cond b None (Some k) ∷ map (not_to r) os)) ≤ length (filter is_some (Some k ∷ os))) [
+    elim (is_lent_to (Some k) r) as
+    (λ b. length (filter is_some (cond b None (Some k) ∷ map (not_to r) os)) ≤ length (filter is_some (Some k ∷ os))) [
       | true ↦ omega arith
       | false ↦ omega arith
     ]
@@ -78,7 +79,8 @@ count_given_up r zero (Some k ∷ os) e same =
 count_given_up r (suc m) (None ∷ os) e same = count_given_up r m os e same
 count_given_up r (suc m) (Some k ∷ os) e same =
     let h = count_given_up r m os e same in
-    elim (is_lent_to (Some k) r) as (λ b. length (filter is_some (cond b None (Some k) ∷ map (not_to r) os)) + 1 ≤ length (filter is_some (Some k ∷ os))) [
+    elim (is_lent_to (Some k) r) as
+    (λ b. length (filter is_some (cond b None (Some k) ∷ map (not_to r) os)) + 1 ≤ length (filter is_some (Some k ∷ os))) [
       | true ↦ omega arith
       | false ↦ omega arith
     ]

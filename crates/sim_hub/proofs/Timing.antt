@@ -1,5 +1,5 @@
 -- What the performance pass does in a turn, as a turn that is computed.
-use Rattle.std.proofs.Common.{◌≡◌, ℕ, ◌≤◌, refl, sym, ap, ◌∙◌, subst, arith, Option, Some, None, Bool, true, false, cond}
+use Rattle.std.proofs.Common.{◌≡◌, ℕ, ◌≤◌, sym, ap, ◌∙◌, subst, Some, None, Bool, true, false, cond}
 use Rattle.std.specs.Prelude.{is_none}
 use Rattle.flow_design.specs.declared.plan.Plan.{Plan}
 use Rattle.flow_design.specs.declared.state.ModuleState.{ModuleState}
@@ -27,7 +27,8 @@ none_timed d limit x y n zeroth e = either (is_none (next_timing d limit x 0)) (
 pub timed_turn : (p : Plan) (at : Turned ModuleState) (x y : Core ModuleState) (n : ℕ) → x ≡ at.core → at.short ≡ false → 1 ≤ n
     → timings (design p) p.cycles n 0 x ≡ Some y → turned_by p at (Timed 0 n) ≡ Some (after_timed at y)
 timed_turn p at x y n core memory some e =
-    timed_fits (design p) p.cycles at 0 n y memory some (subst (λ (z : Core ModuleState). timings (design p) p.cycles n 0 z ≡ Some y) core e)
+    timed_fits (design p) p.cycles at 0 n y memory some
+    (subst (λ (z : Core ModuleState). timings (design p) p.cycles n 0 z ≡ Some y) core e)
 
 pub earliest_turn : (p : Plan) (at : Turned ModuleState) (x y : Core ModuleState) → x ≡ at.core → at.short ≡ false
     → IsInside (design p) x → earliest_of (design p) p.cycles x ≡ Some y → turned_by p at (Timed 0 1) ≡ Some (after_timed at y)

@@ -1,5 +1,5 @@
 -- How a hub begins and ends.
-use Rattle.std.specs.Prelude.{◌≡◌, ℕ, suc, ◌+◌, ◌<◌, List, [], length, false, Some, slice_get}
+use Rattle.std.specs.Prelude.{◌≡◌, ℕ, suc, ◌<◌, List, [], length, false, Some, slice_get}
 use mathlib.Core.List.{IsPrefix}
 use Rattle.flow_design.specs.declared.plan.Plan.{Plan}
 use Rattle.flow_design.specs.declared.state.ModuleState.{ModuleState}
@@ -10,7 +10,6 @@ use Rattle.timing_bridge.specs.Designs.{design}
 use Rattle.sim_core.specs.Views.{theory_of}
 use Rattle.sim_core.specs.Drives.{AreOwn}
 use Rattle.turn_history.specs.declared.entry.HubEntry.{HubEntry}
-use Rattle.turn_history.specs.declared.turn.HubTurn.{HubTurn}
 use Rattle.turn_history.specs.Entries.{bearer, history_of, Stands}
 use Rattle.turn_history.specs.Turned.{Turned}
 use Rattle.sim_hub.specs.declared.pass.PerfPass.{PerfPass}

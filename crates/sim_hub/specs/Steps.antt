@@ -1,5 +1,5 @@
 -- What the work of a turn asks of its pass, and what it does to the history.
-use Rattle.std.specs.Prelude.{◌≡◌, ◌⊎◌, ℕ, ◌+◌, List, [], ◌∷◌, ◌++◌, length, Bool, true, false}
+use Rattle.std.specs.Prelude.{◌≡◌, ℕ, ◌+◌, List, [], ◌∷◌, ◌++◌, length, Bool, true, false}
 use Rattle.run_ahead.specs.declared.mail.Burst.{Burst}
 use Rattle.turn_history.specs.declared.entry.HubEntry.{HubEntry}
 use Rattle.turn_history.specs.declared.entry.HubEntry.TheVariants.{Turn}

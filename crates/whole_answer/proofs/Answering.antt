@@ -10,9 +10,9 @@ use Rattle.flow_grammar.specs.declared.fault.TextFault.{TextFault}
 use Rattle.flow_grammar.specs.Text.{Said, StandsFor, HasFault}
 use Rattle.flow_check.specs.Checked.{fault_of}
 use Rattle.cli_words.specs.declared.Command.{Command}
-use Rattle.cli_words.specs.declared.Command.TheVariants.{Run, Alone, Check, Gen}
+use Rattle.cli_words.specs.declared.Command.TheVariants.{Run, Check, Gen}
 use Rattle.cli_words.specs.declared.Command.TheVariants as command
-use Rattle.whole_answer.specs.declared.simulator.Simulator.TheVariants.{Engine, Clock}
+use Rattle.whole_answer.specs.declared.simulator.Simulator.TheVariants as by
 use Rattle.whole_answer.specs.declared.task.Task.{Task}
 use Rattle.whole_answer.specs.declared.task.Task.TheVariants.{Simulate, Print}
 use Rattle.whole_answer.specs.declared.status.Status.TheVariants.{ReadFault, Memory}
@@ -137,17 +137,17 @@ not_read whole old new finished = record { answered = λ i. absurd i; write = λ
 pub command_some : ((task : Task) (text : List ℕ) → (a : Answer) × AnswersText task text a)
     → (command : Option Command) (bytes : List ℕ) → (a : Answer) × AnswersCommand command bytes a
 command_some some None bytes = (refused_words, refl)
-command_some some (Some (Run o)) bytes = some (Simulate Engine o) bytes
-command_some some (Some (Alone o)) bytes = some (Simulate Engine o) bytes
-command_some some (Some (command.Clock o)) bytes = some (Simulate Clock o) bytes
+command_some some (Some (Run o)) bytes = some (Simulate by.Threads o) bytes
+command_some some (Some (command.Alone o)) bytes = some (Simulate by.Alone o) bytes
+command_some some (Some (command.Clock o)) bytes = some (Simulate by.Clock o) bytes
 command_some some (Some Check) bytes = some Print bytes
 command_some some (Some (Gen seed modules)) bytes = (generated seed modules, refl)
 
 pub command_only : ((task : Task) (text : List ℕ) (a b : Answer) → AnswersText task text a → AnswersText task text b → a ≡ b)
     → (command : Option Command) (bytes : List ℕ) (a b : Answer) → AnswersCommand command bytes a → AnswersCommand command bytes b → a ≡ b
 command_only only None bytes a b p q = p ∙ sym q
-command_only only (Some (Run o)) bytes a b p q = only (Simulate Engine o) bytes a b p q
-command_only only (Some (Alone o)) bytes a b p q = only (Simulate Engine o) bytes a b p q
-command_only only (Some (command.Clock o)) bytes a b p q = only (Simulate Clock o) bytes a b p q
+command_only only (Some (Run o)) bytes a b p q = only (Simulate by.Threads o) bytes a b p q
+command_only only (Some (command.Alone o)) bytes a b p q = only (Simulate by.Alone o) bytes a b p q
+command_only only (Some (command.Clock o)) bytes a b p q = only (Simulate by.Clock o) bytes a b p q
 command_only only (Some Check) bytes a b p q = only Print bytes a b p q
 command_only only (Some (Gen seed modules)) bytes a b p q = p ∙ sym q

@@ -8,11 +8,11 @@ use Rattle.flow_grammar.specs.Text.{StandsFor, HasFault}
 use Rattle.flow_check.specs.Checked.{fault_of}
 use Rattle.cli_words.specs.CommandWords.{accepted, AreLimits}
 use Rattle.cli_words.specs.declared.Command.{Command}
-use Rattle.cli_words.specs.declared.Command.TheVariants.{Run, Alone, Check, Gen}
+use Rattle.cli_words.specs.declared.Command.TheVariants.{Run, Check, Gen}
 use Rattle.cli_words.specs.declared.Command.TheVariants as command
 use Rattle.whole_answer.specs.declared.answer.Answer.{Answer}
 use Rattle.whole_answer.specs.Made.{refused_words, refused, made, generated}
-use Rattle.whole_answer.specs.declared.simulator.Simulator.TheVariants.{Engine, Clock}
+use Rattle.whole_answer.specs.declared.simulator.Simulator.TheVariants as by
 use Rattle.whole_answer.specs.declared.task.Task.{Task}
 use Rattle.whole_answer.specs.declared.task.Task.TheVariants.{Simulate, Print, Summarize}
 use Rattle.whole_answer.specs.declared.status.Status.{Status}
@@ -41,9 +41,9 @@ pub data AnswersText (task : Task) (text : List ℕ) (answer : Answer) : Type 0 
 -- the answer to a command, with these bytes as the input
 abbrev pub AnswersCommand : Option Command → List ℕ → Answer → Type 0
 AnswersCommand None bytes answer = answer ≡ refused_words
-AnswersCommand (Some (Run o)) bytes answer = AnswersText (Simulate Engine o) bytes answer
-AnswersCommand (Some (Alone o)) bytes answer = AnswersText (Simulate Engine o) bytes answer
-AnswersCommand (Some (command.Clock o)) bytes answer = AnswersText (Simulate Clock o) bytes answer
+AnswersCommand (Some (Run o)) bytes answer = AnswersText (Simulate by.Threads o) bytes answer
+AnswersCommand (Some (command.Alone o)) bytes answer = AnswersText (Simulate by.Alone o) bytes answer
+AnswersCommand (Some (command.Clock o)) bytes answer = AnswersText (Simulate by.Clock o) bytes answer
 AnswersCommand (Some Check) bytes answer = AnswersText Print bytes answer
 -- the session of the seed takes the place of the input
 AnswersCommand (Some (Gen seed modules)) bytes answer = answer ≡ generated seed modules
@@ -55,7 +55,7 @@ Answers words = AnswersCommand (accepted words)
 -- whether a command takes input
 abbrev pub takes_input : Option Command → Bool
 takes_input (Some (Run o)) = true
-takes_input (Some (Alone o)) = true
+takes_input (Some (command.Alone o)) = true
 takes_input (Some (command.Clock o)) = true
 takes_input (Some Check) = true
 takes_input command = false
@@ -64,7 +64,7 @@ takes_input command = false
 
 -- the limits that a task gives are within their bounds
 abbrev pub IsSound : Task → Type 0
-IsSound (Simulate by o) = AreLimits o
+IsSound (Simulate simulator o) = AreLimits o
 IsSound Print = Unit {0}
 IsSound (Summarize seed modules) = Unit {0}
 

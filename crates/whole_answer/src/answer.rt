@@ -18,8 +18,11 @@ use flow_text::read_session;
 use flow_word::{List, OutOfMemory};
 use generated_sessions::{generated_sessions_are_checked, generated_texts_are_read};
 use report_text::print_numbers;
+use run_threads::Gate;
 use sim_io::{Source, TakeFault, read_all};
 use std::alloc::Global;
+use std::sync::Wait;
+use std::thread::Threads;
 
 /// A text for the sink, and the status of the program.
 #[derive(Debug, Drop)]
@@ -54,10 +57,12 @@ const TOO_LONG: TextFault = TextFault {
 };
 
 /// The answer to the words, with what the source gives as the input.
-pub(crate) fn answer_words<S: Source>(
+pub(crate) fn answer_words<R: Threads + Wait + Sync, S: Source, G: Gate + Sync>(
+    rt: &R,
     alloc: Global,
     words: &[String],
     source: &mut S,
+    gate: &G,
 ) -> Result<Answer, Unanswered>
     ensures answers { IfSome (S.left source.old) (λ bytes. IfOk result (λ whole. Answers (map string_bytes words.now) bytes whole)) }
     ensures status { IfOk result (λ whole. IsAnswer whole.status) }
@@ -70,7 +75,7 @@ pub(crate) fn answer_words<S: Source>(
     ensures reads_none { takes_input (accepted (map string_bytes words.now)) ≡ false → result ≢ Err Unanswered.ReadFault }
 {
     match read_words(alloc, words) {
-        Ok(command) => obey(alloc, command, source),
+        Ok(command) => obey(rt, alloc, command, source, gate),
         Err(WordFault::Refused) => Ok(Answer {
             text: List::from_slice(alloc, b"refused words\n")?,
             status: Status::Words,
@@ -80,7 +85,13 @@ pub(crate) fn answer_words<S: Source>(
 }
 
 /// The answer to a command.
-fn obey<S: Source>(alloc: Global, command: Command, source: &mut S) -> Result<Answer, Unanswered>
+fn obey<R: Threads + Wait + Sync, S: Source, G: Gate + Sync>(
+    rt: &R,
+    alloc: Global,
+    command: Command,
+    source: &mut S,
+    gate: &G,
+) -> Result<Answer, Unanswered>
     requires { IsInRange command }
     ensures answers { IfSome (S.left source.old) (λ bytes. IfOk result (λ whole. AnswersCommand (Some command) bytes whole)) }
     ensures status { IfOk result (λ whole. IsAnswer whole.status) }
@@ -92,22 +103,30 @@ fn obey<S: Source>(alloc: Global, command: Command, source: &mut S) -> Result<An
     ensures reads_none { takes_input (Some command) ≡ false → result ≢ Err Unanswered.ReadFault }
 {
     match command {
-        Command::Run(options) | Command::Alone(options) => {
-            answer_source(alloc, &Task::Simulate(Simulator::Engine, options), source)
+        Command::Run(options) => {
+            let task = Task::Simulate(Simulator::Threads, options);
+            answer_source(rt, alloc, &task, source, gate)
+        }
+        Command::Alone(options) => {
+            let task = Task::Simulate(Simulator::Alone, options);
+            answer_source(rt, alloc, &task, source, gate)
         }
         Command::Clock(options) => {
-            answer_source(alloc, &Task::Simulate(Simulator::Clock, options), source)
+            let task = Task::Simulate(Simulator::Clock, options);
+            answer_source(rt, alloc, &task, source, gate)
         }
-        Command::Check => answer_source(alloc, &Task::Print, source),
-        Command::Gen(seed, modules) => Ok(answer_generated(alloc, seed, modules)?),
+        Command::Check => answer_source(rt, alloc, &Task::Print, source, gate),
+        Command::Gen(seed, modules) => Ok(answer_generated(rt, alloc, seed, modules, gate)?),
     }
 }
 
 /// The answer to the text that the source gives.
-fn answer_source<S: Source>(
+fn answer_source<R: Threads + Wait + Sync, S: Source, G: Gate + Sync>(
+    rt: &R,
     alloc: Global,
     task: &Task,
     source: &mut S,
+    gate: &G,
 ) -> Result<Answer, Unanswered>
     requires { IsSound task.now }
     ensures answers { IfSome (S.left source.old) (λ bytes. IfOk result (λ whole. AnswersText task.now bytes whole)) }
@@ -116,7 +135,7 @@ fn answer_source<S: Source>(
     ensures source_faults { S.faults source.old ≤ S.faults source.new }
 {
     match read_all(alloc, source, limits::TEXT_BYTES) {
-        Ok(text) => Ok(answer_text(alloc, task, text.as_slice())?),
+        Ok(text) => Ok(answer_text(rt, alloc, task, text.as_slice(), gate)?),
         Err(TakeFault::ReadFault) => Err(Unanswered::ReadFault),
         Err(TakeFault::TooLong) => Ok(refuse(alloc, TOO_LONG)?),
         Err(TakeFault::OutOfMemory) => Err(Unanswered::OutOfMemory),
@@ -124,7 +143,13 @@ fn answer_source<S: Source>(
 }
 
 /// The summary of the session of a seed: its text is made, read, checked and run like any other.
-fn answer_generated(alloc: Global, seed: u64, modules: u64) -> Result<Answer, OutOfMemory>
+fn answer_generated<R: Threads + Wait + Sync, G: Gate + Sync>(
+    rt: &R,
+    alloc: Global,
+    seed: u64,
+    modules: u64,
+    gate: &G,
+) -> Result<Answer, OutOfMemory>
     requires { IsInRange (Command.Gen seed modules) }
     ensures generated { IfOk result (λ whole. whole ≡ generated seed modules) }
     ensures status { IfOk result (λ whole. IsAnswer whole.status) }
@@ -133,11 +158,18 @@ fn answer_generated(alloc: Global, seed: u64, modules: u64) -> Result<Answer, Ou
     generated_texts_are_read();
     generated_sessions_are_checked();
     let text = generate(alloc, seed, modules)?;
-    answer_text(alloc, &Task::Summarize(seed, modules), text.as_slice())
+    let task = Task::Summarize(seed, modules);
+    answer_text(rt, alloc, &task, text.as_slice(), gate)
 }
 
 /// The answer to a text: it is read to a session, the session is checked, and the task makes the answer of it.
-fn answer_text(alloc: Global, task: &Task, text: &[u8]) -> Result<Answer, OutOfMemory>
+fn answer_text<R: Threads + Wait + Sync, G: Gate + Sync>(
+    rt: &R,
+    alloc: Global,
+    task: &Task,
+    text: &[u8],
+    gate: &G,
+) -> Result<Answer, OutOfMemory>
     requires { IsSound task.now }
     ensures answers { IfOk result (λ whole. AnswersText task.now text.now whole) }
     ensures status { IfOk result (λ whole. IsAnswer whole.status) }
@@ -149,7 +181,7 @@ fn answer_text(alloc: Global, task: &Task, text: &[u8]) -> Result<Answer, OutOfM
         Err(ReadFail::OutOfMemory) => return Err(OutOfMemory),
     };
     match check(alloc, &session, &lines) {
-        Ok(checked) => make(alloc, task, &session, checked),
+        Ok(checked) => make(rt, alloc, task, &session, checked, gate),
         Err(ReadFail::Text(fault)) => refuse(alloc, fault),
         Err(ReadFail::OutOfMemory) => Err(OutOfMemory),
     }

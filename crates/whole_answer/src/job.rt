@@ -12,12 +12,15 @@ use crate::answer::Answer;
 use crate::laws::reports_without_events;
 use crate::simulator::{Simulator, clock_report};
 use crate::status::Status;
-use depth_session::{AloneRunner, DepthSession};
+use depth_session::{AloneRunner, DepthSession, Runner};
 use edit_runs::{RunCount, edits_in_order};
 use flow_design::{Edit, Plan, Report, edit_plan};
 use flow_word::{List, OutOfMemory};
 use report_text::{print_report, print_runs};
+use run_threads::{Gate, ThreadRunner};
 use std::alloc::Global;
+use std::sync::Wait;
+use std::thread::Threads;
 use timing_bridge::edited_plans_agree;
 
 /// What is written of the reports so far.
@@ -30,12 +33,14 @@ pub(crate) struct Written {
 }
 
 /// The job of a plan and its edits.
-pub(crate) fn job(
+pub(crate) fn job<R: Threads + Wait + Sync, G: Gate + Sync>(
+    rt: &R,
     alloc: Global,
     by: Simulator,
     events: bool,
     plan: Plan,
     edits: &[Edit],
+    gate: &G,
 ) -> Result<Answer, OutOfMemory>
     requires fits { FitsEngine plan }
     requires edits_fit { All (EditFits plan) edits.now }
@@ -43,17 +48,23 @@ pub(crate) fn job(
     ensures status { IfOk result (λ whole. IsAnswer whole.status) }
 {
     match by {
-        Simulator::Engine => engine_job(alloc, events, plan, edits),
+        Simulator::Threads => {
+            engine_job(rt, alloc, events, plan, edits, &mut ThreadRunner::new(gate))
+        }
+        Simulator::Alone => engine_job(rt, alloc, events, plan, edits, &mut AloneRunner::new()),
         Simulator::Clock => clock_job(alloc, events, plan, edits),
     }
 }
 
-/// The same by the event engine, which after an edit computes again only what the edit touches.
-fn engine_job(
+/// The same by the event engine, which after an edit computes again only what the edit touches. The runner simulates the plan, and
+/// once more wherever an edit turns the outcome of a query.
+fn engine_job<R: Threads + Wait + Sync, U: Runner>(
+    rt: &R,
     alloc: Global,
     events: bool,
     plan: Plan,
     edits: &[Edit],
+    runner: &mut U,
 ) -> Result<Answer, OutOfMemory>
     requires fits { FitsEngine plan }
     requires edits_fit { All (EditFits plan) edits.now }
@@ -62,14 +73,13 @@ fn engine_job(
 {
     edits_in_order();
     edited_plans_agree();
-    let mut runner = AloneRunner::new();
-    let mut session = DepthSession::new(alloc, plan, &mut runner)?;
+    let mut session = DepthSession::new(rt, alloc, plan, runner)?;
     let mut written = nothing_yet(alloc);
     let outcome = session.report(alloc, events)?;
     write_report(&mut written, session.plan(), &outcome, 0, events)?;
     let mut number = 0;
     for edit in edits {
-        session.edit(alloc, edit, &mut runner)?;
+        session.edit(rt, alloc, edit, runner)?;
         number += 1;
         let outcome = session.report(alloc, events)?;
         write_report(&mut written, session.plan(), &outcome, number, events)?;

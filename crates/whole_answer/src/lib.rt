@@ -14,4 +14,5 @@ mod tests;
 
 pub use laws::one_answer;
 pub use program::omnisim;
+pub use run_threads::{FreeGate, Gate};
 pub use status::Status;

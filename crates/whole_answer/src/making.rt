@@ -15,20 +15,25 @@ use crate::simulator::Simulator;
 use crate::status::Status;
 use crate::task::Task;
 use cli_words::Options;
-use clock_machine::clock_run;
+use depth_session::DepthSession;
 use flow_check::Checked;
 use flow_design::{Plan, Report, Session};
 use flow_print::print_session;
 use flow_word::{List, OutOfMemory};
 use report_text::{print_numbers, print_runs, print_verdict};
+use run_threads::{Gate, ThreadRunner};
 use std::alloc::Global;
+use std::sync::Wait;
+use std::thread::Threads;
 
 /// What the task makes of a session that passes the check.
-pub(crate) fn make(
+pub(crate) fn make<R: Threads + Wait + Sync, G: Gate + Sync>(
+    rt: &R,
     alloc: Global,
     task: &Task,
     session: &Session,
     checked: Checked,
+    gate: &G,
 ) -> Result<Answer, OutOfMemory>
     requires sound { IsSound task.now }
     requires plan { checked.plan ≡ plan_of session.now.statements }
@@ -39,9 +44,9 @@ pub(crate) fn make(
     ensures status { IfOk result (λ whole. IsAnswer whole.status) }
 {
     match task {
-        Task::Simulate(by, options) => simulate(alloc, *by, options, checked),
+        Task::Simulate(by, options) => simulate(rt, alloc, *by, options, checked, gate),
         Task::Print => print(alloc, session),
-        Task::Summarize(seed, modules) => summarize(alloc, *seed, *modules, &checked.plan),
+        Task::Summarize(seed, modules) => summarize(rt, alloc, *seed, *modules, checked.plan, gate),
     }
 }
 
@@ -57,11 +62,13 @@ fn print(alloc: Global, session: &Session) -> Result<Answer, OutOfMemory>
 }
 
 /// The job of a session under the limits of the options.
-fn simulate(
+fn simulate<R: Threads + Wait + Sync, G: Gate + Sync>(
+    rt: &R,
     alloc: Global,
     by: Simulator,
     options: &Options,
     checked: Checked,
+    gate: &G,
 ) -> Result<Answer, OutOfMemory>
     requires limits { AreLimits options.now }
     requires fits { FitsEngine checked.plan }
@@ -71,7 +78,7 @@ fn simulate(
 {
     let Checked { mut plan, edits } = checked;
     set_limits(&mut plan, options);
-    job(alloc, by, options.events, plan, edits.as_slice())
+    job(rt, alloc, by, options.events, plan, edits.as_slice(), gate)
 }
 
 /// Puts the limits of the options in place of the plan's own.
@@ -82,14 +89,22 @@ fn set_limits(plan: &mut Plan, options: &Options)
     plan.ops = options.ops.unwrap_or(plan.ops);
 }
 
-/// The summary of a generated session.
+/// The summary of a generated session, which is run with a thread for each module.
 #[tactic(auto, unfolding(crate::specs::Made::summary))]
-fn summarize(alloc: Global, seed: u64, modules: u64, plan: &Plan) -> Result<Answer, OutOfMemory>
-    requires fits { FitsEngine plan.now }
-    ensures summary { IfOk result (λ whole. whole ≡ summary seed modules plan.now) }
+fn summarize<R: Threads + Wait + Sync, G: Gate + Sync>(
+    rt: &R,
+    alloc: Global,
+    seed: u64,
+    modules: u64,
+    plan: Plan,
+    gate: &G,
+) -> Result<Answer, OutOfMemory>
+    requires fits { FitsEngine plan }
+    ensures summary { IfOk result (λ whole. whole ≡ summary seed modules plan) }
     ensures status { IfOk result (λ whole. IsAnswer whole.status) }
 {
-    let outcome = clock_run(alloc, plan)?;
+    let session = DepthSession::new(rt, alloc, plan, &mut ThreadRunner::new(gate))?;
+    let outcome = session.report(alloc, false)?;
     let mut text = List::new(alloc);
     print_summary(&mut text, seed, modules, &outcome)?;
     Ok(Answer {

@@ -7,23 +7,25 @@ ghost use Rattle.whole_answer.specs.Answer.{takes_input, IsAnswer, Tells, TellsA
 use crate::answer::{Answer, Unanswered, answer_words};
 use crate::laws::one_answer;
 use crate::status::Status;
+use run_threads::Gate;
 use sim_io::{PutFault, Sink, Source, write_all_of};
 use std::alloc::Global;
 use std::sync::Wait;
 use std::thread::Threads;
 
 /// Does what the words ask for, and writes the answer: `words` are the words after the program's own name, and the source
-/// gives the session text.
+/// gives the session text. Where modules run on threads of their own, the gate makes their bursts.
 ///
 /// The sink gets exactly the text of the whole answer, and the result is its status, but for three cases: the source has
 /// failed and nothing was written, the sink has failed and a prefix was written, or there was no memory and a prefix was
 /// written. Refused words read nothing, and neither does `gen`.
-pub fn omnisim<R: Threads + Wait + Sync, S: Source, K: Sink>(
-    _rt: &R,
+pub fn omnisim<R: Threads + Wait + Sync, S: Source, K: Sink, G: Gate + Sync>(
+    rt: &R,
     alloc: Global,
     words: &[String],
     source: &mut S,
     sink: &mut K,
+    gate: &G,
 ) -> Status
     ensures tells { IfSome (S.left source.old) (λ bytes.
         TellsAnswer (map string_bytes words.now) bytes result (K.held sink.old) (K.held sink.new) (K.is_finished sink.new)) }
@@ -36,7 +38,7 @@ pub fn omnisim<R: Threads + Wait + Sync, S: Source, K: Sink>(
     ensures reads_none { takes_input (accepted (map string_bytes words.now)) ≡ false → result ≢ Status.ReadFault }
 {
     one_answer();
-    match answer_words(alloc, words, source) {
+    match answer_words(rt, alloc, words, source, gate) {
         Ok(whole) => tell(sink, &whole),
         Err(Unanswered::ReadFault) => Status::ReadFault,
         Err(Unanswered::OutOfMemory) => Status::Memory,

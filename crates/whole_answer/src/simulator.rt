@@ -11,8 +11,10 @@ use std::alloc::Global;
 /// What simulates a plan. All give one report.
 #[derive(Clone, Copy, Debug, PartialEq, Eq)]
 pub enum Simulator {
-    /// The event engine, on one thread: it computes the modules ahead, and skips the clocks in which nothing happens.
-    Engine,
+    /// The event engine, which skips the clocks in which nothing happens: a thread for each module computes it ahead.
+    Threads,
+    /// The event engine, all on the calling thread.
+    Alone,
     /// The lockstep machine, which goes through all clocks.
     Clock,
 }

@@ -1,5 +1,8 @@
+mod gates;
+
 use crate::program::omnisim;
 use crate::status::Status;
+use run_threads::FreeGate;
 use sim_io::{MemSink, MemSource};
 use std::process::Abort;
 use std::sync::Wait;
@@ -9,6 +12,12 @@ use std::thread::Threads;
 /// One source, one sink, one module that adds one.
 const PLAIN_CASE: &[u8] =
     b"flow 1\nsource a 8\nsink y 8\nmodule m\nreg x 8\nblock k 3\nat 0 read a x\nat 2 write y + x 1\nstop\ninput a 7\nend\n";
+
+/// Two modules with a FIFO between them, whose element is seen one clock later.
+const TWO_MODULES: &[u8] =
+    b"flow 1\nsource a 8\nfifo b 8\nsink y 8\nmodule p\nreg x 8\nblock k 2\nat 0 read a x\nat 1 write b x\nstop\nmodule q\nreg z 8\nblock k 2\nat 0 read b z\nat 1 write y z\nstop\ninput a 5\nend\n";
+
+const TWO_MODULES_ANSWER: &[u8] = b"report 0\nverdict done 4\nout y 5\nruns 1\n";
 
 const PLAIN_ANSWER: &[u8] = b"report 0\nverdict done 3\nout y 8\nruns 1\n";
 
@@ -49,7 +58,7 @@ fn answer<R: Threads + Wait + Sync + AllocGlobal>(
     let alloc = rt.alloc();
     let mut source = MemSource::new(alloc, text, 64, takes)?;
     let mut sink = MemSink::new(alloc, 8192, 4, puts)?;
-    let status = omnisim(rt, alloc, words, &mut source, &mut sink);
+    let status = omnisim(rt, alloc, words, &mut source, &mut sink, &FreeGate);
     Ok((status, sink))
 }
 
@@ -64,7 +73,7 @@ fn answer_bytewise<R: Threads + Wait + Sync + AllocGlobal>(
     let alloc = rt.alloc();
     let mut source = MemSource::new(alloc, PLAIN_CASE, 1, takes)?;
     let mut sink = MemSink::new(alloc, room, 1, puts)?;
-    let status = omnisim(rt, alloc, words, &mut source, &mut sink);
+    let status = omnisim(rt, alloc, words, &mut source, &mut sink, &FreeGate);
     Ok((status, sink))
 }
 
@@ -124,8 +133,8 @@ fn designs_that_are_done(rt: HostRuntime) -> Result<(), Fail> {
         // visibility one clock later
         Row {
             options: &[],
-            text: b"flow 1\nsource a 8\nfifo b 8\nsink y 8\nmodule p\nreg x 8\nblock k 2\nat 0 read a x\nat 1 write b x\nstop\nmodule q\nreg z 8\nblock k 2\nat 0 read b z\nat 1 write y z\nstop\ninput a 5\nend\n",
-            told: b"report 0\nverdict done 4\nout y 5\nruns 1\n",
+            text: TWO_MODULES,
+            told: TWO_MODULES_ANSWER,
             status: Status::Done,
         },
         // three values through depth two
@@ -401,8 +410,12 @@ fn canonical_forms(rt: HostRuntime) -> Result<(), Fail> {
 fn generated_sessions(rt: HostRuntime) -> Result<(), Fail> {
     let one = b"gen 0 1\nverdict done 3001\nsum 1000 747500\nruns 1\n";
     let two = b"gen 0 2\nverdict done 3002\nsum 1000 980500\nruns 1\n";
+    let many = b"gen 1 64\nverdict done 3183\nsum 1000 9828517\nruns 1\n";
     answers(&rt, "gen", &["0", "1"], b"", one, Status::Done)?;
-    answers(&rt, "gen", &["0", "2"], b"", two, Status::Done)
+    answers(&rt, "gen", &["0", "2"], b"", two, Status::Done)?;
+    // the same at each run, whatever the threads do
+    answers(&rt, "gen", &["1", "64"], b"", many, Status::Done)?;
+    answers(&rt, "gen", &["1", "64"], b"", many, Status::Done)
 }
 
 /// The program refuses these words.

@@ -29,10 +29,7 @@ impl Hub {
     /// has one entry.
     ///
     /// An error leaves nothing, and the core is gone.
-    pub fn new(
-        alloc: Global,
-        core: Core,
-    ) -> Result<(Hub, PerfPass, Vec<ModulePass>), OutOfMemory>
+    pub fn new(alloc: Global, core: Core) -> Result<(Hub, PerfPass, Vec<ModulePass>), OutOfMemory>
         requires opening { theory_of core ≡ opening_core (design core.plan) }
         requires own { AreOwn core }
         ensures perf { IfOk result (λ r. (pass_lock r.1.place.pass ≡ hub_id r.0) × ((perf_view r.1).seen ≡ history_of core.plan [])) }

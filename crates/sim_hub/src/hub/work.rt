@@ -31,12 +31,7 @@ impl Hub {
 
     /// Takes a module's run back, with the marks of its burst: as many Runs are made. Whether they were made; they are not where the
     /// burst wanted memory, or where there is none for its marks. One turn.
-    pub fn return_desk<R: Wait>(
-        &self,
-        rt: &R,
-        pass: ModulePass,
-        burst: Burst,
-    ) -> (ModulePass, bool)
+    pub fn return_desk<R: Wait>(&self, rt: &R, pass: ModulePass, burst: Burst) -> (ModulePass, bool)
         requires own { IsOfHub self.now pass }
         requires out { HasDeskOut pass.which (module_view pass) }
         requires burst { IsDeskBurst pass.which (module_view pass).seen burst }

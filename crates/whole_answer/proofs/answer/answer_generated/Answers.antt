@@ -11,7 +11,7 @@ use Rattle.whole_answer.proofs.Answering.{generated_is}
 use Rattle.whole_answer.proofs.answer.answer_generated.Goals as goal
 
 pub returns-clause-generated : goal.returns-clause-generated
-returns-clause-generated c =
+returns-clause-generated g c =
     let (seed_most, some, most) = c.requires in
     let s = session (draws c.args.seed c.args.modules) in
     let l = range_with_len 1 (length s) in

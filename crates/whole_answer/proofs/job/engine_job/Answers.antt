@@ -12,7 +12,7 @@ use Rattle.whole_answer.proofs.Reports.{more_written}
 use Rattle.whole_answer.proofs.job.engine_job.Goals as goal
 
 pub loop-edit-init : goal.loop-edit-init
-loop-edit-init c =
+loop-edit-init g c =
     let events = c.args.events in
     let p = c.args.plan in
     let s = c.in_ok-session.session in
@@ -34,14 +34,14 @@ loop-edit-init c =
     }
 
 pub edit-requires-clause-fits : goal.edit-requires-clause-fits
-edit-requires-clause-fits c =
+edit-requires-clause-fits g c = λ κs outlives.
     let edits = c.args.edits.now in
     let i = c.loop-edit.edit-index in
     let fit = fits_there c.args.plan edits i c.loop-edit-test.true c.requires.edits_fit in
     still_fits c.args.events c.args.plan edits i c.loop-edit.session.plan (edit_at edits i) c.loop-edit.invariant.going.plan fit
 
 pub write_report-requires-in-loop-edit-clause-fits : goal.write_report-requires-in-loop-edit-clause-fits
-write_report-requires-in-loop-edit-clause-fits c =
+write_report-requires-in-loop-edit-clause-fits g c =
     let edits = c.args.edits.now in
     let i = c.loop-edit.edit-index in
     let s = c.loop-edit.session in
@@ -52,7 +52,7 @@ write_report-requires-in-loop-edit-clause-fits c =
     (c.edited_plans_agree.ensures.fits s.plan c.loop-edit.invariant.going.fits (edit_at edits i) before)
 
 pub loop-edit-preserved : goal.loop-edit-preserved
-loop-edit-preserved c =
+loop-edit-preserved g c =
     let events = c.args.events in
     let p = c.args.plan in
     let edits = c.args.edits.now in
@@ -84,7 +84,7 @@ loop-edit-preserved c =
     }
 
 pub returns-clause-job : goal.returns-clause-job
-returns-clause-job c =
+returns-clause-job g c =
     ap (λ t. record { text = t; status = c.loop-edit.written.status })
     (c.in_ok-print_runs.ensures.ok ∙ ap (λ (n : ℕ). c.loop-edit.written.text ++ line (runs_tokens n)) c.runs.ensures)
     ∙ ends c.args.events c.args.plan c.args.edits.now c.loop-edit.edit-index c.loop-edit.session.plan

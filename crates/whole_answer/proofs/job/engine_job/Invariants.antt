@@ -3,7 +3,7 @@ use Rattle.whole_answer.specs.Going.{IsGoing, told_of}
 use Rattle.whole_answer.proofs.job.engine_job.Given as goal
 
 abbrev pub invariant-loop-edit : goal.invariant-loop-edit
-invariant-loop-edit l = record {
+invariant-loop-edit g l = record {
   going : IsGoing l.events l.fn.plan l.edits l.edit-index l.session.plan (told_of l.written l.session.count);
   live : l.session.live ≡ true;
   number : l.number ≡ l.edit-index;

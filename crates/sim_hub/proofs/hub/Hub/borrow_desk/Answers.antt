@@ -39,7 +39,8 @@ end-place-requires-clause-adds g c =
     let more = entries_in c.lend-desk.new.self in
     let answer = c.lend-desk.result.0 in
     let added = c.lend-desk.result.1 in
-    let lending = subst (λ (x : Ledger). LendingIs p.which (entries_in x) more answer added) c.value_mut.ensures.value c.lend-desk.ensures.lending in
+    let lending = subst (λ (x : Ledger). LendingIs p.which (entries_in x) more answer added) c.value_mut.ensures.value
+    c.lend-desk.ensures.lending in
     subst (λ (b : List HubEntry). MayAdd p.place.number added b more) (sym c.begin-turn.ensures.turn.1.history)
     (subst (λ (q : ℕ). MayAdd q added (entries_in d) more) (sym p.is) (lending_adds p.which (entries_in d) more answer added lending))
 
@@ -62,11 +63,12 @@ invariant_of-pass g c =
     let turn = c.begin-turn.ensures.turn in
     let t = turn_view c.begin-turn.result in
     let w = view_of c.end-place.result.pass in
-    let lending = subst (λ (x : Ledger). LendingIs p.which (entries_in x) more answer added) c.value_mut.ensures.value c.lend-desk.ensures.lending in
+    let lending = subst (λ (x : Ledger). LendingIs p.which (entries_in x) more answer added) c.value_mut.ensures.value
+    c.lend-desk.ensures.lending in
     let after = later p.which turn.0 answer added (entries_in d) more _ (view_of p.place.pass) t w turn.1 turn.1.history lending
-        c.end-place.ensures.end in
+    c.end-place.ensures.end in
     let seen = end_seen (p.which + 1) added (entries_in d) more t w (lending_adds p.which (entries_in d) more answer added lending)
-        (subst (λ (x : List HubEntry). IsEnd added x more t w) turn.1.history c.end-place.ensures.end) in
+    (subst (λ (x : List HubEntry). IsEnd added x more t w) turn.1.history c.end-place.ensures.end) in
     record {
       is = c.end-place.ensures.number ∙ p.is;
       within = module_later p.which (view_of p.place.pass).seen w.seen p.within after.begins
@@ -81,7 +83,8 @@ returns-clause-later g c =
     let answer = c.lend-desk.result.0 in
     let added = c.lend-desk.result.1 in
     let turn = c.begin-turn.ensures.turn in
-    let lending = subst (λ (x : Ledger). LendingIs p.which (entries_in x) more answer added) c.value_mut.ensures.value c.lend-desk.ensures.lending in
+    let lending = subst (λ (x : Ledger). LendingIs p.which (entries_in x) more answer added) c.value_mut.ensures.value
+    c.lend-desk.ensures.lending in
     later p.which turn.0 answer added (entries_in d) more _ (view_of p.place.pass) (turn_view c.begin-turn.result)
     (view_of c.end-place.result.pass) turn.1 turn.1.history lending c.end-place.ensures.end
 
@@ -95,7 +98,8 @@ returns-clause-answer g c =
     let turn = c.begin-turn.ensures.turn in
     let t = turn_view c.begin-turn.result in
     let w = view_of c.end-place.result.pass in
-    let lending = subst (λ (x : Ledger). LendingIs p.which (entries_in x) more answer added) c.value_mut.ensures.value c.lend-desk.ensures.lending in
+    let lending = subst (λ (x : Ledger). LendingIs p.which (entries_in x) more answer added) c.value_mut.ensures.value
+    c.lend-desk.ensures.lending in
     desk_answer turn.0 (entries_in d) more (view_of p.place.pass) t w turn.1 p.which answer added lending
     (subst (λ (x : List HubEntry). IsEnd added x more t w) turn.1.history c.end-place.ensures.end)
 
@@ -109,7 +113,8 @@ returns-clause-out g c =
     let turn = c.begin-turn.ensures.turn in
     let t = turn_view c.begin-turn.result in
     let w = view_of c.end-place.result.pass in
-    let lending = subst (λ (x : Ledger). LendingIs p.which (entries_in x) more answer added) c.value_mut.ensures.value c.lend-desk.ensures.lending in
+    let lending = subst (λ (x : Ledger). LendingIs p.which (entries_in x) more answer added) c.value_mut.ensures.value
+    c.lend-desk.ensures.lending in
     let seen = end_seen (p.which + 1) added (entries_in d) more t w (lending_adds p.which (entries_in d) more answer added lending)
-        (subst (λ (x : List HubEntry). IsEnd added x more t w) turn.1.history c.end-place.ensures.end) in
+    (subst (λ (x : List HubEntry). IsEnd added x more t w) turn.1.history c.end-place.ensures.end) in
     subst (λ (es : List HubEntry). OutAt p.which es answer) (sym seen) c.lend-desk.ensures.out

@@ -1,4 +1,5 @@
-use Rattle.std.proofs.Common.{rules, arith, ◌≡◌, ℕ, ◌+◌, ◌<◌, List, [], ◌∷◌, ◌++◌, map, Some, length, refl, sym, ap, ◌∙◌, subst, append_assoc, slice_get}
+use Rattle.std.proofs.Common.{rules, arith, List, [], ◌∷◌, ◌++◌}
+use Rattle.std.proofs.Common.{map, length, refl, sym, ap, ◌∙◌, subst, append_assoc}
 use Rattle.std.proofs.lemmas.List.{map-append}
 use Rattle.turn_lock.specs.declared.view.View.{View}
 use Rattle.turn_lock.specs.Passes.{view_of}
@@ -18,7 +19,8 @@ use Rattle.sim_hub.proofs.hub.Hub.close.Goals as goal
 pub join-pass-requires-clause-first : goal.join-pass-requires-clause-first
 join-pass-requires-clause-first c =
     let p = c.args.perf in
-    ap (λ v. v.number) c.loop-other.invariant.1 ∙ joins_keep (λ v. v.number) (λ _ _. refl) (view_of p.place.pass) (map module_view c.loop-other.yielded)
+    ap (λ v. v.number) c.loop-other.invariant.1 ∙ joins_keep (λ v. v.number) (λ _ _. refl) (view_of p.place.pass)
+    (map module_view c.loop-other.yielded)
     ∙ p.place.numbered ∙ p.first
 
 pub loop-other-preserved : goal.loop-other-preserved
@@ -36,7 +38,8 @@ loop-other-preserved c =
 pub close-requires-clause-first : goal.close-requires-clause-first
 close-requires-clause-first c =
     let p = c.args.perf in
-    ap (λ v. v.number) c.loop-other.invariant.1 ∙ joins_keep (λ v. v.number) (λ _ _. refl) (view_of p.place.pass) (map module_view c.loop-other.yielded)
+    ap (λ v. v.number) c.loop-other.invariant.1 ∙ joins_keep (λ v. v.number) (λ _ _. refl) (view_of p.place.pass)
+    (map module_view c.loop-other.yielded)
     ∙ p.place.numbered ∙ p.first
 
 pub close-requires-clause-joined : goal.close-requires-clause-joined
@@ -45,7 +48,7 @@ close-requires-clause-joined c =
     let v = view_of p.place.pass in
     let ms = c.args.modules.items in
     let is = joined_all v (view_of c.loop-other.pass) ms c.loop-other.yielded _ c.loop-other.invariant.1 c.loop-other.invariant.2
-        (sym c.loop-other.other-iterator.rest.ok.0 ∙ c.in-None.ensures.steps.0) in
+    (sym c.loop-other.other-iterator.rest.ok.0 ∙ c.in-None.ensures.steps.0) in
     subst AllJoined (sym is)
     (all_joined v (map module_view ms)
     (all_in_order v ms (made_count v (length ms) p.made c.requires.modules.0) (λ k m e. (c.requires.modules.1 k m e).0)))
@@ -56,8 +59,9 @@ settle-requires-clause-over c =
     let v = view_of p.place.pass in
     let ms = c.args.modules.items in
     let is = joined_all v (view_of c.loop-other.pass) ms c.loop-other.yielded _ c.loop-other.invariant.1 c.loop-other.invariant.2
-        (sym c.loop-other.other-iterator.rest.ok.0 ∙ c.in-None.ensures.steps.0) in
-    let shown = shown_each (entries_in c.close.result) v (view_of c.loop-other.pass) ms (p.place.numbered ∙ p.first) is c.close.ensures.all in
+    (sym c.loop-other.other-iterator.rest.ok.0 ∙ c.in-None.ensures.steps.0) in
+    let shown = shown_each (entries_in c.close.result) v (view_of c.loop-other.pass) ms
+    (p.place.numbered ∙ p.first) is c.close.ensures.all in
     (v.seen, shown.first.seen, c.requires.over)
 
 pub settle-requires-clause-home : goal.settle-requires-clause-home
@@ -68,10 +72,11 @@ settle-requires-clause-home c = λ m inside.
     let d = c.close.result in
     let log = entries_in d in
     let is = joined_all v (view_of c.loop-other.pass) ms c.loop-other.yielded _ c.loop-other.invariant.1 c.loop-other.invariant.2
-        (sym c.loop-other.other-iterator.rest.ok.0 ∙ c.in-None.ensures.steps.0) in
+    (sym c.loop-other.other-iterator.rest.ok.0 ∙ c.in-None.ensures.steps.0) in
     let shown = shown_each log v (view_of c.loop-other.pass) ms (p.place.numbered ∙ p.first) is c.close.ensures.all in
-    let count = log_count d.core.plan log (behind d.core.plan d.turns.items) (kept_stands d.core d.turns.items d.out d.short _ d.kept) v.seen (length ms)
-        shown.first.seen c.requires.modules.0 in
+    let count = log_count d.core.plan log (behind d.core.plan d.turns.items) (kept_stands d.core d.turns.items d.out d.short _ d.kept)
+    v.seen (length ms)
+    shown.first.seen c.requires.modules.0 in
     let (o, at) = there ms m (omega arith) in
     comes_home log m o (c.requires.modules.1 m o at).0
     (shown.others m (module_view o) (get_mapped module_view ms m o at)) (c.requires.home m o at)
@@ -84,12 +89,12 @@ returns c =
     let d = c.close.result in
     let log = entries_in d in
     let is = joined_all v (view_of c.loop-other.pass) ms c.loop-other.yielded _ c.loop-other.invariant.1 c.loop-other.invariant.2
-        (sym c.loop-other.other-iterator.rest.ok.0 ∙ c.in-None.ensures.steps.0) in
+    (sym c.loop-other.other-iterator.rest.ok.0 ∙ c.in-None.ensures.steps.0) in
     let shown = shown_each log v (view_of c.loop-other.pass) ms (p.place.numbered ∙ p.first) is c.close.ensures.all in
     let legal = kept_legal d.core d.turns.items d.out d.short _ d.kept in
-    let count = log_count d.core.plan log (behind d.core.plan d.turns.items) (kept_stands d.core d.turns.items d.out d.short _ d.kept) v.seen (length ms)
-        shown.first.seen c.requires.modules.0 in
-    (
+    let count = log_count d.core.plan log (behind d.core.plan d.turns.items) (kept_stands d.core d.turns.items d.out d.short _ d.kept)
+    v.seen (length ms)
+    shown.first.seen c.requires.modules.0 in (
       log,
       whole p ms log legal shown (λ k m e. (c.requires.modules.1 k m e).0) (λ n above. d.kept.none_else n (omega arith)),
       c.settle.ensures,

@@ -1,6 +1,5 @@
-use Rattle.std.proofs.Common.{◌≡◌, ℕ, List, sym, subst, ◌∙◌}
+use Rattle.std.proofs.Common.{ℕ, List, sym, subst, ◌∙◌}
 use mathlib.Core.Logic.{∥∥₁_map}
-use Rattle.turn_lock.specs.declared.view.View.{View}
 use Rattle.turn_lock.specs.Passes.{view_of, turn_view}
 use Rattle.turn_history.specs.declared.entry.HubEntry.{HubEntry}
 use Rattle.sim_hub.specs.declared.ledger.Ledger.{Ledger}
@@ -21,7 +20,8 @@ end-place-requires-clause-adds g c =
     let answer = c.time-answer.result.0 in
     let added = c.time-answer.result.1 in
     let timing = subst (λ (x : Ledger). TimingIs (entries_in x) more answer added) c.value_mut.ensures.value c.time-answer.ensures in
-    subst (λ (b : List HubEntry). MayAdd 0 added b more) (sym c.begin-turn.ensures.turn.1.history) (timing_adds (entries_in d) more answer added timing)
+    subst (λ (b : List HubEntry). MayAdd 0 added b more) (sym c.begin-turn.ensures.turn.1.history)
+    (timing_adds (entries_in d) more answer added timing)
 
 pub invariant_of-pass : goal.invariant_of-pass
 invariant_of-pass g c =
@@ -60,7 +60,8 @@ returns-clause-later g c =
     let t = turn_view c.begin-turn.result in
     let w = view_of c.end-place.result.pass in
     let timing = subst (λ (x : Ledger). TimingIs (entries_in x) more answer added) c.value_mut.ensures.value c.time-answer.ensures in
-    is_later 0 turn.0 added (entries_in d) more (view_of c.args.pass.place.pass) t w turn.1 (timing_adds (entries_in d) more answer added timing)
+    is_later 0 turn.0 added (entries_in d) more (view_of c.args.pass.place.pass) t w turn.1
+    (timing_adds (entries_in d) more answer added timing)
     (subst (λ (x : List HubEntry). IsEnd added x more t w) turn.1.history c.end-place.ensures.end)
 
 pub returns-clause-answer : goal.returns-clause-answer

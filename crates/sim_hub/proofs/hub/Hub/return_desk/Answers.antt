@@ -1,5 +1,4 @@
-use Rattle.std.proofs.Common.{◌≡◌, ◌+◌, ℕ, Bool, true, List, length, sym, subst, ◌∙◌}
-use Rattle.turn_lock.specs.declared.view.View.{View}
+use Rattle.std.proofs.Common.{◌+◌, ℕ, true, List, length, sym, subst, ◌∙◌}
 use Rattle.turn_lock.specs.Passes.{view_of, turn_view}
 use Rattle.turn_history.specs.declared.entry.HubEntry.{HubEntry}
 use Rattle.sim_hub.specs.declared.ledger.Ledger.{Ledger}
@@ -73,7 +72,8 @@ returns-clause-later g c =
     let t = turn_view c.begin-turn.result in
     let w = view_of c.end-place.result.pass in
     let back = subst (λ (x : Ledger). BackIs p.which n (entries_in x) more made) c.value_mut.ensures.value c.take_back-made.ensures.back in
-    is_later (p.which + 1) turn.0 true (entries_in d) more (view_of p.place.pass) t w turn.1 (back_adds p.which n (entries_in d) more made back)
+    is_later (p.which + 1) turn.0 true (entries_in d) more (view_of p.place.pass) t w turn.1
+    (back_adds p.which n (entries_in d) more made back)
     (subst (λ (x : List HubEntry). IsEnd true x more t w) turn.1.history c.end-place.ensures.end)
 
 pub returns-clause-turn : goal.returns-clause-turn
@@ -102,5 +102,5 @@ returns-clause-home g c =
     let w = view_of c.end-place.result.pass in
     let back = subst (λ (x : Ledger). BackIs p.which n (entries_in x) more made) c.value_mut.ensures.value c.take_back-made.ensures.back in
     let seen = end_seen (p.which + 1) true (entries_in d) more t w (back_adds p.which n (entries_in d) more made back)
-        (subst (λ (x : List HubEntry). IsEnd true x more t w) turn.1.history c.end-place.ensures.end) in
+    (subst (λ (x : List HubEntry). IsEnd true x more t w) turn.1.history c.end-place.ensures.end) in
     subst (HasNoDesk p.which) (sym seen) c.take_back-made.ensures.home

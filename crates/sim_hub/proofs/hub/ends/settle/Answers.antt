@@ -1,9 +1,4 @@
-use Rattle.std.proofs.Common.{◌≡◌, ◌+◌, ℕ, refl, sym, ap, subst, ◌∙◌, true, false, Some}
-use Rattle.std.specs.Prelude.{slice_index_or}
-use Rattle.event_timing.specs.Actions.{IsFinal}
-use Rattle.timing_bridge.specs.Designs.{design}
-use Rattle.sim_core.specs.Views.{theory_of}
-use Rattle.turn_history.specs.Turned.{lent_at}
+use Rattle.std.proofs.Common.{refl, sym, ◌∙◌}
 use Rattle.turn_history.specs.Entries.{history_of}
 use Rattle.sim_hub.specs.Kept.{behind}
 use Rattle.sim_hub.proofs.Keeping.{kept_stands}
@@ -23,8 +18,7 @@ returns-else-short c =
     let fits = c.modules-count.ensures.fits in
     let memory = sym k.matches.short_is ∙ c.if-short.false in
     let final = final_since l.core.plan fits c.requires.over.0 (history_of l.core.plan l.turns.items) (behind l.core.plan l.turns.items)
-        (kept_stands l.core l.turns.items l.out l.short _ k) c.requires.over.1 c.requires.over.2 memory in
-    (
+    (kept_stands l.core l.turns.items l.out l.short _ k) c.requires.over.1 c.requires.over.2 memory in (
       refl,
       record {
         at = behind l.core.plan l.turns.items;

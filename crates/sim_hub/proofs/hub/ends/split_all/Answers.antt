@@ -1,4 +1,4 @@
-use Rattle.std.proofs.Common.{◌≡◌, ◌+◌, ℕ, sym, ap, subst, ◌∙◌, arith, length, length-append, [], ◌∷◌}
+use Rattle.std.proofs.Common.{◌+◌, sym, ap, subst, ◌∙◌, arith, length, length-append, [], ◌∷◌}
 use mathlib.Core.Logic.{∥∥₁_map}
 use Rattle.turn_lock.specs.Passes.{view_of, pass_lock}
 use Rattle.sim_hub.specs.Places.{HasModule}

@@ -1,6 +1,6 @@
-use Rattle.std.proofs.Common.{arith, refl, ap, length, true, ◌≡◌, ◌+◌, ◌≤◌}
+use Rattle.std.proofs.Common.{arith, refl, ap, length, true}
 use Rattle.turn_history.specs.declared.turn.HubTurn.TheVariants.{Short}
-use Rattle.turn_history.specs.Turned.{Turned, after_short}
+use Rattle.turn_history.specs.Turned.{after_short}
 use Rattle.sim_hub.specs.Kept.{behind, spare}
 use Rattle.sim_hub.proofs.Lists.{count_mapped}
 use Rattle.sim_hub.proofs.Keeping.{kept_next, short_matches}

@@ -1,5 +1,4 @@
-use Rattle.std.proofs.Common.{arith, refl, sym, ap, subst, length, true, ◌≡◌, ◌+◌, ◌-◌, ◌≤◌, ◌∙◌, ◌++◌, ◌∷◌, [], Some, ℕ, List, eq-eqb}
-use Rattle.turn_history.specs.declared.turn.HubTurn.{HubTurn}
+use Rattle.std.proofs.Common.{arith, refl, sym, ap, subst, length, true, ◌≡◌, ◌+◌, ◌-◌, ◌≤◌, ◌∙◌, ◌++◌, ◌∷◌, [], Some, ℕ, eq-eqb}
 use Rattle.turn_history.specs.declared.turn.HubTurn.TheVariants.{Short}
 use Rattle.turn_history.specs.Turned.{lent_at, after_short}
 use Rattle.turn_history.specs.Entries.{history_of}
@@ -33,7 +32,8 @@ invariant_of-self c =
     let inside = within_some at.lent_to m (m + 1) lent in
     let places = l.kept.matches.places in
     let longer = c.push_reserved.ensures in record {
-      kept = kept_next l.core l.turns.items l.out l.short _ l.kept l.core _ (l.out - 1) true _ (Short q) (after_short at q) refl longer.items
+      kept = kept_next l.core l.turns.items l.out l.short _ l.kept l.core _ (l.out - 1) true _ (Short q)
+          (after_short at q) refl longer.items
           (let pass = c.requires.pass in omega arith) refl
           (short_matches l.core l.out l.short at l.kept.matches (l.out - 1) q
           (subst (λ (n : ℕ). lent_count (after_short at n).lent_to ≤ l.out - 1) (sym c.requires.pass) (omega arith)))

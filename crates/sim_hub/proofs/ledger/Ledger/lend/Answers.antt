@@ -1,9 +1,9 @@
 use Rattle.std.proofs.Common.{arith, rules, refl, sym, ap, subst, length, vec_capacity, ◌≡◌, ◌+◌, ◌≤◌, ◌∙◌, ◌++◌, ◌∷◌, [], ℕ, List, Some}
 use Rattle.turn_history.specs.declared.turn.HubTurn.{HubTurn}
-use Rattle.turn_history.specs.declared.turn.HubTurn.TheVariants.{Lent, Short}
+use Rattle.turn_history.specs.declared.turn.HubTurn.TheVariants.{Lent}
 use Rattle.turn_history.specs.Turned.{lent_at}
 use Rattle.turn_history.specs.Entries.{history_of}
-use Rattle.sim_core.specs.Views.{CoreView, theory_of}
+use Rattle.sim_core.specs.Views.{theory_of}
 use Rattle.sim_hub.specs.Places.{HasNoDesk}
 use Rattle.sim_hub.proofs.Keeping.{adds_turn, kept_same, same_entries}
 use Rattle.sim_hub.proofs.Answering.{home_behind_short, short_added}
@@ -41,11 +41,13 @@ invariant_of-self-in-Ok-Some c =
     let task = rw a.field-0-is at a.ensures.task in
     let here = rw a.field-0-is at a.ensures.here in
     let inside = owner_inside l.core l.turns.items l.out l.short _ l.kept c.args.owner c.requires.home in
-    let added = c.push_reserved.ensures.items ∙ ap (λ (ts : List HubTurn). ts ++ Lent c.args.pass c.args.owner ∷ []) c.reserve.ensures.items in
+    let added = c.push_reserved.ensures.items ∙ ap (λ (ts : List HubTurn). ts ++ Lent c.args.pass c.args.owner ∷ [])
+    c.reserve.ensures.items in
     let longer = c.push_reserved.ensures in
     let room : length l.turns.items + (l.out + 3) ≤ vec_capacity c.reserve.new.self = search rules in
     record {
-      kept = kept_lending l.core l.turns.items l.out l.short _ l.kept c.lend.new.self _ _ c.args.pass c.args.owner c.requires.pass gone inside
+      kept = kept_lending l.core l.turns.items l.out l.short _ l.kept c.lend.new.self _ _ c.args.pass c.args.owner c.requires.pass gone
+          inside
           c.if-self.false task.may here added (omega arith);
     }
 
@@ -83,8 +85,7 @@ returns-in-Ok-Some-clause-lending c =
     let gone = rw a.field-0-is at a.ensures.lent in
     let task = rw a.field-0-is at a.ensures.task in
     let added = c.push_reserved.ensures.items ∙ ap (λ (ts : List HubTurn). ts ++ Lent c.args.pass c.args.owner ∷ []) c.reserve.ensures.items
-        ∙ ap (λ (n : ℕ). l.turns.items ++ Lent n c.args.owner ∷ []) c.requires.pass in
-    (
+    ∙ ap (λ (n : ℕ). l.turns.items ++ Lent n c.args.owner ∷ []) c.requires.pass in (
       refl,
       adds_turn l.core.plan c.lend.new.self.plan l.turns.items _ (Lent (c.args.owner + 1) c.args.owner) (ap (λ v. v.plan) gone) added,
       desk_here l.core l.turns.items l.out l.short _ l.kept c.args.owner c.in-Ok-Some.task task,
@@ -99,15 +100,14 @@ returns-in-Ok-Some-clause-out c =
     let here = rw a.field-0-is at a.ensures.here in
     let inside = owner_inside l.core l.turns.items l.out l.short _ l.kept c.args.owner c.requires.home in
     let added = c.push_reserved.ensures.items ∙ ap (λ (ts : List HubTurn). ts ++ Lent c.args.pass c.args.owner ∷ []) c.reserve.ensures.items
-        ∙ ap (λ (n : ℕ). l.turns.items ++ Lent n c.args.owner ∷ []) c.requires.pass in
+    ∙ ap (λ (n : ℕ). l.turns.items ++ Lent n c.args.owner ∷ []) c.requires.pass in
     out_lending l.core l.turns.items l.out l.short _ l.kept _ c.args.owner c.in-Ok-Some.task inside c.if-self.false task here
     (adds_turn l.core.plan c.lend.new.self.plan l.turns.items _ (Lent (c.args.owner + 1) c.args.owner) (ap (λ v. v.plan) gone) added)
 
 pub returns-then-is_final-clause-lending : goal.returns-then-is_final-clause-lending
 returns-then-is_final-clause-lending c =
     let l = c.args.self.now in
-    let same = (rw c.in-Ok-None.field-0-is at c.in-Ok-None.ensures.unchanged) refl in
-    (
+    let same = (rw c.in-Ok-None.field-0-is at c.in-Ok-None.ensures.unchanged) refl in (
       refl,
       same_entries l.core.plan _ l.turns.items _ (ap (λ v. v.plan) same) c.reserve.ensures.items,
       is_finished l.core l.turns.items l.out l.short _ l.kept c.lend.new.self (ap (λ v. v.plan) same) (ap theory_of same)
@@ -129,8 +129,7 @@ returns-else-is_final-clause-lending c =
     let none = (rw c.in-Ok-None.field-0-is at c.in-Ok-None.ensures.none) refl in
     let entries = same_entries l.core.plan _ l.turns.items _ (ap (λ v. v.plan) same) c.reserve.ensures.items in
     let inside = owner_inside l.core l.turns.items l.out l.short _ l.kept m c.requires.home in
-    let home = owner_home l.core l.turns.items l.out l.short _ l.kept c.modules-count.ensures.fits m c.requires.home in
-    (
+    let home = owner_home l.core l.turns.items l.out l.short _ l.kept c.modules-count.ensures.fits m c.requires.home in (
       refl,
       entries,
       c.count.ensures ∙ ap length entries,

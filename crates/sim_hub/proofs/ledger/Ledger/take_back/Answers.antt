@@ -1,9 +1,6 @@
-use Rattle.std.proofs.Common.{arith, refl, sym, ap, subst, length, ◌≡◌, ◌+◌, ◌<◌, ◌∙◌, ◌++◌, ◌∷◌, [], ℕ, List, Some}
-use Rattle.turn_history.specs.declared.turn.HubTurn.{HubTurn}
+use Rattle.std.proofs.Common.{arith, refl, sym, ap, subst, length, ◌≡◌, ◌+◌, ◌∙◌, ◌++◌, ◌∷◌, [], ℕ, Some}
 use Rattle.turn_history.specs.declared.turn.HubTurn.TheVariants.{Ran}
 use Rattle.turn_history.specs.Turned.{lent_at}
-use Rattle.turn_history.specs.Entries.{history_of}
-use Rattle.sim_core.specs.Views.{CoreView, theory_of}
 use Rattle.sim_hub.specs.Kept.{behind}
 use Rattle.sim_hub.specs.Places.{HasDesk}
 use Rattle.sim_hub.proofs.Lists.{within_some}
@@ -87,6 +84,7 @@ returns-in-Ok-clause-home c =
     let b = burst_is l.core l.turns.items l.out l.short _ l.kept c.modules-count.ensures.fits m c.args.burst c.requires.back in
     let ok = c.in-Ok.ensures in
     let added = c.push_reserved.ensures.items ∙ ap (λ (n : ℕ). l.turns.items ++ Ran c.args.pass m n ∷ []) c.len-made.ensures
-        ∙ ap (λ (q : ℕ). l.turns.items ++ Ran q m (length c.args.burst.emitted) ∷ []) c.requires.pass in
-    home_ran l.core l.turns.items l.out l.short _ l.kept c.take_back.new.self _ m (length c.args.burst.emitted) b.0 (b.2 c.if-burst.false) ok.acts
+    ∙ ap (λ (q : ℕ). l.turns.items ++ Ran q m (length c.args.burst.emitted) ∷ []) c.requires.pass in
+    home_ran l.core l.turns.items l.out l.short _ l.kept c.take_back.new.self _ m (length c.args.burst.emitted) b.0
+    (b.2 c.if-burst.false) ok.acts
     (adds_turn l.core.plan c.take_back.new.self.plan l.turns.items _ (Ran (m + 1) m (length c.args.burst.emitted)) ok.plan added)

@@ -1,4 +1,4 @@
-use Rattle.std.proofs.Common.{arith, rules, refl, sym, ap, length, vec_capacity, ◌≡◌, ◌+◌, ◌≤◌, ◌<◌, ◌∙◌, ◌++◌, ◌∷◌, [], ℕ, List}
+use Rattle.std.proofs.Common.{arith, rules, refl, sym, ap, length, vec_capacity, ◌≡◌, ◌+◌, ◌≤◌, ◌∙◌, ◌++◌, ◌∷◌, [], List}
 use Rattle.turn_history.specs.declared.turn.HubTurn.{HubTurn}
 use Rattle.turn_history.specs.declared.turn.HubTurn.TheVariants.{Timed}
 use Rattle.sim_hub.specs.Kept.{behind}
@@ -16,7 +16,7 @@ invariant_of-self-then-count-gt0 c =
     let n = c.act-count.result in
     let e = c.act-count.ensures in
     let next = e.did c.if-count-gt0.true (behind l.core.plan l.turns.items) l.kept.matches.core_is
-        (sym l.kept.matches.short_is ∙ c.if-self.false) in
+    (sym l.kept.matches.short_is ∙ c.if-self.false) in
     let added = c.push_reserved.ensures.items ∙ ap (λ (ts : List HubTurn). ts ++ Timed 0 n ∷ []) c.reserve.ensures.items in
     let longer = c.push_reserved.ensures in
     let room : length l.turns.items + (l.out + 2) ≤ vec_capacity c.reserve.new.self = search rules in
@@ -31,7 +31,8 @@ invariant_of-self-else-count-gt0 c =
     let e = c.act-count.ensures in
     let none : c.act-count.result ≡ 0 = omega arith in
     record {
-      kept = kept_same l.core l.turns.items l.out l.short _ l.kept c.act-count.new.core _ _ e.plan e.lent (e.same none) c.reserve.ensures.items
+      kept = kept_same l.core l.turns.items l.out l.short _ l.kept c.act-count.new.core _ _ e.plan e.lent
+          (e.same none) c.reserve.ensures.items
           c.reserve.ensures.capacity;
     }
 
@@ -39,8 +40,7 @@ pub returns-then-is_final : goal.returns-then-is_final
 returns-then-is_final c =
     let l = c.args.self.now in
     let e = c.act-count.ensures in
-    let none : c.act-count.result ≡ 0 = omega arith in
-    (
+    let none : c.act-count.result ≡ 0 = omega arith in (
       refl,
       same_entries l.core.plan _ l.turns.items _ e.plan c.reserve.ensures.items,
       is_finished l.core l.turns.items l.out l.short _ l.kept c.act-count.new.core e.plan (e.same none)
@@ -52,8 +52,7 @@ returns-else-is_final c =
     let l = c.args.self.now in
     let e = c.act-count.ensures in
     let none : c.act-count.result ≡ 0 = omega arith in
-    let entries = same_entries l.core.plan _ l.turns.items _ e.plan c.reserve.ensures.items in
-    (
+    let entries = same_entries l.core.plan _ l.turns.items _ e.plan c.reserve.ensures.items in (
       refl,
       entries,
       c.count.ensures ∙ ap length entries,

@@ -1,4 +1,4 @@
-use Rattle.std.proofs.Common.{arith, refl, sym, ap, subst, ◌≡◌, ◌<◌, ◌∙◌, ℕ, Some, Option}
+use Rattle.std.proofs.Common.{arith, sym, ap, subst, ◌≡◌, ◌∙◌, ℕ, Some}
 use Rattle.flow_design.specs.declared.plan.Plan.{Plan}
 use Rattle.event_timing.specs.Actions.{MayEarliest}
 use Rattle.event_timing.specs.Permitted.{IsInside}
@@ -11,18 +11,21 @@ use Rattle.sim_hub.proofs.ledger.timing.act.Goals as goal
 
 pub returns-then-count-gt0-clause-did : goal.returns-then-count-gt0-clause-did
 returns-then-count-gt0-clause-did g c = λ some at core memory.
-    timed_turn c.args.core.now.plan at (theory_of c.args.core.now) _ c.time_all-count.result core memory some c.time_all-count.ensures.rounds
+    timed_turn c.args.core.now.plan at (theory_of c.args.core.now) _ c.time_all-count.result core memory some
+    c.time_all-count.ensures.rounds
 
 pub returns-then-answer_earliest-clause-did : goal.returns-then-answer_earliest-clause-did
 returns-then-answer_earliest-clause-did g c = λ some at core memory.
     let first = c.args.core.now in
     let p = first.plan in
     let mid = c.time_all-count.new.self in
-    let same = none_timed (design p) p.cycles (theory_of first) (theory_of mid) c.time_all-count.result (omega arith) c.time_all-count.ensures.rounds in
+    let same = none_timed (design p) p.cycles (theory_of first) (theory_of mid) c.time_all-count.result
+    (omega arith) c.time_all-count.ensures.rounds in
     let inside : IsInside (design p) (theory_of first) = c.modules-count.ensures.agreed.marks.inside in
     let found = c.answer_earliest.ensures.done c.if-answer_earliest.true in
     earliest_turn p at (theory_of mid) _ (same ∙ core) memory (subst (IsInside (design p)) (sym same) inside)
-    (subst (λ (q : Plan). earliest_of (design q) q.cycles (theory_of mid) ≡ Some (theory_of c.answer_earliest.new.self)) c.time_all-count.ensures.goes.plan found)
+    (subst (λ (q : Plan). earliest_of (design q) q.cycles (theory_of mid) ≡ Some (theory_of c.answer_earliest.new.self))
+    c.time_all-count.ensures.goes.plan found)
 
 pub returns-clause-no_timing : goal.returns-clause-no_timing
 returns-clause-no_timing g c = λ zeroth.

@@ -1,0 +1,85 @@
+//! Gates that watch, delay or starve.
+ghost use Rattle.std.specs.Prelude.{◌<◌};
+ghost use Rattle.run_ahead.specs.Working.{StandsSomewhere};
+ghost use Rattle.sim_hub.specs.Hubs.{IsBurstOn};
+
+use run_threads::{Burst, Gate, Task, work};
+use std::alloc::Global;
+use std::sync::atomic::{AtomicBool, Ordering};
+use std::sync::{Mutex, Wait};
+use std::thread::yield_now;
+
+/// How often a burst yields at most while it waits for another.
+const TURNS: u64 = 10_000_000;
+
+/// Notes the marks of each burst, with its module.
+#[derive(Drop)]
+pub struct Notes<'a, R: Wait> {
+    pub rt: &'a R,
+    pub marks: Mutex<Vec<(u32, u64)>>,
+    /// A note found no memory.
+    pub lost: AtomicBool,
+}
+
+impl<'a, R: Wait> Notes<'a, R> {
+    fn note(&self, owner: u32, marks: u64) {
+        if self.marks.lock(self.rt).push((owner, marks)).is_err() {
+            self.lost.store(true, Ordering::SeqCst);
+        }
+    }
+}
+
+impl<'a, R: Wait> Gate for Notes<'a, R> {
+    fn burst(&self, alloc: Global, owner: u32, task: Task) -> Burst {
+        let burst = work(alloc, task);
+        self.note(owner, burst.emitted.len());
+        burst
+    }
+}
+
+/// The first bursts of modules 0 and 1 wait for each other.
+#[derive(Drop)]
+pub struct Meeting {
+    pub begun: [AtomicBool; 2],
+    /// One waited in vain.
+    pub missed: AtomicBool,
+}
+
+impl Meeting {
+    fn meet(&self, mine: usize, other: usize)
+        requires { (mine < 2) × (other < 2) }
+    {
+        self.begun[mine].store(true, Ordering::SeqCst);
+        for _ in 0..TURNS {
+            if self.begun[other].load(Ordering::SeqCst) {
+                return;
+            }
+            yield_now();
+        }
+        self.missed.store(true, Ordering::SeqCst);
+    }
+}
+
+impl Gate for Meeting {
+    fn burst(&self, alloc: Global, owner: u32, task: Task) -> Burst {
+        match owner {
+            0 => self.meet(0, 1),
+            1 => self.meet(1, 0),
+            _ => {}
+        }
+        work(alloc, task)
+    }
+}
+
+/// Yields a thousand times before each burst.
+#[derive(Clone, Copy)]
+pub struct Slow;
+
+impl Gate for Slow {
+    fn burst(&self, alloc: Global, _owner: u32, task: Task) -> Burst {
+        for _ in 0..1_000 {
+            yield_now();
+        }
+        work(alloc, task)
+    }
+}

@@ -1,0 +1,6 @@
+use Rattle.sim_core.specs.Drives.{AreOwn}
+use Rattle.core_tests.proofs.actions.answer_behind.Given as goal
+
+-- no run is lent
+abbrev pub invariant-loop-action : goal.invariant-loop-action
+invariant-loop-action g l = AreOwn l.core

@@ -1,0 +1,108 @@
+//! Single actions of a core where they are not permitted. The causes were worked out from the rules of the actions.
+ghost use Rattle.std.specs.Prelude.{◌≡◌};
+ghost use Rattle.sim_core.specs.Causes.{module_of};
+ghost use Rattle.sim_core.specs.Drives.{AreOwn};
+
+use crate::sessions::{ONE_LEAST_QUERY, TWO_LEAST_QUERIES, plan};
+use event_graph::Place;
+use flow_word::Steps;
+use sim_core::{ActFault, Action, Cause, Core, Guard};
+use std::marker::Brand;
+use std::process::Abort;
+use std::sync::ledger::{Blank, Ledger};
+use std::test::Fail;
+
+/// The module of an action.
+fn owner_of(action: Action) -> u32
+    ensures { result ≡ module_of action }
+{
+    match action {
+        Action::Run(owner)
+        | Action::Assign(owner)
+        | Action::Answer(owner)
+        | Action::Earliest(owner) => owner,
+    }
+}
+
+/// Does an action that is permitted.
+fn act_same<L: Ledger, R: Abort>(rt: &R, core: &mut Core, action: Action, steps: &mut Steps<L>)
+    requires own { AreOwn core.old }
+    ensures own { AreOwn core.new }
+{
+    assert!(rt; owner_of(action) < core.modules());
+    let answer = core.act(action, steps);
+    assert_eq!(rt; answer, Ok(Guard::Same));
+}
+
+/// What the last of these actions answers, where the others are permitted.
+fn answer_behind<L: Ledger, R: AllocGlobal + Abort>(
+    rt: &R,
+    text: &[u8],
+    done: &[Action],
+    tried: Action,
+    blank: Blank,
+) -> Result<Result<Guard, ActFault>, Fail>
+    requires name { blank.name ≡ L.name }
+    requires parts { blank.parts ≡ L.parts }
+    requires one { L.parts ≡ 1 }
+{
+    let mut core = Core::new(rt.alloc(), plan(rt, text)?)?;
+    let mut steps = Steps::<L>::new(blank);
+    for action in done {
+        act_same(rt, &mut core, *action, &mut steps);
+    }
+    assert!(rt; owner_of(tried) < core.modules());
+    let answer = core.act(tried, &mut steps);
+    drop(core);
+    Ok(answer)
+}
+
+/// The cause of the last of these actions, where the others are permitted.
+fn cause_behind<R: AllocGlobal + Abort>(
+    rt: &R,
+    text: &[u8],
+    done: &[Action],
+    tried: Action,
+) -> Result<Cause, Fail> {
+    match answer_behind::<Brand, R>(rt, text, done, tried, Blank::new(1))? {
+        Err(ActFault::NotPermitted(cause)) => Ok(cause),
+        Err(ActFault::OutOfMemory) | Ok(_) => panic!(rt; "it is permitted"),
+    }
+}
+
+#[test]
+fn causes_with_two_least_queries(rt: HostRuntime) -> Result<(), Fail> {
+    let text = TWO_LEAST_QUERIES;
+    let both = [Action::Run(0), Action::Run(1)];
+    let first = Place { module: 0, step: 0 };
+    assert_eq!(rt;
+        cause_behind(&rt, text, &[], Action::Earliest(0))?,
+        Cause::NoStep(0)
+    );
+    assert_eq!(rt;
+        cause_behind(&rt, text, &both[..1], Action::Earliest(0))?,
+        Cause::Busy(1)
+    );
+    assert_eq!(rt;
+        cause_behind(&rt, text, &both, Action::Run(0))?,
+        Cause::Waiting(first, 0)
+    );
+    assert_eq!(rt;
+        cause_behind(&rt, text, &both, Action::Assign(0))?,
+        Cause::Unsettled(first, 0)
+    );
+    assert_eq!(rt;
+        cause_behind(&rt, text, &both, Action::Answer(0))?,
+        Cause::Unsettled(first, 0)
+    );
+    let earliest = [Action::Run(0), Action::Run(1), Action::Earliest(1)];
+    assert_eq!(rt;
+        cause_behind(&rt, text, &earliest, Action::Earliest(0))?,
+        Cause::Busy(1)
+    );
+    assert_eq!(rt;
+        cause_behind(&rt, ONE_LEAST_QUERY, &both, Action::Earliest(1))?,
+        Cause::Later(0, 0)
+    );
+    Ok(())
+}

@@ -1,0 +1,7 @@
+//! Tests of single actions of a core. They stand in a crate of their own, since a crate is proved once more with its tests.
+#![tactic(auto)]
+
+#[cfg(test)]
+mod actions;
+#[cfg(test)]
+mod sessions;

@@ -1,0 +1,73 @@
+//! Simulations of which each turn and its answer is given.
+use crate::passes::{Answer, closes_with, module_turns, open, perf_turn};
+use crate::sessions::{TWO_LEAST_QUERIES, VISIBILITY_ONE_CLOCK_LATER};
+use std::process::Abort;
+use std::sync::Wait;
+use std::test::Fail;
+
+/// Whose turns are next.
+#[derive(Clone, Copy, Debug, PartialEq, Eq)]
+enum Next {
+    Module(usize),
+    Perf,
+}
+
+/// The passes are answered so, one after the other, and then all is over.
+fn is_driven<R: AllocGlobal + Wait + Abort>(
+    rt: &R,
+    text: &[u8],
+    turns: &[(Next, Answer)],
+) -> Result<(), Fail> {
+    let (hub, passes, report) = open(rt, text)?;
+    let mut passes = passes;
+    for (next, expected) in turns {
+        let (back, answer) = match *next {
+            Next::Module(which) => module_turns(rt, &hub, passes, which)?,
+            Next::Perf => perf_turn(rt, &hub, passes),
+        };
+        assert_eq!(rt; answer, *expected);
+        passes = back;
+    }
+    closes_with(rt, hub, passes, report)
+}
+
+#[test]
+fn visibility_one_clock_later(rt: HostRuntime) -> Result<(), Fail> {
+    is_driven(
+        &rt,
+        VISIBILITY_ONE_CLOCK_LATER,
+        &[
+            (Next::Module(1), Answer::Made(1)),
+            (Next::Module(1), Answer::Waits(3)),
+            (Next::Perf, Answer::Waits(3)),
+            (Next::Module(0), Answer::Made(3)),
+            (Next::Perf, Answer::Did(3)),
+            (Next::Module(1), Answer::Made(2)),
+            (Next::Perf, Answer::Did(1)),
+            (Next::Module(0), Answer::Over),
+            (Next::Module(1), Answer::Over),
+            (Next::Perf, Answer::Over),
+        ],
+    )
+}
+
+#[test]
+fn two_least_queries(rt: HostRuntime) -> Result<(), Fail> {
+    is_driven(
+        &rt,
+        TWO_LEAST_QUERIES,
+        &[
+            (Next::Module(0), Answer::Made(1)),
+            (Next::Module(1), Answer::Made(1)),
+            (Next::Perf, Answer::Did(1)),
+            (Next::Module(0), Answer::Made(2)),
+            (Next::Module(1), Answer::Waits(8)),
+            (Next::Perf, Answer::Did(4)),
+            (Next::Module(1), Answer::Made(2)),
+            (Next::Perf, Answer::Did(1)),
+            (Next::Module(0), Answer::Over),
+            (Next::Module(1), Answer::Over),
+            (Next::Perf, Answer::Over),
+        ],
+    )
+}

@@ -1,0 +1,12 @@
+//! Tests of the hub, whose passes take their turns on one thread. They stand in a crate of their own, since a crate is proved once
+//! more with its tests.
+#![tactic(auto)]
+
+#[cfg(test)]
+mod driven;
+#[cfg(test)]
+mod passes;
+#[cfg(test)]
+mod rounds;
+#[cfg(test)]
+mod sessions;

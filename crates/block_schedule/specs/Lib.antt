@@ -1,3 +1,2 @@
 pub mod Schedules
-pub mod TestBlocks
 pub mod Work

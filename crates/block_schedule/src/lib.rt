@@ -6,6 +6,3 @@ mod tables;
 
 pub use schedule::Schedule;
 pub use tables::interval;
-
-#[cfg(test)]
-mod tests;

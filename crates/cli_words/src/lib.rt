@@ -60,6 +60,3 @@ pub fn read_words(alloc: Global, words: &[String]) -> Result<Command, WordFault>
     let given = parser::parse(alloc, words)?;
     rules::command_of(&given).ok_or(WordFault::Refused)
 }
-
-#[cfg(test)]
-mod tests;

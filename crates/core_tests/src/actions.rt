@@ -3,7 +3,6 @@ ghost use Rattle.std.specs.Prelude.{◌≡◌};
 ghost use Rattle.sim_core.specs.Causes.{module_of};
 ghost use Rattle.sim_core.specs.Drives.{AreOwn};
 
-use crate::sessions::{ONE_LEAST_QUERY, TWO_LEAST_QUERIES, plan};
 use event_graph::Place;
 use flow_word::Steps;
 use sim_core::{ActFault, Action, Cause, Core, Guard};
@@ -11,9 +10,36 @@ use std::marker::Brand;
 use std::process::Abort;
 use std::sync::ledger::{Blank, Ledger};
 use std::test::Fail;
+use worked_sessions::{TWO_LEAST_QUERIES, read_plan};
+
+/// Two modules, each with a query that waits for the other's push: the first in clock 0, the second in clock 1.
+const ONE_LEAST_QUERY: &[u8] = b"\
+flow 1
+fifo ab 8
+fifo ba 8
+sink y 8
+sink z 8
+module A
+reg x 8
+reg ok 1
+block k 2
+at 0 tryread ba x ok
+at 1 write ab 1
+at 1 write y ok
+stop
+module B
+reg x 8
+reg ok 1
+block k 3
+at 1 tryread ab x ok
+at 2 write ba 1
+at 2 write z ok
+stop
+end
+";
 
 /// The module of an action.
-fn owner_of(action: Action) -> u32
+pub fn owner_of(action: Action) -> u32
     ensures { result ≡ module_of action }
 {
     match action {
@@ -25,7 +51,7 @@ fn owner_of(action: Action) -> u32
 }
 
 /// Does an action that is permitted.
-fn act_same<L: Ledger, R: Abort>(rt: &R, core: &mut Core, action: Action, steps: &mut Steps<L>)
+pub fn act_same<L: Ledger, R: Abort>(rt: &R, core: &mut Core, action: Action, steps: &mut Steps<L>)
     requires own { AreOwn core.old }
     ensures own { AreOwn core.new }
 {
@@ -46,7 +72,7 @@ fn answer_behind<L: Ledger, R: AllocGlobal + Abort>(
     requires parts { blank.parts ≡ L.parts }
     requires one { L.parts ≡ 1 }
 {
-    let mut core = Core::new(rt.alloc(), plan(rt, text)?)?;
+    let mut core = Core::new(rt.alloc(), read_plan(rt.alloc(), text)?)?;
     let mut steps = Steps::<L>::new(blank);
     for action in done {
         act_same(rt, &mut core, *action, &mut steps);

@@ -4,4 +4,4 @@
 #[cfg(test)]
 mod actions;
 #[cfg(test)]
-mod sessions;
+mod orders;

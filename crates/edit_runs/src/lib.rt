@@ -6,6 +6,3 @@ mod laws;
 
 pub use count::RunCount;
 pub use laws::edits_in_order;
-
-#[cfg(test)]
-mod tests;

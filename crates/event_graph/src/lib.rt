@@ -8,6 +8,3 @@ mod lane;
 pub use candidate::Candidate;
 pub use flow_word::{Access, Accesses, Kind, Place, Step};
 pub use graph::Graph;
-
-#[cfg(test)]
-mod tests;

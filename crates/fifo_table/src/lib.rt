@@ -8,6 +8,3 @@ mod table;
 pub use channel::{Pushed, TableChannel};
 pub use enabler::Enabler;
 pub use table::FifoTable;
-
-#[cfg(test)]
-mod tests;

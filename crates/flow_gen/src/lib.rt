@@ -28,6 +28,3 @@ pub fn generate(alloc: Global, seed: u64, modules: u64) -> Result<List<u8>, OutO
     let text = text::session(alloc, draws.as_slice())?;
     List::from_slice(alloc, text.as_bytes())
 }
-
-#[cfg(test)]
-mod tests;

@@ -24,6 +24,3 @@ pub use queue::Queue;
 pub use roomy::RoomyList;
 pub use steps::Steps;
 pub use width::{Width, cut};
-
-#[cfg(test)]
-mod tests;

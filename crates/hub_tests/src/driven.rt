@@ -1,9 +1,9 @@
 //! Simulations of which each turn and its answer is given.
 use crate::passes::{Answer, closes_with, module_turns, open, perf_turn};
-use crate::sessions::{TWO_LEAST_QUERIES, VISIBILITY_ONE_CLOCK_LATER};
 use std::process::Abort;
 use std::sync::Wait;
 use std::test::Fail;
+use worked_sessions::{TWO_LEAST_QUERIES, TWO_MODULES};
 
 /// Whose turns are next.
 #[derive(Clone, Copy, Debug, PartialEq, Eq)]
@@ -35,7 +35,7 @@ fn is_driven<R: AllocGlobal + Wait + Abort>(
 fn visibility_one_clock_later(rt: HostRuntime) -> Result<(), Fail> {
     is_driven(
         &rt,
-        VISIBILITY_ONE_CLOCK_LATER,
+        TWO_MODULES,
         &[
             (Next::Module(1), Answer::Made(1)),
             (Next::Module(1), Answer::Waits(3)),

@@ -8,5 +8,3 @@ mod driven;
 mod passes;
 #[cfg(test)]
 mod rounds;
-#[cfg(test)]
-mod sessions;

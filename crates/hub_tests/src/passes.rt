@@ -5,7 +5,6 @@ ghost use Rattle.sim_hub.specs.Places.{HasNoDeskOut};
 ghost use Rattle.sim_hub.specs.Hubs.{hub_id, module_view, IsOfHub};
 ghost use Rattle.hub_tests.specs.Resting.{AreResting};
 
-use crate::sessions::plan;
 use clock_machine::clock_run;
 use flow_design::Report;
 use sim_core::{Core, work};
@@ -14,6 +13,7 @@ use std::alloc::Global;
 use std::process::Abort;
 use std::sync::Wait;
 use std::test::Fail;
+use worked_sessions::read_plan;
 
 /// All passes of a hub, between two turns.
 #[derive(Drop)]
@@ -41,7 +41,7 @@ pub enum Answer {
 pub fn open<R: AllocGlobal>(rt: &R, text: &[u8]) -> Result<(Hub, Passes, Report), Fail>
     ensures resting { IfOk result (λ r. AreResting (hub_id r.0) r.1.perf r.1.modules.items) }
 {
-    let plan = plan(rt, text)?;
+    let plan = read_plan(rt.alloc(), text)?;
     let expected = clock_run(rt.alloc(), &plan)?;
     let core = Core::new(rt.alloc(), plan)?;
     let (hub, perf, modules) = Hub::new(rt.alloc(), core)?;

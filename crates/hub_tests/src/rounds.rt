@@ -4,13 +4,11 @@ ghost use Rattle.sim_hub.specs.Hubs.{hub_id};
 ghost use Rattle.hub_tests.specs.Resting.{AreResting};
 
 use crate::passes::{Answer, Passes, closes_with, module_turns, open, perf_turn};
-use crate::sessions::{
-    BOTH_ENDS_IN_ONE_MODULE, LATER_STALL, POLLING_LOOP, TIE_IN_THE_CLOCK, TWO_LEAST_QUERIES,
-};
 use sim_hub::Hub;
 use std::process::Abort;
 use std::sync::Wait;
 use std::test::Fail;
+use worked_sessions::{DEADLOCKS, DELAYS, DESIGNS, EDITS, LIMITS, QUERIES, Worked};
 
 /// Each module's pass takes its turns, in order, with the performance pass behind each of them if so asked. Whether all modules wait.
 fn round<R: AllocGlobal + Wait + Abort>(
@@ -88,18 +86,27 @@ fn reports_as_lockstep<R: AllocGlobal + Wait + Abort>(
     closes_with(rt, hub, passes, report)
 }
 
+/// The same of each of these sessions.
+fn report_as_lockstep<R: AllocGlobal + Wait + Abort>(
+    rt: &R,
+    table: &[Worked],
+    behind_each: bool,
+) -> Result<(), Fail> {
+    for worked in table {
+        reports_as_lockstep(rt, worked.text, behind_each)?;
+    }
+    Ok(())
+}
+
 #[test]
 fn hubs_report_as_lockstep(rt: HostRuntime) -> Result<(), Fail> {
     for behind_each in [true, false] {
-        for text in [
-            TIE_IN_THE_CLOCK,
-            TWO_LEAST_QUERIES,
-            LATER_STALL,
-            POLLING_LOOP,
-            BOTH_ENDS_IN_ONE_MODULE,
-        ] {
-            reports_as_lockstep(&rt, text, behind_each)?;
-        }
+        report_as_lockstep(&rt, DESIGNS, behind_each)?;
+        report_as_lockstep(&rt, QUERIES, behind_each)?;
+        report_as_lockstep(&rt, LIMITS, behind_each)?;
+        report_as_lockstep(&rt, DEADLOCKS, behind_each)?;
+        report_as_lockstep(&rt, EDITS, behind_each)?;
+        report_as_lockstep(&rt, DELAYS, behind_each)?;
     }
     Ok(())
 }

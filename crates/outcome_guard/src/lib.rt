@@ -7,6 +7,3 @@ mod prefix;
 pub use guard::{Guard, compare};
 pub use prefix::one_is_prefix;
 pub use query_log::Query;
-
-#[cfg(test)]
-mod tests;

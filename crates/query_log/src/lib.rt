@@ -7,6 +7,3 @@ mod roomy;
 
 pub use log::QueryLog;
 pub use query::Query;
-
-#[cfg(test)]
-mod tests;

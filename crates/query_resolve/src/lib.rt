@@ -6,6 +6,3 @@ mod first;
 
 pub use decision::{Decision, decide, late};
 pub use first::earliest;
-
-#[cfg(test)]
-mod tests;

@@ -4,8 +4,6 @@
 mod lines;
 mod names;
 mod report;
-#[cfg(test)]
-mod tests;
 
 pub use lines::{
     print_numbers, print_runs, print_verdict, push_number, push_token, push_value, push_values,

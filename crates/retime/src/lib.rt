@@ -10,6 +10,3 @@ pub use laws::{cycles_are_counted, edits_agree, records_grow, retimings_agree};
 pub use retimed::retime;
 pub use rounds::time_all;
 pub use touched::first_touched;
-
-#[cfg(test)]
-mod tests;

@@ -1,28 +1,25 @@
-//! Inputs, depths and an edit.
-use flow_design::{Edit, Name, Statement};
-use flow_word::{List, OutOfMemory, Width, Words};
+//! Inputs, depths and an edit; and a plan's copy.
+use flow_design::{Edit, copy_plan};
+use flow_text::read_session;
 use session_plan::elaborate;
-use std::alloc::Global;
+use std::process::Abort;
 use std::test::Fail;
+use worked_sessions::{REALISTIC_LINE, read_plan};
 
-/// `source a 8`, `fifo f 8 3`, `input a 300 5`, `depth f 2`
-fn statements(alloc: Global, width: Width) -> Result<List<Statement>, OutOfMemory> {
-    let mut all = List::new(alloc);
-    all.push(Statement::Source(Name::new(alloc, b"a")?, width))?;
-    all.push(Statement::Fifo(Name::new(alloc, b"f")?, width, 3, 1))?;
-    let values = Words::from_slice(alloc, [300, 5].as_slice())?;
-    all.push(Statement::Input(Name::new(alloc, b"a")?, values))?;
-    all.push(Statement::Depth(Name::new(alloc, b"f")?, 2))?;
-    Ok(all)
-}
+/// A source with two values, of which one is too wide, and a FIFO with an edit of its depth.
+const EDITED: &[u8] = b"\
+flow 1
+source a 8
+fifo f 8 3
+input a 300 5
+depth f 2
+end
+";
 
 #[test]
 fn names_become_numbers(rt: HostRuntime) -> Result<(), Fail> {
-    let alloc = rt.alloc();
-    let Some(width) = Width::new(8) else {
-        return Err(Fail::new("8 is a width"));
-    };
-    let checked = elaborate(alloc, statements(alloc, width)?.as_slice())?;
+    let (session, _) = read_session(rt.alloc(), EDITED)?;
+    let checked = elaborate(rt.alloc(), session.statements.as_slice())?;
     let edit = Edit {
         channel: 1,
         depth: 2,
@@ -33,5 +30,13 @@ fn names_become_numbers(rt: HostRuntime) -> Result<(), Fail> {
         return Err(Fail::new("there are inputs"));
     };
     assert_eq!(rt; first.as_slice(), [44, 5].as_slice());
+    Ok(())
+}
+
+#[test]
+fn a_plan_is_copied(rt: HostRuntime) -> Result<(), Fail> {
+    let plan = read_plan(rt.alloc(), REALISTIC_LINE)?;
+    let copy = copy_plan(rt.alloc(), &plan)?;
+    assert_eq!(rt; copy, plan);
     Ok(())
 }

@@ -2,8 +2,6 @@
 #![tactic(auto)]
 
 #[cfg(test)]
-mod checking;
-#[cfg(test)]
 mod elaborating;
 #[cfg(test)]
 mod module_runs;

@@ -1,69 +1,190 @@
 //! A module of a session, run ahead of time on replies that are fed to it. What is expected was worked out from the clock rules.
 ghost use Rattle.std.specs.Prelude.{ℕ, ◌≡◌, ◌<◌, true, false, length, IfOk, OnOk};
 ghost use Rattle.flow_word.specs.declared.access.Kind.{Kind as KindOf};
-ghost use Rattle.flow_design.specs.StaticRules.{FitsEngine};
 ghost use Rattle.module_interp.specs.OwnRests.{fits_kind, all_fit};
 ghost use Rattle.module_interp.specs.Runs.{waits};
 ghost use Rattle.session_tests.specs.Runs.{IsRun};
 
-use flow_check::check;
-use flow_design::{Plan, Reply};
-use flow_grammar::keeps_rules;
-use flow_text::read_session;
+use flow_design::Reply;
 use flow_word::{Access, Kind};
 use module_interp::{Advance, ModuleRun};
 use std::process::Abort;
 use std::test::Fail;
+use worked_sessions::{LATER_STALL, POLLING_LOOP, read_plan};
 
 /// One operation in the last local clock of a block as long as a block can be.
-const LONG_BLOCK: &[u8] =
-    b"flow 1\nsink y 8\nmodule m\nblock k 1000000000000\nat 999999999999 write y 1\nstop\nlimits 1000000000000000 100000\nend\n";
-
-/// Two iterations that overlap: a read, a test two local clocks later, and a write one later. The channels are b, c and y.
-const LATER_STALL: &[u8] =
-    b"flow 1\nfifo b 8\nfifo c 8\nsink y 8\nmodule R\nreg x 8\nreg e 1\nreg g 1\nreg z 1\nloop l 1 4 while g\nat 0 read b x\nat 0 set g ^ g 1\nat 2 empty c e\nat 3 write y e\nat 3 if z read c x\nstop\nmodule S\nblock k 11\nat 0 write b 1\nat 9 write b 2\nat 10 write c 1\nstop\nend\n";
-
-/// A loop without an end that tries a read in each local clock, with 10 as operation limit.
-const POLLING_LOOP: &[u8] =
-    b"flow 1\nfifo b 8\nmodule P\nreg x 8\nreg ok 1\nreg one 1\nloop l 1 1 while one\nat 0 tryread b x ok\nat 0 set one 1\nstop\nmodule W\nreg z 1\nblock k 1\nat 0 if z write b 1\nstop\nlimits 1000 10\nend\n";
+const LONG_BLOCK: &[u8] = b"\
+flow 1
+sink y 8
+module m
+block k 1000000000000
+at 999999999999 write y 1
+stop
+limits 1000000000000000 100000
+end
+";
 
 /// Two iterations, each of which starts where the one before it ends. A temp counts from 0 in each.
-const ITERATIONS_IN_TURN: &[u8] =
-    b"flow 1\nsink y 8\nmodule m\nreg i 8\nreg g 1\nloop l 3 3 while g\ntemp t 8\nat 0 set t + t + i 1\nat 1 set i t\nat 1 set g <u i 1\nat 2 write y t\nstop\nend\n";
+const ITERATIONS_IN_TURN: &[u8] = b"\
+flow 1
+sink y 8
+module m
+reg i 8
+reg g 1
+loop l 3 3 while g
+temp t 8
+at 0 set t + t + i 1
+at 1 set i t
+at 1 set g <u i 1
+at 2 write y t
+stop
+end
+";
 
 /// 65 iterations, of which 64 are live at a time, with an operation at each age. A temp takes the iteration's number and
 /// goes up by 1 at each of 62 ages. The channels are z and y.
-const MOST_ITERATIONS: &[u8] =
-    b"flow 1\nsink z 8\nsink y 8\nmodule m\nreg n 8\nreg g 1\nloop l 1 64 while g\ntemp t 8\nat 0 write z n\nat 0 set t n\nat 0 set n + n 1\nat 0 set g <u n 64\nat 1 set t + t 1\nat 2 set t + t 1\nat 3 set t + t 1\nat 4 set t + t 1\nat 5 set t + t 1\nat 6 set t + t 1\nat 7 set t + t 1\nat 8 set t + t 1\nat 9 set t + t 1\nat 10 set t + t 1\nat 11 set t + t 1\nat 12 set t + t 1\nat 13 set t + t 1\nat 14 set t + t 1\nat 15 set t + t 1\nat 16 set t + t 1\nat 17 set t + t 1\nat 18 set t + t 1\nat 19 set t + t 1\nat 20 set t + t 1\nat 21 set t + t 1\nat 22 set t + t 1\nat 23 set t + t 1\nat 24 set t + t 1\nat 25 set t + t 1\nat 26 set t + t 1\nat 27 set t + t 1\nat 28 set t + t 1\nat 29 set t + t 1\nat 30 set t + t 1\nat 31 set t + t 1\nat 32 set t + t 1\nat 33 set t + t 1\nat 34 set t + t 1\nat 35 set t + t 1\nat 36 set t + t 1\nat 37 set t + t 1\nat 38 set t + t 1\nat 39 set t + t 1\nat 40 set t + t 1\nat 41 set t + t 1\nat 42 set t + t 1\nat 43 set t + t 1\nat 44 set t + t 1\nat 45 set t + t 1\nat 46 set t + t 1\nat 47 set t + t 1\nat 48 set t + t 1\nat 49 set t + t 1\nat 50 set t + t 1\nat 51 set t + t 1\nat 52 set t + t 1\nat 53 set t + t 1\nat 54 set t + t 1\nat 55 set t + t 1\nat 56 set t + t 1\nat 57 set t + t 1\nat 58 set t + t 1\nat 59 set t + t 1\nat 60 set t + t 1\nat 61 set t + t 1\nat 62 set t + t 1\nat 63 write y t\nstop\nend\n";
+const MOST_ITERATIONS: &[u8] = b"\
+flow 1
+sink z 8
+sink y 8
+module m
+reg n 8
+reg g 1
+loop l 1 64 while g
+temp t 8
+at 0 write z n
+at 0 set t n
+at 0 set n + n 1
+at 0 set g <u n 64
+at 1 set t + t 1
+at 2 set t + t 1
+at 3 set t + t 1
+at 4 set t + t 1
+at 5 set t + t 1
+at 6 set t + t 1
+at 7 set t + t 1
+at 8 set t + t 1
+at 9 set t + t 1
+at 10 set t + t 1
+at 11 set t + t 1
+at 12 set t + t 1
+at 13 set t + t 1
+at 14 set t + t 1
+at 15 set t + t 1
+at 16 set t + t 1
+at 17 set t + t 1
+at 18 set t + t 1
+at 19 set t + t 1
+at 20 set t + t 1
+at 21 set t + t 1
+at 22 set t + t 1
+at 23 set t + t 1
+at 24 set t + t 1
+at 25 set t + t 1
+at 26 set t + t 1
+at 27 set t + t 1
+at 28 set t + t 1
+at 29 set t + t 1
+at 30 set t + t 1
+at 31 set t + t 1
+at 32 set t + t 1
+at 33 set t + t 1
+at 34 set t + t 1
+at 35 set t + t 1
+at 36 set t + t 1
+at 37 set t + t 1
+at 38 set t + t 1
+at 39 set t + t 1
+at 40 set t + t 1
+at 41 set t + t 1
+at 42 set t + t 1
+at 43 set t + t 1
+at 44 set t + t 1
+at 45 set t + t 1
+at 46 set t + t 1
+at 47 set t + t 1
+at 48 set t + t 1
+at 49 set t + t 1
+at 50 set t + t 1
+at 51 set t + t 1
+at 52 set t + t 1
+at 53 set t + t 1
+at 54 set t + t 1
+at 55 set t + t 1
+at 56 set t + t 1
+at 57 set t + t 1
+at 58 set t + t 1
+at 59 set t + t 1
+at 60 set t + t 1
+at 61 set t + t 1
+at 62 set t + t 1
+at 63 write y t
+stop
+end
+";
 
 /// Four iterations that overlap. Each has a guard of its own, which the first and the third leave at 0. The channels are a and y.
-const GUARDS_OF_THEIR_OWN: &[u8] =
-    b"flow 1\nsource a 8\nsink y 8\nmodule m\nreg x 8\nreg n 8\nreg g 1\nloop l 1 3 while g\ntemp h 1\ntemp t 8\nat 0 read a x\nat 0 set n + n 1\nat 0 set g <u n 3\nat 0 set h n\nat 0 if h set x 99\nat 1 set t x\nat 2 if h write y t\nstop\nend\n";
+const GUARDS_OF_THEIR_OWN: &[u8] = b"\
+flow 1
+source a 8
+sink y 8
+module m
+reg x 8
+reg n 8
+reg g 1
+loop l 1 3 while g
+temp h 1
+temp t 8
+at 0 read a x
+at 0 set n + n 1
+at 0 set g <u n 3
+at 0 set h n
+at 0 if h set x 99
+at 1 set t x
+at 2 if h write y t
+stop
+end
+";
 
 /// A memory of three words, with addresses past them.
-const ADDRESSES_PAST_THE_END: &[u8] =
-    b"flow 1\nsink y 8\nmodule m\nreg x 8\nmem w 8 3\nblock k 4\nat 0 store w 7 300\nat 1 load x w 18446744073709551613\nat 2 write y x\nat 2 load x w 3\nat 3 write y x\nstop\nend\n";
+const ADDRESSES_PAST_THE_END: &[u8] = b"\
+flow 1
+sink y 8
+module m
+reg x 8
+mem w 8 3
+block k 4
+at 0 store w 7 300
+at 1 load x w 18446744073709551613
+at 2 write y x
+at 2 load x w 3
+at 3 write y x
+stop
+end
+";
 
 /// A loop whose condition is read in its iteration's last local clock, and a block behind it. The channels are a and y.
-const DECIDED_AT_THE_END: &[u8] =
-    b"flow 1\nsource a 8\nsink y 8\nmodule m\nreg x 8\nloop l 2 2 while x\nat 1 read a x\ngoto k\nblock k 1\nat 0 write y + x 5\nstop\nend\n";
-
-/// The plan of a session text that is not refused.
-fn plan<R: AllocGlobal>(rt: &R, text: &[u8]) -> Result<Plan, Fail>
-    ensures fits { IfOk result (λ plan. FitsEngine plan) }
-{
-    keeps_rules();
-    let (session, lines) = read_session(rt.alloc(), text)?;
-    let checked = check(rt.alloc(), &session, &lines)?;
-    Ok(checked.plan)
-}
+const DECIDED_AT_THE_END: &[u8] = b"\
+flow 1
+source a 8
+sink y 8
+module m
+reg x 8
+loop l 2 2 while x
+at 1 read a x
+goto k
+block k 1
+at 0 write y + x 5
+stop
+end
+";
 
 /// The run of the first module of a session.
 fn first_run<R: AllocGlobal + Abort>(rt: &R, text: &[u8]) -> Result<ModuleRun, Fail>
     ensures run { IfOk result (λ run. IsRun run) }
     ensures fed { IfOk result (λ run. waits run ≡ false) }
 {
-    let plan = plan(rt, text)?;
+    let plan = read_plan(rt.alloc(), text)?;
     assert!(rt; plan.design.modules.len() > 0);
     let run = ModuleRun::new(rt.alloc(), &plan, 0)?;
     Ok(run)

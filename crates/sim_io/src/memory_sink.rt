@@ -128,22 +128,3 @@ fn store(buffer: &mut [u8], at: usize, piece: &[u8])
 {
     buffer[at..at + piece.len()].copy_from_slice(piece);
 }
-
-#[cfg(test)]
-mod tests {
-    use super::*;
-    use std::test::Fail;
-
-    #[test]
-    fn takes_pieces_and_fails_when_told_or_full(rt: HostRuntime) -> Result<(), Fail> {
-        let mut sink = MemSink::new(rt.alloc(), 5, 3, &[1, 4])?;
-        assert_eq!(rt; sink.put(b"word"), Ok(3));
-        assert_eq!(rt; sink.put(b"d"), Err(Failed));
-        assert_eq!(rt; sink.put(b"dy"), Ok(2));
-        assert_eq!(rt; sink.put(b"!"), Err(Failed));
-        assert_eq!(rt; sink.finish(), Err(Failed));
-        assert_eq!(rt; sink.finish(), Ok(()));
-        assert_eq!(rt; sink.held(), b"wordy".as_slice());
-        Ok(())
-    }
-}

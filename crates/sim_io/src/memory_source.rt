@@ -91,22 +91,3 @@ fn copy_front(into: &mut [u8], from: &[u8], count: usize)
 {
     into[..count].copy_from_slice(&from[..count]);
 }
-
-#[cfg(test)]
-mod tests {
-    use super::*;
-    use std::test::Fail;
-
-    #[test]
-    fn hands_out_pieces_and_fails_when_told(rt: HostRuntime) -> Result<(), Fail> {
-        let mut source = MemSource::new(rt.alloc(), b"words", 3, &[1])?;
-        let mut into = [0u8; 4];
-        assert_eq!(rt; source.take(&mut into), Ok(3));
-        assert_eq!(rt; &into[..3], b"wor".as_slice());
-        assert_eq!(rt; source.take(&mut into), Err(Failed));
-        assert_eq!(rt; source.take(&mut into), Ok(2));
-        assert_eq!(rt; &into[..2], b"ds".as_slice());
-        assert_eq!(rt; source.take(&mut into), Ok(0));
-        Ok(())
-    }
-}

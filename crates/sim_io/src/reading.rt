@@ -92,27 +92,3 @@ fn chunk_room(alloc: Global) -> Result<Vec<u8>, OutOfMemory>
 {
     Ok(vec![in alloc; 0u8; CHUNK as usize]?)
 }
-
-#[cfg(test)]
-mod tests {
-    use super::*;
-    use crate::MemSource;
-    use std::test::Fail;
-
-    #[test]
-    fn reads_piece_after_piece(rt: HostRuntime) -> Result<(), Fail> {
-        let alloc = rt.alloc();
-        let mut whole = MemSource::new(alloc, b"a text", 4, &[])?;
-        assert!(rt;
-            read_all(alloc, &mut whole, 6).is_ok_and(|bytes| bytes.as_slice()
-                == b"a text".as_slice())
-        );
-        let mut long = MemSource::new(alloc, b"a text", 4, &[])?;
-        assert!(rt; read_all(alloc, &mut long, 5).is_err_and(|fault| fault == TakeFault::TooLong));
-        let mut failing = MemSource::new(alloc, b"a text", 4, &[1])?;
-        assert!(rt;
-            read_all(alloc, &mut failing, 6).is_err_and(|fault| fault == TakeFault::ReadFault)
-        );
-        Ok(())
-    }
-}

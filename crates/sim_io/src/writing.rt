@@ -32,20 +32,3 @@ pub fn write_all_of<K: Sink>(sink: &mut K, text: &[u8]) -> Result<(), PutFault>
     }
     Ok(())
 }
-
-#[cfg(test)]
-mod tests {
-    use super::*;
-    use crate::{MemSink, Sink};
-    use std::test::Fail;
-
-    #[test]
-    fn writes_piece_after_piece(rt: HostRuntime) -> Result<(), Fail> {
-        let mut sink = MemSink::new(rt.alloc(), 8, 3, &[])?;
-        assert_eq!(rt; write_all_of(&mut sink, b"a text"), Ok(()));
-        assert_eq!(rt; sink.held(), b"a text".as_slice());
-        assert_eq!(rt; write_all_of(&mut sink, b"..."), Err(PutFault::WriteFault));
-        assert_eq!(rt; sink.held(), b"a text..".as_slice());
-        Ok(())
-    }
-}

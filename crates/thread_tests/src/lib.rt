@@ -4,6 +4,4 @@
 #[cfg(test)]
 mod gates;
 #[cfg(test)]
-mod sessions;
-#[cfg(test)]
 mod simulating;

@@ -1,13 +1,15 @@
 //! Whole simulations with threads.
 use crate::gates::{Meeting, Notes, Slow};
-use crate::sessions::{LATER_STALL, LINE, PIPE, plan};
 use clock_machine::clock_run;
+use flow_design::Report;
+use flow_gen::generate;
 use run_threads::{FreeGate, Gate, HubTurn, Threaded, run_threads, run_threads_started};
 use std::process::Abort;
 use std::sync::atomic::{AtomicBool, Ordering};
 use std::sync::{Mutex, Wait};
 use std::test::Fail;
 use std::thread::Threads;
+use worked_sessions::{LATER_STALL, REALISTIC_LINE, TWO_MODULES, read_plan};
 
 /// Whether these turns returned desks of this module with the noted numbers of marks, in order, each with the module's pass.
 fn are_noted(turns: &[HubTurn], notes: &[(u32, u64)], owner: u32) -> bool {
@@ -50,7 +52,7 @@ fn first_bursts_meet(rt: HostRuntime) -> Result<(), Fail> {
         begun: [AtomicBool::new(false), AtomicBool::new(false)],
         missed: AtomicBool::new(false),
     };
-    let threaded = run_threads(&rt, rt.alloc(), plan(&rt, PIPE)?, &gate)?;
+    let threaded = run_threads(&rt, rt.alloc(), read_plan(rt.alloc(), TWO_MODULES)?, &gate)?;
     assert!(rt; !gate.missed.load(Ordering::SeqCst));
     assert!(rt; are_noted(&threaded.turns, &[(0, 3)], 0));
     assert!(rt; are_noted(&threaded.turns, &[(1, 1), (1, 2)], 1));
@@ -60,7 +62,12 @@ fn first_bursts_meet(rt: HostRuntime) -> Result<(), Fail> {
 #[test]
 fn turns_are_bursts(rt: HostRuntime) -> Result<(), Fail> {
     let gate = notes_for(&rt);
-    let threaded = run_threads(&rt, rt.alloc(), plan(&rt, LINE)?, &gate)?;
+    let threaded = run_threads(
+        &rt,
+        rt.alloc(),
+        read_plan(rt.alloc(), REALISTIC_LINE)?,
+        &gate,
+    )?;
     let Notes { marks, lost, .. } = gate;
     assert!(rt; !lost.load(Ordering::SeqCst));
     let marks = marks.into_inner();
@@ -70,16 +77,36 @@ fn turns_are_bursts(rt: HostRuntime) -> Result<(), Fail> {
     Ok(())
 }
 
+/// With threads for so many of the first modules alone, a session is reported so.
+fn is_reported<R: Threads + Wait + Sync + AllocGlobal + Abort>(
+    rt: &R,
+    text: &[u8],
+    started: u32,
+    expected: &Report,
+) -> Result<(), Fail> {
+    let plan = read_plan(rt.alloc(), text)?;
+    assert!(rt; started as u64 <= plan.design.modules.len());
+    let threaded = run_threads_started(rt, rt.alloc(), plan, &FreeGate, started)?;
+    let report = threaded.core.final_report(rt.alloc(), true)?;
+    assert!(rt; report.is_some_and(|found| found == *expected));
+    Ok(())
+}
+
 #[test]
 fn fewer_threads(rt: HostRuntime) -> Result<(), Fail> {
-    let alloc = rt.alloc();
-    let expected = clock_run(alloc, &plan(&rt, LATER_STALL)?)?;
+    let expected = clock_run(rt.alloc(), &read_plan(rt.alloc(), LATER_STALL)?)?;
     for started in 0..3u32 {
-        let plan = plan(&rt, LATER_STALL)?;
-        assert!(rt; started as u64 <= plan.design.modules.len());
-        let threaded = run_threads_started(&rt, alloc, plan, &FreeGate, started)?;
-        let report = threaded.core.final_report(alloc, true)?;
-        assert!(rt; report.is_some_and(|found| found == expected));
+        is_reported(&rt, LATER_STALL, started, &expected)?;
+    }
+    Ok(())
+}
+
+#[test]
+fn fewer_threads_of_many(rt: HostRuntime) -> Result<(), Fail> {
+    let text = generate(rt.alloc(), 1, 64)?;
+    let expected = clock_run(rt.alloc(), &read_plan(rt.alloc(), text.as_slice())?)?;
+    for started in [0, 32, 64] {
+        is_reported(&rt, text.as_slice(), started, &expected)?;
     }
     Ok(())
 }
@@ -87,8 +114,8 @@ fn fewer_threads(rt: HostRuntime) -> Result<(), Fail> {
 #[test]
 fn slow_bursts(rt: HostRuntime) -> Result<(), Fail> {
     let alloc = rt.alloc();
-    let expected = clock_run(alloc, &plan(&rt, PIPE)?)?;
-    let threaded = run_threads(&rt, alloc, plan(&rt, PIPE)?, &Slow)?;
+    let expected = clock_run(alloc, &read_plan(rt.alloc(), TWO_MODULES)?)?;
+    let threaded = run_threads(&rt, alloc, read_plan(rt.alloc(), TWO_MODULES)?, &Slow)?;
     let report = threaded.core.final_report(alloc, true)?;
     assert!(rt; report.is_some_and(|found| found == expected));
     Ok(())

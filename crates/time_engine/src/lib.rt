@@ -7,6 +7,3 @@ mod timing;
 pub use event_graph::Candidate;
 pub use known::{Known, known_of};
 pub use timing::{assign, candidate, last_cycle};
-
-#[cfg(test)]
-mod tests;

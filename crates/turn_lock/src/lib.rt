@@ -12,6 +12,3 @@ mod view;
 pub use kept::Kept;
 pub use pass::{Pass, Tried, Turn, TurnLock};
 pub use view::{Joined, View};
-
-#[cfg(test)]
-mod tests;

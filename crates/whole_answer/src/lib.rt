@@ -9,8 +9,6 @@ mod program;
 mod simulator;
 mod status;
 mod task;
-#[cfg(test)]
-mod tests;
 
 pub use laws::one_answer;
 pub use program::omnisim;

@@ -1,0 +1,15 @@
+//! Tests of the whole answer. They stand in a crate of their own, since a crate is proved once more with its tests.
+#![tactic(auto)]
+
+#[cfg(test)]
+mod asking;
+#[cfg(test)]
+mod commanding;
+#[cfg(test)]
+mod ends;
+#[cfg(test)]
+mod gates;
+#[cfg(test)]
+mod refusing;
+#[cfg(test)]
+mod working;

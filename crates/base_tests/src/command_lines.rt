@@ -1,0 +1,86 @@
+//! Lines of the command with their words.
+use cli_words::{Command, Options, WordFault, read_words};
+use std::alloc::Global;
+use std::test::Fail;
+
+const NOTHING: Options = Options {
+    events: false,
+    cycles: None,
+    ops: None,
+};
+
+/// Reads the words of a line, which stand between its single spaces.
+fn read(alloc: Global, line: &str) -> Result<Result<Command, WordFault>, Fail> {
+    let mut words = Vec::new(alloc);
+    for word in line.split(' ') {
+        words.push(String::from_str(alloc, word)?)?;
+    }
+    Ok(read_words(alloc, words.as_slice()))
+}
+
+#[test]
+fn accepted_and_refused(rt: HostRuntime) -> Result<(), Fail> {
+    let alloc = rt.alloc();
+    let three = Options {
+        cycles: Some(3),
+        ..NOTHING
+    };
+    let all = Options {
+        events: true,
+        cycles: Some(1_000_000_000_000_000),
+        ops: Some(200_000),
+    };
+    let accepted = [
+        ("run --cycles=3", Command::Run(three)),
+        ("--cycles 003 -- alone", Command::Alone(three)),
+        (
+            "--ops 200000 clock --events --cycles=1000000000000000",
+            Command::Clock(all),
+        ),
+        ("check", Command::Check),
+        ("check --", Command::Check),
+        ("gen 0 2", Command::Gen(0, 2)),
+        ("-- gen 065535 64", Command::Gen(65_535, 64)),
+    ];
+    for (line, command) in accepted {
+        assert_eq!(rt; read(alloc, line)?, Ok(command));
+    }
+    let refused = [
+        "",
+        "--",
+        "-",
+        "walk",
+        "run run",
+        "run --events=1",
+        "run --events --events",
+        "run --ops=3 --ops 3",
+        "run --cycles 0",
+        "run --cycles=1000000000000001",
+        "run --cycles=18446744073709551617",
+        "run --ops 200001",
+        "run --ops -1",
+        "run --ops -",
+        "run --ops",
+        "run --ops=",
+        "run --ops=+3",
+        "run -- --events",
+        "run --help",
+        "run -e",
+        "check --events",
+        "gen 0",
+        "gen 0 0",
+        "gen 1 65",
+        "gen 65536 1",
+        "gen 0 1 2",
+        "gen 0 1 --ops=3",
+    ];
+    let no_word: Vec<String> = Vec::new(alloc);
+    assert_eq!(rt;
+        read_words(alloc, no_word.as_slice()),
+        Err(WordFault::Refused)
+    );
+    for line in refused {
+        assert_eq!(rt; read(alloc, line)?, Err(WordFault::Refused));
+    }
+    Ok(())
+}

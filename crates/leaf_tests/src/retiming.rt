@@ -1,0 +1,43 @@
+//! The first touched clock of a small graph.
+ghost use Rattle.std.specs.Prelude.{◌≡◌};
+
+use event_graph::{Accesses, Graph, Place, Step};
+use fifo_table::{FifoTable, TableChannel};
+use flow_word::{OutOfMemory, Steps};
+use retime::first_touched;
+use std::alloc::Global;
+use std::marker::Brand;
+use std::process::Abort;
+use std::sync::ledger::{Blank, Ledger};
+use std::test::Fail;
+
+/// A FIFO with one place holds one element from the clock behind its first push on.
+fn holds_one<L: Ledger, R: Abort>(rt: &R, alloc: Global, blank: Blank) -> Result<(), OutOfMemory>
+    requires name { blank.name ≡ L.name }
+    requires parts { blank.parts ≡ L.parts }
+    requires one { L.parts ≡ 1 }
+{
+    let mut graph = Graph::new(alloc, 1)?;
+    graph.push_step(
+        0,
+        Step {
+            gap: 3,
+            accesses: Accesses::new(alloc),
+            first_query: 0,
+        },
+    )?;
+    let mut fifos = FifoTable::new(alloc, &[TableChannel::Fifo(1, 4)])?;
+    fifos.add_push(0, Place { module: 0, step: 0 }, 7)?;
+    assert_eq!(rt; first_touched(&graph, &fifos, 0, 2), None);
+    let mut steps = Steps::<L>::new(blank);
+    graph.set_cycle(0, 3, &mut steps);
+    assert_eq!(rt; first_touched(&graph, &fifos, 0, 2), Some(4));
+    assert_eq!(rt; first_touched(&graph, &fifos, 0, 1), None);
+    Ok(())
+}
+
+#[test]
+fn a_push_touches_a_fifo_with_one_place(rt: HostRuntime) -> Result<(), Fail> {
+    holds_one::<Brand, HostRuntime>(&rt, rt.alloc(), Blank::new(1))?;
+    Ok(())
+}

@@ -1,7 +1,0 @@
-use Rattle.std.proofs.Common.{◌≡◌}
-use Rattle.turn_lock.specs.Turns.{IsSamePass}
-use Rattle.turn_lock.specs.Passes.{view_of, pass_lock}
-use Rattle.turn_lock.proofs.tests.put_many.Given as goal
-
-abbrev pub invariant-loop-number : goal.invariant-loop-number
-invariant-loop-number g l = (pass_lock l.pass ≡ pass_lock l.initial.pass) × IsSamePass (view_of l.initial.pass) (view_of l.pass)

@@ -1,0 +1,190 @@
+//! Designs that are done.
+use crate::worked::Worked;
+
+/// One source, one sink, and one module that adds one.
+pub const PLAIN_CASE: &[u8] = b"\
+flow 1
+source a 8
+sink y 8
+module m
+reg x 8
+block k 3
+at 0 read a x
+at 2 write y + x 1
+stop
+input a 7
+end
+";
+
+/// What is answered to it.
+pub const PLAIN_ANSWER: &[u8] = b"\
+report 0
+verdict done 3
+out y 8
+runs 1
+";
+
+/// Two modules with a FIFO between them, whose element is seen one clock later.
+pub const TWO_MODULES: &[u8] = b"\
+flow 1
+source a 8
+fifo b 8
+sink y 8
+module p
+reg x 8
+block k 2
+at 0 read a x
+at 1 write b x
+stop
+module q
+reg z 8
+block k 2
+at 0 read b z
+at 1 write y z
+stop
+input a 5
+end
+";
+
+/// What is answered to it.
+pub const TWO_MODULES_ANSWER: &[u8] = b"\
+report 0
+verdict done 4
+out y 5
+runs 1
+";
+
+/// Three values go through a FIFO of depth two.
+pub const THREE_VALUES: &[u8] = b"\
+flow 1
+fifo b 8
+module P
+reg i 8
+reg g 1
+loop l 1 1 while g
+at 0 write b i
+at 0 set i + i 1
+at 0 set g <u i 2
+stop
+module Q
+reg x 8
+reg i 8
+reg g 1
+loop l 1 1 while g
+at 0 read b x
+at 0 set i + i 1
+at 0 set g <u i 2
+stop
+end
+";
+
+/// Designs that are done.
+pub const DESIGNS: &[Worked] = &[
+    // plain case
+    Worked {
+        options: &[],
+        text: PLAIN_CASE,
+        told: PLAIN_ANSWER,
+        status: 0,
+    },
+    // visibility one clock later
+    Worked {
+        options: &[],
+        text: TWO_MODULES,
+        told: TWO_MODULES_ANSWER,
+        status: 0,
+    },
+    // three values through depth two
+    Worked {
+        options: &[],
+        text: THREE_VALUES,
+        told: b"\
+report 0
+verdict done 4
+runs 1
+",
+        status: 0,
+    },
+    // three values through depth two, with their events
+    Worked {
+        options: &["--events"],
+        text: THREE_VALUES,
+        told: b"\
+report 0
+verdict done 4
+event P write b 0
+event P write b 1
+event Q read b 1
+event P write b 2
+event Q read b 2
+event Q read b 3
+runs 1
+",
+        status: 0,
+    },
+    // empty design
+    Worked {
+        options: &[],
+        text: b"\
+flow 1
+end
+",
+        told: b"\
+report 0
+verdict done 0
+runs 1
+",
+        status: 0,
+    },
+    // word arithmetic
+    Worked {
+        options: &[],
+        text: b"\
+flow 1
+sink y 64
+module m
+block k 9
+at 0 write y / 7 0
+at 1 write y % 7 0
+at 2 write y << 1 64
+at 3 write y sext 8 128
+at 4 write y <s sext 1 1 0
+at 5 write y - 0 1
+at 6 write y ?: 0 5 6
+at 7 write y >> 256 4
+at 8 write y <u 18446744073709551615 1
+stop
+end
+",
+        told: b"\
+report 0
+verdict done 9
+out y 18446744073709551615 7 0 18446744073709551488 1 18446744073709551615 6 16 0
+runs 1
+",
+        status: 0,
+    },
+    // commit order
+    Worked {
+        options: &[],
+        text: b"\
+flow 1
+sink y 8
+module m
+reg x 8
+block k 2
+at 0 set x 1
+at 0 set x 2
+at 1 write y x
+stop
+end
+",
+        told: b"\
+report 0
+verdict done 2
+out y 2
+runs 1
+",
+        status: 0,
+    },
+];

@@ -1,0 +1,19 @@
+//! The plan of a session text.
+ghost use Rattle.std.specs.Prelude.{IfOk};
+ghost use Rattle.flow_design.specs.StaticRules.{FitsEngine};
+
+use flow_check::check;
+use flow_design::Plan;
+use flow_grammar::{ReadFail, keeps_rules};
+use flow_text::read_session;
+use std::alloc::Global;
+
+/// The plan of a session text, without its edits. An error tells why the text is refused, or that there was no memory.
+pub fn read_plan(alloc: Global, text: &[u8]) -> Result<Plan, ReadFail>
+    ensures fits { IfOk result (λ plan. FitsEngine plan) }
+{
+    keeps_rules();
+    let (session, lines) = read_session(alloc, text)?;
+    let checked = check(alloc, &session, &lines)?;
+    Ok(checked.plan)
+}

@@ -1,0 +1,173 @@
+//! Designs whose modules ask whether an access is possible.
+use crate::worked::Worked;
+
+/// A tried pop in the clock behind the push.
+pub const TIE_ONE_LATER: &[u8] = b"\
+flow 1
+fifo b 8
+sink y 8
+module p
+block k 6
+at 5 write b 3
+stop
+module q
+reg x 8
+reg ok 1
+block k 8
+at 6 tryread b x ok
+at 7 write y ok
+stop
+end
+";
+
+/// Two modules, each with a query in clock 0 that waits for the other's push.
+pub const TWO_LEAST_QUERIES: &[u8] = b"\
+flow 1
+fifo ab 8
+fifo ba 8
+sink y 8
+sink z 8
+module A
+reg x 8
+reg ok 1
+block k 2
+at 0 tryread ba x ok
+at 1 write ab 1
+at 1 write y ok
+stop
+module B
+reg x 8
+reg ok 1
+block k 2
+at 0 tryread ab x ok
+at 1 write ba 1
+at 1 write z ok
+stop
+end
+";
+
+/// Two iterations that overlap: a read, a test two local clocks later, and a write one later.
+pub const LATER_STALL: &[u8] = b"\
+flow 1
+fifo b 8
+fifo c 8
+sink y 8
+module R
+reg x 8
+reg e 1
+reg g 1
+reg z 1
+loop l 1 4 while g
+at 0 read b x
+at 0 set g ^ g 1
+at 2 empty c e
+at 3 write y e
+at 3 if z read c x
+stop
+module S
+block k 11
+at 0 write b 1
+at 9 write b 2
+at 10 write c 1
+stop
+end
+";
+
+/// One module pushes into a FIFO and tries to pop from it.
+pub const BOTH_ENDS_IN_ONE_MODULE: &[u8] = b"\
+flow 1
+fifo b 8
+sink y 8
+module m
+reg x 8
+reg o 1
+reg p 1
+block k 3
+at 0 write b 5
+at 0 tryread b x o
+at 1 tryread b x p
+at 2 write y | << p 1 o
+stop
+end
+";
+
+/// Designs whose modules ask whether an access is possible.
+pub const QUERIES: &[Worked] = &[
+    // tie in the clock
+    Worked {
+        options: &[],
+        text: b"\
+flow 1
+fifo b 8
+sink y 8
+module p
+block k 6
+at 5 write b 3
+stop
+module q
+reg x 8
+reg ok 1
+block k 7
+at 5 tryread b x ok
+at 6 write y ok
+stop
+end
+",
+        told: b"\
+report 0
+verdict done 7
+out y 0
+runs 1
+",
+        status: 0,
+    },
+    // tie in the clock, one later
+    Worked {
+        options: &[],
+        text: TIE_ONE_LATER,
+        told: b"\
+report 0
+verdict done 8
+out y 1
+runs 1
+",
+        status: 0,
+    },
+    // two least queries
+    Worked {
+        options: &[],
+        text: TWO_LEAST_QUERIES,
+        told: b"\
+report 0
+verdict done 2
+out y 0
+out z 0
+runs 1
+",
+        status: 0,
+    },
+    // later stall delays earlier query
+    Worked {
+        options: &[],
+        text: LATER_STALL,
+        told: b"\
+report 0
+verdict done 14
+out y 0 0
+runs 1
+",
+        status: 0,
+    },
+    // both ends in one module
+    Worked {
+        options: &[],
+        text: BOTH_ENDS_IN_ONE_MODULE,
+        told: b"\
+report 0
+verdict done 3
+out y 2
+runs 1
+",
+        status: 0,
+    },
+];

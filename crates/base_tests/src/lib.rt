@@ -1,4 +1,5 @@
-//! Tests of the words, ends, command lines and schedules. They stand in a crate of their own, since a crate is proved once more with its tests.
+//! Tests of words, ends, command lines and schedules. They stand in a crate of their own, since a crate is proved once more with its
+//! tests.
 #![tactic(auto)]
 
 #[cfg(test)]

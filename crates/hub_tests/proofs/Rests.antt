@@ -1,30 +1,18 @@
 -- The passes of a hub, when it opens, where one of them was put back, and when it closes.
 use Rattle.std.proofs.Common.{◌≡◌, ℕ, zero, suc, ◌<◌, List, [], ◌∷◌, length, Some, None, slice_get, refl, sym, ap, ◌∙◌, subst, arith}
 use Rattle.std.specs.List.{insert, remove}
-use Rattle.std.proofs.Math.Logic.{∥∥₁_elim}
 use Rattle.flow_design.specs.declared.plan.Plan.{Plan}
-use Rattle.timing_bridge.specs.Designs.{design}
 use Rattle.turn_history.specs.Entries.{history_of}
-use Rattle.turn_history.specs.Turned.{opening_turned}
 use Rattle.turn_lock.specs.Passes.{TableId, pass_lock}
 use Rattle.sim_hub.specs.declared.pass.ModulePass.{ModulePass}
 use Rattle.sim_hub.specs.declared.pass.PerfPass.{PerfPass}
-use Rattle.sim_hub.specs.Places.{HasModules, HasNoDeskOut}
+use Rattle.sim_hub.specs.Places.{HasNoDeskOut}
 use Rattle.sim_hub.specs.Hubs.{module_view, perf_view}
-use Rattle.sim_hub.specs.Closings.{AreNew, AreOfHub, AllHome, HasAllModules}
-use Rattle.sim_hub.proofs.Lists.{none_replicated}
-use Rattle.sim_hub.proofs.Closing.{made_count, opened_count}
+use Rattle.sim_hub.specs.Closings.{AreNew, AreOfHub, AllHome}
+use Rattle.sim_hub.proofs.Openings.{new_home, new_made}
 use Rattle.hub_tests.specs.Resting.{AreResting}
 
 -- ---- at the opening
-
-new_home : (id : TableId) (plan : Plan) (passes : List ModulePass) → AreNew id plan passes → AllHome passes
-new_home id plan passes new k pass at = (
-  plan,
-  opening_turned (design plan),
-  record { turns = []; entries = (new k pass at).2; standing = refl },
-  λ lent. let out = sym (none_replicated (length plan.design.modules) pass.which) ∙ lent in absurd (cc),
-)
 
 pub new_resting : (id : TableId) (plan : Plan) (perf : PerfPass) (passes : List ModulePass) → pass_lock perf.place.pass ≡ id
     → (perf_view perf).seen ≡ history_of plan [] → length passes ≡ length plan.design.modules → AreNew id plan passes
@@ -32,8 +20,7 @@ pub new_resting : (id : TableId) (plan : Plan) (perf : PerfPass) (passes : List 
 new_resting id plan perf passes lock seen count new =
     record {
       lead = lock;
-      all = made_count (perf_view perf) (length passes) perf.made
-          (subst (HasModules (length passes)) (sym seen) (opened_count plan (length passes) count));
+      all = new_made plan perf seen ∙ sym count;
       own = λ k pass at. ((new k pass at).0, (new k pass at).1);
       home = new_home id plan passes new;
     }
@@ -66,9 +53,3 @@ resting_put_back id perf passes i pass within rest which lock home =
       own = all_put_back (λ k (p : ModulePass). (p.which ≡ k) × (pass_lock p.place.pass ≡ id)) passes i pass within rest.own (which, lock);
       home = all_put_back (λ _ (p : ModulePass). HasNoDeskOut p.which (module_view p)) passes i pass within rest.home home;
     }
-
--- ---- at the end
-
-pub all_modules : (perf : PerfPass) (passes : List ModulePass) → (perf_view perf).made ≡ length passes
-    → HasAllModules (perf_view perf).seen passes
-all_modules perf passes all = subst (λ n. HasModules n (perf_view perf).seen) all (∥∥₁_elim perf.made (hlevel) (λ m. m.made))

@@ -202,7 +202,8 @@ pub answered_send : IsSend answered.the_row
 answered_send = recorded_send (answered.the_field).row _ _ (answered.the_type).to_one answered_field
 
 seat_field : IsSend (seat.the_field).row
-seat_field = struct_send (shape seat.the_type) (module_pass_field, ((search (parker.the_field_send, crosses, sendable) depth 60 fits 20000), tt))
+seat_field = struct_send (shape seat.the_type)
+    (module_pass_field, ((search (parker.the_field_send, crosses, sendable) depth 60 fits 20000), tt))
 
 pub seat_send : IsSend seat.the_row
 seat_send = recorded_send (seat.the_field).row _ _ (seat.the_type).to_one seat_field

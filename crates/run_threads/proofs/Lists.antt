@@ -2,7 +2,8 @@
 use Rattle.std.proofs.Common.{◌≡◌, ◌⊎◌, inl, inr, ⊎_elim, ℕ, zero, suc, List, [], ◌∷◌, ◌++◌, length, Some, slice_get, refl, ap, sym, subst}
 
 module _ {A : Type 0} where
-  pub get-snoc : (xs : List A) (x y : A) (k : ℕ) → slice_get (xs ++ x ∷ []) k ≡ Some y → (slice_get xs k ≡ Some y) ⊎ ((k ≡ length xs) × (x ≡ y))
+  pub get-snoc : (xs : List A) (x y : A) (k : ℕ) → slice_get (xs ++ x ∷ []) k ≡ Some y
+      → (slice_get xs k ≡ Some y) ⊎ ((k ≡ length xs) × (x ≡ y))
   get-snoc [] x y zero e = inr (refl, cc e)
   get-snoc [] x y (suc k) e = absurd (cc e)
   get-snoc (a ∷ xs) x y zero e = inl e

@@ -11,12 +11,14 @@ use Rattle.run_threads.specs.Driving.{IsHere}
 use Rattle.run_threads.specs.Slots.{passes_in}
 use Rattle.run_threads.proofs.Lists.{all-snoc}
 
-pub own_snoc : (h : Hub) (ps : List ModulePass) (p : ModulePass) → AreOfHub (hub_id h) ps → IsHere h (length ps) p → AreOfHub (hub_id h) (ps ++ p ∷ [])
+pub own_snoc : (h : Hub) (ps : List ModulePass) (p : ModulePass) → AreOfHub (hub_id h) ps → IsHere h (length ps) p
+    → AreOfHub (hub_id h) (ps ++ p ∷ [])
 own_snoc h ps p all is = all-snoc (λ k (q : ModulePass). (q.which ≡ k) × (pass_lock q.place.pass ≡ hub_id h)) ps p all (is.1, is.0)
 
 pub home_snoc : (h : Hub) (ps : List ModulePass) (p : ModulePass) → AllHome ps → IsHere h (length ps) p → AllHome (ps ++ p ∷ [])
 home_snoc h ps p all is =
-    all-snoc (λ k (q : ModulePass). HasNoDeskOut q.which (module_view q)) ps p all (subst (λ n. HasNoDeskOut n (module_view p)) (sym is.1) is.2)
+    all-snoc (λ k (q : ModulePass). HasNoDeskOut q.which (module_view q)) ps p all
+    (subst (λ n. HasNoDeskOut n (module_view p)) (sym is.1) is.2)
 
 -- the pass of the seat behind these
 pub seat_here : (ys : List Seat) (s : Seat) (rest : List Seat) → slice_get (passes_in (ys ++ s ∷ rest)) (length ys) ≡ Some s.pass

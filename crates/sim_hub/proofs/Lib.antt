@@ -6,3 +6,4 @@ pub mod Answering
 pub mod Ledgers
 pub mod Timing
 pub mod Closing
+pub mod Openings

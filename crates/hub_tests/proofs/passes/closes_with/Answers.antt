@@ -1,6 +1,6 @@
 use Rattle.std.proofs.Common.{inl, subst, sym, ◌∙◌}
 use Rattle.sim_hub.specs.Hubs.{PerfIs, perf_view}
-use Rattle.hub_tests.proofs.Rests.{all_modules}
+use Rattle.sim_hub.proofs.Openings.{all_modules}
 use Rattle.hub_tests.proofs.passes.closes_with.Goals as goal
 
 pub close-requires-clause-modules : goal.close-requires-clause-modules

@@ -22,5 +22,6 @@ returns g c =
       resting =
           subst (AreResting (hub_id c.args.hub.now) c.args.passes.perf) (sym put)
           (resting_put_back (hub_id c.args.hub.now) c.args.passes.perf items which back within rest
-          (driven.own.1 ∙ (rest.own which out at).0) driven.own.0 (subst (λ n. HasNoDeskOut n (module_view back)) (sym driven.own.1) driven.home));
+          (driven.own.1 ∙ (rest.own which out at).0) driven.own.0
+          (subst (λ n. HasNoDeskOut n (module_view back)) (sym driven.own.1) driven.home));
     }

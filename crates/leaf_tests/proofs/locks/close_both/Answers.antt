@@ -1,6 +1,6 @@
 use Rattle.std.proofs.Common.{◌≡◌, ℕ, List, [], ◌∷◌, Option, Some, refl, sym, ◌∙◌, subst, arith}
 use Rattle.turn_lock.specs.declared.view.View.{View}
-use Rattle.turn_lock.specs.declared.tests.Entry.{Entry}
+use Rattle.leaf_tests.specs.declared.locks.Entry.{Entry}
 use Rattle.turn_lock.specs.Passes.{view_of}
 use Rattle.turn_lock.specs.Turns.{AllJoined, ShowsAll, AreAllMade}
 use Rattle.turn_lock.proofs.Joins.{all_joined, shows_each}

@@ -5,4 +5,5 @@ use Rattle.run_threads.proofs.drive.drive_once.Goals as goal
 pub return_desk-requires-clause-burst : goal.return_desk-requires-clause-burst
 return_desk-requires-clause-burst g c = let p = c.borrow_desk-pass.result.0 in
     let out = subst (λ d. OutIs c.args.pass.which (module_view p) d) c.in-Run.is c.borrow_desk-pass.ensures.out in
-    subst (λ n. IsDeskBurst n (module_view p).seen c.burst-burst.result) (sym c.borrow_desk-pass.ensures.own.1) (c.in-Run.task, out.1, c.burst-burst.ensures)
+    subst (λ n. IsDeskBurst n (module_view p).seen c.burst-burst.result) (sym c.borrow_desk-pass.ensures.own.1)
+    (c.in-Run.task, out.1, c.burst-burst.ensures)

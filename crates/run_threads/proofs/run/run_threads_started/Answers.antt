@@ -9,7 +9,8 @@ use Rattle.sim_core.specs.Views.{theory_of}
 use Rattle.sim_hub.specs.Hubs.{perf_view}
 use Rattle.sim_hub.specs.Closings.{AllHome, IsRun, ClosedIs}
 use Rattle.run_threads.specs.declared.drive.Seat.{Seat}
-use Rattle.run_threads.proofs.Openings.{new_home, all_modules, prefix_trans, one_plan}
+use Rattle.sim_hub.proofs.Openings.{new_home}
+use Rattle.run_threads.proofs.Openings.{all_since, prefix_trans, one_plan}
 use Rattle.run_threads.proofs.run.run_threads_started.Goals as goal
 
 pub new-requires-3-clause-opening : goal.new-requires-3-clause-opening
@@ -23,7 +24,7 @@ pub close-requires-clause-modules : goal.close-requires-clause-modules
 close-requires-clause-modules g c = let out = c.run_all-perf.ensures in
     let seats : length c.in_ok-seats.seats.items ≡ length c.in_ok-hub.modules.items =
     sym (length-map c.in_ok-seats.seats.items (λ (s : Seat). s.pass)) ∙ ap length c.in_ok-seats.ensures in (
-      all_modules c.in_ok-core.core.plan c.in_ok-hub.perf c.run_all-perf.result.0 c.run_all-perf.result.1.items
+      all_since c.in_ok-core.core.plan c.in_ok-hub.perf c.run_all-perf.result.0 c.run_all-perf.result.1.items
           c.in_ok-hub.ensures.perf.1
           out.later.made
           (out.count ∙ (seats ∙ c.in_ok-hub.ensures.count)),
@@ -36,5 +37,6 @@ returns-in-Final g c = let t = c.in-Final.threaded in let perf = c.run_all-perf.
     let begins = prefix_trans (history_of p []) (perf_view perf).seen closed.0
     (subst (λ seen. IsPrefix seen (perf_view perf).seen) c.in_ok-hub.ensures.perf.1 c.run_all-perf.ensures.later.begins)
     closed.1.first in
-    let plan : t.core.plan ≡ c.args.plan = sym (one_plan p t.core.plan t.turns.items closed.0 begins closed.2.0) ∙ c.in_ok-core.ensures.plan in
+    let same = one_plan p t.core.plan t.turns.items closed.0 begins closed.2.0 in
+    let plan : t.core.plan ≡ c.args.plan = sym same ∙ c.in_ok-core.ensures.plan in
     record { run = subst (λ q. IsRun q t) plan closed.2.1 }

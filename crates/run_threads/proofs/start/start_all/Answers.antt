@@ -1,4 +1,5 @@
-use Rattle.std.proofs.Common.{arith, List, [], ◌∷◌, ◌++◌, ◌≡◌, ◌+◌, Some, length, slice_get, ap, sym, ◌∙◌, subst, append_assoc, length-append}
+use Rattle.std.proofs.Common.{arith, List, [], ◌∷◌, ◌++◌, ◌≡◌, ◌+◌, Some, length, slice_get, ap, sym, ◌∙◌, subst, append_assoc}
+use Rattle.std.proofs.Common.{length-append}
 use Rattle.run_threads.specs.declared.drive.Seat.{Seat}
 use Rattle.run_threads.specs.declared.start.Slot.{Slot}
 use Rattle.run_threads.specs.Slots.{SlotIs, AreSlots, passes_in}
@@ -10,18 +11,30 @@ use Rattle.run_threads.proofs.start.start_all.Goals as goal
 here : (all ys : List Seat) (s : Seat) (rest : List Seat) → all ≡ ys ++ s ∷ rest → slice_get (passes_in all) (length ys) ≡ Some s.pass
 here all ys s rest e = ap (λ (l : List Seat). slice_get (passes_in l) (length ys)) e ∙ seat_here ys s rest
 
+-- the seats that are left, behind one that was taken
+left_behind : (all ys left : List Seat) (s : Seat) (rest : List Seat) → all ≡ ys ++ left → left ≡ s ∷ rest → all ≡ ys ++ s ∷ rest
+left_behind all ys left s rest e taken = e ∙ ap (λ (l : List Seat). ys ++ l) taken
+
 pub place_one-requires-clause-own : goal.place_one-requires-clause-own
 place_one-requires-clause-own g c κs within = let ys = c.loop-seat.yielded in let s = c.in-Some.seat in
-    (c.requires.own (length ys) s.pass (here c.args.seats.items ys s c.next.new.self.rest.items (c.loop-seat.invariant.2 ∙ ap (λ (l : List Seat). ys ++ l) c.in-Some.ensures.steps.0))).1
+    let rest = c.next.new.self.rest.items in
+    let all = left_behind c.args.seats.items ys _ s rest c.loop-seat.invariant.2 c.in-Some.ensures.steps.0 in
+    (c.requires.own (length ys) s.pass (here c.args.seats.items ys s rest all)).1
 
 pub place_one-requires-clause-home : goal.place_one-requires-clause-home
 place_one-requires-clause-home g c κs within = let ys = c.loop-seat.yielded in let s = c.in-Some.seat in
-    c.requires.home (length ys) s.pass (here c.args.seats.items ys s c.next.new.self.rest.items (c.loop-seat.invariant.2 ∙ ap (λ (l : List Seat). ys ++ l) c.in-Some.ensures.steps.0))
+    let rest = c.next.new.self.rest.items in
+    let all = left_behind c.args.seats.items ys _ s rest c.loop-seat.invariant.2 c.in-Some.ensures.steps.0 in
+    c.requires.home (length ys) s.pass (here c.args.seats.items ys s rest all)
 
 pub loop-seat-preserved : goal.loop-seat-preserved
-loop-seat-preserved g c = let i = c.loop-seat.invariant in let ys = c.loop-seat.yielded in let s = c.in-Some.seat in let rest = c.next.new.self.rest.items in
+loop-seat-preserved g c =
+    let i = c.loop-seat.invariant in
+    let ys = c.loop-seat.yielded in
+    let s = c.in-Some.seat in
+    let rest = c.next.new.self.rest.items in
     let h = c.args.hub.now in let ss = c.loop-seat.slots.items in let slot = c.place_one.result in
-    let all : c.args.seats.items ≡ ys ++ s ∷ rest = i.2 ∙ ap (λ (l : List Seat). ys ++ l) c.in-Some.ensures.steps.0 in
+    let all = left_behind c.args.seats.items ys _ s rest i.2 c.in-Some.ensures.steps.0 in
     let which : s.pass.which ≡ length ss = (c.requires.own (length ys) s.pass (here c.args.seats.items ys s rest all)).0 ∙ sym i.0 in
     let e = c.push_reserved.ensures in (
       omega (arith, ap length e.items, length-append ss (slot ∷ []), length-append ys (s ∷ [])),

@@ -1,5 +1,6 @@
 -- What a schedule holds of its block.
-use Rattle.std.specs.Prelude.{ℕ, ◌≡◌, ◌⊎◌, ◌+◌, ◌-◌, ◌==◌, ◌*◌, ◌<◌, ◌≤◌, List, map, filter, zip, length, All, Contains, IsPermutation}
+use Rattle.std.specs.Prelude.{ℕ, ◌≡◌, ◌⊎◌, ◌+◌, ◌-◌, ◌==◌, ◌*◌, ◌<◌, ◌≤◌, List, map, filter, zip, length, slice_index, slice_index_or, All, Contains}
+use Rattle.std.specs.Prelude.{IsPermutation}
 use Rattle.std.specs.List.Sorted.{IsNonDecreasing}
 use Rattle.flow_design.specs.declared.limits.TheConstants.{BLOCK_CLOCKS, LIVE_ITERATIONS, OPERATIONS}
 use Rattle.flow_design.specs.declared.design.Block.{Block}
@@ -9,6 +10,19 @@ use Rattle.block_schedule.specs.declared.schedule.Schedule.{Schedule}
 -- the numbers that stand beside an offset
 abbrev pub beside : ℕ → List ℕ → List ℕ → List ℕ
 beside offset offsets numbers = map (λ e. e.1) (filter (λ e. e.0 == offset) (zip offsets numbers))
+
+-- from the first of the offsets that is not below one of them up to the first that is above it
+pub record IsSpan (offsets : List ℕ) (offset from to : ℕ) : Type 0 where
+  pub from_inside : from ≤ length offsets
+  pub to_inside : to ≤ length offsets
+  pub below : (k : ℕ) → k < from → slice_index offsets k < offset
+  pub not_below : (k : ℕ) → from ≤ k → k < length offsets → offset ≤ slice_index offsets k
+  pub not_above : (k : ℕ) → k < to → slice_index offsets k ≤ offset
+  pub above : (k : ℕ) → to ≤ k → k < length offsets → offset < slice_index offsets k
+
+-- so many spans, each of its own number among these offsets
+abbrev pub AreSpans : List ℕ → List (ℕ × ℕ) → Type 0
+AreSpans offsets spans = (k : ℕ) (d : ℕ × ℕ) → k < length spans → IsSpan offsets k (slice_index_or spans k d).0 (slice_index_or spans k d).1
 
 -- the limits that a schedule needs of its block: those of II and LEN, of the offsets, and of the number of operations
 pub record KeepsLimits (b : Block) : Type 0 where
@@ -28,6 +42,7 @@ pub record IsScheduleOf (b : Block) (s : Schedule) : Type 0 where
   pub in_order : IsNonDecreasing s.offsets.items
   pub offsets : IsPermutation (map (λ t. t.offset) b.ops) s.offsets.items
   pub operations : (offset : ℕ) → beside offset s.offsets.items s.numbers.items ≡ due_at b offset
+  pub spans : AreSpans s.offsets.items s.spans.items
 
 -- the lesser of a local clock and that at which an iteration, which has this age now, has the next of these offsets as its age
 pub record IsSooner (offsets : List ℕ) (now age next clock : ℕ) : Type 0 where

@@ -1,13 +1,13 @@
 //! The schedule of a block.
-ghost use Rattle.std.specs.Prelude.{ℕ, ◌≡◌, ◌+◌, ◌^◌, ◌≤◌, ◌<◌, if◌then◌else◌, All, IfOk};
+ghost use Rattle.std.specs.Prelude.{ℕ, ◌≡◌, ◌+◌, ◌^◌, ◌≤◌, ◌<◌, if◌then◌else◌, length, slice_index, All, IfOk};
 ghost use Rattle.std.specs.List.Sorted.{IsNonDecreasing};
 ghost use Rattle.flow_design.specs.declared.design.Block.{Block as BlockOf};
 ghost use Rattle.flow_design.specs.Module.{due_at, live_count};
-ghost use Rattle.block_schedule.specs.Schedules.{KeepsLimits, IsScheduleOf, IsSooner};
+ghost use Rattle.block_schedule.specs.Schedules.{KeepsLimits, AreSpans, IsScheduleOf, IsSooner, IsSpan};
 ghost use Rattle.block_schedule.specs.Work.{StandsIn, IsNextDue};
 
 use crate::tables::{
-    entries_of, first_above, first_from, interval, numbers_of, offsets_of, sort_entries,
+    entries_of, first_from, interval, numbers_of, offsets_of, sort_entries, span_of, spans_of,
 };
 use flow_design::{Block, Control};
 use flow_word::OutOfMemory;
@@ -22,6 +22,8 @@ pub struct Schedule {
     offsets: Vec<u64>,
     /// The number of the operation that has the offset at the same place.
     numbers: Vec<u32>,
+    /// For each offset of a short block, from which place on and up to which place its operations stand. Empty for a long block.
+    spans: Vec<(u32, u32)>,
 }
 
 impl Schedule {
@@ -32,11 +34,14 @@ impl Schedule {
     {
         let mut entries = entries_of(alloc, block.ops.as_slice())?;
         sort_entries(&mut entries)?;
+        let offsets = offsets_of(alloc, &entries)?;
+        let spans = spans_of(alloc, &offsets, block.len)?;
         Ok(Schedule {
             interval: interval(block),
             len: block.len,
-            offsets: offsets_of(alloc, &entries)?,
+            offsets,
             numbers: numbers_of(alloc, &entries)?,
+            spans,
         })
     }
 
@@ -45,9 +50,20 @@ impl Schedule {
         requires { (block : BlockOf) × IsScheduleOf block self.now }
         ensures { (block : BlockOf) → IsScheduleOf block self.now → result.now ≡ due_at block offset }
     {
-        let from = first_from(self.offsets.as_slice(), offset);
-        let to = first_above(self.offsets.as_slice(), offset);
+        let (from, to) = self.span(offset);
         &self.numbers[from..to]
+    }
+
+    /// From which place on and up to which place the operations at an offset stand.
+    fn span(&self, offset: u64) -> (usize, usize)
+        requires in_order { IsNonDecreasing self.now.offsets.items }
+        requires spans { AreSpans self.now.offsets.items self.now.spans.items }
+        ensures { IsSpan self.now.offsets.items offset result.0 result.1 }
+    {
+        match self.spans.get(offset as usize) {
+            Some(span) => (span.0 as usize, span.1 as usize),
+            None => span_of(self.offsets.as_slice(), offset),
+        }
     }
 
     /// The least local clock, from the control's own on, at which a live iteration has an operation at its age, an
@@ -90,21 +106,43 @@ impl Schedule {
         if age >= self.len {
             return 0;
         }
-        1 + (control.newest / self.interval).min((self.len - 1 - age) / self.interval)
+        let most = control.newest.min(self.len - 1 - age);
+        if most < self.interval {
+            1
+        } else {
+            1 + most / self.interval
+        }
     }
 
     /// The lesser of a local clock and that at which an iteration that has this age now has its next operation.
     fn sooner(&self, now: u64, age: u64, next: u64) -> u64
         requires in_order { IsNonDecreasing self.now.offsets.items }
+        requires spans { AreSpans self.now.offsets.items self.now.spans.items }
         requires small_offsets { All (λ offset. offset < 2 ^ 60) self.now.offsets.items }
         requires small { now < 2 ^ 60 }
         requires from { now ≤ next }
         ensures { IsSooner self.now.offsets.items now age next result }
     {
-        let at = first_from(self.offsets.as_slice(), age);
+        if next == now {
+            return next;
+        }
+        let at = self.place(age);
         match self.offsets.get(at) {
             Some(offset) => next.min(now + (*offset - age)),
             None => next,
+        }
+    }
+
+    /// The place of the first operation that is not before an offset.
+    fn place(&self, offset: u64) -> usize
+        requires in_order { IsNonDecreasing self.now.offsets.items }
+        requires spans { AreSpans self.now.offsets.items self.now.spans.items }
+        ensures below { (k : ℕ) → k < result → slice_index self.now.offsets.items k < offset }
+        ensures rest { (k : ℕ) → result ≤ k → k < length self.now.offsets.items → offset ≤ slice_index self.now.offsets.items k }
+    {
+        match self.spans.get(offset as usize) {
+            Some(span) => span.0 as usize,
+            None => first_from(self.offsets.as_slice(), offset),
         }
     }
 }

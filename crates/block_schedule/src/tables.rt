@@ -5,6 +5,7 @@ ghost use Rattle.std.specs.List.{enumerate_from};
 ghost use Rattle.std.specs.Ordering.{nat_cmp};
 ghost use Rattle.flow_design.specs.declared.limits.TheConstants.{OPERATIONS};
 ghost use Rattle.flow_design.specs.Module.{interval};
+ghost use Rattle.block_schedule.specs.Schedules.{AreSpans, IsSpan};
 
 use flow_design::{Block, BlockKind, Timed};
 use flow_word::OutOfMemory;
@@ -74,4 +75,35 @@ pub(crate) fn first_above(offsets: &[u64], offset: u64) -> usize
     ensures rest { (k : ℕ) → result ≤ k → k < length offsets.now → offset < slice_index offsets.now k }
 {
     offsets.partition_point(|other| *other <= offset)
+}
+
+/// From which of the offsets on and up to which they are this one.
+pub(crate) fn span_of(offsets: &[u64], offset: u64) -> (usize, usize)
+    requires { IsNonDecreasing offsets.now }
+    ensures { IsSpan offsets.now offset result.0 result.1 }
+{
+    (first_from(offsets, offset), first_above(offsets, offset))
+}
+
+/// The span of each offset of a block that has at most eight offsets for each operation, and none for a longer one.
+pub(crate) fn spans_of(
+    alloc: Global,
+    offsets: &[u64],
+    len: u64,
+) -> Result<Vec<(u32, u32)>, OutOfMemory>
+    requires in_order { IsNonDecreasing offsets.now }
+    requires few { length offsets.now ≤ OPERATIONS }
+    ensures { IfOk result (λ spans. AreSpans offsets.now spans.items) }
+{
+    let mut spans = Vec::new(alloc);
+    let count = if len <= 8 * offsets.len() as u64 {
+        len
+    } else {
+        0
+    };
+    for offset in 0..count {
+        let (from, to) = span_of(offsets, offset);
+        spans.push((from as u32, to as u32))?;
+    }
+    Ok(spans)
 }

@@ -9,6 +9,7 @@ use flow_word::{Width, cut};
 
 /// The value of an expression on the registers of a module and the temps of an iteration, a word of 64 bits.
 /// It takes no memory.
+#[cycle(values)]
 #[tactic(auto, using(flow_design::proofs::Values::the_values), unfolding(flow_design::specs::Words::reach))]
 pub fn eval(expr: &Expr<u32>, registers: &[u64], temps: &[u64]) -> u64
     requires { reach expr.now ≤ length registers.now + length temps.now }
@@ -17,19 +18,35 @@ pub fn eval(expr: &Expr<u32>, registers: &[u64], temps: &[u64]) -> u64
     match expr {
         Expr::Number(number) => *number,
         Expr::Var(at) => variable(*at, registers, temps),
-        Expr::Unary(UnOp::Not, a) => !eval(a.get(), registers, temps),
+        Expr::Unary(UnOp::Not, a) => !operand(a.get(), registers, temps),
         Expr::Binary(op, a, b) => binary(
             *op,
-            eval(a.get(), registers, temps),
-            eval(b.get(), registers, temps),
+            operand(a.get(), registers, temps),
+            operand(b.get(), registers, temps),
         ),
-        Expr::Sext(width, a) => sign_extended(*width, eval(a.get(), registers, temps)),
+        Expr::Sext(width, a) => sign_extended(*width, operand(a.get(), registers, temps)),
         Expr::Pick(a, b, c) => {
-            if eval(a.get(), registers, temps) != 0 {
-                eval(b.get(), registers, temps)
+            if operand(a.get(), registers, temps) != 0 {
+                operand(b.get(), registers, temps)
             } else {
-                eval(c.get(), registers, temps)
+                operand(c.get(), registers, temps)
             }
+        }
+    }
+}
+
+/// The value of an operand. A number or a variable is read in place, without a call of `eval`.
+#[cycle(values)]
+#[tactic(auto, using(flow_design::proofs::Values::the_values), unfolding(flow_design::specs::Words::reach))]
+fn operand(expr: &Expr<u32>, registers: &[u64], temps: &[u64]) -> u64
+    requires { reach expr.now ≤ length registers.now + length temps.now }
+    ensures { result ≡ value registers.now temps.now expr.now }
+{
+    match expr {
+        Expr::Number(number) => *number,
+        Expr::Var(at) => variable(*at, registers, temps),
+        Expr::Unary(_, _) | Expr::Binary(_, _, _) | Expr::Sext(_, _) | Expr::Pick(_, _, _) => {
+            eval(expr, registers, temps)
         }
     }
 }

@@ -1,21 +1,12 @@
 -- A block begins in a sound state.
-use Rattle.std.proofs.Common.{◌≡◌, refl, arith, ℕ, ◌+◌, ◌-◌, ◌*◌, ◌/◌, ◌<◌, ◌≤◌, true, min, nat_lt}
-use Rattle.std.proofs.lemmas.Bool.Decides.{nat_tests}
+use Rattle.std.proofs.Common.{◌≡◌, refl, arith, ℕ, ◌-◌, ◌*◌, ◌/◌, ◌<◌, ◌≤◌}
 use Rattle.std.proofs.Math.Nat.{div-lt_iff_lt-mul}
 use Rattle.flow_design.specs.declared.limits.TheConstants.{LIVE_ITERATIONS}
 use Rattle.flow_design.specs.declared.design.Module.{Module}
-use Rattle.flow_design.specs.declared.design.Block.{Block}
-use Rattle.flow_design.specs.declared.state.Control.{Control}
-use Rattle.flow_design.specs.Module.{interval, live_count}
+use Rattle.flow_design.specs.Module.{interval}
 pub use Rattle.lockstep_defs.proofs.Blocks.{block_sound, some_interval, span}
+pub use Rattle.block_schedule.proofs.Live.{live_count_is}
 use Rattle.lockstep_defs.specs.Machine.{entered, opened}
-
--- where the newest iteration is live, the count of live iterations
-pub live_count_is : (b : Block) (k : Control) → k.clock - k.newest < b.len
-    → live_count b k ≡ 1 + min (k.newest / interval b) ((b.len - 1 - (k.clock - k.newest)) / interval b)
-live_count_is b k live =
-    let test : nat_lt (k.clock - k.newest) b.len ≡ true = grind (arith, nat_tests) in
-    rw test refl
 
 -- LEN is at most LIVE_ITERATIONS times II, so at most so many iterations are live
 pub few_live : (len interval age : ℕ) → 1 ≤ interval → len ≤ LIVE_ITERATIONS * interval → age < len

@@ -8,14 +8,13 @@ ghost use Rattle.lockstep_defs.specs.Machine.{requests};
 ghost use Rattle.module_move.specs.Sound.{IsStateSound};
 
 use crate::due::look_up;
-use crate::requests::add_requests;
 use block_schedule::Schedule;
 use flow_design::{Channel, Due, Module, ModuleState, Request};
 use flow_word::{List, OutOfMemory};
 
 /// Fills `pending` with the operations that are due, by the schedule of the block in which the module stands, and `asked` with
 /// the requests of the FIFO operations among them, both in commit order. What the two lists held before is gone.
-#[tactic(auto, using(crate::proofs::Readiness::due_sound), unfolding(lockstep_defs::specs::Machine::requests))]
+#[tactic(auto, unfolding(lockstep_defs::specs::Machine::requests))]
 pub fn ask(
     channels: &[Channel],
     of: &Module,
@@ -32,8 +31,6 @@ pub fn ask(
     ensures asked { OnOk result (asked.new ≡ requests channels.now of.now state.now) }
     ensures few { OnOk result (length pending.new ≤ LIVE_ITERATIONS * OPERATIONS) }
 {
-    asked.truncate(0);
-    look_up(of, schedule, state, pending)?;
-    add_requests(channels, of, state, pending.as_slice(), asked)?;
+    look_up(channels, of, schedule, state, pending, asked)?;
     Ok(())
 }

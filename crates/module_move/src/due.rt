@@ -1,28 +1,34 @@
-//! The due operations of a local clock, by the block's schedule.
-ghost use Rattle.std.specs.Prelude.{◌≡◌, ℕ, ◌+◌, ◌<◌, ◌^◌, ◌++◌, ◌∷◌, [], if◌then◌else◌, length, map, filter, All, OnOk};
+//! The due operations of a local clock, by the block's schedule, and what they ask of the channels.
+ghost use Rattle.std.specs.Prelude.{◌≡◌, ℕ, ◌+◌, ◌<◌, ◌^◌, ◌++◌, ◌∷◌, [], if◌then◌else◌, length, map, filter, filter_map, All, OnOk};
 ghost use Rattle.flow_design.specs.StaticRules.{IsModuleSound};
 ghost use Rattle.flow_design.specs.Module.{block_of, operation_at, temps_of, passes, due};
-ghost use Rattle.module_move.specs.Sound.{IsStateSound, AreGuardsSound};
+ghost use Rattle.lockstep_defs.specs.Machine.{request_for};
+ghost use Rattle.module_move.specs.Sound.{IsStateSound, IsDueSound, AreGuardsSound};
 ghost use Rattle.block_schedule.specs.Schedules.{IsScheduleOf};
 
-use crate::standing::{block_of, temps_of};
+use crate::requests::request_of;
+use crate::standing::{block_of, operation, temps_of};
 use block_schedule::{Schedule, interval};
-use flow_design::{Block, Due, Module, ModuleState};
+use flow_design::{Block, Channel, Due, Module, ModuleState, Request};
 use flow_expr::variable;
 use flow_word::{List, OutOfMemory};
 
-/// Fills `pending` with the operations that are due, in commit order. What it held before is gone.
+/// Fills `pending` with the operations that are due, and `asked` with the requests of the FIFO operations among them, both in
+/// commit order. What they held before is gone.
 pub(crate) fn look_up(
+    channels: &[Channel],
     of: &Module,
     schedule: &Schedule,
     state: &ModuleState,
     pending: &mut List<Due>,
+    asked: &mut List<Request>,
 ) -> Result<(), OutOfMemory>
-    requires module { (channels : ℕ) × IsModuleSound channels of.now }
+    requires module { IsModuleSound (length channels.now) of.now }
     requires sound { IsStateSound of.now state.now }
     requires schedule { IsScheduleOf (block_of of.now state.now) schedule.now }
     requires small { state.now.control.clock < 2 ^ 60 }
-    ensures { OnOk result (pending.new ≡ due of.now state.now) }
+    ensures due { OnOk result (pending.new ≡ due of.now state.now) }
+    ensures asked { OnOk result (asked.new ≡ filter_map (request_for channels.now of.now state.now) pending.new) }
 {
     let block = block_of(of, state);
     let step = interval(block);
@@ -30,29 +36,37 @@ pub(crate) fn look_up(
     let mut left = state.temps.len();
     let mut place = 0u32;
     pending.truncate(0);
+    asked.truncate(0);
     while left > 0 {
         left -= 1;
         let numbers = schedule.due(newest_age + left * step);
-        add_passing(block, state, place, numbers, pending)?;
+        add_passing(channels, of, state, place, numbers, pending, asked)?;
         place += 1;
     }
     Ok(())
 }
 
-/// Adds those of these operations of a live iteration that have no guard, or one that is not 0.
+/// Adds those of these operations of a live iteration that have no guard, or one that is not 0, and their requests.
 fn add_passing(
-    block: &Block,
+    channels: &[Channel],
+    of: &Module,
     state: &ModuleState,
     place: u32,
     numbers: &[u32],
     pending: &mut List<Due>,
+    asked: &mut List<Request>,
 ) -> Result<(), OutOfMemory>
-    requires numbers { All (λ n. n < length block.now.ops) numbers.now }
-    requires guards { AreGuardsSound (length state.now.registers + length (temps_of state.now place)) block.now.ops }
-    ensures { OnOk result (pending.new
+    requires module { IsModuleSound (length channels.now) of.now }
+    requires sound { IsStateSound of.now state.now }
+    requires place { place < length state.now.temps }
+    requires numbers { All (λ n. n < length (block_of of.now state.now).ops) numbers.now }
+    ensures pending { OnOk result (pending.new
         ≡ pending.old ++ map (λ n. record { iteration = place; op = n })
-        (filter (λ n. passes state.now.registers (temps_of state.now place) (operation_at block.now n).guard) numbers.now)) }
+        (filter (λ n. passes state.now.registers (temps_of state.now place) (operation_at (block_of of.now state.now) n).guard) numbers.now)) }
+    ensures asked { OnOk result (asked.old ≡ filter_map (request_for channels.now of.now state.now) pending.old
+        → asked.new ≡ filter_map (request_for channels.now of.now state.now) pending.new) }
 {
+    let block = block_of(of, state);
     let temps = temps_of(state, place);
     for number in numbers {
         let due = Due {
@@ -60,7 +74,7 @@ fn add_passing(
             op: *number,
         };
         let passes = passes(block, state.registers.as_slice(), temps, *number);
-        add_if(passes, due, pending)?;
+        add_if(passes, channels, of, state, due, pending, asked)?;
     }
     Ok(())
 }
@@ -77,9 +91,29 @@ fn passes(block: &Block, registers: &[u64], temps: &[u64], number: u32) -> bool
     }
 }
 
-/// Adds an operation where it is due.
-fn add_if(passes: bool, due: Due, pending: &mut List<Due>) -> Result<(), OutOfMemory>
-    ensures { OnOk result (pending.new ≡ pending.old ++ (if passes then due ∷ [] else [])) }
+/// Adds an operation where it is due, and its request if it is a FIFO operation.
+fn add_if(
+    passes: bool,
+    channels: &[Channel],
+    of: &Module,
+    state: &ModuleState,
+    due: Due,
+    pending: &mut List<Due>,
+    asked: &mut List<Request>,
+) -> Result<(), OutOfMemory>
+    requires module { IsModuleSound (length channels.now) of.now }
+    requires sound { IsStateSound of.now state.now }
+    requires due { IsDueSound of.now state.now due }
+    ensures pending { OnOk result (pending.new ≡ pending.old ++ (if passes then due ∷ [] else [])) }
+    ensures asked { OnOk result (asked.new
+        ≡ asked.old ++ filter_map (request_for channels.now of.now state.now) (if passes then due ∷ [] else [])) }
 {
-    if passes { pending.push(due) } else { Ok(()) }
+    if passes {
+        pending.push(due)?;
+        let op = operation(block_of(of, state), &due);
+        if let Some(request) = request_of(channels, state, due.iteration, op) {
+            asked.push(request)?;
+        }
+    }
+    Ok(())
 }

@@ -81,7 +81,6 @@ fn add_effects_of(
     requires { (channels : ℕ) × IsReady channels state.now iteration op.now }
     ensures { OnOk result (out.new ≡ out.old ++ effects_of state.now iteration op.now reply) }
 {
-    let outcome = is_yes(reply) as u64;
     let (variable, value) = match op {
         Op::Set(place, value) => (*place, value_of(state, iteration, value)),
         Op::Load(place, memory, address) => {
@@ -103,10 +102,10 @@ fn add_effects_of(
             if is_yes(reply) {
                 out.push(variable_of(iteration, *place, value_in(reply)))?;
             }
-            (*ok, outcome)
+            (*ok, is_yes(reply) as u64)
         }
-        Op::TryWrite(_, ok, _) => (*ok, outcome),
-        Op::Empty(_, place) | Op::Full(_, place) => (*place, outcome),
+        Op::TryWrite(_, ok, _) => (*ok, is_yes(reply) as u64),
+        Op::Empty(_, place) | Op::Full(_, place) => (*place, is_yes(reply) as u64),
     };
     out.push(variable_of(iteration, variable, value))
 }

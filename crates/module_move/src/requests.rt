@@ -1,40 +1,16 @@
-//! The requests of the due FIFO operations.
-ghost use Rattle.std.specs.Prelude.{◌≡◌, ℕ, ◌<◌, ◌≤◌, ◌++◌, length, All, filter_map, OnOk};
-ghost use Rattle.flow_design.specs.StaticRules.{IsModuleSound};
+//! The request of a due FIFO operation.
+ghost use Rattle.std.specs.Prelude.{◌≡◌, ◌<◌, ◌≤◌, length};
 ghost use Rattle.flow_design.specs.Words.{reach, cut_to};
-ghost use Rattle.lockstep_defs.specs.Machine.{width_of, value_of, request_of, request_for};
-ghost use Rattle.module_move.specs.Sound.{IsStateSound, IsDueSound, IsReady, places_in};
+ghost use Rattle.lockstep_defs.specs.Machine.{width_of, value_of, request_of};
+ghost use Rattle.module_move.specs.Sound.{IsReady, places_in};
 
-use crate::standing::{block_of, operation, temps_of};
-use flow_design::{Channel, Due, Expr, Module, ModuleState, Op, Request};
+use crate::standing::temps_of;
+use flow_design::{Channel, Expr, ModuleState, Op, Request};
 use flow_expr::eval;
-use flow_word::{Kind, List, OutOfMemory, cut};
-
-/// Adds the requests of the FIFO operations among the due ones, in commit order.
-pub(crate) fn add_requests(
-    channels: &[Channel],
-    of: &Module,
-    state: &ModuleState,
-    pending: &[Due],
-    asked: &mut List<Request>,
-) -> Result<(), OutOfMemory>
-    requires module { IsModuleSound (length channels.now) of.now }
-    requires sound { IsStateSound of.now state.now }
-    requires pending { All (IsDueSound of.now state.now) pending.now }
-    ensures { OnOk result (asked.new ≡ asked.old ++ filter_map (request_for channels.now of.now state.now) pending.now) }
-{
-    let block = block_of(of, state);
-    for due in pending {
-        let op = operation(block, due);
-        if let Some(request) = request_of(channels, state, due.iteration, op) {
-            asked.push(request)?;
-        }
-    }
-    Ok(())
-}
+use flow_word::{Kind, cut};
 
 /// The request of an operation, if it is a FIFO operation.
-fn request_of(
+pub(crate) fn request_of(
     channels: &[Channel],
     state: &ModuleState,
     iteration: u32,

@@ -1,5 +1,5 @@
 //! Room that the moves of modules use again.
-ghost use Rattle.std.specs.Prelude.{◌≡◌, ◌-◌, length, drop, IfOk, replicate};
+ghost use Rattle.std.specs.Prelude.{◌≡◌, ◌-◌, ◌≤◌, ◌++◌, length, take, drop, IfOk, replicate};
 
 use flow_design::Effect;
 use flow_word::{List, OutOfMemory, Words};
@@ -43,9 +43,22 @@ impl MoveRoom {
         let all = temps.len();
         if live < all {
             let items = temps.as_mut_slice();
-            items.rotate_left((all - live) as usize);
+            turn_newest(items, live as usize);
             std::mem::swap(&mut items[all as usize - 1], &mut self.temps);
             temps.truncate(live);
         }
+    }
+}
+
+/// Turns the newest iterations to the front, so many of them.
+#[tactic(auto, using(crate::proofs::Ticking::two_turned, crate::proofs::Ticking::none_turned))]
+fn turn_newest(temps: &mut [Words], live: usize)
+    requires { live ≤ length temps.old }
+    ensures { temps.new ≡ drop (length temps.old - live) temps.old ++ take (length temps.old - live) temps.old }
+{
+    if live == 1 && temps.len() == 2 {
+        temps.swap(0, 1);
+    } else if live > 0 {
+        temps.rotate_left(temps.len() - live);
     }
 }

@@ -37,7 +37,8 @@ pub(crate) fn live_count(block: &Block, control: &Control) -> u64
         return 0;
     }
     let step = interval(block);
-    1 + (control.newest / step).min((block.len - 1 - age) / step)
+    let most = control.newest.min(block.len - 1 - age);
+    if most < step { 1 } else { 1 + most / step }
 }
 
 /// The temps of a live iteration, or none.

@@ -38,7 +38,7 @@ use Rattle.engine_view.specs.Shown.{IsSound, queries_before}
 use Rattle.engine_view.specs.Turns.{IsFoundOther, first_of}
 use Rattle.engine_view.proofs.Answered.{among_is}
 use Rattle.engine_report.proofs.Asking.{same_kind, first_same, rest_same}
-use Rattle.sim_core.proofs.Reported.{steps_told}
+use Rattle.sim_core.proofs.Reported.{answers_next, next_recorded}
 
 -- ---- the outcomes of a step
 
@@ -185,15 +185,8 @@ module _ (p : Plan) (h : Held) (s : IsSound (design p) h) (g : IsAgreed (design 
   first_is : (step_of h m k₀).first_query ≡ before
   first_is = s.first_query m k₀ emitted
 
-  recorded : (queries_in accesses ≡ 0) ⊎ ((step_of h m k₀).first_query + queries_in accesses ≤ length outs)
-  recorded = among_is (step_of h m k₀) (length outs)
-      (and_parts (ltb k₀ (emitted_of h m)) (are_among (step_of h m k₀) (length outs)) found.recorded).1
-
   enough : queries_in accesses ≤ length (drop before outs)
-  enough =
-      let f = first_is in
-      let n = length-drop before outs in
-      elim recorded [ inl z ↦ omega arith | inr z ↦ omega arith ]
+  enough = next_recorded p h s g m inside emitted found.recorded
 
   abbrev number : ℕ
   number = queries_in (take found.other.place accesses)
@@ -223,23 +216,11 @@ module _ (p : Plan) (h : Held) (s : IsSound (design p) h) (g : IsAgreed (design 
   front_count = let n = length-take before outs in let l = most in omega arith
 
   -- the answers of the report
-  answered : m < length p.design.modules
-      → get_or (report p).answers m [] ≡ take before outs ++ (asked ++ outcomes next.later)
-  unfolding report
-  answered l =
-      get_or-map-range_with_len (λ (i : ℕ). outcomes (steps_of i (history p (clock_of (verdict p))))) 0
-      (length p.design.modules) m m [] l (omega arith)
-      ∙ (ap (λ (hs : List HistoryStep). outcomes (steps_of m hs)) (sym (reported_history p))
-      ∙ (ap outcomes next.there
-      ∙ (flat_map-append (λ (t : HistoryStep). map (λ (y : Exchange). is_yes y.reply) (queries t.exchanges)) (core_steps p x m)
-      (step ∷ next.later)
-      ∙ ap₂ (λ (a b : List Bool). a ++ b) (steps_told p h s g m inside)
-      (flat_map-append (λ (t : HistoryStep). map (λ (y : Exchange). is_yes y.reply) (queries t.exchanges)) (step ∷ []) next.later
-      ∙ ap (λ (b : List Bool). b ++ outcomes next.later) told))))
+  answered : get_or (report p).answers m [] ≡ take before outs ++ (asked ++ outcomes next.later)
+  answered = answers_next p h s g m inside step next ∙ ap (λ (os : List Bool). take before outs ++ (os ++ outcomes next.later)) told
 
   pub other_answer : AreOtherAt (before + number) outs (get_or (report p).answers m [])
   other_answer =
-      let l : m < length p.design.modules = let a = s.logs in omega arith in
       let n = front_count in
       let at_one = behind_same (take before outs) (drop before outs) [] number other.one other.here in
       let at_other = behind_same (take before outs) asked (outcomes next.later) number other.other other.there in
@@ -250,7 +231,7 @@ module _ (p : Plan) (h : Held) (s : IsSound (design p) h) (g : IsAgreed (design 
         here = sym (ap (λ (xs : List Bool). slice_get xs (before + number))
             (ap (λ (ys : List Bool). take before outs ++ ys) (append-nil (drop before outs)) ∙ take-append-drop before outs))
             ∙ (ap (slice_get (take before outs ++ (drop before outs ++ []))) (sym place) ∙ at_one);
-        there = ap (λ (xs : List Bool). slice_get xs (before + number)) (answered l)
+        there = ap (λ (xs : List Bool). slice_get xs (before + number)) answered
             ∙ (ap (slice_get (take before outs ++ (asked ++ outcomes next.later))) (sym place) ∙ at_other);
         differ = other.differ;
       }

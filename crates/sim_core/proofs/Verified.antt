@@ -26,7 +26,7 @@ use Rattle.event_timing.proofs.OwnRuns.{done_0}
 use Rattle.timing_bridge.specs.Designs.{design, lockstep_run}
 use Rattle.timing_bridge.specs.Designs as bridge
 use Rattle.timing_bridge.specs.CoreReports.{core_step, core_steps}
-use Rattle.timing_bridge.specs.Outcomes.{outcome_of, outcomes_by, first_requests, IsNextStep}
+use Rattle.timing_bridge.specs.Outcomes.{outcome_of, outcomes_by, first_requests}
 use Rattle.timing_bridge.proofs.Outcomes.{verified_outcomes}
 use Rattle.timing_bridge.proofs.Steps.{steps_are}
 use Rattle.engine_view.specs.Held.{Held, emitted_of, seen, queries_in, possible_by, flags_by, are_among, core_of}

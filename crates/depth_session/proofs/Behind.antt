@@ -1,7 +1,7 @@
 -- A core behind an edit, and the count of runs with its report.
 use Rattle.std.proofs.Common.{◌≡◌, refl, sym, ap, subst, ◌∙◌, ℕ, suc, ◌+◌, ◌<◌, ◌≤◌, inl, inr, Bool, true, false, List, [], ◌∷◌, length}
-use Rattle.std.proofs.Common.{map, get_or, Some, arith}
-use Rattle.std.specs.Prelude.{slice_get, Result, Ok, Err, IfOk}
+use Rattle.std.proofs.Common.{map, take, get_or, Some, arith}
+use Rattle.std.specs.Prelude.{slice_get}
 use Rattle.std.proofs.Math.ListN.{get_or-map}
 use Rattle.std.proofs.lemmas.Bool.{cases_lt, cases_Bool}
 use Rattle.std.proofs.lemmas.List.{length-map, get_or_past}
@@ -11,6 +11,7 @@ use Rattle.flow_design.specs.Plans.{EditFits, with_depth}
 use Rattle.lockstep_defs.specs.Report.{report}
 use Rattle.query_log.specs.Logs.{Log, no_log, log_at}
 use Rattle.query_log.specs.declared.query.Query.{Query}
+use Rattle.outcome_guard.specs.Prefixes.{IsPrefix}
 use Rattle.outcome_guard.specs.declared.guard.Guard.{Guard}
 use Rattle.outcome_guard.specs.declared.guard.Guard.TheVariants.{Same, Differs}
 use Rattle.edit_runs.specs.declared.count.RunCount.{RunCount}
@@ -22,10 +23,10 @@ use Rattle.sim_core.specs.Drives.{AreOwn, Goes, HasDriven, IsDiffering}
 use Rattle.sim_core.specs.Edits.{IsEdited, IsAsBefore, IsRetimed}
 use Rattle.sim_core.specs.Records.{IsSoundCore, IsEditedOn, HasOtherAnswer, recorded_in, verified_in}
 use Rattle.sim_core.proofs.Rounds.{goes_same}
-use Rattle.depth_session.specs.Records.{answers_of, counted}
-use Rattle.depth_session.specs.Settled.{IsSettled, HasGoneOn, count_of, count_with}
-use Rattle.depth_session.proofs.Going.{counts_differ}
-use Rattle.depth_session.proofs.Logs.{counts_of_logs}
+use Rattle.depth_session.specs.Records.{RepeatsAnswers, answers_of, counted}
+use Rattle.depth_session.specs.Settled.{IsSettled, HasGoneOn, HasRun, count_of, count_with}
+use Rattle.depth_session.proofs.Going.{apart, counts_differ, nothing_new}
+use Rattle.depth_session.proofs.Logs.{counts_of_logs, log_goes_on, recorded_at}
 
 own_same : (v w : CoreView) → w.lent ≡ v.lent → length w.plan.design.modules ≡ length v.plan.design.modules → AreOwn v → AreOwn w
 own_same v w lent count own m l = ap (λ (bs : List Bool). get_or bs m true) lent ∙ own m (omega arith)
@@ -59,34 +60,33 @@ differs_at_once v e w q before now from to settled fits plan edited = (
     found (inl same) = let no : Differs q ≡ Same = same.same in cc
     found (inr retimed) = (q.module, inl retimed.ended)
 
--- what was left was done
-pub driven : (v : CoreView) (e : Edit) (middle w : CoreView) (guard : Guard) (before now after : ℕ) → IsSoundCore v → IsSoundCore w
-    → IsSettled v → EditFits v.plan e → middle.plan ≡ with_depth v.plan e.channel e.depth → middle.lent ≡ v.lent
-    → IsEdited v middle e Same before now → Goes middle now w after → HasDriven guard w → HasGoneOn guard v e w
-driven v e middle w guard before now after from to settled fits plan lent edited goes done = by guard done
-  where
-    on : IsEditedOn v e w
-    on = record {
-      from = from;
-      to = to;
-      final = settled.final;
-      fits = fits;
-      middle = middle;
-      guard = Same;
-      before = before;
-      now = now;
-      later = now;
-      after = after;
-      plan = plan;
-      edited = edited;
-      goes = goes;
-    }
+-- what was left was done, as far as it went
+pub went_on : (v : CoreView) (e : Edit) (middle w : CoreView) (before now after : ℕ) → IsSoundCore v → IsSoundCore w → IsSettled v
+    → EditFits v.plan e → middle.plan ≡ with_depth v.plan e.channel e.depth → IsEdited v middle e Same before now
+    → Goes middle now w after → IsEditedOn v e w
+went_on v e middle w before now after from to settled fits plan edited goes = record {
+  from = from;
+  to = to;
+  final = settled.final;
+  fits = fits;
+  middle = middle;
+  guard = Same;
+  before = before;
+  now = now;
+  later = now;
+  after = after;
+  plan = plan;
+  edited = edited;
+  goes = goes;
+}
 
-    by : (r : Guard) → HasDriven r w → HasGoneOn r v e w
-    by Same final =
-        let modules = ap (λ (p : Plan). length p.design.modules) (goes.plan ∙ plan) in
-        (on, record { final = final; own = own_same v w (goes.lent ∙ lent) modules settled.own })
-    by (Differs q) other = (on, other)
+-- all of it
+pub driven : (v : CoreView) (e : Edit) (w : CoreView) → IsEditedOn v e w → IsSettled v → w.lent ≡ v.lent → (guard : Guard)
+    → HasDriven guard w → HasGoneOn guard v e w
+driven v e w on settled lent Same final =
+    let modules = ap (λ (p : Plan). length p.design.modules) (on.goes.plan ∙ on.plan) in
+    (on, record { final = final; own = own_same v w lent modules settled.own })
+driven v e w on settled lent (Differs q) other = (on, other)
 
 -- ---- the count
 
@@ -97,16 +97,19 @@ pub counts_on : (v : CoreView) (e : Edit) (w : CoreView) (runs : ℕ) → length
 counts_on v e w runs same grow answers =
     sym (ap (next_counts (count_of v runs)) answers ∙ counts_of_logs v.held.logs w.held.logs same grow runs)
 
+-- the recorded outcome, among those that are kept
+is_kept : (v w : CoreView) (o : HasOtherAnswer v.held.logs w.plan)
+    → slice_get (answers_of (recorded_in v.held.logs) o.owner) o.number ≡ Some o.recorded
+is_kept v w o = ap (λ (os : List Bool). slice_get os o.number) (recorded_at v.held.logs o.owner) ∙ o.was
+
 -- else one run more is counted
 pub counts_again : (v w : CoreView) (runs : ℕ) → HasOtherAnswer v.held.logs w.plan
     → count_with v runs w ≡ counted (report w.plan).answers (runs + 1)
 counts_again v w runs o =
     let answers = (report w.plan).answers in
     let count = length-map v.held.logs (λ (l : Log). l.outcomes) in
-    let there : slice_get (answers_of (recorded_in v.held.logs) o.owner) o.number ≡ Some o.recorded =
-    ap (λ (os : List Bool). slice_get os o.number) (get_or-map (λ (l : Log). l.outcomes) v.held.logs o.owner no_log) ∙ o.was in
     counts_differ (recorded_in v.held.logs) answers o.owner o.number o.recorded o.found (let l = o.inside in omega arith)
-    (within answers o.owner o.number o.found o.is) there o.is o.differ runs
+    (within answers o.owner o.number o.found o.is) (is_kept v w o) o.is o.differ runs
   where
     none : (j : ℕ) (b : Bool) → slice_get [] j ≡ Some b → ⊥
     none j b e = cc
@@ -123,10 +126,6 @@ pub no_less : (old : RunCount) (found : List (List Bool)) → old.runs ≤ (next
 unfolding next_counts
 no_less old found = elim (cases_Bool (all_go_on old.kept found)) [ inl e ↦ rw e (omega arith) | inr e ↦ rw e (omega arith) ]
 
-pub ok_then : {X E : Type 0} (r : Result X E) (P Q : X → Type 0) → ((x : X) → P x → Q x) → IfOk r P → IfOk r Q
-ok_then {X} {E} (Ok x) P Q f p = f x p
-ok_then {X} {E} (Err e) P Q f p = p
-
 pub same_logs : (v : CoreView) (e : Edit) (w : CoreView) → IsEditedOn v e w → length w.held.logs ≡ length v.held.logs
 same_logs v e w t =
     let a = t.from.sound.logs in
@@ -134,3 +133,29 @@ same_logs v e w t =
     let modules : length w.plan.design.modules ≡ length v.plan.design.modules =
     ap (λ (p : Plan). length p.design.modules) (t.goes.plan ∙ t.plan) in
     omega arith
+
+-- ---- where the report repeats what is kept
+
+-- no query is found to be another
+pub none_other : (v w : CoreView) → RepeatsAnswers (recorded_in v.held.logs) (report w.plan).answers
+    → HasOtherAnswer v.held.logs w.plan → ⊥
+none_other v w repeat o =
+    let count = length-map v.held.logs (λ (l : Log). l.outcomes) in
+    apart (answers_of (report w.plan).answers o.owner) (answers_of (recorded_in v.held.logs) o.owner) o.number o.found o.recorded o.is
+    (is_kept v w o) (λ e. o.differ (sym e)) (repeat o.owner (let l = o.inside in omega arith))
+
+-- and no outcome is added
+pub none_added : (v : CoreView) (e : Edit) (w : CoreView) → IsEditedOn v e w
+    → ((m : ℕ) → m < length v.held.logs → OutcomesGrow (log_at v.held.logs m) (log_at w.held.logs m))
+    → ((m : ℕ) → m < length w.held.logs
+    → IsPrefix (take (log_at w.held.logs m).verified (log_at w.held.logs m).outcomes) (answers_of (report w.plan).answers m))
+    → RepeatsAnswers (recorded_in v.held.logs) (report w.plan).answers
+    → (m : ℕ) → m < length v.held.logs → (log_at w.held.logs m).outcomes ≡ (log_at v.held.logs m).outcomes
+none_added v e w t grow begin repeat m l =
+    let old = log_at v.held.logs m in
+    let now = log_at w.held.logs m in
+    let found = answers_of (report w.plan).answers m in
+    let count = length-map v.held.logs (λ (l : Log). l.outcomes) in
+    let same = same_logs v e w t in
+    nothing_new old.outcomes (take now.verified now.outcomes) now.outcomes found (log_goes_on old now (grow m l)) (begin m (omega arith))
+    (subst (IsPrefix found) (recorded_at v.held.logs m) (repeat m (omega arith)))

@@ -7,7 +7,7 @@ use Rattle.std.proofs.lemmas.List.{length-append}
 use Rattle.outcome_guard.specs.Prefixes.{IsPrefix}
 use Rattle.edit_runs.specs.Runs.{goes_on, longer, all_go_on, all_longer, next_counts}
 use Rattle.edit_runs.proofs.Kept.{tells_alike}
-use Rattle.depth_session.specs.Records.{GoesOn, answers_of, counted}
+use Rattle.depth_session.specs.Records.{GoesOn, RepeatsAnswers, answers_of, counted}
 
 -- ---- one module
 
@@ -50,12 +50,24 @@ one_goes_on kept found now g =
           )
     ]
 
+-- it is as it was, where what is found is among others, which are among what is kept
+pub nothing_new : (kept found now all : List Bool) → GoesOn kept found now → IsPrefix found all → IsPrefix all kept → now ≡ kept
+nothing_new kept found now all g begin repeat =
+    elim g.ends [
+      | inl e ↦ e
+      | inr e ↦
+          let n = ap (λ (q : List Bool). length q) e in
+          let few = at_most found all begin in
+          let least = at_most all kept repeat in
+          same_length kept now g.grew (omega arith)
+    ]
+
 kept_at : (a b : List Bool) (j : ℕ) (v : Bool) → slice_get a j ≡ Some v → slice_get (a ++ b) j ≡ Some v
 kept_at [] b j v e = cc
 kept_at (x ∷ a) b zero v e = e
 kept_at (x ∷ a) b (suc j) v e = kept_at a b j v e
 
-apart : (a b : List Bool) (j : ℕ) (v w : Bool) → slice_get a j ≡ Some v → slice_get b j ≡ Some w → v ≢ w → IsPrefix a b → ⊥
+pub apart : (a b : List Bool) (j : ℕ) (v w : Bool) → slice_get a j ≡ Some v → slice_get b j ≡ Some w → v ≢ w → IsPrefix a b → ⊥
 apart a b j v w p q n (more, e) =
     let s : Some v ≡ Some w = sym (kept_at a more j v p) ∙ (ap (λ (l : List Bool). slice_get l j) (sym e) ∙ q) in
     n (cc)
@@ -106,8 +118,7 @@ pub counts_go_on : (kept found now : List (List Bool)) → length found ≡ leng
 unfolding next_counts
 counts_go_on kept found now e l f runs = let (on, is) = all_on kept found now e l f in rw (on, is) refl
 
-pub counts_repeat : (kept found : List (List Bool)) → length found ≡ length kept
-    → ((m : ℕ) → m < length kept → IsPrefix (answers_of found m) (answers_of kept m))
+pub counts_repeat : (kept found : List (List Bool)) → length found ≡ length kept → RepeatsAnswers kept found
     → (runs : ℕ) → next_counts (counted kept runs) found ≡ counted kept runs
 counts_repeat kept found e f runs =
     counts_go_on kept found kept e refl

@@ -11,7 +11,7 @@ use Rattle.sim_core.specs.Records.{recorded_in, verified_in}
 use Rattle.depth_session.proofs.Going.{counts_go_on}
 
 -- of one module
-log_goes_on : (old now : Log) → OutcomesGrow old now → GoesOn old.outcomes (take now.verified now.outcomes) now.outcomes
+pub log_goes_on : (old now : Log) → OutcomesGrow old now → GoesOn old.outcomes (take now.verified now.outcomes) now.outcomes
 log_goes_on old now g = record {
   grew = g.grew;
   begins = (drop now.verified now.outcomes, sym (take-append-drop now.verified now.outcomes));
@@ -21,7 +21,7 @@ log_goes_on old now g = record {
   ];
 }
 
-recorded_at : (logs : List Log) (m : ℕ) → answers_of (recorded_in logs) m ≡ (log_at logs m).outcomes
+pub recorded_at : (logs : List Log) (m : ℕ) → answers_of (recorded_in logs) m ≡ (log_at logs m).outcomes
 recorded_at logs m = get_or-map (λ (l : Log). l.outcomes) logs m no_log
 
 verified_at : (logs : List Log) (m : ℕ) → answers_of (verified_in logs) m ≡ take (log_at logs m).verified (log_at logs m).outcomes

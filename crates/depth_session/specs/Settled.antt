@@ -6,7 +6,7 @@ use Rattle.outcome_guard.specs.declared.guard.Guard.TheVariants.{Same, Differs}
 use Rattle.lockstep_defs.specs.Report.{report}
 use Rattle.edit_runs.specs.declared.count.RunCount.{RunCount}
 use Rattle.edit_runs.specs.Runs.{next_counts}
-use Rattle.event_timing.specs.Actions.{IsFinal}
+use Rattle.event_timing.specs.Actions.{IsFinal, MayRun}
 use Rattle.timing_bridge.specs.Designs.{design}
 use Rattle.sim_core.specs.Views.{CoreView, theory_of}
 use Rattle.sim_core.specs.Drives.{AreOwn, IsDiffering}
@@ -29,6 +29,10 @@ session_of v runs live = record { plan = v.plan; count = count_of v runs; live =
 -- the count with the report of the plan that now stands
 abbrev pub count_with : CoreView → ℕ → CoreView → RunCount
 count_with v runs w = next_counts (count_of v runs) (report w.plan).answers
+
+-- a Run of some module is permitted
+abbrev pub HasRun : CoreView → Type 0
+HasRun w = (m : ℕ) × MayRun (design w.plan) (theory_of w) m
 
 -- the edited core is final again; or a query is found to be another
 abbrev pub HasGoneOn : Guard → CoreView → Edit → CoreView → Type 0

@@ -1,11 +1,12 @@
 //! A core behind an edit: where outcomes are as they were recorded it goes on, and else it is simulated again.
-ghost use Rattle.std.specs.Prelude.{◌≡◌, ◌+◌, ◌<◌, ◌≤◌, IfOk, OnOk};
+ghost use Rattle.std.specs.Prelude.{◌≡◌, ◌+◌, ◌<◌, ◌≤◌, IsOk, IfOk, OnOk, OnErr};
 ghost use Rattle.flow_design.specs.Plans.{EditFits, with_depth};
 ghost use Rattle.flow_design.specs.StaticRules.{FitsEngine};
 ghost use Rattle.lockstep_defs.specs.Report.{report};
 ghost use Rattle.sim_core.specs.Drives.{AreOwn, Goes, HasDriven};
-ghost use Rattle.sim_core.specs.Records.{IsSoundCore, recorded_in};
-ghost use Rattle.depth_session.specs.Settled.{IsSettled, HasGoneOn, count_of, count_with};
+ghost use Rattle.sim_core.specs.Records.{IsSoundCore, IsEditedOn, recorded_in};
+ghost use Rattle.depth_session.specs.Records.{RepeatsAnswers};
+ghost use Rattle.depth_session.specs.Settled.{IsSettled, HasGoneOn, HasRun, count_of, count_with};
 
 use crate::runner::Runner;
 use flow_design::{Edit, Plan, copy_plan};
@@ -19,7 +20,8 @@ use std::thread::Threads;
 
 /// Edits a core that is settled, and settles it again. How many runs are counted then.
 ///
-/// The runner is called exactly where one more is counted. An error leaves the plan edited.
+/// The runner is called exactly where one more is counted. There is no error where of each module the report's answers are the first
+/// of those that the core has recorded. An error leaves the plan edited.
 pub(crate) fn follow<R: Threads + Wait + Sync, U: Runner>(
     rt: &R,
     alloc: Global,
@@ -37,6 +39,7 @@ pub(crate) fn follow<R: Threads + Wait + Sync, U: Runner>(
     ensures made { U.made runner.old < u64.MAX → IfOk result (λ now. U.made runner.new + runs ≡ U.made runner.old + now) }
     ensures at_most { U.made runner.old < u64.MAX
         → U.made runner.new + runs ≤ U.made runner.old + (count_with core.old runs core.new).runs }
+    ensures succeeds { RepeatsAnswers (recorded_in core.old.held.logs) (report core.new.plan).answers → IsOk result }
 {
     records_are_answers();
     match go_on::<Brand>(core, edit, Blank::new(1))? {
@@ -58,6 +61,7 @@ fn go_on<L: Ledger>(core: &mut Core, edit: &Edit, blank: Blank) -> Result<Guard,
     ensures plan { core.new.plan ≡ with_depth core.old.plan edit.now.channel edit.now.depth }
     ensures sound { IsSoundCore core.new }
     ensures gone { IfOk result (λ guard. HasGoneOn guard core.old edit.now core.new) }
+    ensures no_memory { OnErr result (IsEditedOn core.old edit.now core.new × HasRun core.new) }
 {
     let _before = core.modules();
     let mut steps = Steps::<L>::new(blank);
@@ -76,6 +80,7 @@ fn drive_on<L: Ledger>(core: &mut Core, steps: &mut Steps<L>) -> Result<Guard, O
     ensures goes { Goes core.old steps.old core.new steps.new }
     ensures sound { IsSoundCore core.new }
     ensures driven { IfOk result (λ guard. HasDriven guard core.new) }
+    ensures no_memory { OnErr result (HasRun core.new) }
 {
     let guard = core.drive(steps);
     let _now = core.modules();

@@ -1,8 +1,7 @@
 //! The laws of what is kept of the answers.
 ghost use Rattle.std.specs.Prelude.{◌≡◌, ◌≢◌, ℕ, ◌+◌, ◌<◌, Bool, List, length, slice_get, Some};
-ghost use Rattle.outcome_guard.specs.Prefixes.{IsPrefix};
 ghost use Rattle.edit_runs.specs.Runs.{next_counts};
-ghost use Rattle.depth_session.specs.Records.{GoesOn, answers_of, counted};
+ghost use Rattle.depth_session.specs.Records.{GoesOn, RepeatsAnswers, answers_of, counted};
 ghost use Rattle.query_log.specs.Logs.{Log, log_at};
 ghost use Rattle.sim_core.specs.Records.{recorded_in, verified_in};
 ghost use Rattle.retime.specs.Edits.{OutcomesGrow};
@@ -14,8 +13,7 @@ pub fn records_go_on()
     ensures goes_on { (kept found now : List (List Bool)) → length found ≡ length kept → length now ≡ length kept
         → ((m : ℕ) → m < length kept → GoesOn (answers_of kept m) (answers_of found m) (answers_of now m))
         → (runs : ℕ) → next_counts (counted kept runs) found ≡ counted now runs }
-    ensures repeats { (kept found : List (List Bool)) → length found ≡ length kept
-        → ((m : ℕ) → m < length kept → IsPrefix (answers_of found m) (answers_of kept m))
+    ensures repeats { (kept found : List (List Bool)) → length found ≡ length kept → RepeatsAnswers kept found
         → (runs : ℕ) → next_counts (counted kept runs) found ≡ counted kept runs }
     ensures differs { (kept found : List (List Bool)) (m j : ℕ) (a b : Bool) → m < length kept → m < length found
         → slice_get (answers_of kept m) j ≡ Some a → slice_get (answers_of found m) j ≡ Some b → a ≢ b

@@ -1,9 +1,11 @@
 //! The session.
-ghost use Rattle.std.specs.Prelude.{◌≡◌, ◌+◌, ◌<◌, ◌≤◌, true, IfOk, OnOk, OnErr};
+ghost use Rattle.std.specs.Prelude.{◌≡◌, ◌+◌, ◌<◌, ◌≤◌, true, IsOk, IfOk, OnOk, OnErr};
 ghost use Rattle.flow_design.specs.Plans.{EditFits};
 ghost use Rattle.flow_design.specs.StaticRules.{FitsEngine};
+ghost use Rattle.lockstep_defs.specs.Report.{report};
 ghost use Rattle.engine_report.specs.Finished.{report_with};
-ghost use Rattle.depth_session.specs.Sessions.{opened, with_edit, IsBroken};
+ghost use Rattle.depth_session.specs.Records.{RepeatsAnswers};
+ghost use Rattle.depth_session.specs.Sessions.{opened, plan_behind, with_edit, IsBroken};
 
 use crate::following::{first_core, follow};
 use crate::runner::Runner;
@@ -66,7 +68,8 @@ impl DepthSession {
     }
 
     /// Edits the depth of a FIFO. The record goes on where outcomes are as they were recorded. The runner is called exactly
-    /// where the report counts one run more.
+    /// where the report counts one run more. Where of each module the report's answers are the first of those that
+    /// are kept, there is no error: it needs no memory.
     ///
     /// An error leaves a session that is not live, with the plan edited.
     pub fn edit<R: Threads + Wait + Sync, U: Runner>(
@@ -85,6 +88,7 @@ impl DepthSession {
             → OnOk result (U.made runner.new + self.old.count.runs ≡ U.made runner.old + self.new.count.runs) }
         ensures at_most { U.made runner.old < u64.MAX
             → U.made runner.new + self.old.count.runs ≤ U.made runner.old + (with_edit self.old edit.now).count.runs }
+        ensures succeeds { RepeatsAnswers self.old.count.kept (report (plan_behind self.old edit.now)).answers → IsOk result }
     {
         self.live = false;
         self.runs = follow(rt, alloc, &mut self.core, self.runs, edit, runner)?;

@@ -21,6 +21,7 @@ pub mod RecordsGrow
 pub mod Unadded
 pub mod Logged
 pub mod Reported
+pub mod Verified
 pub mod Otherwise
 pub mod Led
 pub mod Mailed

@@ -13,7 +13,7 @@ use Rattle.event_timing.specs.Machines.{Design}
 use Rattle.event_timing.specs.Core.{core_accesses, has_query}
 use Rattle.query_log.specs.Logs.{Log, no_log, log_at}
 use Rattle.engine_view.specs.Held.{Held, step_of, emitted_of, seen, queries_in, possible_by, flags_by, are_among, has_all, core_of}
-use Rattle.engine_view.specs.Shown.{IsSound, queries_before}
+use Rattle.engine_view.specs.Shown.{IsSound, AreWhole, queries_before}
 use Rattle.engine_view.proofs.Answered.{queries_step, queries_zero, among_is, among_if, all_among}
 use Rattle.engine_view.proofs.Emitted.{queries_mono, has_query_is}
 use Rattle.engine_report.proofs.Asking.{kind_in, kind_seen}
@@ -64,14 +64,13 @@ module _ {S : Type 0} (e : Design S) (g : Held) (m : ℕ) (sg : IsSound e g) (in
   abbrev now : Log
   now = log_at g.logs m
 
-  -- each step whose outcomes are recorded now
-  recorded_now : (k n : ℕ) → k < n → n ≤ emitted_of g m → queries_before g m n ≤ length now.outcomes → (core_of e g).answered m k ≡ true
-  recorded_now k n l u w =
+  -- each step whose queries are among so many
+  has_now : (k n q : ℕ) → k < n → n ≤ emitted_of g m → queries_before g m n ≤ q → has_all g m k q ≡ true
+  has_now k n q l u w =
       let step = queries_step g m k in
       let up = queries_mono g m (suc k) n l in
       let first = sg.first_query m k (omega arith) in
-      ap₂ (λ (a b : Bool). a && b) (lt-ltb k (emitted_of g m) (omega arith))
-      (among_if (step_of g m k) (length now.outcomes) (omega arith))
+      ap₂ (λ (a b : Bool). a && b) (lt-ltb k (emitted_of g m) (omega arith)) (among_if (step_of g m k) q (omega arith))
 
   -- a step without a query is among any
   among_none : (k n : ℕ) → queries_in (step_of g m k).accesses ≡ 0 → are_among (step_of g m k) n ≡ true
@@ -83,28 +82,26 @@ module _ {S : Type 0} (e : Design S) (g : Held) (m : ℕ) (sg : IsSound e g) (in
       ap has_query (sg.accesses m k l) ∙ (has_query_is (step_of g m k).accesses
       ∙ elim (eqb_tells (queries_in (step_of g m k).accesses) 0) [ inl q ↦ absurd (some q.1) | inr q ↦ ap not q.0 ])
 
-  -- the queries of the steps whose outcomes are recorded now are among so many, if those of each of them are
-  all_within : (n : ℕ) → ((k : ℕ) → k < emitted_of g m → has_query (core_accesses e (core_of e g) m k) ≡ true
-      → (core_of e g).answered m k ≡ true → are_among (step_of g m k) n ≡ true) → length now.outcomes ≤ n
-  all_within n f =
-      let w = sg.recorded m in_g in
+  -- so many queries of whole steps are among others, if those of each of the steps are
+  pub all_within : (q n : ℕ) → AreWhole g m q → ((k : ℕ) → k < emitted_of g m → has_query (core_accesses e (core_of e g) m k) ≡ true
+      → has_all g m k q ≡ true → are_among (step_of g m k) n ≡ true) → q ≤ n
+  all_within q n w f =
       let a = w.all in
       let within = w.within in
       let least = all_among g m w.steps n (λ k l. sg.first_query m k (omega arith)) (λ k l. one w.steps within (omega arith) k l) in
       omega arith
     where
-      one : (steps : ℕ) → steps ≤ emitted_of g m → queries_before g m steps ≤ length now.outcomes → (k : ℕ) → k < steps
-          → are_among (step_of g m k) n ≡ true
+      one : (steps : ℕ) → steps ≤ emitted_of g m → queries_before g m steps ≤ q → (k : ℕ) → k < steps → are_among (step_of g m k) n ≡ true
       one steps within few k l =
           elim (eqb_tells (queries_in (step_of g m k).accesses) 0) [
-            | inl q ↦ among_none k n q.1
-            | inr q ↦ f k (omega arith) (asks k (omega arith) (λ z. q.1 z)) (recorded_now k steps l within few)
+            | inl z ↦ among_none k n z.1
+            | inr z ↦ f k (omega arith) (asks k (omega arith) (λ y. z.1 y)) (has_now k steps q l within few)
           ]
 
   -- where each query with an outcome has a verified one, all outcomes are verified
   pub sure_all : AreSure e (core_of e g) m → now.verified ≡ length now.outcomes
   sure_all sure =
-      let least = all_within now.verified
+      let least = all_within (length now.outcomes) now.verified (sg.recorded m in_g)
       (λ k l q a. (and_parts (ltb k (emitted_of g m)) (are_among (step_of g m k) now.verified) (sure k l q a)).1) in
       let most = sg.sound_logs m no_log in_g in
       omega arith
@@ -194,7 +191,8 @@ module _ {S : Type 0} (d e : Design S) (h g : Held) (m : ℕ) (sh : IsSound d h)
   ends_of : NoneAdded e (core_of d h) (core_of e g) m ⊎ AreSure e (core_of e g) m
       → ((log_at g.logs m).outcomes ≡ old.outcomes) ⊎ ((log_at g.logs m).verified ≡ length (log_at g.logs m).outcomes)
   ends_of (inl none) =
-      let least = all_within e g m sg in_g (length old.outcomes) (λ k l q a. had k (none k l q a)) in
+      let least = all_within e g m sg in_g (length (log_at g.logs m).outcomes) (length old.outcomes) (sg.recorded m in_g)
+      (λ k l q a. had k (none k l q a)) in
       inl (begins ∙ no_rest (drop (length old.outcomes) (log_at g.logs m).outcomes)
       (let n = ap (λ (x : List Bool). length x) begins in omega arith))
     where

@@ -1,12 +1,10 @@
 -- A query that is found to be another makes the report's answers differ from the recorded ones.
-use Rattle.std.proofs.Common.{◌≡◌, ◌≢◌, refl, sym, ap, ap₂, subst, ◌∙◌, ℕ, zero, suc, ◌+◌, ◌<◌, ◌≤◌, ◌⊎◌, inl, inr, Bool, true, false}
-use Rattle.std.proofs.Common.{ltb, List, [], ◌∷◌, ◌++◌, length, map, take, drop, get_or, Option, Some, None, arith}
+use Rattle.std.proofs.Common.{◌≡◌, ◌≢◌, refl, sym, ap, subst, ◌∙◌, ℕ, zero, suc, ◌+◌, ◌<◌, ◌≤◌, inl, inr, Bool, true, false}
+use Rattle.std.proofs.Common.{List, [], ◌∷◌, ◌++◌, length, map, take, drop, get_or, Option, Some, None, arith}
 use Rattle.std.proofs.Common.{append-nil}
 use Rattle.std.specs.Prelude.{slice_get}
-use Rattle.std.proofs.lemmas.Bool.{cases_Bool, and_parts, both_ways}
+use Rattle.std.proofs.lemmas.Bool.{cases_Bool, both_ways}
 use Rattle.std.proofs.lemmas.List.{length-drop, length-map, length-take, take-append-drop}
-use Rattle.std.proofs.lemmas.List.Concat.{flat_map-append}
-use Rattle.std.proofs.lemmas.List.FromFn.{get_or-map-range_with_len}
 use Rattle.flow_word.specs.Kinds.{is_blocking}
 use Rattle.flow_word.specs.declared.access.Access.{Access}
 use Rattle.flow_word.specs.declared.access.Kind.{Kind}
@@ -14,11 +12,8 @@ use Rattle.flow_word.specs.declared.access.Kind.TheVariants.{Read, Write, TryRea
 use Rattle.flow_design.specs.declared.plan.Plan.{Plan}
 use Rattle.flow_design.specs.declared.state.ModuleState.{ModuleState}
 use Rattle.flow_design.specs.declared.state.Request.{Request}
-use Rattle.lockstep_defs.specs.Channels.{HistoryStep, Exchange}
-use Rattle.lockstep_defs.specs.Lockstep.{history}
-use Rattle.lockstep_defs.specs.Report.{report, outcomes, queries, steps_of}
-use Rattle.lockstep_defs.specs.Machine.{is_yes}
-use Rattle.lockstep_defs.specs.Verdict.{verdict, clock_of}
+use Rattle.lockstep_defs.specs.Channels.{HistoryStep}
+use Rattle.lockstep_defs.specs.Report.{report, outcomes}
 use Rattle.query_log.specs.Logs.{log_at}
 use Rattle.query_log.specs.declared.query.Query.{Query}
 use Rattle.event_timing.specs.Machines as theory
@@ -30,15 +25,12 @@ use Rattle.event_timing.specs.Agreement.{IsAgreed}
 use Rattle.event_timing.proofs.Answering.{first_emitted}
 use Rattle.timing_bridge.specs.Designs.{design, lockstep_run}
 use Rattle.timing_bridge.specs.Designs as bridge
-use Rattle.timing_bridge.specs.CoreReports.{core_steps}
 use Rattle.timing_bridge.specs.Outcomes.{outcome_of, outcomes_by, first_requests, IsNextStep}
-use Rattle.timing_bridge.proofs.InOrder.{reported_history}
-use Rattle.engine_view.specs.Held.{Held, step_of, emitted_of, seen, queries_in, possible_by, flags_by, are_among, core_of}
+use Rattle.engine_view.specs.Held.{Held, step_of, emitted_of, seen, queries_in, possible_by, flags_by, core_of}
 use Rattle.engine_view.specs.Shown.{IsSound, queries_before}
 use Rattle.engine_view.specs.Turns.{IsFoundOther, first_of}
-use Rattle.engine_view.proofs.Answered.{among_is}
 use Rattle.engine_report.proofs.Asking.{same_kind, first_same, rest_same}
-use Rattle.sim_core.proofs.Reported.{steps_told}
+use Rattle.sim_core.proofs.Reported.{answers_next, next_recorded}
 
 -- ---- the outcomes of a step
 
@@ -185,15 +177,8 @@ module _ (p : Plan) (h : Held) (s : IsSound (design p) h) (g : IsAgreed (design 
   first_is : (step_of h m k₀).first_query ≡ before
   first_is = s.first_query m k₀ emitted
 
-  recorded : (queries_in accesses ≡ 0) ⊎ ((step_of h m k₀).first_query + queries_in accesses ≤ length outs)
-  recorded = among_is (step_of h m k₀) (length outs)
-      (and_parts (ltb k₀ (emitted_of h m)) (are_among (step_of h m k₀) (length outs)) found.recorded).1
-
   enough : queries_in accesses ≤ length (drop before outs)
-  enough =
-      let f = first_is in
-      let n = length-drop before outs in
-      elim recorded [ inl z ↦ omega arith | inr z ↦ omega arith ]
+  enough = next_recorded p h s g m inside emitted found.recorded
 
   abbrev number : ℕ
   number = queries_in (take found.other.place accesses)
@@ -223,23 +208,11 @@ module _ (p : Plan) (h : Held) (s : IsSound (design p) h) (g : IsAgreed (design 
   front_count = let n = length-take before outs in let l = most in omega arith
 
   -- the answers of the report
-  answered : m < length p.design.modules
-      → get_or (report p).answers m [] ≡ take before outs ++ (asked ++ outcomes next.later)
-  unfolding report
-  answered l =
-      get_or-map-range_with_len (λ (i : ℕ). outcomes (steps_of i (history p (clock_of (verdict p))))) 0
-      (length p.design.modules) m m [] l (omega arith)
-      ∙ (ap (λ (hs : List HistoryStep). outcomes (steps_of m hs)) (sym (reported_history p))
-      ∙ (ap outcomes next.there
-      ∙ (flat_map-append (λ (t : HistoryStep). map (λ (y : Exchange). is_yes y.reply) (queries t.exchanges)) (core_steps p x m)
-      (step ∷ next.later)
-      ∙ ap₂ (λ (a b : List Bool). a ++ b) (steps_told p h s g m inside)
-      (flat_map-append (λ (t : HistoryStep). map (λ (y : Exchange). is_yes y.reply) (queries t.exchanges)) (step ∷ []) next.later
-      ∙ ap (λ (b : List Bool). b ++ outcomes next.later) told))))
+  answered : get_or (report p).answers m [] ≡ take before outs ++ (asked ++ outcomes next.later)
+  answered = answers_next p h s g m inside step next ∙ ap (λ (os : List Bool). take before outs ++ (os ++ outcomes next.later)) told
 
   pub other_answer : AreOtherAt (before + number) outs (get_or (report p).answers m [])
   other_answer =
-      let l : m < length p.design.modules = let a = s.logs in omega arith in
       let n = front_count in
       let at_one = behind_same (take before outs) (drop before outs) [] number other.one other.here in
       let at_other = behind_same (take before outs) asked (outcomes next.later) number other.other other.there in
@@ -250,7 +223,7 @@ module _ (p : Plan) (h : Held) (s : IsSound (design p) h) (g : IsAgreed (design 
         here = sym (ap (λ (xs : List Bool). slice_get xs (before + number))
             (ap (λ (ys : List Bool). take before outs ++ ys) (append-nil (drop before outs)) ∙ take-append-drop before outs))
             ∙ (ap (slice_get (take before outs ++ (drop before outs ++ []))) (sym place) ∙ at_one);
-        there = ap (λ (xs : List Bool). slice_get xs (before + number)) (answered l)
+        there = ap (λ (xs : List Bool). slice_get xs (before + number)) answered
             ∙ (ap (slice_get (take before outs ++ (asked ++ outcomes next.later))) (sym place) ∙ at_other);
         differ = other.differ;
       }

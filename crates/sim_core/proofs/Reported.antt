@@ -1,15 +1,22 @@
 -- The answers of the report are the verified outcomes in the log of a final core.
-use Rattle.std.proofs.Common.{◌≡◌, sym, ap, ◌∙◌, ℕ, ◌<◌, Bool, List, length, map, take, arith}
+use Rattle.std.proofs.Common.{◌≡◌, sym, ap, ◌∙◌, ℕ, ◌<◌, ◌≤◌, inl, inr, Bool, true, ltb, List, [], ◌∷◌, ◌++◌, length, map, take, drop}
+use Rattle.std.proofs.Common.{get_or, arith}
 use Rattle.std.specs.List.{range_with_len}
 use Rattle.std.proofs.Math.Seq.{take-length}
-use Rattle.std.proofs.lemmas.List.{length-map, get_or-map, same_lists}
+use Rattle.std.proofs.lemmas.Bool.{and_parts}
+use Rattle.std.proofs.lemmas.List.{length-drop, length-map, get_or-map, same_lists}
+use Rattle.std.proofs.lemmas.List.Concat.{flat_map-append}
 use Rattle.std.proofs.lemmas.List.FromFn.{get_or-map-range_with_len, length-map-range_with_len}
+use Rattle.flow_word.specs.declared.access.Access.{Access}
 use Rattle.flow_design.specs.declared.plan.Plan.{Plan}
 use Rattle.flow_design.specs.declared.report.Report.{Report}
 use Rattle.flow_design.specs.declared.state.ModuleState.{ModuleState}
 use Rattle.flow_design.specs.StaticRules.{FitsEngine}
+use Rattle.lockstep_defs.specs.Channels.{HistoryStep, Exchange}
 use Rattle.lockstep_defs.specs.Lockstep.{history}
-use Rattle.lockstep_defs.specs.Report.{report, outcomes}
+use Rattle.lockstep_defs.specs.Machine.{is_yes}
+use Rattle.lockstep_defs.specs.Report.{report, outcomes, queries, steps_of}
+use Rattle.lockstep_defs.specs.Verdict.{verdict, clock_of}
 use Rattle.query_log.specs.Logs.{Log, no_log, log_at}
 use Rattle.event_timing.specs.Core.{Core}
 use Rattle.event_timing.specs.Actions.{IsFinal}
@@ -17,11 +24,13 @@ use Rattle.event_timing.specs.Agreement.{IsAgreed, AllVerified}
 use Rattle.timing_bridge.specs.Designs.{design, lockstep_run}
 use Rattle.timing_bridge.specs.CoreReports.{core_steps}
 use Rattle.timing_bridge.proofs.History.{plan_is_design, run_is_history}
-use Rattle.timing_bridge.proofs.InOrder.{history_in_order}
+use Rattle.timing_bridge.specs.Outcomes.{IsNextStep}
+use Rattle.timing_bridge.proofs.InOrder.{history_in_order, reported_history}
 use Rattle.timing_bridge.proofs.Reports.{every_report}
-use Rattle.engine_view.specs.Held.{Held, core_of}
+use Rattle.engine_view.specs.Held.{Held, step_of, emitted_of, queries_in, are_among, core_of}
 use Rattle.engine_view.specs.Shown.{IsSound, queries_before}
 use Rattle.engine_view.specs.Turns.{first_of}
+use Rattle.engine_view.proofs.Answered.{among_is}
 use Rattle.engine_report.proofs.Replied.{front}
 use Rattle.sim_core.proofs.Logged.{sure_all}
 use Rattle.retime.proofs.Recorded.{verified_are_timed}
@@ -32,6 +41,56 @@ pub steps_told : (p : Plan) (h : Held) → IsSound (design p) h
     → (m : ℕ) → m < length h.logs
     → outcomes (core_steps p (core_of (design p) h) m) ≡ take (queries_before h m (first_of h m)) (log_at h.logs m).outcomes
 steps_told p h s g m l = front p h s g.time.verified_then m (first_of h m) (omega arith) l
+
+-- the report's answers of a module are the outcomes in its history
+pub answers_of_history : (p : Plan) (m : ℕ) → m < length p.design.modules
+    → get_or (report p).answers m [] ≡ outcomes (steps_of m (history p p.cycles))
+unfolding report
+answers_of_history p m l =
+    get_or-map-range_with_len (λ (i : ℕ). outcomes (steps_of i (history p (clock_of (verdict p))))) 0 (length p.design.modules) m m [] l
+    (omega arith)
+    ∙ ap (λ (hs : List HistoryStep). outcomes (steps_of m hs)) (sym (reported_history p))
+
+outcomes_both : (one more : List HistoryStep) → outcomes (one ++ more) ≡ outcomes one ++ outcomes more
+outcomes_both one more = flat_map-append (λ (t : HistoryStep). map (λ (y : Exchange). is_yes y.reply) (queries t.exchanges)) one more
+
+module _ (p : Plan) (h : Held) (s : IsSound (design p) h) (g : IsAgreed (design p) (lockstep_run p) p.cycles (core_of (design p) h))
+    (m : ℕ) (inside : m < length h.logs) where
+  abbrev outs : List Bool
+  outs = (log_at h.logs m).outcomes
+
+  abbrev before : ℕ
+  before = queries_before h m (first_of h m)
+
+  abbrev accesses : List Access
+  accesses = (step_of h m (first_of h m)).accesses
+
+  -- where the history goes on behind the steps with a cycle, so do the report's answers behind their outcomes
+  pub answers_behind : (later : List HistoryStep) → steps_of m (history p p.cycles) ≡ core_steps p (core_of (design p) h) m ++ later
+      → get_or (report p).answers m [] ≡ take before outs ++ outcomes later
+  answers_behind later there =
+      answers_of_history p m (let a = s.logs in omega arith)
+      ∙ (ap outcomes there
+      ∙ (outcomes_both (core_steps p (core_of (design p) h) m) later
+      ∙ ap (λ (os : List Bool). os ++ outcomes later) (steps_told p h s g m inside)))
+
+  pub answers_next : (step : HistoryStep) (next : IsNextStep p (core_of (design p) h) m p.cycles step)
+      → get_or (report p).answers m [] ≡ take before outs ++ (outcomes (step ∷ []) ++ outcomes next.later)
+  answers_next step next =
+      answers_behind (step ∷ next.later) next.there
+      ∙ ap (λ (os : List Bool). take before outs ++ os) (outcomes_both (step ∷ []) next.later)
+
+  -- the outcomes of the first step without a cycle, where they are recorded
+  pub next_recorded : first_of h m < emitted_of h m → (core_of (design p) h).answered m (first_of h m) ≡ true
+      → queries_in accesses ≤ length (drop before outs)
+  next_recorded emitted has =
+      let step = step_of h m (first_of h m) in
+      let first = s.first_query m (first_of h m) emitted in
+      let count = length-drop before outs in
+      elim (among_is step (length outs) (and_parts (ltb (first_of h m) (emitted_of h m)) (are_among step (length outs)) has).1) [
+        | inl z ↦ omega arith
+        | inr z ↦ omega arith
+      ]
 
 module _ (p : Plan) (h : Held) (fits : FitsEngine p) (s : IsSound (design p) h)
     (g : IsAgreed (design p) (lockstep_run p) p.cycles (core_of (design p) h))

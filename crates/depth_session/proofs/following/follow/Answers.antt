@@ -3,15 +3,24 @@ use Rattle.flow_design.specs.declared.plan.Plan.{Plan}
 use Rattle.lockstep_defs.specs.Report.{report}
 use Rattle.outcome_guard.specs.declared.guard.Guard.{Guard}
 use Rattle.edit_runs.specs.declared.count.RunCount.{RunCount}
-use Rattle.sim_core.specs.Records.{HasOtherAnswer}
-use Rattle.depth_session.specs.Records.{counted}
+use Rattle.sim_core.specs.Records.{HasOtherAnswer, recorded_in}
+use Rattle.depth_session.specs.Records.{RepeatsAnswers, counted}
 use Rattle.depth_session.specs.Settled.{HasGoneOn, count_of}
-use Rattle.depth_session.proofs.Behind.{counts_on, counts_again, no_less, same_logs}
+use Rattle.depth_session.proofs.Behind.{counts_on, counts_again, no_less, none_added, none_other, same_logs}
 use Rattle.depth_session.proofs.following.follow.Goals as goal
 
 pub returns-in_err-go_on-clause-at_most : goal.returns-in_err-go_on-clause-at_most
 returns-in_err-go_on-clause-at_most g c = λ l.
     let most = no_less (count_of c.args.core.now c.args.runs) (report c.go_on.new.core.plan).answers in omega arith
+
+pub returns-in_err-go_on-clause-succeeds : goal.returns-in_err-go_on-clause-succeeds
+returns-in_err-go_on-clause-succeeds g c = λ repeat.
+    let v = c.args.core.now in
+    let w = c.go_on.new.core in
+    let e = c.args.edit.now in
+    let laws = c.records_are_answers.ensures in
+    let (on, (m, may)) = c.in_err-go_on.ensures.no_memory in
+    absurd (laws.repeats v e w on (none_added v e w on (laws.grow v e w on) (laws.begins w c.go_on.ensures.sound) repeat) m may)
 
 pub returns-in-Same-clause-counted : goal.returns-in-Same-clause-counted
 returns-in-Same-clause-counted g c =
@@ -37,6 +46,15 @@ returns-in_err-run_again-in-Differs-clause-at_most g c = λ l.
     let more = ap (λ (n : RunCount). n.runs) (counts_again v c.run_again.new.core c.args.runs other) in
     let most = c.run_again.ensures.at_most l in
     omega arith
+
+pub returns-in_err-run_again-in-Differs-clause-succeeds : goal.returns-in_err-run_again-in-Differs-clause-succeeds
+returns-in_err-run_again-in-Differs-clause-succeeds g c = λ repeat.
+    let v = c.args.core.now in
+    let w = c.go_on.new.core in
+    let e = c.args.edit.now in
+    let gone = subst (λ (r : Guard). HasGoneOn r v e w) c.in-Differs.is c.in_ok-go_on.ensures.gone in
+    let repeats = subst (λ (p : Plan). RepeatsAnswers (recorded_in v.held.logs) (report p).answers) c.run_again.ensures.plan repeat in
+    absurd (none_other v w repeats (c.records_are_answers.ensures.differ v e w gone.0 _ gone.1))
 
 pub returns-in_ok-run_again-in-Differs-clause-counted : goal.returns-in_ok-run_again-in-Differs-clause-counted
 returns-in_ok-run_again-in-Differs-clause-counted g c =

@@ -1,11 +1,12 @@
-use Rattle.std.proofs.Common.{◌≡◌, sym, subst}
+use Rattle.std.proofs.Common.{◌≡◌, ◌∙◌, subst}
+use Rattle.std.proofs.lemmas.Result.{IfOk-weaker, on_err_weaker}
 use Rattle.outcome_guard.specs.declared.guard.Guard.{Guard}
 use Rattle.outcome_guard.specs.declared.guard.Guard.TheVariants.{Same, Differs}
 use Rattle.sim_core.specs.Drives.{HasDriven}
 use Rattle.sim_core.specs.Edits.{IsEdited}
 use Rattle.sim_core.specs.Records.{IsSoundCore}
 use Rattle.depth_session.specs.Settled.{HasGoneOn}
-use Rattle.depth_session.proofs.Behind.{differs_at_once, driven, ok_then}
+use Rattle.depth_session.proofs.Behind.{differs_at_once, went_on, driven}
 use Rattle.depth_session.proofs.following.go_on.Goals as goal
 
 pub returns-in-Differs-clause-gone : goal.returns-in-Differs-clause-gone
@@ -29,7 +30,21 @@ returns-clause-gone g c =
     let w = c.drive_on.new.core in
     let from = c.modules-before.ensures in
     let edited = subst (λ (r : Guard). IsEdited v middle e r c.new-steps.result c.edit.new.steps) c.in-Same.is c.edit.ensures.edited in
-    ok_then c.drive_on.result (λ guard. HasDriven guard w) (λ guard. HasGoneOn guard v e w)
-    (λ guard. driven v e middle w guard c.new-steps.result c.edit.new.steps c.drive_on.new.steps
+    let on = went_on v e middle w c.new-steps.result c.edit.new.steps c.drive_on.new.steps
     (record { fits = from.fits; sound = from.sound; agreed = from.agreed }) c.drive_on.ensures.sound c.requires.settled c.requires.fits
-    c.edit.ensures.plan c.edit.ensures.lent edited c.drive_on.ensures.goes) c.drive_on.ensures.driven
+    c.edit.ensures.plan edited c.drive_on.ensures.goes in
+    IfOk-weaker c.drive_on.result (λ guard. HasDriven guard w) (λ guard. HasGoneOn guard v e w)
+    (driven v e w on c.requires.settled (c.drive_on.ensures.goes.lent ∙ c.edit.ensures.lent)) c.drive_on.ensures.driven
+
+pub returns-clause-no_memory : goal.returns-clause-no_memory
+returns-clause-no_memory g c =
+    let v = c.args.core.now in
+    let e = c.args.edit.now in
+    let middle = c.edit.new.self in
+    let w = c.drive_on.new.core in
+    let from = c.modules-before.ensures in
+    let edited = subst (λ (r : Guard). IsEdited v middle e r c.new-steps.result c.edit.new.steps) c.in-Same.is c.edit.ensures.edited in
+    let on = went_on v e middle w c.new-steps.result c.edit.new.steps c.drive_on.new.steps
+    (record { fits = from.fits; sound = from.sound; agreed = from.agreed }) c.drive_on.ensures.sound c.requires.settled c.requires.fits
+    c.edit.ensures.plan edited c.drive_on.ensures.goes in
+    on_err_weaker c.drive_on.result (λ run. (on, run)) c.drive_on.ensures.no_memory

@@ -11,8 +11,8 @@ use fifo_table::FifoTable;
 use flow_word::{OutOfMemory, Port, Side};
 use query_log::QueryLog;
 
-/// The places at each end that a module is given at once: those of 16 Runs, of which each takes two at most.
-const CREDIT: u64 = 32;
+/// The places at each end that a module is given at once: those of 256 Runs, of which each takes two at most.
+const CREDIT: u64 = 512;
 
 /// Makes room for a module's next step, and for others beside it, so that this seldom takes time.
 ///

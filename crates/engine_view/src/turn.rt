@@ -36,6 +36,7 @@ pub enum Timing {
 /// Gives a module's first step without a cycle its cycle, or answers its queries, where that is permitted.
 ///
 /// It takes no memory.
+#[inline(always)]
 pub fn time_first<L: Ledger>(
     graph: &mut Graph,
     fifos: &mut FifoTable,

@@ -105,7 +105,7 @@ module _ (limit : ℕ) (first now next : Stored) (before ticks later count at id
       no_visit m i (inr (l, u)) = let v = r.inside (omega arith) in absurd (omega arith)
 
   -- nothing was done, and the round stands where it stood
-  pub waited : next ≡ now → IsGoingRound limit first next before later count at idle
+  waited : next ≡ now → IsGoingRound limit first next before later count at idle
   waited same = record {
     core = subst IsSomeCore (sym same) r.core;
     counted = r.counted ∙ ap (λ (s : Stored). length s.graph.lanes) (sym same);
@@ -119,6 +119,27 @@ module _ (limit : ℕ) (first now next : Stored) (before ticks later count at id
     none_left = subst (λ (s : Stored). (m : ℕ) → m < count → IsVisited count at idle m
         → OfEach s (λ d over. IsIdle d limit (core_of d (held_in s over)) m)) (sym same) r.none_left;
   }
+
+  -- nothing was done, and another module has its turn
+  pub jumped : next ≡ now → (to : ℕ) → to < count → IsGoingRound limit first next before later count to 0
+  jumped same to l =
+      let w = waited same in
+      record {
+        core = w.core;
+        counted = w.counted;
+        steps = w.steps;
+        kinds = w.kinds;
+        ticked = w.ticked;
+        within = omega arith;
+        inside = λ z. l;
+        acts = w.acts;
+        room = w.room;
+        none_left = λ m u visited. absurd (no_visit m u visited);
+      }
+    where
+      no_visit : (m : ℕ) → m < count → IsVisited count to 0 m → ⊥
+      no_visit m i (inl (l, u)) = absurd (omega arith)
+      no_visit m i (inr (l, u)) = absurd (omega arith)
 
   abbrev pub IsNextOf : ℕ → Type 0
   IsNextOf to = ((at + 1 < count) × (to ≡ at + 1)) ⊎ ((count ≤ at + 1) × (to ≡ 0))
@@ -196,34 +217,29 @@ all_visited limit first now before ticks count at idle r l d over y k m =
 
 -- more than what can still be done: actions before hints, and hints before the rest of the round
 abbrev pub still : Stored → ℕ → ℕ → ℕ → ℕ
-still s count idle hints = left s * (2 ^ 64 + count + 1) + (hints + (count - idle))
+still s count idle hints = left s * (2 ^ 64 * (count + 1)) + (hints * (count + 1) + (count - idle))
 
 pub still_went : (now next : Stored) (count idle hints other : ℕ) → left next < left now → other < 2 ^ 64
     → still next count 0 other < still now count idle hints
-still_went now next count idle hints other l f = falls (left next) (left now) (omega arith)
+still_went now next count idle hints other l f =
+    let few : (other + 1) * (count + 1) ≤ 2 ^ 64 * (count + 1) = mul-le-mul_right (count + 1) (omega arith) in
+    falls (left next) (left now) (2 ^ 64 * (count + 1)) _ _ (omega arith) (omega arith)
   where
-    falls : (a b : ℕ) → a + 1 ≤ b → a * (2 ^ 64 + count + 1) + (other + (count - 0)) < b * (2 ^ 64 + count + 1) + (hints + (count - idle))
-    falls a b l =
-        let m : (a + 1) * (2 ^ 64 + count + 1) ≤ b * (2 ^ 64 + count + 1) = mul-le-mul_right (2 ^ 64 + count + 1) l in
-        omega arith
+    falls : (a b most x y : ℕ) → a + 1 ≤ b → x < most → a * most + x < b * most + y
+    falls a b most x y l u = let m : (a + 1) * most ≤ b * most = mul-le-mul_right most l in omega arith
 
-pub still_waited : (now next : Stored) (count idle hints other : ℕ) → next ≡ now → other < hints
-    → still next count idle other < still now count idle hints
-still_waited now next count idle hints other e l = subst (λ (s : Stored). still s count idle other < still now count idle hints) (sym e)
-    (falls (left now * (2 ^ 64 + count + 1)))
+pub still_jumped : (now next : Stored) (count idle hints other : ℕ) → next ≡ now → other < hints
+    → still next count 0 other < still now count idle hints
+still_jumped now next count idle hints other e l = subst (λ (s : Stored). still s count 0 other < still now count idle hints) (sym e)
+    (falls (left now * (2 ^ 64 * (count + 1))))
   where
-    falls : (a : ℕ) → a + (other + (count - idle)) < a + (hints + (count - idle))
-    falls a = omega arith
+    falls : (a : ℕ) → a + (other * (count + 1) + (count - 0)) < a + (hints * (count + 1) + (count - idle))
+    falls a = let m : (other + 1) * (count + 1) ≤ hints * (count + 1) = mul-le-mul_right (count + 1) (omega arith) in omega arith
 
 pub still_stayed : (now next : Stored) (count idle hints : ℕ) → next ≡ now → idle < count
     → still next count (idle + 1) hints < still now count idle hints
 still_stayed now next count idle hints e l = subst (λ (s : Stored). still s count (idle + 1) hints < still now count idle hints) (sym e)
-    (falls (left now * (2 ^ 64 + count + 1)))
+    (falls (left now * (2 ^ 64 * (count + 1))) (hints * (count + 1)))
   where
-    falls : (a : ℕ) → a + (hints + (count - (idle + 1))) < a + (hints + (count - idle))
-    falls a = omega arith
-
--- the module that was looked at is the one whose turn it was
-pub turn_of : (limit : ℕ) (s : Stored) (owner at : ℕ) → owner ≡ at → OfEach s (λ d over. IsIdle d limit (core_of d (held_in s over)) owner)
-    → OfEach s (λ d over. IsIdle d limit (core_of d (held_in s over)) at)
-turn_of limit s owner at e f = subst (λ (m : ℕ). OfEach s (λ d over. IsIdle d limit (core_of d (held_in s over)) m)) e f
+    falls : (a b : ℕ) → a + (b + (count - (idle + 1))) < a + (b + (count - idle))
+    falls a b = omega arith

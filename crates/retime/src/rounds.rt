@@ -1,5 +1,5 @@
 //! Round after round over the modules.
-ghost use Rattle.std.specs.Prelude.{◌≡◌, ◌+◌, ◌<◌, ◌≤◌, length};
+ghost use Rattle.std.specs.Prelude.{◌≡◌, ◌≢◌, ◌+◌, ◌<◌, ◌≤◌, length};
 ghost use Rattle.event_graph.specs.Lanes.{cycle_bound};
 ghost use Rattle.time_engine.specs.Conditions.{HasAccesses};
 ghost use Rattle.engine_view.specs.Stored.{stored};
@@ -17,7 +17,8 @@ use std::sync::ledger::Ledger;
 
 /// Gives cycles and answers queries as long as that is permitted, or until an outcome is not as it was assumed.
 ///
-/// It goes round the modules, and to those first of which something may have changed. It takes no memory.
+/// At a module it does all that it can, and then goes round to the next one of which something may have changed, or, where there is
+/// none such, to the next one. It takes no memory.
 pub fn time_all<L: Ledger>(
     graph: &mut Graph,
     fifos: &mut FifoTable,
@@ -41,18 +42,18 @@ pub fn time_all<L: Ledger>(
     // A bit for each of the first 64 modules of which something may have changed.
     let mut hints = 0;
     while idle < count {
-        let owner = next_module(hints, at, count);
-        match time_first(graph, fifos, log, owner, limit, steps) {
+        match time_first(graph, fifos, log, at, limit, steps) {
             Timing::Assigned(_) => {
                 idle = 0;
-                hints |= bit_of(owner) | woken(graph, fifos, owner);
+                hints |= woken(graph, fifos, at);
             }
-            Timing::Answered(_) => {
-                idle = 0;
-                hints |= bit_of(owner);
-            }
+            Timing::Answered(_) => idle = 0,
             Timing::Differs(query) => return Guard::Differs(query),
-            Timing::Nothing if hints != 0 => hints &= hints - 1,
+            Timing::Nothing if hints != 0 => {
+                idle = 0;
+                at = next_of(hints, at, count);
+                hints = without(hints, at);
+            }
             Timing::Nothing => {
                 idle += 1;
                 at = if at + 1 < count { at + 1 } else { 0 };
@@ -62,18 +63,25 @@ pub fn time_all<L: Ledger>(
     Guard::Same
 }
 
-/// The first module with a hint, or where there is none the one whose turn it is.
-fn next_module(hints: u64, at: u32, count: u32) -> u32
+/// The next of these modules behind one, going round. The same one where there is none.
+fn next_of(hints: u64, at: u32, count: u32) -> u32
     requires { at < count }
-    ensures inside { result < count }
-    ensures turn { hints ≡ 0 → result ≡ at }
+    ensures { result < count }
 {
-    let first = hints.trailing_zeros();
-    if hints != 0 && first < count {
-        first
+    let behind = hints.checked_shr(at + 1).unwrap_or(0);
+    let next = if behind != 0 {
+        behind.trailing_zeros().saturating_add(at + 1)
     } else {
-        at
-    }
+        hints.trailing_zeros()
+    };
+    if next < count { next } else { at }
+}
+
+/// The bits without that of a module among them.
+fn without(hints: u64, owner: u32) -> u64
+    ensures { hints ≢ 0 → result < hints }
+{
+    hints.saturating_sub(bit_of(owner).max(1))
 }
 
 /// The bit of a module, where it is one of the first 64.

@@ -1,7 +1,7 @@
 -- A run that is taken out of the core and put back.
 use Rattle.std.proofs.Common.{◌≡◌, refl, sym, ap, ap₂, subst, ◌∙◌, ℕ, zero, suc, ◌<◌, inl, inr, Bool, true, false, List, [], ◌∷◌, length}
-use Rattle.std.proofs.Common.{drop, get_or, set, Option, Some, None, arith}
-use Rattle.std.specs.Prelude.{Result, Ok, Err, IfOk, OnErr}
+use Rattle.std.proofs.Common.{drop, get_or, set, Option, Some, None, unwrap_or, arith}
+use Rattle.std.specs.Prelude.{Result, Ok, Err, IfOk, IfErr, IfSome, OnErr, is_err}
 use Rattle.std.proofs.lemmas.Bool.Decides.{eqb_tells}
 use Rattle.std.proofs.lemmas.List.{length-set, get_or-set_same, get_or-set_other}
 use Rattle.flow_design.specs.declared.plan.Plan.{Plan}
@@ -9,9 +9,10 @@ use Rattle.flow_design.specs.declared.state.Advance.{Advance}
 use Rattle.flow_design.specs.declared.state.ModuleState.{ModuleState}
 use Rattle.module_interp.specs.declared.run.ModuleRun.{ModuleRun}
 use Rattle.event_timing.specs.Core.{Core}
-use Rattle.event_timing.specs.Actions.{Acts, MayRun}
+use Rattle.event_timing.specs.Actions.{Acts, ActsAll, MayRun}
 use Rattle.event_timing.specs.Actions.Action.{Run}
 use Rattle.event_timing.specs.Agreement.{IsAgreed}
+use Rattle.event_timing.specs.Work.{work}
 use Rattle.timing_bridge.specs.Designs.{design, lockstep_run}
 use Rattle.engine_view.specs.Held.{Held, core_of}
 use Rattle.engine_view.specs.Shown.{IsSound}
@@ -19,6 +20,7 @@ use Rattle.engine_view.specs.Taking.{kinds_in}
 use Rattle.engine_view.specs.Rooms.{IsRoomy}
 use Rattle.engine_view.specs.Stored.{Stored, held_in}
 use Rattle.sim_core.specs.Views.{CoreView, theory_of}
+use Rattle.sim_core.specs.Drives.{Goes, GoesOn}
 use Rattle.sim_core.specs.Runs.{IsRunOf, IsEndOf, IsCore, lent_of, over_of}
 
 -- where the lists are the same
@@ -90,6 +92,9 @@ lent_back (r ∷ rs) (q ∷ qs) (suc m) run e f =
     ap₂ (λ (b : Bool) (bs : List Bool). b ∷ bs) (ap (λ (bs : List Bool). get_or bs 0 true) f)
     (lent_back rs qs m run e (ap (λ (bs : List Bool). drop 1 bs) f))
 
+pub same_some : (a b : ModuleRun) → Some a ≡ Some b → a ≡ b
+same_some a b e = ap (λ (o : Option ModuleRun). unwrap_or o a) e
+
 -- ---- from view to view
 
 pub acts_at : (v w : CoreView) (m : ℕ) (y : Core ModuleState) → w ≡ v → Acts (design w.plan) w.plan.cycles (theory_of w) (Run m) y
@@ -128,6 +133,29 @@ module _ (before taken after back : CoreView) (t : IsRoundTrip before taken afte
   pub may_back : (MayRun (design taken.plan) (theory_of taken) m → ⊥) → MayRun (design before.plan) (theory_of before) m → ⊥
   may_back f may = f (subst (λ (x : CoreView). MayRun (design x.plan) (theory_of x) m) (sym out) may)
 
+  pub may_out : MayRun (design taken.plan) (theory_of taken) m → MayRun (design before.plan) (theory_of before) m
+  may_out may = subst (λ (x : CoreView). MayRun (design x.plan) (theory_of x) m) out may
+
+  pub may_home : MayRun (design after.plan) (theory_of after) m → MayRun (design back.plan) (theory_of back) m
+  may_home may = subst (λ (x : CoreView). MayRun (design x.plan) (theory_of x) m) (sym home) may
+
+  pub goes_back : (n : ℕ) → Goes taken n after n → Goes before n back n
+  goes_back n g = record {
+    actions = g.actions;
+    all = subst (λ (y : CoreView). ActsAll (design before.plan) before.plan.cycles (theory_of before) g.actions (theory_of y)) (sym home)
+        (subst (λ (x : CoreView). ActsAll (design x.plan) x.plan.cycles (theory_of x) g.actions (theory_of after)) out g.all);
+    ticked = g.ticked;
+    plan = t.plan_back ∙ (g.plan ∙ t.plan);
+    lent = t.lent_back;
+  }
+
+  pub goes_on_back : (n : ℕ) → GoesOn taken n after n → GoesOn before n back n
+  goes_on_back n g = record {
+    goes = goes_back n g.goes;
+    risen = subst (λ (y : CoreView). work (design before.plan) (theory_of before) < work (design before.plan) (theory_of y)) (sym home)
+        (subst (λ (x : CoreView). work (design x.plan) (theory_of x) < work (design x.plan) (theory_of after)) out g.risen);
+  }
+
   pub same_back : after ≡ taken → back ≡ before
   same_back e = view_same (t.plan_back ∙ (ap (λ (v : CoreView). v.plan) e ∙ t.plan))
       (t.held_back ∙ (ap (λ (v : CoreView). v.held) e ∙ t.held)) t.lent_back
@@ -136,10 +164,40 @@ module _ (before taken after back : CoreView) (t : IsRoundTrip before taken afte
       view_same a b c = ap₂ (λ (p : Plan) (h : Held). record { plan = p; held = h; lent = back.lent }) a b
           ∙ ap (λ (ls : List Bool). record { plan = before.plan; held = before.held; lent = ls }) c
 
-pub ok_then : {E : Type 0} (r : Result Bool E) (P Q : Bool → Type 0) → ((b : Bool) → P b → Q b) → IfOk r P → IfOk r Q
-ok_then {E} (Ok b) P Q f p = f b p
-ok_then {E} (Err e) P Q f p = p
+-- a Run for which memory was wanted, and that is not permitted
+pub not_permitted : {A B : Type 0} (v w : CoreView) (m : ℕ) (ran : Result A B) → OnErr ran (w ≡ v) → is_err ran ≡ true
+    → {C D : Type 0} (r : Result C D) → IfErr r (λ cause. MayRun (design w.plan) (theory_of w) m → ⊥) → is_err r ≡ true
+    → MayRun (design v.plan) (theory_of v) m → ⊥
+not_permitted {A} {B} v w m (Ok a) same e {C} {D} r refused f may = cc
+not_permitted {A} {B} v w m (Err b) same e {C} {D} (Ok c) refused f may = cc
+not_permitted {A} {B} v w m (Err b) same e {C} {D} (Err d) refused f may =
+    refused (subst (λ (x : CoreView). MayRun (design x.plan) (theory_of x) m) (sym same) may)
 
-pub err_then : {E : Type 0} (r : Result Bool E) (P Q : Type 0) → (P → Q) → OnErr r P → OnErr r Q
-err_then {E} (Ok b) P Q f p = p
-err_then {E} (Err e) P Q f p = f p
+-- so it is where the parts of the one core, with the run taken out, lead to the other, with it put back
+pub round_trip : (before after : CoreView) (p q : Plan) (h g : Held) (runs others : List (Option ModuleRun)) (m : ℕ) (o : Option ModuleRun)
+    (run : ModuleRun) → record { plan = p; held = h; lent = lent_of runs } ≡ before
+    → record { plan = q; held = g; lent = lent_of others } ≡ after → o ≡ None → after.lent ≡ lent_of (set runs m o)
+    → get_or before.lent m true ≡ false
+    → IsRoundTrip before (record { plan = p; held = h; lent = lent_of (set runs m o) }) after
+    (record { plan = q; held = g; lent = lent_of (set others m (Some run)) })
+round_trip before after p q h g runs others m o run is_before is_after none lent here = record {
+  plan = ap (λ (v : CoreView). v.plan) is_before;
+  held = ap (λ (v : CoreView). v.held) is_before;
+  plan_back = ap (λ (v : CoreView). v.plan) is_after;
+  held_back = ap (λ (v : CoreView). v.held) is_after;
+  lent_back = lent_back runs others m run (ap (λ (v : CoreView). get_or v.lent m true) is_before ∙ here)
+      (ap (λ (v : CoreView). v.lent) is_after ∙ (lent ∙ ap (λ (r : Option ModuleRun). lent_of (set runs m r)) none))
+      ∙ ap (λ (v : CoreView). v.lent) is_before;
+}
+
+pub ok_then : {A E : Type 0} (r : Result A E) (P Q : A → Type 0) → ((a : A) → P a → Q a) → IfOk r P → IfOk r Q
+ok_then {A} {E} (Ok a) P Q f p = f a p
+ok_then {A} {E} (Err e) P Q f p = p
+
+pub err_then : {A E : Type 0} (r : Result A E) (P Q : Type 0) → (P → Q) → OnErr r P → OnErr r Q
+err_then {A} {E} (Ok a) P Q f p = p
+err_then {A} {E} (Err e) P Q f p = f p
+
+pub some_then : {A : Type 0} (o : Option A) (P Q : Type 0) → (P → Q) → IfSome o (λ a. P) → IfSome o (λ a. Q)
+some_then {A} (Some a) P Q f p = f p
+some_then {A} None P Q f p = p

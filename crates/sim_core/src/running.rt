@@ -32,26 +32,6 @@ impl Core {
         ensures plan { self.new.plan ≡ self.old.plan }
         ensures lent { self.new.lent ≡ self.old.lent }
     {
-        let ran = self.try_run(owner);
-        if ran.is_err() && self.permits(Action::Run(owner)).is_err() {
-            // The list of replies wanted memory, though not all of them are there.
-            return Ok(false);
-        }
-        ran
-    }
-
-    /// The same, but memory may be wanted where it is not permitted too.
-    fn try_run(&mut self, owner: u32) -> Result<bool, OutOfMemory>
-        requires owner { owner < length self.old.plan.design.modules }
-        requires here { slice_index_or self.old.lent owner true ≡ false }
-        ensures acts { IfOk result (λ ran. ran ≡ true → Acts (design self.old.plan) self.old.plan.cycles (theory_of self.old) (Run owner)
-            (theory_of self.new)) }
-        ensures not_permitted { IfOk result (λ ran. ran ≡ false → MayRun (design self.old.plan) (theory_of self.old) owner → ⊥) }
-        ensures unchanged { IfOk result (λ ran. ran ≡ false → self.new ≡ self.old) }
-        ensures no_memory { OnErr result (self.new ≡ self.old) }
-        ensures plan { self.new.plan ≡ self.old.plan }
-        ensures lent { self.new.lent ≡ self.old.lent }
-    {
         let Some(mut run) = self.runs[owner as usize].take() else {
             return Ok(false);
         };
@@ -61,7 +41,30 @@ impl Core {
     }
 
     /// The same with the module's run, which is out of the core.
-    fn run_with(&mut self, owner: u32, run: &mut ModuleRun) -> Result<bool, OutOfMemory>
+    pub(crate) fn run_with(&mut self, owner: u32, run: &mut ModuleRun) -> Result<bool, OutOfMemory>
+        requires owner { owner < length self.old.plan.design.modules }
+        requires taken { slice_index_or self.old.lent owner true ≡ true }
+        requires run { IsRunOf self.old.plan (theory_of self.old) owner run.old }
+        ensures acts { IfOk result (λ ran. ran ≡ true → Acts (design self.old.plan) self.old.plan.cycles (theory_of self.old) (Run owner)
+            (theory_of self.new)) }
+        ensures not_permitted { IfOk result (λ ran. ran ≡ false → MayRun (design self.old.plan) (theory_of self.old) owner → ⊥) }
+        ensures unchanged { IfOk result (λ ran. ran ≡ false → self.new ≡ self.old) }
+        ensures no_memory { OnErr result (self.new ≡ self.old) }
+        ensures permitted { OnErr result (MayRun (design self.old.plan) (theory_of self.old) owner) }
+        ensures run { IsRunOf self.old.plan (theory_of self.new) owner run.new }
+        ensures plan { self.new.plan ≡ self.old.plan }
+        ensures lent { self.new.lent ≡ self.old.lent }
+    {
+        let ran = self.try_with(owner, run);
+        if ran.is_err() && self.permits(Action::Run(owner)).is_err() {
+            // The list of replies wanted memory, though not all of them are there.
+            return Ok(false);
+        }
+        ran
+    }
+
+    /// The same, but memory may be wanted where it is not permitted too.
+    fn try_with(&mut self, owner: u32, run: &mut ModuleRun) -> Result<bool, OutOfMemory>
         requires owner { owner < length self.old.plan.design.modules }
         requires taken { slice_index_or self.old.lent owner true ≡ true }
         requires run { IsRunOf self.old.plan (theory_of self.old) owner run.old }

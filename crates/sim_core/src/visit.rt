@@ -2,13 +2,16 @@
 ghost use Rattle.std.specs.Prelude.{◌≡◌, ℕ, ◌<◌, true, false, length, slice_index_or, IfOk, IfSome, IsNone, OnErr};
 ghost use Rattle.event_timing.specs.Actions.{MayRun};
 ghost use Rattle.timing_bridge.specs.Designs.{design};
+ghost use Rattle.sim_core.specs.Runs.{IsRunOf};
 ghost use Rattle.sim_core.specs.Views.{theory_of};
 ghost use Rattle.sim_core.specs.Drives.{Goes, GoesOn, HasTimed, HasVisited};
 
+use crate::actions::Action;
 use crate::machine::Core;
 use engine_view::Timing;
 use event_graph::{Access, Place};
 use flow_word::{OutOfMemory, Steps, Words};
+use module_interp::ModuleRun;
 use outcome_guard::Query;
 use std::sync::ledger::Ledger;
 
@@ -59,11 +62,36 @@ impl Core {
         ensures no_memory { OnErr result ((n : ℕ) → Goes self.old n self.new n) }
         ensures permitted { OnErr result (MayRun (design self.new.plan) (theory_of self.new) owner) }
     {
-        let Some(mut woken) = self.run_once(owner)? else {
+        if self.permits(Action::Run(owner)).is_err() {
+            return Ok(None);
+        }
+        let Some(mut run) = self.runs[owner as usize].take() else {
+            return Ok(None);
+        };
+        let woken = self.run_stretch(owner, &mut run);
+        self.runs[owner as usize] = Some(run);
+        woken
+    }
+
+    /// The same with the module's run, which is out of the core.
+    fn run_stretch(&mut self, owner: u32, run: &mut ModuleRun) -> Result<Option<u64>, OutOfMemory>
+        requires owner { owner < length self.old.plan.design.modules }
+        requires taken { slice_index_or self.old.lent owner true ≡ true }
+        requires run { IsRunOf self.old.plan (theory_of self.old) owner run.old }
+        ensures some { IfOk result (λ woken. IfSome woken (λ bits. (n : ℕ) → GoesOn self.old n self.new n)) }
+        ensures unchanged { IfOk result (λ woken. IsNone woken → self.new ≡ self.old) }
+        ensures none { IfOk result (λ woken. IsNone woken → MayRun (design self.old.plan) (theory_of self.old) owner → ⊥) }
+        ensures no_memory { OnErr result ((n : ℕ) → Goes self.old n self.new n) }
+        ensures permitted { OnErr result (MayRun (design self.new.plan) (theory_of self.new) owner) }
+        ensures run { IsRunOf self.old.plan (theory_of self.new) owner run.new }
+        ensures plan { self.new.plan ≡ self.old.plan }
+        ensures lent { self.new.lent ≡ self.old.lent }
+    {
+        let Some(mut woken) = self.run_once(owner, run)? else {
             return Ok(None);
         };
         for _ in 1..STRETCH {
-            match self.run_once(owner)? {
+            match self.run_once(owner, run)? {
                 Some(more) => woken |= more,
                 None => return Ok(Some(woken)),
             }
@@ -72,18 +100,22 @@ impl Core {
     }
 
     /// One of them.
-    fn run_once(&mut self, owner: u32) -> Result<Option<u64>, OutOfMemory>
+    fn run_once(&mut self, owner: u32, run: &mut ModuleRun) -> Result<Option<u64>, OutOfMemory>
         requires owner { owner < length self.old.plan.design.modules }
-        requires here { slice_index_or self.old.lent owner true ≡ false }
+        requires taken { slice_index_or self.old.lent owner true ≡ true }
+        requires run { IsRunOf self.old.plan (theory_of self.old) owner run.old }
         ensures some { IfOk result (λ woken. IfSome woken (λ bits. (n : ℕ) → GoesOn self.old n self.new n)) }
         ensures unchanged { IfOk result (λ woken. IsNone woken → self.new ≡ self.old) }
         ensures none { IfOk result (λ woken. IsNone woken → MayRun (design self.old.plan) (theory_of self.old) owner → ⊥) }
         ensures no_memory { OnErr result (self.new ≡ self.old) }
         ensures permitted { OnErr result (MayRun (design self.new.plan) (theory_of self.new) owner) }
+        ensures run { IsRunOf self.old.plan (theory_of self.new) owner run.new }
+        ensures plan { self.new.plan ≡ self.old.plan }
+        ensures lent { self.new.lent ≡ self.old.lent }
     {
         // The core agrees with its plan.
         let _count = self.modules();
-        if self.run(owner)? {
+        if self.run_with(owner, run)? {
             Ok(Some(self.wake_newest(owner)))
         } else {
             Ok(None)

@@ -16,6 +16,7 @@ use std::sync::ledger::Ledger;
 
 /// What is known of the cycle of a module's first step without one. It looks at each access of that step once, and takes
 /// no memory.
+#[inline(always)]
 pub fn candidate(graph: &Graph, fifos: &FifoTable, owner: u32, limit: u64) -> Candidate
     requires owner { owner < length graph.now.lanes }
     requires accesses { HasAccesses graph.now.lanes fifos.now.channels }

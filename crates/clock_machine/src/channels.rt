@@ -168,14 +168,21 @@ pub fn any_stalls_ever(plan: &Plan, contents: &[Queue<Element>], requests: &[Req
 pub fn reply_to(plan: &Plan, clock: u64, contents: &[Queue<Element>], request: &Request) -> Reply
     ensures { result ≡ reply plan.now clock contents.now request.now }
 {
-    let front = front(contents, request.channel);
-    let possible = is_possible(plan, clock, contents, request.kind.side(), request.channel);
+    let channel = request.channel;
+    let side = request.kind.side();
     match request.kind {
-        Kind::Read => Reply::Value(front),
+        Kind::Read => Reply::Value(front(contents, channel)),
         Kind::Write => Reply::Done,
-        Kind::TryRead if possible => Reply::Took(front),
-        Kind::TryRead => Reply::Missed,
-        Kind::TryWrite => Reply::Flag(possible),
-        Kind::Empty | Kind::Full => Reply::Flag(!possible),
+        Kind::TryRead => {
+            if is_possible(plan, clock, contents, side, channel) {
+                Reply::Took(front(contents, channel))
+            } else {
+                Reply::Missed
+            }
+        }
+        Kind::TryWrite => Reply::Flag(is_possible(plan, clock, contents, side, channel)),
+        Kind::Empty | Kind::Full => {
+            Reply::Flag(!is_possible(plan, clock, contents, side, channel))
+        }
     }
 }

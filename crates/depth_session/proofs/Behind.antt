@@ -22,7 +22,8 @@ use Rattle.sim_core.specs.Edits.{IsEdited}
 use Rattle.sim_core.specs.Records.{IsSoundCore, IsEditedOn, HasOtherAnswer, recorded_in, verified_in}
 use Rattle.sim_core.proofs.Rounds.{goes_same}
 use Rattle.depth_session.specs.Records.{RepeatsAnswers, answers_of, counted}
-use Rattle.depth_session.specs.Settled.{IsSettled, HasGoneOn, count_of, count_with}
+use Rattle.depth_session.specs.Sessions.{Session, plan_behind}
+use Rattle.depth_session.specs.Settled.{IsSettled, HasGoneOn, count_of, count_with, session_of}
 use Rattle.depth_session.proofs.Going.{apart, counts_differ, nothing_new}
 use Rattle.depth_session.proofs.Logs.{counts_of_logs, log_goes_on, recorded_at}
 
@@ -157,3 +158,11 @@ none_added v e w t grow begin repeat m l =
     let same = same_logs v e w t in
     nothing_new old.outcomes (take now.verified now.outcomes) now.outcomes found (log_goes_on old now (grow m l)) (begin m (omega arith))
     (subst (IsPrefix found) (recorded_at v.held.logs m) (repeat m (omega arith)))
+
+-- what is said of the session is said of its core
+pub repeats_in_core : (v : CoreView) (runs : ℕ) (live : Bool) (s : Session) (e : Edit) (p : Plan) → session_of v runs live ≡ s
+    → p ≡ with_depth v.plan e.channel e.depth → RepeatsAnswers s.count.kept (report (plan_behind s e)).answers
+    → RepeatsAnswers (recorded_in v.held.logs) (report p).answers
+repeats_in_core v runs live s e p is plan repeat =
+    subst (λ (q : Plan). RepeatsAnswers (recorded_in v.held.logs) (report q).answers) (sym plan)
+    (subst (λ (t : Session). RepeatsAnswers t.count.kept (report (plan_behind t e)).answers) (sym is) repeat)

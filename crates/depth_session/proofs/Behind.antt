@@ -1,15 +1,14 @@
 -- A core behind an edit, and the count of runs with its report.
-use Rattle.std.proofs.Common.{◌≡◌, refl, sym, ap, subst, ◌∙◌, ℕ, suc, ◌+◌, ◌<◌, ◌≤◌, inl, inr, Bool, true, false, List, [], ◌∷◌, length}
-use Rattle.std.proofs.Common.{map, take, get_or, Some, arith}
+use Rattle.std.proofs.Common.{◌≡◌, sym, ap, subst, ◌∙◌, ℕ, ◌+◌, ◌<◌, ◌≤◌, inl, inr, Bool, true, List, [], length}
+use Rattle.std.proofs.Common.{take, get_or, Some, arith}
 use Rattle.std.specs.Prelude.{slice_get}
-use Rattle.std.proofs.Math.ListN.{get_or-map}
 use Rattle.std.proofs.lemmas.Bool.{cases_lt, cases_Bool}
 use Rattle.std.proofs.lemmas.List.{length-map, get_or_past}
 use Rattle.flow_design.specs.declared.plan.Edit.{Edit}
 use Rattle.flow_design.specs.declared.plan.Plan.{Plan}
 use Rattle.flow_design.specs.Plans.{EditFits, with_depth}
 use Rattle.lockstep_defs.specs.Report.{report}
-use Rattle.query_log.specs.Logs.{Log, no_log, log_at}
+use Rattle.query_log.specs.Logs.{Log, log_at}
 use Rattle.query_log.specs.declared.query.Query.{Query}
 use Rattle.outcome_guard.specs.Prefixes.{IsPrefix}
 use Rattle.outcome_guard.specs.declared.guard.Guard.{Guard}
@@ -17,14 +16,14 @@ use Rattle.outcome_guard.specs.declared.guard.Guard.TheVariants.{Same, Differs}
 use Rattle.edit_runs.specs.declared.count.RunCount.{RunCount}
 use Rattle.edit_runs.specs.Runs.{all_go_on, next_counts}
 use Rattle.retime.specs.Edits.{OutcomesGrow}
-use Rattle.timing_bridge.specs.Designs.{design}
-use Rattle.sim_core.specs.Views.{CoreView, theory_of}
+use Rattle.sim_core.specs.Views.{CoreView}
 use Rattle.sim_core.specs.Drives.{AreOwn, Goes, HasDriven, IsDiffering}
-use Rattle.sim_core.specs.Edits.{IsEdited, IsAsBefore, IsRetimed}
+use Rattle.sim_core.specs.Edits.{IsEdited}
 use Rattle.sim_core.specs.Records.{IsSoundCore, IsEditedOn, HasOtherAnswer, recorded_in, verified_in}
 use Rattle.sim_core.proofs.Rounds.{goes_same}
 use Rattle.depth_session.specs.Records.{RepeatsAnswers, answers_of, counted}
-use Rattle.depth_session.specs.Settled.{IsSettled, HasGoneOn, HasRun, count_of, count_with}
+use Rattle.depth_session.specs.Sessions.{Session, plan_behind}
+use Rattle.depth_session.specs.Settled.{IsSettled, HasGoneOn, count_of, count_with, session_of}
 use Rattle.depth_session.proofs.Going.{apart, counts_differ, nothing_new}
 use Rattle.depth_session.proofs.Logs.{counts_of_logs, log_goes_on, recorded_at}
 
@@ -159,3 +158,11 @@ none_added v e w t grow begin repeat m l =
     let same = same_logs v e w t in
     nothing_new old.outcomes (take now.verified now.outcomes) now.outcomes found (log_goes_on old now (grow m l)) (begin m (omega arith))
     (subst (IsPrefix found) (recorded_at v.held.logs m) (repeat m (omega arith)))
+
+-- what is said of the session is said of its core
+pub repeats_in_core : (v : CoreView) (runs : ℕ) (live : Bool) (s : Session) (e : Edit) (p : Plan) → session_of v runs live ≡ s
+    → p ≡ with_depth v.plan e.channel e.depth → RepeatsAnswers s.count.kept (report (plan_behind s e)).answers
+    → RepeatsAnswers (recorded_in v.held.logs) (report p).answers
+repeats_in_core v runs live s e p is plan repeat =
+    subst (λ (q : Plan). RepeatsAnswers (recorded_in v.held.logs) (report q).answers) (sym plan)
+    (subst (λ (t : Session). RepeatsAnswers t.count.kept (report (plan_behind t e)).answers) (sym is) repeat)

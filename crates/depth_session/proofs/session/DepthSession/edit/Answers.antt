@@ -1,0 +1,10 @@
+use Rattle.depth_session.proofs.Behind.{repeats_in_core}
+use Rattle.depth_session.proofs.session.DepthSession.edit.Goals as goal
+
+pub returns-in_err-self-inside-clause-succeeds : goal.returns-in_err-self-inside-clause-succeeds
+returns-in_err-self-inside-clause-succeeds g c = λ repeat.
+    let i = c.self.inside in
+    let no = c.in_err-self-inside.ensures.succeeds
+    (repeats_in_core i.core i.runs i.live c.args.self.now c.args.edit.now c.follow.new.core.plan c.self.view_is c.follow.ensures.plan
+    repeat) in
+    cc

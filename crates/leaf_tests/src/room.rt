@@ -17,6 +17,6 @@ fn a_module_has_room_for_many_steps_at_once(rt: HostRuntime) -> Result<(), Fail>
         channel: 0,
     }];
     make_room(&mut graph, &mut fifos, &mut log, &mut credits, 0, &ports, 3)?;
-    assert_eq!(rt; credits[0], 32);
+    assert_eq!(rt; credits[0], 512);
     Ok(())
 }

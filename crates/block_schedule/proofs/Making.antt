@@ -34,7 +34,8 @@ made b s entries sorted limits same_interval same_len listed moved rises stable 
 }
 
 -- as many offsets as operations
-pub same_count : (b : Block) (entries sorted : List (ℕ × ℕ)) → entries ≡ map entry_of (enumerate_from 0 b.ops) → IsPermutation entries sorted
+pub same_count : (b : Block) (entries sorted : List (ℕ × ℕ)) → entries ≡ map entry_of (enumerate_from 0 b.ops)
+    → IsPermutation entries sorted
     → length (map (λ e. e.0) sorted) ≡ length b.ops
 same_count b entries sorted listed moved =
     length-map sorted (λ (e : ℕ × ℕ). e.0)

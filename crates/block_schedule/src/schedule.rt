@@ -14,7 +14,7 @@ use flow_word::OutOfMemory;
 use std::alloc::Global;
 
 /// A block's operations, in order of their offsets. Its size is that of the operations, however long the block is.
-#[derive(Debug, Drop)]
+#[derive(Debug)]
 pub struct Schedule {
     interval: u64,
     len: u64,
@@ -24,6 +24,18 @@ pub struct Schedule {
     numbers: Vec<u32>,
     /// For each offset of a short block, from which place on and up to which place its operations stand. Empty for a long block.
     spans: Vec<(u32, u32)>,
+}
+
+impl Drop for Schedule {
+    fn drop(self) {
+        let Schedule {
+            interval: _interval,
+            len: _len,
+            offsets: _offsets,
+            numbers: _numbers,
+            spans: _spans,
+        } = self;
+    }
 }
 
 impl Schedule {

@@ -22,11 +22,20 @@ use std::thread::Threads;
 ///
 /// Contracts see the plan that stands, the answers that are kept, the count of runs, and whether there was memory for each
 /// edit so far: then the session is live.
-#[derive(Drop)]
 pub struct DepthSession {
     core: Core,
     runs: u64,
     live: bool,
+}
+
+impl Drop for DepthSession {
+    fn drop(self) {
+        let DepthSession {
+            core: _core,
+            runs: _runs,
+            live: _live,
+        } = self;
+    }
 }
 
 impl Model for DepthSession {

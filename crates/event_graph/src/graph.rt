@@ -18,9 +18,14 @@ use std::sync::ledger::Ledger;
 /// A step keeps its place once it is pushed. Cycles alone come and go: they are given in order, rise along a lane, and
 /// are forgotten from a clock on. Contracts see the lanes, and beside them the room of each lane: how many further
 /// steps it takes without memory.
-#[derive(Drop)]
 pub struct Graph {
     lanes: Vec<RoomyLane>,
+}
+
+impl Drop for Graph {
+    fn drop(self) {
+        let Graph { lanes: _lanes } = self;
+    }
 }
 
 impl Model for Graph {

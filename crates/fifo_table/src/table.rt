@@ -15,9 +15,16 @@ use std::marker::Model;
 ///
 /// Ordinals count from 1. Contracts see the channels, and beside them two rooms of each: how many further pushes and
 /// how many further pops it takes without memory.
-#[derive(Drop)]
 pub struct FifoTable {
     channels: Vec<RoomyChannel>,
+}
+
+impl Drop for FifoTable {
+    fn drop(self) {
+        let FifoTable {
+            channels: _channels,
+        } = self;
+    }
 }
 
 impl Model for FifoTable {

@@ -14,7 +14,7 @@ pub struct Control {
 }
 
 /// The state of a module.
-#[derive(Debug, Drop)]
+#[derive(Debug)]
 pub struct ModuleState {
     pub control: Control,
     pub registers: Words,
@@ -27,6 +27,19 @@ pub struct ModuleState {
     pub ended: bool,
 }
 
+impl Drop for ModuleState {
+    fn drop(self) {
+        let ModuleState {
+            control: _control,
+            registers: _registers,
+            memories: _memories,
+            temps: _temps,
+            count: _count,
+            ended: _ended,
+        } = self;
+    }
+}
+
 /// An element that a channel holds.
 #[derive(Clone, Copy, Debug, PartialEq, Eq)]
 pub struct Element {
@@ -36,11 +49,19 @@ pub struct Element {
 }
 
 /// The state of all modules and channels at one clock.
-#[derive(Drop)]
 pub struct ClockState {
     pub modules: List<ModuleState>,
     /// What each channel holds, the front first.
     pub contents: List<Queue<Element>>,
+}
+
+impl Drop for ClockState {
+    fn drop(self) {
+        let ClockState {
+            modules: _modules,
+            contents: _contents,
+        } = self;
+    }
 }
 
 /// A due FIFO operation: what a module asks of a channel in a clock.

@@ -93,7 +93,7 @@ pub struct Access {
 }
 
 /// One local clock of a module with at least one access.
-#[derive(Debug, Drop)]
+#[derive(Debug)]
 pub struct Step {
     /// The local clocks since the module's step before, or since its local clock 0.
     pub gap: u64,
@@ -101,6 +101,16 @@ pub struct Step {
     pub accesses: Accesses,
     /// How many queries the module made before this step.
     pub first_query: u64,
+}
+
+impl Drop for Step {
+    fn drop(self) {
+        let Step {
+            gap: _gap,
+            accesses: _accesses,
+            first_query: _first_query,
+        } = self;
+    }
 }
 
 /// A step of a module: the steps of a module are numbered from 0.

@@ -8,9 +8,15 @@ use std::alloc::Global;
 use std::marker::Model;
 
 /// The accesses of one step, in commit order. One or two of them take no memory beside the step itself.
-#[derive(Debug, Drop)]
+#[derive(Debug)]
 pub struct Accesses {
     items: SmallVec<Access, 2>,
+}
+
+impl Drop for Accesses {
+    fn drop(self) {
+        let Accesses { items: _items } = self;
+    }
 }
 
 impl Model for Accesses {

@@ -10,9 +10,14 @@ use std::fmt;
 use std::marker::Model;
 
 /// A growing list, which keeps its allocator. Contracts see it as the list of its items.
-#[derive(Drop)]
 pub struct List<T> {
     items: Vec<T>,
+}
+
+impl<T: Drop> Drop for List<T> {
+    fn drop(self) {
+        let List { items: _items } = self;
+    }
 }
 
 impl<T> Model for List<T> {

@@ -7,9 +7,14 @@ use std::collections::VecDeque;
 use std::marker::Model;
 
 /// A queue: items leave at the front and come in at the back, each in the same short time.
-#[derive(Drop)]
 pub struct Queue<T> {
     items: VecDeque<T>,
+}
+
+impl<T: Drop> Drop for Queue<T> {
+    fn drop(self) {
+        let Queue { items: _items } = self;
+    }
 }
 
 impl<T> Model for Queue<T> {

@@ -6,9 +6,14 @@ use std::alloc::Global;
 use std::marker::Model;
 
 /// A list whose room is known: contracts see its items, and how many more it takes without memory.
-#[derive(Drop)]
 pub struct RoomyList<T> {
     items: Vec<T>,
+}
+
+impl<T: Drop> Drop for RoomyList<T> {
+    fn drop(self) {
+        let RoomyList { items: _items } = self;
+    }
 }
 
 impl<T> Model for RoomyList<T> {

@@ -53,8 +53,8 @@ PopsInOrder p c f = (n d : ℕ) → n < length (moved Pop f (history p c))
     → slice_index_or (moved Pop f (history p c)) n d ≡ slice_index_or (all_in p c f) n d
 
 -- what is possible is a matter of counts: an element is there where fewer were popped than went in as many clocks ago as the
--- channel's delay, and a FIFO has a place
--- where fewer were pushed than its depth and the pops together; a source or a sink always has one
+-- channel's delay, and a FIFO has a place where fewer were pushed than its depth and the pops together; a source or a sink
+-- always has one
 pub record IsCounted (p : Plan) (c f : ℕ) : Type 0 where
   pub pops : is_possible p c (state p c).contents Pop f
       ≡ nat_lt (length (moved Pop f (history p c))) (length (all_in p (suc c - delay_at p f) f))

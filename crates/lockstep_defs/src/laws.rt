@@ -53,8 +53,8 @@ pub fn histories_are_own_runs()
     ensures own { (p : Plan) (i c : ℕ) → i < length p.design.modules → IsOwnRun p i c }
 {}
 
-/// In each clock each module stands in one of its states, and its due operations and requests are those of its design. It pops or
-/// pushes a channel at most once in a local clock, and makes each query of its block at most once.
+/// In each clock each module stands in one of its states, and its due operations and requests are those of its design. It pops a
+/// channel at most once in a local clock, pushes it at most once, and makes no more queries there than its block has.
 pub fn states_fit_modules()
     ensures opened { (channels : ℕ) (m : Module) → IsModuleSound channels m → IsStateOf m (opened m) }
     ensures moved { (channels : ℕ) (m : Module) → IsModuleSound channels m → (s : ModuleState) (replies : Items Reply)

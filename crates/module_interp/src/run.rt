@@ -24,12 +24,21 @@ use std::alloc::Global;
 ///
 /// Contracts see where it stands: at a rest of the own run of the definitions, that is at its next step or its end, and
 /// whether that step waits for replies. How far the call has come towards the rest doesn't show.
-#[derive(Drop)]
 pub struct ModuleRun {
     path: Path,
     tally: Tally,
     /// The accesses of the last step.
     accesses: List<Access>,
+}
+
+impl Drop for ModuleRun {
+    fn drop(self) {
+        let ModuleRun {
+            path: _path,
+            tally: _tally,
+            accesses: _accesses,
+        } = self;
+    }
 }
 
 impl ModuleRun {

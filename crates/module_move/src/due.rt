@@ -62,7 +62,8 @@ fn add_passing(
     requires numbers { All (λ n. n < length (block_of of.now state.now).ops) numbers.now }
     ensures pending { OnOk result (pending.new
         ≡ pending.old ++ map (λ n. record { iteration = place; op = n })
-        (filter (λ n. passes state.now.registers (temps_of state.now place) (operation_at (block_of of.now state.now) n).guard) numbers.now)) }
+        (filter (λ n. passes state.now.registers (temps_of state.now place) (operation_at (block_of of.now state.now) n).guard)
+        numbers.now)) }
     ensures asked { OnOk result (asked.old ≡ filter_map (request_for channels.now of.now state.now) pending.old
         → asked.new ≡ filter_map (request_for channels.now of.now state.now) pending.new) }
 {

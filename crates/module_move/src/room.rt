@@ -6,12 +6,20 @@ use flow_word::{List, OutOfMemory, Words};
 use std::alloc::Global;
 
 /// Room that the moves of modules use again, so that a local clock takes no memory once it is there. What it holds means nothing.
-#[derive(Drop)]
 pub struct MoveRoom {
     /// For what the due operations write.
     pub effects: List<Effect>,
     /// The temps of an iteration that is no longer live, for the next one that starts.
     pub temps: Words,
+}
+
+impl Drop for MoveRoom {
+    fn drop(self) {
+        let MoveRoom {
+            effects: _effects,
+            temps: _temps,
+        } = self;
+    }
 }
 
 impl MoveRoom {

@@ -10,9 +10,14 @@ use std::marker::Model;
 /// The outcomes of each module's queries, in order. The verified ones are a prefix, the others are assumed.
 ///
 /// Contracts see the logs, and beside them the room of each: how many more outcomes it takes without memory.
-#[derive(Drop)]
 pub struct QueryLog {
     logs: Vec<RoomyLog>,
+}
+
+impl Drop for QueryLog {
+    fn drop(self) {
+        let QueryLog { logs: _logs } = self;
+    }
 }
 
 impl Model for QueryLog {

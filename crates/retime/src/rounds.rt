@@ -1,5 +1,5 @@
 //! Round after round over the modules.
-ghost use Rattle.std.specs.Prelude.{◌≡◌, ◌≢◌, ◌+◌, ◌<◌, ◌≤◌, length};
+ghost use Rattle.std.specs.Prelude.{◌≡◌, ◌+◌, ◌<◌, ◌≤◌, length};
 ghost use Rattle.event_graph.specs.Lanes.{cycle_bound};
 ghost use Rattle.time_engine.specs.Conditions.{HasAccesses};
 ghost use Rattle.engine_view.specs.Stored.{stored};
@@ -7,7 +7,7 @@ ghost use Rattle.engine_view.specs.Taking.{kinds_in};
 ghost use Rattle.engine_view.specs.Turns.{IsSomeCore, KeepsRoom};
 ghost use Rattle.retime.specs.Rounds.{HasGone, IsAtEnd, only_steps, cycles_in};
 
-use engine_view::{Timing, time_first};
+use engine_view::{Timing, bit_of, next_of, time_first, without};
 use event_graph::{Access, Graph, Place};
 use fifo_table::FifoTable;
 use flow_word::{Side, Steps};
@@ -61,32 +61,6 @@ pub fn time_all<L: Ledger>(
         }
     }
     Guard::Same
-}
-
-/// The next of these modules behind one, going round. The same one where there is none.
-fn next_of(hints: u64, at: u32, count: u32) -> u32
-    requires { at < count }
-    ensures { result < count }
-{
-    let behind = hints.checked_shr(at + 1).unwrap_or(0);
-    let next = if behind != 0 {
-        behind.trailing_zeros().saturating_add(at + 1)
-    } else {
-        hints.trailing_zeros()
-    };
-    if next < count { next } else { at }
-}
-
-/// The bits without that of a module among them.
-fn without(hints: u64, owner: u32) -> u64
-    ensures { hints ≢ 0 → result < hints }
-{
-    hints.saturating_sub(bit_of(owner).max(1))
-}
-
-/// The bit of a module, where it is one of the first 64.
-fn bit_of(owner: u32) -> u64 {
-    1u64.checked_shl(owner).unwrap_or(0)
 }
 
 /// The bits of the modules at the other ends of the channels of a module's last step with a cycle.

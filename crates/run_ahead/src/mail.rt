@@ -17,10 +17,18 @@ use module_interp::{Advance, ModuleRun, Reply};
 use std::alloc::Global;
 
 /// What a module's run has not taken yet: outcomes of its queries, and of each channel the values from its next pop on.
-#[derive(Drop)]
 pub struct Mail {
     pub outcomes: Flags,
     pub values: List<Words>,
+}
+
+impl Drop for Mail {
+    fn drop(self) {
+        let Mail {
+            outcomes: _outcomes,
+            values: _values,
+        } = self;
+    }
 }
 
 /// A module's run with its mail.

@@ -1,5 +1,6 @@
 -- Rounds of Assigns and Answers, the Earliest behind them, and the end.
-use Rattle.std.proofs.Common.{◌≡◌, refl, sym, ap, subst, ◌∙◌, ℕ, suc, ◌+◌, ◌-◌, ◌*◌, ◌^◌, ◌<◌, ◌≤◌, ◌⊎◌, inl, inr, true, false, length, Some, None, arith, mul-le-mul_right}
+use Rattle.std.proofs.Common.{◌≡◌, refl, sym, ap, subst, ◌∙◌, ℕ, suc, ◌+◌, ◌-◌, ◌*◌, ◌^◌, ◌<◌, ◌≤◌, ◌⊎◌, inl, inr, true, false, length,
+    Some, None, arith, mul-le-mul_right}
 use Rattle.std.specs.Prelude.{Result, Ok, Err, IfOk, IfErr, is_ok}
 use Rattle.std.proofs.lemmas.Bool.{cases_Bool, cases_lt}
 use Rattle.flow_design.specs.declared.plan.Plan.{Plan}
@@ -199,7 +200,8 @@ module _ (first now next : CoreView) (before ticks later count at idle done : �
       idle_here = subst (λ (q : Plan). may_time (design q) q.cycles (theory_of now) at ≡ false) r.goes.plan none
 
       on : (more : ℕ) → timings d limit more at (theory_of now) ≡ timings d limit more (suc at) (theory_of now)
-      on more = let c = counted_first in let u = r.inside (omega arith) in timings_on d limit more at (theory_of now) (omega arith) idle_here
+      on more = let c = counted_first in let u = r.inside (omega arith) in timings_on d limit more at (theory_of now) (omega arith)
+          idle_here
 
       from_next : (more : ℕ) → IsNextOf count at to → timings d limit more at (theory_of now) ≡ timings d limit more to (theory_of now)
       from_next more (inl (l, e)) =

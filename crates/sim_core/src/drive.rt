@@ -1,5 +1,5 @@
 //! All that is left to do.
-ghost use Rattle.std.specs.Prelude.{◌≡◌, ◌≢◌, ℕ, ◌<◌, true, false, length, slice_index_or, IfOk, OnErr};
+ghost use Rattle.std.specs.Prelude.{◌≡◌, ℕ, ◌<◌, true, false, length, slice_index_or, IfOk, OnErr};
 ghost use Rattle.event_timing.specs.Actions.{IsFinal, MayRun};
 ghost use Rattle.event_timing.specs.Agreement.{AllVerified};
 ghost use Rattle.timing_bridge.specs.Designs.{design};
@@ -7,7 +7,8 @@ ghost use Rattle.sim_core.specs.Views.{theory_of};
 ghost use Rattle.sim_core.specs.Drives.{Goes, HasDriven};
 
 use crate::machine::Core;
-use crate::visit::{Visit, bit_of};
+use crate::visit::Visit;
+use engine_view::{bit_of, next_of, without};
 use flow_word::{OutOfMemory, Steps};
 use outcome_guard::Guard;
 use std::sync::ledger::Ledger;
@@ -61,25 +62,4 @@ impl Core {
             }
         }
     }
-}
-
-/// The next of these modules behind one, going round. The same one where there is none.
-fn next_of(hints: u64, at: u32, count: u32) -> u32
-    requires { at < count }
-    ensures { result < count }
-{
-    let behind = hints.checked_shr(at + 1).unwrap_or(0);
-    let next = if behind != 0 {
-        behind.trailing_zeros().saturating_add(at + 1)
-    } else {
-        hints.trailing_zeros()
-    };
-    if next < count { next } else { at }
-}
-
-/// The bits without that of a module among them.
-fn without(hints: u64, owner: u32) -> u64
-    ensures { hints ≢ 0 → result < hints }
-{
-    hints.saturating_sub(bit_of(owner).max(1))
 }

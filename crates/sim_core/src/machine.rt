@@ -18,7 +18,6 @@ use std::marker::Model;
 ///
 /// It always agrees with the plan: each cycle is the clock in which the lockstep machine does the step, and each verified outcome is
 /// the one there. Contracts see the plan, what is held of the modules, and of each module whether its run is lent.
-#[derive(Drop)]
 pub struct Core {
     pub(crate) plan: Plan,
     pub(crate) graph: Graph,
@@ -40,6 +39,25 @@ pub struct Core {
     pub(crate) replies: List<Reply>,
     /// Room for a candidate of each module.
     pub(crate) candidates: Vec<Candidate>,
+}
+
+impl Drop for Core {
+    fn drop(self) {
+        let Core {
+            plan: _plan,
+            graph: _graph,
+            fifos: _fifos,
+            log: _log,
+            ends: _ends,
+            runs: _runs,
+            credits: _credits,
+            ports: _ports,
+            readers: _readers,
+            users: _users,
+            replies: _replies,
+            candidates: _candidates,
+        } = self;
+    }
 }
 
 impl Model for Core {

@@ -8,7 +8,7 @@ ghost use Rattle.sim_core.specs.Drives.{Goes, GoesOn, HasTimed, HasVisited};
 
 use crate::actions::Action;
 use crate::machine::Core;
-use engine_view::Timing;
+use engine_view::{Timing, bit_of};
 use event_graph::{Access, Place};
 use flow_word::{OutOfMemory, Steps, Words};
 use module_interp::ModuleRun;
@@ -207,9 +207,4 @@ fn add_user(users: &mut Words, channel: u32, bit: u64) -> u64 {
     }
     users[at] |= bit;
     users[at]
-}
-
-/// The bit of a module, where it is one of the first 64.
-pub(crate) fn bit_of(owner: u32) -> u64 {
-    1u64.checked_shl(owner).unwrap_or(0)
 }

@@ -31,7 +31,7 @@ pub record Moves (old new : Option (List ℕ)) (before after : List ℕ) (n : �
   pub gained : after ≡ before ++ bytes
   pub count : length bytes ≡ n
 
--- the known bytes grew by a front of the text
+-- the known bytes grew by a prefix of the text
 pub record AppendsPrefix (old new : Option (List ℕ)) (text : List ℕ) : Type 0 where
   pub count : ℕ
   pub appended : Appends old new (take count text)

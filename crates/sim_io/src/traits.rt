@@ -39,7 +39,7 @@ pub trait Sink {
     /// Whether all that it holds is finished.
     ghost is_finished: { Self → Bool };
 
-    /// Takes a front of the piece, and answers how many bytes: at least one, if the piece has any. Every call makes the
+    /// Takes a prefix of the piece, and answers how many bytes: at least one, if the piece has any. Every call makes the
     /// sink unfinished. After `Failed`, which it has counted, what it holds is as it was.
     fn put(&mut self, piece: &[u8]) -> Result<usize, Failed>
         ensures bound { WritesAtMost result piece.now }

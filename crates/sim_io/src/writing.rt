@@ -14,7 +14,7 @@ pub enum PutFault {
     WriteFault,
 }
 
-/// Writes all of a text. After a fault a front of it is written. An empty text leaves the sink as it was, and any other
+/// Writes all of a text. After a fault a prefix of it is written. An empty text leaves the sink as it was, and any other
 /// leaves it unfinished.
 pub fn write_all_of<K: Sink>(sink: &mut K, text: &[u8]) -> Result<(), PutFault>
     ensures ok { OnOk result (Appends (K.held sink.old) (K.held sink.new) text.now) }

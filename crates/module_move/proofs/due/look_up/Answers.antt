@@ -10,7 +10,13 @@ use Rattle.module_move.proofs.due.look_up.Goals as goal
 pub loop-left-init : goal.loop-left-init
 loop-left-init c = record {
   adding = record {
-    rest = rw (c.truncate.ensures, c.interval-step.ensures, c.len-left.ensures, c.block_of-block.ensures, c.requires.sound.state.places.temps)
+    rest = rw (
+      c.truncate.ensures,
+      c.interval-step.ensures,
+      c.len-left.ensures,
+      c.block_of-block.ensures,
+      c.requires.sound.state.places.temps,
+    )
         (sym (due_is c.args.of.now c.args.state.now));
     places = rw c.len-left.ensures (zero-add (length c.args.state.now.temps) ∙ c.requires.sound.state.places.temps);
   };
@@ -24,7 +30,8 @@ overflow_add-newest_age c =
     let b = block_of m s in
     let sound = c.requires.sound in
     let block = block_sound (length c.args.channels.now) m s.control.block c.requires.module sound.state.block in
-    let live : s.control.clock - s.control.newest < b.len = omega (arith, sound.state.control.has_started, sound.state.young sound.running) in
+    let live : s.control.clock - s.control.newest < b.len =
+    omega (arith, sound.state.control.has_started, sound.state.young sound.running) in
     let step : c.interval-step.result ≡ interval b = c.interval-step.ensures ∙ ap interval c.block_of-block.ensures in
     let age = older_age b s.control (c.loop-left.left - 1) live (omega (arith, c.loop-left.invariant.adding.places)) in
     let product : (c.loop-left.left - 1) * c.interval-step.result ≡ (c.loop-left.left - 1) * interval b =

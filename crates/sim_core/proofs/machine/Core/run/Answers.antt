@@ -77,7 +77,8 @@ returns-clause-not_permitted c =
     (held_in (stored c.self-2.inside.graph c.self-2.inside.fifos c.self-2.inside.log) (over_of c.self-2.inside.ends.items))
     c.self.inside.runs.items c.self-2.inside.runs.items c.args.owner c.take.new.self c.run_with-ran.new.run c.self.view_is
     c.self-2.view_is c.take.ensures.after c.run_with-ran.ensures.lent c.requires.here in
-    lending.ok_then c.run_with-ran.result _ _ (λ ran f e. lending.may_back _ _ _ _ trip c.args.owner (f e)) c.run_with-ran.ensures.not_permitted
+    lending.ok_then c.run_with-ran.result _ _ (λ ran f e. lending.may_back _ _ _ _ trip c.args.owner (f e))
+        c.run_with-ran.ensures.not_permitted
 
 pub returns-clause-unchanged : goal.returns-clause-unchanged
 returns-clause-unchanged c =
@@ -86,7 +87,8 @@ returns-clause-unchanged c =
     (held_in (stored c.self-2.inside.graph c.self-2.inside.fifos c.self-2.inside.log) (over_of c.self-2.inside.ends.items))
     c.self.inside.runs.items c.self-2.inside.runs.items c.args.owner c.take.new.self c.run_with-ran.new.run c.self.view_is
     c.self-2.view_is c.take.ensures.after c.run_with-ran.ensures.lent c.requires.here in
-    lending.ok_then c.run_with-ran.result _ _ (λ ran f e. lending.same_back _ _ _ _ trip c.args.owner (f e)) c.run_with-ran.ensures.unchanged
+    lending.ok_then c.run_with-ran.result _ _ (λ ran f e. lending.same_back _ _ _ _ trip c.args.owner (f e))
+        c.run_with-ran.ensures.unchanged
 
 pub returns-clause-no_memory : goal.returns-clause-no_memory
 returns-clause-no_memory c =

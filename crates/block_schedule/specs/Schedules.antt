@@ -1,6 +1,24 @@
 -- What a schedule holds of its block.
-use Rattle.std.specs.Prelude.{ℕ, ◌≡◌, ◌⊎◌, ◌+◌, ◌-◌, ◌==◌, ◌*◌, ◌<◌, ◌≤◌, List, map, filter, zip, length, slice_index, slice_index_or,
-    All, Contains}
+use Rattle.std.specs.Prelude.{
+  ℕ,
+  ◌≡◌,
+  ◌⊎◌,
+  ◌+◌,
+  ◌-◌,
+  ◌==◌,
+  ◌*◌,
+  ◌<◌,
+  ◌≤◌,
+  List,
+  map,
+  filter,
+  zip,
+  length,
+  slice_index,
+  slice_index_or,
+  All,
+  Contains,
+}
 use Rattle.std.specs.Prelude.{IsPermutation}
 use Rattle.std.specs.List.Sorted.{IsNonDecreasing}
 use Rattle.flow_design.specs.declared.limits.TheConstants.{BLOCK_CLOCKS, LIVE_ITERATIONS, OPERATIONS}

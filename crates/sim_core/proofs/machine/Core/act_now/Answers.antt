@@ -13,14 +13,14 @@ use Rattle.sim_core.proofs.machine.Core.act_now.Goals as goal
 pub unwrap-cycle-requires : goal.unwrap-cycle-requires
 unwrap-cycle-requires g c =
     let (n, may) = subst (λ (a : Action). IsPermitted (design c.args.self.now.plan) c.args.self.now.plan.cycles
-        (theory_of c.args.self.now) a)
+    (theory_of c.args.self.now) a)
     c.in-Earliest.is c.requires.permitted in
     acting.cycle_there c.args.self.now c.args.self.now c.in-Earliest.owner n may c.next_cycle.result c.next_cycle.ensures.cause
 
 pub answer_open-requires : goal.answer_open-requires
 answer_open-requires g c =
     let (n, may) = subst (λ (a : Action). IsPermitted (design c.args.self.now.plan) c.args.self.now.plan.cycles
-        (theory_of c.args.self.now) a)
+    (theory_of c.args.self.now) a)
     c.in-Earliest.is c.requires.permitted in
     acting.earliest_at c.args.self.now c.args.self.now c.in-Earliest.owner n c.unwrap-cycle.result may
     (acting.found_at c.args.self.now c.args.self.now c.in-Earliest.owner c.next_cycle.result c.unwrap-cycle.result
@@ -37,7 +37,7 @@ returns-in_ok-_ran-in-Run-clause-acted g c =
 pub returns-in-Assign-clause-acted : goal.returns-in-Assign-clause-acted
 returns-in-Assign-clause-acted g c =
     let (n, may) = subst (λ (a : Action). IsPermitted (design c.args.self.now.plan) c.args.self.now.plan.cycles
-        (theory_of c.args.self.now) a)
+    (theory_of c.args.self.now) a)
     c.in-Assign.is c.requires.permitted in
     subst (λ (a : Action). HasActed c.guard_of.result c.args.self.now a c.time.new.self) (sym c.in-Assign.is)
     (subst (λ (r : Guard). HasActed r c.args.self.now (Assign c.in-Assign.owner) c.time.new.self) (sym c.guard_of.ensures)

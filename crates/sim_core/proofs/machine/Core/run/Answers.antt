@@ -78,7 +78,7 @@ returns-clause-not_permitted c =
     c.self.inside.runs.items c.self-2.inside.runs.items c.args.owner c.take.new.self c.run_with-ran.new.run c.self.view_is
     c.self-2.view_is c.take.ensures.after c.run_with-ran.ensures.lent c.requires.here in
     lending.ok_then c.run_with-ran.result _ _ (λ ran f e. lending.may_back _ _ _ _ trip c.args.owner (f e))
-        c.run_with-ran.ensures.not_permitted
+    c.run_with-ran.ensures.not_permitted
 
 pub returns-clause-unchanged : goal.returns-clause-unchanged
 returns-clause-unchanged c =
@@ -88,7 +88,7 @@ returns-clause-unchanged c =
     c.self.inside.runs.items c.self-2.inside.runs.items c.args.owner c.take.new.self c.run_with-ran.new.run c.self.view_is
     c.self-2.view_is c.take.ensures.after c.run_with-ran.ensures.lent c.requires.here in
     lending.ok_then c.run_with-ran.result _ _ (λ ran f e. lending.same_back _ _ _ _ trip c.args.owner (f e))
-        c.run_with-ran.ensures.unchanged
+    c.run_with-ran.ensures.unchanged
 
 pub returns-clause-no_memory : goal.returns-clause-no_memory
 returns-clause-no_memory c =

@@ -44,7 +44,7 @@ pub invariant_of-self-3 : goal.invariant_of-self-3
 invariant_of-self-3 c =
     let k2 = c.self-2.invariant.core in
     let plan : c.self-2.inside.plan ≡ c.self.inside.plan = ap (λ (v : CoreView). v.plan) c.self-2.view_is ∙
-        c.run_stretch-woken.ensures.plan in
+    c.run_stretch-woken.ensures.plan in
     let modules : length c.self-2.inside.plan.design.modules ≡ length c.self.inside.plan.design.modules = ap
     (λ (p : Plan). length p.design.modules) plan in
     let inside2 : c.args.owner < length c.self-2.inside.graph.lanes = let a = rw (← c.self.view_is) at c.requires.owner in
@@ -56,7 +56,7 @@ invariant_of-self-3 c =
           c.args.owner q)
           (lending.same_some c.run_stretch-woken.new.run run e)
           (lending.run_at c.self.inside.plan c.self-2.inside.plan c.run_stretch-woken.new.self _ c.args.owner
-              c.run_stretch-woken.new.run plan
+          c.run_stretch-woken.new.run plan
           c.self-2.view_is c.run_stretch-woken.ensures.run));
       ports_are = c.self-2.invariant.ports_are;
       readers_are = c.self-2.invariant.readers_are;
@@ -71,7 +71,7 @@ returns-clause-some c =
     c.self.inside.runs.items c.self-2.inside.runs.items c.args.owner c.take.new.self c.run_stretch-woken.new.run c.self.view_is
     c.self-2.view_is c.take.ensures.after c.run_stretch-woken.ensures.lent c.requires.here in
     lending.ok_then c.run_stretch-woken.result _ _ (λ woken f. lending.some_then woken _ _
-        (λ g n. lending.goes_on_back _ _ _ _ trip c.args.owner n (g n)) f)
+    (λ g n. lending.goes_on_back _ _ _ _ trip c.args.owner n (g n)) f)
     c.run_stretch-woken.ensures.some
 
 pub returns-clause-unchanged : goal.returns-clause-unchanged
@@ -82,7 +82,7 @@ returns-clause-unchanged c =
     c.self.inside.runs.items c.self-2.inside.runs.items c.args.owner c.take.new.self c.run_stretch-woken.new.run c.self.view_is
     c.self-2.view_is c.take.ensures.after c.run_stretch-woken.ensures.lent c.requires.here in
     lending.ok_then c.run_stretch-woken.result _ _ (λ woken f e. lending.same_back _ _ _ _ trip c.args.owner (f e))
-        c.run_stretch-woken.ensures.unchanged
+    c.run_stretch-woken.ensures.unchanged
 
 pub returns-clause-none : goal.returns-clause-none
 returns-clause-none c =
@@ -92,7 +92,7 @@ returns-clause-none c =
     c.self.inside.runs.items c.self-2.inside.runs.items c.args.owner c.take.new.self c.run_stretch-woken.new.run c.self.view_is
     c.self-2.view_is c.take.ensures.after c.run_stretch-woken.ensures.lent c.requires.here in
     lending.ok_then c.run_stretch-woken.result _ _ (λ woken f e. lending.may_back _ _ _ _ trip c.args.owner (f e))
-        c.run_stretch-woken.ensures.none
+    c.run_stretch-woken.ensures.none
 
 pub returns-clause-no_memory : goal.returns-clause-no_memory
 returns-clause-no_memory c =
@@ -102,7 +102,7 @@ returns-clause-no_memory c =
     c.self.inside.runs.items c.self-2.inside.runs.items c.args.owner c.take.new.self c.run_stretch-woken.new.run c.self.view_is
     c.self-2.view_is c.take.ensures.after c.run_stretch-woken.ensures.lent c.requires.here in
     lending.err_then c.run_stretch-woken.result _ _ (λ g n. lending.goes_back _ _ _ _ trip c.args.owner n (g n))
-        c.run_stretch-woken.ensures.no_memory
+    c.run_stretch-woken.ensures.no_memory
 
 pub returns-clause-permitted : goal.returns-clause-permitted
 returns-clause-permitted c =
@@ -112,4 +112,4 @@ returns-clause-permitted c =
     c.self.inside.runs.items c.self-2.inside.runs.items c.args.owner c.take.new.self c.run_stretch-woken.new.run c.self.view_is
     c.self-2.view_is c.take.ensures.after c.run_stretch-woken.ensures.lent c.requires.here in
     lending.err_then c.run_stretch-woken.result _ _ (λ may. lending.may_home _ _ _ _ trip c.args.owner may)
-        c.run_stretch-woken.ensures.permitted
+    c.run_stretch-woken.ensures.permitted

@@ -1,0 +1,4 @@
+pub mod Counting
+pub mod Acts
+pub mod Placing
+pub mod Passing

@@ -23,14 +23,15 @@ pub record BehindEvents : Type 0 where
 pub record IsEventWalk (p : Plan) (n : ℕ) (events : List EventLine) (answers : List (List Bool)) (placed : List (Option ℕ))
     (queries held : List ℕ) : Type 0 where
   pub fits : FitsEngine p
-  pub events : events ≡ (report p).events
-  pub answers : answers ≡ (report p).answers
-  pub placed : placed ≡ places p.design.channels
-  pub queries : queries ≡ map (queries_behind p n) (range_with_len 0 (length p.design.modules))
-  pub held : held ≡ map (fill_behind p n) (fifos p)
+  pub its_events : events ≡ (report p).events
+  pub its_answers : answers ≡ (report p).answers
+  pub its_places : placed ≡ places p.design.channels
+  pub its_queries : queries ≡ map (queries_behind p n) (range_with_len 0 (length p.design.modules))
+  pub its_fills : held ≡ map (fill_behind p n) (fifos p)
   pub within : n ≤ length (acts p)
 
--- a walk by clocks stands behind the events before its clock, which is at most the verdict's
+-- a walk by clocks of a plan that the engine takes stands behind the events before its clock, which is at most the verdict's
 pub record IsFillWalk (p : Plan) (clock passed : ℕ) : Type 0 where
-  pub passed : passed ≡ length (acts_before p clock)
+  pub fits : FitsEngine p
+  pub behind : passed ≡ length (acts_before p clock)
   pub within : clock ≤ last_clock p

@@ -1,6 +1,6 @@
 //! A walk over a report, event by event.
 ghost use Rattle.std.specs.Prelude.{◌≡◌, ◌+◌, ◌<◌, ◌^◌, Some, map, length, slice_get, slice_index, slice_index_or, slice_set, option_map, count_by};
-ghost use Rattle.std.specs.Prelude.{IfOk, OnSome, false, []};
+ghost use Rattle.std.specs.Prelude.{IfOk, IfSome, false, []};
 ghost use Rattle.std.specs.List.{range_with_len};
 ghost use Rattle.flow_word.specs.declared.access.Side.TheVariants.{Pop, Push};
 ghost use Rattle.flow_word.specs.Kinds.{is_blocking};
@@ -12,7 +12,7 @@ ghost use Rattle.fifo_fills.specs.Passed.{acts, fill_behind, counted, is_done, w
 ghost use Rattle.fifo_fills.specs.Passed as table;
 
 use flow_design::{Channel, ChannelKind, EventLine, Plan, Report};
-use flow_word::{Flags, OutOfMemory, Side};
+use flow_word::{Flags, List, OutOfMemory, Side, Words};
 use std::alloc::Global;
 use std::marker::Model;
 
@@ -26,11 +26,11 @@ pub(crate) struct EventWalk<'a> {
     /// Of each module the outcomes of its queries.
     answers: &'a [Flags],
     /// Of each channel its place among the FIFOs, if it is one.
-    places: Vec<Option<u32>>,
+    places: List<Option<u32>>,
     /// Of each module how many queries the walk has passed.
-    queries: Vec<usize>,
+    queries: Words,
     /// What each FIFO holds, in elements.
-    fills: Vec<u64>,
+    fills: Words,
     /// How many events the walk has passed.
     passed: usize,
 }
@@ -46,7 +46,7 @@ impl<'a> Model for EventWalk<'a> {
 
     ghost view = { λ w. record { plan = w.plan.now; passed = w.passed } };
 
-    ghost invariant = { λ w. IsEventWalk w.plan.now w.passed w.events.now w.answers.now w.places.items w.queries.items w.fills.items };
+    ghost invariant = { λ w. IsEventWalk w.plan.now w.passed w.events.now w.answers.now w.places w.queries w.fills };
 }
 
 impl<'a> EventWalk<'a> {
@@ -66,8 +66,8 @@ impl<'a> EventWalk<'a> {
             events: report.events.as_slice(),
             answers: report.answers.as_slice(),
             places: places(alloc, channels)?,
-            queries: vec![in alloc; 0usize; report.answers.len() as usize]?,
-            fills: vec![in alloc; 0u64; count_fifos(channels)]?,
+            queries: List::zeros(alloc, report.answers.len())?,
+            fills: List::zeros(alloc, count_fifos(channels) as u64)?,
             passed: 0,
         })
     }
@@ -76,8 +76,10 @@ impl<'a> EventWalk<'a> {
     pub(crate) fn next_clock(&self) -> Option<u64>
         ensures { result ≡ option_map (λ a. (a.0).clock) (slice_get (acts self.now.plan) self.now.passed) }
     {
-        let event = self.events.get(self.passed)?;
-        Some(event.cycle)
+        if self.passed >= self.events.len() {
+            return None;
+        }
+        Some(self.events[self.passed].cycle)
     }
 
     /// What each FIFO holds behind the events that were passed, in order of declaration.
@@ -95,7 +97,7 @@ impl<'a> EventWalk<'a> {
         let event = self.events[self.passed];
         self.passed += 1;
         if was_done(event, self.answers, self.queries.as_mut_slice()) && event.kind.takes() {
-            let place = self.places[event.channel as usize];
+            let place = self.places.as_slice()[event.channel as usize];
             count_element(self.fills.as_mut_slice(), place, event.kind.side());
         }
     }
@@ -119,11 +121,11 @@ fn count_fifos(channels: &[Channel]) -> usize
 }
 
 /// Of each channel its place among the FIFOs, if it is one.
-fn places(alloc: Global, channels: &[Channel]) -> Result<Vec<Option<u32>>, OutOfMemory>
+fn places(alloc: Global, channels: &[Channel]) -> Result<List<Option<u32>>, OutOfMemory>
     requires few { length channels.now < 2 ^ 32 }
-    ensures { IfOk result (λ placed. placed.items ≡ table.places channels.now) }
+    ensures { IfOk result (λ placed. placed ≡ table.places channels.now) }
 {
-    let mut places = Vec::with_capacity(alloc, channels.len())?;
+    let mut places = List::with_room(alloc, channels.len() as u64)?;
     let mut fifos = 0u32;
     for channel in channels {
         if is_fifo(channel.kind) {
@@ -137,7 +139,7 @@ fn places(alloc: Global, channels: &[Channel]) -> Result<Vec<Option<u32>>, OutOf
 }
 
 /// Whether the operation of an event was done. It passes the outcome of a query.
-fn was_done(event: EventLine, answers: &[Flags], queries: &mut [usize]) -> bool
+fn was_done(event: EventLine, answers: &[Flags], queries: &mut [u64]) -> bool
     requires module { event.module < length queries.old }
     requires modules { length answers.now ≡ length queries.old }
     requires outcome { is_blocking event.kind ≡ false
@@ -151,15 +153,16 @@ fn was_done(event: EventLine, answers: &[Flags], queries: &mut [usize]) -> bool
     }
     let module = event.module as usize;
     let query = queries[module];
+    let outcome = answers[module].as_slice()[query as usize];
     queries[module] = query + 1;
-    answers[module].as_slice()[query]
+    outcome
 }
 
 /// Counts an element that was pushed on a channel or popped off it, if the channel is a FIFO: it then has a place.
 fn count_element(fills: &mut [u64], place: Option<u32>, side: Side)
-    requires place { OnSome place (λ k. k < length fills.old) }
-    requires some { side ≡ Pop → OnSome place (λ k. 0 < slice_index fills.old k) }
-    requires few { OnSome place (λ k. slice_index fills.old k + 1 < 2 ^ 64) }
+    requires place { IfSome place (λ k. k < length fills.old) }
+    requires some { side ≡ Pop → IfSome place (λ k. 0 < slice_index fills.old k) }
+    requires few { IfSome place (λ k. slice_index fills.old k + 1 < 2 ^ 64) }
     ensures { fills.new ≡ counted place side fills.old }
 {
     if let Some(place) = place {

@@ -1,3 +1,7 @@
+use Rattle.fifo_fills.proofs.Clocks.{next_is}
+use Rattle.fifo_fills.proofs.Passing.{held_next}
+use Rattle.fifo_fills.proofs.Placing.{counted_next}
+use Rattle.fifo_fills.proofs.Acts.{never_under}
 use Rattle.fifo_fills.proofs.Counting.{counted, within_depth}
 use Rattle.fifo_fills.proofs.laws.fills_are_counted.Goals as goal
 

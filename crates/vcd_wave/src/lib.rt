@@ -1,0 +1,8 @@
+//! The wave of a plan: a text in the value change dump form that tells how many elements each FIFO holds.
+#![tactic(auto)]
+
+mod binary;
+mod lines;
+mod text;
+
+pub use text::wave_text;

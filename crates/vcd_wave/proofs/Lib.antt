@@ -1,1 +1,3 @@
-
+pub mod BinaryLemmas
+pub mod LineLemmas
+pub mod Instants

@@ -1,5 +1,5 @@
 -- The wave of a plan: how many elements each FIFO holds, and where that changes.
-use Rattle.std.specs.Prelude.{ℕ, ◌+◌, ◌-◌, ◌==◌, ◌&&◌, Bool, not, nat_lt, if◌then◌else◌, List, [], ◌∷◌, ◌++◌, map, filter, length, slice_index}
+use Rattle.std.specs.Prelude.{ℕ, ◌+◌, ◌-◌, ◌==◌, ◌&&◌, Bool, true, false, not, nat_lt, if◌then◌else◌, List, [], ◌∷◌, ◌++◌, map, filter, length, slice_index}
 use Rattle.std.specs.List.{flat_map, range_with_len}
 use Rattle.flow_design.specs.declared.design.Channel.{Channel}
 use Rattle.flow_design.specs.declared.plan.Plan.{Plan}
@@ -36,6 +36,11 @@ abbrev pub changes_between : List ℕ → List ℕ → List Change
 changes_between before now =
     map (λ i. record { fifo = i; fill = slice_index now i }) (filter (differs before now) (range_with_len 0 (length now)))
 
+-- whether a list has an element
+abbrev pub has_some : {X : Type 0} → List X → Bool
+has_some [] = false
+has_some (x ∷ xs) = true
+
 -- nothing where nothing changes
 abbrev pub instant_of : ℕ → List Change → List Instant
 instant_of clock [] = []
@@ -51,7 +56,7 @@ instants_to p clock = flat_map (instant_at p) (range_with_len 1 clock)
 
 -- the last clock, where it is above 0 and nothing changes in it
 abbrev pub closing : Plan → ℕ → List Instant
-closing p last = if nat_lt 0 last && (length (instant_at p last) == 0) then record { clock = last; changes = [] } ∷ [] else []
+closing p last = if nat_lt 0 last && not (has_some (instant_at p last)) then record { clock = last; changes = [] } ∷ [] else []
 
 unfoldable pub wave_of : Plan → Wave
 wave_of p = record { names = fifo_names p.design.channels; later = instants_to p (last_clock p) ++ closing p (last_clock p) }

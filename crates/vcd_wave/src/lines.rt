@@ -1,9 +1,9 @@
 //! The lines of a wave.
-ghost use Rattle.std.specs.Prelude.{◌≡◌, ◌∷◌, ◌++◌, decimal, map, length, nat_lt, OnOk, IfOk};
+ghost use Rattle.std.specs.Prelude.{◌≡◌, ◌∷◌, ◌++◌, decimal, map, length, OnOk, IfOk};
 ghost use Rattle.std.specs.List.{flat_map, enumerate_from};
 ghost use Rattle.flow_design.specs.Plans.{is_fifo};
 ghost use Rattle.report_text.specs.Lines.{line, text_of_lines};
-ghost use Rattle.vcd_wave.specs.Wave.{fifo_names, changes_between, instant_of};
+ghost use Rattle.vcd_wave.specs.Wave.{fifo_names, changes_between, has_some, instant_of};
 ghost use Rattle.vcd_wave.specs.WaveText.{code_of, var_tokens, time_tokens, change_tokens, header_lines, opening, instant_lines};
 
 use crate::binary::push_binary;
@@ -27,13 +27,15 @@ fn push_code(text: &mut List<u8>, fifo: u64) -> Result<(), OutOfMemory>
 }
 
 /// Adds the line that declares a FIFO.
+#[tactic(auto, using(report_text::proofs::LineLemmas::line_of_four))]
 fn print_var(text: &mut List<u8>, fifo: u64, name: &[u8]) -> Result<(), OutOfMemory>
     ensures { OnOk result (text.new ≡ text.old ++ line (var_tokens (fifo, name.now))) }
 {
     text.extend_from_slice(b"$var wire 32")?;
     push_code(text, fifo)?;
     push_token(text, name)?;
-    text.extend_from_slice(b" $end\n")
+    push_token(text, b"$end")?;
+    text.push(b'\n')
 }
 
 /// Adds a line for each FIFO among the channels, and returns how many there are.
@@ -106,11 +108,16 @@ fn print_changes(text: &mut List<u8>, before: &[u64], now: &[u64]) -> Result<(),
 }
 
 /// Adds a clock with its changes, if there is any, and returns whether there is.
-pub fn print_instant(text: &mut List<u8>, clock: u64, before: &[u64], now: &[u64]) -> Result<bool, OutOfMemory>
+pub fn print_instant(
+    text: &mut List<u8>,
+    clock: u64,
+    before: &[u64],
+    now: &[u64],
+) -> Result<bool, OutOfMemory>
     requires { length before.now ≡ length now.now }
     ensures text { OnOk result (text.new
         ≡ text.old ++ text_of_lines (flat_map instant_lines (instant_of clock (changes_between before.now now.now)))) }
-    ensures some { IfOk result (λ some. some ≡ nat_lt 0 (length (changes_between before.now now.now))) }
+    ensures some { IfOk result (λ some. some ≡ has_some (changes_between before.now now.now)) }
 {
     let some = before != now;
     if some {

@@ -1,9 +1,9 @@
 -- The clocks of a wave, one after the other.
-use Rattle.std.proofs.Common.{◌≡◌, ◌≢◌, ℕ, zero, suc, ◌+◌, ◌-◌, ◌≤◌, ◌<◌, ◌==◌, ◌&&◌, Bool, true, false, not, cond, List, [], ◌∷◌, ◌++◌, map}
-use Rattle.std.proofs.Common.{length, refl, sym, ◌∙◌, ap, ap₂, subst, arith, append_assoc, add-zero, nat_lt, ◌⊎◌, inl, inr}
+use Rattle.std.proofs.Common.{◌≡◌, ◌≢◌, ℕ, zero, suc, ◌+◌, ◌-◌, ◌≤◌, ◌<◌, ◌&&◌, Bool, false, not, cond, List, [], ◌∷◌, ◌++◌}
+use Rattle.std.proofs.Common.{length, refl, sym, ◌∙◌, ap, ap₂, subst, arith, append_assoc, nat_lt, ◌⊎◌, inl, inr}
 use Rattle.std.specs.List.{flat_map, range_with_len, refill}
 use Rattle.std.proofs.Common.{drop}
-use Rattle.std.proofs.lemmas.Bool.{cases_lt, cases_eq, lt-ltb, ne_eqb, eq-eqb, leb-true}
+use Rattle.std.proofs.lemmas.Bool.{cases_lt, lt-ltb}
 use Rattle.std.proofs.lemmas.List.{append-nil, length-map, take_at}
 use Rattle.std.proofs.lemmas.List.Concat.{flat_map-append}
 use Rattle.flow_design.specs.declared.plan.Plan.{Plan}
@@ -11,10 +11,10 @@ use Rattle.flow_design.specs.declared.report.Report.{Report}
 use Rattle.lockstep_defs.specs.Report.{report}
 use Rattle.lockstep_defs.specs.Verdict.{clock_of}
 use Rattle.fifo_fills.specs.Fills.{fifos, fill, fills, last_clock, AreSteady, IsNextClock}
-use Rattle.report_text.specs.Lines.{Token, line, text_of_lines}
+use Rattle.report_text.specs.Lines.{line, text_of_lines}
 use Rattle.vcd_wave.specs.Wave.{Change, Instant, Wave, fifo_names, changes_between, instant_of, instant_at, instants_to, closing, wave_of, has_some}
-use Rattle.vcd_wave.specs.WaveText.{time_tokens, change_tokens, instant_lines}
-use Rattle.vcd_wave.proofs.LineLemmas.{range_push, none_same, same_from_none, text-append}
+use Rattle.vcd_wave.specs.WaveText.{time_tokens, instant_lines}
+use Rattle.vcd_wave.proofs.LineLemmas.{range_push, none_same, text-append}
 
 -- ---- one clock more
 

@@ -1,10 +1,10 @@
 -- The wave of a plan: how many elements each FIFO holds, and where that changes.
-use Rattle.std.specs.Prelude.{ℕ, ◌+◌, ◌-◌, ◌==◌, ◌&&◌, Bool, true, false, not, nat_lt, if◌then◌else◌, List, [], ◌∷◌, ◌++◌, map, filter, length, slice_index}
+use Rattle.std.specs.Prelude.{ℕ, ◌-◌, ◌==◌, ◌&&◌, Bool, true, false, not, nat_lt, if◌then◌else◌, List, [], ◌∷◌, ◌++◌, map, filter, length, slice_index}
 use Rattle.std.specs.List.{flat_map, range_with_len}
 use Rattle.flow_design.specs.declared.design.Channel.{Channel}
 use Rattle.flow_design.specs.declared.plan.Plan.{Plan}
 use Rattle.flow_design.specs.Plans.{is_fifo}
-use Rattle.fifo_fills.specs.Fills.{fifos, fills, last_clock}
+use Rattle.fifo_fills.specs.Fills.{fills, last_clock}
 
 -- the FIFO of this number, from 0 in order of declaration, holds this many elements now
 pub record Change : Type 0 where

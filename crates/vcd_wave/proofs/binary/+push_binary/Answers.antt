@@ -1,4 +1,4 @@
-use Rattle.std.proofs.Common.{◌≡◌, ℕ, List, ◌∷◌, [], ◌++◌, ◌+◌, ◌%◌, ◌/◌, ◌∙◌, ap, sym, append_assoc, OnOk}
+use Rattle.std.proofs.Common.{ℕ, List, ◌∷◌, [], ◌++◌, ◌+◌, ◌%◌, ◌/◌, ◌∙◌, ap, sym, append_assoc}
 use Rattle.vcd_wave.specs.Binary.{binary}
 use Rattle.vcd_wave.proofs.BinaryLemmas.{binary_small, binary_step}
 use Rattle.vcd_wave.proofs.LineLemmas.{on_ok}

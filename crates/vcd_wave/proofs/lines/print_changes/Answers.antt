@@ -1,4 +1,4 @@
-use Rattle.std.proofs.Common.{sym, ◌∙◌, ap, ◌++◌, List, ℕ, refl, get_or}
+use Rattle.std.proofs.Common.{◌∙◌, ap, ◌++◌, List, ℕ, refl, get_or}
 use Rattle.report_text.specs.Lines.{line}
 use Rattle.vcd_wave.specs.WaveText.{change_tokens}
 use Rattle.vcd_wave.proofs.LineLemmas.{changes_yes, changes_no}

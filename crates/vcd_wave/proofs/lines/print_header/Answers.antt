@@ -1,4 +1,4 @@
-use Rattle.vcd_wave.proofs.LineLemmas.{on_ok, header_text}
+use Rattle.vcd_wave.proofs.LineLemmas.{header_text}
 use Rattle.vcd_wave.proofs.lines.print_header.Goals as goal
 
 pub returns-clause-text : goal.returns-clause-text

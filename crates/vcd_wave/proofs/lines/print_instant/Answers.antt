@@ -1,4 +1,4 @@
-use Rattle.std.proofs.Common.{sym, ◌∙◌, ◌≡◌, ap, List, ℕ, refl, true, false}
+use Rattle.std.proofs.Common.{sym, ◌∙◌}
 use Rattle.vcd_wave.proofs.LineLemmas.{some_by, instant_some, instant_none}
 use Rattle.vcd_wave.specs.Wave.{changes_between}
 use Rattle.vcd_wave.proofs.lines.print_instant.Goals as goal

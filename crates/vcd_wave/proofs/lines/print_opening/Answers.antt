@@ -1,4 +1,4 @@
-use Rattle.std.proofs.Common.{sym, ◌∙◌, ap, ◌++◌, List, ℕ}
+use Rattle.std.proofs.Common.{◌∙◌, ap, ◌++◌, List, ℕ}
 use Rattle.report_text.specs.Lines.{line}
 use Rattle.vcd_wave.specs.WaveText.{time_tokens, change_tokens}
 use Rattle.vcd_wave.proofs.LineLemmas.{opening_more}

@@ -1,5 +1,5 @@
-use Rattle.std.proofs.Common.{sym, ◌∙◌, ◌≡◌, ap, subst, ◌++◌, List, ℕ, refl, Bool, true, false, cond, length}
-use Rattle.fifo_fills.specs.Fills.{fills, last_clock, IsNextClock, AreSteady}
+use Rattle.std.proofs.Common.{sym, ◌∙◌, ◌≡◌, ap, subst, ℕ, refl, Bool, cond, length}
+use Rattle.fifo_fills.specs.Fills.{fills, last_clock, AreSteady}
 use Rattle.flow_design.specs.declared.plan.Plan.{Plan}
 use Rattle.fifo_fills.specs.Walks.{AtClock}
 use Rattle.vcd_wave.proofs.Instants.{telling_first, told_whole, told_closing, telling_kept, last_is, count_same, IsTelling}

@@ -1,10 +1,9 @@
-use Rattle.std.proofs.Common.{◌∙◌, ◌≡◌, ap, sym, List, ℕ, ◌++◌, length}
+use Rattle.std.proofs.Common.{◌∙◌, ap, ℕ, ◌++◌}
 use Rattle.flow_design.specs.declared.design.Design.{Design}
-use Rattle.flow_design.specs.declared.design.Channel.{Channel}
 use Rattle.std.specs.List.{flat_map}
 use Rattle.flow_design.specs.declared.plan.Plan.{Plan}
 use Rattle.report_text.specs.Lines.{text_of_lines}
-use Rattle.vcd_wave.specs.Wave.{Wave, fifo_names, wave_of}
+use Rattle.vcd_wave.specs.Wave.{fifo_names, wave_of}
 use Rattle.vcd_wave.specs.WaveText.{wave_text, opening, instant_lines}
 use Rattle.vcd_wave.proofs.LineLemmas.{whole_text}
 use Rattle.vcd_wave.proofs.Instants.{wave_is}

@@ -18,11 +18,11 @@ use Rattle.vcd_wave.proofs.LineLemmas.{range_push, none_same, text-append}
 
 -- ---- one clock more
 
-instants_zero : (p : Plan) → instants_to p 0 ≡ []
+pub instants_zero : (p : Plan) → instants_to p 0 ≡ []
 unfolding instants_to
 instants_zero p = refl
 
-instants_more : (p : Plan) (c : ℕ) → instants_to p (c + 1) ≡ instants_to p c ++ instant_at p (c + 1)
+pub instants_more : (p : Plan) (c : ℕ) → instants_to p (c + 1) ≡ instants_to p c ++ instant_at p (c + 1)
 unfolding instants_to
 instants_more p c =
     ap (flat_map (instant_at p)) (range_push 1 c)
@@ -149,7 +149,7 @@ told_all p c told h l steady = record {
   ];
 }
 
-closing_none : (p : Plan) (last : ℕ) → ((0 < last) → instant_at p last ≢ []) → closing p last ≡ []
+pub closing_none : (p : Plan) (last : ℕ) → ((0 < last) → instant_at p last ≢ []) → closing p last ≡ []
 closing_none p last h =
     ap (λ (b : Bool). cond b (record { clock = last; changes = [] } ∷ []) [])
     (by_case (cases_lt 0 last) (instant_at p last) h)
@@ -160,11 +160,11 @@ closing_none p last h =
     by_case (inr m) xs g =
         let zero_clock : last ≡ 0 = omega arith in ap (λ (n : ℕ). nat_lt 0 n && not (has_some xs)) zero_clock
 
-closing_some : (p : Plan) (last : ℕ) → 0 < last → instant_at p last ≡ [] → closing p last ≡ record { clock = last; changes = [] } ∷ []
+pub closing_some : (p : Plan) (last : ℕ) → 0 < last → instant_at p last ≡ [] → closing p last ≡ record { clock = last; changes = [] } ∷ []
 closing_some p last l e =
     ap₂ (λ (a b : Bool). cond (a && not b) (record { clock = last; changes = [] } ∷ []) []) (lt-ltb 0 last l) (ap has_some e)
 
-later_is : (p : Plan) → (wave_of p).later ≡ instants_to p (last_clock p) ++ closing p (last_clock p)
+pub later_is : (p : Plan) → (wave_of p).later ≡ instants_to p (last_clock p) ++ closing p (last_clock p)
 unfolding wave_of
 later_is p = refl
 

@@ -48,7 +48,7 @@ range_push a (suc n) =
     ap (range_with_len a) e
     ∙ ap (λ (l : List ℕ). a ∷ l) (range_push (a + 1) n ∙ ap (λ (m : ℕ). range_with_len (a + 1) n ++ m ∷ []) (omega arith))
 
-filter-append : {X : Type 0} (p : X → Bool) (xs ys : List X) → filter p (xs ++ ys) ≡ filter p xs ++ filter p ys
+pub filter-append : {X : Type 0} (p : X → Bool) (xs ys : List X) → filter p (xs ++ ys) ≡ filter p xs ++ filter p ys
 filter-append p [] ys = refl
 filter-append {X} p (x ∷ xs) ys = by_test (p x) (filter-append p xs ys)
   where
@@ -138,7 +138,7 @@ opening_more first n =
 abbrev pub changes_to : List ℕ → List ℕ → ℕ → List Change
 changes_to before now n = map (λ i. record { fifo = i; fill = get_or now i 0 }) (filter (differs before now) (range_with_len 0 n))
 
-changes_more : (before now : List ℕ) (n : ℕ) (b : Bool) → differs before now n ≡ b
+pub changes_more : (before now : List ℕ) (n : ℕ) (b : Bool) → differs before now n ≡ b
     → changes_to before now (n + 1) ≡ changes_to before now n ++ cond b (record { fifo = n; fill = get_or now n 0 } ∷ []) []
 changes_more before now n b e =
     let mk : ℕ → Change = λ i. record { fifo = i; fill = get_or now i 0 } in

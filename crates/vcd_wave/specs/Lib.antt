@@ -1,3 +1,4 @@
 pub mod Binary
 pub mod Wave
 pub mod WaveText
+pub mod Told

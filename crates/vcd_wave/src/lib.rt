@@ -2,7 +2,9 @@
 #![tactic(auto)]
 
 mod binary;
+mod laws;
 mod lines;
 mod text;
 
+pub use laws::waves_tell_fills;
 pub use text::wave_text;

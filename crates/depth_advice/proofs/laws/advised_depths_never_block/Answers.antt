@@ -1,0 +1,8 @@
+use Rattle.depth_advice.proofs.Depths.{advised_depths, never_blocks}
+use Rattle.depth_advice.proofs.laws.advised_depths_never_block.Goals as goal
+
+pub returns-clause-depths : goal.returns-clause-depths
+returns-clause-depths c = advised_depths
+
+pub returns-clause-same : goal.returns-clause-same
+returns-clause-same c = never_blocks

@@ -15,7 +15,7 @@ use Rattle.flow_design.specs.StaticRules.{AreEntriesSound, FitsEngine}
 use Rattle.lockstep_defs.specs.Channels.{contents_of}
 use Rattle.lockstep_defs.specs.Lockstep.{state}
 use Rattle.lockstep_defs.specs.Report.{report}
-use Rattle.depth_advice.specs.Fills.{fill, last_clock}
+use Rattle.fifo_fills.specs.Fills.{fill, last_clock}
 use Rattle.depth_advice.specs.Advice.{with_depths, depths_by, AreDepths, wide, greatest, peak, advised}
 use Rattle.depth_advice.proofs.Alike.{NoneFull, NeitherBefore, report_same}
 use Rattle.depth_advice.proofs.Few.{fifo_inside, fill_few}

@@ -8,7 +8,7 @@ use Rattle.flow_design.specs.declared.report.Verdict.TheVariants.{Done, Deadlock
 use Rattle.flow_design.specs.Plans.{is_fifo, kind_at}
 use Rattle.lockstep_defs.specs.Verdict.{verdict}
 use Rattle.lockstep_defs.specs.Laws.{is_query}
-use Rattle.depth_advice.specs.Fills.{fill, last_clock}
+use Rattle.fifo_fills.specs.Fills.{fill, last_clock}
 
 -- ---- depths
 

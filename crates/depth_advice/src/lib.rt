@@ -2,5 +2,7 @@
 #![tactic(auto)]
 
 mod laws;
+mod peaks;
+mod widening;
 
 pub use laws::{advised_depths_never_block, no_depths_are_faster};

@@ -1,12 +1,10 @@
 -- The operations of the history, one after the other: what a report tells of them, and in which clocks they were done.
 use Rattle.std.proofs.Common.{◌≡◌, ℕ, zero, suc, ◌+◌, ◌-◌, ◌≤◌, ◌<◌, List, [], ◌∷◌, ◌++◌, map, length, take, drop, Bool, true, false, not}
-use Rattle.std.proofs.Common.{◌==◌, cond, refl, sym, ◌∙◌, ap, ap₂, subst, arith, zero-add, suc-add, append_assoc, length-append, length-drop}
-use Rattle.std.proofs.Common.{◌⊎◌, inl, inr, Some, get_or, Option}
-use Rattle.std.specs.Prelude.{slice_get}
-use Rattle.std.specs.List.{filter, flat_map, enumerate_from, AllByRecursion}
+use Rattle.std.proofs.Common.{◌==◌, cond, refl, sym, ◌∙◌, ap, ap₂, subst, arith, zero-add, suc-add, append_assoc, length-append}
+use Rattle.std.proofs.Common.{inl, inr}
+use Rattle.std.specs.List.{flat_map, AllByRecursion}
 use Rattle.std.proofs.lemmas.Bool.{cases_lt}
-use Rattle.std.proofs.lemmas.List.{append-nil, map-append, length-map, take-append-le, drop-append-le, take_all, drop_all, take-append-drop}
-use Rattle.std.proofs.lemmas.List.{length-take-le}
+use Rattle.std.proofs.lemmas.List.{append-nil, map-append, take-append-le, drop-append-le, take_all, drop_all, take-append-drop}
 use Rattle.std.proofs.lemmas.List.Concat.{flat_map-append}
 use Rattle.flow_word.specs.declared.access.Side.{Side}
 use Rattle.flow_word.specs.declared.access.Side.TheVariants.{Pop, Push}
@@ -19,14 +17,14 @@ use Rattle.flow_design.specs.declared.state.ModuleState.{ModuleState}
 use Rattle.flow_design.specs.StaticRules.{FitsEngine}
 use Rattle.flow_design.specs.Plans.{is_fifo, kind_at}
 use Rattle.lockstep_defs.specs.Machine.{is_yes}
-use Rattle.lockstep_defs.specs.Channels.{HistoryStep, Exchange, moved_value, moved_by, moved, contents_of}
+use Rattle.lockstep_defs.specs.Channels.{HistoryStep, Exchange, moved_value, moved_by, moved}
 use Rattle.lockstep_defs.specs.Lockstep.{requests_of, moves, answered, step_with, step_of, steps_in, numbered, state, history}
 use Rattle.lockstep_defs.specs.Report.{steps_of, queries, outcomes, event_of, events_of}
 use Rattle.lockstep_defs.proofs.Settled.{history-zero, history-suc}
 use Rattle.lockstep_defs.proofs.Order.{before_clock}
 use Rattle.lockstep_defs.proofs.Queue.{all-append, popped_within}
 use Rattle.lockstep_defs.proofs.Rules.{keeps_ports}
-use Rattle.fifo_fills.specs.Fills.{fill, moved_before}
+use Rattle.fifo_fills.specs.Fills.{fill}
 use Rattle.fifo_fills.specs.Passed.{Act, acts_in, acts_before, moved_in, outcome_of, outcomes_in}
 use Rattle.fifo_fills.proofs.Counting.{counted}
 
@@ -108,10 +106,11 @@ acts-suc p c = ap acts_in (history-suc p c) ∙ acts-append (history p c) (steps
 pub begins : (p : Plan) (c n : ℕ) → (later : List Act) × (acts_before p (n + c) ≡ acts_before p c ++ later)
 begins p c zero = ([], ap (acts_before p) (zero-add c) ∙ sym (append-nil _))
 begins p c (suc n) =
-    let (later, e) = begins p c n in
-    (later ++ acts_in (steps_in p (n + c) (state p (n + c))),
-    ap (acts_before p) (suc-add n c) ∙ (acts-suc p (n + c)
-    ∙ (ap (λ (l : List Act). l ++ acts_in (steps_in p (n + c) (state p (n + c)))) e ∙ append_assoc (acts_before p c) later _)))
+    let (later, e) = begins p c n in (
+      later ++ acts_in (steps_in p (n + c) (state p (n + c))),
+      ap (acts_before p) (suc-add n c) ∙ (acts-suc p (n + c)
+          ∙ (ap (λ (l : List Act). l ++ acts_in (steps_in p (n + c) (state p (n + c)))) e ∙ append_assoc (acts_before p c) later _)),
+    )
 
 -- ---- their clocks
 
@@ -165,7 +164,7 @@ late p c zero =
 late p c (suc n) =
     let (later, e) = begins p c n in
     let longer : length (acts_before p c) ≤ length (acts_before p (n + c)) =
-        omega (arith, ap length e, length-append (acts_before p c) later) in
+    omega (arith, ap length e, length-append (acts_before p c) later) in
     let now = acts_in (steps_in p (n + c) (state p (n + c))) in
     subst (λ (l : List Act). AllByRecursion (λ (a : Act). c ≤ (a.0).clock) l)
     (sym (ap (λ (d : ℕ). drop (length (acts_before p c)) (acts_before p d)) (suc-add n c)
@@ -206,9 +205,9 @@ under_now p fits f c n l fifo h =
     let now = acts_in (steps_in p c (state p c)) in
     let split = ap (take n) (acts-suc p c) ∙ take_over n (acts_before p c) now h in
     let pops = ap length (moved-append Pop f (acts_before p c) (take m now))
-        ∙ length-append (moved_in Pop f (acts_before p c)) (moved_in Pop f (take m now)) in
+    ∙ length-append (moved_in Pop f (acts_before p c)) (moved_in Pop f (take m now)) in
     let pushes = ap length (moved-append Push f (acts_before p c) (take m now))
-        ∙ length-append (moved_in Push f (acts_before p c)) (moved_in Push f (take m now)) in
+    ∙ length-append (moved_in Push f (acts_before p c)) (moved_in Push f (take m now)) in
     let few = front_moved Pop f m now in
     let all = ap length (moved_are Pop f (steps_in p c (state p c))) in
     let there = held_now p fits f c in
@@ -221,13 +220,13 @@ pub never_under : (p : Plan) → FitsEngine p → (f : ℕ) → f < length p.des
     → length (moved_in Pop f (take n (acts_before p c))) ≤ length (moved_in Push f (take n (acts_before p c)))
 never_under p fits f l fifo zero n =
     let none : length (moved_in Pop f (take n (acts_before p 0))) ≡ 0 =
-        ap (λ (a : List Act). length (moved_in Pop f (take n a))) (acts-zero p)
-        ∙ ap (λ (a : List Act). length (moved_in Pop f a)) (take_all n [] (omega arith)) in
+    ap (λ (a : List Act). length (moved_in Pop f (take n a))) (acts-zero p)
+    ∙ ap (λ (a : List Act). length (moved_in Pop f a)) (take_all n [] (omega arith)) in
     omega arith
 never_under p fits f l fifo (suc c) n =
     elim (cases_lt n (length (acts_before p c))) [
-        inl h ↦ subst (λ (a : List Act). length (moved_in Pop f a) ≤ length (moved_in Push f a))
-            (sym (ap (take n) (acts-suc p c) ∙ take-append-le n (acts_before p c) (acts_in (steps_in p c (state p c))) (omega arith)))
-            (never_under p fits f l fifo c n)
-        | inr h ↦ under_now p fits f c n l fifo h
+      | inl h ↦ subst (λ (a : List Act). length (moved_in Pop f a) ≤ length (moved_in Push f a))
+          (sym (ap (take n) (acts-suc p c) ∙ take-append-le n (acts_before p c) (acts_in (steps_in p c (state p c))) (omega arith)))
+          (never_under p fits f l fifo c n)
+      | inr h ↦ under_now p fits f c n l fifo h
     ]

@@ -3,9 +3,9 @@ use Rattle.std.proofs.Common.{◌≡◌, ℕ, zero, suc, ◌+◌, ◌≤◌, ◌
 use Rattle.std.proofs.Common.{cond, refl, sym, ◌∙◌, ap, ap₂, subst, arith, nat_le, length-append, length-drop}
 use Rattle.std.specs.Prelude.{slice_index}
 use Rattle.std.specs.List.{list_any, flat_map}
-use Rattle.std.proofs.lemmas.Bool.{eqb-true, or_parts, leb-true, leb-false, cases_Bool}
-use Rattle.std.proofs.Common.{◌⊎◌, inl, inr, append_assoc}
-use Rattle.std.proofs.lemmas.List.{append-nil, length-map}
+use Rattle.std.proofs.lemmas.Bool.{eqb-true, or_parts, leb-false}
+use Rattle.std.proofs.Common.{◌⊎◌, inl, inr}
+use Rattle.std.proofs.lemmas.List.{length-map}
 use Rattle.flow_word.specs.declared.access.Side.{Side}
 use Rattle.flow_word.specs.declared.access.Side.TheVariants.{Pop, Push}
 use Rattle.flow_word.specs.declared.access.Kind.{Kind}
@@ -19,12 +19,12 @@ use Rattle.flow_design.specs.declared.state.Request.{Request}
 use Rattle.flow_design.specs.Plans.{is_fifo, kind_at, delay_at}
 use Rattle.flow_design.specs.StaticRules.{FitsEngine}
 use Rattle.lockstep_defs.specs.Machine.{is_yes}
-use Rattle.lockstep_defs.specs.Channels.{Exchange, values, front, element_from, is_possible, is_full, stalls, reply, reply_by}
+use Rattle.lockstep_defs.specs.Channels.{values, front, element_from, is_possible, is_full, stalls, reply, reply_by}
 use Rattle.lockstep_defs.specs.Channels.{pushed_value, moved_value, moved_by, moved, contents_of}
-use Rattle.lockstep_defs.specs.Lockstep.{requests_of, moves, answered, step_with, step_of, steps_in, contents_after, clock_step}
+use Rattle.lockstep_defs.specs.Lockstep.{requests_of, moves, answered, step_with, step_of, steps_in, clock_step}
 use Rattle.lockstep_defs.specs.Lockstep.{numbered, state, history}
 use Rattle.lockstep_defs.specs.Laws.{all_in}
-use Rattle.lockstep_defs.proofs.Settled.{state-suc, history-suc}
+use Rattle.lockstep_defs.proofs.Settled.{state-suc}
 use Rattle.lockstep_defs.proofs.Counts.{fifo_opens_empty}
 use Rattle.lockstep_defs.proofs.Rules.{keeps_ports}
 use Rattle.lockstep_defs.proofs.Queue.{moved-nil, moved-append, moved-step, nothing_stalls, moves_once, conserved, contents-step, same_channels}
@@ -108,7 +108,7 @@ after_clock p c st f l =
     let popped = length (moved Pop f (steps_in p c st)) in
     let after = ap length (contents-step p c st f l) in
     let parts = length-append (drop popped (contents_of st.contents f))
-        (map (element_from (c + delay_at p f)) (moved Push f (steps_in p c st))) in
+    (map (element_from (c + delay_at p f)) (moved Push f (steps_in p c st))) in
     let pushed = length-map (moved Push f (steps_in p c st)) (element_from (c + delay_at p f)) in
     let kept = length-drop popped (contents_of st.contents f) in
     omega arith
@@ -132,6 +132,6 @@ within_depth p fits f (suc c) l fifo =
     subst (λ (st : ClockState). length (contents_of st.contents f) ≤ slice_index p.depths f) (sym (state-suc p c))
     (elim (room_or_full (is_fifo (kind_at p f)) (slice_index p.depths f) (length (contents_of (state p c).contents f)) fifo
     (is_full p f (contents_of (state p c).contents f)) refl) [
-        inl full ↦ (let none = ap length (pushed_in p c (state p c) f (ap not full)) in omega arith)
-        | inr room ↦ omega arith
+      | inl full ↦ (let none = ap length (pushed_in p c (state p c) f (ap not full)) in omega arith)
+      | inr room ↦ omega arith
     ])

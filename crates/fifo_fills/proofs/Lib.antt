@@ -4,3 +4,4 @@ pub mod Placing
 pub mod Passing
 pub mod Clocks
 pub mod Stepping
+pub mod Ending

@@ -1,12 +1,12 @@
 -- A walk over the events: how it starts, and what one event more changes.
-use Rattle.std.proofs.Common.{◌≡◌, ◌≢◌, ℕ, zero, suc, ◌+◌, ◌-◌, ◌≤◌, ◌<◌, ◌^◌, List, [], ◌∷◌, ◌++◌, map, length, take, drop, Bool, true, false}
+use Rattle.std.proofs.Common.{◌≡◌, ◌≢◌, ℕ, zero, suc, ◌+◌, ◌-◌, ◌≤◌, ◌<◌, List, [], ◌∷◌, ◌++◌, map, length, take, drop, Bool, true, false}
 use Rattle.std.proofs.Common.{◌==◌, ◌&&◌, cond, refl, sym, ◌∙◌, ap, ap₂, subst, arith, length-append, get_or, set, Some, None, Option, replicate}
-use Rattle.std.proofs.Common.{add-zero, ◌⊎◌, inl, inr}
-use Rattle.std.specs.Prelude.{slice_get, IfSome, option_map}
+use Rattle.std.proofs.Common.{add-zero, inl, inr}
+use Rattle.std.specs.Prelude.{slice_get, option_map}
 use Rattle.std.proofs.lemmas.List.Sums.{length-filter}
-use Rattle.std.specs.List.{count_by, filter, flat_map, range_with_len}
-use Rattle.std.proofs.lemmas.Bool.{cases_Bool, ne_eqb, eq-eqb, eqb-true, cases_eq}
-use Rattle.std.proofs.lemmas.List.{append-nil, take_more, take_all, drop_more, length-map, take-append-drop, append_assoc, get_or_at, get_or-map, length-set, get_or-set_same, get_or-set_other}
+use Rattle.std.specs.List.{count_by, filter, range_with_len}
+use Rattle.std.proofs.lemmas.Bool.{cases_Bool, ne_eqb, eq-eqb, cases_eq}
+use Rattle.std.proofs.lemmas.List.{append-nil, take_more, drop_more, length-map, take-append-drop, get_or_at, length-set, get_or-set_same, get_or-set_other}
 use Rattle.std.proofs.lemmas.Option.{slice_get-get_or, slice_get_past}
 use Rattle.std.proofs.lemmas.List.Concat.{flat_map-append}
 use Rattle.std.proofs.lemmas.List.FromFn.{get_or-map-range_with_len, length-map-range_with_len, fill_by_all}
@@ -17,12 +17,13 @@ use Rattle.flow_word.specs.declared.access.Kind.TheVariants.{Read, Write, TryRea
 use Rattle.flow_word.specs.Kinds.{side_of, is_blocking, is_taking}
 use Rattle.flow_design.specs.declared.plan.Plan.{Plan}
 use Rattle.flow_design.specs.declared.report.EventLine.{EventLine}
+use Rattle.flow_design.specs.declared.report.Report.{Report}
 use Rattle.flow_design.specs.StaticRules.{FitsEngine}
 use Rattle.flow_design.specs.declared.design.Channel.{Channel}
 use Rattle.flow_design.specs.declared.design.ChannelKind.{ChannelKind}
 use Rattle.flow_design.specs.Plans.{is_fifo, kind_at, no_channel}
 use Rattle.lockstep_defs.specs.Machine.{is_yes, value_in}
-use Rattle.lockstep_defs.specs.Channels.{HistoryStep, Exchange, popped_value, pushed_value, moved_value}
+use Rattle.lockstep_defs.specs.Channels.{Exchange, popped_value, pushed_value, moved_value}
 use Rattle.lockstep_defs.specs.Lockstep.{history}
 use Rattle.lockstep_defs.specs.Report.{steps_of, outcomes, report}
 use Rattle.lockstep_defs.proofs.Reported.{report_numbers}
@@ -31,7 +32,7 @@ use Rattle.fifo_fills.specs.Passed.{Act, acts, moved_in, outcome_of, outcomes_in
 use Rattle.fifo_fills.specs.Passed.{places}
 use Rattle.fifo_fills.specs.Walks.{IsEventWalk}
 use Rattle.fifo_fills.proofs.Acts.{event_by, events_are, outcomes_are, never_under, moved-append}
-use Rattle.fifo_fills.proofs.Placing.{map_same, at_place, with_one, counted_next}
+use Rattle.fifo_fills.proofs.Placing.{map_same, with_one, counted_next}
 
 -- ---- what a report tells
 
@@ -132,8 +133,8 @@ moves_none Push x h = by_kind x.request.kind (is_yes x.reply) h
 moves_few : (side : Side) (x : Exchange) → length (moved_value side x) ≤ 1
 moves_few side x =
     elim (cases_Bool (was_done x.request.kind (is_yes x.reply) && is_taking x.request.kind)) [
-        inl h ↦ (let one = moves_one side x h in let few = one_few side (side_of x.request.kind) in omega arith)
-        | inr h ↦ (let none = moves_none side x h in omega arith)
+      | inl h ↦ (let one = moves_one side x h in let few = one_few side (side_of x.request.kind) in omega arith)
+      | inr h ↦ (let none = moves_none side x h in omega arith)
     ]
   where
     one_few : (a b : Side) → one_if a b ≤ 1
@@ -270,10 +271,10 @@ pub set_range : (g h : ℕ → ℕ) (n i : ℕ) → i < n → ((j : ℕ) → j �
 set_range g h n i l same =
     fill_by_all h (set (map g (range_with_len 0 n)) i (h i)) n 0 (length-set (map g (range_with_len 0 n)) i (h i) ∙ length-map-range_with_len g 0 n)
     (λ k m. elim (cases_eq k i) [
-        inl e ↦ subst (λ (j : ℕ). get_or (set (map g (range_with_len 0 n)) i (h i)) j 0 ≡ h j) (sym e)
-            (get_or-set_same (map g (range_with_len 0 n)) i (h i) 0 (omega (arith, length-map-range_with_len g 0 n)))
-        | inr d ↦ get_or-set_other (map g (range_with_len 0 n)) i k (h i) 0 d
-            ∙ (get_or-map-range_with_len g 0 n k k 0 m (omega arith) ∙ sym (same k d))
+      | inl e ↦ subst (λ (j : ℕ). get_or (set (map g (range_with_len 0 n)) i (h i)) j 0 ≡ h j) (sym e)
+          (get_or-set_same (map g (range_with_len 0 n)) i (h i) 0 (omega (arith, length-map-range_with_len g 0 n)))
+      | inr d ↦ get_or-set_other (map g (range_with_len 0 n)) i k (h i) 0 d
+          ∙ (get_or-map-range_with_len g 0 n k k 0 m (omega arith) ∙ sym (same k d))
     ])
 
 pub all_queries_next : (p : Plan) (n : ℕ) (a : Act) → n < length (acts p) → get_or (acts p) n a ≡ a
@@ -367,19 +368,23 @@ queries_zero p i = refl
 length-range : (a n : ℕ) → length (range_with_len a n) ≡ n
 length-range a n = sym (length-map (range_with_len a n) (λ (i : ℕ). i)) ∙ length-map-range_with_len (λ (i : ℕ). i) a n
 
-pub first_walk : (p : Plan) → FitsEngine p → (modules fifo_count : ℕ) → modules ≡ length (report p).answers
-    → fifo_count ≡ count_by (λ (c : Channel). is_fifo c.kind) p.design.channels
-    → IsEventWalk p 0 (report p).events (report p).answers (places p.design.channels) (replicate modules 0) (replicate fifo_count 0)
-first_walk p fits modules fifo_count e f = record {
+pub first_walk : (p : Plan) → FitsEngine p → (r : Report) → r ≡ report p → (channels : List Channel) → channels ≡ p.design.channels
+    → (events : List EventLine) → events ≡ r.events → (answers : List (List Bool)) → answers ≡ r.answers
+    → (placed : List (Option ℕ)) → placed ≡ places channels → (queries : List ℕ) (n : ℕ) → queries ≡ replicate n 0 → n ≡ length r.answers
+    → (held : List ℕ) (m : ℕ) → held ≡ replicate m 0 → m ≡ count_by (λ (c : Channel). is_fifo c.kind) channels
+    → IsEventWalk p 0 events answers placed queries held
+first_walk p fits r is channels its events e answers a placed l queries n q many held m h count = record {
   fits = fits;
-  its_events = refl;
-  its_answers = refl;
-  its_places = refl;
-  its_queries = zeros (queries_behind p 0) (queries_zero p) (range_with_len 0 (length p.design.modules)) modules
-      (length-range 0 (length p.design.modules) ∙ (sym ((report_numbers p fits).answers) ∙ sym e));
-  its_fills = zeros (fill_behind p 0) (fill_zero p) (fifos p) fifo_count
+  its_events = e ∙ ap (λ (x : Report). x.events) is;
+  its_answers = a ∙ ap (λ (x : Report). x.answers) is;
+  its_places = l ∙ ap places its;
+  its_queries = q ∙ zeros (queries_behind p 0) (queries_zero p) (range_with_len 0 (length p.design.modules)) n
+      (length-range 0 (length p.design.modules)
+      ∙ (sym ((report_numbers p fits).answers) ∙ sym (many ∙ ap (λ (x : Report). length x.answers) is)));
+  its_fills = h ∙ zeros (fill_behind p 0) (fill_zero p) (fifos p) m
       (counted_numbers (kind_at p) 0 p.design.channels (λ i l. ap (kind_at p) (omega arith))
-      ∙ (length-filter (λ (c : Channel). is_fifo c.kind) p.design.channels ∙ sym f));
+      ∙ (length-filter (λ (c : Channel). is_fifo c.kind) p.design.channels
+      ∙ sym (count ∙ ap (count_by (λ (c : Channel). is_fifo c.kind)) its)));
   within = omega arith;
 }
 

@@ -130,9 +130,10 @@ at_place p g f l P h = by_test (is_fifo (kind_at p f)) refl
     by_test : (b : Bool) → is_fifo (kind_at p f) ≡ b
         → IfSome (cond b (Some (place p.design.channels f)) None)
         (λ k. (k < length (map g (fifos p))) × P (get_or (map g (fifos p)) k 0))
-    by_test true e =
-        (omega (arith, length-map (fifos p) g, place_within (kind_at p) 0 p.design.channels (plan_kinds p) f l (at_zero p f e)),
-        subst P (sym (get_placed (kind_at p) g 0 p.design.channels (plan_kinds p) f l (at_zero p f e) ∙ ap g (omega arith))) (h e))
+    by_test true e = (
+      omega (arith, length-map (fifos p) g, place_within (kind_at p) 0 p.design.channels (plan_kinds p) f l (at_zero p f e)),
+      subst P (sym (get_placed (kind_at p) g 0 p.design.channels (plan_kinds p) f l (at_zero p f e) ∙ ap g (omega arith))) (h e),
+    )
     by_test false e = tt
 
 -- with one element more or less in the FIFO at its place
@@ -186,11 +187,12 @@ pub table_next : (cs : List Channel) (i fifos : ℕ) (c : Channel) (placed : Lis
     → placed ≡ map (place_of cs) (range_with_len 0 i) → fifos ≡ place cs i → (b : Bool) → is_fifo c.kind ≡ b
     → (placed ++ cond b (Some fifos) None ∷ [] ≡ map (place_of cs) (range_with_len 0 (i + 1)))
     × (fifos + cond b 1 0 ≡ length (filter (λ (x : Channel). is_fifo x.kind) (take (i + 1) cs)))
-table_next cs i fifos c placed l is e f b t =
-    (ap₂ (λ (xs : List (Option ℕ)) (o : Option ℕ). xs ++ o ∷ []) e
-    (ap (λ (n : ℕ). cond b (Some n) None) f ∙ sym (place_next cs i c l is b t))
-    ∙ sym (map-range_with_len_more (place_of cs) 0 i i (omega arith)),
-    ap₂ (λ (m n : ℕ). m + n) f (ap (λ (x : Bool). cond x 1 0) (sym t)) ∙ sym (count_next cs i c l is))
+table_next cs i fifos c placed l is e f b t = (
+  ap₂ (λ (xs : List (Option ℕ)) (o : Option ℕ). xs ++ o ∷ []) e
+      (ap (λ (n : ℕ). cond b (Some n) None) f ∙ sym (place_next cs i c l is b t))
+      ∙ sym (map-range_with_len_more (place_of cs) 0 i i (omega arith)),
+  ap₂ (λ (m n : ℕ). m + n) f (ap (λ (x : Bool). cond x 1 0) (sym t)) ∙ sym (count_next cs i c l is),
+)
 
 pub place_few : (cs : List Channel) (i : ℕ) → place cs i ≤ i
 place_few cs i =

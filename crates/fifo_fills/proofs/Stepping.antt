@@ -11,13 +11,12 @@ use Rattle.flow_word.specs.declared.access.Side.TheVariants.{Pop, Push}
 use Rattle.flow_word.specs.Kinds.{side_of, is_blocking, is_taking}
 use Rattle.flow_design.specs.declared.plan.Plan.{Plan}
 use Rattle.flow_design.specs.declared.report.EventLine.{EventLine}
-use Rattle.flow_design.specs.StaticRules.{FitsEngine}
 use Rattle.flow_design.specs.Plans.{is_fifo, kind_at}
 use Rattle.lockstep_defs.specs.Machine.{is_yes}
 use Rattle.lockstep_defs.specs.Report.{report}
 use Rattle.lockstep_defs.proofs.Reported.{report_numbers}
 use Rattle.fifo_fills.specs.Fills.{fifos}
-use Rattle.fifo_fills.specs.Passed.{Act, acts, moved_in, outcomes_in, fill_behind, queries_behind, place_of, places, counted, is_done, with_query}
+use Rattle.fifo_fills.specs.Passed.{Act, acts, outcomes_in, fill_behind, queries_behind, place_of, counted, is_done, with_query}
 use Rattle.fifo_fills.specs.Walks.{IsEventWalk}
 use Rattle.fifo_fills.proofs.Acts.{event_by}
 use Rattle.fifo_fills.proofs.Placing.{at_place}
@@ -35,7 +34,6 @@ pub record IsEventOf (p : Plan) (n : ℕ) (e : EventLine) : Type 0 where
 
 module _ (p : Plan) (n : ℕ) (events : List EventLine) (answers : List (List Bool)) (placed : List (Option ℕ)) (queries held : List ℕ)
     (walk : IsEventWalk p n events answers placed queries held) where
-
   pub as_many : length events ≡ length (acts p)
   as_many = ap length (walk.its_events ∙ report_events p) ∙ length-map (acts p) event_by
 
@@ -45,16 +43,16 @@ module _ (p : Plan) (n : ℕ) (events : List EventLine) (answers : List (List Bo
       let numbers = (report_numbers p walk.fits).events n d there in
       let read = ap (λ (es : List EventLine). get_or es n d) walk.its_events in
       elim (slice_get_cases (acts p) n).1 [
-          inl found ↦ record {
-              act = found.0;
-              inside = l;
-              is = found.3;
-              same = ap (λ (es : List EventLine). get_or es n d) (walk.its_events ∙ report_events p)
-                  ∙ (get_or-map event_by (acts p) n found.0 d l ∙ ap event_by found.3);
-              owner = subst (λ (e : EventLine). e.«module» < length p.design.modules) (sym read) numbers.0;
-              channel = subst (λ (e : EventLine). e.channel < length p.design.channels) (sym read) numbers.1;
-          }
-          | inr past ↦ absurd (omega (arith, past.0))
+        | inl found ↦ record {
+          act = found.0;
+          inside = l;
+          is = found.3;
+          same = ap (λ (es : List EventLine). get_or es n d) (walk.its_events ∙ report_events p)
+              ∙ (get_or-map event_by (acts p) n found.0 d l ∙ ap event_by found.3);
+          owner = subst (λ (e : EventLine). e.«module» < length p.design.modules) (sym read) numbers.0;
+          channel = subst (λ (e : EventLine). e.channel < length p.design.channels) (sym read) numbers.1;
+        }
+        | inr past ↦ absurd (omega (arith, past.0))
       ]
 
   queries_count : length queries ≡ length p.design.modules
@@ -67,8 +65,12 @@ module _ (p : Plan) (n : ℕ) (events : List EventLine) (answers : List (List Bo
   owner_inside e at = omega (arith, at.owner, queries_count)
 
   pub channel_inside : (e : EventLine) → IsEventOf p n e → e.channel < length placed
-  channel_inside e at = omega (arith, at.channel, ap length walk.its_places,
-      length-map-range_with_len (place_of p.design.channels) 0 (length p.design.channels))
+  channel_inside e at = omega (
+    arith,
+    at.channel,
+    ap length walk.its_places,
+    length-map-range_with_len (place_of p.design.channels) 0 (length p.design.channels),
+  )
 
   pub queries_at : (i : ℕ) → i < length p.design.modules → get_or queries i 0 ≡ queries_behind p n i
   queries_at i l = ap (λ (qs : List ℕ). get_or qs i 0) walk.its_queries
@@ -85,7 +87,7 @@ module _ (p : Plan) (n : ℕ) (events : List EventLine) (answers : List (List Bo
       let within = outcome_within p n a at.inside at.is (sym (ap (λ (x : EventLine). is_blocking x.kind) at.same) ∙ query) in
       let asked = queries_at e.«module» at.owner ∙ ap (queries_behind p n) same_module in
       let told = ap length (answers_at e.«module» at.owner)
-          ∙ ap (λ (i : ℕ). length (outcomes_in i (acts p))) same_module in
+      ∙ ap (λ (i : ℕ). length (outcomes_in i (acts p))) same_module in
       omega arith
 
   pub done_at : (e : EventLine) (at : IsEventOf p n e)
@@ -111,7 +113,7 @@ module _ (p : Plan) (n : ℕ) (events : List EventLine) (answers : List (List Bo
   queries_after e at =
       let a = at.act in
       let inside : (a.0).«module» < length p.design.modules =
-          subst (λ (x : EventLine). x.«module» < length p.design.modules) at.same at.owner in
+      subst (λ (x : EventLine). x.«module» < length p.design.modules) at.same at.owner in
       ap₂ (λ (qs : List ℕ) (q : ℕ). set qs e.«module» (with_query e.kind q)) walk.its_queries (queries_at e.«module» at.owner)
       ∙ (ap (λ (x : EventLine). set (map (queries_behind p n) (range_with_len 0 (length p.design.modules))) x.«module»
       (with_query x.kind (queries_behind p n x.«module»))) at.same
@@ -122,7 +124,7 @@ module _ (p : Plan) (n : ℕ) (events : List EventLine) (answers : List (List Bo
   held_by e at b moved =
       let a = at.act in
       let inside : a.1.request.channel < length p.design.channels =
-          subst (λ (x : EventLine). x.channel < length p.design.channels) at.same at.channel in
+      subst (λ (x : EventLine). x.channel < length p.design.channels) at.same at.channel in
       ap₂ (λ (x : EventLine) (h : List ℕ). cond b (counted (place_of p.design.channels x.channel) (side_of x.kind) h) h) at.same
       walk.its_fills
       ∙ held_next p walk.fits n a at.inside at.is inside b moved
@@ -244,10 +246,10 @@ module _ (p : Plan) (n : ℕ) (events : List EventLine) (answers : List (List Bo
   stayed e at qs news same none is =
       subst (λ (ws : List ℕ). IsEventWalk p (n + 1) events answers placed ws held) (sym (new_queries e qs news same is))
       (walk_stays e at (elim none [
-          inl done ↦ ap (λ (b : Bool). b && is_taking e.kind)
-              (ap (λ (ys : List ℕ). is_done e.kind (get_or answers e.«module» []) (get_or ys e.«module» 0)) (sym same) ∙ sym done)
-          | inr taking ↦ (ap (λ (b : Bool). is_done e.kind (get_or answers e.«module» []) (get_or queries e.«module» 0) && b) (sym taking)
-              ∙ no_more (is_done e.kind (get_or answers e.«module» []) (get_or queries e.«module» 0)))
+        | inl done ↦ ap (λ (b : Bool). b && is_taking e.kind)
+            (ap (λ (ys : List ℕ). is_done e.kind (get_or answers e.«module» []) (get_or ys e.«module» 0)) (sym same) ∙ sym done)
+        | inr taking ↦ (ap (λ (b : Bool). is_done e.kind (get_or answers e.«module» []) (get_or queries e.«module» 0) && b) (sym taking)
+            ∙ no_more (is_done e.kind (get_or answers e.«module» []) (get_or queries e.«module» 0)))
       ]))
     where
       no_more : (b : Bool) → (b && false) ≡ false

@@ -9,5 +9,5 @@ abbrev pub invariant-loop-channel : goal.invariant-loop-channel
 invariant-loop-channel l =
     record {
       placed : l.places ≡ map (place_of l.channels) (range_with_len 0 l.channel-index);
-      counted : l.fifos ≡ length (filter (λ (c : Channel). is_fifo c.kind) (take l.channel-index l.channels))
+      counted : l.fifos ≡ length (filter (λ (c : Channel). is_fifo c.kind) (take l.channel-index l.channels));
     }

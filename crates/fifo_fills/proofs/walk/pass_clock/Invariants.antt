@@ -7,7 +7,7 @@ invariant-loop-events l =
     record {
       plan : l.events.plan ≡ l.fn.events.plan;
       behind : length (acts_before l.fn.events.plan l.clock) ≤ l.events.passed;
-      within : l.events.passed ≤ length (acts_before l.fn.events.plan (l.clock + 1))
+      within : l.events.passed ≤ length (acts_before l.fn.events.plan (l.clock + 1));
     }
 
 abbrev pub decreases-loop-events : goal.decreases-loop-events

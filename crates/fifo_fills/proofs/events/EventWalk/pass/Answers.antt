@@ -1,4 +1,4 @@
-use Rattle.std.proofs.Common.{arith, sym, refl, ap, ◌∙◌, subst, Some, None, ℕ, ◌<◌, List, length, inl, inr}
+use Rattle.std.proofs.Common.{arith, sym, ◌∙◌, subst, None, ◌<◌, length, inl, inr}
 use Rattle.fifo_fills.specs.Passed.{acts}
 use Rattle.fifo_fills.specs.Walks.{BehindEvents}
 use Rattle.fifo_fills.proofs.Stepping.{as_many, event_of, answers_count, owner_inside, channel_inside, outcome_inside, place_bound, place_some}

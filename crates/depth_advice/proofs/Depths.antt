@@ -19,6 +19,7 @@ use Rattle.fifo_fills.specs.Fills.{fill, last_clock}
 use Rattle.depth_advice.specs.Advice.{with_depths, depths_by, AreDepths, wide, greatest, peak, advised}
 use Rattle.depth_advice.proofs.Alike.{NoneFull, NeitherBefore, report_same}
 use Rattle.depth_advice.proofs.Few.{fifo_inside, fill_few}
+use Rattle.depth_advice.proofs.Lists.{greatest_least, greatest_most}
 
 -- ---- one entry per channel
 
@@ -86,25 +87,11 @@ wide_fits p h = depths_fit p h (depths_by p (λ f. FIFO_DEPTH)) (wide_depths p)
 
 -- ---- peaks
 
-greatest_least : (g : ℕ → ℕ) (n k : ℕ) → k ≤ n → g k ≤ greatest g n
-greatest_least g zero k l = let e : k ≡ 0 = omega arith in rw e (omega arith)
-greatest_least g (suc n) k l = elim (cases_lt k (suc n)) [
-  | inl m ↦ omega (arith, greatest_least g n k (omega arith))
-  | inr m ↦ let e : k ≡ suc n = omega arith in rw e (omega arith)
-]
-
-greatest_most : (g : ℕ → ℕ) (n most : ℕ) → ((k : ℕ) → k ≤ n → g k ≤ most) → greatest g n ≤ most
-greatest_most g zero most h = h 0 (omega arith)
-greatest_most g (suc n) most h =
-    let rest = greatest_most g n most (λ k l. h k (omega arith)) in
-    let here = h (suc n) (omega arith) in
-    omega arith
-
 pub fill_below_peak : (p : Plan) (f c : ℕ) → c ≤ last_clock p → fill p f c ≤ peak p f
 unfolding peak
 fill_below_peak p f c l = greatest_least (fill p f) (last_clock p) c l
 
-peak_few : (p : Plan) → FitsEngine p → (f : ℕ) → is_fifo (kind_at p f) ≡ true → peak p f ≤ p.ops
+pub peak_few : (p : Plan) → FitsEngine p → (f : ℕ) → is_fifo (kind_at p f) ≡ true → peak p f ≤ p.ops
 unfolding peak
 peak_few p h f e = greatest_most (fill p f) (last_clock p) p.ops (λ c l. fill_few p h f c e)
 

@@ -14,7 +14,6 @@ use std::sync::Wait;
 use std::thread::Threads;
 
 /// What a plan does where no FIFO blocks, and depths with which none does.
-#[derive(Debug, PartialEq)]
 pub struct Advice {
     /// The report of the plan with each FIFO as deep as the language allows.
     pub report: Report,

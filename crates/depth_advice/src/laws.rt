@@ -1,14 +1,15 @@
 //! The laws of the advised depths.
-ghost use Rattle.std.specs.Prelude.{◌≡◌};
+ghost use Rattle.std.specs.Prelude.{◌≡◌, ℕ, List as Items};
 ghost use Rattle.flow_design.specs.declared.plan.Plan.{Plan};
 ghost use Rattle.flow_design.specs.StaticRules.{FitsEngine};
 ghost use Rattle.lockstep_defs.specs.Report.{report};
 ghost use Rattle.depth_advice.specs.Advice.{with_depths, wide, advised, AreDepths, AsksNothing, AreFastest};
 
-/// The plan with the advised depths is one that the engine takes, and its report is that of the plan whose FIFOs are as deep as the
-/// language allows.
+/// The advised depths are within the language's limits, and a plan with such depths is one that the engine takes. The plan with the
+/// advised depths has the report of the plan whose FIFOs are as deep as the language allows.
 pub fn advised_depths_never_block()
     ensures depths { (p : Plan) → FitsEngine p → AreDepths p (advised p) }
+    ensures fits { (p : Plan) → FitsEngine p → (depths : Items ℕ) → AreDepths p depths → FitsEngine (with_depths p depths) }
     ensures same { (p : Plan) → FitsEngine p → report (with_depths p (advised p)) ≡ report (wide p) }
 {}
 

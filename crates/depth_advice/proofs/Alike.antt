@@ -45,7 +45,9 @@ possible_same p ds contents h c Push f = ap not (h.1 f ∙ sym (h.0 f))
 
 stalls_same : (p : Plan) (ds : List ℕ) (contents : List (List Element)) → NeitherFull p ds contents → (c : ℕ) (r : Request)
     → stalls (with_depths p ds) c contents r ≡ stalls p c contents r
-stalls_same p ds contents h c r = ap (λ (b : Bool). is_blocking r.kind && not b) (possible_same p ds contents h c (side_of r.kind) r.channel)
+stalls_same p ds contents h c r =
+    ap (λ (b : Bool). is_blocking r.kind && not b)
+    (possible_same p ds contents h c (side_of r.kind) r.channel)
 
 moves_same : (p : Plan) (ds : List ℕ) (contents : List (List Element)) → NeitherFull p ds contents → (c : ℕ) (m : ℕ × ModuleState)
     → moves (with_depths p ds) c contents m ≡ moves p c contents m
@@ -57,7 +59,8 @@ reply_same : (p : Plan) (ds : List ℕ) (contents : List (List Element)) → Nei
     → reply (with_depths p ds) c contents r ≡ reply p c contents r
 unfolding reply
 reply_same p ds contents h c r =
-    ap (λ (b : Bool). reply_by r.kind b (front (contents_of contents r.channel))) (possible_same p ds contents h c (side_of r.kind) r.channel)
+    ap (λ (b : Bool). reply_by r.kind b (front (contents_of contents r.channel)))
+    (possible_same p ds contents h c (side_of r.kind) r.channel)
 
 next_same : (p : Plan) (ds : List ℕ) (contents : List (List Element)) → NeitherFull p ds contents → (c : ℕ) (m : ℕ × ModuleState)
     → next_state (with_depths p ds) c contents m ≡ next_state p c contents m
@@ -104,7 +107,8 @@ moment_same p ds (suc n) h =
 
 -- ---- settled clocks
 
-ready_neither : (p : Plan) (ds : List ℕ) (contents : List (List Element)) → NeitherFull p ds contents → NeitherFull p ds (all_ready contents)
+ready_neither : (p : Plan) (ds : List ℕ) (contents : List (List Element)) → NeitherFull p ds contents
+    → NeitherFull p ds (all_ready contents)
 ready_neither p ds contents h = (
   λ f. full_ready p contents f ∙ h.0 f,
   λ f. full_ready (with_depths p ds) contents f ∙ h.1 f,

@@ -229,5 +229,6 @@ verdict_told p = refl
 
 pub advised_fastest : (p : Plan) → FitsEngine p → AsksNothing p → AreFastest p (advised p)
 advised_fastest p h none ds a clock e =
-    let same = sym (verdict_told (wide p)) ∙ (ap (λ (r : Report). r.verdict) (sym (never_blocks p h)) ∙ verdict_told (with_depths p (advised p))) in
+    let same = sym (verdict_told (wide p))
+    ∙ (ap (λ (r : Report). r.verdict) (sym (never_blocks p h)) ∙ verdict_told (with_depths p (advised p))) in
     subst (IsDoneBy clock) same (wide_fastest p h none ds a clock e)

@@ -14,11 +14,7 @@ use std::alloc::Global;
 
 /// The greatest number of elements that each FIFO holds in any clock up to the verdict's, in order of declaration, by the plan's
 /// report.
-pub(crate) fn find_peaks(
-    alloc: Global,
-    plan: &Plan,
-    report: &Report,
-) -> Result<Words, OutOfMemory>
+pub(crate) fn find_peaks(alloc: Global, plan: &Plan, report: &Report) -> Result<Words, OutOfMemory>
     requires fits { FitsEngine plan.now }
     requires report { report.now ≡ lockstep.report plan.now }
     ensures { IfOk result (λ peaks. peaks ≡ map (peak plan.now) (fifos plan.now)) }
@@ -42,11 +38,7 @@ fn raise(peaks: &mut [u64], fills: &[u64])
 }
 
 /// One entry per channel: of a FIFO its peak and one more, and 0 of the other channels. The peaks are those of the plan's FIFOs.
-pub(crate) fn depths_above(
-    alloc: Global,
-    plan: &Plan,
-    peaks: &[u64],
-) -> Result<Words, OutOfMemory>
+pub(crate) fn depths_above(alloc: Global, plan: &Plan, peaks: &[u64]) -> Result<Words, OutOfMemory>
     requires peaks { peaks.now ≡ map (peak plan.now) (fifos plan.now) }
     requires few { All (λ n. n < FIFO_DEPTH) peaks.now }
     ensures { IfOk result (λ depths. depths ≡ depths_by plan.now (λ f. peak plan.now f + 1)) }

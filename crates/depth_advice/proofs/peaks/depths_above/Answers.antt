@@ -1,5 +1,5 @@
 use Rattle.std.proofs.Common.{◌∙◌, ◌≡◌, ap, sym, arith, true, false, add-zero, ◌+◌, ℕ, refl}
-use Rattle.depth_advice.proofs.Raising.{kind_read, next_peak, entries_more, count_more}
+use Rattle.depth_advice.proofs.Finding.{kind_read, next_peak, entries_more, count_more}
 use Rattle.depth_advice.proofs.peaks.depths_above.Goals as goal
 use Rattle.depth_advice.proofs.peaks.depths_above.Goals.{then-is_fifo+in_ok-push, else-is_fifo+in_ok-push-2}
 

@@ -1,5 +1,6 @@
 -- What the code finds: depths for all, peaks clock by clock, and one entry per channel.
-use Rattle.std.proofs.Common.{◌≡◌, ℕ, zero, suc, ◌+◌, ◌≤◌, ◌<◌, max, List, map, length, take, drop, ◌++◌, Bool, true, false, cond, refl, sym, ◌∙◌, ap, ap₂, subst}
+use Rattle.std.proofs.Common.{◌≡◌, ℕ, zero, suc, ◌+◌, ◌≤◌, ◌<◌, max, List, map, length, take, drop, ◌++◌, Bool, true, false, cond, refl}
+use Rattle.std.proofs.Common.{sym, ◌∙◌, ap, ap₂, subst}
 use Rattle.std.proofs.Common.{arith, get_or, zero-add, add-one, ◌==◌, ◌∷◌, [], length-append}
 use Rattle.std.specs.Prelude.{slice_index, All}
 use Rattle.std.specs.List.{filter, range_with_len, refill}
@@ -58,7 +59,8 @@ pub peaks_next : (p w x : Plan) (clock next now : ℕ) (peaks lent held new : Li
     → ((k : ℕ) → k < length held → slice_index new k ≡ max (slice_index lent k) (slice_index held k))
     → refill (length peaks) peaks new ≡ map (λ f. greatest (fill p f) now) (fifos p)
 peaks_next p w x clock next now peaks lent held new plan later so_far is_next at same is_held long entries =
-    let step : IsNextClock p clock now = subst (λ (n : ℕ). IsNextClock p clock n) (sym at) (subst (λ (q : Plan). IsNextClock q clock next) plan is_next) in
+    let step : IsNextClock p clock now =
+    subst (λ (n : ℕ). IsNextClock p clock n) (sym at) (subst (λ (q : Plan). IsNextClock q clock next) plan is_next) in
     let here : held ≡ map (λ f. fill p f now) (fifos p) = is_held ∙ ap (λ (q : Plan). fills q now) (later ∙ plan) in
     let before : lent ≡ map (λ f. greatest (fill p f) clock) (fifos p) = same ∙ so_far in
     let count : length lent ≡ length (fifos p) = ap length before ∙ length-map (fifos p) (λ f. greatest (fill p f) clock) in
@@ -101,9 +103,9 @@ next_peak p peaks i n e l t count =
     let placed = passed_place (fifo_at p) (peak p) 0 (length p.design.channels) i l there in
     let long : length peaks ≡ length (fifos p) = ap length e ∙ length-map (fifos p) (peak p) in
     let below = placed.0 in (
-  omega arith,
-  ap₂ (λ (xs : List ℕ) (k : ℕ). get_or xs k 0) e count ∙ (placed.1 ∙ ap (peak p) at),
-)
+      omega arith,
+      ap₂ (λ (xs : List ℕ) (k : ℕ). get_or xs k 0) e count ∙ (placed.1 ∙ ap (peak p) at),
+    )
 
 -- the entries with one more, and how many of them are FIFOs'
 pub entries_more : (p : Plan) (i : ℕ) (b : Bool) (depths : List ℕ) (depth : ℕ) → fifo_at p i ≡ b
@@ -122,7 +124,8 @@ pub count_more : (p : Plan) (i n : ℕ) (b : Bool) → fifo_at p i ≡ b → n �
 count_more p i n b t count =
     let front = filter (fifo_at p) (range_with_len 0 i) in
     let more : filter (fifo_at p) (range_with_len 0 (i + 1)) ≡ front ++ cond (fifo_at p i) (i ∷ []) [] =
-    ap (filter (fifo_at p)) (ap (range_with_len 0) (add-one i) ∙ (range_more 0 i ∙ ap (λ (k : ℕ). range_with_len 0 i ++ k ∷ []) (zero-add i)))
+    ap (filter (fifo_at p))
+    (ap (range_with_len 0) (add-one i) ∙ (range_more 0 i ∙ ap (λ (k : ℕ). range_with_len 0 i ++ k ∷ []) (zero-add i)))
     ∙ filter-append (fifo_at p) (range_with_len 0 i) (i ∷ []) in
     let one = length_one (fifo_at p i) i ∙ ap (λ (b : Bool). cond b 1 0) t in
     let total = ap length more ∙ length-append front (cond (fifo_at p i) (i ∷ []) []) in

@@ -2,7 +2,7 @@
 use Rattle.std.proofs.Common.{◌≡◌, ℕ, zero, suc, ◌+◌, ◌≤◌, ◌<◌, max, List, map, length, take, drop, ◌++◌, Bool, true, false, cond, refl}
 use Rattle.std.proofs.Common.{sym, ◌∙◌, ap, ap₂, subst}
 use Rattle.std.proofs.Common.{arith, get_or, zero-add, add-one, ◌==◌, ◌∷◌, [], length-append}
-use Rattle.std.specs.Prelude.{slice_index, All}
+use Rattle.std.specs.Prelude.{slice_index, All, Result, Ok, Err, IfOk}
 use Rattle.std.specs.List.{filter, range_with_len, refill}
 use Rattle.std.proofs.lemmas.List.{take_at, length-map, get_or_default}
 use Rattle.std.proofs.lemmas.List.Elements.{filter-append}
@@ -12,12 +12,15 @@ use Rattle.flow_design.specs.declared.design.ChannelKind.{ChannelKind}
 use Rattle.flow_design.specs.declared.design.ChannelKind.TheVariants.{Source, Sink, Fifo}
 use Rattle.flow_design.specs.declared.limits.TheConstants.{FIFO_DEPTH}
 use Rattle.flow_design.specs.declared.plan.Plan.{Plan}
+use Rattle.flow_design.specs.declared.report.Report.{Report}
 use Rattle.flow_design.specs.Plans.{is_fifo, no_channel, kind_at}
 use Rattle.flow_design.specs.StaticRules.{AreEntriesSound, FitsEngine}
+use Rattle.lockstep_defs.specs.Report.{report}
 use Rattle.timing_bridge.proofs.Steps.{range_more}
 use Rattle.fifo_fills.specs.Fills.{fifos, fill, fills, last_clock, AreSteady, IsNextClock}
-use Rattle.depth_advice.specs.Advice.{with_depths, depths_by, wide, greatest, peak}
-use Rattle.depth_advice.proofs.Depths.{peak_few}
+use Rattle.depth_advice.specs.Advice.{with_depths, depths_by, AreDepths, wide, greatest, peak, advised, AsksNothing, AreFastest}
+use Rattle.depth_advice.proofs.Depths.{peak_few, advised_depths, never_blocks}
+use Rattle.depth_advice.proofs.Faster.{advised_fastest}
 use Rattle.depth_advice.proofs.Lists.{raised, all_steady, all_next, passed_place}
 
 -- ---- written in place
@@ -151,3 +154,28 @@ small_peaks p h peaks e =
     let few = peak_few p h f t in
     let limit = h.operations in
     omega arith))
+
+-- ---- the advice for a plan, from what is found of the plan with room for all
+
+pub advised_by : (p q : Plan) (depths : List ℕ) → q ≡ wide p → depths ≡ depths_by q (λ f. peak q f + 1) → depths ≡ advised p
+advised_by p q depths same found = found ∙ ap (λ (x : Plan). depths_by x (λ f. peak x f + 1)) same
+
+pub within_by : (p q : Plan) → FitsEngine p → (depths : List ℕ) → q ≡ wide p → depths ≡ depths_by q (λ f. peak q f + 1) → AreDepths p depths
+within_by p q h depths same found =
+    subst (λ (ds : List ℕ). AreDepths p ds) (sym (advised_by p q depths same found)) (advised_depths p h)
+
+pub never_block_by : (p q : Plan) → FitsEngine p → (depths : List ℕ) (told : Report) → q ≡ wide p
+    → depths ≡ depths_by q (λ f. peak q f + 1) → told ≡ report q → report (with_depths p depths) ≡ told
+never_block_by p q h depths told same found is_told =
+    ap (λ (ds : List ℕ). report (with_depths p ds)) (advised_by p q depths same found)
+    ∙ (never_blocks p h ∙ sym (is_told ∙ ap report same))
+
+pub fastest_by : (p q : Plan) → FitsEngine p → (depths : List ℕ) → q ≡ wide p → depths ≡ depths_by q (λ f. peak q f + 1) → AsksNothing p
+    → AreFastest p depths
+fastest_by p q h depths same found none =
+    subst (λ (ds : List ℕ). AreFastest p ds) (sym (advised_by p q depths same found)) (advised_fastest p h none)
+
+-- where a call gave what holds of P and of Q, it gave what follows of these
+pub follows_ok : {T E : Type 0} (r : Result T E) (P Q R : T → Type 0) → IfOk r P → IfOk r Q → ((x : T) → P x → Q x → R x) → IfOk r R
+follows_ok (Ok x) P Q R p q f = f x p q
+follows_ok (Err e) P Q R p q f = tt

@@ -2,11 +2,14 @@
 ghost use Rattle.std.specs.Prelude.{◌≡◌, ◌+◌, ◌<◌, IfOk};
 ghost use Rattle.flow_design.specs.StaticRules.{FitsEngine};
 ghost use Rattle.lockstep_defs.specs.Report as lockstep;
-ghost use Rattle.depth_advice.specs.Advice.{with_depths, wide, advised, AreDepths, AsksNothing, AreFastest};
+ghost use Rattle.event_timing.specs.Actions.{IsFinal};
+ghost use Rattle.timing_bridge.specs.Designs.{design};
+ghost use Rattle.sim_core.specs.Views.{theory_of};
+ghost use Rattle.depth_advice.specs.Advice.{with_depths, depths_by, peak, wide, advised, AreDepths, AsksNothing, AreFastest};
 
 use crate::peaks::{depths_above, find_peaks};
 use crate::widening::widen;
-use depth_session::Runner;
+use depth_session::{Core, Runner};
 use flow_design::{Plan, Report};
 use flow_word::{OutOfMemory, Words};
 use std::alloc::Global;
@@ -54,8 +57,19 @@ pub fn advise<R: Threads + Wait + Sync, U: Runner>(
 {
     widen(&mut plan);
     let core = runner.run_plan(rt, alloc, plan)?;
+    read_advice(alloc, &core)
+}
+
+/// The report of a final core, and depths above the peaks of its plan's FIFOs.
+fn read_advice(alloc: Global, core: &Core) -> Result<Advice, OutOfMemory>
+    requires fits { FitsEngine core.now.plan }
+    requires done { IsFinal (design core.now.plan) core.now.plan.cycles (theory_of core.now) }
+    ensures report { IfOk result (λ advice. advice.report ≡ lockstep.report core.now.plan) }
+    ensures depths { IfOk result (λ advice. advice.depths ≡ depths_by core.now.plan (λ f. peak core.now.plan f + 1)) }
+{
+    let plan = core.plan();
     let report = core.report(alloc, true)?;
-    let peaks = find_peaks(alloc, core.plan(), &report)?;
-    let depths = depths_above(alloc, core.plan(), peaks.as_slice())?;
+    let peaks = find_peaks(alloc, plan, &report)?;
+    let depths = depths_above(alloc, plan, peaks.as_slice())?;
     Ok(Advice { report, depths })
 }

@@ -1,5 +1,5 @@
 -- The advised depths are above each peak and within the limit, so no FIFO is full with them.
-use Rattle.std.proofs.Common.{◌≡◌, ℕ, zero, suc, ◌+◌, ◌≤◌, ◌<◌, List, length, true, false, cond, refl, sym, ◌∙◌, subst}
+use Rattle.std.proofs.Common.{◌≡◌, ℕ, suc, ◌+◌, ◌≤◌, ◌<◌, List, length, true, false, cond, refl, sym, ◌∙◌, subst}
 use Rattle.std.proofs.Common.{arith, inl, inr, zero-add}
 use Rattle.std.specs.Prelude.{slice_index}
 use Rattle.std.proofs.lemmas.Bool.{cases_Bool, cases_lt, cond-true, cond-false, lt-leb}
@@ -16,7 +16,7 @@ use Rattle.lockstep_defs.specs.Channels.{contents_of}
 use Rattle.lockstep_defs.specs.Lockstep.{state}
 use Rattle.lockstep_defs.specs.Report.{report}
 use Rattle.fifo_fills.specs.Fills.{fill, last_clock}
-use Rattle.depth_advice.specs.Advice.{with_depths, depths_by, AreDepths, wide, greatest, peak, advised}
+use Rattle.depth_advice.specs.Advice.{with_depths, depths_by, AreDepths, wide, peak, advised}
 use Rattle.depth_advice.proofs.Alike.{NoneFull, NeitherBefore, report_same}
 use Rattle.depth_advice.proofs.Few.{fifo_inside, fill_few}
 use Rattle.depth_advice.proofs.Lists.{greatest_least, greatest_most}

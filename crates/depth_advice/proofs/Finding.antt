@@ -1,5 +1,5 @@
 -- What the code finds: depths for all, peaks clock by clock, and one entry per channel.
-use Rattle.std.proofs.Common.{◌≡◌, ℕ, zero, suc, ◌+◌, ◌≤◌, ◌<◌, max, List, map, length, take, drop, ◌++◌, Bool, true, false, cond, refl}
+use Rattle.std.proofs.Common.{◌≡◌, ℕ, zero, suc, ◌+◌, ◌≤◌, ◌<◌, max, List, map, length, drop, ◌++◌, Bool, true, false, cond, refl}
 use Rattle.std.proofs.Common.{sym, ◌∙◌, ap, ap₂, subst}
 use Rattle.std.proofs.Common.{arith, get_or, zero-add, add-one, ◌==◌, ◌∷◌, [], length-append}
 use Rattle.std.specs.Prelude.{slice_index, All, Result, Ok, Err, IfOk}

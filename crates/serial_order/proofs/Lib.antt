@@ -1,2 +1,4 @@
+pub mod Alike
 pub mod Heads
 pub mod Naming
+pub mod Outcomes

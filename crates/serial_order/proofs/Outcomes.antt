@@ -1,0 +1,223 @@
+-- What the operations of a local clock make of a module: one outcome and one exchange each.
+use Rattle.std.proofs.Common.{◌≡◌, ℕ, zero, suc, ◌+◌, ◌≤◌, ◌<◌, List, [], ◌∷◌, ◌++◌, length, map, drop, get_or, zero-add, Option, Some, None, Bool, true, false}
+use Rattle.std.proofs.Common.{cond, refl, sym, ◌∙◌, ap, subst, arith, ◌==◌, append_assoc, append-nil, add-zero}
+use Rattle.std.specs.Prelude.{slice_index, if◌then◌else◌}
+use Rattle.std.specs.List.{fold, filter, filter_map, flat_map, enumerate_from, cons_option}
+use Rattle.std.proofs.lemmas.List.Sums.{fold-append}
+use Rattle.flow_word.specs.declared.access.Kind.TheVariants as kind
+use Rattle.flow_word.specs.declared.access.Side.TheVariants.{Pop, Push}
+use Rattle.flow_design.specs.declared.expr.Op.{Op}
+use Rattle.flow_design.specs.declared.expr.Op.TheVariants.{Set, Load, Store, Read, Write, TryRead, TryWrite, Empty, Full}
+use Rattle.flow_design.specs.declared.design.Block.{Block}
+use Rattle.flow_design.specs.declared.design.Channel.{Channel}
+use Rattle.flow_design.specs.declared.design.Module.{Module}
+use Rattle.flow_design.specs.declared.design.Timed.{Timed}
+use Rattle.flow_design.specs.declared.state.Due.{Due}
+use Rattle.flow_design.specs.declared.state.Effect.TheVariants.{Variable, Word}
+use Rattle.flow_design.specs.declared.state.ModuleState.{ModuleState}
+use Rattle.flow_design.specs.declared.state.Reply.TheVariants.{Done, Value}
+use Rattle.flow_design.specs.declared.state.Request.{Request}
+use Rattle.flow_design.specs.Words.{cut_to}
+use Rattle.flow_design.specs.Module.{no_operation, block_of, operation_at, ages, temps_of, passes, due_at, due_in, due}
+use Rattle.lockstep_defs.specs.Laws.{is_query}
+use Rattle.lockstep_defs.specs.Machine.{width_of, value_of, request_of, requests, memory_of, address_in, effects_of, is_fifo_operation}
+use Rattle.lockstep_defs.specs.Machine.{effects, stored}
+use Rattle.lockstep_defs.specs.Channels.{Exchange, moved_by}
+use Rattle.lockstep_defs.specs.OwnRun.{paired}
+use Rattle.serial_order.specs.SerialRun.{value_given, given, all_given, Progress, clock_made}
+
+-- ---- outcomes
+
+-- nothing for a place, or a value for a register or temp, or for the word of a memory at an address
+pub data Outcome : Type 0 where
+  Nothing : Outcome
+  ToVariable : ℕ → ℕ → Outcome
+  ToWord : ℕ → ℕ → ℕ → Outcome
+
+-- lists of values, the channels, a module and one of its blocks
+pub record Setting : Type 0 where
+  pub lists : List (List ℕ)
+  pub channels : List Channel
+  pub owner : Module
+  pub block : Block
+
+-- what comes of an operation in a live iteration, where no queries are made
+abbrev pub outcome : Setting → Progress → ℕ → Op ℕ → Outcome
+outcome c x i (Set v e) = ToVariable v (value_of x.state i e)
+outcome c x i (Load v n e) = ToVariable v (slice_index (memory_of x.state n) (address_in x.state n (value_of x.state i e)))
+outcome c x i (Store n e a) = ToWord n (address_in x.state n (value_of x.state i e)) (value_of x.state i a)
+outcome c x i (Read f v) = ToVariable v (value_given c.lists f (length (moved_by Pop f x.done)))
+outcome c x i (Write f e) = Nothing
+outcome c x i (TryRead f v ok) = Nothing
+outcome c x i (TryWrite f ok e) = Nothing
+outcome c x i (Empty f v) = Nothing
+outcome c x i (Full f v) = Nothing
+
+abbrev pub exchange : Setting → Progress → ℕ → Op ℕ → Option Exchange
+exchange c x i (Set v e) = None
+exchange c x i (Load v n e) = None
+exchange c x i (Store n e a) = None
+exchange c x i (Read f v) = Some (record {
+  request = record { kind = kind.Read; channel = f; value = 0 };
+  reply = Value (value_given c.lists f (length (moved_by Pop f x.done)));
+})
+exchange c x i (Write f e) = Some (record {
+  request = record { kind = kind.Write; channel = f; value = cut_to (width_of c.channels f) (value_of x.state i e) };
+  reply = Done;
+})
+exchange c x i (TryRead f v ok) = None
+exchange c x i (TryWrite f ok e) = None
+exchange c x i (Empty f v) = None
+exchange c x i (Full f v) = None
+
+abbrev pub put : Setting → ℕ → Outcome → ModuleState → ModuleState
+put c i Nothing s = s
+put c i (ToVariable v w) s = stored c.owner c.block s (Variable i v w)
+put c i (ToWord n a w) s = stored c.owner c.block s (Word n a w)
+
+abbrev pub more : Option Exchange → List Exchange → List Exchange
+more None done = done
+more (Some x) done = done ++ x ∷ []
+
+abbrev pub applied : Setting → ℕ → Outcome → Option Exchange → Progress → Progress
+applied c i o x r = record { state = put c i o r.state; done = more x r.done }
+
+-- ---- a list of due operations
+
+abbrev op_of : Setting → Due → Op ℕ
+op_of c d = (operation_at c.block d.op).op
+
+abbrev asked : Setting → Progress → List Due → List Request
+asked c x ds = filter_map (λ d. request_of c.channels x.state d.iteration (op_of c d)) ds
+
+abbrev pub done_by_op : Setting → Progress → ℕ → Op ℕ → Progress → Progress
+done_by_op c x i op r = applied c i (outcome c x i op) (exchange c x i op) r
+
+abbrev due_done : Setting → Progress → Progress → Due → Progress
+due_done c x r d = done_by_op c x d.iteration (op_of c d) r
+
+-- the machine's effects and exchanges of these, from r on
+abbrev machine_done : Setting → Progress → List Due → Progress → Progress
+machine_done c x ds r = record {
+  state = fold (stored c.owner c.block) r.state (effects c.block x.state ds (all_given c.lists x.done (asked c x ds)));
+  done = r.done ++ paired (asked c x ds) (all_given c.lists x.done (asked c x ds));
+}
+
+-- the same where one operation comes before others
+abbrev machine_first : Setting → Progress → ℕ → Op ℕ → List Due → Progress → Progress
+machine_first c x i op ds r =
+    let reqs = cons_option (request_of c.channels x.state i op) (asked c x ds) in
+    let replies = all_given c.lists x.done reqs in record {
+      state = fold (stored c.owner c.block) r.state
+          (effects_of x.state i op (get_or replies 0 Done)
+          ++ effects c.block x.state ds (cond (is_fifo_operation op) (drop 1 replies) replies));
+      done = r.done ++ paired reqs replies;
+    }
+
+first_done : (c : Setting) (x : Progress) (i : ℕ) (op : Op ℕ) → is_query op ≡ false → (ds : List Due) (r : Progress)
+    → machine_first c x i op ds r ≡ machine_done c x ds (done_by_op c x i op r)
+first_done c x i (Set v e) plain ds r = refl
+first_done c x i (Load v n e) plain ds r = refl
+first_done c x i (Store n e a) plain ds r = refl
+first_done c x i (Read f v) plain ds r = rw append_assoc refl
+first_done c x i (Write f e) plain ds r = rw append_assoc refl
+first_done c x i (TryRead f v ok) plain ds r = absurd cc
+first_done c x i (TryWrite f ok e) plain ds r = absurd cc
+first_done c x i (Empty f v) plain ds r = absurd cc
+first_done c x i (Full f v) plain ds r = absurd cc
+
+one_by_one : (c : Setting) (x : Progress) → ((n : ℕ) → is_query (operation_at c.block n).op ≡ false) → (ds : List Due) (r : Progress)
+    → machine_done c x ds r ≡ fold (due_done c x) r ds
+one_by_one c x plain [] r = ap (λ (d : List Exchange). record { state = r.state; done = d }) (append-nil r.done)
+one_by_one c x plain (d ∷ ds) r =
+    first_done c x d.iteration (op_of c d) (plain d.op) ds r ∙ one_by_one c x plain ds (due_done c x r d)
+
+-- ---- the live iterations
+
+-- a scheduled operation in an iteration of this age: done where it is due
+abbrev pub at_age : Setting → Progress → ℕ → ℕ → Progress → Timed → Progress
+at_age c x i age r t =
+    if t.offset == age then (if passes x.state.registers (temps_of x.state i) t.guard then done_by_op c x i t.op r else r) else r
+
+-- one live iteration, given by its place and its age
+abbrev pub iteration_done : Setting → Progress → Progress → ℕ × ℕ → Progress
+iteration_done c x r it = fold (at_age c x it.0 it.1) r c.block.ops
+
+fold-flat_map : {A B R : Type 0} (f : R → B → R) (g : A → List B) (r : R) (xs : List A)
+    → fold f r (flat_map g xs) ≡ fold (λ r x. fold f r (g x)) r xs
+fold-flat_map f g r [] = refl
+fold-flat_map f g r (x ∷ xs) = fold-append f r (g x) (flat_map g xs) ∙ fold-flat_map f g (fold f r (g x)) xs
+
+-- these are the block's operations from number k on
+abbrev StandFrom : Block → ℕ → List Timed → Type 0
+StandFrom b k ts = (j : ℕ) → j < length ts → operation_at b (k + j) ≡ get_or ts j no_operation
+
+-- the due operations of an iteration, of the operations from number k on
+abbrev due_from : Setting → Progress → ℕ → ℕ → ℕ → List Timed → List Due
+due_from c x i age k ts =
+    map (λ n. record { iteration = i; op = n })
+    (filter (λ n. passes x.state.registers (temps_of x.state i) (operation_at c.block n).guard)
+    (map (λ t. t.0) (filter (λ t. (t.1).offset == age) (enumerate_from k ts))))
+
+iteration_by_one : (c : Setting) (x : Progress) (i age k : ℕ) (ts : List Timed) (r : Progress) → StandFrom c.block k ts
+    → fold (due_done c x) r (due_from c x i age k ts) ≡ fold (at_age c x i age) r ts
+iteration_by_one c x i age k [] r h = refl
+iteration_by_one c x i age k (t ∷ ts) r h =
+    let here : operation_at c.block k ≡ t = subst (λ (n : ℕ). operation_at c.block n ≡ t) (add-zero k) (h 0 (omega arith)) in
+    by_test (t.offset == age) here
+    (λ r. iteration_by_one c x i age (k + 1) ts r
+    (λ j l. subst (λ (n : ℕ). operation_at c.block n ≡ get_or ts j no_operation) (omega arith) (h (suc j) (omega arith))))
+  where
+    passing : (p : Bool) → operation_at c.block k ≡ t
+        → ((r : Progress) → fold (due_done c x) r (due_from c x i age (k + 1) ts) ≡ fold (at_age c x i age) r ts)
+        → fold (due_done c x) r
+        (map (λ n. record { iteration = i; op = n })
+        (cond p (k ∷ filter (λ n. passes x.state.registers (temps_of x.state i) (operation_at c.block n).guard)
+        (map (λ t. t.0) (filter (λ t. (t.1).offset == age) (enumerate_from (k + 1) ts))))
+        (filter (λ n. passes x.state.registers (temps_of x.state i) (operation_at c.block n).guard)
+        (map (λ t. t.0) (filter (λ t. (t.1).offset == age) (enumerate_from (k + 1) ts))))))
+        ≡ fold (at_age c x i age) (cond p (done_by_op c x i t.op r) r) ts
+    passing true here rest = rest (due_done c x r (record { iteration = i; op = k }))
+        ∙ ap (λ (t : Timed). fold (at_age c x i age) (done_by_op c x i t.op r) ts) here
+    passing false here rest = rest r
+
+    by_test : (e : Bool) → operation_at c.block k ≡ t
+        → ((r : Progress) → fold (due_done c x) r (due_from c x i age (k + 1) ts) ≡ fold (at_age c x i age) r ts)
+        → fold (due_done c x) r
+        (map (λ n. record { iteration = i; op = n })
+        (filter (λ n. passes x.state.registers (temps_of x.state i) (operation_at c.block n).guard)
+        (map (λ t. t.0) (cond e ((k, t) ∷ filter (λ t. (t.1).offset == age) (enumerate_from (k + 1) ts))
+        (filter (λ t. (t.1).offset == age) (enumerate_from (k + 1) ts))))))
+        ≡ fold (at_age c x i age)
+        (cond e (cond (passes x.state.registers (temps_of x.state i) t.guard) (done_by_op c x i t.op r) r) r) ts
+    by_test false here rest = rest r
+    by_test true here rest =
+        passing (passes x.state.registers (temps_of x.state i) (operation_at c.block k).guard) here rest
+        ∙ ap (λ (u : Timed). fold (at_age c x i age) (cond (passes x.state.registers (temps_of x.state i) u.guard)
+        (done_by_op c x i t.op r) r) ts) here
+
+-- the settings of a module's state
+abbrev pub setting_of : List (List ℕ) → List Channel → Module → Block → Setting
+setting_of lists channels m b = record { lists = lists; channels = channels; owner = m; block = b }
+
+same_iterations : (c : Setting) (x r : Progress) (its : List (ℕ × ℕ))
+    → fold (λ r it. fold (due_done c x) r (due_in c.block x.state it)) r its ≡ fold (iteration_done c x) r its
+unfolding due_at
+same_iterations c x r [] = refl
+same_iterations c x r (it ∷ its) =
+    ap (λ (q : Progress). fold (λ r it. fold (due_done c x) r (due_in c.block x.state it)) q its)
+    (iteration_by_one c x it.0 it.1 0 c.block.ops r (λ j l. ap (operation_at c.block) (zero-add j)))
+    ∙ same_iterations c x (iteration_done c x r it) its
+
+-- a local clock without queries, iteration by iteration
+pub clock_by_iterations : (lists : List (List ℕ)) (channels : List Channel) (m : Module) (x : Progress)
+    → ((n : ℕ) → is_query (operation_at (block_of m x.state) n).op ≡ false)
+    → clock_made lists channels m x.state x.done
+    ≡ fold (iteration_done (setting_of lists channels m (block_of m x.state)) x) x
+    (enumerate_from 0 (ages (block_of m x.state) x.state.control))
+unfolding requests due
+clock_by_iterations lists channels m x plain =
+    let c = setting_of lists channels m (block_of m x.state) in
+    let its = enumerate_from 0 (ages (block_of m x.state) x.state.control) in
+    one_by_one c x plain (flat_map (due_in (block_of m x.state) x.state) its) x
+    ∙ (fold-flat_map (due_done c x) (due_in (block_of m x.state) x.state) x its ∙ same_iterations c x x its)

@@ -43,7 +43,7 @@ only : {A : Type 0} {a b : A} → a ∷ [] ≡ b ∷ [] → a ≡ b
 only e = cc
 
 -- two lists of one length that agree at a place agree there when both are written at one place
-set_alike : {A : Type 0} (xs ys : List A) (k j : ℕ) (v d : A) → length xs ≡ length ys → get_or xs j d ≡ get_or ys j d
+pub set_alike : {A : Type 0} (xs ys : List A) (k j : ℕ) (v d : A) → length xs ≡ length ys → get_or xs j d ≡ get_or ys j d
     → get_or (set xs k v) j d ≡ get_or (set ys k v) j d
 set_alike [] [] k j v d l e = refl
 set_alike [] (y ∷ ys) k j v d l e = absurd (omega arith)
@@ -129,7 +129,7 @@ same_variable c x y i j t h v used = by_test (nat_lt v (length c.owner.registers
         ∙ (ap (λ (n : ℕ). get_or (temps_of y.state j) (v - n) 0) (h.registers ∙ sym h.as_many)
         ∙ sym (get_or-append_right y.state.registers (temps_of y.state j) v 0 (omega (arith, h.as_many)))))
 
-same_passes : (c : Setting) (x y : Progress) (i j age : ℕ) (g : Option ℕ) (op : Op ℕ)
+pub same_passes : (c : Setting) (x y : Progress) (i j age : ℕ) (g : Option ℕ) (op : Op ℕ)
     → Agree c x y i j (record { offset = age; guard = g; op = op })
     → passes x.state.registers (temps_of x.state i) g ≡ passes y.state.registers (temps_of y.state j) g
 same_passes c x y i j age None op h = refl

@@ -1,4 +1,5 @@
 pub mod Alike
+pub mod Applied
 pub mod Heads
 pub mod Naming
 pub mod Outcomes

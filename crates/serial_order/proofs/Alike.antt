@@ -53,22 +53,6 @@ set_alike (x ∷ xs) (y ∷ ys) zero (suc j) v d l e = e
 set_alike (x ∷ xs) (y ∷ ys) (suc k) zero v d l e = e
 set_alike (x ∷ xs) (y ∷ ys) (suc k) (suc j) v d l e = set_alike xs ys k j v d (omega arith) e
 
--- an element of a list
-abbrev pub Among : {A : Type 0} → A → List A → Type 0
-Among x [] = ⊥
-Among x (y ∷ ys) = (x ≡ y) ⊎ Among x ys
-
-pub fold_both : {A R S : Type 0} (P : R → S → Type 0) (f : R → A → R) (g : S → A → S) (xs : List A)
-    → ((r : R) (s : S) (x : A) → Among x xs → P r s → P (f r x) (g s x)) → (r : R) (s : S) → P r s → P (fold f r xs) (fold g s xs)
-fold_both P f g [] step r s h = h
-fold_both P f g (x ∷ xs) step r s h =
-    fold_both P f g xs (λ r s y among. step r s y (inr among)) (f r x) (g s x) (step r s x (inl refl) h)
-
-pub fold_keeps : {A R : Type 0} (P : R → Type 0) (f : R → A → R) (xs : List A)
-    → ((r : R) (x : A) → Among x xs → P r → P (f r x)) → (r : R) → P r → P (fold f r xs)
-fold_keeps P f [] step r h = h
-fold_keeps P f (x ∷ xs) step r h = fold_keeps P f xs (λ r y among. step r y (inr among)) (f r x) (step r x (inl refl) h)
-
 -- ---- things
 
 -- a thing of a module

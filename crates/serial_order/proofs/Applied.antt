@@ -28,7 +28,7 @@ use Rattle.serial_order.specs.Uses.{writes}
 use Rattle.serial_order.specs.SerialRun.{Progress}
 use Rattle.serial_order.proofs.Outcomes.{Outcome, Nothing, ToVariable, ToWord, Setting, outcome, exchange, put, more, applied, done_by_op, at_age}
 use Rattle.serial_order.proofs.Outcomes.{iteration_done}
-use Rattle.serial_order.proofs.Alike.{set_alike, Among, fold_both, fold_keeps, held, Agree, same_passes, same_outcome, same_exchange}
+use Rattle.serial_order.proofs.Alike.{set_alike, held}
 
 -- a value for a register, or for a temp behind them, by whether it is a register
 abbrev chosen : Setting → ℕ → ℕ → ℕ → ModuleState → Bool → ModuleState

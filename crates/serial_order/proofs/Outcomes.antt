@@ -1,6 +1,6 @@
 -- What the operations of a local clock make of a module: one outcome and one exchange each.
 use Rattle.std.proofs.Common.{◌≡◌, ℕ, zero, suc, ◌+◌, ◌≤◌, ◌<◌, List, [], ◌∷◌, ◌++◌, length, map, drop, get_or, zero-add, Option, Some, None, Bool, true, false}
-use Rattle.std.proofs.Common.{cond, refl, sym, ◌∙◌, ap, subst, arith, ◌==◌, append_assoc, append-nil, add-zero}
+use Rattle.std.proofs.Common.{cond, refl, sym, ◌∙◌, ap, subst, arith, ◌==◌, inl, inr, append_assoc, append-nil, add-zero}
 use Rattle.std.specs.Prelude.{slice_index, if◌then◌else◌}
 use Rattle.std.specs.List.{fold, filter, filter_map, flat_map, enumerate_from, cons_option}
 use Rattle.std.proofs.lemmas.List.Sums.{fold-append}
@@ -18,7 +18,10 @@ use Rattle.flow_design.specs.declared.state.ModuleState.{ModuleState}
 use Rattle.flow_design.specs.declared.state.Reply.TheVariants.{Done, Value}
 use Rattle.flow_design.specs.declared.state.Request.{Request}
 use Rattle.flow_design.specs.Words.{cut_to}
-use Rattle.flow_design.specs.Module.{no_operation, block_of, operation_at, ages, temps_of, passes, due_at, due_in, due}
+use Rattle.flow_design.specs.Module.{no_operation, block_of, operation_at, ages, temps_of, passes, due_at, due_in, due, live_count}
+use Rattle.lockstep_defs.specs.States.{IsDueIn}
+use Rattle.lockstep_defs.proofs.Standing.{due_in_range}
+use Rattle.serial_order.proofs.Lists.{Among, among_all, among_at}
 use Rattle.lockstep_defs.specs.Laws.{is_query}
 use Rattle.lockstep_defs.specs.Machine.{width_of, value_of, request_of, requests, memory_of, address_in, effects_of, is_fifo_operation}
 use Rattle.lockstep_defs.specs.Machine.{effects, stored}
@@ -126,11 +129,12 @@ first_done c x i (TryWrite f ok e) plain ds r = absurd cc
 first_done c x i (Empty f v) plain ds r = absurd cc
 first_done c x i (Full f v) plain ds r = absurd cc
 
-one_by_one : (c : Setting) (x : Progress) → ((n : ℕ) → is_query (operation_at c.block n).op ≡ false) → (ds : List Due) (r : Progress)
+one_by_one : (c : Setting) (x : Progress) (ds : List Due) → ((d : Due) → Among d ds → is_query (op_of c d) ≡ false) → (r : Progress)
     → machine_done c x ds r ≡ fold (due_done c x) r ds
-one_by_one c x plain [] r = ap (λ (d : List Exchange). record { state = r.state; done = d }) (append-nil r.done)
-one_by_one c x plain (d ∷ ds) r =
-    first_done c x d.iteration (op_of c d) (plain d.op) ds r ∙ one_by_one c x plain ds (due_done c x r d)
+one_by_one c x [] plain r = ap (λ (d : List Exchange). record { state = r.state; done = d }) (append-nil r.done)
+one_by_one c x (d ∷ ds) plain r =
+    first_done c x d.iteration (op_of c d) (plain d (inl refl)) ds r
+    ∙ one_by_one c x ds (λ e among. plain e (inr among)) (due_done c x r d)
 
 -- ---- the live iterations
 
@@ -209,9 +213,19 @@ same_iterations c x r (it ∷ its) =
     (iteration_by_one c x it.0 it.1 0 c.block.ops r (λ j l. ap (operation_at c.block) (zero-add j)))
     ∙ same_iterations c x (iteration_done c x r it) its
 
+-- the block has no query
+abbrev pub IsPlain : Block → Type 0
+IsPlain b = (t : Timed) → Among t b.ops → is_query t.op ≡ false
+
+due_plain : (m : Module) (s : ModuleState) → IsPlain (block_of m s) → (d : Due) → Among d (due m s)
+    → is_query (operation_at (block_of m s) d.op).op ≡ false
+due_plain m s plain d among =
+    let b = block_of m s in
+    let is = among_all (IsDueIn b (live_count b s.control)) (due m s) (due_in_range m s) d among in
+    plain (operation_at b d.op) (among_at b.ops d.op no_operation is.op)
+
 -- a local clock without queries, iteration by iteration
-pub clock_by_iterations : (lists : List (List ℕ)) (channels : List Channel) (m : Module) (x : Progress)
-    → ((n : ℕ) → is_query (operation_at (block_of m x.state) n).op ≡ false)
+pub clock_by_iterations : (lists : List (List ℕ)) (channels : List Channel) (m : Module) (x : Progress) → IsPlain (block_of m x.state)
     → clock_made lists channels m x.state x.done
     ≡ fold (iteration_done (setting_of lists channels m (block_of m x.state)) x) x
     (enumerate_from 0 (ages (block_of m x.state) x.state.control))
@@ -219,5 +233,5 @@ unfolding requests due
 clock_by_iterations lists channels m x plain =
     let c = setting_of lists channels m (block_of m x.state) in
     let its = enumerate_from 0 (ages (block_of m x.state) x.state.control) in
-    one_by_one c x plain (flat_map (due_in (block_of m x.state) x.state) its) x
+    one_by_one c x (flat_map (due_in (block_of m x.state) x.state) its) (due_plain m x.state plain) x
     ∙ (fold-flat_map (due_done c x) (due_in (block_of m x.state) x.state) x its ∙ same_iterations c x x its)

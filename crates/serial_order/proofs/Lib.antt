@@ -4,4 +4,5 @@ pub mod Heads
 pub mod Iterations
 pub mod Lists
 pub mod Naming
+pub mod Offsets
 pub mod Outcomes

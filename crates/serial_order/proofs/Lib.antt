@@ -6,3 +6,5 @@ pub mod Lists
 pub mod Naming
 pub mod Offsets
 pub mod Outcomes
+pub mod Overlap
+pub mod Windows

@@ -118,7 +118,7 @@ upto_next c fit x h a young =
 
 -- ---- places
 
-solo_places : (c : Setting) (n a : ℕ) (x : Progress) → Placed c n x → Placed c n (solo a x)
+pub solo_places : (c : Setting) (n a : ℕ) (x : Progress) → Placed c n x → Placed c n (solo a x)
 solo_places c n a x h = record {
   registers = h.registers;
   memories = h.memories;

@@ -1,0 +1,189 @@
+-- One local clock of overlapping iterations.
+use Rattle.std.proofs.Common.{◌≡◌, ◌≢◌, ℕ, zero, suc, ◌+◌, ◌-◌, ◌*◌, ◌≤◌, ◌<◌, List, [], ◌∷◌, length, get_or, min, Bool, true, false, ◌&&◌, cond, refl, sym}
+use Rattle.std.proofs.Common.{◌∙◌, ap, subst, arith, ◌==◌, nat_lt, ◌⊎◌, inl, inr}
+use Rattle.std.specs.List.{fold, enumerate_from, list_any}
+use Rattle.std.proofs.lemmas.Bool.{ltb-true, ltb-false, eqb-true}
+use Rattle.std.proofs.lemmas.List.FromFn.{get_or-enumerate_from, length-enumerate_from}
+use Rattle.std.proofs.Math.Nat.{mul-le-mul_right, le_of_mul-le-mul_right, suc-mul, add-mul, min-eq_left, min-eq_right}
+use Rattle.flow_design.specs.declared.design.Timed.{Timed}
+use Rattle.flow_design.specs.Module.{interval, live_count, ages, temps_of}
+use Rattle.lockstep_defs.specs.Laws.{IsLive}
+use Rattle.lockstep_defs.proofs.Live.{live_iff, are_ages}
+use Rattle.serial_order.specs.declared.order.Used.{Used}
+use Rattle.serial_order.specs.Uses.{writes, is_use}
+use Rattle.serial_order.specs.SerialRun.{Progress}
+use Rattle.serial_order.proofs.Lists.{Among, fold_none, fold_one, fold_keeps}
+use Rattle.serial_order.proofs.Outcomes.{Setting, iteration_done}
+use Rattle.serial_order.proofs.Alike.{IsThing, held, Agree}
+use Rattle.serial_order.proofs.Applied.{Placed}
+use Rattle.serial_order.proofs.Iterations.{iteration_places, thing_left, other_temps, thing_alike, same_temps}
+use Rattle.serial_order.proofs.Offsets.{IsFit, Stands, upto, solo, upto_next, upto_places, solo_places, solo_holds, still}
+use Rattle.serial_order.proofs.Windows.{IsNarrow, IsChain, NotLater, AllEarlier, HoldsAlike, live_in, IsSlot, TempsAlike, IsInLoop, HasCommitted}
+use Rattle.serial_order.proofs.Windows.{writes_used}
+
+-- ---- the live iterations
+
+abbrev pub its_of : Setting → Progress → List (ℕ × ℕ)
+its_of c p = enumerate_from 0 (ages c.block p.state.control)
+
+abbrev pub after_clock : Setting → Progress → Progress
+after_clock c p = fold (iteration_done c p) p (its_of c p)
+
+module _ (c : Setting) (from : ℕ → Progress) (n t : ℕ) (p : Progress) (fit : IsFit c) (narrow : IsNarrow c) (chain : IsChain c from n)
+    (h : IsInLoop c from n t p) where
+
+  -- an iteration is live where it is young
+  pub is_slot : (i j a : ℕ) → i + j ≡ n → a + i * interval c.block ≡ t → a < c.block.len → IsSlot c n t (live_in c p) j i a
+  is_slot i j a number age young =
+      let products = ap (λ (m : ℕ). m * interval c.block) number ∙ refl in
+      let apart = add-mul i j (interval c.block) in
+      let clock = h.clock in
+      let newest = h.newest in
+      let started = h.started in
+      record {
+        there = (live_iff c.block p.state.control j fit.some).1
+            (record { has_started = omega arith; is_young = omega arith });
+        number = number;
+        age = age;
+      }
+
+  -- what is live is an iteration of the loop, and it is young
+  pub has_slot : (j : ℕ) → j < live_in c p → (i : ℕ) × (a : ℕ) × IsSlot c n t (live_in c p) j i a × (a < c.block.len)
+      × ((p.state.control.clock - p.state.control.newest) + j * interval c.block ≡ a)
+  has_slot j l =
+      let live = (live_iff c.block p.state.control j fit.some).0 l in
+      let started = live.has_started in
+      let young = live.is_young in
+      let clock = h.clock in
+      let newest = h.newest in
+      let since = h.started in
+      let first : j ≤ n = le_of_mul-le-mul_right {k = interval c.block} (omega arith) fit.some in
+      let number : (n - j) + j ≡ n = omega arith in
+      let products = ap (λ (m : ℕ). m * interval c.block) number in
+      let apart = add-mul (n - j) j (interval c.block) in
+      (n - j, t - (n - j) * interval c.block, record { there = l; number = number; age = omega arith }, omega arith, omega arith)
+
+  -- ---- what an operation reads
+
+  reads : (j i a : ℕ) → IsSlot c n t (live_in c p) j i a → a < c.block.len → (o : Timed) → Among o c.block.ops → o.offset ≡ a
+      → Agree c p (solo a (upto c a (from i))) (live_in c p - 1 - j) 0 o
+  reads j i a slot young o among at = record {
+    registers = h.places.registers;
+    as_many = (upto_places c fit (from i) (chain.stands i low) a (omega arith)).registers;
+    temps = h.temps j i a slot;
+    things = λ u thing used.
+        h.things u thing i a low slot.age
+        (inr (λ w is writes.
+        let near = narrow.within u thing w o is among (writes_used u w writes) used in
+        let age = slot.age in
+        let next = suc-mul i (interval c.block) in omega arith))
+        (inr (λ w is writes.
+        let near = narrow.strict u thing o w among is used writes in
+        let age = slot.age in omega arith))
+        ∙ (ap (λ (m : ℕ). held u (upto c m (from i))) (min-eq_left (omega arith))
+        ∙ sym (solo_holds u a (upto c a (from i))));
+  }
+    where
+      low : i ≤ n
+      low = let number = slot.number in omega arith
+
+  -- ---- the places of live iterations
+
+  its_length : length (its_of c p) ≡ live_in c p
+  its_length = length-enumerate_from 0 (ages c.block p.state.control) ∙ (are_ages c.block p.state.control).count
+
+  slot_pair : (k j a : ℕ) → k < live_in c p → j ≡ live_in c p - 1 - k
+      → (p.state.control.clock - p.state.control.newest) + j * interval c.block ≡ a
+      → get_or (its_of c p) k (0, 0) ≡ (k, a)
+  slot_pair k j a l back age =
+      let ages_are = are_ages c.block p.state.control in
+      let count = ages_are.count in
+      let this : get_or (ages c.block p.state.control) k 0 ≡ a =
+      ages_are.each k 0 l
+      ∙ (ap (λ (m : ℕ). (p.state.control.clock - p.state.control.newest) + m * interval c.block) (sym back) ∙ age) in
+      let first : 0 + k ≡ k = omega arith in
+      get_or-enumerate_from 0 (ages c.block p.state.control) k (0, 0) (omega arith) ∙ rw (first, this) refl
+
+  -- a live iteration in which no operation writes the thing leaves it
+  slot_leaves : (u : Used) (k : ℕ) → k < live_in c p
+      → ((j i a : ℕ) → j ≡ live_in c p - 1 - k → IsSlot c n t (live_in c p) j i a → a < c.block.len
+      → (w : Timed) → Among w c.block.ops → w.offset ≡ a → writes u w.op ≡ false)
+      → (r : Progress) → held u (iteration_done c p r (get_or (its_of c p) k (0, 0))) ≡ held u r
+  slot_leaves u k l none r =
+      let j : ℕ = live_in c p - 1 - k in
+      by (has_slot j (omega arith))
+    where
+      by : (i : ℕ) × (a : ℕ) × IsSlot c n t (live_in c p) (live_in c p - 1 - k) i a × (a < c.block.len)
+          × ((p.state.control.clock - p.state.control.newest) + (live_in c p - 1 - k) * interval c.block ≡ a)
+          → held u (iteration_done c p r (get_or (its_of c p) k (0, 0))) ≡ held u r
+      by (i, a, slot, young, age) =
+          ap (λ (it : ℕ × ℕ). held u (iteration_done c p r it)) (slot_pair k (live_in c p - 1 - k) a l refl age)
+          ∙ thing_left c p u k a (none (live_in c p - 1 - k) i a refl slot young) r
+
+  -- ---- a thing that one iteration alone writes
+
+  advance : (u : Used) → IsThing (length c.channels) c.owner u → (i a : ℕ) → i ≤ n → a + i * interval c.block ≡ t
+      → held u p ≡ held u (upto c (min a c.block.len) (from i))
+      → ((k : ℕ) (w : Timed) → k ≤ n → Among w c.block.ops → writes u w.op ≡ true → w.offset + k * interval c.block ≡ t → k ≡ i)
+      → held u (after_clock c p) ≡ held u (upto c (min (suc a) c.block.len) (from i))
+  advance u thing i a low age same only = by_test (nat_lt a c.block.len) refl
+    where
+      no_write : (k : ℕ) (w : Timed) → k ≤ n → Among w c.block.ops → w.offset + k * interval c.block ≡ t → (k ≡ i → ⊥)
+          → (b : Bool) → writes u w.op ≡ b → b ≡ false
+      no_write k w l among at other false e = refl
+      no_write k w l among at other true e = absurd (other (only k w l among e at))
+
+      none : (k j m b : ℕ) → IsSlot c n t (live_in c p) j m b → (m ≡ i → ⊥) → (w : Timed) → Among w c.block.ops → w.offset ≡ b
+          → writes u w.op ≡ false
+      none k j m b slot other w among at =
+          let number = slot.number in
+          let since = slot.age in
+          no_write m w (omega arith) among (omega arith) other (writes u w.op) refl
+
+      by_test : (b : Bool) → nat_lt a c.block.len ≡ b → held u (after_clock c p) ≡ held u (upto c (min (suc a) c.block.len) (from i))
+      by_test false e =
+          let old = ltb-false a c.block.len e in
+          let its = its_length in
+          fold_none (Placed c (live_in c p)) (iteration_done c p) (held u) (its_of c p) (0, 0)
+          (λ r it. iteration_places c p (live_in c p) r it)
+          (λ k l r _. slot_leaves u k (omega arith) (λ j m b back slot young.
+          none k j m b slot (λ is.
+          let since = slot.age in
+          let products = ap (λ (x : ℕ). x * interval c.block) is in absurd (omega arith))) r)
+          p h.places
+          ∙ (same ∙ ap (λ (x : ℕ). held u (upto c x (from i)))
+          (min-eq_right old ∙ sym (min-eq_right (omega arith))))
+      by_test true e =
+          let young = ltb-true a c.block.len e in
+          let its = its_length in
+          let slot = is_slot i (n - i) a (omega arith) age young in
+          let there = slot.there in
+          let y = upto c a (from i) in
+          let places = upto_places c fit (from i) (chain.stands i low) a (omega arith) in
+          let now : held u p ≡ held u (solo a y) =
+          same ∙ (ap (λ (x : ℕ). held u (upto c x (from i))) (min-eq_left (omega arith)) ∙ sym (solo_holds u a y)) in
+          fold_one (Placed c (live_in c p)) (iteration_done c p) (held u) (its_of c p) (live_in c p - 1 - (n - i)) (0, 0) (held u p)
+          (held u (upto c (suc a) (from i))) (omega arith)
+          (λ r it. iteration_places c p (live_in c p) r it)
+          (λ k l other r _. slot_leaves u k (omega arith) (λ j m b back slot young.
+          none k j m b slot (λ is. let number = slot.number in other (omega arith))) r)
+          (λ r placed e.
+          ap (λ (it : ℕ × ℕ). held u (iteration_done c p r it)) (slot_here slot)
+          ∙ (thing_alike c p (solo a y) u (live_in c p) 1 (live_in c p - 1 - (n - i)) 0 a fit.sound (reads (n - i) i a slot young)
+          r (solo a y) placed (solo_places c 1 a y places) (e ∙ now)
+          ∙ ap (held u) (sym (upto_next c fit (from i) (chain.stands i low) a young))))
+          p h.places refl
+          ∙ ap (λ (x : ℕ). held u (upto c x (from i))) (sym (min-eq_left (omega arith)))
+        where
+          slot_here : IsSlot c n t (live_in c p) (n - i) i a
+              → get_or (its_of c p) (live_in c p - 1 - (n - i)) (0, 0) ≡ (live_in c p - 1 - (n - i), a)
+          slot_here slot =
+              let there = slot.there in
+              let since = slot.age in
+              let number = slot.number in
+              let clock = h.clock in
+              let newest = h.newest in
+              let products = ap (λ (m : ℕ). m * interval c.block) number in
+              let apart = add-mul i (n - i) (interval c.block) in
+              let started = h.started in
+              slot_pair (live_in c p - 1 - (n - i)) (n - i) a (omega arith) (omega arith) (omega arith)

@@ -17,9 +17,10 @@ use Rattle.serial_order.proofs.Outcomes.{Setting, iteration_done}
 use Rattle.serial_order.proofs.Alike.{IsThing, held, Agree}
 use Rattle.serial_order.proofs.Applied.{Placed}
 use Rattle.serial_order.proofs.Iterations.{iteration_places, thing_left, other_temps, thing_alike, same_temps}
-use Rattle.serial_order.proofs.Offsets.{IsFit, Stands, upto, solo, upto_next, upto_places, solo_places, solo_holds, still}
+use Rattle.serial_order.proofs.Offsets.{IsFit, Stands, upto, solo, upto_next, upto_places, solo_places, upto_start, solo_holds, still}
 use Rattle.serial_order.proofs.Windows.{IsNarrow, IsChain, NotLater, AllEarlier, HoldsAlike, live_in, IsSlot, TempsAlike, IsInLoop, HasCommitted}
-use Rattle.serial_order.proofs.Windows.{writes_used}
+use Rattle.serial_order.proofs.Windows.{writes_used, some_written, none_written}
+use Rattle.serial_order.specs.Orders.{is_written_at}
 
 -- ---- the live iterations
 
@@ -187,3 +188,154 @@ module _ (c : Setting) (from : ℕ → Progress) (n t : ℕ) (p : Progress) (fit
               let apart = add-mul i (n - i) (interval c.block) in
               let started = h.started in
               slot_pair (live_in c p - 1 - (n - i)) (n - i) a (omega arith) (omega arith) (omega arith)
+
+  -- ---- all things a local clock later
+
+  -- the iteration before this one does not write the thing in this local clock
+  abbrev NoneBefore : Used → ℕ → ℕ → Type 0
+  NoneBefore u i a = (i ≡ 0) ⊎ ((w : Timed) → Among w c.block.ops → writes u w.op ≡ true → w.offset ≢ a + interval c.block)
+
+  same_owner : (u : Used) → IsThing (length c.channels) c.owner u → (i a : ℕ) → i ≤ n → a + i * interval c.block ≡ t
+      → NotLater c n u i (suc t) → AllEarlier c u i (suc t) → NoneBefore u i a
+      → held u (after_clock c p) ≡ held u (upto c (min (suc a) c.block.len) (from i))
+  same_owner u thing i a low age later earlier before =
+      advance u thing i a low age (h.things u thing i a low age (still_later later) (still_earlier earlier before)) (only later earlier before)
+    where
+      still_later : NotLater c n u i (suc t) → NotLater c n u i t
+      still_later (inl newest) = inl newest
+      still_later (inr not) = inr (λ w is writes. let bound = not w is writes in omega arith)
+
+      still_earlier : AllEarlier c u i (suc t) → NoneBefore u i a → AllEarlier c u i t
+      still_earlier (inl first) before = inl first
+      still_earlier (inr all) (inl first) = inl first
+      still_earlier (inr all) (inr none) =
+          inr (λ w is writes. let bound = all w is writes in let other = none w is writes in omega arith)
+
+      not_above : NotLater c n u i (suc t) → (k : ℕ) (w : Timed) → k ≤ n → Among w c.block.ops → writes u w.op ≡ true
+          → w.offset + k * interval c.block ≡ t → (i < k → ⊥)
+      not_above (inl newest) k w l is writes at above = absurd (omega arith)
+      not_above (inr not) k w l is writes at above =
+          let bound = not w is writes in
+          let products : suc i * interval c.block ≤ k * interval c.block = mul-le-mul_right (interval c.block) above in absurd (omega arith)
+
+      not_below : AllEarlier c u i (suc t) → NoneBefore u i a → (k : ℕ) (w : Timed) → Among w c.block.ops → writes u w.op ≡ true
+          → w.offset + k * interval c.block ≡ t → (k < i → ⊥)
+      not_below (inl first) before k w is writes at below = absurd (omega arith)
+      not_below (inr all) (inl first) k w is writes at below = absurd (omega arith)
+      not_below (inr all) (inr none) k w is writes at below = by_test (nat_lt (suc k) i) refl
+        where
+          by_test : (b : Bool) → nat_lt (suc k) i ≡ b → ⊥
+          by_test true e =
+              let two = ltb-true (suc k) i e in
+              let bound = all w is writes in
+              let products : suc (suc k) * interval c.block ≤ i * interval c.block = mul-le-mul_right (interval c.block) two in
+              let first = suc-mul (suc k) (interval c.block) in
+              let second = suc-mul k (interval c.block) in
+              let some = fit.some in absurd (omega arith)
+          by_test false e =
+              let last = ltb-false (suc k) i e in
+              let number : i ≡ suc k = omega arith in
+              let products = ap (λ (x : ℕ). x * interval c.block) number in
+              let first = suc-mul k (interval c.block) in
+              none w is writes (omega arith)
+
+      only : NotLater c n u i (suc t) → AllEarlier c u i (suc t) → NoneBefore u i a → (k : ℕ) (w : Timed) → k ≤ n → Among w c.block.ops
+          → writes u w.op ≡ true → w.offset + k * interval c.block ≡ t → k ≡ i
+      only later earlier before k w l is writes at =
+          let above = not_above later k w l is writes at in
+          let below = not_below earlier before k w is writes at in
+          between (nat_lt i k) (nat_lt k i) refl refl above below
+        where
+          between : (x y : Bool) → nat_lt i k ≡ x → nat_lt k i ≡ y → (i < k → ⊥) → (k < i → ⊥) → k ≡ i
+          between true y e f above below = absurd (above (ltb-true i k e))
+          between false true e f above below = absurd (below (ltb-true k i f))
+          between false false e f above below = let one = ltb-false i k e in let two = ltb-false k i f in omega arith
+
+  -- the iteration before this one writes the thing in this local clock, as its last write
+  next_owner : (u : Used) → IsThing (length c.channels) c.owner u → (i a : ℕ) → suc i ≤ n → a + suc i * interval c.block ≡ t
+      → AllEarlier c u (suc i) (suc t) → (o : Timed) → Among o c.block.ops → writes u o.op ≡ true → o.offset ≡ a + interval c.block
+      → held u (after_clock c p) ≡ held u (upto c (min (suc a) c.block.len) (from (suc i)))
+  next_owner u thing i a low age (inl first) o among wrote at = absurd (omega arith)
+  next_owner u thing i a low age (inr all) o among wrote at =
+      let length = (fit.sound o among).offset in
+      let next = suc-mul i (interval c.block) in
+      let some = fit.some in
+      let b : ℕ = a + interval c.block in
+      let b_age : b + i * interval c.block ≡ t = omega arith in
+      advance u thing i b (omega arith) b_age
+      (h.things u thing i b (omega arith) b_age
+      (inr (λ w is writes. let near = narrow.strict u thing w o is among (writes_used u w writes) wrote in omega arith))
+      (inr (λ w is writes. let bound = all w is writes in omega arith)))
+      (λ k w l is writes here. only k w is writes here)
+      ∙ (ap (λ (x : ℕ). held u (upto c x (from i))) (min-eq_left (omega arith))
+      ∙ (sym (settled b (omega arith) (omega arith))
+      ∙ (sym (chain.linked i (omega arith) u)
+      ∙ (sym (upto_start c u (from (suc i)))
+      ∙ (sym (begun (omega arith))
+      ∙ ap (λ (x : ℕ). held u (upto c x (from (suc i)))) (sym (min-eq_left (omega arith))))))))
+    where
+      settled : (b : ℕ) → b ≡ a + interval c.block → suc b ≤ c.block.len → held u (upto c c.block.len (from i)) ≡ held u (upto c (suc b) (from i))
+      settled b e l =
+          ap (λ (x : ℕ). held u (upto c x (from i))) (omega arith)
+          ∙ still c fit u (from i) (chain.stands i (omega arith)) (c.block.len - suc b) (suc b) (omega arith)
+          (λ w is from_here up. no_write w is (λ writes.
+          let bound = all w is writes in
+          let next = suc-mul i (interval c.block) in omega arith))
+        where
+          no_write : (w : Timed) → Among w c.block.ops → (writes u w.op ≡ true → ⊥) → writes u w.op ≡ false
+          no_write w is not = by (writes u w.op) refl
+            where
+              by : (x : Bool) → writes u w.op ≡ x → x ≡ false
+              by true e = absurd (not e)
+              by false e = refl
+
+      begun : suc a ≤ c.block.len → held u (upto c (suc a) (from (suc i))) ≡ held u (upto c 0 (from (suc i)))
+      begun l =
+          ap (λ (x : ℕ). held u (upto c x (from (suc i)))) (omega arith)
+          ∙ still c fit u (from (suc i)) (chain.stands (suc i) low) (suc a) 0 (omega arith)
+          (λ w is from_here up. no_write w is (λ writes.
+          let near = narrow.strict u thing w o is among (writes_used u w writes) wrote in omega arith))
+        where
+          no_write : (w : Timed) → Among w c.block.ops → (writes u w.op ≡ true → ⊥) → writes u w.op ≡ false
+          no_write w is not = by (writes u w.op) refl
+            where
+              by : (x : Bool) → writes u w.op ≡ x → x ≡ false
+              by true e = absurd (not e)
+              by false e = refl
+
+      only : (k : ℕ) (w : Timed) → Among w c.block.ops → writes u w.op ≡ true → w.offset + k * interval c.block ≡ t → k ≡ i
+      only k w is writes here = by_tests (nat_lt i k) (nat_lt k i) refl refl
+        where
+          by_tests : (x y : Bool) → nat_lt i k ≡ x → nat_lt k i ≡ y → k ≡ i
+          by_tests true y e f =
+              let above : suc i ≤ k = ltb-true i k e in
+              let near = narrow.strict u thing w o is among (writes_used u w writes) wrote in
+              let products : suc i * interval c.block ≤ k * interval c.block = mul-le-mul_right (interval c.block) above in absurd (omega arith)
+          by_tests false true e f =
+              let below : suc k ≤ i = ltb-true k i f in
+              let bound = all w is writes in
+              let some = fit.some in
+              let products : suc k * interval c.block ≤ i * interval c.block = mul-le-mul_right (interval c.block) below in
+              let first = suc-mul k (interval c.block) in
+              let next = suc-mul i (interval c.block) in absurd (omega arith)
+          by_tests false false e f = let one = ltb-false i k e in let two = ltb-false k i f in omega arith
+
+  things_next : HoldsAlike c from n (suc t) (after_clock c p)
+  things_next u thing i b low age later earlier =
+      let before : i * interval c.block ≤ n * interval c.block = mul-le-mul_right (interval c.block) low in
+      let started = h.started in
+      let a : ℕ = t - i * interval c.block in
+      let next : b ≡ suc a = omega arith in
+      rw next (by_number i a low (omega arith) later earlier)
+    where
+      by_number : (i a : ℕ) → i ≤ n → a + i * interval c.block ≡ t → NotLater c n u i (suc t) → AllEarlier c u i (suc t)
+          → held u (after_clock c p) ≡ held u (upto c (min (suc a) c.block.len) (from i))
+      by_number zero a low age later earlier = same_owner u thing zero a low age later earlier (inl refl)
+      by_number (suc i) a low age later earlier = by_test (is_written_at (a + interval c.block) u c.block.ops) refl
+        where
+          by_test : (x : Bool) → is_written_at (a + interval c.block) u c.block.ops ≡ x
+              → held u (after_clock c p) ≡ held u (upto c (min (suc a) c.block.len) (from (suc i)))
+          by_test false e = same_owner u thing (suc i) a low age later earlier (inr (none_written u (a + interval c.block) c.block.ops e))
+          by_test true e =
+              let (o, among, wrote, at) = some_written u (a + interval c.block) c.block.ops e in
+              next_owner u thing i a low age earlier o among wrote at

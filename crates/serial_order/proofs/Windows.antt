@@ -1,6 +1,6 @@
 -- The heart: while iterations of a serial loop overlap, each thing holds what it holds in the serial run, in the iteration that uses it.
 use Rattle.std.proofs.Common.{◌≡◌, ◌≢◌, ℕ, zero, suc, ◌+◌, ◌-◌, ◌*◌, ◌≤◌, ◌<◌, List, [], ◌∷◌, length, get_or, min, Bool, true, false, ◌&&◌, cond, refl, sym}
-use Rattle.std.proofs.Common.{◌∙◌, ap, subst, arith, ◌==◌, nat_lt, ◌⊎◌, inl, inr}
+use Rattle.std.proofs.Common.{◌∙◌, ap, subst, arith, ◌==◌, nat_lt, ◌||◌, true≢false, ◌⊎◌, inl, inr}
 use Rattle.std.specs.List.{fold, enumerate_from, list_any}
 use Rattle.std.proofs.lemmas.Bool.{ltb-true, ltb-false, eqb-true, eq-eqb, or_right, or_parts}
 use Rattle.std.proofs.lemmas.List.FromFn.{get_or-enumerate_from}
@@ -60,6 +60,36 @@ op_writes_used (Writing g) t (Full f v) e h = absurd cc
 -- what an operation writes it uses
 pub writes_used : (u : Used) (t : Timed) → writes u t.op ≡ true → is_use u t ≡ true
 writes_used u t h = op_writes_used u t t.op refl h
+
+-- an operation that writes a thing at an offset, or none does
+pub some_written : (u : Used) (a : ℕ) (ts : List Timed) → is_written_at a u ts ≡ true
+    → (o : Timed) × Among o ts × (writes u o.op ≡ true) × (o.offset ≡ a)
+some_written u a [] e = absurd (true≢false (sym e))
+some_written u a (t ∷ ts) e = by_tests (t.offset == a) (writes u t.op) refl refl e (λ e. some_written u a ts e)
+  where
+    later : (o : Timed) × Among o ts × (writes u o.op ≡ true) × (o.offset ≡ a)
+        → (o : Timed) × Among o (t ∷ ts) × (writes u o.op ≡ true) × (o.offset ≡ a)
+    later (o, among, wrote, at) = (o, inr among, wrote, at)
+
+    by_tests : (x y : Bool) → (t.offset == a) ≡ x → writes u t.op ≡ y → ((x && y) || is_written_at a u ts) ≡ true
+        → (is_written_at a u ts ≡ true → (o : Timed) × Among o ts × (writes u o.op ≡ true) × (o.offset ≡ a))
+        → (o : Timed) × Among o (t ∷ ts) × (writes u o.op ≡ true) × (o.offset ≡ a)
+    by_tests true true at wrote e rest = (t, inl refl, wrote, eqb-true t.offset a at)
+    by_tests true false at wrote e rest = later (rest e)
+    by_tests false y at wrote e rest = later (rest e)
+
+pub none_written : (u : Used) (a : ℕ) (ts : List Timed) → is_written_at a u ts ≡ false
+    → (w : Timed) → Among w ts → writes u w.op ≡ true → w.offset ≢ a
+none_written u a [] e w among wrote at = absurd among
+none_written u a (t ∷ ts) e w (inl same) wrote at =
+    let parts = or_parts ((t.offset == a) && writes u t.op) (is_written_at a u ts) e in
+    true≢false (sym (both (w.offset == a) (writes u w.op) (eq-eqb w.offset a at) wrote)
+    ∙ (ap (λ (o : Timed). (o.offset == a) && writes u o.op) same ∙ parts.0))
+  where
+    both : (x y : Bool) → x ≡ true → y ≡ true → (x && y) ≡ true
+    both x y e f = rw (e, f) refl
+none_written u a (t ∷ ts) e w (inr among) wrote at =
+    none_written u a ts (or_parts ((t.offset == a) && writes u t.op) (is_written_at a u ts) e).1 w among wrote at
 
 -- ---- overlapping iterations
 

@@ -6,14 +6,15 @@ use Rattle.std.proofs.lemmas.Bool.{ltb-true, ltb-false, eqb-true}
 use Rattle.std.proofs.lemmas.List.FromFn.{get_or-enumerate_from, length-enumerate_from}
 use Rattle.std.proofs.Math.Nat.{mul-le-mul_right, le_of_mul-le-mul_right, suc-mul, add-mul, min-eq_left, min-eq_right}
 use Rattle.flow_design.specs.declared.design.Timed.{Timed}
-use Rattle.flow_design.specs.Module.{interval, live_count, ages, temps_of}
+use Rattle.flow_design.specs.declared.design.Block.{Block}
+use Rattle.flow_design.specs.Module.{block_of, interval, live_count, ages, temps_of}
 use Rattle.lockstep_defs.specs.Laws.{IsLive}
 use Rattle.lockstep_defs.proofs.Live.{live_iff, are_ages}
 use Rattle.serial_order.specs.declared.order.Used.{Used}
 use Rattle.serial_order.specs.Uses.{writes, is_use}
-use Rattle.serial_order.specs.SerialRun.{Progress}
+use Rattle.serial_order.specs.SerialRun.{Progress, clock_made}
 use Rattle.serial_order.proofs.Lists.{Among, fold_none, fold_one, fold_keeps}
-use Rattle.serial_order.proofs.Outcomes.{Setting, iteration_done}
+use Rattle.serial_order.proofs.Outcomes.{Setting, setting_of, IsPlain, iteration_done, clock_by_iterations}
 use Rattle.serial_order.proofs.Alike.{IsThing, held, Agree}
 use Rattle.serial_order.proofs.Applied.{Placed}
 use Rattle.serial_order.proofs.Iterations.{iteration_places, thing_left, other_temps, thing_alike, same_temps}
@@ -339,3 +340,73 @@ module _ (c : Setting) (from : ℕ → Progress) (n t : ℕ) (p : Progress) (fit
           by_test true e =
               let (o, among, wrote, at) = some_written u (a + interval c.block) c.block.ops e in
               next_owner u thing i a low age earlier o among wrote at
+
+  -- ---- temps, and all together
+
+  temps_next : TempsAlike c from n t (live_in c p) suc (after_clock c p)
+  temps_next j i a slot =
+      let there = slot.there in
+      let number = slot.number in
+      let since = slot.age in
+      by i a slot (has_slot j there)
+    where
+      here : (i a : ℕ) → IsSlot c n t (live_in c p) j i a → a < c.block.len
+          → (p.state.control.clock - p.state.control.newest) + j * interval c.block ≡ a
+          → temps_of (after_clock c p).state (live_in c p - 1 - j) ≡ temps_of (upto c (suc a) (from i)).state 0
+      here i a slot young age =
+          let q : ℕ = live_in c p - 1 - j in
+          let its = its_length in
+          let there = slot.there in
+          let number = slot.number in
+          let y = upto c a (from i) in
+          let low : i ≤ n = omega arith in
+          let places = upto_places c fit (from i) (chain.stands i low) a (omega arith) in
+          fold_one (Placed c (live_in c p)) (iteration_done c p) (λ r. temps_of r.state q) (its_of c p) q (0, 0) (temps_of p.state q)
+          (temps_of (upto c (suc a) (from i)).state 0) (omega arith)
+          (λ r it. iteration_places c p (live_in c p) r it)
+          (λ k l other r _. others k (omega arith) q (λ same. other (sym same)) r)
+          (λ r placed e.
+          ap (λ (it : ℕ × ℕ). temps_of (iteration_done c p r it).state q) (slot_pair q j a (omega arith) (omega arith) age)
+          ∙ (same_temps c p (solo a y) (live_in c p) 1 q 0 a fit.sound (omega arith) (omega arith) (reads j i a slot young)
+          r (solo a y) placed (solo_places c 1 a y places) (e ∙ h.temps j i a slot)
+          ∙ ap (λ (x : Progress). temps_of x.state 0) (sym (upto_next c fit (from i) (chain.stands i low) a young))))
+          p h.places refl
+        where
+          others : (k : ℕ) → k < live_in c p → (q : ℕ) → q ≢ k → (r : Progress)
+              → temps_of (iteration_done c p r (get_or (its_of c p) k (0, 0))).state q ≡ temps_of r.state q
+          others k l q other r = by_slot (has_slot (live_in c p - 1 - k) (omega arith))
+            where
+              by_slot : (i : ℕ) × (a : ℕ) × IsSlot c n t (live_in c p) (live_in c p - 1 - k) i a × (a < c.block.len)
+                  × ((p.state.control.clock - p.state.control.newest) + (live_in c p - 1 - k) * interval c.block ≡ a)
+                  → temps_of (iteration_done c p r (get_or (its_of c p) k (0, 0))).state q ≡ temps_of r.state q
+              by_slot (i, a, slot, young, age) =
+                  ap (λ (it : ℕ × ℕ). temps_of (iteration_done c p r it).state q) (slot_pair k (live_in c p - 1 - k) a l refl age)
+                  ∙ other_temps c p k a q other r
+
+      by : (i a : ℕ) → IsSlot c n t (live_in c p) j i a → (k : ℕ) × (b : ℕ) × IsSlot c n t (live_in c p) j k b × (b < c.block.len)
+          × ((p.state.control.clock - p.state.control.newest) + j * interval c.block ≡ b)
+          → temps_of (after_clock c p).state (live_in c p - 1 - j) ≡ temps_of (upto c (suc a) (from i)).state 0
+      by i a slot (k, b, other, young, age) =
+          let number = slot.number in
+          let as_well = other.number in
+          let since = slot.age in
+          let until = other.age in
+          let same : k ≡ i = omega arith in
+          let products = ap (λ (x : ℕ). x * interval c.block) same in
+          let at : b ≡ a = omega arith in
+          here i a slot (omega arith) (omega arith)
+
+  pub has_committed : HasCommitted c from n t (live_in c p) (after_clock c p)
+  has_committed = record {
+    places = fold_keeps (Placed c (live_in c p)) (iteration_done c p) (its_of c p)
+        (λ r it among. iteration_places c p (live_in c p) r it) p h.places;
+    temps = temps_next;
+    things = things_next;
+  }
+
+-- a commit of the machine is one of all live iterations
+pub clock_is : (c : Setting) (p : Progress) → IsPlain c.block → block_of c.owner p.state ≡ c.block
+    → clock_made c.lists c.channels c.owner p.state p.done ≡ after_clock c p
+clock_is c p plain here =
+    subst (λ (b : Block). clock_made c.lists c.channels c.owner p.state p.done ≡ after_clock (setting_of c.lists c.channels c.owner b) p)
+    here (clock_by_iterations c.lists c.channels c.owner p (subst IsPlain (sym here) plain))

@@ -1,5 +1,6 @@
 pub mod Alike
 pub mod Applied
+pub mod Going
 pub mod Heads
 pub mod Iterations
 pub mod Lists

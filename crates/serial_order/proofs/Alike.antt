@@ -39,7 +39,7 @@ or_right : (a b : Bool) → b ≡ true → (a || b) ≡ true
 or_right true b e = refl
 or_right false b e = e
 
-only : {A : Type 0} {a b : A} → a ∷ [] ≡ b ∷ [] → a ≡ b
+pub only : {A : Type 0} {a b : A} → a ∷ [] ≡ b ∷ [] → a ≡ b
 only e = cc
 
 -- two lists of one length that agree at a place agree there when both are written at one place

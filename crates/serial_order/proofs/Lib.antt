@@ -4,6 +4,7 @@ pub mod Going
 pub mod Heads
 pub mod Iterations
 pub mod Lists
+pub mod Loops
 pub mod Naming
 pub mod Offsets
 pub mod Outcomes

@@ -54,7 +54,7 @@ upto c a x = iteration c.lists c.channels c.owner a x
 abbrev pub solo : ℕ → Progress → Progress
 solo a x = record { state = alone_at a x.state; done = x.done }
 
-upto-zero : (c : Setting) (x : Progress)
+pub upto-zero : (c : Setting) (x : Progress)
     → upto c 0 x ≡ record x { state = record x.state { temps = fresh_temps (block_of c.owner x.state) ∷ [] } }
 unfolding iteration
 upto-zero c x = refl

@@ -33,26 +33,26 @@ use Rattle.serial_order.proofs.Overlap.{after_clock, has_committed, clock_is}
 
 -- ---- parts of a move
 
-decided_not : (b : Block) (s : ModuleState) → (s.control.looping && (s.control.clock - s.control.newest == interval b)) ≡ false
+pub decided_not : (b : Block) (s : ModuleState) → (s.control.looping && (s.control.clock - s.control.newest == interval b)) ≡ false
     → decided b s ≡ s
 unfolding decided
 decided_not b s e = rw e refl
 
-decided_stop : (b : Block) (s : ModuleState) → (s.control.looping && (s.control.clock - s.control.newest == interval b)) ≡ true
+pub decided_stop : (b : Block) (s : ModuleState) → (s.control.looping && (s.control.clock - s.control.newest == interval b)) ≡ true
     → (slice_index s.registers (again_of b.kind) == 0) ≡ true → decided b s ≡ stopped s
 unfolding decided
 decided_stop b s e f = rw (e, f) refl
 
-decided_start : (b : Block) (s : ModuleState) → (s.control.looping && (s.control.clock - s.control.newest == interval b)) ≡ true
+pub decided_start : (b : Block) (s : ModuleState) → (s.control.looping && (s.control.clock - s.control.newest == interval b)) ≡ true
     → (slice_index s.registers (again_of b.kind) == 0) ≡ false → decided b s ≡ started b s
 unfolding decided
 decided_start b s e f = rw (e, f) refl
 
-finished_not : (m : Module) (b : Block) (s : ModuleState) → is_block_over b s.control ≡ false → finished m b s ≡ s
+pub finished_not : (m : Module) (b : Block) (s : ModuleState) → is_block_over b s.control ≡ false → finished m b s ≡ s
 unfolding finished
 finished_not m b s e = rw e refl
 
-finished_now : (m : Module) (b : Block) (s : ModuleState) → is_block_over b s.control ≡ true → finished m b s ≡ followed m b.next s
+pub finished_now : (m : Module) (b : Block) (s : ModuleState) → is_block_over b s.control ≡ true → finished m b s ≡ followed m b.next s
 unfolding finished
 finished_now m b s e = rw e refl
 
@@ -70,6 +70,7 @@ pub record IsSerial (c : Setting) : Type 0 where
 -- behind a commit, a local clock later
 pub record HasTicked (c : Setting) (from : ℕ → Progress) (n t : ℕ) (k : Control) (p : Progress) : Type 0 where
   pub control : p.state.control ≡ record k { clock = k.clock + 1 }
+  pub stores : HasStores c.owner p.state
   pub length_is : length p.state.temps ≡ live_in c p
   pub temps : TempsAlike c from n (suc t) (live_in c p) (λ a. a) p
   pub things : HoldsAlike c from n (suc t) p
@@ -107,7 +108,11 @@ module _ (c : Setting) (from : ℕ → Progress) (n t : ℕ) (p : Progress) (ser
   ticked_holds count (Reading f) = refl
   ticked_holds count (Writing f) = refl
 
-  ticked_ended : (count : ℕ) → (tick_of c count (after_clock c p)).state.ended ≡ p.state.ended
+  ticked_stores : (count : ℕ) → HasStores c.owner (after_clock c p).state → HasStores c.owner (tick_of c count (after_clock c p)).state
+  unfolding ticked
+  ticked_stores count s = record { registers = s.registers; memories = s.memories; words = s.words }
+
+  pub ticked_ended : (count : ℕ) → (tick_of c count (after_clock c p)).state.ended ≡ p.state.ended
   unfolding ticked
   ticked_ended count = same_end
 
@@ -133,6 +138,8 @@ module _ (c : Setting) (from : ℕ → Progress) (n t : ℕ) (p : Progress) (ser
   pub has_ticked : (count : ℕ) → HasTicked c from n t p.state.control (tick_of c count (after_clock c p))
   has_ticked count = record {
     control = ticked_control count;
+    stores = ticked_stores count
+        (record { registers = commit.places.registers; memories = commit.places.memories; words = commit.places.words });
     length_is =
         ap length (ticked_temps count) ∙ (length-drop _ (after_clock c p).state.temps
         ∙ (let few = fewer (tick_of c count (after_clock c p)) (ticked_control count) in

@@ -1,5 +1,6 @@
 pub mod Alike
 pub mod Applied
+pub mod Ends
 pub mod Going
 pub mod Heads
 pub mod Iterations
@@ -9,4 +10,5 @@ pub mod Naming
 pub mod Offsets
 pub mod Outcomes
 pub mod Overlap
+pub mod Runs
 pub mod Windows

@@ -107,7 +107,7 @@ module _ (c : Setting) (from : ℕ → Progress) (n t : ℕ) (serial : IsSerial 
 abbrev pub with_looping : Bool → Progress → Progress
 with_looping l p = record p { state = record p.state { control = record p.state.control { looping = l } } }
 
-with_looping_holds : (l : Bool) (u : Used) (p : Progress) → held u (with_looping l p) ≡ held u p
+pub with_looping_holds : (l : Bool) (u : Used) (p : Progress) → held u (with_looping l p) ≡ held u p
 with_looping_holds l (Register x) p = refl
 with_looping_holds l (Memory m) p = refl
 with_looping_holds l (Reading f) p = refl

@@ -11,4 +11,5 @@ pub mod Offsets
 pub mod Outcomes
 pub mod Overlap
 pub mod Runs
+pub mod Serials
 pub mod Windows

@@ -35,9 +35,11 @@ given_before : (lists : List (List ℕ)) (done : List Exchange) (ss : List OwnSt
 given_before lists done [] s h =
     (tt, h.0 ∙ ap (λ (d : List Exchange). all_given lists d s.requests) (sym (append-nil done)))
 given_before lists done (t ∷ ss) s h =
-    let rest = given_before lists (done ++ paired t.requests t.replies) ss s h.1 in
-    ((h.0, rest.0), rest.1
-    ∙ ap (λ (d : List Exchange). all_given lists d s.requests) (append_assoc done (paired t.requests t.replies) (exchanges ss)))
+    let rest = given_before lists (done ++ paired t.requests t.replies) ss s h.1 in (
+      (h.0, rest.0),
+      rest.1
+          ∙ ap (λ (d : List Exchange). all_given lists d s.requests) (append_assoc done (paired t.requests t.replies) (exchanges ss)),
+    )
 
 -- ---- the own run as a run on lists
 
@@ -52,7 +54,6 @@ module _ (p : Plan) (i : ℕ) (lists : List (List ℕ)) (replies : List (List Re
     (sound : IsModuleSound (length p.design.channels) (module_at p i))
     (rules : (b : ℕ) → b < length (module_at p i).blocks
     → IsSerial (setting_of lists p.design.channels (module_at p i) (block_at (module_at p i) b))) where
-
   abbrev m : Module
   m = module_at p i
 
@@ -65,24 +66,27 @@ module _ (p : Plan) (i : ℕ) (lists : List (List ℕ)) (replies : List (List Re
   after_is : (o : Own) (rs : List Request) (answers : List Reply) → requests p.design.channels m o.state ≡ rs
       → AreGiven lists [] (own_after m o rs answers).steps
       → AreGiven lists [] o.steps × (flat (own_after m o rs answers) ≡ moved_on (flat o))
-  after_is o [] answers e h =
-      (h, ap (λ (done : List Exchange). record { state = move m o.state []; done = done }) (sym (append-nil (done_by o)))
-      ∙ ap (λ (rs : List Request). record {
-        state = move m o.state (all_given lists (done_by o) rs);
-        done = done_by o ++ paired rs (all_given lists (done_by o) rs);
-      }) (sym e))
+  after_is o [] answers e h = (
+    h,
+    ap (λ (done : List Exchange). record { state = move m o.state []; done = done }) (sym (append-nil (done_by o)))
+        ∙ ap (λ (rs : List Request). record {
+          state = move m o.state (all_given lists (done_by o) rs);
+          done = done_by o ++ paired rs (all_given lists (done_by o) rs);
+        }) (sym e),
+  )
   after_is o (r ∷ rs) answers e h =
       let step : OwnStep = record { gap = o.since; requests = r ∷ rs; replies = answers } in
-      let before = given_before lists [] o.steps step h in
-      (before.0,
-      ap (λ (done : List Exchange). record { state = move m o.state answers; done = done })
-      (flat_map-append (λ s. paired s.requests s.replies) o.steps (step ∷ [])
-      ∙ ap (λ (xs : List Exchange). done_by o ++ xs) (append-nil (paired (r ∷ rs) answers)))
-      ∙ (ap (λ (given : List Reply). record { state = move m o.state given; done = done_by o ++ paired (r ∷ rs) given }) before.1
-      ∙ ap (λ (rs : List Request). record {
-        state = move m o.state (all_given lists (done_by o) rs);
-        done = done_by o ++ paired rs (all_given lists (done_by o) rs);
-      }) (sym e)))
+      let before = given_before lists [] o.steps step h in (
+        before.0,
+        ap (λ (done : List Exchange). record { state = move m o.state answers; done = done })
+            (flat_map-append (λ s. paired s.requests s.replies) o.steps (step ∷ [])
+            ∙ ap (λ (xs : List Exchange). done_by o ++ xs) (append-nil (paired (r ∷ rs) answers)))
+            ∙ (ap (λ (given : List Reply). record { state = move m o.state given; done = done_by o ++ paired (r ∷ rs) given }) before.1
+            ∙ ap (λ (rs : List Request). record {
+              state = move m o.state (all_given lists (done_by o) rs);
+              done = done_by o ++ paired rs (all_given lists (done_by o) rs);
+            }) (sym e)),
+      )
 
   goes_on_beside : (x : Progress) → Beside x → is_over p.ops x.state ≡ false → Beside (moved_on x)
   goes_on_beside x (goes b first n t h) e = goes_further lists p.design.channels (module_at p i) sound rules b first n t x h
@@ -112,19 +116,22 @@ module _ (p : Plan) (i : ℕ) (lists : List (List ℕ)) (replies : List (List Re
 
   -- ---- the end
 
-  ends_alike : (n : ℕ) → AreGiven lists [] (own p i replies n).steps → (own p i replies n).state.ended ≡ true
+  pub ends_alike : (n : ℕ) → AreGiven lists [] (own p i replies n).steps → (own p i replies n).state.ended ≡ true
       → (k : ℕ) × EndsAlike (length p.design.channels) (serial lists p.design.channels (module_at p i) k) (own p i replies n)
   ends_alike n given e = by (runs_beside n given)
     where
       by : Beside (flat (own p i replies n))
           → (k : ℕ) × EndsAlike (length p.design.channels) (serial lists p.design.channels (module_at p i) k) (own p i replies n)
       by (goes b first k t h) = absurd (true≢false (sym e ∙ h.alive))
-      by (ends k h) = (k, record {
-        ended = h.serial_ended;
-        pushes = λ f l. sym (h.things (Writing f) l);
-        pops = λ f l. ap length (sym (h.things (Reading f) l));
-        registers = ext_get_or 0 _ _ (h.serial_stores.registers ∙ sym h.stores.registers)
-            (λ x l. sym (only (h.things (Register x) (let all = h.serial_stores.registers in omega arith))));
-        memories = ext_get_or [] _ _ (h.serial_stores.memories ∙ sym h.stores.memories)
-            (λ x l. sym (h.things (Memory x) (let all = h.serial_stores.memories in omega arith)));
-      })
+      by (ends k h) = (
+        k,
+        record {
+          ended = h.serial_ended;
+          pushes = λ f l. sym (h.things (Writing f) l);
+          pops = λ f l. ap length (sym (h.things (Reading f) l));
+          registers = ext_get_or 0 _ _ (h.serial_stores.registers ∙ sym h.stores.registers)
+              (λ x l. sym (only (h.things (Register x) (let all = h.serial_stores.registers in omega arith))));
+          memories = ext_get_or [] _ _ (h.serial_stores.memories ∙ sym h.stores.memories)
+              (λ x l. sym (h.things (Memory x) (let all = h.serial_stores.memories in omega arith)));
+        },
+      )

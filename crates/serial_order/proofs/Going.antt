@@ -81,7 +81,6 @@ tick_of c count p = record { state = ticked c.block (record p.state { count = co
 
 module _ (c : Setting) (from : ℕ → Progress) (n t : ℕ) (p : Progress) (serial : IsSerial c) (chain : IsChain c from n)
     (h : IsInLoop c from n t p) where
-
   same_control : (after_clock c p).state.control ≡ p.state.control
   same_control =
       ap (λ (x : Progress). x.state.control) (sym (clock_is c p serial.fit.plain h.block))

@@ -12,4 +12,5 @@ pub mod Outcomes
 pub mod Overlap
 pub mod Runs
 pub mod Serials
+pub mod Theorem
 pub mod Windows

@@ -70,7 +70,6 @@ no_write u w not = by (writes u w.op) refl
     by false e = refl
 
 module _ (c : Setting) (from : ℕ → Progress) (n t : ℕ) (serial : IsSerial c) (chain : IsChain c from n) where
-
   -- a thing that is written before II alone, when the newest iteration is of age II
   early_thing : (p : Progress) → HoldsAlike c from n t p → t ≡ n * interval c.block + interval c.block
       → (u : Used) → IsThing (length c.channels) c.owner u

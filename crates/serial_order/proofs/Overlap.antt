@@ -33,7 +33,6 @@ after_clock c p = fold (iteration_done c p) p (its_of c p)
 
 module _ (c : Setting) (from : ℕ → Progress) (n t : ℕ) (p : Progress) (fit : IsFit c) (narrow : IsNarrow c) (chain : IsChain c from n)
     (h : IsInLoop c from n t p) where
-
   -- an iteration is live where it is young
   pub is_slot : (i j a : ℕ) → i + j ≡ n → a + i * interval c.block ≡ t → a < c.block.len → IsSlot c n t (live_in c p) j i a
   is_slot i j a number age young =

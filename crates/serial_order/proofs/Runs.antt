@@ -34,7 +34,6 @@ use Rattle.serial_order.proofs.Loops.{with_start, longer_chain, started_loop}
 
 module _ (lists : List (List ℕ)) (channels : List Channel) (m : Module) (sound : IsModuleSound (length channels) m)
     (rules : (b : ℕ) → b < length m.blocks → IsSerial (setting_of lists channels m (block_at m b))) where
-
   -- the serial run from an iteration on
   abbrev from_on : ℕ → ℕ → Progress
   from_on first i = serial lists channels m (first + i)
@@ -230,7 +229,6 @@ module _ (lists : List (List ℕ)) (channels : List Channel) (m : Module) (sound
       (clock_is (setting b) p keeps.fit.plain here)
 
   module _ (b : Block) (first n t : ℕ) (p : Progress) (h : GoesBeside b first n t p) where
-
     -- the state behind the tick
     abbrev behind : Progress
     behind = tick_of (setting b) (p.state.count + length (due m p.state)) (after_clock (setting b) p)
@@ -337,7 +335,6 @@ module _ (lists : List (List ℕ)) (channels : List Channel) (m : Module) (sound
     again_more x y e f = rw (e, f) refl
 
     module _ (looping : behind.state.control.looping ≡ true) (due_now : suc t ≡ n * interval b + interval b) where
-
       same_register : (slice_index behind.state.registers (again_of b.kind) == 0)
           ≡ (slice_index (whole (setting b) (from_on first n)).state.registers (again_of b.kind) == 0)
       same_register =

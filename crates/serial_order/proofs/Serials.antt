@@ -198,7 +198,6 @@ wide_strict ii ops u e t w t_in w_in t_used w_writes = by_test (nat_lt w.offset 
 
 module _ (lists : List (List ℕ)) (channels : List Channel) (m : Module) (sound : IsModuleSound (length channels) m)
     (is : unwrap_or (head (all_faults (length channels) m)) Serial ≡ Serial) where
-
   no_faults : (flat_map queries_of (enumerate_from 0 m.blocks) ≡ [])
       × (flat_map (faults_of (length channels) m) (enumerate_from 0 m.blocks) ≡ [])
   no_faults = empty_parts _ _ (none_at_all (all_faults (length channels) m) (are_faults (length channels) m) is)

@@ -3,7 +3,8 @@ ghost use Rattle.std.specs.Prelude.{◌≡◌, ◌<◌, ◌≤◌, ◌^◌, leng
 ghost use Rattle.std.specs.List.{enumerate_from, flat_map};
 ghost use Rattle.flow_design.specs.declared.limits.TheConstants.{CHANNELS};
 ghost use Rattle.flow_design.specs.StaticRules.{IsModuleSound};
-ghost use Rattle.serial_order.specs.Orders.{head, queries_of, faults_by, faults_of, order_of, HasModule};
+ghost use Rattle.serial_order.specs.Orders.{head, queries_of, faults_by, faults_of, all_faults, order_of, HasModule};
+ghost use Rattle.serial_order.specs.SerialRun.{EqualsPlainLoops};
 
 use crate::order::Order;
 use crate::rules::{first_late, first_query, first_wide};
@@ -74,19 +75,30 @@ fn fault_in(channels: u32, module: &Module) -> Option<Order>
     None
 }
 
+/// What breaks the rules of serial modules first in a module.
+fn first_fault(channels: u32, module: &Module) -> Option<Order>
+    requires { IsModuleSound channels «module».now }
+    ensures { result ≡ head (all_faults channels «module».now) }
+{
+    match query_of(module.blocks.as_slice()) {
+        Some(query) => Some(query),
+        None => fault_in(channels, module),
+    }
+}
+
 /// Whether a module is serial, or else the first rule that it breaks. It takes no memory.
 ///
 /// A module is serial where it has no query operation, where in each of its loops no operation with an offset of II or more
 /// writes the loop's register, and where in each of its loops for everything used the last offset of use minus the first is
 /// less than II, or equals II and no operation at the last offset writes it. Temps are not counted.
+///
+/// A serial module does what it would do with the iterations of its loops one after another.
 pub fn check_order(design: &Design, module: u32) -> Order
     requires { HasModule design.now «module» }
-    ensures { result ≡ order_of design.now «module» }
+    ensures order { result ≡ order_of design.now «module» }
+    ensures serial { result ≡ Order.Serial → EqualsPlainLoops design.now «module» }
 {
     let channels = design.channels.len() as u32;
     let module = &design.modules.as_slice()[module as usize];
-    if let Some(query) = query_of(module.blocks.as_slice()) {
-        return query;
-    }
-    fault_in(channels, module).unwrap_or(Order::Serial)
+    first_fault(channels, module).unwrap_or(Order::Serial)
 }

@@ -13,11 +13,8 @@ fn is_query(op: &Op<u32>) -> bool
 {
     match op {
         Op::TryRead(_, _, _) | Op::TryWrite(_, _, _) | Op::Empty(_, _) | Op::Full(_, _) => true,
-        Op::Set(_, _)
-        | Op::Load(_, _, _)
-        | Op::Store(_, _, _)
-        | Op::Read(_, _)
-        | Op::Write(_, _) => false,
+        Op::Set(_, _) | Op::Load(_, _, _) | Op::Store(_, _, _) | Op::Read(_, _) | Op::Write(_, _) =>
+            false,
     }
 }
 

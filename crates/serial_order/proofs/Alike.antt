@@ -1,10 +1,7 @@
 -- What an operation makes of a thing follows from the things that it uses and from the temps of its iteration.
-use Rattle.std.proofs.Common.{◌≡◌, ◌≢◌, ℕ, zero, suc, ◌+◌, ◌-◌, ◌%◌, ◌^◌, ◌≤◌, ◌<◌, List, [], ◌∷◌, ◌++◌, length, get_or, set, Option, Some, None, Bool, true}
-use Rattle.std.proofs.Common.{false, not, ◌||◌, nat_lt, cond, refl, sym, ◌∙◌, ap, subst, arith, ◌==◌, ◌⊎◌, inl, inr, append-nil}
-use Rattle.std.specs.Prelude.{IfSome}
-use Rattle.std.specs.List.{fold, All}
-use Rattle.std.proofs.lemmas.Bool.{ltb-true, ltb-false, eqb-true, eqb-false, eq-eqb}
-use Rattle.std.proofs.lemmas.List.{get_or-set_same, get_or-set_other}
+use Rattle.std.proofs.Common.{◌≡◌, ℕ, zero, suc, ◌-◌, ◌%◌, ◌^◌, ◌<◌, List, [], ◌∷◌, length, get_or, set, Option, Some, None, Bool, true}
+use Rattle.std.proofs.Common.{false, not, ◌||◌, nat_lt, refl, sym, ◌∙◌, ap, arith, ◌==◌}
+use Rattle.std.proofs.lemmas.Bool.{ltb-true, ltb-false, eq-eqb}
 use Rattle.std.proofs.Math.ListN.{get_or-append}
 use Rattle.std.proofs.Math.Seq.{get_or-append_right}
 use Rattle.flow_word.specs.declared.access.Side.TheVariants.{Pop, Push}
@@ -13,22 +10,17 @@ use Rattle.flow_design.specs.declared.expr.Op.{Op}
 use Rattle.flow_design.specs.declared.expr.Op.TheVariants.{Set, Load, Store, Read, Write, TryRead, TryWrite, Empty, Full}
 use Rattle.flow_design.specs.declared.design.Module.{Module}
 use Rattle.flow_design.specs.declared.design.Timed.{Timed}
-use Rattle.flow_design.specs.declared.state.Effect.TheVariants.{Variable, Word}
-use Rattle.flow_design.specs.declared.state.ModuleState.{ModuleState}
-use Rattle.flow_design.specs.Words.{variable, value, unary, binary, extended, cut_to}
+use Rattle.flow_design.specs.Words.{variable, value, unary, extended}
 use Rattle.flow_design.specs.Operations.{places_of, expressions_of}
 use Rattle.flow_design.specs.Module.{temps_of, passes}
-use Rattle.flow_design.specs.StaticRules.{IsOperationSound, IsTimedSound}
-use Rattle.lockstep_defs.specs.Machine.{memory_of, stored}
-use Rattle.lockstep_defs.specs.Channels.{Exchange, moved_by}
-use Rattle.lockstep_defs.specs.States.{HasPlaces}
-use Rattle.lockstep_defs.proofs.Queue.{moved_by-append}
-use Rattle.lockstep_defs.proofs.States.{stored_places}
+use Rattle.flow_design.specs.StaticRules.{IsOperationSound}
+use Rattle.lockstep_defs.specs.Machine.{memory_of}
+use Rattle.lockstep_defs.specs.Channels.{moved_by}
 use Rattle.serial_order.specs.declared.order.Used.{Used}
 use Rattle.serial_order.specs.declared.order.Used.TheVariants.{Register, Memory, Reading, Writing}
-use Rattle.serial_order.specs.Uses.{names, is_named, is_this, is_among, writes, is_use}
+use Rattle.serial_order.specs.Uses.{names, is_named, is_this, is_among, is_use}
 use Rattle.serial_order.specs.SerialRun.{Progress}
-use Rattle.serial_order.proofs.Outcomes.{Outcome, Nothing, ToVariable, ToWord, Setting, outcome, exchange, put, more, applied, done_by_op, at_age}
+use Rattle.serial_order.proofs.Outcomes.{ToVariable, Setting, outcome, exchange}
 
 -- ---- tests and lists
 

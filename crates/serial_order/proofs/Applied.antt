@@ -1,23 +1,18 @@
 -- What outcomes and exchanges leave of a thing, and of the temps of an iteration.
-use Rattle.std.proofs.Common.{◌≡◌, ◌≢◌, ℕ, zero, suc, ◌+◌, ◌-◌, ◌≤◌, ◌<◌, List, [], ◌∷◌, ◌++◌, length, get_or, set, Option, Some, None, Bool, true}
-use Rattle.std.proofs.Common.{false, ◌||◌, nat_lt, cond, refl, sym, ◌∙◌, ap, subst, arith, ◌==◌, append-nil}
-use Rattle.std.specs.List.{fold}
-use Rattle.std.proofs.lemmas.Bool.{eqb-true, eqb-false, or_parts, ne_eqb}
-use Rattle.std.proofs.lemmas.List.{get_or-set_same, get_or-set_other, length-set}
-use Rattle.std.specs.Prelude.{nat_eq, if◌then◌else◌}
-use Rattle.flow_word.specs.declared.access.Kind.TheVariants as kind
+use Rattle.std.proofs.Common.{◌≡◌, ◌≢◌, ℕ, ◌-◌, ◌<◌, List, [], ◌∷◌, ◌++◌, length, get_or, set, Option, Some, None, Bool, true}
+use Rattle.std.proofs.Common.{false, nat_lt, refl, sym, ◌∙◌, ap, ◌==◌}
+use Rattle.std.proofs.lemmas.Bool.{eqb-true, eqb-false, or_parts}
+use Rattle.std.proofs.lemmas.List.{get_or-set_same, get_or-set_other}
+use Rattle.std.specs.Prelude.{if◌then◌else◌}
 use Rattle.flow_word.specs.declared.access.Side.{Side}
 use Rattle.flow_word.specs.declared.access.Side.TheVariants.{Pop, Push}
 use Rattle.flow_design.specs.declared.expr.Op.{Op}
 use Rattle.flow_design.specs.declared.expr.Op.TheVariants.{Set, Load, Store, Read, Write, TryRead, TryWrite, Empty, Full}
-use Rattle.flow_design.specs.declared.design.Timed.{Timed}
 use Rattle.flow_design.specs.declared.state.Effect.TheVariants.{Variable, Word}
 use Rattle.flow_design.specs.declared.state.ModuleState.{ModuleState}
-use Rattle.flow_design.specs.declared.state.Reply.TheVariants.{Done, Value}
 use Rattle.flow_design.specs.Words.{cut_to}
-use Rattle.flow_design.specs.Module.{temps_of, passes}
-use Rattle.flow_design.specs.StaticRules.{IsTimedSound}
-use Rattle.lockstep_defs.specs.Machine.{memory_of, stored}
+use Rattle.flow_design.specs.Module.{temps_of}
+use Rattle.lockstep_defs.specs.Machine.{memory_of}
 use Rattle.lockstep_defs.specs.Channels.{Exchange, moved_by}
 use Rattle.lockstep_defs.specs.States.{HasPlaces}
 use Rattle.lockstep_defs.proofs.Queue.{moved_by-append}
@@ -26,8 +21,8 @@ use Rattle.serial_order.specs.declared.order.Used.{Used}
 use Rattle.serial_order.specs.declared.order.Used.TheVariants.{Register, Memory, Reading, Writing}
 use Rattle.serial_order.specs.Uses.{writes}
 use Rattle.serial_order.specs.SerialRun.{Progress}
-use Rattle.serial_order.proofs.Outcomes.{Outcome, Nothing, ToVariable, ToWord, Setting, outcome, exchange, put, more, applied, done_by_op, at_age}
-use Rattle.serial_order.proofs.Outcomes.{iteration_done}
+use Rattle.serial_order.proofs.Outcomes.{Outcome, Nothing, ToVariable, ToWord, Setting, put, more, applied, done_by_op}
+use Rattle.serial_order.proofs.Exchanges.{unmoved, pop_elsewhere, pop_no_push, push_elsewhere, push_no_pop}
 use Rattle.serial_order.proofs.Alike.{set_alike, held}
 
 -- a value for a register, or for a temp behind them, by whether it is a register
@@ -119,31 +114,6 @@ register_left c y i v w s e = by_test (nat_lt v (length c.owner.registers))
         ≡ get_or s.registers y 0
     by_test true = get_or-set_other s.registers v y _ 0 (λ same. eqb-false v y e (sym same))
     by_test false = refl
-
--- an exchange at another end
-unmoved : (side : Side) (f : ℕ) (x : Exchange) (done : List Exchange) → moved_by side f (x ∷ []) ≡ []
-    → moved_by side f (done ++ x ∷ []) ≡ moved_by side f done
-unmoved side f x done e = moved_by-append side f done (x ∷ []) ∙ rw (e, append-nil) refl
-
-none_either : (b : Bool) → ◌++◌ {A = ℕ} (cond b [] []) [] ≡ []
-none_either true = refl
-none_either false = refl
-
-pop_elsewhere : (f g v : ℕ) → nat_eq f g ≡ false → moved_by Pop f (record { request = record { kind = kind.Read; channel = g; value = 0 }; reply = Value v } ∷ []) ≡ []
-unfolding moved_by
-pop_elsewhere f g v e = rw (ne_eqb g f (λ same. eqb-false f g e (sym same))) refl
-
-pop_no_push : (f g v : ℕ) → moved_by Push f (record { request = record { kind = kind.Read; channel = g; value = 0 }; reply = Value v } ∷ []) ≡ []
-unfolding moved_by
-pop_no_push f g v = none_either (g == f)
-
-push_elsewhere : (f g v : ℕ) → nat_eq f g ≡ false → moved_by Push f (record { request = record { kind = kind.Write; channel = g; value = v }; reply = Done } ∷ []) ≡ []
-unfolding moved_by
-push_elsewhere f g v e = rw (ne_eqb g f (λ same. eqb-false f g e (sym same))) refl
-
-push_no_pop : (f g v : ℕ) → moved_by Pop f (record { request = record { kind = kind.Write; channel = g; value = v }; reply = Done } ∷ []) ≡ []
-unfolding moved_by
-push_no_pop f g v = none_either (g == f)
 
 pub op_leaves : (c : Setting) (x : Progress) (u : Used) (i : ℕ) (op : Op ℕ) (r : Progress) → writes u op ≡ false
     → held u (done_by_op c x i op r) ≡ held u r

@@ -1,34 +1,28 @@
 -- How a module in a loop goes on: within an iteration, with a next one, or out of its block.
-use Rattle.std.proofs.Common.{◌≡◌, ◌≢◌, ℕ, zero, suc, ◌+◌, ◌-◌, ◌*◌, ◌≤◌, ◌<◌, List, [], ◌∷◌, ◌++◌, length, get_or, drop, min, Bool, true, false, not, ◌&&◌}
-use Rattle.std.proofs.Common.{cond, refl, sym, ◌∙◌, ap, subst, arith, ◌==◌, nat_lt, ◌⊎◌, inl, inr}
-use Rattle.std.specs.Prelude.{nat_le, slice_index}
-use Rattle.std.proofs.lemmas.Bool.{ltb-true, ltb-false, eqb-true, leb-true, leb-false}
+use Rattle.std.proofs.Common.{◌≡◌, ℕ, suc, ◌+◌, ◌-◌, ◌*◌, ◌≤◌, ◌<◌, List, [], length, get_or, drop, Bool, true, false, ◌&&◌}
+use Rattle.std.proofs.Common.{refl, sym, ◌∙◌, ap, arith, ◌==◌, nat_lt}
+use Rattle.std.specs.Prelude.{slice_index}
+use Rattle.std.proofs.lemmas.Bool.{ltb-true, ltb-false}
 use Rattle.std.proofs.lemmas.List.{get_or-drop, length-drop}
-use Rattle.std.proofs.Math.ListN.{get_or-append}
-use Rattle.std.proofs.Math.Seq.{get_or-append_right}
-use Rattle.std.proofs.Math.Nat.{mul-le-mul_right, suc-mul, min-eq_left}
+use Rattle.std.proofs.Math.Nat.{mul-le-mul_right}
 use Rattle.flow_design.specs.declared.design.Block.{Block}
 use Rattle.flow_design.specs.declared.design.Module.{Module}
 use Rattle.flow_design.specs.declared.design.Timed.{Timed}
 use Rattle.flow_design.specs.declared.state.Control.{Control}
 use Rattle.flow_design.specs.declared.state.ModuleState.{ModuleState}
-use Rattle.flow_design.specs.declared.state.Reply.{Reply}
-use Rattle.flow_design.specs.Module.{block_at, block_of, is_loop, interval, live_count, temps_of, due}
-use Rattle.lockstep_defs.specs.Machine.{requests, committed, ticked, decided, started, stopped, finished, followed, again_of, is_block_over, move}
-use Rattle.lockstep_defs.specs.Machine.{fresh_temps}
-use Rattle.lockstep_defs.specs.Laws.{IsLive}
+use Rattle.flow_design.specs.Module.{is_loop, interval, temps_of}
+use Rattle.lockstep_defs.specs.Machine.{requests, ticked, decided, started, stopped, finished, followed, again_of, is_block_over}
 use Rattle.lockstep_defs.proofs.Live.{live_iff}
 use Rattle.lockstep_defs.proofs.Moves.{commits_keep}
 use Rattle.serial_order.specs.declared.order.Used.{Used}
 use Rattle.serial_order.specs.declared.order.Used.TheVariants.{Register, Memory, Reading, Writing}
 use Rattle.serial_order.specs.Uses.{writes}
-use Rattle.serial_order.specs.SerialRun.{Progress, all_given, clock_made, goes_again}
+use Rattle.serial_order.specs.SerialRun.{Progress, all_given}
 use Rattle.serial_order.proofs.Lists.{Among}
 use Rattle.serial_order.proofs.Outcomes.{Setting}
-use Rattle.serial_order.proofs.Alike.{IsThing, held}
-use Rattle.serial_order.proofs.Applied.{Placed}
-use Rattle.serial_order.proofs.Offsets.{IsFit, Stands, HasStores, upto, still, upto_start}
-use Rattle.serial_order.proofs.Windows.{IsNarrow, IsChain, NotLater, AllEarlier, HoldsAlike, live_in, IsSlot, TempsAlike, IsInLoop, HasCommitted}
+use Rattle.serial_order.proofs.Alike.{held}
+use Rattle.serial_order.proofs.Offsets.{IsFit, HasStores, upto}
+use Rattle.serial_order.proofs.Windows.{IsNarrow, IsChain, HoldsAlike, live_in, IsSlot, TempsAlike, IsInLoop, HasCommitted}
 use Rattle.serial_order.proofs.Overlap.{after_clock, has_committed, clock_is}
 
 -- ---- parts of a move
@@ -83,12 +77,12 @@ module _ (c : Setting) (from : ℕ → Progress) (n t : ℕ) (p : Progress) (ser
     (h : IsInLoop c from n t p) where
   same_control : (after_clock c p).state.control ≡ p.state.control
   same_control =
-      ap (λ (x : Progress). x.state.control) (sym (clock_is c p serial.fit.plain h.block))
+      ap (λ (x : Progress). x.state.control) (sym (clock_is c p serial.fit.pops h.block))
       ∙ (commits_keep c.owner p.state (all_given c.lists p.done (requests c.channels c.owner p.state))).0
 
   pub same_end : (after_clock c p).state.ended ≡ p.state.ended
   same_end =
-      ap (λ (x : Progress). x.state.ended) (sym (clock_is c p serial.fit.plain h.block))
+      ap (λ (x : Progress). x.state.ended) (sym (clock_is c p serial.fit.pops h.block))
       ∙ (commits_keep c.owner p.state (all_given c.lists p.done (requests c.channels c.owner p.state))).2
 
   ticked_control : (count : ℕ) → (tick_of c count (after_clock c p)).state.control ≡ record p.state.control { clock = p.state.control.clock + 1 }

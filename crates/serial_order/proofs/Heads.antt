@@ -1,10 +1,9 @@
 -- The first of a list that is made item by item.
-use Rattle.std.proofs.Common.{◌≡◌, ℕ, zero, suc, ◌+◌, ◌<◌, ◌≤◌, List, [], ◌∷◌, ◌++◌, length, map, drop, get_or, Option, Some, None, Bool, true, false}
-use Rattle.std.proofs.Common.{cond, refl, sym, ◌∙◌, ap, arith, add-one, drop-cons}
+use Rattle.std.proofs.Common.{◌≡◌, ℕ, suc, ◌+◌, ◌<◌, List, [], ◌∷◌, ◌++◌, length, map, drop, get_or, Option, Some, None, Bool, true, false}
+use Rattle.std.proofs.Common.{cond, refl, ◌∙◌, add-one, drop-cons}
 use Rattle.std.specs.List.{filter, flat_map, find, enumerate_from}
 use Rattle.std.specs.Option.{option_or, option_map}
 use Rattle.flow_design.specs.declared.design.Timed.{Timed}
-use Rattle.flow_design.specs.Module.{no_operation}
 use Rattle.flow_design.specs.declared.design.Block.{Block}
 use Rattle.flow_design.specs.declared.design.BlockKind.TheVariants.{Loop}
 use Rattle.flow_design.specs.declared.design.Module.{Module}

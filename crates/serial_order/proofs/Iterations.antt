@@ -1,10 +1,8 @@
 -- One live iteration in one local clock.
-use Rattle.std.proofs.Common.{◌≡◌, ◌≢◌, ℕ, zero, suc, ◌+◌, ◌-◌, ◌*◌, ◌≤◌, ◌<◌, List, [], ◌∷◌, length, get_or, Option, Bool, true, false, cond, refl, sym}
-use Rattle.std.proofs.Common.{◌∙◌, ap, subst, arith, ◌==◌}
-use Rattle.std.specs.List.{fold}
+use Rattle.std.proofs.Common.{◌≡◌, ◌≢◌, ℕ, ◌<◌, length, Option, Bool, true, false, cond, refl}
+use Rattle.std.proofs.Common.{◌∙◌, arith, ◌==◌}
 use Rattle.std.proofs.lemmas.Bool.{eqb-true}
 use Rattle.flow_design.specs.declared.design.Timed.{Timed}
-use Rattle.flow_design.specs.declared.state.ModuleState.{ModuleState}
 use Rattle.flow_design.specs.Module.{temps_of, passes}
 use Rattle.flow_design.specs.StaticRules.{IsTimedSound}
 use Rattle.serial_order.specs.declared.order.Used.{Used}

@@ -1,6 +1,7 @@
 pub mod Alike
 pub mod Applied
 pub mod Ends
+pub mod Exchanges
 pub mod Going
 pub mod Heads
 pub mod Iterations

@@ -1,5 +1,5 @@
 -- Which variables an expression names, case by case.
-use Rattle.std.proofs.Common.{◌≡◌, ℕ, ◌==◌, ◌||◌, Bool, false, refl}
+use Rattle.std.proofs.Common.{◌≡◌, ℕ, ◌==◌, ◌||◌, false, refl}
 use Rattle.flow_design.specs.declared.expr.Expr.{Expr, Unary, Binary, Sext, Pick, Number, Var}
 use Rattle.flow_design.specs.declared.expr.Expr.TheBlock.{hidden-the_row-Expr-0}
 use Rattle.flow_design.specs.declared.expr.UnOp.{UnOp}

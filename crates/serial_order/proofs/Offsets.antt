@@ -1,20 +1,17 @@
 -- A serial iteration, offset by offset.
-use Rattle.std.proofs.Common.{◌≡◌, ℕ, zero, suc, ◌+◌, ◌-◌, ◌*◌, ◌/◌, ◌≤◌, ◌<◌, List, [], ◌∷◌, length, get_or, map, min, Bool, true, false, cond, refl, sym}
-use Rattle.std.proofs.Common.{◌∙◌, ap, subst, arith, ◌==◌, nat_lt}
+use Rattle.std.proofs.Common.{◌≡◌, ℕ, zero, suc, ◌+◌, ◌≤◌, ◌<◌, List, [], ◌∷◌, length, get_or, map, Bool, true, false, refl, sym}
+use Rattle.std.proofs.Common.{◌∙◌, ap, subst, arith, nat_lt}
 use Rattle.std.specs.Prelude.{slice_index}
 use Rattle.std.specs.List.{fold, enumerate_from}
-use Rattle.std.proofs.lemmas.Bool.{ltb-true, ltb-false, lt-ltb}
+use Rattle.std.proofs.lemmas.Bool.{ltb-true, ltb-false}
 use Rattle.std.proofs.lemmas.List.{length-replicate}
 use Rattle.flow_design.specs.declared.design.Block.{Block}
-use Rattle.flow_design.specs.declared.design.Channel.{Channel}
 use Rattle.flow_design.specs.declared.design.Module.{Module}
 use Rattle.flow_design.specs.declared.design.Timed.{Timed}
 use Rattle.flow_design.specs.declared.state.Control.{Control}
 use Rattle.flow_design.specs.declared.state.ModuleState.{ModuleState}
-use Rattle.flow_design.specs.Module.{block_at, block_of, interval, live_count, ages_down, ages}
+use Rattle.flow_design.specs.Module.{block_at, block_of, interval, live_count, ages}
 use Rattle.lockstep_defs.specs.Machine.{requests, fresh_temps, memory_of}
-use Rattle.lockstep_defs.specs.Laws.{IsLive}
-use Rattle.lockstep_defs.specs.States.{HasPlaces}
 use Rattle.lockstep_defs.proofs.Live.{live_iff}
 use Rattle.lockstep_defs.proofs.Moves.{commits_keep}
 use Rattle.serial_order.specs.declared.order.Used.{Used}
@@ -22,7 +19,7 @@ use Rattle.serial_order.specs.declared.order.Used.TheVariants.{Register, Memory,
 use Rattle.serial_order.specs.Uses.{writes}
 use Rattle.serial_order.specs.SerialRun.{Progress, alone_at, all_given, clock_made, iteration}
 use Rattle.serial_order.proofs.Lists.{Among}
-use Rattle.serial_order.proofs.Outcomes.{Setting, setting_of, IsPlain, iteration_done, clock_by_iterations}
+use Rattle.serial_order.proofs.Outcomes.{Setting, setting_of, PopsOnce, iteration_done, clock_by_iterations}
 use Rattle.serial_order.proofs.Alike.{held}
 use Rattle.serial_order.proofs.Applied.{Placed}
 use Rattle.serial_order.proofs.Iterations.{IsBodySound, iteration_places, thing_left}
@@ -32,8 +29,8 @@ use Rattle.serial_order.proofs.Iterations.{IsBodySound, iteration_places, thing_
 -- a block without queries that keeps the static rules
 pub record IsFit (c : Setting) : Type 0 where
   pub sound : IsBodySound c
-  pub plain : IsPlain c.block
   pub some : 0 < interval c.block
+  pub pops : PopsOnce c.block
 
 -- the registers and memories of a module
 pub record HasStores (m : Module) (s : ModuleState) : Type 0 where
@@ -112,7 +109,7 @@ upto_next c fit x h a young =
     ∙ subst (λ (b : Block). clock_made c.lists c.channels c.owner (alone_at a y.state) y.done
     ≡ fold (iteration_done (setting_of c.lists c.channels c.owner b) (solo a y)) (solo a y)
     (enumerate_from 0 (ages b (solo a y).state.control)))
-    here (clock_by_iterations c.lists c.channels c.owner (solo a y) (subst IsPlain (sym here) fit.plain))
+    here (clock_by_iterations c.lists c.channels c.owner (solo a y) (subst PopsOnce (sym here) fit.pops))
     ∙ ap (λ (as' : List ℕ). fold (iteration_done c (solo a y)) (solo a y) (enumerate_from 0 as'))
     (only_age c.block y.state.control.block a fit.some young)
 

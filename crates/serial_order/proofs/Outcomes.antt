@@ -1,11 +1,15 @@
 -- What the operations of a local clock make of a module: one outcome and one exchange each.
-use Rattle.std.proofs.Common.{◌≡◌, ℕ, zero, suc, ◌+◌, ◌≤◌, ◌<◌, List, [], ◌∷◌, ◌++◌, length, map, drop, get_or, zero-add, Option, Some, None, Bool, true, false}
-use Rattle.std.proofs.Common.{cond, refl, sym, ◌∙◌, ap, subst, arith, ◌==◌, inl, inr, append_assoc, append-nil, add-zero}
+use Rattle.std.proofs.Common.{◌≡◌, ℕ, suc, ◌+◌, ◌≤◌, ◌<◌, List, [], ◌∷◌, ◌++◌, length, map, drop, get_or, zero-add, Option, Some, None, Bool, true, false}
+use Rattle.std.proofs.Common.{cond, refl, ◌∙◌, ap, subst, arith, ◌==◌, inl, inr, append_assoc, append-nil, add-zero}
 use Rattle.std.specs.Prelude.{slice_index, if◌then◌else◌}
 use Rattle.std.specs.List.{fold, filter, filter_map, flat_map, enumerate_from, cons_option}
+use Rattle.std.specs.Prelude.{nat_eq, ◌⊎◌}
+use Rattle.std.proofs.lemmas.Bool.{eq-eqb}
 use Rattle.std.proofs.lemmas.List.Sums.{fold-append}
+use Rattle.flow_design.specs.declared.state.Reply.{Reply}
+use Rattle.flow_design.specs.Module.{interval}
 use Rattle.flow_word.specs.declared.access.Kind.TheVariants as kind
-use Rattle.flow_word.specs.declared.access.Side.TheVariants.{Pop, Push}
+use Rattle.flow_word.specs.declared.access.Side.TheVariants.{Pop}
 use Rattle.flow_design.specs.declared.expr.Op.{Op}
 use Rattle.flow_design.specs.declared.expr.Op.TheVariants.{Set, Load, Store, Read, Write, TryRead, TryWrite, Empty, Full}
 use Rattle.flow_design.specs.declared.design.Block.{Block}
@@ -21,6 +25,10 @@ use Rattle.flow_design.specs.Words.{cut_to}
 use Rattle.flow_design.specs.Module.{no_operation, block_of, operation_at, ages, temps_of, passes, due_at, due_in, due, live_count}
 use Rattle.lockstep_defs.specs.States.{IsDueIn}
 use Rattle.lockstep_defs.proofs.Standing.{due_in_range}
+use Rattle.lockstep_defs.specs.Ports.{takes}
+use Rattle.lockstep_defs.proofs.Due.{AreApart, how_many, due_once}
+use Rattle.serial_order.specs.Uses.{reading_end}
+use Rattle.serial_order.proofs.Exchanges.{pop_of, push_of, unmoved, pop_elsewhere, push_no_pop}
 use Rattle.serial_order.proofs.Lists.{Among, among_all, among_at}
 use Rattle.lockstep_defs.specs.Laws.{is_query}
 use Rattle.lockstep_defs.specs.Machine.{width_of, value_of, request_of, requests, memory_of, address_in, effects_of, is_fifo_operation}
@@ -99,18 +107,22 @@ done_by_op c x i op r = applied c i (outcome c x i op) (exchange c x i op) r
 abbrev due_done : Setting → Progress → Progress → Due → Progress
 due_done c x r d = done_by_op c x d.iteration (op_of c d) r
 
+-- the replies to requests, as if each came first in the local clock
+abbrev at_once : Setting → Progress → List Request → List Reply
+at_once c x reqs = map (given c.lists x.done) reqs
+
 -- the machine's effects and exchanges of these, from r on
 abbrev machine_done : Setting → Progress → List Due → Progress → Progress
 machine_done c x ds r = record {
-  state = fold (stored c.owner c.block) r.state (effects c.block x.state ds (all_given c.lists x.done (asked c x ds)));
-  done = r.done ++ paired (asked c x ds) (all_given c.lists x.done (asked c x ds));
+  state = fold (stored c.owner c.block) r.state (effects c.block x.state ds (at_once c x (asked c x ds)));
+  done = r.done ++ paired (asked c x ds) (at_once c x (asked c x ds));
 }
 
 -- the same where one operation comes before others
 abbrev machine_first : Setting → Progress → ℕ → Op ℕ → List Due → Progress → Progress
 machine_first c x i op ds r =
     let reqs = cons_option (request_of c.channels x.state i op) (asked c x ds) in
-    let replies = all_given c.lists x.done reqs in record {
+    let replies = at_once c x reqs in record {
       state = fold (stored c.owner c.block) r.state
           (effects_of x.state i op (get_or replies 0 Done)
           ++ effects c.block x.state ds (cond (is_fifo_operation op) (drop 1 replies) replies));
@@ -213,9 +225,83 @@ same_iterations c x r (it ∷ its) =
     (iteration_by_one c x it.0 it.1 0 c.block.ops r (λ j l. ap (operation_at c.block) (zero-add j)))
     ∙ same_iterations c x (iteration_done c x r it) its
 
+-- ---- replies
+
+abbrev pops : ℕ → Op ℕ → Bool
+pops f op = takes (reading_end f) op
+
+-- what was done pops a channel as x did, or these operations pop it no more
+abbrev Unpopped : Progress → List Exchange → (ℕ → ℕ) → Type 0
+Unpopped x done count = (f : ℕ) → (moved_by Pop f done ≡ moved_by Pop f x.done) ⊎ (count f ≡ 0)
+
+less : {A : Type 0} (n : ℕ) → A ⊎ (0 + n ≡ 0) → A ⊎ (n ≡ 0)
+less n (inl same) = inl same
+less n (inr none) = inr (omega arith)
+
+-- one operation before others, where each channel is popped at most once
+first_given : (c : Setting) (x : Progress) (i : ℕ) (op : Op ℕ) (rest : List Request) (done : List Exchange) (count : ℕ → ℕ)
+    → is_query op ≡ false → Unpopped x done (λ f. cond (pops f op) 1 0 + count f)
+    → ((f : ℕ) → cond (pops f op) 1 0 + count f ≤ 1)
+    → ((later : List Exchange) → Unpopped x later count → all_given c.lists later rest ≡ at_once c x rest)
+    → all_given c.lists done (cons_option (request_of c.channels x.state i op) rest)
+    ≡ at_once c x (cons_option (request_of c.channels x.state i op) rest)
+first_given c x i (Set v e) rest done count plain before once given_rest = given_rest done (λ f. less (count f) (before f))
+first_given c x i (Load v n e) rest done count plain before once given_rest = given_rest done (λ f. less (count f) (before f))
+first_given c x i (Store n e a) rest done count plain before once given_rest = given_rest done (λ f. less (count f) (before f))
+first_given c x i (Read g v) rest done count plain before once given_rest =
+    let longer : List Exchange = done ++ pop_of g (value_given c.lists g (length (moved_by Pop g done))) ∷ [] in
+    ap (λ (v : ℕ). Value v ∷ all_given c.lists longer rest) (this (before g))
+    ∙ ap (λ (later : List Reply). Value (value_given c.lists g (length (moved_by Pop g x.done))) ∷ later) (given_rest longer later)
+  where
+    this : (moved_by Pop g done ≡ moved_by Pop g x.done) ⊎ (cond (nat_eq g g) 1 0 + count g ≡ 0)
+        → value_given c.lists g (length (moved_by Pop g done)) ≡ value_given c.lists g (length (moved_by Pop g x.done))
+    this (inl same) = ap (λ (vs : List ℕ). value_given c.lists g (length vs)) same
+    this (inr none) =
+        let some = ap (λ (b : Bool). cond {A = ℕ} b 1 0) (eq-eqb g g refl) in absurd (omega arith)
+
+    later : Unpopped x (done ++ pop_of g (value_given c.lists g (length (moved_by Pop g done))) ∷ []) count
+    later f = by_test (nat_eq f g) refl (before f) (once f)
+      where
+        by_test : (b : Bool) → nat_eq f g ≡ b → (moved_by Pop f done ≡ moved_by Pop f x.done) ⊎ (cond b 1 0 + count f ≡ 0)
+            → cond b 1 0 + count f ≤ 1
+            → (moved_by Pop f (done ++ pop_of g (value_given c.lists g (length (moved_by Pop g done))) ∷ []) ≡ moved_by Pop f x.done)
+            ⊎ (count f ≡ 0)
+        by_test true e h most = inr (omega arith)
+        by_test false e (inl same) most = inl (unmoved Pop f _ done (pop_elsewhere f g _ e) ∙ same)
+        by_test false e (inr none) most = inr (omega arith)
+first_given c x i (Write g e) rest done count plain before once given_rest =
+    ap (λ (later : List Reply). Done ∷ later)
+    (given_rest (done ++ push_of g (cut_to (width_of c.channels g) (value_of x.state i e)) ∷ []) (λ f. later f (less (count f) (before f))))
+  where
+    later : (f : ℕ) → (moved_by Pop f done ≡ moved_by Pop f x.done) ⊎ (count f ≡ 0)
+        → (moved_by Pop f (done ++ push_of g (cut_to (width_of c.channels g) (value_of x.state i e)) ∷ []) ≡ moved_by Pop f x.done)
+        ⊎ (count f ≡ 0)
+    later f (inl same) = inl (unmoved Pop f _ done (push_no_pop f g _) ∙ same)
+    later f (inr none) = inr none
+first_given c x i (TryRead g v ok) rest done count plain before once given_rest = absurd cc
+first_given c x i (TryWrite g ok e) rest done count plain before once given_rest = absurd cc
+first_given c x i (Empty g v) rest done count plain before once given_rest = absurd cc
+first_given c x i (Full g v) rest done count plain before once given_rest = absurd cc
+
+all_at_once : (c : Setting) (x : Progress) (ds : List Due) → ((d : Due) → Among d ds → is_query (op_of c d) ≡ false)
+    → ((f : ℕ) → how_many (pops f) c.block ds ≤ 1) → (done : List Exchange) → Unpopped x done (λ f. how_many (pops f) c.block ds)
+    → all_given c.lists done (asked c x ds) ≡ at_once c x (asked c x ds)
+all_at_once c x [] plain once done before = refl
+all_at_once c x (d ∷ ds) plain once done before =
+    first_given c x d.iteration (op_of c d) (asked c x ds) done (λ f. how_many (pops f) c.block ds) (plain d (inl refl)) before once
+    (λ later h. all_at_once c x ds (λ e among. plain e (inr among)) (λ f. let most = once f in omega arith) later h)
+
+-- ---- a local clock
+
 -- the block has no query
 abbrev pub IsPlain : Block → Type 0
 IsPlain b = (t : Timed) → Among t b.ops → is_query t.op ≡ false
+
+-- and it pops each channel at most once in a local clock
+pub record PopsOnce (b : Block) : Type 0 where
+  pub plain : IsPlain b
+  pub some : 0 < interval b
+  pub apart : (f : ℕ) → AreApart (pops f) (interval b) b.ops
 
 due_plain : (m : Module) (s : ModuleState) → IsPlain (block_of m s) → (d : Due) → Among d (due m s)
     → is_query (operation_at (block_of m s) d.op).op ≡ false
@@ -224,14 +310,40 @@ due_plain m s plain d among =
     let is = among_all (IsDueIn b (live_count b s.control)) (due m s) (due_in_range m s) d among in
     plain (operation_at b d.op) (among_at b.ops d.op no_operation is.op)
 
+-- a local clock with these replies
+abbrev clock_with : List (List ℕ) → List Channel → Module → Progress → List Reply → Progress
+clock_with lists channels m x replies =
+    let c = setting_of lists channels m (block_of m x.state) in record {
+      state = fold (stored m (block_of m x.state)) x.state (effects (block_of m x.state) x.state (due m x.state) replies);
+      done = x.done ++ paired (asked c x (due m x.state)) replies;
+    }
+
+clock_requests : (lists : List (List ℕ)) (channels : List Channel) (m : Module) (x : Progress)
+    → clock_made lists channels m x.state x.done
+    ≡ clock_with lists channels m x
+    (all_given lists x.done (asked (setting_of lists channels m (block_of m x.state)) x (due m x.state)))
+unfolding requests
+clock_requests lists channels m x = refl
+
+due_by_iterations : (lists : List (List ℕ)) (channels : List Channel) (m : Module) (x : Progress)
+    → fold (due_done (setting_of lists channels m (block_of m x.state)) x) x (due m x.state)
+    ≡ fold (iteration_done (setting_of lists channels m (block_of m x.state)) x) x
+    (enumerate_from 0 (ages (block_of m x.state) x.state.control))
+unfolding due
+due_by_iterations lists channels m x =
+    let c = setting_of lists channels m (block_of m x.state) in
+    let its = enumerate_from 0 (ages (block_of m x.state) x.state.control) in
+    fold-flat_map (due_done c x) (due_in (block_of m x.state) x.state) x its ∙ same_iterations c x x its
+
 -- a local clock without queries, iteration by iteration
-pub clock_by_iterations : (lists : List (List ℕ)) (channels : List Channel) (m : Module) (x : Progress) → IsPlain (block_of m x.state)
+pub clock_by_iterations : (lists : List (List ℕ)) (channels : List Channel) (m : Module) (x : Progress) → PopsOnce (block_of m x.state)
     → clock_made lists channels m x.state x.done
     ≡ fold (iteration_done (setting_of lists channels m (block_of m x.state)) x) x
     (enumerate_from 0 (ages (block_of m x.state) x.state.control))
-unfolding requests due
-clock_by_iterations lists channels m x plain =
+clock_by_iterations lists channels m x h =
     let c = setting_of lists channels m (block_of m x.state) in
-    let its = enumerate_from 0 (ages (block_of m x.state) x.state.control) in
-    one_by_one c x (flat_map (due_in (block_of m x.state) x.state) its) (due_plain m x.state plain) x
-    ∙ (fold-flat_map (due_done c x) (due_in (block_of m x.state) x.state) x its ∙ same_iterations c x x its)
+    let plain = due_plain m x.state h.plain in
+    clock_requests lists channels m x
+    ∙ (ap (λ (replies : List Reply). clock_with lists channels m x replies)
+    (all_at_once c x (due m x.state) plain (λ f. due_once (pops f) m x.state (h.apart f) h.some) x.done (λ f. inl refl))
+    ∙ (one_by_one c x (due m x.state) plain x ∙ due_by_iterations lists channels m x))

@@ -1,9 +1,9 @@
 -- A module's run beside its serial run, from the opening to the end.
-use Rattle.std.proofs.Common.{◌≡◌, ◌≢◌, ℕ, zero, suc, ◌+◌, ◌-◌, ◌*◌, ◌≤◌, ◌<◌, List, [], ◌∷◌, ◌++◌, length, get_or, min, Bool, true, false, not, ◌&&◌}
-use Rattle.std.proofs.Common.{cond, refl, sym, ◌∙◌, ap, subst, arith, ◌==◌, nat_lt, ◌⊎◌, inl, inr, true≢false, replicate, map}
+use Rattle.std.proofs.Common.{◌≡◌, ℕ, suc, ◌+◌, ◌-◌, ◌*◌, ◌≤◌, ◌<◌, List, [], ◌∷◌, length, get_or, min, Bool, true, false, not, ◌&&◌}
+use Rattle.std.proofs.Common.{cond, refl, sym, ◌∙◌, ap, subst, arith, ◌==◌, true≢false, replicate, map}
 use Rattle.std.specs.Prelude.{nat_le, slice_index, if◌then◌else◌}
-use Rattle.std.proofs.lemmas.Bool.{ltb-true, ltb-false, eqb-true, leb-true, and_parts}
-use Rattle.std.proofs.Math.Nat.{suc-mul, min-eq_left}
+use Rattle.std.proofs.lemmas.Bool.{eqb-true, leb-true, and_parts}
+use Rattle.std.proofs.Math.Nat.{min-eq_left}
 use Rattle.flow_design.specs.declared.design.Block.{Block}
 use Rattle.flow_design.specs.declared.design.Channel.{Channel}
 use Rattle.flow_design.specs.declared.design.Module.{Module}
@@ -13,7 +13,7 @@ use Rattle.flow_design.specs.declared.state.Control.{Control}
 use Rattle.flow_design.specs.declared.state.ModuleState.{ModuleState}
 use Rattle.flow_design.specs.Module.{no_block, block_at, block_of, is_loop, interval, live_count, temps_of, due}
 use Rattle.flow_design.specs.StaticRules.{IsModuleSound, IsNextSound}
-use Rattle.lockstep_defs.specs.Machine.{requests, committed, ticked, decided, started, stopped, finished, followed, entered, again_of}
+use Rattle.lockstep_defs.specs.Machine.{requests, ticked, decided, started, stopped, finished, followed, entered, again_of}
 use Rattle.lockstep_defs.specs.Machine.{is_block_over, move, opened, fresh_temps}
 use Rattle.lockstep_defs.specs.States.{HasPlaces, IsStateOf}
 use Rattle.lockstep_defs.proofs.States.{move_state, opened_state}
@@ -23,8 +23,8 @@ use Rattle.serial_order.specs.SerialRun.{Progress, all_given, clock_made, goes_a
 use Rattle.serial_order.proofs.Outcomes.{Setting, setting_of}
 use Rattle.serial_order.proofs.Alike.{IsThing, held, only}
 use Rattle.serial_order.proofs.Applied.{Placed}
-use Rattle.serial_order.proofs.Offsets.{IsFit, Stands, HasStores, upto, upto-zero, upto_ended, upto_start}
-use Rattle.serial_order.proofs.Windows.{IsChain, NotLater, AllEarlier, HoldsAlike, live_in, IsSlot, TempsAlike, IsInLoop}
+use Rattle.serial_order.proofs.Offsets.{Stands, HasStores, upto, upto-zero, upto_ended, upto_start}
+use Rattle.serial_order.proofs.Windows.{IsChain, HoldsAlike, live_in, TempsAlike, IsInLoop}
 use Rattle.serial_order.proofs.Overlap.{after_clock, clock_is}
 use Rattle.serial_order.proofs.Going.{IsSerial, HasTicked, tick_of, has_ticked, ticked_ended, decided_not, decided_stop, decided_start}
 use Rattle.serial_order.proofs.Going.{finished_not, finished_now}
@@ -226,7 +226,7 @@ module _ (lists : List (List ℕ)) (channels : List Channel) (m : Module) (sound
         done = (clock_made lists channels m p.state p.done).done;
       }) here
       ∙ ap (λ (x : Progress). rest b (tick_of (setting b) (p.state.count + length (due m p.state)) x))
-      (clock_is (setting b) p keeps.fit.plain here)
+      (clock_is (setting b) p keeps.fit.pops here)
 
   module _ (b : Block) (first n t : ℕ) (p : Progress) (h : GoesBeside b first n t p) where
     -- the state behind the tick

@@ -1,16 +1,26 @@
 -- What holds of the blocks of a module that is answered to be serial.
-use Rattle.std.proofs.Common.{◌≡◌, ◌≢◌, ℕ, zero, suc, ◌+◌, ◌-◌, ◌^◌, ◌≤◌, ◌<◌, List, [], ◌∷◌, ◌++◌, length, map, get_or, min, max, Bool, true, false, ◌&&◌, ◌||◌}
-use Rattle.std.proofs.Common.{cond, refl, sym, ◌∙◌, ap, subst, arith, ◌==◌, nat_lt, ◌⊎◌, inl, inr, true≢false, unwrap_or, add-zero}
-use Rattle.std.specs.Prelude.{nat_le}
-use Rattle.std.specs.List.{fold, filter, flat_map, enumerate_from, range_with_len, list_any}
-use Rattle.std.proofs.lemmas.Bool.{ltb-true, ltb-false, leb-false, eqb-true, eqb-false, eq-eqb, or_parts}
+use Rattle.std.proofs.Common.{◌≡◌, ◌≢◌, ℕ, zero, suc, ◌+◌, ◌-◌, ◌^◌, ◌≤◌, ◌<◌, List, [], ◌∷◌, ◌++◌, length, map, get_or, min, max, Bool, true, false, ◌&&◌}
+use Rattle.std.proofs.Common.{cond, refl, sym, ◌∙◌, ap, subst, arith, nat_lt, inl, inr, true≢false, unwrap_or, add-zero, ◌%◌, Option, Some, None}
+use Rattle.std.specs.Prelude.{nat_le, nat_eq}
+use Rattle.std.specs.List.{AllByRecursion}
+use Rattle.flow_word.specs.declared.access.Port.{Port}
+use Rattle.flow_word.specs.declared.access.Side.{Side}
+use Rattle.flow_word.specs.declared.access.Side.TheVariants.{Pop, Push}
+use Rattle.flow_word.specs.Kinds.{same_side}
+use Rattle.flow_design.specs.Operations.{used_port}
+use Rattle.flow_design.specs.StaticRules.{is_port, Clashes}
+use Rattle.lockstep_defs.specs.Ports.{takes}
+use Rattle.lockstep_defs.proofs.Due.{AreApart}
+use Rattle.serial_order.specs.Uses.{reading_end}
+use Rattle.std.specs.List.{fold, filter, flat_map, enumerate_from, range_with_len}
+use Rattle.std.proofs.lemmas.Bool.{ltb-true, ltb-false, leb-false, eqb-true, eq-eqb, or_parts}
 use Rattle.flow_design.specs.declared.design.Block.{Block}
 use Rattle.flow_design.specs.declared.design.BlockKind.{BlockKind}
 use Rattle.flow_design.specs.declared.design.BlockKind.TheVariants.{Plain, Loop}
 use Rattle.flow_design.specs.declared.design.Channel.{Channel}
 use Rattle.flow_design.specs.declared.design.Module.{Module}
 use Rattle.flow_design.specs.declared.design.Timed.{Timed}
-use Rattle.flow_design.specs.Module.{no_block, block_at, is_loop, interval_of, interval}
+use Rattle.flow_design.specs.Module.{no_operation, no_block, block_at, is_loop, interval_of, interval}
 use Rattle.flow_design.specs.StaticRules.{IsKindSound, IsTimedSound, IsBlockSound, IsModuleSound}
 use Rattle.lockstep_defs.specs.Laws.{is_query}
 use Rattle.lockstep_defs.specs.Machine.{again_of}
@@ -20,10 +30,10 @@ use Rattle.serial_order.specs.declared.order.Used.TheVariants.{Register, Memory,
 use Rattle.serial_order.specs.declared.order.Order.{Order}
 use Rattle.serial_order.specs.declared.order.Order.TheVariants.{Serial, Query, Late, Wide}
 use Rattle.serial_order.specs.Uses.{writes, is_use}
-use Rattle.serial_order.specs.Orders.{head, numbers_where, queries_of, is_late, lates_of, offsets_of_use, first_use, last_use, is_written_at}
-use Rattle.serial_order.specs.Orders.{is_wide, things, things_of, wides_of, faults_by, faults_of, all_faults}
+use Rattle.serial_order.specs.Orders.{head, numbers_where, queries_of, is_late, lates_of, offsets_of_use, first_use, last_use}
+use Rattle.serial_order.specs.Orders.{is_wide, things_of, faults_by, faults_of, all_faults}
 use Rattle.serial_order.proofs.Lists.{Among, among_all}
-use Rattle.serial_order.proofs.Outcomes.{Setting, setting_of}
+use Rattle.serial_order.proofs.Outcomes.{setting_of}
 use Rattle.serial_order.proofs.Alike.{IsThing}
 use Rattle.serial_order.proofs.Windows.{writes_used, none_written}
 use Rattle.serial_order.proofs.Going.{IsSerial}
@@ -194,6 +204,41 @@ wide_strict ii ops u e t w t_in w_in t_used w_writes = by_test (nat_lt w.offset 
         let reach = eq-eqb (last_use u ops - first_use u ops) ii (omega arith) in
         absurd (none_written u (last_use u ops) ops (none _ _ reach parts.1) w w_in w_writes (omega arith))
 
+-- ---- pops that are apart
+
+-- an operation that pops a channel is at its reading end
+popped_port : (f : ℕ) (o : Option Port) → is_port (reading_end f) o ≡ true → o ≡ Some (reading_end f)
+popped_port f None e = absurd (true≢false (sym e))
+popped_port f (Some g) e = by_side g.side g.channel e
+  where
+    by_side : (side : Side) (g : ℕ) → (same_side Pop side && nat_eq f g) ≡ true
+        → Some (record { side = side; channel = g }) ≡ Some (reading_end f)
+    by_side Pop g e = ap (λ (x : ℕ). Some (reading_end x)) (sym (eqb-true f g e))
+    by_side Push g e = absurd (true≢false (sym e))
+
+apart_from : (f ii : ℕ) (t : Timed) (ts : List Timed) → takes (reading_end f) t.op ≡ true
+    → ((k : ℕ) → k < length ts → ¬ Clashes ii t (get_or ts k no_operation))
+    → AllByRecursion (λ u. (takes (reading_end f) u.op ≡ true) → t.offset % ii ≢ u.offset % ii) ts
+apart_from f ii t [] pops h = tt
+apart_from f ii t (u ∷ us) pops h = (
+  λ also same. h 0 (omega arith) (record {
+    port = reading_end f;
+    first = popped_port f (used_port t.op) pops;
+    second = popped_port f (used_port u.op) also;
+    offsets = same;
+  }),
+  apart_from f ii t us pops (λ k l. h (suc k) (omega arith)),
+)
+
+are_apart : (f ii : ℕ) (ts : List Timed)
+    → ((j k : ℕ) → j < k → k < length ts → ¬ Clashes ii (get_or ts j no_operation) (get_or ts k no_operation))
+    → AreApart (takes (reading_end f)) ii ts
+are_apart f ii [] h = tt
+are_apart f ii (t ∷ ts) h = (
+  λ pops. apart_from f ii t ts pops (λ k l. h 0 (suc k) (omega arith) (omega arith)),
+  are_apart f ii ts (λ j k l m. h (suc j) (suc k) (omega arith) (omega arith)),
+)
+
 -- ---- the blocks of a serial module
 
 module _ (lists : List (List ℕ)) (channels : List Channel) (m : Module) (sound : IsModuleSound (length channels) m)
@@ -244,8 +289,12 @@ module _ (lists : List (List ℕ)) (channels : List Channel) (m : Module) (sound
       let inside : (t : Timed) → Among t (block_at m b).ops → t.offset < (block_at m b).len = λ t among. (operations t among).offset in record {
         fit = record {
           sound = operations;
-          plain = no_numbers (λ t. is_query t.op) (block_at m b).ops (empty_map (Query query.0) _ query.1);
           some = some_interval (length channels) m (block_at m b) here;
+          pops = record {
+            plain = no_numbers (λ t. is_query t.op) (block_at m b).ops (empty_map (Query query.0) _ query.1);
+            some = some_interval (length channels) m (block_at m b) here;
+            apart = λ f. are_apart f (interval (block_at m b)) (block_at m b).ops (λ j k l n. here.apart j k no_operation l n);
+          };
         };
         narrow = record {
           within = within_by fault.0 (block_at m b).len (block_at m b).ops (block_at m b).kind fault.1 inside;

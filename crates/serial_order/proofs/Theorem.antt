@@ -3,7 +3,6 @@ use Rattle.std.proofs.Common.{◌≡◌, ℕ, List, [], length, true, sym, subst
 use Rattle.flow_design.specs.declared.design.Design.{Design}
 use Rattle.flow_design.specs.declared.plan.Plan.{Plan}
 use Rattle.flow_design.specs.declared.state.Reply.{Reply}
-use Rattle.flow_design.specs.StaticRules.{IsModuleSound}
 use Rattle.lockstep_defs.specs.OwnRun.{own}
 use Rattle.serial_order.specs.declared.order.Order.TheVariants.{Serial}
 use Rattle.serial_order.specs.Orders.{module_in, order_of, HasModule}

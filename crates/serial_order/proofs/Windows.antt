@@ -1,28 +1,22 @@
 -- The heart: while iterations of a serial loop overlap, each thing holds what it holds in the serial run, in the iteration that uses it.
-use Rattle.std.proofs.Common.{◌≡◌, ◌≢◌, ℕ, zero, suc, ◌+◌, ◌-◌, ◌*◌, ◌≤◌, ◌<◌, List, [], ◌∷◌, length, get_or, min, Bool, true, false, ◌&&◌, cond, refl, sym}
-use Rattle.std.proofs.Common.{◌∙◌, ap, subst, arith, ◌==◌, nat_lt, ◌||◌, true≢false, ◌⊎◌, inl, inr}
-use Rattle.std.specs.List.{fold, enumerate_from, list_any}
-use Rattle.std.proofs.lemmas.Bool.{ltb-true, ltb-false, eqb-true, eq-eqb, or_right, or_parts}
-use Rattle.std.proofs.lemmas.List.FromFn.{get_or-enumerate_from}
-use Rattle.std.proofs.Math.Nat.{mul-le-mul_right}
+use Rattle.std.proofs.Common.{◌≡◌, ◌≢◌, ℕ, suc, ◌+◌, ◌-◌, ◌*◌, ◌≤◌, ◌<◌, List, [], ◌∷◌, length, min, Bool, true, false, ◌&&◌, refl, sym}
+use Rattle.std.proofs.Common.{◌∙◌, ap, ◌==◌, ◌||◌, true≢false, ◌⊎◌, inl, inr}
+use Rattle.std.proofs.lemmas.Bool.{eqb-true, eq-eqb, or_right, or_parts}
 use Rattle.flow_design.specs.declared.design.Timed.{Timed}
 use Rattle.flow_design.specs.declared.expr.Op.{Op}
 use Rattle.flow_design.specs.declared.expr.Op.TheVariants.{Set, Load, Store, Read, Write, TryRead, TryWrite, Empty, Full}
-use Rattle.flow_design.specs.Module.{block_of, interval, live_count, ages, temps_of}
-use Rattle.lockstep_defs.specs.Laws.{IsLive}
-use Rattle.lockstep_defs.proofs.Live.{live_iff, are_ages}
+use Rattle.flow_design.specs.Module.{block_of, interval, live_count, temps_of}
 use Rattle.serial_order.specs.declared.order.Used.{Used}
 use Rattle.serial_order.specs.declared.order.Used.TheVariants.{Register, Memory, Reading, Writing}
 use Rattle.serial_order.specs.Uses.{writes, is_use, is_this, is_named, is_among}
 use Rattle.flow_design.specs.Operations.{places_of, expressions_of}
 use Rattle.serial_order.specs.Orders.{is_written_at}
-use Rattle.serial_order.specs.SerialRun.{Progress, clock_made}
-use Rattle.serial_order.proofs.Lists.{Among, fold_none, fold_one}
-use Rattle.serial_order.proofs.Outcomes.{Setting, IsPlain, iteration_done, clock_by_iterations}
-use Rattle.serial_order.proofs.Alike.{IsThing, held, Agree}
+use Rattle.serial_order.specs.SerialRun.{Progress}
+use Rattle.serial_order.proofs.Lists.{Among}
+use Rattle.serial_order.proofs.Outcomes.{Setting}
+use Rattle.serial_order.proofs.Alike.{IsThing, held}
 use Rattle.serial_order.proofs.Applied.{Placed}
-use Rattle.serial_order.proofs.Iterations.{IsBodySound, iteration_places, thing_left, other_temps, thing_alike, same_temps}
-use Rattle.serial_order.proofs.Offsets.{IsFit, Stands, upto, solo, upto_next, upto_places, solo_places, upto_start, solo_holds, still}
+use Rattle.serial_order.proofs.Offsets.{Stands, upto}
 
 -- ---- writes are uses
 

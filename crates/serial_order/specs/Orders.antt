@@ -1,5 +1,5 @@
 -- Which rules a module breaks, in order, and what is answered of it.
-use Rattle.std.specs.Prelude.{ℕ, ◌≡◌, ◌<◌, ◌≤◌, ◌-◌, ◌^◌, ◌==◌, ◌&&◌, ◌||◌, nat_le, nat_lt, min, max, Bool, List, [], ◌∷◌, ◌++◌, length}
+use Rattle.std.specs.Prelude.{ℕ, ◌<◌, ◌≤◌, ◌-◌, ◌^◌, ◌==◌, ◌&&◌, ◌||◌, nat_le, nat_lt, min, max, Bool, List, [], ◌∷◌, ◌++◌, length}
 use Rattle.std.specs.Prelude.{map, filter, flat_map, fold, slice_index_or, Option, Some, None, unwrap_or}
 use Rattle.std.specs.List.{list_any, enumerate_from, range_with_len}
 use Rattle.flow_design.specs.declared.limits.TheConstants.{CHANNELS}

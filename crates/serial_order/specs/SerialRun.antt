@@ -1,6 +1,6 @@
 -- The serial run of a module: a loop's iterations run one after another, and each channel gives the values of a list.
 use Rattle.std.specs.Prelude.{◌≡◌, ℕ, zero, suc, ◌<◌, ◌++◌, ◌==◌, ◌&&◌, Bool, true, false, not, if◌then◌else◌, IsTrue, List, [], ◌∷◌, length}
-use Rattle.std.specs.Prelude.{map, flat_map, slice_index, slice_index_or}
+use Rattle.std.specs.Prelude.{flat_map, slice_index, slice_index_or}
 use Rattle.flow_word.specs.declared.access.Side.TheVariants.{Pop, Push}
 use Rattle.flow_design.specs.declared.design.Block.{Block}
 use Rattle.flow_design.specs.declared.design.Channel.{Channel}
@@ -26,9 +26,11 @@ value_given lists f n = slice_index (slice_index_or lists f []) n
 abbrev pub given : List (List ℕ) → List Exchange → Request → Reply
 given lists done r = reply_by r.kind true (value_given lists r.channel (length (moved_by Pop r.channel done)))
 
--- to all requests of a local clock, in which a module pops each channel at most once
+-- to all requests of a local clock, one behind the other
 abbrev pub all_given : List (List ℕ) → List Exchange → List Request → List Reply
-all_given lists done requests = map (given lists done) requests
+all_given lists done [] = []
+all_given lists done (r ∷ rs) =
+    let reply = given lists done r in reply ∷ all_given lists (done ++ record { request = r; reply = reply } ∷ []) rs
 
 -- ---- the serial run
 

@@ -1,4 +1,3 @@
-use Rattle.lockstep_defs.specs.Laws.{is_query}
 use Rattle.serial_order.specs.Orders.{is_late}
 use Rattle.serial_order.proofs.Heads.{NoneBefore}
 use Rattle.serial_order.proofs.rules.first_late.Given as goal

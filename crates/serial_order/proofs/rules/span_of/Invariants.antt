@@ -1,4 +1,4 @@
-use Rattle.std.proofs.Common.{◌≡◌, ◌<◌, ◌^◌, drop}
+use Rattle.std.proofs.Common.{◌≡◌, drop}
 use Rattle.std.specs.Prelude.{fold, min, max}
 use Rattle.serial_order.specs.Orders.{offsets_of_use, first_use, last_use}
 use Rattle.serial_order.proofs.rules.span_of.Given as goal

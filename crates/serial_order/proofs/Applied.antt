@@ -38,7 +38,8 @@ chosen c i v w s is_register =
 abbrev pub Placed : Setting → ℕ → Progress → Type 0
 Placed c n r = HasPlaces c.owner c.block n r.state
 
-pub applied_places : (c : Setting) (n i : ℕ) (o : Outcome) (x : Option Exchange) (r : Progress) → Placed c n r → Placed c n (applied c i o x r)
+pub applied_places : (c : Setting) (n i : ℕ) (o : Outcome) (x : Option Exchange) (r : Progress) → Placed c n r
+    → Placed c n (applied c i o x r)
 applied_places c n i Nothing x r h = h
 applied_places c n i (ToVariable v w) x r h = stored_places c.owner c.block n r.state (Variable i v w) h
 applied_places c n i (ToWord k a w) x r h = stored_places c.owner c.block n r.state (Word k a w) h

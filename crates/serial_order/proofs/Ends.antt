@@ -90,20 +90,22 @@ module _ (p : Plan) (i : ℕ) (lists : List (List ℕ)) (replies : List (List Re
   goes_on_beside x (goes b first n t h) e = goes_further lists p.design.channels (module_at p i) sound rules b first n t x h
   goes_on_beside x (ends k h) e = absurd (true≢false (sym (over_ended p.ops x.state h.ended) ∙ e))
 
+  -- a local clock later, where the module is not over
+  abbrev after : Own → Own
+  after o = own_after m o (requests p.design.channels m o.state) (slice_index_or replies (length o.steps) [])
+
   next_beside : (o : Own) → (AreGiven lists [] o.steps → Beside (flat o)) → AreGiven lists [] (own_next p i replies o).steps
       → Beside (flat (own_next p i replies o))
   unfolding own_next
   next_beside o before given = by_test (is_over p.ops o.state) refl given
     where
-      on : is_over p.ops o.state ≡ false → AreGiven lists [] (own_after m o (requests p.design.channels m o.state) (slice_index_or replies (length o.steps) [])).steps
-          → Beside (flat (own_after m o (requests p.design.channels m o.state) (slice_index_or replies (length o.steps) [])))
+      on : is_over p.ops o.state ≡ false → AreGiven lists [] (after o).steps → Beside (flat (after o))
       on e given =
           let step = after_is o (requests p.design.channels m o.state) (slice_index_or replies (length o.steps) []) refl given in
           subst Beside (sym step.1) (goes_on_beside (flat o) (before step.0) e)
 
       by_test : (b : Bool) → is_over p.ops o.state ≡ b
-          → AreGiven lists [] (if b then o else own_after m o (requests p.design.channels m o.state) (slice_index_or replies (length o.steps) [])).steps
-          → Beside (flat (if b then o else own_after m o (requests p.design.channels m o.state) (slice_index_or replies (length o.steps) [])))
+          → AreGiven lists [] (if b then o else after o).steps → Beside (flat (if b then o else after o))
       by_test true e given = before given
       by_test false e given = on e given
 

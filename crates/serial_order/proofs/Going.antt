@@ -85,7 +85,8 @@ module _ (c : Setting) (from : ℕ → Progress) (n t : ℕ) (p : Progress) (ser
       ap (λ (x : Progress). x.state.ended) (sym (clock_is c p serial.fit.pops h.block))
       ∙ (commits_keep c.owner p.state (all_given c.lists p.done (requests c.channels c.owner p.state))).2
 
-  ticked_control : (count : ℕ) → (tick_of c count (after_clock c p)).state.control ≡ record p.state.control { clock = p.state.control.clock + 1 }
+  ticked_control : (count : ℕ)
+      → (tick_of c count (after_clock c p)).state.control ≡ record p.state.control { clock = p.state.control.clock + 1 }
   unfolding ticked
   ticked_control count = ap (λ (k : Control). record k { clock = k.clock + 1 }) same_control
 

@@ -10,7 +10,8 @@ use Rattle.flow_design.specs.declared.design.Module.{Module}
 use Rattle.serial_order.specs.declared.order.Order.{Order}
 use Rattle.serial_order.specs.declared.order.Used.{Used}
 use Rattle.serial_order.specs.declared.order.Order.TheVariants.{Query, Late, Wide}
-use Rattle.serial_order.specs.Orders.{head, numbers_where, queries_of, is_late, lates_of, is_wide, things_of, wides_of, faults_by, faults_of}
+use Rattle.serial_order.specs.Orders.{head, numbers_where, queries_of, is_late, lates_of, is_wide, things_of, wides_of, faults_by}
+use Rattle.serial_order.specs.Orders.{faults_of}
 use Rattle.serial_order.specs.Orders.{all_faults}
 
 -- the numbers of the operations that pass, where the first is number n
@@ -45,7 +46,8 @@ head-queries number (n ∷ ns) = refl
 
 split_here : (of : ℕ × Block → List Order) (bs : List Block) (n : ℕ) (b : Block) → n < length bs → b ≡ get_or bs n b
     → Nothing of bs n
-    → head (flat_map of (enumerate_from 0 bs)) ≡ option_or (head (of (n, b))) (head (flat_map of (enumerate_from (n + 1) (drop (n + 1) bs))))
+    → head (flat_map of (enumerate_from 0 bs))
+    ≡ option_or (head (of (n, b))) (head (flat_map of (enumerate_from (n + 1) (drop (n + 1) bs))))
 split_here of bs n b l at before =
     before ∙ rw (drop-cons bs n b l, ← at, add-one) (head-append (of (n, b)) (flat_map of (enumerate_from (suc n) (drop (suc n) bs))))
 
@@ -86,8 +88,10 @@ head-loop channels m number ii again ops =
 
 pub head-all : (channels : ℕ) (m : Module)
     → head (all_faults channels m)
-    ≡ option_or (head (flat_map queries_of (enumerate_from 0 m.blocks))) (head (flat_map (faults_of channels m) (enumerate_from 0 m.blocks)))
-head-all channels m = head-append (flat_map queries_of (enumerate_from 0 m.blocks)) (flat_map (faults_of channels m) (enumerate_from 0 m.blocks))
+    ≡ option_or (head (flat_map queries_of (enumerate_from 0 m.blocks)))
+    (head (flat_map (faults_of channels m) (enumerate_from 0 m.blocks)))
+head-all channels m =
+    head-append (flat_map queries_of (enumerate_from 0 m.blocks)) (flat_map (faults_of channels m) (enumerate_from 0 m.blocks))
 
 pub loop_late : (channels : ℕ) (m : Module) (number ii again : ℕ) (ops : List Timed) (op : ℕ)
     → head (numbers_where (is_late ii again) ops) ≡ Some op

@@ -28,7 +28,8 @@ at_age_places c x n i age r t h = by_tests (t.offset == age) (passes x.state.reg
     by_tests true false = h
     by_tests true true = applied_places c n i (outcome c x i t.op) (exchange c x i t.op) r h
 
-pub iteration_places : (c : Setting) (x : Progress) (n : ℕ) (r : Progress) (it : ℕ × ℕ) → Placed c n r → Placed c n (iteration_done c x r it)
+pub iteration_places : (c : Setting) (x : Progress) (n : ℕ) (r : Progress) (it : ℕ × ℕ) → Placed c n r
+    → Placed c n (iteration_done c x r it)
 iteration_places c x n r it h =
     fold_keeps (Placed c n) (at_age c x it.0 it.1) c.block.ops (λ r t among h. at_age_places c x n it.0 it.1 r t h) r h
 
@@ -74,7 +75,8 @@ abbrev KeepSame : {V : Type 0} → Setting → ℕ → ℕ → ℕ → ℕ → (
 KeepSame c n k i j f g = (o : Outcome) (x : Option Exchange) (r s : Progress) → Placed c n r → Placed c k s → f r ≡ g s
     → f (applied c i o x r) ≡ g (applied c j o x s)
 
-iteration_alike : {V : Type 0} (c : Setting) (x y : Progress) (f g : Progress → V) (n k i j age : ℕ) → IsBodySound c → KeepSame c n k i j f g
+iteration_alike : {V : Type 0} (c : Setting) (x y : Progress) (f g : Progress → V) (n k i j age : ℕ) → IsBodySound c
+    → KeepSame c n k i j f g
     → ((t : Timed) → Among t c.block.ops → t.offset ≡ age → Agree c x y i j t)
     → (r s : Progress) → Beside c n k f g r s → Beside c n k f g (iteration_done c x r (i, age)) (iteration_done c y s (j, age))
 iteration_alike c x y f g n k i j age sound keep agree r s h =

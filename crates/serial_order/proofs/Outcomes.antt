@@ -1,5 +1,6 @@
 -- What the operations of a local clock make of a module: one outcome and one exchange each.
-use Rattle.std.proofs.Common.{◌≡◌, ℕ, suc, ◌+◌, ◌≤◌, ◌<◌, List, [], ◌∷◌, ◌++◌, length, map, drop, get_or, zero-add, Option, Some, None, Bool, true, false}
+use Rattle.std.proofs.Common.{◌≡◌, ℕ, suc, ◌+◌, ◌≤◌, ◌<◌, List, [], ◌∷◌, ◌++◌, length, map, drop, get_or, zero-add, Option, Some, None}
+use Rattle.std.proofs.Common.{Bool, true, false}
 use Rattle.std.proofs.Common.{cond, refl, ◌∙◌, ap, subst, arith, ◌==◌, inl, inr, append_assoc, append-nil, add-zero}
 use Rattle.std.specs.Prelude.{slice_index, if◌then◌else◌}
 use Rattle.std.specs.List.{fold, filter, filter_map, flat_map, enumerate_from, cons_option}

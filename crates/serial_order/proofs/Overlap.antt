@@ -18,7 +18,8 @@ use Rattle.serial_order.proofs.Alike.{IsThing, held, Agree}
 use Rattle.serial_order.proofs.Applied.{Placed}
 use Rattle.serial_order.proofs.Iterations.{iteration_places, thing_left, other_temps, thing_alike, same_temps}
 use Rattle.serial_order.proofs.Offsets.{IsFit, upto, solo, upto_next, upto_places, solo_places, upto_start, solo_holds, still}
-use Rattle.serial_order.proofs.Windows.{IsNarrow, IsChain, NotLater, AllEarlier, HoldsAlike, live_in, IsSlot, TempsAlike, IsInLoop, HasCommitted}
+use Rattle.serial_order.proofs.Windows.{IsNarrow, IsChain, NotLater, AllEarlier, HoldsAlike, live_in, IsSlot, TempsAlike, IsInLoop}
+use Rattle.serial_order.proofs.Windows.{HasCommitted}
 use Rattle.serial_order.proofs.Windows.{writes_used, some_written, none_written}
 use Rattle.serial_order.specs.Orders.{is_written_at}
 
@@ -198,7 +199,8 @@ module _ (c : Setting) (from : ℕ → Progress) (n t : ℕ) (p : Progress) (fit
       → NotLater c n u i (suc t) → AllEarlier c u i (suc t) → NoneBefore u i a
       → held u (after_clock c p) ≡ held u (upto c (min (suc a) c.block.len) (from i))
   same_owner u thing i a low age later earlier before =
-      advance u thing i a low age (h.things u thing i a low age (still_later later) (still_earlier earlier before)) (only later earlier before)
+      advance u thing i a low age (h.things u thing i a low age (still_later later) (still_earlier earlier before))
+      (only later earlier before)
     where
       still_later : NotLater c n u i (suc t) → NotLater c n u i t
       still_later (inl newest) = inl newest
@@ -273,7 +275,8 @@ module _ (c : Setting) (from : ℕ → Progress) (n t : ℕ) (p : Progress) (fit
       ∙ (sym (begun (omega arith))
       ∙ ap (λ (x : ℕ). held u (upto c x (from (suc i)))) (sym (min-eq_left (omega arith))))))))
     where
-      settled : (b : ℕ) → b ≡ a + interval c.block → suc b ≤ c.block.len → held u (upto c c.block.len (from i)) ≡ held u (upto c (suc b) (from i))
+      settled : (b : ℕ) → b ≡ a + interval c.block → suc b ≤ c.block.len
+          → held u (upto c c.block.len (from i)) ≡ held u (upto c (suc b) (from i))
       settled b e l =
           ap (λ (x : ℕ). held u (upto c x (from i))) (omega arith)
           ∙ still c fit u (from i) (chain.stands i (omega arith)) (c.block.len - suc b) (suc b) (omega arith)
@@ -309,7 +312,8 @@ module _ (c : Setting) (from : ℕ → Progress) (n t : ℕ) (p : Progress) (fit
           by_tests true y e f =
               let above : suc i ≤ k = ltb-true i k e in
               let near = narrow.strict u thing w o is among (writes_used u w writes) wrote in
-              let products : suc i * interval c.block ≤ k * interval c.block = mul-le-mul_right (interval c.block) above in absurd (omega arith)
+              let products : suc i * interval c.block ≤ k * interval c.block = mul-le-mul_right (interval c.block) above in
+              absurd (omega arith)
           by_tests false true e f =
               let below : suc k ≤ i = ltb-true k i f in
               let bound = all w is writes in

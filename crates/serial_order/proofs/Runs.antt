@@ -28,7 +28,8 @@ use Rattle.serial_order.proofs.Windows.{IsChain, HoldsAlike, live_in, TempsAlike
 use Rattle.serial_order.proofs.Overlap.{after_clock, clock_is}
 use Rattle.serial_order.proofs.Going.{IsSerial, HasTicked, tick_of, has_ticked, ticked_ended, decided_not, decided_stop, decided_start}
 use Rattle.serial_order.proofs.Going.{finished_not, finished_now}
-use Rattle.serial_order.proofs.Loops.{whole, iterated_again, iterated_over, whole_stands, last_thing, decides_alike, with_looping, with_looping_holds}
+use Rattle.serial_order.proofs.Loops.{whole, iterated_again, iterated_over, whole_stands, last_thing, decides_alike, with_looping}
+use Rattle.serial_order.proofs.Loops.{with_looping_holds}
 use Rattle.serial_order.proofs.Loops.{same_loop}
 use Rattle.serial_order.proofs.Loops.{with_start, longer_chain, started_loop}
 
@@ -80,7 +81,8 @@ module _ (lists : List (List ℕ)) (channels : List Channel) (m : Module) (sound
   entered_holds b (Reading f) r = refl
   entered_holds b (Writing f) r = refl
 
-  entered_block : (b : ℕ) (s : ModuleState) → (entered m b s).control ≡ record { block = b; clock = 0; newest = 0; looping = is_loop (block_at m b).kind }
+  entered_block : (b : ℕ) (s : ModuleState)
+      → (entered m b s).control ≡ record { block = b; clock = 0; newest = 0; looping = is_loop (block_at m b).kind }
   unfolding entered
   entered_block b s = refl
 
@@ -116,7 +118,8 @@ module _ (lists : List (List ℕ)) (channels : List Channel) (m : Module) (sound
       temps = temps;
       things = things;
     };
-    over = λ e. not_looping (whole (setting (block_at m b)) (from_on k 0)).state (sym (ap (λ (z : Control). z.looping) (entered_block b x.state)) ∙ e);
+    over = λ e. not_looping (whole (setting (block_at m b)) (from_on k 0)).state
+        (sym (ap (λ (z : Control). z.looping) (entered_block b x.state)) ∙ e);
   }
     where
       start : (i : ℕ) → i ≡ 0 → from_on k i ≡ record y { state = entered m b y.state }
@@ -130,7 +133,8 @@ module _ (lists : List (List ℕ)) (channels : List Channel) (m : Module) (sound
           subst (Stands (setting (block_at m b))) (sym (start i e))
           (record { block = here y; stores = entered_stores b y.state stores })
 
-      places : Placed (setting (block_at m b)) (live_count (block_at m b) (entered m b x.state).control) (record x { state = entered m b x.state })
+      places : Placed (setting (block_at m b)) (live_count (block_at m b) (entered m b x.state).control)
+          (record x { state = entered m b x.state })
       places =
           subst (λ (q : Block). HasPlaces m q (live_count q (entered m b x.state).control) (entered m b x.state)) (here x) state.places
 
@@ -147,7 +151,8 @@ module _ (lists : List (List ℕ)) (channels : List Channel) (m : Module) (sound
           let first : i ≡ 0 = omega arith in
           let begun : 0 ≡ a = omega arith in
           let place : live_count (block_at m b) (entered m b x.state).control - 1 - j ≡ 0 = omega arith in
-          ap (λ (ts : List (List ℕ)). get_or ts (live_count (block_at m b) (entered m b x.state).control - 1 - j) []) (entered_temps b x.state)
+          ap (λ (ts : List (List ℕ)). get_or ts (live_count (block_at m b) (entered m b x.state).control - 1 - j) [])
+          (entered_temps b x.state)
           ∙ (ap (λ (q : ℕ). get_or (fresh_temps (block_at m b) ∷ []) q []) place
           ∙ (ap fresh_temps (sym (stands i first).block)
           ∙ (ap (λ (z : Progress). temps_of z.state 0) (sym (upto-zero (setting (block_at m b)) (from_on k i)))
@@ -221,9 +226,10 @@ module _ (lists : List (List ℕ)) (channels : List Channel) (m : Module) (sound
       → moved p ≡ rest b (tick_of (setting b) (p.state.count + length (due m p.state)) (after_clock (setting b) p))
   unfolding move
   moved_is b p keeps here =
+      let y = clock_made lists channels m p.state p.done in
       ap (λ (c : Block). record {
-        state = finished m c (decided c (ticked c (record (clock_made lists channels m p.state p.done).state { count = p.state.count + length (due m p.state) })));
-        done = (clock_made lists channels m p.state p.done).done;
+        state = finished m c (decided c (ticked c (record y.state { count = p.state.count + length (due m p.state) })));
+        done = y.done;
       }) here
       ∙ ap (λ (x : Progress). rest b (tick_of (setting b) (p.state.count + length (due m p.state)) x))
       (clock_is (setting b) p keeps.fit.pops here)

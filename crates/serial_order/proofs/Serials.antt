@@ -1,6 +1,8 @@
 -- What holds of the blocks of a module that is answered to be serial.
-use Rattle.std.proofs.Common.{◌≡◌, ◌≢◌, ℕ, zero, suc, ◌+◌, ◌-◌, ◌^◌, ◌≤◌, ◌<◌, List, [], ◌∷◌, ◌++◌, length, map, get_or, min, max, Bool, true, false, ◌&&◌}
-use Rattle.std.proofs.Common.{cond, refl, sym, ◌∙◌, ap, subst, arith, nat_lt, inl, inr, true≢false, unwrap_or, add-zero, ◌%◌, Option, Some, None}
+use Rattle.std.proofs.Common.{◌≡◌, ◌≢◌, ℕ, zero, suc, ◌+◌, ◌-◌, ◌^◌, ◌≤◌, ◌<◌, List, [], ◌∷◌, ◌++◌, length, map, get_or, min, max, Bool}
+use Rattle.std.proofs.Common.{true, false, ◌&&◌}
+use Rattle.std.proofs.Common.{cond, refl, sym, ◌∙◌, ap, subst, arith, nat_lt, inl, inr, true≢false, unwrap_or, add-zero, ◌%◌, Option, Some}
+use Rattle.std.proofs.Common.{None}
 use Rattle.std.specs.Prelude.{nat_le, nat_eq}
 use Rattle.std.specs.List.{AllByRecursion}
 use Rattle.flow_word.specs.declared.access.Port.{Port}
@@ -139,7 +141,8 @@ all_things channels m (Memory n) l =
     among_left _ _ _
     (among_left _ _ _ (among_right _ (map Register (range_with_len 0 (length m.registers))) _ (among_count Memory (length m.memories) n l)))
 all_things channels m (Reading f) l =
-    among_left _ _ _ (among_right _ (map Register (range_with_len 0 (length m.registers)) ++ map Memory (range_with_len 0 (length m.memories))) _
+    among_left _ _ _
+    (among_right _ (map Register (range_with_len 0 (length m.registers)) ++ map Memory (range_with_len 0 (length m.memories))) _
     (among_count Reading channels f l))
 all_things channels m (Writing f) l =
     among_right _ ((map Register (range_with_len 0 (length m.registers)) ++ map Memory (range_with_len 0 (length m.memories)))
@@ -286,7 +289,8 @@ module _ (lists : List (List ℕ)) (channels : List Channel) (m : Module) (sound
       let query = empty_blocks queries_of 0 m.blocks no_faults.0 b there in
       let fault = empty_blocks (faults_of (length channels) m) 0 m.blocks no_faults.1 b there in
       let operations = among_all (IsTimedSound (length channels) m (block_at m b)) (block_at m b).ops here.operations in
-      let inside : (t : Timed) → Among t (block_at m b).ops → t.offset < (block_at m b).len = λ t among. (operations t among).offset in record {
+      let inside : (t : Timed) → Among t (block_at m b).ops
+      → t.offset < (block_at m b).len = λ t among. (operations t among).offset in record {
         fit = record {
           sound = operations;
           some = some_interval (length channels) m (block_at m b) here;

@@ -10,7 +10,8 @@ use Rattle.serial_order.specs.SerialRun.{AreGiven, EndsAlike, EqualsPlainLoops, 
 use Rattle.serial_order.proofs.Ends.{ends_alike}
 use Rattle.serial_order.proofs.Serials.{serial_blocks}
 
-in_plan : (p : Plan) (i : ℕ) → HasModule p.design i → order_of p.design i ≡ Serial → (lists : List (List ℕ)) (replies : List (List Reply)) (n : ℕ)
+in_plan : (p : Plan) (i : ℕ) → HasModule p.design i → order_of p.design i ≡ Serial
+    → (lists : List (List ℕ)) (replies : List (List Reply)) (n : ℕ)
     → AreGiven lists [] (own p i replies n).steps → (own p i replies n).state.ended ≡ true
     → (k : ℕ) × EndsAlike (length p.design.channels) (serial lists p.design.channels (module_in p.design i) k) (own p i replies n)
 in_plan p i h is lists replies n given ended =

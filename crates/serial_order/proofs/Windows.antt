@@ -20,7 +20,8 @@ use Rattle.serial_order.proofs.Offsets.{Stands, upto}
 
 -- ---- writes are uses
 
-op_writes_used : (u : Used) (t : Timed) (op : Op ℕ) → t.op ≡ op → writes u op ≡ true → is_use u (record { offset = t.offset; guard = t.guard; op = op }) ≡ true
+op_writes_used : (u : Used) (t : Timed) (op : Op ℕ) → t.op ≡ op → writes u op ≡ true
+    → is_use u (record { offset = t.offset; guard = t.guard; op = op }) ≡ true
 op_writes_used (Register x) t op e h =
     or_right (is_this x t.guard) _ (or_right (is_named x (expressions_of op)) (is_among x (places_of op)) h)
 op_writes_used (Memory n) t (Set v a) e h = absurd cc

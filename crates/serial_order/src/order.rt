@@ -14,12 +14,12 @@ pub enum Used {
 /// Whether a module is serial, or else the first rule that it breaks.
 #[derive(Clone, Copy, Debug, PartialEq, Eq)]
 pub enum Order {
-    /// Its pipelined loops do what plain loops do.
+    /// Its pipelined loops do what they would do with one iteration after the other.
     Serial,
     /// In this block this operation, counted from 0 in text order, is a query.
     Query(u32, u32),
     /// In this loop this operation writes the loop's register at an offset of II or more.
     Late(u32, u32),
-    /// In this loop the uses of this thing reach over more local clocks than II has, or over just as many, and it is written at the last.
+    /// In this loop the last offset at which this thing is used is more than II behind the first, or II behind it and a write.
     Wide(u32, Used),
 }

@@ -1,15 +1,14 @@
 -- The wave of a plan tells the fill of each FIFO in each clock.
-use Rattle.std.proofs.Common.{◌≡◌, ◌≢◌, ℕ, zero, suc, ◌+◌, ◌-◌, ◌^◌, ◌≤◌, ◌<◌, ◌==◌, ◌&&◌, Bool, true, false, not, cond, List, [], ◌∷◌, ◌++◌, map}
-use Rattle.std.proofs.Common.{length, get_or, refl, sym, ◌∙◌, ap, ap₂, subst, arith, append_assoc, nat_le, nat_lt, ◌⊎◌, inl, inr}
-use Rattle.std.specs.List.{filter, flat_map, range_with_len}
-use Rattle.std.proofs.lemmas.Bool.{cases_lt, cases_eq, le-ltb, lt-ltb, ne_eqb, eq-eqb, eqb-true, cases_Bool, le-leb, lt-leb}
-use Rattle.std.proofs.lemmas.List.{append-nil, length-map, map-append, get_or-map}
+use Rattle.std.proofs.Common.{◌≡◌, ◌≢◌, ℕ, zero, suc, ◌+◌, ◌-◌, ◌≤◌, ◌<◌, ◌==◌, ◌&&◌, Bool, true, false, not, cond, List, [], ◌∷◌, ◌++◌, map}
+use Rattle.std.proofs.Common.{length, get_or, refl, sym, ◌∙◌, ap, ap₂, subst, arith, nat_le, nat_lt, ◌⊎◌, inl, inr}
+use Rattle.std.specs.List.{filter}
+use Rattle.std.proofs.lemmas.Bool.{cases_lt, cases_eq, le-ltb, lt-ltb, ne_eqb, eq-eqb, eqb-true, le-leb, lt-leb}
+use Rattle.std.proofs.lemmas.List.{append-nil, length-map, map-append}
 use Rattle.std.proofs.lemmas.List.Concat.{flat_map-append}
 use Rattle.flow_design.specs.declared.plan.Plan.{Plan}
-use Rattle.flow_design.specs.StaticRules.{FitsEngine}
 use Rattle.fifo_fills.specs.Fills.{fifos, fill, fills, last_clock}
-use Rattle.vcd_wave.specs.Wave.{Change, Instant, Wave, differs, changes_between, instant_of, instant_at, instants_to, closing, wave_of, has_some}
-use Rattle.vcd_wave.specs.Told.{last_or, told_in, told_fill, last_told, Varies}
+use Rattle.vcd_wave.specs.Wave.{Change, Instant, differs, changes_between, instant_of, instant_at, instants_to, closing, wave_of, has_some}
+use Rattle.vcd_wave.specs.Told.{last_or, told_in, told_fill, Varies}
 use Rattle.vcd_wave.proofs.LineLemmas.{changes_to, changes_more, filter-append}
 use Rattle.vcd_wave.proofs.Instants.{instants_zero, instants_more, later_is}
 

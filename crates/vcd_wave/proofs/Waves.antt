@@ -1,15 +1,15 @@
 -- The wave of a plan is a wave of its FIFOs, and ends in the verdict's clock.
-use Rattle.std.proofs.Common.{◌≡◌, ◌≢◌, ℕ, zero, suc, ◌+◌, ◌-◌, ◌*◌, ◌^◌, ◌≤◌, ◌<◌, ◌==◌, ◌&&◌, Bool, true, false, not, cond, List, [], ◌∷◌, ◌++◌, map}
-use Rattle.std.proofs.Common.{length, get_or, refl, sym, ◌∙◌, ap, ap₂, subst, arith, append_assoc, nat_lt, ◌⊎◌, inl, inr, length-append}
+use Rattle.std.proofs.Common.{◌≡◌, ◌≢◌, ℕ, zero, suc, ◌+◌, ◌-◌, ◌^◌, ◌≤◌, ◌<◌, ◌&&◌, Bool, true, false, not, cond, List, [], ◌∷◌, ◌++◌, map}
+use Rattle.std.proofs.Common.{length, get_or, refl, sym, ◌∙◌, ap, subst, arith, nat_lt, ◌⊎◌, inl, inr, length-append}
 use Rattle.std.specs.Prelude.{IsTrue}
-use Rattle.std.specs.List.{filter, flat_map, range_with_len, AllByRecursion, All, AllPairs}
+use Rattle.std.specs.List.{filter, range_with_len, AllByRecursion, All, AllPairs}
 use Rattle.std.proofs.lemmas.Bool.{cases_lt, lt-ltb, le-ltb}
-use Rattle.std.proofs.lemmas.List.{append-nil, length-map, map-append, get_or-map, get_or_append_left, get_or_default}
+use Rattle.std.proofs.lemmas.List.{append-nil, length-map, map-append, get_or_append_left, get_or_default}
 use Rattle.std.proofs.lemmas.List.Elements.{All-from_recursion, recursion_from_All}
 use Rattle.flow_design.specs.declared.design.Channel.{Channel}
 use Rattle.flow_design.specs.declared.design.ChannelKind.{ChannelKind}
 use Rattle.flow_design.specs.declared.design.ChannelKind.TheVariants.{Source, Sink, Fifo}
-use Rattle.flow_design.specs.declared.limits.TheConstants.{FIFO_DEPTH, CYCLES}
+use Rattle.flow_design.specs.declared.limits.TheConstants.{FIFO_DEPTH}
 use Rattle.flow_design.specs.declared.plan.Plan.{Plan}
 use Rattle.flow_design.specs.Names.{is_name}
 use Rattle.flow_design.specs.Plans.{is_fifo, no_channel, kind_at}
@@ -18,16 +18,16 @@ use Rattle.fifo_fills.specs.Fills.{fifos, fill, fills, last_clock}
 use Rattle.fifo_fills.proofs.Ending.{last_within}
 use Rattle.fifo_fills.proofs.Counting.{within_depth, counted}
 use Rattle.fifo_fills.proofs.Passing.{counted_numbers}
-use Rattle.flow_word.specs.declared.access.Side.TheVariants.{Pop, Push}
+use Rattle.flow_word.specs.declared.access.Side.TheVariants.{Push}
 use Rattle.lockstep_defs.specs.Channels.{moved}
 use Rattle.lockstep_defs.proofs.Settled.{history-zero}
 use Rattle.lockstep_defs.proofs.Queue.{moved-nil}
 use Rattle.lockstep_defs.proofs.Queue.{all-append}
-use Rattle.vcd_wave.specs.Wave.{Change, Instant, Wave, fifo_names, differs, changes_between, instant_of, instant_at, instants_to, closing, wave_of, has_some}
+use Rattle.vcd_wave.specs.Wave.{Change, Instant, fifo_names, differs, changes_between, instant_of, instant_at, instants_to, closing, wave_of, has_some}
 use Rattle.vcd_wave.specs.Told.{last_or, told_in, last_told, Varies, IsChange, IsWave}
 use Rattle.vcd_wave.proofs.LineLemmas.{changes_to, changes_more}
-use Rattle.vcd_wave.proofs.Instants.{instants_zero, instants_more, later_is, closing_none, closing_some}
-use Rattle.vcd_wave.proofs.Telling.{tells_up_to, told_closing, told-append, last_push}
+use Rattle.vcd_wave.proofs.Instants.{instants_zero, instants_more, later_is}
+use Rattle.vcd_wave.proofs.Telling.{tells_up_to, told-append, last_push}
 
 -- ---- lists in order
 

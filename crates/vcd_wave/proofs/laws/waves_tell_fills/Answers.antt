@@ -1,4 +1,4 @@
-use Rattle.std.proofs.Common.{arith, refl, sym, ◌∙◌, ap}
+use Rattle.std.proofs.Common.{arith, refl, sym}
 use Rattle.vcd_wave.specs.Wave.{wave_of}
 use Rattle.vcd_wave.proofs.Telling.{told_fill_is}
 use Rattle.vcd_wave.proofs.Waves.{is_wave, count_is, last_is_told, first_empty}

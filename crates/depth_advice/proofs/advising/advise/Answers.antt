@@ -15,7 +15,8 @@ returns-clause-depths g c =
     let p = c.args.plan in
     let q = c.in_ok-core.core.plan in
     follows_ok c.read_advice.result (λ (a : Advice). a.depths ≡ depths_by q (λ f. peak q f + 1))
-    (λ (a : Advice). a.report ≡ lockstep.report q) (λ (a : Advice). a.depths ≡ advised p) c.read_advice.ensures.depths c.read_advice.ensures.report
+    (λ (a : Advice). a.report ≡ lockstep.report q) (λ (a : Advice). a.depths ≡ advised p)
+    c.read_advice.ensures.depths c.read_advice.ensures.report
     (λ a found told. advised_by p q a.depths (c.in_ok-core.ensures.plan ∙ c.widen.ensures) found)
 
 pub returns-clause-within : goal.returns-clause-within
@@ -23,7 +24,8 @@ returns-clause-within g c =
     let p = c.args.plan in
     let q = c.in_ok-core.core.plan in
     follows_ok c.read_advice.result (λ (a : Advice). a.depths ≡ depths_by q (λ f. peak q f + 1))
-    (λ (a : Advice). a.report ≡ lockstep.report q) (λ (a : Advice). AreDepths p a.depths) c.read_advice.ensures.depths c.read_advice.ensures.report
+    (λ (a : Advice). a.report ≡ lockstep.report q) (λ (a : Advice). AreDepths p a.depths)
+    c.read_advice.ensures.depths c.read_advice.ensures.report
     (λ a found told. within_by p q c.requires a.depths (c.in_ok-core.ensures.plan ∙ c.widen.ensures) found)
 
 pub returns-clause-never_block : goal.returns-clause-never_block
@@ -31,7 +33,8 @@ returns-clause-never_block g c =
     let p = c.args.plan in
     let q = c.in_ok-core.core.plan in
     follows_ok c.read_advice.result (λ (a : Advice). a.depths ≡ depths_by q (λ f. peak q f + 1))
-    (λ (a : Advice). a.report ≡ lockstep.report q) (λ (a : Advice). lockstep.report (with_depths p a.depths) ≡ a.report) c.read_advice.ensures.depths c.read_advice.ensures.report
+    (λ (a : Advice). a.report ≡ lockstep.report q) (λ (a : Advice). lockstep.report (with_depths p a.depths) ≡ a.report)
+    c.read_advice.ensures.depths c.read_advice.ensures.report
     (λ a found told. never_block_by p q c.requires a.depths a.report (c.in_ok-core.ensures.plan ∙ c.widen.ensures) found told)
 
 pub returns-clause-fastest : goal.returns-clause-fastest
@@ -39,5 +42,6 @@ returns-clause-fastest g c = λ none.
     let p = c.args.plan in
     let q = c.in_ok-core.core.plan in
     follows_ok c.read_advice.result (λ (a : Advice). a.depths ≡ depths_by q (λ f. peak q f + 1))
-    (λ (a : Advice). a.report ≡ lockstep.report q) (λ (a : Advice). AreFastest p a.depths) c.read_advice.ensures.depths c.read_advice.ensures.report
+    (λ (a : Advice). a.report ≡ lockstep.report q) (λ (a : Advice). AreFastest p a.depths)
+    c.read_advice.ensures.depths c.read_advice.ensures.report
     (λ a found told. fastest_by p q c.requires a.depths (c.in_ok-core.ensures.plan ∙ c.widen.ensures) found none)

@@ -52,7 +52,8 @@ module _ (p : ℕ → Bool) where
 
 module _ (p : Plan) (channels : List ℕ) (are : channels ≡ fifos p) where
   -- a FIFO's number is one of a FIFO
-  fifo_at : (i d : ℕ) → i < length channels → (is_fifo (kind_at p (get_or channels i d)) ≡ true) × (get_or channels i d < length p.design.channels)
+  fifo_at : (i d : ℕ) → i < length channels
+      → (is_fifo (kind_at p (get_or channels i d)) ≡ true) × (get_or channels i d < length p.design.channels)
   fifo_at i d inside =
       let n = length p.design.channels in
       let numbers : All (λ (f : ℕ). f < n) (range_with_len 0 n) =

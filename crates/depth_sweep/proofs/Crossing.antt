@@ -43,7 +43,11 @@ words_sync : IsSync (list_of.the_row u64)
 words_sync = search (list.the_sync, sendable) depth 30 fits 5000
 
 design_field : IsSync (design.the_field).row
-design_field = struct_sync (shape design.the_type) (search (list.the_sync, channel.the_sync, sendable) depth 30 fits 5000, (search (list.the_sync, module_sync, sendable) depth 30 fits 5000, tt))
+design_field =
+    struct_sync (shape design.the_type) (
+      search (list.the_sync, channel.the_sync, sendable) depth 30 fits 5000,
+      (search (list.the_sync, module_sync, sendable) depth 30 fits 5000, tt),
+    )
 
 plan_field : IsSync (plan.the_field).row
 plan_field =

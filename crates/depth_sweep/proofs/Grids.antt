@@ -1,5 +1,6 @@
 -- The lists of a grid by their numbers.
-use Rattle.std.proofs.Common.{◌≡◌, refl, sym, ◌∙◌, ap, subst, arith, ℕ, zero, suc, ◌+◌, ◌-◌, ◌*◌, ◌/◌, ◌%◌, ◌^◌, ◌<◌, ◌≤◌, List, [], ◌∷◌, ◌++◌}
+use Rattle.std.proofs.Common.{◌≡◌, refl, sym, ◌∙◌, ap, subst, arith, ℕ, zero, suc, ◌+◌, ◌-◌, ◌*◌, ◌/◌, ◌%◌, ◌^◌, ◌<◌, ◌≤◌}
+use Rattle.std.proofs.Common.{List, [], ◌∷◌, ◌++◌}
 use Rattle.std.proofs.Common.{length, get_or, map, All, append-nil, append_assoc, length-append}
 use Rattle.std.specs.List.{range_with_len, flat_map}
 use Rattle.std.proofs.lemmas.List.{length-map, get_or-map, get_or_append_left, get_or-append-add}
@@ -19,7 +20,8 @@ module _ {X : Type 0} (f : ℕ → List X) (u : ℕ) (each : (d : ℕ) → lengt
       omega (arith, here, each a, pieces_long (a + 1) b)
 
   -- item j of piece k
-  piece_at : (a b k j : ℕ) (other : X) → k < b → j < u → get_or (flat_map f (range_with_len a b)) (k * u + j) other ≡ get_or (f (a + k)) j other
+  piece_at : (a b k j : ℕ) (other : X) → k < b → j < u
+      → get_or (flat_map f (range_with_len a b)) (k * u + j) other ≡ get_or (f (a + k)) j other
   piece_at a zero k j other inside short = absurd (omega arith)
   piece_at a (suc b) zero j other inside short =
       let first : zero * u + j ≡ j = omega arith in
@@ -51,7 +53,8 @@ module _ (lo hi : ℕ) (ordered : lo ≤ hi) where
   pub grid_some : (n : ℕ) → 0 < length (grid lo hi n)
   unfolding grid
   grid_some zero = omega arith
-  grid_some (suc n) = subst (λ (u : ℕ). 0 < u) (sym (grid_more n)) (mul-lt 0 0 (width lo hi) (length (grid lo hi n)) some_width (grid_some n))
+  grid_some (suc n) =
+      subst (λ (u : ℕ). 0 < u) (sym (grid_more n)) (mul-lt 0 0 (width lo hi) (length (grid lo hi n)) some_width (grid_some n))
 
   -- the first digit of a number tells the first depth, and the others the other depths
   pub grid_at : (n i : ℕ) → i < length (grid lo hi (suc n)) → get_or (grid lo hi (suc n)) i []
@@ -110,7 +113,8 @@ module _ (lo hi : ℕ) (ordered : lo ≤ hi) where
       let u = length (grid lo hi m) in
       let one_more : n - i ≡ suc m = omega arith in
       let next = next_unit n i unit inside is in
-      let here : rest < length (grid lo hi (suc m)) = subst (λ (k : ℕ). rest < length (grid lo hi k)) one_more (subst (λ (v : ℕ). rest < v) is short) in
+      let here : rest < length (grid lo hi (suc m)) =
+      subst (λ (k : ℕ). rest < length (grid lo hi k)) one_more (subst (λ (v : ℕ). rest < v) is short) in
       let opened : get_or (grid lo hi (n - i)) rest [] ≡ (lo + rest / u) ∷ get_or (grid lo hi m) (rest % u) [] =
       ap (λ (k : ℕ). get_or (grid lo hi k) rest []) one_more ∙ grid_at m rest here in
       left ∙ (ap (λ (xs : List ℕ). depths ++ xs) opened

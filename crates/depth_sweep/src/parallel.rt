@@ -2,6 +2,7 @@
 ghost use Rattle.std.specs.Prelude.{◌≡◌, ◌≤◌, ◌<◌, ◌↔◌, [], Err, length, map, slice_index_or, IfOk};
 ghost use Rattle.flow_design.specs.StaticRules.{FitsEngine};
 ghost use Rattle.depth_sweep.specs.Grid.{fifos, grid, grid_of, point};
+ghost use Rattle.depth_sweep.specs.Shapes.{IsShape};
 
 use crate::fifos::{fifo_count, fifos};
 use crate::point::{Point, simulate};
@@ -67,11 +68,8 @@ fn simulate_all<R: Threads + Sync>(
     shape: Shape,
 ) -> Result<List<Point>, OutOfMemory>
     requires fits { FitsEngine plan.now }
-    requires least { 1 ≤ shape.lo }
-    requires ordered { shape.lo ≤ shape.hi }
-    requires most { shape.hi ≤ 64 }
+    requires shape { IsShape shape }
     requires fifos { shape.fifos ≡ length (fifos plan.now) }
-    requires lists { shape.lists ≡ length (grid shape.lo shape.hi shape.fifos) }
     ensures { IfOk result (λ points. points ≡ map (point plan.now) (grid shape.lo shape.hi shape.fifos)) }
 {
     let channels = fifos(alloc, plan)?;
@@ -89,11 +87,8 @@ fn map_numbers<R: Threads + Sync>(
 ) -> Result<Result<Vec<Point>, OutOfMemory>, AllocError>
     requires fits { FitsEngine plan.now }
     requires channels { channels.now ≡ fifos plan.now }
-    requires least { 1 ≤ shape.lo }
-    requires ordered { shape.lo ≤ shape.hi }
-    requires most { shape.hi ≤ 64 }
+    requires shape { IsShape shape }
     requires fifos { shape.fifos ≡ length (fifos plan.now) }
-    requires lists { shape.lists ≡ length (grid shape.lo shape.hi shape.fifos) }
     ensures { IfOk result (λ found. IfOk found (λ points. points.items ≡ map (point plan.now) (grid shape.lo shape.hi shape.fifos))) }
 {
     (0..shape.lists)
@@ -101,10 +96,10 @@ fn map_numbers<R: Threads + Sync>(
         .with_min_len(1)
         .map(
             move |number: u64| -> Result<Point, OutOfMemory>
-                requires { FitsEngine plan.now × (channels.now ≡ fifos plan.now) × (1 ≤ shape.lo) × (shape.lo ≤ shape.hi) × (shape.hi ≤ 64)
-                    × (shape.fifos ≡ length (fifos plan.now)) × (shape.lists ≡ length (grid shape.lo shape.hi shape.fifos))
-                    × (number < shape.lists) }
-                ensures { IfOk result (λ found. found ≡ point plan.entry.now (slice_index_or (grid shape.lo shape.hi shape.fifos) number [])) }
+                requires { FitsEngine plan.now × (channels.now ≡ fifos plan.now) × IsShape shape
+                    × (shape.fifos ≡ length (fifos plan.now)) × (number < shape.lists) }
+                ensures { IfOk result (λ found. found
+                    ≡ point plan.entry.now (slice_index_or (grid shape.lo shape.hi shape.fifos) number [])) }
             { point_numbered(alloc, plan, channels, &shape, number) },
         )
         .collect(rt, alloc)
@@ -120,11 +115,8 @@ fn point_numbered(
 ) -> Result<Point, OutOfMemory>
     requires fits { FitsEngine plan.now }
     requires channels { channels.now ≡ fifos plan.now }
-    requires least { 1 ≤ shape.now.lo }
-    requires ordered { shape.now.lo ≤ shape.now.hi }
-    requires most { shape.now.hi ≤ 64 }
+    requires shape { IsShape shape.now }
     requires fifos { shape.now.fifos ≡ length (fifos plan.now) }
-    requires lists { shape.now.lists ≡ length (grid shape.now.lo shape.now.hi shape.now.fifos) }
     requires number { number < shape.now.lists }
     ensures { IfOk result (λ found. found
         ≡ point plan.now (slice_index_or (grid shape.now.lo shape.now.hi shape.now.fifos) number [])) }

@@ -1,6 +1,7 @@
 //! How wide a grid is, and its lists by their numbers.
-ghost use Rattle.std.specs.Prelude.{◌≡◌, ◌+◌, ◌-◌, ◌*◌, ◌/◌, ◌%◌, ◌<◌, ◌≤◌, ◌^◌, [], suc, length, slice_index_or, All, IfOk, IfSome, SomeIff};
-ghost use Rattle.depth_sweep.specs.Grid.{grid, width};
+ghost use Rattle.std.specs.Prelude.{◌≡◌, ◌<◌, ◌≤◌, ◌^◌, [], length, slice_index_or, IfOk, SomeIff};
+ghost use Rattle.depth_sweep.specs.Grid.{grid};
+ghost use Rattle.depth_sweep.specs.Shapes.{IsShape};
 
 use flow_word::{List, OutOfMemory, Words};
 use std::alloc::Global;
@@ -53,10 +54,7 @@ fn power(base: u64, exponent: u64) -> Option<u64>
 /// The list of a grid with this number: the digits of the number, the most significant first, tell how far each depth lies above
 /// the least.
 pub(crate) fn depths_at(alloc: Global, shape: &Shape, number: u64) -> Result<Words, OutOfMemory>
-    requires least { 1 ≤ shape.now.lo }
-    requires ordered { shape.now.lo ≤ shape.now.hi }
-    requires most { shape.now.hi ≤ 64 }
-    requires lists { shape.now.lists ≡ length (grid shape.now.lo shape.now.hi shape.now.fifos) }
+    requires shape { IsShape shape.now }
     requires number { number < shape.now.lists }
     ensures { IfOk result (λ depths. depths ≡ slice_index_or (grid shape.now.lo shape.now.hi shape.now.fifos) number []) }
 {

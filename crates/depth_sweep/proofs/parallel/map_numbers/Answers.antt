@@ -32,7 +32,7 @@ collect-requires-clause-ready g c κs within =
     rw (c.map.ensures.base, c.map.ensures.f, c.with_min_len.ensures.base, ends.0, ends.1) (λ k d inside.
     let short : k < lists - 0 = omega (arith, inside, length-range_with_len 0 (lists - 0)) in
     let number = get_or-range_with_len 0 (lists - 0) k d short in
-    ((all.fits, all.channels, all.least, all.ordered, all.most, all.fifos, all.lists, omega (arith, number, short)), λ y p. tt))
+    ((all.fits, all.channels, all.shape, all.fifos, omega (arith, number, short)), λ y p. tt))
 
 pub returns : goal.returns
 returns g c =
@@ -40,7 +40,7 @@ returns g c =
     let shape = c.args.shape in
     let lists = grid shape.lo shape.hi shape.fifos in
     let at = λ (number : ℕ). point c.args.plan.now (get_or lists number []) in
-    let whole : shape.lists - 0 ≡ length lists = omega (arith, c.requires.lists) in
+    let whole : shape.lists - 0 ≡ length lists = omega (arith, c.requires.shape.lists) in
     let base = ap min_len_base c.map.ensures.base ∙ c.with_min_len.ensures.base in
     let first = ap range_start base ∙ ends.0 in
     let last = ap range_end base ∙ ends.1 in
@@ -49,4 +49,5 @@ returns g c =
     let given : AllZip (IsFound at) h.1.0 h.0 = subst
     (λ (f : Global × Bor Plan × Bor (List ℕ) × Shape). AllZip (IsFound (λ (number : ℕ). point f.1.now
     (get_or (grid f.3.lo f.3.hi f.3.fifos) number []))) h.1.0 h.0) c.map.ensures.f h.1.2 in
-    IfOk-then v _ _ (all_found at h.1.0 h.0 v _ given h.2) (λ points is. is ∙ (ap (map at) numbers ∙ all_places (point c.args.plan.now) lists [])))
+    IfOk-then v _ _ (all_found at h.1.0 h.0 v _ given h.2)
+    (λ points is. is ∙ (ap (map at) numbers ∙ all_places (point c.args.plan.now) lists [])))

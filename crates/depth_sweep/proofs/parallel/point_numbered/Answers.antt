@@ -7,7 +7,7 @@ module _ (c : goal.In_ok-depths) where
   depths_are =
       let s = c.args.shape.now in
       subst (IsList s.lo s.hi s.fifos) (sym c.in_ok-depths.ensures)
-      (list_at s.lo s.hi c.requires.ordered s.fifos c.args.number (omega (arith, c.requires.lists, c.requires.number)))
+      (list_at s.lo s.hi c.requires.shape.ordered s.fifos c.args.number (omega (arith, c.requires.shape.lists, c.requires.number)))
 
 pub simulate-requires-clause-count : goal.simulate-requires-clause-count
 simulate-requires-clause-count c =
@@ -16,4 +16,4 @@ simulate-requires-clause-count c =
 pub simulate-requires-clause-limits : goal.simulate-requires-clause-limits
 simulate-requires-clause-limits c = λ k d inside.
     let limit = (depths_are c).each k d inside in
-    (omega (arith, limit.0, c.requires.least), omega (arith, limit.1, c.requires.most))
+    (omega (arith, limit.0, c.requires.shape.least), omega (arith, limit.1, c.requires.shape.most))

@@ -6,12 +6,12 @@ use Rattle.depth_sweep.proofs.shape.depths_at.Goals as goal
 pub nonzero_div-rest : goal.nonzero_div-rest
 nonzero_div-rest c =
     let s = c.args.shape.now in
-    next_some s.lo s.hi c.requires.ordered s.fifos c.loop-fifo._fifo c.loop-fifo.unit c.loop-fifo-test.true c.loop-fifo.invariant.unit
+    next_some s.lo s.hi c.requires.shape.ordered s.fifos c.loop-fifo._fifo c.loop-fifo.unit c.loop-fifo-test.true c.loop-fifo.invariant.unit
 
 pub nonzero_rem-rest : goal.nonzero_rem-rest
 nonzero_rem-rest c =
     let s = c.args.shape.now in
-    next_some s.lo s.hi c.requires.ordered s.fifos c.loop-fifo._fifo c.loop-fifo.unit c.loop-fifo-test.true c.loop-fifo.invariant.unit
+    next_some s.lo s.hi c.requires.shape.ordered s.fifos c.loop-fifo._fifo c.loop-fifo.unit c.loop-fifo-test.true c.loop-fifo.invariant.unit
 
 pub loop-fifo-preserved : goal.loop-fifo-preserved
 loop-fifo-preserved c =
@@ -21,10 +21,10 @@ loop-fifo-preserved c =
     let inside = c.loop-fifo-test.true in
     let so_far = c.loop-fifo.invariant in
     record {
-      unit = next_unit s.lo s.hi c.requires.ordered s.fifos i unit inside so_far.unit;
+      unit = next_unit s.lo s.hi c.requires.shape.ordered s.fifos i unit inside so_far.unit;
       inside = mod_below c.loop-fifo.rest (unit / (s.hi - s.lo + 1))
-          (next_some s.lo s.hi c.requires.ordered s.fifos i unit inside so_far.unit);
-      left = one_depth_more s.lo s.hi c.requires.ordered s.fifos i c.args.number unit c.loop-fifo.rest c.loop-fifo.depths
+          (next_some s.lo s.hi c.requires.shape.ordered s.fifos i unit inside so_far.unit);
+      left = one_depth_more s.lo s.hi c.requires.shape.ordered s.fifos i c.args.number unit c.loop-fifo.rest c.loop-fifo.depths
           c.push.new.self inside so_far.unit so_far.inside so_far.left c.in_ok-push.ensures.ok;
     }
 

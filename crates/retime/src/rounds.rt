@@ -49,15 +49,17 @@ pub fn time_all<L: Ledger>(
             }
             Timing::Answered(_) => idle = 0,
             Timing::Differs(query) => return Guard::Differs(query),
-            Timing::Nothing if hints != 0 => {
-                idle = 0;
-                at = next_of(hints, at, count);
-                hints = without(hints, at);
-            }
-            Timing::Nothing => {
-                idle += 1;
-                at = if at + 1 < count { at + 1 } else { 0 };
-            }
+            Timing::Nothing => match next_of(hints, at, count) {
+                Some(next) => {
+                    idle = 0;
+                    at = next;
+                    hints = without(hints, next);
+                }
+                None => {
+                    idle += 1;
+                    at = if at + 1 < count { at + 1 } else { 0 };
+                }
+            },
         }
     }
     Guard::Same
@@ -90,5 +92,8 @@ fn other_end(fifos: &FifoTable, access: &Access) -> u64
         Side::Pop => fifos.popper(access.channel),
         Side::Push => fifos.pusher(access.channel),
     };
-    module.map_or(0, bit_of)
+    match module {
+        Some(module) => bit_of(module),
+        None => 0,
+    }
 }

@@ -35,20 +35,27 @@ impl Core {
                 match self.visit(at, steps)? {
                     Visit::Acted(woken) => {
                         hints |= woken;
-                        at = next_of(hints, at, count);
-                        hints = without(hints, at);
                         idle = 0;
+                        match next_of(hints, at, count) {
+                            Some(next) => {
+                                at = next;
+                                hints = without(hints, next);
+                            }
+                            None => hints = 0,
+                        }
                     }
                     Visit::Differs(query) => return Ok(Guard::Differs(query)),
-                    Visit::Idle if hints != 0 => {
-                        at = next_of(hints, at, count);
-                        hints = without(hints, at);
-                        idle = 0;
-                    }
-                    Visit::Idle => {
-                        at = if at + 1 < count { at + 1 } else { 0 };
-                        idle += 1;
-                    }
+                    Visit::Idle => match next_of(hints, at, count) {
+                        Some(next) => {
+                            idle = 0;
+                            at = next;
+                            hints = without(hints, next);
+                        }
+                        None => {
+                            idle += 1;
+                            at = if at + 1 < count { at + 1 } else { 0 };
+                        }
+                    },
                 }
             } else {
                 match self.answer_least() {

@@ -8,6 +8,7 @@ mod making;
 mod program;
 mod simulator;
 mod status;
+mod sweeping;
 mod task;
 
 pub use laws::one_answer;

@@ -13,6 +13,7 @@ use crate::answer::Answer;
 use crate::job::job;
 use crate::simulator::Simulator;
 use crate::status::Status;
+use crate::sweeping::sweep_depths;
 use crate::task::Task;
 use cli_words::Options;
 use depth_session::DepthSession;
@@ -47,6 +48,7 @@ pub(crate) fn make<R: Threads + Wait + Sync, G: Gate + Sync>(
         Task::Simulate(by, options) => simulate(rt, alloc, *by, options, checked, gate),
         Task::Print => print(alloc, session),
         Task::Summarize(seed, modules) => summarize(rt, alloc, *seed, *modules, checked.plan, gate),
+        Task::Sweep(lo, hi, options) => sweep_depths(rt, alloc, *lo, *hi, limited(checked, options)),
     }
 }
 
@@ -79,6 +81,18 @@ fn simulate<R: Threads + Wait + Sync, G: Gate + Sync>(
     let Checked { mut plan, edits } = checked;
     set_limits(&mut plan, options);
     job(rt, alloc, by, options.events, plan, edits.as_slice(), gate)
+}
+
+/// The plan of a session under the limits of the options. Its edits are let go of.
+fn limited(checked: Checked, options: &Options) -> Plan
+    requires limits { AreLimits options.now }
+    requires fits { FitsEngine checked.plan }
+    ensures plan { result ≡ with_limits options.now checked.plan }
+    ensures fits { FitsEngine result }
+{
+    let mut plan = checked.plan;
+    set_limits(&mut plan, options);
+    plan
 }
 
 /// Puts the limits of the options in place of the plan's own.

@@ -11,4 +11,6 @@ pub enum Task {
     Print,
     /// Simulate it, and write the summary of the session made from this seed with so many modules.
     Summarize(u64, u64),
+    /// Simulate it with each depth from the one to the other for each FIFO, and write the verdicts and the best of these points.
+    Sweep(u64, u64, Options),
 }

@@ -1,0 +1,136 @@
+-- The advised depths are above each peak and within the limit, so no FIFO is full with them.
+use Rattle.std.proofs.Common.{◌≡◌, ℕ, zero, suc, ◌+◌, ◌≤◌, ◌<◌, List, length, true, false, cond, refl, sym, ◌∙◌, subst}
+use Rattle.std.proofs.Common.{arith, inl, inr, zero-add}
+use Rattle.std.specs.Prelude.{slice_index}
+use Rattle.std.proofs.lemmas.Bool.{cases_Bool, cases_lt, cond-true, cond-false, lt-leb}
+use Rattle.std.proofs.lemmas.List.{get_or_past}
+use Rattle.std.proofs.lemmas.List.FromFn.{length-map-range_with_len, get_or-map-range_with_len}
+use Rattle.flow_design.specs.declared.design.ChannelKind.{ChannelKind}
+use Rattle.flow_design.specs.declared.design.ChannelKind.TheVariants.{Source, Sink, Fifo}
+use Rattle.flow_design.specs.declared.limits.TheConstants.{FIFO_DEPTH}
+use Rattle.flow_design.specs.declared.plan.Plan.{Plan}
+use Rattle.flow_design.specs.declared.state.Element.{Element}
+use Rattle.flow_design.specs.Plans.{is_fifo, kind_at}
+use Rattle.flow_design.specs.StaticRules.{AreEntriesSound, FitsEngine}
+use Rattle.lockstep_defs.specs.Channels.{contents_of}
+use Rattle.lockstep_defs.specs.Lockstep.{state}
+use Rattle.lockstep_defs.specs.Report.{report}
+use Rattle.fifo_fills.specs.Fills.{fill, last_clock}
+use Rattle.depth_advice.specs.Advice.{with_depths, depths_by, AreDepths, wide, greatest, peak, advised}
+use Rattle.depth_advice.proofs.Alike.{NoneFull, NeitherBefore, report_same}
+use Rattle.depth_advice.proofs.Few.{fifo_inside, fill_few}
+use Rattle.depth_advice.proofs.Lists.{greatest_least, greatest_most}
+
+-- ---- one entry per channel
+
+entry_at : (p : Plan) (depth : ℕ → ℕ) (f : ℕ) → f < length p.design.channels
+    → slice_index (depths_by p depth) f ≡ cond (is_fifo (kind_at p f)) (depth f) 0
+entry_at p depth f l =
+    get_or-map-range_with_len (λ g. cond (is_fifo (kind_at p g)) (depth g) 0) 0 (length p.design.channels) f f 0 l (zero-add f)
+
+pub fifo_entry : (p : Plan) (depth : ℕ → ℕ) (f : ℕ) → is_fifo (kind_at p f) ≡ true → slice_index (depths_by p depth) f ≡ depth f
+fifo_entry p depth f e = entry_at p depth f (fifo_inside p f e) ∙ cond-true (is_fifo (kind_at p f)) (depth f) 0 e
+
+pub count_entries : (p : Plan) (depth : ℕ → ℕ) → length (depths_by p depth) ≡ length p.design.channels
+count_entries p depth = length-map-range_with_len (λ g. cond (is_fifo (kind_at p g)) (depth g) 0) 0 (length p.design.channels)
+
+other_entry : (p : Plan) (depth : ℕ → ℕ) (f : ℕ) → is_fifo (kind_at p f) ≡ false → slice_index (depths_by p depth) f ≡ 0
+other_entry p depth f e = elim (cases_lt f (length p.design.channels)) [
+  | inl l ↦ entry_at p depth f l ∙ cond-false (is_fifo (kind_at p f)) (depth f) 0 e
+  | inr l ↦ let past : length (depths_by p depth) ≤ f = omega (arith, count_entries p depth) in get_or_past (depths_by p depth) f 0 past
+]
+
+pub are_depths : (p : Plan) (depth : ℕ → ℕ) → ((f : ℕ) → is_fifo (kind_at p f) ≡ true → (1 ≤ depth f) × (depth f ≤ FIFO_DEPTH))
+    → AreDepths p (depths_by p depth)
+are_depths p depth h = record {
+  count = count_entries p depth;
+  least = λ f e. subst (λ (n : ℕ). 1 ≤ n) (sym (fifo_entry p depth f e)) (h f e).0;
+  most = λ f e. subst (λ (n : ℕ). n ≤ FIFO_DEPTH) (sym (fifo_entry p depth f e)) (h f e).1;
+  others = other_entry p depth;
+}
+
+-- ---- a plan with depths is one that the engine takes
+
+new_entries : (k : ChannelKind) (inputs : List ℕ) (old depth : ℕ) → AreEntriesSound k inputs old
+    → (is_fifo k ≡ true → 1 ≤ depth) → (is_fifo k ≡ true → depth ≤ FIFO_DEPTH) → (is_fifo k ≡ false → depth ≡ 0)
+    → AreEntriesSound k inputs depth
+new_entries Source inputs old depth h least most none = none refl
+new_entries Sink inputs old depth h least most none = (h.0, none refl)
+new_entries (Fifo declared delay) inputs old depth h least most none =
+    let (empty, low, high, some, few) = h in (empty, least refl, most refl, some, few)
+
+pub depths_fit : (p : Plan) → FitsEngine p → (ds : List ℕ) → AreDepths p ds → FitsEngine (with_depths p ds)
+depths_fit p h ds a = record {
+  channel_count = h.channel_count;
+  module_count = h.module_count;
+  inputs = h.inputs;
+  depths = a.count;
+  input_count = h.input_count;
+  channels = λ f l. let k = h.channels f l in record {
+    name = k.name;
+    popping = k.popping;
+    pushing = k.pushing;
+    entries = new_entries (kind_at p f) _ (slice_index p.depths f) (slice_index ds f) k.entries (a.least f) (a.most f) (a.others f);
+  };
+  modules = h.modules;
+  some_cycles = h.some_cycles;
+  cycles = h.cycles;
+  some_operations = h.some_operations;
+  operations = h.operations;
+}
+
+pub wide_depths : (p : Plan) → AreDepths p (depths_by p (λ f. FIFO_DEPTH))
+wide_depths p = are_depths p (λ f. FIFO_DEPTH) (λ f e. (omega arith, omega arith))
+
+pub wide_fits : (p : Plan) → FitsEngine p → FitsEngine (wide p)
+wide_fits p h = depths_fit p h (depths_by p (λ f. FIFO_DEPTH)) (wide_depths p)
+
+-- ---- peaks
+
+pub fill_below_peak : (p : Plan) (f c : ℕ) → c ≤ last_clock p → fill p f c ≤ peak p f
+unfolding peak
+fill_below_peak p f c l = greatest_least (fill p f) (last_clock p) c l
+
+pub peak_few : (p : Plan) → FitsEngine p → (f : ℕ) → is_fifo (kind_at p f) ≡ true → peak p f ≤ p.ops
+unfolding peak
+peak_few p h f e = greatest_most (fill p f) (last_clock p) p.ops (λ c l. fill_few p h f c e)
+
+-- ---- advised depths
+
+pub advised_depths : (p : Plan) → FitsEngine p → AreDepths p (advised p)
+advised_depths p h = are_depths p (λ f. peak (wide p) f + 1) (λ f e.
+    let few = peak_few (wide p) (wide_fits p h) f e in
+    let limit = h.operations in
+    (omega arith, omega arith))
+
+-- a channel that has fewer elements than its depth is not full
+none_full : (p : Plan) (contents : List (List Element))
+    → ((f : ℕ) → is_fifo (kind_at p f) ≡ true → length (contents_of contents f) < slice_index p.depths f) → NoneFull p contents
+none_full p contents h f = elim (cases_Bool (is_fifo (kind_at p f))) [
+  | inl e ↦ rw e (lt-leb (slice_index p.depths f) (length (contents_of contents f)) (h f e))
+  | inr e ↦ rw e refl
+]
+
+-- by their fills in this clock
+fills_below : (p : Plan) (ds : List ℕ) (c : ℕ) → ((f : ℕ) → is_fifo (kind_at p f) ≡ true → fill p f c < slice_index ds f)
+    → NoneFull (with_depths p ds) (state p c).contents
+unfolding fill
+fills_below p ds c h = none_full (with_depths p ds) (state p c).contents h
+
+neither_full : (p : Plan) → FitsEngine p → NeitherBefore (wide p) (advised p) (suc (last_clock (wide p)))
+neither_full p h c l =
+    let q = wide p in
+    let fits = wide_fits p h in
+    let limit = h.operations in (
+      fills_below q q.depths c (λ f e.
+          let few = fill_few q fits f c e in
+          let deep = fifo_entry p (λ g. FIFO_DEPTH) f e in
+          omega arith),
+      fills_below q (advised p) c (λ f e.
+          let below = fill_below_peak q f c (omega arith) in
+          let deep = fifo_entry p (λ g. peak q g + 1) f e in
+          omega arith),
+    )
+
+pub never_blocks : (p : Plan) → FitsEngine p → report (with_depths p (advised p)) ≡ report (wide p)
+never_blocks p h = report_same (wide p) (advised p) (neither_full p h)

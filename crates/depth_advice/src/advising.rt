@@ -1,0 +1,75 @@
+//! The advice on the depths of a plan's FIFOs.
+ghost use Rattle.std.specs.Prelude.{◌≡◌, ◌+◌, ◌<◌, IfOk};
+ghost use Rattle.flow_design.specs.StaticRules.{FitsEngine};
+ghost use Rattle.lockstep_defs.specs.Report as lockstep;
+ghost use Rattle.event_timing.specs.Actions.{IsFinal};
+ghost use Rattle.timing_bridge.specs.Designs.{design};
+ghost use Rattle.sim_core.specs.Views.{theory_of};
+ghost use Rattle.depth_advice.specs.Advice.{with_depths, depths_by, peak, wide, advised, AreDepths, AsksNothing, AreFastest};
+
+use crate::peaks::{depths_above, find_peaks};
+use crate::widening::widen;
+use depth_session::{Core, Runner};
+use flow_design::{Plan, Report};
+use flow_word::{OutOfMemory, Words};
+use std::alloc::Global;
+use std::sync::Wait;
+use std::thread::Threads;
+
+/// What a plan does where no FIFO blocks, and depths with which none does.
+pub struct Advice {
+    /// The report of the plan with each FIFO as deep as the language allows.
+    pub report: Report,
+    /// One entry per channel: the advised depth of a FIFO, in elements, and 0 of the other channels.
+    pub depths: Words,
+}
+
+impl Drop for Advice {
+    fn drop(self) {
+        let Advice {
+            report: _report,
+            depths: _depths,
+        } = self;
+    }
+}
+
+/// Depths with which no FIFO of the plan ever blocks: of each FIFO one more than the most elements that it holds in any clock up to
+/// the verdict's where it is as deep as the language allows. It is not said that they are the least such depths.
+///
+/// The plan with these depths has the report of the plan with the greatest ones. Where no operation is a query and any depths lead to
+/// an end, these lead to one that is as early.
+///
+/// It is one run of the runner, whether there is memory or not. It takes memory for that run, for its report with the events, and
+/// for a number of each channel and each module. An error leaves nothing, and the plan is gone.
+pub fn advise<R: Threads + Wait + Sync, U: Runner>(
+    rt: &R,
+    alloc: Global,
+    mut plan: Plan,
+    runner: &mut U,
+) -> Result<Advice, OutOfMemory>
+    requires { FitsEngine plan }
+    ensures report { IfOk result (λ advice. advice.report ≡ lockstep.report (wide plan)) }
+    ensures depths { IfOk result (λ advice. advice.depths ≡ advised plan) }
+    ensures within { IfOk result (λ advice. AreDepths plan advice.depths) }
+    ensures never_block { IfOk result (λ advice. lockstep.report (with_depths plan advice.depths) ≡ advice.report) }
+    ensures fastest { AsksNothing plan → IfOk result (λ advice. AreFastest plan advice.depths) }
+    ensures counted { U.made runner.old < u64.MAX → U.made runner.new ≡ U.made runner.old + 1 }
+{
+    widen(&mut plan);
+    let core = runner.run_plan(rt, alloc, plan)?;
+    read_advice(alloc, &core)
+}
+
+/// The report of a final core, and depths above the peaks of its plan's FIFOs.
+fn read_advice(alloc: Global, core: &Core) -> Result<Advice, OutOfMemory>
+    requires fits { FitsEngine core.now.plan }
+    requires done { IsFinal (design core.now.plan) core.now.plan.cycles (theory_of core.now) }
+    ensures report { IfOk result (λ advice. advice.report ≡ lockstep.report core.now.plan) }
+    ensures depths { IfOk result (λ advice. advice.depths ≡ depths_by core.now.plan (λ f. peak core.now.plan f + 1)) }
+{
+    let plan = core.plan();
+    let report = core.report(alloc, true)?;
+    let peaks = find_peaks(alloc, plan, &report)?;
+    let depths = depths_above(alloc, plan, peaks.as_slice())?;
+    Ok(Advice { report, depths })
+}

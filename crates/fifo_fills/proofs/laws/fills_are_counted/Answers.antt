@@ -1,0 +1,12 @@
+use Rattle.fifo_fills.proofs.Counting.{counted, within_depth}
+use Rattle.fifo_fills.proofs.Ending.{last_within}
+use Rattle.fifo_fills.proofs.laws.fills_are_counted.Goals as goal
+
+pub returns-clause-counted : goal.returns-clause-counted
+returns-clause-counted c = counted
+
+pub returns-clause-within : goal.returns-clause-within
+returns-clause-within c = within_depth
+
+pub returns-clause-last : goal.returns-clause-last
+returns-clause-last c = last_within

@@ -1,0 +1,39 @@
+-- How many elements each FIFO holds in each clock.
+use Rattle.std.specs.Prelude.{ℕ, ◌≡◌, ◌<◌, ◌≤◌, List, length, map, filter}
+use Rattle.std.specs.List.{range_with_len}
+use Rattle.flow_word.specs.declared.access.Side.{Side}
+use Rattle.flow_design.specs.declared.plan.Plan.{Plan}
+use Rattle.flow_design.specs.Plans.{is_fifo, kind_at}
+use Rattle.lockstep_defs.specs.Channels.{moved, contents_of}
+use Rattle.lockstep_defs.specs.Lockstep.{state, history}
+use Rattle.lockstep_defs.specs.Verdict.{verdict, clock_of}
+
+-- the numbers of the channels that are FIFOs, in order of declaration
+abbrev pub fifos : Plan → List ℕ
+fifos p = filter (λ f. is_fifo (kind_at p f)) (range_with_len 0 (length p.design.channels))
+
+-- how many elements channel f holds in a clock, those under way included
+unfoldable pub fill : Plan → ℕ → ℕ → ℕ
+fill p f clock = length (contents_of (state p clock).contents f)
+
+-- what each FIFO holds in a clock
+abbrev pub fills : Plan → ℕ → List ℕ
+fills p clock = map (λ f. fill p f clock) (fifos p)
+
+-- the clock of the verdict
+abbrev pub last_clock : Plan → ℕ
+last_clock p = clock_of (verdict p)
+
+-- how many elements were popped off channel f, or pushed on it, before a clock
+abbrev pub moved_before : Plan → Side → ℕ → ℕ → ℕ
+moved_before p side f clock = length (moved side f (history p clock))
+
+-- from the first clock to the second, both included, each FIFO holds as much as in the first
+abbrev pub AreSteady : Plan → ℕ → ℕ → Type 0
+AreSteady p first last = (clock : ℕ) → first ≤ clock → clock ≤ last → fills p clock ≡ fills p first
+
+-- a later clock, at most the verdict's, up to which the fills do not change
+pub record IsNextClock (p : Plan) (clock next : ℕ) : Type 0 where
+  pub later : clock < next
+  pub within : next ≤ last_clock p
+  pub steady : (between : ℕ) → clock ≤ between → between < next → fills p between ≡ fills p clock

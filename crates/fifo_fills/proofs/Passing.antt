@@ -334,7 +334,7 @@ done_is p n a l is = by_test (is_blocking a.1.request.kind) refl
 
 -- ---- the start
 
-counted_numbers : (kind : ℕ → ChannelKind) (k : ℕ) (cs : List Channel)
+pub counted_numbers : (kind : ℕ → ChannelKind) (k : ℕ) (cs : List Channel)
     → ((i : ℕ) → i < length cs → kind (k + i) ≡ (get_or cs i no_channel).kind)
     → length (filter (λ f. is_fifo (kind f)) (range_with_len k (length cs))) ≡ length (filter (λ (c : Channel). is_fifo c.kind) cs)
 counted_numbers kind k [] h = refl

@@ -1,0 +1,5 @@
+pub mod BinaryLemmas
+pub mod LineLemmas
+pub mod Instants
+pub mod Telling
+pub mod Waves

@@ -1,0 +1,4 @@
+pub mod Binary
+pub mod Wave
+pub mod WaveText
+pub mod Told

@@ -1,0 +1,62 @@
+-- The wave of a plan: how many elements each FIFO holds, and where that changes.
+use Rattle.std.specs.Prelude.{ℕ, ◌-◌, ◌==◌, ◌&&◌, Bool, true, false, not, nat_lt, if◌then◌else◌, List, [], ◌∷◌, ◌++◌, map, filter, length, slice_index}
+use Rattle.std.specs.List.{flat_map, range_with_len}
+use Rattle.flow_design.specs.declared.design.Channel.{Channel}
+use Rattle.flow_design.specs.declared.plan.Plan.{Plan}
+use Rattle.flow_design.specs.Plans.{is_fifo}
+use Rattle.fifo_fills.specs.Fills.{fills, last_clock}
+
+-- the FIFO of this number, from 0 in order of declaration, holds this many elements now
+pub record Change : Type 0 where
+  pub fifo : ℕ
+  pub fill : ℕ
+
+-- what changes in a clock
+pub record Instant : Type 0 where
+  pub clock : ℕ
+  pub changes : List Change
+
+-- FIFOs by their names, which are all empty in clock 0, and what changes later
+pub record Wave : Type 0 where
+  pub names : List (List ℕ)
+  pub later : List Instant
+
+-- ---- the wave of a plan
+
+-- the names of the FIFOs, in order of declaration
+abbrev pub fifo_names : List Channel → List (List ℕ)
+fifo_names channels = map (λ (c : Channel). c.name) (filter (λ (c : Channel). is_fifo c.kind) channels)
+
+-- the FIFO of this number holds another number of elements in the second list than in the first
+abbrev pub differs : List ℕ → List ℕ → ℕ → Bool
+differs before now i = not (slice_index now i == slice_index before i)
+
+-- the FIFOs that differ, with what they hold now
+abbrev pub changes_between : List ℕ → List ℕ → List Change
+changes_between before now =
+    map (λ i. record { fifo = i; fill = slice_index now i }) (filter (differs before now) (range_with_len 0 (length now)))
+
+-- whether a list has an element
+abbrev pub has_some : {X : Type 0} → List X → Bool
+has_some [] = false
+has_some (x ∷ xs) = true
+
+-- nothing where nothing changes
+abbrev pub instant_of : ℕ → List Change → List Instant
+instant_of clock [] = []
+instant_of clock (x ∷ xs) = record { clock = clock; changes = x ∷ xs } ∷ []
+
+-- what is other in a clock than in the clock before
+abbrev pub instant_at : Plan → ℕ → List Instant
+instant_at p clock = instant_of clock (changes_between (fills p (clock - 1)) (fills p clock))
+
+-- the clocks up to this one in which some fill is other than in the clock before
+unfoldable pub instants_to : Plan → ℕ → List Instant
+instants_to p clock = flat_map (instant_at p) (range_with_len 1 clock)
+
+-- the last clock, where it is above 0 and nothing changes in it
+abbrev pub closing : Plan → ℕ → List Instant
+closing p last = if nat_lt 0 last && not (has_some (instant_at p last)) then record { clock = last; changes = [] } ∷ [] else []
+
+unfoldable pub wave_of : Plan → Wave
+wave_of p = record { names = fifo_names p.design.channels; later = instants_to p (last_clock p) ++ closing p (last_clock p) }

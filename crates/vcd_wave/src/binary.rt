@@ -1,0 +1,16 @@
+//! Binary digits.
+ghost use Rattle.std.specs.Prelude.{◌≡◌, ◌++◌, OnOk};
+ghost use Rattle.vcd_wave.specs.Binary.{binary};
+
+use flow_word::{List, OutOfMemory};
+
+/// Adds a number in binary digits, with no leading zero.
+#[tactic(auto, using(crate::proofs::BinaryLemmas::binary_small, crate::proofs::BinaryLemmas::binary_step))]
+pub fn push_binary(text: &mut List<u8>, number: u64) -> Result<(), OutOfMemory>
+    ensures { OnOk result (text.new ≡ text.old ++ binary number) }
+{
+    if number > 1 {
+        push_binary(text, number / 2)?;
+    }
+    text.push(b'0' + (number % 2) as u8)
+}

@@ -1,0 +1,128 @@
+//! The lines of a wave.
+ghost use Rattle.std.specs.Prelude.{◌≡◌, ◌∷◌, ◌++◌, decimal, map, length, OnOk, IfOk};
+ghost use Rattle.std.specs.List.{flat_map, enumerate_from};
+ghost use Rattle.flow_design.specs.Plans.{is_fifo};
+ghost use Rattle.report_text.specs.Lines.{line, text_of_lines};
+ghost use Rattle.vcd_wave.specs.Wave.{fifo_names, changes_between, has_some, instant_of};
+ghost use Rattle.vcd_wave.specs.WaveText.{code_of, var_tokens, time_tokens, change_tokens, header_lines, opening, instant_lines};
+
+use crate::binary::push_binary;
+use flow_design::{Channel, ChannelKind};
+use flow_word::{List, OutOfMemory};
+use report_text::{push_number, push_token};
+
+/// Whether a channel is a FIFO.
+fn is_fifo(kind: ChannelKind) -> bool
+    ensures { result ≡ is_fifo kind }
+{
+    matches!(kind, ChannelKind::Fifo(_, _))
+}
+
+/// Adds a space and the code of the FIFO with this number.
+fn push_code(text: &mut List<u8>, fifo: u64) -> Result<(), OutOfMemory>
+    ensures { OnOk result (text.new ≡ text.old ++ 32 ∷ code_of fifo) }
+{
+    text.extend_from_slice(b" f")?;
+    push_number(text, fifo)
+}
+
+/// Adds the line that declares a FIFO.
+#[tactic(auto, using(report_text::proofs::LineLemmas::line_of_four))]
+fn print_var(text: &mut List<u8>, fifo: u64, name: &[u8]) -> Result<(), OutOfMemory>
+    ensures { OnOk result (text.new ≡ text.old ++ line (var_tokens (fifo, name.now))) }
+{
+    text.extend_from_slice(b"$var wire 32")?;
+    push_code(text, fifo)?;
+    push_token(text, name)?;
+    push_token(text, b"$end")?;
+    text.push(b'\n')
+}
+
+/// Adds a line for each FIFO among the channels, and returns how many there are.
+fn print_vars(text: &mut List<u8>, channels: &[Channel]) -> Result<u64, OutOfMemory>
+    ensures text { OnOk result (text.new ≡ text.old ++ text_of_lines (map var_tokens (enumerate_from 0 (fifo_names channels.now)))) }
+    ensures count { IfOk result (λ count. count ≡ length (fifo_names channels.now)) }
+{
+    let mut count = 0;
+    for channel in channels {
+        if is_fifo(channel.kind) {
+            print_var(text, count, channel.name.bytes())?;
+            count += 1;
+        }
+    }
+    Ok(count)
+}
+
+/// Adds all lines before the first time, and returns how many FIFOs there are.
+pub fn print_header(text: &mut List<u8>, channels: &[Channel]) -> Result<u64, OutOfMemory>
+    ensures text { OnOk result (text.new ≡ text.old ++ text_of_lines (header_lines (fifo_names channels.now))) }
+    ensures count { IfOk result (λ count. count ≡ length (fifo_names channels.now)) }
+{
+    text.extend_from_slice(b"$timescale 1 ns $end\n$scope module flow $end\n")?;
+    let count = print_vars(text, channels)?;
+    text.extend_from_slice(b"$upscope $end\n$enddefinitions $end\n")?;
+    Ok(count)
+}
+
+/// Adds the line of a clock.
+pub fn print_time(text: &mut List<u8>, clock: u64) -> Result<(), OutOfMemory>
+    ensures { OnOk result (text.new ≡ text.old ++ line (time_tokens clock)) }
+{
+    text.push(b'#')?;
+    push_number(text, clock)?;
+    text.push(b'\n')
+}
+
+/// Adds the line of a change.
+fn print_change(text: &mut List<u8>, fifo: u64, fill: u64) -> Result<(), OutOfMemory>
+    ensures { OnOk result (text.new ≡ text.old ++ line (change_tokens (record { fifo = fifo; fill = fill }))) }
+{
+    text.push(b'b')?;
+    push_binary(text, fill)?;
+    push_code(text, fifo)?;
+    text.push(b'\n')
+}
+
+/// Adds clock 0, in which so many FIFOs are empty.
+pub fn print_opening(text: &mut List<u8>, count: u64) -> Result<(), OutOfMemory>
+    ensures { OnOk result (text.new ≡ text.old ++ text_of_lines (instant_lines (opening count))) }
+{
+    print_time(text, 0)?;
+    for fifo in 0..count {
+        print_change(text, fifo, 0)?;
+    }
+    Ok(())
+}
+
+/// Adds the lines of the FIFOs that hold another number of elements now than before.
+fn print_changes(text: &mut List<u8>, before: &[u64], now: &[u64]) -> Result<(), OutOfMemory>
+    requires { length before.now ≡ length now.now }
+    ensures { OnOk result (text.new ≡ text.old ++ text_of_lines (map change_tokens (changes_between before.now now.now))) }
+{
+    for (fifo, fill) in now.iter().enumerate() {
+        if *fill != before[fifo] {
+            print_change(text, fifo as u64, *fill)?;
+        }
+    }
+    Ok(())
+}
+
+/// Adds a clock with its changes, if there is any, and returns whether there is.
+pub fn print_instant(
+    text: &mut List<u8>,
+    clock: u64,
+    before: &[u64],
+    now: &[u64],
+) -> Result<bool, OutOfMemory>
+    requires { length before.now ≡ length now.now }
+    ensures text { OnOk result (text.new
+        ≡ text.old ++ text_of_lines (flat_map instant_lines (instant_of clock (changes_between before.now now.now)))) }
+    ensures some { IfOk result (λ some. some ≡ has_some (changes_between before.now now.now)) }
+{
+    let some = before != now;
+    if some {
+        print_time(text, clock)?;
+        print_changes(text, before, now)?;
+    }
+    Ok(some)
+}

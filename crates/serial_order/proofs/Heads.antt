@@ -1,0 +1,104 @@
+-- The first of a list that is made item by item.
+use Rattle.std.proofs.Common.{◌≡◌, ℕ, suc, ◌+◌, ◌<◌, List, [], ◌∷◌, ◌++◌, length, map, drop, get_or, Option, Some, None, Bool, true, false}
+use Rattle.std.proofs.Common.{cond, refl, ◌∙◌, add-one, drop-cons}
+use Rattle.std.specs.List.{filter, flat_map, find, enumerate_from}
+use Rattle.std.specs.Option.{option_or, option_map}
+use Rattle.flow_design.specs.declared.design.Timed.{Timed}
+use Rattle.flow_design.specs.declared.design.Block.{Block}
+use Rattle.flow_design.specs.declared.design.BlockKind.TheVariants.{Loop}
+use Rattle.flow_design.specs.declared.design.Module.{Module}
+use Rattle.serial_order.specs.declared.order.Order.{Order}
+use Rattle.serial_order.specs.declared.order.Used.{Used}
+use Rattle.serial_order.specs.declared.order.Order.TheVariants.{Query, Late, Wide}
+use Rattle.serial_order.specs.Orders.{head, numbers_where, queries_of, is_late, lates_of, is_wide, things_of, wides_of, faults_by}
+use Rattle.serial_order.specs.Orders.{faults_of}
+use Rattle.serial_order.specs.Orders.{all_faults}
+
+-- the numbers of the operations that pass, where the first is number n
+abbrev numbers_from : (Timed → Bool) → ℕ → List Timed → List ℕ
+numbers_from test n ts = map (λ t. t.0) (filter (λ t. test t.1) (enumerate_from n ts))
+
+-- none passes before number n
+abbrev pub NoneBefore : (Timed → Bool) → List Timed → ℕ → Type 0
+NoneBefore test ts n = head (numbers_where test ts) ≡ head (map (λ t. t.0) (filter (λ t. test t.1) (enumerate_from n (drop n ts))))
+
+pub passes_here : (test : Timed → Bool) (ts : List Timed) (n : ℕ) (t : Timed) → n < length ts → t ≡ get_or ts n t → test t ≡ true
+    → NoneBefore test ts n → head (numbers_where test ts) ≡ Some n
+passes_here test ts n t l at passes before = before ∙ rw (drop-cons ts n t l, ← at, passes) refl
+
+pub fails_here : (test : Timed → Bool) (ts : List Timed) (n : ℕ) (t : Timed) → n < length ts → t ≡ get_or ts n t → test t ≡ false
+    → NoneBefore test ts n → NoneBefore test ts (n + 1)
+fails_here test ts n t l at fails before = before ∙ rw (drop-cons ts n t l, ← at, fails, add-one) refl
+
+-- ---- the first of what the blocks have
+
+-- nothing comes of the blocks before number n
+abbrev pub Nothing : (ℕ × Block → List Order) → List Block → ℕ → Type 0
+Nothing of bs n = head (flat_map of (enumerate_from 0 bs)) ≡ head (flat_map of (enumerate_from n (drop n bs)))
+
+head-append : {A : Type 0} (xs ys : List A) → head (xs ++ ys) ≡ option_or (head xs) (head ys)
+head-append [] ys = refl
+head-append (x ∷ xs) ys = refl
+
+pub head-queries : (number : ℕ) (ns : List ℕ) → head (map (Query number) ns) ≡ option_map (Query number) (head ns)
+head-queries number [] = refl
+head-queries number (n ∷ ns) = refl
+
+split_here : (of : ℕ × Block → List Order) (bs : List Block) (n : ℕ) (b : Block) → n < length bs → b ≡ get_or bs n b
+    → Nothing of bs n
+    → head (flat_map of (enumerate_from 0 bs))
+    ≡ option_or (head (of (n, b))) (head (flat_map of (enumerate_from (n + 1) (drop (n + 1) bs))))
+split_here of bs n b l at before =
+    before ∙ rw (drop-cons bs n b l, ← at, add-one) (head-append (of (n, b)) (flat_map of (enumerate_from (suc n) (drop (suc n) bs))))
+
+pub something_here : (of : ℕ × Block → List Order) (bs : List Block) (n : ℕ) (b : Block) (o : Order) → n < length bs → b ≡ get_or bs n b
+    → Nothing of bs n → head (of (n, b)) ≡ Some o → head (flat_map of (enumerate_from 0 bs)) ≡ Some o
+something_here of bs n b o l at before some = split_here of bs n b l at before ∙ rw some refl
+
+pub nothing_here : (of : ℕ × Block → List Order) (bs : List Block) (n : ℕ) (b : Block) → n < length bs → b ≡ get_or bs n b
+    → Nothing of bs n → head (of (n, b)) ≡ None → Nothing of bs (n + 1)
+nothing_here of bs n b l at before none = split_here of bs n b l at before ∙ rw none refl
+
+-- ---- the first fault of a loop
+
+pub head-filter : {A : Type 0} (test : A → Bool) (xs : List A) → head (filter test xs) ≡ find test xs
+head-filter test [] = refl
+head-filter test (x ∷ xs) = by (test x) (head-filter test xs)
+  where
+    by : (t : Bool) → head (filter test xs) ≡ find test xs
+        → head (cond t (x ∷ filter test xs) (filter test xs)) ≡ cond t (Some x) (find test xs)
+    by true rest = refl
+    by false rest = rest
+
+head-map : {A B : Type 0} (f : A → B) (xs : List A) → head (map f xs) ≡ option_map f (head xs)
+head-map f [] = refl
+head-map f (x ∷ xs) = refl
+
+pub head-loop : (channels : ℕ) (m : Module) (number ii again : ℕ) (ops : List Timed)
+    → head (faults_by channels m number ops (Loop ii again))
+    ≡ option_or (option_map (Late number) (head (numbers_where (is_late ii again) ops)))
+    (option_map (Wide number) (find (is_wide ii ops) (things_of channels m)))
+head-loop channels m number ii again ops =
+    head-append (lates_of number ii again ops) (wides_of channels m number ii ops)
+    ∙ rw (
+      head-map (Late number) (numbers_where (is_late ii again) ops),
+      head-map (Wide number) (filter (is_wide ii ops) (things_of channels m)),
+      head-filter (is_wide ii ops) (things_of channels m),
+    ) refl
+
+pub head-all : (channels : ℕ) (m : Module)
+    → head (all_faults channels m)
+    ≡ option_or (head (flat_map queries_of (enumerate_from 0 m.blocks)))
+    (head (flat_map (faults_of channels m) (enumerate_from 0 m.blocks)))
+head-all channels m =
+    head-append (flat_map queries_of (enumerate_from 0 m.blocks)) (flat_map (faults_of channels m) (enumerate_from 0 m.blocks))
+
+pub loop_late : (channels : ℕ) (m : Module) (number ii again : ℕ) (ops : List Timed) (op : ℕ)
+    → head (numbers_where (is_late ii again) ops) ≡ Some op
+    → head (faults_by channels m number ops (Loop ii again)) ≡ Some (Late number op)
+loop_late channels m number ii again ops op e = head-loop channels m number ii again ops ∙ rw e refl
+
+pub loop_wide : (channels : ℕ) (m : Module) (number ii again : ℕ) (ops : List Timed) (o : Option Used)
+    → head (numbers_where (is_late ii again) ops) ≡ None → find (is_wide ii ops) (things_of channels m) ≡ o
+    → head (faults_by channels m number ops (Loop ii again)) ≡ option_map (Wide number) o
+loop_wide channels m number ii again ops o e f = head-loop channels m number ii again ops ∙ rw (e, f) refl

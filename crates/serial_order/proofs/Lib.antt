@@ -1,0 +1,17 @@
+pub mod Alike
+pub mod Applied
+pub mod Ends
+pub mod Exchanges
+pub mod Going
+pub mod Heads
+pub mod Iterations
+pub mod Lists
+pub mod Loops
+pub mod Naming
+pub mod Offsets
+pub mod Outcomes
+pub mod Overlap
+pub mod Runs
+pub mod Serials
+pub mod Theorem
+pub mod Windows

@@ -1,0 +1,111 @@
+-- Which rules a module breaks, in order, and what is answered of it.
+use Rattle.std.specs.Prelude.{ℕ, ◌<◌, ◌≤◌, ◌-◌, ◌^◌, ◌==◌, ◌&&◌, ◌||◌, nat_le, nat_lt, min, max, Bool, List, [], ◌∷◌, ◌++◌, length}
+use Rattle.std.specs.Prelude.{map, filter, flat_map, fold, slice_index_or, Option, Some, None, unwrap_or}
+use Rattle.std.specs.List.{list_any, enumerate_from, range_with_len}
+use Rattle.flow_design.specs.declared.limits.TheConstants.{CHANNELS}
+use Rattle.flow_design.specs.declared.design.BlockKind.{BlockKind}
+use Rattle.flow_design.specs.declared.design.BlockKind.TheVariants.{Plain, Loop}
+use Rattle.flow_design.specs.declared.design.Timed.{Timed}
+use Rattle.flow_design.specs.declared.design.Block.{Block}
+use Rattle.flow_design.specs.declared.design.Module.{Module}
+use Rattle.flow_design.specs.declared.design.Design.{Design}
+use Rattle.flow_design.specs.StaticRules.{IsModuleSound}
+use Rattle.lockstep_defs.specs.Laws.{is_query}
+use Rattle.lockstep_defs.specs.Lockstep.{no_module}
+use Rattle.serial_order.specs.declared.order.Used.{Used}
+use Rattle.serial_order.specs.declared.order.Used.TheVariants.{Register, Memory, Reading, Writing}
+use Rattle.serial_order.specs.declared.order.Order.{Order}
+use Rattle.serial_order.specs.declared.order.Order.TheVariants.{Serial, Query, Late, Wide}
+use Rattle.serial_order.specs.Uses.{writes, is_use}
+
+-- ---- what is asked of a design
+
+abbrev pub module_in : Design → ℕ → Module
+module_in design i = slice_index_or design.modules i no_module
+
+-- the module is there, and it keeps the static rules and the limits; so does the number of channels
+pub record HasModule (design : Design) (i : ℕ) : Type 0 where
+  pub in_range : i < length design.modules
+  pub sound : IsModuleSound (length design.channels) (module_in design i)
+  pub channels : length design.channels ≤ CHANNELS
+
+-- ---- lists
+
+-- the first of a list, if there is one
+abbrev pub head : {A : Type 0} → List A → Option A
+head [] = None
+head (x ∷ xs) = Some x
+
+-- the numbers of the operations that pass a test, in text order
+abbrev pub numbers_where : (Timed → Bool) → List Timed → List ℕ
+numbers_where test ops = map (λ t. t.0) (filter (λ t. test t.1) (enumerate_from 0 ops))
+
+-- ---- no queries
+
+-- the query operations of a block, by the block's number and theirs
+abbrev pub queries_of : ℕ × Block → List Order
+queries_of b = map (Query b.0) (numbers_where (λ t. is_query t.op) (b.1).ops)
+
+-- ---- the loop's register is written early
+
+-- the operation writes the loop's register at an offset of II or more
+abbrev pub is_late : ℕ → ℕ → Timed → Bool
+is_late ii again t = nat_le ii t.offset && writes (Register again) t.op
+
+abbrev pub lates_of : ℕ → ℕ → ℕ → List Timed → List Order
+lates_of number ii again ops = map (Late number) (numbers_where (is_late ii again) ops)
+
+-- ---- iterations use a thing one after the other
+
+-- the offsets at which operations use a thing, in text order
+abbrev pub offsets_of_use : Used → List Timed → List ℕ
+offsets_of_use thing ops = map (λ t. t.offset) (filter (is_use thing) ops)
+
+-- the least of them; the greatest word where there are none
+abbrev pub first_use : Used → List Timed → ℕ
+first_use thing ops = fold min (2 ^ 64 - 1) (offsets_of_use thing ops)
+
+-- the greatest of them; 0 where there are none
+abbrev pub last_use : Used → List Timed → ℕ
+last_use thing ops = fold max 0 (offsets_of_use thing ops)
+
+-- an operation at this offset writes the thing
+abbrev pub is_written_at : ℕ → Used → List Timed → Bool
+is_written_at offset thing ops = list_any (λ t. (t.offset == offset) && writes thing t.op) ops
+
+-- the last offset of use minus the first is more than II, or it is II and an operation at the last writes the thing
+abbrev pub is_wide : ℕ → List Timed → Used → Bool
+is_wide ii ops thing =
+    let reach = last_use thing ops - first_use thing ops in
+    nat_lt ii reach || ((reach == ii) && is_written_at (last_use thing ops) thing ops)
+
+-- all things of a module, by how many there are: registers, memories, and both ends of each channel
+abbrev pub things : ℕ → ℕ → ℕ → List Used
+things registers memories channels =
+    ((map Register (range_with_len 0 registers) ++ map Memory (range_with_len 0 memories)) ++ map Reading (range_with_len 0 channels))
+    ++ map Writing (range_with_len 0 channels)
+
+abbrev pub things_of : ℕ → Module → List Used
+things_of channels m = things (length m.registers) (length m.memories) channels
+
+abbrev pub wides_of : ℕ → Module → ℕ → ℕ → List Timed → List Order
+wides_of channels m number ii ops = map (Wide number) (filter (is_wide ii ops) (things_of channels m))
+
+-- ---- the answer
+
+-- what breaks the rules of loops in a block
+abbrev pub faults_by : ℕ → Module → ℕ → List Timed → BlockKind → List Order
+faults_by channels m number ops Plain = []
+faults_by channels m number ops (Loop ii again) = lates_of number ii again ops ++ wides_of channels m number ii ops
+
+abbrev pub faults_of : ℕ → Module → ℕ × Block → List Order
+faults_of channels m b = faults_by channels m b.0 (b.1).ops (b.1).kind
+
+-- all that breaks the rules: first the queries, and then block by block what breaks the rules of loops
+abbrev pub all_faults : ℕ → Module → List Order
+all_faults channels m =
+    flat_map queries_of (enumerate_from 0 m.blocks) ++ flat_map (faults_of channels m) (enumerate_from 0 m.blocks)
+
+-- the first of it; serial where nothing does
+abbrev pub order_of : Design → ℕ → Order
+order_of design i = unwrap_or (head (all_faults (length design.channels) (module_in design i))) Serial

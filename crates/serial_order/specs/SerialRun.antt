@@ -1,0 +1,105 @@
+-- The serial run of a module: a loop's iterations run one after another, and each channel gives the values of a list.
+use Rattle.std.specs.Prelude.{◌≡◌, ℕ, zero, suc, ◌<◌, ◌++◌, ◌==◌, ◌&&◌, Bool, true, false, not, if◌then◌else◌, IsTrue, List, [], ◌∷◌}
+use Rattle.std.specs.Prelude.{length}
+use Rattle.std.specs.Prelude.{flat_map, slice_index, slice_index_or}
+use Rattle.flow_word.specs.declared.access.Side.TheVariants.{Pop, Push}
+use Rattle.flow_design.specs.declared.design.Block.{Block}
+use Rattle.flow_design.specs.declared.design.Channel.{Channel}
+use Rattle.flow_design.specs.declared.design.Design.{Design}
+use Rattle.flow_design.specs.declared.design.Module.{Module}
+use Rattle.flow_design.specs.declared.plan.Plan.{Plan}
+use Rattle.flow_design.specs.declared.state.ModuleState.{ModuleState}
+use Rattle.flow_design.specs.declared.state.Reply.{Reply}
+use Rattle.flow_design.specs.declared.state.Request.{Request}
+use Rattle.flow_design.specs.Module.{block_of, is_loop}
+use Rattle.lockstep_defs.specs.Machine.{requests, committed, again_of, fresh_temps, followed, opened}
+use Rattle.lockstep_defs.specs.Channels.{Exchange, reply_by, moved_by}
+use Rattle.lockstep_defs.specs.OwnRun.{OwnStep, Own, own, paired}
+use Rattle.serial_order.specs.Orders.{module_in}
+
+-- ---- replies from lists
+
+-- the n-th value of a channel, by a list of values per channel; 0 behind the end of its list
+abbrev pub value_given : List (List ℕ) → ℕ → ℕ → ℕ
+value_given lists f n = slice_index (slice_index_or lists f []) n
+
+-- the reply to a request behind what was done: nothing waits, and a pop behind n pops of its channel gives the n-th value
+abbrev pub given : List (List ℕ) → List Exchange → Request → Reply
+given lists done r = reply_by r.kind true (value_given lists r.channel (length (moved_by Pop r.channel done)))
+
+-- to all requests of a local clock, one behind the other
+abbrev pub all_given : List (List ℕ) → List Exchange → List Request → List Reply
+all_given lists done [] = []
+all_given lists done (r ∷ rs) =
+    let reply = given lists done r in reply ∷ all_given lists (done ++ record { request = r; reply = reply } ∷ []) rs
+
+-- ---- the serial run
+
+-- how far a run has come: the module's state, and what it has done at its channels
+pub record Progress : Type 0 where
+  pub state : ModuleState
+  pub done : List Exchange
+
+-- the only live iteration is of this age
+abbrev pub alone_at : ℕ → ModuleState → ModuleState
+alone_at age s = record s { control = record { block = s.control.block; clock = age; newest = 0; looping = false } }
+
+-- the operations that are due in a local clock commit together
+abbrev pub clock_made : List (List ℕ) → List Channel → Module → ModuleState → List Exchange → Progress
+clock_made lists channels m s done =
+    let asked = requests channels m s in
+    record { state = committed m s (all_given lists done asked); done = done ++ paired asked (all_given lists done asked) }
+
+-- so many offsets of an iteration, which starts with its temps at 0
+unfoldable pub iteration : List (List ℕ) → List Channel → Module → ℕ → Progress → Progress
+iteration lists channels m zero x = record x { state = record x.state { temps = fresh_temps (block_of m x.state) ∷ [] } }
+iteration lists channels m (suc age) x =
+    let y = iteration lists channels m age x in clock_made lists channels m (alone_at age y.state) y.done
+
+-- the loop's register is not 0
+abbrev pub goes_again : Block → ModuleState → Bool
+goes_again b s = is_loop b.kind && not (slice_index s.registers (again_of b.kind) == 0)
+
+-- a loop goes on as long as its register is not 0; then the terminator leads on
+abbrev pub gone_on : Module → ModuleState → ModuleState
+gone_on m s = if goes_again (block_of m s) s then s else followed m (block_of m s).next s
+
+-- one iteration more, with all its offsets; a module that is ended stays
+abbrev pub iterated : List (List ℕ) → List Channel → Module → Progress → Progress
+iterated lists channels m x =
+    if x.state.ended then x
+    else (let y = iteration lists channels m (block_of m x.state).len x in record y { state = gone_on m y.state })
+
+-- the serial run of a module after so many iterations
+unfoldable pub serial : List (List ℕ) → List Channel → Module → ℕ → Progress
+serial lists channels m zero = record { state = opened m; done = [] }
+serial lists channels m (suc n) = iterated lists channels m (serial lists channels m n)
+
+-- ---- an own run on lists
+
+-- the replies to steps are those of the lists, behind what was done before
+abbrev pub AreGiven : List (List ℕ) → List Exchange → List OwnStep → Type 0
+AreGiven lists done [] = Unit {0}
+AreGiven lists done (s ∷ ss) = (s.replies ≡ all_given lists done s.requests) × AreGiven lists (done ++ paired s.requests s.replies) ss
+
+-- what an own run has done
+abbrev pub done_by : Own → List Exchange
+done_by o = flat_map (λ s. paired s.requests s.replies) o.steps
+
+-- ---- serial modules
+
+-- a serial run has come to its end with the results of an own run: on each channel the same pushes in the same order and as many pops,
+-- and the same registers and memories
+pub record EndsAlike (channels : ℕ) (x : Progress) (o : Own) : Type 0 where
+  pub ended : IsTrue x.state.ended
+  pub pushes : (f : ℕ) → f < channels → moved_by Push f x.done ≡ moved_by Push f (done_by o)
+  pub pops : (f : ℕ) → f < channels → length (moved_by Pop f x.done) ≡ length (moved_by Pop f (done_by o))
+  pub registers : x.state.registers ≡ o.state.registers
+  pub memories : x.state.memories ≡ o.state.memories
+
+-- whatever the lists of values: where the module's own run on them comes to its end, the serial run does too, with the same results
+abbrev pub EqualsPlainLoops : Design → ℕ → Type 0
+EqualsPlainLoops design i =
+    (p : Plan) → p.design ≡ design → (lists : List (List ℕ)) (replies : List (List Reply)) (n : ℕ)
+    → AreGiven lists [] (own p i replies n).steps → IsTrue (own p i replies n).state.ended
+    → (k : ℕ) × EndsAlike (length design.channels) (serial lists design.channels (module_in design i) k) (own p i replies n)

@@ -1,0 +1,109 @@
+//! The rules of serial modules: what breaks each of them first.
+ghost use Rattle.std.specs.Prelude.{◌≡◌, ◌<◌, ◌^◌, length, find};
+ghost use Rattle.lockstep_defs.specs.Laws.{is_query};
+ghost use Rattle.serial_order.specs.Orders.{head, numbers_where, is_late, first_use, last_use, is_written_at, is_wide, things};
+
+use crate::order::Used;
+use crate::uses::{is_use, writes};
+use flow_design::{Op, Timed};
+
+/// Whether an operation is a query.
+fn is_query(op: &Op<u32>) -> bool
+    ensures { result ≡ is_query op.now }
+{
+    match op {
+        Op::TryRead(_, _, _) | Op::TryWrite(_, _, _) | Op::Empty(_, _) | Op::Full(_, _) => true,
+        Op::Set(_, _) | Op::Load(_, _, _) | Op::Store(_, _, _) | Op::Read(_, _) | Op::Write(_, _) =>
+            false,
+    }
+}
+
+/// The number of the first query operation of a body.
+pub(crate) fn first_query(ops: &[Timed]) -> Option<u32>
+    requires { length ops.now < 2 ^ 32 }
+    ensures { result ≡ head (numbers_where (λ t. is_query t.op) ops.now) }
+{
+    for (at, timed) in ops.iter().enumerate() {
+        if is_query(&timed.op) {
+            return Some(at as u32);
+        }
+    }
+    None
+}
+
+/// Whether an operation writes the loop's register at an offset of II or more.
+fn is_late(timed: &Timed, ii: u64, again: u32) -> bool
+    ensures { result ≡ is_late ii again timed.now }
+{
+    ii <= timed.offset && writes(&timed.op, Used::Register(again))
+}
+
+/// The number of the first operation that writes the loop's register at an offset of II or more.
+pub(crate) fn first_late(ops: &[Timed], ii: u64, again: u32) -> Option<u32>
+    requires { length ops.now < 2 ^ 32 }
+    ensures { result ≡ head (numbers_where (is_late ii again) ops.now) }
+{
+    for (at, timed) in ops.iter().enumerate() {
+        if is_late(timed, ii, again) {
+            return Some(at as u32);
+        }
+    }
+    None
+}
+
+/// The first and the last offset at which a body uses a thing.
+struct Span {
+    first: u64,
+    last: u64,
+}
+
+/// The span of a thing. Where a body does not use it, it begins behind its end.
+fn span_of(ops: &[Timed], used: Used) -> Span
+    ensures first { result.first ≡ first_use used ops.now }
+    ensures last { result.last ≡ last_use used ops.now }
+{
+    let mut first = u64::MAX;
+    let mut last = 0;
+    for timed in ops {
+        if is_use(timed, used) {
+            first = first.min(timed.offset);
+            last = last.max(timed.offset);
+        }
+    }
+    Span { first, last }
+}
+
+/// Whether an operation at this offset writes a thing.
+fn is_written_at(ops: &[Timed], used: Used, offset: u64) -> bool
+    ensures { result ≡ is_written_at offset used ops.now }
+{
+    ops.iter()
+        .any(|timed| timed.offset == offset && writes(&timed.op, used))
+}
+
+/// Whether the uses of a thing reach over more than II, or over II with a write at the last offset.
+fn is_wide(ops: &[Timed], ii: u64, used: Used) -> bool
+    ensures { result ≡ is_wide ii ops.now used }
+{
+    let Span { first, last } = span_of(ops, used);
+    let reach = last.saturating_sub(first);
+    ii < reach || reach == ii && is_written_at(ops, used, last)
+}
+
+/// The first thing whose uses reach so far, among so many registers, memories and channels.
+pub(crate) fn first_wide(
+    ops: &[Timed],
+    ii: u64,
+    registers: u32,
+    memories: u32,
+    channels: u32,
+) -> Option<Used>
+    ensures { result ≡ find (is_wide ii ops.now) (things registers memories channels) }
+{
+    (0..registers)
+        .map(Used::Register)
+        .chain((0..memories).map(Used::Memory))
+        .chain((0..channels).map(Used::Reading))
+        .chain((0..channels).map(Used::Writing))
+        .find(|used| is_wide(ops, ii, *used))
+}

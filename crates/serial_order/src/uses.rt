@@ -1,0 +1,149 @@
+//! What an operation makes use of.
+ghost use Rattle.std.specs.Prelude.{◌≡◌};
+ghost use Rattle.flow_design.specs.Operations.{places_of, expressions_of, memory_of};
+ghost use Rattle.flow_design.specs.Operations.{port_of, used_port};
+ghost use Rattle.flow_design.specs.StaticRules.{is_port};
+ghost use Rattle.serial_order.specs.Uses.{names, is_named, is_among, is_this, stored_in, writes, is_use};
+
+use crate::order::Used;
+use flow_design::{Expr, Op, Timed};
+use flow_word::{Port, Side};
+
+/// Whether an expression names this register or temp.
+#[tactic(auto, using(crate::proofs::Naming::the_names))]
+fn names(expr: &Expr<u32>, variable: u32) -> bool
+    ensures { result ≡ names variable expr.now }
+{
+    match expr {
+        Expr::Number(_) => false,
+        Expr::Var(at) => *at == variable,
+        Expr::Unary(_, a) | Expr::Sext(_, a) => names(a.get(), variable),
+        Expr::Binary(_, a, b) => names(a.get(), variable) || names(b.get(), variable),
+        Expr::Pick(a, b, c) => {
+            names(a.get(), variable) || names(b.get(), variable) || names(c.get(), variable)
+        }
+    }
+}
+
+/// Whether one of an operation's expressions names it.
+fn is_named(op: &Op<u32>, variable: u32) -> bool
+    ensures { result ≡ is_named variable (expressions_of op.now) }
+{
+    match op {
+        Op::Set(_, a) | Op::Load(_, _, a) | Op::Write(_, a) | Op::TryWrite(_, _, a) => {
+            names(a, variable)
+        }
+        Op::Store(_, a, b) => names(a, variable) || names(b, variable),
+        Op::Read(_, _) | Op::TryRead(_, _, _) | Op::Empty(_, _) | Op::Full(_, _) => false,
+    }
+}
+
+/// Whether an operation writes this register or temp.
+fn is_place(op: &Op<u32>, variable: u32) -> bool
+    ensures { result ≡ is_among variable (places_of op.now) }
+{
+    match op {
+        Op::Set(x, _)
+        | Op::Load(x, _, _)
+        | Op::Read(_, x)
+        | Op::TryWrite(_, x, _)
+        | Op::Empty(_, x)
+        | Op::Full(_, x) => *x == variable,
+        Op::TryRead(_, x, ok) => *x == variable || *ok == variable,
+        Op::Store(_, _, _) | Op::Write(_, _) => false,
+    }
+}
+
+/// The memory of an operation.
+fn memory_of(op: &Op<u32>) -> Option<u32>
+    ensures { result ≡ memory_of op.now }
+{
+    match op {
+        Op::Load(_, memory, _) | Op::Store(memory, _, _) => Some(*memory),
+        Op::Set(_, _)
+        | Op::Read(_, _)
+        | Op::Write(_, _)
+        | Op::TryRead(_, _, _)
+        | Op::TryWrite(_, _, _)
+        | Op::Empty(_, _)
+        | Op::Full(_, _) => None,
+    }
+}
+
+/// The memory that an operation writes.
+fn stored_in(op: &Op<u32>) -> Option<u32>
+    ensures { result ≡ stored_in op.now }
+{
+    match op {
+        Op::Store(memory, _, _) => Some(*memory),
+        _ => None,
+    }
+}
+
+/// The port at which an operation stands.
+fn port_of(op: &Op<u32>) -> Option<Port>
+    ensures { result ≡ port_of op.now }
+{
+    match op {
+        Op::Read(channel, _) | Op::TryRead(channel, _, _) | Op::Empty(channel, _) => Some(Port {
+            side: Side::Pop,
+            channel: *channel,
+        }),
+        Op::Write(channel, _) | Op::TryWrite(channel, _, _) | Op::Full(channel, _) => Some(Port {
+            side: Side::Push,
+            channel: *channel,
+        }),
+        Op::Set(_, _) | Op::Load(_, _, _) | Op::Store(_, _, _) => None,
+    }
+}
+
+/// The port at which an operation pops or pushes.
+fn used_port(op: &Op<u32>) -> Option<Port>
+    ensures { result ≡ used_port op.now }
+{
+    match op {
+        Op::Empty(_, _) | Op::Full(_, _) => None,
+        _ => port_of(op),
+    }
+}
+
+/// Whether a port is this side of this channel.
+fn is_end(port: Option<Port>, side: Side, channel: u32) -> bool
+    ensures { result ≡ is_port (record { side = side; channel = channel }) port }
+{
+    port == Some(Port { side, channel })
+}
+
+/// Whether the number is there, and is this one.
+fn is_this(number: Option<u32>, wanted: u32) -> bool
+    ensures { result ≡ is_this wanted number }
+{
+    number == Some(wanted)
+}
+
+/// Whether an operation writes a thing: a pop writes the reading end of its channel, and a push the writing end.
+pub(crate) fn writes(op: &Op<u32>, used: Used) -> bool
+    ensures { result ≡ writes used op.now }
+{
+    match used {
+        Used::Register(register) => is_place(op, register),
+        Used::Memory(memory) => is_this(stored_in(op), memory),
+        Used::Reading(channel) => is_end(used_port(op), Side::Pop, channel),
+        Used::Writing(channel) => is_end(used_port(op), Side::Push, channel),
+    }
+}
+
+/// Whether a scheduled operation reads a thing, writes it or has it as its guard.
+pub(crate) fn is_use(timed: &Timed, used: Used) -> bool
+    ensures { result ≡ is_use used timed.now }
+{
+    let op = &timed.op;
+    match used {
+        Used::Register(register) => {
+            is_this(timed.guard, register) || is_named(op, register) || is_place(op, register)
+        }
+        Used::Memory(memory) => is_this(memory_of(op), memory),
+        Used::Reading(channel) => is_end(port_of(op), Side::Pop, channel),
+        Used::Writing(channel) => is_end(port_of(op), Side::Push, channel),
+    }
+}

@@ -1,5 +1,6 @@
 pub mod Answering
 pub mod Bests
+pub mod FurtherLines
 pub mod Limits
 pub mod PointLines
 pub mod Reports

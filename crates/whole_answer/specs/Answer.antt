@@ -14,7 +14,7 @@ use Rattle.whole_answer.specs.declared.answer.Answer.{Answer}
 use Rattle.whole_answer.specs.Made.{refused_words, refused, made, generated}
 use Rattle.whole_answer.specs.declared.simulator.Simulator.TheVariants as by
 use Rattle.whole_answer.specs.declared.task.Task.{Task}
-use Rattle.whole_answer.specs.declared.task.Task.TheVariants.{Simulate, Print, Summarize, Sweep}
+use Rattle.whole_answer.specs.declared.task.Task.TheVariants.{Simulate, Print, Summarize, Advise, Wave, Order, Sweep}
 use Rattle.whole_answer.specs.declared.status.Status.{Status}
 use Rattle.whole_answer.specs.declared.status.Status.TheVariants.{ReadFault, WriteFault, Memory}
 
@@ -47,9 +47,9 @@ AnswersCommand (Some (command.Clock o)) bytes answer = AnswersText (Simulate by.
 AnswersCommand (Some Check) bytes answer = AnswersText Print bytes answer
 -- the session of the seed takes the place of the input
 AnswersCommand (Some (Gen seed modules)) bytes answer = answer ≡ generated seed modules
-AnswersCommand (Some (command.Advise o)) bytes answer = answer ≡ refused_words
-AnswersCommand (Some (command.Wave o)) bytes answer = answer ≡ refused_words
-AnswersCommand (Some command.Order) bytes answer = answer ≡ refused_words
+AnswersCommand (Some (command.Advise o)) bytes answer = AnswersText (Advise o) bytes answer
+AnswersCommand (Some (command.Wave o)) bytes answer = AnswersText (Wave o) bytes answer
+AnswersCommand (Some command.Order) bytes answer = AnswersText Order bytes answer
 AnswersCommand (Some (command.Sweep lo hi o)) bytes answer = AnswersText (Sweep lo hi o) bytes answer
 
 -- the answer to the words, with these bytes as the input
@@ -62,6 +62,9 @@ takes_input (Some (Run o)) = true
 takes_input (Some (command.Alone o)) = true
 takes_input (Some (command.Clock o)) = true
 takes_input (Some Check) = true
+takes_input (Some (command.Advise o)) = true
+takes_input (Some (command.Wave o)) = true
+takes_input (Some command.Order) = true
 takes_input (Some (command.Sweep lo hi o)) = true
 takes_input command = false
 
@@ -72,6 +75,9 @@ abbrev pub IsSound : Task → Type 0
 IsSound (Simulate simulator o) = AreLimits o
 IsSound Print = Unit {0}
 IsSound (Summarize seed modules) = Unit {0}
+IsSound (Advise o) = AreLimits o
+IsSound (Wave o) = AreLimits o
+IsSound Order = Unit {0}
 IsSound (Sweep lo hi o) = (1 ≤ lo) × (lo ≤ hi) × (hi ≤ 64) × AreLimits o
 
 -- ---- what a result tells

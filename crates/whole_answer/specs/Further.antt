@@ -1,19 +1,80 @@
 -- What the commands that look further than a simulation answer.
-use Rattle.std.specs.Prelude.{ℕ, ◌<◌, ◌==◌, ◌&&◌, ◌||◌, not, Bool, nat_lt, if◌then◌else◌, List, [], ◌∷◌, ◌++◌, Option, None, Some}
-use Rattle.std.specs.Prelude.{codes, decimal, find, length, map, sum}
-use Rattle.std.specs.List.{list_any}
+use Rattle.std.specs.Prelude.{ℕ, ◌==◌, ◌&&◌, ◌||◌, not, Bool, nat_lt, if◌then◌else◌, List, [], ◌∷◌, ◌++◌, Option, None, Some}
+use Rattle.std.specs.Prelude.{codes, decimal, filter, find, length, map, sum}
+use Rattle.std.specs.List.{list_any, range_with_len, zip}
+use Rattle.flow_design.specs.declared.design.Channel.{Channel}
+use Rattle.flow_design.specs.declared.design.Design.{Design}
 use Rattle.flow_design.specs.declared.plan.Plan.{Plan}
 use Rattle.flow_design.specs.declared.report.Verdict.{Verdict}
 use Rattle.flow_design.specs.declared.report.Verdict.TheVariants as verdict
+use Rattle.flow_design.specs.Plans.{is_fifo}
+use Rattle.lockstep_defs.specs.Report.{report}
 use Rattle.lockstep_defs.specs.Verdict.{clock_of}
-use Rattle.report_text.specs.Lines.{line, text_of_lines, Token}
+use Rattle.serial_order.specs.declared.order.Used.{Used}
+use Rattle.serial_order.specs.declared.order.Used.TheVariants as used
+use Rattle.serial_order.specs.declared.order.Order.{Order}
+use Rattle.serial_order.specs.declared.order.Order.TheVariants as order
+use Rattle.serial_order.specs.Orders.{order_of}
 use Rattle.depth_sweep.specs.declared.point.Point.{Point}
 use Rattle.depth_sweep.specs.declared.shape.TheConstants.{MOST_POINTS}
 use Rattle.depth_sweep.specs.Grid.{grid_of, point}
+use Rattle.depth_advice.specs.Advice.{advised, wide}
+use Rattle.vcd_wave.specs.Wave.{wave_of}
+use Rattle.vcd_wave.specs.WaveText.{wave_text}
+use Rattle.report_text.specs.Lines.{line, text_of_lines, Token, verdict_tokens}
+use Rattle.report_text.specs.ReportText.{module_name}
 use Rattle.whole_answer.specs.declared.answer.Answer.{Answer}
 use Rattle.whole_answer.specs.declared.status.Status.{Status}
 use Rattle.whole_answer.specs.declared.status.Status.TheVariants.{Done, Text}
 use Rattle.whole_answer.specs.Job.{is_done, status_of}
+
+-- ---- `advise`
+
+-- `depth NAME D` for each FIFO, in order of declaration, by the names of the channels and a depth for each
+abbrev pub depth_tokens : Channel × ℕ → List Token
+depth_tokens entry = codes "depth" ∷ entry.0.name ∷ decimal entry.1 ∷ []
+
+abbrev pub depth_lines : List Channel → List ℕ → List (List Token)
+depth_lines channels depths = map depth_tokens (filter (λ entry. is_fifo entry.0.kind) (zip channels depths))
+
+-- the verdict with room for all, and the depths that never block
+unfoldable pub advice : Plan → Answer
+advice p = record {
+  text = text_of_lines ((codes "advise" ∷ []) ∷ verdict_tokens (report (wide p)).verdict ∷ depth_lines p.design.channels (advised p));
+  status = status_of (report (wide p)).verdict;
+}
+
+-- ---- `wave`
+
+-- the wave, with the status of the verdict
+unfoldable pub waved : Plan → Answer
+waved p = record { text = wave_text (wave_of p); status = status_of (report p).verdict }
+
+-- ---- `order`
+
+abbrev pub used_words : Used → List Token
+used_words (used.Register n) = codes "register" ∷ decimal n ∷ []
+used_words (used.Memory n) = codes "memory" ∷ decimal n ∷ []
+used_words (used.Reading n) = codes "reading" ∷ decimal n ∷ []
+used_words (used.Writing n) = codes "writing" ∷ decimal n ∷ []
+
+-- `serial`, `query B O`, `late B O` or `wide B KIND N`
+abbrev pub order_words : Order → List Token
+order_words order.Serial = codes "serial" ∷ []
+order_words (order.Query b o) = codes "query" ∷ decimal b ∷ decimal o ∷ []
+order_words (order.Late b o) = codes "late" ∷ decimal b ∷ decimal o ∷ []
+order_words (order.Wide b thing) = codes "wide" ∷ decimal b ∷ used_words thing
+
+-- `order MODULE ..`
+abbrev pub order_tokens : Design → ℕ → List Token
+order_tokens design i = codes "order" ∷ module_name design i ∷ order_words (order_of design i)
+
+-- a line for each module
+unfoldable pub ordered : Design → Answer
+ordered design = record {
+  text = text_of_lines (map (order_tokens design) (range_with_len 0 (length design.modules)));
+  status = Done;
+}
 
 -- ---- `sweep`
 

@@ -114,7 +114,11 @@ fn obey<R: Threads + Wait + Sync, S: Source, G: Gate + Sync>(
         }
         Command::Check => answer_source(rt, alloc, &Task::Print, source, gate),
         Command::Gen(seed, modules) => Ok(answer_generated(rt, alloc, seed, modules, gate)?),
-        Command::Advise(_) | Command::Wave(_) | Command::Order => Ok(refuse_words(alloc)?),
+        Command::Advise(options) => {
+            answer_source(rt, alloc, &Task::Advise(options), source, gate)
+        }
+        Command::Wave(options) => answer_source(rt, alloc, &Task::Wave(options), source, gate),
+        Command::Order => answer_source(rt, alloc, &Task::Order, source, gate),
         Command::Sweep(lo, hi, options) => {
             let task = Task::Sweep(lo, hi, options);
             answer_source(rt, alloc, &task, source, gate)

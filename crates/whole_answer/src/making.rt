@@ -9,12 +9,15 @@ ghost use Rattle.whole_answer.specs.Job.{job};
 ghost use Rattle.whole_answer.specs.Made.{made, with_limits, canonical, summary, summary_lines, sum_tokens, values_in};
 ghost use Rattle.whole_answer.specs.Answer.{IsSound, IsAnswer};
 
+use crate::advising::advise_depths;
 use crate::answer::Answer;
 use crate::job::job;
+use crate::ordering::order_modules;
 use crate::simulator::Simulator;
 use crate::status::Status;
 use crate::sweeping::sweep_depths;
 use crate::task::Task;
+use crate::waving::wave_plan;
 use cli_words::Options;
 use depth_session::DepthSession;
 use flow_check::Checked;
@@ -48,6 +51,9 @@ pub(crate) fn make<R: Threads + Wait + Sync, G: Gate + Sync>(
         Task::Simulate(by, options) => simulate(rt, alloc, *by, options, checked, gate),
         Task::Print => print(alloc, session),
         Task::Summarize(seed, modules) => summarize(rt, alloc, *seed, *modules, checked.plan, gate),
+        Task::Advise(options) => advise_depths(rt, alloc, limited(checked, options), gate),
+        Task::Wave(options) => wave_plan(rt, alloc, limited(checked, options), gate),
+        Task::Order => order_modules(alloc, &checked.plan),
         Task::Sweep(lo, hi, options) => sweep_depths(rt, alloc, *lo, *hi, limited(checked, options)),
     }
 }

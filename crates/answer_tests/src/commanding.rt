@@ -58,6 +58,10 @@ fn refused_words(rt: HostRuntime) -> Result<(), Fail> {
     refuses_words(&rt, "check", &["--events"])?;
     refuses_words(&rt, "gen", &["1", "65"])?;
     refuses_words(&rt, "alone", &["further"])?;
+    refuses_words(&rt, "advise", &["further"])?;
+    refuses_words(&rt, "wave", &["--events"])?;
+    refuses_words(&rt, "order", &["--ops", "5"])?;
+    refuses_words(&rt, "sweep", &["3", "2"])?;
     let (status, sink) = answer(&rt, &[], PLAIN_CASE, &[], &[])?;
     assert_eq!(rt; sink.held(), b"refused words\n".as_slice());
     assert_eq!(rt; status, Status::Words);

@@ -38,6 +38,10 @@ fn accepted_and_refused(rt: HostRuntime) -> Result<(), Fail> {
             Command::Clock(all),
         ),
         ("check", Command::Check),
+        ("advise", Command::Advise(NOTHING)),
+        ("wave --cycles 3", Command::Wave(three)),
+        ("order", Command::Order),
+        ("sweep 01 --cycles=3 64", Command::Sweep(1, 64, three)),
         ("check --", Command::Check),
         ("gen 0 2", Command::Gen(0, 2)),
         ("-- gen 065535 64", Command::Gen(65_535, 64)),
@@ -73,6 +77,15 @@ fn accepted_and_refused(rt: HostRuntime) -> Result<(), Fail> {
         "gen 65536 1",
         "gen 0 1 2",
         "gen 0 1 --ops=3",
+        "advise 1",
+        "advise --events",
+        "wave --events",
+        "order --ops=3",
+        "sweep 1",
+        "sweep 0 1",
+        "sweep 3 2",
+        "sweep 1 65",
+        "sweep 1 2 --events",
     ];
     let no_word: Vec<String> = Vec::new(alloc);
     assert_eq!(rt;

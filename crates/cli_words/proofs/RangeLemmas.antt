@@ -1,18 +1,17 @@
 -- The numbers of an accepted command are within their bounds.
-use Rattle.std.proofs.Common.{◌≡◌, refl, sym, ◌∙◌, ap, subst, ℕ, ◌+◌, ◌≤◌, ◌^◌, ◌&&◌, Bool, true, false, nat_le, List, [], ◌∷◌, Option}
+use Rattle.std.proofs.Common.{◌≡◌, refl, subst, ℕ, ◌≤◌, ◌^◌, ◌&&◌, Bool, true, false, nat_le, List, [], ◌∷◌, Option}
 use Rattle.std.proofs.Common.{None, Some, IfSome, Result, Ok, Err, cond}
 use Rattle.std.proofs.lemmas.Bool.{and_parts, leb-true}
-use Rattle.std.specs.Prelude.{option_map, option_and_then, if◌then◌else◌}
+use Rattle.std.specs.Prelude.{option_map, option_and_then}
 use Rattle.flow_word.specs.Number.{number_of}
 use Rattle.flow_word.specs.declared.number.NumberFault.{NumberFault}
 use Rattle.cli_words.specs.declared.Command.{Command}
-use Rattle.cli_words.specs.declared.Command.TheVariants.{Run, Alone, Clock, Check, Gen}
-use Rattle.cli_words.specs.declared.Options.{Options}
+use Rattle.cli_words.specs.declared.Command.TheVariants.{Run, Alone, Clock, Check, Gen, Advise, Wave, Order, Sweep}
 use Rattle.cli_words.specs.declared.rules.CommandName.{CommandName}
 use Rattle.cli_words.specs.declared.rules.CommandName.TheVariants as name
 use Rattle.cli_words.specs.CommandWords.{Text, Said, said_from, nothing, accepted, command_of, command_by, command_named, name_of}
 use Rattle.cli_words.specs.CommandWords.{in_bounds, number_in, limit_in, both, options_of, options_alone, no_more, without_option}
-use Rattle.cli_words.specs.CommandWords.{has_options, gen_of, IsLimit, AreLimits, IsInRange}
+use Rattle.cli_words.specs.CommandWords.{has_options, gen_of, limits_alone, range_in, sweep_of, IsLimit, AreLimits, IsInRange}
 
 -- what holds of a value that is there, where it holds of each value that could be
 there : {X : Type 0} (P : X → Type 0) {o : Option X} {x : X} → IfSome o P → o ≡ Some x → P x
@@ -74,9 +73,49 @@ without_in_range said found h = go (has_options said)
     go true = tt
     go false = h
 
+-- without `--events` too
+limits_in_range : (said : Said) (rest : List Text) → IfSome (limits_alone said rest) AreLimits
+limits_in_range said rest = go said.events
+  where
+    go : (b : Bool) → IfSome (cond b None (options_alone said rest)) AreLimits
+    go true = tt
+    go false = alone_in_range said rest
+
+abbrev IsRange : ℕ × ℕ → Type 0
+IsRange range = (1 ≤ range.0) × (range.0 ≤ range.1) × (range.1 ≤ 64)
+
+range_in_range : (lo hi : Text) → IfSome (range_in lo hi) IsRange
+range_in_range lo hi = go (number_in 1 64 lo) (bounded 1 64 (number_of lo))
+  where
+    second : (l : ℕ) → 1 ≤ l → (o : Option ℕ) → IfSome o (λ h. (l ≤ h) × (h ≤ 64)) → IfSome (option_map (λ h. (l, h)) o) IsRange
+    second l least None h = tt
+    second l least (Some n) h = (least, h.0, h.1)
+
+    go : (o : Option ℕ) → IfSome o (λ l. (1 ≤ l) × (l ≤ 64))
+        → IfSome (option_and_then (λ l. option_map (λ h. (l, h)) (number_in l 64 hi)) o) IsRange
+    go None h = tt
+    go (Some l) h = second l h.0 (number_in l 64 hi) (bounded l 64 (number_of hi))
+
+sweep_in_range : (said : Said) (rest : List Text) → IfSome (sweep_of said rest) IsInRange
+sweep_in_range said [] = tt
+sweep_in_range said (lo ∷ []) = tt
+sweep_in_range said (lo ∷ hi ∷ more ∷ rest) = tt
+sweep_in_range said (lo ∷ hi ∷ []) = go said.events
+  where
+    go : (b : Bool)
+        → IfSome (cond b None (both (λ range o. Sweep range.0 range.1 o) (range_in lo hi) (options_of said))) IsInRange
+    go true = tt
+    go false =
+        paired IsRange AreLimits IsInRange (λ range o. Sweep range.0 range.1 o) (λ range o p q. (p.0, p.1, p.2, q))
+        (range_in lo hi) (options_of said) (range_in_range lo hi) (options_in_range said)
+
 check_in_range : (rest : List Text) → IfSome (no_more rest (Some Check)) IsInRange
 check_in_range [] = tt
 check_in_range (word ∷ words) = tt
+
+order_in_range : (rest : List Text) → IfSome (no_more rest (Some Order)) IsInRange
+order_in_range [] = tt
+order_in_range (word ∷ words) = tt
 
 named_in_range : (said : Said) (rest : List Text) (n : CommandName) → IfSome (command_named said rest n) IsInRange
 named_in_range said rest name.Run = mapped AreLimits IsInRange (λ o. Run o) (λ o h. h) (options_alone said rest) (alone_in_range said rest)
@@ -86,6 +125,12 @@ named_in_range said rest name.Clock = mapped AreLimits IsInRange (λ o. Clock o)
     (alone_in_range said rest)
 named_in_range said rest name.Check = without_in_range said (no_more rest (Some Check)) (check_in_range rest)
 named_in_range said rest name.Gen = without_in_range said (gen_of rest) (gen_in_range rest)
+named_in_range said rest name.Advise = mapped AreLimits IsInRange (λ o. Advise o) (λ o h. h) (limits_alone said rest)
+    (limits_in_range said rest)
+named_in_range said rest name.Wave = mapped AreLimits IsInRange (λ o. Wave o) (λ o h. h) (limits_alone said rest)
+    (limits_in_range said rest)
+named_in_range said rest name.Order = without_in_range said (no_more rest (Some Order)) (order_in_range rest)
+named_in_range said rest name.Sweep = sweep_in_range said rest
 
 -- what follows a value that may be there
 followed : {X Y : Type 0} (Q : Y → Type 0) (f : X → Option Y) → ((x : X) → IfSome (f x) Q) → (o : Option X) → IfSome (option_and_then f o) Q

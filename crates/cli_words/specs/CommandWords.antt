@@ -7,7 +7,7 @@ use Rattle.std.specs.Str.{bytes_eq}
 use Rattle.flow_word.specs.Number.{number_of}
 use Rattle.flow_word.specs.declared.number.NumberFault.{NumberFault}
 use Rattle.cli_words.specs.declared.Command.{Command}
-use Rattle.cli_words.specs.declared.Command.TheVariants.{Run, Alone, Clock, Check, Gen}
+use Rattle.cli_words.specs.declared.Command.TheVariants.{Run, Alone, Clock, Check, Gen, Advise, Wave, Order, Sweep}
 use Rattle.cli_words.specs.declared.Options.{Options}
 use Rattle.cli_words.specs.declared.rules.CommandName.{CommandName}
 use Rattle.cli_words.specs.declared.rules.CommandName.TheVariants as name
@@ -154,6 +154,10 @@ name_of word =
     else if bytes_eq (codes "clock") word then Some name.Clock
     else if bytes_eq (codes "check") word then Some name.Check
     else if bytes_eq (codes "gen") word then Some name.Gen
+    else if bytes_eq (codes "advise") word then Some name.Advise
+    else if bytes_eq (codes "wave") word then Some name.Wave
+    else if bytes_eq (codes "order") word then Some name.Order
+    else if bytes_eq (codes "sweep") word then Some name.Sweep
     else None
 
 -- no further positional
@@ -186,11 +190,29 @@ options_of said = both (λ cycles ops. record {
 abbrev pub options_alone : Said → List Text → Option Options
 options_alone said rest = no_more rest (options_of said)
 
+-- `--events` is not given
+abbrev pub without_events : {T : Type 0} → Said → Option T → Option T
+without_events said found = if said.events then None else found
+
+-- the limits of a command that tells no events and has no further positional
+abbrev pub limits_alone : Said → List Text → Option Options
+limits_alone said rest = without_events said (options_alone said rest)
+
 -- `gen` has two further positionals: a seed of 0 to 65,535 and 1 to 64 modules
 abbrev pub gen_of : List Text → Option Command
 gen_of (seed ∷ modules ∷ []) =
     both (λ s m. Gen s m) (number_in 0 65_535 seed) (number_in 1 64 modules)
 gen_of _ = None
+
+-- a number of 1 to 64, and one that is at least it and at most 64
+abbrev pub range_in : Text → Text → Option (ℕ × ℕ)
+range_in lo hi = option_and_then (λ l. option_map (λ h. (l, h)) (number_in l 64 hi)) (number_in 1 64 lo)
+
+-- `sweep` has two further positionals, the least depth and the greatest
+abbrev pub sweep_of : Said → List Text → Option Command
+sweep_of said (lo ∷ hi ∷ []) =
+    without_events said (both (λ range o. Sweep range.0 range.1 o) (range_in lo hi) (options_of said))
+sweep_of said _ = None
 
 -- the rule of each command, on what was said and on the positionals behind the name
 abbrev pub command_named : Said → List Text → CommandName → Option Command
@@ -199,6 +221,10 @@ command_named said rest name.Alone = option_map (λ o. Alone o) (options_alone s
 command_named said rest name.Clock = option_map (λ o. Clock o) (options_alone said rest)
 command_named said rest name.Check = without_option said (no_more rest (Some Check))
 command_named said rest name.Gen = without_option said (gen_of rest)
+command_named said rest name.Advise = option_map (λ o. Advise o) (limits_alone said rest)
+command_named said rest name.Wave = option_map (λ o. Wave o) (limits_alone said rest)
+command_named said rest name.Order = without_option said (no_more rest (Some Order))
+command_named said rest name.Sweep = sweep_of said rest
 
 -- the first positional is the command's name
 abbrev pub command_by : Said → List Text → Option Command
@@ -232,3 +258,7 @@ IsInRange (Alone options) = AreLimits options
 IsInRange (Clock options) = AreLimits options
 IsInRange Check = Unit {0}
 IsInRange (Gen seed modules) = (seed ≤ 65_535) × (1 ≤ modules) × (modules ≤ 64)
+IsInRange (Advise options) = AreLimits options
+IsInRange (Wave options) = AreLimits options
+IsInRange Order = Unit {0}
+IsInRange (Sweep lo hi options) = (1 ≤ lo) × (lo ≤ hi) × (hi ≤ 64) × AreLimits options

@@ -34,6 +34,14 @@ pub enum Command {
     Check,
     /// Simulate the session made from this seed, with so many modules.
     Gen(u64, u64),
+    /// Advise a depth for each FIFO with which none is ever full.
+    Advise(Options),
+    /// Write how many elements each FIFO holds, clock by clock.
+    Wave(Options),
+    /// Tell which modules' pipelines equal plain loops.
+    Order,
+    /// Simulate the session with all depths from the one to the other for its FIFOs.
+    Sweep(u64, u64, Options),
 }
 
 /// Why there is no command.

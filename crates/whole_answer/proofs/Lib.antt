@@ -1,5 +1,9 @@
 pub mod Answering
+pub mod Bests
+pub mod FurtherLines
 pub mod Limits
+pub mod PointLines
 pub mod Reports
 pub mod Sums
+pub mod Swept
 pub mod Told

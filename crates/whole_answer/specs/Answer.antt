@@ -14,7 +14,7 @@ use Rattle.whole_answer.specs.declared.answer.Answer.{Answer}
 use Rattle.whole_answer.specs.Made.{refused_words, refused, made, generated}
 use Rattle.whole_answer.specs.declared.simulator.Simulator.TheVariants as by
 use Rattle.whole_answer.specs.declared.task.Task.{Task}
-use Rattle.whole_answer.specs.declared.task.Task.TheVariants.{Simulate, Print, Summarize}
+use Rattle.whole_answer.specs.declared.task.Task.TheVariants.{Simulate, Print, Summarize, Advise, Wave, Order, Sweep}
 use Rattle.whole_answer.specs.declared.status.Status.{Status}
 use Rattle.whole_answer.specs.declared.status.Status.TheVariants.{ReadFault, WriteFault, Memory}
 
@@ -47,6 +47,10 @@ AnswersCommand (Some (command.Clock o)) bytes answer = AnswersText (Simulate by.
 AnswersCommand (Some Check) bytes answer = AnswersText Print bytes answer
 -- the session of the seed takes the place of the input
 AnswersCommand (Some (Gen seed modules)) bytes answer = answer ≡ generated seed modules
+AnswersCommand (Some (command.Advise o)) bytes answer = AnswersText (Advise o) bytes answer
+AnswersCommand (Some (command.Wave o)) bytes answer = AnswersText (Wave o) bytes answer
+AnswersCommand (Some command.Order) bytes answer = AnswersText Order bytes answer
+AnswersCommand (Some (command.Sweep lo hi o)) bytes answer = AnswersText (Sweep lo hi o) bytes answer
 
 -- the answer to the words, with these bytes as the input
 abbrev pub Answers : List (List ℕ) → List ℕ → Answer → Type 0
@@ -58,15 +62,23 @@ takes_input (Some (Run o)) = true
 takes_input (Some (command.Alone o)) = true
 takes_input (Some (command.Clock o)) = true
 takes_input (Some Check) = true
+takes_input (Some (command.Advise o)) = true
+takes_input (Some (command.Wave o)) = true
+takes_input (Some command.Order) = true
+takes_input (Some (command.Sweep lo hi o)) = true
 takes_input command = false
 
 -- ---- tasks
 
--- the limits that a task gives are within their bounds
+-- the numbers that a task gives are within their bounds
 abbrev pub IsSound : Task → Type 0
 IsSound (Simulate simulator o) = AreLimits o
 IsSound Print = Unit {0}
 IsSound (Summarize seed modules) = Unit {0}
+IsSound (Advise o) = AreLimits o
+IsSound (Wave o) = AreLimits o
+IsSound Order = Unit {0}
+IsSound (Sweep lo hi o) = (1 ≤ lo) × (lo ≤ hi) × (hi ≤ 64) × AreLimits o
 
 -- ---- what a result tells
 

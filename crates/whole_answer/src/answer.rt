@@ -2,7 +2,7 @@
 ghost use Rattle.std.specs.Prelude.{◌≡◌, ◌≢◌, ◌≤◌, [], false, map, string_bytes, IfOk, IfSome, Some};
 ghost use Rattle.sim_io.specs.Causes.{Rose};
 ghost use Rattle.cli_words.specs.CommandWords.{accepted, IsInRange};
-ghost use Rattle.whole_answer.specs.Made.{refused, generated, number_of};
+ghost use Rattle.whole_answer.specs.Made.{refused_words, refused, generated, number_of};
 ghost use Rattle.whole_answer.specs.Answer.{Answers, AnswersCommand, AnswersText, takes_input, IsSound, IsAnswer};
 
 use crate::making::make;
@@ -76,10 +76,7 @@ pub(crate) fn answer_words<R: Threads + Wait + Sync, S: Source, G: Gate + Sync>(
 {
     match read_words(alloc, words) {
         Ok(command) => obey(rt, alloc, command, source, gate),
-        Err(WordFault::Refused) => Ok(Answer {
-            text: List::from_slice(alloc, b"refused words\n")?,
-            status: Status::Words,
-        }),
+        Err(WordFault::Refused) => Ok(refuse_words(alloc)?),
         Err(WordFault::OutOfMemory) => Err(Unanswered::OutOfMemory),
     }
 }
@@ -117,6 +114,15 @@ fn obey<R: Threads + Wait + Sync, S: Source, G: Gate + Sync>(
         }
         Command::Check => answer_source(rt, alloc, &Task::Print, source, gate),
         Command::Gen(seed, modules) => Ok(answer_generated(rt, alloc, seed, modules, gate)?),
+        Command::Advise(options) => {
+            answer_source(rt, alloc, &Task::Advise(options), source, gate)
+        }
+        Command::Wave(options) => answer_source(rt, alloc, &Task::Wave(options), source, gate),
+        Command::Order => answer_source(rt, alloc, &Task::Order, source, gate),
+        Command::Sweep(lo, hi, options) => {
+            let task = Task::Sweep(lo, hi, options);
+            answer_source(rt, alloc, &task, source, gate)
+        }
     }
 }
 
@@ -185,6 +191,17 @@ fn answer_text<R: Threads + Wait + Sync, G: Gate + Sync>(
         Err(ReadFail::Text(fault)) => refuse(alloc, fault),
         Err(ReadFail::OutOfMemory) => Err(OutOfMemory),
     }
+}
+
+/// `refused words`
+fn refuse_words(alloc: Global) -> Result<Answer, OutOfMemory>
+    ensures refused { IfOk result (λ whole. whole ≡ refused_words) }
+    ensures status { IfOk result (λ whole. IsAnswer whole.status) }
+{
+    Ok(Answer {
+        text: List::from_slice(alloc, b"refused words\n")?,
+        status: Status::Words,
+    })
 }
 
 /// `refused LINE CODE`

@@ -1,14 +1,18 @@
 //! The whole answer to the words of a command and the bytes of a session: what is written, and the status.
 #![tactic(auto)]
 
+mod advising;
 mod answer;
 mod job;
 mod laws;
 mod making;
+mod ordering;
 mod program;
 mod simulator;
 mod status;
+mod sweeping;
 mod task;
+mod waving;
 
 pub use laws::one_answer;
 pub use program::omnisim;

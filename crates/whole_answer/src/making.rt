@@ -9,11 +9,15 @@ ghost use Rattle.whole_answer.specs.Job.{job};
 ghost use Rattle.whole_answer.specs.Made.{made, with_limits, canonical, summary, summary_lines, sum_tokens, values_in};
 ghost use Rattle.whole_answer.specs.Answer.{IsSound, IsAnswer};
 
+use crate::advising::advise_depths;
 use crate::answer::Answer;
 use crate::job::job;
+use crate::ordering::order_modules;
 use crate::simulator::Simulator;
 use crate::status::Status;
+use crate::sweeping::sweep_depths;
 use crate::task::Task;
+use crate::waving::wave_plan;
 use cli_words::Options;
 use depth_session::DepthSession;
 use flow_check::Checked;
@@ -47,6 +51,10 @@ pub(crate) fn make<R: Threads + Wait + Sync, G: Gate + Sync>(
         Task::Simulate(by, options) => simulate(rt, alloc, *by, options, checked, gate),
         Task::Print => print(alloc, session),
         Task::Summarize(seed, modules) => summarize(rt, alloc, *seed, *modules, checked.plan, gate),
+        Task::Advise(options) => advise_depths(rt, alloc, limited(checked, options), gate),
+        Task::Wave(options) => wave_plan(rt, alloc, limited(checked, options), gate),
+        Task::Order => order_modules(alloc, &checked.plan),
+        Task::Sweep(lo, hi, options) => sweep_depths(rt, alloc, *lo, *hi, limited(checked, options)),
     }
 }
 
@@ -79,6 +87,18 @@ fn simulate<R: Threads + Wait + Sync, G: Gate + Sync>(
     let Checked { mut plan, edits } = checked;
     set_limits(&mut plan, options);
     job(rt, alloc, by, options.events, plan, edits.as_slice(), gate)
+}
+
+/// The plan of a session under the limits of the options. Its edits are let go of.
+fn limited(checked: Checked, options: &Options) -> Plan
+    requires limits { AreLimits options.now }
+    requires fits { FitsEngine checked.plan }
+    ensures plan { result ≡ with_limits options.now checked.plan }
+    ensures fits { FitsEngine result }
+{
+    let mut plan = checked.plan;
+    set_limits(&mut plan, options);
+    plan
 }
 
 /// Puts the limits of the options in place of the plan's own.

@@ -11,4 +11,12 @@ pub enum Task {
     Print,
     /// Simulate it, and write the summary of the session made from this seed with so many modules.
     Summarize(u64, u64),
+    /// Simulate it with room for all in each FIFO, and write depths that never block.
+    Advise(Options),
+    /// Simulate it, and write how many elements each FIFO holds, clock by clock.
+    Wave(Options),
+    /// Write which modules' pipelines equal plain loops.
+    Order,
+    /// Simulate it with each depth from the one to the other for each FIFO, and write the verdicts and the best of these points.
+    Sweep(u64, u64, Options),
 }

@@ -1,0 +1,4 @@
+pub mod Counting
+pub mod Crossing
+pub mod Found
+pub mod Grids

@@ -1,0 +1,7 @@
+use Rattle.std.proofs.Common.{◌≡◌}
+use Rattle.std.specs.List.{range_with_len, filter}
+use Rattle.flow_design.specs.Plans.{is_fifo, kind_at}
+use Rattle.depth_sweep.proofs.fifos.fifos.Given as goal
+
+abbrev pub invariant-loop-channel : goal.invariant-loop-channel
+invariant-loop-channel l = l.channels.items ≡ filter (λ f. is_fifo (kind_at l.plan f)) (range_with_len 0 l.channel)

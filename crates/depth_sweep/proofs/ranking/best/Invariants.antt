@@ -1,0 +1,5 @@
+use Rattle.depth_sweep.specs.Kept.{IsKept}
+use Rattle.depth_sweep.proofs.ranking.best.Given as goal
+
+abbrev pub invariant-loop-place : goal.invariant-loop-place
+invariant-loop-place l = IsKept l.points l.place l.kept

@@ -1,0 +1,48 @@
+-- The grid of depths of a plan, and the points on it.
+use Rattle.std.specs.Prelude.{ℕ, zero, suc, ◌-◌, List, [], ◌∷◌, length, map, filter, flat_map}
+use Rattle.std.specs.List.{range_with_len, zip}
+use Rattle.flow_design.specs.declared.plan.Plan.{Plan}
+use Rattle.flow_design.specs.declared.plan.Edit.{Edit}
+use Rattle.flow_design.specs.Plans.{is_fifo, kind_at}
+use Rattle.lockstep_defs.specs.Report.{report}
+use Rattle.edit_runs.specs.Edits.{plan_after}
+use Rattle.depth_sweep.specs.declared.point.Point.{Point}
+
+-- ---- depths
+
+-- how many depths there are from lo to hi, both included
+abbrev pub width : ℕ → ℕ → ℕ
+width lo hi = suc hi - lo
+
+-- these depths, in order
+abbrev pub depths_between : ℕ → ℕ → List ℕ
+depths_between lo hi = range_with_len lo (width lo hi)
+
+-- all lists of so many of them in lexicographic order: by the first depth, and with one first depth by the others
+unfoldable pub grid : ℕ → ℕ → ℕ → List (List ℕ)
+grid lo hi zero = [] ∷ []
+grid lo hi (suc n) = flat_map (λ first. map (λ others. first ∷ others) (grid lo hi n)) (depths_between lo hi)
+
+-- ---- a plan with other depths
+
+-- the numbers of the FIFOs, in order of declaration
+abbrev pub fifos : Plan → List ℕ
+fifos p = filter (λ f. is_fifo (kind_at p f)) (range_with_len 0 (length p.design.channels))
+
+-- the edits that set these depths, the first FIFO first
+abbrev pub depth_edits : List ℕ → List ℕ → List Edit
+depth_edits channels depths = map (λ e. record { channel = e.0; depth = e.1 }) (zip channels depths)
+
+-- the plan with these depths on its FIFOs
+unfoldable pub with_depths : Plan → List ℕ → Plan
+with_depths p depths = plan_after p (depth_edits (fifos p) depths)
+
+-- ---- points
+
+-- the point of these depths, with the verdict of the plan that has them
+unfoldable pub point : Plan → List ℕ → Point
+point p depths = record { depths = depths; verdict = (report (with_depths p depths)).verdict }
+
+-- the lists of depths of a plan
+abbrev pub grid_of : Plan → ℕ → ℕ → List (List ℕ)
+grid_of p lo hi = grid lo hi (length (fifos p))

@@ -1,0 +1,4 @@
+pub mod Best
+pub mod Grid
+pub mod Kept
+pub mod Shapes

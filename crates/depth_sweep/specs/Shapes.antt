@@ -1,0 +1,11 @@
+-- The shape of a grid.
+use Rattle.std.specs.Prelude.{◌≡◌, ◌≤◌, length}
+use Rattle.depth_sweep.specs.declared.shape.Shape.{Shape}
+use Rattle.depth_sweep.specs.Grid.{grid}
+
+-- the depths go from the least to the greatest, and the grid has so many lists
+pub record IsShape (shape : Shape) : Type 0 where
+  pub least : 1 ≤ shape.lo
+  pub ordered : shape.lo ≤ shape.hi
+  pub most : shape.hi ≤ 64
+  pub lists : shape.lists ≡ length (grid shape.lo shape.hi shape.fifos)

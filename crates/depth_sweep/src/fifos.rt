@@ -1,0 +1,70 @@
+//! The FIFOs of a plan, and other depths for them.
+ghost use Rattle.std.specs.Prelude.{◌≡◌, ◌<◌, ◌≤◌, length, All, IfOk};
+ghost use Rattle.flow_design.specs.Plans.{is_fifo, kind_at};
+ghost use Rattle.flow_design.specs.declared.limits.TheConstants.{FIFO_DEPTH};
+ghost use Rattle.flow_design.specs.StaticRules.{FitsEngine};
+ghost use Rattle.depth_sweep.specs.Grid.{fifos, with_depths};
+
+use edit_runs::edits_in_order;
+use flow_design::{ChannelKind, Edit, Plan, edit_plan};
+use flow_word::OutOfMemory;
+use std::alloc::Global;
+use timing_bridge::edited_plans_agree;
+
+/// Whether a channel is a FIFO.
+fn is_fifo(plan: &Plan, channel: usize) -> bool
+    requires { channel < length plan.now.design.channels }
+    ensures { result ≡ is_fifo (kind_at plan.now channel) }
+{
+    matches!(
+        plan.design.channels.as_slice()[channel].kind,
+        ChannelKind::Fifo(_, _)
+    )
+}
+
+/// How many FIFOs a plan has.
+pub(crate) fn fifo_count(plan: &Plan) -> u64
+    ensures { result ≡ length (fifos plan.now) }
+{
+    let mut count = 0;
+    for channel in 0..plan.design.channels.as_slice().len() {
+        if is_fifo(plan, channel) {
+            count += 1;
+        }
+    }
+    count
+}
+
+/// The numbers of the FIFOs, in order.
+pub(crate) fn fifos(alloc: Global, plan: &Plan) -> Result<Vec<u32>, OutOfMemory>
+    requires { FitsEngine plan.now }
+    ensures { IfOk result (λ channels. channels.items ≡ fifos plan.now) }
+{
+    let mut channels = Vec::new(alloc);
+    for channel in 0..plan.design.channels.as_slice().len() {
+        if is_fifo(plan, channel) {
+            channels.push(channel as u32)?;
+        }
+    }
+    Ok(channels)
+}
+
+/// Sets the depths of the FIFOs, which are these channels.
+pub(crate) fn set_depths(plan: &mut Plan, channels: &[u32], depths: &[u64])
+    requires fits { FitsEngine plan.old }
+    requires channels { channels.now ≡ fifos plan.old }
+    requires count { length depths.now ≡ length channels.now }
+    requires limits { All (λ depth. (1 ≤ depth) × (depth ≤ FIFO_DEPTH)) depths.now }
+    ensures depths { plan.new ≡ with_depths plan.old depths.now }
+    ensures fits { FitsEngine plan.new }
+{
+    edits_in_order();
+    edited_plans_agree();
+    for at in 0..channels.len() {
+        let edit = Edit {
+            channel: channels[at],
+            depth: depths[at],
+        };
+        edit_plan(plan, &edit);
+    }
+}

@@ -1,0 +1,51 @@
+//! One point.
+ghost use Rattle.std.specs.Prelude.{◌≡◌, ◌≤◌, ◌<◌, length, All, IfOk};
+ghost use Rattle.flow_design.specs.declared.limits.TheConstants.{FIFO_DEPTH};
+ghost use Rattle.flow_design.specs.StaticRules.{FitsEngine};
+ghost use Rattle.depth_sweep.specs.Grid.{fifos, point};
+
+use crate::fifos::set_depths;
+use flow_design::{Plan, Verdict, copy_plan};
+use flow_word::{OutOfMemory, Words};
+use sim_core::run_alone;
+use std::alloc::Global;
+
+/// The depths of a plan's FIFOs, in order of declaration, and the verdict of the plan with these depths.
+#[derive(Debug, PartialEq)]
+pub struct Point {
+    pub depths: Words,
+    pub verdict: Verdict,
+}
+
+impl Drop for Point {
+    fn drop(self) {
+        let Point {
+            depths: _depths,
+            verdict: _verdict,
+        } = self;
+    }
+}
+
+/// The point of these depths of a plan whose FIFOs are these channels, simulated on a copy of the plan.
+#[tactic(auto, unfolding(crate::specs::Grid::point))]
+pub(crate) fn simulate(
+    alloc: Global,
+    plan: &Plan,
+    channels: &[u32],
+    depths: Words,
+) -> Result<Point, OutOfMemory>
+    requires fits { FitsEngine plan.now }
+    requires channels { channels.now ≡ fifos plan.now }
+    requires count { length depths ≡ length channels.now }
+    requires limits { All (λ depth. (1 ≤ depth) × (depth ≤ FIFO_DEPTH)) depths }
+    ensures { IfOk result (λ found. found ≡ point plan.now depths) }
+{
+    let mut own = copy_plan(alloc, plan)?;
+    set_depths(&mut own, channels, depths.as_slice());
+    let core = run_alone(alloc, own)?;
+    let outcome = core.report(alloc, false)?;
+    Ok(Point {
+        depths,
+        verdict: outcome.verdict,
+    })
+}

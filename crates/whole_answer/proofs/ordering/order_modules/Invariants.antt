@@ -1,0 +1,8 @@
+use Rattle.std.proofs.Common.{◌≡◌, map}
+use Rattle.std.specs.List.{range_with_len}
+use Rattle.report_text.specs.Lines.{text_of_lines}
+use Rattle.whole_answer.specs.Further.{order_tokens}
+use Rattle.whole_answer.proofs.ordering.order_modules.Given as goal
+
+abbrev pub invariant-loop-module : goal.invariant-loop-module
+invariant-loop-module l = l.text ≡ text_of_lines (map (order_tokens l.plan.design) (range_with_len 0 l.«module»))

@@ -1,0 +1,7 @@
+use Rattle.std.proofs.Common.{◌≡◌, ◌++◌, map, take}
+use Rattle.report_text.specs.Lines.{text_of_lines}
+use Rattle.whole_answer.specs.Further.{point_tokens}
+use Rattle.whole_answer.proofs.sweeping.print_points.Given as goal
+
+abbrev pub invariant-loop-point : goal.invariant-loop-point
+invariant-loop-point l = l.text ≡ l.fn.text ++ text_of_lines (map point_tokens (take l.point-index l.points))

@@ -1,0 +1,131 @@
+-- What the commands that look further than a simulation answer.
+use Rattle.std.specs.Prelude.{ℕ, ◌==◌, ◌&&◌, ◌||◌, not, Bool, nat_lt, if◌then◌else◌, List, [], ◌∷◌, ◌++◌, Option, None, Some}
+use Rattle.std.specs.Prelude.{codes, decimal, filter, find, length, map, sum}
+use Rattle.std.specs.List.{list_any, range_with_len, zip}
+use Rattle.flow_design.specs.declared.design.Channel.{Channel}
+use Rattle.flow_design.specs.declared.design.Design.{Design}
+use Rattle.flow_design.specs.declared.plan.Plan.{Plan}
+use Rattle.flow_design.specs.declared.report.Verdict.{Verdict}
+use Rattle.flow_design.specs.declared.report.Verdict.TheVariants as verdict
+use Rattle.flow_design.specs.Plans.{is_fifo}
+use Rattle.lockstep_defs.specs.Report.{report}
+use Rattle.lockstep_defs.specs.Verdict.{clock_of}
+use Rattle.serial_order.specs.declared.order.Used.{Used}
+use Rattle.serial_order.specs.declared.order.Used.TheVariants as used
+use Rattle.serial_order.specs.declared.order.Order.{Order}
+use Rattle.serial_order.specs.declared.order.Order.TheVariants as order
+use Rattle.serial_order.specs.Orders.{order_of}
+use Rattle.depth_sweep.specs.declared.point.Point.{Point}
+use Rattle.depth_sweep.specs.declared.shape.TheConstants.{MOST_POINTS}
+use Rattle.depth_sweep.specs.Grid.{grid_of, point}
+use Rattle.depth_advice.specs.Advice.{advised, wide}
+use Rattle.vcd_wave.specs.Wave.{wave_of}
+use Rattle.vcd_wave.specs.WaveText.{wave_text}
+use Rattle.report_text.specs.Lines.{line, text_of_lines, Token, verdict_tokens}
+use Rattle.report_text.specs.ReportText.{module_name}
+use Rattle.whole_answer.specs.declared.answer.Answer.{Answer}
+use Rattle.whole_answer.specs.declared.status.Status.{Status}
+use Rattle.whole_answer.specs.declared.status.Status.TheVariants.{Done, Text}
+use Rattle.whole_answer.specs.Job.{is_done, status_of}
+
+-- ---- `advise`
+
+-- `depth NAME D` for each FIFO, in order of declaration, by the names of the channels and a depth for each
+abbrev pub depth_tokens : Channel × ℕ → List Token
+depth_tokens entry = codes "depth" ∷ entry.0.name ∷ decimal entry.1 ∷ []
+
+abbrev pub depth_lines : List Channel → List ℕ → List (List Token)
+depth_lines channels depths = map depth_tokens (filter (λ entry. is_fifo entry.0.kind) (zip channels depths))
+
+-- the verdict with room for all, and the depths that never block
+unfoldable pub advice : Plan → Answer
+advice p = record {
+  text = text_of_lines ((codes "advise" ∷ []) ∷ verdict_tokens (report (wide p)).verdict ∷ depth_lines p.design.channels (advised p));
+  status = status_of (report (wide p)).verdict;
+}
+
+-- ---- `wave`
+
+-- the wave, with the status of the verdict
+unfoldable pub waved : Plan → Answer
+waved p = record { text = wave_text (wave_of p); status = status_of (report p).verdict }
+
+-- ---- `order`
+
+abbrev pub used_words : Used → List Token
+used_words (used.Register n) = codes "register" ∷ decimal n ∷ []
+used_words (used.Memory n) = codes "memory" ∷ decimal n ∷ []
+used_words (used.Reading n) = codes "reading" ∷ decimal n ∷ []
+used_words (used.Writing n) = codes "writing" ∷ decimal n ∷ []
+
+-- `serial`, `query B O`, `late B O` or `wide B KIND N`
+abbrev pub order_words : Order → List Token
+order_words order.Serial = codes "serial" ∷ []
+order_words (order.Query b o) = codes "query" ∷ decimal b ∷ decimal o ∷ []
+order_words (order.Late b o) = codes "late" ∷ decimal b ∷ decimal o ∷ []
+order_words (order.Wide b thing) = codes "wide" ∷ decimal b ∷ used_words thing
+
+-- `order MODULE ..`
+abbrev pub order_tokens : Design → ℕ → List Token
+order_tokens design i = codes "order" ∷ module_name design i ∷ order_words (order_of design i)
+
+-- a line for each module
+unfoldable pub ordered : Design → Answer
+ordered design = record {
+  text = text_of_lines (map (order_tokens design) (range_with_len 0 (length design.modules)));
+  status = Done;
+}
+
+-- ---- `sweep`
+
+-- the verdict's two words
+abbrev pub verdict_words : Verdict → List Token
+verdict_words (verdict.Done c) = codes "done" ∷ decimal c ∷ []
+verdict_words (verdict.Deadlock c) = codes "deadlock" ∷ decimal c ∷ []
+verdict_words (verdict.Cycles c) = codes "cycles" ∷ decimal c ∷ []
+verdict_words (verdict.Ops c) = codes "ops" ∷ decimal c ∷ []
+
+-- `point`, the depths, and the verdict's two words
+abbrev pub point_tokens : Point → List Token
+point_tokens p = codes "point" ∷ map decimal p.depths ++ verdict_words p.verdict
+
+abbrev pub is_done_at : Point → Bool
+is_done_at p = is_done (status_of p.verdict)
+
+-- it is done in an earlier clock than the other, or in the same clock with a lesser sum of depths
+abbrev pub beats : Point → Point → Bool
+beats p other = is_done_at p && (nat_lt (clock_of p.verdict) (clock_of other.verdict)
+    || clock_of p.verdict == clock_of other.verdict && nat_lt (sum p.depths) (sum other.depths))
+
+-- the first point that is done and that none beats
+unfoldable pub best_of : List Point → Option Point
+best_of points = find (λ p. is_done_at p && not (list_any (λ q. beats q p) points)) points
+
+-- `best` and its depths, or `best none`
+abbrev pub best_tokens : Option Point → List Token
+best_tokens None = codes "best" ∷ codes "none" ∷ []
+best_tokens (Some p) = codes "best" ∷ map decimal p.depths
+
+abbrev pub first_status : List Point → Status
+first_status [] = Done
+first_status (p ∷ points) = status_of p.verdict
+
+-- done where some point is done, and else what the first point tells
+abbrev pub points_status : List Point → Status
+points_status points = if list_any is_done_at points then Done else first_status points
+
+-- a line for each point, and the best
+unfoldable pub told_points : List Point → Answer
+told_points points = record {
+  text = text_of_lines (map point_tokens points ++ best_tokens (best_of points) ∷ []);
+  status = points_status points;
+}
+
+-- `refused 0 21`: the grid has too many lists
+abbrev pub refused_grid : Answer
+refused_grid = record { text = line (codes "refused" ∷ decimal 0 ∷ decimal 21 ∷ []); status = Text }
+
+-- the points of the grid of a plan
+unfoldable pub swept : ℕ → ℕ → Plan → Answer
+swept lo hi p =
+    if nat_lt MOST_POINTS (length (grid_of p lo hi)) then refused_grid else told_points (map (point p) (grid_of p lo hi))

@@ -1,0 +1,91 @@
+//! What `order` answers.
+ghost use Rattle.std.specs.Prelude.{◌≡◌, ◌<◌, ◌∷◌, ◌++◌, [], decimal, flat_map, length, IfOk, OnOk};
+ghost use Rattle.flow_design.specs.StaticRules.{FitsEngine};
+ghost use Rattle.report_text.specs.Lines.{line};
+ghost use Rattle.report_text.specs.ReportText.{module_name};
+ghost use Rattle.serial_order.specs.Orders.{HasModule};
+ghost use Rattle.whole_answer.specs.Answer.{IsAnswer};
+ghost use Rattle.whole_answer.specs.Further.{order_tokens, order_words, ordered, used_words};
+
+use crate::answer::Answer;
+use crate::status::Status;
+use flow_design::{Design, Plan};
+use flow_word::{List, OutOfMemory};
+use report_text::{push_token, push_value};
+use serial_order::{Order, Used, check_order};
+use std::alloc::Global;
+
+/// A line for each module of a plan. Nothing is simulated.
+pub(crate) fn order_modules(alloc: Global, plan: &Plan) -> Result<Answer, OutOfMemory>
+    requires { FitsEngine plan.now }
+    ensures orders { IfOk result (λ whole. whole ≡ ordered plan.now.design) }
+    ensures status { IfOk result (λ whole. IsAnswer whole.status) }
+{
+    let mut text = List::new(alloc);
+    for module in 0..plan.design.modules.as_slice().len() {
+        print_order(&mut text, &plan.design, module as u32)?;
+    }
+    Ok(Answer {
+        text,
+        status: Status::Done,
+    })
+}
+
+/// Adds the line of a module.
+#[tactic(auto, using(crate::proofs::FurtherLines::line_of_more))]
+fn print_order(text: &mut List<u8>, design: &Design, module: u32) -> Result<(), OutOfMemory>
+    requires { HasModule design.now «module» }
+    ensures { OnOk result (text.new ≡ text.old ++ line (order_tokens design.now «module»)) }
+{
+    text.extend_from_slice(b"order")?;
+    push_token(text, module_name(design, module))?;
+    push_order(text, check_order(design, module))?;
+    text.push(b'\n')
+}
+
+/// The name of a module.
+fn module_name(design: &Design, module: u32) -> &[u8]
+    requires { «module» < length design.now.modules }
+    ensures { result.now ≡ module_name design.now «module» }
+{
+    design.modules.as_slice()[module as usize].name.bytes()
+}
+
+/// Adds what is answered of a module, with a space before each word.
+fn push_order(text: &mut List<u8>, order: Order) -> Result<(), OutOfMemory>
+    ensures { OnOk result (text.new ≡ text.old ++ flat_map (λ t. 32 ∷ t) (order_words order)) }
+{
+    match order {
+        Order::Serial => push_token(text, b"serial"),
+        Order::Query(block, op) => push_place(text, b"query", block, op),
+        Order::Late(block, op) => push_place(text, b"late", block, op),
+        Order::Wide(block, thing) => {
+            push_token(text, b"wide")?;
+            push_value(text, block as u64)?;
+            let (word, number) = used_words(thing);
+            push_token(text, word)?;
+            push_value(text, number as u64)
+        }
+    }
+}
+
+/// Adds a word and the numbers of a block and of an operation.
+fn push_place(text: &mut List<u8>, word: &[u8], block: u32, op: u32) -> Result<(), OutOfMemory>
+    ensures { OnOk result (text.new ≡ text.old ++ flat_map (λ t. 32 ∷ t) (word.now ∷ decimal block ∷ decimal op ∷ [])) }
+{
+    push_token(text, word)?;
+    push_value(text, block as u64)?;
+    push_value(text, op as u64)
+}
+
+/// The word for a kind of thing, and its number.
+fn used_words(thing: Used) -> (&'static [u8], u32)
+    ensures { used_words thing ≡ result.0.now ∷ decimal result.1 ∷ [] }
+{
+    match thing {
+        Used::Register(number) => (b"register", number),
+        Used::Memory(number) => (b"memory", number),
+        Used::Reading(number) => (b"reading", number),
+        Used::Writing(number) => (b"writing", number),
+    }
+}

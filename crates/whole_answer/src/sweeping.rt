@@ -1,0 +1,149 @@
+//! What `sweep` answers.
+ghost use Rattle.std.specs.Prelude.{◌≡◌, ◌≤◌, ◌∷◌, ◌++◌, [], decimal, map, IfOk, OnOk};
+ghost use Rattle.std.specs.List.{list_any};
+ghost use Rattle.flow_design.specs.StaticRules.{FitsEngine};
+ghost use Rattle.report_text.specs.Lines.{line, text_of_lines};
+ghost use Rattle.whole_answer.specs.Answer.{IsAnswer};
+ghost use Rattle.whole_answer.specs.Further.{best_of, best_tokens, first_status, is_done_at, point_tokens, points_status, refused_grid};
+ghost use Rattle.whole_answer.specs.Further.{swept, told_points, verdict_words};
+
+use crate::answer::Answer;
+use crate::status::Status;
+use depth_sweep::{Point, SweepFault, best, sweep};
+use flow_design::{Plan, Verdict};
+use flow_word::{List, OutOfMemory};
+use report_text::{print_numbers, push_token, push_value, push_values};
+use std::alloc::Global;
+use std::thread::Threads;
+
+/// The answer to a sweep of a plan's depths.
+pub(crate) fn sweep_depths<R: Threads + Sync>(
+    rt: &R,
+    alloc: Global,
+    lo: u64,
+    hi: u64,
+    plan: Plan,
+) -> Result<Answer, OutOfMemory>
+    requires least { 1 ≤ lo }
+    requires ordered { lo ≤ hi }
+    requires most { hi ≤ 64 }
+    requires fits { FitsEngine plan }
+    ensures swept { IfOk result (λ whole. whole ≡ swept lo hi plan) }
+    ensures status { IfOk result (λ whole. IsAnswer whole.status) }
+{
+    match sweep(rt, alloc, &plan, lo, hi) {
+        Ok(points) => tell_points(alloc, points.as_slice()),
+        Err(SweepFault::TooWide) => refuse_grid(alloc),
+        Err(SweepFault::OutOfMemory) => Err(OutOfMemory),
+    }
+}
+
+/// `refused 0 21`
+fn refuse_grid(alloc: Global) -> Result<Answer, OutOfMemory>
+    ensures refused { IfOk result (λ whole. whole ≡ refused_grid) }
+    ensures status { IfOk result (λ whole. IsAnswer whole.status) }
+{
+    let mut text = List::new(alloc);
+    print_numbers(&mut text, b"refused", &[0, 21])?;
+    Ok(Answer {
+        text,
+        status: Status::Text,
+    })
+}
+
+/// A line for each point, and the best.
+fn tell_points(alloc: Global, points: &[Point]) -> Result<Answer, OutOfMemory>
+    ensures told { IfOk result (λ whole. whole ≡ told_points points.now) }
+    ensures status { IfOk result (λ whole. IsAnswer whole.status) }
+{
+    let mut text = List::new(alloc);
+    print_points(&mut text, points)?;
+    print_best(&mut text, points)?;
+    Ok(Answer {
+        text,
+        status: points_status(points),
+    })
+}
+
+/// Adds a line for each point.
+#[tactic(auto, using(report_text::proofs::LineLemmas::lines_more))]
+fn print_points(text: &mut List<u8>, points: &[Point]) -> Result<(), OutOfMemory>
+    ensures { OnOk result (text.new ≡ text.old ++ text_of_lines (map point_tokens points.now)) }
+{
+    for point in points {
+        print_point(text, point)?;
+    }
+    Ok(())
+}
+
+/// Adds the line of a point.
+#[tactic(auto, using(crate::proofs::PointLines::point_line))]
+fn print_point(text: &mut List<u8>, point: &Point) -> Result<(), OutOfMemory>
+    ensures { OnOk result (text.new ≡ text.old ++ line (point_tokens point.now)) }
+{
+    text.extend_from_slice(b"point")?;
+    push_values(text, point.depths.as_slice())?;
+    let (word, clock) = verdict_words(point.verdict);
+    push_token(text, word)?;
+    push_value(text, clock)?;
+    text.push(b'\n')
+}
+
+/// The verdict's word, and its clock.
+fn verdict_words(verdict: Verdict) -> (&'static [u8], u64)
+    ensures { verdict_words verdict ≡ result.0.now ∷ decimal result.1 ∷ [] }
+{
+    match verdict {
+        Verdict::Done(clock) => (b"done", clock),
+        Verdict::Deadlock(clock) => (b"deadlock", clock),
+        Verdict::Cycles(clock) => (b"cycles", clock),
+        Verdict::Ops(clock) => (b"ops", clock),
+    }
+}
+
+/// Adds the line of the best point.
+fn print_best(text: &mut List<u8>, points: &[Point]) -> Result<(), OutOfMemory>
+    ensures { OnOk result (text.new ≡ text.old ++ line (best_tokens (best_of points.now))) }
+{
+    match best(points) {
+        Some(place) => print_numbers(text, b"best", points[place as usize].depths.as_slice()),
+        None => text.extend_from_slice(b"best none\n"),
+    }
+}
+
+/// Done where some point is done, and else what the first point tells.
+fn points_status(points: &[Point]) -> Status
+    ensures status { result ≡ points_status points.now }
+    ensures answer { IsAnswer result }
+{
+    if some_is_done(points) {
+        Status::Done
+    } else {
+        first_status(points)
+    }
+}
+
+/// Whether some point is done.
+fn some_is_done(points: &[Point]) -> bool
+    ensures { result ≡ list_any is_done_at points.now }
+{
+    points.iter().any(is_done)
+}
+
+/// What the first point tells.
+fn first_status(points: &[Point]) -> Status
+    ensures status { result ≡ first_status points.now }
+    ensures answer { IsAnswer result }
+{
+    match points {
+        [] => Status::Done,
+        [first, ..] => Status::of(first.verdict),
+    }
+}
+
+/// Whether a point is done.
+fn is_done(point: &Point) -> bool
+    ensures { result ≡ is_done_at point.now }
+{
+    matches!(point.verdict, Verdict::Done(_))
+}

@@ -1,11 +1,11 @@
 -- The grid of depths of a plan, and the points on it.
-use Rattle.std.specs.Prelude.{ℕ, zero, suc, ◌-◌, List, [], ◌∷◌, length, map, filter, flat_map}
+use Rattle.std.specs.Prelude.{ℕ, zero, suc, ◌-◌, List, [], ◌∷◌, length, map, flat_map}
 use Rattle.std.specs.List.{range_with_len, zip}
 use Rattle.flow_design.specs.declared.plan.Plan.{Plan}
 use Rattle.flow_design.specs.declared.plan.Edit.{Edit}
-use Rattle.flow_design.specs.Plans.{is_fifo, kind_at}
 use Rattle.lockstep_defs.specs.Report.{report}
 use Rattle.edit_runs.specs.Edits.{plan_after}
+use Rattle.fifo_fills.specs.Fills.{fifos}
 use Rattle.depth_sweep.specs.declared.point.Point.{Point}
 
 -- ---- depths
@@ -24,10 +24,6 @@ grid lo hi zero = [] ∷ []
 grid lo hi (suc n) = flat_map (λ first. map (λ others. first ∷ others) (grid lo hi n)) (depths_between lo hi)
 
 -- ---- a plan with other depths
-
--- the numbers of the FIFOs, in order of declaration
-abbrev pub fifos : Plan → List ℕ
-fifos p = filter (λ f. is_fifo (kind_at p f)) (range_with_len 0 (length p.design.channels))
 
 -- the edits that set these depths, the first FIFO first
 abbrev pub depth_edits : List ℕ → List ℕ → List Edit

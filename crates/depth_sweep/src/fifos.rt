@@ -3,10 +3,12 @@ ghost use Rattle.std.specs.Prelude.{◌≡◌, ◌<◌, ◌≤◌, length, All, 
 ghost use Rattle.flow_design.specs.Plans.{is_fifo, kind_at};
 ghost use Rattle.flow_design.specs.declared.limits.TheConstants.{FIFO_DEPTH};
 ghost use Rattle.flow_design.specs.StaticRules.{FitsEngine};
-ghost use Rattle.depth_sweep.specs.Grid.{fifos, with_depths};
+ghost use Rattle.depth_sweep.specs.Grid.{with_depths};
+ghost use Rattle.fifo_fills.specs.Fills.{fifos};
 
 use edit_runs::edits_in_order;
-use flow_design::{ChannelKind, Edit, Plan, edit_plan};
+use fifo_fills::is_fifo as is_fifo_kind;
+use flow_design::{Edit, Plan, edit_plan};
 use flow_word::OutOfMemory;
 use std::alloc::Global;
 use timing_bridge::edited_plans_agree;
@@ -16,10 +18,7 @@ fn is_fifo(plan: &Plan, channel: usize) -> bool
     requires { channel < length plan.now.design.channels }
     ensures { result ≡ is_fifo (kind_at plan.now channel) }
 {
-    matches!(
-        plan.design.channels.as_slice()[channel].kind,
-        ChannelKind::Fifo(_, _)
-    )
+    is_fifo_kind(plan.design.channels.as_slice()[channel].kind)
 }
 
 /// How many FIFOs a plan has.

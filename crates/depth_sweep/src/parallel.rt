@@ -1,7 +1,8 @@
 //! The sweep.
 ghost use Rattle.std.specs.Prelude.{◌≡◌, ◌≤◌, ◌<◌, ◌↔◌, [], Err, length, map, slice_index_or, IfOk};
 ghost use Rattle.flow_design.specs.StaticRules.{FitsEngine};
-ghost use Rattle.depth_sweep.specs.Grid.{fifos, grid, grid_of, point};
+ghost use Rattle.depth_sweep.specs.Grid.{grid, grid_of, point};
+ghost use Rattle.fifo_fills.specs.Fills.{fifos};
 ghost use Rattle.depth_sweep.specs.Shapes.{IsShape};
 
 use crate::fifos::{fifo_count, fifos};

@@ -104,7 +104,7 @@ impl<'a> EventWalk<'a> {
 }
 
 /// Whether a channel is a FIFO.
-fn is_fifo(kind: ChannelKind) -> bool
+pub fn is_fifo(kind: ChannelKind) -> bool
     ensures { result ≡ is_fifo kind }
 {
     matches!(kind, ChannelKind::Fifo(_, _))

@@ -1,22 +1,15 @@
 //! The lines of a wave.
 ghost use Rattle.std.specs.Prelude.{◌≡◌, ◌∷◌, ◌++◌, decimal, map, length, OnOk, IfOk};
 ghost use Rattle.std.specs.List.{flat_map, enumerate_from};
-ghost use Rattle.flow_design.specs.Plans.{is_fifo};
 ghost use Rattle.report_text.specs.Lines.{line, text_of_lines};
 ghost use Rattle.vcd_wave.specs.Wave.{fifo_names, changes_between, has_some, instant_of};
 ghost use Rattle.vcd_wave.specs.WaveText.{code_of, var_tokens, time_tokens, change_tokens, header_lines, opening, instant_lines};
 
 use crate::binary::push_binary;
-use flow_design::{Channel, ChannelKind};
+use fifo_fills::is_fifo;
+use flow_design::Channel;
 use flow_word::{List, OutOfMemory};
 use report_text::{push_number, push_token};
-
-/// Whether a channel is a FIFO.
-fn is_fifo(kind: ChannelKind) -> bool
-    ensures { result ≡ is_fifo kind }
-{
-    matches!(kind, ChannelKind::Fifo(_, _))
-}
 
 /// Adds a space and the code of the FIFO with this number.
 fn push_code(text: &mut List<u8>, fifo: u64) -> Result<(), OutOfMemory>

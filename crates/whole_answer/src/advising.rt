@@ -1,6 +1,5 @@
 //! What `advise` answers.
 ghost use Rattle.std.specs.Prelude.{◌≡◌, ◌∷◌, ◌++◌, length, IfOk, OnOk};
-ghost use Rattle.flow_design.specs.Plans.{is_fifo};
 ghost use Rattle.flow_design.specs.StaticRules.{FitsEngine};
 ghost use Rattle.report_text.specs.Lines.{line, text_of_lines};
 ghost use Rattle.whole_answer.specs.Answer.{IsAnswer};
@@ -9,7 +8,8 @@ ghost use Rattle.whole_answer.specs.Further.{advice, depth_lines, depth_tokens};
 use crate::answer::Answer;
 use crate::status::Status;
 use depth_advice::advise;
-use flow_design::{Channel, ChannelKind, Plan, copy_plan};
+use fifo_fills::is_fifo;
+use flow_design::{Channel, Plan, copy_plan};
 use flow_word::{List, OutOfMemory};
 use report_text::{print_verdict, push_token, push_value};
 use run_threads::{Gate, ThreadRunner};
@@ -33,7 +33,11 @@ pub(crate) fn advise_depths<R: Threads + Wait + Sync, G: Gate + Sync>(
     let found = advise(rt, alloc, own, &mut ThreadRunner::new(gate))?;
     let mut text = List::from_slice(alloc, b"advise\n")?;
     print_verdict(&mut text, found.report.verdict)?;
-    print_depths(&mut text, plan.design.channels.as_slice(), found.depths.as_slice())?;
+    print_depths(
+        &mut text,
+        plan.design.channels.as_slice(),
+        found.depths.as_slice(),
+    )?;
     Ok(Answer {
         text,
         status: Status::of(found.report.verdict),
@@ -41,7 +45,11 @@ pub(crate) fn advise_depths<R: Threads + Wait + Sync, G: Gate + Sync>(
 }
 
 /// Adds a line for each FIFO.
-fn print_depths(text: &mut List<u8>, channels: &[Channel], depths: &[u64]) -> Result<(), OutOfMemory>
+fn print_depths(
+    text: &mut List<u8>,
+    channels: &[Channel],
+    depths: &[u64],
+) -> Result<(), OutOfMemory>
     requires { length depths.now ≡ length channels.now }
     ensures { OnOk result (text.new ≡ text.old ++ text_of_lines (depth_lines channels.now depths.now)) }
 {
@@ -62,11 +70,4 @@ fn print_depth(text: &mut List<u8>, channel: &Channel, depth: u64) -> Result<(),
     push_token(text, channel.name.bytes())?;
     push_value(text, depth)?;
     text.push(b'\n')
-}
-
-/// Whether a channel is a FIFO.
-fn is_fifo(kind: ChannelKind) -> bool
-    ensures { result ≡ is_fifo kind }
-{
-    matches!(kind, ChannelKind::Fifo(_, _))
 }

@@ -54,7 +54,13 @@ pub(crate) fn make<R: Threads + Wait + Sync, G: Gate + Sync>(
         Task::Advise(options) => advise_depths(rt, alloc, limited(checked, options), gate),
         Task::Wave(options) => wave_plan(rt, alloc, limited(checked, options), gate),
         Task::Order => order_modules(alloc, &checked.plan),
-        Task::Sweep(lo, hi, options) => sweep_depths(rt, alloc, *lo, *hi, limited(checked, options)),
+        Task::Sweep(lo, hi, options) => sweep_depths(
+            rt,
+            alloc,
+            *lo,
+            *hi,
+            limited(checked, options),
+        ),
     }
 }
 

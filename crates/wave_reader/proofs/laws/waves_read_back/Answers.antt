@@ -1,0 +1,25 @@
+use Rattle.std.proofs.Common.{subst, sym}
+use Rattle.vcd_wave.specs.Wave.{wave_of}
+use Rattle.vcd_wave.specs.WaveText.{wave_text}
+use Rattle.vcd_wave.specs.Told.{TellsFill}
+use Rattle.wave_reader.proofs.OneWave.{one_wave}
+use Rattle.wave_reader.proofs.Plans.{one_fill, tells_it, tells_only, declared_is, within_is}
+use Rattle.wave_reader.proofs.laws.waves_read_back.Goals as goal
+
+pub returns-clause-one_wave : goal.returns-clause-one_wave
+returns-clause-one_wave c = one_wave
+
+pub returns-clause-one_fill : goal.returns-clause-one_fill
+returns-clause-one_fill c = one_fill
+
+pub returns-clause-tells : goal.returns-clause-tells
+returns-clause-tells c = λ p fits i d v l m. (
+  tells_only p fits i d v l m,
+  (λ e. subst (TellsFill (wave_text (wave_of p)) i d) (sym e) (tells_it p fits i d l m)),
+)
+
+pub returns-clause-declared : goal.returns-clause-declared
+returns-clause-declared c = declared_is
+
+pub returns-clause-within : goal.returns-clause-within
+returns-clause-within c = within_is

@@ -93,10 +93,12 @@ changes_same (c ∷ cs) (d ∷ ds) r s nr ns h g e =
     let behind = append_cancel_left (98 ∷ []) (binary c.fill ++ 32 ∷ (102 ∷ (decimal c.fifo ++ 10 ∷ (changes_text cs ++ r))))
     (binary d.fill ++ 32 ∷ (102 ∷ (decimal d.fifo ++ 10 ∷ (changes_text ds ++ s))))
     (sym (change_parts c cs r) ∙ (e ∙ change_parts d ds s)) in
-    let number = cut 32 (binary c.fill) (binary d.fill) _ _ (binary_lacks 32 c.fill (omega arith)) (binary_lacks 32 d.fill (omega arith)) behind in
+    let number = cut 32 (binary c.fill) (binary d.fill) _ _ (binary_lacks 32 c.fill (omega arith))
+    (binary_lacks 32 d.fill (omega arith)) behind in
     let code = append_cancel_left (102 ∷ []) (decimal c.fifo ++ 10 ∷ (changes_text cs ++ r)) (decimal d.fifo ++ 10 ∷ (changes_text ds ++ s))
     number.1 in
-    let fifo = cut 10 (decimal c.fifo) (decimal d.fifo) _ _ (decimal_lacks 10 c.fifo (omega arith) h.0) (decimal_lacks 10 d.fifo (omega arith) g.0) code in
+    let fifo = cut 10 (decimal c.fifo) (decimal d.fifo) _ _ (decimal_lacks 10 c.fifo (omega arith) h.0)
+    (decimal_lacks 10 d.fifo (omega arith) g.0) code in
     let more = changes_same cs ds r s nr ns h.1 g.1 fifo.1 in
     let same : c ≡ d = ap₂ (λ (i v : ℕ). let x : Change = record { fifo = i; fill = v } in x)
     (decimal_injective c.fifo d.fifo h.0 g.0 fifo.0) (binary_same c.fill d.fill number.0) in
@@ -156,7 +158,9 @@ abbrev last_header : List (List Token)
 last_header = (codes "$upscope $end" ∷ []) ∷ (codes "$enddefinitions $end" ∷ []) ∷ []
 
 three : (a b c : List (List Token)) → text_of_lines (a ++ b ++ c) ≡ text_of_lines a ++ (text_of_lines b ++ text_of_lines c)
-three a b c = text-append (a ++ b) c ∙ (ap (λ (t : List ℕ). t ++ text_of_lines c) (text-append a b) ∙ append_assoc (text_of_lines a) (text_of_lines b) (text_of_lines c))
+three a b c =
+    text-append (a ++ b) c
+    ∙ (ap (λ (t : List ℕ). t ++ text_of_lines c) (text-append a b) ∙ append_assoc (text_of_lines a) (text_of_lines b) (text_of_lines c))
 
 pub wave_parts : (w : Wave)
     → wave_text w
@@ -169,7 +173,8 @@ wave_parts w =
     three (header_lines w.names) o l
     ∙ (ap (λ (t : List ℕ). t ++ (text_of_lines o ++ text_of_lines l)) (ap (λ (t : List ℕ). scope ++ t) (text-append vs last_header))
     ∙ (append_assoc scope (vars_from 0 w.names ++ text_of_lines last_header) (text_of_lines o ++ text_of_lines l)
-    ∙ ap (λ (t : List ℕ). scope ++ t) (append_assoc (vars_from 0 w.names) (text_of_lines last_header) (text_of_lines o ++ text_of_lines l))))
+    ∙ ap (λ (t : List ℕ). scope ++ t)
+    (append_assoc (vars_from 0 w.names) (text_of_lines last_header) (text_of_lines o ++ text_of_lines l))))
 
 pub names_long : (w : Wave) → length w.names ≤ length (wave_text w)
 names_long w =
@@ -197,7 +202,8 @@ timed w h few =
 
 names_lack : (w : Wave) → IsWave w → AllByRecursion (Lacks 32) w.names
 names_lack w h =
-    each (λ (n : List ℕ). IsTrue (is_name n)) (Lacks 32) name_lacks w.names (recursion_from_All (λ (n : List ℕ). IsTrue (is_name n)) w.names h.names)
+    each (λ (n : List ℕ). IsTrue (is_name n)) (Lacks 32) name_lacks w.names
+    (recursion_from_All (λ (n : List ℕ). IsTrue (is_name n)) w.names h.names)
 
 pub one_wave : (v w : Wave) → IsWave v → IsWave w → length v.names < 2 ^ 64 → wave_text v ≡ wave_text w → v ≡ w
 one_wave v w h g few e =

@@ -10,7 +10,8 @@ ghost use Rattle.vcd_wave.specs.Told.{IsWave, TellsFill};
 /// A text is the text of one wave at most, so it tells one number of each FIFO in each clock at most. The text of a plan's wave tells
 /// of its FIFOs what they hold in the clocks up to the verdict's, and tells nothing of later clocks and of other FIFOs.
 ///
-/// The names of a wave are fewer than 2^64, since a number is written in 64 decimal digits at most, and in no more where it is larger.
+/// `one_wave` speaks of waves with fewer than 2^64 names, as each that stands in memory has: `decimal` writes the last 64 digits of a
+/// number, so it does not tell all numbers of FIFOs apart from 10^64 on.
 pub fn waves_read_back()
     ensures one_wave { (v w : Wave) → IsWave v → IsWave w → length v.names < 2 ^ 64 → wave_text v ≡ wave_text w → v ≡ w }
     ensures one_fill { (text : List ℕ) → length text < 2 ^ 64 → (i c a b : ℕ) → TellsFill text i c a → TellsFill text i c b → a ≡ b }

@@ -18,14 +18,14 @@ abbrev pub Lacks : ℕ → List ℕ → Type 0
 Lacks k [] = Unit {0}
 Lacks k (x ∷ xs) = (x ≢ k) × Lacks k xs
 
-head_same : (x y : ℕ) (xs ys : List ℕ) → x ∷ xs ≡ y ∷ ys → x ≡ y
+pub head_same : (x y : ℕ) (xs ys : List ℕ) → x ∷ xs ≡ y ∷ ys → x ≡ y
 head_same x y xs ys e = ap (λ (l : List ℕ). get_or l 0 0) e
 
 tail_of : List ℕ → List ℕ
 tail_of [] = []
 tail_of (x ∷ xs) = xs
 
-tail_same : (x y : ℕ) (xs ys : List ℕ) → x ∷ xs ≡ y ∷ ys → xs ≡ ys
+pub tail_same : (x y : ℕ) (xs ys : List ℕ) → x ∷ xs ≡ y ∷ ys → xs ≡ ys
 unfolding tail_of
 tail_same x y xs ys e = ap tail_of e
 
@@ -40,10 +40,10 @@ cut k (x ∷ xs) (y ∷ ys) r s h g e =
 
 -- ---- digits
 
-abbrev shown : List ℕ → List ℕ
+abbrev pub shown : List ℕ → List ℕ
 shown ds = map (λ d. 48 + d) ds
 
-shown_lacks : (k : ℕ) → k < 48 → (ds : List ℕ) → Lacks k (shown ds)
+pub shown_lacks : (k : ℕ) → k < 48 → (ds : List ℕ) → Lacks k (shown ds)
 shown_lacks k h [] = tt
 shown_lacks k h (d ∷ ds) = ((λ e. absurd (omega arith)), shown_lacks k h ds)
 

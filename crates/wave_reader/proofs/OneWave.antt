@@ -21,7 +21,7 @@ use Rattle.wave_reader.proofs.Cutting.{Lacks, cut, decimal_lacks, binary_lacks, 
 line_one : (a r : List ℕ) → line (a ∷ []) ++ r ≡ a ++ 10 ∷ r
 line_one a r = append_assoc a (10 ∷ []) r
 
-line_two : (a b r : List ℕ) → line (a ∷ b ∷ []) ++ r ≡ a ++ 32 ∷ (b ++ 10 ∷ r)
+pub line_two : (a b r : List ℕ) → line (a ∷ b ∷ []) ++ r ≡ a ++ 32 ∷ (b ++ 10 ∷ r)
 line_two a b r = grind (arith, common_steps)
 
 line_four : (a b c d r : List ℕ) → line (a ∷ b ∷ c ∷ d ∷ []) ++ r ≡ (a ++ 32 ∷ (b ++ 32 ∷ [])) ++ (c ++ 32 ∷ (d ++ 10 ∷ r))
@@ -32,10 +32,10 @@ line_four a b c d r = grind (arith, common_steps)
 abbrev pub vars_from : ℕ → List (List ℕ) → List ℕ
 vars_from n names = text_of_lines (map var_tokens (enumerate_from n names))
 
-abbrev var_front : ℕ → List ℕ
+abbrev pub var_front : ℕ → List ℕ
 var_front n = codes "$var wire 32" ++ 32 ∷ (code_of n ++ 32 ∷ [])
 
-var_parts : (n : ℕ) (x : List ℕ) (xs : List (List ℕ)) (r : List ℕ)
+pub var_parts : (n : ℕ) (x : List ℕ) (xs : List (List ℕ)) (r : List ℕ)
     → vars_from n (x ∷ xs) ++ r ≡ var_front n ++ (x ++ 32 ∷ (codes "$end" ++ 10 ∷ (vars_from (n + 1) xs ++ r)))
 var_parts n x xs r =
     append_assoc (line (var_tokens (n, x))) (vars_from (n + 1) xs) r
@@ -68,13 +68,13 @@ vars_long n (x ∷ xs) r =
 -- ---- the changes of a clock
 
 -- numbers that are written in full
-abbrev IsWritten : Change → Type 0
+abbrev pub IsWritten : Change → Type 0
 IsWritten c = c.fifo < 2 ^ 64
 
-abbrev changes_text : List Change → List ℕ
+abbrev pub changes_text : List Change → List ℕ
 changes_text cs = text_of_lines (map change_tokens cs)
 
-change_parts : (c : Change) (cs : List Change) (r : List ℕ)
+pub change_parts : (c : Change) (cs : List Change) (r : List ℕ)
     → changes_text (c ∷ cs) ++ r ≡ 98 ∷ (binary c.fill ++ 32 ∷ (102 ∷ (decimal c.fifo ++ 10 ∷ (changes_text cs ++ r))))
 change_parts c cs r =
     append_assoc (line (change_tokens c)) (changes_text cs) r
@@ -106,13 +106,13 @@ changes_same (c ∷ cs) (d ∷ ds) r s nr ns h g e =
 
 -- ---- clock after clock
 
-abbrev IsTimed : Instant → Type 0
+abbrev pub IsTimed : Instant → Type 0
 IsTimed i = (i.clock < 2 ^ 64) × AllByRecursion IsWritten i.changes
 
-abbrev instants_text : List Instant → List ℕ
+abbrev pub instants_text : List Instant → List ℕ
 instants_text is = text_of_lines (flat_map instant_lines is)
 
-instant_parts : (i : Instant) (is : List Instant)
+pub instant_parts : (i : Instant) (is : List Instant)
     → instants_text (i ∷ is) ≡ 35 ∷ (decimal i.clock ++ 10 ∷ (changes_text i.changes ++ instants_text is))
 instant_parts i is =
     text-append (instant_lines i) (flat_map instant_lines is)
@@ -124,7 +124,7 @@ no_change [] e = absurd (omega arith)
 no_change (i ∷ is) e =
     let wrong : 35 ≡ 98 = sym (ap (λ (l : List ℕ). get_or l 0 0) (instant_parts i is)) ∙ e in absurd (omega (arith, wrong))
 
-instants_same : (is js : List Instant) → AllByRecursion IsTimed is → AllByRecursion IsTimed js
+pub instants_same : (is js : List Instant) → AllByRecursion IsTimed is → AllByRecursion IsTimed js
     → instants_text is ≡ instants_text js → is ≡ js
 instants_same [] [] h g e = refl
 instants_same [] (j ∷ js) h g e =
@@ -144,14 +144,14 @@ instants_same (i ∷ is) (j ∷ js) h g e =
 
 -- ---- the whole text
 
-abbrev opening_text : ℕ → List ℕ
+abbrev pub opening_text : ℕ → List ℕ
 opening_text n = text_of_lines (instant_lines (opening n))
 
-abbrev scope : List ℕ
+abbrev pub scope : List ℕ
 scope = codes "$timescale 1 ns $end\n$scope module flow $end\n"
 
 -- what stands behind the names, without its first two bytes
-abbrev end_of_scope : List ℕ
+abbrev pub end_of_scope : List ℕ
 end_of_scope = codes "pscope $end\n$enddefinitions $end\n"
 
 abbrev last_header : List (List Token)
@@ -183,15 +183,15 @@ names_long w =
     omega (arith, parts, vars_long 0 w.names rest)
 
 -- each element keeps what it is said to keep
-each : {X : Type 0} (P Q : X → Type 0) → ((x : X) → P x → Q x) → (xs : List X) → AllByRecursion P xs → AllByRecursion Q xs
+pub each : {X : Type 0} (P Q : X → Type 0) → ((x : X) → P x → Q x) → (xs : List X) → AllByRecursion P xs → AllByRecursion Q xs
 each P Q f [] h = tt
 each P Q f (x ∷ xs) h = (f x h.0, each P Q f xs h.1)
 
-both : {X : Type 0} (P Q : X → Type 0) (xs : List X) → AllByRecursion P xs → AllByRecursion Q xs → AllByRecursion (λ x. P x × Q x) xs
+pub both : {X : Type 0} (P Q : X → Type 0) (xs : List X) → AllByRecursion P xs → AllByRecursion Q xs → AllByRecursion (λ x. P x × Q x) xs
 both P Q [] h g = tt
 both P Q (x ∷ xs) h g = ((h.0, g.0), both P Q xs h.1 g.1)
 
-timed : (w : Wave) → IsWave w → length w.names < 2 ^ 64 → AllByRecursion IsTimed w.later
+pub timed : (w : Wave) → IsWave w → length w.names < 2 ^ 64 → AllByRecursion IsTimed w.later
 timed w h few =
     both (λ (i : Instant). i.clock < 2 ^ 64) (λ (i : Instant). AllByRecursion IsWritten i.changes) w.later
     (recursion_from_All (λ (i : Instant). i.clock < 2 ^ 64) w.later h.clocks)
@@ -200,7 +200,7 @@ timed w h few =
     (recursion_from_All (IsChange (length w.names)) i.changes all))
     w.later (recursion_from_All (λ (i : Instant). All (IsChange (length w.names)) i.changes) w.later h.changes))
 
-names_lack : (w : Wave) → IsWave w → AllByRecursion (Lacks 32) w.names
+pub names_lack : (w : Wave) → IsWave w → AllByRecursion (Lacks 32) w.names
 names_lack w h =
     each (λ (n : List ℕ). IsTrue (is_name n)) (Lacks 32) name_lacks w.names
     (recursion_from_All (λ (n : List ℕ). IsTrue (is_name n)) w.names h.names)

@@ -1,0 +1,12 @@
+use Rattle.std.proofs.Common.{length}
+use Rattle.wave_reader.specs.declared.scan.Scan.{Scan as State}
+use Rattle.wave_reader.specs.Scans.{opening_scan, Leads}
+use Rattle.wave_reader.proofs.scan.scan_lines.Given as goal
+
+abbrev pub invariant-loop-rest : goal.invariant-loop-rest
+invariant-loop-rest l =
+    ((r : State) → Leads l.asked l.scan l.rest r → Leads l.asked (opening_scan l.asked.count) l.fn.text r)
+    × ((r : State) → Leads l.asked (opening_scan l.asked.count) l.fn.text r → Leads l.asked l.scan l.rest r)
+
+abbrev pub decreases-loop-rest : goal.decreases-loop-rest
+decreases-loop-rest l = length l.rest

@@ -1,0 +1,33 @@
+-- What stands before the later clocks.
+use Rattle.std.specs.Prelude.{ℕ, ◌≡◌, ◌+◌, zero, suc, IsTrue, List, [], ◌∷◌, ◌++◌, map, length, codes}
+use Rattle.std.specs.List.{enumerate_from, AllByRecursion}
+use Rattle.flow_design.specs.Names.{is_name}
+use Rattle.report_text.specs.Lines.{text_of_lines}
+use Rattle.vcd_wave.specs.Wave.{Change}
+use Rattle.vcd_wave.specs.WaveText.{var_tokens, change_tokens}
+use Rattle.wave_reader.specs.Digits.{numeral}
+
+-- a text that begins with the line of a name
+abbrev pub named : ℕ → List ℕ → List ℕ → List ℕ
+named n name rest = codes "$var wire 32 f" ++ (numeral 10 n ++ 32 ∷ (name ++ 32 ∷ (codes "$end\n" ++ rest)))
+
+-- from this number on, names stand up to the number behind them, and then the rest behind `$u`
+pub record Names (n : ℕ) (text : List ℕ) (count : ℕ) (rest : List ℕ) : Type 0 where
+  pub names : List (List ℕ)
+  pub all : AllByRecursion (λ x. IsTrue (is_name x)) names
+  pub counted : count ≡ n + length names
+  pub is_text : text ≡ text_of_lines (map var_tokens (enumerate_from n names)) ++ 36 ∷ 117 ∷ rest
+
+-- so many FIFOs are empty, from this number on
+abbrev pub empty_from : ℕ → ℕ → List Change
+empty_from n zero = []
+empty_from n (suc more) = record { fifo = n; fill = 0 } ∷ empty_from (n + 1) more
+
+abbrev pub empty_text : ℕ → ℕ → List ℕ
+empty_text n more = text_of_lines (map change_tokens (empty_from n more))
+
+-- so many names, then clock 0 in which these FIFOs are empty, then the rest
+pub record Headed (text : List ℕ) (count : ℕ) (rest : List ℕ) : Type 0 where
+  pub body : List ℕ
+  pub is_text : text ≡ codes "$timescale 1 ns $end\n$scope module flow $end\n" ++ body
+  pub names : Names 0 body count (codes "pscope $end\n$enddefinitions $end\n#0\n" ++ (empty_text 0 count ++ rest))

@@ -82,7 +82,8 @@ tells text a rest r few declared hd all h le =
             let lead = all f (omega (arith, l, count)) in
             let p = opened b rest lead.0 lead.1 in
             subst (λ (is : List Instant). Varies 0 (told_in f is))
-            (instants_same p.later o.later (timed_by b rest lead.0 p few) (timed_by a rest r o few) (sym p.is_text ∙ o.is_text)) p.told.varies;
+            (instants_same p.later o.later (timed_by b rest lead.0 p few) (timed_by a rest r o few) (sym p.is_text ∙ o.is_text))
+            p.told.varies;
       };
       its_text = hd.is_text
           ∙ (ap (λ (t : List ℕ). scope ++ t)

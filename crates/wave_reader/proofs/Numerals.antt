@@ -118,7 +118,8 @@ number_some base most n (c ∷ []) two e =
     (λ other. first_read base most n c [] two other e)
     (cases_eq c 48)
 number_some base most n (c ∷ d ∷ ds) two e =
-    ⊎_elim (λ same. let wrong : None ≡ Some n = ap (λ (b : Bool). cond b None (digits_read base most 0 (c ∷ d ∷ ds))) (sym (eq-eqb c 48 same)) ∙ e in cc)
+    ⊎_elim (λ same. let wrong : None ≡ Some n =
+    ap (λ (b : Bool). cond b None (digits_read base most 0 (c ∷ d ∷ ds))) (sym (eq-eqb c 48 same)) ∙ e in cc)
     (λ other. first_read base most n c (d ∷ ds) two other
     (ap (λ (b : Bool). cond b None (digits_read base most 0 (c ∷ d ∷ ds))) (sym (ne_eqb c 48 other)) ∙ e))
     (cases_eq c 48)

@@ -187,7 +187,11 @@ instants_told a s (i ∷ is) r h =
     let held : h.0.told ≡ s.told = ap (λ (x : Scan). x.told) ts.is in
     record {
       clocks = (h.3, t.clocks);
-      behind = (ts.later, each (λ (x : Instant). h.1.clock < x.clock) (λ x. s.clock < x.clock) (λ x g. omega (arith, g, here, ts.later)) is t.behind);
+      behind = (
+        ts.later,
+        each (λ (x : Instant). h.1.clock < x.clock) (λ x. s.clock < x.clock)
+            (λ x g. omega (arith, g, here, ts.later)) is t.behind,
+      );
       rising = AllPairs-cons (λ (x y : Instant). x.clock < y.clock) i is
           (All-from_recursion (λ (x : Instant). i.clock < x.clock) is
           (each (λ (x : Instant). h.1.clock < x.clock) (λ x. i.clock < x.clock) (λ x g. omega (arith, g, here)) is t.behind)) t.rising;

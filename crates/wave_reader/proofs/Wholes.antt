@@ -75,13 +75,15 @@ tells text a rest r few declared hd all h le =
         some = o.told.some;
         changes = subst (λ (n : ℕ). All (λ (i : Instant). All (IsChange n) i.changes) o.later) count
             (All-from_recursion (λ (i : Instant). All (IsChange a.count) i.changes) o.later o.told.changes);
-        in_order = All-from_recursion (λ (i : Instant). AllPairs (λ (x y : Change). x.fifo < y.fifo) i.changes) o.later o.told.in_order;
+        in_order = All-from_recursion (λ (i : Instant). AllPairs (λ (x y : Change). x.fifo < y.fifo) i.changes) o.later
+            o.told.in_order;
         other = λ f l.
             let b : Asked = record { count = a.count; fifo = f; clock = a.clock } in
             let lead = all f (omega (arith, l, count)) in
             let p = opened b rest lead.0 lead.1 in
             subst (λ (is : List Instant). Varies 0 (told_in f is))
-            (instants_same p.later o.later (timed_by b rest lead.0 p few) (timed_by a rest r o few) (sym p.is_text ∙ o.is_text)) p.told.varies;
+            (instants_same p.later o.later (timed_by b rest lead.0 p few) (timed_by a rest r o few) (sym p.is_text ∙ o.is_text))
+            p.told.varies;
       };
       its_text = hd.is_text
           ∙ (ap (λ (t : List ℕ). scope ++ t)

@@ -1,6 +1,7 @@
 //! What `advise`, `wave`, `order` and `sweep` answer.
 use crate::asking::answers;
 use std::test::Fail;
+use wave_reader::wave_fill;
 use whole_answer::Status;
 use worked_sessions::{DEADLOCKS, REALISTIC_LINE, TWO_MODULES};
 
@@ -124,4 +125,21 @@ fn further_commands_at_a_deadlock(rt: HostRuntime) -> Result<(), Fail> {
     let swept = b"point 1 1 deadlock 0\nbest none\n";
     answers(&rt, "advise", &[], held, advised, Status::Deadlock)?;
     answers(&rt, "sweep", &["1", "1"], held, swept, Status::Deadlock)
+}
+
+/// The number of a FIFO, a clock, and what the wave of two modules says that the FIFO holds then.
+const FILLS_OF_TWO_MODULES: &[(u32, u64, Option<u64>)] = &[
+    (0, 0, Some(0)),
+    (0, 2, Some(1)),
+    (0, 4, Some(0)),
+    (0, 5, None),
+    (1, 2, None),
+];
+
+#[test]
+fn a_wave_says_its_fills(rt: HostRuntime) -> Result<(), Fail> {
+    for (fifo, clock, fill) in FILLS_OF_TWO_MODULES {
+        assert_eq!(rt; wave_fill(WAVE_OF_TWO_MODULES, *fifo, *clock), *fill);
+    }
+    Ok(())
 }

@@ -12,7 +12,8 @@ use Rattle.wave_reader.specs.Headers.{Headed, empty_from, empty_text}
 use Rattle.wave_reader.specs.Scans.{ChangesLead, InstantsLead, Leads, LeadsFor, opening_scan}
 use Rattle.wave_reader.specs.declared.scan.Asked.{Asked}
 use Rattle.wave_reader.specs.declared.scan.Scan.{Scan}
-use Rattle.wave_reader.proofs.OneWave.{changes_text, instants_text, opening_text, vars_from, scope, end_of_scope, wave_parts, names_long, instants_same, IsTimed, IsWritten, each, both, timed}
+use Rattle.wave_reader.proofs.OneWave.{changes_text, instants_text, opening_text, vars_from, scope, end_of_scope, wave_parts}
+use Rattle.wave_reader.proofs.OneWave.{names_long, instants_same, IsTimed, IsWritten, each, both, timed}
 use Rattle.vcd_wave.specs.Told.{last_or}
 use Rattle.wave_reader.proofs.Orders.{changes_told, InstantsTold, instants_told, instants_go}
 

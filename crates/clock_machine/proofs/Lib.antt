@@ -2,5 +2,4 @@ pub mod Fronts
 pub mod PartLemmas
 pub mod Queues
 pub mod Steps
-pub mod Tables
 pub mod Kept

@@ -10,7 +10,7 @@ use Rattle.flow_design.specs.declared.plan.Plan.{Plan}
 use Rattle.flow_design.specs.declared.state.ClockState.{ClockState}
 use Rattle.flow_design.specs.declared.state.ModuleState.{ModuleState}
 use Rattle.flow_design.specs.declared.state.Request.{Request}
-use Rattle.flow_design.specs.Module.{due}
+use Rattle.module_move.specs.Moves.{notes_of}
 use Rattle.lockstep_defs.specs.Machine.{is_over, nobody, requests}
 use Rattle.lockstep_defs.specs.Channels.{is_empty, contents_of, all_ready, stalls, reply}
 use Rattle.lockstep_defs.specs.Lockstep.{requests_of, moves, numbered, module_at}
@@ -62,11 +62,11 @@ moving_part p clock contents m h k = by_moves p clock contents m true (rw (h, k)
 -- what a module's part holds once it is answered
 pub answered_part : (p : Plan) (clock : ℕ) (contents : List (List Element)) (m : ℕ × ModuleState) (asked : List Request) (part : Part)
     → is_over p.ops m.1 ≡ false → list_any (stalls p clock contents) asked ≡ false → asked ≡ requests_of p m
-    → part.moves ≡ true → part.pending ≡ due (module_at p m.0) m.1 → part.replies ≡ map (reply p clock contents) asked
+    → part.moves ≡ true → part.noted ≡ notes_of (module_at p m.0) m.1 → part.replies ≡ map (reply p clock contents) asked
     → part.answered ≡ map (answered_as p clock contents) asked → part ≡ part_of p clock contents m
-answered_part p clock contents m asked part running free is moving pending replies answered =
+answered_part p clock contents m asked part running free is moving noted replies answered =
     let same : part ≡ part_on p clock contents m asked =
-    λ i. record { moves = moving i; pending = pending i; replies = replies i; answered = answered i } in
+    λ i. record { moves = moving i; noted = noted i; replies = replies i; answered = answered i } in
     same ∙ (ap (part_on p clock contents m) is
     ∙ sym (moving_part p clock contents m running (ap (list_any (stalls p clock contents)) (sym is) ∙ free)))
 

@@ -119,11 +119,11 @@ ready_part p clock contents m = by_test (moves p clock contents m) refl
     by_test : (b : Bool) → moves p clock contents m ≡ b → IsReady p m (part_of p clock contents m)
     by_test true h = record {
       running = λ k. moves_when p clock contents m h;
-      due = λ k. ap (λ (part : Part). part.pending) (part_when_moving p clock contents m h);
+      noted = λ k. ap (λ (part : Part). part.noted) (part_when_moving p clock contents m h);
     }
     by_test false h = let still = ap (λ (part : Part). part.moves) (part_when_still p clock contents m h) in record {
       running = λ k. absurd (false≢true (sym still ∙ k));
-      due = λ k. absurd (false≢true (sym still ∙ k));
+      noted = λ k. absurd (false≢true (sym still ∙ k));
     }
 
 pub parts_ready : (p : Plan) (clock : ℕ) (st : ClockState) (parts : List Part) → parts ≡ map (part_of p clock st.contents) (numbered st)

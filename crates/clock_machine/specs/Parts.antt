@@ -11,7 +11,6 @@ use Rattle.flow_design.specs.declared.report.Verdict.{Verdict}
 use Rattle.flow_design.specs.declared.state.ClockState.{ClockState}
 use Rattle.flow_design.specs.declared.state.ModuleState.{ModuleState}
 use Rattle.flow_design.specs.declared.state.Request.{Request}
-use Rattle.flow_design.specs.Module.{due}
 use Rattle.lockstep_defs.specs.Machine.{is_yes, is_over, move, nobody}
 use Rattle.flow_word.specs.declared.access.Side.TheVariants.{Pop, Push}
 use Rattle.flow_word.specs.Kinds.{is_blocking}
@@ -20,8 +19,9 @@ use Rattle.lockstep_defs.specs.Lockstep.{module_at, requests_of, moves, step_wit
 use Rattle.lockstep_defs.specs.Verdict.{held}
 use Rattle.lockstep_defs.specs.Report.{outputs_in}
 use Rattle.module_move.specs.Sound.{IsRunnable}
-use Rattle.module_move.specs.Scheduled.{AreSchedulesOf}
-use Rattle.block_schedule.specs.declared.schedule.Schedule.{Schedule}
+use Rattle.module_move.specs.Moves.{notes_of}
+use Rattle.block_code.specs.declared.code.BlockCode.{BlockCode}
+use Rattle.block_code.specs.Codes.{AreCodesOf}
 use Rattle.clock_machine.specs.declared.part.Answered.{Answered}
 use Rattle.clock_machine.specs.declared.part.Part.{Part}
 
@@ -37,13 +37,13 @@ answered_as p clock contents r = record { request = r; reply = reply p clock con
 
 -- the part of a module that does not move
 abbrev pub no_part : Part
-no_part = record { moves = false; pending = []; replies = []; answered = [] }
+no_part = record { moves = false; noted = []; replies = []; answered = [] }
 
 -- the part of a module that moves on these requests
 abbrev pub part_on : Plan → ℕ → List (List Element) → ℕ × ModuleState → List Request → Part
 part_on p clock contents m asked = record {
   moves = true;
-  pending = due (module_at p m.0) m.1;
+  noted = notes_of (module_at p m.0) m.1;
   replies = map (reply p clock contents) asked;
   answered = map (answered_as p clock contents) asked;
 }
@@ -56,10 +56,10 @@ part_of p clock contents m = if moves p clock contents m then part_on p clock co
 abbrev pub after_part : Plan → ℕ × ModuleState → Part → ModuleState
 after_part p m part = if part.moves then move (module_at p m.0) m.1 part.replies else m.1
 
--- a module that moves is not over, and its part has what is due in it
+-- a module that moves is not over, and its part has what was noted of what is due in it
 pub record IsReady (p : Plan) (m : ℕ × ModuleState) (part : Part) : Type 0 where
   pub running : part.moves ≡ true → is_over p.ops m.1 ≡ false
-  pub due : part.moves ≡ true → part.pending ≡ due (module_at p m.0) m.1
+  pub noted : part.moves ≡ true → part.noted ≡ notes_of (module_at p m.0) m.1
 
 -- ---- what the parts make up
 
@@ -123,10 +123,11 @@ pub record AreFitInTime (p : Plan) (states : List ModuleState) : Type 0 where
   pub early : clock ≤ p.cycles
   pub fit : AreFit p clock states
 
--- the schedules of all blocks, module by module
-pub record AreSchedules (p : Plan) (tables : List (List Schedule)) : Type 0 where
-  pub count : length tables ≡ length p.design.modules
-  pub each : (i : ℕ) (d : List Schedule) → i < length p.design.modules → AreSchedulesOf (module_at p i).blocks (slice_index_or tables i d)
+-- the code of all blocks, module by module
+pub record AreCodes (p : Plan) (codes : List (List BlockCode)) : Type 0 where
+  pub count : length codes ≡ length p.design.modules
+  pub each : (i : ℕ) (d : List BlockCode) → i < length p.design.modules
+      → AreCodesOf p.design.channels (module_at p i) (slice_index_or codes i d)
 
 -- ---- the report
 

@@ -6,16 +6,16 @@ ghost use Rattle.lockstep_defs.specs.Machine.{nobody, requests};
 ghost use Rattle.lockstep_defs.specs.Channels.{all_ready, reply};
 ghost use Rattle.lockstep_defs.specs.Lockstep.{module_at, numbered, moves};
 ghost use Rattle.lockstep_defs.specs.Verdict.{is_settled, some_moves};
-ghost use Rattle.clock_machine.specs.Parts.{part_of, answered_as, AreFit, AreFitInTime, AreSchedules};
+ghost use Rattle.clock_machine.specs.Parts.{part_of, answered_as, AreFit, AreFitInTime, AreCodes};
 ghost use Rattle.module_move.specs.Sound.{IsStateSound};
-ghost use Rattle.flow_design.specs.Module.{due};
+ghost use Rattle.module_move.specs.Moves.{notes_of};
 
 use crate::channels::{any_stalls, any_stalls_ever, reply_to};
 use crate::part::{Answered, Part, Scratch};
-use block_schedule::Schedule;
-use flow_design::{ClockState, Due, Element, Module, ModuleState, Plan, Request};
-use flow_word::{List, OutOfMemory, Queue};
-use module_move::{ask, is_over};
+use block_code::{BlockCode, Noted};
+use flow_design::{ClockState, Element, Module, ModuleState, Plan, Request};
+use flow_word::{List, OutOfMemory, Queue, Words};
+use module_move::{is_over, note};
 
 /// Module number i of a plan.
 pub fn module_at(plan: &Plan, i: usize) -> &Module
@@ -33,32 +33,35 @@ pub fn state_at(state: &ClockState, i: usize) -> &ModuleState
     &state.modules.as_slice()[i]
 }
 
-/// Fills in what is due in module number i, in this state, and the requests of the FIFO operations among it.
-pub fn ask_one(
+/// Fills in what is noted of the due operations of module number i, in this state, and the requests of the FIFO operations
+/// among them.
+pub fn note_one(
     plan: &Plan,
-    schedules: &[List<Schedule>],
+    codes: &[List<BlockCode>],
     i: usize,
     state: &ModuleState,
-    pending: &mut List<Due>,
+    words: &mut Words,
+    noted: &mut List<Noted>,
     asked: &mut List<Request>,
 ) -> Result<(), OutOfMemory>
     requires fits { FitsEngine plan.now }
-    requires schedules { AreSchedules plan.now schedules.now }
+    requires codes { AreCodes plan.now codes.now }
     requires within { i < length plan.now.design.modules }
     requires sound { IsStateSound (module_at plan.now i) state.now }
     requires small { state.now.control.clock < 2 ^ 60 }
-    ensures due { OnOk result (pending.new ≡ due (module_at plan.now i) state.now) }
+    ensures noted { OnOk result (noted.new ≡ notes_of (module_at plan.now i) state.now) }
     ensures asked { OnOk result (asked.new ≡ requests plan.now.design.channels (module_at plan.now i) state.now) }
 {
-    let own = &schedules[i];
-    let schedule = &own.as_slice()[state.control.block as usize];
+    let own = &codes[i];
+    let code = &own.as_slice()[state.control.block as usize];
     let channels = plan.design.channels.as_slice();
-    ask(
+    note(
         channels,
         module_at(plan, i),
-        schedule,
+        code,
         state,
-        pending,
+        words,
+        noted,
         asked,
     )?;
     Ok(())
@@ -75,7 +78,7 @@ fn answer(
     ensures replies { OnOk result (part.new.replies ≡ part.old.replies ++ map (reply plan.now clock contents.now) requests.now) }
     ensures answered { OnOk result (part.new.answered ≡ part.old.answered ++ map (answered_as plan.now clock contents.now) requests.now) }
     ensures moves { OnOk result (part.new.moves ≡ part.old.moves) }
-    ensures pending { OnOk result (part.new.pending ≡ part.old.pending) }
+    ensures noted { OnOk result (part.new.noted ≡ part.old.noted) }
 {
     for request in requests {
         let reply = reply_to(plan, clock, contents, request);
@@ -91,15 +94,16 @@ fn answer(
 /// The part of one module: no part where it is ended, spent or stalls, else what it has due, and the replies.
 fn take_part(
     plan: &Plan,
-    schedules: &[List<Schedule>],
+    codes: &[List<BlockCode>],
     clock: u64,
     state: &ClockState,
     i: usize,
+    words: &mut Words,
     requests: &mut List<Request>,
     part: &mut Part,
 ) -> Result<(), OutOfMemory>
     requires fits { FitsEngine plan.now }
-    requires schedules { AreSchedules plan.now schedules.now }
+    requires codes { AreCodes plan.now codes.now }
     requires fit { AreFit plan.now clock state.now.modules }
     requires early { clock ≤ plan.now.cycles }
     requires within { i < length state.now.modules }
@@ -111,7 +115,7 @@ fn take_part(
     if is_over(plan.ops, module) {
         return Ok(());
     }
-    ask_one(plan, schedules, i, module, &mut part.pending, requests)?;
+    note_one(plan, codes, i, module, words, &mut part.noted, requests)?;
     if any_stalls(plan, clock, contents, requests.as_slice()) {
         part.clear();
         return Ok(());
@@ -124,21 +128,22 @@ fn take_part(
 /// The parts of all modules, in order.
 fn take_parts(
     plan: &Plan,
-    schedules: &[List<Schedule>],
+    codes: &[List<BlockCode>],
     clock: u64,
     state: &ClockState,
+    words: &mut Words,
     requests: &mut List<Request>,
     parts: &mut [Part],
 ) -> Result<(), OutOfMemory>
     requires fits { FitsEngine plan.now }
-    requires schedules { AreSchedules plan.now schedules.now }
+    requires codes { AreCodes plan.now codes.now }
     requires fit { AreFit plan.now clock state.now.modules }
     requires early { clock ≤ plan.now.cycles }
     requires count { length parts.old ≡ length state.now.modules }
     ensures { OnOk result (parts.new ≡ map (part_of plan.now clock state.now.contents) (numbered state.now)) }
 {
     for (i, part) in parts.iter_mut().enumerate() {
-        take_part(plan, schedules, clock, state, i, requests, part)?;
+        take_part(plan, codes, clock, state, i, words, requests, part)?;
     }
     Ok(())
 }
@@ -146,14 +151,15 @@ fn take_parts(
 /// Whether module number i would move if every element could be popped.
 fn would_move(
     plan: &Plan,
-    schedules: &[List<Schedule>],
+    codes: &[List<BlockCode>],
     state: &ClockState,
     i: usize,
-    pending: &mut List<Due>,
+    words: &mut Words,
+    noted: &mut List<Noted>,
     requests: &mut List<Request>,
 ) -> Result<bool, OutOfMemory>
     requires fits { FitsEngine plan.now }
-    requires schedules { AreSchedules plan.now schedules.now }
+    requires codes { AreCodes plan.now codes.now }
     requires fit { AreFitInTime plan.now state.now.modules }
     requires within { i < length state.now.modules }
     ensures { IfOk result (λ moving. moving
@@ -163,7 +169,7 @@ fn would_move(
     if is_over(plan.ops, module) {
         return Ok(false);
     }
-    ask_one(plan, schedules, i, module, pending, requests)?;
+    note_one(plan, codes, i, module, words, noted, requests)?;
     let contents = state.contents.as_slice();
     Ok(!any_stalls_ever(plan, contents, requests.as_slice()))
 }
@@ -171,19 +177,20 @@ fn would_move(
 /// Whether a module would move if every element could be popped.
 fn any_would_move(
     plan: &Plan,
-    schedules: &[List<Schedule>],
+    codes: &[List<BlockCode>],
     state: &ClockState,
-    pending: &mut List<Due>,
+    words: &mut Words,
+    noted: &mut List<Noted>,
     requests: &mut List<Request>,
 ) -> Result<bool, OutOfMemory>
     requires fits { FitsEngine plan.now }
-    requires schedules { AreSchedules plan.now schedules.now }
+    requires codes { AreCodes plan.now codes.now }
     requires fit { AreFitInTime plan.now state.now.modules }
     ensures { IfOk result (λ moving. moving ≡ some_moves plan.now 0 (all_ready state.now.contents) state.now) }
 {
     let count = state.modules.as_slice().len();
     for i in 0..count {
-        if would_move(plan, schedules, state, i, pending, requests)? {
+        if would_move(plan, codes, state, i, words, noted, requests)? {
             return Ok(true);
         }
     }
@@ -201,13 +208,13 @@ fn any_moves(parts: &[Part]) -> bool
 /// element could be popped.
 pub fn ask_all(
     plan: &Plan,
-    schedules: &[List<Schedule>],
+    codes: &[List<BlockCode>],
     clock: u64,
     state: &ClockState,
     scratch: &mut Scratch,
 ) -> Result<bool, OutOfMemory>
     requires fits { FitsEngine plan.now }
-    requires schedules { AreSchedules plan.now schedules.now }
+    requires codes { AreCodes plan.now codes.now }
     requires fit { AreFit plan.now clock state.now.modules }
     requires early { clock ≤ plan.now.cycles }
     requires count { length scratch.old.parts ≡ length state.now.modules }
@@ -216,9 +223,10 @@ pub fn ask_all(
 {
     take_parts(
         plan,
-        schedules,
+        codes,
         clock,
         state,
+        &mut scratch.words,
         &mut scratch.requests,
         scratch.parts.as_mut_slice(),
     )?;
@@ -227,9 +235,10 @@ pub fn ask_all(
     }
     let moving = any_would_move(
         plan,
-        schedules,
+        codes,
         state,
-        &mut scratch.pending,
+        &mut scratch.words,
+        &mut scratch.noted,
         &mut scratch.requests,
     )?;
     Ok(!moving)

@@ -9,9 +9,9 @@ ghost use Rattle.clock_machine.specs.Parts.{exchange, exchanges_of, all_exchange
 
 use crate::channels::delay;
 use crate::part::{Answered, Part};
+use block_code::is_yes;
 use flow_design::{Element, Plan, Reply};
 use flow_word::{Kind, OutOfMemory, Queue};
-use module_move::is_yes;
 
 /// Takes the front off a channel.
 fn pop_front(contents: &mut [Queue<Element>], channel: u32)

@@ -8,14 +8,13 @@ ghost use Rattle.lockstep_defs.specs.Channels.{stalls, all_ready, values, conten
 ghost use Rattle.lockstep_defs.specs.Verdict.{settled_verdict, held_at, held_by, held_in, held, clock_of};
 ghost use Rattle.lockstep_defs.specs.Report.{sinks, outputs_in};
 ghost use Rattle.flow_design.specs.Plans.{is_sink};
-ghost use Rattle.clock_machine.specs.Parts.{AreFit, AreFitInTime, AreSchedules, report_from};
+ghost use Rattle.clock_machine.specs.Parts.{AreFit, AreFitInTime, AreCodes, report_from};
 
-use crate::asking::{ask_one, state_at};
+use crate::asking::{note_one, state_at};
 use crate::channels::stalls_ever;
-use block_schedule::Schedule;
+use block_code::{BlockCode, Noted};
 use flow_design::{
-    ChannelKind, ClockState, Due, Element, EventLine, Held, ModuleState, Plan, Report, Request,
-    Verdict,
+    ChannelKind, ClockState, Element, EventLine, Held, ModuleState, Plan, Report, Request, Verdict,
 };
 use flow_word::{Flags, List, OutOfMemory, Queue, Side, Words};
 use module_move::{is_over, is_spent};
@@ -76,15 +75,16 @@ fn hold_by(i: u32, request: Request) -> Held
 /// Adds how module number i is held, if it is neither ended nor spent.
 fn hold_one(
     plan: &Plan,
-    schedules: &[List<Schedule>],
+    codes: &[List<BlockCode>],
     state: &ClockState,
     i: usize,
-    pending: &mut List<Due>,
+    words: &mut Words,
+    noted: &mut List<Noted>,
     requests: &mut List<Request>,
     held: &mut List<Held>,
 ) -> Result<(), OutOfMemory>
     requires fits { FitsEngine plan.now }
-    requires schedules { AreSchedules plan.now schedules.now }
+    requires codes { AreCodes plan.now codes.now }
     requires fit { AreFitInTime plan.now state.now.modules }
     requires within { i < length state.now.modules }
     ensures { OnOk result (held.new
@@ -95,7 +95,7 @@ fn hold_one(
     if is_over(plan.ops, module) {
         return Ok(());
     }
-    ask_one(plan, schedules, i, module, pending, requests)?;
+    note_one(plan, codes, i, module, words, noted, requests)?;
     let contents = state.contents.as_slice();
     if let Some(request) = first_stall(plan, contents, requests.as_slice()) {
         held.push(hold_by(i as u32, request))?;
@@ -107,25 +107,27 @@ fn hold_one(
 fn hold_all(
     alloc: Global,
     plan: &Plan,
-    schedules: &[List<Schedule>],
+    codes: &[List<BlockCode>],
     state: &ClockState,
 ) -> Result<List<Held>, OutOfMemory>
     requires fits { FitsEngine plan.now }
-    requires schedules { AreSchedules plan.now schedules.now }
+    requires codes { AreCodes plan.now codes.now }
     requires fit { AreFitInTime plan.now state.now.modules }
     ensures { IfOk result (λ list. (clock : ℕ) → list ≡ held_in plan.now clock state.now) }
 {
     let mut held = List::new(alloc);
-    let mut pending = List::new(alloc);
+    let mut words = List::new(alloc);
+    let mut noted = List::new(alloc);
     let mut requests = List::new(alloc);
     let count = state.modules.as_slice().len();
     for i in 0..count {
         hold_one(
             plan,
-            schedules,
+            codes,
             state,
             i,
-            &mut pending,
+            &mut words,
+            &mut noted,
             &mut requests,
             &mut held,
         )?;
@@ -137,12 +139,12 @@ fn hold_all(
 fn held_with(
     alloc: Global,
     plan: &Plan,
-    schedules: &[List<Schedule>],
+    codes: &[List<BlockCode>],
     verdict: Verdict,
     state: &ClockState,
 ) -> Result<List<Held>, OutOfMemory>
     requires fits { FitsEngine plan.now }
-    requires schedules { AreSchedules plan.now schedules.now }
+    requires codes { AreCodes plan.now codes.now }
     requires fit { AreFit plan.now (clock_of verdict) state.now.modules }
     requires early { clock_of verdict ≤ plan.now.cycles }
     ensures { IfOk result (λ list. list ≡ held plan.now verdict state.now) }
@@ -150,7 +152,7 @@ fn held_with(
     match verdict {
         Verdict::Done(_) | Verdict::Cycles(_) => Ok(List::new(alloc)),
         Verdict::Deadlock(_) | Verdict::Ops(_) => {
-            let held = hold_all(alloc, plan, schedules, state)?;
+            let held = hold_all(alloc, plan, codes, state)?;
             Ok(held)
         }
     }
@@ -241,19 +243,19 @@ fn outputs(
 pub fn report_at(
     alloc: Global,
     plan: &Plan,
-    schedules: &[List<Schedule>],
+    codes: &[List<BlockCode>],
     verdict: Verdict,
     mut state: ClockState,
     events: List<EventLine>,
     answers: List<Flags>,
 ) -> Result<Report, OutOfMemory>
     requires fits { FitsEngine plan.now }
-    requires schedules { AreSchedules plan.now schedules.now }
+    requires codes { AreCodes plan.now codes.now }
     requires fit { AreFit plan.now (clock_of verdict) state.modules }
     requires early { clock_of verdict ≤ plan.now.cycles }
     ensures { IfOk result (λ report. report ≡ report_from plan.now verdict state events answers) }
 {
-    let held = held_with(alloc, plan, schedules, verdict, &state)?;
+    let held = held_with(alloc, plan, codes, verdict, &state)?;
     let outputs = outputs(alloc, plan, state.contents.as_mut_slice())?;
     Ok(Report {
         verdict,
@@ -268,18 +270,18 @@ pub fn report_at(
 pub fn settled_report(
     alloc: Global,
     plan: &Plan,
-    schedules: &[List<Schedule>],
+    codes: &[List<BlockCode>],
     clock: u64,
     state: ClockState,
     events: List<EventLine>,
     answers: List<Flags>,
 ) -> Result<Report, OutOfMemory>
     requires fits { FitsEngine plan.now }
-    requires schedules { AreSchedules plan.now schedules.now }
+    requires codes { AreCodes plan.now codes.now }
     requires fit { AreFit plan.now clock state.modules }
     requires early { clock ≤ plan.now.cycles }
     ensures { IfOk result (λ report. report ≡ report_from plan.now (settled_verdict plan.now clock state) state events answers) }
 {
     let verdict = settled_verdict(plan, clock, &state);
-    report_at(alloc, plan, schedules, verdict, state, events, answers)
+    report_at(alloc, plan, codes, verdict, state, events, answers)
 }

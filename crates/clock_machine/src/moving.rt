@@ -4,12 +4,13 @@ ghost use Rattle.std.specs.List.{enumerate_from};
 ghost use Rattle.flow_design.specs.StaticRules.{FitsEngine};
 ghost use Rattle.lockstep_defs.specs.Machine.{nobody};
 ghost use Rattle.lockstep_defs.specs.Lockstep.{module_at};
-ghost use Rattle.clock_machine.specs.Parts.{after_part, no_part, IsReady, IsFit, AreFit};
+ghost use Rattle.clock_machine.specs.Parts.{after_part, no_part, IsReady, IsFit, AreFit, AreCodes};
 
 use crate::asking::module_at;
 use crate::part::Part;
+use block_code::BlockCode;
 use flow_design::{ModuleState, Plan};
-use flow_word::OutOfMemory;
+use flow_word::{List, OutOfMemory};
 use module_move::{MoveRoom, make_move};
 use std::alloc::Global;
 
@@ -17,6 +18,7 @@ use std::alloc::Global;
 fn move_one(
     alloc: Global,
     plan: &Plan,
+    codes: &[List<BlockCode>],
     clock: u64,
     i: usize,
     part: &Part,
@@ -24,6 +26,7 @@ fn move_one(
     room: &mut MoveRoom,
 ) -> Result<(), OutOfMemory>
     requires fits { FitsEngine plan.now }
+    requires codes { AreCodes plan.now codes.now }
     requires fit { IsFit plan.now clock (i, state.old) }
     requires ready { IsReady plan.now (i, state.old) part.now }
     requires early { clock ≤ plan.now.cycles }
@@ -35,8 +38,17 @@ fn move_one(
         return Ok(());
     }
     let of = module_at(plan, i);
-    let pending = part.pending.as_slice();
-    make_move(alloc, of, state, pending, part.replies.as_slice(), room)?;
+    let own = &codes[i];
+    let code = &own.as_slice()[state.control.block as usize];
+    make_move(
+        alloc,
+        of,
+        code,
+        state,
+        part.noted.as_slice(),
+        part.replies.as_slice(),
+        room,
+    )?;
     Ok(())
 }
 
@@ -44,12 +56,14 @@ fn move_one(
 pub fn move_all(
     alloc: Global,
     plan: &Plan,
+    codes: &[List<BlockCode>],
     clock: u64,
     parts: &[Part],
     states: &mut [ModuleState],
     room: &mut MoveRoom,
 ) -> Result<(), OutOfMemory>
     requires fits { FitsEngine plan.now }
+    requires codes { AreCodes plan.now codes.now }
     requires fit { AreFit plan.now clock states.old }
     requires count { length parts.now ≡ length states.old }
     requires ready { (i : ℕ) → i < length states.old
@@ -60,7 +74,7 @@ pub fn move_all(
     ensures fit { OnOk result (AreFit plan.now (clock + 1) states.new) }
 {
     for (i, state) in states.iter_mut().enumerate() {
-        move_one(alloc, plan, clock, i, &parts[i], state, room)?;
+        move_one(alloc, plan, codes, clock, i, &parts[i], state, room)?;
     }
     Ok(())
 }

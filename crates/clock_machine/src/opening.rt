@@ -6,13 +6,13 @@ ghost use Rattle.flow_design.specs.Words.{cut_to};
 ghost use Rattle.lockstep_defs.specs.Machine.{opened};
 ghost use Rattle.lockstep_defs.specs.Channels.{element_from};
 ghost use Rattle.lockstep_defs.specs.Lockstep.{module_at, inputs_of, opening};
-ghost use Rattle.clock_machine.specs.Parts.{IsFit, AreFit, AreSchedules};
+ghost use Rattle.clock_machine.specs.Parts.{IsFit, AreFit, AreCodes};
 
 use crate::asking::module_at;
-use block_schedule::Schedule;
+use block_code::{BlockCode, codes_of};
 use flow_design::{ClockState, Element, ModuleState, Plan};
 use flow_word::{Flags, List, OutOfMemory, Queue, Width, cut};
-use module_move::{open, schedules_of};
+use module_move::open;
 use std::alloc::Global;
 
 /// The first state of module number i.
@@ -78,18 +78,18 @@ fn fill_channels(alloc: Global, plan: &Plan) -> Result<List<Queue<Element>>, Out
     Ok(contents)
 }
 
-/// The schedules of all blocks, module by module.
-pub fn schedules_of_all(alloc: Global, plan: &Plan) -> Result<List<List<Schedule>>, OutOfMemory>
+/// The code of all blocks, module by module.
+pub fn codes_of_all(alloc: Global, plan: &Plan) -> Result<List<List<BlockCode>>, OutOfMemory>
     requires fits { FitsEngine plan.now }
-    ensures { IfOk result (AreSchedules plan.now) }
+    ensures { IfOk result (AreCodes plan.now) }
 {
     let count = plan.design.modules.as_slice().len();
-    let mut schedules = List::with_room(alloc, count as u64)?;
+    let channels = plan.design.channels.as_slice();
+    let mut codes = List::with_room(alloc, count as u64)?;
     for i in 0..count {
-        let blocks = module_at(plan, i).blocks.as_slice();
-        schedules.push(schedules_of(alloc, blocks)?)?;
+        codes.push(codes_of(alloc, channels, module_at(plan, i))?)?;
     }
-    Ok(schedules)
+    Ok(codes)
 }
 
 /// The state at clock 0.

@@ -2,8 +2,9 @@
 ghost use Rattle.std.specs.Prelude.{◌≡◌, IfOk, length};
 ghost use Rattle.clock_machine.specs.Parts.{no_part};
 
-use flow_design::{Due, Reply, Request};
-use flow_word::{List, OutOfMemory};
+use block_code::Noted;
+use flow_design::{Reply, Request};
+use flow_word::{List, OutOfMemory, Words};
 use module_move::MoveRoom;
 use std::alloc::Global;
 
@@ -18,8 +19,8 @@ pub struct Answered {
 #[derive(Drop)]
 pub struct Part {
     pub moves: bool,
-    /// The due operations, in commit order.
-    pub pending: List<Due>,
+    /// What is noted of the due operations, in commit order.
+    pub noted: List<Noted>,
     /// The replies to the FIFO operations among them.
     pub replies: List<Reply>,
     /// The FIFO operations beside their replies.
@@ -31,8 +32,10 @@ pub struct Part {
 pub struct Scratch {
     /// One part per module.
     pub parts: List<Part>,
-    pub pending: List<Due>,
+    pub noted: List<Noted>,
     pub requests: List<Request>,
+    /// For the results of expressions.
+    pub words: Words,
     pub room: MoveRoom,
 }
 
@@ -43,7 +46,7 @@ impl Part {
     {
         Part {
             moves: false,
-            pending: List::new(alloc),
+            noted: List::new(alloc),
             replies: List::new(alloc),
             answered: List::new(alloc),
         }
@@ -54,7 +57,7 @@ impl Part {
         ensures { self.new ≡ no_part }
     {
         self.moves = false;
-        self.pending.truncate(0);
+        self.noted.truncate(0);
         self.replies.truncate(0);
         self.answered.truncate(0);
     }
@@ -70,8 +73,9 @@ pub fn new_scratch(alloc: Global, modules: u64) -> Result<Scratch, OutOfMemory>
     }
     Ok(Scratch {
         parts,
-        pending: List::new(alloc),
+        noted: List::new(alloc),
         requests: List::new(alloc),
+        words: List::new(alloc),
         room: MoveRoom::new(alloc),
     })
 }

@@ -3,15 +3,16 @@ ghost use Rattle.std.specs.Prelude.{◌≡◌, ℕ, ◌+◌, ◌<◌, ◌≤◌,
 ghost use Rattle.flow_design.specs.StaticRules.{FitsEngine};
 ghost use Rattle.lockstep_defs.specs.Lockstep.{numbered, steps_in, clock_step};
 ghost use Rattle.lockstep_defs.specs.Report.{steps_of, outcomes, events_of, report};
-ghost use Rattle.clock_machine.specs.Parts.{part_of, kept, AreFit};
+ghost use Rattle.clock_machine.specs.Parts.{part_of, kept, AreFit, AreCodes};
 
 use crate::asking::ask_all;
 use crate::contents::{pop_all, push_all};
 use crate::ending::{report_at, settled_report};
 use crate::moving::move_all;
-use crate::opening::{no_answers, open_all, schedules_of_all};
+use crate::opening::{codes_of_all, no_answers, open_all};
 use crate::part::{Part, Scratch, new_scratch};
 use crate::telling::{tell_all_outcomes, tell_kept_events};
+use block_code::BlockCode;
 use flow_design::{ClockState, EventLine, Plan, Report, Verdict};
 use flow_word::{Flags, List, OutOfMemory};
 use module_move::MoveRoom;
@@ -21,12 +22,14 @@ use std::alloc::Global;
 fn step(
     alloc: Global,
     plan: &Plan,
+    codes: &[List<BlockCode>],
     clock: u64,
     parts: &[Part],
     state: &mut ClockState,
     room: &mut MoveRoom,
 ) -> Result<(), OutOfMemory>
     requires fits { FitsEngine plan.now }
+    requires codes { AreCodes plan.now codes.now }
     requires fit { AreFit plan.now clock state.old.modules }
     requires early { clock ≤ plan.now.cycles }
     requires parts { parts.now ≡ map (part_of plan.now clock state.old.contents) (numbered state.old) }
@@ -36,6 +39,7 @@ fn step(
     move_all(
         alloc,
         plan,
+        codes,
         clock,
         parts,
         state.modules.as_mut_slice(),
@@ -50,6 +54,7 @@ fn step(
 fn next_clock(
     alloc: Global,
     plan: &Plan,
+    codes: &[List<BlockCode>],
     clock: u64,
     keep: bool,
     scratch: &mut Scratch,
@@ -58,6 +63,7 @@ fn next_clock(
     answers: &mut List<Flags>,
 ) -> Result<(), OutOfMemory>
     requires fits { FitsEngine plan.now }
+    requires codes { AreCodes plan.now codes.now }
     requires fit { AreFit plan.now clock state.old.modules }
     requires early { clock ≤ plan.now.cycles }
     requires parts { scratch.old.parts ≡ map (part_of plan.now clock state.old.contents) (numbered state.old) }
@@ -73,7 +79,7 @@ fn next_clock(
     let parts = scratch.parts.as_slice();
     tell_kept_events(keep, events, clock, parts)?;
     tell_all_outcomes(answers.as_mut_slice(), parts)?;
-    step(alloc, plan, clock, parts, state, &mut scratch.room)?;
+    step(alloc, plan, codes, clock, parts, state, &mut scratch.room)?;
     Ok(())
 }
 
@@ -84,19 +90,20 @@ fn run(alloc: Global, plan: &Plan, keep: bool) -> Result<Report, OutOfMemory>
 {
     let modules = plan.design.modules.len();
     let mut state = open_all(alloc, plan)?;
-    let schedules = schedules_of_all(alloc, plan)?;
-    let schedules = schedules.as_slice();
+    let codes = codes_of_all(alloc, plan)?;
+    let codes = codes.as_slice();
     let mut scratch = new_scratch(alloc, modules)?;
     let mut events = List::new(alloc);
     let mut answers = no_answers(alloc, modules)?;
     for clock in 0..plan.cycles {
-        if ask_all(plan, schedules, clock, &state, &mut scratch)? {
-            let report = settled_report(alloc, plan, schedules, clock, state, events, answers)?;
+        if ask_all(plan, codes, clock, &state, &mut scratch)? {
+            let report = settled_report(alloc, plan, codes, clock, state, events, answers)?;
             return Ok(report);
         }
         next_clock(
             alloc,
             plan,
+            codes,
             clock,
             keep,
             &mut scratch,
@@ -105,12 +112,12 @@ fn run(alloc: Global, plan: &Plan, keep: bool) -> Result<Report, OutOfMemory>
             &mut answers,
         )?;
     }
-    if ask_all(plan, schedules, plan.cycles, &state, &mut scratch)? {
-        let report = settled_report(alloc, plan, schedules, plan.cycles, state, events, answers)?;
+    if ask_all(plan, codes, plan.cycles, &state, &mut scratch)? {
+        let report = settled_report(alloc, plan, codes, plan.cycles, state, events, answers)?;
         return Ok(report);
     }
     let verdict = Verdict::Cycles(plan.cycles);
-    let report = report_at(alloc, plan, schedules, verdict, state, events, answers)?;
+    let report = report_at(alloc, plan, codes, verdict, state, events, answers)?;
     Ok(report)
 }
 

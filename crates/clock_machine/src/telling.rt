@@ -4,9 +4,9 @@ ghost use Rattle.std.specs.List.{enumerate_from};
 ghost use Rattle.clock_machine.specs.Parts.{event_by, events_from, kept, outcomes_in, answers_with};
 
 use crate::part::{Answered, Part};
+use block_code::is_yes;
 use flow_design::EventLine;
 use flow_word::{Flags, List, OutOfMemory};
-use module_move::is_yes;
 
 /// Adds the events of one module's operations in a clock.
 fn tell_events(

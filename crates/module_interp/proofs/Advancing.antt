@@ -1,22 +1,21 @@
 -- A run at its rest.
-use Rattle.std.proofs.Common.{◌≡◌, ◌≢◌, ℕ, ◌^◌, ◌<◌, ◌⊎◌, inl, inr, false, List, map, length, refl, sym, ap, subst, arith}
+use Rattle.std.proofs.Common.{◌≡◌, ◌≢◌, ℕ, ◌^◌, ◌<◌, ◌⊎◌, inl, inr, false, List, map, length, sym, ap, subst, arith}
 use Rattle.std.specs.Prelude.{All}
 use Rattle.std.proofs.lemmas.Bool.{both_ways}
 use Rattle.flow_word.specs.declared.access.Access.{Access}
 use Rattle.flow_design.specs.declared.plan.Plan.{Plan}
-use Rattle.flow_design.specs.declared.state.Reply.{Reply}
 use Rattle.flow_design.specs.declared.state.Request.{Request}
 use Rattle.lockstep_defs.specs.Machine.{is_over}
 use Rattle.lockstep_defs.specs.Lockstep.{requests_of}
 use Rattle.lockstep_defs.specs.OwnRun.{Own, access_of}
 use Rattle.lockstep_defs.proofs.Standing.{requests_stand}
-use Rattle.module_interp.specs.declared.path.Stage.TheVariants.{Begun, Asked}
+use Rattle.module_interp.specs.declared.path.Stage.TheVariants.{Asked}
 use Rattle.module_interp.specs.declared.path.Path.{Path}
 use Rattle.module_interp.specs.declared.run.ModuleRun.{ModuleRun}
 use Rattle.module_interp.specs.OwnRests.{done_in}
 use Rattle.module_interp.specs.Paths.{LeadsTo, KeepsRest, IsAtStep, IsAtEnd}
 use Rattle.module_interp.specs.Runs.{StandsAt}
-use Rattle.module_interp.proofs.Ways.{has_begun, begun_same}
+use Rattle.module_interp.proofs.Ways.{has_begun}
 use Rattle.module_interp.proofs.Standing.{IsAtRest, step_rest, end_rest, accesses_are, asked_leads}
 
 -- the way to the rest went on
@@ -31,12 +30,6 @@ stands_on p i o r y accesses keeps unasked s = record {
   in_time = s.in_time;
   behind = s.behind;
 }
-
--- and room for replies was made
-pub replies_alone : (x y : Path) (replies : List Reply) → KeepsRest x y → y.stage ≡ Begun → KeepsRest x (record y { replies = replies })
-replies_alone x y replies keeps begun p i o l =
-    begun_same y (record y { replies = replies }) (record { channels = refl; of = refl; limit = refl; schedules = refl }) begun begun refl
-    refl p i o (keeps p i o l)
 
 pub rest_of : (p : Plan) (i : ℕ) (o : Own) (y : Path) → LeadsTo p i o y → (IsAtStep y ⊎ IsAtEnd y) → IsAtRest p i o y
 rest_of p i o y l (inl h) = step_rest p i o y l h
@@ -68,14 +61,14 @@ can_list p i o r y keeps s h =
     }
 
 -- the step was given
-pub stands_asked : (p : Plan) (i : ℕ) (o : Own) (r : ModuleRun) (y : Path) (replies : List Reply) (accesses : List Access)
+pub stands_asked : (p : Plan) (i : ℕ) (o : Own) (r : ModuleRun) (y : Path) (accesses : List Access)
     → KeepsRest r.path y → StandsAt p i o r → IsAtStep y
-    → length replies ≡ length y.asked → accesses ≡ map (access_of (done_in o.steps)) y.asked
-    → StandsAt p i o (record { path = record y { replies = replies; stage = Asked }; tally = r.tally; accesses = accesses })
-stands_asked p i o r y replies accesses keeps s h count given =
+    → accesses ≡ map (access_of (done_in o.steps)) y.asked
+    → StandsAt p i o (record { path = record y { stage = Asked }; tally = r.tally; accesses = accesses })
+stands_asked p i o r y accesses keeps s h given =
     let l = keeps p i o s.leads in
     record {
-      leads = asked_leads p i o y replies l h count;
+      leads = asked_leads p i o y l h;
       tally = s.tally;
       few = s.few;
       accesses = λ e. accesses_are p i o y accesses l (step_rest p i o y l h) h.asked given;

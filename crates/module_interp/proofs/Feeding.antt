@@ -21,13 +21,14 @@ use Rattle.lockstep_defs.specs.States.{IsStateOf}
 use Rattle.lockstep_defs.proofs.States.{move_state}
 use Rattle.lockstep_defs.proofs.Standing.{requests_stand}
 use Rattle.module_move.proofs.Readiness.{few_due}
+use Rattle.module_move.specs.Moves.{gone_on}
 use Rattle.module_interp.specs.declared.path.Stage.{Stage}
-use Rattle.module_interp.specs.declared.path.Stage.TheVariants.{Begun, Asked, Answered, Ticked}
+use Rattle.module_interp.specs.declared.path.Stage.TheVariants.{Begun, Asked, Ticked}
 use Rattle.module_interp.specs.declared.path.Path.{Path}
 use Rattle.module_interp.specs.declared.tally.Tally.{Tally}
 use Rattle.module_interp.specs.declared.run.ModuleRun.{ModuleRun}
 use Rattle.module_interp.specs.OwnRests.{requests_at, next_rest, done_in, accesses_at, fits_kind, all_fit}
-use Rattle.module_interp.specs.Paths.{after_move, CanAsk, IsInTime, LeadsTo, IsTallyOf}
+use Rattle.module_interp.specs.Paths.{after_move, CanAsk, IsStageSoundBy, IsInTime, LeadsTo, IsTallyOf}
 use Rattle.module_interp.specs.Runs.{is_asked, StandsAt}
 use Rattle.module_interp.proofs.Gaps.{IsOwnInTime, next_in_time, least_gap}
 use Rattle.module_interp.proofs.Counting.{move_up}
@@ -39,7 +40,6 @@ use Rattle.module_interp.proofs.Timing.{module_sound, step_in_time}
 pub asked_stage : (g : Stage) → is_asked g ≡ true → g ≡ Asked
 asked_stage Begun h = cc
 asked_stage Asked h = refl
-asked_stage Answered h = cc
 asked_stage Ticked h = cc
 
 pub fit_length : (as' : List Access) (rs : List Reply) → all_fit as' rs ≡ true → length rs ≡ length as'
@@ -97,10 +97,23 @@ pub after_done : (m : Module) (o : Own) (rs : List Request) (qs : List Reply) �
 after_done m o [] qs h = absurd (omega arith)
 after_done m o (r ∷ rs) qs h = flat_push o.steps (record { gap = o.since; requests = r ∷ rs; replies = qs })
 
-pub fed_leads : (p : Plan) (i : ℕ) (o : Own) (x : Path) (qs : List Reply) → LeadsTo p i o x → x.stage ≡ Asked
-    → LeadsTo p i (next_rest p i o qs) (record x { replies = qs; since = 1; stage = Answered })
-fed_leads p i o x qs l asked =
+-- the due operations have committed on these replies, and the clock has gone up
+pub record HasCommitted (x y : Path) (qs : List Reply) : Type 0 where
+  pub frame : y ≡ record x { state = y.state; stage = Ticked; room = y.room }
+  pub moved : gone_on y.of y.state ≡ move x.of x.state qs
+  pub block : y.state.control.block ≡ x.state.control.block
+  pub has_started : y.state.control.newest ≤ y.state.control.clock
+
+pub fed_leads : (p : Plan) (i : ℕ) (o : Own) (x y : Path) (qs : List Reply) → LeadsTo p i o x → x.stage ≡ Asked → HasCommitted x y qs
+    → LeadsTo p i (next_rest p i o qs) (record y { since = 1 })
+fed_leads p i o x y qs l asked h =
     let b = l.path in
+    let f = h.frame in
+    let of : y.of ≡ x.of = ap (λ (z : Path). z.of) f in
+    let channels : y.channels ≡ x.channels = ap (λ (z : Path). z.channels) f in
+    let codes : y.codes ≡ x.codes = ap (λ (z : Path). z.codes) f in
+    let ticked : y.stage ≡ Ticked = ap (λ (z : Path). z.stage) f in
+    let there : after_move (record y { since = 1 }) ≡ move x.of x.state qs = at_stage (record y { since = 1 }) Ticked ticked ∙ h.moved in
     let w = waits_at p i o x l asked in
     let m = module_at p i in
     let sound = module_sound p b.fits i b.owner in
@@ -108,30 +121,25 @@ fed_leads p i o x qs l asked =
     let ops = b.fits.operations in
     let count = (move_up m x.state qs).1 in
     let alive_few = w.few in
-    let same : move x.of x.state qs ≡ move m x.state qs = ap (λ (n : Module). move n x.state qs) b.of in
+    let same : after_move (record y { since = 1 }) ≡ move m x.state qs = there ∙ ap (λ (n : Module). move n x.state qs) b.of in
     let some : 0 < length (requests_at p i o) =
     subst (λ (rs : List Request). 0 < length rs) (w.asked ∙ ap (λ (s : ModuleState). requests_of p (i, s)) (sym w.rest.state)) w.can.some in
-    let base : (own_after m o (requests_at p i o) qs).state ≡ move x.of x.state qs =
+    let base : (own_after m o (requests_at p i o) qs).state ≡ after_move (record y { since = 1 }) =
     after_state m o (requests_at p i o) qs some ∙ (ap (λ (s : ModuleState). move m s qs) w.rest.state ∙ sym same) in
     record {
       path = record {
         fits = b.fits;
         owner = b.owner;
-        channels = b.channels;
-        of = b.of;
-        limit = b.limit;
-        count = b.count;
-        schedules = b.schedules;
+        channels = channels ∙ b.channels;
+        of = of ∙ b.of;
+        limit = ap (λ (z : Path). z.limit) f ∙ b.limit;
+        codes = rw (channels, of, codes) b.codes;
         state = subst (IsStateOf m) (sym same) (move_state (length p.design.channels) m sound x.state qs w.state w.alive);
         operations = subst (λ (s : ModuleState). s.count < 2 ^ 32) (sym same) (omega arith);
         time = subst (λ (s : ModuleState). IsInTime p m s 1) (sym same)
             (step_in_time p b.fits i b.owner x.state qs x.since w.state w.alive w.few w.time);
-        stage = record {
-          state = w.can.answer.state;
-          pending = w.can.answer.pending;
-          clock = w.can.answer.clock;
-          count = w.can.answer.count;
-        };
+        stage = subst (λ (g : Stage). IsStageSoundBy g (record y { since = 1 })) (sym ticked)
+            (record { block = rw (h.block, of) w.can.answer.state.state.block; has_started = h.has_started });
       };
       rest = ap (λ (s : ModuleState). skip p i (quiet p i s) s) base;
       since = ap (λ (n : ℕ). n + quiet p i (own_after m o (requests_at p i o) qs).state) (after_since m o (requests_at p i o) qs some)
@@ -189,21 +197,23 @@ fed_in_time p i o r qs s asked some =
     (move_state (length p.design.channels) m (module_sound p b.fits i b.owner) o.state qs state alive) in
     next_in_time p b.fits i b.owner o qs some state alive (omega arith) later s.in_time
 
-pub fed_stands : (p : Plan) (i : ℕ) (o : Own) (r : ModuleRun) (qs : List Reply) (t : Tally) → StandsAt p i o r → r.path.stage ≡ Asked
-    → IsTallyOf (length p.design.channels) (done_in o.steps ++ paired r.path.asked qs) t
-    → StandsAt p i (next_rest p i o qs)
-    (record { path = record r.path { replies = qs; since = 1; stage = Answered }; tally = t; accesses = r.accesses })
-fed_stands p i o r qs t s asked tally =
+unasked : {P : Type 0} (g : Stage) → g ≡ Ticked → g ≡ Asked → P
+unasked g ticked asked = cc
+
+pub fed_stands : (p : Plan) (i : ℕ) (o : Own) (r : ModuleRun) (y : Path) (qs : List Reply) (t : Tally) → StandsAt p i o r
+    → r.path.stage ≡ Asked → HasCommitted r.path y qs → IsTallyOf (length p.design.channels) (done_in o.steps ++ paired r.path.asked qs) t
+    → StandsAt p i (next_rest p i o qs) (record { path = record y { since = 1 }; tally = t; accesses = r.accesses })
+fed_stands p i o r y qs t s asked h tally =
     let w = waits_at p i o r.path s.leads asked in
     let m = module_at p i in
     let same : r.path.asked ≡ requests_at p i o = w.asked ∙ ap (λ (s : ModuleState). requests_of p (i, s)) (sym w.rest.state) in
     let some : 0 < length (requests_at p i o) = subst (λ (rs : List Request). 0 < length rs) same w.can.some in
     record {
-      leads = fed_leads p i o r.path qs s.leads asked;
+      leads = fed_leads p i o r.path y qs s.leads asked h;
       tally = subst (λ (xs : List Exchange). IsTallyOf (length p.design.channels) xs t)
           (ap (λ (rs : List Request). done_in o.steps ++ paired rs qs) same ∙ sym (after_done m o (requests_at p i o) qs some)) tally;
       few = fed_few p i o qs some s.few;
-      accesses = λ e. cc;
+      accesses = λ e. unasked y.stage (ap (λ (z : Path). z.stage) h.frame) e;
       in_time = fed_in_time p i o r qs s asked some;
       behind = λ e. least_gap p i o qs;
     }
@@ -213,7 +223,6 @@ pub record CanCount (p : Plan) (o : Own) (x : Path) (qs : List Reply) : Type 0 w
   pub few : length (done_in o.steps) + length x.asked < 2 ^ 40
   pub all : All (λ (r : Request). r.channel < length p.design.channels) x.asked
   pub one_each : length qs ≡ length x.asked
-  pub room : length x.replies ≡ length qs
 
 pub can_count : (p : Plan) (i : ℕ) (o : Own) (r : ModuleRun) (qs : List Reply) → StandsAt p i o r → r.path.stage ≡ Asked
     → all_fit (accesses_at p i o) qs ≡ true
@@ -233,13 +242,11 @@ can_count p i o r qs s asked fit =
     let few = s.few in
     let ops = b.fits.operations in
     let alive_few = w.few in
-    let room = w.can.replies in
     record {
       few = omega arith;
       all = subst (All (λ (r : Request). r.channel < length p.design.channels)) (sym w.asked)
           (λ k d inside. (requests_stand p b.fits i b.owner r.path.state k d inside).in_range);
       one_each = each;
-      room = omega arith;
     }
 
 pub waits_channels : (p : Plan) (i : ℕ) (o : Own) (r : ModuleRun) → StandsAt p i o r → r.path.stage ≡ Asked

@@ -29,10 +29,10 @@ pub record IsFixed (x y : Path) : Type 0 where
   pub channels : y.channels ≡ x.channels
   pub of : y.of ≡ x.of
   pub limit : y.limit ≡ x.limit
-  pub schedules : y.schedules ≡ x.schedules
+  pub codes : y.codes ≡ x.codes
 
 pub fixed : (x : Path) → IsFixed x x
-fixed x = record { channels = refl; of = refl; limit = refl; schedules = refl }
+fixed x = record { channels = refl; of = refl; limit = refl; codes = refl }
 
 few : (n ops due : ℕ) → n < ops → ops ≤ 200000 → due ≤ 65536 → n + due + 2 < 2 ^ 32
 few n ops due h k l = omega arith
@@ -74,8 +74,7 @@ leads_on p i o x y n l f goes moved later stage =
         channels = f.channels ∙ b.channels;
         of = f.of ∙ b.of;
         limit = f.limit ∙ b.limit;
-        count = rw (f.schedules, f.of) b.count;
-        schedules = rw (f.schedules, f.of) b.schedules;
+        codes = rw (f.channels, f.of, f.codes) b.codes;
         state = subst (IsStateOf (module_at p i)) (sym moved) on.state;
         operations = subst (λ (z : ModuleState). z.count < 2 ^ 32) (sym moved) small;
         time = rw (moved, later) on.time;

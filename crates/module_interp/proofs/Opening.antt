@@ -1,12 +1,10 @@
 -- A run begins on the way to its first rest.
 use Rattle.std.proofs.Common.{◌≡◌, ℕ, ◌+◌, ◌^◌, ◌<◌, List, length, get_or, refl, sym, ap, subst, arith, ◌∙◌}
-use Rattle.std.specs.Prelude.{slice_index_or, All}
+use Rattle.std.specs.Prelude.{All}
 use Rattle.std.proofs.lemmas.List.{get_or_default}
-use Rattle.flow_design.specs.declared.design.Block.{Block}
 use Rattle.flow_design.specs.declared.design.Module.{Module}
 use Rattle.flow_design.specs.declared.plan.Plan.{Plan}
 use Rattle.flow_design.specs.declared.state.ModuleState.{ModuleState}
-use Rattle.flow_design.specs.Module.{block_at}
 use Rattle.flow_design.specs.StaticRules.{FitsEngine}
 use Rattle.lockstep_defs.specs.Machine.{opened}
 use Rattle.lockstep_defs.specs.Lockstep.{no_module, module_at}
@@ -14,8 +12,8 @@ use Rattle.lockstep_defs.specs.Quiet.{quiet, skip}
 use Rattle.lockstep_defs.specs.States.{IsStateOf}
 use Rattle.lockstep_defs.proofs.States.{opened_state}
 use Rattle.module_move.proofs.Begins.{opened_clock, opened_count}
-use Rattle.block_schedule.specs.declared.schedule.Schedule.{Schedule}
-use Rattle.block_schedule.specs.Schedules.{KeepsLimits, IsScheduleOf}
+use Rattle.block_schedule.specs.Schedules.{KeepsLimits}
+use Rattle.block_code.specs.Codes.{AreCodesOf}
 use Rattle.block_schedule.proofs.Limits.{blocks_keep_limits}
 use Rattle.module_interp.specs.declared.path.Stage.{Stage}
 use Rattle.module_interp.specs.declared.path.Stage.TheVariants.{Begun}
@@ -27,10 +25,9 @@ use Rattle.module_interp.proofs.Timing.{module_sound, opened_in_time}
 
 pub opened_leads : (p : Plan) → FitsEngine p → (i : ℕ) → i < length p.design.modules → (x : Path) → x.channels ≡ p.design.channels
     → x.of ≡ module_at p i
-    → x.limit ≡ p.ops → length x.schedules ≡ length x.of.blocks
-    → ((n : ℕ) (d : Schedule) → n < length x.of.blocks → IsScheduleOf (block_at x.of n) (slice_index_or x.schedules n d))
+    → x.limit ≡ p.ops → AreCodesOf x.channels x.of x.codes
     → x.state ≡ opened x.of → x.stage ≡ Begun → x.since ≡ 0 → LeadsTo p i (first_rest p i) x
-opened_leads p h i inside x channels of limit count schedules state begun since =
+opened_leads p h i inside x channels of limit codes state begun since =
     let m = module_at p i in
     let s = opened m in
     let base : after_move x ≡ s = at_stage x Begun begun ∙ (state ∙ ap opened of) in
@@ -43,8 +40,7 @@ opened_leads p h i inside x channels of limit count schedules state begun since 
         channels = channels;
         of = of;
         limit = limit;
-        count = count;
-        schedules = schedules;
+        codes = codes;
         state = subst (IsStateOf m) (sym base) sound;
         operations = subst (λ (z : ModuleState). z.count < 2 ^ 32) (sym base) (omega arith);
         time = rw (base, since) (opened_in_time p h i inside s sound (opened_clock m));
@@ -61,8 +57,8 @@ pub module_is : (p : Plan) (i : ℕ) (xs : List Module) (item copy : Module) →
 module_is p i xs item copy inside same read copied =
     copied ∙ (read ∙ (ap (λ (ys : List Module). get_or ys i item) same ∙ get_or_default p.design.modules i item no_module inside))
 
-pub blocks_keep : (p : Plan) → FitsEngine p → (i : ℕ) → i < length p.design.modules → (m : Module) (bs : List Block) → m ≡ module_at p i
-    → bs ≡ m.blocks → All KeepsLimits bs
-blocks_keep p h i inside m bs is same =
-    subst (All KeepsLimits) (sym (same ∙ ap (λ (n : Module). n.blocks) is))
+pub blocks_keep : (p : Plan) → FitsEngine p → (i : ℕ) → i < length p.design.modules → (m : Module) → m ≡ module_at p i
+    → All KeepsLimits m.blocks
+blocks_keep p h i inside m is =
+    subst (All KeepsLimits) (sym (ap (λ (n : Module). n.blocks) is))
     (blocks_keep_limits (length p.design.channels) (module_at p i) (module_sound p h i inside))

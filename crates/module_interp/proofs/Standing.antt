@@ -5,7 +5,6 @@ use Rattle.flow_word.specs.declared.access.Access.{Access}
 use Rattle.flow_design.specs.declared.plan.Plan.{Plan}
 use Rattle.flow_design.specs.declared.state.Advance.{Advance}
 use Rattle.flow_design.specs.declared.state.Advance.TheVariants.{Step, Ended, Spent}
-use Rattle.flow_design.specs.declared.state.Reply.{Reply}
 use Rattle.flow_design.specs.declared.state.Request.{Request}
 use Rattle.flow_design.specs.declared.state.ModuleState.{ModuleState}
 use Rattle.lockstep_defs.specs.Machine.{requests, is_over, is_spent}
@@ -105,18 +104,15 @@ accesses_are p i o x accesses l h asked are =
     let same : x.asked ≡ requests_of p (i, o.state) = rw (h.state, ← b.channels, ← b.of) asked in
     are ∙ ap (map (access_of (done_in o.steps))) same
 
-pub asked_leads : (p : Plan) (i : ℕ) (o : Own) (x : Path) (replies : List Reply) → LeadsTo p i o x → IsAtStep x
-    → length replies ≡ length x.asked
-    → LeadsTo p i o (record x { replies = replies; stage = Asked })
-asked_leads p i o x replies l h count =
+pub asked_leads : (p : Plan) (i : ℕ) (o : Own) (x : Path) → LeadsTo p i o x → IsAtStep x → LeadsTo p i o (record x { stage = Asked })
+asked_leads p i o x l h =
     let began = has_begun x (record { plan = p; number = i; is = l.path }) h.begun h.alive in
-    leads_still p i o x (record x { replies = replies; stage = Asked }) l
-    (record { channels = refl; of = refl; limit = refl; schedules = refl })
+    leads_still p i o x (record x { stage = Asked }) l
+    (record { channels = refl; of = refl; limit = refl; codes = refl })
     (sym (at_stage x Begun h.begun)) refl
     (record {
-      answer = record { state = began.sound; pending = h.pending; clock = began.clock; count = began.count };
+      answer = record { state = began.sound; noted = h.noted; clock = began.clock; count = began.count };
       alive = h.alive;
       some = h.some;
       asked = h.asked;
-      replies = count;
     })

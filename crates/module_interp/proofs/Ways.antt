@@ -5,7 +5,6 @@ use Rattle.std.proofs.lemmas.Bool.{ltb-true, and_parts}
 use Rattle.flow_design.specs.declared.design.Module.{Module}
 use Rattle.flow_design.specs.declared.plan.Plan.{Plan}
 use Rattle.module_move.specs.declared.room.MoveRoom.{MoveRoom}
-use Rattle.flow_design.specs.declared.state.Due.{Due}
 use Rattle.flow_design.specs.declared.state.Request.{Request}
 use Rattle.flow_design.specs.declared.state.ModuleState.{ModuleState}
 use Rattle.flow_design.specs.Module.{block_of, interval}
@@ -15,17 +14,18 @@ use Rattle.lockstep_defs.specs.Quiet.{skip, rests}
 use Rattle.lockstep_defs.specs.States.{IsStateOf}
 use Rattle.module_move.specs.Moves.{ticked_to, gone_on}
 use Rattle.module_move.specs.Sound.{IsStateSound}
-use Rattle.block_schedule.specs.declared.schedule.Schedule.{Schedule}
-use Rattle.block_schedule.specs.Schedules.{IsScheduleOf}
+use Rattle.block_code.specs.declared.code.BlockCode.{BlockCode}
+use Rattle.block_code.specs.declared.noted.Noted.{Noted}
+use Rattle.block_code.specs.Codes.{IsBlockCodeOf}
 use Rattle.block_schedule.specs.Work.{IsNextDue, StandsIn}
 use Rattle.module_interp.specs.declared.path.Stage.{Stage}
-use Rattle.module_interp.specs.declared.path.Stage.TheVariants.{Begun, Answered, Ticked}
+use Rattle.module_interp.specs.declared.path.Stage.TheVariants.{Begun, Ticked}
 use Rattle.module_interp.specs.declared.path.Path.{Path}
-use Rattle.module_interp.specs.Paths.{clock_bound, IsInTime, after_move, CanAnswer, CanGoOn, IsStageSoundBy, IsPathOf, KeepsRest, IsPath}
+use Rattle.module_interp.specs.Paths.{clock_bound, IsInTime, after_move, IsStageSoundBy, IsPathOf, KeepsRest, IsPath}
 use Rattle.module_interp.specs.Paths.{clocks_to_end}
 use Rattle.module_interp.proofs.Idle.{IsIdle, skip_ticks, skip_on, never_rests}
 use Rattle.module_interp.proofs.Timing.{GoesOn, skip_goes_on, lives}
-use Rattle.module_interp.proofs.Keeping.{IsFixed, leads_on, leads_still, same_end, at_stage, end_nearer, asks_nothing, begun_alive}
+use Rattle.module_interp.proofs.Keeping.{IsFixed, leads_on, leads_still, at_stage, end_nearer, asks_nothing, begun_alive}
 
 -- ---- a local clock that has begun
 
@@ -49,58 +49,6 @@ has_begun x h begun alive =
       count = subst (λ (s : ModuleState). s.count < 2 ^ 32) here b.operations;
     }
 
--- ---- commits
-
-pub committed : (x y : Path) (room : MoveRoom) → x.stage ≡ Answered → CanAnswer x
-    → y ≡ record x { state = y.state; stage = Ticked; room = room }
-    → gone_on y.of y.state ≡ move x.of x.state x.replies → y.state.control.block ≡ x.state.control.block
-    → y.state.control.newest ≤ y.state.control.clock → KeepsRest x y
-committed x y room answered can frame moved block started p i o l =
-    let f : IsFixed x y = record {
-      channels = ap (λ (z : Path). z.channels) frame;
-      of = ap (λ (z : Path). z.of) frame;
-      limit = ap (λ (z : Path). z.limit) frame;
-      schedules = ap (λ (z : Path). z.schedules) frame;
-    } in
-    let stage : y.stage ≡ Ticked = ap (λ (z : Path). z.stage) frame in
-    let inside : y.state.control.block < length y.of.blocks = rw (block, f.of) can.state.state.block in
-    leads_still p i o x y l f (at_stage y Ticked stage ∙ (moved ∙ sym (at_stage x Answered answered))) (ap (λ (z : Path). z.since) frame)
-    (sound_at' y stage (record { block = inside; has_started = started }))
-  where
-    sound_at' : (y : Path) → y.stage ≡ Ticked → CanGoOn y → IsStageSoundBy y.stage y
-    sound_at' y stage can = subst (λ (s : Stage). IsStageSoundBy s y) (sym stage) can
-
-pub committed_same : (x y : Path) (room : MoveRoom) → x.stage ≡ Answered → y ≡ record x { state = y.state; stage = Ticked; room = room }
-    → gone_on y.of y.state ≡ move x.of x.state x.replies → clocks_to_end y ≡ clocks_to_end x
-committed_same x y room answered frame moved =
-    let stage : y.stage ≡ Ticked = ap (λ (z : Path). z.stage) frame in
-    same_end x y (ap (λ (z : Path). z.of) frame) (ap (λ (z : Path). z.limit) frame)
-    (at_stage y Ticked stage ∙ (moved ∙ sym (at_stage x Answered answered)))
-
-pub room_same : (x y : Path) (room : MoveRoom) → x.stage ≡ Answered → y ≡ record x { room = room } → clocks_to_end y ≡ clocks_to_end x
-room_same x y room answered frame =
-    let stage : y.stage ≡ Answered = ap (λ (z : Path). z.stage) frame ∙ answered in
-    same_end x y (ap (λ (z : Path). z.of) frame) (ap (λ (z : Path). z.limit) frame)
-    (at_stage y Answered stage ∙ (ap (λ (z : Path). move z.of z.state z.replies) frame ∙ sym (at_stage x Answered answered)))
-
-pub room_alone : (x y : Path) (room : MoveRoom) → x.stage ≡ Answered → CanAnswer x → y ≡ record x { room = room } → KeepsRest x y
-room_alone x y room answered can frame p i o l =
-    let f : IsFixed x y = record {
-      channels = ap (λ (z : Path). z.channels) frame;
-      of = ap (λ (z : Path). z.of) frame;
-      limit = ap (λ (z : Path). z.limit) frame;
-      schedules = ap (λ (z : Path). z.schedules) frame;
-    } in
-    let stage : y.stage ≡ Answered = ap (λ (z : Path). z.stage) frame ∙ answered in
-    let still : CanAnswer (record x {
-      room =
-          room;
-    }) = record { state = can.state; pending = can.pending; clock = can.clock; count = can.count } in
-    leads_still p i o x y l f
-    (at_stage y Answered stage ∙ (ap (λ (z : Path). move z.of z.state z.replies) frame ∙ sym (at_stage x Answered answered)))
-    (ap (λ (z : Path). z.since) frame)
-    (subst (λ (s : Stage). IsStageSoundBy s y) (sym stage) (subst CanAnswer (sym frame) still))
-
 -- ---- looking up
 
 pub begun_same : (x y : Path) → IsFixed x y → x.stage ≡ Begun → y.stage ≡ Begun → y.state ≡ x.state → y.since ≡ x.since → KeepsRest x y
@@ -108,15 +56,15 @@ begun_same x y f begun still state since p i o l =
     leads_still p i o x y l f (at_stage y Begun still ∙ (state ∙ sym (at_stage x Begun begun))) since
     (subst (λ (s : Stage). IsStageSoundBy s y) (sym still) tt)
 
-pub looked_up : (x y : Path) (ds : List Due) (rs : List Request) → x.stage ≡ Begun → y ≡ record x { pending = ds; asked = rs }
-    → KeepsRest x y
-looked_up x y ds rs begun frame =
+pub looked_up : (x y : Path) (ns : List Noted) (rs : List Request) (ws : List ℕ) → x.stage ≡ Begun
+    → y ≡ record x { noted = ns; asked = rs; scratch = ws } → KeepsRest x y
+looked_up x y ns rs ws begun frame =
     begun_same x y
     (record {
       channels = ap (λ (z : Path). z.channels) frame;
       of = ap (λ (z : Path). z.of) frame;
       limit = ap (λ (z : Path). z.limit) frame;
-      schedules = ap (λ (z : Path). z.schedules) frame;
+      codes = ap (λ (z : Path). z.codes) frame;
     })
     begun (ap (λ (z : Path). z.stage) frame ∙ begun) (ap (λ (z : Path). z.state) frame) (ap (λ (z : Path). z.since) frame)
 
@@ -174,10 +122,10 @@ one_passes x y f begun ticked later alive none moved block started = record {
   moved = λ p i b. moved ∙ ap (λ (m : Module). move m x.state []) b.of;
 }
 
--- the schedule of the block in which the path stands
-some_schedule : (xs : List Schedule) (n : ℕ) → n < length xs → Schedule
-some_schedule [] n l = absurd (omega arith)
-some_schedule (x ∷ xs) n l = x
+-- the code of the block in which the path stands
+some_code : (xs : List BlockCode) (n : ℕ) → n < length xs → BlockCode
+some_code [] n l = absurd (omega arith)
+some_code (x ∷ xs) n l = x
 
 pub idle : (x : Path) (clock n : ℕ) → IsPath x → x.stage ≡ Begun → is_over x.limit x.state ≡ false
     → IsNextDue (block_of x.of x.state) x.state.control clock → clock ≡ x.state.control.clock + suc n
@@ -185,8 +133,9 @@ pub idle : (x : Path) (clock n : ℕ) → IsPath x → x.stage ≡ Begun → is_
 idle x clock n path begun alive next far p i b =
     let sound = (has_begun x path begun alive).sound in
     subst (λ (m : Module). IsIdle m x.state (suc n)) b.of (record {
-      some = (b.schedules x.state.control.block
-          (some_schedule x.schedules x.state.control.block (omega (arith, sound.state.block, b.count))) sound.state.block).limits.some;
+      some = (b.codes.each x.state.control.block
+          (some_code x.codes x.state.control.block (omega (arith, sound.state.block, b.codes.count)))
+          sound.state.block).schedule.limits.some;
       begun = sound.state.control.has_started;
       temps = sound.state.places.temps;
       none = λ c from below. next.idle_before c from (omega arith);
@@ -205,7 +154,7 @@ jumps x clock n room path begun alive next far =
     let sound = (has_begun x path begun alive).sound in
     let started = sound.state.control.has_started in
     record {
-      fixed_parts = record { channels = refl; of = refl; limit = refl; schedules = refl };
+      fixed_parts = record { channels = refl; of = refl; limit = refl; codes = refl };
       begun = begun;
       ticked = refl;
       later = omega arith;
@@ -262,6 +211,13 @@ stands x path begun alive =
         let less = ltb-true clock (newest + ii) (and_parts (nat_lt 0 ii) (nat_lt clock (newest + ii)) g).1 in omega arith
     near false ii clock newest e g = cc
 
-pub has_schedule : (x : Path) → IsPath x → (d : Schedule) → x.state.control.block < length x.of.blocks
-    → IsScheduleOf (block_of x.of x.state) (get_or x.schedules x.state.control.block d)
-has_schedule x path d inside = path.is.schedules x.state.control.block d inside
+pub has_code : (x : Path) → IsPath x → (d : BlockCode) → x.state.control.block < length x.of.blocks
+    → IsBlockCodeOf x.channels x.of (block_of x.of x.state) (get_or x.codes x.state.control.block d)
+has_code x path d inside = path.is.codes.each x.state.control.block d inside
+
+-- the code that was read
+pub code_read : (x : Path) → IsPath x → (xs : List BlockCode) (d : BlockCode) → xs ≡ x.codes → d ≡ get_or xs x.state.control.block d
+    → x.state.control.block < length x.of.blocks → IsBlockCodeOf x.channels x.of (block_of x.of x.state) d
+code_read x path xs d same read inside =
+    subst (IsBlockCodeOf x.channels x.of (block_of x.of x.state))
+    (sym (read ∙ ap (λ (ys : List BlockCode). get_or ys x.state.control.block d) same)) (has_code x path d inside)

@@ -1,25 +1,24 @@
 -- How the program's run stands in a module's own run.
-use Rattle.std.specs.Prelude.{ℕ, ◌≡◌, ◌+◌, ◌-◌, ◌*◌, ◌^◌, ◌<◌, ◌≤◌, if◌then◌else◌, true, false, List, length, slice_index, slice_index_or}
+use Rattle.std.specs.Prelude.{ℕ, ◌≡◌, ◌+◌, ◌-◌, ◌*◌, ◌^◌, ◌<◌, ◌≤◌, if◌then◌else◌, true, false, List, length, slice_index}
 use Rattle.flow_word.specs.declared.access.Side.TheVariants.{Pop, Push}
 use Rattle.flow_design.specs.declared.limits.TheConstants.{BLOCK_CLOCKS, COUNTED_OPERATIONS}
 use Rattle.flow_design.specs.declared.design.Module.{Module}
 use Rattle.flow_design.specs.declared.plan.Plan.{Plan}
 use Rattle.flow_design.specs.declared.state.ModuleState.{ModuleState}
 use Rattle.flow_design.specs.StaticRules.{FitsEngine}
-use Rattle.flow_design.specs.Module.{block_at, block_of, due}
-use Rattle.lockstep_defs.specs.Machine.{move, requests, is_over}
+use Rattle.flow_design.specs.Module.{block_of}
+use Rattle.lockstep_defs.specs.Machine.{requests, is_over}
 use Rattle.lockstep_defs.specs.Channels.{Exchange, moved_by}
 use Rattle.lockstep_defs.specs.Report.{queries}
 use Rattle.lockstep_defs.specs.Lockstep.{module_at}
 use Rattle.lockstep_defs.specs.OwnRun.{Own}
 use Rattle.lockstep_defs.specs.Quiet.{quiet, skip, clocks_left}
 use Rattle.lockstep_defs.specs.States.{IsStateOf}
-use Rattle.module_move.specs.Moves.{gone_on}
+use Rattle.module_move.specs.Moves.{notes_of, gone_on}
 use Rattle.module_move.specs.Sound.{IsStateSound}
-use Rattle.block_schedule.specs.declared.schedule.Schedule.{Schedule}
-use Rattle.block_schedule.specs.Schedules.{IsScheduleOf}
+use Rattle.block_code.specs.Codes.{AreCodesOf}
 use Rattle.module_interp.specs.declared.path.Stage.{Stage}
-use Rattle.module_interp.specs.declared.path.Stage.TheVariants.{Begun, Asked, Answered, Ticked}
+use Rattle.module_interp.specs.declared.path.Stage.TheVariants.{Begun, Asked, Ticked}
 use Rattle.module_interp.specs.declared.path.Path.{Path}
 use Rattle.module_interp.specs.declared.tally.Tally.{Tally}
 
@@ -48,7 +47,6 @@ pub record IsInTime (p : Plan) (m : Module) (s : ModuleState) (elapsed : ℕ) : 
 abbrev pub after_move_by : Stage → Path → ModuleState
 after_move_by Begun x = x.state
 after_move_by Asked x = x.state
-after_move_by Answered x = move x.of x.state x.replies
 after_move_by Ticked x = gone_on x.of x.state
 
 -- the state behind what is left to do
@@ -58,7 +56,7 @@ after_move x = after_move_by x.stage x
 -- what is needed to do it
 pub record CanAnswer (x : Path) : Type 0 where
   pub state : IsStateSound x.of x.state
-  pub pending : x.pending ≡ due x.of x.state
+  pub noted : x.noted ≡ notes_of x.of x.state
   pub clock : x.state.control.clock ≤ clock_bound
   pub count : x.state.count < 2 ^ 32
 
@@ -71,12 +69,10 @@ pub record CanAsk (x : Path) : Type 0 where
   pub alive : is_over x.limit x.state ≡ false
   pub some : 0 < length x.asked
   pub asked : x.asked ≡ requests x.channels x.of x.state
-  pub replies : length x.replies ≡ length x.asked
 
 abbrev pub IsStageSoundBy : Stage → Path → Type 0
 IsStageSoundBy Begun x = Unit {0}
 IsStageSoundBy Asked x = CanAsk x
-IsStageSoundBy Answered x = CanAnswer x
 IsStageSoundBy Ticked x = CanGoOn x
 
 -- the path is that of module i of a plan
@@ -86,8 +82,7 @@ pub record IsPathOf (p : Plan) (i : ℕ) (x : Path) : Type 0 where
   pub channels : x.channels ≡ p.design.channels
   pub of : x.of ≡ module_at p i
   pub limit : x.limit ≡ p.ops
-  pub count : length x.schedules ≡ length x.of.blocks
-  pub schedules : (n : ℕ) (d : Schedule) → n < length x.of.blocks → IsScheduleOf (block_at x.of n) (slice_index_or x.schedules n d)
+  pub codes : AreCodesOf x.channels x.of x.codes
   pub state : IsStateOf (module_at p i) (after_move x)
   pub operations : (after_move x).count < 2 ^ 32
   pub time : IsInTime p (module_at p i) (after_move x) x.since
@@ -123,7 +118,7 @@ clocks_to_end x =
 pub record IsAtStep (x : Path) : Type 0 where
   pub begun : x.stage ≡ Begun
   pub alive : is_over x.limit x.state ≡ false
-  pub pending : x.pending ≡ due x.of x.state
+  pub noted : x.noted ≡ notes_of x.of x.state
   pub asked : x.asked ≡ requests x.channels x.of x.state
   pub some : 0 < length x.asked
 

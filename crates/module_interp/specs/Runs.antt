@@ -8,7 +8,7 @@ use Rattle.flow_design.specs.declared.state.Advance.TheVariants.{Step, Ended, Sp
 use Rattle.lockstep_defs.specs.Lockstep.{module_at}
 use Rattle.lockstep_defs.specs.OwnRun.{Own}
 use Rattle.module_interp.specs.declared.path.Stage.{Stage}
-use Rattle.module_interp.specs.declared.path.Stage.TheVariants.{Begun, Asked, Answered, Ticked}
+use Rattle.module_interp.specs.declared.path.Stage.TheVariants.{Begun, Asked, Ticked}
 use Rattle.module_interp.specs.declared.run.ModuleRun.{ModuleRun}
 use Rattle.module_interp.specs.OwnRests.{clocks_in, done_in, accesses_at}
 use Rattle.module_interp.specs.Paths.{IsInTime, LeadsTo, IsTallyOf}
@@ -16,7 +16,6 @@ use Rattle.module_interp.specs.Paths.{IsInTime, LeadsTo, IsTallyOf}
 abbrev pub is_asked : Stage → Bool
 is_asked Begun = false
 is_asked Asked = true
-is_asked Answered = false
 is_asked Ticked = false
 
 -- the step of the rest was given, and its replies are not there

@@ -6,9 +6,10 @@ ghost use Rattle.module_interp.specs.OwnRests.{first_rest};
 ghost use Rattle.module_interp.specs.Paths.{LeadsTo};
 
 use crate::path::{Path, Stage};
+use block_code::codes_of;
 use flow_design::Plan;
 use flow_word::{List, OutOfMemory, TryCopy};
-use module_move::{MoveRoom, open, schedules_of};
+use module_move::{MoveRoom, open};
 use std::alloc::Global;
 
 /// The path of a module of a plan, in local clock 0 of its first block.
@@ -20,20 +21,20 @@ pub fn first_path(alloc: Global, plan: &Plan, number: u32) -> Result<Path, OutOf
 {
     let of = plan.design.modules.as_slice()[number as usize].try_copy(alloc)?;
     let state = open(alloc, &of)?;
-    let schedules = schedules_of(alloc, of.blocks.as_slice())?;
     let channels = plan.design.channels.try_copy(alloc)?;
+    let codes = codes_of(alloc, channels.as_slice(), &of)?;
     Ok(Path {
         alloc,
         channels,
         of,
         limit: plan.ops,
-        schedules,
+        codes,
         state,
         stage: Stage::Begun,
         since: 0,
-        pending: List::new(alloc),
+        noted: List::new(alloc),
         asked: List::new(alloc),
-        replies: List::new(alloc),
+        scratch: List::new(alloc),
         room: MoveRoom::new(alloc),
     })
 }

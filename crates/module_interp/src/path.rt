@@ -1,7 +1,7 @@
 //! How far a module's own run has come.
-use block_schedule::Schedule;
-use flow_design::{Channel, Due, Module, ModuleState, Reply, Request};
-use flow_word::List;
+use block_code::{BlockCode, Noted};
+use flow_design::{Channel, Module, ModuleState, Request};
+use flow_word::{List, Words};
 use module_move::MoveRoom;
 use std::alloc::Global;
 
@@ -12,13 +12,11 @@ pub enum Stage {
     Begun,
     /// All, once the replies to its FIFO operations are there.
     Asked,
-    /// All, and the replies are there.
-    Answered,
     /// The loop decides and the block may end: the due operations have committed, and the clock has gone up.
     Ticked,
 }
 
-/// A module with its schedules and its state.
+/// A module with its code and its state.
 #[derive(Drop)]
 pub struct Path {
     pub alloc: Global,
@@ -26,18 +24,18 @@ pub struct Path {
     pub of: Module,
     /// The operation limit.
     pub limit: u64,
-    /// The schedule of each block.
-    pub schedules: List<Schedule>,
+    /// The code of each block.
+    pub codes: List<BlockCode>,
     pub state: ModuleState,
     pub stage: Stage,
     /// The local clocks from the last step, or from local clock 0, to the end of this move.
     pub since: u64,
-    /// The due operations of the local clock, once they were looked up.
-    pub pending: List<Due>,
+    /// What was noted of the due operations of the local clock.
+    pub noted: List<Noted>,
     /// The requests of the FIFO operations among them.
     pub asked: List<Request>,
-    /// The replies to these.
-    pub replies: List<Reply>,
+    /// Room for the results of expressions. What it holds means nothing.
+    pub scratch: Words,
     /// Room that its moves use again.
     pub room: MoveRoom,
 }

@@ -1,15 +1,16 @@
 //! The local clocks in which a module asks nothing of the channels.
 ghost use Rattle.std.specs.Prelude.{◌≡◌, ◌≢◌, ℕ, ◌<◌, ◌≤◌, ◌^◌, ◌⊎◌, [], true, false, IfOk, OnOk, OnErr};
-ghost use Rattle.flow_design.specs.Module.{block_of, due};
+ghost use Rattle.flow_design.specs.Module.{block_of};
 ghost use Rattle.lockstep_defs.specs.Machine.{move, requests, is_over};
-ghost use Rattle.module_move.specs.Moves.{ticked_to, gone_on};
+ghost use Rattle.module_move.specs.Moves.{notes_of, ticked_to, gone_on};
 ghost use Rattle.block_schedule.specs.Work.{IsNextDue};
 ghost use Rattle.module_interp.specs.declared.path.Stage.TheVariants.{Begun, Asked, Ticked};
 ghost use Rattle.module_interp.specs.Paths.{after_move, CanAnswer, IsPath, KeepsRest, clocks_to_end, IsAtStep, IsAtEnd};
 
 use crate::path::{Path, Stage};
+use flow_design::Reply;
 use flow_word::OutOfMemory;
-use module_move::{ask, commit, go_on, is_over, tick_to};
+use module_move::{commit, go_on, is_over, note, tick_to};
 
 impl Path {
     /// Comes to the next local clock with a due FIFO operation, or to the end of the run.
@@ -47,7 +48,7 @@ impl Path {
         Ok(rests)
     }
 
-    /// Does what is left to do of the move.
+    /// Where the clock has gone up, the loop decides and the block may end.
     fn settle(&mut self) -> Result<(), OutOfMemory>
         requires path { IsPath self.old }
         requires answered { self.old.stage ≢ Asked }
@@ -56,45 +57,13 @@ impl Path {
         ensures begun { OnOk result (self.new.stage ≡ Begun) }
         ensures same { clocks_to_end self.new ≡ clocks_to_end self.old }
     {
-        self.answer()?;
-        self.turn()?;
-        Ok(())
-    }
-
-    /// Where the replies are there, the due operations commit on them.
-    fn answer(&mut self) -> Result<(), OutOfMemory>
-        requires path { IsPath self.old }
-        requires answered { self.old.stage ≢ Asked }
-        ensures kept { KeepsRest self.old self.new }
-        ensures ticked { OnOk result ((self.new.stage ≡ Begun) ⊎ (self.new.stage ≡ Ticked)) }
-        ensures unasked { self.new.stage ≢ Asked }
-        ensures same { clocks_to_end self.new ≡ clocks_to_end self.old }
-    {
-        match self.stage {
-            Stage::Answered => {
-                self.commit_due()?;
-                Ok(())
-            }
-            Stage::Begun | Stage::Asked | Stage::Ticked => Ok(()),
-        }
-    }
-
-    /// Where the clock has gone up, the loop decides and the block may end.
-    fn turn(&mut self) -> Result<(), OutOfMemory>
-        requires path { IsPath self.old }
-        requires ticked { (self.old.stage ≡ Begun) ⊎ (self.old.stage ≡ Ticked) }
-        ensures kept { KeepsRest self.old self.new }
-        ensures begun { OnOk result (self.new.stage ≡ Begun) }
-        ensures unasked { self.new.stage ≢ Asked }
-        ensures same { clocks_to_end self.new ≡ clocks_to_end self.old }
-    {
         match self.stage {
             Stage::Ticked => {
                 go_on(self.alloc, &self.of, &mut self.state, &mut self.room)?;
                 self.stage = Stage::Begun;
                 Ok(())
             }
-            Stage::Begun | Stage::Asked | Stage::Answered => Ok(()),
+            Stage::Begun | Stage::Asked => Ok(()),
         }
     }
 
@@ -110,18 +79,34 @@ impl Path {
         ensures nearer { IfOk result (λ rests. rests ≡ false → clocks_to_end self.new < clocks_to_end self.old) }
         ensures no_farther { IfOk result (λ rests. clocks_to_end self.new ≤ clocks_to_end self.old) }
     {
-        let schedule = &self.schedules.as_slice()[self.state.control.block as usize];
-        let next = schedule.next_due(&self.state.control);
-        if next > self.state.control.clock {
-            self.jump(next);
-            return Ok(false);
-        }
         self.ask()?;
         if self.asked.len() > 0 {
             return Ok(true);
         }
-        self.pass()?;
+        self.move_on();
         Ok(false)
+    }
+
+    /// A local clock in which no FIFO operation is due. Where nothing is due it may jump, else the due operations commit.
+    fn move_on(&mut self)
+        requires path { IsPath self.old }
+        requires begun { self.old.stage ≡ Begun }
+        requires alive { is_over self.old.limit self.old.state ≡ false }
+        requires noted { self.old.noted ≡ notes_of self.old.of self.old.state }
+        requires none { requests self.old.channels self.old.of self.old.state ≡ [] }
+        ensures kept { KeepsRest self.old self.new }
+        ensures unasked { self.new.stage ≢ Asked }
+        ensures nearer { clocks_to_end self.new < clocks_to_end self.old }
+    {
+        if self.noted.len() == 0 {
+            let code = &self.codes.as_slice()[self.state.control.block as usize];
+            let next = code.schedule.next_due(&self.state.control);
+            if next > self.state.control.clock {
+                self.jump(next);
+                return;
+            }
+        }
+        self.pass();
     }
 
     /// Jumps to a later local clock, before which there is no work.
@@ -140,64 +125,57 @@ impl Path {
         self.stage = Stage::Ticked;
     }
 
-    /// Looks up the due operations and their requests.
+    /// Notes the due operations and their requests.
     fn ask(&mut self) -> Result<(), OutOfMemory>
         requires path { IsPath self.old }
         requires begun { self.old.stage ≡ Begun }
         requires alive { is_over self.old.limit self.old.state ≡ false }
-        ensures frame { self.new ≡ record self.old { pending = self.new.pending; asked = self.new.asked } }
-        ensures pending { OnOk result (self.new.pending ≡ due self.old.of self.old.state) }
+        ensures frame { self.new
+            ≡ record self.old { noted = self.new.noted; asked = self.new.asked; scratch = self.new.scratch } }
+        ensures noted { OnOk result (self.new.noted ≡ notes_of self.old.of self.old.state) }
         ensures asked { OnOk result (self.new.asked ≡ requests self.old.channels self.old.of self.old.state) }
     {
-        let schedule = &self.schedules.as_slice()[self.state.control.block as usize];
-        ask(
+        let code = &self.codes.as_slice()[self.state.control.block as usize];
+        note(
             self.channels.as_slice(),
             &self.of,
-            schedule,
+            code,
             &self.state,
-            &mut self.pending,
+            &mut self.scratch,
+            &mut self.noted,
             &mut self.asked,
         )?;
         Ok(())
     }
 
     /// A local clock in which no FIFO operation is due: the due operations commit.
-    fn pass(&mut self) -> Result<(), OutOfMemory>
+    fn pass(&mut self)
         requires path { IsPath self.old }
         requires begun { self.old.stage ≡ Begun }
         requires alive { is_over self.old.limit self.old.state ≡ false }
-        requires pending { self.old.pending ≡ due self.old.of self.old.state }
+        requires noted { self.old.noted ≡ notes_of self.old.of self.old.state }
         requires none { requests self.old.channels self.old.of self.old.state ≡ [] }
         ensures kept { KeepsRest self.old self.new }
         ensures unasked { self.new.stage ≢ Asked }
-        ensures nearer { OnOk result (clocks_to_end self.new < clocks_to_end self.old) }
+        ensures nearer { clocks_to_end self.new < clocks_to_end self.old }
     {
-        self.replies.truncate(0);
-        self.commit_due()?;
+        self.commit_due(&[]);
         self.since += 1;
-        Ok(())
     }
 
-    /// The due operations commit on the replies, and the clock goes up.
-    fn commit_due(&mut self) -> Result<(), OutOfMemory>
+    /// The due operations commit on these replies, and the clock goes up. It takes no memory.
+    pub fn commit_due(&mut self, replies: &[Reply])
         requires path { IsPath self.old }
         requires answer { CanAnswer self.old }
-        ensures frame { OnOk result (self.new ≡ record self.old { state = self.new.state; stage = Ticked; room = self.new.room }) }
-        ensures moved { OnOk result (gone_on self.new.of self.new.state ≡ move self.old.of self.old.state self.old.replies) }
-        ensures block { OnOk result (self.new.state.control.block ≡ self.old.state.control.block) }
-        ensures started { OnOk result (self.new.state.control.newest ≤ self.new.state.control.clock) }
-        ensures unchanged { OnErr result (self.new ≡ record self.old { room = self.new.room }) }
+        ensures frame { self.new ≡ record self.old { state = self.new.state; stage = Ticked; room = self.new.room } }
+        ensures moved { gone_on self.new.of self.new.state ≡ move self.old.of self.old.state replies.now }
+        ensures block { self.new.state.control.block ≡ self.old.state.control.block }
+        ensures started { self.new.state.control.newest ≤ self.new.state.control.clock }
     {
-        commit(
-            &self.of,
-            &mut self.state,
-            self.pending.as_slice(),
-            self.replies.as_slice(),
-            &mut self.room,
-        )?;
+        let code = &self.codes.as_slice()[self.state.control.block as usize];
+        commit(code, &mut self.state, self.noted.as_slice(), replies);
         let next = self.state.control.clock + 1;
         tick_to(&self.of, &mut self.state, next, &mut self.room);
         self.stage = Stage::Ticked;
-        Ok(())
     }
 }

@@ -64,7 +64,7 @@ impl ModuleRun {
     {
         match self.path.stage {
             Stage::Asked => true,
-            Stage::Begun | Stage::Answered | Stage::Ticked => false,
+            Stage::Begun | Stage::Ticked => false,
         }
     }
 
@@ -76,7 +76,7 @@ impl ModuleRun {
     {
         match self.path.stage {
             Stage::Asked => self.accesses.as_slice(),
-            Stage::Begun | Stage::Answered | Stage::Ticked => &[],
+            Stage::Begun | Stage::Ticked => &[],
         }
     }
 
@@ -94,6 +94,11 @@ impl ModuleRun {
         ensures { (p : PlanOf) (i : ℕ) (o : Own) → StandsAt p i o self.now → result ≡ length (queries (done_in o.steps)) }
     {
         self.tally.queries
+    }
+
+    /// How many operations were done in its moves so far.
+    pub fn operations(&self) -> u64 {
+        self.path.state.count
     }
 
     /// Runs local clocks to the next one with a due FIFO operation, and gives that step, which then waits for replies; or
@@ -123,7 +128,6 @@ impl ModuleRun {
             &self.tally,
             self.path.asked.as_slice(),
             &mut self.accesses,
-            &mut self.path.replies,
         )?;
         self.path.stage = Stage::Asked;
         Ok(Advance::Step(Step {
@@ -133,8 +137,8 @@ impl ModuleRun {
         }))
     }
 
-    /// Commits the step that waits, on its replies. It takes no memory: what the module does on them is done by the next call
-    /// that goes on.
+    /// Commits the step that waits, on its replies. It takes no memory: whether the loop goes on and whether the block ends is
+    /// left to the next call that goes on.
     pub fn feed(&mut self, replies: &[Reply])
         requires stands { (p : PlanOf) × ((i : ℕ)
             × ((o : Own) × (StandsAt p i o self.old × (all_fit (accesses_at p i o) replies.now ≡ true)))) }
@@ -143,19 +147,17 @@ impl ModuleRun {
         ensures fed { waits self.new ≡ false }
     {
         self.tally.count_step(self.path.asked.as_slice(), replies);
-        write_over(&mut self.path.replies, replies);
+        self.path.commit_due(replies);
         self.path.since = 1;
-        self.path.stage = Stage::Answered;
     }
 }
 
-/// Lists the accesses of these requests twice, and makes room for their replies. What the two lists held before is gone.
+/// Lists the accesses of these requests twice. What the kept list held before is gone.
 fn list_accesses(
     alloc: Global,
     tally: &Tally,
     asked: &[Request],
     kept: &mut List<Access>,
-    replies: &mut List<Reply>,
 ) -> Result<Accesses, OutOfMemory>
     requires tally { (channels : ℕ)
         × ((before : Items Exchange) × (IsTallyOf channels before tally.now
@@ -163,24 +165,13 @@ fn list_accesses(
     ensures given { IfOk result (λ accesses. (channels : ℕ) (before : Items Exchange) → IsTallyOf channels before tally.now
         → All (λ r. r.channel < channels) asked.now → accesses ≡ map (access_of before) asked.now) }
     ensures kept { IfOk result (λ accesses. kept.new ≡ accesses) }
-    ensures replies { IfOk result (λ accesses. length replies.new ≡ length asked.now) }
 {
     let mut accesses = Accesses::new(alloc);
     kept.truncate(0);
-    replies.truncate(0);
     for request in asked {
         let access = tally.access(*request);
         accesses.push(access)?;
         kept.push(access)?;
-        replies.push(Reply::Done)?;
     }
     Ok(accesses)
-}
-
-/// Writes as many replies over those of a list.
-fn write_over(list: &mut List<Reply>, replies: &[Reply])
-    requires { length list.old ≡ length replies.now }
-    ensures { list.new ≡ replies.now }
-{
-    list.as_mut_slice().copy_from_slice(replies);
 }

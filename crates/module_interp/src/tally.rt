@@ -8,9 +8,9 @@ ghost use Rattle.lockstep_defs.specs.Channels.{Exchange, moved_by, popped_value,
 ghost use Rattle.lockstep_defs.specs.OwnRun.{access_of, paired};
 ghost use Rattle.module_interp.specs.Paths.{IsTallyOf};
 
+use block_code::is_yes;
 use flow_design::{Reply, Request};
 use flow_word::{Access, Kind, OutOfMemory, Side, Words};
-use module_move::is_yes;
 use std::alloc::Global;
 
 /// The pops and pushes of each channel, and the queries, in the steps that have their replies.

@@ -1,5 +1,5 @@
 -- The live iterations, from the oldest on.
-use Rattle.std.proofs.Common.{◌≡◌, refl, ap, arith, ℕ, suc, ◌+◌, ◌-◌, ◌*◌, ◌/◌, ◌<◌, ◌≤◌, List, ◌∷◌, ◌++◌, length, append_assoc}
+use Rattle.std.proofs.Common.{◌≡◌, refl, sym, ◌∙◌, ap, arith, ℕ, suc, ◌+◌, ◌-◌, ◌*◌, ◌/◌, ◌<◌, ◌≤◌, List, ◌∷◌, ◌++◌, length, append_assoc}
 use Rattle.std.proofs.Math.Nat.{div-mul-le_self, mul-le-mul_right}
 use Rattle.std.specs.List.{flat_map, enumerate_from}
 use Rattle.flow_design.specs.declared.design.Module.{Module}
@@ -47,13 +47,15 @@ due_is m s = refl
 ages_next : (ii age left n : ℕ) → left ≡ suc n → ages_down ii age left ≡ (age + n * ii) ∷ ages_down ii age n
 ages_next ii age left n e = rw e refl
 
--- the due operations of one iteration were added
-pub adding_more : (b : Block) (s : ModuleState) (ii age left n place : ℕ) (pending now goal : List Due) → left ≡ suc n
-    → now ≡ pending ++ due_in b s (place, age + n * ii)
-    → pending ++ flat_map (due_in b s) (enumerate_from place (ages_down ii age left)) ≡ goal
-    → now ++ flat_map (due_in b s) (enumerate_from (place + 1) (ages_down ii age n)) ≡ goal
-adding_more b s ii age left n place pending now goal e added so_far =
-    let next : flat_map (due_in b s) (enumerate_from place (ages_down ii age left))
-    ≡ due_in b s (place, age + n * ii) ++ flat_map (due_in b s) (enumerate_from (place + 1) (ages_down ii age n)) =
+-- what the due operations of one iteration give was added
+pub adding_more : {X : Type 0} (h : List Due → List X) → ((xs ys : List Due) → h (xs ++ ys) ≡ h xs ++ h ys) → (b : Block) (s : ModuleState)
+    (ii age left n place : ℕ) (out now goal : List X) → left ≡ suc n → now ≡ out ++ h (due_in b s (place, age + n * ii))
+    → out ++ h (flat_map (due_in b s) (enumerate_from place (ages_down ii age left))) ≡ goal
+    → now ++ h (flat_map (due_in b s) (enumerate_from (place + 1) (ages_down ii age n))) ≡ goal
+adding_more {X} h parts b s ii age left n place out now goal e added so_far =
+    let front = due_in b s (place, age + n * ii) in
+    let back = flat_map (due_in b s) (enumerate_from (place + 1) (ages_down ii age n)) in
+    let next : flat_map (due_in b s) (enumerate_from place (ages_down ii age left)) ≡ front ++ back =
     ap (λ (xs : List ℕ). flat_map (due_in b s) (enumerate_from place xs)) (ages_next ii age left n e) in
-    rw (added, append_assoc, ← next) so_far
+    ap (λ (xs : List X). xs ++ h back) added
+    ∙ (append_assoc out (h front) (h back) ∙ (ap (λ (xs : List X). out ++ xs) (sym (ap h next ∙ parts front back)) ∙ so_far))

@@ -3,7 +3,7 @@ pub mod Begins
 pub mod Failing
 pub mod Looking
 pub mod Moving
+pub mod Noted
 pub mod Readiness
-pub mod Storing
 pub mod Ticking
 pub mod Writing

@@ -1,7 +1,7 @@
 -- Looking up the due operations, iteration by iteration.
-use Rattle.std.proofs.Common.{◌≡◌, refl, sym, ◌∙◌, ap, arith, ℕ, ◌+◌, ◌<◌, ◌≤◌, Bool, true, false, cond, List, [], ◌∷◌, ◌++◌, map, length}
+use Rattle.std.proofs.Common.{◌≡◌, refl, sym, ◌∙◌, ap, arith, ℕ, ◌+◌, ◌<◌, ◌≤◌, Bool, true, false, cond, List, [], ◌∷◌, ◌++◌, length}
 use Rattle.std.proofs.Common.{take, get_or, append_assoc}
-use Rattle.std.specs.Prelude.{filter, flat_map, All}
+use Rattle.std.specs.Prelude.{flat_map, All}
 use Rattle.std.specs.List.{enumerate_from}
 use Rattle.std.proofs.lemmas.List.{map-append, take_more, take_all}
 use Rattle.std.proofs.lemmas.List.Elements.{filter-append, All-from_recursion}
@@ -9,13 +9,9 @@ use Rattle.flow_design.specs.declared.design.Block.{Block}
 use Rattle.flow_design.specs.declared.design.Module.{Module}
 use Rattle.flow_design.specs.declared.state.Due.{Due}
 use Rattle.flow_design.specs.declared.state.ModuleState.{ModuleState}
-use Rattle.flow_design.specs.Module.{operation_at, temps_of, passes, live_count, ages_down, due_at, due_in, due}
+use Rattle.flow_design.specs.Module.{operation_at, temps_of, passes, ages_down, due_at, due_in, due}
 use Rattle.lockstep_defs.proofs.Standing.{due_numbers}
-
--- those of these operations of an iteration that pass
-abbrev pub passing : Block → ModuleState → ℕ → List ℕ → List Due
-passing b s place ns = map (λ n. record { iteration = place; op = n })
-    (filter (λ n. passes s.registers (temps_of s place) (operation_at b n).guard) ns)
+use Rattle.module_move.specs.Moves.{passing}
 
 passing_one : (b : Block) (s : ModuleState) (place n : ℕ)
     → passing b s place (n ∷ []) ≡ cond (passes s.registers (temps_of s place) (operation_at b n).guard)
@@ -32,28 +28,33 @@ passing-append : (b : Block) (s : ModuleState) (place : ℕ) (ms ns : List ℕ)
     → passing b s place (ms ++ ns) ≡ passing b s place ms ++ passing b s place ns
 passing-append b s place ms ns = rw (filter-append, map-append) refl
 
--- one operation more
-pub passing_more : (b : Block) (s : ModuleState) (place i n : ℕ) (numbers : List ℕ) (test : Bool) (initial before now : List Due)
-    → i < length numbers → n ≡ get_or numbers i n → test ≡ passes s.registers (temps_of s place) (operation_at b n).guard
-    → now ≡ before ++ cond test (record { iteration = place; op = n } ∷ []) []
-    → before ≡ initial ++ passing b s place (take i numbers)
-    → now ≡ initial ++ passing b s place (take (i + 1) numbers)
-passing_more b s place i n numbers test initial before now inside read is added so_far =
+-- what one operation more gives was added
+pub passing_more : {X : Type 0} (h : List Due → List X) → ((xs ys : List Due) → h (xs ++ ys) ≡ h xs ++ h ys) → (b : Block) (s : ModuleState)
+    (place i n : ℕ) (numbers : List ℕ) (test : Bool) (initial before now : List X) → i < length numbers → n ≡ get_or numbers i n
+    → test ≡ passes s.registers (temps_of s place) (operation_at b n).guard
+    → now ≡ before ++ h (cond test (record { iteration = place; op = n } ∷ []) [])
+    → before ≡ initial ++ h (passing b s place (take i numbers)) → now ≡ initial ++ h (passing b s place (take (i + 1) numbers))
+passing_more {X} h parts b s place i n numbers test initial before now inside read is added so_far =
     let more : take (i + 1) numbers ≡ take i numbers ++ n ∷ [] = take_more numbers i n inside
     ∙ ap (λ (k : ℕ). take i numbers ++ k ∷ []) (sym read) in
     let one : cond test (record { iteration = place; op = n } ∷ []) [] ≡ passing b s place (n ∷ []) =
     ap (λ (t : Bool). cond t (record { iteration = place; op = n } ∷ []) []) is ∙ sym (passing_one b s place n) in
-    added ∙ (rw (so_far, one) (append_assoc initial (passing b s place (take i numbers)) (passing b s place (n ∷ [])))
-    ∙ ap (λ (ds : List Due). initial ++ ds) (sym (ap (passing b s place) more ∙ passing-append b s place (take i numbers) (n ∷ []))))
+    let both : h (passing b s place (take (i + 1) numbers)) ≡ h (passing b s place (take i numbers)) ++ h (passing b s place (n ∷ [])) =
+    ap h (ap (passing b s place) more ∙ passing-append b s place (take i numbers) (n ∷ []))
+    ∙ parts (passing b s place (take i numbers)) (passing b s place (n ∷ [])) in
+    added ∙ (ap (λ (xs : List X). xs ++ h (cond test (record { iteration = place; op = n } ∷ []) [])) so_far
+    ∙ (ap (λ (ds : List Due). (initial ++ h (passing b s place (take i numbers))) ++ h ds) one
+    ∙ (append_assoc initial (h (passing b s place (take i numbers))) (h (passing b s place (n ∷ [])))
+    ∙ ap (λ (xs : List X). initial ++ xs) (sym both))))
 
 pub passing_all : (b : Block) (s : ModuleState) (place i : ℕ) (numbers : List ℕ) → length numbers ≤ i
     → passing b s place (take i numbers) ≡ passing b s place numbers
 passing_all b s place i numbers all = ap (passing b s place) (take_all i numbers all)
 
--- what was added, and then the due operations of the iterations left, are all
-pub record IsAdding (m : Module) (b : Block) (s : ModuleState) (pending : List Due) (ii age left place : ℕ) : Type 0 where
-  pub rest : pending ++ flat_map (due_in b s) (enumerate_from place (ages_down ii age left)) ≡ due m s
-  pub places : place + left ≡ live_count b s.control
+-- what the due operations give so far, and then what those of the iterations left give, is all
+abbrev pub IsAdding : {X : Type 0} → (List Due → List X) → Module → Block → ModuleState → List X → ℕ → ℕ → ℕ → ℕ → Type 0
+IsAdding h m b s out ii age left place =
+    out ++ h (flat_map (due_in b s) (enumerate_from place (ages_down ii age left))) ≡ h (due m s)
 
 -- ---- numbers in range
 

@@ -2,29 +2,31 @@
 use Rattle.std.proofs.Common.{◌≡◌, ◌∙◌, refl, ap, ℕ, ◌+◌, ◌≤◌, ◌-◌, ◌==◌, List, false, ◌&&◌, length, arith, sym, subst, cond}
 use Rattle.std.specs.Prelude.{slice_index}
 use Rattle.std.specs.List.{fold}
+use Rattle.std.proofs.lemmas.List.{length-map}
 use Rattle.std.proofs.lemmas.Bool.{cond_both, ne_eqb, and_right}
 use Rattle.flow_design.specs.declared.design.Module.{Module}
 use Rattle.flow_design.specs.declared.design.Block.{Block}
 use Rattle.flow_design.specs.declared.state.ModuleState.{ModuleState}
-use Rattle.flow_design.specs.declared.state.Due.{Due}
-use Rattle.flow_design.specs.declared.state.Effect.{Effect}
 use Rattle.flow_design.specs.declared.state.Reply.{Reply}
 use Rattle.flow_design.specs.Module.{block_at, block_of, interval, due}
 use Rattle.lockstep_defs.specs.Machine.{effects, stored, committed, ticked, decided, finished, again_of, started, stopped, move}
 use Rattle.lockstep_defs.proofs.Moves.{same_block, rest_of_move}
-use Rattle.module_move.specs.Moves.{counted, ticked_to, gone_on}
+use Rattle.block_code.specs.declared.noted.Noted.{Noted}
+use Rattle.block_code.specs.Notes.{noted_for, effects_by}
+use Rattle.block_code.proofs.Notes.{all_noted}
+use Rattle.module_move.specs.Moves.{notes_of, counted, ticked_to, gone_on}
 
--- the commits of the effects of the due operations
-pub counted_is : (m : Module) (s : ModuleState) (replies : List Reply) (w : ModuleState) (es : List Effect) (pending : List Due)
-    → pending ≡ due m s
-    → es ≡ effects (block_of m s) s pending replies → w ≡ fold (stored m (block_of m s)) s es → w.count ≡ s.count
-    → record w { count = w.count + length pending } ≡ counted m s replies
-counted_is m s replies w es pending listed written committed_is kept =
-    let effects_are : es ≡ effects (block_of m s) s (due m s) replies = written
-    ∙ ap (λ (ds : List Due). effects (block_of m s) s ds replies) listed in
-    let commits : w ≡ committed m s replies = committed_is ∙ ap (fold (stored m (block_of m s)) s) effects_are in
-    let number : w.count + length pending ≡ s.count + length (due m s) = ap (λ (n : ℕ). n + length pending) kept
-    ∙ ap (λ (ds : List Due). s.count + length ds) listed in
+-- the commits by what was noted of the due operations
+pub counted_is : (m : Module) (s : ModuleState) (replies : List Reply) (w : ModuleState) (noted : List Noted) → noted ≡ notes_of m s
+    → w ≡ fold (stored m (block_of m s)) s (effects_by (block_of m s) noted replies) → w.count ≡ s.count
+    → record w { count = w.count + length noted } ≡ counted m s replies
+counted_is m s replies w noted listed written kept =
+    let b = block_of m s in
+    let effects_are : effects_by b noted replies ≡ effects b s (due m s) replies =
+    ap (λ (ns : List Noted). effects_by b ns replies) listed ∙ all_noted b s (due m s) replies in
+    let commits : w ≡ committed m s replies = written ∙ ap (fold (stored m b) s) effects_are in
+    let number : w.count + length noted ≡ s.count + length (due m s) = ap (λ (n : ℕ). n + length noted) kept
+    ∙ ap (λ (n : ℕ). s.count + n) (ap (λ (ns : List Noted). length ns) listed ∙ length-map (due m s) (noted_for b s)) in
     ap (λ (n : ℕ). record w { count = n }) number ∙ ap (λ (v : ModuleState). record v { count = s.count + length (due m s) }) commits
 
 -- the clock and the control make up the rest of a move

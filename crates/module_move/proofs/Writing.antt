@@ -1,16 +1,26 @@
 -- What the due operations write, one operation after another.
-use Rattle.std.proofs.Common.{◌≡◌, refl, sym, ◌∙◌, ap, arith, ℕ, zero, suc, add-one, ◌+◌, ◌<◌, ◌≤◌, cond, List, [], ◌∷◌, ◌++◌, length, drop}
-use Rattle.std.proofs.Common.{get_or, append_assoc}
+use Rattle.std.proofs.Common.{◌≡◌, refl, sym, ◌∙◌, ap, subst, arith, ℕ, zero, suc, add-one, ◌+◌, ◌<◌, ◌≤◌, Bool, cond, List, [], ◌∷◌}
+use Rattle.std.proofs.Common.{◌++◌, length, drop}
+use Rattle.std.proofs.Common.{get_or}
 use Rattle.std.proofs.lemmas.Grind.{common_steps}
 use Rattle.std.proofs.lemmas.List.{drop_more, get_or-drop}
+use Rattle.std.proofs.lemmas.List.Sums.{fold-append}
+use Rattle.std.specs.Prelude.{fold}
 use Rattle.flow_design.specs.declared.design.Block.{Block}
+use Rattle.flow_design.specs.declared.design.Channel.{Channel}
+use Rattle.flow_design.specs.declared.design.Module.{Module}
 use Rattle.flow_design.specs.declared.state.ModuleState.{ModuleState}
-use Rattle.flow_design.specs.declared.state.Due.{Due}
 use Rattle.flow_design.specs.declared.state.Effect.{Effect}
 use Rattle.flow_design.specs.declared.state.Reply.{Reply}
 use Rattle.flow_design.specs.declared.state.Reply.TheVariants.{Done}
 use Rattle.flow_design.specs.Module.{operation_at}
-use Rattle.lockstep_defs.specs.Machine.{effects_of, effects, is_fifo_operation}
+use Rattle.lockstep_defs.specs.Machine.{stored, is_fifo_operation}
+use Rattle.block_code.specs.declared.action.Action.{Action}
+use Rattle.block_code.specs.declared.code.BlockCode.{BlockCode}
+use Rattle.block_code.specs.declared.noted.Noted.{Noted}
+use Rattle.block_code.specs.Actions.{IsActionOf, carried_out, takes_reply}
+use Rattle.block_code.specs.Codes.{IsBlockCodeOf}
+use Rattle.block_code.specs.Notes.{effects_from, effects_by}
 
 drop_next : (replies : List Reply) (n : ℕ) → drop (suc n) replies ≡ drop 1 (drop n replies)
 drop_next replies zero = refl
@@ -25,25 +35,31 @@ none_there replies n over =
     let empty : drop n replies ≡ [] = grind (arith, common_steps) in
     rw empty refl
 
--- one operation more
-pub writing_more : (b : Block) (s : ModuleState) (pending : List Due) (replies : List Reply) (i taken after : ℕ) (d e : Due)
-    (out now goal : List Effect)
-    → i < length pending → d ≡ get_or pending i e
-    → now ≡ out ++ effects_of s d.iteration (operation_at b d.op).op (get_or replies taken Done)
-    → drop after replies ≡ cond (is_fifo_operation (operation_at b d.op).op) (drop 1 (drop taken replies)) (drop taken replies)
-    → out ++ effects b s (drop i pending) (drop taken replies) ≡ goal
-    → now ++ effects b s (drop (i + 1) pending) (drop after replies) ≡ goal
-writing_more b s pending replies i taken after d e out now goal within read added next so_far =
-    let op = (operation_at b d.op).op in
-    let front : drop i pending ≡ d ∷ drop (i + 1) pending = drop_more pending i e within
-    ∙ ap (λ (x : Due). x ∷ drop (i + 1) pending) (sym read) in
-    let reply : get_or (drop taken replies) 0 Done ≡ get_or replies taken Done = get_or-drop taken replies 0 Done
+-- one operation more was written
+pub writing_more : (channels : List Channel) (m : Module) (b : Block) (code : BlockCode) (noted : List Noted) (replies : List Reply)
+    (i taken after : ℕ) (n e : Noted) (c : Action) (first before now : ModuleState) → IsBlockCodeOf channels m b code → i < length noted
+    → n ≡ get_or noted i e → n.op < length code.actions → c ≡ get_or code.actions n.op c
+    → now ≡ carried_out before n (get_or replies taken Done) c
+    → drop after replies ≡ cond (takes_reply c) (drop 1 (drop taken replies)) (drop taken replies)
+    → fold (stored m b) before (effects_by b (drop i noted) (drop taken replies)) ≡ fold (stored m b) first (effects_by b noted replies)
+    → fold (stored m b) now (effects_by b (drop (i + 1) noted) (drop after replies)) ≡ fold (stored m b) first (effects_by b noted replies)
+writing_more channels m b code noted replies i taken after n e c first before now is within read inside there written next so_far =
+    let op = (operation_at b n.op).op in
+    let reply = get_or replies taken Done in
+    let action : IsActionOf channels m b c op =
+    subst (λ (a : Action). IsActionOf channels m b a op) (sym there) (is.actions.each n.op c (omega (arith, is.actions.count))) in
+    let left = effects_by b (drop (i + 1) noted) (drop after replies) in
+    let front : drop i noted ≡ n ∷ drop (i + 1) noted = drop_more noted i e within
+    ∙ ap (λ (x : Noted). x ∷ drop (i + 1) noted) (sym read) in
+    let same_reply : get_or (drop taken replies) 0 Done ≡ reply = get_or-drop taken replies 0 Done
     ∙ ap (λ (k : ℕ). get_or replies k Done) (omega arith) in
-    let step : effects b s (drop i pending) (drop taken replies) ≡ effects_of s d.iteration op (get_or replies taken Done)
-    ++ effects b s (drop (i + 1) pending) (drop after replies) =
-    ap (λ (ds : List Due). effects b s ds (drop taken replies)) front
-    ∙ (ap (λ (r : Reply). effects_of s d.iteration op r
-    ++ effects b s (drop (i + 1) pending) (cond (is_fifo_operation op) (drop 1 (drop taken replies)) (drop taken replies))) reply
-    ∙ ap (λ (rs : List Reply). effects_of s d.iteration op (get_or replies taken Done) ++ effects b s (drop (i + 1) pending) rs) (sym next))
-    in
-    rw (added, append_assoc, ← step) so_far
+    let rest : cond (is_fifo_operation op) (drop 1 (drop taken replies)) (drop taken replies) ≡ drop after replies =
+    ap (λ (t : Bool). cond t (drop 1 (drop taken replies)) (drop taken replies)) (sym action.replies) ∙ sym next in
+    let step : effects_by b (drop i noted) (drop taken replies) ≡ effects_from n op reply ++ left =
+    ap (λ (ns : List Noted). effects_by b ns (drop taken replies)) front
+    ∙ (ap (λ (r : Reply). effects_from n op r
+    ++ effects_by b (drop (i + 1) noted) (cond (is_fifo_operation op) (drop 1 (drop taken replies)) (drop taken replies))) same_reply
+    ∙ ap (λ (rs : List Reply). effects_from n op reply ++ effects_by b (drop (i + 1) noted) rs) rest) in
+    ap (λ (s : ModuleState). fold (stored m b) s left) (written ∙ action.written before n reply)
+    ∙ (sym (ap (λ (es : List Effect). fold (stored m b) before es) step
+    ∙ fold-append (stored m b) before (effects_from n op reply) left) ∙ so_far)

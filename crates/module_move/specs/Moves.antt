@@ -1,10 +1,23 @@
--- The parts of a move: the commits, the clock, and how the loop and the block go on.
-use Rattle.std.specs.Prelude.{ℕ, ◌+◌, ◌-◌, List, length, drop}
+-- The parts of a move: what is noted, the commits, the clock, and how the loop and the block go on.
+use Rattle.std.specs.Prelude.{ℕ, ◌+◌, ◌-◌, List, map, filter, length, drop}
+use Rattle.flow_design.specs.declared.design.Block.{Block}
 use Rattle.flow_design.specs.declared.design.Module.{Module}
+use Rattle.flow_design.specs.declared.state.Due.{Due}
 use Rattle.flow_design.specs.declared.state.ModuleState.{ModuleState}
 use Rattle.flow_design.specs.declared.state.Reply.{Reply}
-use Rattle.flow_design.specs.Module.{block_of, live_count, due}
+use Rattle.flow_design.specs.Module.{block_of, operation_at, temps_of, passes, live_count, due}
 use Rattle.lockstep_defs.specs.Machine.{committed, decided, finished}
+use Rattle.block_code.specs.declared.noted.Noted.{Noted}
+use Rattle.block_code.specs.Notes.{noted_for}
+
+-- those of these operations of a live iteration that have no guard, or one that is not 0
+abbrev pub passing : Block → ModuleState → ℕ → List ℕ → List Due
+passing b s place ns = map (λ n. record { iteration = place; op = n })
+    (filter (λ n. passes s.registers (temps_of s place) (operation_at b n).guard) ns)
+
+-- what is noted of the due operations, in commit order
+abbrev pub notes_of : Module → ModuleState → List Noted
+notes_of m s = map (noted_for (block_of m s) s) (due m s)
 
 -- the due operations have committed and count
 abbrev pub counted : Module → ModuleState → List Reply → ModuleState

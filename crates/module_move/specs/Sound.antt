@@ -1,15 +1,17 @@
 -- What a module's machine needs to look up and compute its requests and its move.
-use Rattle.std.specs.Prelude.{◌≡◌, IfSome, ℕ, ◌+◌, ◌<◌, ◌≤◌, false, List, length, All}
+use Rattle.std.specs.Prelude.{◌≡◌, IfSome, ℕ, ◌<◌, ◌^◌, false, List, length, All}
+use Rattle.flow_design.specs.declared.design.Channel.{Channel}
 use Rattle.flow_design.specs.declared.design.Module.{Module}
 use Rattle.flow_design.specs.declared.design.Timed.{Timed}
 use Rattle.flow_design.specs.declared.state.ModuleState.{ModuleState}
 use Rattle.flow_design.specs.declared.state.Due.{Due}
-use Rattle.flow_design.specs.declared.expr.Op.{Op}
-use Rattle.flow_design.specs.declared.expr.Op.TheVariants.{Set, Load, Store, Read, Write, TryRead, TryWrite, Empty, Full}
-use Rattle.flow_design.specs.Words.{reach}
-use Rattle.lockstep_defs.specs.Machine.{memory_of}
+use Rattle.flow_design.specs.StaticRules.{IsModuleSound}
 use Rattle.lockstep_defs.specs.States.{IsStateOf}
-use Rattle.flow_design.specs.Module.{block_of, temps_of}
+use Rattle.flow_design.specs.Module.{block_of}
+use Rattle.block_code.specs.declared.code.BlockCode.{BlockCode}
+use Rattle.block_code.specs.declared.noted.Noted.{Noted}
+use Rattle.block_code.specs.Codes.{IsBlockCodeOf}
+use Rattle.module_move.specs.Moves.{notes_of}
 
 -- a state that the module comes to, in which it is not ended
 pub record IsStateSound (m : Module) (s : ModuleState) : Type 0 where
@@ -32,18 +34,10 @@ pub record IsDueSound (m : Module) (s : ModuleState) (d : Due) : Type 0 where
   pub iteration : d.iteration < length s.temps
   pub op : d.op < length (block_of m s).ops
 
--- the registers of a module and the temps of a live iteration
-abbrev pub places_in : ModuleState → ℕ → ℕ
-places_in s iteration = length s.registers + length (temps_of s iteration)
-
--- all that an operation of a live iteration looks up is there: variables, a memory's words and the channel that it pushes
-abbrev pub IsReady : ℕ → ModuleState → ℕ → Op ℕ → Type 0
-IsReady channels s i (Set x e) = reach e ≤ places_in s i
-IsReady channels s i (Load x n e) = (reach e ≤ places_in s i) × (0 < length (memory_of s n))
-IsReady channels s i (Store n e a) = (reach e ≤ places_in s i) × (reach a ≤ places_in s i) × (0 < length (memory_of s n))
-IsReady channels s i (Read f x) = Unit {0}
-IsReady channels s i (Write f e) = (reach e ≤ places_in s i) × (f < channels)
-IsReady channels s i (TryRead f x ok) = Unit {0}
-IsReady channels s i (TryWrite f ok e) = (reach e ≤ places_in s i) × (f < channels)
-IsReady channels s i (Empty f x) = Unit {0}
-IsReady channels s i (Full f x) = Unit {0}
+-- what is needed to commit: in a sound state, by the code of its block, what was noted of all that is due
+pub record CanCommit (channels : List Channel) (m : Module) (s : ModuleState) (code : BlockCode) (noted : List Noted) : Type 0 where
+  pub of : IsModuleSound (length channels) m
+  pub state : IsStateSound m s
+  pub code_is : IsBlockCodeOf channels m (block_of m s) code
+  pub noted_are : noted ≡ notes_of m s
+  pub few : s.count < 2 ^ 60

@@ -1,24 +1,18 @@
 //! Room that the moves of modules use again.
 ghost use Rattle.std.specs.Prelude.{◌≡◌, ◌-◌, ◌≤◌, ◌++◌, length, take, drop, IfOk, replicate};
 
-use flow_design::Effect;
 use flow_word::{List, OutOfMemory, Words};
 use std::alloc::Global;
 
 /// Room that the moves of modules use again, so that a local clock takes no memory once it is there. What it holds means nothing.
 pub struct MoveRoom {
-    /// For what the due operations write.
-    pub effects: List<Effect>,
     /// The temps of an iteration that is no longer live, for the next one that starts.
     pub temps: Words,
 }
 
 impl Drop for MoveRoom {
     fn drop(self) {
-        let MoveRoom {
-            effects: _effects,
-            temps: _temps,
-        } = self;
+        let MoveRoom { temps: _temps } = self;
     }
 }
 
@@ -26,7 +20,6 @@ impl MoveRoom {
     /// No room yet, which takes no memory.
     pub fn new(alloc: Global) -> MoveRoom {
         MoveRoom {
-            effects: List::new(alloc),
             temps: List::new(alloc),
         }
     }

@@ -1,11 +1,11 @@
 //! Where a module stands: its block, the iterations that are live, and whether it is over.
 ghost use Rattle.std.specs.Prelude.{◌≡◌, ◌*◌, ◌<◌, ◌≤◌, length};
 ghost use Rattle.flow_design.specs.declared.limits.TheConstants.{LIVE_ITERATIONS};
-ghost use Rattle.flow_design.specs.Module.{block_of, operation_at, interval, live_count, temps_of};
+ghost use Rattle.flow_design.specs.Module.{block_of, interval, live_count};
 ghost use Rattle.lockstep_defs.specs.Machine.{is_spent, is_over};
 
 use block_schedule::interval;
-use flow_design::{Block, Control, Due, Module, ModuleState, Op};
+use flow_design::{Block, Control, Module, ModuleState};
 
 /// The block in which the module stands.
 pub(crate) fn block_of<'a>(of: &'a Module, state: &ModuleState) -> &'a Block
@@ -13,14 +13,6 @@ pub(crate) fn block_of<'a>(of: &'a Module, state: &ModuleState) -> &'a Block
     ensures { result.now ≡ block_of of.now state.now }
 {
     &of.blocks.as_slice()[state.control.block as usize]
-}
-
-/// A due operation of the block.
-pub(crate) fn operation<'a>(block: &'a Block, due: &Due) -> &'a Op<u32>
-    requires { due.now.op < length block.now.ops }
-    ensures { result.now ≡ (operation_at block.now due.now.op).op }
-{
-    &block.ops.as_slice()[due.op as usize].op
 }
 
 /// How many iterations are live.
@@ -39,16 +31,6 @@ pub(crate) fn live_count(block: &Block, control: &Control) -> u64
     let step = interval(block);
     let most = control.newest.min(block.len - 1 - age);
     if most < step { 1 } else { 1 + most / step }
-}
-
-/// The temps of a live iteration, or none.
-pub(crate) fn temps_of(state: &ModuleState, iteration: u32) -> &[u64]
-    ensures { result.now ≡ temps_of state.now iteration }
-{
-    match state.temps.as_slice().get(iteration as usize) {
-        Some(temps) => temps.as_slice(),
-        None => &[],
-    }
 }
 
 /// Whether a module is spent: not ended, and its count is at least the operation limit.

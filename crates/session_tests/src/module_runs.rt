@@ -163,6 +163,60 @@ stop
 end
 ";
 
+/// Each operator once, on 203 and 6.
+const EACH_OPERATOR: &[u8] = b"\
+flow 1
+sink y 64
+module m
+reg a 64
+reg b 64
+block k 2
+at 0 set a 203
+at 0 set b 6
+at 1 write y + - a b + * a b + & a b + | a b + ^ a b + << a b + >> a b + == a b + != a b + <u a b + <s ~ a b \
++ / a b + % a b + ~ a + sext 8 a ?: == a b a b
+stop
+end
+";
+
+/// All 64 bits of a register.
+const ALL_BITS: &[u8] = b"\
+flow 1
+sink y 64
+module m
+reg x 64
+block k 2
+at 0 set x ~ 0
+at 1 write y x
+stop
+end
+";
+
+/// A word that is stored and loaded in one local clock: the load finds what was there before.
+const STORED_AND_LOADED: &[u8] = b"\
+flow 1
+sink y 8
+module m
+reg x 8
+reg z 8
+mem w 8 2
+block k 4
+at 0 store w 1 5
+at 1 store w 1 9
+at 1 load x w 1
+at 2 load z w 1
+at 3 write y + * 16 x z
+stop
+end
+";
+
+/// Modules that write one word: after how many local clocks, and the word.
+const ONE_WORD: [(&[u8], u64, u64); 3] = [
+    (EACH_OPERATOR, 1, 14613),
+    (ALL_BITS, 1, u64::MAX),
+    (STORED_AND_LOADED, 3, 89),
+];
+
 /// A loop whose condition is read in its iteration's last local clock, and a block behind it. The channels are a and y.
 const DECIDED_AT_THE_END: &[u8] = b"\
 flow 1
@@ -538,4 +592,22 @@ fn decides_at_the_end<R: Abort>(rt: &R, run: &mut ModuleRun) -> Result<(), Fail>
 fn decided_at_the_end(rt: HostRuntime) -> Result<(), Fail> {
     let mut run = first_run(&rt, DECIDED_AT_THE_END)?;
     decides_at_the_end(&rt, &mut run)
+}
+
+/// It writes the word, and ends.
+fn writes_one<R: Abort>(rt: &R, run: &mut ModuleRun, gap: u64, word: u64) -> Result<(), Fail>
+    requires run { IsRun run.old }
+    requires fed { waits run.old ≡ false }
+{
+    writes(rt, run, gap, 0, write(0, 1, word))?;
+    ends(rt, run, 1)
+}
+
+#[test]
+fn words_by_expressions_and_memories(rt: HostRuntime) -> Result<(), Fail> {
+    for (session, gap, word) in ONE_WORD {
+        let mut run = first_run(&rt, session)?;
+        writes_one(&rt, &mut run, gap, word)?;
+    }
+    Ok(())
 }

@@ -8,5 +8,5 @@ invariant-loop-request l = record {
   replies : l.part.replies ≡ l.initial.part.replies ++ map (reply l.plan l.clock l.contents) (take l.request-index l.requests);
   answered : l.part.answered ≡ l.initial.part.answered ++ map (answered_as l.plan l.clock l.contents) (take l.request-index l.requests);
   moves : l.part.moves ≡ l.initial.part.moves;
-  pending : l.part.pending ≡ l.initial.part.pending;
+  noted : l.part.noted ≡ l.initial.part.noted;
 }

@@ -3,7 +3,7 @@ use Rattle.std.specs.List.{list_any}
 use Rattle.lockstep_defs.specs.Machine.{is_over, nobody}
 use Rattle.lockstep_defs.specs.Channels.{stalls, reply}
 use Rattle.lockstep_defs.specs.Lockstep.{module_at, requests_of}
-use Rattle.flow_design.specs.Module.{due}
+use Rattle.module_move.specs.Moves.{notes_of}
 use Rattle.clock_machine.specs.declared.part.Part.{Part}
 use Rattle.clock_machine.specs.Parts.{no_part, answered_as}
 use Rattle.clock_machine.proofs.PartLemmas.{over_part, stalled_part, asked_by, answered_part, sound_of}
@@ -15,8 +15,8 @@ returns-then-is_over c =
     (c.args.i, get_or c.args.state.now.modules c.args.i nobody)
     (ap (is_over c.args.plan.now.ops) (sym c.state_at-module.ensures) ∙ (sym c.is_over.ensures ∙ c.if-is_over.true)))
 
-pub ask_one-requires-clause-sound : goal.ask_one-requires-clause-sound
-ask_one-requires-clause-sound c =
+pub note_one-requires-clause-sound : goal.note_one-requires-clause-sound
+note_one-requires-clause-sound c =
     sound_of c.args.plan.now c.args.clock c.args.state.now c.args.i (module_at c.args.plan.now c.args.i) c.state_at-module.result.now
     c.requires.fit (omega arith)
     refl c.state_at-module.ensures (sym c.is_over.ensures ∙ c.if-is_over.false)
@@ -24,8 +24,8 @@ ask_one-requires-clause-sound c =
 pub returns-then-any_stalls : goal.returns-then-any_stalls
 returns-then-any_stalls c =
     let asked = asked_by c.args.plan.now c.args.state.now c.args.i (module_at c.args.plan.now c.args.i) c.state_at-module.result.now
-    c.ask_one.new.asked
-    refl c.state_at-module.ensures c.in_ok-ask_one.ensures.asked in
+    c.note_one.new.asked
+    refl c.state_at-module.ensures c.in_ok-note_one.ensures.asked in
     let running : is_over c.args.plan.now.ops (get_or c.args.state.now.modules c.args.i nobody) ≡ false =
     ap (is_over c.args.plan.now.ops) (sym c.state_at-module.ensures) ∙ (sym c.is_over.ensures ∙ c.if-is_over.false) in
     let stalled : list_any (stalls c.args.plan.now c.args.clock c.args.state.now.contents)
@@ -38,20 +38,21 @@ returns-then-any_stalls c =
 pub returns : goal.returns
 returns c =
     let asked = asked_by c.args.plan.now c.args.state.now c.args.i (module_at c.args.plan.now c.args.i) c.state_at-module.result.now
-    c.ask_one.new.asked
-    refl c.state_at-module.ensures c.in_ok-ask_one.ensures.asked in
+    c.note_one.new.asked
+    refl c.state_at-module.ensures c.in_ok-note_one.ensures.asked in
     let running : is_over c.args.plan.now.ops (get_or c.args.state.now.modules c.args.i nobody) ≡ false =
     ap (is_over c.args.plan.now.ops) (sym c.state_at-module.ensures) ∙ (sym c.is_over.ensures ∙ c.if-is_over.false) in
-    let pending : c.answer.new.part.pending
-    ≡ due (module_at c.args.plan.now c.args.i) c.state_at-module.result.now = c.in_ok-answer.ensures.pending
-    ∙ c.in_ok-ask_one.ensures.due in
-    let due_here : c.answer.new.part.pending ≡ due (module_at c.args.plan.now c.args.i) (get_or c.args.state.now.modules c.args.i nobody) =
-    rw (← c.state_at-module.ensures) pending in
+    let noted : c.answer.new.part.noted
+    ≡ notes_of (module_at c.args.plan.now c.args.i) c.state_at-module.result.now = c.in_ok-answer.ensures.noted
+    ∙ c.in_ok-note_one.ensures.noted in
+    let noted_here : c.answer.new.part.noted ≡ notes_of (module_at c.args.plan.now c.args.i) (get_or c.args.state.now.modules c.args.i
+    nobody) =
+    rw (← c.state_at-module.ensures) noted in
     let none : c.clear.new.self ≡ no_part = c.clear.ensures in
     answered_part c.args.plan.now c.args.clock c.args.state.now.contents (c.args.i, get_or c.args.state.now.modules c.args.i nobody)
-    c.ask_one.new.asked c.answer.new.part
+    c.note_one.new.asked c.answer.new.part
     running (rw (← c.as_slice-contents.ensures, ← c.as_slice.ensures) (sym c.any_stalls.ensures ∙ c.if-any_stalls.false)) asked
-    c.in_ok-answer.ensures.moves due_here
+    c.in_ok-answer.ensures.moves noted_here
     (rw (← c.as_slice-contents.ensures, ← c.as_slice-2.ensures)
     (c.in_ok-answer.ensures.replies
     ∙ ap (λ (part : Part). part.replies

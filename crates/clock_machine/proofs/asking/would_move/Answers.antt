@@ -10,8 +10,8 @@ returns-then-is_over c =
     sym (over_stays c.args.plan.now 0 (all_ready c.args.state.now.contents) (c.args.i, get_or c.args.state.now.modules c.args.i nobody)
     (ap (is_over c.args.plan.now.ops) (sym c.state_at-module.ensures) ∙ (sym c.is_over.ensures ∙ c.if-is_over.true)))
 
-pub ask_one-requires-clause-sound : goal.ask_one-requires-clause-sound
-ask_one-requires-clause-sound c =
+pub note_one-requires-clause-sound : goal.note_one-requires-clause-sound
+note_one-requires-clause-sound c =
     sound_of c.args.plan.now c.requires.fit.clock c.args.state.now c.args.i (module_at c.args.plan.now c.args.i)
     c.state_at-module.result.now
     c.requires.fit.fit (omega arith) refl c.state_at-module.ensures (sym c.is_over.ensures ∙ c.if-is_over.false)
@@ -20,8 +20,8 @@ pub returns : goal.returns
 returns c =
     let p = c.args.plan.now in
     let st = c.args.state.now in
-    let asked = asked_by p st c.args.i (module_at p c.args.i) c.state_at-module.result.now c.ask_one.new.asked
-    refl c.state_at-module.ensures c.in_ok-ask_one.ensures.asked in
+    let asked = asked_by p st c.args.i (module_at p c.args.i) c.state_at-module.result.now c.note_one.new.asked
+    refl c.state_at-module.ensures c.in_ok-note_one.ensures.asked in
     let running : is_over p.ops (get_or st.modules c.args.i nobody) ≡ false =
     ap (is_over p.ops) (sym c.state_at-module.ensures) ∙ (sym c.is_over.ensures ∙ c.if-is_over.false) in
     ap not (rw (c.as_slice-contents.ensures, c.as_slice.ensures, asked) at c.any_stalls_ever.ensures)

@@ -3,8 +3,8 @@ use Rattle.lockstep_defs.specs.Lockstep.{module_at}
 use Rattle.clock_machine.proofs.PartLemmas.{sound_of}
 use Rattle.clock_machine.proofs.ending.hold_one.Goals as goal
 
-pub ask_one-requires-clause-sound : goal.ask_one-requires-clause-sound
-ask_one-requires-clause-sound c =
+pub note_one-requires-clause-sound : goal.note_one-requires-clause-sound
+note_one-requires-clause-sound c =
     sound_of c.args.plan.now c.requires.fit.clock c.args.state.now c.args.i (module_at c.args.plan.now c.args.i)
     c.state_at-module.result.now c.requires.fit.fit (omega arith)
     refl c.state_at-module.ensures (sym c.is_over.ensures ∙ c.if-is_over.false)

@@ -1,7 +1,6 @@
-use Rattle.std.proofs.Common.{◌∙◌, ◌+◌, ◌++◌, ◌∷◌, [], ℕ, List, ap, ap₂, sym, length, map}
-use Rattle.std.proofs.lemmas.List.{map_more, length_push, take_all}
+use Rattle.std.proofs.Common.{◌∙◌, ◌++◌, ◌∷◌, [], List, ap, ap₂, sym, map}
+use Rattle.std.proofs.lemmas.List.{map_more, take_all}
 use Rattle.flow_word.specs.declared.access.Access.{Access}
-use Rattle.flow_design.specs.declared.state.Reply.{Reply}
 use Rattle.flow_design.specs.declared.state.Request.{Request}
 use Rattle.lockstep_defs.specs.OwnRun.{access_of}
 use Rattle.module_interp.proofs.run.list_accesses.Goals as goal
@@ -20,8 +19,6 @@ loop-request-preserved c = record {
       ∙ sym (map_more (access_of before) c.args.asked.now c.loop-request.request-index _ c.loop-request-test.true));
   same = c.in_ok-push-2.ensures.ok
       ∙ (ap (λ (xs : List Access). xs ++ c.access-access.result ∷ []) c.loop-request.invariant.same ∙ sym c.in_ok-push.ensures.ok);
-  count = ap (λ (xs : List Reply). length xs) c.in_ok-push-3.ensures.ok
-      ∙ (length_push c.loop-request.replies _ ∙ ap (λ (n : ℕ). n + 1) c.loop-request.invariant.count);
 }
 
 pub returns-clause-given : goal.returns-clause-given

@@ -1,4 +1,4 @@
-use Rattle.std.proofs.Common.{◌≡◌, ◌<◌, ℕ, List, map, take, length}
+use Rattle.std.proofs.Common.{◌≡◌, ◌<◌, ℕ, List, map, take}
 use Rattle.std.specs.Prelude.{All}
 use Rattle.lockstep_defs.specs.Channels.{Exchange}
 use Rattle.lockstep_defs.specs.OwnRun.{access_of}
@@ -11,5 +11,4 @@ invariant-loop-request l = record {
   given : (channels : ℕ) (before : List Exchange) → IsTallyOf channels before l.tally → All (λ r. r.channel < channels) l.asked
       → l.accesses ≡ map (access_of before) (take l.request-index l.asked);
   same : l.kept ≡ l.accesses;
-  count : length l.replies ≡ l.request-index;
 }

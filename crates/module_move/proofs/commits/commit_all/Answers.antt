@@ -1,57 +1,33 @@
-use Rattle.std.proofs.Common.{◌≡◌, refl, sym, ◌∙◌, ap, subst, ℕ, ◌+◌, List, length, drop, get_or, [], ◌∷◌, arith}
+use Rattle.std.proofs.Common.{◌≡◌, refl, ap, subst, ◌∙◌, get_or, List, drop, []}
 use Rattle.std.proofs.lemmas.Grind.{common_steps}
-use Rattle.lockstep_defs.proofs.Moves.{all_keep}
-use Rattle.std.proofs.lemmas.List.{drop_more}
-use Rattle.std.specs.List.{fold}
-use Rattle.flow_design.specs.declared.state.Effect.{Effect}
-use Rattle.flow_design.specs.declared.state.Effect.TheVariants.{Variable}
-use Rattle.flow_design.specs.declared.state.ModuleState.{ModuleState}
+use Rattle.std.specs.Prelude.{fold}
+use Rattle.std.proofs.Common.{arith}
+use Rattle.flow_design.specs.declared.state.Reply.{Reply}
 use Rattle.lockstep_defs.specs.Machine.{stored}
-use Rattle.lockstep_defs.specs.States.{HasPlaces}
-use Rattle.lockstep_defs.proofs.States.{stored_places}
+use Rattle.block_code.specs.declared.action.Action.{Action}
+use Rattle.block_code.specs.Actions.{carried_out}
+use Rattle.block_code.specs.declared.noted.Noted.{Noted}
+use Rattle.block_code.specs.Notes.{effects_by}
+use Rattle.module_move.proofs.Writing.{writing_more}
 use Rattle.module_move.proofs.commits.commit_all.Goals as goal
 
-pub loop-effect-init : goal.loop-effect-init
-loop-effect-init c = record { rest = refl; places = rw c.block_of-block.ensures c.requires.places }
+abbrev none : Noted
+none = record { op = 0; iteration = 0; value = 0; address = 0 }
 
-pub store-requires : goal.store-requires
-store-requires c = subst (λ (n : ℕ). HasPlaces c.args.of.now c.block_of-block.result.now n c.loop-effect.state)
-    (sym c.loop-effect.invariant.places.temps) c.loop-effect.invariant.places
+pub loop-due-preserved : goal.loop-due-preserved
+loop-due-preserved c channels m b is =
+    let n : Noted = get_or c.args.noted.now c.loop-due.due-index none in
+    let action = c.index-as_slice-due.result in
+    writing_more channels m b c.args.code.now c.args.noted.now c.args.replies.now c.loop-due.due-index c.loop-due.answered
+    c.answered_after-answered.result n none action c.args.state.now c.loop-due.state c.carry_out.new.state is c.loop-due-test.true refl
+    (c.requires.there c.loop-due.due-index none c.loop-due-test.true)
+    (c.index-as_slice-due.is ∙ ap (λ (as' : List Action). get_or as' n.op action) c.as_slice.ensures)
+    (c.carry_out.ensures ∙ ap (λ (r : Reply). carried_out c.loop-due.state n r action) c.reply_at.ensures) c.answered_after-answered.ensures
+    (c.loop-due.invariant channels m b is)
 
-abbrev none : Effect
-none = Variable 0 0 0
-
-pub loop-effect-preserved : goal.loop-effect-preserved
-loop-effect-preserved c =
-    let m = c.args.of.now in
-    let b = c.block_of-block.result.now in
-    let e = get_or c.args.effects.now c.loop-effect.effect-index none in
-    let front : drop c.loop-effect.effect-index c.args.effects.now ≡ e ∷ drop (c.loop-effect.effect-index + 1) c.args.effects.now =
-    drop_more c.args.effects.now c.loop-effect.effect-index none c.loop-effect-test.true in
-    let next : fold (stored m b) c.loop-effect.state (drop c.loop-effect.effect-index c.args.effects.now)
-    ≡ fold (stored m b) (stored m b c.loop-effect.state e) (drop (c.loop-effect.effect-index + 1) c.args.effects.now) =
-    ap (λ (es : List Effect). fold (stored m b) c.loop-effect.state es) front in
-    record {
-      rest = ap (λ (s : ModuleState). fold (stored m b) s (drop (c.loop-effect.effect-index + 1) c.args.effects.now)) c.store.ensures
-          ∙ (sym next ∙ c.loop-effect.invariant.rest);
-      places = subst (λ (s : ModuleState). HasPlaces m b (length c.args.state.now.temps) s) (sym c.store.ensures)
-          (stored_places m b (length c.args.state.now.temps) c.loop-effect.state e c.loop-effect.invariant.places);
-    }
-
-all_written : (c : goal.After-loop-effect)
-    → c.loop-effect.state ≡ fold (stored c.args.of.now c.block_of-block.result.now) c.args.state.now c.args.effects.now
-all_written c =
-    let none_left : drop c.loop-effect.effect-index c.args.effects.now ≡ [] = grind (arith, common_steps) in
-    subst (λ (es : List Effect). fold (stored c.args.of.now c.block_of-block.result.now) c.loop-effect.state es
-    ≡ fold (stored c.args.of.now c.block_of-block.result.now) c.args.state.now c.args.effects.now)
-    none_left c.loop-effect.invariant.rest
-
-pub returns-clause-control : goal.returns-clause-control
-returns-clause-control c =
-    ap (λ (s : ModuleState). s.control) (all_written c)
-    ∙ (all_keep c.args.of.now c.block_of-block.result.now c.args.state.now c.args.effects.now).0
-
-pub returns-clause-count : goal.returns-clause-count
-returns-clause-count c =
-    ap (λ (s : ModuleState). s.count) (all_written c)
-    ∙ (all_keep c.args.of.now c.block_of-block.result.now c.args.state.now c.args.effects.now).1
+pub returns : goal.returns
+returns c channels m b is =
+    let none_left : drop c.loop-due.due-index c.args.noted.now ≡ [] = grind (arith, common_steps) in
+    subst (λ (ns : List Noted). fold (stored m b) c.loop-due.state (effects_by b ns (drop c.loop-due.answered c.args.replies.now))
+    ≡ fold (stored m b) c.args.state.now (effects_by b c.args.noted.now c.args.replies.now))
+    none_left (c.loop-due.invariant channels m b is)

@@ -1,5 +1,4 @@
-use Rattle.std.proofs.Common.{◌≡◌, ◌+◌, ◌≤◌, ◌∙◌, false, List, [], ap}
-use Rattle.flow_design.specs.declared.state.Reply.{Reply}
+use Rattle.std.proofs.Common.{◌≡◌, ◌+◌, ◌≤◌, false, [], ap}
 use Rattle.lockstep_defs.specs.Machine.{move, requests, is_over}
 use Rattle.module_move.specs.Moves.{gone_on}
 use Rattle.module_interp.specs.declared.path.Path.{Path}
@@ -10,33 +9,33 @@ use Rattle.module_interp.proofs.path.Path.pass.Goals as goal
 pub commit_due-requires-clause-answer : goal.commit_due-requires-clause-answer
 commit_due-requires-clause-answer c =
     let h = has_begun c.args.self.now c.requires.path c.requires.begun c.requires.alive in
-    record { state = h.sound; pending = c.requires.pending; clock = h.clock; count = h.count }
+    record { state = h.sound; noted = c.requires.noted; clock = h.clock; count = h.count }
 
-passed : (x y : Path) (replies : List Reply) → y ≡ record x { state = y.state; stage = Ticked; replies = replies; room = y.room }
+passed : (x y : Path) → y ≡ record x { state = y.state; stage = Ticked; room = y.room }
     → x.stage ≡ Begun → is_over x.limit x.state ≡ false → requests x.channels x.of x.state ≡ []
     → gone_on y.of y.state ≡ move x.of x.state [] → y.state.control.block ≡ x.state.control.block
     → y.state.control.newest ≤ y.state.control.clock
     → Passes x (record y { since = y.since + 1 }) 0
-passed x y replies f begun alive none moved block started =
+passed x y f begun alive none moved block started =
     one_passes x (record y { since = y.since + 1 })
     (record {
       channels = ap (λ (z : Path). z.channels) f;
       of = ap (λ (z : Path). z.of) f;
       limit = ap (λ (z : Path). z.limit) f;
-      schedules = ap (λ (z : Path). z.schedules) f;
+      codes = ap (λ (z : Path). z.codes) f;
     })
     begun (ap (λ (z : Path). z.stage) f) (ap (λ (z : Path). z.since + 1) f) alive none moved block started
 
 pub returns-clause-kept : goal.returns-clause-kept
 returns-clause-kept c =
     let x = c.args.self.now in
-    let h = c.in_ok-commit_due.ensures in
-    passes_keep x _ 0 (passed x c.commit_due.new.self _ h.frame c.requires.begun c.requires.alive c.requires.none
-    (h.moved ∙ ap (λ (rs : List Reply). move x.of x.state rs) c.truncate.ensures) h.block h.started)
+    let h = c.commit_due.ensures in
+    passes_keep x _ 0
+    (passed x c.commit_due.new.self h.frame c.requires.begun c.requires.alive c.requires.none h.moved h.block h.started)
 
 pub returns-clause-nearer : goal.returns-clause-nearer
 returns-clause-nearer c =
     let x = c.args.self.now in
-    let h = c.in_ok-commit_due.ensures in
-    passes_nearer x _ 0 c.requires.path (passed x c.commit_due.new.self _ h.frame c.requires.begun c.requires.alive c.requires.none
-    (h.moved ∙ ap (λ (rs : List Reply). move x.of x.state rs) c.truncate.ensures) h.block h.started)
+    let h = c.commit_due.ensures in
+    passes_nearer x _ 0 c.requires.path
+    (passed x c.commit_due.new.self h.frame c.requires.begun c.requires.alive c.requires.none h.moved h.block h.started)

@@ -1,12 +1,15 @@
-use Rattle.module_interp.proofs.Keeping.{still_path}
-use Rattle.module_interp.proofs.Ways.{then}
+use Rattle.std.proofs.Common.{◌≡◌, ap, arith}
+use Rattle.flow_design.specs.declared.state.ModuleState.{ModuleState}
+use Rattle.module_interp.specs.declared.path.Stage.TheVariants.{Ticked}
+use Rattle.module_move.specs.Moves.{gone_on}
+use Rattle.module_interp.specs.Paths.{after_move}
+use Rattle.module_interp.proofs.Counting.{gone_on_up}
+use Rattle.module_interp.proofs.Keeping.{at_stage}
 use Rattle.module_interp.proofs.path.Path.settle.Goals as goal
 
-pub turn-requires-clause-path : goal.turn-requires-clause-path
-turn-requires-clause-path c = still_path c.args.self.now c.answer.new.self c.requires.path c.answer.ensures.kept
-
-pub returns-clause-kept : goal.returns-clause-kept
-returns-clause-kept c = then c.args.self.now c.answer.new.self c.turn.new.self c.answer.ensures.kept c.turn.ensures.kept
-
-pub returns-in_err-turn-clause-kept : goal.returns-in_err-turn-clause-kept
-returns-in_err-turn-clause-kept c = then c.args.self.now c.answer.new.self c.turn.new.self c.answer.ensures.kept c.turn.ensures.kept
+pub go_on-requires-clause-few : goal.go_on-requires-clause-few
+go_on-requires-clause-few c =
+    let x = c.args.self.now in
+    let small = c.requires.path.is.operations in
+    let same : (after_move x).count ≡ (gone_on x.of x.state).count = ap (λ (s : ModuleState). s.count) (at_stage x Ticked c.in-Ticked.is) in
+    omega (arith, (gone_on_up x.of x.state).0)

@@ -7,7 +7,7 @@ use Rattle.lockstep_defs.specs.Machine.{is_over}
 use Rattle.lockstep_defs.specs.OwnRun.{access_of}
 use Rattle.module_interp.specs.OwnRests.{done_in}
 use Rattle.module_interp.proofs.Standing.{step_rest, ended_mark, spent_mark, step_mark, accesses_are}
-use Rattle.module_interp.proofs.Advancing.{stands_on, replies_alone, rest_of, at_step, can_list, stands_asked}
+use Rattle.module_interp.proofs.Advancing.{stands_on, rest_of, at_step, can_list, stands_asked}
 use Rattle.module_interp.proofs.Sound.{sound_mark, small_step}
 use Rattle.module_interp.proofs.Tallies.{queries_few}
 use Rattle.module_interp.proofs.run.ModuleRun.advance.Goals as goal
@@ -61,8 +61,7 @@ pub returns-in_err-accesses-clause-stands : goal.returns-in_err-accesses-clause-
 returns-in_err-accesses-clause-stands c p i o s =
     let y = c.come_to_rest.new.self in
     let h = at_step y c.in_ok-come_to_rest.ensures.rest (sym c.is_over.ensures ∙ c.if-is_over.false) in
-    stands_on p i o c.args.self.now _ _
-    (replies_alone c.args.self.now.path y c.list_accesses.new.replies c.come_to_rest.ensures.kept h.begun) c.come_to_rest.ensures.unasked s
+    stands_on p i o c.args.self.now y _ c.come_to_rest.ensures.kept c.come_to_rest.ensures.unasked s
 
 pub returns-clause-stands : goal.returns-clause-stands
 returns-clause-stands c p i o s =
@@ -70,8 +69,7 @@ returns-clause-stands c p i o s =
     let h = at_step y c.in_ok-come_to_rest.ensures.rest (sym c.is_over.ensures ∙ c.if-is_over.false) in
     let can = can_list p i o c.args.self.now y c.come_to_rest.ensures.kept s h in
     let all = subst (All (λ (r : Request). r.channel < length p.design.channels)) (sym c.as_slice.ensures) can.all in
-    stands_asked p i o c.args.self.now y c.list_accesses.new.replies c.list_accesses.new.kept c.come_to_rest.ensures.kept s h
-    (c.in_ok-accesses.ensures.replies ∙ ap (λ (rs : List Request). length rs) c.as_slice.ensures)
+    stands_asked p i o c.args.self.now y c.list_accesses.new.kept c.come_to_rest.ensures.kept s h
     (c.in_ok-accesses.ensures.kept ∙ (c.in_ok-accesses.ensures.given (length p.design.channels) (done_in o.steps) s.tally all
     ∙ ap (λ (rs : List Request). map (access_of (done_in o.steps)) rs) c.as_slice.ensures))
 

@@ -1,13 +1,10 @@
 use Rattle.std.proofs.Common.{◌+◌, ◌^◌, ◌<◌, ◌++◌, ◌∙◌, List, length, ap, sym, subst}
 use Rattle.std.specs.Prelude.{All}
-use Rattle.flow_design.specs.declared.state.Reply.{Reply}
 use Rattle.flow_design.specs.declared.state.Request.{Request}
 use Rattle.lockstep_defs.specs.OwnRun.{paired}
-use Rattle.module_interp.specs.declared.path.Stage.TheVariants.{Answered}
-use Rattle.module_interp.specs.OwnRests.{done_in, next_rest}
+use Rattle.module_interp.specs.OwnRests.{done_in}
 use Rattle.module_interp.specs.Paths.{IsTallyOf}
-use Rattle.module_interp.specs.Runs.{StandsAt}
-use Rattle.module_interp.proofs.Feeding.{asked_stage, waits_channels, can_count, fed_stands}
+use Rattle.module_interp.proofs.Feeding.{asked_stage, waits_at, waits_channels, can_count, fed_stands}
 use Rattle.module_interp.proofs.run.ModuleRun.feed.Goals as goal
 
 pub count_step-requires : goal.count_step-requires
@@ -32,10 +29,15 @@ count_step-requires c =
       one_each = can.one_each ∙ ap (λ (rs : List Request). length rs) (sym c.as_slice.ensures);
     }
 
-pub write_over-requires : goal.write_over-requires
-write_over-requires c =
+pub commit_due-requires-clause-path : goal.commit_due-requires-clause-path
+commit_due-requires-clause-path c =
     let (p, (i, (o, (s, fit)))) = c.requires.stands in
-    (can_count p i o c.args.self.now c.args.replies.now s (asked_stage c.args.self.now.path.stage c.requires.waits) fit).room
+    record { plan = p; number = i; is = s.leads.path }
+
+pub commit_due-requires-clause-answer : goal.commit_due-requires-clause-answer
+commit_due-requires-clause-answer c =
+    let (p, (i, (o, (s, fit)))) = c.requires.stands in
+    (waits_at p i o c.args.self.now.path s.leads (asked_stage c.args.self.now.path.stage c.requires.waits)).can.answer
 
 pub returns-clause-stands : goal.returns-clause-stands
 returns-clause-stands c p i o s =
@@ -48,12 +50,6 @@ returns-clause-stands c p i o s =
     let tally =
     subst (λ (rs : List Request). IsTallyOf (length p.design.channels) (done_in o.steps ++ paired rs qs) c.count_step.new.self)
     c.as_slice.ensures counted in
-    let done = fed_stands p i o r qs c.count_step.new.self s asked tally in
-    subst
-    (λ (rs : List Reply). StandsAt p i (next_rest p i o qs)
-    (record {
-      path = record r.path { replies = rs; since = 1; stage = Answered };
-      tally = c.count_step.new.self;
-      accesses = r.accesses;
-    }))
-    (sym c.write_over.ensures) done
+    let h = c.commit_due.ensures in
+    fed_stands p i o r c.commit_due.new.self qs c.count_step.new.self s asked
+    (record { frame = h.frame; moved = h.moved; block = h.block; has_started = h.started }) tally

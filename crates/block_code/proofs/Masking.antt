@@ -1,0 +1,37 @@
+-- Cutting by a mask, and putting into a target.
+use Rattle.std.proofs.Common.{◌≡◌, refl, ap, ◌∙◌, arith, ℕ, zero, suc, ◌-◌, ◌<◌, ◌≤◌, ◌%◌, ◌^◌}
+use Rattle.std.proofs.Common.{List, [], ◌∷◌, length, set}
+use Rattle.std.specs.Prelude.{slice_index, slice_set}
+use Rattle.std.specs.Int.Bits.{bit_and}
+use Rattle.std.proofs.lemmas.Nat.{and_mask}
+use Rattle.std.proofs.lemmas.Bool.{lt-ltb, le-ltb}
+use Rattle.flow_design.specs.declared.design.Block.{Block}
+use Rattle.flow_design.specs.declared.design.Module.{Module}
+use Rattle.flow_design.specs.Module.{temps_of}
+use Rattle.block_code.specs.declared.target.Target.TheVariants.{Register, Temp}
+use Rattle.block_code.specs.Masks.{IsMaskOf}
+use Rattle.block_code.specs.Targets.{IsTargetOf}
+
+pub masked_is : (n width mask : ℕ) → IsMaskOf width mask → bit_and n mask ≡ n % 2 ^ width
+masked_is n width mask ones =
+    let is : mask ≡ 2 ^ width - 1 = omega (arith, ones) in
+    ap (λ (m : ℕ). bit_and n m) is ∙ and_mask n width
+
+pub register_target : (m : Module) (b : Block) (x mask : ℕ) → x < length m.registers → IsMaskOf (slice_index m.registers x) mask
+    → IsTargetOf m b (Register x mask) x
+register_target m b x mask inside ones s i v =
+    rw (lt-ltb x (length m.registers) inside)
+    (ap (λ (w : ℕ). record s { registers = slice_set s.registers x w }) (masked_is v (slice_index m.registers x) mask ones))
+
+pub temp_target : (m : Module) (b : Block) (x t mask : ℕ) → length m.registers ≤ x → t ≡ x - length m.registers
+    → IsMaskOf (slice_index b.temps t) mask → IsTargetOf m b (Temp t mask) x
+temp_target m b x t mask outside at ones s i v =
+    rw (le-ltb x (length m.registers) outside, ← at)
+    (ap (λ (w : ℕ). record s { temps = slice_set s.temps i (slice_set (temps_of s i) t w) })
+    (masked_is v (slice_index b.temps t) mask ones))
+
+-- a place that is not there
+pub set_beyond : {X : Type 0} (xs : List X) (i : ℕ) (x : X) → length xs ≤ i → set xs i x ≡ xs
+set_beyond [] i x h = refl
+set_beyond (y ∷ ys) zero x h = absurd (omega arith)
+set_beyond (y ∷ ys) (suc i) x h = ap (λ zs. y ∷ zs) (set_beyond ys i x (omega arith))

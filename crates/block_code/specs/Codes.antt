@@ -1,0 +1,26 @@
+-- The code of blocks.
+use Rattle.std.specs.Prelude.{ℕ, ◌≡◌, ◌<◌, ◌≤◌, List, length, slice_index_or}
+use Rattle.flow_design.specs.declared.design.Block.{Block}
+use Rattle.flow_design.specs.declared.design.Channel.{Channel}
+use Rattle.flow_design.specs.declared.design.Module.{Module}
+use Rattle.flow_design.specs.Module.{block_at, operation_at}
+use Rattle.block_schedule.specs.Schedules.{IsScheduleOf}
+use Rattle.block_code.specs.declared.action.Action.{Action}
+use Rattle.block_code.specs.declared.code.BlockCode.{BlockCode}
+use Rattle.block_code.specs.Actions.{IsActionOf, action_room}
+
+-- one action for each operation, which finds room for its results
+pub record AreActionsOf (channels : List Channel) (m : Module) (b : Block) (room : ℕ) (actions : List Action) : Type 0 where
+  pub count : length actions ≡ length b.ops
+  pub each : (n : ℕ) (d : Action) → n < length b.ops → IsActionOf channels m b (slice_index_or actions n d) (operation_at b n).op
+  pub rooms : (n : ℕ) (d : Action) → n < length b.ops → action_room (slice_index_or actions n d) ≤ room
+
+-- the block's schedule, and its operations as actions
+pub record IsBlockCodeOf (channels : List Channel) (m : Module) (b : Block) (c : BlockCode) : Type 0 where
+  pub schedule : IsScheduleOf b c.schedule
+  pub actions : AreActionsOf channels m b c.room c.actions
+
+-- the code of each block of a module
+pub record AreCodesOf (channels : List Channel) (m : Module) (codes : List BlockCode) : Type 0 where
+  pub count : length codes ≡ length m.blocks
+  pub each : (n : ℕ) (d : BlockCode) → n < length m.blocks → IsBlockCodeOf channels m (block_at m n) (slice_index_or codes n d)

@@ -1,0 +1,24 @@
+-- What an operation of a live iteration looks up is there.
+use Rattle.std.specs.Prelude.{ℕ, ◌+◌, ◌<◌, ◌≤◌, length}
+use Rattle.flow_design.specs.declared.expr.Op.{Op}
+use Rattle.flow_design.specs.declared.expr.Op.TheVariants.{Set, Load, Store, Read, Write, TryRead, TryWrite, Empty, Full}
+use Rattle.flow_design.specs.declared.state.ModuleState.{ModuleState}
+use Rattle.flow_design.specs.Words.{reach}
+use Rattle.flow_design.specs.Module.{temps_of}
+use Rattle.lockstep_defs.specs.Machine.{memory_of}
+
+-- the registers of a module and the temps of a live iteration
+abbrev pub places_in : ModuleState → ℕ → ℕ
+places_in s iteration = length s.registers + length (temps_of s iteration)
+
+-- the variables of its expressions, and a word of its memory
+abbrev pub IsReady : ModuleState → ℕ → Op ℕ → Type 0
+IsReady s i (Set x e) = reach e ≤ places_in s i
+IsReady s i (Load x n e) = (reach e ≤ places_in s i) × (0 < length (memory_of s n))
+IsReady s i (Store n e a) = (reach e ≤ places_in s i) × (reach a ≤ places_in s i) × (0 < length (memory_of s n))
+IsReady s i (Read f x) = Unit {0}
+IsReady s i (Write f e) = reach e ≤ places_in s i
+IsReady s i (TryRead f x ok) = Unit {0}
+IsReady s i (TryWrite f ok e) = reach e ≤ places_in s i
+IsReady s i (Empty f x) = Unit {0}
+IsReady s i (Full f x) = Unit {0}

@@ -1,0 +1,24 @@
+-- Where an operation's value goes.
+use Rattle.std.specs.Prelude.{ℕ, ◌≡◌, slice_set}
+use Rattle.std.specs.Int.Bits.{bit_and}
+use Rattle.flow_design.specs.declared.design.Block.{Block}
+use Rattle.flow_design.specs.declared.design.Module.{Module}
+use Rattle.flow_design.specs.declared.state.Effect.TheVariants.{Variable}
+use Rattle.flow_design.specs.declared.state.ModuleState.{ModuleState}
+use Rattle.flow_design.specs.Module.{temps_of}
+use Rattle.lockstep_defs.specs.Machine.{memory_of, stored}
+use Rattle.block_code.specs.declared.target.Target.{Target}
+use Rattle.block_code.specs.declared.target.Target.TheVariants.{Register, Temp}
+
+-- a value, cut by the target's mask, goes into the register, or into the temp of a live iteration
+abbrev pub put : ModuleState → ℕ → Target → ℕ → ModuleState
+put s i (Register x mask) v = record s { registers = slice_set s.registers x (bit_and v mask) }
+put s i (Temp t mask) v = record s { temps = slice_set s.temps i (slice_set (temps_of s i) t (bit_and v mask)) }
+
+-- a word goes to an address of a memory
+abbrev pub put_word : ModuleState → ℕ → ℕ → ℕ → ModuleState
+put_word s n address word = record s { memories = slice_set s.memories n (slice_set (memory_of s n) address word) }
+
+-- the target takes what the variable takes
+abbrev pub IsTargetOf : Module → Block → Target → ℕ → Type 0
+IsTargetOf m b target x = (s : ModuleState) (i v : ℕ) → put s i target v ≡ stored m b s (Variable i x v)

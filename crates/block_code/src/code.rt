@@ -1,0 +1,72 @@
+//! The code of a module's blocks.
+ghost use Rattle.std.specs.Prelude.{All, IfOk};
+ghost use Rattle.block_schedule.specs.Schedules.{KeepsLimits};
+ghost use Rattle.block_code.specs.Codes.{AreActionsOf, AreCodesOf, IsBlockCodeOf};
+
+use crate::action::{Action, action_of};
+use block_schedule::Schedule;
+use flow_design::{Block, Channel, Module};
+use flow_word::{List, OutOfMemory};
+use std::alloc::Global;
+
+/// A block as a machine runs it: when its operations are due, and what each does.
+#[derive(Debug)]
+pub struct BlockCode {
+    pub schedule: Schedule,
+    /// The action of each operation, in text order.
+    pub actions: List<Action>,
+    /// How many instructions its longest expression has: its results need so much room.
+    pub room: u64,
+}
+
+impl Drop for BlockCode {
+    fn drop(self) {
+        let BlockCode {
+            schedule: _schedule,
+            actions: _actions,
+            room: _room,
+        } = self;
+    }
+}
+
+/// The code of each block of a module over these channels. Each block keeps the limits that a schedule needs.
+pub fn codes_of(
+    alloc: Global,
+    channels: &[Channel],
+    of: &Module,
+) -> Result<List<BlockCode>, OutOfMemory>
+    requires { All KeepsLimits of.now.blocks }
+    ensures { IfOk result (AreCodesOf channels.now of.now) }
+{
+    let blocks = of.blocks.as_slice();
+    let mut codes = List::with_room(alloc, blocks.len() as u64)?;
+    for block in blocks {
+        codes.push(code_of(alloc, channels, of, block)?)?;
+    }
+    Ok(codes)
+}
+
+/// The code of a block.
+fn code_of(
+    alloc: Global,
+    channels: &[Channel],
+    of: &Module,
+    block: &Block,
+) -> Result<BlockCode, OutOfMemory>
+    requires { KeepsLimits block.now }
+    ensures { IfOk result (IsBlockCodeOf channels.now of.now block.now) }
+{
+    let schedule = Schedule::new(alloc, block)?;
+    let mut actions = List::with_room(alloc, block.ops.len())?;
+    let mut room = 0u64;
+    for timed in block.ops.as_slice() {
+        let action = action_of(alloc, channels, of, block, &timed.op)?;
+        room = room.max(action.room());
+        actions.push(action)?;
+    }
+    Ok(BlockCode {
+        schedule,
+        actions,
+        room,
+    })
+}

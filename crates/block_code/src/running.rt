@@ -1,0 +1,176 @@
+//! Running an action: first what the state from before the clock gives, then its writes on the reply.
+ghost use Rattle.std.specs.Prelude.{◌≡◌, ◌<◌, ◌≤◌, ℕ, length, slice_index};
+ghost use Rattle.flow_design.specs.Module.{temps_of};
+ghost use Rattle.lockstep_defs.specs.Machine.{memory_of, address_in};
+ghost use Rattle.block_code.specs.Operands.{IsOperandSound, room_of};
+ghost use Rattle.block_code.specs.Ready.{places_in};
+ghost use Rattle.block_code.specs.Actions.{held, action_value, action_address, action_request, action_room};
+ghost use Rattle.block_code.specs.Actions.{IsActionReady, carried_out};
+
+use crate::action::Action;
+use crate::noted::Noted;
+use crate::operand::{Operand, evaluate};
+use crate::replies::{is_yes, value_in};
+use crate::target::{put, put_word};
+use flow_design::{ModuleState, Reply, Request};
+use flow_word::Kind;
+
+/// What the state from before the clock gives an action.
+#[derive(Clone, Copy, Debug)]
+pub struct Prepared {
+    /// The value that it writes, where no reply decides it.
+    pub value: u64,
+    /// The address of a `store`.
+    pub address: u64,
+    /// What it asks of a channel.
+    pub request: Option<Request>,
+}
+
+/// What the state from before the clock gives an action of a live iteration. It takes no memory: results of long expressions
+/// go to `scratch`.
+pub fn prepare(
+    action: &Action,
+    state: &ModuleState,
+    iteration: u32,
+    scratch: &mut [u64],
+) -> Prepared
+    requires ready { IsActionReady state.now iteration action.now }
+    requires room { action_room action.now ≤ length scratch.old }
+    ensures value { result.value ≡ action_value state.now iteration action.now }
+    ensures address { result.address ≡ action_address state.now iteration action.now }
+    ensures request { result.request ≡ action_request state.now iteration action.now }
+    ensures room { length scratch.new ≡ length scratch.old }
+{
+    match action {
+        Action::Set(_, value) => writes(held(value, state, iteration, scratch), 0),
+        Action::Load(_, memory, address) => {
+            let address = held(address, state, iteration, scratch);
+            writes(word_at(state, *memory, address), 0)
+        }
+        Action::Store(memory, _, address, value) => {
+            let address = held(address, state, iteration, scratch);
+            let address = address_in(state, *memory, address);
+            writes(held(value, state, iteration, scratch), address)
+        }
+        Action::Read(channel, _) => asks(Kind::Read, *channel, 0),
+        Action::Write(channel, mask, value) => {
+            let value = held(value, state, iteration, scratch);
+            asks(Kind::Write, *channel, value & *mask)
+        }
+        Action::TryRead(channel, _, _) => asks(Kind::TryRead, *channel, 0),
+        Action::TryWrite(channel, mask, _, value) => {
+            let value = held(value, state, iteration, scratch);
+            asks(Kind::TryWrite, *channel, value & *mask)
+        }
+        Action::Empty(channel, _) => asks(Kind::Empty, *channel, 0),
+        Action::Full(channel, _) => asks(Kind::Full, *channel, 0),
+    }
+}
+
+/// An action that writes this value, and asks nothing.
+fn writes(value: u64, address: u64) -> Prepared
+    ensures value { result.value ≡ value }
+    ensures address { result.address ≡ address }
+    ensures request { result.request ≡ None }
+{
+    Prepared {
+        value,
+        address,
+        request: None,
+    }
+}
+
+/// An action that asks this, and writes by its reply alone.
+fn asks(kind: Kind, channel: u32, value: u64) -> Prepared
+    ensures value { result.value ≡ 0 }
+    ensures address { result.address ≡ 0 }
+    ensures request { result.request ≡ Some (record { kind = kind; channel = channel; value = value }) }
+{
+    Prepared {
+        value: 0,
+        address: 0,
+        request: Some(Request {
+            kind,
+            channel,
+            value,
+        }),
+    }
+}
+
+/// The value of an operand in a live iteration.
+fn held(operand: &Operand, state: &ModuleState, iteration: u32, scratch: &mut [u64]) -> u64
+    requires sound { IsOperandSound (places_in state.now iteration) operand.now }
+    requires room { room_of operand.now ≤ length scratch.old }
+    ensures value { result ≡ held state.now iteration operand.now }
+    ensures room { length scratch.new ≡ length scratch.old }
+{
+    evaluate(
+        operand,
+        state.registers.as_slice(),
+        temps_of(state, iteration),
+        scratch,
+    )
+}
+
+/// The temps of a live iteration, or none.
+pub fn temps_of(state: &ModuleState, iteration: u32) -> &[u64]
+    ensures { result.now ≡ temps_of state.now iteration }
+{
+    match state.temps.as_slice().get(iteration as usize) {
+        Some(temps) => temps.as_slice(),
+        None => &[],
+    }
+}
+
+/// The words of a memory.
+fn memory_of(state: &ModuleState, number: u32) -> &[u64]
+    ensures { result.now ≡ memory_of state.now number }
+{
+    match state.memories.as_slice().get(number as usize) {
+        Some(words) => words.as_slice(),
+        None => &[],
+    }
+}
+
+/// An address, modulo the memory's length.
+fn address_in(state: &ModuleState, number: u32, address: u64) -> u64
+    requires { 0 < length (memory_of state.now number) }
+    ensures { result ≡ address_in state.now number address }
+{
+    address % memory_of(state, number).len() as u64
+}
+
+/// The word at an address, modulo the memory's length.
+fn word_at(state: &ModuleState, number: u32, address: u64) -> u64
+    requires { 0 < length (memory_of state.now number) }
+    ensures { result ≡ slice_index (memory_of state.now number) (address_in state.now number address) }
+{
+    memory_of(state, number)[address_in(state, number, address) as usize]
+}
+
+/// Writes what an action writes, by what was noted of it and its reply. It takes no memory.
+pub fn carry_out(action: &Action, noted: &Noted, reply: Reply, state: &mut ModuleState)
+    ensures { state.new ≡ carried_out state.old noted.now reply action.now }
+{
+    let iteration = noted.iteration;
+    match action {
+        Action::Set(target, _) | Action::Load(target, _, _) => {
+            put(state, iteration, *target, noted.value);
+        }
+        Action::Store(memory, mask, _, _) => {
+            put_word(state, *memory, noted.address, noted.value & *mask);
+        }
+        Action::Read(_, target) => put(state, iteration, *target, value_in(reply)),
+        Action::Write(_, _, _) => {}
+        Action::TryRead(_, target, ok) => {
+            let yes = is_yes(reply);
+            if yes {
+                put(state, iteration, *target, value_in(reply));
+            }
+            put(state, iteration, *ok, yes as u64);
+        }
+        Action::TryWrite(_, _, target, _) | Action::Empty(_, target) | Action::Full(_, target) => {
+            put(state, iteration, *target, is_yes(reply) as u64);
+        }
+    }
+}

@@ -1,0 +1,17 @@
+use Rattle.std.proofs.Common.{◌≡◌, ◌∙◌, ap, subst, sym, length, List, ℕ, ◌≤◌, ◌*◌}
+use Rattle.std.proofs.lemmas.List.{length-map}
+use Rattle.flow_design.specs.declared.limits.TheConstants.{LIVE_ITERATIONS, OPERATIONS}
+use Rattle.flow_design.specs.Module.{block_of, due}
+use Rattle.block_code.specs.declared.noted.Noted.{Noted}
+use Rattle.block_code.specs.Notes.{noted_for}
+use Rattle.module_move.proofs.Readiness.{few_due}
+use Rattle.module_move.proofs.noting.note.Goals as goal
+
+pub returns-clause-few : goal.returns-clause-few
+returns-clause-few c =
+    let m = c.args.of.now in
+    let s = c.args.state.now in
+    let count : length c.note_due.new.noted ≡ length (due m s) =
+    ap (λ (ns : List Noted). length ns) c.in_ok-note_due.ensures.noted ∙ length-map (due m s) (noted_for (block_of m s) s) in
+    subst (λ (n : ℕ). n ≤ LIVE_ITERATIONS * OPERATIONS) (sym count)
+    (few_due (length c.args.channels.now) m s c.requires.module c.requires.sound)

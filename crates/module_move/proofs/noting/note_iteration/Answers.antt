@@ -1,0 +1,32 @@
+use Rattle.std.proofs.Common.{◌≡◌, ◌∙◌, ℕ, map, get_or}
+use Rattle.std.specs.List.{filter_map}
+use Rattle.std.proofs.lemmas.List.{get_or_default, map-append}
+use Rattle.std.proofs.lemmas.List.Elements.{filter_map-append}
+use Rattle.flow_design.specs.Module.{block_of, operation_at, temps_of, passes}
+use Rattle.lockstep_defs.specs.Machine.{request_for}
+use Rattle.block_code.specs.Notes.{noted_for}
+use Rattle.module_move.proofs.Looking.{passing_more}
+use Rattle.module_move.proofs.noting.note_iteration.Goals as goal
+
+pub loop-number-preserved : goal.loop-number-preserved
+loop-number-preserved c =
+    let m = c.args.of.now in
+    let s = c.args.state.now in
+    let b = block_of m s in
+    let n : ℕ = get_or c.args.numbers.now c.loop-number.number-index 0 in
+    let request = request_for c.args.channels.now m s in
+    let test : c.passes-passes.result ≡ passes s.registers (temps_of s c.args.place) (operation_at b n).guard =
+    rw (c.as_slice.ensures, c.temps_of-temps.ensures, c.block_of-block.ensures) at c.passes-passes.ensures in
+    let read : n ≡ get_or c.args.numbers.now c.loop-number.number-index n =
+    get_or_default c.args.numbers.now c.loop-number.number-index 0 n c.loop-number-test.true in
+    record {
+      noted = passing_more (map (noted_for b s)) (λ xs ys. map-append (noted_for b s) xs ys) b s c.args.place c.loop-number.number-index n
+          c.args.numbers.now c.passes-passes.result c.args.noted.now c.loop-number.noted c.note_if.new.noted c.loop-number-test.true read
+          test
+          c.in_ok-note_if.ensures.noted c.loop-number.invariant.noted;
+      asked = passing_more (filter_map request) (λ xs ys. filter_map-append request xs ys) b s c.args.place c.loop-number.number-index n
+          c.args.numbers.now c.passes-passes.result c.args.asked.now c.loop-number.asked c.note_if.new.asked c.loop-number-test.true read
+          test
+          c.in_ok-note_if.ensures.asked c.loop-number.invariant.asked;
+      room = c.in_ok-note_if.ensures.room ∙ c.loop-number.invariant.room;
+    }

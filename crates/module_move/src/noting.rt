@@ -1,0 +1,180 @@
+//! What is noted of the due operations before the replies, and what they ask of the channels.
+ghost use Rattle.std.specs.Prelude.{◌≡◌, ℕ, ◌+◌, ◌*◌, ◌<◌, ◌≤◌, ◌^◌, ◌++◌, ◌∷◌, [], if◌then◌else◌, length, map, filter_map, All, OnOk};
+ghost use Rattle.flow_design.specs.declared.limits.TheConstants.{LIVE_ITERATIONS, OPERATIONS};
+ghost use Rattle.flow_design.specs.StaticRules.{IsModuleSound};
+ghost use Rattle.flow_design.specs.Module.{block_of, operation_at, passes};
+ghost use Rattle.lockstep_defs.specs.Machine.{request_for, requests};
+ghost use Rattle.block_code.specs.Codes.{IsBlockCodeOf};
+ghost use Rattle.block_code.specs.Notes.{noted_for};
+ghost use Rattle.module_move.specs.Moves.{passing, notes_of};
+ghost use Rattle.module_move.specs.Sound.{IsStateSound, IsDueSound, AreGuardsSound};
+
+use crate::standing::block_of;
+use block_code::{BlockCode, Noted, prepare, temps_of};
+use block_schedule::interval;
+use flow_design::{Block, Channel, Due, Module, ModuleState, Request};
+use flow_expr::variable;
+use flow_word::{List, OutOfMemory, Words};
+
+/// Fills `noted` with what is noted of the operations that are due, by the code of the block in which the module stands, and
+/// `asked` with the requests of the FIFO operations among them, both in commit order. What the two lists held before is gone.
+/// `scratch` is room that is used again, and what it holds means nothing.
+pub fn note(
+    channels: &[Channel],
+    of: &Module,
+    code: &BlockCode,
+    state: &ModuleState,
+    scratch: &mut Words,
+    noted: &mut List<Noted>,
+    asked: &mut List<Request>,
+) -> Result<(), OutOfMemory>
+    requires module { IsModuleSound (length channels.now) of.now }
+    requires sound { IsStateSound of.now state.now }
+    requires code { IsBlockCodeOf channels.now of.now (block_of of.now state.now) code.now }
+    requires small { state.now.control.clock < 2 ^ 60 }
+    ensures noted { OnOk result (noted.new ≡ notes_of of.now state.now) }
+    ensures asked { OnOk result (asked.new ≡ requests channels.now of.now state.now) }
+    ensures few { OnOk result (length noted.new ≤ LIVE_ITERATIONS * OPERATIONS) }
+{
+    make_room(scratch, code.room)?;
+    note_due(channels, of, code, state, scratch, noted, asked)?;
+    Ok(())
+}
+
+/// Room for so many results.
+fn make_room(scratch: &mut Words, room: u64) -> Result<(), OutOfMemory>
+    ensures { OnOk result (room ≤ length scratch.new) }
+{
+    while scratch.len() < room {
+        scratch.push(0)?;
+    }
+    Ok(())
+}
+
+/// Fills the two lists, where there is room for the results of each expression.
+#[tactic(auto, unfolding(lockstep_defs::specs::Machine::requests))]
+fn note_due(
+    channels: &[Channel],
+    of: &Module,
+    code: &BlockCode,
+    state: &ModuleState,
+    scratch: &mut Words,
+    noted: &mut List<Noted>,
+    asked: &mut List<Request>,
+) -> Result<(), OutOfMemory>
+    requires module { IsModuleSound (length channels.now) of.now }
+    requires sound { IsStateSound of.now state.now }
+    requires code { IsBlockCodeOf channels.now of.now (block_of of.now state.now) code.now }
+    requires small { state.now.control.clock < 2 ^ 60 }
+    requires room { code.now.room ≤ length scratch.old }
+    ensures noted { OnOk result (noted.new ≡ notes_of of.now state.now) }
+    ensures asked { OnOk result (asked.new ≡ requests channels.now of.now state.now) }
+{
+    let step = interval(block_of(of, state));
+    let newest_age = state.control.clock - state.control.newest;
+    let mut left = state.temps.len();
+    let mut place = 0u32;
+    noted.truncate(0);
+    asked.truncate(0);
+    while left > 0 {
+        left -= 1;
+        let numbers = code.schedule.due(newest_age + left * step);
+        note_iteration(
+            channels, of, code, state, place, numbers, scratch, noted, asked,
+        )?;
+        place += 1;
+    }
+    Ok(())
+}
+
+/// Adds what is noted of those of these operations of a live iteration that have no guard, or one that is not 0, and their requests.
+fn note_iteration(
+    channels: &[Channel],
+    of: &Module,
+    code: &BlockCode,
+    state: &ModuleState,
+    place: u32,
+    numbers: &[u32],
+    scratch: &mut Words,
+    noted: &mut List<Noted>,
+    asked: &mut List<Request>,
+) -> Result<(), OutOfMemory>
+    requires module { IsModuleSound (length channels.now) of.now }
+    requires sound { IsStateSound of.now state.now }
+    requires code { IsBlockCodeOf channels.now of.now (block_of of.now state.now) code.now }
+    requires place { place < length state.now.temps }
+    requires numbers { All (λ n. n < length (block_of of.now state.now).ops) numbers.now }
+    requires room { code.now.room ≤ length scratch.old }
+    ensures noted { OnOk result (noted.new
+        ≡ noted.old ++ map (noted_for (block_of of.now state.now) state.now)
+        (passing (block_of of.now state.now) state.now place numbers.now)) }
+    ensures asked { OnOk result (asked.new
+        ≡ asked.old ++ filter_map (request_for channels.now of.now state.now)
+        (passing (block_of of.now state.now) state.now place numbers.now)) }
+    ensures room { OnOk result (length scratch.new ≡ length scratch.old) }
+{
+    let block = block_of(of, state);
+    let temps = temps_of(state, place);
+    for number in numbers {
+        let due = Due {
+            iteration: place,
+            op: *number,
+        };
+        let passes = passes(block, state.registers.as_slice(), temps, *number);
+        note_if(
+            passes, channels, of, code, state, due, scratch, noted, asked,
+        )?;
+    }
+    Ok(())
+}
+
+/// Whether an operation has no guard, or one that is not 0.
+fn passes(block: &Block, registers: &[u64], temps: &[u64], number: u32) -> bool
+    requires number { number < length block.now.ops }
+    requires guards { AreGuardsSound (length registers.now + length temps.now) block.now.ops }
+    ensures { result ≡ passes registers.now temps.now (operation_at block.now number).guard }
+{
+    match block.ops.as_slice()[number as usize].guard {
+        None => true,
+        Some(at) => variable(at, registers, temps) != 0,
+    }
+}
+
+/// Adds what is noted of an operation where it is due, and its request if it is a FIFO operation.
+fn note_if(
+    passes: bool,
+    channels: &[Channel],
+    of: &Module,
+    code: &BlockCode,
+    state: &ModuleState,
+    due: Due,
+    scratch: &mut Words,
+    noted: &mut List<Noted>,
+    asked: &mut List<Request>,
+) -> Result<(), OutOfMemory>
+    requires module { IsModuleSound (length channels.now) of.now }
+    requires sound { IsStateSound of.now state.now }
+    requires code { IsBlockCodeOf channels.now of.now (block_of of.now state.now) code.now }
+    requires due { IsDueSound of.now state.now due }
+    requires room { code.now.room ≤ length scratch.old }
+    ensures noted { OnOk result (noted.new
+        ≡ noted.old ++ map (noted_for (block_of of.now state.now) state.now) (if passes then due ∷ [] else [])) }
+    ensures asked { OnOk result (asked.new
+        ≡ asked.old ++ filter_map (request_for channels.now of.now state.now) (if passes then due ∷ [] else [])) }
+    ensures room { OnOk result (length scratch.new ≡ length scratch.old) }
+{
+    if passes {
+        let action = &code.actions.as_slice()[due.op as usize];
+        let prepared = prepare(action, state, due.iteration, scratch.as_mut_slice());
+        noted.push(Noted {
+            op: due.op,
+            iteration: due.iteration,
+            value: prepared.value,
+            address: prepared.address,
+        })?;
+        if let Some(request) = prepared.request {
+            asked.push(request)?;
+        }
+    }
+    Ok(())
+}

@@ -1,5 +1,5 @@
 //! What simulates a plan for a session.
-ghost use Rattle.std.specs.Prelude.{◌≡◌, ℕ, ◌+◌, ◌<◌, IfOk};
+ghost use Rattle.std.specs.Prelude.{◌≡◌, ℕ, ◌+◌, ◌<◌, ◌≤◌, Bool, true, false, is_some, IfOk};
 ghost use Rattle.flow_design.specs.StaticRules.{FitsEngine};
 ghost use Rattle.event_timing.specs.Actions.{IsFinal};
 ghost use Rattle.event_timing.specs.Agreement.{AllVerified};
@@ -16,20 +16,37 @@ use std::sync::Wait;
 use std::thread::Threads;
 use turn_history::histories_are_legal;
 
+/// The leave to count a run. `run_plan` alone makes one, so that nobody else counts.
+pub struct Asked {
+    of: (),
+}
+
+impl Drop for Asked {
+    fn drop(self) {
+        let Asked { of: _of } = self;
+    }
+}
+
 /// Something that simulates plans from the beginning, and counts how often: on the calling thread, or with a thread for each module.
 pub trait Runner {
     /// How many runs it was asked for. The count stands still at the greatest u64.
     ghost made: { Self → ℕ };
 
+    /// Whether it simulates with threads.
+    ghost threaded: { Self → Bool };
+
     /// What makes the bursts of its threads.
     type Gate: Gate + Sync;
 
-    /// Counts one run more.
-    fn count_run(&mut self)
-        ensures { made self.old < u64.MAX → made self.new ≡ made self.old + 1 };
+    /// Counts one run more, which it was asked for.
+    fn count_run(&mut self, asked: Asked)
+        ensures counted { made self.old < u64.MAX → made self.new ≡ made self.old + 1 }
+        ensures stays { u64.MAX ≤ made self.old → made self.new ≡ made self.old }
+        ensures threaded { threaded self.new ≡ threaded self.old };
 
     /// The gate of its threads; none where it simulates on the calling thread.
-    fn gate(&self) -> Option<&Self::Gate>;
+    fn gate(&self) -> Option<&Self::Gate>
+        ensures threaded { is_some result ≡ threaded self.now };
 
     /// Simulates a plan: a final core of it, of which no run is lent and no outcome is assumed. The run is counted, also
     /// where there is no memory for it.
@@ -45,8 +62,10 @@ pub trait Runner {
         ensures verified { IfOk result (λ core. AllVerified (theory_of core)) }
         ensures own { IfOk result (λ core. AreOwn core) }
         ensures counted { made self.old < u64.MAX → made self.new ≡ made self.old + 1 }
+        ensures stays { u64.MAX ≤ made self.old → made self.new ≡ made self.old }
+        ensures threaded { threaded self.new ≡ threaded self.old }
     {
-        self.count_run();
+        self.count_run(Asked { of: () });
         match self.gate() {
             Some(gate) => run_by_threads(rt, alloc, plan, gate),
             None => run_alone(alloc, plan),
@@ -91,10 +110,12 @@ impl AloneRunner {
 impl Runner for AloneRunner {
     ghost made = { λ runner. runner.runs };
 
+    ghost threaded = { λ runner. false };
+
     /// No thread asks for it.
     type Gate = FreeGate;
 
-    fn count_run(&mut self) {
+    fn count_run(&mut self, _asked: Asked) {
         self.runs = self.runs.saturating_add(1);
     }
 
@@ -106,9 +127,11 @@ impl Runner for AloneRunner {
 impl<'g, G: Gate + Sync> Runner for ThreadRunner<'g, G> {
     ghost made = { λ runner. runner.runs };
 
+    ghost threaded = { λ runner. true };
+
     type Gate = G;
 
-    fn count_run(&mut self) {
+    fn count_run(&mut self, _asked: Asked) {
         self.runs = self.runs.saturating_add(1);
     }
 

@@ -67,11 +67,11 @@ last_from cycles lane e (suc k) l =
     let same = ap (λ (xs : List ℕ). get_or xs k 0) e in
     rw (z, slice_get-get_or lane.cycles k 0 inside) (omega (arith, same))
 
-waited_is : (n gap : ℕ) → (0 < n → 1 ≤ gap) → clocks_of_steps n + waited n gap ≡ gap
+pub waited_is : (n gap : ℕ) → (0 < n → 1 ≤ gap) → clocks_of_steps n + waited n gap ≡ gap
 waited_is zero gap g = omega arith
 waited_is (suc n) gap g = let l = g (omega arith) in omega arith
 
-apart_at : (steps : List StepOf) → All (λ (s : StepOf). 1 ≤ s.gap) (drop 1 steps) → (k : ℕ) (e : StepOf) → 0 < k → k < length steps
+pub apart_at : (steps : List StepOf) → All (λ (s : StepOf). 1 ≤ s.gap) (drop 1 steps) → (k : ℕ) (e : StepOf) → 0 < k → k < length steps
     → 1 ≤ (get_or steps k e).gap
 apart_at [] all k e q l = absurd (omega arith)
 apart_at (s ∷ steps) all zero e q l = absurd (omega arith)
@@ -129,7 +129,7 @@ mark_there : (o : Option Advance) → is_some o ≡ true → (mark : Advance) ×
 mark_there None e = cc
 mark_there (Some mark) e = (mark, refl)
 
-end_there : (p : Plan) (h : Held) (ends : List (Option Advance)) → IsFinished p h ends → (i : ℕ) → i < length h.lanes
+pub end_there : (p : Plan) (h : Held) (ends : List (Option Advance)) → IsFinished p h ends → (i : ℕ) → i < length h.lanes
     → emitted_of h i ≤ length (lane_at h.lanes i).cycles
     → (mark : Advance) × (end_at ends i ≡ Some mark)
 end_there p h ends f i inside more =

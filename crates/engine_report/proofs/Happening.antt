@@ -43,7 +43,7 @@ told_events s (r ∷ rs) (a ∷ xs) ys e =
     (told_events s rs xs (drop 1 ys) (rest_same r rs a xs e))
 
 -- a place of a timed step
-record IsTimed (h : Held) (place : ℕ × ℕ) : Type 0 where
+pub record IsTimed (h : Held) (place : ℕ × ℕ) : Type 0 where
   pub less : place.1 < length (lane_at h.lanes place.0).cycles
 
 step_events : (p : Plan) (h : Held) → IsSound (design p) h → (place : ℕ × ℕ) → IsTimed h place
@@ -73,7 +73,7 @@ places_timed h i = λ j d l.
     let z : 0 + j ≡ j = omega arith in
     subst (IsTimed h) (sym (get_or-map-range_with_len {X = ℕ × ℕ} (λ (k : ℕ). (i, k)) 0 n j j d less z)) (record { less = less })
 
-all_timed : (h : Held) (a n : ℕ) → All (IsTimed h)
+pub all_timed : (h : Held) (a n : ℕ) → All (IsTimed h)
     (flat_map (λ i. map (λ k. (i, k)) (range_with_len 0 (length (lane_at h.lanes i).cycles))) (range_with_len a n))
 all_timed h a zero = λ k d q. absurd (omega arith)
 all_timed h a (suc n) = All-append (IsTimed h) (map (λ k. (a, k)) (range_with_len 0 (length (lane_at h.lanes a).cycles))) _

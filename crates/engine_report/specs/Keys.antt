@@ -1,5 +1,5 @@
 -- Steps with their cycles, as they are sorted.
-use Rattle.std.specs.Prelude.{◌≡◌, ℕ, List, map, length, All, IsPermutation, IsSortedBy}
+use Rattle.std.specs.Prelude.{◌≡◌, ℕ, ◌<◌, List, map, length, All, IsPermutation, IsSortedBy}
 use Rattle.std.specs.List.{range_with_len}
 use Rattle.flow_word.specs.declared.access.Place.{Place}
 use Rattle.event_graph.specs.Lanes.{Lane, lane_at, HasStep}
@@ -23,6 +23,11 @@ place_at i k = record { «module» = i; step = k }
 pub record HasKey (lanes : List Lane) (key : TimedStep) : Type 0 where
   pub there : HasStep lanes (place_at key.module key.step)
   pub cycle : key.cycle ≡ cycle_at lanes (place_of key)
+
+-- and it has the cycle
+pub record IsTimedKey (lanes : List Lane) (key : TimedStep) : Type 0 where
+  pub is_key : HasKey lanes key
+  pub timed : key.step < length (lane_at lanes key.module).cycles
 
 -- they are all steps with a cycle, in order
 pub record AreSortedKeys (lanes : List Lane) (keys : List TimedStep) : Type 0 where

@@ -12,8 +12,10 @@ use std::alloc::Global;
 /// A step with a cycle. They are in order by their cycles, and in one cycle by their modules.
 #[derive(Clone, Copy, Debug, PartialEq, Eq, PartialOrd, Ord)]
 pub struct TimedStep {
+    /// The clock in which it is done.
     pub cycle: u64,
     pub module: u32,
+    /// Its number among the steps of its module, from 0 on.
     pub step: u64,
 }
 
@@ -46,7 +48,9 @@ fn count_accesses(graph: &Graph, keys: &[TimedStep]) -> u64
 }
 
 /// All steps with a cycle, in order.
-fn sorted_steps(alloc: Global, graph: &Graph) -> Result<Vec<TimedStep>, OutOfMemory>
+///
+/// It takes memory for the answer. An error leaves nothing.
+pub fn sorted_steps(alloc: Global, graph: &Graph) -> Result<Vec<TimedStep>, OutOfMemory>
     ensures { IfOk result (λ keys. AreSortedKeys graph.now.lanes keys.items) }
 {
     let mut keys = Vec::new(alloc);

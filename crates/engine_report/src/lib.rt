@@ -8,4 +8,5 @@ mod outputs;
 mod report;
 mod verdict;
 
+pub use events::{TimedStep, sorted_steps};
 pub use report::report_of;

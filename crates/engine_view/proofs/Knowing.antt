@@ -204,17 +204,24 @@ side_known {S} d i h y a g n e =
     (y.kinds a.channel g.channel) g.side
     (y.taken (other_side (side_of a.kind)) a.channel g.channel)
 
--- what the code knows of each of them is what the theory knows
-pub access_known : {S : Type 0} → (d : Design S) → IsDesign d → (h : Held) → IsSound d h → (m : ℕ)
-    → length (lane_at h.lanes m).cycles < emitted_of h m
-    → All (λ (a : Access). as_known (when_possible h.lanes h.channels a) ≡ known_of d (view d (core_of d h)) m (seen a))
-    (step_of h m (length (lane_at h.lanes m).cycles)).accesses
-access_known {S} d i h y m less = λ j e l.
+-- what the code knows of each access of an emitted step is what the theory knows: by the module's accesses in the steps before it
+pub access_known_in : {S : Type 0} → (d : Design S) → IsDesign d → (h : Held) → IsSound d h → (m k : ℕ) → k < emitted_of h m
+    → All (λ (a : Access). as_known (when_possible h.lanes h.channels a)
+    ≡ known d (view d (core_of d h)) (side_of a.kind) a.channel
+    (tally ((view d (core_of d h)).accesses m) ((view d (core_of d h)).reply m) (side_of a.kind) a.channel k))
+    (step_of h m k).accesses
+access_known_in {S} d i h y m k less = λ j e l.
     let x = core_of d h in
-    let k = length (lane_at h.lanes m).cycles in
     let a = get_or (step_of h m k).accesses j e in
     let n = core_tally d x m (side_of a.kind) a.channel k in
     let same = core_tally_is d x m (side_of a.kind) a.channel k in
     let inside = step_inside d h y m k less j e l in
     side_known d i h y a inside n (y.ordinals m k less j e l)
     ∙ ap (known d (view d x) (side_of a.kind) a.channel) (sym same)
+
+-- and so of the accesses of its first step without a cycle
+pub access_known : {S : Type 0} → (d : Design S) → IsDesign d → (h : Held) → IsSound d h → (m : ℕ)
+    → length (lane_at h.lanes m).cycles < emitted_of h m
+    → All (λ (a : Access). as_known (when_possible h.lanes h.channels a) ≡ known_of d (view d (core_of d h)) m (seen a))
+    (step_of h m (length (lane_at h.lanes m).cycles)).accesses
+access_known {S} d i h y m less = access_known_in d i h y m (length (lane_at h.lanes m).cycles) less

@@ -1,16 +1,15 @@
 //! Round after round over the modules.
 ghost use Rattle.std.specs.Prelude.{◌≡◌, ◌+◌, ◌<◌, ◌≤◌, length};
 ghost use Rattle.event_graph.specs.Lanes.{cycle_bound};
-ghost use Rattle.time_engine.specs.Conditions.{HasAccesses};
 ghost use Rattle.engine_view.specs.Stored.{stored};
 ghost use Rattle.engine_view.specs.Taking.{kinds_in};
 ghost use Rattle.engine_view.specs.Turns.{IsSomeCore, KeepsRoom};
 ghost use Rattle.retime.specs.Rounds.{HasGone, IsAtEnd, only_steps, cycles_in};
 
 use engine_view::{Timing, bit_of, next_of, time_first, without};
-use event_graph::{Access, Graph, Place};
+use event_graph::Graph;
 use fifo_table::FifoTable;
-use flow_word::{Side, Steps};
+use flow_word::Steps;
 use outcome_guard::Guard;
 use query_log::QueryLog;
 use std::sync::ledger::Ledger;
@@ -39,13 +38,14 @@ pub fn time_all<L: Ledger>(
     let count = graph.modules();
     let mut at = 0;
     let mut idle = 0;
-    // A bit for each of the first 64 modules of which something may have changed.
+    // The modules beside each, and of which something may have changed: a bit for each of the first 64.
+    let beside = neighbours(fifos);
     let mut hints = 0;
     while idle < count {
         match time_first(graph, fifos, log, at, limit, steps) {
             Timing::Assigned(_) => {
                 idle = 0;
-                hints |= woken(graph, fifos, at);
+                hints |= bits_beside(&beside, at);
             }
             Timing::Answered(_) => idle = 0,
             Timing::Differs(query) => return Guard::Differs(query),
@@ -65,35 +65,32 @@ pub fn time_all<L: Ledger>(
     Guard::Same
 }
 
-/// The bits of the modules at the other ends of the channels of a module's last step with a cycle.
-fn woken(graph: &Graph, fifos: &FifoTable, owner: u32) -> u64
-    requires owner { owner < length graph.now.lanes }
-    requires accesses { HasAccesses graph.now.lanes fifos.now.channels }
-{
-    let Some(step) = graph.frontier(owner).checked_sub(1) else {
-        return 0;
-    };
-    let last = graph.step(Place {
-        module: owner,
-        step,
-    });
-    let mut bits = 0;
-    for access in last.accesses.as_slice() {
-        bits |= other_end(fifos, access);
+/// Of each of the first 64 modules, the bits of the modules at the other ends of its channels.
+fn neighbours(fifos: &FifoTable) -> [u64; 64] {
+    let mut beside = [0; 64];
+    for channel in 0..fifos.len() {
+        if let Some(popper) = fifos.popper(channel)
+            && let Some(pusher) = fifos.pusher(channel)
+        {
+            add_bit(&mut beside, popper, pusher);
+            add_bit(&mut beside, pusher, popper);
+        }
     }
-    bits
+    beside
 }
 
-/// The bit of the module at the other end of an access's channel, where one was there.
-fn other_end(fifos: &FifoTable, access: &Access) -> u64
-    requires { access.now.channel < length fifos.now.channels }
-{
-    let module = match access.kind.side().other() {
-        Side::Pop => fifos.popper(access.channel),
-        Side::Push => fifos.pusher(access.channel),
-    };
-    match module {
-        Some(module) => bit_of(module),
-        None => 0,
+/// Adds the bit of another module to those of a module, where it is one of the first 64.
+fn add_bit(beside: &mut [u64; 64], owner: u32, other: u32) {
+    if owner < 64 {
+        beside[owner as usize] |= bit_of(other);
+    }
+}
+
+/// The bits of the modules beside one, where it is one of the first 64.
+fn bits_beside(beside: &[u64; 64], owner: u32) -> u64 {
+    if owner < 64 {
+        beside[owner as usize]
+    } else {
+        0
     }
 }

@@ -1,7 +1,11 @@
 -- Reading a mail, access by access.
-use Rattle.std.proofs.Common.{◌≡◌, refl, sym, ap, ap₂, ◌∙◌, ℕ, zero, suc, ◌+◌, ◌<◌, ◌≤◌, Bool, true, false, cond, ◌&&◌, List, [], ◌∷◌, ◌++◌}
-use Rattle.std.proofs.Common.{length, drop, get_or, Option, Some, None, slice_get, inl, inr, arith, append_assoc, append-nil}
-use Rattle.std.proofs.lemmas.Bool.{cases_Bool}
+use Rattle.std.proofs.Common.{◌≡◌, refl, sym, ap, ap₂, ◌∙◌, ℕ, zero, suc, ◌+◌, ◌<◌, ◌≤◌, Bool, true, false, ◌&&◌, List, [], ◌∷◌, ◌++◌}
+use Rattle.std.proofs.Common.{length, drop, get_or, set, replicate, Option, Some}
+use Rattle.std.proofs.Common.{None, slice_get, inl, inr, arith, append_assoc, append-nil}
+use Rattle.std.proofs.Common.{subst}
+use Rattle.std.proofs.lemmas.Bool.{cases_Bool, cases_lt, cond-true, cond-false}
+use Rattle.std.proofs.lemmas.Bool.Decides.{eqb_tells}
+use Rattle.std.proofs.lemmas.List.{length-replicate, length-set, get_or-set_same, get_or-set_other, get_or_past}
 use Rattle.flow_word.specs.declared.access.Access.{Access}
 use Rattle.flow_word.specs.declared.access.Kind.{Kind}
 use Rattle.flow_word.specs.declared.access.Kind.TheVariants.{Read, Write, TryRead, TryWrite, Empty, Full}
@@ -12,8 +16,8 @@ use Rattle.module_interp.specs.OwnRests.{fits_kind, all_fit}
 use Rattle.engine_view.specs.Held.{queries_in}
 use Rattle.run_ahead.specs.declared.mail.Mail.{Mail}
 use Rattle.run_ahead.specs.Replies.{reply_now, put_first, put_before, has_value}
-use Rattle.run_ahead.specs.Mails.{next_value, told_by, replies_in, one_more, taken_after}
-use Rattle.run_ahead.proofs.Parts.{some_is, first_parts, more_length}
+use Rattle.run_ahead.specs.Mails.{values_on, next_value, told_by, replies_in, one_more, taken_after, none_taken, IsLeft}
+use Rattle.run_ahead.proofs.Parts.{some_is, first_parts}
 
 pub before_nil : (r : Option (List Reply)) → put_before [] r ≡ r
 before_nil None = refl
@@ -28,6 +32,11 @@ pub drop_at : {X : Type 0} → (xs : List X) (i : ℕ) (d : X) → i < length xs
 drop_at [] i d l = absurd (omega arith)
 drop_at (x ∷ xs) zero d l = refl
 drop_at (x ∷ xs) (suc i) d l = drop_at xs i d (omega arith)
+
+pub drop_next : {X : Type 0} → (xs : List X) (i : ℕ) → i < length xs → (x : X) × (drop i xs ≡ x ∷ drop (suc i) xs)
+drop_next [] i l = absurd (omega arith)
+drop_next (x ∷ xs) zero l = (x, refl)
+drop_next (x ∷ xs) (suc i) l = drop_next xs i (omega arith)
 
 pub drop_past : {X : Type 0} → (xs : List X) (i : ℕ) → length xs ≤ i → drop i xs ≡ []
 drop_past [] zero l = refl
@@ -125,27 +134,134 @@ replies_fit mail told taken (a ∷ xs) qs e =
     ∙ ap₂ (λ (b c : Bool). b && c) (fits_with a.kind (slice_get mail.outcomes told) (next_value mail taken a.channel) q e1)
     (replies_fit mail (told_by a.kind told) taken xs qs' e2)
 
--- ---- counting
+-- ---- what is left
 
-pub record IsCounting (taken₀ : List ℕ) (xs : List Access) (qs : List Reply) (taken : List ℕ) (i : ℕ) : Type 0 where
-  pub counted : taken_after taken (drop i xs) (drop i qs) ≡ taken_after taken₀ xs qs
-  pub room : length taken ≡ length taken₀
+none_at : (n c : ℕ) → ◌≡◌ {A = ℕ} (get_or (replicate n 0) c 0) 0
+none_at zero zero = refl
+none_at zero (suc c) = refl
+none_at (suc n) zero = refl
+none_at (suc n) (suc c) = none_at n c
 
-pub counting_none : (taken : List ℕ) (xs : List Access) (qs : List Reply) → IsCounting taken xs qs taken 0
-counting_none taken xs qs = record { counted = refl; room = refl }
+get_drop : (xs : List ℕ) (n : ℕ) → slice_get (drop n xs) 0 ≡ slice_get xs n
+get_drop xs zero = refl
+get_drop [] (suc n) = refl
+get_drop (x ∷ xs) (suc n) = get_drop xs n
 
-pub counting_more : (taken₀ : List ℕ) (xs : List Access) (qs : List Reply) (taken taken' : List ℕ) (i : ℕ) (a : Access) (q : Reply)
-    → IsCounting taken₀ xs qs taken i → drop i xs ≡ a ∷ drop (suc i) xs
-    → drop i qs ≡ q ∷ drop (suc i) qs → taken' ≡ cond (has_value q) (one_more taken a.channel) taken
-    → IsCounting taken₀ xs qs taken' (suc i)
-counting_more taken₀ xs qs taken taken' i a q k d e t = record {
-  counted = ap (λ (u : List ℕ). taken_after u (drop (suc i) xs) (drop (suc i) qs)) t ∙ (sym (ap₂ (taken_after taken) d e) ∙ k.counted);
-  room = ap length t ∙ (more_length taken a.channel (has_value q) ∙ k.room);
+drop_more : (xs : List ℕ) (n : ℕ) → drop 1 (drop n xs) ≡ drop (suc n) xs
+drop_more [] zero = refl
+drop_more [] (suc n) = refl
+drop_more (x ∷ xs) zero = refl
+drop_more (x ∷ xs) (suc n) = drop_more xs n
+
+drop_none : (n : ℕ) → ◌≡◌ {A = List ℕ} (drop n []) []
+drop_none zero = refl
+drop_none (suc n) = refl
+
+-- nothing was taken
+pub left_none : (mail : Mail) → IsLeft mail (none_taken mail) mail
+left_none mail = record {
+  outcomes = refl;
+  count = refl;
+  room = length-replicate (length mail.values) 0;
+  values = λ c. ap (λ (n : ℕ). drop n (values_on mail c)) (sym (none_at (length mail.values) c));
 }
 
-pub counting_all : (taken₀ : List ℕ) (xs : List Access) (qs : List Reply) (taken : List ℕ) (i : ℕ) → IsCounting taken₀ xs qs taken i
-    → length xs ≤ i → taken ≡ taken_after taken₀ xs qs
-counting_all taken₀ xs qs taken i k l = ap (λ (ys : List Access). taken_after taken ys (drop i qs)) (sym (drop_past xs i l)) ∙ k.counted
+-- the next value of what is left is that of the whole
+next_left : (whole left : Mail) (taken : List ℕ) (c : ℕ) → IsLeft whole taken left
+    → next_value whole taken c ≡ next_value left (none_taken left) c
+next_left whole left taken c k =
+    sym (get_drop (values_on whole c) (get_or taken c 0))
+    ∙ (ap (λ (xs : List ℕ). slice_get xs 0) (sym (k.values c))
+    ∙ ap (slice_get (values_on left c)) (sym (none_at (length left.values) c)))
+
+-- so are the replies
+pub replies_left : (whole left : Mail) (taken : List ℕ) → IsLeft whole taken left → (told : ℕ) (xs : List Access)
+    → replies_in whole told taken xs ≡ replies_in left told (none_taken left) xs
+replies_left whole left taken k told [] = refl
+replies_left whole left taken k told (a ∷ xs) =
+    ap₂ put_first
+    (ap₂ (reply_now a.kind) (ap (λ (os : List Bool). slice_get os told) (sym k.outcomes)) (next_left whole left taken a.channel k))
+    (replies_left whole left taken k (told_by a.kind told) xs)
+
+-- one value of a channel was taken
+pub left_more : (whole left more : Mail) (taken : List ℕ) (c : ℕ) → IsLeft whole taken left → more.outcomes ≡ left.outcomes
+    → more.values ≡ set left.values c (drop 1 (values_on left c)) → IsLeft whole (one_more taken c) more
+left_more whole left more taken c k os vs = record {
+  outcomes = os ∙ k.outcomes;
+  count = ap length vs ∙ (length-set left.values c (drop 1 (values_on left c)) ∙ k.count);
+  room = length-set taken c (suc (get_or taken c 0)) ∙ k.room;
+  values = λ n.
+      elim (eqb_tells n c) [
+        | inl e ↦ subst (λ (i : ℕ). values_on more i ≡ drop (get_or (one_more taken c) i 0) (values_on whole i)) (sym e.1) here
+        | inr e ↦
+            ap (λ (xs : List (List ℕ)). get_or xs n []) vs
+            ∙ (get_or-set_other left.values c n (drop 1 (values_on left c)) [] e.1
+            ∙ (k.values n ∙ ap (λ (i : ℕ). drop i (values_on whole n))
+            (sym (get_or-set_other taken c n (suc (get_or taken c 0)) 0 e.1))))
+      ];
+}
+  where
+    here : values_on more c ≡ drop (get_or (one_more taken c) c 0) (values_on whole c)
+    here =
+        elim (cases_lt c (length left.values)) [
+          | inl l ↦
+              ap (λ (xs : List (List ℕ)). get_or xs c []) vs
+              ∙ (get_or-set_same left.values c (drop 1 (values_on left c)) [] l
+              ∙ (ap (drop 1) (k.values c) ∙ (drop_more (values_on whole c) (get_or taken c 0)
+              ∙ ap (λ (i : ℕ). drop i (values_on whole c))
+              (sym (get_or-set_same taken c (suc (get_or taken c 0)) 0 (let a = k.count in let b = k.room in omega arith))))))
+          | inr l ↦
+              get_or_past more.values c []
+              (let a = ap length vs ∙ length-set left.values c (drop 1 (values_on left c)) in omega arith)
+              ∙ sym (ap (drop (get_or (one_more taken c) c 0)) (get_or_past whole.values c [] (let a = k.count in omega arith))
+              ∙ drop_none (get_or (one_more taken c) c 0))
+        ]
+
+-- a loop has taken the values of the first replies
+pub record IsTaking (first : Mail) (xs : List Access) (qs : List Reply) (left : Mail) (i : ℕ) : Type 0 where
+  pub before : (whole : Mail) (taken : List ℕ) → IsLeft whole taken first → (now : List ℕ)
+      × (IsLeft whole now left × (taken_after now (drop i xs) (drop i qs) ≡ taken_after taken xs qs))
+
+pub taking_none : (mail : Mail) (xs : List Access) (qs : List Reply) → IsTaking mail xs qs mail 0
+taking_none mail xs qs = record { before = λ whole taken k. (taken, (k, refl)) }
+
+pub taking_more : (first : Mail) (xs : List Access) (qs : List Reply) (left more : Mail) (i : ℕ) (a : Access) (q : Reply)
+    → IsTaking first xs qs left i → drop i xs ≡ a ∷ drop (suc i) xs → drop i qs ≡ q ∷ drop (suc i) qs
+    → has_value q ≡ true → more.outcomes ≡ left.outcomes
+    → more.values ≡ set left.values a.channel (drop 1 (values_on left a.channel)) → IsTaking first xs qs more (suc i)
+taking_more first xs qs left more i a q k d e h os vs = record {
+  before = λ whole taken l.
+      let (now, (is, same)) = k.before whole taken l in (
+        one_more now a.channel,
+        (
+          left_more whole left more now a.channel is os vs,
+          sym (ap₂ (taken_after now) d e ∙ ap (λ (u : List ℕ). taken_after u (drop (suc i) xs) (drop (suc i) qs))
+              (cond-true (has_value q) (one_more now a.channel) now h)) ∙ same,
+        ),
+      );
+}
+
+pub taking_on : (first : Mail) (xs : List Access) (qs : List Reply) (left more : Mail) (i : ℕ) (a : Access) (q : Reply)
+    → IsTaking first xs qs left i → drop i xs ≡ a ∷ drop (suc i) xs → drop i qs ≡ q ∷ drop (suc i) qs
+    → has_value q ≡ false → more ≡ left → IsTaking first xs qs more (suc i)
+taking_on first xs qs left more i a q k d e h same_mail = record {
+  before = λ whole taken l.
+      let (now, (is, same)) = k.before whole taken l in (
+        now,
+        (
+          subst (IsLeft whole now) (sym same_mail) is,
+          sym (ap₂ (taken_after now) d e ∙ ap (λ (u : List ℕ). taken_after u (drop (suc i) xs) (drop (suc i) qs))
+              (cond-false (has_value q) (one_more now a.channel) now h)) ∙ same,
+        ),
+      );
+}
+
+pub taking_all : (first : Mail) (xs : List Access) (qs : List Reply) (left : Mail) (i : ℕ) → IsTaking first xs qs left i → length xs ≤ i
+    → (whole : Mail) (taken : List ℕ) → IsLeft whole taken first → IsLeft whole (taken_after taken xs qs) left
+taking_all first xs qs left i k l whole taken m =
+    let (now, (is, same)) = k.before whole taken m in
+    subst (λ (u : List ℕ). IsLeft whole u left) (sym (ap (λ (ys : List Access). taken_after now ys (drop i qs)) (drop_past xs i l))
+    ∙ same) is
 
 pub replies_length : (mail : Mail) (told : ℕ) (taken : List ℕ) (xs : List Access) (qs : List Reply)
     → replies_in mail told taken xs ≡ Some qs → length qs ≡ length xs

@@ -1,5 +1,5 @@
 -- What a run reads off its mail, and how it goes on by it from rest to rest.
-use Rattle.std.specs.Prelude.{◌≡◌, ℕ, suc, ◌+◌, ◌⊎◌, Bool, true, false, cond, List, [], ◌∷◌, length, replicate, Option, None, Some}
+use Rattle.std.specs.Prelude.{◌≡◌, ℕ, suc, ◌+◌, ◌⊎◌, Bool, true, false, cond, List, [], ◌∷◌, length, drop, replicate, Option, None, Some}
 use Rattle.std.specs.Prelude.{slice_get, slice_set, slice_index_or}
 use Rattle.flow_word.specs.declared.access.Access.{Access}
 use Rattle.flow_word.specs.declared.access.Kind.{Kind}
@@ -7,7 +7,6 @@ use Rattle.flow_design.specs.declared.plan.Plan.{Plan}
 use Rattle.flow_design.specs.declared.state.Advance.{Advance}
 use Rattle.flow_design.specs.declared.state.Reply.{Reply}
 use Rattle.lockstep_defs.specs.OwnRun.{Own}
-use Rattle.module_interp.specs.declared.run.ModuleRun.{ModuleRun}
 use Rattle.module_interp.specs.OwnRests.{next_rest, accesses_at, mark_at}
 use Rattle.module_interp.specs.Runs.{StandsAt, waits, is_step, IsSoundMark}
 use Rattle.flow_word.specs.Kinds.{is_blocking}
@@ -53,44 +52,57 @@ taken_after taken (a ∷ as') (r ∷ rs) = taken_after (cond (has_value r) (one_
 abbrev pub none_taken : Mail → List ℕ
 none_taken mail = replicate (length mail.values) 0
 
+-- this is left of a mail of which so many values of each channel were taken: the values behind them. Its outcomes are all still there
+pub record IsLeft (mail : Mail) (taken : List ℕ) (left : Mail) : Type 0 where
+  pub outcomes : left.outcomes ≡ mail.outcomes
+  pub count : length left.values ≡ length mail.values
+  pub room : length taken ≡ length mail.values
+  pub values : (c : ℕ) → values_on left c ≡ drop (slice_index_or taken c 0) (values_on mail c)
+
 -- ---- bursts
 
 -- the run waits at the step of a rest, and only want of memory stops it where the replies are in the mail
-pub record IsWaiting (p : Plan) (m : ℕ) (mail : Mail) (short : Bool) (run : ModuleRun) (o : Own) (told : ℕ) (taken : List ℕ) : Type 0 where
-  pub stands : StandsAt p m o run
-  pub waits : waits run ≡ true
+pub record IsWaiting (p : Plan) (m : ℕ) (mail : Mail) (short : Bool) (last : Task) (o : Own) (told : ℕ) (taken : List ℕ) : Type 0 where
+  pub stands : StandsAt p m o last.run
+  pub waits : waits last.run ≡ true
   pub missing : short ≡ false → replies_in mail told taken (accesses_at p m o) ≡ None
+  pub left : IsLeft mail taken last.mail
 
 -- it goes on from a rest whose mark it has not given
-pub record IsGoing (p : Plan) (m : ℕ) (run : ModuleRun) (o : Own) : Type 0 where
-  pub stands : StandsAt p m o run
-  pub goes : waits run ≡ false
+pub record IsGoing (p : Plan) (m : ℕ) (mail : Mail) (last : Task) (o : Own) (taken : List ℕ) : Type 0 where
+  pub stands : StandsAt p m o last.run
+  pub goes : waits last.run ≡ false
+  pub left : IsLeft mail taken last.mail
 
 -- behind the step of a rest it gives these marks: none, and it waits there; or it has its replies, and goes on
-abbrev pub IsAtStep : Plan → ℕ → Mail → Bool → ModuleRun → Own → ℕ → List ℕ → List Advance → (Own → ℕ → List ℕ → Type 0) → Type 0
-IsAtStep p m mail short run o told taken marks next =
-    ((marks ≡ []) × IsWaiting p m mail short run o told taken)
+abbrev pub IsAtStep : Plan → ℕ → Mail → Bool → Task → Own → ℕ → List ℕ → List Advance → (Own → ℕ → List ℕ → Type 0) → Type 0
+IsAtStep p m mail short last o told taken marks next =
+    ((marks ≡ []) × IsWaiting p m mail short last o told taken)
     ⊎ ((rs : List Reply) × ((replies_in mail told taken (accesses_at p m o) ≡ Some rs)
     × next (next_rest p m o rs) (told + queries_in (accesses_at p m o)) (taken_after taken (accesses_at p m o) rs)))
 
 -- behind the mark of a rest, which is a step or not
-abbrev pub IsPast : Bool → Plan → ℕ → Mail → Bool → ModuleRun → Own → ℕ → List ℕ → List Advance → (Own → ℕ → List ℕ → Type 0) → Type 0
-IsPast true p m mail short run o told taken marks next = IsAtStep p m mail short run o told taken marks next
-IsPast false p m mail short run o told taken marks next = (marks ≡ []) × IsGoing p m run o
+abbrev pub IsPast : Bool → Plan → ℕ → Mail → Bool → Task → Own → ℕ → List ℕ → List Advance → (Own → ℕ → List ℕ → Type 0) → Type 0
+IsPast true p m mail short last o told taken marks next = IsAtStep p m mail short last o told taken marks next
+IsPast false p m mail short last o told taken marks next = (marks ≡ []) × IsGoing p m mail last o taken
 
--- from a rest on it gives these marks; it stops before the first only for want of memory
-abbrev pub GoesOn : Plan → ℕ → Mail → Bool → ModuleRun → Own → ℕ → List ℕ → List Advance → Type 0
-GoesOn p m mail short run o told taken [] = IsGoing p m run o × (short ≡ true)
-GoesOn p m mail short run o told taken (mark ∷ more) =
+-- from a rest on it gives these marks, and leaves this run with this mail; it stops before the first only for want of memory
+abbrev pub GoesOn : Plan → ℕ → Mail → Bool → Task → Own → ℕ → List ℕ → List Advance → Type 0
+GoesOn p m mail short last o told taken [] = IsGoing p m mail last o taken × (short ≡ true)
+GoesOn p m mail short last o told taken (mark ∷ more) =
     (mark ≡ mark_at p m o) × IsSoundMark (length o.steps) mark
-    × IsPast (is_step mark) p m mail short run o told taken more (λ o' told' taken'. GoesOn p m mail short run o' told' taken' more)
+    × IsPast (is_step mark) p m mail short last o told taken more (λ o' told' taken'. GoesOn p m mail short last o' told' taken' more)
+
+-- the run that a burst leaves, with what is left of its mail
+abbrev pub task_left : Burst → Task
+task_left burst = record { run = burst.run; mail = burst.mail }
 
 -- the run came to this rest, and waits there or not
 abbrev pub IsBurstFrom : Bool → Plan → ℕ → Own → Mail → Burst → Type 0
 IsBurstFrom true p m o mail burst =
-    IsAtStep p m mail burst.short burst.run o 0 (none_taken mail) burst.emitted
-    (λ o' told taken. GoesOn p m mail burst.short burst.run o' told taken burst.emitted)
-IsBurstFrom false p m o mail burst = GoesOn p m mail burst.short burst.run o 0 (none_taken mail) burst.emitted
+    IsAtStep p m mail burst.short (task_left burst) o 0 (none_taken mail) burst.emitted
+    (λ o' told taken. GoesOn p m mail burst.short (task_left burst) o' told taken burst.emitted)
+IsBurstFrom false p m o mail burst = GoesOn p m mail burst.short (task_left burst) o 0 (none_taken mail) burst.emitted
 
 -- a burst of a task whose run stands at this rest
 abbrev pub IsBurst : Plan → ℕ → Own → Task → Burst → Type 0

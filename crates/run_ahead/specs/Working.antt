@@ -10,20 +10,21 @@ use Rattle.module_interp.specs.Runs.{StandsAt, waits, is_step, IsSoundMark}
 use Rattle.engine_view.specs.Held.{queries_in}
 use Rattle.run_ahead.specs.declared.mail.Mail.{Mail}
 use Rattle.run_ahead.specs.declared.mail.Burst.{Burst}
-use Rattle.run_ahead.specs.declared.mail.Read.{Read}
-use Rattle.run_ahead.specs.Mails.{replies_in, taken_after, GoesOn}
+use Rattle.run_ahead.specs.declared.mail.Task.{Task}
+use Rattle.run_ahead.specs.Mails.{replies_in, taken_after, IsLeft, GoesOn}
 
 -- a run stands at some rest of some module
 abbrev pub StandsSomewhere : ModuleRun → Type 0
 StandsSomewhere run = (p : Plan) × ((i : ℕ) × ((o : Own) × StandsAt p i o run))
 
--- a run that waited at a rest was fed with the replies of its mail, and stands at the next
-pub record IsFed (p : Plan) (i : ℕ) (o : Own) (mail : Mail) (before after : Read) (run : ModuleRun) : Type 0 where
-  pub replies : List Reply
-  pub found : replies_in mail before.told before.taken (accesses_at p i o) ≡ Some replies
-  pub stands : StandsAt p i (next_rest p i o replies) run
-  pub told : after.told ≡ before.told + queries_in (accesses_at p i o)
-  pub taken : after.taken ≡ taken_after before.taken (accesses_at p i o) replies
+-- a run that waited at a rest was fed with the replies of its mail, and stands at the next; this is left of the mail
+pub record IsFed (p : Plan) (i : ℕ) (o : Own) (mail : Mail) (told : ℕ) (taken : List ℕ) (run : ModuleRun) (now : ℕ) (rest : Mail) : Type 0
+  where
+    pub replies : List Reply
+    pub found : replies_in mail told taken (accesses_at p i o) ≡ Some replies
+    pub stands : StandsAt p i (next_rest p i o replies) run
+    pub number : now ≡ told + queries_in (accesses_at p i o)
+    pub left : IsLeft mail (taken_after taken (accesses_at p i o) replies) rest
 
 -- one mark more was given
 pub record IsEmitted (before after : ModuleRun) (marks more : List Advance) (step : Bool) : Type 0 where
@@ -35,19 +36,26 @@ pub record IsEmitted (before after : ModuleRun) (marks more : List Advance) (ste
   pub waits : waits after ≡ step
 
 -- whatever marks follow from where it stands now, follow those that it gave so far
-pub record IsSoFar (p : Plan) (i : ℕ) (mail : Mail) (o : Own) (before : Read) (marks : List Advance) (run : ModuleRun) (now : Read) : Type 0
-  where
-    pub at : Own
-    pub stands : StandsAt p i at run
-    pub follows : (short : Bool) (last : ModuleRun) (more : List Advance) → GoesOn p i mail short last at now.told now.taken more
-        → GoesOn p i mail short last o before.told before.taken (marks ++ more)
+pub record IsSoFar (p : Plan) (i : ℕ) (mail : Mail) (o : Own) (told : ℕ) (taken : List ℕ) (marks : List Advance) (run : ModuleRun) (now : ℕ)
+    (left : Mail) : Type 0 where
+  pub at : Own
+  pub taken_now : List ℕ
+  pub stands : StandsAt p i at run
+  pub is_left : IsLeft mail taken_now left
+  pub follows : (short : Bool) (last : Task) (more : List Advance) → GoesOn p i mail short last at now taken_now more
+      → GoesOn p i mail short last o told taken (marks ++ more)
+
+-- a run with its mail
+abbrev pub task_of : ModuleRun → Mail → Task
+task_of run mail = record { run = run; mail = mail }
 
 -- a burst of these parts
-abbrev pub burst_of : ModuleRun → List Advance → Bool → Burst
-burst_of run marks short = record { run = run; emitted = marks; short = short }
+abbrev pub burst_of : Task → List Advance → Bool → Burst
+burst_of last marks short = record { run = last.run; emitted = marks; short = short; mail = last.mail }
 
 -- what the loop keeps
-pub record IsGoingOn (mail : Mail) (first : ModuleRun) (before : Read) (marks : List Advance) (run : ModuleRun) (now : Read) : Type 0 where
-  pub so_far : (p : Plan) (i : ℕ) (o : Own) → StandsAt p i o first → IsSoFar p i mail o before marks run now
-  pub goes : waits run ≡ false
-  pub room : length now.taken ≡ length mail.values
+pub record IsGoingOn (first : Mail) (from : ModuleRun) (told : ℕ) (marks : List Advance) (run : ModuleRun) (now : ℕ) (left : Mail) : Type 0
+  where
+    pub so_far : (p : Plan) (i : ℕ) (o : Own) → StandsAt p i o from → (mail : Mail) (taken : List ℕ) → IsLeft mail taken first
+        → IsSoFar p i mail o told taken marks run now left
+    pub goes : waits run ≡ false

@@ -3,4 +3,4 @@
 
 mod mail;
 
-pub use mail::{Burst, Mail, Task, has_replies, reply_to, work};
+pub use mail::{Burst, Mail, Task, reply_to, work};

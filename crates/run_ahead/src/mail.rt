@@ -1,5 +1,5 @@
 //! A module's run with its mail, and how far it goes on that alone.
-ghost use Rattle.std.specs.Prelude.{◌≡◌, ℕ, ◌+◌, ◌<◌, ◌^◌, [], ◌∷◌, ◌++◌, length, replicate, slice_get, slice_set, slice_index};
+ghost use Rattle.std.specs.Prelude.{◌≡◌, ℕ, ◌+◌, ◌<◌, ◌^◌, [], ◌∷◌, ◌++◌, length, drop, slice_get, slice_set};
 ghost use Rattle.std.specs.Prelude.{List as Items, Some, None, true, false, IsTrue, IsFalse, IsNone, IfOk, IfSome, OnOk, OnErr};
 ghost use Rattle.flow_design.specs.declared.plan.Plan.{Plan as PlanOf};
 ghost use Rattle.lockstep_defs.specs.OwnRun.{Own};
@@ -9,17 +9,18 @@ ghost use Rattle.module_interp.specs.Runs.{StandsAt, waits};
 ghost use Rattle.module_interp.specs.Runs.{is_step as is_step_of};
 ghost use Rattle.engine_view.specs.Held.{queries_in};
 ghost use Rattle.run_ahead.specs.Replies.{reply_now, has_value};
-ghost use Rattle.run_ahead.specs.Mails.{next_value, replies_in, none_taken, one_more, taken_after, GoesOn, IsBurst, IsBurstFrom};
-ghost use Rattle.run_ahead.specs.Working.{StandsSomewhere, IsFed, IsEmitted, burst_of};
+ghost use Rattle.run_ahead.specs.declared.mail.Mail.{Mail as MailOf};
+ghost use Rattle.run_ahead.specs.Mails.{values_on, next_value, replies_in, none_taken, taken_after, IsLeft, GoesOn, IsBurst, IsBurstFrom};
+ghost use Rattle.run_ahead.specs.Working.{StandsSomewhere, IsFed, IsEmitted, burst_of, task_of};
 
-use flow_word::{Access, Flags, Kind, List, OutOfMemory, Words};
+use flow_word::{Access, Flags, Kind, List, OutOfMemory, Queue};
 use module_interp::{Advance, ModuleRun, Reply};
 use std::alloc::Global;
 
 /// What a module's run has not taken yet: outcomes of its queries, and of each channel the values from its next pop on.
 pub struct Mail {
     pub outcomes: Flags,
-    pub values: List<Words>,
+    pub values: List<Queue<u64>>,
 }
 
 impl Drop for Mail {
@@ -45,13 +46,8 @@ pub struct Burst {
     pub emitted: List<Advance>,
     /// It stopped for want of memory.
     pub short: bool,
-}
-
-/// How much of a mail was read: so many outcomes, and so many values of each channel.
-#[derive(Drop)]
-struct Read {
-    told: u64,
-    taken: Words,
+    /// What is left of the mail: the values that the run has not taken. The outcomes are those that it had.
+    pub mail: Mail,
 }
 
 /// The reply to an access of this kind by its query's outcome and the value that it finds, where what it needs is there.
@@ -70,16 +66,12 @@ pub fn reply_to(kind: Kind, outcome: Option<bool>, value: Option<u64>) -> Option
     }
 }
 
-/// The next value of a channel, of whose values so many were taken.
-fn value_of(mail: &Mail, taken: &[u64], channel: u32) -> Option<u64>
-    requires room { length taken.now ≡ length mail.now.values }
-    ensures { result ≡ next_value mail.now taken.now channel }
+/// The next value of a channel.
+fn value_of(mail: &Mail, channel: u32) -> Option<u64>
+    ensures { result ≡ next_value mail.now (none_taken mail.now) channel }
 {
     match mail.values.as_slice().get(channel as usize) {
-        Some(values) => values
-            .as_slice()
-            .get(taken[channel as usize] as usize)
-            .copied(),
+        Some(values) => values.front(),
         None => None,
     }
 }
@@ -102,99 +94,83 @@ fn takes(reply: Reply) -> bool
     }
 }
 
-/// Looks up the replies to a step's accesses, and how many outcomes are read behind it; or one of them is not in the mail.
+/// Looks up the replies to a step's accesses, where so many outcomes were read, and how many are read behind it; or one of them is not
+/// in the mail.
 fn find(
     mail: &Mail,
-    read: &Read,
+    told: u64,
     accesses: &[Access],
     replies: &mut List<Reply>,
 ) -> Result<Option<u64>, OutOfMemory>
-    requires room { length read.now.taken ≡ length mail.now.values }
-    ensures found { IfOk result (λ r. IfSome r (λ told. replies_in mail.now read.now.told read.now.taken accesses.now ≡ Some replies.new)) }
-    ensures told { IfOk result (λ r. IfSome r (λ told. told ≡ read.now.told + queries_in accesses.now)) }
-    ensures missing { IfOk result (λ r. IsNone r → replies_in mail.now read.now.told read.now.taken accesses.now ≡ None) }
+    ensures found { IfOk result (λ r. IfSome r (λ n. replies_in mail.now told (none_taken mail.now) accesses.now ≡ Some replies.new)) }
+    ensures told { IfOk result (λ r. IfSome r (λ n. n ≡ told + queries_in accesses.now)) }
+    ensures missing { IfOk result (λ r. IsNone r → replies_in mail.now told (none_taken mail.now) accesses.now ≡ None) }
 {
     replies.truncate(0);
-    let mut told = read.told;
+    let mut next = told;
     for access in accesses {
-        let value = value_of(mail, read.taken.as_slice(), access.channel);
-        let Some(reply) = reply_to(access.kind, outcome_of(mail, told), value) else {
+        let value = value_of(mail, access.channel);
+        let Some(reply) = reply_to(access.kind, outcome_of(mail, next), value) else {
             return Ok(None);
         };
         replies.push(reply)?;
         if !access.kind.is_blocking() {
-            told += 1;
+            next += 1;
         }
     }
-    Ok(Some(told))
+    Ok(Some(next))
 }
 
-/// Whether the replies to a step's accesses are all in the mail, from its beginning on.
-pub fn has_replies(alloc: Global, mail: &Mail, accesses: &[Access]) -> Result<bool, OutOfMemory>
-    ensures yes { IfOk result (λ yes. IsTrue yes → (qs : Items ReplyOf)
-        × (replies_in mail.now 0 (none_taken mail.now) accesses.now ≡ Some qs)) }
-    ensures no { IfOk result (λ yes. IsFalse yes → replies_in mail.now 0 (none_taken mail.now) accesses.now ≡ None) }
+/// Takes the next value of a channel off the mail.
+fn take_value(mail: &mut Mail, channel: u32)
+    ensures outcomes { mail.new.outcomes ≡ mail.old.outcomes }
+    ensures values { mail.new.values ≡ slice_set mail.old.values channel (drop 1 (values_on mail.old channel)) }
 {
-    let taken = Words::zeros(alloc, mail.values.len())?;
-    let read = Read { told: 0, taken };
-    let mut replies = List::new(alloc);
-    Ok(find(mail, &read, accesses, &mut replies)?.is_some())
+    let at = channel as usize;
+    if at < mail.values.as_slice().len() {
+        let _value = mail.values.as_mut_slice()[at].pop();
+    }
 }
 
-/// Counts the values that a step's replies took.
-fn count(taken: &mut Words, accesses: &[Access], replies: &[Reply]) -> Result<(), OutOfMemory>
+/// Takes the values of a step's replies off the mail.
+fn take_values(mail: &mut Mail, accesses: &[Access], replies: &[Reply])
     requires each { length replies.now ≡ length accesses.now }
-    ensures counted { OnOk result (taken.new ≡ taken_after taken.old accesses.now replies.now) }
-    ensures room { length taken.new ≡ length taken.old }
+    ensures left { (whole : MailOf) (taken : Items ℕ) → IsLeft whole taken mail.old
+        → IsLeft whole (taken_after taken accesses.now replies.now) mail.new }
 {
     for (at, access) in accesses.iter().enumerate() {
         if takes(replies[at]) {
-            count_one(taken, access.channel)?;
+            take_value(mail, access.channel);
         }
     }
-    Ok(())
 }
 
-/// Counts a value of a channel. The count has no end that could be reached, and stops for want of memory there.
-fn count_one(taken: &mut Words, channel: u32) -> Result<(), OutOfMemory>
-    ensures counted { OnOk result (taken.new ≡ one_more taken.old channel) }
-    ensures room { length taken.new ≡ length taken.old }
-{
-    let at = channel as usize;
-    if at < taken.as_slice().len() {
-        let Some(more) = taken.as_slice()[at].checked_add(1) else {
-            return Err(OutOfMemory);
-        };
-        taken.as_mut_slice()[at] = more;
-    }
-    Ok(())
-}
-
-/// Gives the run the replies of its mail to the step that waits; or one of them is not in the mail, and nothing is done.
+/// Gives the run the replies of its mail to the step that waits, and takes their values off the mail; or one of them is not there, and
+/// nothing is done.
 fn answer(
     run: &mut ModuleRun,
-    mail: &Mail,
-    read: &mut Read,
+    mail: &mut Mail,
+    told: &mut u64,
     replies: &mut List<Reply>,
 ) -> Result<bool, OutOfMemory>
     requires stands { StandsSomewhere run.old }
     requires waits { waits run.old ≡ true }
-    requires room { length read.old.taken ≡ length mail.now.values }
-    ensures room { length read.new.taken ≡ length mail.now.values }
     ensures fed { IfOk result (λ yes. IsTrue yes → (p : PlanOf) (i : ℕ) (o : Own) → StandsAt p i o run.old
-        → IsFed p i o mail.now read.old read.new run.new) }
+        → (whole : MailOf) (taken : Items ℕ) → IsLeft whole taken mail.old
+        → IsFed p i o whole told.old taken run.new told.new mail.new) }
     ensures goes { IfOk result (λ yes. IsTrue yes → waits run.new ≡ false) }
     ensures missing { IfOk result (λ yes. IsFalse yes → (p : PlanOf) (i : ℕ) (o : Own) → StandsAt p i o run.old
-        → replies_in mail.now read.old.told read.old.taken (accesses_at p i o) ≡ None) }
-    ensures waiting { IfOk result (λ yes. IsFalse yes → run.new ≡ run.old) }
-    ensures err { OnErr result (run.new ≡ run.old) }
+        → (whole : MailOf) (taken : Items ℕ) → IsLeft whole taken mail.old
+        → replies_in whole told.old taken (accesses_at p i o) ≡ None) }
+    ensures waiting { IfOk result (λ yes. IsFalse yes → (run.new ≡ run.old) × (mail.new ≡ mail.old)) }
+    ensures err { OnErr result ((run.new ≡ run.old) × (mail.new ≡ mail.old)) }
 {
     let accesses = run.waiting();
-    let Some(told) = find(mail, read, accesses, replies)? else {
+    let Some(next) = find(mail, *told, accesses, replies)? else {
         return Ok(false);
     };
-    count(&mut read.taken, accesses, replies.as_slice())?;
-    read.told = told;
+    take_values(mail, accesses, replies.as_slice());
+    *told = next;
     run.feed(replies.as_slice());
     Ok(true)
 }
@@ -241,20 +217,19 @@ fn emit(run: &mut ModuleRun, marks: &mut List<Advance>) -> Result<bool, OutOfMem
     }
 }
 
-/// Goes on from a rest as far as the mail goes. It says whether it stopped for want of memory.
+/// Goes on from a rest as far as the mail goes, of which so many outcomes were read. It says whether it stopped for want of memory.
 fn go_on(
     run: &mut ModuleRun,
-    mail: &Mail,
-    read: &mut Read,
+    mail: &mut Mail,
+    told: &mut u64,
     replies: &mut List<Reply>,
     marks: &mut List<Advance>,
 ) -> bool
     requires stands { StandsSomewhere run.old }
     requires goes { waits run.old ≡ false }
-    requires room { length read.old.taken ≡ length mail.now.values }
     requires none { marks.old ≡ [] }
-    ensures { (p : PlanOf) (i : ℕ) (o : Own) → StandsAt p i o run.old → GoesOn p i mail.now result run.new o read.old.told read.old.taken
-        marks.new }
+    ensures { (p : PlanOf) (i : ℕ) (o : Own) → StandsAt p i o run.old → (whole : MailOf) (taken : Items ℕ) → IsLeft whole taken mail.old
+        → GoesOn p i whole result (task_of run.new mail.new) o told.old taken marks.new }
 {
     let mut left = u64::MAX;
     while left > 0 {
@@ -264,7 +239,7 @@ fn go_on(
             Ok(false) => return false,
             Err(_) => return true,
         }
-        match answer(run, mail, read, replies) {
+        match answer(run, mail, told, replies) {
             Ok(true) => {}
             Ok(false) => return false,
             Err(_) => return true,
@@ -273,39 +248,37 @@ fn go_on(
     true
 }
 
-/// Goes as far as the mail goes. It says whether it stopped for want of memory.
-fn begin(alloc: Global, run: &mut ModuleRun, mail: &Mail, marks: &mut List<Advance>) -> bool
+/// Goes as far as the mail goes, whose values it takes. It says whether it stopped for want of memory.
+fn begin(alloc: Global, run: &mut ModuleRun, mail: &mut Mail, marks: &mut List<Advance>) -> bool
     requires stands { StandsSomewhere run.old }
     requires none { marks.old ≡ [] }
-    ensures { (p : PlanOf) (i : ℕ) (o : Own) → StandsAt p i o run.old → IsBurstFrom (waits run.old) p i o mail.now
-        (burst_of run.new marks.new result) }
+    ensures { (p : PlanOf) (i : ℕ) (o : Own) → StandsAt p i o run.old → IsBurstFrom (waits run.old) p i o mail.old
+        (burst_of (task_of run.new mail.new) marks.new result) }
 {
-    let Ok(taken) = Words::zeros(alloc, mail.values.len()) else {
-        return true;
-    };
-    let mut read = Read { told: 0, taken };
+    let mut told = 0;
     let mut replies = List::new(alloc);
     if run.is_waiting() {
-        match answer(run, mail, &mut read, &mut replies) {
+        match answer(run, mail, &mut told, &mut replies) {
             Ok(true) => {}
             Ok(false) => return false,
             Err(_) => return true,
         }
     }
-    go_on(run, mail, &mut read, &mut replies, marks)
+    go_on(run, mail, &mut told, &mut replies, marks)
 }
 
-/// Runs ahead on the mail, until the run is over or a reply is not in the mail.
+/// Runs ahead on the mail, until the run is over or a reply is not in the mail. The values that the run takes leave the mail.
 pub fn work(alloc: Global, task: Task) -> Burst
     requires stands { StandsSomewhere task.run }
     ensures { (p : PlanOf) (i : ℕ) (o : Own) → StandsAt p i o task.run → IsBurst p i o task result }
 {
-    let Task { mut run, mail } = task;
+    let Task { mut run, mut mail } = task;
     let mut emitted = List::new(alloc);
-    let short = begin(alloc, &mut run, &mail, &mut emitted);
+    let short = begin(alloc, &mut run, &mut mail, &mut emitted);
     Burst {
         run,
         emitted,
         short,
+        mail,
     }
 }

@@ -9,6 +9,7 @@ use Rattle.flow_word.proofs.boxed.Boxed.TheSendSync as boxed
 use Rattle.flow_word.proofs.width.Width.TheSendSync as width
 use Rattle.flow_word.proofs.access.Access.TheSendSync as access
 use Rattle.flow_word.proofs.access.Port.TheSendSync as port
+use Rattle.flow_word.specs.contracts.access.Port as port_of
 use Rattle.flow_design.proofs.name.Name.TheSendSync as name
 use Rattle.flow_design.proofs.design.BlockKind.TheSendSync as kind
 use Rattle.flow_design.proofs.design.Memory.TheSendSync as memory
@@ -18,14 +19,14 @@ use Rattle.flow_design.proofs.expr.BinOp.TheSendSync as binary
 use Rattle.flow_design.proofs.expr.UnOp.TheSendSync as unary
 use Rattle.flow_design.proofs.expr.Expr.TheLaws.TheKnot as expr
 use Rattle.flow_design.proofs.state.Advance.TheSendSync as advance
-use Rattle.flow_design.proofs.state.Due.TheSendSync as due
 use Rattle.flow_design.proofs.state.ModuleState.TheSendSync as state
 use Rattle.flow_design.proofs.state.Reply.TheSendSync as reply
 use Rattle.flow_design.proofs.state.Request.TheSendSync as request
 use Rattle.flow_design.specs.contracts.design.Module as unit
 use Rattle.flow_design.specs.contracts.design.Design as design
 use Rattle.flow_design.specs.contracts.plan.Plan as plan
-use Rattle.block_schedule.proofs.schedule.Schedule.TheSendSync as schedule
+use Rattle.block_code.proofs.code.BlockCode.TheSendSync as code
+use Rattle.block_code.proofs.noted.Noted.TheSendSync as noted
 use Rattle.module_move.proofs.room.MoveRoom.TheSendSync as room
 use Rattle.module_interp.proofs.path.Stage.TheSendSync as stage
 use Rattle.module_interp.proofs.tally.Tally.TheSendSync as tally
@@ -35,6 +36,7 @@ use Rattle.event_graph.proofs.graph.Graph.TheSendSync as graph
 use Rattle.event_graph.proofs.candidate.Candidate.TheSendSync as candidate
 use Rattle.fifo_table.proofs.table.FifoTable.TheSendSync as table
 use Rattle.query_log.proofs.log.QueryLog.TheSendSync as log
+use Rattle.sim_core.proofs.unread.Unread.TheSendSync as unread
 use Rattle.sim_core.specs.contracts.machine.Core as engine
 use Rattle.sim_core.specs.contracts.machine.Core.TheInside as core
 use Rattle.turn_history.proofs.turn.HubTurn.TheSendSync as turn
@@ -48,7 +50,6 @@ use Rattle.sim_hub.specs.contracts.hub.Hub as hub
 use Rattle.sim_hub.specs.contracts.pass.Place as place
 use Rattle.sim_hub.specs.contracts.pass.ModulePass as module_pass
 use Rattle.crossbeam_utils.proofs.sync.parker.RuledParker.TheSendSync as parker
-use Rattle.run_threads.proofs.bells.Bells.TheSendSync as bells
 use Rattle.run_threads.proofs.drive.End.TheSendSync as end
 use Rattle.run_threads.specs.contracts.drive.Answered as answered
 use Rattle.run_threads.specs.contracts.drive.Seat as seat
@@ -97,7 +98,7 @@ path_field =
           (
             plain_send _ _ _ _ _,
             (
-              list.the_send _ schedule.the_send,
+              list.the_send _ code.the_send,
               (
                 (search (state.the_field_send, sendable) depth 20 fits 5000),
                 (
@@ -105,11 +106,8 @@ path_field =
                   (
                     plain_send _ _ _ _ _,
                     (
-                      list.the_send _ due.the_send,
-                      (
-                        list.the_send _ request.the_send,
-                        (list.the_send _ reply.the_send, ((search (room.the_field_send, sendable) depth 20 fits 5000), tt)),
-                      ),
+                      list.the_send _ noted.the_send,
+                      (list.the_send _ request.the_send, (words_send, ((search (room.the_field_send, sendable) depth 20 fits 5000), tt))),
                     ),
                   ),
                 ),
@@ -147,12 +145,15 @@ core_field =
                 (
                   (search (crosses, sendable) depth 30 fits 5000),
                   (
-                    list.the_send _ port.the_send,
+                    list.the_send (list_of.the_row port_of.the_row) (list.the_send _ port.the_send),
                     (
                       (search (crosses, sendable) depth 30 fits 5000),
                       (
-                        words_send,
-                        (list.the_send _ reply.the_send, ((search (candidate.the_send, crosses, sendable) depth 30 fits 5000), tt)),
+                        list.the_send _ unread.the_send,
+                        (
+                          words_send,
+                          (list.the_send _ reply.the_send, ((search (candidate.the_send, crosses, sendable) depth 30 fits 5000), tt)),
+                        ),
                       ),
                     ),
                   ),

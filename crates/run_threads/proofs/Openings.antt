@@ -1,5 +1,5 @@
 -- How a hub of a plan opens, and what its history tells of the plan later on.
-use Rattle.std.proofs.Common.{◌≡◌, sym, ap, ◌∙◌, List, [], ◌∷◌, ◌++◌, length, append_assoc}
+use Rattle.std.proofs.Common.{◌≡◌, sym, ap, ◌∙◌, List, [], ◌++◌, length, append_assoc}
 use mathlib.Core.List.{IsPrefix}
 use Rattle.flow_design.specs.declared.plan.Plan.{Plan}
 use Rattle.turn_lock.specs.Passes.{TableId}

@@ -1,5 +1,5 @@
 -- The passes of the modules, by their places.
-use Rattle.std.proofs.Common.{◌≡◌, ℕ, List, [], ◌∷◌, ◌++◌, length, Some, slice_get, refl, sym, subst}
+use Rattle.std.proofs.Common.{◌≡◌, List, [], ◌∷◌, ◌++◌, length, Some, slice_get, refl, sym, subst}
 use Rattle.turn_lock.specs.Passes.{pass_lock}
 use Rattle.sim_hub.specs.declared.hub.Hub.{Hub}
 use Rattle.sim_hub.specs.declared.pass.ModulePass.{ModulePass}

@@ -14,7 +14,7 @@ use Rattle.run_threads.specs.declared.drive.End.TheVariants as end
 
 -- over and short are read off what was seen
 abbrev pub WentIs : View HubEntry → Went → Type 0
-WentIs v (went.Ran concern) = Unit {0}
+WentIs v (went.Ran concern done) = Unit {0}
 WentIs v went.Held = Unit {0}
 WentIs v went.Over = Behind v.seen IsFinished
 WentIs v went.Short = Behind v.seen WasShort

@@ -1,17 +1,17 @@
 //! What wakes the threads, each where news concern it.
 //!
-//! No ring is lost. A thread sets its bell before it looks at the hub, and whoever changes the hub reads the bells afterwards; all
-//! these steps stand in one order. Where the look came before the change it did not see, the bell was set before it was read: so it
-//! rings, which sets it to awake, and whoever waits at it goes on to another look. A ring between the last glance at the bell and
-//! `park` leaves a token with the parker, and `park` returns at once. A token that is left from an earlier ring makes `park` return
-//! too early, and the bell is glanced at again.
-use crate::concern::{Concern, News, concern_behind};
-use crate::pushers::find_pushers;
+//! No ring is lost. A thread clears its bell before it looks at the hub, and whoever changes the hub rings the bells afterwards; all
+//! these steps stand in one order. Where the look came before the change it did not see, the bell was cleared before it was rung, and
+//! whoever waits for such news finds that it rang. A thread says that it is asleep before its last glance at the bell, and who rings
+//! looks afterwards whether it is: so it was seen asleep, or it saw the ring. A ring between that glance and `park` leaves a token
+//! with the parker, and `park` returns at once. A token that is left from an earlier ring makes `park` return too early, and the bell
+//! is glanced at again.
+use crate::concern::{Concern, News};
+use crate::readers::{find_poppers, find_readers};
 use crossbeam_utils::Backoff;
 use crossbeam_utils::sync::{Parker, Unparker};
 use flow_design::Design;
 use flow_word::OutOfMemory;
-use sim_hub::Burst;
 use std::alloc::Global;
 use std::sync::Wait;
 use std::sync::atomic::{AtomicBool, AtomicU64, Ordering};
@@ -20,46 +20,72 @@ use std::sync::atomic::{AtomicBool, AtomicU64, Ordering};
 #[derive(Drop)]
 struct Bell {
     unparker: Unparker,
-    /// The code of what its thread waits for.
-    concern: AtomicU64,
+    /// The bits of all news since it was cleared.
+    rang: AtomicU64,
+    /// The bits of the news that it is to ring for.
+    wanted: AtomicU64,
+    /// Whether its thread sleeps, or is about to.
+    asleep: AtomicBool,
 }
 
 impl Bell {
-    /// A bell that is not set, and what its thread parks on.
+    /// A bell that has rung for all news, and what its thread parks on.
     fn new(alloc: Global) -> Result<(Bell, Parker), OutOfMemory> {
         let parker = Parker::new(alloc)?;
         let bell = Bell {
             unparker: parker.unparker().clone()?,
-            concern: AtomicU64::new(Concern::Awake.code()),
+            rang: AtomicU64::new(Concern::Anything.bits()),
+            wanted: AtomicU64::new(Concern::Anything.bits()),
+            asleep: AtomicBool::new(false),
         };
         Ok((bell, parker))
     }
 
-    fn concern(&self) -> Concern {
-        Concern::of_code(self.concern.load(Ordering::SeqCst))
+    fn clear(&self) {
+        self.rang.store(0, Ordering::SeqCst);
     }
 
-    fn set(&self, concern: Concern) {
-        self.concern.store(concern.code(), Ordering::SeqCst);
+    fn want(&self, concern: Concern) {
+        self.wanted.store(concern.bits(), Ordering::SeqCst);
     }
 
-    /// Rings, where it is set for such news.
+    /// Whether it rang for news that are wanted.
+    fn calls(&self) -> bool {
+        self.rang.load(Ordering::SeqCst) & self.wanted.load(Ordering::SeqCst) != 0
+    }
+
+    /// Rings.
     fn tell(&self, news: News) {
-        if self.concern().is_met_by(news) {
-            self.set(Concern::Awake);
+        let bit = news.bit();
+        if self.rang.load(Ordering::SeqCst) & bit != 0 {
+            return;
+        }
+        self.rang.fetch_or(bit, Ordering::SeqCst);
+        if self.asleep.load(Ordering::SeqCst)
+            && self.wanted.load(Ordering::SeqCst) & bit != 0
+            && self.asleep.swap(false, Ordering::SeqCst)
+        {
             self.unparker.unpark();
         }
     }
 
-    /// Waits until the bell, which was set, has rung: at first awake, so that news which come at once cost no sleep.
-    fn wait<R: Wait>(&self, rt: &R, parker: &Parker) {
+    /// Waits until the bell has rung for news that are wanted: at first awake, so that news which come at once cost no sleep. Whether it
+    /// had to wait.
+    fn wait<R: Wait>(&self, rt: &R, parker: &Parker) -> bool {
+        if self.calls() {
+            return false;
+        }
         let backoff = Backoff::new();
         for _ in rt.forever() {
-            if self.concern() == Concern::Awake {
-                return;
+            if self.calls() {
+                return true;
             }
             if backoff.is_completed() {
-                parker.park(rt);
+                self.asleep.store(true, Ordering::SeqCst);
+                if !self.calls() {
+                    parker.park(rt);
+                }
+                self.asleep.store(false, Ordering::SeqCst);
             } else {
                 backoff.snooze();
             }
@@ -68,11 +94,14 @@ impl Bell {
     }
 }
 
-/// A module's bell, and whether its thread is to answer its pass undriven.
+/// A module's bell, and who drives it.
 #[derive(Drop)]
 struct Place {
     bell: Bell,
+    /// Its thread is to answer its pass undriven.
     undriven: AtomicBool,
+    /// The caller drives it.
+    handed_over: AtomicBool,
 }
 
 /// The caller's bell, and one for each module.
@@ -80,18 +109,29 @@ struct Place {
 pub struct Bells {
     caller: Bell,
     modules: Vec<Place>,
-    /// The module that pushes to each channel.
-    pushers: Vec<Option<u32>>,
+    /// Of each module those that pop what it pushes.
+    readers: Vec<Vec<u32>>,
+    /// A module's thread was not started.
+    unstarted: AtomicBool,
 }
 
 impl Bells {
     /// The caller's bell and none for a module yet, and what the caller parks on.
     pub fn new(alloc: Global, design: &Design) -> Result<(Bells, Parker), OutOfMemory> {
         let (caller, parker) = Bell::new(alloc)?;
+        let poppers = find_poppers(alloc, design)?;
+        let mut readers = Vec::new(alloc);
+        for of in design.modules.as_slice() {
+            let mine = find_readers(alloc, of, poppers.as_slice())?;
+            if readers.push(mine).is_err() {
+                return Err(OutOfMemory);
+            }
+        }
         let bells = Bells {
             caller,
             modules: Vec::new(alloc),
-            pushers: find_pushers(alloc, design)?,
+            readers,
+            unstarted: AtomicBool::new(false),
         };
         Ok((bells, parker))
     }
@@ -99,22 +139,32 @@ impl Bells {
     /// Adds the bell of the next module, and gives what its thread parks on.
     pub fn add(&mut self, alloc: Global) -> Result<Parker, OutOfMemory> {
         let (bell, parker) = Bell::new(alloc)?;
-        let undriven = AtomicBool::new(false);
-        match self.modules.push(Place { bell, undriven }) {
+        let place = Place {
+            bell,
+            undriven: AtomicBool::new(false),
+            handed_over: AtomicBool::new(false),
+        };
+        match self.modules.push(place) {
             Ok(()) => Ok(parker),
             Err(_) => Err(OutOfMemory),
         }
     }
 
-    /// What lets a module go on behind this burst.
-    pub fn concern_behind(&self, burst: &Burst) -> Concern {
-        concern_behind(burst, self.pushers.as_slice())
-    }
-
-    /// Tells the modules' threads.
-    pub fn tell_modules(&self, news: News) {
+    /// Tells all modules.
+    pub fn tell_all(&self, news: News) {
         for place in &self.modules {
             place.bell.tell(news);
+        }
+    }
+
+    /// Tells the modules that pop what this one pushes that its desk came back.
+    pub fn tell_readers(&self, which: u32) {
+        if let Some(readers) = self.readers.get(which as usize) {
+            for reader in readers {
+                if let Some(other) = self.modules.get(*reader as usize) {
+                    other.bell.tell(News::Returned);
+                }
+            }
         }
     }
 
@@ -123,9 +173,9 @@ impl Bells {
         self.caller.tell(news);
     }
 
-    /// Sets the caller's bell, up to its next ring.
-    pub fn set_for_caller(&self) {
-        self.caller.set(Concern::Anything);
+    /// Clears the caller's bell.
+    pub fn clear_for_caller(&self) {
+        self.caller.clear();
     }
 
     /// The caller waits until its bell has rung.
@@ -133,17 +183,25 @@ impl Bells {
         self.caller.wait(rt, parker);
     }
 
-    /// Sets a module's bell for what concerns it, up to its next ring.
-    pub fn set(&self, which: u32, concern: Concern) {
+    /// Clears a module's bell.
+    pub fn clear(&self, which: u32) {
         if let Some(place) = self.modules.get(which as usize) {
-            place.bell.set(concern);
+            place.bell.clear();
         }
     }
 
-    /// A module's thread waits until its bell has rung.
-    pub fn wait<R: Wait>(&self, rt: &R, parker: &Parker, which: u32) {
+    /// From now on a module's bell rings for this.
+    pub fn want(&self, which: u32, concern: Concern) {
         if let Some(place) = self.modules.get(which as usize) {
-            place.bell.wait(rt, parker);
+            place.bell.want(concern);
+        }
+    }
+
+    /// A module's thread waits until its bell has rung. Whether it had to wait.
+    pub fn wait<R: Wait>(&self, rt: &R, parker: &Parker, which: u32) -> bool {
+        match self.modules.get(which as usize) {
+            Some(place) => place.bell.wait(rt, parker),
+            None => false,
         }
     }
 
@@ -160,5 +218,34 @@ impl Bells {
             Some(place) => place.undriven.load(Ordering::SeqCst),
             None => false,
         }
+    }
+
+    /// From now on the caller drives this module, whose thread was not started.
+    pub fn keep(&self, which: u32) {
+        self.unstarted.store(true, Ordering::SeqCst);
+        if let Some(place) = self.modules.get(which as usize) {
+            place.handed_over.store(true, Ordering::SeqCst);
+        }
+    }
+
+    /// From now on the caller drives this module, whose thread ends.
+    pub fn hand_over(&self, which: u32) {
+        if let Some(place) = self.modules.get(which as usize) {
+            place.handed_over.store(true, Ordering::SeqCst);
+        }
+        self.caller.tell(News::Returned);
+    }
+
+    /// Whether the caller is to drive this module now.
+    pub fn calls(&self, which: usize) -> bool {
+        match self.modules.get(which) {
+            Some(place) => place.handed_over.load(Ordering::SeqCst) && place.bell.calls(),
+            None => false,
+        }
+    }
+
+    /// Whether a module's thread was not started.
+    pub fn has_unstarted(&self) -> bool {
+        self.unstarted.load(Ordering::SeqCst)
     }
 }

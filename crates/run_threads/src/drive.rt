@@ -5,18 +5,33 @@ ghost use Rattle.sim_hub.specs.Hubs.{IsOfHub, module_view};
 ghost use Rattle.run_threads.specs.Driving.{WentIs, EndIs};
 
 use crate::bells::Bells;
-use crate::concern::{Concern, News};
+use crate::concern::{Concern, News, concern_behind};
 use crate::gate::Gate;
 use crossbeam_utils::sync::Parker;
 use sim_hub::{Desk, Hub, ModulePass};
 use std::alloc::Global;
 use std::sync::Wait;
 
+/// A burst with fewer operations is light: it takes less time than to wake a thread.
+const LIGHT_OPERATIONS: u64 = 1_000;
+
+/// After so many light bursts in a row, each after a wait, a thread hands its module over to the caller.
+const LIGHT_BURSTS: u64 = 3;
+
+/// How many light bursts in a row a thread has made, each after a wait, with one more burst of so many operations.
+fn light_bursts(before: u64, waited: bool, operations: u64) -> u64 {
+    if waited && operations < LIGHT_OPERATIONS {
+        before.saturating_add(1)
+    } else {
+        0
+    }
+}
+
 /// How one try to drive a module went.
 #[derive(Clone, Copy, Debug, PartialEq, Eq)]
 pub enum Went {
-    /// A desk was borrowed and returned. This lets the module go on behind its burst.
-    Ran(Concern),
+    /// A desk was borrowed and returned. This lets the module go on after its burst, which had so many operations.
+    Ran(Concern, u64),
     /// No Run of the module was permitted.
     Held,
     /// The core is final.
@@ -32,7 +47,7 @@ pub enum End {
     Over,
     /// Memory was wanted.
     Short,
-    /// Its thread was not started.
+    /// Its thread was not started, or hands the module over to the caller.
     Undriven,
 }
 
@@ -56,7 +71,6 @@ pub fn drive_once<G: Gate, R: Wait>(
     alloc: Global,
     hub: &Hub,
     gate: &G,
-    bells: &Bells,
     pass: ModulePass,
 ) -> (ModulePass, Went)
     requires own { IsOfHub hub.now pass }
@@ -69,9 +83,12 @@ pub fn drive_once<G: Gate, R: Wait>(
     let (pass, desk) = hub.borrow_desk(rt, pass);
     match desk {
         Desk::Run(task) => {
+            let before = task.run.operations();
             let burst = gate.burst(alloc, which, task);
-            let concern = bells.concern_behind(&burst);
-            (hub.return_desk(rt, pass, burst).0, Went::Ran(concern))
+            let concern = concern_behind(&burst);
+            let operations = burst.run.operations().wrapping_sub(before);
+            let (pass, _made) = hub.return_desk(rt, pass, burst);
+            (pass, Went::Ran(concern, operations))
         }
         Desk::Held(_) => (pass, Went::Held),
         Desk::Over => (pass, Went::Over),
@@ -79,7 +96,8 @@ pub fn drive_once<G: Gate, R: Wait>(
     }
 }
 
-/// Drives a module in a thread of its own, until all is over.
+/// Drives a module in a thread of its own, until all is over, or its bursts turn out to be light: then the caller drives it from then
+/// on.
 pub fn drive<G: Gate, R: Wait>(
     rt: &R,
     alloc: Global,
@@ -97,29 +115,50 @@ pub fn drive<G: Gate, R: Wait>(
     let Seat { pass, parker } = seat;
     let which = pass.which;
     if bells.is_forbidden(which) {
-        return Answered {
-            pass,
-            end: End::Undriven,
-        };
+        return undriven(pass);
     }
     let mut pass = pass;
-    let mut concern = Concern::Anything;
+    let mut waited = false;
+    let mut light = 0u64;
     for _ in rt.forever() {
-        bells.set(which, concern);
-        let (next, went) = drive_once(rt, alloc, hub, gate, bells, pass);
+        bells.clear(which);
+        let (next, went) = drive_once(rt, alloc, hub, gate, pass);
         match went {
-            Went::Ran(behind) => {
-                concern = behind;
-                bells.tell_modules(News::Returned(which));
-                bells.tell_caller(News::Returned(which));
+            Went::Ran(concern, operations) => {
+                bells.want(which, concern);
+                bells.tell_readers(which);
+                light = light_bursts(light, waited, operations);
+                if light >= LIGHT_BURSTS {
+                    return handed_over(bells, next);
+                }
+                bells.tell_caller(News::Returned);
+                waited = bells.wait(rt, &parker, which);
             }
-            Went::Held => bells.wait(rt, &parker, which),
+            Went::Held => waited = bells.wait(rt, &parker, which),
             Went::Over => return ended(bells, next, End::Over),
             Went::Short => return ended(bells, next, End::Short),
         }
         pass = next;
     }
     unreachable!()
+}
+
+/// The pass of a module that its thread drives no further, though all is not over.
+fn undriven(pass: ModulePass) -> Answered
+    ensures { (result.pass ≡ pass) × (result.end ≡ End.Undriven) }
+{
+    Answered {
+        pass,
+        end: End::Undriven,
+    }
+}
+
+/// Hands a module over to the caller, who is told.
+fn handed_over(bells: &Bells, pass: ModulePass) -> Answered
+    ensures { (result.pass ≡ pass) × (result.end ≡ End.Undriven) }
+{
+    bells.hand_over(pass.which);
+    undriven(pass)
 }
 
 /// Tells the caller, who tells the others, that the module is driven no further.

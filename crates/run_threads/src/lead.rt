@@ -19,8 +19,11 @@ use std::mem;
 use std::sync::Wait;
 use std::thread::{Threads, yield_now};
 
-/// Tries to drive a module that has no thread. The second answer says whether it has none.
-fn try_one<G: Gate, R: Wait>(
+/// How many rounds the caller goes over its modules between two turns of its own.
+const ROUNDS: u32 = 16;
+
+/// Tries to drive a module that is called, once its thread has ended where it has one. The second answer says whether it ran.
+fn try_one<G: Gate, R: Threads + Wait>(
     rt: &R,
     alloc: Global,
     hub: &Hub,
@@ -32,21 +35,22 @@ fn try_one<G: Gate, R: Wait>(
     requires { SlotIs hub.now which slot }
     ensures { SlotIs hub.now which result.0 }
 {
-    match slot {
-        Slot::Here(pass) => {
-            let owner = pass.which;
-            let (pass, went) = drive_once(rt, alloc, hub, gate, bells, pass);
-            if let Went::Ran(_) = went {
-                bells.tell_modules(News::Returned(owner));
-            }
+    let pass = take_one(rt, hub, slot, which);
+    let owner = pass.which;
+    bells.clear(owner);
+    let (pass, went) = drive_once(rt, alloc, hub, gate, pass);
+    match went {
+        Went::Ran(concern, _) => {
+            bells.want(owner, concern);
+            bells.tell_readers(owner);
             (Slot::Here(pass), true)
         }
-        other => (other, false),
+        Went::Held | Went::Over | Went::Short => (Slot::Here(pass), false),
     }
 }
 
-/// Tries to drive each module that has no thread. The second answer says whether there is one.
-fn try_all<G: Gate, R: Wait>(
+/// Tries to drive each module that is called. The second answer says whether one ran.
+fn try_all<G: Gate, R: Threads + Wait>(
     rt: &R,
     alloc: Global,
     hub: &Hub,
@@ -60,17 +64,44 @@ fn try_all<G: Gate, R: Wait>(
     let mut slots = slots;
     let mut any = false;
     for which in 0..slots.len() {
-        let slot = mem::replace(&mut slots[which], Slot::Gone);
-        let (back, here) = try_one(rt, alloc, hub, gate, bells, which, slot);
-        slots[which] = back;
-        any = any || here;
+        if bells.calls(which) {
+            let slot = mem::replace(&mut slots[which], Slot::Gone);
+            let (back, ran) = try_one(rt, alloc, hub, gate, bells, which, slot);
+            slots[which] = back;
+            any = any || ran;
+        }
     }
     (slots, any)
 }
 
+/// The same in rounds, as long as one runs, up to some number. The second answer says whether one ran.
+fn try_rounds<G: Gate, R: Threads + Wait>(
+    rt: &R,
+    alloc: Global,
+    hub: &Hub,
+    gate: &G,
+    bells: &Bells,
+    slots: Vec<Slot>,
+) -> (Vec<Slot>, bool)
+    requires { AreSlots hub.now slots.items }
+    ensures { (length result.0.items ≡ length slots.items) × AreSlots hub.now result.0.items }
+{
+    let (first, mut runs) = try_all(rt, alloc, hub, gate, bells, slots);
+    let ran = runs;
+    let mut slots = first;
+    let mut left = ROUNDS;
+    while runs && left > 0 {
+        left -= 1;
+        let (next, more) = try_all(rt, alloc, hub, gate, bells, slots);
+        slots = next;
+        runs = more;
+    }
+    (slots, ran)
+}
+
 /// Takes performance turns until all is over, and drives the modules that have no thread between them. It waits where nothing is to
 /// do, and drives none.
-pub fn lead<G: Gate, R: Wait>(
+pub fn lead<G: Gate, R: Threads + Wait>(
     rt: &R,
     alloc: Global,
     hub: &Hub,
@@ -90,32 +121,32 @@ pub fn lead<G: Gate, R: Wait>(
     let mut perf = perf;
     let mut slots = slots;
     for _ in rt.forever() {
-        bells.set_for_caller();
+        bells.clear_for_caller();
         let (next, answer) = hub.perf_turn(rt, perf);
         perf = next;
         let idle = match answer {
             PerfAnswer::Did(_) => false,
             PerfAnswer::Idle(_) => true,
             PerfAnswer::Over | PerfAnswer::Short => {
-                bells.tell_modules(News::Over);
+                bells.tell_all(News::Over);
                 return (perf, slots);
             }
         };
         if !idle {
-            bells.tell_modules(News::Timed);
+            bells.tell_all(News::Timed);
         }
-        let (back, drives) = try_all(rt, alloc, hub, gate, bells, slots);
+        let (back, ran) = try_rounds(rt, alloc, hub, gate, bells, slots);
         slots = back;
-        if idle {
-            rest(rt, bells, parker, drives);
+        if idle && !ran {
+            rest(rt, bells, parker);
         }
     }
     unreachable!()
 }
 
-/// Lets others go first, where the caller drives a module; else waits for news.
-fn rest<R: Wait>(rt: &R, bells: &Bells, parker: &Parker, drives: bool) {
-    if drives {
+/// Lets others go first, where a module's thread was not started; else waits for news.
+fn rest<R: Wait>(rt: &R, bells: &Bells, parker: &Parker) {
+    if bells.has_unstarted() {
         yield_now();
     } else {
         bells.wait_as_caller(rt, parker);

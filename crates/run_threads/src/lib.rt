@@ -6,7 +6,7 @@ mod concern;
 mod drive;
 mod gate;
 mod lead;
-mod pushers;
+mod readers;
 mod run;
 mod runner;
 mod start;

@@ -83,6 +83,7 @@ fn start_one<'s, 'e, G: Gate + Sync, R: Threads + Wait + Sync>(
         Ok(child) => Slot::There(child),
         Err(refused) => {
             bells.forbid(which);
+            bells.keep(which);
             Slot::Here((refused.value)().pass)
         }
     }
@@ -106,6 +107,7 @@ fn place_one<'s, 'e, G: Gate + Sync, R: Threads + Wait + Sync>(
     if seat.pass.which < started {
         start_one(scope, rt, alloc, hub, gate, bells, seat)
     } else {
+        bells.keep(seat.pass.which);
         Slot::Here(seat.pass)
     }
 }

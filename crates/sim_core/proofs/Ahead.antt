@@ -16,7 +16,6 @@ use Rattle.flow_design.specs.StaticRules.{FitsEngine}
 use Rattle.lockstep_defs.specs.Lockstep.{requests_of}
 use Rattle.lockstep_defs.specs.Machine.{is_over, is_spent}
 use Rattle.lockstep_defs.specs.OwnRun.{Own, access_of}
-use Rattle.module_interp.specs.declared.run.ModuleRun.{ModuleRun}
 use Rattle.module_interp.specs.OwnRests.{done_in, next_rest, accesses_at, mark_at}
 use Rattle.module_interp.specs.Runs.{StandsAt, is_step}
 use Rattle.event_timing.specs.Machines.{ready, takes_in}
@@ -35,8 +34,11 @@ use Rattle.timing_bridge.specs.Designs.{design}
 use Rattle.engine_view.specs.Held.{queries_in}
 use Rattle.run_ahead.specs.declared.mail.Mail.{Mail}
 use Rattle.sim_core.specs.Runs.{IsRunOf, rest_behind}
-use Rattle.run_ahead.specs.Mails.{values_on, next_value, replies_in, taken_after, IsWaiting, IsGoing, IsAtStep, IsPast, GoesOn}
-use Rattle.sim_core.specs.Tasks.{outcomes_in}
+use Rattle.run_ahead.specs.declared.mail.Task.{Task}
+use Rattle.run_ahead.specs.Mails.{values_on, next_value, replies_in, taken_after, IsLeft, IsWaiting, IsGoing, IsAtStep, IsPast, GoesOn}
+use Rattle.sim_core.specs.Tasks.{outcomes_in, values_behind, committed, IsTaskLeft}
+use Rattle.sim_core.proofs.Beginnings.{get_drop, begins_places}
+use Rattle.sim_core.proofs.Committed.{committed_waits, committed_goes}
 use Rattle.sim_core.proofs.Mailed.{AreFound, read_is, no_query, no_outcomes_of, value_inside}
 use Rattle.run_ahead.proofs.Parts.{after_length}
 use Rattle.sim_core.proofs.Resting.{rest_is}
@@ -247,86 +249,111 @@ module _ (p : Plan) (f : FitsEngine p) (z : Core ModuleState) (b : AreOwnMarks (
 
 -- ---- where a run stands
 
-pub going_stands : (p : Plan) (z : Core ModuleState) (m : ℕ) (mail : Mail) (o : Own) (told : ℕ) (taken : List ℕ) (run : ModuleRun)
-    → Goes p z m mail o told taken → IsGoing p m run o → IsRunOf p z m run
-going_stands p z m mail o told taken run g s = record {
+-- what is left of a mail are the next values of the core
+left_values : (p : Plan) (z : Core ModuleState) (m n : ℕ) (mail left : Mail) (taken : List ℕ) → IsWindow p z m n mail taken
+    → IsLeft mail taken left → (k c : ℕ) → k ≡ n → Begins (values_behind p z m k c) (values_on left c)
+left_values p z m n mail left taken w l k c e =
+    subst (λ (i : ℕ). Begins (values_behind p z m i c) (values_on left c)) (sym e)
+    (begins_places (values_behind p z m n c) (values_on left c) (λ i v g.
+    get_drop (core_values (design p) z c) (core_tally (design p) z m Pop c n) i
+    ∙ w.values c i v (sym (get_drop (values_on mail c) (slice_index_or taken c 0) i) ∙ (ap (λ (xs : List ℕ). slice_get xs i)
+    (sym (l.values c)) ∙ g))))
+
+going_run : (p : Plan) (z : Core ModuleState) (m : ℕ) (mail : Mail) (o : Own) (told : ℕ) (taken : List ℕ) (last : Task)
+    → Goes p z m mail o told taken → IsGoing p m mail last o taken → IsRunOf p z m last.run
+going_run p z m mail o told taken last g s = record {
   waiting = λ w. let e = sym w ∙ s.goes in cc;
-  going = λ w. (λ k e. (g.may.answered k e, g.may.there k e), subst (λ (q : Own). StandsAt p m q run) g.stands s.stands);
+  going = λ w. (λ k e. (g.may.answered k e, g.may.there k e), subst (λ (q : Own). StandsAt p m q last.run) g.stands s.stands);
   over = λ e. s.goes;
 }
 
-pub waiting_stands : (p : Plan) (z : Core ModuleState) (m : ℕ) (mail : Mail) (o : Own) (told : ℕ) (taken : List ℕ) (short : Bool)
-    (run : ModuleRun) → Waits p z m mail o told taken → IsWaiting p m mail short run o told taken
-    → IsRunOf p z m run
-waiting_stands p z m mail o told taken short run w s = record {
-  waiting = λ y. (w.at, w.newest, subst (λ (q : Own). StandsAt p m q run) w.stands s.stands);
-  going = λ y. let e = sym y ∙ s.waits in cc;
-  over = λ e. let y = sym e ∙ w.lives in cc;
+pub going_stands : (p : Plan) (z : Core ModuleState) (m : ℕ) (mail : Mail) (o : Own) (told : ℕ) (taken : List ℕ) (last : Task)
+    → Goes p z m mail o told taken → IsGoing p m mail last o taken → IsTaskLeft p z m last
+going_stands p z m mail o told taken last g s = record {
+  run = going_run p z m mail o told taken last g s;
+  values = λ c. left_values p z m (z.emitted m) mail last.mail taken g.window s.left (committed z m last.run) c
+      (committed_goes z m last.run s.goes);
 }
 
-pub over_stands : (p : Plan) (z : Core ModuleState) (m : ℕ) (mail : Mail) (o : Own) (told : ℕ) (taken : List ℕ) (run : ModuleRun)
-    → Goes p z m mail o told taken → IsGoing p m run o → IsRunOf p (emit_over z m) m run
-over_stands p z m mail o told taken run g s =
-    let r = going_stands p z m mail o told taken run g s in
+pub waiting_stands : (p : Plan) (z : Core ModuleState) (m : ℕ) (mail : Mail) (o : Own) (told : ℕ) (taken : List ℕ) (short : Bool)
+    (last : Task) → Waits p z m mail o told taken → IsWaiting p m mail short last o told taken → IsTaskLeft p z m last
+waiting_stands p z m mail o told taken short last w s = record {
+  run = record {
+    waiting = λ y. (w.at, w.newest, subst (λ (q : Own). StandsAt p m q last.run) w.stands s.stands);
+    going = λ y. let e = sym y ∙ s.waits in cc;
+    over = λ e. let y = sym e ∙ w.lives in cc;
+  };
+  values = λ c. left_values p z m w.at mail last.mail taken w.window s.left (committed z m last.run) c
+      (committed_waits z m last.run s.waits ∙ (let n = w.newest in omega arith));
+}
+
+pub over_stands : (p : Plan) (z : Core ModuleState) (m : ℕ) (mail : Mail) (o : Own) (told : ℕ) (taken : List ℕ) (last : Task)
+    → Goes p z m mail o told taken → IsGoing p m mail last o taken → IsTaskLeft p (emit_over z m) m last
+over_stands p z m mail o told taken last g s =
+    let r = going_run p z m mail o told taken last g s in
     record {
-      waiting = λ w. let e = sym w ∙ s.goes in cc;
-      going = λ w. (λ k e. (g.may.answered k e, g.may.there k e), (r.going w).1);
-      over = λ e. s.goes;
+      run = record {
+        waiting = λ w. let e = sym w ∙ s.goes in cc;
+        going = λ w. (λ k e. (g.may.answered k e, g.may.there k e), (r.going w).1);
+        over = λ e. s.goes;
+      };
+      values = (going_stands p z m mail o told taken last g s).values;
     }
 
 -- ---- bursts
 
--- so many Runs are permitted, and lead to a core beside which the run stands
-pub record Ran (p : Plan) (z : Core ModuleState) (m n : ℕ) (run : ModuleRun) : Type 0 where
+-- so many Runs are permitted, and lead to a core beside which the run stands, with what is left of its mail
+pub record Ran (p : Plan) (z : Core ModuleState) (m n : ℕ) (last : Task) : Type 0 where
   pub core : Core ModuleState
   pub acts : ActsAll (design p) p.cycles z (runs n m) core
   pub grows : Grows (design p) z core
-  pub stands : IsRunOf p core m run
+  pub stands : IsTaskLeft p core m last
 
 -- one Run more, before the others
-ran_more : (p : Plan) (z : Core ModuleState) (m n : ℕ) (run : ModuleRun) → MayRun (design p) z m
-    → Grows (design p) z (after_run (design p) z m) → Ran p (after_run (design p) z m) m n run → Ran p z m (suc n) run
-ran_more p z m n run may g r = record {
+ran_more : (p : Plan) (z : Core ModuleState) (m n : ℕ) (last : Task) → MayRun (design p) z m
+    → Grows (design p) z (after_run (design p) z m) → Ran p (after_run (design p) z m) m n last → Ran p z m (suc n) last
+ran_more p z m n last may g r = record {
   core = r.core;
   acts = (after_run (design p) z m, (may, refl), r.acts);
   grows = grows_trans (design p) z (after_run (design p) z m) r.core g r.grows;
   stands = r.stands;
 }
 
-pub ran_none : (p : Plan) (z : Core ModuleState) (m : ℕ) (run : ModuleRun) → IsRunOf p z m run → Ran p z m 0 run
-ran_none p z m run s = record { core = z; acts = refl; grows = grows_self (design p) z; stands = s }
+pub ran_none : (p : Plan) (z : Core ModuleState) (m : ℕ) (last : Task) → IsTaskLeft p z m last → Ran p z m 0 last
+ran_none p z m last s = record { core = z; acts = refl; grows = grows_self (design p) z; stands = s }
 
 pub run_on : (p : Plan) → FitsEngine p → (z : Core ModuleState) → AreOwnMarks (design p) z
-    → (m : ℕ) (mail : Mail) (short : Bool) (run : ModuleRun) (o : Own) (told : ℕ) (taken : List ℕ) (marks : List Advance)
-    → Goes p z m mail o told taken → GoesOn p m mail short run o told taken marks → Ran p z m (length marks) run
-run_on p f z b m mail short run o told taken [] g (s, e) = ran_none p z m run (going_stands p z m mail o told taken run g s)
-run_on p f z b m mail short run o told taken (mark ∷ more) g (e, sound, past) =
+    → (m : ℕ) (mail : Mail) (short : Bool) (last : Task) (o : Own) (told : ℕ) (taken : List ℕ) (marks : List Advance)
+    → Goes p z m mail o told taken → GoesOn p m mail short last o told taken marks → Ran p z m (length marks) last
+run_on p f z b m mail short last o told taken [] g (s, e) = ran_none p z m last (going_stands p z m mail o told taken last g s)
+run_on p f z b m mail short last o told taken (mark ∷ more) g (e, sound, past) =
     let y = after_run (design p) z m in
-    ran_more p z m (length more) run g.may (run_grows p f z b m mail o told taken g)
+    ran_more p z m (length more) last g.may (run_grows p f z b m mail o told taken g)
     (elim (cases_Bool (is_step mark)) [
-      | inl s ↦ behind (λ o' told' taken' g' next. run_on p f y (run_marks (design p) z b m g.may) m mail short run o' told' taken' more g'
+      | inl s ↦ behind (λ o' told' taken' g' next. run_on p f y (run_marks (design p) z b m g.may) m mail short last o' told' taken' more g'
           next) (waits_behind p f z b m mail o told taken g (ap is_step (sym e) ∙ s))
-          (subst (λ (c : Bool). IsPast c p m mail short run o told taken more
-          (λ o' told' taken'. GoesOn p m mail short run o' told' taken' more)) s past)
-      | inr s ↦ last (over_behind p f z b m mail o told taken g (ap is_step (sym e) ∙ s))
-          (subst (λ (c : Bool). IsPast c p m mail short run o told taken more
-          (λ o' told' taken'. GoesOn p m mail short run o' told' taken' more)) s past)
+          (subst (λ (c : Bool). IsPast c p m mail short last o told taken more
+          (λ o' told' taken'. GoesOn p m mail short last o' told' taken' more)) s past)
+      | inr s ↦ ended (over_behind p f z b m mail o told taken g (ap is_step (sym e) ∙ s))
+          (subst (λ (c : Bool). IsPast c p m mail short last o told taken more
+          (λ o' told' taken'. GoesOn p m mail short last o' told' taken' more)) s past)
     ])
   where
-    last : after_run (design p) z m ≡ emit_over z m → (more ≡ []) × IsGoing p m run o → Ran p (after_run (design p) z m) m (length more) run
-    last e (n, s) =
-        subst (λ (y : Core ModuleState). Ran p y m (length more) run) (sym e)
-        (subst (λ (xs : List Advance). Ran p (emit_over z m) m (length xs) run) (sym n)
-        (ran_none p (emit_over z m) m run (over_stands p z m mail o told taken run g s)))
+    ended : after_run (design p) z m ≡ emit_over z m → (more ≡ []) × IsGoing p m mail last o taken
+        → Ran p (after_run (design p) z m) m (length more) last
+    ended e (n, s) =
+        subst (λ (y : Core ModuleState). Ran p y m (length more) last) (sym e)
+        (subst (λ (xs : List Advance). Ran p (emit_over z m) m (length xs) last) (sym n)
+        (ran_none p (emit_over z m) m last (over_stands p z m mail o told taken last g s)))
 
     behind : ((o' : Own) (told' : ℕ) (taken' : List ℕ) → Goes p (after_run (design p) z m) m mail o' told' taken'
-        → GoesOn p m mail short run o' told' taken' more → Ran p (after_run (design p) z m) m (length more) run)
-        → Waits p (after_run (design p) z m) m mail o told taken → IsAtStep p m mail short run o told taken more
-        (λ o' told' taken'. GoesOn p m mail short run o' told' taken' more)
-        → Ran p (after_run (design p) z m) m (length more) run
+        → GoesOn p m mail short last o' told' taken' more → Ran p (after_run (design p) z m) m (length more) last)
+        → Waits p (after_run (design p) z m) m mail o told taken → IsAtStep p m mail short last o told taken more
+        (λ o' told' taken'. GoesOn p m mail short last o' told' taken' more)
+        → Ran p (after_run (design p) z m) m (length more) last
     behind again w (inl (n, s)) =
-        subst (λ (xs : List Advance). Ran p (after_run (design p) z m) m (length xs) run) (sym n)
-        (ran_none p (after_run (design p) z m) m run (waiting_stands p (after_run (design p) z m) m mail o told taken short run w s))
+        subst (λ (xs : List Advance). Ran p (after_run (design p) z m) m (length xs) last) (sym n)
+        (ran_none p (after_run (design p) z m) m last (waiting_stands p (after_run (design p) z m) m mail o told taken short last w s))
     behind again w (inr (qs, (r, next))) =
         again (next_rest p m o qs) (told + queries_in (accesses_at p m o)) (taken_after taken (accesses_at p m o) qs)
         (goes_on p f (after_run (design p) z m) (run_marks (design p) z b m g.may) m mail o told taken w qs r) next

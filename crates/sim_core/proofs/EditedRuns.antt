@@ -54,8 +54,7 @@ module _ (p : Plan) (fits : FitsEngine p) (e : Edit) (fit : EditFits p e) (i : â
     channels = y.channels;
     of = y.of;
     limit = y.limit;
-    count = y.count;
-    schedules = y.schedules;
+    codes = y.codes;
     state = y.state;
     operations = y.operations;
     time = record { since = y.time.since; left = y.time.left; clock = y.time.clock };

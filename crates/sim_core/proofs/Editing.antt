@@ -46,6 +46,8 @@ use Rattle.sim_core.proofs.Keeping.{kept_of}
 use Rattle.sim_core.proofs.Staying.{run_stays, end_stays}
 use Rattle.lockstep_defs.specs.Ports.{owner}
 use Rattle.sim_core.specs.Readers.{AreReaders}
+use Rattle.sim_core.specs.Opening.{AreOwnPorts}
+use Rattle.flow_word.specs.declared.access.Port.{Port}
 
 -- none of them is a Run
 no_runs : (m : ℕ) (actions : List Action) → AreTimings actions → IsNoRunOf m actions
@@ -201,3 +203,9 @@ pub readers_edited : (p : Plan) (channel depth : ℕ) (readers : List ℕ) → A
     → AreReaders (with_depth p channel depth) readers
 unfolding owner
 readers_edited p channel depth readers r = record { count = r.count; each = r.each }
+
+-- nor do the ports of a module
+pub ports_edited : (p : Plan) (channel depth : ℕ) (ports : List (List Port)) → AreOwnPorts p (length p.design.modules) ports
+    → AreOwnPorts (with_depth p channel depth) (length p.design.modules) ports
+unfolding owner
+ports_edited p channel depth ports o = record { count = o.count; each = o.each }

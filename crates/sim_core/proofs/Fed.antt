@@ -116,7 +116,7 @@ fit_same before (r ∷ rs) (a ∷ xs) (q ∷ qs) e =
     ap₂ (λ (b c : Bool). b && c) (ap (λ (k : Kind). fits_kind k q) (kind_same r a (heads _ _ _ _ e)))
     (fit_same before rs xs qs (tails _ _ _ _ e))
 
-as_many : (xs : List Access) (bs : List Bool) → FlagsFit (map seen xs) bs → AreAsMany xs bs
+pub as_many : (xs : List Access) (bs : List Bool) → FlagsFit (map seen xs) bs → AreAsMany xs bs
 as_many [] [] f = tt
 as_many [] (b ∷ bs) f = f
 as_many (a ∷ xs) [] f = f
@@ -156,10 +156,10 @@ there_same channels V t (a ∷ xs) (b ∷ bs) o v =
         none true = refl
         none false = refl
 
--- ---- the step that waits
+-- ---- a step
 
-module _ (p : Plan) (fits : FitsEngine p) (h : Held) (s : IsSound (design p) h) (b : AreOwnMarks (design p) (core_of (design p) h))
-    (i k : ℕ) (newest : suc k ≡ emitted_of h i) (inside : i < length p.design.modules) where
+module _ (p : Plan) (h : Held) (s : IsSound (design p) h) (b : AreOwnMarks (design p) (core_of (design p) h))
+    (i k : ℕ) (less : k < emitted_of h i) where
   abbrev d : theory.Design ModuleState
   d = design p
 
@@ -172,81 +172,98 @@ module _ (p : Plan) (fits : FitsEngine p) (h : Held) (s : IsSound (design p) h) 
   abbrev os : List Bool
   os = drop (step_of h i k).first_query (log_at h.logs i).outcomes
 
-  less : k < emitted_of h i
-  less = omega arith
-
-  seen_same : map bridge.seen (requests_of p (i, x.state i k)) ≡ map seen step_accesses
+  pub seen_same : map bridge.seen (requests_of p (i, x.state i k)) ≡ map seen step_accesses
   seen_same = s.accesses i k less
 
-  flags_fit : FlagsFit (map seen step_accesses) (flags_of h i k)
+  pub flags_fit : FlagsFit (map seen step_accesses) (flags_of h i k)
   flags_fit = subst (λ (xs : List theory.Access). FlagsFit xs (flags_of h i k)) seen_same (b.fit i k less)
 
-  pub state_is : (rest_behind p x i k).state ≡ x.state i k
-  state_is = (rest_is p fits x b i inside k k (omega arith) (omega arith)).state ∙ sym (b.own_step i k less)
-
-  tell_is : tell p x i k ≡ replies_found h.channels step_accesses (flags_of h i k)
+  pub tell_is : tell p x i k ≡ replies_found h.channels step_accesses (flags_of h i k)
   tell_is =
       ap (told_all (requests_of p (i, x.state i k))) (sym (reply_is d h x s (λ n. refl) i k less refl))
       ∙ told_found h.channels (requests_of p (i, x.state i k)) step_accesses (flags_of h i k) seen_same flags_fit
 
-  pub accesses_inside : All (IsAccess h.channels) step_accesses
-  accesses_inside = s.inside i no_lane (let n = s.lanes in omega arith) k no_step less
+  pub accesses_inside : i < length p.design.modules → All (IsAccess h.channels) step_accesses
+  accesses_inside inside = s.inside i no_lane (let n = s.lanes in omega arith) k no_step less
 
-  there_is : values_there d x i k ≡ values_now h.channels step_accesses (flags_of h i k)
-  there_is =
+  pub there_is : i < length p.design.modules → values_there d x i k ≡ values_now h.channels step_accesses (flags_of h i k)
+  there_is inside =
       ap (λ (xs : List theory.Access). all_below (λ c. length (core_values d x c)) (λ c. core_tally d x i Pop c k) xs (flags_of h i k))
       seen_same
       ∙ there_same h.channels (core_values d x) (λ side c. core_tally d x i side c k) step_accesses (flags_of h i k) (s.ordinals i k less)
-      (λ j e l. s.values (get_or step_accesses j e).channel (inside_at j e l))
-    where
-      inside_at : (j : ℕ) (e : Access) → j < length step_accesses → (get_or step_accesses j e).channel < length h.channels
-      inside_at j e l = (accesses_inside j e l).channel
+      (λ j e l. s.values (get_or step_accesses j e).channel (accesses_inside inside j e l).channel)
+
+  pub enough : are_among (step_of h i k) (length (log_at h.logs i).outcomes) ≡ true → queries_in step_accesses ≤ length os
+  enough a =
+      let n = length-drop (step_of h i k).first_query (log_at h.logs i).outcomes in
+      elim (among_is (step_of h i k) (length (log_at h.logs i).outcomes) a) [ inl q ↦ omega arith | inr q ↦ omega arith ]
+
+  -- the replies that are found are those that the core tells
+  pub found_told : (rs : List Reply) → replies_now h.channels step_accesses os ≡ Some rs → rs ≡ tell p x i k
+  found_told rs e = (are_found h.channels step_accesses os rs e).replies ∙ sym tell_is
+
+  -- all are found where the step's outcomes are recorded and its values are there
+  pub are_told : i < length p.design.modules → x.answered i k ≡ true → values_there d x i k ≡ true
+      → replies_now h.channels step_accesses os ≡ None → ⊥
+  are_told inside answered there e =
+      let among = (and_parts (ltb k (emitted_of h i)) (are_among (step_of h i k) (length (log_at h.logs i).outcomes)) answered).1 in
+      not_found h.channels step_accesses os e (enough among) (sym (there_is inside) ∙ there)
+
+-- ---- the step that waits
+
+module _ (p : Plan) (fits : FitsEngine p) (h : Held) (s : IsSound (design p) h) (b : AreOwnMarks (design p) (core_of (design p) h))
+    (i k : ℕ) (newest : suc k ≡ emitted_of h i) (inside : i < length p.design.modules) where
+  emitted : k < emitted_of h i
+  emitted = omega arith
+
+  abbrev waiting : List Access
+  waiting = (step_of h i k).accesses
+
+  abbrev told_so_far : List Bool
+  told_so_far = drop (step_of h i k).first_query (log_at h.logs i).outcomes
+
+  pub state_is : (rest_behind p (core_of (design p) h) i k).state ≡ (core_of (design p) h).state i k
+  state_is = (rest_is p fits (core_of (design p) h) b i inside k k (omega arith) (omega arith)).state ∙ sym (b.own_step i k emitted)
 
   -- all replies are found
-  pub fed_fits : (rs : List Reply) → replies_now h.channels step_accesses os ≡ Some rs
-      → all_fit (accesses_at p i (rest_behind p x i k)) rs ≡ true
+  pub fed_fits : (rs : List Reply) → replies_now h.channels waiting told_so_far ≡ Some rs
+      → all_fit (accesses_at p i (rest_behind p (core_of (design p) h) i k)) rs ≡ true
   fed_fits rs e =
-      let f = are_found h.channels step_accesses os rs e in
-      ap (λ (q : List Reply). all_fit (accesses_at p i (rest_behind p x i k)) q) f.replies
-      ∙ (fit_same (done_in (rest_behind p x i k).steps) (requests_of p (i, (rest_behind p x i k).state)) step_accesses _
-      (ap (λ (z : ModuleState). map bridge.seen (requests_of p (i, z))) state_is ∙ seen_same)
-      ∙ found_fit h.channels step_accesses (flags_of h i k) (as_many step_accesses (flags_of h i k) flags_fit))
+      let f = are_found h.channels waiting told_so_far rs e in
+      ap (λ (q : List Reply). all_fit (accesses_at p i (rest_behind p (core_of (design p) h) i k)) q) f.replies
+      ∙ (fit_same (done_in (rest_behind p (core_of (design p) h) i k).steps)
+      (requests_of p (i, (rest_behind p (core_of (design p) h) i k).state)) waiting _
+      (ap (λ (z : ModuleState). map bridge.seen (requests_of p (i, z))) state_is ∙ seen_same p h s b i k emitted)
+      ∙ found_fit h.channels waiting (flags_of h i k) (as_many waiting (flags_of h i k) (flags_fit p h s b i k emitted)))
 
-  pub fed_rest : (rs : List Reply) → replies_now h.channels step_accesses os ≡ Some rs
-      → next_rest p i (rest_behind p x i k) rs ≡ rest_behind p x i (emitted_of h i)
+  pub fed_rest : (rs : List Reply) → replies_now h.channels waiting told_so_far ≡ Some rs
+      → next_rest p i (rest_behind p (core_of (design p) h) i k) rs ≡ rest_behind p (core_of (design p) h) i (emitted_of h i)
   fed_rest rs e =
-      let f = are_found h.channels step_accesses os rs e in
-      ap (next_rest p i (rest_behind p x i k)) (f.replies ∙ sym tell_is) ∙ (sym (fed_is p x i k) ∙ ap (rest_behind p x i) newest)
+      ap (next_rest p i (rest_behind p (core_of (design p) h) i k)) (found_told p h s b i k emitted rs e)
+      ∙ (sym (fed_is p (core_of (design p) h) i k) ∙ ap (rest_behind p (core_of (design p) h) i) newest)
 
-  pub fed_answered : (rs : List Reply) → replies_now h.channels step_accesses os ≡ Some rs → IsAnswered p x i
+  pub fed_answered : (rs : List Reply) → replies_now h.channels waiting told_so_far ≡ Some rs → IsAnswered p (core_of (design p) h) i
   fed_answered rs e j q =
-      let f = are_found h.channels step_accesses os rs e in
+      let f = are_found h.channels waiting told_so_far rs e in
       let same : j ≡ k = omega arith in (
-        subst (λ (n : ℕ). x.answered i n ≡ true) (sym same) (and_from (ltb k (emitted_of h i)) _ (lt-ltb k (emitted_of h i) less)
-            (among f.enough)),
-        subst (λ (n : ℕ). values_there d x i n ≡ true) (sym same) (there_is ∙ f.there),
+        subst (λ (n : ℕ). (core_of (design p) h).answered i n ≡ true) (sym same)
+            (and_from (ltb k (emitted_of h i)) _ (lt-ltb k (emitted_of h i) emitted) (among f.enough)),
+        subst (λ (n : ℕ). values_there (design p) (core_of (design p) h) i n ≡ true) (sym same)
+            (there_is p h s b i k emitted inside ∙ f.there),
       )
     where
-      among : queries_in step_accesses ≤ length os → are_among (step_of h i k) (length (log_at h.logs i).outcomes) ≡ true
+      among : queries_in waiting ≤ length told_so_far → are_among (step_of h i k) (length (log_at h.logs i).outcomes) ≡ true
       among l =
           let n = length-drop (step_of h i k).first_query (log_at h.logs i).outcomes in
-          elim (eqb_tells (queries_in step_accesses) 0) [
+          elim (eqb_tells (queries_in waiting) 0) [
             | inl q ↦ or_left _ _ q.0
-            | inr q ↦ let some = q.1 in or_right _ _ (le-leb ((step_of h i k).first_query + queries_in step_accesses)
+            | inr q ↦ let some = q.1 in or_right _ _ (le-leb ((step_of h i k).first_query + queries_in waiting)
                 (length (log_at h.logs i).outcomes) (omega arith))
           ]
 
   -- or some are not there
-  pub not_fed : replies_now h.channels step_accesses os ≡ None → MayRun d x i → ⊥
-  not_fed e may =
-      let among = (and_parts (ltb k (emitted_of h i)) (are_among (step_of h i k) (length (log_at h.logs i).outcomes))
-      (may.answered k newest)).1 in
-      not_found h.channels step_accesses os e (enough among) (sym there_is ∙ may.there k newest)
-    where
-      enough : are_among (step_of h i k) (length (log_at h.logs i).outcomes) ≡ true → queries_in step_accesses ≤ length os
-      enough a =
-          let n = length-drop (step_of h i k).first_query (log_at h.logs i).outcomes in
-          elim (among_is (step_of h i k) (length (log_at h.logs i).outcomes) a) [ inl q ↦ omega arith | inr q ↦ omega arith ]
+  pub not_fed : replies_now h.channels waiting told_so_far ≡ None → MayRun (design p) (core_of (design p) h) i → ⊥
+  not_fed e may = are_told p h s b i k emitted inside (may.answered k newest) (may.there k newest) e
 
 -- ---- the step that a run is asked about
 

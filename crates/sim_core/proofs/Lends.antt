@@ -1,13 +1,13 @@
 -- A core that lends a run.
-use Rattle.std.proofs.Common.{◌≡◌, refl, sym, ap, subst, ◌∙◌, ℕ, zero, suc, ◌<◌, true, false, cond, inl, inr, List, [], ◌∷◌}
-use Rattle.std.proofs.Common.{length, get_or, set, slice_index, Option, Some, None, IfSome, IsNone, is_none}
+use Rattle.std.proofs.Common.{◌≡◌, refl, sym, ap, subst, ◌∙◌, ℕ, zero, suc, ◌<◌, ◌≤◌, true, false, cond, inl, inr, List, [], ◌∷◌}
+use Rattle.std.proofs.Common.{arith, drop, length, get_or, set, slice_index, Option, Some, None, is_none}
+use Rattle.std.specs.Prelude.{Result, Ok, Err, OnOk, IfErr, is_err}
 use Rattle.std.proofs.lemmas.Bool.{cases_Bool, cond-true, cond-false}
 use Rattle.std.proofs.lemmas.List.{map-set}
 use Rattle.flow_word.specs.declared.access.Access.{Access}
 use Rattle.flow_word.specs.declared.access.Side.TheVariants.{Pop}
 use Rattle.flow_design.specs.declared.plan.Plan.{Plan}
 use Rattle.flow_design.specs.declared.state.Advance.{Advance}
-use Rattle.flow_design.specs.declared.state.Reply.{Reply}
 use Rattle.lockstep_defs.specs.Channels.{moved_by}
 use Rattle.lockstep_defs.specs.OwnRun.{Own}
 use Rattle.lockstep_defs.specs.Report.{queries}
@@ -20,13 +20,19 @@ use Rattle.timing_bridge.specs.Designs.{design}
 use Rattle.engine_view.specs.Held.{Held, emitted_of, core_of}
 use Rattle.engine_view.specs.Stored.{Stored, held_in}
 use Rattle.run_ahead.specs.declared.mail.Mail.{Mail}
-use Rattle.run_ahead.specs.Mails.{replies_in, none_taken}
+use Rattle.run_ahead.specs.declared.mail.Task.{Task}
+use Rattle.run_ahead.specs.Mails.{values_on}
 use Rattle.sim_core.specs.Lent.{IsMade}
 use Rattle.sim_core.specs.Readers.{AreReaders}
 use Rattle.sim_core.specs.Runs.{IsCore, IsRunOf, rest_behind, lent_of, over_of}
-use Rattle.sim_core.specs.Tasks.{IsTaskOf}
+use Rattle.sim_core.specs.Tasks.{committed, IsTaskOf, IsTaskLeft}
+use Rattle.event_timing.specs.Core.{Core, core_tally, core_values}
+use Rattle.event_timing.specs.Views.{Begins}
+use Rattle.flow_design.specs.declared.state.ModuleState.{ModuleState}
 use Rattle.sim_core.proofs.Marking.{table_count}
-use Rattle.sim_core.proofs.Posted.{going_posted, waiting_posted, not_posted}
+use Rattle.sim_core.proofs.Posted.{going_posted, waiting_posted}
+use Rattle.sim_core.proofs.Sending.{popped_is}
+use Rattle.sim_core.proofs.Committed.{committed_waits, committed_goes}
 
 -- ---- which are lent
 
@@ -54,7 +60,7 @@ pub record IsAtHand (p : Plan) (s : Stored) (ends : List (Option Advance)) (runs
     (run : ModuleRun) (readers : List ℕ) (first : ℕ) (popped : List ℕ) (accesses : List Access) : Type 0 where
   pub core : IsCore p s ends runs credits
   pub inside : m < length p.design.modules
-  pub lives : get_or (over_of ends) m false ≡ false
+  pub may : MayRun (design p) (core_of (design p) (held_in s (over_of ends))) m
   pub here : get_or runs m None ≡ Some run
   pub readers_are : AreReaders p readers
   pub first_is : (q : Plan) (i : ℕ) (o : Own) → StandsAt q i o run → first ≡ length (queries (done_in o.steps))
@@ -71,41 +77,22 @@ module _ (p : Plan) (s : Stored) (ends : List (Option Advance)) (runs : List (Op
   run_is : IsRunOf p (core_of (design p) h) m run
   run_is = k.core.runs_are m run k.here
 
-  module _ (mail : Mail) (made : IsMade (log_at h.logs m).outcomes h.channels readers m first popped xs mail) where
-    pub task_lent : (qs : List Reply) × (replies_in mail 0 (none_taken mail) xs ≡ Some qs)
-        → IsTaskOf p (core_of (design p) h) m (record { run = run; mail = mail })
-    task_lent (qs, q) =
-        elim (cases_Bool (waits run)) [
-          | inl w ↦
-              let (j, ej, st) = run_is.waiting w in
-              let o = rest_behind p (core_of (design p) h) m j in
-              waiting_posted p k.core.fits h k.core.table k.core.sound k.core.agreed.marks m k.inside k.lives run run_is readers
-              k.readers_are first popped xs mail made w j ej
-              (k.accesses_are p m o st ∙ cond-true (waits run) (accesses_at p m o) [] w) (k.first_is p m o st) (k.popped_are p m o st) qs q
-          | inr w ↦
-              let (answered, st) = run_is.going w in
-              let o = rest_behind p (core_of (design p) h) m (emitted_of h m) in
-              going_posted p k.core.fits h k.core.table k.core.sound k.core.agreed.marks m k.inside k.lives run run_is readers
-              k.readers_are first popped xs mail made w
-              (k.accesses_are p m o st ∙ cond-false (waits run) (accesses_at p m o) [] w) (k.popped_are p m o st)
-        ]
-
-    pub none_lent : replies_in mail 0 (none_taken mail) xs ≡ None → MayRun (design p) (core_of (design p) h) m → ⊥
-    none_lent n may =
-        elim (cases_Bool (waits run)) [
-          | inl w ↦
-              let (j, ej, st) = run_is.waiting w in
-              let o = rest_behind p (core_of (design p) h) m j in
-              not_posted p k.core.fits h k.core.table k.core.sound k.core.agreed.marks m k.inside k.lives run run_is readers
-              k.readers_are first popped xs mail made w j ej
-              (k.accesses_are p m o st ∙ cond-true (waits run) (accesses_at p m o) [] w) (k.first_is p m o st) (k.popped_are p m o st) n
-              may
-          | inr w ↦
-              let (answered, st) = run_is.going w in
-              let o = rest_behind p (core_of (design p) h) m (emitted_of h m) in
-              let none = k.accesses_are p m o st ∙ cond-false (waits run) (accesses_at p m o) [] w in
-              let z = sym (ap (replies_in mail 0 (none_taken mail)) none) ∙ n in cc
-        ]
+  pub task_lent : (mail : Mail) → IsMade (log_at h.logs m).outcomes h.channels readers m first popped xs mail
+      → IsTaskOf p (core_of (design p) h) m (record { run = run; mail = mail })
+  task_lent mail made =
+      elim (cases_Bool (waits run)) [
+        | inl w ↦
+            let (j, ej, st) = run_is.waiting w in
+            let o = rest_behind p (core_of (design p) h) m j in
+            waiting_posted p k.core.fits h k.core.table k.core.sound k.core.agreed.marks m k.inside run run_is readers k.readers_are first
+            popped xs mail made w j ej (k.accesses_are p m o st ∙ cond-true (waits run) (accesses_at p m o) [] w) (k.first_is p m o st)
+            (k.popped_are p m o st) k.may
+        | inr w ↦
+            let (answered, st) = run_is.going w in
+            let o = rest_behind p (core_of (design p) h) m (emitted_of h m) in
+            going_posted p k.core.fits h k.core.table k.core.sound k.core.agreed.marks m k.inside run run_is readers k.readers_are first
+            popped xs mail made w (k.accesses_are p m o st ∙ cond-false (waits run) (accesses_at p m o) [] w) (k.popped_are p m o st) k.may
+      ]
 
 -- the run's counts are one for each channel of the table
 pub popped_count : (p : Plan) (s : Stored) (ends : List (Option Advance)) (runs : List (Option ModuleRun)) (credits : List ℕ)
@@ -122,19 +109,51 @@ popped_count p s ends runs credits k m run e popped count =
           count p m (rest_behind p x m (x.emitted m)) st ∙ sym (table_count p s.table.channels k.table)
     ]
 
+-- ---- what is left of a mail
+
+module _ (p : Plan) (s : Stored) (ends : List (Option Advance)) (runs : List (Option ModuleRun)) (credits : List ℕ)
+    (k : IsCore p s ends runs credits) (m : ℕ) (inside : m < length p.design.modules) (last : Task)
+    (t : IsTaskLeft p (core_of (design p) (held_in s (over_of ends))) m last) (popped : List ℕ) where
+  abbrev x : Core ModuleState
+  x = core_of (design p) (held_in s (over_of ends))
+
+  pub left_count : ((q : Plan) (i : ℕ) (o : Own) → StandsAt q i o last.run → length popped ≡ length q.design.channels)
+      → length popped ≡ length p.design.channels
+  left_count count =
+      elim (cases_Bool (waits last.run)) [
+        | inl w ↦ let (j, ej, st) = t.run.waiting w in count p m (rest_behind p x m j) st
+        | inr w ↦ let (answered, st) = t.run.going w in count p m (rest_behind p x m (x.emitted m)) st
+      ]
+
+  module _ (each : (q : Plan) (i : ℕ) (o : Own) → StandsAt q i o last.run → (f : ℕ) → f < length q.design.channels
+      → slice_index popped f ≡ length (moved_by Pop f (done_in o.steps))) (c : ℕ) (l : c < length p.design.channels) where
+    count_at : (n : ℕ) → n ≤ x.emitted m → StandsAt p m (rest_behind p x m n) last.run → committed x m last.run ≡ n
+        → slice_index popped c ≡ core_tally (design p) x m Pop c (committed x m last.run)
+    count_at n most st e =
+        each p m (rest_behind p x m n) st c l
+        ∙ (popped_is p k.fits (held_in s (over_of ends)) k.table k.sound k.agreed.marks m inside n most c
+        ∙ ap (core_tally (design p) x m Pop c) (sym e))
+
+    -- the values that are left are the next ones behind those that were popped
+    pub left_next : Begins (drop (slice_index popped c) (core_values (design p) x c)) (values_on last.mail c)
+    left_next =
+        subst (λ (n : ℕ). Begins (drop n (core_values (design p) x c)) (values_on last.mail c)) (sym (elim (cases_Bool (waits last.run)) [
+          | inl w ↦ let (j, ej, st) = t.run.waiting w in
+              count_at j (omega arith) st (committed_waits x m last.run w ∙ (omega arith))
+          | inr w ↦ let (answered, st) = t.run.going w in count_at (x.emitted m) (omega arith) st (committed_goes x m last.run w)
+        ])) (t.values c)
+
 -- ---- answers
 
 pub same_run : (a b : ModuleRun) (r : Option ModuleRun) → r ≡ Some a → r ≡ Some b → a ≡ b
 same_run a b None e f = cc
 same_run a b (Some c) e f = cc
 
-pub some_at : (Q : Mail → Type 0) (r : Option Mail) (mail : Mail) → r ≡ Some mail → IfSome r Q → Q mail
-some_at Q None mail e q = cc
-some_at Q (Some z) mail e q = subst Q (is_mail z mail e) q
-  where
-    is_mail : (a b : Mail) → Some a ≡ Some b → a ≡ b
-    is_mail a b e = cc
+-- what a call tells, by its answer
+pub refused : {C D : Type 0} (r : Result C D) {P : Type 0} → is_err r ≡ true → IfErr r (λ cause. P → ⊥) → P → ⊥
+refused {C} {D} (Ok a) {P} e f p = cc
+refused {C} {D} (Err b) {P} e f p = f p
 
-pub none_at : (r : Option Mail) (Q : Type 0) → r ≡ None → (IsNone r → Q) → Q
-none_at None Q e q = q refl
-none_at (Some z) Q e q = cc
+pub permitted : {C D : Type 0} (r : Result C D) {P : Type 0} → is_err r ≡ false → OnOk r P → P
+permitted {C} {D} (Ok a) {P} e p = p
+permitted {C} {D} (Err b) {P} e p = cc

@@ -5,6 +5,7 @@ pub mod Replying
 pub mod Staying
 pub mod Fed
 pub mod Keeping
+pub mod Leaving
 pub mod Emitting
 pub mod Lending
 pub mod Ports
@@ -25,6 +26,8 @@ pub mod Verified
 pub mod Otherwise
 pub mod Led
 pub mod Mailed
+pub mod Beginnings
+pub mod Committed
 pub mod Ahead
 pub mod Tasks
 pub mod Noting
@@ -39,3 +42,4 @@ pub mod Causing
 pub mod Seeking
 pub mod Looking
 pub mod Permitting
+pub mod AccessLogs

@@ -4,15 +4,17 @@ use Rattle.std.proofs.Common.{inl, inr, arith}
 use Rattle.std.specs.Prelude.{nat_eq}
 use Rattle.std.specs.List.{position_or_len}
 use Rattle.std.proofs.lemmas.Bool.Decides.{eqb_tells}
+use Rattle.flow_word.specs.declared.access.Side.{Side}
 use Rattle.flow_design.specs.declared.design.Module.{Module}
 use Rattle.flow_design.specs.StaticRules.{uses}
-use Rattle.sim_core.specs.Readers.{popping_port, IsSearching}
+use Rattle.sim_core.specs.Readers.{port_at, IsSearching}
 
-pub searching_all : (modules : List Module) (none : ℕ) (now : List ℕ) → none ≡ length modules → IsSearching modules none now none
-    → (c : ℕ) → c < length now → slice_index now c ≡ position_or_len (uses (popping_port c)) modules
-searching_all modules none now count k c l =
+pub searching_all : (side : Side) (modules : List Module) (none : ℕ) (now : List ℕ) → none ≡ length modules
+    → IsSearching side modules none now none
+    → (c : ℕ) → c < length now → slice_index now c ≡ position_or_len (uses (port_at side c)) modules
+searching_all side modules none now count k c l =
     go (slice_index now c) ∙ (ap (λ (q : ℕ). cond (nat_eq (slice_index now c) none) (none + q) (slice_index now c))
-    (sym (past (uses (popping_port c)) modules none (omega arith))) ∙ k.each c l)
+    (sym (past (uses (port_at side c)) modules none (omega arith))) ∙ k.each c l)
   where
     past : {X : Type 0} → (f : X → Bool) (xs : List X) (i : ℕ) → length xs ≤ i → position_or_len f (drop i xs) ≡ 0
     past f [] zero l = refl

@@ -1,5 +1,6 @@
--- The list of all ports has each port once, and no other.
-use Rattle.std.proofs.Common.{◌≡◌, ap, ℕ, zero, suc, ◌+◌, ◌<◌, ◌≤◌, inl, inr, List, Some, subst, sym, arith}
+-- A module's own ports are all of those at which it stands, and are within the channels.
+use Rattle.std.proofs.Common.{◌≡◌, ℕ, zero, suc, ◌+◌, ◌<◌, ◌≤◌, Bool, true, false, eqb, inl, inr, List, ◌++◌, Some, refl, subst, sym}
+use Rattle.std.proofs.Common.{arith, append_assoc, length}
 use Rattle.std.specs.Prelude.{All, flat_map, slice_get}
 use Rattle.std.specs.List.{range_with_len}
 use Rattle.std.proofs.lemmas.Bool.Decides.{eqb_tells}
@@ -8,34 +9,84 @@ use Rattle.std.specs.List.{AllByRecursion}
 use Rattle.flow_word.specs.declared.access.Port.{Port}
 use Rattle.flow_word.specs.declared.access.Side.{Side}
 use Rattle.flow_word.specs.declared.access.Side.TheVariants.{Pop, Push}
-use Rattle.event_timing.specs.Machines.{Design}
+use Rattle.flow_design.specs.declared.plan.Plan.{Plan}
+use Rattle.timing_bridge.specs.Designs.{design}
 use Rattle.engine_view.specs.Rooms.{AreAllPorts}
-use Rattle.sim_core.specs.Opening.{ports_at, all_ports}
+use Rattle.sim_core.specs.Opening.{port_where, ports_at, ports_to}
 
-has_port : (a n c : ℕ) (side : Side) → a ≤ c → c < a + n → (i : ℕ) × (slice_get (flat_map ports_at (range_with_len a n)) i ≡ Some
-    (record { side = side; channel = c }))
-has_port a zero c side l u = absurd (omega arith)
-has_port a (suc n) c side l u =
-    elim (eqb_tells c a) [
-      | inl e ↦ here side e.1
-      | inr e ↦ let f = e.1 in let (i, there) = has_port (a + 1) n c side (omega arith) (omega arith) in (suc (suc i), there)
-    ]
-  where
-    here : (side : Side) → c ≡ a → (i : ℕ) × (slice_get (flat_map ports_at (range_with_len a (suc n))) i ≡ Some
-        (record { side = side; channel = c }))
-    here Pop e = (0, ap (λ (k : ℕ). Some (record { side = Pop; channel = k })) (sym e))
-    here Push e = (1, ap (λ (k : ℕ). Some (record { side = Push; channel = k })) (sym e))
+abbrev Has : List Port → Port → Type 0
+Has ports port = (i : ℕ) × (slice_get ports i ≡ Some port)
 
-pub all_there : {S : Type 0} (d : Design S) (m n : ℕ) (ports : List Port) → ports ≡ all_ports n → AreAllPorts d m n ports
-all_there {S} d m n ports e port l owned =
-    subst (λ (ps : List Port). (i : ℕ) × (slice_get ps i ≡ Some port)) (sym e)
-    (has_port 0 n port.channel port.side (omega arith) (omega arith))
+here : (b : Bool) (side : Side) (c : ℕ) (more : List Port) → b ≡ true → Has (port_where b side c ++ more)
+    (record { side = side; channel = c })
+here true side c more e = (0, refl)
+here false side c more e = cc
 
-each_within : (a n most : ℕ) → a + n ≤ most → AllByRecursion (λ (port : Port). port.channel < most) (flat_map ports_at (range_with_len a n))
-each_within a zero most l = tt
-each_within a (suc n) most l = (omega arith, (omega arith, each_within (a + 1) n most (omega arith)))
+behind : (b : Bool) (side : Side) (c : ℕ) (more : List Port) (port : Port) → Has more port → Has (port_where b side c ++ more) port
+behind true side c more port (i, e) = (suc i, e)
+behind false side c more port (i, e) = (i, e)
 
-pub all_within : (n most : ℕ) (ports : List Port) → n ≡ most → ports ≡ all_ports n → All (λ (port : Port). port.channel < most) ports
-all_within n most ports same e =
-    subst (All (λ (port : Port). port.channel < most)) (sym e) (All-from_recursion (λ (port : Port). port.channel < most) (all_ports n)
-    (each_within 0 n most (omega arith)))
+same : (a b : ℕ) → a ≡ b → eqb a b ≡ true
+same a b e = elim (eqb_tells a b) [ inl t ↦ t.0 | inr t ↦ absurd (t.1 e) ]
+
+module _ (p : Plan) (m : ℕ) where
+  first : (side : Side) (a c : ℕ) (more : List Port) → a ≡ c → (design p).owner side c ≡ m
+      → Has (port_where (eqb ((design p).owner side a) m) side a ++ more) (record { side = side; channel = c })
+  first side a c more e o =
+      subst (λ (k : ℕ). Has (port_where (eqb ((design p).owner side a) m) side a ++ more) (record { side = side; channel = k })) e
+      (here (eqb ((design p).owner side a) m) side a more (same ((design p).owner side a) m
+      (subst (λ (k : ℕ). (design p).owner side k ≡ m) (sym e) o)))
+
+  has_port : (a n c : ℕ) (side : Side) → a ≤ c → c < a + n → (design p).owner side c ≡ m
+      → Has (flat_map (ports_at p m) (range_with_len a n)) (record { side = side; channel = c })
+  has_port a zero c side l u o = absurd (omega arith)
+  has_port a (suc n) c side l u o =
+      let more = flat_map (ports_at p m) (range_with_len (a + 1) n) in
+      subst (λ (ps : List Port). Has ps (record { side = side; channel = c }))
+      (sym (append_assoc (port_where (eqb ((design p).owner Pop a) m) Pop a) (port_where (eqb ((design p).owner Push a) m) Push a) more))
+      (elim (eqb_tells c a) [
+        | inl e ↦ at side (sym e.1) o
+        | inr e ↦
+            let f = e.1 in
+            behind (eqb ((design p).owner Pop a) m) Pop a (port_where (eqb ((design p).owner Push a) m) Push a ++ more) _
+            (behind (eqb ((design p).owner Push a) m) Push a more _ (has_port (a + 1) n c side (omega arith) (omega arith) o))
+      ])
+    where
+      at : (side : Side) → a ≡ c → (design p).owner side c ≡ m
+          → Has (port_where (eqb ((design p).owner Pop a) m) Pop a ++ (port_where (eqb ((design p).owner Push a) m) Push a
+          ++ flat_map (ports_at p m) (range_with_len (a + 1) n))) (record { side = side; channel = c })
+      at Pop e o = first Pop a c
+          (port_where (eqb ((design p).owner Push a) m) Push a ++ flat_map (ports_at p m) (range_with_len (a + 1) n)) e o
+      at Push e o =
+          behind (eqb ((design p).owner Pop a) m) Pop a
+          (port_where (eqb ((design p).owner Push a) m) Push a ++ flat_map (ports_at p m) (range_with_len (a + 1) n))
+          (record { side = Push; channel = c })
+          (first Push a c (flat_map (ports_at p m) (range_with_len (a + 1) n)) e o)
+
+  pub all_there : (n : ℕ) (ports : List Port) → n ≡ length p.design.channels → ports ≡ ports_to p m (length p.design.channels)
+      → AreAllPorts (design p) m n ports
+  all_there n ports count e port l owned =
+      subst (λ (ps : List Port). Has ps port) (sym e)
+      (has_port 0 (length p.design.channels) port.channel port.side (omega arith) (omega arith) owned)
+
+  one_within : (b : Bool) (side : Side) (c most : ℕ) (more : List Port) → c < most
+      → AllByRecursion (λ (port : Port). port.channel < most) more
+      → AllByRecursion (λ (port : Port). port.channel < most) (port_where b side c ++ more)
+  one_within true side c most more l k = (l, k)
+  one_within false side c most more l k = k
+
+  each_within : (a n most : ℕ) → a + n ≤ most
+      → AllByRecursion (λ (port : Port). port.channel < most) (flat_map (ports_at p m) (range_with_len a n))
+  each_within a zero most l = tt
+  each_within a (suc n) most l =
+      let more = flat_map (ports_at p m) (range_with_len (a + 1) n) in
+      subst (AllByRecursion (λ (port : Port). port.channel < most))
+      (sym (append_assoc (port_where (eqb ((design p).owner Pop a) m) Pop a) (port_where (eqb ((design p).owner Push a) m) Push a) more))
+      (one_within (eqb ((design p).owner Pop a) m) Pop a most _ (omega arith)
+      (one_within (eqb ((design p).owner Push a) m) Push a most more (omega arith) (each_within (a + 1) n most (omega arith))))
+
+  pub all_within : (n : ℕ) (ports : List Port) → n ≡ length p.design.channels → ports ≡ ports_to p m (length p.design.channels)
+      → All (λ (port : Port). port.channel < n) ports
+  all_within n ports count e =
+      subst (All (λ (port : Port). port.channel < n)) (sym e) (All-from_recursion (λ (port : Port). port.channel < n)
+      (ports_to p m (length p.design.channels)) (each_within 0 (length p.design.channels) n (omega arith)))

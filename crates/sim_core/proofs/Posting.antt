@@ -1,7 +1,9 @@
 -- Reading a mail off the log and the table.
 use Rattle.std.proofs.Common.{◌≡◌, refl, sym, ap, ◌∙◌, ℕ, zero, suc, ◌+◌, ◌-◌, ◌<◌, List, [], ◌∷◌, ◌++◌, take, drop}
-use Rattle.std.proofs.Common.{Some, None, slice_get, arith, append_assoc, append-nil, Bool}
+use Rattle.std.proofs.Common.{length, Some, None, slice_get, arith, append_assoc, append-nil, Bool}
+use Rattle.event_timing.specs.Views.{Begins}
 use Rattle.sim_core.specs.Lent.{IsReadingOutcomes, IsReadingValues}
+use Rattle.sim_core.proofs.Beginnings.{drop_twice, drop_front}
 
 drop_some : {X : Type 0} → (xs : List X) (n : ℕ) (v : X) → slice_get xs n ≡ Some v → drop n xs ≡ v ∷ drop (suc n) xs
 drop_some [] n v e = cc
@@ -38,6 +40,14 @@ pub outcomes_end : (all : List Bool) (first count : ℕ) (read : List Bool) (at 
 outcomes_end all first count read at k e =
     sym (append-nil read) ∙ (ap (λ (xs : List Bool). read ++ xs) (sym (ap (take (count - at)) (drop_none all (first + at) e)
     ∙ take_none (count - at))) ∙ k.same)
+
+pub values_first : (all : List ℕ) (first : ℕ) (read : List ℕ) (at : ℕ) → Begins (drop first all) read → at ≡ first + length read
+    → IsReadingValues all first read at
+values_first all first read at (more, e) at_is = record {
+  same = ap (λ (n : ℕ). read ++ drop n all) at_is
+      ∙ (ap (λ (xs : List ℕ). read ++ xs) (sym (drop_twice all first (length read)) ∙ (ap (drop (length read)) e ∙ drop_front read more))
+      ∙ sym e);
+}
 
 pub values_more : (all : List ℕ) (first : ℕ) (read more : List ℕ) (at word : ℕ) → IsReadingValues all first read at
     → slice_get all (at + 1 - 1) ≡ Some word → more ≡ read ++ word ∷ [] → IsReadingValues all first more (suc at)

@@ -26,10 +26,10 @@ use Rattle.run_ahead.specs.declared.mail.Mail.{Mail}
 use Rattle.run_ahead.specs.declared.mail.Task.{Task}
 use Rattle.run_ahead.specs.declared.mail.Burst.{Burst}
 use Rattle.run_ahead.specs.Working.{burst_of}
-use Rattle.run_ahead.specs.Mails.{taken_after, none_taken, IsAtStep, IsPast, GoesOn, IsBurst, IsBurstFrom}
+use Rattle.run_ahead.specs.Mails.{taken_after, none_taken, task_left, IsAtStep, IsPast, GoesOn, IsBurst, IsBurstFrom}
 use Rattle.sim_core.specs.Returned.{core_in, most_queries, HasRoomForMarks, IsNextMark, AreReturned}
-use Rattle.sim_core.specs.Runs.{IsCore, IsRunOf, rest_behind, over_of, lent_of}
-use Rattle.sim_core.specs.Tasks.{IsTaskFor, rest_of}
+use Rattle.sim_core.specs.Runs.{IsCore, rest_behind, over_of, lent_of}
+use Rattle.sim_core.specs.Tasks.{IsTaskFor, IsTaskLeft, rest_of}
 use Rattle.sim_core.proofs.Ahead.{Goes, Waits, waits_behind, over_behind, goes_on, waiting_stands, going_stands, over_stands}
 use Rattle.sim_core.proofs.Tasks.{waits_first, goes_first}
 use Rattle.sim_core.proofs.Emission.{IsReady}
@@ -70,27 +70,27 @@ acts_in p before after there m e a =
 -- ---- a burst on its way
 
 -- these marks of a burst are still to come: from a rest on, or none of them
-abbrev pub IsOnWay : Plan → Core ModuleState → ℕ → Mail → Bool → ModuleRun → List Advance → Type 0
-IsOnWay p x m mail short run marks =
-    ((o : Own) × ((told : ℕ) × ((taken : List ℕ) × (Goes p x m mail o told taken × GoesOn p m mail short run o told taken marks))))
-    ⊎ ((marks ≡ []) × IsRunOf p x m run)
+abbrev pub IsOnWay : Plan → Core ModuleState → ℕ → Mail → Bool → Task → List Advance → Type 0
+IsOnWay p x m mail short last marks =
+    ((o : Own) × ((told : ℕ) × ((taken : List ℕ) × (Goes p x m mail o told taken × GoesOn p m mail short last o told taken marks))))
+    ⊎ ((marks ≡ []) × IsTaskLeft p x m last)
 
 -- the first of them is the module's next, and the others are to come behind it
-pub record IsFarther (p : Plan) (x : Core ModuleState) (m : ℕ) (mail : Mail) (short : Bool) (run : ModuleRun) (mark : Advance)
+pub record IsFarther (p : Plan) (x : Core ModuleState) (m : ℕ) (mail : Mail) (short : Bool) (last : Task) (mark : Advance)
     (more : List Advance) : Type 0 where
   pub may : MayRun (design p) x m
   pub is : mark ≡ mark_at p m (rest_behind p x m (x.emitted m))
   pub sound : IsSoundMark (length (rest_behind p x m (x.emitted m)).steps) mark
-  pub on : IsOnWay p (after_run (design p) x m) m mail short run more
+  pub on : IsOnWay p (after_run (design p) x m) m mail short last more
 
 -- behind a step it waits, or goes on
 from_step : (p : Plan) → FitsEngine p → (x : Core ModuleState) → AreOwnMarks (design p) x → (m : ℕ) (mail : Mail) (short : Bool)
-    (run : ModuleRun) (o : Own) (told : ℕ) (taken : List ℕ) (marks : List Advance) → Waits p x m mail o told taken
-    → IsAtStep p m mail short run o told taken marks (λ o' told' taken'. GoesOn p m mail short run o' told' taken' marks)
-    → IsOnWay p x m mail short run marks
-from_step p f x b m mail short run o told taken marks w (inl (n, s)) =
-    inr (n, waiting_stands p x m mail o told taken short run w s)
-from_step p f x b m mail short run o told taken marks w (inr (qs, (r, next))) =
+    (last : Task) (o : Own) (told : ℕ) (taken : List ℕ) (marks : List Advance) → Waits p x m mail o told taken
+    → IsAtStep p m mail short last o told taken marks (λ o' told' taken'. GoesOn p m mail short last o' told' taken' marks)
+    → IsOnWay p x m mail short last marks
+from_step p f x b m mail short last o told taken marks w (inl (n, s)) =
+    inr (n, waiting_stands p x m mail o told taken short last w s)
+from_step p f x b m mail short last o told taken marks w (inr (qs, (r, next))) =
     inl (
       next_rest p m o qs,
       (
@@ -103,45 +103,45 @@ from_step p f x b m mail short run o told taken marks w (inr (qs, (r, next))) =
     )
 
 pub on_way_more : (p : Plan) → FitsEngine p → (x : Core ModuleState) → AreOwnMarks (design p) x → (m : ℕ) (mail : Mail) (short : Bool)
-    (run : ModuleRun) (mark : Advance) (more : List Advance) → IsOnWay p x m mail short run (mark ∷ more)
-    → IsFarther p x m mail short run mark more
-on_way_more p f x b m mail short run mark more (inr (n, s)) = cc
-on_way_more p f x b m mail short run mark more (inl (o, (told, (taken, (g, (e, sound, past)))))) = record {
+    (last : Task) (mark : Advance) (more : List Advance) → IsOnWay p x m mail short last (mark ∷ more)
+    → IsFarther p x m mail short last mark more
+on_way_more p f x b m mail short last mark more (inr (n, s)) = cc
+on_way_more p f x b m mail short last mark more (inl (o, (told, (taken, (g, (e, sound, past)))))) = record {
   may = g.may;
   is = e ∙ ap (mark_at p m) g.stands;
   sound = subst (λ (q : Own). IsSoundMark (length q.steps) mark) g.stands sound;
   on = elim (cases_Bool (is_step mark)) [
     | inl s ↦
-        from_step p f (after_run (design p) x m) (run_marks (design p) x b m g.may) m mail short run o told taken more
+        from_step p f (after_run (design p) x m) (run_marks (design p) x b m g.may) m mail short last o told taken more
         (waits_behind p f x b m mail o told taken g (ap is_step (sym e) ∙ s))
-        (subst (λ (c : Bool). IsPast c p m mail short run o told taken more next) s past)
+        (subst (λ (c : Bool). IsPast c p m mail short last o told taken more next) s past)
     | inr s ↦
-        let (n, q) = subst (λ (c : Bool). IsPast c p m mail short run o told taken more next) s past in
+        let (n, q) = subst (λ (c : Bool). IsPast c p m mail short last o told taken more next) s past in
         inr (
           n,
-          subst (λ (y : Core ModuleState). IsRunOf p y m run)
+          subst (λ (y : Core ModuleState). IsTaskLeft p y m last)
               (sym (over_behind p f x b m mail o told taken g (ap is_step (sym e) ∙ s)))
-              (over_stands p x m mail o told taken run g q),
+              (over_stands p x m mail o told taken last g q),
         )
   ];
 }
   where
     next : Own → ℕ → List ℕ → Type 0
-    next o' told' taken' = GoesOn p m mail short run o' told' taken' more
+    next o' told' taken' = GoesOn p m mail short last o' told' taken' more
 
-pub on_way_all : (p : Plan) (x : Core ModuleState) (m : ℕ) (mail : Mail) (short : Bool) (run : ModuleRun)
-    → IsOnWay p x m mail short run [] → IsRunOf p x m run
-on_way_all p x m mail short run (inl (o, (told, (taken, (g, (s, e)))))) = going_stands p x m mail o told taken run g s
-on_way_all p x m mail short run (inr (n, s)) = s
+pub on_way_all : (p : Plan) (x : Core ModuleState) (m : ℕ) (mail : Mail) (short : Bool) (last : Task)
+    → IsOnWay p x m mail short last [] → IsTaskLeft p x m last
+on_way_all p x m mail short last (inl (o, (told, (taken, (g, (s, e)))))) = going_stands p x m mail o told taken last g s
+on_way_all p x m mail short last (inr (n, s)) = s
 
 -- where a burst of a task begins
 pub on_way_first : (p : Plan) → FitsEngine p → (x : Core ModuleState) → AreOwnMarks (design p) x → (m : ℕ) (task : Task) (burst : Burst)
     → IsTaskFor p x m task → IsBurst p m (rest_of p x m task) task burst
-    → IsOnWay p x m task.mail burst.short burst.run burst.emitted
+    → IsOnWay p x m task.mail burst.short (task_left burst) burst.emitted
 on_way_first p f x b m task burst t i =
     elim (cases_Bool (waits task.run)) [
       | inl w ↦
-          from_step p f x b m task.mail burst.short burst.run (rest_of p x m task) 0 (none_taken task.mail) burst.emitted
+          from_step p f x b m task.mail burst.short (task_left burst) (rest_of p x m task) 0 (none_taken task.mail) burst.emitted
           (waits_first p x m task t w) (subst (λ (c : Bool). IsBurstFrom c p m (rest_of p x m task) task.mail burst) w i)
       | inr w ↦
           inl (
@@ -163,14 +163,14 @@ on_way_first p f x b m task burst t i =
 
 -- those left of a burst's marks are still to be emitted; with them the first core comes to where all marks bring it
 pub record IsReturningOn (p : Plan) (s : Stored) (ends : List (Option Advance)) (runs : List (Option ModuleRun)) (credits : List ℕ)
-    (m : ℕ) (mail : Mail) (short : Bool) (last : ModuleRun) (left : List Advance) (first : Core ModuleState) (count : ℕ) : Type 0 where
+    (m : ℕ) (mail : Mail) (short : Bool) (last : Task) (left : List Advance) (first : Core ModuleState) (count : ℕ) : Type 0 where
   pub room : HasRoomForMarks p s ends runs credits m (length left)
   pub on : IsOnWay p (core_in p s ends) m mail short last left
   pub acts : (y : Core ModuleState) → ActsAll (design p) p.cycles (core_in p s ends) (actions.runs (length left) m) y
       → ActsAll (design p) p.cycles first (actions.runs count m) y
 
 pub returning_first : (p : Plan) (s : Stored) (ends : List (Option Advance)) (runs : List (Option ModuleRun)) (credits : List ℕ) (m : ℕ)
-    (marks : List Advance) (last : ModuleRun) (r : AreReturned p s ends runs credits m marks last)
+    (marks : List Advance) (last : Task) (r : AreReturned p s ends runs credits m marks last)
     → IsReturningOn p s ends runs credits m r.task.mail r.short last marks (core_in p s ends) (length marks)
 returning_first p s ends runs credits m marks last r = record {
   room = r.room;
@@ -180,7 +180,7 @@ returning_first p s ends runs credits m marks last r = record {
 }
 
 module _ (p : Plan) (s : Stored) (ends : List (Option Advance)) (runs : List (Option ModuleRun)) (credits : List ℕ) (m : ℕ) (mail : Mail)
-    (short : Bool) (last : ModuleRun) (mark : Advance) (more : List Advance) (first : Core ModuleState) (count : ℕ)
+    (short : Bool) (last : Task) (mark : Advance) (more : List Advance) (first : Core ModuleState) (count : ℕ)
     (r : IsReturningOn p s ends runs credits m mail short last (mark ∷ more) first count) where
   far : IsFarther p (core_in p s ends) m mail short last mark more
   far = on_way_more p r.room.core.fits (core_in p s ends) r.room.core.agreed.marks m mail short last mark more r.on
@@ -231,7 +231,7 @@ drop_all (x ∷ xs) (suc n) l = drop_all xs n (omega arith)
 
 -- where none is left
 pub all_acts : (p : Plan) (s : Stored) (ends : List (Option Advance)) (runs : List (Option ModuleRun)) (credits : List ℕ) (m : ℕ)
-    (mail : Mail) (short : Bool) (last : ModuleRun) (left : List Advance) (first : Core ModuleState) (count : ℕ) → left ≡ []
+    (mail : Mail) (short : Bool) (last : Task) (left : List Advance) (first : Core ModuleState) (count : ℕ) → left ≡ []
     → IsReturningOn p s ends runs credits m mail short last left first count
     → ActsAll (design p) p.cycles first (actions.runs count m) (core_in p s ends)
 all_acts p s ends runs credits m mail short last left first count none r =
@@ -246,7 +246,7 @@ pub are_returned : (p : Plan) (s t : Stored) (ends : List (Option Advance)) (run
     (burst : Burst) → held_in t (over_of ends) ≡ held_in s (over_of ends) → IsCore p t ends runs credits
     → get_or (lent_of runs) m true ≡ true → 2 * length burst.emitted ≤ get_or credits m 0 → most_queries ≤ get_or t.log.rooms m 0
     → (task : Task) × (IsTaskFor p (core_in p s ends) m task × IsBurst p m (rest_of p (core_in p s ends) m task) task burst)
-    → AreReturned p t ends runs credits m burst.emitted burst.run
+    → AreReturned p t ends runs credits m burst.emitted (task_left burst)
 are_returned p s t ends runs credits m burst same core lent places outcomes (task, (for', is)) = record {
   room = record { core = core; lent = lent; places = places; outcomes = outcomes };
   task = task;

@@ -1,6 +1,6 @@
 -- What a run's counts, the log and the table tell of its mail is what the core tells.
-use Rattle.std.proofs.Common.{◌≡◌, refl, sym, ap, ap₂, ◌∙◌, ℕ, suc, ◌<◌, ◌≤◌, Bool, true, false, not, cond, eqb, inl, inr}
-use Rattle.std.proofs.Common.{List, [], ◌∷◌, length, map, take, drop, get_or, slice_index, slice_get, Some, arith}
+use Rattle.std.proofs.Common.{◌≡◌, refl, sym, ap, ap₂, ◌∙◌, ℕ, zero, suc, ◌+◌, ◌<◌, ◌≤◌, Bool, true, false, not, cond, eqb, inl, inr}
+use Rattle.std.proofs.Common.{List, [], ◌∷◌, ◌++◌, length, map, take, drop, get_or, slice_index, slice_get, Some, arith}
 use Rattle.std.proofs.lemmas.List.{get_or_past}
 use Rattle.std.proofs.lemmas.Bool.Decides.{eqb_tells}
 use Rattle.std.proofs.lemmas.Bool.{cases_Bool, cond-true, cond-false, cases_lt}
@@ -28,7 +28,8 @@ use Rattle.engine_view.specs.Answered.{outcome_by}
 use Rattle.engine_view.specs.Held.{Held, emitted_of, seen, queries_in, possible_by, flags_by, core_of, values_at}
 use Rattle.engine_view.specs.Shown.{IsSound, queries_before}
 use Rattle.run_ahead.specs.declared.mail.Mail.{Mail}
-use Rattle.sim_core.specs.Lent.{AreMailed}
+use Rattle.fifo_table.specs.Channels.{Channel}
+use Rattle.sim_core.specs.Lent.{mailed, AreMailed}
 use Rattle.sim_core.specs.Readers.{AreReaders}
 use Rattle.run_ahead.specs.Mails.{values_on}
 use Rattle.sim_core.specs.Marks.{IsRestBehind}
@@ -131,6 +132,37 @@ eqb_is a b e = elim (eqb_tells a b) [ inl t ↦ t.0 | inr t ↦ absurd (t.1 e) ]
 
 eqb_not : (a b : ℕ) → (a ≡ b → ⊥) → eqb a b ≡ false
 eqb_not a b n = elim (eqb_tells a b) [ inl t ↦ absurd (n t.1) | inr t ↦ t.0 ]
+
+-- one channel more is read
+pub mailed_more : (channels : List Channel) (readers : List ℕ) (m : ℕ) (popped : List ℕ) (values more : List (List ℕ)) (n : ℕ)
+    (words : List ℕ) → AreMailed channels readers m popped values n → more ≡ values ++ words ∷ []
+    → words ≡ mailed channels readers m popped n → AreMailed channels readers m popped more (n + 1)
+mailed_more channels readers m popped values more n words k e w = record {
+  count = ap length e ∙ (length_push values words ∙ ap (λ (i : ℕ). i + 1) k.count);
+  each = λ c l.
+      elim (cases_lt c n) [
+        | inl q ↦ ap (λ (xs : List (List ℕ)). get_or xs c []) e ∙ (get_or_front values (words ∷ []) c [] (let a = k.count in omega arith)
+            ∙ k.each c q)
+        | inr q ↦
+            let here : c ≡ n = omega arith in
+            ap (λ (xs : List (List ℕ)). get_or xs c []) e
+            ∙ (ap (λ (i : ℕ). get_or (values ++ words ∷ []) i []) (here ∙ sym k.count)
+            ∙ (at_end values words ∙ (w ∙ ap (mailed channels readers m popped) (sym here))))
+      ];
+}
+  where
+    length_push : (xs : List (List ℕ)) (x : List ℕ) → length (xs ++ x ∷ []) ≡ length xs + 1
+    length_push [] x = refl
+    length_push (y ∷ xs) x = let q = length_push xs x in omega arith
+
+    get_or_front : (xs ys : List (List ℕ)) (i : ℕ) (d : List ℕ) → i < length xs → get_or (xs ++ ys) i d ≡ get_or xs i d
+    get_or_front [] ys i d l = absurd (omega arith)
+    get_or_front (x ∷ xs) ys zero d l = refl
+    get_or_front (x ∷ xs) ys (suc i) d l = get_or_front xs ys i d (omega arith)
+
+    at_end : (xs : List (List ℕ)) (x : List ℕ) → get_or (xs ++ x ∷ []) (length xs) [] ≡ x
+    at_end [] x = refl
+    at_end (y ∷ xs) x = at_end xs x
 
 -- behind n steps of a core
 module _ (p : Plan) (f : FitsEngine p) (h : Held) (table : kinds_in h.channels ≡ kinds_of p) (s : IsSound (design p) h)

@@ -1,6 +1,6 @@
 -- A task of a core stays a task of it while others act; its burst is a list of permitted Runs, and has a mark where memory was there.
-use Rattle.std.proofs.Common.{◌≡◌, refl, sym, ap, ap₂, subst, ◌∙◌, ℕ, zero, suc, ◌+◌, ◌-◌, ◌<◌, ◌≤◌, Bool, true, false, not, cond, ltb}
-use Rattle.std.proofs.Common.{◌&&◌, ◌||◌, List, [], ◌∷◌, ◌++◌, length, map, drop, get_or, replicate, Some, slice_get, slice_index_or, inl}
+use Rattle.std.proofs.Common.{◌≡◌, refl, sym, ap, ap₂, subst, ◌∙◌, ℕ, zero, suc, ◌+◌, ◌-◌, ◌<◌, Bool, true, false, not, cond, ltb}
+use Rattle.std.proofs.Common.{◌&&◌, ◌||◌, List, [], ◌∷◌, length, map, drop, get_or, replicate, Some, slice_get, slice_index_or, inl}
 use Rattle.std.proofs.Common.{inr, arith}
 use Rattle.std.proofs.lemmas.Bool.{cases_Bool, cond-true, cond-false, lt-ltb, le-ltb, cases_lt, cases_eq, and_parts, ltb-true}
 use Rattle.std.proofs.lemmas.List.{length-replicate, get_or_past}
@@ -17,7 +17,6 @@ use Rattle.flow_design.specs.declared.state.Request.{Request}
 use Rattle.flow_design.specs.StaticRules.{FitsEngine}
 use Rattle.lockstep_defs.specs.Lockstep.{requests_of}
 use Rattle.lockstep_defs.specs.OwnRun.{Own, access_of}
-use Rattle.module_interp.specs.declared.run.ModuleRun.{ModuleRun}
 use Rattle.module_interp.specs.OwnRests.{done_in, next_rest, accesses_at}
 use Rattle.module_interp.specs.Runs.{waits}
 use Rattle.event_timing.specs.Machines.{Each}
@@ -37,11 +36,13 @@ use Rattle.run_ahead.specs.declared.mail.Mail.{Mail}
 use Rattle.run_ahead.specs.declared.mail.Task.{Task}
 use Rattle.run_ahead.specs.declared.mail.Burst.{Burst}
 use Rattle.sim_core.specs.Runs.{rest_behind}
-use Rattle.run_ahead.specs.Mails.{values_on, next_value, replies_in, taken_after, none_taken, GoesOn, IsBurst, IsBurstFrom}
+use Rattle.run_ahead.specs.Mails.{values_on, next_value, replies_in, taken_after, none_taken, task_left, GoesOn, IsBurst, IsBurstFrom}
 use Rattle.sim_core.specs.Tasks.{outcomes_in, outcomes_at, values_behind, committed, rest_of, IsMailFor, IsTaskFor, IsTaskOf}
 use Rattle.sim_core.proofs.Mailed.{pops_one, HasValues, all_found}
 use Rattle.sim_core.proofs.Ahead.{IsWindow, Goes, Waits, Ran, run_on, goes_on, get_begins, ran_none, waiting_stands}
 use Rattle.sim_core.proofs.Resting.{rest_is}
+use Rattle.sim_core.proofs.Beginnings.{get_drop, begins_drop}
+use Rattle.sim_core.proofs.Committed.{committed_waits, committed_goes, committed_below}
 use Rattle.sim_core.proofs.Staying.{run_stays}
 
 -- ---- lists
@@ -51,31 +52,6 @@ none_at zero zero = refl
 none_at zero (suc c) = refl
 none_at (suc n) zero = refl
 none_at (suc n) (suc c) = none_at n c
-
-get_drop : (xs : List ℕ) (n i : ℕ) → slice_get (drop n xs) i ≡ slice_get xs (n + i)
-get_drop xs zero i = let z : 0 + i ≡ i = omega arith in rw z refl
-get_drop [] (suc n) i = refl
-get_drop (x ∷ xs) (suc n) i = let z : suc n + i ≡ suc (n + i) = omega arith in rw z (get_drop xs n i)
-
-begins_drop : (n : ℕ) (xs ys more : List ℕ) → xs ≡ ys ++ more → Begins (drop n xs) (drop n ys)
-begins_drop zero xs ys more e = (more, e)
-begins_drop (suc n) xs [] more e = (drop (suc n) xs, refl)
-begins_drop (suc n) xs (y ∷ ys) more e = let (m, q) = begins_drop n (ys ++ more) ys more refl in (m, ap (drop (suc n)) e ∙ q)
-
--- ---- how many steps are committed
-
-pub committed_waits : (x : Core ModuleState) (m : ℕ) (run : ModuleRun) → waits run ≡ true → committed x m run ≡ x.emitted m - 1
-committed_waits x m run e = cond-true (waits run) (x.emitted m - 1) (x.emitted m) e
-
-pub committed_goes : (x : Core ModuleState) (m : ℕ) (run : ModuleRun) → waits run ≡ false → committed x m run ≡ x.emitted m
-committed_goes x m run e = cond-false (waits run) (x.emitted m - 1) (x.emitted m) e
-
-committed_below : (x : Core ModuleState) (m : ℕ) (run : ModuleRun) → committed x m run ≤ x.emitted m
-committed_below x m run =
-    elim (cases_Bool (waits run)) [
-      | inl e ↦ rw (committed_waits x m run e) (omega arith)
-      | inr e ↦ rw (committed_goes x m run e) (omega arith)
-    ]
 
 -- ---- the task of a core
 
@@ -203,22 +179,23 @@ goes_first p x m task t w =
 
 pub burst_runs : (p : Plan) → FitsEngine p → (x : Core ModuleState) → AreOwnMarks (design p) x → (m : ℕ) (task : Task) (burst : Burst)
     → IsTaskFor p x m task → IsBurst p m (rest_of p x m task) task burst
-    → Ran p x m (length burst.emitted) burst.run
+    → Ran p x m (length burst.emitted) (task_left burst)
 burst_runs p f x b m task burst t i =
     elim (cases_Bool (waits task.run)) [
       | inl w ↦ from_step (waits_first p x m task t w) (subst (λ (c : Bool). IsBurstFrom c p m (rest_of p x m task) task.mail burst) w i)
-      | inr w ↦ run_on p f x b m task.mail burst.short burst.run (rest_of p x m task) 0 (none_taken task.mail) burst.emitted
+      | inr w ↦ run_on p f x b m task.mail burst.short (task_left burst) (rest_of p x m task) 0 (none_taken task.mail) burst.emitted
           (goes_first p x m task t w) (subst (λ (c : Bool). IsBurstFrom c p m (rest_of p x m task) task.mail burst) w i)
     ]
   where
     from_step : Waits p x m task.mail (rest_of p x m task) 0 (none_taken task.mail)
-        → IsBurstFrom true p m (rest_of p x m task) task.mail burst → Ran p x m (length burst.emitted) burst.run
+        → IsBurstFrom true p m (rest_of p x m task) task.mail burst → Ran p x m (length burst.emitted) (task_left burst)
     from_step w (inl (n, s)) =
-        subst (λ (xs : List Advance). Ran p x m (length xs) burst.run) (sym n)
-        (ran_none p x m burst.run (waiting_stands p x m task.mail (rest_of p x m task) 0 (none_taken task.mail) burst.short burst.run w
+        subst (λ (xs : List Advance). Ran p x m (length xs) (task_left burst)) (sym n)
+        (ran_none p x m (task_left burst) (waiting_stands p x m task.mail (rest_of p x m task) 0 (none_taken task.mail) burst.short
+        (task_left burst) w
         s))
     from_step w (inr (qs, (e, next))) =
-        run_on p f x b m task.mail burst.short burst.run (next_rest p m (rest_of p x m task) qs)
+        run_on p f x b m task.mail burst.short (task_left burst) (next_rest p m (rest_of p x m task) qs)
         (0 + queries_in (accesses_at p m (rest_of p x m task))) (taken_after (none_taken task.mail)
         (accesses_at p m (rest_of p x m task)) qs) burst.emitted
         (goes_on p f x b m task.mail (rest_of p x m task) 0 (none_taken task.mail) w qs e) next
@@ -298,7 +275,7 @@ burst_has_marks p f x b m task burst t i s =
     ]
   where
     some_marks : (o : Own) (told : ℕ) (taken : List ℕ) (marks : List Advance)
-        → GoesOn p m task.mail burst.short burst.run o told taken marks → 0 < length marks
+        → GoesOn p m task.mail burst.short (task_left burst) o told taken marks → 0 < length marks
     some_marks o told taken [] (g, e) = let z = sym e ∙ s in cc
     some_marks o told taken (mark ∷ more) g = omega arith
 

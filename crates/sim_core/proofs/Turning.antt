@@ -41,10 +41,12 @@ use Rattle.engine_view.specs.Taking.{kinds_in}
 use Rattle.engine_view.specs.Turns.{HasTimed, HasAnswered, KeepsRoom, HasUnsure, IsSomeCore, first_of, left_of, left}
 use Rattle.engine_view.proofs.Bounds.{candidate_is}
 use Rattle.sim_core.specs.Views.{CoreView}
-use Rattle.sim_core.specs.Runs.{IsCore, over_of}
+use Rattle.sim_core.specs.Runs.{AreUnreadIn, IsCore, over_of}
 use Rattle.sim_core.specs.Turns.{HasTurned, HasAnsweredLeast}
 use Rattle.sim_core.specs.Candidates.{AreCandidates}
 use Rattle.sim_core.proofs.Keeping.{core_acted, kept_of}
+use Rattle.sim_core.specs.declared.unread.Unread.{Unread}
+use Rattle.sim_core.proofs.Leaving.{unread_acted}
 
 -- ---- what is left to do is read off the core
 
@@ -131,6 +133,15 @@ module _ (p : Plan) (s t : Stored) (ends : List (Option Advance)) (runs : List (
       (room credits d over is_design kept k.room) (λ n run e. tt) (λ n mark e. inl e)
   core_timed m (Differs q) (e, f) room kinds = same_core e
   core_timed m turn.Nothing (e, f) room kinds = same_core e
+
+  pub unread_timed : (m : ℕ) (r : Timing) (unread : List Unread) → HasTimed r p.cycles m s t → AreUnreadIn p s ends unread
+      → AreUnreadIn p t ends unread
+  unread_timed m (Assigned c) unread done are =
+      unread_acted p s ends runs credits k unread are (Assign m) (core_of d (held_in t over)) (done d over is_design kept).1.acts
+  unread_timed m (Answered c) unread done are =
+      unread_acted p s ends runs credits k unread are (Answer m) (core_of d (held_in t over)) (done d over is_design kept).1.acts
+  unread_timed m (Differs q) unread (e, f) are = subst (λ (u : Stored). AreUnreadIn p u ends unread) (sym e) are
+  unread_timed m turn.Nothing unread (e, f) are = subst (λ (u : Stored). AreUnreadIn p u ends unread) (sym e) are
 
   pub turned : (m : ℕ) (r : Timing) (lent : List Bool) → HasTimed r p.cycles m s t
       → ((c : ℕ) → r ≡ Answered c → core_of d (held_in t over) ≡ core_of d (held_in s over) → ⊥) → HasTurned r (seen s lent) m (seen t lent)
@@ -259,6 +270,13 @@ module _ (p : Plan) (s t : Stored) (ends : List (Option Advance)) (runs : List (
         core_acted p s t ends ends runs credits credits k (Earliest m) (c, may, inl (a.same, a.now.core)) a.now.kept.sound kinds
         refl (room credits d over is_design kept k.room) (λ n run e. tt) (λ n mark e. inl e)
     core_answered (guard.Differs q) (e, f) room kinds = same_core e
+
+    pub unread_answered : (g : Guard) (unread : List Unread) → HasAnswered g m c s t → AreUnreadIn p s ends unread
+        → AreUnreadIn p t ends unread
+    unread_answered guard.Same unread done are =
+        let a = done d over is_design kept in
+        unread_acted p s ends runs credits k unread are (Earliest m) (core_of d (held_in t over)) (c, may, inl (a.same, a.now.core))
+    unread_answered (guard.Differs q) unread (e, f) are = subst (λ (u : Stored). AreUnreadIn p u ends unread) (sym e) are
 
     pub open_answered : (g : Guard) (lent : List Bool) → HasAnswered g m c s t → HasAnsweredLeast (Some (m, g)) (seen s lent) (seen t lent)
     open_answered guard.Same lent done =

@@ -12,7 +12,9 @@ pub mod Records
 pub mod Tasks
 pub mod Readers
 pub mod Lent
+pub mod Unread
 pub mod Returned
 pub mod Causes
 pub mod Missing
 pub mod Acted
+pub mod AccessLog

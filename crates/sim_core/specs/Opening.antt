@@ -1,8 +1,10 @@
 -- How a core begins.
-use Rattle.std.specs.Prelude.{◌≡◌, ℕ, ◌<◌, false, List, [], ◌∷◌, flat_map, length, map, slice_index, slice_index_or, Option, None, Some}
+use Rattle.std.specs.Prelude.{◌≡◌, ℕ, ◌<◌, Bool, true, false, eqb, List, []}
+use Rattle.std.specs.Prelude.{◌∷◌, ◌++◌, flat_map, length, map, slice_index, slice_index_or, Option, None, Some}
 use Rattle.std.specs.Prelude.{is_none}
 use Rattle.std.specs.List.{range_with_len}
 use Rattle.flow_word.specs.declared.access.Port.{Port}
+use Rattle.flow_word.specs.declared.access.Side.{Side}
 use Rattle.flow_word.specs.declared.access.Side.TheVariants.{Pop, Push}
 use Rattle.flow_design.specs.declared.design.ChannelKind.{ChannelKind}
 use Rattle.flow_design.specs.declared.design.ChannelKind.TheVariants as plan
@@ -12,6 +14,7 @@ use Rattle.fifo_table.specs.declared.channel.TableChannel.{TableChannel}
 use Rattle.fifo_table.specs.declared.channel.TableChannel.TheVariants.{Source, Sink, Fifo}
 use Rattle.flow_design.specs.Words.{cut_to}
 use Rattle.lockstep_defs.specs.Machine.{width_of}
+use Rattle.timing_bridge.specs.Designs.{design}
 use Rattle.module_interp.specs.declared.run.ModuleRun.{ModuleRun}
 use Rattle.module_interp.specs.OwnRests.{first_rest}
 use Rattle.module_interp.specs.Runs.{StandsAt, waits}
@@ -38,9 +41,20 @@ pub record AreFirstRuns (p : Plan) (runs : List (Option ModuleRun)) (many : ℕ)
   pub some : (m : ℕ) → m < many → is_none (slice_index_or runs m None) ≡ false
   pub each : (m : ℕ) (run : ModuleRun) → slice_index_or runs m None ≡ Some run → StandsAt p m (first_rest p m) run × (waits run ≡ false)
 
--- both ports of each of the first so many channels
-abbrev pub ports_at : ℕ → List Port
-ports_at c = record { side = Pop; channel = c } ∷ record { side = Push; channel = c } ∷ []
+-- a port, or none
+abbrev pub port_where : Bool → Side → ℕ → List Port
+port_where true side c = record { side = side; channel = c } ∷ []
+port_where false side c = []
 
-abbrev pub all_ports : ℕ → List Port
-all_ports channels = flat_map ports_at (range_with_len 0 channels)
+-- the ports of a channel at which a module stands
+abbrev pub ports_at : Plan → ℕ → ℕ → List Port
+ports_at p m c = port_where (eqb ((design p).owner Pop c) m) Pop c ++ port_where (eqb ((design p).owner Push c) m) Push c
+
+-- those of the first so many channels
+abbrev pub ports_to : Plan → ℕ → ℕ → List Port
+ports_to p m channels = flat_map (ports_at p m) (range_with_len 0 channels)
+
+-- of each of the first so many modules its own ports
+pub record AreOwnPorts (p : Plan) (many : ℕ) (ports : List (List Port)) : Type 0 where
+  pub count : length ports ≡ many
+  pub each : (m : ℕ) → m < many → slice_index_or ports m [] ≡ ports_to p m (length p.design.channels)

@@ -1,7 +1,8 @@
--- The module that pops each channel.
+-- The module that pops, or pushes, each channel.
 use Rattle.std.specs.Prelude.{◌≡◌, ℕ, ◌+◌, ◌<◌, Bool, cond, ◌&&◌, nat_eq, List, length, drop, slice_index, Option, None, Some}
 use Rattle.std.specs.List.{position_or_len}
 use Rattle.flow_word.specs.declared.access.Port.{Port}
+use Rattle.flow_word.specs.declared.access.Side.{Side}
 use Rattle.flow_word.specs.declared.access.Side.TheVariants.{Pop}
 use Rattle.flow_design.specs.declared.expr.Op.{Op}
 use Rattle.flow_design.specs.declared.expr.Op.TheVariants.{Set, Load, Store, Read, Write, TryRead, TryWrite, Empty, Full}
@@ -10,13 +11,16 @@ use Rattle.flow_design.specs.declared.plan.Plan.{Plan}
 use Rattle.flow_design.specs.StaticRules.{uses}
 use Rattle.timing_bridge.specs.Designs.{design}
 
--- the module that pops each channel; the number of modules where none does
-pub record AreReaders (p : Plan) (readers : List ℕ) : Type 0 where
-  pub count : length readers ≡ length p.design.channels
-  pub each : (c : ℕ) → c < length readers → slice_index readers c ≡ (design p).owner Pop c
+-- the module at this side of each channel; the number of modules where none is
+pub record AreUsers (p : Plan) (side : Side) (users : List ℕ) : Type 0 where
+  pub count : length users ≡ length p.design.channels
+  pub each : (c : ℕ) → c < length users → slice_index users c ≡ (design p).owner side c
 
-abbrev pub popping_port : ℕ → Port
-popping_port c = record { side = Pop; channel = c }
+abbrev pub AreReaders : Plan → List ℕ → Type 0
+AreReaders p readers = AreUsers p Pop readers
+
+abbrev pub port_at : Side → ℕ → Port
+port_at side c = record { side = side; channel = c }
 
 -- the channel that an operation pops
 abbrev pub popped_channel : Op ℕ → Option ℕ
@@ -29,6 +33,18 @@ popped_channel (TryRead f x ok) = Some f
 popped_channel (TryWrite f ok e) = None
 popped_channel (Empty f x) = None
 popped_channel (Full f x) = None
+
+-- the channel that an operation pushes
+abbrev pub pushed_channel : Op ℕ → Option ℕ
+pushed_channel (Set x e) = None
+pushed_channel (Load x n e) = None
+pushed_channel (Store n e a) = None
+pushed_channel (Read f x) = None
+pushed_channel (Write f e) = Some f
+pushed_channel (TryRead f x ok) = None
+pushed_channel (TryWrite f ok e) = Some f
+pushed_channel (Empty f x) = None
+pushed_channel (Full f x) = None
 
 -- the module is noted at these channels, where it said `none` before
 pub record AreNoted (none owner : ℕ) (at : ℕ → Bool) (before after : List ℕ) : Type 0 where
@@ -44,7 +60,7 @@ pub record IsNoting (none owner : ℕ) (left all : ℕ → Bool) (before now : L
       ≡ cond (nat_eq (slice_index before c) none && all c) owner (slice_index before c)
 
 -- with the first of the modules that are left, where none is noted, it is the first of all
-pub record IsSearching (modules : List Module) (none : ℕ) (now : List ℕ) (i : ℕ) : Type 0 where
+pub record IsSearching (side : Side) (modules : List Module) (none : ℕ) (now : List ℕ) (i : ℕ) : Type 0 where
   pub each : (c : ℕ) → c < length now
-      → cond (nat_eq (slice_index now c) none) (i + position_or_len (uses (popping_port c)) (drop i modules)) (slice_index now c)
-      ≡ position_or_len (uses (popping_port c)) modules
+      → cond (nat_eq (slice_index now c) none) (i + position_or_len (uses (port_at side c)) (drop i modules)) (slice_index now c)
+      ≡ position_or_len (uses (port_at side c)) modules

@@ -42,9 +42,9 @@ pub record IsNextMark (p : Plan) (s : Stored) (ends : List (Option Advance)) (ru
   pub is : mark ≡ mark_at p m (rest_behind p (core_in p s ends) m ((core_in p s ends).emitted m))
   pub sound : IsSoundMark (length (rest_behind p (core_in p s ends) m ((core_in p s ends).emitted m)).steps) mark
 
--- the marks are those of a burst on a task for the core, which leaves this run, and there is room for them
+-- the marks are those of a burst on a task for the core, which leaves this run with this mail, and there is room for them
 pub record AreReturned (p : Plan) (s : Stored) (ends : List (Option Advance)) (runs : List (Option ModuleRun)) (credits : List ℕ) (m : ℕ)
-    (marks : List Advance) (last : ModuleRun) : Type 0 where
+    (marks : List Advance) (last : Task) : Type 0 where
   pub room : HasRoomForMarks p s ends runs credits m (length marks)
   pub task : Task
   pub short : Bool

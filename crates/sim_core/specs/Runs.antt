@@ -12,7 +12,7 @@ use Rattle.module_interp.specs.OwnRests.{mark_at}
 use Rattle.module_interp.specs.Runs.{StandsAt, waits, is_step, gap_of}
 use Rattle.event_graph.specs.declared.candidate.Candidate.{Candidate}
 use Rattle.event_graph.specs.Lanes.{gap_bound}
-use Rattle.event_timing.specs.Core.{Core, values_there}
+use Rattle.event_timing.specs.Core.{Core, core_values, values_there}
 use Rattle.event_timing.specs.Agreement.{IsAgreed}
 use Rattle.timing_bridge.specs.Designs.{design, lockstep_run}
 use Rattle.timing_bridge.specs.OwnRuns.{core_replies}
@@ -21,8 +21,10 @@ use Rattle.engine_view.specs.Shown.{IsSound}
 use Rattle.engine_view.specs.Rooms.{IsRoomy}
 use Rattle.engine_view.specs.Stored.{Stored, held_in}
 use Rattle.engine_view.specs.Taking.{kinds_in}
-use Rattle.sim_core.specs.Opening.{kinds_of, all_ports}
+use Rattle.sim_core.specs.Opening.{kinds_of, AreOwnPorts}
 use Rattle.sim_core.specs.Readers.{AreReaders}
+use Rattle.sim_core.specs.Unread.{AreUnread}
+use Rattle.sim_core.specs.declared.unread.Unread.{Unread}
 
 -- ---- runs
 
@@ -71,12 +73,18 @@ pub record IsCore (p : Plan) (s : Stored) (ends : List (Option Advance)) (runs :
   pub ends_are : (m : ℕ) (mark : Advance) → slice_index_or ends m None ≡ Some mark
       → IsEndOf p (core_of (design p) (held_in s (over_of ends))) m mark
 
--- and the list of ports is that of all channels, which are given room, it is told who pops each channel, and there is a candidate for
--- each module
+-- what came back unread of each channel are the next ones of its values, behind so many
+abbrev pub AreUnreadIn : Plan → Stored → List (Option Advance) → List Unread → Type 0
+AreUnreadIn p s ends unread = AreUnread (core_values (design p) (core_of (design p) (held_in s (over_of ends)))) (length p.design.channels)
+    unread
+
+-- and each module has its own ports, which are given room, it is told who pops each channel, and what came back unread, and there is a
+-- candidate for each module
 pub record IsStoredCore (p : Plan) (s : Stored) (ends : List (Option Advance)) (runs : List (Option ModuleRun)) (credits : List ℕ)
-    (ports : List Port)
-    (readers : List ℕ) (candidates : List Candidate) : Type 0 where
+    (ports : List (List Port))
+    (readers : List ℕ) (unread : List Unread) (candidates : List Candidate) : Type 0 where
   pub core : IsCore p s ends runs credits
-  pub ports_are : ports ≡ all_ports (length p.design.channels)
+  pub ports_are : AreOwnPorts p (length p.design.modules) ports
   pub readers_are : AreReaders p readers
+  pub unread_are : AreUnreadIn p s ends unread
   pub candidate_count : length candidates ≡ length p.design.modules

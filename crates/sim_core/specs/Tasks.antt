@@ -60,6 +60,11 @@ pub record IsTaskOf (p : Plan) (x : Core ModuleState) (m : ℕ) (task : Task) : 
       → values_on task.mail c ≡ values_behind p x m (committed x m task.run) c
   pub others : (c : ℕ) → ((design p).owner Pop c ≡ m → ⊥) → values_on task.mail c ≡ []
 
+-- a run with what is left of its mail: it stands where the core has it, and the values are the next ones of the core
+pub record IsTaskLeft (p : Plan) (x : Core ModuleState) (m : ℕ) (task : Task) : Type 0 where
+  pub run : IsRunOf p x m task.run
+  pub values : (c : ℕ) → Begins (values_behind p x m (committed x m task.run) c) (values_on task.mail c)
+
 -- the rest at which the run of a task stands
 abbrev pub rest_of : Plan → Core ModuleState → ℕ → Task → Own
 rest_of p x m task = rest_behind p x m (committed x m task.run)

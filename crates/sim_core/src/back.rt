@@ -6,7 +6,9 @@ ghost use Rattle.event_timing.specs.Actions.Action.{Run};
 ghost use Rattle.timing_bridge.specs.Designs.{design};
 ghost use Rattle.module_interp.specs.declared.run.ModuleRun.{ModuleRun};
 ghost use Rattle.engine_view.specs.Stored.{stored};
-ghost use Rattle.sim_core.specs.Runs.{IsCore, IsRunOf};
+ghost use Rattle.run_ahead.specs.declared.mail.Task.{Task as TaskOf};
+ghost use Rattle.sim_core.specs.Runs.{IsCore};
+ghost use Rattle.sim_core.specs.Tasks.{IsTaskLeft};
 ghost use Rattle.sim_core.specs.Returned.{core_in, IsNextMark, AreReturned};
 
 use engine_view::emit_step;
@@ -70,15 +72,15 @@ pub(crate) fn record_all(
     marks: &mut List<Advance>,
 )
     requires owner { owner < length graph.old.lanes }
-    requires returned { (p : PlanOf) × ((out : Items (Maybe ModuleRun)) × ((last : ModuleRun)
+    requires returned { (p : PlanOf) × ((out : Items (Maybe ModuleRun)) × ((last : TaskOf)
         × AreReturned p (stored graph.old fifos.old log.now) ends.old.items out credits.old.items owner marks.old last)) }
-    ensures core { (p : PlanOf) (out : Items (Maybe ModuleRun)) (last : ModuleRun)
+    ensures core { (p : PlanOf) (out : Items (Maybe ModuleRun)) (last : TaskOf)
         → AreReturned p (stored graph.old fifos.old log.now) ends.old.items out credits.old.items owner marks.old last
         → IsCore p (stored graph.new fifos.new log.now) ends.new.items out credits.new.items }
-    ensures run { (p : PlanOf) (out : Items (Maybe ModuleRun)) (last : ModuleRun)
+    ensures left { (p : PlanOf) (out : Items (Maybe ModuleRun)) (last : TaskOf)
         → AreReturned p (stored graph.old fifos.old log.now) ends.old.items out credits.old.items owner marks.old last
-        → IsRunOf p (core_in p (stored graph.new fifos.new log.now) ends.new.items) owner last }
-    ensures acts { (p : PlanOf) (out : Items (Maybe ModuleRun)) (last : ModuleRun)
+        → IsTaskLeft p (core_in p (stored graph.new fifos.new log.now) ends.new.items) owner last }
+    ensures acts { (p : PlanOf) (out : Items (Maybe ModuleRun)) (last : TaskOf)
         → AreReturned p (stored graph.old fifos.old log.now) ends.old.items out credits.old.items owner marks.old last
         → ActsAll (design p) p.cycles (core_in p (stored graph.old fifos.old log.now) ends.old.items) (runs (length marks.old) owner)
         (core_in p (stored graph.new fifos.new log.now) ends.new.items) }

@@ -9,14 +9,13 @@ ghost use Rattle.event_timing.specs.Agreement.{IsAgreed};
 ghost use Rattle.timing_bridge.specs.Designs.{design, lockstep_run};
 ghost use Rattle.run_ahead.specs.declared.mail.Task.{Task};
 ghost use Rattle.run_ahead.specs.declared.mail.Burst.{Burst};
-ghost use Rattle.run_ahead.specs.Mails.{IsBurst};
-ghost use Rattle.sim_core.specs.Runs.{IsRunOf};
-ghost use Rattle.sim_core.specs.Tasks.{IsTaskOf, IsTaskFor, rest_of};
+ghost use Rattle.run_ahead.specs.Mails.{IsBurst, task_left};
+ghost use Rattle.sim_core.specs.Tasks.{IsTaskOf, IsTaskFor, IsTaskLeft, rest_of};
 ghost use Rattle.std.specs.Prelude.{List as Items};
 
-/// What is lent of a core is a task for it, and stays one while others act. A burst on a task for a core is as many permitted Runs
-/// of the module, which lead to a core beside which the burst's run stands. On what was lent it has at least one mark, unless it
-/// stopped for want of memory.
+/// What is lent of a core is a task for it, and stays one while others act. A burst on a task for a core is as many permitted Runs of the
+/// module, which lead to a core beside which the burst's run stands, with what is left of its mail. On what was lent it has at least one
+/// mark, unless it stopped for want of memory.
 pub fn bursts_are_runs()
     ensures lent { (p : Plan) (x : Core ModuleState) (m : ℕ) (task : Task) → IsTaskOf p x m task → IsTaskFor p x m task }
     ensures kept { (p : Plan) → FitsEngine p → (x : Core ModuleState) → IsAgreed (design p) (lockstep_run p) p.cycles x
@@ -24,7 +23,8 @@ pub fn bursts_are_runs()
         → (y : Core ModuleState) → ActsAll (design p) p.cycles x actions y → IsTaskFor p y m task }
     ensures runs { (p : Plan) → FitsEngine p → (x : Core ModuleState) → IsAgreed (design p) (lockstep_run p) p.cycles x
         → (m : ℕ) (task : Task) (burst : Burst) → IsTaskFor p x m task → IsBurst p m (rest_of p x m task) task burst
-        → (y : Core ModuleState) × ActsAll (design p) p.cycles x (runs (length burst.emitted) m) y × IsRunOf p y m burst.run }
+        → (y : Core ModuleState) × ActsAll (design p) p.cycles x (runs (length burst.emitted) m) y
+        × IsTaskLeft p y m (task_left burst) }
     ensures marks { (p : Plan) → FitsEngine p → (x : Core ModuleState) → IsAgreed (design p) (lockstep_run p) p.cycles x
         → (m : ℕ) (task : Task) (burst : Burst) → IsTaskOf p x m task → IsBurst p m (rest_of p x m task) task burst
         → burst.short ≡ false → 0 < length burst.emitted }

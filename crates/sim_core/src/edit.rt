@@ -18,7 +18,8 @@ impl Core {
     ///
     /// The cycles from the first clock on that the change touches are given anew, as long as outcomes are as they were
     /// recorded, so that the core agrees with the edited plan; `drive` does the rest. Where the outcome of a query is another
-    /// than the recorded one, that query is told. It takes no memory, and ticks once for each cycle that it gives.
+    /// than the recorded one, that query is told. What came back unread is let go. It takes no memory, and ticks once for each
+    /// cycle that it gives.
     pub fn edit<L: Ledger>(&mut self, edit: &Edit, steps: &mut Steps<L>) -> Guard
         requires is_final { IsFinal (design self.old.plan) self.old.plan.cycles (theory_of self.old) }
         requires fits { EditFits self.old.plan edit.now }
@@ -31,6 +32,7 @@ impl Core {
             return Guard::Same;
         }
         let limit = self.plan.cycles;
+        self.unread.truncate(0);
         let from = first_touched(&self.graph, &self.fifos, edit.channel, edit.depth);
         edit_plan(&mut self.plan, edit);
         retime(

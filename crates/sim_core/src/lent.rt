@@ -1,24 +1,46 @@
 //! Runs that are lent, and come back with their marks.
-ghost use Rattle.std.specs.Prelude.{◌≡◌, ◌<◌, true, false, length, slice_set, slice_index_or, IsNone, IfOk, IfSome, OnOk, OnErr};
+ghost use Rattle.std.specs.Prelude.{◌≡◌, ◌+◌, ◌^◌, ◌<◌, ◌≤◌, true, false};
+ghost use Rattle.std.specs.Prelude.{length, slice_set, slice_index_or, IsNone, IfOk, IfSome, OnOk, OnErr};
 ghost use Rattle.event_timing.specs.Actions.{ActsAll, MayRun, runs};
 ghost use Rattle.timing_bridge.specs.Designs.{design};
 ghost use Rattle.sim_core.specs.Tasks.{IsBurstOf, IsTaskOf};
 ghost use Rattle.sim_core.specs.Views.{theory_of};
 
+use crate::actions::Action;
 use crate::back::record_all;
 use crate::machine::Core;
+use crate::opening::ports_of;
 use crate::post::make_mail;
+use crate::unread::keep_unread;
 use engine_view::make_room_for;
 use flow_design::limits::{LIVE_ITERATIONS, OPERATIONS};
 use flow_word::OutOfMemory;
 use run_ahead::{Burst, Task};
 use std::alloc::Global;
 
+/// The places at each end that a module is given at once, as for 256 Runs of its own.
+const CREDIT: u64 = 512;
+
+/// For how many places room is made, where so many are there and so many are wanted: for many at once, so that this seldom takes
+/// time.
+fn places_for(there: u64, wanted: u64) -> u64
+    requires { wanted + 1 < 2 ^ 64 }
+    ensures wanted { wanted ≤ result }
+    ensures few { result + 1 < 2 ^ 64 }
+{
+    if there >= wanted {
+        wanted
+    } else {
+        wanted.max(CREDIT)
+    }
+}
+
 impl Core {
     /// Lends a module's run with its mail, where a Run of the module is permitted and its run is not lent.
     ///
     /// The mail has all that the core can tell the run: the outcomes of the step that waits, and of each channel that the
-    /// module pops the values from its next pop on. None, and want of memory, leave the core as it was.
+    /// module pops the values from its next pop on. Those that came back unread with the run are not copied again. None, and want of
+    /// memory, leave the core as it was. Where the Run is not permitted, no memory is taken.
     pub fn lend(&mut self, alloc: Global, owner: u32) -> Result<Option<Task>, OutOfMemory>
         requires { owner < length self.old.plan.design.modules }
         ensures task { IfOk result (λ lent. IfSome lent (λ task. IsTaskOf self.old.plan (theory_of self.old) owner task)) }
@@ -30,25 +52,23 @@ impl Core {
         ensures unchanged { IfOk result (λ lent. IsNone lent → self.new ≡ self.old) }
         ensures no_memory { OnErr result (self.new ≡ self.old) }
     {
-        if self.is_over(owner) {
+        if self.permits(Action::Run(owner)).is_err() {
             return Ok(None);
         }
         let Some(run) = &self.runs[owner as usize] else {
             return Ok(None);
         };
-        let Some(mail) = make_mail(
+        let mail = make_mail(
             alloc,
             &self.fifos,
             &self.log,
+            &mut self.unread,
             &self.readers,
             owner,
             run.queries(),
             run.popped(),
             run.waiting(),
-        )?
-        else {
-            return Ok(None);
-        };
+        )?;
         let Some(run) = self.runs[owner as usize].take() else {
             return Ok(None);
         };
@@ -56,7 +76,7 @@ impl Core {
     }
 
     /// Takes a module's run back, with the marks that it gave meanwhile: these are as many Runs of the module, one after the
-    /// other. After want of memory all is as it was, and the run stays lent.
+    /// other. What is left of its mail is kept for its next one. After want of memory all is as it was, and the run stays lent.
     pub fn take_back(&mut self, owner: u32, burst: Burst) -> Result<(), OutOfMemory>
         requires owner { owner < length self.old.plan.design.modules }
         requires lent { slice_index_or self.old.lent owner true ≡ true }
@@ -71,17 +91,19 @@ impl Core {
             run,
             mut emitted,
             short: _,
+            mut mail,
         } = burst;
-        let Some(places) = emitted.len().checked_mul(2) else {
+        let Some(wanted) = emitted.len().checked_mul(2) else {
             return Err(OutOfMemory);
         };
+        let places = places_for(self.credits[owner as usize], wanted);
         make_room_for(
             &mut self.graph,
             &mut self.fifos,
             &mut self.log,
             &mut self.credits,
             owner,
-            self.ports.as_slice(),
+            ports_of(&self.ports, owner),
             LIVE_ITERATIONS * OPERATIONS,
             places,
         )?;
@@ -93,6 +115,15 @@ impl Core {
             &mut self.ends,
             owner,
             &mut emitted,
+        );
+        let alloc = *self.credits.allocator();
+        keep_unread(
+            alloc,
+            &mut self.unread,
+            &self.readers,
+            owner,
+            run.popped(),
+            &mut mail.values,
         );
         self.runs[owner as usize] = Some(run);
         Ok(())

@@ -1,10 +1,12 @@
 //! The core of the engine: a plan with the marks, cycles and outcomes of its modules so far, and the actions on it.
 #![tactic(auto)]
 
+mod access_log;
 mod act;
 mod actions;
 mod alone;
 mod back;
+mod beside;
 mod bursts;
 mod drive;
 mod edit;
@@ -19,10 +21,13 @@ mod records;
 mod replies;
 mod report;
 mod running;
+mod spans;
 mod timing;
 mod turn;
+mod unread;
 mod visit;
 
+pub use access_log::LoggedAccess;
 pub use actions::{ActFault, Action, Cause};
 pub use alone::run_alone;
 pub use bursts::bursts_are_runs;

@@ -6,6 +6,7 @@ ghost use Rattle.timing_bridge.specs.Designs.{design, lockstep_run};
 ghost use Rattle.engine_view.specs.Shown.{IsSound};
 ghost use Rattle.sim_core.specs.Views.{theory_of};
 
+use crate::unread::Unread;
 use event_graph::{Candidate, Graph};
 use fifo_table::FifoTable;
 use flow_design::{Advance, Plan, Reply};
@@ -29,12 +30,14 @@ pub struct Core {
     pub(crate) runs: Vec<Option<ModuleRun>>,
     /// How many more places each module may take at each of its ports without memory.
     pub(crate) credits: Vec<u64>,
-    /// The ports of all channels.
-    pub(crate) ports: List<Port>,
+    /// The ports of each module.
+    pub(crate) ports: List<List<Port>>,
     /// Of each channel the module that pops it; the number of modules where none does.
     pub(crate) readers: Vec<u32>,
-    /// Of each channel the modules that have accessed it so far, as bits. It serves for hints alone.
-    pub(crate) users: Words,
+    /// Of each channel what came back unread with the run that pops it.
+    pub(crate) unread: List<Unread>,
+    /// Of each module the others that access one of its channels, as bits. It serves for hints alone.
+    pub(crate) beside: Words,
     /// Room for the replies to a step.
     pub(crate) replies: List<Reply>,
     /// Room for a candidate of each module.
@@ -53,7 +56,8 @@ impl Drop for Core {
             credits: _credits,
             ports: _ports,
             readers: _readers,
-            users: _users,
+            unread: _unread,
+            beside: _beside,
             replies: _replies,
             candidates: _candidates,
         } = self;
@@ -65,7 +69,6 @@ impl Model for Core {
     ghost use Rattle.flow_design.specs.Codes.{plan_code};
     ghost use Rattle.engine_view.specs.Stored.{stored, held_in};
     ghost use Rattle.sim_core.specs.Views.{CoreView};
-    ghost use Rattle.sim_core.specs.Opening.{all_ports};
     ghost use Rattle.sim_core.specs.Runs.{IsStoredCore, lent_of, over_of};
 
     ghost Value = { CoreView };
@@ -79,7 +82,7 @@ impl Model for Core {
     } };
 
     ghost invariant = { λ c. IsStoredCore c.plan (stored c.graph c.fifos c.log) c.ends.items c.runs.items c.credits.items c.ports
-        c.readers.items c.candidates.items };
+        c.readers.items c.unread c.candidates.items };
 }
 
 impl Core {

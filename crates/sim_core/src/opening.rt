@@ -1,14 +1,18 @@
 //! How a core begins.
-ghost use Rattle.std.specs.Prelude.{◌≡◌, ℕ, ◌<◌, true, false, None, map, length, replicate, IfOk, slice_index_or};
+ghost use Rattle.std.specs.Prelude.{◌≡◌, ℕ, ◌++◌, ◌<◌, [], true, false, None, map, length, replicate, IfOk, OnOk, slice_index_or};
+ghost use Rattle.flow_word.specs.declared.access.Side.TheVariants.{Push};
+ghost use Rattle.sim_core.specs.Readers.{AreReaders, AreUsers};
 ghost use Rattle.flow_design.specs.StaticRules.{FitsEngine};
 ghost use Rattle.flow_design.specs.Words.{cut_to};
 ghost use Rattle.event_timing.specs.Core.{opening_core};
 ghost use Rattle.timing_bridge.specs.Designs.{design};
-ghost use Rattle.sim_core.specs.Opening.{kind_in, kinds_of, all_ports, AreFirstRuns};
+ghost use Rattle.sim_core.specs.Opening.{kind_in, kinds_of, port_where, ports_at, ports_to, AreOwnPorts, AreFirstRuns};
 ghost use Rattle.sim_core.specs.Views.{theory_of};
 
+use crate::beside::find_beside;
 use crate::machine::Core;
-use crate::readers::find_readers;
+use crate::readers::find_users;
+use crate::unread::nothing_unread;
 use event_graph::{Candidate, Graph};
 use fifo_table::{FifoTable, TableChannel};
 use flow_design::{Advance, ChannelKind, Plan};
@@ -35,10 +39,11 @@ impl Core {
         let runs = first_runs(alloc, &plan, modules)?;
         let ends = no_ends(alloc, modules)?;
         let credits = vec![in alloc; 0; modules as usize]?;
-        let ports = make_ports(alloc, plan.design.channels.len() as u32)?;
-        let readers = find_readers(alloc, &plan)?;
+        let readers = find_users(alloc, &plan, Side::Pop)?;
+        let ports = make_ports(alloc, &plan, readers.as_slice())?;
+        let unread = nothing_unread(alloc, plan.design.channels.len())?;
         let candidates = no_candidates(alloc, modules)?;
-        let users = List::zeros(alloc, plan.design.channels.len())?;
+        let beside = find_beside(alloc, &plan)?;
         Ok(Core {
             plan,
             graph,
@@ -49,7 +54,8 @@ impl Core {
             credits,
             ports,
             readers,
-            users,
+            unread,
+            beside,
             replies: List::new(alloc),
             candidates,
         })
@@ -137,20 +143,62 @@ fn cut_values(alloc: Global, width: Width, values: &[u64]) -> Result<Words, OutO
     Ok(words)
 }
 
-/// Both ports of so many channels.
-fn make_ports(alloc: Global, channels: u32) -> Result<List<Port>, OutOfMemory>
-    ensures { IfOk result (λ ports. ports ≡ all_ports channels) }
+/// Adds a port, where it is the module's.
+fn add_port(
+    ports: &mut List<Port>,
+    is_own: bool,
+    side: Side,
+    channel: u32,
+) -> Result<(), OutOfMemory>
+    ensures { OnOk result (ports.new ≡ ports.old ++ port_where is_own side channel) }
 {
-    let mut ports = List::with_room(alloc, 2 * channels as u64)?;
-    for channel in 0..channels {
-        ports.push(Port {
-            side: Side::Pop,
-            channel,
-        })?;
-        ports.push(Port {
-            side: Side::Push,
-            channel,
-        })?;
+    if is_own {
+        ports.push(Port { side, channel })?;
+    }
+    Ok(())
+}
+
+/// The ports of a module, where it is told who pops and who pushes each channel.
+fn make_own_ports(
+    alloc: Global,
+    plan: &Plan,
+    readers: &[u32],
+    writers: &[u32],
+    owner: u32,
+) -> Result<List<Port>, OutOfMemory>
+    requires fits { FitsEngine plan.now }
+    requires readers { AreReaders plan.now readers.now }
+    requires writers { AreUsers plan.now Push writers.now }
+    ensures { IfOk result (λ ports. ports ≡ ports_to plan.now owner (length plan.now.design.channels)) }
+{
+    let mut ports = List::new(alloc);
+    for channel in 0..plan.design.channels.len() as u32 {
+        let at = channel as usize;
+        add_port(&mut ports, readers[at] == owner, Side::Pop, channel)?;
+        add_port(&mut ports, writers[at] == owner, Side::Push, channel)?;
     }
     Ok(ports)
+}
+
+/// The ports of each module, where it is told who pops each channel.
+fn make_ports(alloc: Global, plan: &Plan, readers: &[u32]) -> Result<List<List<Port>>, OutOfMemory>
+    requires fits { FitsEngine plan.now }
+    requires readers { AreReaders plan.now readers.now }
+    ensures { IfOk result (λ ports. AreOwnPorts plan.now (length plan.now.design.modules) ports) }
+{
+    let writers = find_users(alloc, plan, Side::Push)?;
+    let mut ports = List::new(alloc);
+    for owner in 0..plan.design.modules.len() as u32 {
+        let own = make_own_ports(alloc, plan, readers, writers.as_slice(), owner)?;
+        ports.push(own)?;
+    }
+    Ok(ports)
+}
+
+/// The ports of a module.
+pub(crate) fn ports_of(ports: &List<List<Port>>, owner: u32) -> &[Port]
+    requires { owner < length ports.now }
+    ensures { result.now ≡ slice_index_or ports.now owner [] }
+{
+    ports.as_slice()[owner as usize].as_slice()
 }

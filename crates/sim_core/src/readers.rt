@@ -1,12 +1,13 @@
-//! Which module pops each channel.
+//! Which module pops, or pushes, each channel.
 ghost use Rattle.std.specs.Prelude.{◌≡◌, ◌<◌, nat_eq, IfOk};
 ghost use Rattle.std.specs.List.{list_any};
 ghost use Rattle.flow_design.specs.Operations.{used_port};
 ghost use Rattle.flow_design.specs.StaticRules.{uses, is_port, FitsEngine};
-ghost use Rattle.sim_core.specs.Readers.{popping_port, popped_channel, AreNoted, AreReaders};
+ghost use Rattle.sim_core.specs.Readers.{port_at, popped_channel, pushed_channel, AreNoted, AreUsers};
+ghost use Rattle.flow_word.specs.declared.access.Side.TheVariants.{Pop, Push};
 
 use flow_design::{Module, Op, Plan, Timed};
-use flow_word::OutOfMemory;
+use flow_word::{OutOfMemory, Side};
 use std::alloc::Global;
 
 /// The channel that an operation pops.
@@ -21,60 +22,92 @@ fn popped_channel(op: &Op<u32>) -> Option<u32>
     }
 }
 
+/// The channel that an operation pushes.
+fn pushed_channel(op: &Op<u32>) -> Option<u32>
+    ensures { result ≡ pushed_channel op.now }
+{
+    match op {
+        Op::Write(channel, _) => Some(*channel),
+        Op::TryWrite(channel, _, _) => Some(*channel),
+        Op::Set(_, _) | Op::Load(_, _, _) | Op::Store(_, _, _) => None,
+        Op::Read(_, _) | Op::TryRead(_, _, _) | Op::Empty(_, _) | Op::Full(_, _) => None,
+    }
+}
+
 /// Notes a module at a channel, where none is noted.
-fn note(channel: u32, none: u32, owner: u32, readers: &mut [u32])
-    ensures { AreNoted none owner (λ c. nat_eq c channel) readers.old readers.new }
+fn note(channel: u32, none: u32, owner: u32, users: &mut [u32])
+    ensures { AreNoted none owner (λ c. nat_eq c channel) users.old users.new }
 {
     let at = channel as usize;
-    if at < readers.len() && readers[at] == none {
-        readers[at] = owner;
+    if at < users.len() && users[at] == none {
+        users[at] = owner;
     }
 }
 
 /// Notes a module at the channel that its operation pops, where none is noted.
-fn note_op(op: &Op<u32>, none: u32, owner: u32, readers: &mut [u32])
-    ensures { AreNoted none owner (λ c. is_port (popping_port c) (used_port op.now)) readers.old readers.new }
+fn note_pop(op: &Op<u32>, none: u32, owner: u32, users: &mut [u32])
+    ensures { AreNoted none owner (λ c. is_port (port_at Pop c) (used_port op.now)) users.old users.new }
 {
     if let Some(channel) = popped_channel(op) {
-        note(channel, none, owner, readers);
+        note(channel, none, owner, users);
     }
 }
 
-/// Notes a module at the channels that a body of it pops, where none is noted.
-fn note_ops(ops: &[Timed], none: u32, owner: u32, readers: &mut [u32])
+/// Notes a module at the channel that its operation pushes, where none is noted.
+fn note_push(op: &Op<u32>, none: u32, owner: u32, users: &mut [u32])
+    ensures { AreNoted none owner (λ c. is_port (port_at Push c) (used_port op.now)) users.old users.new }
+{
+    if let Some(channel) = pushed_channel(op) {
+        note(channel, none, owner, users);
+    }
+}
+
+/// Notes a module at the channel that its operation pops, or pushes, where none is noted.
+fn note_op(op: &Op<u32>, side: Side, none: u32, owner: u32, users: &mut [u32])
+    ensures { AreNoted none owner (λ c. is_port (port_at side c) (used_port op.now)) users.old users.new }
+{
+    match side {
+        Side::Pop => note_pop(op, none, owner, users),
+        Side::Push => note_push(op, none, owner, users),
+    }
+}
+
+/// Notes a module at the channels that a body of it pops, or pushes, where none is noted.
+fn note_ops(ops: &[Timed], side: Side, none: u32, owner: u32, users: &mut [u32])
     requires { owner < none }
-    ensures { AreNoted none owner (λ c. list_any (λ t. is_port (popping_port c) (used_port t.op)) ops.now) readers.old readers.new }
+    ensures { AreNoted none owner (λ c. list_any (λ t. is_port (port_at side c) (used_port t.op)) ops.now) users.old users.new }
 {
     for timed in ops {
-        note_op(&timed.op, none, owner, readers);
+        note_op(&timed.op, side, none, owner, users);
     }
 }
 
-/// Notes a module at the channels that it pops, where none is noted.
-fn note_module(of: &Module, none: u32, owner: u32, readers: &mut [u32])
+/// Notes a module at the channels that it pops, or pushes, where none is noted.
+fn note_module(of: &Module, side: Side, none: u32, owner: u32, users: &mut [u32])
     requires { owner < none }
-    ensures { AreNoted none owner (λ c. uses (popping_port c) of.now) readers.old readers.new }
+    ensures { AreNoted none owner (λ c. uses (port_at side c) of.now) users.old users.new }
 {
     for block in of.blocks.as_slice() {
-        note_ops(block.ops.as_slice(), none, owner, readers);
+        note_ops(block.ops.as_slice(), side, none, owner, users);
     }
 }
 
-/// The module that pops each channel of a plan; the number of modules where none does.
-pub(crate) fn find_readers(alloc: Global, plan: &Plan) -> Result<Vec<u32>, OutOfMemory>
+/// The module that pops, or pushes, each channel of a plan; the number of modules where none does.
+pub(crate) fn find_users(alloc: Global, plan: &Plan, side: Side) -> Result<Vec<u32>, OutOfMemory>
     requires { FitsEngine plan.now }
-    ensures { IfOk result (λ readers. AreReaders plan.now readers.items) }
+    ensures { IfOk result (λ users. AreUsers plan.now side users.items) }
 {
     let modules = plan.design.modules.as_slice();
     let none = modules.len() as u32;
-    let mut readers = vec![in alloc; none; plan.design.channels.as_slice().len()]?;
+    let mut users = vec![in alloc; none; plan.design.channels.as_slice().len()]?;
     for owner in 0..none {
         note_module(
             &modules[owner as usize],
+            side,
             none,
             owner,
-            readers.as_mut_slice(),
+            users.as_mut_slice(),
         );
     }
-    Ok(readers)
+    Ok(users)
 }

@@ -9,6 +9,7 @@ ghost use Rattle.sim_core.specs.Runs.{IsRunOf};
 
 use crate::actions::Action;
 use crate::machine::Core;
+use crate::opening::ports_of;
 use crate::replies::find_replies;
 use engine_view::{emit_step, make_room};
 use event_graph::Place;
@@ -149,7 +150,7 @@ impl Core {
             &mut self.log,
             &mut self.credits,
             owner,
-            self.ports.as_slice(),
+            ports_of(&self.ports, owner),
             queries,
         )?;
         match run.advance()? {

@@ -7,10 +7,10 @@ ghost use Rattle.sim_core.specs.Views.{theory_of};
 ghost use Rattle.sim_core.specs.Drives.{Goes, GoesOn, HasTimed, HasVisited};
 
 use crate::actions::Action;
+use crate::beside::bits_at;
 use crate::machine::Core;
 use engine_view::{Timing, bit_of};
-use event_graph::{Access, Place};
-use flow_word::{OutOfMemory, Steps, Words};
+use flow_word::{OutOfMemory, Steps};
 use module_interp::ModuleRun;
 use outcome_guard::Query;
 use std::sync::ledger::Ledger;
@@ -116,7 +116,7 @@ impl Core {
         // The core agrees with its plan.
         let _count = self.modules();
         if self.run_with(owner, run)? {
-            Ok(Some(self.wake_newest(owner)))
+            Ok(Some(self.bits_beside(owner)))
         } else {
             Ok(None)
         }
@@ -148,63 +148,15 @@ impl Core {
         // The core agrees with its plan.
         let _count = self.modules();
         match self.time(owner, steps) {
-            Timing::Assigned(_) => Visit::Acted(self.wake_timed(owner, 0)),
-            Timing::Answered(_) => Visit::Acted(self.wake_timed(owner, 1) | bit_of(owner)),
+            Timing::Assigned(_) => Visit::Acted(self.bits_beside(owner)),
+            Timing::Answered(_) => Visit::Acted(self.bits_beside(owner) | bit_of(owner)),
             Timing::Differs(query) => Visit::Differs(query),
             Timing::Nothing => Visit::Idle,
         }
     }
 
-    /// The other modules, as bits, that have accessed the channels of a module's newest step.
-    fn wake_newest(&mut self, owner: u32) -> u64
-        requires { owner < length self.old.plan.design.modules }
-        ensures { self.new ≡ self.old }
-    {
-        let emitted = self.graph.len(owner);
-        self.wake_before(owner, emitted)
+    /// The modules beside one, as bits.
+    fn bits_beside(&self, owner: u32) -> u64 {
+        bits_at(self.beside.as_slice(), owner)
     }
-
-    /// The same for its last step with a cycle, or so many steps behind it.
-    fn wake_timed(&mut self, owner: u32, behind: u64) -> u64
-        requires { owner < length self.old.plan.design.modules }
-        ensures { self.new ≡ self.old }
-    {
-        let timed = self.graph.frontier(owner);
-        self.wake_before(owner, timed.saturating_add(behind))
-    }
-
-    /// The same for the step before this number, where there is such a step.
-    fn wake_before(&mut self, owner: u32, number: u64) -> u64
-        requires { owner < length self.old.plan.design.modules }
-        ensures { self.new ≡ self.old }
-    {
-        if number == 0 || number > self.graph.len(owner) {
-            return 0;
-        }
-        let step = self.graph.step(Place {
-            module: owner,
-            step: number - 1,
-        });
-        wake_users(&mut self.users, step.accesses.as_slice(), bit_of(owner))
-    }
-}
-
-/// Adds a module's bit at each channel that it accesses, and gives the bits of all other modules there.
-fn wake_users(users: &mut Words, accesses: &[Access], bit: u64) -> u64 {
-    let mut bits = 0;
-    for access in accesses {
-        bits |= add_user(users, access.channel, bit);
-    }
-    bits & !bit
-}
-
-/// Adds a module's bit at a channel, and gives the bits of all modules there.
-fn add_user(users: &mut Words, channel: u32, bit: u64) -> u64 {
-    let users = users.as_mut_slice();
-    let at = channel as usize;
-    if at >= users.len() {
-        return 0;
-    }
-    users[at] |= bit;
-    users[at]
 }

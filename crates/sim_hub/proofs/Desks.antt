@@ -17,7 +17,8 @@ use Rattle.run_ahead.specs.Mails.{IsBurst}
 use Rattle.run_ahead.specs.Working.{StandsSomewhere}
 use Rattle.sim_core.specs.Runs.{IsRunOf, rest_behind}
 use Rattle.sim_core.specs.Tasks.{IsTaskOf, IsTaskFor, committed, rest_of}
-use Rattle.sim_core.proofs.Tasks.{committed_waits, committed_goes, task_for, task_stays, burst_has_marks}
+use Rattle.sim_core.proofs.Committed.{committed_waits, committed_goes}
+use Rattle.sim_core.proofs.Tasks.{task_for, task_stays, burst_has_marks}
 use Rattle.turn_history.specs.declared.turn.HubTurn.{HubTurn}
 use Rattle.turn_history.specs.Turned.{Turned, lent_at}
 use Rattle.turn_history.specs.Turns.{TurnsOf, AreOfOthers}

@@ -1,5 +1,5 @@
 -- The passes of a hub that was just opened, and how many it has made.
-use Rattle.std.proofs.Common.{◌≡◌, refl, sym, ◌∙◌, subst, ℕ, List, [], length}
+use Rattle.std.proofs.Common.{◌≡◌, refl, sym, ◌∙◌, subst, List, [], length}
 use Rattle.std.proofs.Math.Logic.{∥∥₁_elim}
 use Rattle.flow_design.specs.declared.plan.Plan.{Plan}
 use Rattle.timing_bridge.specs.Designs.{design}

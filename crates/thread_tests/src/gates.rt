@@ -5,7 +5,7 @@ ghost use Rattle.sim_hub.specs.Hubs.{IsBurstOn};
 
 use run_threads::{Burst, Gate, Task, work};
 use std::alloc::Global;
-use std::sync::atomic::{AtomicBool, Ordering};
+use std::sync::atomic::{AtomicBool, AtomicU64, Ordering};
 use std::sync::{Mutex, Wait};
 use std::thread::yield_now;
 
@@ -67,6 +67,29 @@ impl Gate for Meeting {
             1 => self.meet(1, 0),
             _ => {}
         }
+        work(alloc, task)
+    }
+}
+
+/// Each burst waits until so many have begun.
+#[derive(Drop)]
+pub struct Gathering {
+    pub wanted: u64,
+    pub begun: AtomicU64,
+    /// One waited in vain.
+    pub missed: AtomicBool,
+}
+
+impl Gate for Gathering {
+    fn burst(&self, alloc: Global, _owner: u32, task: Task) -> Burst {
+        self.begun.fetch_add(1, Ordering::SeqCst);
+        for _ in 0..TURNS {
+            if self.begun.load(Ordering::SeqCst) >= self.wanted {
+                return work(alloc, task);
+            }
+            yield_now();
+        }
+        self.missed.store(true, Ordering::SeqCst);
         work(alloc, task)
     }
 }

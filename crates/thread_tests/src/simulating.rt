@@ -1,11 +1,12 @@
 //! Whole simulations with threads.
-use crate::gates::{Meeting, Notes, Slow};
+use crate::gates::{Gathering, Meeting, Notes, Slow};
 use clock_machine::clock_run;
 use flow_design::Report;
 use flow_gen::generate;
 use run_threads::{FreeGate, Gate, HubTurn, Threaded, run_threads, run_threads_started};
+use std::alloc::Global;
 use std::process::Abort;
-use std::sync::atomic::{AtomicBool, Ordering};
+use std::sync::atomic::{AtomicBool, AtomicU64, Ordering};
 use std::sync::{Mutex, Wait};
 use std::test::Fail;
 use std::thread::Threads;
@@ -57,6 +58,76 @@ fn first_bursts_meet(rt: HostRuntime) -> Result<(), Fail> {
     assert!(rt; are_noted(&threaded.turns, &[(0, 3)], 0));
     assert!(rt; are_noted(&threaded.turns, &[(1, 1), (1, 2)], 1));
     Ok(())
+}
+
+/// Five modules, each with a sink of its own.
+const FIVE_MODULES: &[u8] = b"\
+flow 1
+sink a 8
+sink b 8
+sink c 8
+sink d 8
+sink e 8
+module m
+block k 1
+at 0 write a 1
+stop
+module n
+block k 1
+at 0 write b 1
+stop
+module o
+block k 1
+at 0 write c 1
+stop
+module p
+block k 1
+at 0 write d 1
+stop
+module q
+block k 1
+at 0 write e 1
+stop
+end
+";
+
+#[test]
+fn each_module_has_a_thread(rt: HostRuntime) -> Result<(), Fail> {
+    let gate = Gathering {
+        wanted: 5,
+        begun: AtomicU64::new(0),
+        missed: AtomicBool::new(false),
+    };
+    let plan = read_plan(rt.alloc(), FIVE_MODULES)?;
+    let threaded = run_threads(&rt, rt.alloc(), plan, &gate)?;
+    assert!(rt; !gate.missed.load(Ordering::SeqCst));
+    for owner in 0..5u32 {
+        assert!(rt; are_noted(&threaded.turns, &[(owner, 2)], owner));
+    }
+    Ok(())
+}
+
+/// A module that reads 2,000 values of a source, one after the other.
+fn many_values(alloc: Global) -> Result<Vec<u8>, Fail> {
+    let mut text = Vec::new(alloc);
+    text.extend_from_slice(
+        b"flow 1\nsource a 8\nsink y 8\nmodule m\nreg x 8\nreg n 16\nreg go 1\n",
+    )?;
+    text.extend_from_slice(b"loop l 1 2 while go\nat 0 read a x\nat 0 set n + n 1\n")?;
+    text.extend_from_slice(b"at 0 set go <u n 1999\nat 1 write y x\nstop\ninput a")?;
+    for _ in 0..2_000 {
+        text.extend_from_slice(b" 7")?;
+    }
+    text.extend_from_slice(b"\nend\n")?;
+    Ok(text)
+}
+
+#[test]
+fn many_blocking_reads(rt: HostRuntime) -> Result<(), Fail> {
+    let text = many_values(rt.alloc())?;
+    let expected = clock_run(rt.alloc(), &read_plan(rt.alloc(), &text)?)?;
+    is_reported(&rt, &text, 1, &expected)?;
+    is_reported(&rt, &text, 0, &expected)
 }
 
 #[test]

@@ -12,7 +12,7 @@ loop-idle-smaller-in-Assigned g c =
     still_went (stored c.loop-idle.graph c.loop-idle.fifos c.loop-idle.log)
     (stored c.time_first.new.graph c.time_first.new.fifos c.time_first.new.log) c.modules-count.result c.loop-idle.idle c.loop-idle.hints _
     (c.in-Assigned.ensures.less refl)
-    (or_lt 64 c.loop-idle.hints c.woken-hints.result (Fits-lt-pow c.loop-idle.auto.hints-fits) c.woken-hints.type_inv)
+    (or_lt 64 c.loop-idle.hints c.bits_beside-hints.result (Fits-lt-pow c.loop-idle.auto.hints-fits) c.bits_beside-hints.type_inv)
 
 pub loop-idle-preserved-in-Assigned : goal.loop-idle-preserved-in-Assigned
 loop-idle-preserved-in-Assigned g c =

@@ -1,63 +1,74 @@
-use Rattle.std.proofs.Common.{refl}
-use Rattle.run_ahead.proofs.Going.{stop_short, stop_over, stop_waiting, go_more}
+use Rattle.std.proofs.Common.{refl, sym, subst, List}
+use Rattle.flow_design.specs.declared.state.Advance.{Advance}
+use Rattle.run_ahead.specs.Working.{IsSoFar, task_of}
+use Rattle.run_ahead.proofs.Finding.{left_none}
+use Rattle.run_ahead.proofs.Going.{so_far_none, stop_short, stop_over, stop_waiting, go_more}
 use Rattle.run_ahead.proofs.mail.go_on.Goals as goal
 
 pub returns-in-Err : goal.returns-in-Err
-returns-in-Err c = λ p i o s.
-    let f = c.loop-left.invariant.so_far p i o s in
-    stop_short p i c.args.mail.now o c.args.read.now c.loop-left.read c.loop-left.marks c.loop-left.run f c.emit.new.marks c.emit.new.run
-    (c.in-Err.ensures.stands p i f.at f.stands) c.in-Err.ensures.goes c.in-Err.ensures.err
+returns-in-Err c = λ p i o s mail taken k.
+    let f = c.loop-left.invariant.so_far p i o s mail taken k in
+    stop_short p i mail o c.args.told.now taken c.loop-left.told c.loop-left.mail c.loop-left.marks c.loop-left.run f c.emit.new.marks
+    c.emit.new.run (c.in-Err.ensures.stands p i f.at f.stands) c.in-Err.ensures.goes c.in-Err.ensures.err
 
 pub answer-requires-clause-stands : goal.answer-requires-clause-stands
 answer-requires-clause-stands c =
     let (p, (i, (o, s))) = c.requires.stands in
-    let f = c.loop-left.invariant.so_far p i o s in
+    let f = c.loop-left.invariant.so_far p i o s c.args.mail.now _ (left_none c.args.mail.now) in
     (p, (i, (f.at, c.in-Ok-true.ensures.stands p i f.at f.stands)))
 
 pub loop-left-preserved : goal.loop-left-preserved
 loop-left-preserved c = record {
-  so_far = λ p i o s.
-      let f = c.loop-left.invariant.so_far p i o s in
+  so_far = λ p i o s mail taken k.
+      let f = c.loop-left.invariant.so_far p i o s mail taken k in
       let t = c.in-Ok-true.ensures.stands p i f.at f.stands in
-      go_more p i c.args.mail.now o c.args.read.now c.loop-left.read c.loop-left.marks c.loop-left.run f c.emit.new.marks c.emit.new.run t _
-      c.in-Ok-true.ensures.emitted c.in-Ok-true.field-0-test c.answer.new.run c.answer.new.read
-      (c.in-Ok-true-answer.ensures.fed c.in-Ok-true-answer.field-0-test p i f.at t);
+      go_more p i mail o c.args.told.now taken c.loop-left.told c.loop-left.mail c.loop-left.marks c.loop-left.run f c.emit.new.marks
+      c.emit.new.run t _ c.in-Ok-true.ensures.emitted c.in-Ok-true.field-0-test c.answer.new.run c.answer.new.told c.answer.new.mail
+      (c.in-Ok-true-answer.ensures.fed c.in-Ok-true-answer.field-0-test p i f.at t mail f.taken_now f.is_left);
   goes = c.in-Ok-true-answer.ensures.goes c.in-Ok-true-answer.field-0-test;
-  room = c.answer.ensures.room;
 }
 
 pub returns-in-Ok-false-answer : goal.returns-in-Ok-false-answer
-returns-in-Ok-false-answer c = λ p i o s.
-    let f = c.loop-left.invariant.so_far p i o s in
+returns-in-Ok-false-answer c = λ p i o s mail taken k.
+    let f = c.loop-left.invariant.so_far p i o s mail taken k in
     let t = c.in-Ok-true.ensures.stands p i f.at f.stands in
-    stop_waiting p i c.args.mail.now o c.args.read.now c.loop-left.read c.loop-left.marks c.loop-left.run f c.emit.new.marks c.emit.new.run
-    t _ c.in-Ok-true.ensures.emitted c.in-Ok-true.field-0-test _ c.answer.new.run
-    (c.in-Ok-false-answer.ensures.waiting c.in-Ok-false-answer.field-0-test)
-    (λ e. c.in-Ok-false-answer.ensures.missing c.in-Ok-false-answer.field-0-test p i f.at t)
+    let same = c.in-Ok-false-answer.ensures.waiting c.in-Ok-false-answer.field-0-test in
+    stop_waiting p i mail o c.args.told.now taken c.loop-left.told c.loop-left.mail c.loop-left.marks c.loop-left.run f c.emit.new.marks
+    c.emit.new.run t _ c.in-Ok-true.ensures.emitted c.in-Ok-true.field-0-test _ (task_of c.answer.new.run c.answer.new.mail) same.0 same.1
+    (λ e. c.in-Ok-false-answer.ensures.missing c.in-Ok-false-answer.field-0-test p i f.at t mail f.taken_now f.is_left)
 
 pub returns-in-Err-answer : goal.returns-in-Err-answer
-returns-in-Err-answer c = λ p i o s.
-    let f = c.loop-left.invariant.so_far p i o s in
+returns-in-Err-answer c = λ p i o s mail taken k.
+    let f = c.loop-left.invariant.so_far p i o s mail taken k in
     let t = c.in-Ok-true.ensures.stands p i f.at f.stands in
-    stop_waiting p i c.args.mail.now o c.args.read.now c.loop-left.read c.loop-left.marks c.loop-left.run f c.emit.new.marks c.emit.new.run
-    t _ c.in-Ok-true.ensures.emitted c.in-Ok-true.field-0-test _ c.answer.new.run
-    c.in-Err-answer.ensures.err (λ e. cc)
+    let same = c.in-Err-answer.ensures.err in
+    stop_waiting p i mail o c.args.told.now taken c.loop-left.told c.loop-left.mail c.loop-left.marks c.loop-left.run f c.emit.new.marks
+    c.emit.new.run t _ c.in-Ok-true.ensures.emitted c.in-Ok-true.field-0-test _ (task_of c.answer.new.run c.answer.new.mail) same.0 same.1
+    (λ e. cc)
 
 pub returns : goal.returns
-returns c = λ p i o s.
-    let f = c.loop-left.invariant.so_far p i o s in
-    stop_short p i c.args.mail.now o c.args.read.now c.loop-left.read c.loop-left.marks c.loop-left.run f c.loop-left.marks c.loop-left.run
-    f.stands c.loop-left.invariant.goes refl
+returns c = λ p i o s mail taken k.
+    let f = c.loop-left.invariant.so_far p i o s mail taken k in
+    stop_short p i mail o c.args.told.now taken c.loop-left.told c.loop-left.mail c.loop-left.marks c.loop-left.run f c.loop-left.marks
+    c.loop-left.run f.stands c.loop-left.invariant.goes refl
 
 pub emit-requires-clause-stands : goal.emit-requires-clause-stands
 emit-requires-clause-stands c =
     let (p, (i, (o, s))) = c.requires.stands in
-    let f = c.loop-left.invariant.so_far p i o s in
+    let f = c.loop-left.invariant.so_far p i o s c.args.mail.now _ (left_none c.args.mail.now) in
     (p, (i, (f.at, f.stands)))
 
 pub returns-in-Ok-false : goal.returns-in-Ok-false
-returns-in-Ok-false c = λ p i o s.
-    let f = c.loop-left.invariant.so_far p i o s in
+returns-in-Ok-false c = λ p i o s mail taken k.
+    let f = c.loop-left.invariant.so_far p i o s mail taken k in
     let t = c.in-Ok-false.ensures.stands p i f.at f.stands in
-    stop_over p i c.args.mail.now o c.args.read.now c.loop-left.read c.loop-left.marks c.loop-left.run f c.emit.new.marks c.emit.new.run t _
-    c.in-Ok-false.ensures.emitted c.in-Ok-false.field-0-test
+    stop_over p i mail o c.args.told.now taken c.loop-left.told c.loop-left.mail c.loop-left.marks c.loop-left.run f c.emit.new.marks
+    c.emit.new.run t _ c.in-Ok-false.ensures.emitted c.in-Ok-false.field-0-test
+
+pub loop-left-init : goal.loop-left-init
+loop-left-init c = record {
+  so_far = λ p i o s mail taken k.
+      subst (λ (marks : List Advance). IsSoFar p i mail o c.args.told.now taken marks c.args.run.now c.args.told.now c.args.mail.now)
+      (sym c.requires.none) (so_far_none p i mail o c.args.told.now taken c.args.run.now c.args.mail.now s k);
+  goes = c.requires.goes;
+}

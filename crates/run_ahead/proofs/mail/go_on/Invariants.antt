@@ -2,7 +2,7 @@ use Rattle.run_ahead.specs.Working.{IsGoingOn}
 use Rattle.run_ahead.proofs.mail.go_on.Given as goal
 
 abbrev pub invariant-loop-left : goal.invariant-loop-left
-invariant-loop-left l = IsGoingOn l.mail l.initial.run l.initial.read l.marks l.run l.read
+invariant-loop-left l = IsGoingOn l.initial.mail l.initial.run l.initial.told l.marks l.run l.told l.mail
 
 abbrev pub decreases-loop-left : goal.decreases-loop-left
 decreases-loop-left l = l.left

@@ -1,4 +1,4 @@
-use Rattle.std.proofs.Common.{rules, arith, [], ◌∷◌, ◌++◌, ◌≡◌, ◌+◌, length, ap, sym, ◌∙◌, subst, append_assoc, length-append}
+use Rattle.std.proofs.Common.{rules, arith, [], ◌∷◌, ◌++◌, ◌≡◌, length, ap, sym, ◌∙◌, subst, append_assoc, length-append}
 use Rattle.sim_hub.specs.Hubs.{hub_id}
 use Rattle.sim_hub.specs.Closings.{AreOfHub, AllHome}
 use Rattle.run_threads.specs.Driving.{IsHere}

@@ -1,7 +1,6 @@
-use Rattle.std.proofs.Common.{arith, List, [], ◌∷◌, ◌++◌, ◌≡◌, ◌+◌, Some, length, slice_get, ap, sym, ◌∙◌, subst, append_assoc}
+use Rattle.std.proofs.Common.{arith, List, [], ◌∷◌, ◌++◌, ◌≡◌, Some, length, slice_get, ap, sym, ◌∙◌, subst, append_assoc}
 use Rattle.std.proofs.Common.{length-append}
 use Rattle.run_threads.specs.declared.drive.Seat.{Seat}
-use Rattle.run_threads.specs.declared.start.Slot.{Slot}
 use Rattle.run_threads.specs.Slots.{SlotIs, AreSlots, passes_in}
 use Rattle.run_threads.proofs.Lists.{all-snoc}
 use Rattle.run_threads.proofs.Places.{seat_here}

@@ -65,7 +65,7 @@ returns c =
     returning.drop_all c.loop-at.marks c.loop-at.at (omega arith) in
     record {
       core = λ p out last t. (c.loop-at.invariant.on p out last t).room.core;
-      run = λ p out last t.
+      left = λ p out last t.
           returning.on_way_all p (core_in p (stored c.loop-at.graph c.loop-at.fifos c.args.log.now) c.loop-at.ends.items) c.args.owner
           t.task.mail t.short last
           (subst (λ (left : List Advance).

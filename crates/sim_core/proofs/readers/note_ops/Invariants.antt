@@ -2,10 +2,10 @@ use Rattle.std.proofs.Common.{drop}
 use Rattle.std.specs.List.{list_any}
 use Rattle.flow_design.specs.Operations.{used_port}
 use Rattle.flow_design.specs.StaticRules.{is_port}
-use Rattle.sim_core.specs.Readers.{popping_port, IsNoting}
+use Rattle.sim_core.specs.Readers.{port_at, IsNoting}
 use Rattle.sim_core.proofs.readers.note_ops.Given as goal
 
 abbrev pub invariant-loop-timed : goal.invariant-loop-timed
 invariant-loop-timed l =
-    IsNoting l.none l.owner (λ c. list_any (λ t. is_port (popping_port c) (used_port t.op)) (drop l.timed-index l.ops))
-    (λ c. list_any (λ t. is_port (popping_port c) (used_port t.op)) l.ops) l.initial.readers l.readers
+    IsNoting l.none l.owner (λ c. list_any (λ t. is_port (port_at l.side c) (used_port t.op)) (drop l.timed-index l.ops))
+    (λ c. list_any (λ t. is_port (port_at l.side c) (used_port t.op)) l.ops) l.initial.users l.users

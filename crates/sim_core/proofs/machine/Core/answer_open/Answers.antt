@@ -35,6 +35,9 @@ invariant_of-self c =
           c.answer_first.ensures.kinds;
       ports_are = c.self.invariant.ports_are;
       readers_are = c.self.invariant.readers_are;
+      unread_are = turning.unread_answered c.self.inside.plan s t c.self.inside.ends.items c.self.inside.runs.items
+          c.self.inside.credits.items k c.args.owner c.args.cycle may c.answer_first.result c.self.inside.unread
+          c.answer_first.ensures.answered c.self.invariant.unread_are;
       candidate_count = c.self.invariant.candidate_count;
     }
 

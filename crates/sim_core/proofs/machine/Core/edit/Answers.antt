@@ -5,7 +5,8 @@ use Rattle.event_timing.specs.Actions.{IsFinal}
 use Rattle.timing_bridge.specs.Designs.{design}
 use Rattle.engine_view.specs.Stored.{stored, held_in}
 use Rattle.sim_core.specs.Edits.{IsEdited, IsTrueGuard}
-use Rattle.sim_core.specs.Runs.{IsStoredCore, lent_of, over_of}
+use Rattle.sim_core.specs.Runs.{IsStoredCore, AreUnreadIn, lent_of, over_of}
+use Rattle.sim_core.proofs.Leaving.{unread_none}
 use Rattle.sim_core.specs.Views.{CoreView, theory_of}
 use Rattle.sim_core.proofs.EditedRuns.{channel_inside, fifo_there}
 use Rattle.sim_core.proofs.Editing as editing
@@ -61,12 +62,14 @@ invariant_of-self g c =
     let core = editing.core_edited i.plan s i.ends.items i.runs.items i.credits.items k e fit final t c.retime.result
     (unwrap_or c.first_touched-from.result i.plan.cycles) from c.retime.ensures.retimed c.retime.ensures.steps_stay c.retime.ensures.room
     c.retime.ensures.kinds in
-    subst (λ (q : Plan). IsStoredCore q t i.ends.items i.runs.items i.credits.items i.ports i.readers.items i.candidates.items)
+    subst (λ (q : Plan). IsStoredCore q t i.ends.items i.runs.items i.credits.items i.ports i.readers.items
+    c.truncate.new.self i.candidates.items)
     (sym c.edit_plan.ensures)
     (record {
       core = core;
-      ports_are = c.self.invariant.ports_are;
+      ports_are = editing.ports_edited i.plan e.channel e.depth i.ports c.self.invariant.ports_are;
       readers_are = editing.readers_edited i.plan e.channel e.depth i.readers.items c.self.invariant.readers_are;
+      unread_are = subst (AreUnreadIn (with_depth i.plan e.channel e.depth) t i.ends.items) (sym c.truncate.ensures) (unread_none _ _);
       candidate_count = c.self.invariant.candidate_count;
     })
 

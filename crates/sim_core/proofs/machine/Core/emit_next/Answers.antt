@@ -7,9 +7,11 @@ use Rattle.engine_view.specs.Held.{emitted_of, core_of}
 use Rattle.engine_view.specs.Stored.{stored, held_in}
 use Rattle.engine_view.proofs.Roomy.{few_queries}
 use Rattle.timing_bridge.specs.Designs.{design}
-use Rattle.sim_core.specs.Opening.{all_ports}
 use Rattle.sim_core.specs.Runs.{over_of, rest_behind}
 use Rattle.sim_core.proofs.Emitting as emitting
+use Rattle.event_timing.specs.Actions.Action.{Run}
+use Rattle.sim_core.proofs.Returning as returning
+use Rattle.sim_core.proofs.Leaving as unread
 use Rattle.sim_core.proofs.Lending as lending
 use Rattle.sim_core.proofs.Marking.{table_count}
 use Rattle.sim_core.proofs.Ports.{all_there, all_within}
@@ -18,9 +20,13 @@ use Rattle.sim_core.proofs.machine.Core.emit_next.Goals as goal
 pub make_room-requires-clause-ports : goal.make_room-requires-clause-ports
 make_room-requires-clause-ports c =
     let k = c.self.invariant.core in
-    all_within (length c.self.inside.plan.design.channels) (length c.self.inside.fifos.channels) c.as_slice.result.now
-    (sym (table_count c.self.inside.plan c.self.inside.fifos.channels k.table))
-    (c.as_slice.ensures ∙ c.self.invariant.ports_are)
+    all_within c.self.inside.plan c.args.owner (length c.self.inside.fifos.channels) c.ports_of.result.now
+    (table_count c.self.inside.plan c.self.inside.fifos.channels k.table)
+    (c.ports_of.ensures ∙ c.self.invariant.ports_are.each c.args.owner (rw (← c.self.view_is) at c.requires.owner))
+
+pub ports_of-requires : goal.ports_of-requires
+ports_of-requires c =
+    let a = rw (← c.self.view_is) at c.requires.owner in let n = c.self.invariant.ports_are.count in omega arith
 
 pub invariant_of-self : goal.invariant_of-self
 invariant_of-self c =
@@ -32,14 +38,17 @@ invariant_of-self c =
     let others = c.make_room.new.credits.items in
     let same : held_in t (over_of ends) ≡ held_in s (over_of ends) = lending.held_same s t (over_of ends) c.make_room.ensures.lanes
     c.make_room.ensures.channels c.make_room.ensures.logs in
-    let ports = all_there (design p) c.args.owner (length c.self.inside.fifos.channels) c.as_slice.result.now
-    (c.as_slice.ensures ∙ (c.self.invariant.ports_are ∙ ap all_ports (sym (table_count p c.self.inside.fifos.channels k.table)))) in
+    let ports = all_there p c.args.owner (length c.self.inside.fifos.channels) c.ports_of.result.now
+    (table_count p c.self.inside.fifos.channels k.table)
+    (c.ports_of.ensures ∙ c.self.invariant.ports_are.each c.args.owner (rw (← c.self.view_is) at c.requires.owner)) in
     let room = c.make_room.ensures.room (design p) (over_of ends) ports k.room in
     record {
       core = lending.core_roomed p s ends c.self.inside.runs.items c.self.inside.credits.items others t k same
           c.make_room.ensures.credits room;
       ports_are = c.self.invariant.ports_are;
       readers_are = c.self.invariant.readers_are;
+      unread_are = unread.unread_same p (held_in s (over_of ends)) (held_in t (over_of ends)) c.self.inside.unread same
+          c.self.invariant.unread_are;
       candidate_count = c.self.invariant.candidate_count;
     }
 
@@ -53,8 +62,9 @@ returns-in_err-make_room-clause-run c =
     let others = c.make_room.new.credits.items in
     let same : held_in t (over_of ends) ≡ held_in s (over_of ends) = lending.held_same s t (over_of ends) c.make_room.ensures.lanes
     c.make_room.ensures.channels c.make_room.ensures.logs in
-    let ports = all_there (design p) c.args.owner (length c.self.inside.fifos.channels) c.as_slice.result.now
-    (c.as_slice.ensures ∙ (c.self.invariant.ports_are ∙ ap all_ports (sym (table_count p c.self.inside.fifos.channels k.table)))) in
+    let ports = all_there p c.args.owner (length c.self.inside.fifos.channels) c.ports_of.result.now
+    (table_count p c.self.inside.fifos.channels k.table)
+    (c.ports_of.ensures ∙ c.self.invariant.ports_are.each c.args.owner (rw (← c.self.view_is) at c.requires.owner)) in
     let room = c.make_room.ensures.room (design p) (over_of ends) ports k.room in
     let r = emitting.ready_roomed p s t ends c.self.inside.runs.items c.self.inside.credits.items others c.args.owner c.args.run.now k same
     c.make_room.ensures.credits room
@@ -72,14 +82,17 @@ invariant_of-self-in_err-end c =
     let others = c.make_room.new.credits.items in
     let same : held_in t (over_of ends) ≡ held_in s (over_of ends) = lending.held_same s t (over_of ends) c.make_room.ensures.lanes
     c.make_room.ensures.channels c.make_room.ensures.logs in
-    let ports = all_there (design p) c.args.owner (length c.self.inside.fifos.channels) c.as_slice.result.now
-    (c.as_slice.ensures ∙ (c.self.invariant.ports_are ∙ ap all_ports (sym (table_count p c.self.inside.fifos.channels k.table)))) in
+    let ports = all_there p c.args.owner (length c.self.inside.fifos.channels) c.ports_of.result.now
+    (table_count p c.self.inside.fifos.channels k.table)
+    (c.ports_of.ensures ∙ c.self.invariant.ports_are.each c.args.owner (rw (← c.self.view_is) at c.requires.owner)) in
     let room = c.make_room.ensures.room (design p) (over_of ends) ports k.room in
     record {
       core = lending.core_roomed p s ends c.self.inside.runs.items c.self.inside.credits.items others t k same
           c.make_room.ensures.credits room;
       ports_are = c.self.invariant.ports_are;
       readers_are = c.self.invariant.readers_are;
+      unread_are = unread.unread_same p (held_in s (over_of ends)) (held_in t (over_of ends)) c.self.inside.unread same
+          c.self.invariant.unread_are;
       candidate_count = c.self.invariant.candidate_count;
     }
 
@@ -93,8 +106,9 @@ returns-in_err-end-clause-run c =
     let others = c.make_room.new.credits.items in
     let same : held_in t (over_of ends) ≡ held_in s (over_of ends) = lending.held_same s t (over_of ends) c.make_room.ensures.lanes
     c.make_room.ensures.channels c.make_room.ensures.logs in
-    let ports = all_there (design p) c.args.owner (length c.self.inside.fifos.channels) c.as_slice.result.now
-    (c.as_slice.ensures ∙ (c.self.invariant.ports_are ∙ ap all_ports (sym (table_count p c.self.inside.fifos.channels k.table)))) in
+    let ports = all_there p c.args.owner (length c.self.inside.fifos.channels) c.ports_of.result.now
+    (table_count p c.self.inside.fifos.channels k.table)
+    (c.ports_of.ensures ∙ c.self.invariant.ports_are.each c.args.owner (rw (← c.self.view_is) at c.requires.owner)) in
     let room = c.make_room.ensures.room (design p) (over_of ends) ports k.room in
     let r = emitting.ready_roomed p s t ends c.self.inside.runs.items c.self.inside.credits.items others c.args.owner c.args.run.now k same
     c.make_room.ensures.credits room
@@ -113,8 +127,9 @@ emit_step-requires-clause-sound c =
     let others = c.make_room.new.credits.items in
     let same : held_in t (over_of ends) ≡ held_in s (over_of ends) = lending.held_same s t (over_of ends) c.make_room.ensures.lanes
     c.make_room.ensures.channels c.make_room.ensures.logs in
-    let ports = all_there (design p) c.args.owner (length c.self.inside.fifos.channels) c.as_slice.result.now
-    (c.as_slice.ensures ∙ (c.self.invariant.ports_are ∙ ap all_ports (sym (table_count p c.self.inside.fifos.channels k.table)))) in
+    let ports = all_there p c.args.owner (length c.self.inside.fifos.channels) c.ports_of.result.now
+    (table_count p c.self.inside.fifos.channels k.table)
+    (c.ports_of.ensures ∙ c.self.invariant.ports_are.each c.args.owner (rw (← c.self.view_is) at c.requires.owner)) in
     let room = c.make_room.ensures.room (design p) (over_of ends) ports k.room in
     let r = emitting.ready_roomed p s t ends c.self.inside.runs.items c.self.inside.credits.items others c.args.owner c.args.run.now k same
     c.make_room.ensures.credits room
@@ -141,8 +156,9 @@ emit_step-requires-clause-after c =
     let others = c.make_room.new.credits.items in
     let same : held_in t (over_of ends) ≡ held_in s (over_of ends) = lending.held_same s t (over_of ends) c.make_room.ensures.lanes
     c.make_room.ensures.channels c.make_room.ensures.logs in
-    let ports = all_there (design p) c.args.owner (length c.self.inside.fifos.channels) c.as_slice.result.now
-    (c.as_slice.ensures ∙ (c.self.invariant.ports_are ∙ ap all_ports (sym (table_count p c.self.inside.fifos.channels k.table)))) in
+    let ports = all_there p c.args.owner (length c.self.inside.fifos.channels) c.ports_of.result.now
+    (table_count p c.self.inside.fifos.channels k.table)
+    (c.ports_of.ensures ∙ c.self.invariant.ports_are.each c.args.owner (rw (← c.self.view_is) at c.requires.owner)) in
     let room = c.make_room.ensures.room (design p) (over_of ends) ports k.room in
     let r = emitting.ready_roomed p s t ends c.self.inside.runs.items c.self.inside.credits.items others c.args.owner c.args.run.now k same
     c.make_room.ensures.credits room
@@ -169,8 +185,9 @@ emit_step-requires-clause-lane_room c =
     let others = c.make_room.new.credits.items in
     let same : held_in t (over_of ends) ≡ held_in s (over_of ends) = lending.held_same s t (over_of ends) c.make_room.ensures.lanes
     c.make_room.ensures.channels c.make_room.ensures.logs in
-    let ports = all_there (design p) c.args.owner (length c.self.inside.fifos.channels) c.as_slice.result.now
-    (c.as_slice.ensures ∙ (c.self.invariant.ports_are ∙ ap all_ports (sym (table_count p c.self.inside.fifos.channels k.table)))) in
+    let ports = all_there p c.args.owner (length c.self.inside.fifos.channels) c.ports_of.result.now
+    (table_count p c.self.inside.fifos.channels k.table)
+    (c.ports_of.ensures ∙ c.self.invariant.ports_are.each c.args.owner (rw (← c.self.view_is) at c.requires.owner)) in
     let room = c.make_room.ensures.room (design p) (over_of ends) ports k.room in
     let lane = room.steps c.args.owner in
     let rich = c.in_ok-make_room.ensures.credit in
@@ -186,8 +203,9 @@ emit_step-requires-clause-inside c =
     let others = c.make_room.new.credits.items in
     let same : held_in t (over_of ends) ≡ held_in s (over_of ends) = lending.held_same s t (over_of ends) c.make_room.ensures.lanes
     c.make_room.ensures.channels c.make_room.ensures.logs in
-    let ports = all_there (design p) c.args.owner (length c.self.inside.fifos.channels) c.as_slice.result.now
-    (c.as_slice.ensures ∙ (c.self.invariant.ports_are ∙ ap all_ports (sym (table_count p c.self.inside.fifos.channels k.table)))) in
+    let ports = all_there p c.args.owner (length c.self.inside.fifos.channels) c.ports_of.result.now
+    (table_count p c.self.inside.fifos.channels k.table)
+    (c.ports_of.ensures ∙ c.self.invariant.ports_are.each c.args.owner (rw (← c.self.view_is) at c.requires.owner)) in
     let room = c.make_room.ensures.room (design p) (over_of ends) ports k.room in
     let r = emitting.ready_roomed p s t ends c.self.inside.runs.items c.self.inside.credits.items others c.args.owner c.args.run.now k same
     c.make_room.ensures.credits room
@@ -214,8 +232,9 @@ emit_step-requires-clause-apart c =
     let others = c.make_room.new.credits.items in
     let same : held_in t (over_of ends) ≡ held_in s (over_of ends) = lending.held_same s t (over_of ends) c.make_room.ensures.lanes
     c.make_room.ensures.channels c.make_room.ensures.logs in
-    let ports = all_there (design p) c.args.owner (length c.self.inside.fifos.channels) c.as_slice.result.now
-    (c.as_slice.ensures ∙ (c.self.invariant.ports_are ∙ ap all_ports (sym (table_count p c.self.inside.fifos.channels k.table)))) in
+    let ports = all_there p c.args.owner (length c.self.inside.fifos.channels) c.ports_of.result.now
+    (table_count p c.self.inside.fifos.channels k.table)
+    (c.ports_of.ensures ∙ c.self.invariant.ports_are.each c.args.owner (rw (← c.self.view_is) at c.requires.owner)) in
     let room = c.make_room.ensures.room (design p) (over_of ends) ports k.room in
     let r = emitting.ready_roomed p s t ends c.self.inside.runs.items c.self.inside.credits.items others c.args.owner c.args.run.now k same
     c.make_room.ensures.credits room
@@ -242,8 +261,9 @@ emit_step-requires-clause-room c =
     let others = c.make_room.new.credits.items in
     let same : held_in t (over_of ends) ≡ held_in s (over_of ends) = lending.held_same s t (over_of ends) c.make_room.ensures.lanes
     c.make_room.ensures.channels c.make_room.ensures.logs in
-    let ports = all_there (design p) c.args.owner (length c.self.inside.fifos.channels) c.as_slice.result.now
-    (c.as_slice.ensures ∙ (c.self.invariant.ports_are ∙ ap all_ports (sym (table_count p c.self.inside.fifos.channels k.table)))) in
+    let ports = all_there p c.args.owner (length c.self.inside.fifos.channels) c.ports_of.result.now
+    (table_count p c.self.inside.fifos.channels k.table)
+    (c.ports_of.ensures ∙ c.self.invariant.ports_are.each c.args.owner (rw (← c.self.view_is) at c.requires.owner)) in
     let room = c.make_room.ensures.room (design p) (over_of ends) ports k.room in
     let r = emitting.ready_roomed p s t ends c.self.inside.runs.items c.self.inside.credits.items others c.args.owner c.args.run.now k same
     c.make_room.ensures.credits room
@@ -270,8 +290,9 @@ emit_step-requires-clause-few c =
     let others = c.make_room.new.credits.items in
     let same : held_in t (over_of ends) ≡ held_in s (over_of ends) = lending.held_same s t (over_of ends) c.make_room.ensures.lanes
     c.make_room.ensures.channels c.make_room.ensures.logs in
-    let ports = all_there (design p) c.args.owner (length c.self.inside.fifos.channels) c.as_slice.result.now
-    (c.as_slice.ensures ∙ (c.self.invariant.ports_are ∙ ap all_ports (sym (table_count p c.self.inside.fifos.channels k.table)))) in
+    let ports = all_there p c.args.owner (length c.self.inside.fifos.channels) c.ports_of.result.now
+    (table_count p c.self.inside.fifos.channels k.table)
+    (c.ports_of.ensures ∙ c.self.invariant.ports_are.each c.args.owner (rw (← c.self.view_is) at c.requires.owner)) in
     let room = c.make_room.ensures.room (design p) (over_of ends) ports k.room in
     let r = emitting.ready_roomed p s t ends c.self.inside.runs.items c.self.inside.credits.items others c.args.owner c.args.run.now k same
     c.make_room.ensures.credits room
@@ -298,8 +319,9 @@ invariant_of-self-in-Step c =
     let others = c.make_room.new.credits.items in
     let same : held_in t (over_of ends) ≡ held_in s (over_of ends) = lending.held_same s t (over_of ends) c.make_room.ensures.lanes
     c.make_room.ensures.channels c.make_room.ensures.logs in
-    let ports = all_there (design p) c.args.owner (length c.self.inside.fifos.channels) c.as_slice.result.now
-    (c.as_slice.ensures ∙ (c.self.invariant.ports_are ∙ ap all_ports (sym (table_count p c.self.inside.fifos.channels k.table)))) in
+    let ports = all_there p c.args.owner (length c.self.inside.fifos.channels) c.ports_of.result.now
+    (table_count p c.self.inside.fifos.channels k.table)
+    (c.ports_of.ensures ∙ c.self.invariant.ports_are.each c.args.owner (rw (← c.self.view_is) at c.requires.owner)) in
     let room = c.make_room.ensures.room (design p) (over_of ends) ports k.room in
     let r = emitting.ready_roomed p s t ends c.self.inside.runs.items c.self.inside.credits.items others c.args.owner c.args.run.now k same
     c.make_room.ensures.credits room
@@ -332,6 +354,15 @@ invariant_of-self-in-Step c =
       core = rw read after;
       ports_are = c.self.invariant.ports_are;
       readers_are = c.self.invariant.readers_are;
+      unread_are = unread.unread_acted p t ends c.self.inside.runs.items others
+          (lending.core_roomed p s ends c.self.inside.runs.items c.self.inside.credits.items others t k same
+          c.make_room.ensures.credits room)
+          c.self.inside.unread
+          (unread.unread_same p (held_in s (over_of ends)) (held_in t (over_of ends)) c.self.inside.unread same c.self.invariant.unread_are)
+          (Run c.args.owner) (core_of (design p) (held_in u (over_of ends)))
+          (returning.acts_in p (held_in t (over_of ends)) (held_in u (over_of ends)) _ c.args.owner held_is
+          (emitting.step_acts p t ends c.self.inside.runs.items others c.args.owner c.args.run.now r c.in-Step.step mark short
+          sound_step.small (c.gaps_are_short.ensures.least p c.args.owner)));
       candidate_count = c.self.invariant.candidate_count;
     }
 
@@ -345,8 +376,9 @@ invariant_of-self-in_default c =
     let others = c.make_room.new.credits.items in
     let same : held_in t (over_of ends) ≡ held_in s (over_of ends) = lending.held_same s t (over_of ends) c.make_room.ensures.lanes
     c.make_room.ensures.channels c.make_room.ensures.logs in
-    let ports = all_there (design p) c.args.owner (length c.self.inside.fifos.channels) c.as_slice.result.now
-    (c.as_slice.ensures ∙ (c.self.invariant.ports_are ∙ ap all_ports (sym (table_count p c.self.inside.fifos.channels k.table)))) in
+    let ports = all_there p c.args.owner (length c.self.inside.fifos.channels) c.ports_of.result.now
+    (table_count p c.self.inside.fifos.channels k.table)
+    (c.ports_of.ensures ∙ c.self.invariant.ports_are.each c.args.owner (rw (← c.self.view_is) at c.requires.owner)) in
     let room = c.make_room.ensures.room (design p) (over_of ends) ports k.room in
     let r = emitting.ready_roomed p s t ends c.self.inside.runs.items c.self.inside.credits.items others c.args.owner c.args.run.now k same
     c.make_room.ensures.credits room
@@ -363,6 +395,13 @@ invariant_of-self-in_default c =
           sound.short;
       ports_are = c.self.invariant.ports_are;
       readers_are = c.self.invariant.readers_are;
+      unread_are = unread.unread_acted p t ends c.self.inside.runs.items others
+          (lending.core_roomed p s ends c.self.inside.runs.items c.self.inside.credits.items others t k same
+          c.make_room.ensures.credits room)
+          c.self.inside.unread
+          (unread.unread_same p (held_in s (over_of ends)) (held_in t (over_of ends)) c.self.inside.unread same c.self.invariant.unread_are)
+          (Run c.args.owner) _
+          (emitting.end_acts p t ends c.self.inside.runs.items others c.args.owner c.args.run.now r c.in_ok-end.end is no_step sound.short);
       candidate_count = c.self.invariant.candidate_count;
     }
 
@@ -376,8 +415,9 @@ returns-in-Step-clause-acts c =
     let others = c.make_room.new.credits.items in
     let same : held_in t (over_of ends) ≡ held_in s (over_of ends) = lending.held_same s t (over_of ends) c.make_room.ensures.lanes
     c.make_room.ensures.channels c.make_room.ensures.logs in
-    let ports = all_there (design p) c.args.owner (length c.self.inside.fifos.channels) c.as_slice.result.now
-    (c.as_slice.ensures ∙ (c.self.invariant.ports_are ∙ ap all_ports (sym (table_count p c.self.inside.fifos.channels k.table)))) in
+    let ports = all_there p c.args.owner (length c.self.inside.fifos.channels) c.ports_of.result.now
+    (table_count p c.self.inside.fifos.channels k.table)
+    (c.ports_of.ensures ∙ c.self.invariant.ports_are.each c.args.owner (rw (← c.self.view_is) at c.requires.owner)) in
     let room = c.make_room.ensures.room (design p) (over_of ends) ports k.room in
     let r = emitting.ready_roomed p s t ends c.self.inside.runs.items c.self.inside.credits.items others c.args.owner c.args.run.now k same
     c.make_room.ensures.credits room
@@ -409,8 +449,9 @@ returns-in-Step-clause-run c =
     let others = c.make_room.new.credits.items in
     let same : held_in t (over_of ends) ≡ held_in s (over_of ends) = lending.held_same s t (over_of ends) c.make_room.ensures.lanes
     c.make_room.ensures.channels c.make_room.ensures.logs in
-    let ports = all_there (design p) c.args.owner (length c.self.inside.fifos.channels) c.as_slice.result.now
-    (c.as_slice.ensures ∙ (c.self.invariant.ports_are ∙ ap all_ports (sym (table_count p c.self.inside.fifos.channels k.table)))) in
+    let ports = all_there p c.args.owner (length c.self.inside.fifos.channels) c.ports_of.result.now
+    (table_count p c.self.inside.fifos.channels k.table)
+    (c.ports_of.ensures ∙ c.self.invariant.ports_are.each c.args.owner (rw (← c.self.view_is) at c.requires.owner)) in
     let room = c.make_room.ensures.room (design p) (over_of ends) ports k.room in
     let r = emitting.ready_roomed p s t ends c.self.inside.runs.items c.self.inside.credits.items others c.args.owner c.args.run.now k same
     c.make_room.ensures.credits room
@@ -442,8 +483,9 @@ returns-in_default-clause-acts c =
     let others = c.make_room.new.credits.items in
     let same : held_in t (over_of ends) ≡ held_in s (over_of ends) = lending.held_same s t (over_of ends) c.make_room.ensures.lanes
     c.make_room.ensures.channels c.make_room.ensures.logs in
-    let ports = all_there (design p) c.args.owner (length c.self.inside.fifos.channels) c.as_slice.result.now
-    (c.as_slice.ensures ∙ (c.self.invariant.ports_are ∙ ap all_ports (sym (table_count p c.self.inside.fifos.channels k.table)))) in
+    let ports = all_there p c.args.owner (length c.self.inside.fifos.channels) c.ports_of.result.now
+    (table_count p c.self.inside.fifos.channels k.table)
+    (c.ports_of.ensures ∙ c.self.invariant.ports_are.each c.args.owner (rw (← c.self.view_is) at c.requires.owner)) in
     let room = c.make_room.ensures.room (design p) (over_of ends) ports k.room in
     let r = emitting.ready_roomed p s t ends c.self.inside.runs.items c.self.inside.credits.items others c.args.owner c.args.run.now k same
     c.make_room.ensures.credits room
@@ -469,8 +511,9 @@ returns-in_default-clause-run c =
     let others = c.make_room.new.credits.items in
     let same : held_in t (over_of ends) ≡ held_in s (over_of ends) = lending.held_same s t (over_of ends) c.make_room.ensures.lanes
     c.make_room.ensures.channels c.make_room.ensures.logs in
-    let ports = all_there (design p) c.args.owner (length c.self.inside.fifos.channels) c.as_slice.result.now
-    (c.as_slice.ensures ∙ (c.self.invariant.ports_are ∙ ap all_ports (sym (table_count p c.self.inside.fifos.channels k.table)))) in
+    let ports = all_there p c.args.owner (length c.self.inside.fifos.channels) c.ports_of.result.now
+    (table_count p c.self.inside.fifos.channels k.table)
+    (c.ports_of.ensures ∙ c.self.invariant.ports_are.each c.args.owner (rw (← c.self.view_is) at c.requires.owner)) in
     let room = c.make_room.ensures.room (design p) (over_of ends) ports k.room in
     let r = emitting.ready_roomed p s t ends c.self.inside.runs.items c.self.inside.credits.items others c.args.owner c.args.run.now k same
     c.make_room.ensures.credits room

@@ -5,7 +5,7 @@ use Rattle.flow_design.specs.declared.design.Module.{Module}
 use Rattle.timing_bridge.specs.Designs.{design}
 use Rattle.engine_view.specs.Held.{core_of}
 use Rattle.engine_view.specs.Stored.{stored, held_in}
-use Rattle.sim_core.specs.Opening.{kinds_of, all_ports}
+use Rattle.sim_core.specs.Opening.{kinds_of}
 use Rattle.sim_core.specs.Runs.{over_of}
 use Rattle.sim_core.proofs.Beginning as beginning
 use Rattle.sim_core.proofs.machine.Core.new.Goals as goal
@@ -32,8 +32,9 @@ invariant_of-result c =
       core = beginning.core_begun c.args.plan c.requires n (ap (λ (xs : List Module). length xs) c.as_slice.ensures) s
           c.in_ok-ends.ends.items c.in_ok-runs.runs.items c.in_ok-credits.credits.items is over
           c.in_ok-runs.ensures (c.in_ok-credits.ensures.items_if_clones_equal (λ x e. e));
-      ports_are = c.in_ok-ports.ensures ∙ ap all_ports c.len.ensures;
+      ports_are = c.in_ok-ports.ensures;
       readers_are = c.in_ok-readers.ensures;
+      unread_are = c.in_ok-unread.ensures _ _;
       candidate_count = c.in_ok-candidates.ensures ∙ ap (λ (xs : List Module). length xs) c.as_slice.ensures;
     }
 

@@ -21,6 +21,7 @@ invariant_of-self-2 c =
           (λ run e. let no : Some run ≡ None = sym e ∙ empty in cc);
       ports_are = c.self.invariant.ports_are;
       readers_are = c.self.invariant.readers_are;
+      unread_are = c.self.invariant.unread_are;
       candidate_count = c.self.invariant.candidate_count;
     }
 
@@ -60,6 +61,7 @@ invariant_of-self-3 c =
           c.self-2.view_is c.run_stretch-woken.ensures.run));
       ports_are = c.self-2.invariant.ports_are;
       readers_are = c.self-2.invariant.readers_are;
+      unread_are = c.self-2.invariant.unread_are;
       candidate_count = c.self-2.invariant.candidate_count;
     }
 

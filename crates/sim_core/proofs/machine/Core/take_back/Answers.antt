@@ -1,11 +1,10 @@
-use Rattle.std.proofs.Common.{◌≡◌, sym, ap, subst, ◌∙◌, ◌<◌, false, length, slice_set, Some, is_none, arith}
+use Rattle.std.proofs.Common.{◌≡◌, ℕ, List, sym, ap, subst, ◌∙◌, ◌<◌, false, length, slice_set, Some, is_none, arith}
 use Rattle.std.proofs.lemmas.List.{map-set}
 use Rattle.event_timing.specs.Actions.{ActsAll, runs}
 use Rattle.timing_bridge.specs.Designs.{design}
 use Rattle.module_interp.specs.declared.run.ModuleRun.{ModuleRun}
 use Rattle.engine_view.specs.Held.{Held, core_of}
 use Rattle.engine_view.specs.Stored.{stored, held_in}
-use Rattle.sim_core.specs.Opening.{all_ports}
 use Rattle.sim_core.specs.Returned.{core_in}
 use Rattle.sim_core.specs.Runs.{over_of, IsRunOf}
 use Rattle.sim_core.specs.Tasks.{IsBurstOf}
@@ -13,14 +12,23 @@ use Rattle.sim_core.specs.Views.{CoreView, theory_of}
 use Rattle.sim_core.proofs.Lending as lending
 use Rattle.sim_core.proofs.Marking.{table_count}
 use Rattle.sim_core.proofs.Ports.{all_there, all_within}
+use Rattle.event_timing.specs.Core.{core_values}
+use Rattle.run_ahead.specs.Mails.{task_left}
+use Rattle.sim_core.proofs.Leaving.{unread_same, unread_ran}
+use Rattle.sim_core.proofs.Lends as lends
 use Rattle.sim_core.proofs.Returning as returning
 use Rattle.sim_core.proofs.machine.Core.take_back.Goals as goal
 
 pub make_room_for-requires-clause-ports : goal.make_room_for-requires-clause-ports
 make_room_for-requires-clause-ports c =
     let k = c.self.invariant.core in
-    all_within (length c.self.inside.plan.design.channels) (length c.self.inside.fifos.channels) c.as_slice.result.now
-    (sym (table_count c.self.inside.plan c.self.inside.fifos.channels k.table)) (c.as_slice.ensures ∙ c.self.invariant.ports_are)
+    all_within c.self.inside.plan c.args.owner (length c.self.inside.fifos.channels) c.ports_of.result.now
+    (table_count c.self.inside.plan c.self.inside.fifos.channels k.table)
+    (c.ports_of.ensures ∙ c.self.invariant.ports_are.each c.args.owner (rw (← c.self.view_is) at c.requires.owner))
+
+pub ports_of-requires : goal.ports_of-requires
+ports_of-requires c =
+    let a = rw (← c.self.view_is) at c.requires.owner in let n = c.self.invariant.ports_are.count in omega arith
 
 pub invariant_of-self : goal.invariant_of-self
 invariant_of-self c =
@@ -33,14 +41,17 @@ invariant_of-self c =
     let others = c.make_room_for.new.credits.items in
     let same : held_in t (over_of ends) ≡ held_in s (over_of ends) =
     lending.held_same s t (over_of ends) c.make_room_for.ensures.lanes c.make_room_for.ensures.channels c.make_room_for.ensures.logs in
-    let ports = all_there (design p) c.args.owner (length c.self.inside.fifos.channels) c.as_slice.result.now
-    (c.as_slice.ensures ∙ (c.self.invariant.ports_are ∙ ap all_ports (sym (table_count p c.self.inside.fifos.channels k.table)))) in
+    let ports = all_there p c.args.owner (length c.self.inside.fifos.channels) c.ports_of.result.now
+    (table_count p c.self.inside.fifos.channels k.table)
+    (c.ports_of.ensures ∙ c.self.invariant.ports_are.each c.args.owner (rw (← c.self.view_is) at c.requires.owner)) in
     let room = c.make_room_for.ensures.room (design p) (over_of ends) ports k.room in
     let core = lending.core_roomed p s ends out c.self.inside.credits.items others t k same c.make_room_for.ensures.credits room in
     record {
       core = core;
       ports_are = c.self.invariant.ports_are;
       readers_are = c.self.invariant.readers_are;
+      unread_are = unread_same p (held_in s (over_of ends)) (held_in t (over_of ends)) c.self.inside.unread same
+          c.self.invariant.unread_are;
       candidate_count = c.self.invariant.candidate_count;
     }
 
@@ -55,16 +66,50 @@ record_all-requires-clause-returned c =
     let others = c.make_room_for.new.credits.items in
     let same : held_in t (over_of ends) ≡ held_in s (over_of ends) =
     lending.held_same s t (over_of ends) c.make_room_for.ensures.lanes c.make_room_for.ensures.channels c.make_room_for.ensures.logs in
-    let ports = all_there (design p) c.args.owner (length c.self.inside.fifos.channels) c.as_slice.result.now
-    (c.as_slice.ensures ∙ (c.self.invariant.ports_are ∙ ap all_ports (sym (table_count p c.self.inside.fifos.channels k.table)))) in
+    let ports = all_there p c.args.owner (length c.self.inside.fifos.channels) c.ports_of.result.now
+    (table_count p c.self.inside.fifos.channels k.table)
+    (c.ports_of.ensures ∙ c.self.invariant.ports_are.each c.args.owner (rw (← c.self.view_is) at c.requires.owner)) in
     let room = c.make_room_for.ensures.room (design p) (over_of ends) ports k.room in
     let core = lending.core_roomed p s ends out c.self.inside.credits.items others t k same c.make_room_for.ensures.credits room in
     let returned = returning.are_returned p s t ends out others c.args.owner c.args.burst same core
     (rw (← c.self.view_is) at c.requires.lent)
-    (let a = c.in_ok-make_room_for.ensures.credit in let b = c.in-Some.ensures.1 in let l = c.len.ensures in omega arith)
+    (let a = c.in_ok-make_room_for.ensures.credit in let w = c.places_for-places.ensures.wanted in let b = c.in-Some.ensures.1 in
+    let l = c.len.ensures in omega arith)
     c.in_ok-make_room_for.ensures.queries
     (subst (λ (v : CoreView). IsBurstOf v c.args.owner c.args.burst) (sym c.self.view_is) c.requires.burst) in
-    (p, (out, (c.args.burst.run, returned)))
+    (p, (out, (task_left c.args.burst, returned)))
+
+pub keep_unread-requires : goal.keep_unread-requires
+keep_unread-requires c =
+    let k = c.self.invariant.core in
+    let p = c.self.inside.plan in
+    let ends = c.self.inside.ends.items in
+    let out = c.self.inside.runs.items in
+    let s = stored c.self.inside.graph c.self.inside.fifos c.self.inside.log in
+    let t = stored c.make_room_for.new.graph c.make_room_for.new.fifos c.make_room_for.new.log in
+    let others = c.make_room_for.new.credits.items in
+    let same : held_in t (over_of ends) ≡ held_in s (over_of ends) =
+    lending.held_same s t (over_of ends) c.make_room_for.ensures.lanes c.make_room_for.ensures.channels c.make_room_for.ensures.logs in
+    let ports = all_there p c.args.owner (length c.self.inside.fifos.channels) c.ports_of.result.now
+    (table_count p c.self.inside.fifos.channels k.table)
+    (c.ports_of.ensures ∙ c.self.invariant.ports_are.each c.args.owner (rw (← c.self.view_is) at c.requires.owner)) in
+    let room = c.make_room_for.ensures.room (design p) (over_of ends) ports k.room in
+    let core = lending.core_roomed p s ends out c.self.inside.credits.items others t k same c.make_room_for.ensures.credits room in
+    let returned = returning.are_returned p s t ends out others c.args.owner c.args.burst same core
+    (rw (← c.self.view_is) at c.requires.lent)
+    (let a = c.in_ok-make_room_for.ensures.credit in let w = c.places_for-places.ensures.wanted in let b = c.in-Some.ensures.1 in
+    let l = c.len.ensures in omega arith)
+    c.in_ok-make_room_for.ensures.queries
+    (subst (λ (v : CoreView). IsBurstOf v c.args.owner c.args.burst) (sym c.self.view_is) c.requires.burst) in
+    let u = stored c.record_all.new.graph c.record_all.new.fifos c.make_room_for.new.log in
+    let ends2 = c.record_all.new.ends.items in
+    let credits2 = c.record_all.new.credits.items in
+    let run_is = c.record_all.ensures.left p out (task_left c.args.burst) returned in
+    record {
+      readers = ap (λ (xs : List ℕ). length xs) c.deref.ensures.value ∙ (c.self.invariant.readers_are.count
+          ∙ sym (lends.left_count p u ends2 out credits2 (c.record_all.ensures.core p out (task_left c.args.burst) returned) c.args.owner
+          (rw (← c.self.view_is) at c.requires.owner) (task_left c.args.burst) run_is c.popped.result.now c.popped.ensures.count));
+    }
 
 pub invariant_of-self-2 : goal.invariant_of-self-2
 invariant_of-self-2 c =
@@ -77,19 +122,21 @@ invariant_of-self-2 c =
     let others = c.make_room_for.new.credits.items in
     let same : held_in t (over_of ends) ≡ held_in s (over_of ends) =
     lending.held_same s t (over_of ends) c.make_room_for.ensures.lanes c.make_room_for.ensures.channels c.make_room_for.ensures.logs in
-    let ports = all_there (design p) c.args.owner (length c.self.inside.fifos.channels) c.as_slice.result.now
-    (c.as_slice.ensures ∙ (c.self.invariant.ports_are ∙ ap all_ports (sym (table_count p c.self.inside.fifos.channels k.table)))) in
+    let ports = all_there p c.args.owner (length c.self.inside.fifos.channels) c.ports_of.result.now
+    (table_count p c.self.inside.fifos.channels k.table)
+    (c.ports_of.ensures ∙ c.self.invariant.ports_are.each c.args.owner (rw (← c.self.view_is) at c.requires.owner)) in
     let room = c.make_room_for.ensures.room (design p) (over_of ends) ports k.room in
     let core = lending.core_roomed p s ends out c.self.inside.credits.items others t k same c.make_room_for.ensures.credits room in
     let returned = returning.are_returned p s t ends out others c.args.owner c.args.burst same core
     (rw (← c.self.view_is) at c.requires.lent)
-    (let a = c.in_ok-make_room_for.ensures.credit in let b = c.in-Some.ensures.1 in let l = c.len.ensures in omega arith)
+    (let a = c.in_ok-make_room_for.ensures.credit in let w = c.places_for-places.ensures.wanted in let b = c.in-Some.ensures.1 in
+    let l = c.len.ensures in omega arith)
     c.in_ok-make_room_for.ensures.queries
     (subst (λ (v : CoreView). IsBurstOf v c.args.owner c.args.burst) (sym c.self.view_is) c.requires.burst) in
     let u = stored c.record_all.new.graph c.record_all.new.fifos c.make_room_for.new.log in
     let ends2 = c.record_all.new.ends.items in
     let credits2 = c.record_all.new.credits.items in
-    let run_is = c.record_all.ensures.run p out c.args.burst.run returned in
+    let run_is = c.record_all.ensures.left p out (task_left c.args.burst) returned in
     let inside : c.args.owner < length c.record_all.new.graph.lanes =
     let a = rw (← c.self.view_is) at c.requires.owner in
     let b = core.sound.lanes in
@@ -97,10 +144,19 @@ invariant_of-self-2 c =
     omega arith in
     record {
       core = lending.core_lent p u ends2 out credits2 c.args.owner (Some c.args.burst.run)
-          (c.record_all.ensures.core p out c.args.burst.run returned) inside (λ run e.
-          subst (λ (r : ModuleRun). IsRunOf p (core_in p u ends2) c.args.owner r) (returning.same_some c.args.burst.run run e) run_is);
+          (c.record_all.ensures.core p out (task_left c.args.burst) returned) inside (λ run e.
+          subst (λ (r : ModuleRun). IsRunOf p (core_in p u ends2) c.args.owner r) (returning.same_some c.args.burst.run run e) run_is.run);
       ports_are = c.self.invariant.ports_are;
       readers_are = c.self.invariant.readers_are;
+      unread_are = c.keep_unread.ensures (core_values (design p) (core_in p u ends2)) (length p.design.channels)
+          (unread_ran p t ends out others core c.self.inside.unread
+          (unread_same p (held_in s (over_of ends)) (held_in t (over_of ends)) c.self.inside.unread same c.self.invariant.unread_are)
+          c.args.owner (length c.args.burst.emitted) (core_in p u ends2)
+          (c.record_all.ensures.acts p out (task_left c.args.burst) returned))
+          (λ channel within mine.
+          lends.left_next p u ends2 out credits2 (c.record_all.ensures.core p out (task_left c.args.burst) returned) c.args.owner
+          (rw (← c.self.view_is) at c.requires.owner) (task_left c.args.burst) run_is c.popped.result.now c.popped.ensures.each channel
+          within);
       candidate_count = c.self.invariant.candidate_count;
     }
 
@@ -120,13 +176,15 @@ returns-clause-acts c =
     let others = c.make_room_for.new.credits.items in
     let same : held_in t (over_of ends) ≡ held_in s (over_of ends) =
     lending.held_same s t (over_of ends) c.make_room_for.ensures.lanes c.make_room_for.ensures.channels c.make_room_for.ensures.logs in
-    let ports = all_there (design p) c.args.owner (length c.self.inside.fifos.channels) c.as_slice.result.now
-    (c.as_slice.ensures ∙ (c.self.invariant.ports_are ∙ ap all_ports (sym (table_count p c.self.inside.fifos.channels k.table)))) in
+    let ports = all_there p c.args.owner (length c.self.inside.fifos.channels) c.ports_of.result.now
+    (table_count p c.self.inside.fifos.channels k.table)
+    (c.ports_of.ensures ∙ c.self.invariant.ports_are.each c.args.owner (rw (← c.self.view_is) at c.requires.owner)) in
     let room = c.make_room_for.ensures.room (design p) (over_of ends) ports k.room in
     let core = lending.core_roomed p s ends out c.self.inside.credits.items others t k same c.make_room_for.ensures.credits room in
     let returned = returning.are_returned p s t ends out others c.args.owner c.args.burst same core
     (rw (← c.self.view_is) at c.requires.lent)
-    (let a = c.in_ok-make_room_for.ensures.credit in let b = c.in-Some.ensures.1 in let l = c.len.ensures in omega arith)
+    (let a = c.in_ok-make_room_for.ensures.credit in let w = c.places_for-places.ensures.wanted in let b = c.in-Some.ensures.1 in
+    let l = c.len.ensures in omega arith)
     c.in_ok-make_room_for.ensures.queries
     (subst (λ (v : CoreView). IsBurstOf v c.args.owner c.args.burst) (sym c.self.view_is) c.requires.burst) in
     let u = stored c.record_all.new.graph c.record_all.new.fifos c.make_room_for.new.log in
@@ -135,4 +193,4 @@ returns-clause-acts c =
     let n = length c.args.burst.emitted in
     subst (λ (v : CoreView). ActsAll (design v.plan) v.plan.cycles (theory_of v) (runs n c.args.owner) (core_in p u ends2)) c.self.view_is
     (subst (λ (h : Held). ActsAll (design p) p.cycles (core_of (design p) h) (runs n c.args.owner) (core_in p u ends2)) same
-    (c.record_all.ensures.acts p out c.args.burst.run returned))
+    (c.record_all.ensures.acts p out (task_left c.args.burst) returned))

@@ -30,6 +30,8 @@ invariant_of-self g c =
           c.time_first.ensures.done c.time_first.ensures.room c.time_first.ensures.kinds;
       ports_are = c.self.invariant.ports_are;
       readers_are = c.self.invariant.readers_are;
+      unread_are = turning.unread_timed c.self.inside.plan s t c.self.inside.ends.items c.self.inside.runs.items c.self.inside.credits.items
+          c.self.invariant.core c.args.owner c.time_first.result c.self.inside.unread c.time_first.ensures.done c.self.invariant.unread_are;
       candidate_count = c.self.invariant.candidate_count;
     }
 

@@ -1,17 +1,12 @@
-use Rattle.std.proofs.Common.{sym, subst}
-use Rattle.sim_core.specs.Views.{CoreView}
-use Rattle.sim_core.specs.Drives.{GoesOn}
 use Rattle.sim_core.proofs.Rounds as rounds
 use Rattle.sim_core.proofs.machine.Core.time_once.Goals as goal
 
 pub returns-in-Assigned : goal.returns-in-Assigned
 returns-in-Assigned g c =
-    subst (λ (w : CoreView). GoesOn c.args.self.now c.args.steps.now w c.time.new.steps) (sym c.wake_timed.ensures)
-    (rounds.was_assigned c.args.self.now c.time.new.self c.args.owner c.args.steps.now c.time.ensures.plan c.time.ensures.lent
-    c.modules-count.ensures.agreed c.in-Assigned.field-0 c.time.new.steps c.in-Assigned.ensures.done c.in-Assigned.ensures.ticks)
+    rounds.was_assigned c.args.self.now c.time.new.self c.args.owner c.args.steps.now c.time.ensures.plan c.time.ensures.lent
+    c.modules-count.ensures.agreed c.in-Assigned.field-0 c.time.new.steps c.in-Assigned.ensures.done c.in-Assigned.ensures.ticks
 
 pub returns-in-Answered : goal.returns-in-Answered
 returns-in-Answered g c =
-    subst (λ (w : CoreView). GoesOn c.args.self.now c.args.steps.now w c.time.new.steps) (sym c.wake_timed-in-Answered.ensures)
-    (rounds.was_answered c.args.self.now c.time.new.self c.args.owner c.args.steps.now c.time.ensures.plan c.time.ensures.lent
-    c.modules-count.ensures.agreed c.in-Answered.field-0 c.time.new.steps c.in-Answered.ensures.done c.in-Answered.ensures.ticks)
+    rounds.was_answered c.args.self.now c.time.new.self c.args.owner c.args.steps.now c.time.ensures.plan c.time.ensures.lent
+    c.modules-count.ensures.agreed c.in-Answered.field-0 c.time.new.steps c.in-Answered.ensures.done c.in-Answered.ensures.ticks

@@ -3,7 +3,7 @@ use Rattle.flow_design.specs.declared.design.Module.{Module}
 use Rattle.lockstep_defs.specs.Ports.{owner}
 use Rattle.sim_core.specs.Readers.{IsSearching}
 use Rattle.sim_core.proofs.Noting.{searching_all}
-use Rattle.sim_core.proofs.readers.find_readers.Goals as goal
+use Rattle.sim_core.proofs.readers.find_users.Goals as goal
 
 pub returns : goal.returns
 unfolding owner
@@ -18,6 +18,6 @@ returns c =
     record {
       count = c.loop-owner.invariant.count;
       each = λ f l.
-          searching_all modules none c.loop-owner.readers.items count
-          (subst (λ (n : ℕ). IsSearching modules none c.loop-owner.readers.items n) end c.loop-owner.invariant.finding) f l;
+          searching_all c.args.side modules none c.loop-owner.users.items count
+          (subst (λ (n : ℕ). IsSearching c.args.side modules none c.loop-owner.users.items n) end c.loop-owner.invariant.finding) f l;
     }

@@ -1,0 +1,198 @@
+-- The log that is read off a final core is the history's.
+use Rattle.std.proofs.Common.{◌≡◌, refl, sym, ap, ap₂, subst, ◌∙◌, ℕ, suc, ◌+◌, ◌<◌, ◌≤◌, List, [], ◌∷◌, ◌++◌, length, map, drop, take, get_or, arith}
+use Rattle.std.proofs.Common.{append_assoc, Bool, true, false, inl, inr}
+use Rattle.std.specs.Prelude.{All, IsPermutation, Option, Some, None, flat_map, slice_get, unwrap_or}
+use Rattle.std.specs.List.{range_with_len}
+use Rattle.std.proofs.lemmas.Bool.{cases_Bool}
+use Rattle.std.proofs.lemmas.Option.{get_or_from_slice_get}
+use Rattle.std.proofs.lemmas.List.{get_or-map, length-map, map-append, take_all}
+use Rattle.std.proofs.lemmas.List.Elements.{All-head, All-tail}
+use Rattle.std.proofs.lemmas.List.Sorted.{All-permutation}
+use Rattle.flow_word.specs.declared.access.Access.{Access}
+use Rattle.flow_word.specs.declared.access.Step.{Step}
+use Rattle.flow_design.specs.declared.plan.Plan.{Plan}
+use Rattle.flow_design.specs.declared.state.ModuleState.{ModuleState}
+use Rattle.flow_design.specs.declared.state.Reply.{Reply}
+use Rattle.flow_design.specs.declared.state.Request.{Request}
+use Rattle.flow_design.specs.StaticRules.{FitsEngine}
+use Rattle.lockstep_defs.specs.Channels.{HistoryStep}
+use Rattle.lockstep_defs.specs.Lockstep.{requests_of}
+use Rattle.lockstep_defs.specs.OwnRun.{paired}
+use Rattle.fifo_table.specs.Channels.{Channel}
+use Rattle.time_engine.specs.Conditions.{IsAccess}
+use Rattle.module_interp.proofs.Tallies.{paired_more}
+use Rattle.query_log.specs.Logs.{log_at}
+use Rattle.event_timing.specs.Machines as theory
+use Rattle.event_timing.specs.Core.{Core}
+use Rattle.event_timing.specs.Actions.{IsFinal}
+use Rattle.event_timing.specs.Agreement.{IsAgreed}
+use Rattle.timing_bridge.specs.Designs as bridge
+use Rattle.timing_bridge.specs.Designs.{design, lockstep_run}
+use Rattle.timing_bridge.specs.CoreReports.{core_step, steps_at, AreSorted}
+use Rattle.timing_bridge.proofs.InOrder.{only_in_order, reported_history}
+use Rattle.timing_bridge.proofs.Places.{sorted_steps}
+use Rattle.engine_view.specs.Held.{Held, no_step, step_of, emitted_of, flags_of, seen, core_of}
+use Rattle.engine_view.specs.Shown.{IsSound, queries_before}
+use Rattle.engine_view.specs.Rooms.{query_bound}
+use Rattle.engine_view.proofs.Emitted.{queries_mono}
+use Rattle.engine_report.specs.declared.events.TimedStep.{TimedStep}
+use Rattle.event_graph.specs.Lanes.{lane_at}
+use Rattle.engine_report.specs.Read.{timed_places}
+use Rattle.engine_report.specs.Keys.{place_of, IsTimedKey, AreSortedKeys}
+use Rattle.engine_report.proofs.Asking.{same_kind, same_channel, first_same, rest_same}
+use Rattle.engine_report.proofs.Happening.{IsTimed, all_timed}
+use Rattle.sim_core.specs.Found.{replies_now}
+use Rattle.sim_core.specs.AccessLog.{logged, logged_in, log_of, request_of, exchange_of, replies_at, step_with, logged_at}
+use Rattle.sim_core.specs.declared.access_log.LoggedAccess.{LoggedAccess}
+use Rattle.sim_core.proofs.Fed.{accesses_inside, are_told, as_many, flags_fit, found_told, seen_same, tell_is}
+use Rattle.sim_core.proofs.Replying.{replies_found, AreAsMany}
+
+-- what a module asks is what its step holds
+request_is : (r : Request) (a : Access) → bridge.seen r ≡ seen a → r ≡ request_of a
+request_is r a e =
+    let kind = same_kind r a e in
+    let channel = same_channel r a e in
+    let value = ap (λ (t : theory.Access). t.value) e in
+    λ i. record { kind = kind i; channel = channel i; value = value i }
+
+requests_are : (rs : List Request) (xs : List Access) → map bridge.seen rs ≡ map seen xs → rs ≡ map request_of xs
+requests_are [] [] e = refl
+requests_are [] (a ∷ xs) e = cc
+requests_are (r ∷ rs) [] e = cc
+requests_are (r ∷ rs) (a ∷ xs) e =
+    ap₂ (λ (q : Request) (qs : List Request). q ∷ qs) (request_is r a (first_same r rs a xs e)) (requests_are rs xs (rest_same r rs a xs e))
+
+-- the keys of all steps with a cycle are such keys
+pub keys_timed : (h : Held) (keys : List TimedStep) → AreSortedKeys h.lanes keys → All (IsTimedKey h.lanes) keys
+keys_timed h keys sorted = λ k d l.
+    let places = All-permutation (IsTimed h) (timed_places h.lanes) (map place_of keys) sorted.all (all_timed h 0 (length h.lanes)) in
+    let there = places k (place_of d) (let n = length-map keys place_of in omega arith) in
+    let timed = subst (IsTimed h) (get_or-map place_of keys k d (place_of d) l) there in
+    record { is_key = sorted.each k d l; timed = timed.less }
+
+found_many : (channels : List Channel) (xs : List Access) (bs : List Bool) → AreAsMany xs bs
+    → length (replies_found channels xs bs) ≡ length xs
+found_many channels [] [] m = refl
+found_many channels [] (b ∷ bs) m = absurd m
+found_many channels (a ∷ xs) [] m = absurd m
+found_many channels (a ∷ xs) (b ∷ bs) m = ap suc (found_many channels xs bs m)
+
+module _ (p : Plan) (h : Held) (s : IsSound (design p) h) (g : IsAgreed (design p) (lockstep_run p) p.cycles (core_of (design p) h)) where
+  abbrev x : Core ModuleState
+  x = core_of (design p) h
+
+  module _ (key : TimedStep) (t : IsTimedKey h.lanes key) where
+    abbrev found : Option (List Reply)
+    found = replies_now h.channels (step_of h key.module key.step).accesses
+        (drop (step_of h key.module key.step).first_query (log_at h.logs key.module).outcomes)
+
+    inside : key.module < length p.design.modules
+    inside = let a = t.is_key.there.owner in let b = s.lanes in omega arith
+
+    -- all its replies are there
+    pub all_found : found ≡ Some (replies_at h key.module key.step)
+    all_found = go found refl
+      where
+        go : (o : Option (List Reply)) → found ≡ o → o ≡ Some (unwrap_or o [])
+        go None e =
+            absurd (are_told p h s g.marks key.module key.step t.is_key.there.step inside (g.time.answered_then key.module key.step t.timed)
+            (g.time.there_then key.module key.step t.timed) e)
+        go (Some rs) e = refl
+
+    -- the step, and what the code found of it
+    module _ (step : Step) (there : slice_get (lane_at h.lanes key.module).steps key.step ≡ Some step) where
+      pub step_is : step_of h key.module key.step ≡ step
+      step_is = get_or_from_slice_get (lane_at h.lanes key.module).steps key.step step no_step there
+
+      abbrev found_in : Step → Option (List Reply)
+      found_in t = replies_now h.channels t.accesses (drop t.first_query (log_at h.logs key.module).outcomes)
+
+      pub step_inside : All (IsAccess h.channels) step.accesses
+      step_inside = subst (λ (t : Step). All (IsAccess h.channels) t.accesses) step_is
+          (accesses_inside p h s g.marks key.module key.step t.is_key.there.step inside)
+
+      pub step_few : queries_before h key.module (emitted_of h key.module) < query_bound → step.first_query < query_bound
+      step_few few =
+          let first = s.first_query key.module key.step t.is_key.there.step in
+          let l = t.is_key.there.step in
+          let most = queries_mono h key.module key.step (emitted_of h key.module) (omega arith) in
+          subst (λ (t : Step). t.first_query < query_bound) step_is (omega arith)
+
+      -- what was found are the replies, as many as there are accesses
+      module _ (all : Bool) (rs : List Reply) (some : all ≡ true → found_in step ≡ Some rs) (none : all ≡ false → found_in step ≡ None)
+        where
+          pub replies_are : rs ≡ replies_at h key.module key.step
+          replies_are = elim (cases_Bool all) [
+            | inl e ↦ let z = sym (some e) ∙ (sym (ap found_in step_is) ∙ all_found) in cc
+            | inr e ↦ let z = sym (none e) ∙ (sym (ap found_in step_is) ∙ all_found) in cc
+          ]
+
+          pub replies_many : length rs ≡ length step.accesses
+          replies_many =
+              let told = replies_are ∙ found_told p h s g.marks key.module key.step t.is_key.there.step (replies_at h key.module key.step)
+              all_found in
+              let fit = flags_fit p h s g.marks key.module key.step t.is_key.there.step in
+              ap length (told ∙ tell_is p h s g.marks key.module key.step t.is_key.there.step)
+              ∙ (found_many h.channels (step_of h key.module key.step).accesses (flags_of h key.module key.step)
+              (as_many (step_of h key.module key.step).accesses (flags_of h key.module key.step) fit)
+              ∙ ap (λ (t : Step). length t.accesses) step_is)
+
+          -- so what is logged by them is what the step gave
+          pub logged_is : map (logged (step_with key [])) (paired (map request_of step.accesses) rs) ≡ logged_at h key
+          logged_is = sym (ap₂ (λ (u : Step) (qs : List Reply). map (logged (step_with key [])) (paired (map request_of u.accesses) qs))
+              step_is (sym replies_are))
+
+    step_logged : logged_at h key ≡ map (logged (core_step p x key.module key.step)) (core_step p x key.module key.step).exchanges
+    step_logged =
+        let cycle = t.is_key.cycle in
+        let asked = sym (requests_are (requests_of p (key.module, x.state key.module key.step)) (step_of h key.module key.step).accesses
+        (seen_same p h s g.marks key.module key.step t.is_key.there.step)) in
+        let told = found_told p h s g.marks key.module key.step t.is_key.there.step (replies_at h key.module key.step) all_found in
+        λ i. map (logged (step_with (record { cycle = cycle i; «module» = key.module; step = key.step }) [])) (paired (asked i) (told i))
+
+  all_logged : (keys : List TimedStep) → All (IsTimedKey h.lanes) keys
+      → flat_map (logged_at h) keys ≡ logged_in (steps_at p x (map place_of keys))
+  all_logged [] t = refl
+  all_logged (key ∷ keys) t =
+      ap₂ (λ (as' bs : List LoggedAccess). as' ++ bs) (step_logged key (All-head (IsTimedKey h.lanes) key keys t))
+      (all_logged keys (All-tail (IsTimedKey h.lanes) key keys t))
+
+  pub log_is : FitsEngine p → IsFinal (design p) p.cycles x → (keys : List TimedStep) → AreSortedKeys h.lanes keys
+      → flat_map (logged_at h) keys ≡ log_of p
+  unfolding log_of
+  log_is fits final keys sorted =
+      let in_order = sorted_steps p p.cycles x g (map place_of keys) all_sorted in
+      all_logged keys (keys_timed h keys sorted)
+      ∙ ap logged_in (only_in_order p fits p.cycles x g final (steps_at p x (map place_of keys)) in_order ∙ reported_history p)
+    where
+      all_sorted : AreSorted p x (map place_of keys)
+      all_sorted = record {
+        all = subst (λ (n : ℕ). IsPermutation (flat_map (λ i. map (λ k. (i, k)) (range_with_len 0 (length (lane_at h.lanes i).cycles)))
+            (range_with_len 0 n)) (map place_of keys)) s.lanes sorted.all;
+        sorted = sorted.sorted;
+      }
+
+-- one access more
+pub logged_more : (s : HistoryStep) (xs : List Access) (qs : List Reply) (i : ℕ) (d : Access) (e : Reply) (old log new : List LoggedAccess)
+    → i < length xs → length xs ≤ length qs → log ≡ old ++ map (logged s) (paired (take i (map request_of xs)) qs)
+    → new ≡ log ++ logged s (exchange_of (get_or xs i d) (get_or qs i e)) ∷ []
+    → new ≡ old ++ map (logged s) (paired (take (i + 1) (map request_of xs)) qs)
+logged_more s xs qs i d e old log new inside enough so_far added =
+    let rs = map request_of xs in
+    let before = paired (take i rs) qs in
+    let one = exchange_of (get_or xs i d) (get_or qs i e) in
+    let asked = sym (get_or-map request_of xs i d (request_of d) inside) in
+    let next = paired_more rs qs i (request_of (get_or xs i d)) (request_of d) (get_or qs i e) e
+    (let n = length-map xs request_of in omega arith) (omega arith) asked refl in
+    added
+    ∙ (ap (λ (l : List LoggedAccess). l ++ logged s one ∷ []) so_far
+    ∙ (append_assoc old (map (logged s) before) (logged s one ∷ [])
+    ∙ ap (λ (l : List LoggedAccess). old ++ l) (sym (map-append (logged s) before (one ∷ [])) ∙ ap (map (logged s)) (sym next))))
+
+-- all of them
+pub logged_all : (s : HistoryStep) (xs : List Access) (qs : List Reply) (i : ℕ) (old log : List LoggedAccess) → length xs ≤ i
+    → log ≡ old ++ map (logged s) (paired (take i (map request_of xs)) qs)
+    → log ≡ old ++ map (logged s) (paired (map request_of xs) qs)
+logged_all s xs qs i old log over so_far =
+    so_far ∙ ap (λ (rs : List Request). old ++ map (logged s) (paired rs qs))
+    (take_all i (map request_of xs) (let n = length-map xs request_of in omega arith))

@@ -1,0 +1,21 @@
+-- How many steps of a module have their replies committed.
+use Rattle.std.proofs.Common.{◌≡◌, ℕ, ◌-◌, ◌≤◌, true, false, inl, inr, arith}
+use Rattle.std.proofs.lemmas.Bool.{cases_Bool, cond-true, cond-false}
+use Rattle.flow_design.specs.declared.state.ModuleState.{ModuleState}
+use Rattle.module_interp.specs.declared.run.ModuleRun.{ModuleRun}
+use Rattle.module_interp.specs.Runs.{waits}
+use Rattle.event_timing.specs.Core.{Core}
+use Rattle.sim_core.specs.Tasks.{committed}
+
+pub committed_waits : (x : Core ModuleState) (m : ℕ) (run : ModuleRun) → waits run ≡ true → committed x m run ≡ x.emitted m - 1
+committed_waits x m run e = cond-true (waits run) (x.emitted m - 1) (x.emitted m) e
+
+pub committed_goes : (x : Core ModuleState) (m : ℕ) (run : ModuleRun) → waits run ≡ false → committed x m run ≡ x.emitted m
+committed_goes x m run e = cond-false (waits run) (x.emitted m - 1) (x.emitted m) e
+
+pub committed_below : (x : Core ModuleState) (m : ℕ) (run : ModuleRun) → committed x m run ≤ x.emitted m
+committed_below x m run =
+    elim (cases_Bool (waits run)) [
+      | inl e ↦ rw (committed_waits x m run e) (omega arith)
+      | inr e ↦ rw (committed_goes x m run e) (omega arith)
+    ]

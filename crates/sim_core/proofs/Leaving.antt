@@ -1,0 +1,153 @@
+-- What came back unread stays the next values of its channel, whatever acts.
+use Rattle.std.proofs.Common.{◌≡◌, refl, ap, subst, ℕ, zero, suc, ◌+◌, ◌<◌, ◌≤◌, List}
+use Rattle.std.proofs.Common.{[], ◌∷◌, ◌++◌, length, drop, get_or, set, inl, inr, arith, sym}
+use Rattle.std.proofs.Common.{Option, ◌∙◌}
+use Rattle.std.proofs.lemmas.Bool.{cases_lt}
+use Rattle.std.proofs.lemmas.Bool.Decides.{eqb_tells}
+use Rattle.std.proofs.lemmas.List.{get_or-set_same, get_or-set_other, get_or_past, length-set}
+use Rattle.flow_design.specs.declared.plan.Plan.{Plan}
+use Rattle.flow_design.specs.declared.state.Advance.{Advance}
+use Rattle.flow_design.specs.declared.state.ModuleState.{ModuleState}
+use Rattle.module_interp.specs.declared.run.ModuleRun.{ModuleRun}
+use Rattle.event_timing.specs.Core.{Core, core_values}
+use Rattle.event_timing.specs.Actions.{Action, Acts, ActsAll, IsNoRunOf, runs}
+use Rattle.event_timing.specs.Views.{Begins}
+use Rattle.event_timing.proofs.Beside.{others_grow}
+use Rattle.event_timing.proofs.Values.{begins_trans}
+use Rattle.timing_bridge.specs.Designs.{design, lockstep_run}
+use Rattle.timing_bridge.proofs.History.{plan_is_design, run_is_history}
+use Rattle.engine_view.specs.Held.{Held, core_of, values_at}
+use Rattle.engine_view.specs.Shown.{IsSound}
+use Rattle.engine_view.specs.Stored.{Stored}
+use Rattle.sim_core.specs.declared.unread.Unread.{Unread}
+use Rattle.sim_core.specs.Unread.{none_unread, unread_at, IsUnread, AreUnread}
+use Rattle.sim_core.specs.Returned.{core_in}
+use Rattle.sim_core.specs.Runs.{IsCore, AreUnreadIn}
+use Rattle.sim_core.proofs.Beginnings.{begins_drop}
+
+-- ---- lists
+
+pub none_is : (all : List ℕ) → IsUnread all none_unread
+none_is all = (all, refl)
+
+-- where nothing is there
+pub unread_none : (all : ℕ → List ℕ) (n : ℕ) → AreUnread all n []
+unread_none all n c l = subst (IsUnread (all c)) (sym (get_or_past [] c none_unread (omega arith))) (none_is (all c))
+
+pub unread_set : (all : ℕ → List ℕ) (n : ℕ) (unread : List Unread) (c : ℕ) (new : Unread) → AreUnread all n unread
+    → (c < n → IsUnread (all c) new) → AreUnread all n (set unread c new)
+unread_set all n unread c new are is k l =
+    elim (eqb_tells k c) [
+      | inl e ↦ subst (λ (i : ℕ). IsUnread (all i) (unread_at (set unread c new) i)) (sym e.1)
+          (here (subst (λ (i : ℕ). i < n) e.1 l))
+      | inr e ↦ subst (IsUnread (all k)) (sym (get_or-set_other unread c k new none_unread e.1)) (are k l)
+    ]
+  where
+    here : c < n → IsUnread (all c) (unread_at (set unread c new) c)
+    here inside =
+        elim (cases_lt c (length unread)) [
+          | inl m ↦ subst (IsUnread (all c)) (sym (get_or-set_same unread c new none_unread m)) (is inside)
+          | inr m ↦ subst (IsUnread (all c))
+              (sym (get_or_past (set unread c new) c none_unread (let s = length-set unread c new in omega arith))) (none_is (all c))
+        ]
+
+-- one more of which nothing is unread
+pub unread_push : (all : ℕ → List ℕ) (n : ℕ) (unread : List Unread) → AreUnread all n unread → AreUnread all n (unread ++ none_unread ∷ [])
+unread_push all n unread are k l = subst (IsUnread (all k)) (sym (same unread k)) (are k l)
+  where
+    same : (us : List Unread) (i : ℕ) → get_or (us ++ none_unread ∷ []) i none_unread ≡ get_or us i none_unread
+    same [] zero = refl
+    same [] (suc i) = refl
+    same (u ∷ us) zero = refl
+    same (u ∷ us) (suc i) = same us i
+
+unread_grow : (all more : ℕ → List ℕ) (n : ℕ) (unread : List Unread) → ((c : ℕ) → Begins (more c) (all c)) → AreUnread all n unread
+    → AreUnread more n unread
+unread_grow all more n unread grows are c l =
+    let (rest, e) = grows c in
+    let b = (unread_at unread c).behind in
+    begins_trans (drop b (more c)) (drop b (all c)) (unread_at unread c).values (begins_drop b (more c) (all c) rest e) (are c l)
+
+-- ---- what a mail has left
+
+-- a loop over channels has kept what is left of the first ones
+pub record IsKeeping (first : List Unread) (readers : List ℕ) (m : ℕ) (popped : List ℕ) (values : List (List ℕ)) (unread : List Unread)
+    (now : List (List ℕ)) (at : ℕ) : Type 0 where
+  pub count : length now ≡ length values
+  pub same : (c : ℕ) → at ≤ c → get_or now c [] ≡ get_or values c []
+  pub left : (all : ℕ → List ℕ) (n : ℕ) → AreUnread all n first
+      → ((c : ℕ) → c < n → get_or readers c 0 ≡ m → Begins (drop (get_or popped c 0) (all c)) (get_or values c []))
+      → AreUnread all n unread
+
+pub keeping_on : (first : List Unread) (readers : List ℕ) (m : ℕ) (popped : List ℕ) (values : List (List ℕ)) (unread : List Unread)
+    (now : List (List ℕ)) (at : ℕ) → IsKeeping first readers m popped values unread now at
+    → IsKeeping first readers m popped values unread now (at + 1)
+keeping_on first readers m popped values unread now at k = record {
+  count = k.count;
+  same = λ c l. k.same c (omega arith);
+  left = k.left;
+}
+
+pub keeping_more : (first : List Unread) (readers : List ℕ) (m : ℕ) (popped : List ℕ) (values : List (List ℕ)) (unread : List Unread)
+    (now : List (List ℕ)) (at : ℕ) → IsKeeping first readers m popped values unread now at → get_or readers at 0 ≡ m
+    → (more : List Unread) (rest : List (List ℕ)) → more ≡ set unread at (record { behind = get_or popped at 0; values = get_or now at [] })
+    → rest ≡ set now at [] → IsKeeping first readers m popped values more rest (at + 1)
+keeping_more first readers m popped values unread now at k mine more rest e f = record {
+  count = ap length f ∙ (length-set now at [] ∙ k.count);
+  same = λ c l.
+      ap (λ (vs : List (List ℕ)). get_or vs c []) f
+      ∙ (get_or-set_other now at c [] [] (λ q. absurd (omega arith)) ∙ k.same c (omega arith));
+  left = λ all n are next.
+      subst (AreUnread all n) (sym e)
+      (unread_set all n unread at _ (k.left all n are next)
+      (λ inside. subst (Begins (drop (get_or popped at 0) (all at))) (sym (k.same at (omega arith))) (next at inside mine)));
+}
+
+-- ---- cores
+
+pub unread_same : (p : Plan) (g h : Held) (unread : List Unread) → h ≡ g
+    → AreUnread (core_values (design p) (core_of (design p) g)) (length p.design.channels) unread
+    → AreUnread (core_values (design p) (core_of (design p) h)) (length p.design.channels) unread
+unread_same p g h unread e are =
+    subst (λ (q : Held). AreUnread (core_values (design p) (core_of (design p) q)) (length p.design.channels) unread) (sym e) are
+
+-- the table's values are those of the core
+pub unread_here : (p : Plan) (h : Held) → IsSound (design p) h → (n : ℕ) → n ≡ length h.channels → (unread : List Unread)
+    → AreUnread (core_values (design p) (core_of (design p) h)) n unread → AreUnread (values_at h.channels) (length h.channels) unread
+unread_here p h s n count unread are c l =
+    subst (λ (all : List ℕ). IsUnread all (unread_at unread c)) (sym (s.values c l)) (are c (omega arith))
+
+-- a module that the action does not run
+idle : Action → ℕ
+idle (Action.Run n) = suc n
+idle (Action.Assign n) = 0
+idle (Action.Answer n) = 0
+idle (Action.Earliest n) = 0
+
+no_run : (a : Action) → IsNoRunOf (idle a) (a ∷ [])
+unfolding idle
+no_run (Action.Run n) = ((λ e. let f : suc n ≡ n = e in absurd (omega arith)), tt)
+no_run (Action.Assign n) = tt
+no_run (Action.Answer n) = tt
+no_run (Action.Earliest n) = tt
+
+no_runs : (m n : ℕ) → IsNoRunOf (suc m) (runs n m)
+no_runs m zero = tt
+no_runs m (suc n) = ((λ e. absurd (omega arith)), no_runs m n)
+
+module _ (p : Plan) (s : Stored) (ends : List (Option Advance)) (modules : List (Option ModuleRun)) (credits : List ℕ)
+    (k : IsCore p s ends modules credits) (unread : List Unread) (are : AreUnreadIn p s ends unread) where
+  grown : (m : ℕ) (actions : List Action) → IsNoRunOf m actions → (y : Core ModuleState)
+      → ActsAll (design p) p.cycles (core_in p s ends) actions y → AreUnread (core_values (design p) y) (length p.design.channels) unread
+  grown m actions o y acts =
+      unread_grow (core_values (design p) (core_in p s ends)) (core_values (design p) y) (length p.design.channels) unread
+      (others_grow (design p) (lockstep_run p) (plan_is_design p k.fits) (run_is_history p k.fits) p.cycles (core_in p s ends) k.agreed m
+      actions o y acts).grows.values_up are
+
+  pub unread_acted : (a : Action) (y : Core ModuleState) → Acts (design p) p.cycles (core_in p s ends) a y
+      → AreUnread (core_values (design p) y) (length p.design.channels) unread
+  unread_acted a y acts = grown (idle a) (a ∷ []) (no_run a) y (y, acts, refl)
+
+  pub unread_ran : (m n : ℕ) (y : Core ModuleState) → ActsAll (design p) p.cycles (core_in p s ends) (runs n m) y
+      → AreUnread (core_values (design p) y) (length p.design.channels) unread
+  unread_ran m n y acts = grown (suc m) (runs n m) (no_runs m n) y acts

@@ -1,0 +1,55 @@
+-- What each access of a plan's simulation gave.
+use Rattle.std.specs.Prelude.{ℕ, List, [], drop, flat_map, map, slice_get, unwrap_or}
+use Rattle.flow_design.specs.declared.plan.Plan.{Plan}
+use Rattle.flow_design.specs.declared.state.Reply.{Reply}
+use Rattle.flow_design.specs.declared.state.Request.{Request}
+use Rattle.flow_word.specs.Kinds.{side_of}
+use Rattle.flow_word.specs.declared.access.Access.{Access}
+use Rattle.lockstep_defs.specs.Channels.{HistoryStep, Exchange, moved_value}
+use Rattle.lockstep_defs.specs.Lockstep.{history}
+use Rattle.lockstep_defs.specs.Machine.{is_yes}
+use Rattle.lockstep_defs.specs.OwnRun.{paired}
+use Rattle.lockstep_defs.specs.Report.{event_of}
+use Rattle.lockstep_defs.specs.Verdict.{verdict, clock_of}
+use Rattle.engine_view.specs.Held.{Held, step_of}
+use Rattle.engine_report.specs.declared.events.TimedStep.{TimedStep}
+use Rattle.query_log.specs.Logs.{log_at}
+use Rattle.sim_core.specs.Found.{replies_now}
+use Rattle.sim_core.specs.declared.access_log.LoggedAccess.{LoggedAccess}
+
+-- ---- of a history
+
+-- an operation that was done: its event, its outcome, and the value that it moved, if it moved one
+abbrev pub logged : HistoryStep → Exchange → LoggedAccess
+logged s x = record { event = event_of s x; outcome = is_yes x.reply; value = slice_get (moved_value (side_of x.request.kind) x) 0 }
+
+abbrev pub logged_in : List HistoryStep → List LoggedAccess
+logged_in steps = flat_map (λ s. map (logged s) s.exchanges) steps
+
+-- all of them, in the order of the report's events
+unfoldable pub log_of : Plan → List LoggedAccess
+log_of p = logged_in (history p (clock_of (verdict p)))
+
+-- ---- of what is held
+
+-- an access as a request
+abbrev pub request_of : Access → Request
+request_of a = record { kind = a.kind; channel = a.channel; value = a.value }
+
+-- with the reply to it
+abbrev pub exchange_of : Access → Reply → Exchange
+exchange_of a r = record { request = request_of a; reply = r }
+
+-- the replies to a step, none where some are not there
+abbrev pub replies_at : Held → ℕ → ℕ → List Reply
+replies_at h m k =
+    unwrap_or (replies_now h.channels (step_of h m k).accesses (drop (step_of h m k).first_query (log_at h.logs m).outcomes)) []
+
+-- a step with a cycle, and what was done in it
+abbrev pub step_with : TimedStep → List Exchange → HistoryStep
+step_with key xs = record { clock = key.cycle; «module» = key.module; exchanges = xs }
+
+-- what the accesses of a step that is held gave
+abbrev pub logged_at : Held → TimedStep → List LoggedAccess
+logged_at h key =
+    map (logged (step_with key [])) (paired (map request_of (step_of h key.module key.step).accesses) (replies_at h key.module key.step))

@@ -1,0 +1,133 @@
+//! What each access of a final core gave.
+ghost use Rattle.std.specs.Prelude.{◌≡◌, ◌++◌, ◌≤◌, [], length, map, slice_get, IfOk, OnOk};
+ghost use Rattle.flow_word.specs.Kinds.{side_of};
+ghost use Rattle.lockstep_defs.specs.Channels.{moved_value};
+ghost use Rattle.lockstep_defs.specs.Machine.{is_yes, value_in};
+ghost use Rattle.lockstep_defs.specs.OwnRun.{paired};
+ghost use Rattle.event_timing.specs.Actions.{IsFinal};
+ghost use Rattle.timing_bridge.specs.Designs.{design};
+ghost use Rattle.engine_report.specs.Keys.{IsTimedKey};
+ghost use Rattle.sim_core.specs.AccessLog.{exchange_of, log_of, logged, logged_at, request_of, step_with};
+ghost use Rattle.sim_core.specs.Views.{theory_of};
+
+use crate::machine::Core;
+use crate::replies::find_replies;
+use block_code::is_yes;
+use engine_report::{TimedStep, sorted_steps};
+use event_graph::{Access, Kind, Place};
+use flow_design::{EventLine, Reply};
+use flow_word::{List, OutOfMemory};
+use std::alloc::Global;
+use timing_bridge::steps_in_order;
+
+/// An access that was done, and what it gave.
+#[derive(Clone, Copy, Debug, PartialEq, Eq)]
+pub struct LoggedAccess {
+    /// Its module, kind and channel, and its clock.
+    pub event: EventLine,
+    /// The outcome of a query; true of a read or a write.
+    pub outcome: bool,
+    /// The value of the element that it took or gave, cut to the channel's width; none where no element moved.
+    pub value: Option<u64>,
+}
+
+impl Core {
+    /// What each access of a final core's plan gave, in the order of the report's events.
+    ///
+    /// It takes memory for the answer, for one key of each step, which are then sorted, and for the replies to a step. An error leaves
+    /// nothing.
+    pub fn access_log(&self, alloc: Global) -> Result<List<LoggedAccess>, OutOfMemory>
+        requires { IsFinal (design self.now.plan) self.now.plan.cycles (theory_of self.now) }
+        ensures { IfOk result (λ log. log ≡ log_of self.now.plan) }
+    {
+        steps_in_order();
+        let keys = sorted_steps(alloc, &self.graph)?;
+        let mut replies = List::new(alloc);
+        let mut log = List::new(alloc);
+        for key in keys.as_slice() {
+            self.log_step(key, &mut replies, &mut log)?;
+        }
+        Ok(log)
+    }
+
+    /// Adds what the accesses of a step with a cycle gave.
+    fn log_step(
+        &self,
+        key: &TimedStep,
+        replies: &mut List<Reply>,
+        log: &mut List<LoggedAccess>,
+    ) -> Result<(), OutOfMemory>
+        requires { IsTimedKey self.now.held.lanes key.now }
+        ensures { OnOk result (log.new ≡ log.old ++ logged_at self.now.held key.now) }
+    {
+        let step = self.graph.step(Place {
+            module: key.module,
+            step: key.step,
+        });
+        let accesses = step.accesses.as_slice();
+        let _all = find_replies(
+            &self.fifos,
+            &self.log,
+            key.module,
+            step.first_query,
+            accesses,
+            replies,
+        )?;
+        log_accesses(key, accesses, replies.as_slice(), log)
+    }
+}
+
+/// Adds what accesses of a step gave, by their replies.
+fn log_accesses(
+    key: &TimedStep,
+    accesses: &[Access],
+    replies: &[Reply],
+    log: &mut List<LoggedAccess>,
+) -> Result<(), OutOfMemory>
+    requires { length accesses.now ≤ length replies.now }
+    ensures { OnOk result (log.new ≡ log.old ++ map (logged (step_with key.now [])) (paired (map request_of accesses.now) replies.now)) }
+{
+    for at in 0..accesses.len() {
+        log.push(logged(key, &accesses[at], replies[at]))?;
+    }
+    Ok(())
+}
+
+/// What an access gave, by its reply.
+fn logged(key: &TimedStep, access: &Access, reply: Reply) -> LoggedAccess
+    ensures { result ≡ logged (step_with key.now []) (exchange_of access.now reply) }
+{
+    LoggedAccess {
+        event: EventLine {
+            module: key.module,
+            kind: access.kind,
+            channel: access.channel,
+            cycle: key.cycle,
+        },
+        outcome: is_yes(reply),
+        value: moved_value(access, reply),
+    }
+}
+
+/// The value that an access moved, if it moved one.
+fn moved_value(access: &Access, reply: Reply) -> Option<u64>
+    ensures { result ≡ slice_get (moved_value (side_of access.now.kind) (exchange_of access.now reply)) 0 }
+{
+    match access.kind {
+        Kind::Read => Some(popped_value(reply)),
+        Kind::Write => Some(access.value),
+        Kind::TryRead if is_yes(reply) => Some(popped_value(reply)),
+        Kind::TryWrite if is_yes(reply) => Some(access.value),
+        Kind::TryRead | Kind::TryWrite | Kind::Empty | Kind::Full => None,
+    }
+}
+
+/// The value in a reply, 0 where it has none.
+fn popped_value(reply: Reply) -> u64
+    ensures { result ≡ value_in reply }
+{
+    match reply {
+        Reply::Value(value) | Reply::Took(value) => value,
+        Reply::Done | Reply::Flag(_) | Reply::Missed => 0,
+    }
+}

@@ -1,0 +1,27 @@
+//! The spans of a final core's modules.
+ghost use Rattle.std.specs.Prelude.{◌≡◌, ◌<◌, length, IfOk};
+ghost use Rattle.event_timing.specs.Actions.{IsFinal};
+ghost use Rattle.timing_bridge.specs.Designs.{design};
+ghost use Rattle.lockstep_defs.specs.Verdict.{verdict, clock_of};
+ghost use Rattle.stall_spans.specs.Spans.{AreSpans};
+ghost use Rattle.sim_core.specs.Views.{theory_of};
+
+use crate::machine::Core;
+use core_spans::spans_of;
+use flow_word::{List, OutOfMemory};
+use stall_spans::Span;
+use std::alloc::Global;
+
+impl Core {
+    /// The spans of a module of a core that is final, where this is the clock of the plan's verdict: the lockstep machine's, in order.
+    ///
+    /// It looks at each of the module's steps and accesses once, and takes memory for the spans. An error leaves nothing.
+    pub fn spans(&self, alloc: Global, owner: u32, clock: u64) -> Result<List<Span>, OutOfMemory>
+        requires is_final { IsFinal (design self.now.plan) self.now.plan.cycles (theory_of self.now) }
+        requires owner { owner < length self.now.plan.design.modules }
+        requires clock { clock ≡ clock_of (verdict self.now.plan) }
+        ensures { IfOk result (AreSpans self.now.plan owner) }
+    {
+        spans_of(alloc, &self.graph, &self.fifos, &self.ends, owner, clock)
+    }
+}

@@ -1,0 +1,129 @@
+//! Values that were copied for the mail of a run, and came back unread.
+ghost use Rattle.std.specs.Prelude.{◌≡◌, ℕ, ◌<◌, [], length, drop, slice_index, slice_index_or, slice_set, IfOk};
+ghost use Rattle.std.specs.Prelude.{List as Items};
+ghost use Rattle.event_timing.specs.Views.{Begins};
+ghost use Rattle.sim_core.specs.Unread.{none_unread, unread_at, IsUnread, AreUnread};
+
+use flow_word::{List, OutOfMemory, Queue};
+use std::alloc::Global;
+use std::mem;
+
+/// Values of a channel that came back unread with the run that pops it: the next ones behind so many. They go into its next mail, so
+/// that each value is copied once.
+pub(crate) struct Unread {
+    pub(crate) behind: u64,
+    pub(crate) values: Queue<u64>,
+}
+
+impl Drop for Unread {
+    fn drop(self) {
+        let Unread {
+            behind: _behind,
+            values: _values,
+        } = self;
+    }
+}
+
+impl Unread {
+    /// The values, where they are the next ones behind so many, or else none.
+    fn values_behind(self, alloc: Global, behind: u64) -> Queue<u64>
+        ensures { (all : Items ℕ) → IsUnread all self → Begins (drop behind all) result }
+    {
+        let Unread {
+            behind: first,
+            values,
+        } = self;
+        if first == behind {
+            values
+        } else {
+            Queue::new(alloc)
+        }
+    }
+}
+
+/// No value.
+fn no_values(alloc: Global) -> Unread
+    ensures { result ≡ none_unread }
+{
+    Unread {
+        behind: 0,
+        values: Queue::new(alloc),
+    }
+}
+
+/// No value of each of so many channels.
+pub(crate) fn nothing_unread(alloc: Global, channels: u64) -> Result<List<Unread>, OutOfMemory>
+    ensures { IfOk result (λ unread. (all : ℕ → Items ℕ) (n : ℕ) → AreUnread all n unread) }
+{
+    let mut unread = List::with_room(alloc, channels)?;
+    for _ in 0..channels {
+        unread.push(no_values(alloc))?;
+    }
+    Ok(unread)
+}
+
+/// Takes what is unread of a channel, and leaves none.
+fn take_out(alloc: Global, unread: &mut List<Unread>, at: usize) -> Unread
+    requires { at < length unread.old }
+    ensures out { result ≡ unread_at unread.old at }
+    ensures left { unread.new ≡ slice_set unread.old at none_unread }
+{
+    mem::replace(&mut unread.as_mut_slice()[at], no_values(alloc))
+}
+
+/// The values of a channel that came back unread, where they are the next ones behind so many, or else none. None are left.
+pub(crate) fn take_unread(
+    alloc: Global,
+    unread: &mut List<Unread>,
+    channel: u32,
+    behind: u64,
+) -> Queue<u64>
+    ensures next { (all : Items ℕ) → IsUnread all (unread_at unread.old channel) → Begins (drop behind all) result }
+    ensures left { (all : ℕ → Items ℕ) (n : ℕ) → AreUnread all n unread.old → AreUnread all n unread.new }
+{
+    let at = channel as usize;
+    if at >= unread.as_slice().len() {
+        return Queue::new(alloc);
+    }
+    take_out(alloc, unread, at).values_behind(alloc, behind)
+}
+
+/// Takes the values of a channel out of a mail.
+fn take_values(alloc: Global, values: &mut List<Queue<u64>>, at: usize) -> Queue<u64>
+    requires { at < length values.old }
+    ensures out { result ≡ slice_index_or values.old at [] }
+    ensures left { values.new ≡ slice_set values.old at [] }
+{
+    mem::replace(&mut values.as_mut_slice()[at], Queue::new(alloc))
+}
+
+/// Puts values of a channel there, over those that are there.
+fn put(unread: &mut List<Unread>, at: usize, behind: u64, values: Queue<u64>)
+    ensures { unread.new ≡ slice_set unread.old at (record { behind = behind; values = values }) }
+{
+    if at < unread.as_slice().len() {
+        unread.as_mut_slice()[at] = Unread { behind, values };
+    }
+}
+
+/// Keeps what a run has left of its mail: of each channel that its module pops the values behind those that it popped.
+pub(crate) fn keep_unread(
+    alloc: Global,
+    unread: &mut List<Unread>,
+    readers: &[u32],
+    owner: u32,
+    popped: &[u64],
+    values: &mut List<Queue<u64>>,
+)
+    requires readers { length readers.now ≡ length popped.now }
+    ensures { (all : ℕ → Items ℕ) (n : ℕ) → AreUnread all n unread.old
+        → ((c : ℕ) → c < n → slice_index readers.now c ≡ owner → Begins (drop (slice_index popped.now c) (all c))
+        (slice_index_or values.old c [])) → AreUnread all n unread.new }
+{
+    for at in 0..values.as_slice().len() {
+        if at < readers.len() && readers[at] == owner {
+            let left = take_values(alloc, values, at);
+            put(unread, at, popped[at], left);
+        }
+    }
+}

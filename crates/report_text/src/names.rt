@@ -6,7 +6,7 @@ use flow_design::Design;
 use flow_word::Kind;
 
 /// The name of a channel.
-pub(crate) fn channel_name(design: &Design, number: u32) -> &[u8]
+pub fn channel_name(design: &Design, number: u32) -> &[u8]
     requires { number < length design.now.channels }
     ensures { result.now ≡ channel_name design.now number }
 {
@@ -14,7 +14,7 @@ pub(crate) fn channel_name(design: &Design, number: u32) -> &[u8]
 }
 
 /// The name of a module.
-pub(crate) fn module_name(design: &Design, number: u32) -> &[u8]
+pub fn module_name(design: &Design, number: u32) -> &[u8]
     requires { number < length design.now.modules }
     ensures { result.now ≡ module_name design.now number }
 {
@@ -22,7 +22,7 @@ pub(crate) fn module_name(design: &Design, number: u32) -> &[u8]
 }
 
 /// The word for a kind of access.
-pub(crate) fn kind_word(kind: Kind) -> &'static [u8]
+pub fn kind_word(kind: Kind) -> &'static [u8]
     ensures { result.now ≡ kind_token kind }
 {
     match kind {

@@ -1,0 +1,80 @@
+-- What a module does that stands at a step, as it is read off the graph and the table.
+use Rattle.std.specs.Prelude.{ℕ, zero, suc, ◌≡◌, ◌<◌, ◌≤◌, Bool, not, ◌&&◌, Option, Some, None, List, find, min, max, take, true, false}
+use Rattle.std.specs.Prelude.{slice_index_or}
+use Rattle.flow_word.specs.declared.access.Access.{Access}
+use Rattle.flow_word.specs.Kinds.{side_of, is_blocking}
+use Rattle.flow_design.specs.declared.plan.Plan.{Plan}
+use Rattle.event_graph.specs.Lanes.{Lane, lane_at}
+use Rattle.flow_word.specs.declared.access.Place.{Place}
+use Rattle.flow_word.specs.declared.access.Step.{Step}
+use Rattle.engine_view.specs.Held.{no_step}
+use Rattle.fifo_table.specs.Channels.{Channel}
+use Rattle.time_engine.specs.declared.known.Known.{Known}
+use Rattle.time_engine.specs.declared.known.Known.TheVariants.{From, Never, Unknown}
+use Rattle.time_engine.specs.Possible.{when_possible}
+use Rattle.event_timing.specs.Views.{from}
+use Rattle.event_timing.specs.Enablers.{answer}
+use Rattle.engine_view.specs.Known.{as_known}
+use Rattle.stall_spans.specs.declared.span.Doing.{Doing}
+use Rattle.stall_spans.specs.declared.span.Doing.TheVariants.{Moves, Still}
+use Rattle.stall_spans.specs.declared.span.Span.{Span}
+use Rattle.stall_spans.specs.Doings.{doing}
+use Rattle.stall_spans.specs.Coming.{reached, Comes}
+
+-- an access that blocks and is not known to be possible in a clock
+abbrev pub waits : List Lane → List Channel → ℕ → Access → Bool
+waits lanes channels clock a = is_blocking a.kind && not (answer (as_known (when_possible lanes channels a)) clock)
+
+-- by the first of them
+abbrev pub doing_of : Option Access → Doing
+doing_of None = Moves
+doing_of (Some a) = Still (record { side = side_of a.kind; channel = a.channel })
+
+abbrev pub doing_in : List Lane → List Channel → List Access → ℕ → Doing
+doing_in lanes channels accesses clock = doing_of (find (waits lanes channels clock) accesses)
+
+-- module i stands at a step with these accesses from one clock to another
+abbrev pub Stands : Plan → ℕ → List Lane → List Channel → List Access → ℕ → ℕ → Type 0
+Stands p i lanes channels accesses first until = (c : ℕ) → first ≤ c → c < until → doing p c i ≡ Some (doing_in lanes channels accesses c)
+
+-- the clock from which it is possible, and at most this one
+abbrev pub known_until : Known → ℕ → ℕ
+known_until (From clock) until = min clock until
+known_until Never until = until
+known_until Unknown until = until
+
+-- the spans of a module that stands at a step with these accesses, before its clocks up to `until` are added, and after those in
+-- which one of the first n accesses is the cause
+pub record HasWaited (lanes : List Lane) (channels : List Channel) (accesses : List Access) (until n : ℕ)
+    (old new : List Span) : Type 0 where
+  pub comes : (p : Plan) (i : ℕ) → Comes p i old → Stands p i lanes channels accesses (reached old) until → Comes p i new
+  pub later : reached old ≤ reached new
+  pub within : reached new ≤ max (reached old) until
+  -- after them none of these accesses is the cause
+  pub clear : (c : ℕ) → reached new ≤ c → c < until → find (waits lanes channels c) (take n accesses) ≡ None
+
+-- the same for one access, which is the cause in each clock in which it waits
+pub record HasPassed (lanes : List Lane) (channels : List Channel) (a : Access) (until : ℕ) (old new : List Span) : Type 0 where
+  pub comes : (p : Plan) (i : ℕ) → Comes p i old
+      → ((c : ℕ) → reached old ≤ c → c < until → waits lanes channels c a ≡ true → doing p c i ≡ Some (doing_of (Some a))) → Comes p i new
+  pub later : reached old ≤ reached new
+  pub within : reached new ≤ max (reached old) until
+  pub clear : (c : ℕ) → reached new ≤ c → c < until → waits lanes channels c a ≡ false
+
+-- the step at a place
+abbrev pub step_at : List Lane → Place → Step
+step_at lanes place = slice_index_or (lane_at lanes place.module).steps place.step no_step
+
+-- the cycle of the step before step k, and clock 0 before the first
+abbrev pub cycle_before : List ℕ → ℕ → ℕ
+cycle_before cycles zero = 0
+cycle_before cycles (suc k) = slice_index_or cycles k 0
+
+-- the first clock after it, and clock 0 before the first
+abbrev pub clock_after : List ℕ → ℕ → ℕ
+clock_after cycles k = from (λ j. slice_index_or cycles j 0) k
+
+-- these are the spans of module i below the clock after its first k steps, and below this clock
+pub record HasPassedSteps (p : Plan) (i clock : ℕ) (cycles : List ℕ) (k : ℕ) (spans : List Span) : Type 0 where
+  pub comes : Comes p i spans
+  pub reached : reached spans ≡ min (clock_after cycles k) clock

@@ -1,0 +1,34 @@
+-- How long the chain is.
+use Rattle.std.specs.Prelude.{◌≡◌, ⊤, ℕ, suc, ◌+◌, ◌-◌, Option, Some, None, List, [], ◌∷◌}
+use Rattle.flow_word.specs.declared.access.Port.{Port}
+use Rattle.flow_design.specs.declared.plan.Plan.{Plan}
+use Rattle.flow_design.specs.declared.report.Verdict.{Verdict}
+use Rattle.flow_design.specs.declared.report.Verdict.TheVariants.{Done, Deadlock, Cycles, Ops}
+use Rattle.timing_bridge.specs.Designs.{lag_in}
+use Rattle.depth_order.specs.declared.link.Link.{Link}
+use Rattle.depth_order.specs.Chain.{path}
+
+-- the clocks that a chain spends in modules
+abbrev pub spent : List Link → ℕ
+spent [] = 0
+spent (l ∷ ls) = (suc l.last - l.first) + spent ls
+
+-- the clocks between two links: an element that came is under way for the channel's delay, and the clock of its push is spent already
+abbrev pub clocks_across : Plan → Option Port → ℕ
+clocks_across p None = 0
+clocks_across p (Some a) = lag_in p a.side a.channel - 1
+
+abbrev pub under_way : Plan → List Link → ℕ
+under_way p [] = 0
+under_way p (l ∷ ls) = clocks_across p l.crossed + under_way p ls
+
+-- some clock is settled up to the cycle limit
+abbrev pub IsEnd : Verdict → Type 0
+IsEnd (Done clock) = ⊤
+IsEnd (Deadlock clock) = ⊤
+IsEnd (Cycles clock) = ⊥
+IsEnd (Ops clock) = ⊤
+
+-- the chain's clocks are all clocks up to this one
+abbrev pub IsWhole : Plan → ℕ → Type 0
+IsWhole p clock = spent (path p clock) + under_way p (path p clock) ≡ clock

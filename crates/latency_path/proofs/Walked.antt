@@ -1,0 +1,33 @@
+-- A walk along the chain, by the spans of all modules.
+use Rattle.std.proofs.Common.{◌≡◌, ◌∙◌, sym, ap, subst, arith, ℕ, ◌<◌, true, ◌++◌, [], List, length, get_or, Option, Some, None}
+use Rattle.std.proofs.lemmas.List.{get_or_default}
+use Rattle.flow_design.specs.declared.plan.Plan.{Plan}
+use Rattle.stall_spans.specs.declared.span.Span.{Span}
+use Rattle.stall_spans.specs.Spans.{AreSpansBelow}
+use Rattle.depth_order.specs.declared.link.Link.{Link}
+use Rattle.depth_order.specs.Chain.{moves_at}
+use Rattle.latency_path.specs.declared.walk.At.{At}
+use Rattle.latency_path.specs.Walks.{HasSpans, IsLastMove, MovesBefore, chain_at}
+use Rattle.latency_path.proofs.Doings.{mover_inside}
+use Rattle.latency_path.proofs.Last.{path_is}
+use Rattle.latency_path.proofs.Chains.{IsWalk}
+
+-- the spans of a module that moves
+pub spans_at : (p : Plan) (end : ℕ) (at : At) (spans : List (List Span)) (found slice : List Span) → moves_at p at.clock at.module ≡ true
+    → HasSpans p end spans → found ≡ get_or spans at.module found → slice ≡ found → AreSpansBelow p at.module end slice
+spans_at p end at spans found slice move h there same =
+    let inside = mover_inside p at.clock at.module move in
+    let count = h.count in
+    let l : at.module < length spans = omega arith in
+    subst (AreSpansBelow p at.module end) (sym (same ∙ (there ∙ get_or_default spans at.module found [] l))) (h.each at.module l)
+
+last_moves : (p : Plan) (end n : ℕ) (o : Option At) → IsLastMove p end n o → MovesBefore p end o
+last_moves p end n None all = tt
+last_moves p end n (Some at) all = (all.below, all.moves)
+
+pub walk_begins : (p : Plan) (end : ℕ) (links : List Link) (o : Option At) → links ≡ []
+    → IsLastMove p end (length p.design.modules) o → IsWalk p end links o
+walk_begins p end links o none all = record {
+  whole = ap (λ (ls : List Link). ls ++ chain_at p o) none ∙ sym (path_is p end o all);
+  there = last_moves p end (length p.design.modules) o all;
+}

@@ -1,0 +1,9 @@
+use Rattle.lockstep_defs.specs.Verdict.{verdict, clock_of}
+use Rattle.latency_path.proofs.Chains.{IsWalk, left}
+use Rattle.latency_path.proofs.walk.find_path.Given as goal
+
+abbrev pub invariant-loop-next : goal.invariant-loop-next
+invariant-loop-next l = IsWalk l.plan (clock_of (verdict l.plan)) l.links l.next
+
+abbrev pub decreases-loop-next : goal.decreases-loop-next
+decreases-loop-next l = left l.next

@@ -1,0 +1,10 @@
+-- The modules at the ends of channels.
+use Rattle.std.specs.Prelude.{ℕ, List, length, map}
+use Rattle.std.specs.List.{range_with_len}
+use Rattle.flow_word.specs.declared.access.Side.{Side}
+use Rattle.flow_design.specs.declared.plan.Plan.{Plan}
+use Rattle.lockstep_defs.specs.Ports.{owner}
+
+-- the module at this side of each channel
+abbrev pub owners : Plan → Side → List ℕ
+owners p side = map (λ f. owner p (record { side = side; channel = f })) (range_with_len 0 (length p.design.channels))

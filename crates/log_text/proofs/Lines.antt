@@ -1,0 +1,45 @@
+-- The lines of a log.
+use Rattle.std.proofs.Common.{◌≡◌, sym, ◌∙◌, ap, ℕ, List, [], ◌∷◌, ◌++◌, map, append-nil, append_assoc}
+use Rattle.std.specs.Prelude.{codes}
+use Rattle.std.specs.List.{flat_map, join_with_byte}
+use Rattle.flow_design.specs.declared.plan.Plan.{Plan}
+use Rattle.flow_design.specs.declared.report.Verdict.{Verdict}
+use Rattle.lockstep_defs.specs.Report.{report}
+use Rattle.report_text.specs.Lines.{Token, line, text_of_lines, verdict_tokens}
+use Rattle.report_text.proofs.LineLemmas.{line_of_four}
+use Rattle.sim_core.specs.AccessLog.{log_of}
+use Rattle.log_text.specs.LogText.{access_tokens, log_text}
+
+-- tokens joined by spaces
+pub joined : (first : Token) (tokens : List Token) → join_with_byte 32 (first ∷ tokens) ≡ first ++ flat_map (λ t. 32 ∷ t) tokens
+joined first [] = sym (append-nil first)
+joined first (t ∷ tokens) = ap (λ (rest : List ℕ). first ++ 32 ∷ rest) (joined t tokens)
+
+three : (text b c d : List ℕ) → ((text ++ 32 ∷ b) ++ 32 ∷ c) ++ 32 ∷ d ≡ text ++ 32 ∷ (b ++ 32 ∷ (c ++ 32 ∷ d))
+three text b c d = append_assoc (text ++ 32 ∷ b) (32 ∷ c) (32 ∷ d) ∙ append_assoc text (32 ∷ b) (32 ∷ (c ++ 32 ∷ d))
+
+and_more : (b c d more : List ℕ) → (b ++ 32 ∷ (c ++ 32 ∷ d)) ++ more ≡ b ++ 32 ∷ (c ++ 32 ∷ (d ++ more))
+and_more b c d more = append_assoc b (32 ∷ (c ++ 32 ∷ d)) more ∙ ap (λ (t : List ℕ). b ++ 32 ∷ t) (append_assoc c (32 ∷ d) more)
+
+-- a line of six tokens and further ones
+pub access_line : (text a b c d e f : List ℕ) (tokens : List Token)
+    → (((((((text ++ a) ++ 32 ∷ b) ++ 32 ∷ c) ++ 32 ∷ d) ++ 32 ∷ e) ++ 32 ∷ f) ++ flat_map (λ t. 32 ∷ t) tokens) ++ 10 ∷ []
+    ≡ text ++ line (a ∷ b ∷ c ∷ d ∷ e ∷ f ∷ tokens)
+access_line text a b c d e f tokens =
+    let more : List ℕ = flat_map (λ (t : Token). 32 ∷ t) tokens in
+    let middle : List ℕ = b ++ 32 ∷ (c ++ 32 ∷ d) in
+    rw (joined f tokens)
+    (ap (λ (t : List ℕ). (((t ++ 32 ∷ e) ++ 32 ∷ f) ++ more) ++ 10 ∷ []) (three (text ++ a) b c d)
+    ∙ (ap (λ (t : List ℕ). t ++ 10 ∷ []) (append_assoc (((text ++ a) ++ 32 ∷ middle) ++ 32 ∷ e) (32 ∷ f) more)
+    ∙ (line_of_four text a middle e (f ++ more)
+    ∙ ap (λ (t : List ℕ). text ++ ((a ++ 32 ∷ t) ++ 10 ∷ [])) (and_more b c d (32 ∷ (e ++ 32 ∷ (f ++ more)))))))
+
+-- the whole text
+pub whole_log : (p : Plan) (v : Verdict) (first second whole : List ℕ) → first ≡ codes "log\n" → second ≡ first ++ line (verdict_tokens v)
+    → v ≡ (report p).verdict → whole ≡ second ++ text_of_lines (map (access_tokens p.design) (log_of p)) → whole ≡ log_text p
+unfolding log_text
+whole_log p v first second whole named told of_report all =
+    let accesses : List ℕ = text_of_lines (map (access_tokens p.design) (log_of p)) in
+    all ∙ (ap (λ (t : List ℕ). t ++ accesses) (told ∙ ap (λ (t : List ℕ). t ++ line (verdict_tokens v)) named)
+    ∙ (append_assoc (codes "log\n") (line (verdict_tokens v)) accesses
+    ∙ ap (λ (u : Verdict). codes "log\n" ++ (line (verdict_tokens u) ++ accesses)) of_report))

@@ -1,0 +1,41 @@
+-- A log names modules and channels of its plan alone.
+use Rattle.std.proofs.Common.{◌≡◌, sym, ◌∙◌, ap, ap₂, subst, refl, List, [], ◌∷◌, ◌++◌, map, length, ◌<◌, suc, arith}
+use Rattle.std.specs.Prelude.{All}
+use Rattle.std.proofs.lemmas.List.{map-append}
+use Rattle.std.proofs.lemmas.List.Elements.{All-cons, All-nil}
+use Rattle.flow_design.specs.declared.design.Design.{Design}
+use Rattle.flow_design.specs.declared.plan.Plan.{Plan}
+use Rattle.flow_design.specs.declared.report.EventLine.{EventLine}
+use Rattle.lockstep_defs.specs.Channels.{HistoryStep, Exchange}
+use Rattle.lockstep_defs.specs.Lockstep.{history}
+use Rattle.lockstep_defs.specs.Report.{event_of, events_of, report}
+use Rattle.lockstep_defs.specs.Verdict.{verdict, clock_of}
+use Rattle.lockstep_defs.specs.Laws.{HasNumbersOf}
+use Rattle.sim_core.specs.declared.access_log.LoggedAccess.{LoggedAccess}
+use Rattle.sim_core.specs.AccessLog.{log_of, logged, logged_in}
+use Rattle.log_text.specs.LogText.{IsNamed}
+
+step_events : (s : HistoryStep) (xs : List Exchange) → map (λ (a : LoggedAccess). a.event) (map (logged s) xs) ≡ map (event_of s) xs
+step_events s [] = refl
+step_events s (x ∷ xs) = ap (λ (rest : List EventLine). event_of s x ∷ rest) (step_events s xs)
+
+-- the events of a log are those of the report
+events : (steps : List HistoryStep) → map (λ (a : LoggedAccess). a.event) (logged_in steps) ≡ events_of steps
+events [] = refl
+events (s ∷ steps) =
+    map-append (λ (a : LoggedAccess). a.event) (map (logged s) s.exchanges) (logged_in steps)
+    ∙ ap₂ (λ (xs ys : List EventLine). xs ++ ys) (step_events s s.exchanges) (events steps)
+
+named : (design : Design) (log : List LoggedAccess)
+    → All (λ (e : EventLine). (e.module < length design.modules) × (e.channel < length design.channels)) (map (λ (a : LoggedAccess). a.event) log)
+    → All (IsNamed design) log
+named design [] h = All-nil (IsNamed design)
+named design (a ∷ log) h =
+    All-cons (IsNamed design) a log (h 0 a.event (omega arith)) (named design log (λ k d inside. h (suc k) d (omega (arith, inside))))
+
+pub all_named : (p : Plan) → HasNumbersOf p (report p) → All (IsNamed p.design) (log_of p)
+unfolding report log_of
+all_named p h =
+    let steps = history p (clock_of (verdict p)) in
+    named p.design (logged_in steps) (subst (All (λ (e : EventLine). (e.module < length p.design.modules) × (e.channel < length p.design.channels)))
+    (sym (events steps)) h.events)

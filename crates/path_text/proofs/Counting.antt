@@ -1,0 +1,18 @@
+-- The clocks of a module, as they grow link by link.
+use Rattle.std.proofs.Common.{ℕ, ◌+◌, ◌<◌, ◌≤◌, Bool, true, false, cond, eqb, List, length, take, get_or, arith}
+use Rattle.std.specs.Prelude.{sum_by}
+use Rattle.std.proofs.lemmas.List.Sums.{sum_by_more_le_part}
+use Rattle.depth_order.specs.declared.link.Link.{Link}
+use Rattle.path_text.specs.Counts.{clocks_of, clocks_at, clocks_in}
+
+part : (m : ℕ) (l : Link) → clocks_at m l ≤ clocks_of l
+part m l = by_test (eqb l.module m)
+  where
+    by_test : (b : Bool) → cond b (clocks_of l) 0 ≤ clocks_of l
+    by_test true = omega arith
+    by_test false = omega arith
+
+-- the clocks so far and those of one link more are within those of all
+pub clocks_within : (links : List Link) (i m : ℕ) (l : Link) → i < length links
+    → clocks_in (take i links) m + clocks_of (get_or links i l) ≤ sum_by clocks_of links
+clocks_within links i m l inside = sum_by_more_le_part (clocks_at m) clocks_of links i l inside (part m)

@@ -1,0 +1,4 @@
+pub mod Printed
+pub mod Links
+pub mod Counting
+pub mod Whole

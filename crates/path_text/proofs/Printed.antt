@@ -1,0 +1,70 @@
+-- Lines that grow.
+use Rattle.std.proofs.Common.{◌≡◌, ℕ, zero, suc, ◌+◌, ◌<◌, List, [], ◌∷◌, ◌++◌, refl, sym, ap, ap₂, ◌∙◌, arith, length}
+use Rattle.std.proofs.Common.{append_assoc, zero-add, add-one}
+use Rattle.std.specs.List.{flat_map, range_with_len}
+use Rattle.std.proofs.lemmas.List.{append-nil}
+use Rattle.std.proofs.lemmas.List.Concat.{flat_map-append}
+use Rattle.timing_bridge.proofs.Steps.{range_more}
+use Rattle.flow_word.specs.declared.access.Side.{Side}
+use Rattle.flow_word.specs.declared.access.Side.TheVariants.{Pop, Push}
+use Rattle.flow_design.specs.declared.design.Design.{Design}
+use Rattle.report_text.specs.Lines.{Token, line, text_of_lines}
+use Rattle.report_text.specs.ReportText.{module_name, channel_name}
+use Rattle.path_text.specs.PathText.{spend_lines, cross_lines, module_lines, channel_lines}
+
+pub text-append : (xs ys : List (List Token)) → text_of_lines (xs ++ ys) ≡ text_of_lines xs ++ text_of_lines ys
+text-append xs ys = flat_map-append line xs ys
+
+-- the lines of one number more
+pub numbers_more : (g : ℕ → List (List Token)) (n : ℕ) (first text next : List ℕ)
+    → text ≡ first ++ text_of_lines (flat_map g (range_with_len 0 n)) → next ≡ text ++ text_of_lines (g n)
+    → next ≡ first ++ text_of_lines (flat_map g (range_with_len 0 (n + 1)))
+numbers_more g n first text next e r =
+    let more : range_with_len 0 (n + 1) ≡ range_with_len 0 n ++ n ∷ [] =
+    ap (range_with_len 0) (add-one n) ∙ (range_more 0 n ∙ ap (λ (k : ℕ). range_with_len 0 n ++ k ∷ []) (zero-add n)) in
+    r ∙ (ap (λ (t : List ℕ). t ++ text_of_lines (g n)) e
+    ∙ (append_assoc first (text_of_lines (flat_map g (range_with_len 0 n))) (text_of_lines (g n))
+    ∙ ap (λ (t : List ℕ). first ++ t)
+    (sym (text-append (flat_map g (range_with_len 0 n)) (g n))
+    ∙ (ap text_of_lines (sym (flat_map-append g (range_with_len 0 n) (n ∷ [])
+    ∙ ap (λ (l : List (List Token)). flat_map g (range_with_len 0 n) ++ l) (append-nil (g n))))
+    ∙ ap (λ (l : List ℕ). text_of_lines (flat_map g l)) (sym more)))))
+
+-- two groups of lines
+pub two_groups : (first text next : List ℕ) (xs ys : List (List Token)) → text ≡ first ++ text_of_lines xs
+    → next ≡ text ++ text_of_lines ys → next ≡ first ++ text_of_lines (xs ++ ys)
+two_groups first text next xs ys e r =
+    r ∙ (ap (λ (t : List ℕ). t ++ text_of_lines ys) e
+    ∙ (append_assoc first (text_of_lines xs) (text_of_lines ys) ∙ ap (λ (t : List ℕ). first ++ t) (sym (text-append xs ys))))
+
+-- two lines and then two groups of lines
+pub whole : (a b : List Token) (xs ys : List (List Token)) (s t u v : List ℕ) → s ≡ line a → t ≡ s ++ line b
+    → u ≡ t ++ text_of_lines xs → v ≡ u ++ text_of_lines ys → v ≡ text_of_lines (a ∷ b ∷ xs ++ ys)
+whole a b xs ys s t u v e f g h =
+    two_groups t u v xs ys g h
+    ∙ (ap (λ (l : List ℕ). l ++ text_of_lines (xs ++ ys)) (f ∙ ap (λ (l : List ℕ). l ++ line b) e)
+    ∙ append_assoc (line a) (line b) (text_of_lines (xs ++ ys)))
+
+-- ---- lines by equal numbers
+
+flat_same : {X : Type 0} (f g : ℕ → List X) (a n : ℕ) → ((k : ℕ) → k < a + n → f k ≡ g k)
+    → flat_map f (range_with_len a n) ≡ flat_map g (range_with_len a n)
+flat_same {X} f g a zero h = refl
+flat_same {X} f g a (suc n) h =
+    ap₂ (λ (x y : List X). x ++ y) (h a (omega arith)) (flat_same f g (a + 1) n (λ k l. h k (omega arith)))
+
+pub modules_same : (design : Design) (f g : ℕ → ℕ) → ((m : ℕ) → m < length design.modules → f m ≡ g m)
+    → module_lines design f ≡ module_lines design g
+modules_same design f g h =
+    flat_same (λ m. spend_lines (module_name design m) (f m)) (λ m. spend_lines (module_name design m) (g m)) 0 (length design.modules)
+    (λ k l. ap (spend_lines (module_name design k)) (h k (omega arith)))
+
+pub channels_same : (design : Design) (f g : Side → ℕ → ℕ) → ((k : ℕ) → k < length design.channels → f Pop k ≡ g Pop k)
+    → ((k : ℕ) → k < length design.channels → f Push k ≡ g Push k) → channel_lines design f ≡ channel_lines design g
+channels_same design f g popped pushed =
+    flat_same (λ k. cross_lines Pop (channel_name design k) (f Pop k) ++ cross_lines Push (channel_name design k) (f Push k))
+    (λ k. cross_lines Pop (channel_name design k) (g Pop k) ++ cross_lines Push (channel_name design k) (g Push k)) 0
+    (length design.channels)
+    (λ k l.
+    ap₂ (λ (x y : ℕ). cross_lines Pop (channel_name design k) x ++ cross_lines Push (channel_name design k) y) (popped k (omega arith))
+    (pushed k (omega arith)))

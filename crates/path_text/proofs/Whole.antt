@@ -1,0 +1,67 @@
+-- The whole text.
+use Rattle.std.proofs.Common.{◌≡◌, ℕ, ◌+◌, ◌<◌, ◌^◌, false, List, [], ◌∷◌, ◌++◌, sym, ap, subst, ◌∙◌, arith, length, get_or, inl, inr, Bool}
+use Rattle.std.specs.Prelude.{codes, All}
+use Rattle.std.proofs.lemmas.Bool.{cases_lt}
+use Rattle.std.proofs.lemmas.List.{get_or_append_left}
+use Rattle.std.proofs.Math.Seq.{get_or-append_seam}
+use Rattle.flow_design.specs.declared.design.Design.{Design}
+use Rattle.flow_design.specs.declared.plan.Plan.{Plan}
+use Rattle.flow_design.specs.declared.report.Report.{Report}
+use Rattle.flow_design.specs.StaticRules.{FitsEngine}
+use Rattle.lockstep_defs.specs.Report.{report}
+use Rattle.lockstep_defs.specs.Verdict.{verdict, clock_of}
+use Rattle.engine_report.specs.Finished.{report_with}
+use Rattle.stall_spans.specs.declared.span.Span.{Span}
+use Rattle.stall_spans.specs.Spans.{AreSpansBelow}
+use Rattle.report_text.specs.Lines.{line, text_of_lines, verdict_tokens}
+use Rattle.depth_order.specs.declared.link.Link.{Link}
+use Rattle.depth_order.specs.Chain.{path}
+use Rattle.path_text.specs.Counts.{clocks_in, crossings, AreLinksOf}
+use Rattle.path_text.specs.PathText.{module_lines, channel_lines, link_lines, path_text}
+use Rattle.path_text.proofs.Printed.{whole}
+
+-- ---- what the text is made from
+
+pub verdict_is : (p : Plan) (r : Report) → r ≡ report_with false p → r.verdict ≡ verdict p
+unfolding report
+verdict_is p r e = ap (λ (x : Report). x.verdict) e
+
+-- the spans of one module more
+pub spans_more : (p : Plan) (end n : ℕ) (spans new : List (List Span)) (s : List Span) → length spans ≡ n
+    → ((m : ℕ) → m < n → AreSpansBelow p m end (get_or spans m [])) → new ≡ spans ++ s ∷ [] → AreSpansBelow p n end s
+    → (m : ℕ) → m < n + 1 → AreSpansBelow p m end (get_or new m [])
+spans_more p end n spans new s count each e here m l = elim (cases_lt m n) [
+  | inl w ↦
+      let same = ap (λ (ss : List (List Span)). get_or ss m []) e ∙ get_or_append_left spans (s ∷ []) [] m (omega arith) in
+      subst (AreSpansBelow p m end) (sym same) (each m w)
+  | inr w ↦
+      let at : n ≡ m = omega arith in
+      let same : get_or new n [] ≡ s =
+      ap (λ (ss : List (List Span)). get_or ss n []) e
+      ∙ (ap (λ (k : ℕ). get_or (spans ++ s ∷ []) k []) (sym count) ∙ get_or-append_seam spans s [] []) in
+      subst (λ (k : ℕ). AreSpansBelow p k end (get_or new k [])) at (subst (AreSpansBelow p n end) (sym same) here)
+]
+
+pub few_modules : (p : Plan) → FitsEngine p → length p.design.modules < 2 ^ 32
+few_modules p h = let c = h.module_count in omega arith
+
+pub few_channels : (p : Plan) → FitsEngine p → length p.design.channels < 2 ^ 32
+few_channels p h = let c = h.channel_count in omega arith
+
+pub movers_inside : (design : Design) (links : List Link) → AreLinksOf design links
+    → All (λ (l : Link). l.module < length design.modules) links
+movers_inside design links all k d l = (all k d l).mover
+
+-- ---- and the text
+
+abbrev pub path_of : Plan → List Link
+path_of p = path p (clock_of (verdict p))
+
+pub whole_path : (p : Plan) (events : Bool) (s t u v : List ℕ) → s ≡ codes "path\n" → t ≡ s ++ line (verdict_tokens (verdict p))
+    → u ≡ t ++ text_of_lines (module_lines p.design (clocks_in (path_of p)) ++ channel_lines p.design (crossings (path_of p)))
+    → v ≡ u ++ text_of_lines (link_lines p.design events (path_of p)) → v ≡ path_text events p
+unfolding path_text
+whole_path p events s t u v e f g h =
+    whole (codes "path" ∷ []) (verdict_tokens (verdict p))
+    (module_lines p.design (clocks_in (path_of p)) ++ channel_lines p.design (crossings (path_of p)))
+    (link_lines p.design events (path_of p)) s t u v e f g h

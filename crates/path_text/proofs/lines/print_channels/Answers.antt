@@ -1,0 +1,25 @@
+use Rattle.std.proofs.Common.{◌∙◌, ap, ℕ, List, ◌++◌, slice_index}
+use Rattle.flow_word.specs.declared.access.Side.TheVariants.{Pop, Push}
+use Rattle.report_text.specs.Lines.{text_of_lines}
+use Rattle.report_text.specs.ReportText.{channel_name}
+use Rattle.path_text.specs.PathText.{cross_lines}
+use Rattle.path_text.proofs.Printed.{numbers_more, two_groups}
+use Rattle.path_text.proofs.lines.print_channels.Goals as goal
+
+pub loop-number-preserved : goal.loop-number-preserved
+loop-number-preserved c =
+    let n = c.loop-number.number in
+    let design = c.args.design.now in
+    let popped = c.args.popped.now in
+    let pushed = c.args.pushed.now in
+    let text = c.loop-number.text in
+    let name = c.channel_name-name.result.now in
+    numbers_more
+    (λ f.
+    cross_lines Pop (channel_name design f) (slice_index popped f) ++ cross_lines Push (channel_name design f) (slice_index pushed f)) n
+    c.args.text.now text c.print_crossed-in-loop-number.new.text c.loop-number.invariant
+    (two_groups text c.print_crossed.new.text c.print_crossed-in-loop-number.new.text (cross_lines Pop name (slice_index popped n))
+    (cross_lines Push name (slice_index pushed n)) c.in_ok-print_crossed.ensures c.in_ok-print_crossed-2.ensures
+    ∙ ap (λ (word : List ℕ). text
+    ++ text_of_lines (cross_lines Pop word (slice_index popped n) ++ cross_lines Push word (slice_index pushed n)))
+    c.channel_name-name.ensures)

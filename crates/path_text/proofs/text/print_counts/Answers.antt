@@ -1,0 +1,30 @@
+use Rattle.std.proofs.Common.{◌∙◌, ap, ap₂, arith, ℕ, List, ◌++◌, slice_index, Result, Ok, Err}
+use Rattle.std.specs.Prelude.{OnOk}
+use Rattle.report_text.specs.Lines.{text_of_lines}
+use Rattle.path_text.specs.Counts.{clocks_in, crossings, at_sides}
+use Rattle.path_text.specs.PathText.{module_lines, channel_lines}
+use Rattle.path_text.proofs.Printed.{two_groups, modules_same, channels_same}
+use Rattle.path_text.proofs.text.print_counts.Goals as goal
+
+if_ok : {T E A B : Type 0} (r : Result T E) → (A → B) → OnOk r A → OnOk r B
+if_ok (Ok x) f h = f h
+if_ok (Err e) f h = tt
+
+pub returns : goal.returns
+returns c =
+    let design = c.args.design.now in
+    let links = c.args.links.now in
+    let clocks = c.as_slice.result.now in
+    let popped = c.as_slice-2.result.now in
+    let pushed = c.as_slice-3.result.now in
+    let modules = modules_same design (slice_index clocks) (clocks_in links)
+    (λ m l. ap (λ (xs : List ℕ). slice_index xs m) c.as_slice.ensures ∙ c.in_ok-clocks.ensures.each m (omega (arith, c.len.ensures))) in
+    let channels = channels_same design (at_sides popped pushed) (crossings links)
+    (λ f l. ap (λ (xs : List ℕ). slice_index xs f) c.as_slice-2.ensures
+    ∙ c.in_ok-popped.ensures.each f (omega (arith, c.len-channels.ensures)))
+    (λ f l. ap (λ (xs : List ℕ). slice_index xs f) c.as_slice-3.ensures
+    ∙ c.in_ok-pushed.ensures.each f (omega (arith, c.len-channels.ensures))) in
+    if_ok c.print_channels.result
+    (λ is. two_groups c.args.text.now c.print_modules.new.text c.print_channels.new.text (module_lines design (slice_index clocks))
+    (channel_lines design (at_sides popped pushed)) c.in_ok-print_modules.ensures is
+    ∙ ap₂ (λ (xs ys : List (List (List ℕ))). c.args.text.now ++ text_of_lines (xs ++ ys)) modules channels) c.print_channels.ensures

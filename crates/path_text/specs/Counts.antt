@@ -1,0 +1,37 @@
+-- What the links of a chain add up to.
+use Rattle.std.specs.Prelude.{ℕ, suc, ◌-◌, ◌<◌, ◌≤◌, ◌==◌, List, All, IfSome, if◌then◌else◌, count_by, length, slice_index, sum_by}
+use Rattle.flow_word.specs.declared.access.Side.{Side}
+use Rattle.flow_word.specs.declared.access.Side.TheVariants.{Pop, Push}
+use Rattle.flow_design.specs.declared.design.Design.{Design}
+use Rattle.flow_design.specs.StaticRules.{is_port}
+use Rattle.depth_order.specs.declared.link.Link.{Link}
+
+-- the clocks of a link
+abbrev pub clocks_of : Link → ℕ
+clocks_of l = suc l.last - l.first
+
+-- those in module m
+abbrev pub clocks_at : ℕ → Link → ℕ
+clocks_at m l = if l.module == m then clocks_of l else 0
+
+-- the clocks that a chain spends in module m
+abbrev pub clocks_in : List Link → ℕ → ℕ
+clocks_in links m = sum_by (clocks_at m) links
+
+-- how often a chain crosses channel f where a module could not pop, or push
+abbrev pub crossings : List Link → Side → ℕ → ℕ
+crossings links side f = count_by (λ l. is_port (record { side = side; channel = f }) l.crossed) links
+
+-- of two numbers of each channel, the first for its popping side and the second for its pushing side
+abbrev pub at_sides : List ℕ → List ℕ → Side → ℕ → ℕ
+at_sides popped pushed Pop f = slice_index popped f
+at_sides popped pushed Push f = slice_index pushed f
+
+-- a link's clocks are in order, and its module and channel are the design's
+pub record IsLinkOf (design : Design) (l : Link) : Type 0 where
+  pub order : l.first ≤ l.last
+  pub mover : l.module < length design.modules
+  pub crossed : IfSome l.crossed (λ a. a.channel < length design.channels)
+
+abbrev pub AreLinksOf : Design → List Link → Type 0
+AreLinksOf design links = All (IsLinkOf design) links

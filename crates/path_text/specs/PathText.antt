@@ -1,0 +1,54 @@
+-- The text of what makes the latency.
+use Rattle.std.specs.Prelude.{ℕ, ◌==◌, Bool, if◌then◌else◌, List, [], ◌∷◌, ◌++◌, codes, decimal, length, map, reverse}
+use Rattle.std.specs.List.{flat_map, range_with_len}
+use Rattle.flow_word.specs.declared.access.Side.{Side}
+use Rattle.flow_word.specs.declared.access.Side.TheVariants.{Pop, Push}
+use Rattle.flow_design.specs.declared.design.Design.{Design}
+use Rattle.flow_design.specs.declared.plan.Plan.{Plan}
+use Rattle.flow_design.specs.declared.report.Verdict.{Verdict}
+use Rattle.lockstep_defs.specs.Verdict.{verdict, clock_of}
+use Rattle.report_text.specs.Lines.{Token, text_of_lines, verdict_tokens}
+use Rattle.report_text.specs.ReportText.{module_name, channel_name}
+use Rattle.depth_order.specs.declared.link.Link.{Link}
+use Rattle.depth_order.specs.Chain.{path}
+use Rattle.path_text.specs.Counts.{clocks_in, crossings}
+
+-- `spend M N`, where the chain spends N clocks in the module of this name; nothing where it spends none
+abbrev pub spend_lines : Token → ℕ → List (List Token)
+spend_lines name n = if n == 0 then [] else (codes "spend" ∷ name ∷ decimal n ∷ []) ∷ []
+
+-- the channel was empty for a module that could not pop, and full for one that could not push
+abbrev pub side_word : Side → Token
+side_word Pop = codes "empty"
+side_word Push = codes "full"
+
+-- `cross empty F N` and `cross full F N`, where the chain crosses the channel of this name so N times; nothing where it does not
+abbrev pub cross_lines : Side → Token → ℕ → List (List Token)
+cross_lines side name n = if n == 0 then [] else (codes "cross" ∷ side_word side ∷ name ∷ decimal n ∷ []) ∷ []
+
+-- the modules in order
+abbrev pub module_lines : Design → (ℕ → ℕ) → List (List Token)
+module_lines design clocks = flat_map (λ m. spend_lines (module_name design m) (clocks m)) (range_with_len 0 (length design.modules))
+
+-- the channels in order of declaration
+abbrev pub channel_lines : Design → (Side → ℕ → ℕ) → List (List Token)
+channel_lines design times = flat_map
+    (λ f. cross_lines Pop (channel_name design f) (times Pop f) ++ cross_lines Push (channel_name design f) (times Push f))
+    (range_with_len 0 (length design.channels))
+
+-- `link M X T`: the chain spends the clocks X to T in M
+abbrev pub link_tokens : Design → Link → List Token
+link_tokens design l = codes "link" ∷ module_name design l.module ∷ decimal l.first ∷ decimal l.last ∷ []
+
+-- in order of time, where they are asked for: in a chain the latest link is the first
+abbrev pub link_lines : Design → Bool → List Link → List (List Token)
+link_lines design asked links = if asked then map (link_tokens design) (reverse links) else []
+
+abbrev pub path_lines : Design → Bool → Verdict → List Link → List (List Token)
+path_lines design events v links =
+    (codes "path" ∷ []) ∷ verdict_tokens v
+    ∷ module_lines design (clocks_in links) ++ channel_lines design (crossings links) ++ link_lines design events links
+
+-- of the chain back from the plan's verdict
+unfoldable pub path_text : Bool → Plan → List ℕ
+path_text events p = text_of_lines (path_lines p.design events (verdict p) (path p (clock_of (verdict p))))

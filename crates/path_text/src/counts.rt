@@ -1,0 +1,72 @@
+//! What the links of a chain add up to.
+ghost use Rattle.std.specs.Prelude.{◌≡◌, ℕ, ◌<◌, ◌≤◌, ◌^◌, ◌+◌, All, IfOk, IfSome, if◌then◌else◌, length, slice_index, sum_by};
+ghost use Rattle.flow_design.specs.StaticRules.{is_port};
+ghost use Rattle.path_text.specs.Counts.{clocks_of, clocks_at, clocks_in, crossings};
+
+use depth_order::Link;
+use flow_word::{List, OutOfMemory, Port, Side};
+use std::alloc::Global;
+
+/// How many clocks a chain spends in each of so many modules.
+pub(crate) fn clocks_by_module(
+    alloc: Global,
+    modules: u64,
+    links: &[Link],
+) -> Result<List<u64>, OutOfMemory>
+    requires order { All (λ l. l.first ≤ l.last) links.now }
+    requires inside { All (λ l. l.module < modules) links.now }
+    requires few { sum_by clocks_of links.now < 2 ^ 64 }
+    ensures count { IfOk result (λ clocks. length clocks ≡ modules) }
+    ensures each { IfOk result (λ clocks. (m : ℕ) → m < modules → slice_index clocks m ≡ clocks_in links.now m) }
+{
+    let mut clocks = List::zeros(alloc, modules)?;
+    for link in links {
+        add_clocks(clocks.as_mut_slice(), link);
+    }
+    Ok(clocks)
+}
+
+/// Adds the clocks of a link to those of its module.
+fn add_clocks(clocks: &mut [u64], link: &Link)
+    requires order { link.now.first ≤ link.now.last }
+    requires inside { link.now.module < length clocks.old }
+    requires few { (m : ℕ) → m < length clocks.old → slice_index clocks.old m + clocks_of link.now < 2 ^ 64 }
+    ensures count { length clocks.new ≡ length clocks.old }
+    ensures each { (m : ℕ) → m < length clocks.old → slice_index clocks.new m
+        ≡ slice_index clocks.old m + clocks_at m link.now }
+{
+    clocks[link.module as usize] += link.last - link.first + 1;
+}
+
+/// How often a chain crosses each of so many channels where a module could not pop, or push.
+pub(crate) fn crossings_by_channel(
+    alloc: Global,
+    channels: u64,
+    side: Side,
+    links: &[Link],
+) -> Result<List<u64>, OutOfMemory>
+    requires { All (λ l. IfSome l.crossed (λ a. a.channel < channels)) links.now }
+    ensures count { IfOk result (λ times. length times ≡ channels) }
+    ensures each { IfOk result (λ times. (f : ℕ) → f < channels → slice_index times f ≡ crossings links.now side f) }
+{
+    let mut times = List::zeros(alloc, channels)?;
+    for link in links {
+        count_crossing(times.as_mut_slice(), side, link.crossed);
+    }
+    Ok(times)
+}
+
+/// Counts a crossing, if it is at this side of a channel.
+fn count_crossing(times: &mut [u64], side: Side, crossed: Option<Port>)
+    requires inside { IfSome crossed (λ a. a.channel < length times.old) }
+    requires few { (f : ℕ) → f < length times.old → slice_index times.old f + 1 < 2 ^ 64 }
+    ensures count { length times.new ≡ length times.old }
+    ensures each { (f : ℕ) → f < length times.old → slice_index times.new f
+        ≡ slice_index times.old f + (if is_port (record { side = side; channel = f }) crossed then 1 else 0) }
+{
+    if let Some(port) = crossed {
+        if port.side == side {
+            times[port.channel as usize] += 1;
+        }
+    }
+}

@@ -1,0 +1,121 @@
+//! Single lines, and a line for each module, each channel or each link.
+ghost use Rattle.std.specs.Prelude.{◌≡◌, ◌<◌, ◌^◌, ◌++◌, length, slice_index, All, OnOk};
+ghost use Rattle.report_text.specs.Lines.{line, text_of_lines};
+ghost use Rattle.path_text.specs.Counts.{at_sides};
+ghost use Rattle.path_text.specs.PathText.{spend_lines, side_word as word_of, cross_lines};
+ghost use Rattle.path_text.specs.PathText.{module_lines, channel_lines, link_tokens, link_lines};
+
+use depth_order::Link;
+use flow_design::Design;
+use flow_word::{List, OutOfMemory, Side};
+use report_text::{channel_name, module_name, push_token, push_value};
+
+/// Adds the line of a module in which the chain spends so many clocks, if it spends any.
+fn print_spent(text: &mut List<u8>, name: &[u8], clocks: u64) -> Result<(), OutOfMemory>
+    ensures { OnOk result (text.new ≡ text.old ++ text_of_lines (spend_lines name.now clocks)) }
+{
+    if clocks == 0 {
+        return Ok(());
+    }
+    text.extend_from_slice(b"spend")?;
+    push_token(text, name)?;
+    push_value(text, clocks)?;
+    text.push(b'\n')
+}
+
+/// Adds the line of a channel that the chain crosses so many times at this side, if it does.
+fn print_crossed(
+    text: &mut List<u8>,
+    side: Side,
+    name: &[u8],
+    times: u64,
+) -> Result<(), OutOfMemory>
+    ensures { OnOk result (text.new ≡ text.old ++ text_of_lines (cross_lines side name.now times)) }
+{
+    if times == 0 {
+        return Ok(());
+    }
+    text.extend_from_slice(b"cross")?;
+    push_token(text, side_word(side))?;
+    push_token(text, name)?;
+    push_value(text, times)?;
+    text.push(b'\n')
+}
+
+/// The word for a channel at which a module cannot pop, or push.
+fn side_word(side: Side) -> &'static [u8]
+    ensures { result.now ≡ word_of side }
+{
+    match side {
+        Side::Pop => b"empty",
+        Side::Push => b"full",
+    }
+}
+
+/// Adds a line for each module in which the chain spends clocks.
+pub(crate) fn print_modules(
+    text: &mut List<u8>,
+    design: &Design,
+    clocks: &[u64],
+) -> Result<(), OutOfMemory>
+    requires few { length design.now.modules < 2 ^ 32 }
+    requires count { length clocks.now ≡ length design.now.modules }
+    ensures { OnOk result (text.new ≡ text.old ++ text_of_lines (module_lines design.now (slice_index clocks.now))) }
+{
+    for number in 0..clocks.len() {
+        print_spent(text, module_name(design, number as u32), clocks[number])?;
+    }
+    Ok(())
+}
+
+/// Adds the lines of each channel that the chain crosses, by how often it crosses each where a module could not pop, and where one
+/// could not push.
+pub(crate) fn print_channels(
+    text: &mut List<u8>,
+    design: &Design,
+    popped: &[u64],
+    pushed: &[u64],
+) -> Result<(), OutOfMemory>
+    requires few { length design.now.channels < 2 ^ 32 }
+    requires popped { length popped.now ≡ length design.now.channels }
+    requires pushed { length pushed.now ≡ length design.now.channels }
+    ensures { OnOk result (text.new ≡ text.old ++ text_of_lines (channel_lines design.now (at_sides popped.now pushed.now))) }
+{
+    for number in 0..popped.len() {
+        let name = channel_name(design, number as u32);
+        print_crossed(text, Side::Pop, name, popped[number])?;
+        print_crossed(text, Side::Push, name, pushed[number])?;
+    }
+    Ok(())
+}
+
+/// Adds the line of a link.
+fn print_link(text: &mut List<u8>, design: &Design, link: &Link) -> Result<(), OutOfMemory>
+    requires { link.now.module < length design.now.modules }
+    ensures { OnOk result (text.new ≡ text.old ++ line (link_tokens design.now link.now)) }
+{
+    text.extend_from_slice(b"link")?;
+    push_token(text, module_name(design, link.module))?;
+    push_value(text, link.first)?;
+    push_value(text, link.last)?;
+    text.push(b'\n')
+}
+
+/// Adds a line for each link of a chain, in order of time, if they are asked for. A chain has its latest link first.
+pub(crate) fn print_links(
+    text: &mut List<u8>,
+    design: &Design,
+    asked: bool,
+    links: &[Link],
+) -> Result<(), OutOfMemory>
+    requires { All (λ l. l.module < length design.now.modules) links.now }
+    ensures { OnOk result (text.new ≡ text.old ++ text_of_lines (link_lines design.now asked links.now)) }
+{
+    if !asked {
+        return Ok(());
+    }
+    for at in (0..links.len()).rev() {
+        print_link(text, design, &links[at])?;
+    }
+    Ok(())
+}

@@ -1,0 +1,96 @@
+//! The text of a core's plan.
+ghost use Rattle.std.specs.Prelude.{◌≡◌, ◌++◌, ◌<◌, ◌^◌, IfOk, OnOk, length, sum_by};
+ghost use Rattle.lockstep_defs.specs.Verdict.{clock_of as clock_in, verdict as verdict_of};
+ghost use Rattle.event_timing.specs.Actions.{IsFinal};
+ghost use Rattle.timing_bridge.specs.Designs.{design as design_of};
+ghost use Rattle.sim_core.specs.Views.{theory_of};
+ghost use Rattle.latency_path.specs.Walks.{HasSpans};
+ghost use Rattle.report_text.specs.Lines.{text_of_lines};
+ghost use Rattle.path_text.specs.Counts.{clocks_of, clocks_in, crossings, AreLinksOf};
+ghost use Rattle.path_text.specs.PathText.{module_lines, channel_lines};
+ghost use Rattle.path_text.specs.PathText as form;
+
+use crate::counts::{clocks_by_module, crossings_by_channel};
+use crate::lines::{print_channels, print_links, print_modules};
+use depth_order::Link;
+use flow_design::{Design, Verdict};
+use flow_word::{List, OutOfMemory, Side};
+use latency_path::find_path;
+use report_text::print_verdict;
+use sim_core::Core;
+use stall_spans::Span;
+use std::alloc::Global;
+
+/// The text of what makes the latency of a final core's plan: the modules in which the chain back from its end spends clocks, and the
+/// channels that it crosses; with `events` also the links of the chain.
+///
+/// It takes memory for the report without its events, for the spans of all modules, for the links, for a few numbers of each module
+/// and each channel, and for the text. An error leaves nothing.
+pub fn path_text(alloc: Global, core: &Core, events: bool) -> Result<List<u8>, OutOfMemory>
+    requires { IsFinal (design_of core.now.plan) core.now.plan.cycles (theory_of core.now) }
+    ensures { IfOk result (λ text. text ≡ form.path_text events core.now.plan) }
+{
+    let modules = core.modules();
+    let report = core.report(alloc, false)?;
+    let verdict = report.verdict;
+    let spans = all_spans(alloc, core, modules, clock_of(verdict))?;
+    let links = find_path(alloc, core.plan(), spans.as_slice())?;
+    let mut text = List::from_slice(alloc, b"path\n")?;
+    print_verdict(&mut text, verdict)?;
+    print_counts(alloc, &mut text, &core.plan().design, links.as_slice())?;
+    print_links(&mut text, &core.plan().design, events, links.as_slice())?;
+    Ok(text)
+}
+
+/// The clock of a verdict.
+fn clock_of(verdict: Verdict) -> u64
+    ensures { result ≡ clock_in verdict }
+{
+    match verdict {
+        Verdict::Done(clock)
+        | Verdict::Deadlock(clock)
+        | Verdict::Cycles(clock)
+        | Verdict::Ops(clock) => clock,
+    }
+}
+
+/// The spans of each module below the clock of the plan's verdict.
+fn all_spans(
+    alloc: Global,
+    core: &Core,
+    modules: u32,
+    clock: u64,
+) -> Result<List<List<Span>>, OutOfMemory>
+    requires count { modules ≡ length core.now.plan.design.modules }
+    requires is_final { IsFinal (design_of core.now.plan) core.now.plan.cycles (theory_of core.now) }
+    requires clock { clock ≡ clock_in (verdict_of core.now.plan) }
+    ensures { IfOk result (HasSpans core.now.plan clock) }
+{
+    let mut spans = List::with_room(alloc, modules as u64)?;
+    for owner in 0..modules {
+        spans.push(core.spans(alloc, owner, clock)?)?;
+    }
+    Ok(spans)
+}
+
+/// Adds the lines of the modules in which a chain spends clocks, and those of the channels that it crosses.
+fn print_counts(
+    alloc: Global,
+    text: &mut List<u8>,
+    design: &Design,
+    links: &[Link],
+) -> Result<(), OutOfMemory>
+    requires modules { length design.now.modules < 2 ^ 32 }
+    requires channels { length design.now.channels < 2 ^ 32 }
+    requires links { AreLinksOf design.now links.now }
+    requires few { sum_by clocks_of links.now < 2 ^ 64 }
+    ensures { OnOk result (text.new ≡ text.old
+        ++ text_of_lines (module_lines design.now (clocks_in links.now) ++ channel_lines design.now (crossings links.now))) }
+{
+    let channels = design.channels.len();
+    let clocks = clocks_by_module(alloc, design.modules.len(), links)?;
+    let popped = crossings_by_channel(alloc, channels, Side::Pop, links)?;
+    let pushed = crossings_by_channel(alloc, channels, Side::Push, links)?;
+    print_modules(text, design, clocks.as_slice())?;
+    print_channels(text, design, popped.as_slice(), pushed.as_slice())
+}

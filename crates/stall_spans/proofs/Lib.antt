@@ -1,0 +1,9 @@
+pub mod Placed
+pub mod Waits
+pub mod Causes
+pub mod Lists
+pub mod Extending
+pub mod Existing
+pub mod Going
+pub mod Counting
+pub mod Adding

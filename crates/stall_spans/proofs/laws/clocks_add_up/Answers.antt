@@ -1,0 +1,12 @@
+use Rattle.stall_spans.proofs.Existing.{counted_spans}
+use Rattle.stall_spans.proofs.Adding.{over_from, causes_add_up}
+use Rattle.stall_spans.proofs.laws.clocks_add_up.Goals as goal
+
+pub returns-clause-spans : goal.returns-clause-spans
+returns-clause-spans c = counted_spans
+
+pub returns-clause-over : goal.returns-clause-over
+returns-clause-over c = over_from
+
+pub returns-clause-causes : goal.returns-clause-causes
+returns-clause-causes c = causes_add_up

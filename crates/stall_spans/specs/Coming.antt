@@ -1,0 +1,24 @@
+-- Spans that come to a clock.
+use Rattle.std.specs.Prelude.{ℕ, ◌≡◌, ◌-◌, ◌<◌, ◌≤◌, List, length, slice_index_or, Some}
+use Rattle.flow_design.specs.declared.plan.Plan.{Plan}
+use Rattle.stall_spans.specs.declared.span.Doing.{Doing}
+use Rattle.stall_spans.specs.declared.span.Doing.TheVariants.{Moves}
+use Rattle.stall_spans.specs.declared.span.Span.{Span}
+use Rattle.stall_spans.specs.Doings.{doing}
+use Rattle.stall_spans.specs.Spans.{AreSpansBelow}
+
+-- the last of the spans, and one without a clock where there is none
+abbrev pub last_span : List Span → Span
+last_span spans = slice_index_or spans (length spans - 1) (record { first = 0; until = 0; doing = Moves })
+
+-- the clock after it
+abbrev pub reached : List Span → ℕ
+reached spans = (last_span spans).until
+
+-- these are the spans of module i below that clock
+abbrev pub Comes : Plan → ℕ → List Span → Type 0
+Comes p i spans = AreSpansBelow p i (reached spans) spans
+
+-- module i does this in each clock from one to another
+abbrev pub Does : Plan → ℕ → ℕ → ℕ → Doing → Type 0
+Does p i first until d = (c : ℕ) → first ≤ c → c < until → doing p c i ≡ Some d

@@ -1,0 +1,5 @@
+pub mod Doings
+pub mod Spans
+pub mod CoreDoings
+pub mod Coming
+pub mod Totals

@@ -1,0 +1,28 @@
+-- The spans of a module.
+use Rattle.std.specs.Prelude.{ℕ, ◌≡◌, ◌≢◌, ◌+◌, ◌<◌, ◌≤◌, ◌↔◌, Some, List, AllPairs, Contains}
+use Rattle.flow_design.specs.declared.plan.Plan.{Plan}
+use Rattle.lockstep_defs.specs.Verdict.{verdict, clock_of}
+use Rattle.stall_spans.specs.declared.span.Span.{Span}
+use Rattle.stall_spans.specs.Doings.{doing}
+
+-- a maximal interval of clocks below `end` in which module i does the same throughout
+pub record IsSpan (p : Plan) (i end : ℕ) (s : Span) : Type 0 where
+  pub some : s.first < s.until
+  pub below : s.until ≤ end
+  pub throughout : (c : ℕ) → s.first ≤ c → c < s.until → doing p c i ≡ Some s.doing
+  -- it does not in the clock before, nor in the clock after
+  pub begins : (c : ℕ) → c + 1 ≡ s.first → doing p c i ≢ Some s.doing
+  pub ends : s.until < end → doing p s.until i ≢ Some s.doing
+
+-- one is over where the other begins, or before
+abbrev pub IsBefore : Span → Span → Type 0
+IsBefore s t = s.until ≤ t.first
+
+-- the spans of module i below clock `end`, in order
+pub record AreSpansBelow (p : Plan) (i end : ℕ) (spans : List Span) : Type 0 where
+  pub all : (s : Span) → Contains spans s ↔ IsSpan p i end s
+  pub in_order : AllPairs IsBefore spans
+
+-- the spans of module i: those below the clock of the verdict
+abbrev pub AreSpans : Plan → ℕ → List Span → Type 0
+AreSpans p i spans = AreSpansBelow p i (clock_of (verdict p)) spans

@@ -1,0 +1,29 @@
+//! The laws of spans.
+ghost use Rattle.std.specs.Prelude.{ℕ, ◌≡◌, ◌+◌, Bool, length, sum_by};
+ghost use Rattle.std.specs.Prelude.{List as Items};
+ghost use Rattle.std.specs.List.{range_with_len};
+ghost use Rattle.flow_word.specs.declared.access.Side.TheVariants.{Pop, Push};
+ghost use Rattle.flow_design.specs.declared.plan.Plan.{Plan};
+ghost use Rattle.flow_design.specs.StaticRules.{FitsEngine};
+ghost use Rattle.stall_spans.specs.declared.span.Doing.{Doing};
+ghost use Rattle.stall_spans.specs.declared.span.Span.{Span};
+ghost use Rattle.stall_spans.specs.Spans.{AreSpansBelow};
+ghost use Rattle.stall_spans.specs.Totals.{clocks_in, moved_clocks, still_clocks, still_clocks_at, spans_clocks, IsOverFrom};
+
+/// Below each clock a module has one list of spans.
+pub fn spans_are_one()
+    ensures there { (p : Plan) (i end : ℕ) → (spans : Items Span) × AreSpansBelow p i end spans }
+    ensures only { (p : Plan) (i end : ℕ) (a b : Items Span) → AreSpansBelow p i end a → AreSpansBelow p i end b → a ≡ b }
+{}
+
+/// The spans below a clock have all clocks in which a module does something. The clocks in which it moves, and those in which it
+/// stands still, come to the clock in which it is over, or to the verdict's; and the clocks of all causes add up to those in which it
+/// stands still.
+pub fn clocks_add_up()
+    ensures spans { (test : Doing → Bool) (p : Plan) (i end : ℕ) (spans : Items Span) → AreSpansBelow p i end spans
+        → spans_clocks test spans ≡ clocks_in test p i end }
+    ensures over { (p : Plan) (i : ℕ) → IsOverFrom p i (moved_clocks p i + still_clocks p i) }
+    ensures causes { (p : Plan) (i : ℕ) → FitsEngine p
+        → still_clocks p i ≡ sum_by (λ f. still_clocks_at p i Pop f + still_clocks_at p i Push f)
+        (range_with_len 0 (length p.design.channels)) }
+{}

@@ -1,0 +1,139 @@
+-- Lines that grow.
+use Rattle.std.proofs.Common.{◌≡◌, ◌≢◌, ℕ, zero, suc, ◌+◌, ◌<◌, List, [], ◌∷◌, ◌++◌, refl, sym, ap, ap₂, ◌∙◌, arith, length, get_or, append_assoc}
+use Rattle.std.proofs.Common.{Bool, true, false, cond, zero-add, add-one, map}
+use Rattle.std.specs.Prelude.{codes, decimal}
+use Rattle.std.specs.List.{flat_map, filter, range_with_len}
+use Rattle.std.proofs.lemmas.Bool.{ne_eqb}
+use Rattle.std.proofs.lemmas.List.{append-nil, map-append}
+use Rattle.std.proofs.lemmas.List.Concat.{flat_map-append}
+use Rattle.std.proofs.lemmas.List.Elements.{filter-append}
+use Rattle.timing_bridge.proofs.Steps.{range_more}
+use Rattle.flow_word.specs.declared.access.Side.{Side}
+use Rattle.flow_word.specs.declared.access.Side.TheVariants.{Pop, Push}
+use Rattle.report_text.specs.Lines.{Token, line, text_of_lines}
+use Rattle.report_text.proofs.LineLemmas.{line_of_five}
+use Rattle.stall_text.specs.StallText.{side_word, cause_word, cause_lines, port_lines, last_of, at_each_side}
+
+pub text-append : (xs ys : List (List Token)) → text_of_lines (xs ++ ys) ≡ text_of_lines xs ++ text_of_lines ys
+text-append xs ys = flat_map-append line xs ys
+
+pub text-one : (l : List Token) → text_of_lines (l ∷ []) ≡ line l
+text-one l = append-nil (line l)
+
+-- ---- one line
+
+five_pushed : (text a b c d e t u v w x y : List ℕ) → t ≡ text ++ a → u ≡ t ++ 32 ∷ b → v ≡ u ++ 32 ∷ c → w ≡ v ++ 32 ∷ d
+    → x ≡ w ++ 32 ∷ e → y ≡ x ++ 10 ∷ [] → y ≡ text ++ line (a ∷ b ∷ c ∷ d ∷ e ∷ [])
+five_pushed text a b c d e t u v w x y p q r s o n =
+    n
+    ∙ (ap (λ (l : List ℕ). l ++ 10 ∷ []) (o
+    ∙ ap (λ (l : List ℕ). l ++ 32 ∷ e) (s
+    ∙ ap (λ (l : List ℕ). l ++ 32 ∷ d) (r ∙ ap (λ (l : List ℕ). l ++ 32 ∷ c) (q ∙ ap (λ (l : List ℕ). l ++ 32 ∷ b) p))))
+    ∙ line_of_five text a b c d e)
+
+pub cause_line : (text name channel word t u v w x y : List ℕ) (side : Side) (clocks : ℕ) → clocks ≢ 0 → word ≡ cause_word side
+    → t ≡ text ++ codes "stall" → u ≡ t ++ 32 ∷ name → v ≡ u ++ 32 ∷ word → w ≡ v ++ 32 ∷ channel → x ≡ w ++ 32 ∷ decimal clocks
+    → y ≡ x ++ 10 ∷ [] → y ≡ text ++ text_of_lines (cause_lines name channel side clocks)
+cause_line text name channel word t u v w x y side clocks some is p q r s o n =
+    let tokens = codes "stall" ∷ name ∷ cause_word side ∷ channel ∷ decimal clocks ∷ [] in
+    five_pushed text (codes "stall") name (cause_word side) channel (decimal clocks) t u v w x y p q
+    (r ∙ ap (λ (l : List ℕ). u ++ 32 ∷ l) is) s o n
+    ∙ ap (λ (l : List ℕ). text ++ l)
+    (sym (text-one tokens) ∙ sym (ap (λ (b : Bool). text_of_lines (cond b [] (tokens ∷ []))) (ne_eqb clocks 0 some)))
+
+line_of_seven : (text a b c d e f g : List ℕ)
+    → (((((((text ++ a) ++ 32 ∷ b) ++ 32 ∷ c) ++ 32 ∷ d) ++ 32 ∷ e) ++ 32 ∷ f) ++ 32 ∷ g) ++ 10 ∷ []
+    ≡ text ++ line (a ∷ b ∷ c ∷ d ∷ e ∷ f ∷ g ∷ [])
+line_of_seven text a b c d e f g =
+    let four = (((text ++ a) ++ 32 ∷ b) ++ 32 ∷ c) ++ 32 ∷ d in
+    ap (λ (l : List ℕ). l ++ 10 ∷ [])
+    (append_assoc (four ++ 32 ∷ e) (32 ∷ f) (32 ∷ g) ∙ append_assoc four (32 ∷ e) (32 ∷ (f ++ 32 ∷ g)))
+    ∙ line_of_five text a b c d (e ++ 32 ∷ (f ++ 32 ∷ g))
+
+last_is : (x : ℕ) (xs : List ℕ) → last_of x xs ≡ get_or (x ∷ xs) (length xs) 0
+last_is x [] = refl
+last_is x (y ∷ ys) = last_is y ys
+
+port_tokens : (name channel : Token) (side : Side) (clocks : List ℕ) (last : ℕ) → last + 1 ≡ length clocks
+    → text_of_lines (port_lines name channel side clocks)
+    ≡ line (codes "port" ∷ name ∷ side_word side ∷ channel ∷ decimal (length clocks) ∷ decimal (get_or clocks 0 0)
+    ∷ decimal (get_or clocks last 0) ∷ [])
+port_tokens name channel side [] last e = absurd (omega arith)
+port_tokens name channel side (x ∷ xs) last e =
+    let there : length xs ≡ last = omega arith in
+    text-one (codes "port" ∷ name ∷ side_word side ∷ channel ∷ decimal (length (x ∷ xs)) ∷ decimal x ∷ decimal (last_of x xs) ∷ [])
+    ∙ ap (λ (n : ℕ). line (codes "port" ∷ name ∷ side_word side ∷ channel ∷ decimal (length (x ∷ xs)) ∷ decimal x ∷ decimal n ∷ []))
+    (last_is x xs ∙ ap (λ (k : ℕ). get_or (x ∷ xs) k 0) there)
+
+pub port_line : (text name channel word : List ℕ) (side : Side) (clocks : List ℕ) (last : ℕ) (t u v w x y z n : List ℕ)
+    → last + 1 ≡ length clocks → word ≡ side_word side
+    → t ≡ text ++ codes "port" → u ≡ t ++ 32 ∷ name → v ≡ u ++ 32 ∷ word → w ≡ v ++ 32 ∷ channel
+    → x ≡ w ++ 32 ∷ decimal (length clocks) → y ≡ x ++ 32 ∷ decimal (get_or clocks 0 0) → z ≡ y ++ 32 ∷ decimal (get_or clocks last 0)
+    → n ≡ z ++ 10 ∷ [] → n ≡ text ++ text_of_lines (port_lines name channel side clocks)
+port_line text name channel word side clocks last t u v w x y z n some is p q r s a b d e =
+    e
+    ∙ (ap (λ (l : List ℕ). l ++ 10 ∷ []) (d
+    ∙ ap (λ (l : List ℕ). l ++ 32 ∷ decimal (get_or clocks last 0)) (b
+    ∙ ap (λ (l : List ℕ). l ++ 32 ∷ decimal (get_or clocks 0 0)) (a
+    ∙ ap (λ (l : List ℕ). l ++ 32 ∷ decimal (length clocks)) (s
+    ∙ ap (λ (l : List ℕ). l ++ 32 ∷ channel) (r ∙ ap₂ (λ (l k : List ℕ). l ++ 32 ∷ k) (q ∙ ap (λ (l : List ℕ). l ++ 32 ∷ name) p) is)))))
+    ∙ (line_of_seven text (codes "port") name (side_word side) channel (decimal (length clocks)) (decimal (get_or clocks 0 0))
+    (decimal (get_or clocks last 0))
+    ∙ ap (λ (l : List ℕ). text ++ l) (sym (port_tokens name channel side clocks last some))))
+
+-- ---- many
+
+pub range_last : (n : ℕ) → range_with_len 0 (n + 1) ≡ range_with_len 0 n ++ n ∷ []
+range_last n = ap (range_with_len 0) (add-one n) ∙ (range_more 0 n ∙ ap (λ (k : ℕ). range_with_len 0 n ++ k ∷ []) (zero-add n))
+
+-- the lines of one number more
+pub numbers_more : (g : ℕ → List (List Token)) (n : ℕ) (first text next : List ℕ)
+    → text ≡ first ++ text_of_lines (flat_map g (range_with_len 0 n)) → next ≡ text ++ text_of_lines (g n)
+    → next ≡ first ++ text_of_lines (flat_map g (range_with_len 0 (n + 1)))
+numbers_more g n first text next e r =
+    r ∙ (ap (λ (t : List ℕ). t ++ text_of_lines (g n)) e
+    ∙ (append_assoc first (text_of_lines (flat_map g (range_with_len 0 n))) (text_of_lines (g n))
+    ∙ ap (λ (t : List ℕ). first ++ t)
+    (sym (text-append (flat_map g (range_with_len 0 n)) (g n))
+    ∙ (ap text_of_lines (sym (flat_map-append g (range_with_len 0 n) (n ∷ [])
+    ∙ ap (λ (l : List (List Token)). flat_map g (range_with_len 0 n) ++ l) (append-nil (g n))))
+    ∙ ap (λ (l : List ℕ). text_of_lines (flat_map g l)) (sym (range_last n))))))
+
+two_more : (text t u : List ℕ) (xs ys : List (List Token)) → t ≡ text ++ text_of_lines xs → u ≡ t ++ text_of_lines ys
+    → u ≡ text ++ text_of_lines (xs ++ ys)
+two_more text t u xs ys p q =
+    q ∙ (ap (λ (l : List ℕ). l ++ text_of_lines ys) p
+    ∙ (append_assoc text (text_of_lines xs) (text_of_lines ys) ∙ ap (λ (l : List ℕ). text ++ l) (sym (text-append xs ys))))
+
+-- the lines of both sides of one channel more
+pub sides_more : (lines : ℕ → Side → List (List Token)) (n : ℕ) (first text t u : List ℕ)
+    → text ≡ first ++ text_of_lines (at_each_side n lines) → t ≡ text ++ text_of_lines (lines n Pop) → u ≡ t ++ text_of_lines (lines n Push)
+    → u ≡ first ++ text_of_lines (at_each_side (n + 1) lines)
+sides_more lines n first text t u e p q =
+    numbers_more (λ f. lines f Pop ++ lines f Push) n first text u e (two_more text t u (lines n Pop) (lines n Push) p q)
+
+same_from : (g h : ℕ → List (List Token)) (a n : ℕ) → ((f : ℕ) → f < a + n → g f ≡ h f)
+    → flat_map g (range_with_len a n) ≡ flat_map h (range_with_len a n)
+same_from g h a zero e = refl
+same_from g h a (suc n) e =
+    ap₂ (λ (xs ys : List (List Token)). xs ++ ys) (e a (omega arith)) (same_from g h (a + 1) n (λ f l. e f (omega arith)))
+
+pub same_sides : (n : ℕ) (g h : ℕ → Side → List (List Token)) → ((f : ℕ) → f < n → (side : Side) → g f side ≡ h f side)
+    → at_each_side n g ≡ at_each_side n h
+same_sides n g h e =
+    same_from _ _ 0 n (λ f l. ap₂ (λ (xs ys : List (List Token)). xs ++ ys) (e f (omega arith) Pop) (e f (omega arith) Push))
+
+-- the line of one number more that passes a test
+pub tested_more : (g : ℕ → List Token) (test : ℕ → Bool) (n : ℕ) (first text next : List ℕ)
+    → text ≡ first ++ text_of_lines (map g (filter test (range_with_len 0 n))) → next ≡ text ++ cond (test n) (line (g n)) []
+    → next ≡ first ++ text_of_lines (map g (filter test (range_with_len 0 (n + 1))))
+tested_more g test n first text next e r =
+    two_more first text next (map g (filter test (range_with_len 0 n))) (map g (cond (test n) (n ∷ []) [])) e
+    (r ∙ ap (λ (l : List ℕ). text ++ l) (by_test (test n)))
+    ∙ ap (λ (l : List (List Token)). first ++ text_of_lines l)
+    (sym (map-append g (filter test (range_with_len 0 n)) (cond (test n) (n ∷ []) []))
+    ∙ ap (map g) (sym (filter-append test (range_with_len 0 n) (n ∷ [])) ∙ ap (filter test) (sym (range_last n))))
+  where
+    by_test : (b : Bool) → cond b (line (g n)) [] ≡ text_of_lines (map g (cond b (n ∷ []) []))
+    by_test true = sym (text-one (g n))
+    by_test false = refl

@@ -1,0 +1,134 @@
+-- The whole text, and the lines of a module and of a FIFO.
+use Rattle.std.proofs.Common.{◌≡◌, ℕ, ◌+◌, ◌<◌, ◌≤◌, List, ◌++◌, refl, sym, ap, ap₂, ◌∙◌, arith, length, map, get_or, append_assoc}
+use Rattle.std.specs.Prelude.{codes}
+use Rattle.std.specs.List.{flat_map, range_with_len}
+use Rattle.flow_word.specs.declared.access.Side.{Side}
+use Rattle.flow_word.specs.declared.access.Side.TheVariants.{Pop, Push}
+use Rattle.flow_design.specs.declared.limits.TheConstants.{CYCLES}
+use Rattle.flow_design.specs.declared.plan.Plan.{Plan}
+use Rattle.flow_design.specs.declared.report.Report.{Report}
+use Rattle.flow_design.specs.declared.report.Verdict.{Verdict}
+use Rattle.flow_design.specs.Plans.{delay_at, is_fifo}
+use Rattle.flow_design.specs.StaticRules.{FitsEngine}
+use Rattle.lockstep_defs.specs.Report.{report}
+use Rattle.lockstep_defs.specs.Verdict.{verdict}
+use Rattle.engine_report.specs.Finished.{report_with}
+use Rattle.std.proofs.Common.{false, subst}
+use Rattle.flow_design.specs.declared.design.ChannelKind.{ChannelKind}
+use Rattle.flow_design.specs.declared.design.ChannelKind.TheVariants.{Source, Sink, Fifo}
+use Rattle.sim_core.specs.AccessLog.{log_of}
+use Rattle.sim_core.specs.declared.access_log.LoggedAccess.{LoggedAccess}
+use Rattle.report_text.specs.Lines.{Token, line, text_of_lines, verdict_tokens}
+use Rattle.report_text.specs.ReportText.{module_name, channel_name}
+use Rattle.fifo_fills.specs.Fills.{fifos, last_clock}
+use Rattle.fifo_fills.proofs.Ending.{last_within}
+use Rattle.queue_clocks.specs.Leads.{most_ahead, ahead_clocks}
+use Rattle.stall_spans.specs.Totals.{moved_clocks, still_clocks, still_clocks_at}
+use Rattle.stall_text.specs.declared.ports.PortUse.{PortUse}
+use Rattle.stall_text.specs.StallText.{module_tokens, cause_lines, at_each_side, causes_of, ports_of, clock_lines, module_lines, fifo_tokens, fifo_line}
+use Rattle.stall_text.specs.StallText.{stalls_text}
+use Rattle.stall_text.specs.Causes.{causes_by}
+use Rattle.stall_text.specs.Ports.{own_lines, AreUsesOf, unused, use_at}
+use Rattle.stall_text.specs.Filling.{empty_by, clocks_at, filled_at, AreUses}
+use Rattle.stall_text.proofs.Lines.{text-append, same_sides, numbers_more}
+use Rattle.stall_text.proofs.Uses.{own_is}
+use Rattle.stall_text.proofs.Fills.{fifos_are, uses_fit}
+
+pub verdict_is : (p : Plan) (r : Report) → r ≡ report_with false p → r.verdict ≡ verdict p
+unfolding report
+verdict_is p r e = ap (λ (x : Report). x.verdict) e
+
+pub clock_few : (p : Plan) → FitsEngine p → (clock : ℕ) → clock ≡ last_clock p → clock ≤ CYCLES
+clock_few p fits clock e = let most = fits.cycles in omega (arith, last_within p)
+
+-- ---- a module
+
+causes_are : (p : Plan) (i : ℕ) (empty full : List ℕ)
+    → ((f : ℕ) → f < length p.design.channels → get_or empty f 0 ≡ still_clocks_at p i Pop f)
+    → ((f : ℕ) → f < length p.design.channels → get_or full f 0 ≡ still_clocks_at p i Push f)
+    → (f : ℕ) → f < length p.design.channels → (side : Side) → causes_by p.design i empty full f side ≡ causes_of p i f side
+causes_are p i empty full a b f l Pop = ap (cause_lines (module_name p.design i) (channel_name p.design f) Pop) (a f l)
+causes_are p i empty full a b f l Push = ap (cause_lines (module_name p.design i) (channel_name p.design f) Push) (b f l)
+
+pub module_text : (p : Plan) (i moved still : ℕ) (empty full text t u : List ℕ)
+    → ((f : ℕ) → f < length p.design.channels → get_or empty f 0 ≡ still_clocks_at p i Pop f)
+    → ((f : ℕ) → f < length p.design.channels → get_or full f 0 ≡ still_clocks_at p i Push f)
+    → moved ≡ moved_clocks p i → still ≡ still_clocks p i
+    → t ≡ text ++ line (module_tokens (module_name p.design i) moved still)
+    → u ≡ t ++ text_of_lines (at_each_side (length p.design.channels) (causes_by p.design i empty full))
+    → u ≡ text ++ text_of_lines (clock_lines p i)
+module_text p i moved still empty full text t u a b m s q r =
+    let causes = text_of_lines (at_each_side (length p.design.channels) (causes_of p i)) in
+    r
+    ∙ (ap₂ (λ (x : List ℕ) (ls : List (List Token)). x ++ text_of_lines ls)
+    (q ∙ ap₂ (λ (x y : ℕ). text ++ line (module_tokens (module_name p.design i) x y)) m s)
+    (same_sides (length p.design.channels) (causes_by p.design i empty full) (causes_of p i) (causes_are p i empty full a b))
+    ∙ append_assoc text (line (module_tokens (module_name p.design i) (moved_clocks p i) (still_clocks p i))) causes)
+
+pub module_more : (p : Plan) → FitsEngine p → (i : ℕ) (pops pushes : List PortUse) → AreUsesOf p Pop pops → AreUsesOf p Push pushes
+    → (first text t u : List ℕ) → text ≡ first ++ text_of_lines (flat_map (module_lines p) (range_with_len 0 i))
+    → t ≡ text ++ text_of_lines (clock_lines p i)
+    → u ≡ t ++ text_of_lines (at_each_side (length p.design.channels) (own_lines p.design i pops pushes))
+    → u ≡ first ++ text_of_lines (flat_map (module_lines p) (range_with_len 0 (i + 1)))
+module_more p fits i pops pushes h k first text t u e q r =
+    let ports = at_each_side (length p.design.channels) (ports_of p i) in
+    numbers_more (module_lines p) i first text u e
+    (r
+    ∙ (ap₂ (λ (x : List ℕ) (ls : List (List Token)). x ++ text_of_lines ls) q
+    (same_sides (length p.design.channels) (own_lines p.design i pops pushes) (ports_of p i) (own_is p fits i pops pushes h k))
+    ∙ (append_assoc text (text_of_lines (clock_lines p i)) (text_of_lines ports)
+    ∙ ap (λ (l : List ℕ). text ++ l) (sym (text-append (clock_lines p i) ports)))))
+
+-- ---- a FIFO
+
+pub fill_line : (p : Plan) (clock : ℕ) (pops pushes : List PortUse) (f : ℕ) (name : Token) (depth delay : ℕ) (xs ys : List ℕ) (m e u : ℕ)
+    → name ≡ channel_name p.design f → depth ≡ get_or p.depths f 0 → delay ≡ delay_at p f → xs ≡ clocks_at pops f → ys ≡ clocks_at pushes f
+    → m ≡ most_ahead ys xs clock → e ≡ empty_by delay clock xs ys → u ≡ ahead_clocks depth ys xs clock
+    → fifo_tokens name m e u ≡ filled_at p clock pops pushes f
+fill_line p clock pops pushes f name depth delay xs ys m e u n d w x y a b c =
+    let most = a ∙ ap₂ (λ (q r : List ℕ). most_ahead q r clock) y x in
+    let empty = b ∙ (ap₂ (empty_by delay clock) x y ∙ ap (λ (z : ℕ). empty_by z clock (clocks_at pops f) (clocks_at pushes f)) w) in
+    let full = c ∙ (ap₂ (λ (q r : List ℕ). ahead_clocks depth q r clock) y x
+    ∙ ap (λ (z : ℕ). ahead_clocks z (clocks_at pushes f) (clocks_at pops f) clock) d) in
+    λ i. fifo_tokens (n i) (most i) (empty i) (full i)
+
+pub not_fifo : (k : ChannelKind) → ((depth delay : ℕ) → k ≡ Fifo depth delay → ⊥) → is_fifo k ≡ false
+not_fifo Source h = refl
+not_fifo Sink h = refl
+not_fifo (Fifo depth delay) h = absurd (h depth delay refl)
+
+-- ---- the uses of all ports
+
+pub are_uses : (p : Plan) (side : Side) (uses xs : List PortUse) → xs ≡ uses → (n : ℕ) → n ≡ length p.design.channels
+    → (log : List LoggedAccess) → log ≡ log_of p → length uses ≡ n
+    → ((f : ℕ) → f < n → get_or uses f unused ≡ use_at log (record { side = side; channel = f })) → AreUsesOf p side xs
+are_uses p side uses xs e n m log q count each = subst (AreUsesOf p side) (sym e) (record {
+  count = count ∙ m;
+  each = λ f l. each f (omega arith) ∙ ap (λ (xs : List LoggedAccess). use_at xs (record { side = side; channel = f })) q;
+})
+
+pub fit_uses : (p q : Plan) (side : Side) (xs : List PortUse) (clock : ℕ) → AreUsesOf p side xs → q ≡ p → clock ≡ last_clock p
+    → AreUses q clock xs
+fit_uses p q side xs clock h e c =
+    subst (λ (r : Plan). AreUses r clock xs) (sym e) (subst (λ (n : ℕ). AreUses p n xs) (sym c) (uses_fit p side xs h))
+
+-- ---- all of them
+
+pub whole_text : (p : Plan) → FitsEngine p → (pops pushes : List PortUse) → AreUsesOf p Pop pops → AreUsesOf p Push pushes
+    → (v : Verdict) (clock : ℕ) (t u w x : List ℕ) → v ≡ verdict p → clock ≡ last_clock p → t ≡ codes "stalls\n"
+    → u ≡ t ++ line (verdict_tokens v)
+    → w ≡ u ++ text_of_lines (flat_map (module_lines p) (range_with_len 0 (length p.design.modules)))
+    → x ≡ w ++ text_of_lines (map (filled_at p clock pops pushes) (fifos p)) → x ≡ stalls_text p
+unfolding stalls_text
+whole_text p fits pops pushes h k v clock t u w x vs cs a b c d =
+    let ms = flat_map (module_lines p) (range_with_len 0 (length p.design.modules)) in
+    let fs = map (fifo_line p) (fifos p) in
+    let first = codes "stalls\n" in
+    let second = line (verdict_tokens (verdict p)) in
+    let start : u ≡ first ++ second = b ∙ ap₂ (λ (y : List ℕ) (z : Verdict). y ++ line (verdict_tokens z)) a vs in
+    d
+    ∙ (ap₂ (λ (y : List ℕ) (ls : List (List Token)). y ++ text_of_lines ls) (c ∙ ap (λ (y : List ℕ). y ++ text_of_lines ms) start)
+    (ap (λ (n : ℕ). map (filled_at p n pops pushes) (fifos p)) cs ∙ fifos_are p fits pops pushes h k)
+    ∙ (append_assoc (first ++ second) (text_of_lines ms) (text_of_lines fs)
+    ∙ (append_assoc first second (text_of_lines ms ++ text_of_lines fs)
+    ∙ ap (λ (l : List ℕ). first ++ (second ++ l)) (sym (text-append ms fs)))))

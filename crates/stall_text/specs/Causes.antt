@@ -1,0 +1,19 @@
+-- The causes of a module's stalls, by the clocks at each empty channel and at each full one.
+use Rattle.std.specs.Prelude.{ℕ, ◌<◌, List, slice_index}
+use Rattle.flow_word.specs.declared.access.Side.{Side}
+use Rattle.flow_word.specs.declared.access.Side.TheVariants.{Pop, Push}
+use Rattle.flow_design.specs.declared.design.Design.{Design}
+use Rattle.report_text.specs.Lines.{Token}
+use Rattle.report_text.specs.ReportText.{module_name, channel_name}
+use Rattle.stall_spans.specs.declared.span.Doing.{Doing}
+use Rattle.stall_spans.specs.declared.span.Doing.TheVariants.{Moves, Still}
+use Rattle.stall_text.specs.StallText.{cause_lines}
+
+-- where the module stands still, its port is one of so many channels
+abbrev pub IsInside : ℕ → Doing → Type 0
+IsInside channels Moves = Unit {0}
+IsInside channels (Still port) = port.channel < channels
+
+abbrev pub causes_by : Design → ℕ → List ℕ → List ℕ → ℕ → Side → List (List Token)
+causes_by design i empty full f Pop = cause_lines (module_name design i) (channel_name design f) Pop (slice_index empty f)
+causes_by design i empty full f Push = cause_lines (module_name design i) (channel_name design f) Push (slice_index full f)

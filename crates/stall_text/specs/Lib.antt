@@ -1,0 +1,5 @@
+pub mod Stalls
+pub mod StallText
+pub mod Ports
+pub mod Causes
+pub mod Filling

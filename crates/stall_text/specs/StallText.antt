@@ -1,0 +1,76 @@
+-- The text of `stalls`.
+use Rattle.std.specs.Prelude.{ℕ, ◌==◌, if◌then◌else◌, List, [], ◌∷◌, ◌++◌, map, length, codes, decimal}
+use Rattle.std.specs.List.{flat_map, range_with_len}
+use Rattle.flow_word.specs.declared.access.Side.{Side}
+use Rattle.flow_word.specs.declared.access.Side.TheVariants.{Pop, Push}
+use Rattle.flow_design.specs.declared.plan.Plan.{Plan}
+use Rattle.lockstep_defs.specs.Verdict.{verdict}
+use Rattle.report_text.specs.Lines.{Token, text_of_lines, verdict_tokens}
+use Rattle.report_text.specs.ReportText.{module_name, channel_name}
+use Rattle.fifo_fills.specs.Fills.{fifos}
+use Rattle.stall_spans.specs.Totals.{moved_clocks, still_clocks, still_clocks_at}
+use Rattle.stall_text.specs.Stalls.{port_clocks, most, empty_clocks, full_clocks}
+
+abbrev pub side_word : Side → Token
+side_word Pop = codes "pop"
+side_word Push = codes "push"
+
+-- a module that cannot pop stands still at an empty channel, and one that cannot push at a full one
+abbrev pub cause_word : Side → Token
+cause_word Pop = codes "empty"
+cause_word Push = codes "full"
+
+-- `module M MOVED STILL`
+abbrev pub module_tokens : Token → ℕ → ℕ → List Token
+module_tokens name moved still = codes "module" ∷ name ∷ decimal moved ∷ decimal still ∷ []
+
+-- `stall M empty F N` or `stall M full F N`, where N is not 0
+abbrev pub cause_lines : Token → Token → Side → ℕ → List (List Token)
+cause_lines name channel side clocks =
+    if clocks == 0 then [] else (codes "stall" ∷ name ∷ cause_word side ∷ channel ∷ decimal clocks ∷ []) ∷ []
+
+-- the last of a number and those after it
+abbrev pub last_of : ℕ → List ℕ → ℕ
+last_of n [] = n
+last_of n (m ∷ more) = last_of m more
+
+-- `port M pop F N FIRST LAST` or `port M push F N FIRST LAST`, where N is not 0
+abbrev pub port_lines : Token → Token → Side → List ℕ → List (List Token)
+port_lines name channel side [] = []
+port_lines name channel side (first ∷ more) =
+    (codes "port" ∷ name ∷ side_word side ∷ channel ∷ decimal (length (first ∷ more)) ∷ decimal first ∷ decimal (last_of first more) ∷ []) ∷ []
+
+-- of each channel, in order of declaration, the lines of its popping side and then those of its pushing side
+abbrev pub at_each_side : ℕ → (ℕ → Side → List (List Token)) → List (List Token)
+at_each_side channels lines = flat_map (λ f. lines f Pop ++ lines f Push) (range_with_len 0 channels)
+
+abbrev pub causes_of : Plan → ℕ → ℕ → Side → List (List Token)
+causes_of p i f side = cause_lines (module_name p.design i) (channel_name p.design f) side (still_clocks_at p i side f)
+
+abbrev pub ports_of : Plan → ℕ → ℕ → Side → List (List Token)
+ports_of p i f side =
+    port_lines (module_name p.design i) (channel_name p.design f) side (port_clocks p i (record { side = side; channel = f }))
+
+-- of a module its clocks, and then the causes of its stalls
+abbrev pub clock_lines : Plan → ℕ → List (List Token)
+clock_lines p i =
+    module_tokens (module_name p.design i) (moved_clocks p i) (still_clocks p i) ∷ at_each_side (length p.design.channels) (causes_of p i)
+
+-- and then its ports
+abbrev pub module_lines : Plan → ℕ → List (List Token)
+module_lines p i = clock_lines p i ++ at_each_side (length p.design.channels) (ports_of p i)
+
+-- `fifo F MOST EMPTY FULL`
+abbrev pub fifo_tokens : Token → ℕ → ℕ → ℕ → List Token
+fifo_tokens name most empty full = codes "fifo" ∷ name ∷ decimal most ∷ decimal empty ∷ decimal full ∷ []
+
+abbrev pub fifo_line : Plan → ℕ → List Token
+fifo_line p f = fifo_tokens (channel_name p.design f) (most p f) (empty_clocks p f) (full_clocks p f)
+
+abbrev pub stall_lines : Plan → List (List Token)
+stall_lines p =
+    (codes "stalls" ∷ []) ∷ verdict_tokens (verdict p)
+    ∷ flat_map (module_lines p) (range_with_len 0 (length p.design.modules)) ++ map (fifo_line p) (fifos p)
+
+unfoldable pub stalls_text : Plan → List ℕ
+stalls_text p = text_of_lines (stall_lines p)

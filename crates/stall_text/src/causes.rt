@@ -1,0 +1,153 @@
+//! The clocks of each module, and why it stands still.
+ghost use Rattle.std.specs.Prelude.{ℕ, ◌≡◌, ◌<◌, ◌≤◌, ◌^◌, ◌+◌, ◌++◌, Bool, length, slice_index};
+ghost use Rattle.std.specs.Prelude.{All, IfOk, OnOk};
+ghost use Rattle.report_text.specs.Lines.{line, text_of_lines};
+ghost use Rattle.report_text.specs.ReportText.{channel_name as channel_in, module_name as module_in};
+ghost use Rattle.stall_spans.specs.declared.span.Doing.{Doing};
+ghost use Rattle.stall_spans.specs.Totals.{is_moving, is_still, is_still_at, span_clocks, spans_clocks};
+ghost use Rattle.stall_text.specs.StallText.{module_tokens, cause_lines, cause_word, at_each_side};
+ghost use Rattle.stall_text.specs.Causes.{IsInside, causes_by};
+
+use flow_design::Design;
+use flow_word::{List, OutOfMemory, Side, Words};
+use report_text::{channel_name, module_name, push_token, push_value};
+use stall_spans::{Doing, Span};
+use std::alloc::Global;
+
+/// The clocks of a module below the verdict's.
+#[derive(Clone, Copy, Debug, PartialEq, Eq)]
+pub(crate) struct Clocks {
+    /// In how many it moves.
+    pub(crate) moved: u64,
+    /// In how many it stands still.
+    pub(crate) still: u64,
+}
+
+/// The clocks of spans in which the module moves, and those in which it stands still.
+pub(crate) fn clocks_of(spans: &[Span]) -> Clocks
+    requires order { All (λ s. s.first ≤ s.until) spans.now }
+    requires few { (test : Doing → Bool) → spans_clocks test spans.now < 2 ^ 64 }
+    ensures moved { result.moved ≡ spans_clocks is_moving spans.now }
+    ensures still { result.still ≡ spans_clocks is_still spans.now }
+{
+    let mut moved = 0u64;
+    let mut still = 0u64;
+    for span in spans {
+        let clocks = span.until - span.first;
+        match span.doing {
+            Doing::Moves => moved += clocks,
+            Doing::Still(_) => still += clocks,
+        }
+    }
+    Clocks { moved, still }
+}
+
+/// Of each channel the clocks of spans in which the module stands still at this side of it.
+pub(crate) fn still_clocks(
+    alloc: Global,
+    channels: usize,
+    side: Side,
+    spans: &[Span],
+) -> Result<Words, OutOfMemory>
+    requires order { All (λ s. s.first ≤ s.until) spans.now }
+    requires inside { All (λ s. IsInside channels s.doing) spans.now }
+    requires few { (test : Doing → Bool) → spans_clocks test spans.now < 2 ^ 64 }
+    ensures count { IfOk result (λ clocks. length clocks ≡ channels) }
+    ensures each { IfOk result (λ clocks. (f : ℕ) → f < channels
+        → slice_index clocks f ≡ spans_clocks (is_still_at (record { side = side; channel = f })) spans.now) }
+{
+    let mut clocks = List::zeros(alloc, channels as u64)?;
+    for span in spans {
+        add_still(clocks.as_mut_slice(), side, *span);
+    }
+    Ok(clocks)
+}
+
+/// Adds the clocks of a span in which the module stands still at this side of a channel.
+fn add_still(clocks: &mut [u64], side: Side, span: Span)
+    requires order { span.first ≤ span.until }
+    requires inside { IsInside (length clocks.old) span.doing }
+    requires few { (f : ℕ) → f < length clocks.old
+        → slice_index clocks.old f + span_clocks (is_still_at (record { side = side; channel = f })) span < 2 ^ 64 }
+    ensures count { length clocks.new ≡ length clocks.old }
+    ensures each { (f : ℕ) → f < length clocks.old
+        → slice_index clocks.new f ≡ slice_index clocks.old f + span_clocks (is_still_at (record { side = side; channel = f })) span }
+{
+    if let Doing::Still(port) = span.doing {
+        if port.side == side {
+            clocks[port.channel as usize] += span.until - span.first;
+        }
+    }
+}
+
+/// Adds the line of a module's clocks.
+#[tactic(auto, using(report_text::proofs::LineLemmas::line_of_four))]
+pub(crate) fn print_clocks(
+    text: &mut List<u8>,
+    name: &[u8],
+    clocks: Clocks,
+) -> Result<(), OutOfMemory>
+    ensures { OnOk result (text.new ≡ text.old ++ line (module_tokens name.now clocks.moved clocks.still)) }
+{
+    text.extend_from_slice(b"module")?;
+    push_token(text, name)?;
+    push_value(text, clocks.moved)?;
+    push_value(text, clocks.still)?;
+    text.push(b'\n')
+}
+
+/// Adds the lines of the causes for which a module stands still, by the clocks at each empty channel and at each full one.
+pub(crate) fn print_causes(
+    text: &mut List<u8>,
+    design: &Design,
+    owner: u32,
+    empty: &[u64],
+    full: &[u64],
+) -> Result<(), OutOfMemory>
+    requires owner { owner < length design.now.modules }
+    requires empty { length empty.now ≡ length design.now.channels }
+    requires full { length full.now ≡ length design.now.channels }
+    requires few { length design.now.channels < 2 ^ 32 }
+    ensures { OnOk result (text.new ≡ text.old ++ text_of_lines (at_each_side (length design.now.channels)
+        (causes_by design.now owner empty.now full.now))) }
+{
+    let name = module_name(design, owner);
+    let count = design.channels.len() as u32;
+    for number in 0..count {
+        let channel = channel_name(design, number);
+        print_cause(text, name, channel, Side::Pop, empty[number as usize])?;
+        print_cause(text, name, channel, Side::Push, full[number as usize])?;
+    }
+    Ok(())
+}
+
+/// Adds the line of a cause, if the module stands still for it in some clock.
+fn print_cause(
+    text: &mut List<u8>,
+    name: &[u8],
+    channel: &[u8],
+    side: Side,
+    clocks: u64,
+) -> Result<(), OutOfMemory>
+    ensures { OnOk result (text.new ≡ text.old ++ text_of_lines (cause_lines name.now channel.now side clocks)) }
+{
+    if clocks == 0 {
+        return Ok(());
+    }
+    text.extend_from_slice(b"stall")?;
+    push_token(text, name)?;
+    push_token(text, cause_word(side))?;
+    push_token(text, channel)?;
+    push_value(text, clocks)?;
+    text.push(b'\n')
+}
+
+/// Why a module stands still that cannot pop, or push.
+fn cause_word(side: Side) -> &'static [u8]
+    ensures { result.now ≡ cause_word side }
+{
+    match side {
+        Side::Pop => b"empty",
+        Side::Push => b"full",
+    }
+}

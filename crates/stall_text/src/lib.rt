@@ -1,0 +1,9 @@
+//! The text of `stalls`: where a plan's time is lost.
+#![tactic(auto)]
+
+mod causes;
+mod fifos;
+mod ports;
+mod text;
+
+pub use text::stalls_text;

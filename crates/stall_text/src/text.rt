@@ -1,0 +1,121 @@
+//! The text of `stalls`.
+ghost use Rattle.std.specs.Prelude.{◌≡◌, ◌++◌, ◌<◌, length, IfOk, OnOk};
+ghost use Rattle.std.specs.List.{flat_map, range_with_len};
+ghost use Rattle.event_timing.specs.Actions.{IsFinal};
+ghost use Rattle.timing_bridge.specs.Designs.{design as design_of};
+ghost use Rattle.sim_core.specs.Views.{theory_of};
+ghost use Rattle.fifo_fills.specs.Fills.{last_clock};
+ghost use Rattle.flow_word.specs.declared.access.Side.TheVariants.{Pop, Push};
+ghost use Rattle.lockstep_defs.specs.Verdict as verdicts;
+ghost use Rattle.report_text.specs.Lines.{text_of_lines};
+ghost use Rattle.stall_text.specs.StallText.{module_lines};
+ghost use Rattle.stall_text.specs.StallText as form;
+ghost use Rattle.stall_text.specs.Ports.{AreUsesOf};
+
+use crate::causes::{clocks_of, print_causes, print_clocks, still_clocks};
+use crate::fifos::print_fifos;
+use crate::ports::{PortUse, print_ports, uses_at};
+use flow_design::Verdict;
+use flow_word::{List, OutOfMemory, Side};
+use report_text::{module_name, print_verdict};
+use sim_core::Core;
+use std::alloc::Global;
+
+/// The text of `stalls` for a final core's plan: the clocks in which each module moves and stands still, the causes of its stalls and
+/// the elements at its ports, and how full each FIFO is.
+///
+/// It takes memory for the report without its events, for what each access gave, for the clocks in which each element moved, for the
+/// spans of one module at a time, for two numbers of each channel, and for the text. An error leaves nothing.
+pub fn stalls_text(alloc: Global, core: &Core) -> Result<List<u8>, OutOfMemory>
+    requires { IsFinal (design_of core.now.plan) core.now.plan.cycles (theory_of core.now) }
+    ensures { IfOk result (λ text. text ≡ form.stalls_text core.now.plan) }
+{
+    let _modules = core.modules();
+    let report = core.report(alloc, false)?;
+    let log = core.access_log(alloc)?;
+    let channels = core.plan().design.channels.as_slice().len();
+    let pops = uses_at(alloc, channels, Side::Pop, log.as_slice())?;
+    let pushes = uses_at(alloc, channels, Side::Push, log.as_slice())?;
+    let clock = clock_of(report.verdict);
+    let mut text = List::from_slice(alloc, b"stalls\n")?;
+    print_verdict(&mut text, report.verdict)?;
+    print_modules(
+        alloc,
+        &mut text,
+        core,
+        clock,
+        pops.as_slice(),
+        pushes.as_slice(),
+    )?;
+    print_fifos(
+        alloc,
+        &mut text,
+        core.plan(),
+        pops.as_slice(),
+        pushes.as_slice(),
+        clock,
+    )?;
+    Ok(text)
+}
+
+/// The clock of a verdict.
+fn clock_of(verdict: Verdict) -> u64
+    ensures { result ≡ verdicts.clock_of verdict }
+{
+    match verdict {
+        Verdict::Done(clock)
+        | Verdict::Deadlock(clock)
+        | Verdict::Cycles(clock)
+        | Verdict::Ops(clock) => clock,
+    }
+}
+
+/// Adds the lines of each module, by the uses of the popping sides and of the pushing sides.
+fn print_modules(
+    alloc: Global,
+    text: &mut List<u8>,
+    core: &Core,
+    clock: u64,
+    pops: &[PortUse],
+    pushes: &[PortUse],
+) -> Result<(), OutOfMemory>
+    requires is_final { IsFinal (design_of core.now.plan) core.now.plan.cycles (theory_of core.now) }
+    requires clock { clock ≡ last_clock core.now.plan }
+    requires pops { AreUsesOf core.now.plan Pop pops.now }
+    requires pushes { AreUsesOf core.now.plan Push pushes.now }
+    ensures { OnOk result (text.new
+        ≡ text.old ++ text_of_lines (flat_map (module_lines core.now.plan) (range_with_len 0 (length core.now.plan.design.modules)))) }
+{
+    for owner in 0..core.modules() {
+        print_module(alloc, text, core, owner, clock)?;
+        print_ports(text, &core.plan().design, owner, pops, pushes)?;
+    }
+    Ok(())
+}
+
+/// Adds the lines of a module's clocks and of the causes of its stalls.
+fn print_module(
+    alloc: Global,
+    text: &mut List<u8>,
+    core: &Core,
+    owner: u32,
+    clock: u64,
+) -> Result<(), OutOfMemory>
+    requires is_final { IsFinal (design_of core.now.plan) core.now.plan.cycles (theory_of core.now) }
+    requires owner { owner < length core.now.plan.design.modules }
+    requires clock { clock ≡ last_clock core.now.plan }
+    ensures { OnOk result (text.new ≡ text.old ++ text_of_lines (form.clock_lines core.now.plan owner)) }
+{
+    let _modules = core.modules();
+    let design = &core.plan().design;
+    let channels = design.channels.as_slice().len();
+    let spans = core.spans(alloc, owner, clock)?;
+    let empty = still_clocks(alloc, channels, Side::Pop, spans.as_slice())?;
+    let full = still_clocks(alloc, channels, Side::Push, spans.as_slice())?;
+    print_clocks(
+        text,
+        module_name(design, owner),
+        clocks_of(spans.as_slice()),
+    )?;
+    print_causes(text, design, owner, empty.as_slice(), full.as_slice())
+}

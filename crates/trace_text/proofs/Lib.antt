@@ -1,0 +1,4 @@
+pub mod Lines
+pub mod Showing
+pub mod Filling
+pub mod Whole

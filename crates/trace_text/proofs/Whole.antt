@@ -1,0 +1,49 @@
+-- The whole text.
+use Rattle.std.proofs.Common.{◌≡◌, ℕ, ◌<◌, ◌^◌, List, [], ◌∷◌, ◌++◌, refl, sym, ap, ap₂, ◌∙◌, arith, length}
+use Rattle.std.proofs.Common.{true}
+use Rattle.std.specs.List.{flat_map, range_with_len}
+use Rattle.std.proofs.lemmas.List.FromFn.{length-map-range_with_len}
+use Rattle.flow_design.specs.declared.design.Module.{Module}
+use Rattle.flow_design.specs.declared.plan.Plan.{Plan}
+use Rattle.flow_design.specs.declared.report.Report.{Report}
+use Rattle.flow_design.specs.StaticRules.{FitsEngine}
+use Rattle.lockstep_defs.specs.Report.{report}
+use Rattle.lockstep_defs.specs.Verdict.{clock_of}
+use Rattle.engine_report.specs.Finished.{report_with}
+use Rattle.report_text.specs.ReportText.{module_name}
+use Rattle.fifo_fills.specs.Fills.{fifos, last_clock}
+use Rattle.trace_text.specs.Events.{name_event, names_of, span_events, fill_events}
+use Rattle.trace_text.specs.TraceText.{opening, closing, further, lines_of, trace_text}
+use Rattle.trace_text.proofs.Lines.{whole, whole_lines}
+use Rattle.trace_text.proofs.Filling.{no_fifos}
+
+pub few_modules : (p : Plan) → FitsEngine p → length p.design.modules < 2 ^ 32
+few_modules p h = let c = h.module_count in omega arith
+
+pub clock_is : (p : Plan) (r : Report) → r ≡ report_with true p → clock_of r.verdict ≡ last_clock p
+unfolding report
+clock_is p r e = ap (λ (x : Report). clock_of x.verdict) e
+
+no_items : (ms : List Module) → length ms ≡ 0 → ms ≡ []
+no_items [] e = refl
+no_items (m ∷ ms) e = absurd (omega arith)
+
+abbrev pub all_spans : Plan → List (List ℕ)
+all_spans p = flat_map (span_events p) (range_with_len 0 (length p.design.modules))
+
+abbrev pub all_fills : Plan → List (List ℕ)
+all_fills p = flat_map (λ f. fill_events p f (last_clock p)) (fifos p)
+
+nothing_else : (p : Plan) → FitsEngine p → names_of p.design ≡ [] → all_spans p ++ all_fills p ≡ []
+nothing_else p h e =
+    let none : length p.design.modules ≡ 0 =
+    sym (length-map-range_with_len (λ i. name_event i (module_name p.design i)) 0 (length p.design.modules)) ∙ ap length e in
+    ap₂ (λ (n : ℕ) (fs : List ℕ). flat_map (span_events p) (range_with_len 0 n) ++ flat_map (λ f. fill_events p f (last_clock p)) fs)
+    none (no_fifos p h (no_items p.design.modules none))
+
+pub whole_trace : (p : Plan) → FitsEngine p → (a b c d e : List ℕ) → a ≡ opening → b ≡ a ++ lines_of (names_of p.design)
+    → c ≡ b ++ further (all_spans p) → d ≡ c ++ further (all_fills p) → e ≡ d ++ closing → e ≡ trace_text p
+unfolding trace_text
+whole_trace p h a b c d e q r s t u =
+    whole opening (lines_of (names_of p.design)) (further (all_spans p)) (further (all_fills p)) closing a b c d e q r s t u
+    ∙ ap (λ (l : List ℕ). (opening ++ l) ++ closing) (whole_lines (names_of p.design) (all_spans p) (all_fills p) (nothing_else p h))

@@ -1,0 +1,23 @@
+-- The text of a trace, in the Trace Event Format.
+use Rattle.std.specs.Prelude.{ℕ, List, [], ◌∷◌, ◌++◌, codes}
+use Rattle.std.specs.List.{flat_map}
+use Rattle.flow_design.specs.declared.plan.Plan.{Plan}
+use Rattle.trace_text.specs.Events.{trace_events}
+
+abbrev pub opening : List ℕ
+opening = codes "{\"displayTimeUnit\":\"ns\",\"traceEvents\":["
+
+abbrev pub closing : List ℕ
+closing = codes "\n]}\n"
+
+-- events, each on a line of its own after a comma
+abbrev pub further : List (List ℕ) → List ℕ
+further events = flat_map (λ e. codes ",\n" ++ e) events
+
+-- events, each on a line of its own, with a comma after each but the last
+abbrev pub lines_of : List (List ℕ) → List ℕ
+lines_of [] = []
+lines_of (e ∷ events) = codes "\n" ++ e ++ further events
+
+unfoldable pub trace_text : Plan → List ℕ
+trace_text p = opening ++ lines_of (trace_events p) ++ closing

@@ -1,0 +1,108 @@
+//! Single events, each on a line of its own.
+ghost use Rattle.std.specs.Prelude.{◌≡◌, ◌<◌, ◌≤◌, ◌+◌, ◌++◌, codes, map, length, slice_index_or, All, OnOk};
+ghost use Rattle.report_text.specs.ReportText.{channel_name, module_name};
+ghost use Rattle.stall_spans.specs.declared.span.Doing.{Doing};
+ghost use Rattle.trace_text.specs.Events.{name_event, span_event, fill_event, doing_name, side_word, IsDrawn};
+ghost use Rattle.trace_text.specs.TraceText.{further};
+
+use flow_design::Design;
+use flow_word::{List, OutOfMemory, Side};
+use report_text::{channel_name, push_number};
+use stall_spans::{Doing, Span};
+
+/// Adds the name of a module's track.
+#[tactic(auto, unfolding(crate::specs::Events::name_event))]
+pub(crate) fn print_name(text: &mut List<u8>, number: u32, name: &[u8]) -> Result<(), OutOfMemory>
+    ensures { OnOk result (text.new ≡ text.old ++ name_event number name.now) }
+{
+    text.extend_from_slice(b"{\"ph\":\"M\",\"pid\":0,\"tid\":")?;
+    push_number(text, number as u64)?;
+    text.extend_from_slice(b",\"name\":\"thread_name\",\"args\":{\"name\":\"")?;
+    text.extend_from_slice(name)?;
+    text.extend_from_slice(b"\"}}")
+}
+
+/// Adds what a module does in a span.
+fn print_doing(text: &mut List<u8>, design: &Design, doing: Doing) -> Result<(), OutOfMemory>
+    requires { IsDrawn design.now doing }
+    ensures { OnOk result (text.new ≡ text.old ++ doing_name design.now doing) }
+{
+    match doing {
+        Doing::Moves => text.extend_from_slice(b"moves"),
+        Doing::Still(port) => {
+            text.extend_from_slice(side_word(port.side))?;
+            text.extend_from_slice(channel_name(design, port.channel))
+        }
+    }
+}
+
+/// The word for a module that cannot pop, or push.
+fn side_word(side: Side) -> &'static [u8]
+    ensures { result.now ≡ side_word side }
+{
+    match side {
+        Side::Pop => b"empty ",
+        Side::Push => b"full ",
+    }
+}
+
+/// Adds a span of a module's track.
+#[tactic(auto, unfolding(crate::specs::Events::span_event))]
+fn print_span(
+    text: &mut List<u8>,
+    design: &Design,
+    number: u32,
+    span: Span,
+) -> Result<(), OutOfMemory>
+    requires order { span.first ≤ span.until }
+    requires drawn { IsDrawn design.now span.doing }
+    ensures { OnOk result (text.new ≡ text.old ++ span_event design.now number span) }
+{
+    text.extend_from_slice(b"{\"ph\":\"X\",\"pid\":0,\"tid\":")?;
+    push_number(text, number as u64)?;
+    text.extend_from_slice(b",\"ts\":")?;
+    push_number(text, span.first)?;
+    text.extend_from_slice(b",\"dur\":")?;
+    push_number(text, span.until - span.first)?;
+    text.extend_from_slice(b",\"name\":\"")?;
+    print_doing(text, design, span.doing)?;
+    text.extend_from_slice(b"\"}")
+}
+
+/// Adds the spans of a module's track, each after a comma.
+pub(crate) fn print_spans(
+    text: &mut List<u8>,
+    design: &Design,
+    number: u32,
+    spans: &[Span],
+) -> Result<(), OutOfMemory>
+    requires order { All (λ s. s.first ≤ s.until) spans.now }
+    requires drawn { All (λ s. IsDrawn design.now s.doing) spans.now }
+    ensures { OnOk result (text.new ≡ text.old ++ further (map (span_event design.now number) spans.now)) }
+{
+    for span in spans {
+        text.extend_from_slice(b",\n")?;
+        print_span(text, design, number, *span)?;
+    }
+    Ok(())
+}
+
+/// Adds what a FIFO holds from a clock on, after a comma.
+#[tactic(auto, unfolding(crate::specs::Events::fill_event))]
+pub(crate) fn print_fill(
+    text: &mut List<u8>,
+    name: &[u8],
+    clock: u64,
+    fill: u64,
+) -> Result<(), OutOfMemory>
+    ensures { OnOk result (text.new ≡ text.old ++ codes ",\n" ++ fill_event name.now clock fill) }
+{
+    text.extend_from_slice(b",\n")?;
+    text.extend_from_slice(b"{\"ph\":\"C\",\"pid\":0,\"ts\":")?;
+    push_number(text, clock)?;
+    text.extend_from_slice(b",\"name\":\"")?;
+    text.extend_from_slice(name)?;
+    text.extend_from_slice(b"\",\"args\":{\"fill\":")?;
+    push_number(text, fill)?;
+    text.extend_from_slice(b"}}")
+}

@@ -1,0 +1,8 @@
+//! The trace of a plan: a text in the Trace Event Format, with a track for each module and a counter for each FIFO.
+#![tactic(auto)]
+
+mod events;
+mod fills;
+mod text;
+
+pub use text::trace_text;

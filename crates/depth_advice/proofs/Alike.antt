@@ -1,9 +1,8 @@
 -- While no FIFO is full, depths do not matter: the same modules move, and the same is done.
-use Rattle.std.proofs.Common.{◌≡◌, ℕ, zero, suc, ◌<◌, List, map, Bool, true, false, ◌&&◌, not, cond, refl, sym, ◌∙◌, ap, ap₂, arith}
-use Rattle.std.proofs.Common.{◌⊎◌, inl, inr, below_more, [], ◌++◌}
+use Rattle.std.proofs.Common.{◌≡◌, ℕ, zero, suc, ◌<◌, List, map, Bool, false, ◌&&◌, not, cond, refl, sym, ◌∙◌, ap, ap₂, arith}
+use Rattle.std.proofs.Common.{◌⊎◌, inl, inr, [], ◌++◌}
 use Rattle.std.specs.List.{list_any, enumerate_from, flat_map, filter_map, find}
 use Rattle.std.specs.Prelude.{option_map, Option, None}
-use Rattle.std.proofs.lemmas.Bool.{cases_Bool}
 use Rattle.flow_word.specs.declared.access.Side.{Side}
 use Rattle.flow_word.specs.declared.access.Side.TheVariants.{Pop, Push}
 use Rattle.flow_word.specs.Kinds.{side_of, is_blocking}
@@ -24,9 +23,10 @@ use Rattle.lockstep_defs.specs.Verdict.{some_moves, is_settled, settled_verdict,
 use Rattle.lockstep_defs.specs.Report.{report, report_at, report_with}
 use Rattle.lockstep_defs.specs.Laws.{NoneBefore}
 use Rattle.lockstep_defs.proofs.Settled.{full_ready}
-use Rattle.lockstep_defs.proofs.Found.{verdict_found, verdict_none}
+use Rattle.lockstep_defs.proofs.Found.{verdict_none}
 use Rattle.lockstep_defs.proofs.Exits.{clock_settled}
-use Rattle.depth_advice.specs.Advice.{with_depths}
+use Rattle.depth_order.specs.Depths.{with_depths}
+use Rattle.depth_order.proofs.First.{IsFirst, first_among, verdict_first}
 
 -- no channel is full
 abbrev pub NoneFull : Plan → List (List Element) → Type 0
@@ -137,27 +137,8 @@ none_same p ds n h none b l = settled_now p ds b (λ c k. h c (omega arith)) ∙
 
 -- ---- the verdict
 
--- a clock is the first that is settled, n at most
-pub record IsFirst (p : Plan) (n c : ℕ) : Type 0 where
-  pub within : c < n
-  pub none : NoneBefore p c
-  pub settled : is_settled p c (state p c) ≡ true
-
-pub first_among : (p : Plan) (n : ℕ) → ((c : ℕ) × IsFirst p n c) ⊎ NoneBefore p n
-first_among p zero = inr (λ b l. absurd (omega arith))
-first_among p (suc n) = elim (first_among p n) [
-  | inl f ↦ inl (f.0, record { within = let w = (f.1).within in omega arith; none = (f.1).none; settled = (f.1).settled })
-  | inr none ↦ elim (cases_Bool (is_settled p n (state p n))) [
-    | inl e ↦ inl (n, record { within = omega arith; none = none; settled = e })
-    | inr e ↦ inr (λ b l. below_more (λ c. is_settled p c (state p c) ≡ false) n none e b (omega arith))
-  ]
-]
-
-pub verdict_first : (p : Plan) (c : ℕ) → IsFirst p (suc p.cycles) c → verdict p ≡ settled_verdict p c (state p c)
-verdict_first p c f = verdict_found p c (let w = f.within in omega arith) f.none f.settled
-
 -- the verdict is the same where no channel is full up to its clock
-verdict_same : (p : Plan) (ds : List ℕ) → NeitherBefore p ds (suc (clock_of (verdict p))) → verdict (with_depths p ds) ≡ verdict p
+pub verdict_same : (p : Plan) (ds : List ℕ) → NeitherBefore p ds (suc (clock_of (verdict p))) → verdict (with_depths p ds) ≡ verdict p
 verdict_same p ds h = by_first (first_among p (suc p.cycles))
   where
     by_first : ((c : ℕ) × IsFirst p (suc p.cycles) c) ⊎ NoneBefore p (suc p.cycles) → verdict (with_depths p ds) ≡ verdict p

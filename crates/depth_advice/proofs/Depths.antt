@@ -1,24 +1,25 @@
 -- The advised depths are above each peak and within the limit, so no FIFO is full with them.
-use Rattle.std.proofs.Common.{◌≡◌, ℕ, suc, ◌+◌, ◌≤◌, ◌<◌, List, length, true, false, cond, refl, sym, ◌∙◌, subst}
+use Rattle.std.proofs.Common.{◌≡◌, ℕ, suc, ◌+◌, ◌≤◌, ◌<◌, List, length, true, false, cond, refl, sym, ◌∙◌, ap, subst}
 use Rattle.std.proofs.Common.{arith, inl, inr, zero-add}
 use Rattle.std.specs.Prelude.{slice_index}
 use Rattle.std.proofs.lemmas.Bool.{cases_Bool, cases_lt, cond-true, cond-false, lt-leb}
 use Rattle.std.proofs.lemmas.List.{get_or_past}
 use Rattle.std.proofs.lemmas.List.FromFn.{length-map-range_with_len, get_or-map-range_with_len}
-use Rattle.flow_design.specs.declared.design.ChannelKind.{ChannelKind}
-use Rattle.flow_design.specs.declared.design.ChannelKind.TheVariants.{Source, Sink, Fifo}
 use Rattle.flow_design.specs.declared.limits.TheConstants.{FIFO_DEPTH}
 use Rattle.flow_design.specs.declared.plan.Plan.{Plan}
 use Rattle.flow_design.specs.declared.state.Element.{Element}
 use Rattle.flow_design.specs.Plans.{is_fifo, kind_at}
-use Rattle.flow_design.specs.StaticRules.{AreEntriesSound, FitsEngine}
+use Rattle.flow_design.specs.StaticRules.{FitsEngine}
 use Rattle.lockstep_defs.specs.Channels.{contents_of}
-use Rattle.lockstep_defs.specs.Lockstep.{state}
+use Rattle.lockstep_defs.specs.Lockstep.{Moment, state}
+use Rattle.lockstep_defs.specs.Verdict.{clock_of}
 use Rattle.lockstep_defs.specs.Report.{report}
 use Rattle.fifo_fills.specs.Fills.{fill, last_clock}
-use Rattle.depth_advice.specs.Advice.{with_depths, depths_by, AreDepths, wide, peak, advised}
-use Rattle.depth_advice.proofs.Alike.{NoneFull, NeitherBefore, report_same}
-use Rattle.depth_advice.proofs.Few.{fifo_inside, fill_few}
+use Rattle.depth_order.specs.Depths.{with_depths, AreDepths, AreDeeper}
+use Rattle.depth_order.proofs.Plans.{depths_fit, fifo_inside}
+use Rattle.depth_advice.specs.Advice.{depths_by, wide, peak, advised, HoldsLess}
+use Rattle.depth_advice.proofs.Alike.{NoneFull, NeitherBefore, moment_same, verdict_same, report_same}
+use Rattle.depth_advice.proofs.Few.{fill_few}
 use Rattle.depth_advice.proofs.Lists.{greatest_least, greatest_most}
 
 -- ---- one entry per channel
@@ -49,35 +50,7 @@ are_depths p depth h = record {
   others = other_entry p depth;
 }
 
--- ---- a plan with depths is one that the engine takes
-
-new_entries : (k : ChannelKind) (inputs : List ℕ) (old depth : ℕ) → AreEntriesSound k inputs old
-    → (is_fifo k ≡ true → 1 ≤ depth) → (is_fifo k ≡ true → depth ≤ FIFO_DEPTH) → (is_fifo k ≡ false → depth ≡ 0)
-    → AreEntriesSound k inputs depth
-new_entries Source inputs old depth h least most none = none refl
-new_entries Sink inputs old depth h least most none = (h.0, none refl)
-new_entries (Fifo declared delay) inputs old depth h least most none =
-    let (empty, low, high, some, few) = h in (empty, least refl, most refl, some, few)
-
-pub depths_fit : (p : Plan) → FitsEngine p → (ds : List ℕ) → AreDepths p ds → FitsEngine (with_depths p ds)
-depths_fit p h ds a = record {
-  channel_count = h.channel_count;
-  module_count = h.module_count;
-  inputs = h.inputs;
-  depths = a.count;
-  input_count = h.input_count;
-  channels = λ f l. let k = h.channels f l in record {
-    name = k.name;
-    popping = k.popping;
-    pushing = k.pushing;
-    entries = new_entries (kind_at p f) _ (slice_index p.depths f) (slice_index ds f) k.entries (a.least f) (a.most f) (a.others f);
-  };
-  modules = h.modules;
-  some_cycles = h.some_cycles;
-  cycles = h.cycles;
-  some_operations = h.some_operations;
-  operations = h.operations;
-}
+-- ---- the widest depths
 
 pub wide_depths : (p : Plan) → AreDepths p (depths_by p (λ f. FIFO_DEPTH))
 wide_depths p = are_depths p (λ f. FIFO_DEPTH) (λ f e. (omega arith, omega arith))
@@ -117,20 +90,36 @@ fills_below : (p : Plan) (ds : List ℕ) (c : ℕ) → ((f : ℕ) → is_fifo (k
 unfolding fill
 fills_below p ds c h = none_full (with_depths p ds) (state p c).contents h
 
-neither_full : (p : Plan) → FitsEngine p → NeitherBefore (wide p) (advised p) (suc (last_clock (wide p)))
-neither_full p h c l =
-    let q = wide p in
-    let fits = wide_fits p h in
-    let limit = h.operations in (
-      fills_below q q.depths c (λ f e.
-          let few = fill_few q fits f c e in
-          let deep = fifo_entry p (λ g. FIFO_DEPTH) f e in
-          omega arith),
-      fills_below q (advised p) c (λ f e.
-          let below = fill_below_peak q f c (omega arith) in
-          let deep = fifo_entry p (λ g. peak q g + 1) f e in
-          omega arith),
-    )
+-- and so it is with any depths that are no lesser
+module _ (p : Plan) (h : FitsEngine p) (ds : List ℕ) (deep : AreDeeper p (advised p) ds) where
+  neither_full : NeitherBefore (wide p) ds (suc (last_clock (wide p)))
+  neither_full c l =
+      let q = wide p in
+      let fits = wide_fits p h in
+      let limit = h.operations in (
+        fills_below q q.depths c (λ f e.
+            let few = fill_few q fits f c e in
+            let most = fifo_entry p (λ g. FIFO_DEPTH) f e in
+            omega arith),
+        fills_below q ds c (λ f e.
+            let below = fill_below_peak q f c (omega arith) in
+            let least = fifo_entry p (λ g. peak q g + 1) f e in
+            let more = deep f e in
+            omega arith),
+      )
+
+  pub deep_blocks_never : report (with_depths p ds) ≡ report (wide p)
+  deep_blocks_never = report_same (wide p) ds neither_full
+
+  pub deep_never_full : HoldsLess (with_depths p ds) (advised p)
+  unfolding fill
+  deep_never_full f clock e l =
+      let q = wide p in
+      let last : last_clock (with_depths p ds) ≡ last_clock q = ap clock_of (verdict_same q ds neither_full) in
+      let same = moment_same q ds clock (λ b k. neither_full b (omega arith)) in
+      let below = fill_below_peak q f clock (omega arith) in
+      let least = fifo_entry p (λ g. peak q g + 1) f e in
+      subst (λ (x : Moment). length (contents_of x.state.contents f) < slice_index (advised p) f) (sym same) (omega arith)
 
 pub never_blocks : (p : Plan) → FitsEngine p → report (with_depths p (advised p)) ≡ report (wide p)
-never_blocks p h = report_same (wide p) (advised p) (neither_full p h)
+never_blocks p h = deep_blocks_never p h (advised p) (λ f e. omega arith)

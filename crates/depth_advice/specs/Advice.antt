@@ -1,31 +1,19 @@
 -- Depths that never block: for each FIFO, how many elements it comes to hold where there is room for all, and one more.
-use Rattle.std.specs.Prelude.{◌≡◌, ℕ, zero, suc, ◌+◌, ◌≤◌, max, true, false, if◌then◌else◌, List, map, length, slice_index, All}
+use Rattle.std.specs.Prelude.{◌≡◌, ◌≢◌, ℕ, zero, suc, ◌+◌, ◌<◌, ◌≤◌, max, true, if◌then◌else◌, List, map, length, slice_index}
 use Rattle.std.specs.List.{range_with_len}
 use Rattle.flow_design.specs.declared.limits.TheConstants.{FIFO_DEPTH}
 use Rattle.flow_design.specs.declared.plan.Plan.{Plan}
-use Rattle.flow_design.specs.declared.report.Verdict.{Verdict}
-use Rattle.flow_design.specs.declared.report.Verdict.TheVariants.{Done, Deadlock, Cycles, Ops}
+use Rattle.flow_design.specs.declared.report.Verdict.TheVariants.{Done}
 use Rattle.flow_design.specs.Plans.{is_fifo, kind_at}
 use Rattle.lockstep_defs.specs.Verdict.{verdict}
-use Rattle.lockstep_defs.specs.Laws.{is_query}
+use Rattle.depth_order.specs.Depths.{with_depths, AreDepths, IsNoSlower}
 use Rattle.fifo_fills.specs.Fills.{fill, last_clock}
 
 -- ---- depths
 
--- the plan with these depths
-abbrev pub with_depths : Plan → List ℕ → Plan
-with_depths p depths = record p { depths = depths }
-
 -- one entry per channel: of a FIFO its depth, and 0 of the other channels
 abbrev pub depths_by : Plan → (ℕ → ℕ) → List ℕ
 depths_by p depth = map (λ f. if is_fifo (kind_at p f) then depth f else 0) (range_with_len 0 (length p.design.channels))
-
--- these are depths for the plan's FIFOs
-pub record AreDepths (p : Plan) (depths : List ℕ) : Type 0 where
-  pub count : length depths ≡ length p.design.channels
-  pub least : (f : ℕ) → is_fifo (kind_at p f) ≡ true → 1 ≤ slice_index depths f
-  pub most : (f : ℕ) → is_fifo (kind_at p f) ≡ true → slice_index depths f ≤ FIFO_DEPTH
-  pub others : (f : ℕ) → is_fifo (kind_at p f) ≡ false → slice_index depths f ≡ 0
 
 -- ---- advice
 
@@ -46,20 +34,16 @@ peak p f = greatest (fill p f) (last_clock p)
 abbrev pub advised : Plan → List ℕ
 advised p = depths_by p (λ f. peak (wide p) f + 1)
 
+-- up to the verdict's clock each FIFO holds fewer elements than this
+abbrev pub HoldsLess : Plan → List ℕ → Type 0
+HoldsLess p depths = (f clock : ℕ) → is_fifo (kind_at p f) ≡ true → clock ≤ last_clock p → fill p f clock < slice_index depths f
+
 -- ---- no depths are faster
-
--- no operation of the plan's modules is a query
-abbrev pub AsksNothing : Plan → Type 0
-AsksNothing p = All (λ m. All (λ b. All (λ t. is_query t.op ≡ false) b.ops) m.blocks) p.design.modules
-
--- all modules are ended in this clock or before
-abbrev pub IsDoneBy : ℕ → Verdict → Type 0
-IsDoneBy clock (Done c) = c ≤ clock
-IsDoneBy clock (Deadlock c) = ⊥
-IsDoneBy clock (Cycles c) = ⊥
-IsDoneBy clock (Ops c) = ⊥
 
 -- whenever some depths lead to an end, these do so as early
 abbrev pub AreFastest : Plan → List ℕ → Type 0
-AreFastest p depths = (others : List ℕ) → AreDepths p others → (clock : ℕ) → verdict (with_depths p others) ≡ Done clock
-    → IsDoneBy clock (verdict (with_depths p depths))
+AreFastest p depths = (others : List ℕ) → AreDepths p others → IsNoSlower p others depths
+
+-- with no depths all modules come to their ends
+abbrev pub IsNeverDone : Plan → Type 0
+IsNeverDone p = (depths : List ℕ) → AreDepths p depths → (clock : ℕ) → verdict (with_depths p depths) ≢ Done clock

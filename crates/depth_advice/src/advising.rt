@@ -5,7 +5,8 @@ ghost use Rattle.lockstep_defs.specs.Report as lockstep;
 ghost use Rattle.event_timing.specs.Actions.{IsFinal};
 ghost use Rattle.timing_bridge.specs.Designs.{design};
 ghost use Rattle.sim_core.specs.Views.{theory_of};
-ghost use Rattle.depth_advice.specs.Advice.{with_depths, depths_by, peak, wide, advised, AreDepths, AsksNothing, AreFastest};
+ghost use Rattle.depth_order.specs.Depths.{with_depths, AreDepths, AsksNothing};
+ghost use Rattle.depth_advice.specs.Advice.{depths_by, peak, wide, advised, AreFastest};
 
 use crate::peaks::{depths_above, find_peaks};
 use crate::widening::widen;
@@ -30,6 +31,19 @@ impl Drop for Advice {
             report: _report,
             depths: _depths,
         } = self;
+    }
+}
+
+impl Advice {
+    /// The depths alone.
+    pub fn into_depths(self) -> Words
+        ensures { result ≡ self.depths }
+    {
+        let Advice {
+            report: _report,
+            depths,
+        } = self;
+        depths
     }
 }
 

@@ -1,19 +1,29 @@
 //! The laws of the advised depths.
-ghost use Rattle.std.specs.Prelude.{◌≡◌, ℕ, List as Items};
+ghost use Rattle.std.specs.Prelude.{◌≡◌, ◌≢◌, ℕ, List as Items};
 ghost use Rattle.flow_design.specs.declared.plan.Plan.{Plan};
 ghost use Rattle.flow_design.specs.StaticRules.{FitsEngine};
+ghost use Rattle.flow_design.specs.declared.report.Verdict.TheVariants.{Done};
 ghost use Rattle.lockstep_defs.specs.Report.{report};
-ghost use Rattle.depth_advice.specs.Advice.{with_depths, wide, advised, AreDepths, AsksNothing, AreFastest};
+ghost use Rattle.lockstep_defs.specs.Verdict.{verdict};
+ghost use Rattle.depth_order.specs.Depths.{with_depths, AreDepths, AreDeeper, AsksNothing};
+ghost use Rattle.depth_advice.specs.Advice.{wide, advised, HoldsLess, AreFastest, IsNeverDone};
 
 /// The advised depths are within the language's limits, and a plan with such depths is one that the engine takes. The plan with the
-/// advised depths has the report of the plan whose FIFOs are as deep as the language allows.
+/// advised depths, or with any greater ones, has the report of the plan whose FIFOs are as deep as the language allows, and up to its
+/// verdict's clock each FIFO holds fewer elements than its advised depth: none is ever full.
 pub fn advised_depths_never_block()
     ensures depths { (p : Plan) → FitsEngine p → AreDepths p (advised p) }
     ensures fits { (p : Plan) → FitsEngine p → (depths : Items ℕ) → AreDepths p depths → FitsEngine (with_depths p depths) }
-    ensures same { (p : Plan) → FitsEngine p → report (with_depths p (advised p)) ≡ report (wide p) }
+    ensures same { (p : Plan) → FitsEngine p → (depths : Items ℕ) → AreDeeper p (advised p) depths
+        → report (with_depths p depths) ≡ report (wide p) }
+    ensures never_full { (p : Plan) → FitsEngine p → (depths : Items ℕ) → AreDeeper p (advised p) depths
+        → HoldsLess (with_depths p depths) (advised p) }
 {}
 
-/// Where no operation is a query and some depths lead to an end, the advised depths lead to one that is as early.
+/// Where no operation is a query and some depths lead to an end, the advised depths lead to one that is as early. So a plan that does
+/// not come to its end with the advised depths does so with none.
 pub fn no_depths_are_faster()
-    ensures { (p : Plan) → FitsEngine p → AsksNothing p → AreFastest p (advised p) }
+    ensures fastest { (p : Plan) → FitsEngine p → AsksNothing p → AreFastest p (advised p) }
+    ensures never_done { (p : Plan) → FitsEngine p → AsksNothing p → ((clock : ℕ) → verdict (with_depths p (advised p)) ≢ Done clock)
+        → IsNeverDone p }
 {}

@@ -39,6 +39,10 @@ with_depths p depths = plan_after p (depth_edits (fifos p) depths)
 unfoldable pub point : Plan → List ℕ → Point
 point p depths = record { depths = depths; verdict = (report (with_depths p depths)).verdict }
 
+-- the most lists that a sweep goes through
+abbrev pub most_points : ℕ
+most_points = 4_096
+
 -- the lists of depths of a plan
 abbrev pub grid_of : Plan → ℕ → ℕ → List (List ℕ)
 grid_of p lo hi = grid lo hi (length (fifos p))

@@ -10,4 +10,3 @@ mod shape;
 pub use parallel::{SweepFault, sweep};
 pub use point::Point;
 pub use ranking::best;
-pub use shape::MOST_POINTS;

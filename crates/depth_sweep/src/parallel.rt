@@ -1,13 +1,13 @@
 //! The sweep.
 ghost use Rattle.std.specs.Prelude.{◌≡◌, ◌≤◌, ◌<◌, ◌↔◌, [], Err, length, map, slice_index_or, IfOk};
 ghost use Rattle.flow_design.specs.StaticRules.{FitsEngine};
-ghost use Rattle.depth_sweep.specs.Grid.{grid, grid_of, point};
+ghost use Rattle.depth_sweep.specs.Grid.{grid, grid_of, most_points, point};
 ghost use Rattle.fifo_fills.specs.Fills.{fifos};
 ghost use Rattle.depth_sweep.specs.Shapes.{IsShape};
 
 use crate::fifos::{fifo_count, fifos};
 use crate::point::{Point, simulate};
-use crate::shape::{MOST_POINTS, Shape, depths_at, shape_of};
+use crate::shape::{Shape, depths_at, shape_of};
 use flow_design::Plan;
 use flow_word::{List, OutOfMemory};
 use rayon::prelude::*;
@@ -53,7 +53,7 @@ pub fn sweep<R: Threads + Sync>(
     requires ordered { lo ≤ hi }
     requires most { hi ≤ 64 }
     ensures points { IfOk result (λ points. points ≡ map (point plan.now) (grid_of plan.now lo hi)) }
-    ensures too_wide { (result ≡ Err SweepFault.TooWide) ↔ (MOST_POINTS < length (grid_of plan.now lo hi)) }
+    ensures too_wide { (result ≡ Err SweepFault.TooWide) ↔ (most_points < length (grid_of plan.now lo hi)) }
 {
     match shape_of(lo, hi, fifo_count(plan)) {
         Some(shape) => Ok(simulate_all(rt, alloc, plan, shape)?),

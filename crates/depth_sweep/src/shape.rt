@@ -7,7 +7,7 @@ use flow_word::{List, OutOfMemory, Words};
 use std::alloc::Global;
 
 /// The most lists that a grid may have.
-pub const MOST_POINTS: u64 = 4096;
+const MOST_POINTS: u64 = 4096;
 
 /// The grid of all lists of so many depths, each at least `lo` and at most `hi`, and how many lists that is.
 #[derive(Clone, Copy, Debug)]

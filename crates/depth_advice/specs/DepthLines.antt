@@ -1,0 +1,13 @@
+-- The lines that tell depths.
+use Rattle.std.specs.Prelude.{ℕ, List, [], ◌∷◌, codes, decimal, filter, map}
+use Rattle.std.specs.List.{zip}
+use Rattle.flow_design.specs.declared.design.Channel.{Channel}
+use Rattle.flow_design.specs.Plans.{is_fifo}
+use Rattle.report_text.specs.Lines.{Token}
+
+-- `depth NAME D` for each FIFO, in order of declaration, by the names of the channels and a depth for each
+abbrev pub depth_tokens : Channel × ℕ → List Token
+depth_tokens entry = codes "depth" ∷ entry.0.name ∷ decimal entry.1 ∷ []
+
+abbrev pub depth_lines : List Channel → List ℕ → List (List Token)
+depth_lines channels depths = map depth_tokens (filter (λ entry. is_fifo entry.0.kind) (zip channels depths))

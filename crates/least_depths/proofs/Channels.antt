@@ -1,0 +1,87 @@
+-- The FIFOs of a plan lowered, channel after channel.
+use Rattle.std.proofs.Common.{◌≡◌, ℕ, suc, ◌+◌, ◌<◌, ◌≤◌, true, false, List, length, sym, ◌∙◌, ap, subst, arith, refl}
+use Rattle.std.specs.Prelude.{slice_index}
+use Rattle.flow_design.specs.declared.limits.TheConstants.{FIFO_DEPTH}
+use Rattle.flow_design.specs.declared.plan.Plan.{Plan}
+use Rattle.flow_design.specs.declared.report.Verdict.{Verdict}
+use Rattle.flow_design.specs.Plans.{is_fifo, kind_at, with_depth}
+use Rattle.flow_design.specs.StaticRules.{FitsEngine}
+use Rattle.lockstep_defs.specs.Verdict.{verdict}
+use Rattle.least_depths.specs.Least.{sizes_of}
+use Rattle.least_depths.specs.Lowering.{least_for, Lowered, with_found, lowered}
+use Rattle.least_depths.proofs.Least.{lowered_first}
+
+-- a channel is of the same kind whatever the depths are
+pub same_kind : (p : Plan) → FitsEngine p → (clock n : ℕ) (q : Plan) → q ≡ (lowered p clock n).plan → (f : ℕ)
+    → kind_at q f ≡ kind_at p f
+same_kind p h clock n q e f = ap (λ (r : Plan). kind_at r f) (e ∙ (lowered_first p h clock n).lower.same)
+
+pub same_channels : (p : Plan) → FitsEngine p → (clock n : ℕ) (q : Plan) → q ≡ (lowered p clock n).plan
+    → length q.design.channels ≡ length p.design.channels
+same_channels p h clock n q e = ap (λ (r : Plan). length r.design.channels) (e ∙ (lowered_first p h clock n).lower.same)
+
+-- the depth of a FIFO that is to be lowered
+pub record HasDepth (q : Plan) (f : ℕ) : Type 0 where
+  pub entry : f < length q.depths
+  pub least : 1 ≤ slice_index q.depths f
+  pub most : slice_index q.depths f ≤ FIFO_DEPTH
+
+pub next_depth : (p : Plan) → FitsEngine p → (clock n : ℕ) (q : Plan) → q ≡ (lowered p clock n).plan → n < length p.design.channels
+    → is_fifo (kind_at q n) ≡ true → HasDepth q n
+next_depth p h clock n q e l fifo =
+    let a = (lowered_first p h clock n).lower.depths in
+    let count = a.count in
+    let kind = sym (ap is_fifo (same_kind p h clock n q e n)) ∙ fifo in
+    subst (λ (r : Plan). HasDepth r n) (sym e) (record { entry = omega arith; least = a.least n kind; most = a.most n kind })
+
+-- past a FIFO
+next_fifo : (p : Plan) (clock n : ℕ) → is_fifo (kind_at p n) ≡ true
+    → lowered p clock (suc n) ≡ with_found (lowered p clock n) n (least_for (lowered p clock n).plan clock n)
+unfolding lowered
+next_fifo p clock n e = rw e refl
+
+-- past another channel
+next_other : (p : Plan) (clock n : ℕ) → is_fifo (kind_at p n) ≡ false → lowered p clock (suc n) ≡ lowered p clock n
+unfolding lowered
+next_other p clock n e = rw e refl
+
+pub fifo_plan : (p : Plan) → FitsEngine p → (clock n : ℕ) (q r : Plan) → q ≡ (lowered p clock n).plan → is_fifo (kind_at q n) ≡ true
+    → r ≡ with_depth q n (least_for q clock n).number → r ≡ (lowered p clock (n + 1)).plan
+fifo_plan p h clock n q r e fifo new =
+    let kind = sym (ap is_fifo (same_kind p h clock n q e n)) ∙ fifo in
+    let next : suc n ≡ n + 1 = omega arith in
+    new ∙ (ap (λ (s : Plan). with_depth s n (least_for s clock n).number) e
+    ∙ (sym (ap (λ (x : Lowered). x.plan) (next_fifo p clock n kind)) ∙ ap (λ (k : ℕ). (lowered p clock k).plan) next))
+
+pub fifo_tries : (p : Plan) → FitsEngine p → (clock n : ℕ) (q : Plan) (before more : ℕ) → q ≡ (lowered p clock n).plan
+    → is_fifo (kind_at q n) ≡ true → before ≡ (lowered p clock n).tries → more ≡ (least_for q clock n).tries
+    → before + more ≡ (lowered p clock (n + 1)).tries
+fifo_tries p h clock n q before more e fifo so_far new =
+    let kind = sym (ap is_fifo (same_kind p h clock n q e n)) ∙ fifo in
+    let next : suc n ≡ n + 1 = omega arith in
+    let tries = new ∙ ap (λ (s : Plan). (least_for s clock n).tries) e in
+    let sum : before + more ≡ (lowered p clock n).tries + (least_for (lowered p clock n).plan clock n).tries = omega arith in
+    sum ∙ (sym (ap (λ (x : Lowered). x.tries) (next_fifo p clock n kind)) ∙ ap (λ (k : ℕ). (lowered p clock k).tries) next)
+
+pub other_lowered : (p : Plan) → FitsEngine p → (clock n : ℕ) (q : Plan) → q ≡ (lowered p clock n).plan → is_fifo (kind_at q n) ≡ false
+    → lowered p clock n ≡ lowered p clock (n + 1)
+other_lowered p h clock n q e fifo =
+    let kind = sym (ap is_fifo (same_kind p h clock n q e n)) ∙ fifo in
+    let next : suc n ≡ n + 1 = omega arith in
+    sym (next_other p clock n kind) ∙ ap (lowered p clock) next
+
+-- ---- what is told at the end
+
+pub lowered_of : (p : Plan) (clock : ℕ) (q last : Plan) (v : Verdict) (depths : List ℕ) (tries n : ℕ) → q ≡ p
+    → last ≡ (lowered q clock (length q.design.channels)).plan → tries ≡ (lowered q clock (length q.design.channels)).tries
+    → length p.design.channels ≡ n → v ≡ verdict last → depths ≡ last.depths
+    → record { verdict = v; depths = depths; tries = tries } ≡ sizes_of (lowered p clock n)
+lowered_of p clock q last v depths tries n start plan tried count told kept =
+    let same : lowered q clock (length q.design.channels) ≡ lowered p clock n =
+    ap (λ (r : Plan). lowered r clock (length r.design.channels)) start ∙ ap (lowered p clock) count in
+    let end = plan ∙ ap (λ (x : Lowered). x.plan) same in
+    λ i. record {
+      verdict = (told ∙ ap verdict end) i;
+      depths = (kept ∙ ap (λ (r : Plan). r.depths) end) i;
+      tries = (tried ∙ ap (λ (x : Lowered). x.tries) same) i;
+    }

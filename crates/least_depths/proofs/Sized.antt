@@ -1,0 +1,139 @@
+-- What is found of a plan with the advised depths.
+use Rattle.std.proofs.Common.{◌≡◌, ℕ, ◌≤◌, List, length, refl, sym, ◌∙◌, ap, subst, arith, ◌⊎◌, inl, inr}
+use Rattle.std.specs.Prelude.{◌≢◌}
+use Rattle.flow_design.specs.declared.plan.Plan.{Plan}
+use Rattle.flow_design.specs.declared.report.Verdict.{Verdict}
+use Rattle.flow_design.specs.declared.report.Verdict.TheVariants.{Done, Deadlock, Cycles, Ops}
+use Rattle.flow_design.specs.StaticRules.{FitsEngine}
+use Rattle.lockstep_defs.specs.Report.{report}
+use Rattle.lockstep_defs.specs.Verdict.{verdict}
+use Rattle.depth_order.specs.Depths.{with_depths, AreDepths, AreDeeper, AsksNothing, IsDoneBy}
+use Rattle.depth_order.proofs.Plans.{depths_fit}
+use Rattle.depth_advice.specs.declared.advising.Advice.{Advice}
+use Rattle.depth_advice.specs.Advice.{advised}
+use Rattle.depth_advice.proofs.Depths.{advised_depths}
+use Rattle.depth_advice.proofs.Faster.{advised_fastest}
+use Rattle.least_depths.specs.Lowering.{untouched, lowered, AreLeast, all_bits}
+use Rattle.least_depths.specs.Least.{sizes_of, sized_by, sizes, IsNoLater, IsLeast}
+use Rattle.least_depths.specs.declared.sizing.Sizes.{Sizes}
+use Rattle.least_depths.proofs.Depths.{same_depths, same_least}
+use Rattle.least_depths.proofs.Least.{own_depths, lowered_first, none_lower}
+use Rattle.least_depths.proofs.Few.{few_in_all}
+use Rattle.least_depths.proofs.Sessions.{report_told}
+
+-- ---- of any plan
+
+-- what is found by its verdict
+pub record IsSized (p : Plan) (v : Verdict) (x : Sizes) : Type 0 where
+  pub depths : AreDepths p x.depths
+  pub lower : AreDeeper p x.depths p.depths
+  pub verdict : x.verdict ≡ verdict (with_depths p x.depths)
+  pub in_time : IsNoLater v x.verdict
+  pub least : AsksNothing p → (clock : ℕ) → v ≡ Done clock → AreLeast p clock x.depths
+  pub few : x.tries ≤ all_bits p.depths
+
+left : (p : Plan) → FitsEngine p → (v : Verdict) → verdict p ≡ v → IsNoLater v v → ((clock : ℕ) → v ≢ Done clock)
+    → IsSized p v (sizes_of (untouched p))
+left p h v e in_time other = record {
+  depths = own_depths p h;
+  lower = λ f k. omega arith;
+  verdict = refl;
+  in_time = subst (IsNoLater v) (sym e) in_time;
+  least = λ none clock done. absurd (other clock done);
+  few = omega arith;
+}
+
+found_of : (p : Plan) → FitsEngine p → (v : Verdict) → verdict p ≡ v → IsSized p v (sized_by p v)
+found_of p h (Done clock) e =
+    let all = length p.design.channels in
+    let x = lowered_first p h clock all in
+    record {
+      depths = x.lower.depths;
+      lower = x.lower.lower;
+      verdict = ap verdict x.lower.same;
+      in_time = x.done (subst (IsDoneBy clock) (sym e) (omega arith));
+      least = λ none c done.
+          let same : clock ≡ c = cc in
+          subst (λ (k : ℕ). AreLeast p k (lowered p clock all).plan.depths) same
+          (none_lower p h none clock (lowered p clock all).plan.depths x.lower.depths (x.least none));
+      few = few_in_all p h clock;
+    }
+found_of p h (Deadlock clock) e = left p h (Deadlock clock) e tt (λ c done. absurd (cc))
+found_of p h (Cycles clock) e = left p h (Cycles clock) e tt (λ c done. absurd (cc))
+found_of p h (Ops clock) e = left p h (Ops clock) e tt (λ c done. absurd (cc))
+
+-- ---- with the advised depths
+
+pub advised_sized : (p : Plan) → FitsEngine p → IsSized (with_depths p (advised p)) (verdict (with_depths p (advised p))) (sizes p)
+unfolding sizes
+advised_sized p h =
+    let q = with_depths p (advised p) in
+    found_of q (depths_fit p h (advised p) (advised_depths p h)) (verdict q) refl
+
+-- without queries no depths are done earlier
+same_end : (p : Plan) → FitsEngine p → AsksNothing p → (ds : List ℕ) → AreDepths p ds → (clock : ℕ)
+    → verdict (with_depths p (advised p)) ≡ Done clock → (v : Verdict) → verdict (with_depths p ds) ≡ v → IsDoneBy clock v → v ≡ Done clock
+same_end p h none ds a clock advised_end (Done c) e l =
+    let first : clock ≤ c = subst (IsDoneBy c) advised_end (advised_fastest p h none ds a c e) in
+    let same : c ≡ clock = omega arith in
+    ap Done same
+same_end p h none ds a clock advised_end (Deadlock c) e l = absurd l
+same_end p h none ds a clock advised_end (Cycles c) e l = absurd l
+same_end p h none ds a clock advised_end (Ops c) e l = absurd l
+
+kept_by : (p : Plan) → FitsEngine p → AsksNothing p → (v : Verdict) → verdict (with_depths p (advised p)) ≡ v
+    → (sized_by (with_depths p (advised p)) v).verdict ≡ v
+kept_by p h none (Done clock) e =
+    let q = with_depths p (advised p) in
+    let x = found_of q (depths_fit p h (advised p) (advised_depths p h)) (Done clock) e in
+    let found = sized_by q (Done clock) in
+    same_end p h none found.depths (same_depths p (advised p) found.depths x.depths) clock e found.verdict (sym x.verdict) x.in_time
+kept_by p h none (Deadlock clock) e = e
+kept_by p h none (Cycles clock) e = e
+kept_by p h none (Ops clock) e = e
+
+pub kept : (p : Plan) → FitsEngine p → AsksNothing p → (sizes p).verdict ≡ verdict (with_depths p (advised p))
+unfolding sizes
+kept p h none = kept_by p h none (verdict (with_depths p (advised p))) refl
+
+-- what is found without queries is least
+pub least : (p : Plan) → FitsEngine p → AsksNothing p → IsLeast p (sizes p).verdict (sizes p).depths
+least p h none clock e =
+    same_least p (advised p) clock (sizes p).depths ((advised_sized p h).least none clock (sym (kept p h none) ∙ e))
+
+-- ---- how they are found
+
+-- the verdict that the advice tells
+pub advised_verdict : (p q : Plan) (advice : Advice) → q ≡ p → advice.depths ≡ advised p
+    → report (with_depths q advice.depths) ≡ advice.report → verdict (with_depths p (advised p)) ≡ advice.report.verdict
+advised_verdict p q advice own depths same =
+    sym (ap (λ (r : Plan). verdict (with_depths r advice.depths)) own ∙ ap (λ (ds : List ℕ). verdict (with_depths p ds)) depths)
+    ∙ report_told (with_depths q advice.depths) advice.report same
+
+pub done_sizes : (p : Plan) (ds : List ℕ) (clock : ℕ) → ds ≡ advised p → verdict (with_depths p (advised p)) ≡ Done clock
+    → sizes_of (lowered (with_depths p ds) clock (length p.design.channels)) ≡ sizes p
+unfolding sizes
+done_sizes p ds clock e v =
+    ap (λ (es : List ℕ). sizes_of (lowered (with_depths p es) clock (length p.design.channels))) e
+    ∙ sym (ap (sized_by (with_depths p (advised p))) v)
+
+-- one of the other verdicts
+pub other_end : (v : Verdict) → ((c : ℕ) × (v ≡ Deadlock c)) ⊎ (((c : ℕ) × (v ≡ Cycles c)) ⊎ ((c : ℕ) × (v ≡ Ops c))) → (clock : ℕ)
+    → v ≢ Done clock
+other_end v (inl (c, e)) clock done = absurd (cc)
+other_end v (inr (inl (c, e))) clock done = absurd (cc)
+other_end v (inr (inr (c, e))) clock done = absurd (cc)
+
+pub left_sizes : (p : Plan) (ds : List ℕ) (v : Verdict) → ((clock : ℕ) → v ≢ Done clock) → ds ≡ advised p
+    → verdict (with_depths p (advised p)) ≡ v → record { verdict = v; depths = ds; tries = 0 } ≡ sizes p
+unfolding sizes
+left_sizes p ds v other e told =
+    (λ i. record { verdict = sym told i; depths = e i; tries = 0 })
+    ∙ (by_verdict v other ∙ sym (ap (sized_by (with_depths p (advised p))) told))
+  where
+    by_verdict : (w : Verdict) → ((clock : ℕ) → w ≢ Done clock)
+        → sizes_of (untouched (with_depths p (advised p))) ≡ sized_by (with_depths p (advised p)) w
+    by_verdict (Done clock) h = absurd (h clock refl)
+    by_verdict (Deadlock clock) h = refl
+    by_verdict (Cycles clock) h = refl
+    by_verdict (Ops clock) h = refl

@@ -1,0 +1,16 @@
+use Rattle.std.proofs.Common.{◌∙◌, ap, false}
+use Rattle.flow_design.specs.declared.plan.Plan.{Plan}
+use Rattle.lockstep_defs.specs.Verdict.{verdict}
+use Rattle.least_depths.specs.Lowering.{is_done_by}
+use Rattle.least_depths.proofs.Sessions.{edited_plan, edited_runs, verdict_told}
+use Rattle.least_depths.proofs.halving.is_in_time.Goals as goal
+
+pub returns-clause-runs : goal.returns-clause-runs
+returns-clause-runs g c = edited_runs c.args.session.now c.edit.new.self c.args.edit.now c.in_ok-edit.ensures.edited
+
+pub returns-clause-in_time : goal.returns-clause-in_time
+returns-clause-in_time g c =
+    let new = c.edit.new.self in
+    c.is_done_by.ensures
+    ∙ ap (is_done_by c.args.clock) (verdict_told false new.plan c.in_ok-report.report c.in_ok-report.ensures
+    ∙ ap (λ (p : Plan). verdict p) (edited_plan c.args.session.now new c.args.edit.now c.in_ok-edit.ensures.edited))

@@ -1,0 +1,100 @@
+use Rattle.std.proofs.Common.{◌≡◌, ◌∙◌, sym, ap, subst, arith, ℕ, ◌+◌, List}
+use Rattle.flow_design.specs.declared.plan.Plan.{Plan}
+use Rattle.flow_design.specs.Plans.{with_depth}
+use Rattle.std.specs.Prelude.{slice_index}
+use Rattle.least_depths.specs.Halving.{middle}
+use Rattle.least_depths.proofs.Trying.{IsHalving, begun, halves_lower, halves_upper, halving_ends, alike_fits}
+use Rattle.least_depths.proofs.Sessions.{edited_plan, edited_runs}
+use Rattle.least_depths.proofs.halving.lower.Goals as goal
+use Rattle.least_depths.proofs.halving.lower.Goals.{then-branch, else-branch}
+
+pub loop-least-init : goal.loop-least-init
+loop-least-init g c =
+    let p = c.args.session.now.plan in
+    let same : c.as_slice.result.now ≡ p.depths = c.as_slice.ensures ∙ ap (λ (q : Plan). q.depths) c.plan.ensures in
+    record {
+      live = c.requires.live;
+      runs = omega arith;
+      halving = subst (λ (ds : List ℕ). IsHalving p c.args.channel c.args.clock p 1 (slice_index ds c.args.channel) 0) (sym same)
+          (begun p c.args.channel c.args.clock c.requires.least);
+    }
+
+pub overflow_add-depth : goal.overflow_add-depth
+overflow_add-depth g c =
+    let high = c.loop-least.invariant.halving.high in
+    let low = c.loop-least.invariant.halving.ordered in
+    let most = c.requires.most in
+    omega arith
+
+pub is_in_time-requires-clause-fits : goal.is_in_time-requires-clause-fits
+is_in_time-requires-clause-fits g c = λ κs outlives.
+    let x = c.loop-least.invariant.halving in
+    let low = x.low in
+    let high = x.high in
+    let most = c.requires.most in
+    alike_fits c.args.session.now.plan c.args.channel c.loop-least.session.plan (middle c.loop-least.least c.loop-least.most) x.alike
+    c.requires.fifo c.requires.entry (omega (arith, c.loop-least-test.true)) (omega (arith, c.loop-least-test.true))
+
+pub loop-least-preserved : goal.loop-least-preserved
+loop-least-preserved g c =
+    let p = c.args.session.now.plan in
+    let f = c.args.channel in
+    let clock = c.args.clock in
+    let q = c.loop-least.session.plan in
+    let r = c.is_in_time.new.session.plan in
+    let least = c.loop-least.least in
+    let most = c.loop-least.most in
+    let tries = c.loop-least.tries in
+    let x = c.loop-least.invariant.halving in
+    let ok = c.in_ok-is_in_time.ensures in
+    let runs = c.loop-least.invariant.runs in
+    let more = ok.runs in
+    record {
+      live = ok.live;
+      runs = omega arith;
+      halving = elim c.if-branch.branch [
+        | then-branch w ↦
+            subst (λ (n : ℕ). IsHalving p f clock r n c.if-branch.most (tries + 1)) (sym w.least-is)
+            (subst (λ (n : ℕ). IsHalving p f clock r least n (tries + 1)) (sym w.most-is)
+            (halves_lower p f clock q r least most tries c.loop-least-test.true x ok.plan (sym ok.in_time ∙ w.if-branch.true)))
+        | else-branch w ↦
+            subst (λ (n : ℕ). IsHalving p f clock r n c.if-branch.most (tries + 1)) (sym w.least-is)
+            (subst (λ (n : ℕ). IsHalving p f clock r (middle least most + 1) n (tries + 1)) (sym w.most-is)
+            (halves_upper p f clock q r least most tries c.loop-least-test.true x ok.plan (sym ok.in_time ∙ w.if-branch.false)))
+      ];
+    }
+
+pub edit-requires-clause-fits : goal.edit-requires-clause-fits
+edit-requires-clause-fits g c = λ κs outlives.
+    let x = c.loop-least.invariant.halving in
+    let ordered = x.ordered in
+    let high = x.high in
+    let most = c.requires.most in
+    alike_fits c.args.session.now.plan c.args.channel c.loop-least.session.plan c.loop-least.least x.alike c.requires.fifo c.requires.entry
+    x.low (omega arith)
+
+pub returns-clause-plan : goal.returns-clause-plan
+returns-clause-plan g c =
+    let p = c.args.session.now.plan in
+    let f = c.args.channel in
+    let s = c.loop-least.session in
+    let x = c.loop-least.invariant.halving in
+    let ends = halving_ends p f c.args.clock s.plan c.loop-least.least c.loop-least.most c.loop-least.tries c.loop-least-test.false x in
+    edited_plan s c.edit.new.self (record { channel = f; depth = c.loop-least.least }) c.in_ok-edit.ensures.edited
+    ∙ (x.alike c.loop-least.least ∙ ap (with_depth p f) ends.0)
+
+pub returns-clause-tries : goal.returns-clause-tries
+returns-clause-tries g c =
+    (halving_ends c.args.session.now.plan c.args.channel c.args.clock c.loop-least.session.plan c.loop-least.least c.loop-least.most
+    c.loop-least.tries c.loop-least-test.false c.loop-least.invariant.halving).1
+
+pub returns-clause-runs : goal.returns-clause-runs
+returns-clause-runs g c =
+    let x = c.loop-least.invariant.halving in
+    let few = x.few in
+    let ordered = x.ordered in
+    let most = c.requires.most in
+    let runs = c.loop-least.invariant.runs in
+    let last = edited_runs c.loop-least.session c.edit.new.self (record { channel = c.args.channel; depth = c.loop-least.least })
+    c.in_ok-edit.ensures.edited in
+    omega arith

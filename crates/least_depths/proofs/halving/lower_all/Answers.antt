@@ -1,0 +1,73 @@
+use Rattle.std.proofs.Common.{◌∙◌, sym, ap, subst, arith, refl, ℕ, ◌+◌, ◌*◌, ◌≤◌, length}
+use Rattle.flow_design.specs.declared.plan.Plan.{Plan}
+use Rattle.flow_design.specs.declared.limits.TheConstants.{FIFO_DEPTH}
+use Rattle.depth_session.specs.Sessions.{Session}
+use Rattle.least_depths.specs.Lowering.{Lowered, lowered}
+use Rattle.least_depths.proofs.Channels.{same_channels, next_depth, fifo_plan, fifo_tries, other_lowered}
+use Rattle.least_depths.proofs.halving.lower_all.Goals as goal
+use Rattle.least_depths.proofs.halving.lower_all.Goals.{then-is_fifo+in_ok-tries, else-is_fifo}
+
+pub loop-channel-init : goal.loop-channel-init
+unfolding lowered
+loop-channel-init g c = record {
+  live = c.requires.live;
+  runs = omega (arith, c.requires.few);
+  few = omega arith;
+  plan = refl;
+  tries = refl;
+}
+
+pub is_fifo-requires : goal.is_fifo-requires
+is_fifo-requires g c =
+    let channels = same_channels c.args.session.now.plan c.requires.fits c.args.clock c.loop-channel.channel c.loop-channel.session.plan
+    c.loop-channel.invariant.plan in
+    let count = c.len-channels.ensures ∙ ap (λ (p : Plan). length p.design.channels) c.plan.ensures in
+    omega (arith, c.loop-channel-test.true)
+
+pub lower-requires-clause-entry : goal.lower-requires-clause-entry
+lower-requires-clause-entry g c = λ κs outlives. (next_depth c.args.session.now.plan c.requires.fits c.args.clock c.loop-channel.channel
+    c.loop-channel.session.plan c.loop-channel.invariant.plan (let count = c.len-channels.ensures ∙ ap (λ (p : Plan). length p.design.channels) c.plan.ensures in
+    omega (arith, c.loop-channel-test.true)) (sym c.is_fifo.ensures ∙ c.if-is_fifo.true)).entry
+
+pub lower-requires-clause-least : goal.lower-requires-clause-least
+lower-requires-clause-least g c = λ κs outlives. (next_depth c.args.session.now.plan c.requires.fits c.args.clock c.loop-channel.channel
+    c.loop-channel.session.plan c.loop-channel.invariant.plan (let count = c.len-channels.ensures ∙ ap (λ (p : Plan). length p.design.channels) c.plan.ensures in
+    omega (arith, c.loop-channel-test.true)) (sym c.is_fifo.ensures ∙ c.if-is_fifo.true)).least
+
+pub lower-requires-clause-most : goal.lower-requires-clause-most
+lower-requires-clause-most g c = λ κs outlives. (next_depth c.args.session.now.plan c.requires.fits c.args.clock c.loop-channel.channel
+    c.loop-channel.session.plan c.loop-channel.invariant.plan (let count = c.len-channels.ensures ∙ ap (λ (p : Plan). length p.design.channels) c.plan.ensures in
+    omega (arith, c.loop-channel-test.true)) (sym c.is_fifo.ensures ∙ c.if-is_fifo.true)).most
+
+pub loop-channel-preserved : goal.loop-channel-preserved
+loop-channel-preserved g c =
+    let p = c.args.session.now.plan in
+    let clock = c.args.clock in
+    let n = c.loop-channel.channel in
+    let x = c.loop-channel.invariant in
+    let q = c.loop-channel.session.plan in
+    elim c.if-is_fifo.branch [
+      | then-is_fifo+in_ok-tries w ↦
+          let ok = w.in_ok-tries.ensures in
+          let fifo = sym c.is_fifo.ensures ∙ w.if-is_fifo.true in
+          let few = ok.few in
+          let runs = ok.runs in
+          record {
+            live = ap (λ (s : Session). s.live) w.session-is ∙ ok.live;
+            runs = subst (λ (s : Session). s.count.runs ≤ 1 + (n + 1) * FIFO_DEPTH) (sym w.session-is) (omega (arith, x.runs));
+            few = subst (λ (t : ℕ). t ≤ (n + 1) * FIFO_DEPTH) (sym w.tries-is) (omega (arith, x.few));
+            plan = ap (λ (s : Session). s.plan) w.session-is
+                ∙ fifo_plan p c.requires.fits clock n q w.lower.new.session.plan x.plan fifo ok.plan;
+            tries = w.tries-is ∙ fifo_tries p c.requires.fits clock n q c.loop-channel.tries w.in_ok-tries.field-0 x.plan fifo x.tries ok.tries;
+          }
+      | else-is_fifo w ↦
+          let other = sym c.is_fifo.ensures ∙ w.if-is_fifo.false in
+          let same = other_lowered p c.requires.fits clock n q x.plan other in
+          record {
+            live = ap (λ (s : Session). s.live) w.session-is ∙ x.live;
+            runs = subst (λ (s : Session). s.count.runs ≤ 1 + (n + 1) * FIFO_DEPTH) (sym w.session-is) (omega (arith, x.runs));
+            few = subst (λ (t : ℕ). t ≤ (n + 1) * FIFO_DEPTH) (sym w.tries-is) (omega (arith, x.few));
+            plan = ap (λ (s : Session). s.plan) w.session-is ∙ (x.plan ∙ ap (λ (y : Lowered). y.plan) same);
+            tries = w.tries-is ∙ (x.tries ∙ ap (λ (y : Lowered). y.tries) same);
+          }
+    ]

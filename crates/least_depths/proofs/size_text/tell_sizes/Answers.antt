@@ -1,0 +1,11 @@
+use Rattle.std.proofs.Common.{◌∙◌, sym, ap, ℕ, List, length}
+use Rattle.flow_design.specs.declared.design.Channel.{Channel}
+use Rattle.least_depths.specs.declared.sizing.Sizes.{Sizes}
+use Rattle.least_depths.proofs.Sized.{advised_sized}
+use Rattle.least_depths.proofs.size_text.tell_sizes.Goals as goal
+
+pub print_depths-requires : goal.print_depths-requires
+print_depths-requires g c =
+    let p = c.args.plan.now in
+    ap (λ (ds : List ℕ). length ds) (c.as_slice-2.ensures ∙ ap (λ (s : Sizes). s.depths) c.in_ok-found.ensures)
+    ∙ ((advised_sized p c.requires).depths.count ∙ sym (ap (λ (cs : List Channel). length cs) c.as_slice.ensures))

@@ -1,0 +1,4 @@
+pub mod Halving
+pub mod Lowering
+pub mod Least
+pub mod SizeText

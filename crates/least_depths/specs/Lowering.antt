@@ -1,0 +1,50 @@
+-- The FIFOs of a plan lowered one after the other, each as far as halving finds with no later end.
+use Rattle.std.specs.Prelude.{◌≡◌, ℕ, zero, suc, ◌+◌, Bool, false, nat_le, if◌then◌else◌, List, sum_by, slice_index}
+use Rattle.flow_design.specs.declared.plan.Plan.{Plan}
+use Rattle.flow_design.specs.declared.report.Verdict.{Verdict}
+use Rattle.flow_design.specs.declared.report.Verdict.TheVariants.{Done, Deadlock, Cycles, Ops}
+use Rattle.flow_design.specs.Plans.{is_fifo, kind_at, with_depth}
+use Rattle.lockstep_defs.specs.Verdict.{verdict}
+use Rattle.depth_order.specs.Depths.{with_depths, AreDepths, AreDeeper, IsDoneBy}
+use Rattle.least_depths.specs.Halving.{Found, halved, bits}
+
+-- all modules are ended in this clock or before
+abbrev pub is_done_by : ℕ → Verdict → Bool
+is_done_by clock (Done c) = nat_le c clock
+is_done_by clock (Deadlock c) = false
+is_done_by clock (Cycles c) = false
+is_done_by clock (Ops c) = false
+
+-- so they are with this depth for channel f
+abbrev pub is_in_time : Plan → ℕ → ℕ → ℕ → Bool
+is_in_time p clock f depth = is_done_by clock (verdict (with_depth p f depth))
+
+-- what halving finds for channel f, from 1 to the depth that it has
+abbrev pub least_for : Plan → ℕ → ℕ → Found
+least_for p clock f = halved (is_in_time p clock f) (slice_index p.depths f) 1 (slice_index p.depths f)
+
+-- a plan with lower depths, and how many depths were tried for that
+pub record Lowered : Type 0 where
+  pub plan : Plan
+  pub tries : ℕ
+
+abbrev pub untouched : Plan → Lowered
+untouched p = record { plan = p; tries = 0 }
+
+abbrev pub with_found : Lowered → ℕ → Found → Lowered
+with_found x f found = record { plan = with_depth x.plan f found.number; tries = x.tries + found.tries }
+
+-- the plan with the least depths for those of the first n channels that are FIFOs
+unfoldable pub lowered : Plan → ℕ → ℕ → Lowered
+lowered p clock zero = untouched p
+lowered p clock (suc n) =
+    if is_fifo (kind_at p n) then with_found (lowered p clock n) n (least_for (lowered p clock n).plan clock n) else lowered p clock n
+
+-- no lower depths of the plan's FIFOs are done in this clock or before
+abbrev pub AreLeast : Plan → ℕ → List ℕ → Type 0
+AreLeast p clock depths = (lower : List ℕ) → AreDepths p lower → AreDeeper p lower depths → IsDoneBy clock (verdict (with_depths p lower))
+    → lower ≡ depths
+
+-- the binary digits of all these depths
+abbrev pub all_bits : List ℕ → ℕ
+all_bits depths = sum_by bits depths

@@ -1,0 +1,10 @@
+-- The text of the sizes.
+use Rattle.std.specs.Prelude.{ℕ, List, [], ◌∷◌, codes}
+use Rattle.flow_design.specs.declared.plan.Plan.{Plan}
+use Rattle.report_text.specs.Lines.{text_of_lines, verdict_tokens}
+use Rattle.depth_advice.specs.DepthLines.{depth_lines}
+use Rattle.least_depths.specs.Least.{sizes}
+
+-- `size`, the verdict, and `depth NAME D` for each FIFO in order of declaration
+unfoldable pub size_text : Plan → List ℕ
+size_text p = text_of_lines ((codes "size" ∷ []) ∷ verdict_tokens (sizes p).verdict ∷ depth_lines p.design.channels (sizes p).depths)

@@ -1,0 +1,65 @@
+//! The text of the sizes.
+ghost use Rattle.std.specs.Prelude.{◌≡◌, IfOk};
+ghost use Rattle.flow_design.specs.StaticRules.{FitsEngine};
+ghost use Rattle.least_depths.specs.Least.{sizes};
+ghost use Rattle.least_depths.specs.SizeText.{size_text};
+
+use crate::sizing::find_sizes;
+use depth_advice::print_depths;
+use depth_session::Runner;
+use flow_design::{Plan, Verdict};
+use flow_word::{List, OutOfMemory};
+use report_text::print_verdict;
+use std::alloc::Global;
+use std::sync::Wait;
+use std::thread::Threads;
+
+/// The sizes of a plan's FIFOs as a text.
+#[derive(Drop)]
+pub struct SizeText {
+    /// `size`, the line of the verdict, and a line `depth NAME D` for each FIFO in order of declaration.
+    pub text: List<u8>,
+    /// The verdict of the plan with these depths.
+    pub verdict: Verdict,
+}
+
+impl SizeText {
+    /// The text alone.
+    pub fn into_text(self) -> List<u8>
+        ensures { result ≡ self.text }
+    {
+        let SizeText {
+            text,
+            verdict: _verdict,
+        } = self;
+        text
+    }
+}
+
+/// The text of the smallest FIFOs that lose nothing, which are those of `find_sizes`.
+///
+/// It takes memory for what `find_sizes` does and for the text. An error leaves nothing.
+#[tactic(auto, unfolding(crate::specs::SizeText::size_text))]
+pub fn tell_sizes<R: Threads + Wait + Sync, U: Runner>(
+    rt: &R,
+    alloc: Global,
+    plan: &Plan,
+    runner: &mut U,
+) -> Result<SizeText, OutOfMemory>
+    requires { FitsEngine plan.now }
+    ensures text { IfOk result (λ told. told.text ≡ size_text plan.now) }
+    ensures verdict { IfOk result (λ told. told.verdict ≡ (sizes plan.now).verdict) }
+{
+    let found = find_sizes(rt, alloc, plan, runner)?;
+    let mut text = List::from_slice(alloc, b"size\n")?;
+    print_verdict(&mut text, found.verdict)?;
+    print_depths(
+        &mut text,
+        plan.design.channels.as_slice(),
+        found.depths.as_slice(),
+    )?;
+    Ok(SizeText {
+        text,
+        verdict: found.verdict,
+    })
+}

@@ -1,0 +1,90 @@
+//! The sizes of a plan's FIFOs.
+ghost use Rattle.std.specs.Prelude.{◌≡◌, length, IfOk};
+ghost use Rattle.flow_design.specs.StaticRules.{FitsEngine};
+ghost use Rattle.depth_order.specs.Depths.{with_depths};
+ghost use Rattle.least_depths.specs.Lowering.{lowered};
+ghost use Rattle.least_depths.specs.Least.{sizes_of, sizes};
+
+use crate::halving::lower_all;
+use depth_advice::advise;
+use depth_session::{DepthSession, Runner};
+use flow_design::{Plan, Verdict, copy_plan};
+use flow_word::{List, OutOfMemory, Words};
+use std::alloc::Global;
+use std::sync::Wait;
+use std::thread::Threads;
+
+/// Depths for the FIFOs of a plan, and what the plan does with them.
+pub struct Sizes {
+    /// The verdict of the plan with these depths.
+    pub verdict: Verdict,
+    /// One entry per channel: the depth of a FIFO, in elements, and 0 of the other channels.
+    pub depths: Words,
+    /// How many depths were tried, each by an edit.
+    pub tries: u64,
+}
+
+impl Drop for Sizes {
+    fn drop(self) {
+        let Sizes {
+            verdict: _verdict,
+            depths: _depths,
+            tries: _tries,
+        } = self;
+    }
+}
+
+/// The smallest FIFOs that lose nothing. Where the plan with the advised depths is done, its FIFOs are lowered one after the other, in
+/// order of declaration, each to what halving finds between 1 and its advised depth with an end by that clock. Else the depths are the
+/// advised ones.
+///
+/// `sizes_lose_nothing` says what that means. It is two runs of the runner and an edit for each depth that is tried and each FIFO; an
+/// edit is a run more where a query finds another outcome than before. It takes memory for the runs, their reports and the edits. An
+/// error leaves nothing.
+pub fn find_sizes<R: Threads + Wait + Sync, U: Runner>(
+    rt: &R,
+    alloc: Global,
+    plan: &Plan,
+    runner: &mut U,
+) -> Result<Sizes, OutOfMemory>
+    requires { FitsEngine plan.now }
+    ensures { IfOk result (λ found. found ≡ sizes plan.now) }
+{
+    let own = copy_plan(alloc, plan)?;
+    let advice = advise(rt, alloc, own, runner)?;
+    let verdict = advice.report.verdict;
+    let depths = advice.into_depths();
+    match verdict {
+        Verdict::Done(clock) => lower_depths(rt, alloc, plan, depths, clock, runner),
+        Verdict::Deadlock(_) | Verdict::Cycles(_) | Verdict::Ops(_) => Ok(Sizes {
+            verdict,
+            depths,
+            tries: 0,
+        }),
+    }
+}
+
+/// The depths of a plan's FIFOs, lowered from these with an end by this clock.
+fn lower_depths<R: Threads + Wait + Sync, U: Runner>(
+    rt: &R,
+    alloc: Global,
+    plan: &Plan,
+    depths: Words,
+    clock: u64,
+    runner: &mut U,
+) -> Result<Sizes, OutOfMemory>
+    requires { FitsEngine (with_depths plan.now depths) }
+    ensures { IfOk result (λ found. found
+        ≡ sizes_of (lowered (with_depths plan.now depths) clock (length plan.now.design.channels))) }
+{
+    let mut own = copy_plan(alloc, plan)?;
+    own.depths = depths;
+    let mut session = DepthSession::new(rt, alloc, own, runner)?;
+    let tries = lower_all(rt, alloc, &mut session, clock, runner)?;
+    let report = session.report(alloc, false)?;
+    Ok(Sizes {
+        verdict: report.verdict,
+        depths: List::from_slice(alloc, session.plan().depths.as_slice())?,
+        tries,
+    })
+}

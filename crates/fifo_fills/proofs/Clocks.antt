@@ -1,6 +1,6 @@
 -- The operations by their clocks, and what the FIFOs hold behind those before a clock.
-use Rattle.std.proofs.Common.{◌≡◌, ◌≢◌, ℕ, ◌+◌, ◌-◌, ◌≤◌, ◌<◌, List, ◌++◌, map, length, take, drop, true, false}
-use Rattle.std.proofs.Common.{refl, sym, ◌∙◌, ap, subst, arith, length-append, get_or, Some, None, Option, inl, inr, eqb}
+use Rattle.std.proofs.Common.{◌≡◌, ◌≢◌, ℕ, ◌+◌, ◌-◌, ◌≤◌, ◌<◌, List, [], ◌∷◌, ◌++◌, map, length, take, drop, true, false}
+use Rattle.std.proofs.Common.{refl, sym, ◌∙◌, ap, subst, arith, length-append, append-nil, get_or, Some, None, Option, inl, inr, eqb}
 use Rattle.std.specs.Prelude.{slice_get, option_map}
 use Rattle.std.specs.List.{AllByRecursion}
 use Rattle.std.specs.Option.{option_eq}
@@ -14,7 +14,7 @@ use Rattle.flow_design.specs.StaticRules.{FitsEngine}
 use Rattle.flow_design.specs.Plans.{is_fifo, kind_at}
 use Rattle.lockstep_defs.specs.Lockstep.{history}
 use Rattle.fifo_fills.specs.Fills.{fifos, fill, fills, last_clock, AreSteady, IsNextClock}
-use Rattle.fifo_fills.specs.Passed.{Act, acts, acts_before, moved_in, fill_behind}
+use Rattle.fifo_fills.specs.Passed.{Act, acts, acts_before, moved_in, fill_behind, IsAfterNext}
 use Rattle.fifo_fills.proofs.Counting.{counted}
 use Rattle.fifo_fills.proofs.Acts.{moved_are, begins, early, late}
 use Rattle.fifo_fills.proofs.Placing.{map_same}
@@ -186,6 +186,29 @@ nothing_between p c clock d l e after before =
       | inl more ↦ absurd (omega (arith, ahead.1, has.same, act_early p d n has.act (omega (arith, ahead.1)) more has.is))
       | inr same ↦ omega arith
     ]
+
+-- as many operations are the same operations
+same_acts : (p : Plan) (c d : ℕ) → c ≤ d → length (acts_before p d) ≡ length (acts_before p c) → acts_before p d ≡ acts_before p c
+same_acts p c d l same =
+    let (later, e) = goes_on p c d l in
+    let none : later ≡ [] = empty later (omega (arith, ap length e, length-append (acts_before p c) later, same)) in
+    e ∙ (ap (λ (more : List Act). acts_before p c ++ more) none ∙ append-nil (acts_before p c))
+  where
+    empty : (xs : List Act) → length xs ≡ 0 → xs ≡ []
+    empty [] h = refl
+    empty (x ∷ xs) h = cc
+
+pub after_next : (p : Plan) (c clock : ℕ) → c ≤ last_clock p → next_clock p (length (acts_before p c)) ≡ Some clock
+    → IsAfterNext p c (clock + 1)
+after_next p c clock l e =
+    let ahead = clock_ahead p c clock l e in
+    let back : (clock + 1) - 1 ≡ clock = omega arith in
+    let between = nothing_between p c clock clock l e ahead.0 (omega arith) in
+    let most = (passes p clock (length (acts_before p c)) ahead.1 (omega (arith, between)) e).0 in
+    record {
+      idle = ap (acts_before p) back ∙ same_acts p c clock ahead.0 between;
+      busy = λ same. omega (arith, ap length same, most);
+    }
 
 pub next_is : (p : Plan) → FitsEngine p → (c clock : ℕ) → c ≤ last_clock p → next_clock p (length (acts_before p c)) ≡ Some clock
     → IsNextClock p c (clock + 1)

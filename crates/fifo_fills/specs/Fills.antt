@@ -1,5 +1,5 @@
 -- How many elements each FIFO holds in each clock.
-use Rattle.std.specs.Prelude.{ℕ, ◌≡◌, ◌<◌, ◌≤◌, List, length, map, filter}
+use Rattle.std.specs.Prelude.{ℕ, ◌≡◌, ◌<◌, ◌≤◌, List, length, map, filter, slice_index}
 use Rattle.std.specs.List.{range_with_len}
 use Rattle.flow_word.specs.declared.access.Side.{Side}
 use Rattle.flow_design.specs.declared.plan.Plan.{Plan}
@@ -23,6 +23,12 @@ fills p clock = map (λ f. fill p f clock) (fifos p)
 -- the clock of the verdict
 abbrev pub last_clock : Plan → ℕ
 last_clock p = clock_of (verdict p)
+
+-- in this clock, at most the verdict's, the FIFO at place i in order of declaration holds so many elements
+pub record HasFill (p : Plan) (i clock elements : ℕ) : Type 0 where
+  pub inside : i < length (fifos p)
+  pub within : clock ≤ last_clock p
+  pub fill : elements ≡ slice_index (fills p clock) i
 
 -- how many elements were popped off channel f, or pushed on it, before a clock
 abbrev pub moved_before : Plan → Side → ℕ → ℕ → ℕ

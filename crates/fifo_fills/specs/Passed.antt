@@ -1,5 +1,5 @@
 -- What stands behind a number of operations of the history, in the order in which they were done.
-use Rattle.std.specs.Prelude.{ℕ, ◌+◌, ◌-◌, ◌==◌, Bool, true, false, if◌then◌else◌, Option, Some, None, List, [], ◌∷◌, length, map, filter, take}
+use Rattle.std.specs.Prelude.{◌≡◌, ◌≢◌, ℕ, ◌+◌, ◌-◌, ◌==◌, Bool, true, false, if◌then◌else◌, Option, Some, None, List, [], ◌∷◌, length, map, filter, take}
 use Rattle.std.specs.Prelude.{slice_set, slice_index, slice_index_or}
 use Rattle.std.specs.List.{range_with_len, flat_map}
 use Rattle.flow_word.specs.declared.access.Side.{Side}
@@ -29,6 +29,12 @@ acts_before p clock = acts_in (history p clock)
 -- all of them: those before the verdict's clock
 unfoldable pub acts : Plan → List Act
 acts p = acts_before p (last_clock p)
+
+-- the second clock comes right after the next operation: none is done from the first clock on, up to the clock before the second, and
+-- one is done in that clock
+pub record IsAfterNext (p : Plan) (clock next : ℕ) : Type 0 where
+  pub idle : acts_before p (next - 1) ≡ acts_before p clock
+  pub busy : acts_before p next ≢ acts_before p clock
 
 -- what these operations popped off a channel, or pushed on it
 abbrev pub moved_in : Side → ℕ → List Act → List ℕ

@@ -4,7 +4,7 @@ ghost use Rattle.flow_design.specs.StaticRules.{FitsEngine};
 ghost use Rattle.lockstep_defs.specs.Report as lockstep;
 ghost use Rattle.fifo_fills.specs.Fills.{last_clock, AreSteady, IsNextClock};
 ghost use Rattle.fifo_fills.specs.Fills as lockstep_fills;
-ghost use Rattle.fifo_fills.specs.Passed.{acts_before};
+ghost use Rattle.fifo_fills.specs.Passed.{acts_before, IsAfterNext};
 
 use crate::events::EventWalk;
 use flow_design::{Plan, Report};
@@ -61,13 +61,14 @@ impl<'a> FillWalk<'a> {
         self.events.fills()
     }
 
-    /// Goes on to a later clock, which it returns; up to it the fills do not change. None where they do not change up to the
-    /// verdict's clock: the walk then stays where it is.
+    /// Goes on to the clock right after the next operation, which it returns; up to it the fills do not change. None where no
+    /// operation is left before the verdict's clock: the fills then do not change any more, and the walk stays where it is.
     ///
     /// It takes no memory, and in all calls together it looks at each event once.
     pub fn advance(&mut self) -> Option<u64>
         ensures plan { self.new.plan ≡ self.old.plan }
         ensures next { IfSome result (IsNextClock self.old.plan self.old.clock) }
+        ensures exact { IfSome result (IsAfterNext self.old.plan self.old.clock) }
         ensures stands { IfSome result (λ clock. self.new.clock ≡ clock) }
         ensures end { IsNone result → AreSteady self.old.plan self.old.clock (last_clock self.old.plan) }
         ensures stays { IsNone result → self.new ≡ self.old }

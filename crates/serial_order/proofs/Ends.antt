@@ -1,5 +1,5 @@
 -- A module's own run on lists of values comes to its end beside the serial run.
-use Rattle.std.proofs.Common.{◌≡◌, ℕ, zero, suc, ◌<◌, List, [], ◌∷◌, ◌++◌, length, Bool, true, false, refl, sym, ◌∙◌, ap}
+use Rattle.std.proofs.Common.{◌≡◌, ℕ, zero, suc, ◌+◌, ◌<◌, List, [], ◌∷◌, ◌++◌, length, Bool, true, false, refl, sym, ◌∙◌, ap}
 use Rattle.std.proofs.Common.{subst, arith, true≢false, append_assoc, append-nil}
 use Rattle.std.specs.Prelude.{if◌then◌else◌, slice_index_or}
 use Rattle.std.specs.List.{flat_map}
@@ -13,14 +13,16 @@ use Rattle.flow_design.specs.declared.state.Request.{Request}
 use Rattle.flow_design.specs.Module.{block_at}
 use Rattle.flow_design.specs.StaticRules.{IsModuleSound}
 use Rattle.lockstep_defs.specs.Machine.{requests, move, is_over}
-use Rattle.lockstep_defs.specs.Channels.{Exchange}
+use Rattle.flow_word.specs.declared.access.Side.TheVariants.{Pop, Push}
+use Rattle.lockstep_defs.specs.Channels.{Exchange, moved_by}
 use Rattle.lockstep_defs.specs.Lockstep.{module_at}
 use Rattle.lockstep_defs.specs.OwnRun.{OwnStep, Own, own_after, own_next, own, paired}
 use Rattle.serial_order.specs.declared.order.Used.TheVariants.{Register, Memory, Reading, Writing}
-use Rattle.serial_order.specs.SerialRun.{all_given, Progress, serial, AreGiven, done_by, EndsAlike}
+use Rattle.serial_order.specs.SerialRun.{all_given, Progress, serial, AreGiven, done_by, EndsAlike, GetsAsFar}
 use Rattle.serial_order.proofs.Outcomes.{setting_of}
 use Rattle.serial_order.proofs.Alike.{only}
 use Rattle.serial_order.proofs.Going.{IsSerial}
+use Rattle.serial_order.proofs.Fronts.{end_front}
 use Rattle.serial_order.proofs.Runs.{IsBeside, goes, ends, moved, goes_further, opens}
 
 -- ---- what was given before the last step
@@ -133,5 +135,28 @@ module _ (p : Plan) (i : ℕ) (lists : List (List ℕ)) (replies : List (List Re
               (λ x l. sym (only (h.things (Register x) (let all = h.serial_stores.registers in omega arith))));
           memories = ext_get_or [] _ _ (h.serial_stores.memories ∙ sym h.stores.memories)
               (λ x l. sym (h.things (Memory x) (let all = h.serial_stores.memories in omega arith)));
+        },
+      )
+
+  -- ---- on the way
+
+  pub gets_as_far : (n : ℕ) → AreGiven lists [] (own p i replies n).steps
+      → (k : ℕ) × GetsAsFar (length p.design.channels) (serial lists p.design.channels (module_at p i) k) (own p i replies n)
+  gets_as_far n given = by (runs_beside n given)
+    where
+      by : Beside (flat (own p i replies n))
+          → (k : ℕ) × GetsAsFar (length p.design.channels) (serial lists p.design.channels (module_at p i) k) (own p i replies n)
+      by (goes b first k t h) = (
+        first + suc k,
+        record {
+          pushes = λ f l. end_front lists p.design.channels (module_at p i) sound rules b first k t (flat (own p i replies n)) h Push f l;
+          pops = λ f l. end_front lists p.design.channels (module_at p i) sound rules b first k t (flat (own p i replies n)) h Pop f l;
+        },
+      )
+      by (ends k h) = (
+        k,
+        record {
+          pushes = λ f l. ([], sym (h.things (Writing f) l) ∙ sym (append-nil (moved_by Push f (done_by (own p i replies n)))));
+          pops = λ f l. ([], sym (h.things (Reading f) l) ∙ sym (append-nil (moved_by Pop f (done_by (own p i replies n)))));
         },
       )

@@ -43,7 +43,7 @@ module _ (lists : List (List ℕ)) (channels : List Channel) (m : Module) (sound
   unfolding serial
   serial-suc k = refl
 
-  from-suc : (first i : ℕ) → from_on first (suc i) ≡ iterated lists channels m (from_on first i)
+  pub from-suc : (first i : ℕ) → from_on first (suc i) ≡ iterated lists channels m (from_on first i)
   from-suc first i = ap (serial lists channels m) (omega arith) ∙ serial-suc (first + i)
 
   abbrev setting : Block → Setting

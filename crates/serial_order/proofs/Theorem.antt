@@ -6,8 +6,8 @@ use Rattle.flow_design.specs.declared.state.Reply.{Reply}
 use Rattle.lockstep_defs.specs.OwnRun.{own}
 use Rattle.serial_order.specs.declared.order.Order.TheVariants.{Serial}
 use Rattle.serial_order.specs.Orders.{module_in, order_of, HasModule}
-use Rattle.serial_order.specs.SerialRun.{AreGiven, EndsAlike, EqualsPlainLoops, serial}
-use Rattle.serial_order.proofs.Ends.{ends_alike}
+use Rattle.serial_order.specs.SerialRun.{AreGiven, EndsAlike, EqualsPlainLoops, GetsAsFar, KeepsToPlainLoops, serial}
+use Rattle.serial_order.proofs.Ends.{ends_alike, gets_as_far}
 use Rattle.serial_order.proofs.Serials.{serial_blocks}
 
 in_plan : (p : Plan) (i : ℕ) → HasModule p.design i → order_of p.design i ≡ Serial
@@ -22,3 +22,16 @@ equals_plain_loops design i h is p e lists replies n given ended =
     subst (λ (d : Design). (k : ℕ) × EndsAlike (length d.channels) (serial lists d.channels (module_in d i) k) (own p i replies n)) e
     (in_plan p i (subst (λ (d : Design). HasModule d i) (sym e) h) (subst (λ (d : Design). order_of d i ≡ Serial) (sym e) is)
     lists replies n given ended)
+
+far_in_plan : (p : Plan) (i : ℕ) → HasModule p.design i → order_of p.design i ≡ Serial
+    → (lists : List (List ℕ)) (replies : List (List Reply)) (n : ℕ)
+    → AreGiven lists [] (own p i replies n).steps
+    → (k : ℕ) × GetsAsFar (length p.design.channels) (serial lists p.design.channels (module_in p.design i) k) (own p i replies n)
+far_in_plan p i h is lists replies n given =
+    gets_as_far p i lists replies h.sound (serial_blocks lists p.design.channels (module_in p.design i) h.sound is) n given
+
+pub keeps_to_plain_loops : (design : Design) (i : ℕ) → HasModule design i → order_of design i ≡ Serial → KeepsToPlainLoops design i
+keeps_to_plain_loops design i h is p e lists replies n given =
+    subst (λ (d : Design). (k : ℕ) × GetsAsFar (length d.channels) (serial lists d.channels (module_in d i) k) (own p i replies n)) e
+    (far_in_plan p i (subst (λ (d : Design). HasModule d i) (sym e) h) (subst (λ (d : Design). order_of d i ≡ Serial) (sym e) is)
+    lists replies n given)

@@ -103,3 +103,22 @@ EqualsPlainLoops design i =
     (p : Plan) → p.design ≡ design → (lists : List (List ℕ)) (replies : List (List Reply)) (n : ℕ)
     → AreGiven lists [] (own p i replies n).steps → IsTrue (own p i replies n).state.ended
     → (k : ℕ) × EndsAlike (length design.channels) (serial lists design.channels (module_in design i) k) (own p i replies n)
+
+-- ---- runs that have not ended
+
+-- the first list is a front of the second
+abbrev pub IsFront : List ℕ → List ℕ → Type 0
+IsFront front whole = (more : List ℕ) × (whole ≡ front ++ more)
+
+-- a serial run has got as far as an own run: on each channel it has pushed what the own run has, in the same order, and maybe more, and
+-- it has popped what the own run has, and maybe more
+pub record GetsAsFar (channels : ℕ) (x : Progress) (o : Own) : Type 0 where
+  pub pushes : (f : ℕ) → f < channels → IsFront (moved_by Push f (done_by o)) (moved_by Push f x.done)
+  pub pops : (f : ℕ) → f < channels → IsFront (moved_by Pop f (done_by o)) (moved_by Pop f x.done)
+
+-- whatever the lists of values, and however far the module's own run on them has come: the serial run gets as far
+abbrev pub KeepsToPlainLoops : Design → ℕ → Type 0
+KeepsToPlainLoops design i =
+    (p : Plan) → p.design ≡ design → (lists : List (List ℕ)) (replies : List (List Reply)) (n : ℕ)
+    → AreGiven lists [] (own p i replies n).steps
+    → (k : ℕ) × GetsAsFar (length design.channels) (serial lists design.channels (module_in design i) k) (own p i replies n)

@@ -3,11 +3,14 @@ ghost use Rattle.std.specs.Prelude.{◌≡◌, ℕ};
 ghost use Rattle.flow_design.specs.declared.design.Design.{Design as Designed};
 ghost use Rattle.serial_order.specs.declared.order.Order.TheVariants.{Serial};
 ghost use Rattle.serial_order.specs.Orders.{order_of, HasModule};
-ghost use Rattle.serial_order.specs.SerialRun.{EqualsPlainLoops};
+ghost use Rattle.serial_order.specs.SerialRun.{EqualsPlainLoops, KeepsToPlainLoops};
 
-/// A serial module does what it would do with the iterations of its loops one after another. Whatever values the channels give:
-/// where the module's own run on them comes to its end, the serial run does too, with the same pushes on each channel in the same
-/// order, the same number of pops of each channel, and the same registers and memories.
+/// A serial module does what it would do with the iterations of its loops one after another, whatever values the channels give.
+///
+/// Where the module's own run on these values comes to its end, the serial run does too, with the same pushes on each channel in the
+/// same order, the same number of pops of each channel, and the same registers and memories. However far the own run has come, also
+/// where it never ends: what it has pushed on each channel, and popped off it, is a front of what the serial run pushes and pops.
 pub fn serial_modules_equal_plain_loops()
-    ensures { (design : Designed) (i : ℕ) → HasModule design i → order_of design i ≡ Serial → EqualsPlainLoops design i }
+    ensures ends { (design : Designed) (i : ℕ) → HasModule design i → order_of design i ≡ Serial → EqualsPlainLoops design i }
+    ensures goes { (design : Designed) (i : ℕ) → HasModule design i → order_of design i ≡ Serial → KeepsToPlainLoops design i }
 {}

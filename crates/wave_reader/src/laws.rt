@@ -1,22 +1,19 @@
 //! The laws of reading waves.
-ghost use Rattle.std.specs.Prelude.{◌≡◌, ℕ, ◌<◌, ◌≤◌, ◌^◌, ◌↔◌, List, length, slice_index};
+ghost use Rattle.std.specs.Prelude.{◌≡◌, ℕ, ◌<◌, ◌^◌, ◌↔◌, List, length};
 ghost use Rattle.flow_design.specs.declared.plan.Plan.{Plan};
 ghost use Rattle.flow_design.specs.StaticRules.{FitsEngine};
-ghost use Rattle.fifo_fills.specs.Fills.{fifos, fills, last_clock};
+ghost use Rattle.fifo_fills.specs.Fills.{HasFill};
 ghost use Rattle.vcd_wave.specs.Wave.{Wave, wave_of};
 ghost use Rattle.vcd_wave.specs.WaveText.{wave_text};
 ghost use Rattle.vcd_wave.specs.Told.{IsWave, TellsFill};
 
 /// A text is the text of one wave at most, so it tells one number of each FIFO in each clock at most. The text of a plan's wave tells
-/// of its FIFOs what they hold in the clocks up to the verdict's, and tells nothing of later clocks and of other FIFOs.
+/// exactly what the plan's FIFOs hold in the clocks up to the verdict's: nothing of later clocks, and nothing of other FIFOs.
 ///
 /// `one_wave` speaks of waves with fewer than 2^64 names, as each that stands in memory has: `decimal` writes the last 64 digits of a
 /// number, so it does not tell all numbers of FIFOs apart from 10^64 on.
 pub fn waves_read_back()
     ensures one_wave { (v w : Wave) → IsWave v → IsWave w → length v.names < 2 ^ 64 → wave_text v ≡ wave_text w → v ≡ w }
     ensures one_fill { (text : List ℕ) → length text < 2 ^ 64 → (i c a b : ℕ) → TellsFill text i c a → TellsFill text i c b → a ≡ b }
-    ensures tells { (p : Plan) → FitsEngine p → (i c v : ℕ) → i < length (fifos p) → c ≤ last_clock p
-        → TellsFill (wave_text (wave_of p)) i c v ↔ v ≡ slice_index (fills p c) i }
-    ensures declared { (p : Plan) → FitsEngine p → (i c v : ℕ) → TellsFill (wave_text (wave_of p)) i c v → i < length (fifos p) }
-    ensures within { (p : Plan) → FitsEngine p → (i c v : ℕ) → TellsFill (wave_text (wave_of p)) i c v → c ≤ last_clock p }
+    ensures tells { (p : Plan) → FitsEngine p → (i c v : ℕ) → TellsFill (wave_text (wave_of p)) i c v ↔ HasFill p i c v }
 {}

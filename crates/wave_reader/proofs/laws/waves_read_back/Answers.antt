@@ -13,13 +13,10 @@ pub returns-clause-one_fill : goal.returns-clause-one_fill
 returns-clause-one_fill c = one_fill
 
 pub returns-clause-tells : goal.returns-clause-tells
-returns-clause-tells c = λ p fits i d v l m. (
-  tells_only p fits i d v l m,
-  (λ e. subst (TellsFill (wave_text (wave_of p)) i d) (sym e) (tells_it p fits i d l m)),
+returns-clause-tells c = λ p fits i d v. (
+  (λ t.
+      let inside = declared_is p fits i d v t in
+      let within = within_is p fits i d v t in
+      record { inside = inside; within = within; fill = tells_only p fits i d v inside within t }),
+  (λ h. subst (TellsFill (wave_text (wave_of p)) i d) (sym h.fill) (tells_it p fits i d h.inside h.within)),
 )
-
-pub returns-clause-declared : goal.returns-clause-declared
-returns-clause-declared c = declared_is
-
-pub returns-clause-within : goal.returns-clause-within
-returns-clause-within c = within_is

@@ -1,9 +1,9 @@
 use Rattle.std.proofs.Common.{arith, ◌∙◌, ◌≡◌, ap, sym, subst, ℕ, Some, length, ◌+◌}
 use Rattle.flow_design.specs.declared.plan.Plan.{Plan}
 use Rattle.fifo_fills.specs.Fills.{last_clock, AreSteady, IsNextClock}
-use Rattle.fifo_fills.specs.Passed.{acts_before}
+use Rattle.fifo_fills.specs.Passed.{acts_before, IsAfterNext}
 use Rattle.fifo_fills.specs.Walks.{AtClock, IsFillWalk}
-use Rattle.fifo_fills.proofs.Clocks.{next_clock, clock_ahead, nothing_between, next_is, steady_to_end}
+use Rattle.fifo_fills.proofs.Clocks.{next_clock, clock_ahead, nothing_between, next_is, after_next, steady_to_end}
 use Rattle.fifo_fills.proofs.Ending.{last_within}
 use Rattle.fifo_fills.proofs.walk.FillWalk.advance.Goals as goal
 
@@ -50,6 +50,13 @@ returns-clause-next c =
     let p = c.self.inside.events.plan in
     subst (λ (w : AtClock). IsNextClock w.plan w.clock (c.in_ok-clock.clock + 1)) c.self.view_is
     (next_is p c.self.invariant.fits c.self.inside.clock c.in_ok-clock.clock c.self.invariant.within
+    (found p c.self.inside.clock c.self.inside.events.passed c.in_ok-clock.clock c.self.invariant c.in_ok-clock.ensures))
+
+pub returns-clause-exact : goal.returns-clause-exact
+returns-clause-exact c =
+    let p = c.self.inside.events.plan in
+    subst (λ (w : AtClock). IsAfterNext w.plan w.clock (c.in_ok-clock.clock + 1)) c.self.view_is
+    (after_next p c.self.inside.clock c.in_ok-clock.clock c.self.invariant.within
     (found p c.self.inside.clock c.self.inside.events.passed c.in_ok-clock.clock c.self.invariant c.in_ok-clock.ensures))
 
 pub returns-in_err-clock-clause-end : goal.returns-in_err-clock-clause-end

@@ -62,6 +62,11 @@ fn refused_words(rt: HostRuntime) -> Result<(), Fail> {
     refuses_words(&rt, "wave", &["--events"])?;
     refuses_words(&rt, "order", &["--ops", "5"])?;
     refuses_words(&rt, "sweep", &["3", "2"])?;
+    refuses_words(&rt, "log", &["--events"])?;
+    refuses_words(&rt, "stalls", &["further"])?;
+    refuses_words(&rt, "path", &["--events", "--events"])?;
+    refuses_words(&rt, "trace", &["--cycles"])?;
+    refuses_words(&rt, "size", &["--events"])?;
     let (status, sink) = answer(&rt, &[], PLAIN_CASE, &[], &[])?;
     assert_eq!(rt; sink.held(), b"refused words\n".as_slice());
     assert_eq!(rt; status, Status::Words);

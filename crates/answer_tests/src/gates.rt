@@ -6,23 +6,25 @@ use sim_io::{MemSink, MemSource};
 use std::alloc::Global;
 use std::process::Abort;
 use std::sync::Wait;
-use std::sync::atomic::{AtomicBool, Ordering};
+use std::sync::atomic::{AtomicBool, AtomicU64, Ordering};
 use std::test::Fail;
 use std::thread::{Threads, yield_now};
 use whole_answer::{Status, omnisim};
-use worked_sessions::{TWO_MODULES, TWO_MODULES_ANSWER};
+use worked_sessions::{REALISTIC_LINE, TWO_MODULES, TWO_MODULES_ANSWER};
 
 /// How often a burst yields that waits for another one, before it gives up.
 const PATIENCE: u64 = 10_000_000;
 
-/// What `run` answers to the session of two modules, with this gate.
-fn run_with<R: Threads + Wait + Sync + AllocGlobal, G: Gate + Sync>(
+/// What a command answers to a session, with this gate.
+fn answer_with<R: Threads + Wait + Sync + AllocGlobal, G: Gate + Sync>(
     rt: &R,
+    command: &str,
+    text: &[u8],
     gate: &G,
 ) -> Result<(Status, MemSink), Fail> {
     let alloc = rt.alloc();
-    let words = words_of(rt, "run", &[])?;
-    let mut source = MemSource::new(alloc, TWO_MODULES, 64, &[])?;
+    let words = words_of(rt, command, &[])?;
+    let mut source = MemSource::new(alloc, text, 64, &[])?;
     let mut sink = MemSink::new(alloc, 8192, 4, &[])?;
     let status = omnisim(rt, alloc, words.as_slice(), &mut source, &mut sink, gate);
     Ok((status, sink))
@@ -39,6 +41,7 @@ impl Gate for SecondIsShort {
                 run: task.run,
                 emitted: List::new(alloc),
                 short: true,
+                mail: task.mail,
             }
         } else {
             work(alloc, task)
@@ -48,7 +51,7 @@ impl Gate for SecondIsShort {
 
 #[test]
 fn a_burst_that_is_short(rt: HostRuntime) -> Result<(), Fail> {
-    let (status, sink) = run_with(&rt, &SecondIsShort)?;
+    let (status, sink) = answer_with(&rt, "run", TWO_MODULES, &SecondIsShort)?;
     assert_eq!(rt; status, Status::Memory);
     assert_eq!(rt; sink.held(), b"".as_slice());
     Ok(())
@@ -88,18 +91,56 @@ impl Gate for Meeting {
     }
 }
 
-#[test]
-fn first_bursts_that_meet(rt: HostRuntime) -> Result<(), Fail> {
+/// The first bursts meet under a command. What is written.
+fn meets<R: Threads + Wait + Sync + AllocGlobal + Abort>(
+    rt: &R,
+    command: &str,
+) -> Result<MemSink, Fail> {
     let gate = Meeting {
         first: AtomicBool::new(false),
         second: AtomicBool::new(false),
         missed: AtomicBool::new(false),
     };
-    let (status, sink) = run_with(&rt, &gate)?;
-    assert_eq!(rt; sink.held(), TWO_MODULES_ANSWER);
+    let (status, sink) = answer_with(rt, command, TWO_MODULES, &gate)?;
     assert_eq!(rt; status, Status::Done);
     assert!(rt; gate.first.load(Ordering::SeqCst));
     assert!(rt; gate.second.load(Ordering::SeqCst));
     assert!(rt; !gate.missed.load(Ordering::SeqCst));
+    Ok(sink)
+}
+
+#[test]
+fn first_bursts_that_meet(rt: HostRuntime) -> Result<(), Fail> {
+    let answer = meets(&rt, "run")?;
+    assert_eq!(rt; answer.held(), TWO_MODULES_ANSWER);
+    let _advice = meets(&rt, "advise")?;
+    let _wave = meets(&rt, "wave")?;
+    Ok(())
+}
+
+/// Counts the bursts of the first module that begin its run: in all others it waits for replies.
+#[derive(Drop)]
+struct Beginnings {
+    count: AtomicU64,
+}
+
+impl Gate for Beginnings {
+    fn burst(&self, alloc: Global, owner: u32, task: Task) -> Burst {
+        if owner == 0 && !task.run.is_waiting() {
+            self.count.fetch_add(1, Ordering::SeqCst);
+        }
+        work(alloc, task)
+    }
+}
+
+#[test]
+fn each_run_after_an_edit_meets_the_gate(rt: HostRuntime) -> Result<(), Fail> {
+    let gate = Beginnings {
+        count: AtomicU64::new(0),
+    };
+    let (status, sink) = answer_with(&rt, "run", REALISTIC_LINE, &gate)?;
+    assert_eq!(rt; status, Status::Done);
+    assert!(rt; sink.held().ends_with(b"runs 5\n"));
+    assert_eq!(rt; gate.count.load(Ordering::SeqCst), 5);
     Ok(())
 }

@@ -14,4 +14,6 @@ mod gates;
 #[cfg(test)]
 mod refusing;
 #[cfg(test)]
+mod views;
+#[cfg(test)]
 mod working;

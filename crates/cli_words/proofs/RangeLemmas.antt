@@ -6,12 +6,12 @@ use Rattle.std.specs.Prelude.{option_map, option_and_then}
 use Rattle.flow_word.specs.Number.{number_of}
 use Rattle.flow_word.specs.declared.number.NumberFault.{NumberFault}
 use Rattle.cli_words.specs.declared.Command.{Command}
-use Rattle.cli_words.specs.declared.Command.TheVariants.{Run, Alone, Clock, Check, Gen, Advise, Wave, Order, Sweep}
+use Rattle.cli_words.specs.declared.Command.TheVariants.{Simulate, Check, Gen, Advise, Show, Order, Sweep, Size}
 use Rattle.cli_words.specs.declared.rules.CommandName.{CommandName}
 use Rattle.cli_words.specs.declared.rules.CommandName.TheVariants as name
 use Rattle.cli_words.specs.CommandWords.{Text, Said, said_from, nothing, accepted, command_of, command_by, command_named, name_of}
 use Rattle.cli_words.specs.CommandWords.{in_bounds, number_in, limit_in, both, options_of, options_alone, no_more, without_option}
-use Rattle.cli_words.specs.CommandWords.{has_options, gen_of, limits_alone, range_in, sweep_of, IsLimit, AreLimits, IsInRange}
+use Rattle.cli_words.specs.CommandWords.{has_options, gen_of, tells_events, range_in, sweep_of, IsLimit, AreLimits, IsInRange}
 
 -- what holds of a value that is there, where it holds of each value that could be
 there : {X : Type 0} (P : X → Type 0) {o : Option X} {x : X} → IfSome o P → o ≡ Some x → P x
@@ -48,9 +48,17 @@ options_in_range said =
     (limit_in (10 ^ 15) said.cycles) (limit_in 200_000 said.ops)
     (limited (10 ^ 15) said.cycles) (limited 200_000 said.ops)
 
-alone_in_range : (said : Said) (rest : List Text) → IfSome (options_alone said rest) AreLimits
-alone_in_range said [] = options_in_range said
-alone_in_range said (word ∷ words) = tt
+more_in_range : (said : Said) (rest : List Text) → IfSome (no_more rest (options_of said)) AreLimits
+more_in_range said [] = options_in_range said
+more_in_range said (word ∷ words) = tt
+
+alone_in_range : (takes : Bool) (said : Said) (rest : List Text) → IfSome (options_alone takes said rest) AreLimits
+alone_in_range true said rest = more_in_range said rest
+alone_in_range false said rest = go said.events
+  where
+    go : (b : Bool) → IfSome (cond b None (no_more rest (options_of said))) AreLimits
+    go true = tt
+    go false = more_in_range said rest
 
 mapped : {X Y : Type 0} (P : X → Type 0) (Q : Y → Type 0) (f : X → Y) → ((x : X) → P x → Q (f x)) → (o : Option X) → IfSome o P
     → IfSome (option_map f o) Q
@@ -72,14 +80,6 @@ without_in_range said found h = go (has_options said)
     go : (b : Bool) → IfSome (cond b None found) IsInRange
     go true = tt
     go false = h
-
--- without `--events` too
-limits_in_range : (said : Said) (rest : List Text) → IfSome (limits_alone said rest) AreLimits
-limits_in_range said rest = go said.events
-  where
-    go : (b : Bool) → IfSome (cond b None (options_alone said rest)) AreLimits
-    go true = tt
-    go false = alone_in_range said rest
 
 abbrev IsRange : ℕ × ℕ → Type 0
 IsRange range = (1 ≤ range.0) × (range.0 ≤ range.1) × (range.1 ≤ 64)
@@ -118,19 +118,15 @@ order_in_range [] = tt
 order_in_range (word ∷ words) = tt
 
 named_in_range : (said : Said) (rest : List Text) (n : CommandName) → IfSome (command_named said rest n) IsInRange
-named_in_range said rest name.Run = mapped AreLimits IsInRange (λ o. Run o) (λ o h. h) (options_alone said rest) (alone_in_range said rest)
-named_in_range said rest name.Alone = mapped AreLimits IsInRange (λ o. Alone o) (λ o h. h) (options_alone said rest)
-    (alone_in_range said rest)
-named_in_range said rest name.Clock = mapped AreLimits IsInRange (λ o. Clock o) (λ o h. h) (options_alone said rest)
-    (alone_in_range said rest)
+named_in_range said rest (name.Simulate by) = mapped AreLimits IsInRange (λ o. Simulate by o) (λ o h. h) _ (alone_in_range true said rest)
 named_in_range said rest name.Check = without_in_range said (no_more rest (Some Check)) (check_in_range rest)
 named_in_range said rest name.Gen = without_in_range said (gen_of rest) (gen_in_range rest)
-named_in_range said rest name.Advise = mapped AreLimits IsInRange (λ o. Advise o) (λ o h. h) (limits_alone said rest)
-    (limits_in_range said rest)
-named_in_range said rest name.Wave = mapped AreLimits IsInRange (λ o. Wave o) (λ o h. h) (limits_alone said rest)
-    (limits_in_range said rest)
+named_in_range said rest name.Advise = mapped AreLimits IsInRange (λ o. Advise o) (λ o h. h) _ (alone_in_range false said rest)
+named_in_range said rest (name.Show view) = mapped AreLimits IsInRange (λ o. Show view o) (λ o h. h) _
+    (alone_in_range (tells_events view) said rest)
 named_in_range said rest name.Order = without_in_range said (no_more rest (Some Order)) (order_in_range rest)
 named_in_range said rest name.Sweep = sweep_in_range said rest
+named_in_range said rest name.Size = mapped AreLimits IsInRange (λ o. Size o) (λ o h. h) _ (alone_in_range false said rest)
 
 -- what follows a value that may be there
 followed : {X Y : Type 0} (Q : Y → Type 0) (f : X → Option Y) → ((x : X) → IfSome (f x) Q) → (o : Option X) → IfSome (option_and_then f o) Q

@@ -7,8 +7,11 @@ use Rattle.std.specs.Str.{bytes_eq}
 use Rattle.flow_word.specs.Number.{number_of}
 use Rattle.flow_word.specs.declared.number.NumberFault.{NumberFault}
 use Rattle.cli_words.specs.declared.Command.{Command}
-use Rattle.cli_words.specs.declared.Command.TheVariants.{Run, Alone, Clock, Check, Gen, Advise, Wave, Order, Sweep}
+use Rattle.cli_words.specs.declared.Command.TheVariants.{Simulate, Check, Gen, Advise, Show, Order, Sweep, Size}
 use Rattle.cli_words.specs.declared.Options.{Options}
+use Rattle.cli_words.specs.declared.Simulator.TheVariants.{Threads, Alone, Clock}
+use Rattle.cli_words.specs.declared.View.{View}
+use Rattle.cli_words.specs.declared.View.TheVariants.{Wave, Log, Stalls, Path, Trace}
 use Rattle.cli_words.specs.declared.rules.CommandName.{CommandName}
 use Rattle.cli_words.specs.declared.rules.CommandName.TheVariants as name
 
@@ -149,15 +152,20 @@ limit_in high (Some text) = option_map (λ n. Some n) (number_in 1 high text)
 -- the commands by their names
 abbrev pub name_of : Text → Option CommandName
 name_of word =
-    if bytes_eq (codes "run") word then Some name.Run
-    else if bytes_eq (codes "alone") word then Some name.Alone
-    else if bytes_eq (codes "clock") word then Some name.Clock
+    if bytes_eq (codes "run") word then Some (name.Simulate Threads)
+    else if bytes_eq (codes "alone") word then Some (name.Simulate Alone)
+    else if bytes_eq (codes "clock") word then Some (name.Simulate Clock)
     else if bytes_eq (codes "check") word then Some name.Check
     else if bytes_eq (codes "gen") word then Some name.Gen
     else if bytes_eq (codes "advise") word then Some name.Advise
-    else if bytes_eq (codes "wave") word then Some name.Wave
+    else if bytes_eq (codes "wave") word then Some (name.Show Wave)
+    else if bytes_eq (codes "log") word then Some (name.Show Log)
+    else if bytes_eq (codes "stalls") word then Some (name.Show Stalls)
+    else if bytes_eq (codes "path") word then Some (name.Show Path)
+    else if bytes_eq (codes "trace") word then Some (name.Show Trace)
     else if bytes_eq (codes "order") word then Some name.Order
     else if bytes_eq (codes "sweep") word then Some name.Sweep
+    else if bytes_eq (codes "size") word then Some name.Size
     else None
 
 -- no further positional
@@ -186,17 +194,19 @@ options_of said = both (λ cycles ops. record {
   ops = ops;
 }) (limit_in (10 ^ 15) said.cycles) (limit_in 200_000 said.ops)
 
--- the options of a command that has no further positional
-abbrev pub options_alone : Said → List Text → Option Options
-options_alone said rest = no_more rest (options_of said)
-
 -- `--events` is not given
 abbrev pub without_events : {T : Type 0} → Said → Option T → Option T
 without_events said found = if said.events then None else found
 
--- the limits of a command that tells no events and has no further positional
-abbrev pub limits_alone : Said → List Text → Option Options
-limits_alone said rest = without_events said (options_alone said rest)
+-- the options of a command that has no further positional, and that takes `--events` or does not
+abbrev pub options_alone : Bool → Said → List Text → Option Options
+options_alone true said rest = no_more rest (options_of said)
+options_alone false said rest = without_events said (no_more rest (options_of said))
+
+-- `path` takes `--events`, for its links; no other view does
+abbrev pub tells_events : View → Bool
+tells_events Path = true
+tells_events _ = false
 
 -- `gen` has two further positionals: a seed of 0 to 65,535 and 1 to 64 modules
 abbrev pub gen_of : List Text → Option Command
@@ -216,15 +226,14 @@ sweep_of said _ = None
 
 -- the rule of each command, on what was said and on the positionals behind the name
 abbrev pub command_named : Said → List Text → CommandName → Option Command
-command_named said rest name.Run = option_map (λ o. Run o) (options_alone said rest)
-command_named said rest name.Alone = option_map (λ o. Alone o) (options_alone said rest)
-command_named said rest name.Clock = option_map (λ o. Clock o) (options_alone said rest)
+command_named said rest (name.Simulate by) = option_map (λ o. Simulate by o) (options_alone true said rest)
 command_named said rest name.Check = without_option said (no_more rest (Some Check))
 command_named said rest name.Gen = without_option said (gen_of rest)
-command_named said rest name.Advise = option_map (λ o. Advise o) (limits_alone said rest)
-command_named said rest name.Wave = option_map (λ o. Wave o) (limits_alone said rest)
+command_named said rest name.Advise = option_map (λ o. Advise o) (options_alone false said rest)
+command_named said rest (name.Show view) = option_map (λ o. Show view o) (options_alone (tells_events view) said rest)
 command_named said rest name.Order = without_option said (no_more rest (Some Order))
 command_named said rest name.Sweep = sweep_of said rest
+command_named said rest name.Size = option_map (λ o. Size o) (options_alone false said rest)
 
 -- the first positional is the command's name
 abbrev pub command_by : Said → List Text → Option Command
@@ -253,12 +262,11 @@ AreLimits options = IsLimit (10 ^ 15) options.cycles × IsLimit 200_000 options.
 
 -- the numbers of a command are within their bounds
 abbrev pub IsInRange : Command → Type 0
-IsInRange (Run options) = AreLimits options
-IsInRange (Alone options) = AreLimits options
-IsInRange (Clock options) = AreLimits options
+IsInRange (Simulate by options) = AreLimits options
 IsInRange Check = Unit {0}
 IsInRange (Gen seed modules) = (seed ≤ 65_535) × (1 ≤ modules) × (modules ≤ 64)
 IsInRange (Advise options) = AreLimits options
-IsInRange (Wave options) = AreLimits options
+IsInRange (Show view options) = AreLimits options
 IsInRange Order = Unit {0}
 IsInRange (Sweep lo hi options) = (1 ≤ lo) × (lo ≤ hi) × (hi ≤ 64) × AreLimits options
+IsInRange (Size options) = AreLimits options

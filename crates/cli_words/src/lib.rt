@@ -21,27 +21,51 @@ pub struct Options {
     pub ops: Option<u64>,
 }
 
+/// What simulates a session. All give one answer.
+#[derive(Clone, Copy, Debug, PartialEq, Eq)]
+pub enum Simulator {
+    /// `run`: the event engine, which skips the clocks in which nothing happens, with a thread for each module.
+    Threads,
+    /// `alone`: the event engine on the calling thread.
+    Alone,
+    /// `clock`: the lockstep machine, which goes through all clocks.
+    Clock,
+}
+
+/// What is shown of the simulation of a session's design as it stands. Its edits are checked and not applied.
+#[derive(Clone, Copy, Debug, PartialEq, Eq)]
+pub enum View {
+    /// `wave`: how many elements each FIFO holds, clock by clock.
+    Wave,
+    /// `log`: what each access gave, and when.
+    Log,
+    /// `stalls`: where the modules lose their clocks.
+    Stalls,
+    /// `path`: which chain of modules and FIFOs makes the latency.
+    Path,
+    /// `trace`: what each module does, clock by clock, for a trace viewer.
+    Trace,
+}
+
 /// What the words ask for.
 #[derive(Clone, Copy, Debug, PartialEq, Eq)]
 pub enum Command {
-    /// Simulate the session that is read, on one thread for each module.
-    Run(Options),
-    /// Simulate it on one thread.
-    Alone(Options),
-    /// Simulate it clock by clock.
-    Clock(Options),
+    /// Simulate the session that is read, and each edit of it.
+    Simulate(Simulator, Options),
     /// Write the session in its canonical form.
     Check,
     /// Simulate the session made from this seed, with so many modules.
     Gen(u64, u64),
     /// Advise a depth for each FIFO with which none is ever full.
     Advise(Options),
-    /// Write how many elements each FIFO holds, clock by clock.
-    Wave(Options),
+    /// Show this of the session's simulation.
+    Show(View, Options),
     /// Tell which modules' pipelines equal plain loops.
     Order,
     /// Simulate the session with all depths from the one to the other for its FIFOs.
     Sweep(u64, u64, Options),
+    /// Find the smallest FIFOs that lose nothing.
+    Size(Options),
 }
 
 /// Why there is no command.

@@ -1,11 +1,11 @@
 //! The rules on commands: which options and positionals each one takes.
-ghost use Rattle.std.specs.Prelude.{◌≡◌};
-ghost use Rattle.cli_words.specs.CommandWords.{command_of, gen_of, has_options, limit_in, limits_alone, name_of};
-ghost use Rattle.cli_words.specs.CommandWords.{number_in, options_alone, options_of, sweep_of};
+ghost use Rattle.std.specs.Prelude.{◌≡◌, Some};
+ghost use Rattle.cli_words.specs.CommandWords.{command_of, gen_of, has_options, limit_in, name_of, no_more};
+ghost use Rattle.cli_words.specs.CommandWords.{number_in, options_alone, options_of, sweep_of, tells_events, without_option};
 ghost use Rattle.cli_words.specs.Given.{rest_of, said_of, text_of};
 
 use crate::parser::Given;
-use crate::{Command, Options};
+use crate::{Command, Options, Simulator, View};
 use flow_word::read_number;
 
 const MOST_CYCLES: u64 = 1_000_000_000_000_000;
@@ -21,15 +21,14 @@ const MOST_SWEPT: u64 = 64;
 /// The first positional.
 #[derive(Clone, Copy)]
 enum CommandName {
-    Run,
-    Alone,
-    Clock,
+    Simulate(Simulator),
     Check,
     Gen,
     Advise,
-    Wave,
+    Show(View),
     Order,
     Sweep,
+    Size,
 }
 
 /// The command, if the rules accept what is given.
@@ -37,18 +36,18 @@ pub fn command_of(given: &Given<'_>) -> Option<Command>
     ensures { result ≡ command_of (said_of given.now) }
 {
     match name_of(given.command?)? {
-        CommandName::Run => Some(Command::Run(options_alone(given)?)),
-        CommandName::Alone => Some(Command::Alone(options_alone(given)?)),
-        CommandName::Clock => Some(Command::Clock(options_alone(given)?)),
-        CommandName::Check if has_options(given) || given.second.is_some() => None,
-        CommandName::Check => Some(Command::Check),
+        CommandName::Simulate(by) => Some(Command::Simulate(by, options_alone(given, true)?)),
+        CommandName::Check => bare(given, Command::Check),
         CommandName::Gen if has_options(given) => None,
         CommandName::Gen => gen_of(given),
-        CommandName::Advise => Some(Command::Advise(limits_alone(given)?)),
-        CommandName::Wave => Some(Command::Wave(limits_alone(given)?)),
-        CommandName::Order if has_options(given) || given.second.is_some() => None,
-        CommandName::Order => Some(Command::Order),
+        CommandName::Advise => Some(Command::Advise(options_alone(given, false)?)),
+        CommandName::Show(view) => {
+            let options = options_alone(given, tells_events(view))?;
+            Some(Command::Show(view, options))
+        }
+        CommandName::Order => bare(given, Command::Order),
         CommandName::Sweep => sweep_of(given),
+        CommandName::Size => Some(Command::Size(options_alone(given, false)?)),
     }
 }
 
@@ -56,15 +55,20 @@ fn name_of(word: &str) -> Option<CommandName>
     ensures { result ≡ name_of word.now }
 {
     match word {
-        "run" => Some(CommandName::Run),
-        "alone" => Some(CommandName::Alone),
-        "clock" => Some(CommandName::Clock),
+        "run" => Some(CommandName::Simulate(Simulator::Threads)),
+        "alone" => Some(CommandName::Simulate(Simulator::Alone)),
+        "clock" => Some(CommandName::Simulate(Simulator::Clock)),
         "check" => Some(CommandName::Check),
         "gen" => Some(CommandName::Gen),
         "advise" => Some(CommandName::Advise),
-        "wave" => Some(CommandName::Wave),
+        "wave" => Some(CommandName::Show(View::Wave)),
+        "log" => Some(CommandName::Show(View::Log)),
+        "stalls" => Some(CommandName::Show(View::Stalls)),
+        "path" => Some(CommandName::Show(View::Path)),
+        "trace" => Some(CommandName::Show(View::Trace)),
         "order" => Some(CommandName::Order),
         "sweep" => Some(CommandName::Sweep),
+        "size" => Some(CommandName::Size),
         _ => None,
     }
 }
@@ -75,14 +79,31 @@ fn has_options(given: &Given<'_>) -> bool
     given.events || given.cycles.is_some() || given.ops.is_some()
 }
 
-/// The options of a command without further positionals.
-fn options_alone(given: &Given<'_>) -> Option<Options>
-    ensures { result ≡ options_alone (said_of given.now) (rest_of given.now) }
+/// A command that takes no option and no further positional.
+fn bare(given: &Given<'_>, command: Command) -> Option<Command>
+    ensures { result ≡ without_option (said_of given.now) (no_more (rest_of given.now) (Some command)) }
 {
-    if given.second.is_some() {
+    if has_options(given) || given.second.is_some() {
+        return None;
+    }
+    Some(command)
+}
+
+/// The options of a command without further positionals, which takes `--events` or does not.
+fn options_alone(given: &Given<'_>, takes_events: bool) -> Option<Options>
+    ensures { result ≡ options_alone takes_events (said_of given.now) (rest_of given.now) }
+{
+    if given.second.is_some() || given.events && !takes_events {
         return None;
     }
     options_of(given)
+}
+
+/// Whether `--events` adds to what is shown.
+fn tells_events(view: View) -> bool
+    ensures { result ≡ tells_events view }
+{
+    matches!(view, View::Path)
 }
 
 /// The options, each in its bounds.
@@ -94,16 +115,6 @@ fn options_of(given: &Given<'_>) -> Option<Options>
         cycles: limit(MOST_CYCLES, given.cycles)?,
         ops: limit(MOST_OPERATIONS, given.ops)?,
     })
-}
-
-/// The limits of a command that tells no events and has no further positional.
-fn limits_alone(given: &Given<'_>) -> Option<Options>
-    ensures { result ≡ limits_alone (said_of given.now) (rest_of given.now) }
-{
-    if given.events {
-        return None;
-    }
-    options_alone(given)
 }
 
 /// An option's value, which need not be given.

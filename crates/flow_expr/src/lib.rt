@@ -1,55 +1,11 @@
-//! The value of an expression.
+//! The operators of expressions, and the variables.
 #![tactic(auto)]
 
-ghost use Rattle.std.specs.Prelude.{◌≡◌, ◌+◌, ◌%◌, ◌^◌, ◌<◌, ◌≤◌, length};
-ghost use Rattle.flow_design.specs.Words.{value, reach, variable, binary, extended};
+ghost use Rattle.std.specs.Prelude.{◌≡◌, ◌+◌, ◌%◌, ◌^◌, ◌<◌, length};
+ghost use Rattle.flow_design.specs.Words.{variable, binary, extended};
 
-use flow_design::{BinOp, Expr, UnOp};
+use flow_design::BinOp;
 use flow_word::{Width, cut};
-
-/// The value of an expression on the registers of a module and the temps of an iteration, a word of 64 bits.
-/// It takes no memory.
-#[cycle(values)]
-#[tactic(auto, using(flow_design::proofs::Values::the_values), unfolding(flow_design::specs::Words::reach))]
-pub fn eval(expr: &Expr<u32>, registers: &[u64], temps: &[u64]) -> u64
-    requires { reach expr.now ≤ length registers.now + length temps.now }
-    ensures { result ≡ value registers.now temps.now expr.now }
-{
-    match expr {
-        Expr::Number(number) => *number,
-        Expr::Var(at) => variable(*at, registers, temps),
-        Expr::Unary(UnOp::Not, a) => !operand(a.get(), registers, temps),
-        Expr::Binary(op, a, b) => binary(
-            *op,
-            operand(a.get(), registers, temps),
-            operand(b.get(), registers, temps),
-        ),
-        Expr::Sext(width, a) => sign_extended(*width, operand(a.get(), registers, temps)),
-        Expr::Pick(a, b, c) => {
-            if operand(a.get(), registers, temps) != 0 {
-                operand(b.get(), registers, temps)
-            } else {
-                operand(c.get(), registers, temps)
-            }
-        }
-    }
-}
-
-/// The value of an operand. A number or a variable is read in place, without a call of `eval`.
-#[cycle(values)]
-#[tactic(auto, using(flow_design::proofs::Values::the_values), unfolding(flow_design::specs::Words::reach))]
-fn operand(expr: &Expr<u32>, registers: &[u64], temps: &[u64]) -> u64
-    requires { reach expr.now ≤ length registers.now + length temps.now }
-    ensures { result ≡ value registers.now temps.now expr.now }
-{
-    match expr {
-        Expr::Number(number) => *number,
-        Expr::Var(at) => variable(*at, registers, temps),
-        Expr::Unary(_, _) | Expr::Binary(_, _, _) | Expr::Sext(_, _) | Expr::Pick(_, _, _) => {
-            eval(expr, registers, temps)
-        }
-    }
-}
 
 /// The value of a register, or of a temp: the temps of a body are numbered behind the module's registers. It takes no memory.
 pub fn variable(at: u32, registers: &[u64], temps: &[u64]) -> u64
@@ -65,7 +21,7 @@ pub fn variable(at: u32, registers: &[u64], temps: &[u64]) -> u64
 }
 
 /// The value of an operator on two words.
-fn binary(op: BinOp, a: u64, b: u64) -> u64
+pub fn binary(op: BinOp, a: u64, b: u64) -> u64
     ensures { result ≡ binary op a b }
 {
     match op {
@@ -93,7 +49,7 @@ fn shifted_left(a: u64, b: u64) -> u64
 }
 
 /// The low bits of a word, read in two's complement of that width.
-fn sign_extended(width: Width, a: u64) -> u64
+pub fn sign_extended(width: Width, a: u64) -> u64
     ensures { result ≡ extended width (a % 2 ^ width) }
 {
     let low = cut(a, width);

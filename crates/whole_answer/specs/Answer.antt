@@ -8,13 +8,11 @@ use Rattle.flow_grammar.specs.Text.{StandsFor, HasFault}
 use Rattle.flow_check.specs.Checked.{fault_of}
 use Rattle.cli_words.specs.CommandWords.{accepted, AreLimits}
 use Rattle.cli_words.specs.declared.Command.{Command}
-use Rattle.cli_words.specs.declared.Command.TheVariants.{Run, Check, Gen}
 use Rattle.cli_words.specs.declared.Command.TheVariants as command
 use Rattle.whole_answer.specs.declared.answer.Answer.{Answer}
 use Rattle.whole_answer.specs.Made.{refused_words, refused, made, generated}
-use Rattle.whole_answer.specs.declared.simulator.Simulator.TheVariants as by
 use Rattle.whole_answer.specs.declared.task.Task.{Task}
-use Rattle.whole_answer.specs.declared.task.Task.TheVariants.{Simulate, Print, Summarize, Advise, Wave, Order, Sweep}
+use Rattle.whole_answer.specs.declared.task.Task.TheVariants.{Simulate, Print, Summarize, Advise, Show, Order, Sweep, Size}
 use Rattle.whole_answer.specs.declared.status.Status.{Status}
 use Rattle.whole_answer.specs.declared.status.Status.TheVariants.{ReadFault, WriteFault, Memory}
 
@@ -41,16 +39,15 @@ pub data AnswersText (task : Task) (text : List ℕ) (answer : Answer) : Type 0 
 -- the answer to a command, with these bytes as the input
 abbrev pub AnswersCommand : Option Command → List ℕ → Answer → Type 0
 AnswersCommand None bytes answer = answer ≡ refused_words
-AnswersCommand (Some (Run o)) bytes answer = AnswersText (Simulate by.Threads o) bytes answer
-AnswersCommand (Some (command.Alone o)) bytes answer = AnswersText (Simulate by.Alone o) bytes answer
-AnswersCommand (Some (command.Clock o)) bytes answer = AnswersText (Simulate by.Clock o) bytes answer
-AnswersCommand (Some Check) bytes answer = AnswersText Print bytes answer
+AnswersCommand (Some (command.Simulate by o)) bytes answer = AnswersText (Simulate by o) bytes answer
+AnswersCommand (Some command.Check) bytes answer = AnswersText Print bytes answer
 -- the session of the seed takes the place of the input
-AnswersCommand (Some (Gen seed modules)) bytes answer = answer ≡ generated seed modules
+AnswersCommand (Some (command.Gen seed modules)) bytes answer = answer ≡ generated seed modules
 AnswersCommand (Some (command.Advise o)) bytes answer = AnswersText (Advise o) bytes answer
-AnswersCommand (Some (command.Wave o)) bytes answer = AnswersText (Wave o) bytes answer
+AnswersCommand (Some (command.Show view o)) bytes answer = AnswersText (Show view o) bytes answer
 AnswersCommand (Some command.Order) bytes answer = AnswersText Order bytes answer
 AnswersCommand (Some (command.Sweep lo hi o)) bytes answer = AnswersText (Sweep lo hi o) bytes answer
+AnswersCommand (Some (command.Size o)) bytes answer = AnswersText (Size o) bytes answer
 
 -- the answer to the words, with these bytes as the input
 abbrev pub Answers : List (List ℕ) → List ℕ → Answer → Type 0
@@ -58,15 +55,9 @@ Answers words = AnswersCommand (accepted words)
 
 -- whether a command takes input
 abbrev pub takes_input : Option Command → Bool
-takes_input (Some (Run o)) = true
-takes_input (Some (command.Alone o)) = true
-takes_input (Some (command.Clock o)) = true
-takes_input (Some Check) = true
-takes_input (Some (command.Advise o)) = true
-takes_input (Some (command.Wave o)) = true
-takes_input (Some command.Order) = true
-takes_input (Some (command.Sweep lo hi o)) = true
-takes_input command = false
+takes_input None = false
+takes_input (Some (command.Gen seed modules)) = false
+takes_input (Some command) = true
 
 -- ---- tasks
 
@@ -76,9 +67,10 @@ IsSound (Simulate simulator o) = AreLimits o
 IsSound Print = Unit {0}
 IsSound (Summarize seed modules) = Unit {0}
 IsSound (Advise o) = AreLimits o
-IsSound (Wave o) = AreLimits o
+IsSound (Show view o) = AreLimits o
 IsSound Order = Unit {0}
 IsSound (Sweep lo hi o) = (1 ≤ lo) × (lo ≤ hi) × (hi ≤ 64) × AreLimits o
+IsSound (Size o) = AreLimits o
 
 -- ---- what a result tells
 

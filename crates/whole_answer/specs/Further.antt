@@ -1,13 +1,11 @@
 -- What the commands that look further than a simulation answer.
 use Rattle.std.specs.Prelude.{ℕ, ◌==◌, ◌&&◌, ◌||◌, not, Bool, nat_lt, if◌then◌else◌, List, [], ◌∷◌, ◌++◌, Option, None, Some}
-use Rattle.std.specs.Prelude.{codes, decimal, filter, find, length, map, sum}
-use Rattle.std.specs.List.{list_any, range_with_len, zip}
-use Rattle.flow_design.specs.declared.design.Channel.{Channel}
+use Rattle.std.specs.Prelude.{codes, decimal, find, length, map, sum}
+use Rattle.std.specs.List.{list_any, range_with_len}
 use Rattle.flow_design.specs.declared.design.Design.{Design}
 use Rattle.flow_design.specs.declared.plan.Plan.{Plan}
 use Rattle.flow_design.specs.declared.report.Verdict.{Verdict}
 use Rattle.flow_design.specs.declared.report.Verdict.TheVariants as verdict
-use Rattle.flow_design.specs.Plans.{is_fifo}
 use Rattle.lockstep_defs.specs.Report.{report}
 use Rattle.lockstep_defs.specs.Verdict.{clock_of}
 use Rattle.serial_order.specs.declared.order.Used.{Used}
@@ -16,11 +14,11 @@ use Rattle.serial_order.specs.declared.order.Order.{Order}
 use Rattle.serial_order.specs.declared.order.Order.TheVariants as order
 use Rattle.serial_order.specs.Orders.{order_of}
 use Rattle.depth_sweep.specs.declared.point.Point.{Point}
-use Rattle.depth_sweep.specs.declared.shape.TheConstants.{MOST_POINTS}
-use Rattle.depth_sweep.specs.Grid.{grid_of, point}
+use Rattle.depth_sweep.specs.Grid.{grid_of, most_points, point}
 use Rattle.depth_advice.specs.Advice.{advised, wide}
-use Rattle.vcd_wave.specs.Wave.{wave_of}
-use Rattle.vcd_wave.specs.WaveText.{wave_text}
+use Rattle.depth_advice.specs.DepthLines.{depth_lines}
+use Rattle.least_depths.specs.Least.{sizes}
+use Rattle.least_depths.specs.SizeText.{size_text}
 use Rattle.report_text.specs.Lines.{line, text_of_lines, Token, verdict_tokens}
 use Rattle.report_text.specs.ReportText.{module_name}
 use Rattle.whole_answer.specs.declared.answer.Answer.{Answer}
@@ -30,25 +28,12 @@ use Rattle.whole_answer.specs.Job.{is_done, status_of}
 
 -- ---- `advise`
 
--- `depth NAME D` for each FIFO, in order of declaration, by the names of the channels and a depth for each
-abbrev pub depth_tokens : Channel × ℕ → List Token
-depth_tokens entry = codes "depth" ∷ entry.0.name ∷ decimal entry.1 ∷ []
-
-abbrev pub depth_lines : List Channel → List ℕ → List (List Token)
-depth_lines channels depths = map depth_tokens (filter (λ entry. is_fifo entry.0.kind) (zip channels depths))
-
 -- the verdict with room for all, and the depths that never block
 unfoldable pub advice : Plan → Answer
 advice p = record {
   text = text_of_lines ((codes "advise" ∷ []) ∷ verdict_tokens (report (wide p)).verdict ∷ depth_lines p.design.channels (advised p));
   status = status_of (report (wide p)).verdict;
 }
-
--- ---- `wave`
-
--- the wave, with the status of the verdict
-unfoldable pub waved : Plan → Answer
-waved p = record { text = wave_text (wave_of p); status = status_of (report p).verdict }
 
 -- ---- `order`
 
@@ -128,4 +113,10 @@ refused_grid = record { text = line (codes "refused" ∷ decimal 0 ∷ decimal 2
 -- the points of the grid of a plan
 unfoldable pub swept : ℕ → ℕ → Plan → Answer
 swept lo hi p =
-    if nat_lt MOST_POINTS (length (grid_of p lo hi)) then refused_grid else told_points (map (point p) (grid_of p lo hi))
+    if nat_lt most_points (length (grid_of p lo hi)) then refused_grid else told_points (map (point p) (grid_of p lo hi))
+
+-- ---- `size`
+
+-- the smallest FIFOs that lose nothing, with the status of the verdict with them
+unfoldable pub sized : Plan → Answer
+sized p = record { text = size_text p; status = status_of (sizes p).verdict }

@@ -4,3 +4,4 @@ pub mod Further
 pub mod Going
 pub mod Job
 pub mod Made
+pub mod Views

@@ -14,10 +14,11 @@ use Rattle.generated_sessions.specs.Statements.{session}
 use Rattle.session_plan.specs.Plans.{plan_of, edits_of}
 use Rattle.cli_words.specs.declared.Options.{Options}
 use Rattle.whole_answer.specs.declared.task.Task.{Task}
-use Rattle.whole_answer.specs.declared.task.Task.TheVariants.{Simulate, Print, Summarize, Advise, Wave, Order, Sweep}
+use Rattle.whole_answer.specs.declared.task.Task.TheVariants.{Simulate, Print, Summarize, Advise, Show, Order, Sweep, Size}
 use Rattle.whole_answer.specs.declared.answer.Answer.{Answer}
 use Rattle.whole_answer.specs.declared.status.Status.TheVariants.{Done, Words, Text}
-use Rattle.whole_answer.specs.Further.{advice, waved, ordered, swept}
+use Rattle.whole_answer.specs.Further.{advice, ordered, swept, sized}
+use Rattle.whole_answer.specs.Views.{shown}
 use Rattle.whole_answer.specs.Job.{status_of, job}
 
 -- ---- refusals
@@ -96,9 +97,10 @@ made (Simulate by o) statements = simulated o statements
 made Print statements = canonical statements
 made (Summarize seed modules) statements = summary seed modules (plan_of statements)
 made (Advise o) statements = advice (with_limits o (plan_of statements))
-made (Wave o) statements = waved (with_limits o (plan_of statements))
+made (Show view o) statements = shown view o.events (with_limits o (plan_of statements))
 made Order statements = ordered (plan_of statements).design
 made (Sweep lo hi o) statements = swept lo hi (with_limits o (plan_of statements))
+made (Size o) statements = sized (with_limits o (plan_of statements))
 
 -- the summary of the session of this seed
 abbrev pub generated : ℕ → ℕ → Answer

@@ -6,7 +6,6 @@ ghost use Rattle.whole_answer.specs.Made.{refused_words, refused, generated, num
 ghost use Rattle.whole_answer.specs.Answer.{Answers, AnswersCommand, AnswersText, takes_input, IsSound, IsAnswer};
 
 use crate::making::make;
-use crate::simulator::Simulator;
 use crate::status::Status;
 use crate::task::Task;
 use cli_words::{Command, WordFault, read_words};
@@ -100,29 +99,22 @@ fn obey<R: Threads + Wait + Sync, S: Source, G: Gate + Sync>(
     ensures reads_none { takes_input (Some command) ≡ false → result ≢ Err Unanswered.ReadFault }
 {
     match command {
-        Command::Run(options) => {
-            let task = Task::Simulate(Simulator::Threads, options);
-            answer_source(rt, alloc, &task, source, gate)
-        }
-        Command::Alone(options) => {
-            let task = Task::Simulate(Simulator::Alone, options);
-            answer_source(rt, alloc, &task, source, gate)
-        }
-        Command::Clock(options) => {
-            let task = Task::Simulate(Simulator::Clock, options);
-            answer_source(rt, alloc, &task, source, gate)
+        Command::Simulate(by, options) => {
+            answer_source(rt, alloc, &Task::Simulate(by, options), source, gate)
         }
         Command::Check => answer_source(rt, alloc, &Task::Print, source, gate),
         Command::Gen(seed, modules) => Ok(answer_generated(rt, alloc, seed, modules, gate)?),
         Command::Advise(options) => {
             answer_source(rt, alloc, &Task::Advise(options), source, gate)
         }
-        Command::Wave(options) => answer_source(rt, alloc, &Task::Wave(options), source, gate),
+        Command::Show(view, options) => {
+            answer_source(rt, alloc, &Task::Show(view, options), source, gate)
+        }
         Command::Order => answer_source(rt, alloc, &Task::Order, source, gate),
         Command::Sweep(lo, hi, options) => {
-            let task = Task::Sweep(lo, hi, options);
-            answer_source(rt, alloc, &task, source, gate)
+            answer_source(rt, alloc, &Task::Sweep(lo, hi, options), source, gate)
         }
+        Command::Size(options) => answer_source(rt, alloc, &Task::Size(options), source, gate),
     }
 }
 

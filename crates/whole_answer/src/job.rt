@@ -10,8 +10,9 @@ ghost use Rattle.whole_answer.specs.Going.{HasAdded};
 
 use crate::answer::Answer;
 use crate::laws::reports_without_events;
-use crate::simulator::{Simulator, clock_report};
+use crate::simulator::clock_report;
 use crate::status::Status;
+use cli_words::Simulator;
 use depth_session::{AloneRunner, DepthSession, Runner};
 use edit_runs::{RunCount, edits_in_order};
 use flow_design::{Edit, Plan, Report, edit_plan};

@@ -8,11 +8,12 @@ mod laws;
 mod making;
 mod ordering;
 mod program;
+mod showing;
 mod simulator;
+mod sizing;
 mod status;
 mod sweeping;
 mod task;
-mod waving;
 
 pub use laws::one_answer;
 pub use program::omnisim;

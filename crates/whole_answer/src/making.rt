@@ -13,12 +13,12 @@ use crate::advising::advise_depths;
 use crate::answer::Answer;
 use crate::job::job;
 use crate::ordering::order_modules;
-use crate::simulator::Simulator;
+use crate::showing::show;
+use crate::sizing::size_fifos;
 use crate::status::Status;
 use crate::sweeping::sweep_depths;
 use crate::task::Task;
-use crate::waving::wave_plan;
-use cli_words::Options;
+use cli_words::{Options, Simulator};
 use depth_session::DepthSession;
 use flow_check::Checked;
 use flow_design::{Plan, Report, Session};
@@ -52,7 +52,10 @@ pub(crate) fn make<R: Threads + Wait + Sync, G: Gate + Sync>(
         Task::Print => print(alloc, session),
         Task::Summarize(seed, modules) => summarize(rt, alloc, *seed, *modules, checked.plan, gate),
         Task::Advise(options) => advise_depths(rt, alloc, limited(checked, options), gate),
-        Task::Wave(options) => wave_plan(rt, alloc, limited(checked, options), gate),
+        Task::Show(view, options) => {
+            let plan = limited(checked, options);
+            show(rt, alloc, *view, options.events, plan, gate)
+        }
         Task::Order => order_modules(alloc, &checked.plan),
         Task::Sweep(lo, hi, options) => sweep_depths(
             rt,
@@ -61,6 +64,7 @@ pub(crate) fn make<R: Threads + Wait + Sync, G: Gate + Sync>(
             *hi,
             limited(checked, options),
         ),
+        Task::Size(options) => size_fifos(rt, alloc, &limited(checked, options), gate),
     }
 }
 

@@ -2,7 +2,6 @@
 ghost use Rattle.std.specs.Prelude.{◌≡◌, ◌<◌, ◌∷◌, ◌++◌, [], decimal, flat_map, length, IfOk, OnOk};
 ghost use Rattle.flow_design.specs.StaticRules.{FitsEngine};
 ghost use Rattle.report_text.specs.Lines.{line};
-ghost use Rattle.report_text.specs.ReportText.{module_name};
 ghost use Rattle.serial_order.specs.Orders.{HasModule};
 ghost use Rattle.whole_answer.specs.Answer.{IsAnswer};
 ghost use Rattle.whole_answer.specs.Further.{order_tokens, order_words, ordered, used_words};
@@ -11,7 +10,7 @@ use crate::answer::Answer;
 use crate::status::Status;
 use flow_design::{Design, Plan};
 use flow_word::{List, OutOfMemory};
-use report_text::{push_token, push_value};
+use report_text::{module_name, push_token, push_value};
 use serial_order::{Order, Used, check_order};
 use std::alloc::Global;
 
@@ -41,14 +40,6 @@ fn print_order(text: &mut List<u8>, design: &Design, module: u32) -> Result<(), 
     push_token(text, module_name(design, module))?;
     push_order(text, check_order(design, module))?;
     text.push(b'\n')
-}
-
-/// The name of a module.
-fn module_name(design: &Design, module: u32) -> &[u8]
-    requires { «module» < length design.now.modules }
-    ensures { result.now ≡ module_name design.now «module» }
-{
-    design.modules.as_slice()[module as usize].name.bytes()
 }
 
 /// Adds what is answered of a module, with a space before each word.

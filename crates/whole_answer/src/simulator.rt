@@ -1,4 +1,4 @@
-//! What simulates a plan.
+//! The lockstep machine as a simulator.
 ghost use Rattle.std.specs.Prelude.{◌≡◌, IfOk};
 ghost use Rattle.flow_design.specs.StaticRules.{FitsEngine};
 ghost use Rattle.engine_report.specs.Finished.{report_with};
@@ -7,17 +7,6 @@ use clock_machine::{clock_run, clock_run_without_events};
 use flow_design::{Plan, Report};
 use flow_word::OutOfMemory;
 use std::alloc::Global;
-
-/// What simulates a plan. All give one report.
-#[derive(Clone, Copy, Debug, PartialEq, Eq)]
-pub enum Simulator {
-    /// The event engine, which skips the clocks in which nothing happens: a thread for each module computes it ahead.
-    Threads,
-    /// The event engine, all on the calling thread.
-    Alone,
-    /// The lockstep machine, which goes through all clocks.
-    Clock,
-}
 
 /// The report of a plan by the lockstep machine, with its events or with none.
 pub(crate) fn clock_report(alloc: Global, plan: &Plan, events: bool) -> Result<Report, OutOfMemory>

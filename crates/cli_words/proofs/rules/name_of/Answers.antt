@@ -13,6 +13,7 @@ passed name word x y differs rest =
 pub returns-in_default : goal.returns-in_default
 returns-in_default c =
     let d = c.in_default in
-    sym (passed _ _ _ _ d.not-run (passed _ _ _ _ d.not-alone (passed _ _ _ _ d.not-clock (passed _ _ _ _ d.not-check
-    (passed _ _ _ _ d.not-gen (passed _ _ _ _ d.not-advise (passed _ _ _ _ d.not-wave (passed _ _ _ _ d.not-order
-    (passed _ _ _ _ d.not-sweep refl)))))))))
+    sym (passed _ _ _ _ d.not-run (passed _ _ _ _ d.not-alone (passed _ _ _ _ d.not-clock (passed _ _ _ _ d.not-check (
+    passed _ _ _ _ d.not-gen (passed _ _ _ _ d.not-advise (passed _ _ _ _ d.not-wave (passed _ _ _ _ d.not-log (
+    passed _ _ _ _ d.not-stalls (passed _ _ _ _ d.not-path (passed _ _ _ _ d.not-trace (passed _ _ _ _ d.not-order (
+    passed _ _ _ _ d.not-sweep (passed _ _ _ _ d.not-size refl))))))))))))))

@@ -3,7 +3,7 @@ use Rattle.std.specs.List.{range_with_len}
 use Rattle.report_text.specs.Lines.{text_of_lines}
 use Rattle.whole_answer.specs.declared.status.Status.TheVariants.{Done}
 use Rattle.whole_answer.specs.Further.{order_tokens, ordered}
-use Rattle.whole_answer.proofs.FurtherLines.{lines_more, has_module}
+use Rattle.whole_answer.proofs.FurtherLines.{lines_more}
 use Rattle.whole_answer.proofs.ordering.order_modules.Goals as goal
 
 pub loop-module-preserved : goal.loop-module-preserved

@@ -1,5 +1,4 @@
-use Rattle.std.proofs.Common.{◌≡◌, ◌∙◌, sym, ap, subst, Err, IfOk}
-use Rattle.depth_sweep.specs.Grid.{grid_of, point}
+use Rattle.std.proofs.Common.{◌≡◌, ◌∙◌, ap, subst, Err, IfOk}
 use Rattle.whole_answer.specs.declared.answer.Answer.{Answer}
 use Rattle.whole_answer.specs.Further.{told_points}
 use Rattle.whole_answer.proofs.Swept.{swept_few, swept_wide}

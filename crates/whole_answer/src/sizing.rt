@@ -1,0 +1,35 @@
+//! What `size` answers.
+ghost use Rattle.std.specs.Prelude.{◌≡◌, IfOk};
+ghost use Rattle.flow_design.specs.StaticRules.{FitsEngine};
+ghost use Rattle.whole_answer.specs.Answer.{IsAnswer};
+ghost use Rattle.whole_answer.specs.Further.{sized};
+
+use crate::answer::Answer;
+use crate::status::Status;
+use flow_design::Plan;
+use flow_word::OutOfMemory;
+use least_depths::tell_sizes;
+use run_threads::{Gate, ThreadRunner};
+use std::alloc::Global;
+use std::sync::Wait;
+use std::thread::Threads;
+
+/// The smallest FIFOs of a plan that lose nothing, and the status of the verdict with them.
+#[tactic(auto, unfolding(crate::specs::Further::sized))]
+pub(crate) fn size_fifos<R: Threads + Wait + Sync, G: Gate + Sync>(
+    rt: &R,
+    alloc: Global,
+    plan: &Plan,
+    gate: &G,
+) -> Result<Answer, OutOfMemory>
+    requires { FitsEngine plan.now }
+    ensures sized { IfOk result (λ whole. whole ≡ sized plan.now) }
+    ensures status { IfOk result (λ whole. IsAnswer whole.status) }
+{
+    let told = tell_sizes(rt, alloc, plan, &mut ThreadRunner::new(gate))?;
+    let status = Status::of(told.verdict);
+    Ok(Answer {
+        text: told.into_text(),
+        status,
+    })
+}

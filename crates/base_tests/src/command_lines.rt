@@ -1,5 +1,5 @@
 //! Lines of the command with their words.
-use cli_words::{Command, Options, WordFault, read_words};
+use cli_words::{Command, Options, Simulator, View, WordFault, read_words};
 use std::alloc::Global;
 use std::test::Fail;
 
@@ -31,15 +31,29 @@ fn accepted_and_refused(rt: HostRuntime) -> Result<(), Fail> {
         ops: Some(200_000),
     };
     let accepted = [
-        ("run --cycles=3", Command::Run(three)),
-        ("--cycles 003 -- alone", Command::Alone(three)),
+        (
+            "run --cycles=3",
+            Command::Simulate(Simulator::Threads, three),
+        ),
+        (
+            "--cycles 003 -- alone",
+            Command::Simulate(Simulator::Alone, three),
+        ),
         (
             "--ops 200000 clock --events --cycles=1000000000000000",
-            Command::Clock(all),
+            Command::Simulate(Simulator::Clock, all),
         ),
         ("check", Command::Check),
         ("advise", Command::Advise(NOTHING)),
-        ("wave --cycles 3", Command::Wave(three)),
+        ("wave --cycles 3", Command::Show(View::Wave, three)),
+        ("log", Command::Show(View::Log, NOTHING)),
+        ("stalls", Command::Show(View::Stalls, NOTHING)),
+        (
+            "path --events --ops=200000 --cycles 1000000000000000",
+            Command::Show(View::Path, all),
+        ),
+        ("trace", Command::Show(View::Trace, NOTHING)),
+        ("size --cycles 3", Command::Size(three)),
         ("order", Command::Order),
         ("sweep 01 --cycles=3 64", Command::Sweep(1, 64, three)),
         ("check --", Command::Check),
@@ -71,6 +85,8 @@ fn accepted_and_refused(rt: HostRuntime) -> Result<(), Fail> {
         "run --help",
         "run -e",
         "check --events",
+        "log --events",
+        "size 3",
         "gen 0",
         "gen 0 0",
         "gen 1 65",

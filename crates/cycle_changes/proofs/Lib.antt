@@ -1,0 +1,8 @@
+pub mod InTurn
+pub mod Waiting
+pub mod RightChanges
+pub mod SomeCores
+pub mod Reaching
+pub mod Changing
+pub mod Counting
+pub mod Putting

@@ -1,0 +1,7 @@
+use Rattle.std.proofs.Common.{◌≡◌, ℕ, ◌<◌, ◌≤◌, Some}
+use Rattle.time_engine.specs.Cycles.{determined}
+use Rattle.cycle_changes.proofs.check.are_late.Given as goal
+
+abbrev pub invariant-loop-owner : goal.invariant-loop-owner
+invariant-loop-owner l =
+    (m : ℕ) → m < l.owner → (c : ℕ) → determined l.graph.lanes l.fifos.channels m ≡ Some c → l.limit ≤ c

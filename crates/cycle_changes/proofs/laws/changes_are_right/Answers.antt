@@ -1,0 +1,6 @@
+use Rattle.cycle_changes.proofs.RightChanges.{right_changes}
+use Rattle.cycle_changes.proofs.laws.changes_are_right.Goals as goal
+
+pub returns : goal.returns
+returns c = λ s t channel depth limit seeds puts inside is_fifo changes d over i k.
+    right_changes s t channel depth limit seeds puts inside is_fifo changes d over i k

@@ -1,0 +1,58 @@
+use Rattle.std.proofs.Common.{◌≡◌, refl, sym, subst, ◌∙◌, ℕ, ◌<◌, ◌⊎◌, List, [], ◌∷◌, arith, inl, inr, Some, slice_get}
+use Rattle.std.specs.Prelude.{Contains}
+use Rattle.std.proofs.lemmas.Bool.{cases_eq}
+use Rattle.flow_word.specs.declared.access.Place.{Place}
+use Rattle.flow_word.specs.declared.access.Side.TheVariants.{Push}
+use Rattle.fifo_table.specs.Channels.{channel_at, first_module, places_of}
+use Rattle.engine_view.specs.Emitted.{place_of}
+use Rattle.engine_view.specs.Held.{step_of}
+use Rattle.engine_view.specs.Stored.{stored, held_in}
+use Rattle.engine_view.specs.Turns.{first_of}
+use Rattle.step_looks.specs.Looks.{IsLooked}
+use Rattle.cycle_changes.specs.Around.{StandsSomewhere}
+use Rattle.cycle_changes.proofs.Reaching.{as_owner, has_owner}
+use Rattle.cycle_changes.proofs.seeds.find_seeds.Goals as goal
+
+first_is : (places : List Place) (o : ℕ) → first_module places ≡ Some o → (p : Place) × (slice_get places 0 ≡ Some p) × (p.module ≡ o)
+first_is [] o e = cc
+first_is (p ∷ ps) o e = (p, refl, cc)
+
+pub frontier-step-end-requires : goal.frontier-step-end-requires
+frontier-step-end-requires c =
+    let (d, over, credits, i, kept, r) = c.requires.core in
+    let h = held_in (stored c.args.graph.now c.args.fifos.now c.args.log.now) over in
+    let (p, there, is) = first_is (places_of Push (channel_at h.channels c.args.channel)) c.in-Some.owner
+    (sym c.pusher.ensures ∙ c.in-Some.is) in
+    let own = has_owner d h kept.sound Push c.args.channel c.requires.channel 0 p there in
+    omega arith
+
+pub loop-step-preserved : goal.loop-step-preserved
+loop-step-preserved c = λ k l s.
+    let h = held_in (stored c.args.graph.now c.args.fifos.now c.args.log.now) [] in
+    elim (cases_eq k c.loop-step.step) [
+      | inl e ↦
+          let s' = subst (λ (n : ℕ). StandsSomewhere Push c.args.channel (step_of h c.in-Some.owner n)) e s in
+          subst (λ (n : ℕ). IsLooked h c.in-Some.owner n ⊎ Contains c.keep_felt.new.seeds.items (place_of c.in-Some.owner n)) (sym e)
+          (c.keep_felt.ensures.felt c.if-not-keep_felt.false s')
+      | inr e ↦
+          elim (c.loop-step.invariant k (omega arith) s) [
+            | inl w ↦ inl w
+            | inr w ↦ inr (c.keep_felt.ensures.kept (place_of c.in-Some.owner k) w)
+          ]
+    ]
+
+pub returns : goal.returns
+returns c = λ e m k l s.
+    let (d, over, credits, i, kept, r) = c.requires.core in
+    let h = held_in (stored c.args.graph.now c.args.fifos.now c.args.log.now) over in
+    let (p, there, is) = first_is (places_of Push (channel_at h.channels c.args.channel)) c.in-Some.owner
+    (sym c.pusher.ensures ∙ c.in-Some.is) in
+    let (j, a, u, at, st) = s in
+    let owner : m ≡ c.in-Some.owner =
+    sym (as_owner d i h kept.sound Push c.args.channel a.ordinal m k l (j, a, u, at, (st, refl)) 0 p there) ∙ is in
+    let count = c.frontier-step-end.ensures.count in
+    let l' = subst (λ (v : ℕ). k < first_of h v) owner l in
+    let s' = subst (λ (v : ℕ). StandsSomewhere Push c.args.channel (step_of h v k)) owner s in
+    subst (λ (v : ℕ). IsLooked (held_in (stored c.args.graph.now c.args.fifos.now c.args.log.now) []) v k
+    ⊎ Contains c.loop-step.seeds.items (place_of v k)) (sym owner)
+    (c.loop-step.invariant k (omega (arith, c.loop-step-test.false)) s')

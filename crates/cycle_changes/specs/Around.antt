@@ -1,0 +1,50 @@
+-- What a change of a step's cycle can reach.
+use Rattle.std.specs.Prelude.{◌≡◌, ℕ, suc, ◌<◌, ◌≤◌, List, Any, Some}
+use Rattle.flow_word.specs.Kinds.{side_of}
+use Rattle.flow_word.specs.declared.access.Access.{Access}
+use Rattle.flow_word.specs.declared.access.Side.{Side}
+use Rattle.flow_word.specs.declared.access.Step.{Step}
+use Rattle.flow_word.specs.declared.access.Place.{Place}
+use Rattle.fifo_table.specs.declared.enabler.Enabler.TheVariants.{Event}
+use Rattle.fifo_table.specs.Channels.{Channel}
+use Rattle.time_engine.specs.Possible.{enabler_at}
+use Rattle.time_engine.specs.Cycles.{determined}
+use Rattle.engine_view.specs.Held.{Held, step_of}
+use Rattle.engine_view.specs.Turns.{first_of}
+use Rattle.step_looks.specs.Looks.{IsLooked, cycle_held}
+
+-- the access stands at this side of the channel
+abbrev pub StandsAt : Side → ℕ → Access → Type 0
+StandsAt side channel a = (side_of a.kind ≡ side) × (a.channel ≡ channel)
+
+-- an access of the step does
+abbrev pub StandsSomewhere : Side → ℕ → Step → Type 0
+StandsSomewhere side channel step = Any (StandsAt side channel) step.accesses
+
+-- and has this ordinal
+abbrev pub StandsAs : Side → ℕ → ℕ → Step → Type 0
+StandsAs side channel ordinal step = Any (λ a. StandsAt side channel a × (a.ordinal ≡ ordinal)) step.accesses
+
+-- and waits for the step at the place
+abbrev pub WaitsAt : List Channel → Side → ℕ → Place → Step → Type 0
+WaitsAt channels side channel at step = Any (λ a. StandsAt side channel a × (enabler_at channels a ≡ Event at)) step.accesses
+
+-- an access of the step, at whatever channel, waits for the step at the place
+abbrev pub WaitsFor : List Channel → Step → Place → Type 0
+WaitsFor channels step at = Any (λ a. enabler_at channels a ≡ Event at) step.accesses
+
+-- a look finds each step with a cycle right of which this holds
+abbrev pub AreLooked : Held → (Step → Type 0) → Type 0
+AreLooked h P = (m k : ℕ) → k < first_of h m → P (step_of h m k) → IsLooked h m k
+
+-- the step at the place is below the limit; a look finds it right, and so it does the next one of its module, and each step that waits
+-- for it
+pub record IsLookedAround (h : Held) (limit : ℕ) (at : Place) : Type 0 where
+  pub below : cycle_held h at.module at.step < limit
+  pub own : IsLooked h at.module at.step
+  pub following : suc at.step < first_of h at.module → IsLooked h at.module (suc at.step)
+  pub waiting : AreLooked h (λ step. WaitsFor h.channels step at)
+
+-- no module's first step without a cycle is determined below the limit
+abbrev pub AreLate : Held → ℕ → Type 0
+AreLate h limit = (m c : ℕ) → determined h.lanes h.channels m ≡ Some c → limit ≤ c

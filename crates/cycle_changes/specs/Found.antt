@@ -1,0 +1,31 @@
+-- What is found right of cycles that were put.
+use Rattle.std.specs.Prelude.{◌≡◌, ℕ, ◌+◌, ◌⊎◌, List, [], length, map, slice_index, All, Contains}
+use Rattle.flow_word.specs.declared.access.Place.{Place}
+use Rattle.event_graph.specs.Lanes.{Lane, lane_at}
+use Rattle.engine_view.specs.Emitted.{place_of}
+use Rattle.engine_view.specs.Stored.{Stored, held_in}
+use Rattle.step_looks.specs.Looks.{IsLooked}
+use Rattle.cycle_changes.specs.declared.changes.Put.{Put}
+use Rattle.cycle_changes.specs.Around.{IsLookedAround, AreLate}
+use Rattle.cycle_changes.specs.Seeds.{AreSeeds}
+
+-- the steps whose cycles were put
+abbrev pub places_in : List Put → List Place
+places_in puts = map (λ p. p.place) puts
+
+-- the seeds are right, and so is what the puts can reach; nothing else is determined
+pub record AreFoundRight (t : Stored) (limit : ℕ) (seeds puts : List Place) : Type 0 where
+  pub looked : All (λ p. IsLooked (held_in t []) p.module p.step) seeds
+  pub around : All (IsLookedAround (held_in t []) limit) puts
+  pub late : AreLate (held_in t []) limit
+
+-- and the steps that feel the depth that stands, by the cycles of before, are among the seeds
+pub record IsFoundRight (s t : Stored) (channel limit : ℕ) (seeds puts : List Place) : Type 0 where
+  pub felt : AreSeeds (held_in s []) channel seeds
+  pub now : AreFoundRight t limit seeds puts
+
+-- each step whose cycle is another is at one of these places, and there were as many ticks as there are places
+pub record AreTicked (old new : List Lane) (before after : ℕ) : Type 0 where
+  pub places : List Place
+  pub ticks : after ≡ before + length places
+  pub others : (m k : ℕ) → (slice_index (lane_at new m).cycles k ≡ slice_index (lane_at old m).cycles k) ⊎ Contains places (place_of m k)

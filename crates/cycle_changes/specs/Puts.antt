@@ -1,0 +1,26 @@
+-- Cycles that were put into lanes one after the other, and lanes from which they are taken back.
+use Rattle.std.specs.Prelude.{◌≡◌, ℕ, suc, ◌<◌, List, [], ◌∷◌, length, drop, slice_index, All}
+use Rattle.flow_word.specs.declared.access.Place.{Place}
+use Rattle.event_graph.specs.Lanes.{Lane, IsSoundLane, lane_at, with_put}
+use Rattle.cycle_changes.specs.declared.changes.Put.{Put}
+
+-- a step with a cycle is at the place
+pub record HasCycle (lanes : List Lane) (place : Place) : Type 0 where
+  pub owner : place.module < length lanes
+  pub there : place.step < length (lane_at lanes place.module).cycles
+
+-- the lanes with the cycles of before: what was put last is taken back first
+abbrev pub undone : List Put → List Lane → List Lane
+undone [] lanes = lanes
+undone (p ∷ ps) lanes = with_put (undone ps lanes) p.place p.old
+
+-- the puts lead from the one lanes to the other, and back by way of sound lanes
+pub record ArePut (first : List Lane) (puts : List Put) (now : List Lane) : Type 0 where
+  pub back : undone puts now ≡ first
+  pub sound : (k : ℕ) → All IsSoundLane (undone (drop k puts) now)
+  pub timed : All (λ p. HasCycle now p.place) puts
+
+-- the cycle is between those of the neighbours of the step of this number
+pub record IsFitting (cycles : List ℕ) (step cycle : ℕ) : Type 0 where
+  pub before : (k : ℕ) → suc k ≡ step → slice_index cycles k < cycle
+  pub next : suc step < length cycles → cycle < slice_index cycles (suc step)

@@ -1,0 +1,14 @@
+-- The steps from which a change of a depth begins.
+use Rattle.std.specs.Prelude.{ℕ, ◌<◌, ◌⊎◌, List, Contains}
+use Rattle.flow_word.specs.declared.access.Side.TheVariants.{Push}
+use Rattle.flow_word.specs.declared.access.Place.{Place}
+use Rattle.engine_view.specs.Emitted.{place_of}
+use Rattle.engine_view.specs.Held.{Held, step_of}
+use Rattle.engine_view.specs.Turns.{first_of}
+use Rattle.step_looks.specs.Looks.{IsLooked}
+use Rattle.cycle_changes.specs.Around.{StandsSomewhere}
+
+-- of the steps that stand at the FIFO's pushing side, those in which a look finds the depth felt are among these places
+abbrev pub AreSeeds : Held → ℕ → List Place → Type 0
+AreSeeds h fifo seeds =
+    (m k : ℕ) → k < first_of h m → StandsSomewhere Push fifo (step_of h m k) → IsLooked h m k ⊎ Contains seeds (place_of m k)

@@ -1,0 +1,119 @@
+//! The check: whether new cycles are right, as seen from the steps that changed.
+ghost use Rattle.std.specs.Prelude.{◌≡◌, ℕ, suc, ◌<◌, ◌≤◌, [], true, length, slice_index_or, All};
+ghost use Rattle.event_graph.specs.Lanes.{HasStep, lane_at, cycle_bound};
+ghost use Rattle.engine_view.specs.Stored.{stored, held_in};
+ghost use Rattle.engine_view.specs.Turns.{IsSomeCore, first_of};
+ghost use Rattle.step_looks.specs.Looks.{IsLooked, cycle_held};
+ghost use Rattle.cycle_changes.specs.Around.{IsLookedAround, AreLate};
+
+use crate::reach::are_waiting_right;
+use crate::timed::has_cycle;
+use event_graph::{Candidate, Graph, Place};
+use fifo_table::FifoTable;
+use query_log::QueryLog;
+use step_looks::look;
+use time_engine::candidate;
+
+/// Whether all that a change of a step's cycle can reach is right: the step, below the limit, the next one of its module,
+/// and each step that waits for it.
+///
+/// False too where there is no such step with a cycle, or where nobody ever took at the other side of a FIFO at which the
+/// step takes. It takes no memory.
+pub fn is_right_around(
+    graph: &Graph,
+    fifos: &FifoTable,
+    log: &QueryLog,
+    at: Place,
+    limit: u64,
+) -> bool
+    requires core { IsSomeCore (stored graph.now fifos.now log.now) }
+    ensures { result ≡ true → IsLookedAround (held_in (stored graph.now fifos.now log.now) []) limit at }
+{
+    if !has_cycle(graph, at) {
+        return false;
+    }
+    if !is_below(graph, at, limit) {
+        return false;
+    }
+    if !look(graph, fifos, log, at) {
+        return false;
+    }
+    if !is_next_right(graph, fifos, log, at) {
+        return false;
+    }
+    are_waiting_right(graph, fifos, log, at)
+}
+
+/// Whether each of these is a step with a cycle that is right.
+pub fn are_right(graph: &Graph, fifos: &FifoTable, log: &QueryLog, places: &[Place]) -> bool
+    requires core { IsSomeCore (stored graph.now fifos.now log.now) }
+    ensures { result ≡ true → All (λ p. IsLooked (held_in (stored graph.now fifos.now log.now) []) p.module p.step) places.now }
+{
+    for place in places {
+        if !is_right(graph, fifos, log, *place) {
+            return false;
+        }
+    }
+    true
+}
+
+/// Whether there is a step with a cycle at the place, which is right.
+fn is_right(graph: &Graph, fifos: &FifoTable, log: &QueryLog, at: Place) -> bool
+    requires core { IsSomeCore (stored graph.now fifos.now log.now) }
+    ensures { result ≡ true → IsLooked (held_in (stored graph.now fifos.now log.now) []) at.module at.step }
+{
+    if !has_cycle(graph, at) {
+        return false;
+    }
+    look(graph, fifos, log, at)
+}
+
+/// Whether no module's first step without a cycle is determined below the limit. It looks at one step of each module.
+pub fn are_late(graph: &Graph, fifos: &FifoTable, log: &QueryLog, limit: u64) -> bool
+    requires limit { limit ≤ cycle_bound }
+    requires core { IsSomeCore (stored graph.now fifos.now log.now) }
+    ensures { result ≡ true → AreLate (held_in (stored graph.now fifos.now log.now) []) limit }
+{
+    for owner in 0..graph.modules() {
+        if let Candidate::At(_) = candidate(graph, fifos, owner, limit) {
+            return false;
+        }
+    }
+    true
+}
+
+/// Whether the step's cycle is below the limit.
+fn is_below(graph: &Graph, at: Place, limit: u64) -> bool
+    requires there { HasStep graph.now.lanes at }
+    requires timed { at.step < length (lane_at graph.now.lanes at.module).cycles }
+    ensures { result ≡ true → slice_index_or (lane_at graph.now.lanes at.module).cycles at.step 0 < limit }
+{
+    match graph.cycle_of(at) {
+        Some(cycle) => cycle < limit,
+        None => false,
+    }
+}
+
+/// Whether the step after this one in its module is right, where it has a cycle.
+fn is_next_right(graph: &Graph, fifos: &FifoTable, log: &QueryLog, at: Place) -> bool
+    requires there { HasStep graph.now.lanes at }
+    requires timed { at.step < length (lane_at graph.now.lanes at.module).cycles }
+    requires core { IsSomeCore (stored graph.now fifos.now log.now) }
+    ensures { result ≡ true → suc at.step < first_of (held_in (stored graph.now fifos.now log.now) []) at.module
+        → IsLooked (held_in (stored graph.now fifos.now log.now) []) at.module (suc at.step) }
+{
+    let frontier = graph.frontier(at.module);
+    let step = at.step + 1;
+    if step == frontier {
+        return true;
+    }
+    look(
+        graph,
+        fifos,
+        log,
+        Place {
+            module: at.module,
+            step,
+        },
+    )
+}

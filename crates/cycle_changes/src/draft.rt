@@ -1,0 +1,84 @@
+//! The cycles of all steps, as a search changes them.
+ghost use Rattle.std.specs.Prelude.{◌<◌, length};
+
+use event_graph::{Graph, Place};
+use flow_word::OutOfMemory;
+use std::alloc::Global;
+
+/// A list of cycles for each module. While it is not fresh it says nothing of a graph.
+#[derive(Drop)]
+pub struct Draft {
+    alloc: Global,
+    lanes: Vec<Vec<u64>>,
+    fresh: bool,
+}
+
+impl Draft {
+    /// No lane yet.
+    pub fn new(alloc: Global) -> Draft {
+        Draft {
+            alloc,
+            lanes: Vec::new(alloc),
+            fresh: false,
+        }
+    }
+
+    /// The cycle of the step at a place, where the draft has one.
+    pub fn cycle(&self, place: Place) -> Option<u64> {
+        let lane = self.lanes.get(place.module as usize)?;
+        lane.get(place.step as usize).copied()
+    }
+
+    /// The cycle of the step before the one at a place, and 0 before a module's first.
+    pub fn cycle_before(&self, place: Place) -> Option<u64> {
+        match place.step.checked_sub(1) {
+            Some(step) => self.cycle(Place {
+                module: place.module,
+                step,
+            }),
+            None => Some(0),
+        }
+    }
+
+    /// Gives the step at a place another cycle, where it has one.
+    pub fn set(&mut self, place: Place, cycle: u64) {
+        if let Some(lane) = self.lanes.get_mut(place.module as usize)
+            && let Some(there) = lane.get_mut(place.step as usize)
+        {
+            *there = cycle;
+        }
+    }
+
+    /// Takes the graph's cycles, unless it has them.
+    pub fn refresh(&mut self, graph: &Graph) -> Result<(), OutOfMemory> {
+        if self.fresh && self.fits(graph) {
+            return Ok(());
+        }
+        self.lanes.clear();
+        for owner in 0..graph.modules() {
+            let mut lane = Vec::new(self.alloc);
+            lane.extend_from_slice(graph.cycles(owner))?;
+            self.lanes.push(lane)?;
+        }
+        self.fresh = true;
+        Ok(())
+    }
+
+    /// Says that the graph has got other cycles.
+    pub fn leave(&mut self) {
+        self.fresh = false;
+    }
+
+    /// Whether it has as many cycles of each module as the graph.
+    fn fits(&self, graph: &Graph) -> bool {
+        if self.lanes.len() != graph.modules() as usize {
+            return false;
+        }
+        for (owner, lane) in self.lanes.iter().enumerate() {
+            if lane.len() as u64 != graph.frontier(owner as u32) {
+                return false;
+            }
+        }
+        true
+    }
+}

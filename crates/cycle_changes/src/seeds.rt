@@ -1,0 +1,73 @@
+//! The steps in which a new depth is felt.
+ghost use Rattle.std.specs.Prelude.{◌≡◌, ◌<◌, ◌⊎◌, [], true, length, Contains};
+ghost use Rattle.flow_word.specs.declared.access.Place.{Place as place};
+ghost use Rattle.event_graph.specs.Lanes.{HasStep};
+ghost use Rattle.engine_view.specs.Held.{step_of};
+ghost use Rattle.engine_view.specs.Stored.{stored, held_in};
+ghost use Rattle.engine_view.specs.Turns.{IsSomeCore, first_of};
+ghost use Rattle.step_looks.specs.Looks.{IsLooked};
+ghost use Rattle.cycle_changes.specs.Around.{StandsSomewhere};
+ghost use Rattle.cycle_changes.specs.Seeds.{AreSeeds};
+
+use crate::reach::is_right_or_elsewhere;
+use event_graph::{Graph, Place};
+use fifo_table::FifoTable;
+use flow_word::{Port, Side};
+use query_log::QueryLog;
+
+/// Adds the steps at a FIFO's pushing side in which its depth, which was just set, is felt: by the cycles that stand they are
+/// no longer right. It looks at each step of the module that pushes the FIFO.
+///
+/// False after want of memory, or where nobody ever pushed the FIFO.
+pub fn find_seeds(
+    graph: &Graph,
+    fifos: &FifoTable,
+    log: &QueryLog,
+    channel: u32,
+    seeds: &mut Vec<Place>,
+) -> bool
+    requires channel { channel < length fifos.now.channels }
+    requires core { IsSomeCore (stored graph.now fifos.now log.now) }
+    ensures { result ≡ true → AreSeeds (held_in (stored graph.now fifos.now log.now) []) channel seeds.new.items }
+{
+    let port = Port {
+        side: Side::Push,
+        channel,
+    };
+    let Some(owner) = fifos.pusher(channel) else {
+        return false;
+    };
+    for step in 0..graph.frontier(owner) {
+        let at = Place {
+            module: owner,
+            step,
+        };
+        if !keep_felt(graph, fifos, log, port, at, seeds) {
+            return false;
+        }
+    }
+    true
+}
+
+/// Adds a step with an access at the port that is not right. False after want of memory.
+fn keep_felt(
+    graph: &Graph,
+    fifos: &FifoTable,
+    log: &QueryLog,
+    port: Port,
+    at: Place,
+    seeds: &mut Vec<Place>,
+) -> bool
+    requires there { HasStep graph.now.lanes at }
+    requires timed { at.step < first_of (held_in (stored graph.now fifos.now log.now) []) at.module }
+    requires core { IsSomeCore (stored graph.now fifos.now log.now) }
+    ensures felt { result ≡ true
+        → StandsSomewhere port.side port.channel (step_of (held_in (stored graph.now fifos.now log.now) []) at.module at.step)
+        → IsLooked (held_in (stored graph.now fifos.now log.now) []) at.module at.step ⊎ Contains seeds.new.items at }
+    ensures kept { (p : place) → Contains seeds.old.items p → Contains seeds.new.items p }
+{
+    if is_right_or_elsewhere(graph, fifos, log, port, at) {
+        return true;
+    }
+    seeds.push(at).is_ok()
+}

@@ -1,0 +1,21 @@
+-- A right record is final.
+use Rattle.std.proofs.Common.{ℕ, arith}
+use Rattle.event_timing.specs.Machines.{Design}
+use Rattle.event_timing.specs.Core.{Core}
+use Rattle.event_timing.specs.Actions.{IsFinal, IsDetermined}
+use Rattle.right_records.specs.Records.{IsRightRecord}
+
+module _ {S : Type 0} (d : Design S) (limit : ℕ) (x : Core S) (r : IsRightRecord d limit x) where
+  not_determined : (m c : ℕ) → IsDetermined d limit x m c → ⊥
+  not_determined m c e = omega (arith, r.beyond m c e.at, e.below)
+
+  pub right_final : IsFinal d limit x
+  right_final =
+      record {
+        quiet = record {
+          no_run = r.no_run;
+          no_assign = λ n c e. not_determined n c e.determined;
+          no_answer = λ n c e. not_determined n c e.determined;
+        };
+        no_earliest = λ n c e. not_determined n c e.open_step.determined;
+      }

@@ -1,0 +1,169 @@
+-- What a step's rightness depends on.
+use Rattle.std.proofs.Common.{◌≡◌, ℕ, ◌+◌, ◌≤◌, max, arith, Bool, ◌||◌, ◌&&◌, inl, inr, List, [], ◌∷◌, sym, refl}
+use Rattle.std.proofs.Common.{ap, ap₂, ◌∙◌, ltb, eqb, Option, Some, None}
+use Rattle.std.proofs.lemmas.Bool.{cases_Bool, and_parts, eqb-true, cond-false, false_from_ne_true, cases_eq, or_left}
+use Rattle.flow_word.specs.declared.access.Side.{Side}
+use Rattle.flow_word.specs.declared.access.Side.TheVariants.{Push}
+use Rattle.flow_word.specs.Kinds.{same_side}
+use Rattle.event_timing.specs.Machines.{Access, Design, Each}
+use Rattle.event_timing.specs.Views.{from, tally}
+use Rattle.event_timing.specs.Enablers.{Known, known, from_step, bound, answer, flags_at, both, to_clock}
+use Rattle.event_timing.specs.Enablers.Known.{From, Never, Unknown}
+use Rattle.event_timing.specs.Core.{Core, core_accesses, core_reply, view}
+use Rattle.event_timing.specs.Edits.{edited}
+use Rattle.event_timing.proofs.OwnRuns.{same_side_is}
+use Rattle.event_timing.proofs.Threshold.{known_free, known_never, known_event, enabler}
+use Rattle.event_timing.proofs.Candidate.{bound_blocks, bound_free, both_parts}
+use Rattle.right_records.specs.Records.{KeepsEnabler, IsRight, IsStill, IsBeside, IsSlack, HasSlack}
+use Rattle.right_records.specs.Records.{known_at, with_cycles, enabler_at, partner}
+
+-- ---- accesses of which the same is known
+
+abbrev AreSame : (Access → Known) → (Access → Known) → List Access → Type 0
+AreSame one other xs = Each (λ a. one a ≡ other a) xs
+
+bound_same : (one other : Access → Known) (xs : List Access) → AreSame one other xs → bound one xs ≡ bound other xs
+bound_same one other [] e = refl
+bound_same one other (a ∷ xs) (e, es) =
+    elim (cases_Bool a.blocks) [
+      | inl b ↦ bound_blocks one a xs b ∙ (ap₂ both e (bound_same one other xs es) ∙ sym (bound_blocks other a xs b))
+      | inr b ↦ bound_free one a xs b ∙ (bound_same one other xs es ∙ sym (bound_free other a xs b))
+    ]
+
+flags_same : (one other : Access → Known) (c : ℕ) (xs : List Access) → AreSame one other xs → flags_at one c xs ≡ flags_at other c xs
+flags_same one other c [] e = refl
+flags_same one other c (a ∷ xs) (e, es) =
+    ap₂ (λ (k : Known) (zs : List Bool). (a.blocks || answer k c) ∷ zs) e (flags_same one other c xs es)
+
+-- ---- cycles that stay
+
+step_same : (f g : ℕ → ℕ) (lag : ℕ) (o : Option ℕ) → ((e : ℕ) → o ≡ Some e → f e ≡ g e) → from_step f lag o ≡ from_step g lag o
+step_same f g lag None s = refl
+step_same f g lag (Some e) s = ap (λ (c : ℕ). From (c + lag)) (s e refl)
+
+module _ {S : Type 0} (d : Design S) (x : Core S) (cycles : ℕ → ℕ → ℕ) where
+  known_still : (m k : ℕ) (a : Access)
+      → KeepsEnabler d x cycles m k a
+      → known_at d (with_cycles x cycles) m k a ≡ known_at d x m k a
+  unfolding enabler
+  known_still m k a s =
+      let v = view d (with_cycles x cycles) in
+      let n : ℕ = tally (core_accesses d x m) (core_reply d x m) a.side a.channel k in
+      elim (cases_Bool (d.unlimited a.side a.channel || ltb n (d.start a.side a.channel))) [
+        | inl free ↦ known_free d v a.side a.channel n free ∙ sym (known_free d (view d x) a.side a.channel n free)
+        | inr waits ↦
+            elim (cases_Bool (d.closed a.side a.channel)) [
+              | inl shut ↦ known_never d v a.side a.channel n waits shut ∙ sym (known_never d (view d x) a.side a.channel n waits shut)
+              | inr open_side ↦
+                  known_event d v a.side a.channel n waits open_side
+                  ∙ (step_same (cycles (partner d a)) (x.cycle (partner d a)) (d.lag a.side a.channel) (enabler_at d x m k a)
+                  (s (ap₂ (λ (p q : Bool). p || q) open_side waits))
+                  ∙ sym (known_event d (view d x) a.side a.channel n waits open_side))
+            ]
+      ]
+
+  each_still : (m k : ℕ) (xs : List Access) → Each (KeepsEnabler d x cycles m k) xs
+      → AreSame (known_at d (with_cycles x cycles) m k) (known_at d x m k) xs
+  each_still m k [] s = tt
+  each_still m k (a ∷ xs) (s, ss) = (known_still m k a s, each_still m k xs ss)
+
+  pub still_right : (m k : ℕ) → IsStill d x cycles m k → IsRight d x m k → IsRight d (with_cycles x cycles) m k
+  still_right m k s r =
+      let asked : List Access = core_accesses d x m k in
+      let e = each_still m k asked s.enablers in
+      record {
+        cycle = ap₂ (λ (f : ℕ) (b : Known). to_clock (f + x.wait m k) b) s.before
+            (bound_same (known_at d (with_cycles x cycles) m k) (known_at d x m k) asked e)
+            ∙ (r.cycle ∙ ap (λ (c : ℕ). Some c) (sym s.own));
+        outcomes = ap (λ (c : ℕ). flags_at (known_at d (with_cycles x cycles) m k) c asked) s.own
+            ∙ (flags_same (known_at d (with_cycles x cycles) m k) (known_at d x m k) (x.cycle m k) asked e ∙ r.outcomes);
+      }
+
+-- ---- a depth that changes
+
+module _ {S : Type 0} (d : Design S) (x : Core S) (fifo depth : ℕ) where
+  start_same : (side : Side) (ch : ℕ) → (side ≡ Push → ch ≡ fifo → ⊥) → (edited d fifo depth).start side ch ≡ d.start side ch
+  start_same side ch n =
+      cond-false {A = ℕ} (same_side side Push && eqb ch fifo) depth (d.start side ch)
+      (false_from_ne_true (same_side side Push && eqb ch fifo) (λ w.
+      let (p, q) = and_parts (same_side side Push) (eqb ch fifo) w in
+      n (same_side_is side Push p) (eqb-true ch fifo q)))
+
+  known_beside : (m k : ℕ) (a : Access) → (a.side ≡ Push → a.channel ≡ fifo → ⊥)
+      → known_at (edited d fifo depth) x m k a ≡ known_at d x m k a
+  unfolding known
+  known_beside m k a n = rw (start_same a.side a.channel n) refl
+
+  each_beside : (m k : ℕ) (xs : List Access) → Each (λ a. a.side ≡ Push → a.channel ≡ fifo → ⊥) xs
+      → AreSame (known_at (edited d fifo depth) x m k) (known_at d x m k) xs
+  each_beside m k [] s = tt
+  each_beside m k (a ∷ xs) (s, ss) = (known_beside m k a s, each_beside m k xs ss)
+
+  pub beside_right : (m k : ℕ) → IsBeside d x fifo m k → IsRight d x m k → IsRight (edited d fifo depth) x m k
+  beside_right m k s r =
+      let asked : List Access = core_accesses d x m k in
+      let e = each_beside m k asked s in
+      record {
+        cycle = ap (λ (b : Known). to_clock (from (x.cycle m) k + x.wait m k) b)
+            (bound_same (known_at (edited d fifo depth) x m k) (known_at d x m k) asked e) ∙ r.cycle;
+        outcomes = flags_same (known_at (edited d fifo depth) x m k) (known_at d x m k) (x.cycle m k) asked e ∙ r.outcomes;
+      }
+
+-- ---- a depth that is not felt
+
+module _ (c : ℕ) (old new : Access → Known) where
+  abbrev EachSlack : List Access → Type 0
+  EachSlack xs = Each (λ a. IsSlack c a (old a) (new a)) xs
+
+  bound_slack : (xs : List Access) → EachSlack xs → (p : ℕ) → bound old xs ≡ From p → p ≤ c
+      → (q : ℕ) × (bound new xs ≡ From q) × (q ≤ c) × (p ≡ c → q ≡ c)
+  bound_slack [] s p e l = (0, refl, omega arith, λ z. let k : p ≡ 0 = cc in sym k ∙ z)
+  bound_slack (a ∷ xs) (s, ss) p e l =
+      elim (cases_Bool a.blocks) [
+        | inr b ↦
+            let (q, f, m, n) = bound_slack xs ss p (sym (bound_free old a xs b) ∙ e) l in
+            (q, bound_free new a xs b ∙ f, m, n)
+        | inl b ↦
+            let (u, w, k1, k2, k3) = both_parts (old a) (bound old xs) p (sym (bound_blocks old a xs b) ∙ e) in
+            let (v, f1, l1, n1) = s.blocking b u k1 (omega arith) in
+            let (q, f2, l2, n2) = bound_slack xs ss w k2 (omega arith) in
+            (max v q, bound_blocks new a xs b ∙ ap₂ both f1 f2, omega arith, λ z. reached u w v q (k3 ∙ z) l1 l2 n1 n2)
+      ]
+    where
+      reached : (u w v q : ℕ) → max u w ≡ c → v ≤ c → q ≤ c → (u ≡ c → v ≡ c) → (w ≡ c → q ≡ c) → max v q ≡ c
+      reached u w v q e l1 l2 n1 n2 =
+          elim (cases_eq u c) [
+            | inl k ↦ let k' = n1 k in omega arith
+            | inr k ↦ let k' = n2 (omega arith) in omega arith
+          ]
+
+  flags_slack : (xs : List Access) → EachSlack xs → flags_at new c xs ≡ flags_at old c xs
+  flags_slack [] s = refl
+  flags_slack (a ∷ xs) (s, ss) =
+      ap₂ (λ (z : Bool) (zs : List Bool). z ∷ zs)
+      (elim (cases_Bool a.blocks) [
+        | inl b ↦ or_left a.blocks (answer (new a) c) b ∙ sym (or_left a.blocks (answer (old a) c) b)
+        | inr b ↦ ap (λ (z : Bool). a.blocks || z) (s.query b)
+      ])
+      (flags_slack xs ss)
+
+clock_slack : (k : Known) (r c : ℕ) → to_clock r k ≡ Some c → (u : ℕ) × (k ≡ From u) × (max r u ≡ c)
+clock_slack (From u) r c e = (u, refl, cc)
+clock_slack Never r c e = cc
+clock_slack Unknown r c e = cc
+
+module _ {S : Type 0} (d : Design S) (x : Core S) (fifo depth m k : ℕ) where
+  pub slack_right : HasSlack d x fifo depth m k → IsRight d x m k → IsRight (edited d fifo depth) x m k
+  slack_right s r =
+      let c : ℕ = x.cycle m k in
+      let asked : List Access = core_accesses d x m k in
+      let reach : ℕ = from (x.cycle m) k + x.wait m k in
+      let (u, f, e) = clock_slack (bound (known_at d x m k) asked) reach c r.cycle in
+      let (v, g, l, n) = bound_slack c (known_at d x m k) (known_at (edited d fifo depth) x m k) asked s u f (omega arith) in
+      record {
+        cycle = ap (to_clock reach) g ∙ ap (λ (z : ℕ). Some z) (still reach u v c e l n);
+        outcomes = flags_slack c (known_at d x m k) (known_at (edited d fifo depth) x m k) asked s ∙ r.outcomes;
+      }
+    where
+      still : (r u v c : ℕ) → max r u ≡ c → v ≤ c → (u ≡ c → v ≡ c) → max r v ≡ c
+      still r u v c e l n = elim (cases_eq u c) [ inl w ↦ let w' = n w in omega arith | inr w ↦ omega arith ]

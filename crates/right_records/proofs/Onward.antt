@@ -1,0 +1,73 @@
+-- Right records after edits, and final cores as right records.
+use Rattle.std.proofs.Common.{◌≡◌, ℕ, ◌<◌, ◌≤◌, inl, inr, Some, arith}
+use Rattle.event_timing.specs.Machines.{Design, IsDesign}
+use Rattle.event_timing.specs.Histories.{Trace, IsHistory}
+use Rattle.event_timing.specs.Enablers.{candidate}
+use Rattle.event_timing.specs.Core.{Core, view}
+use Rattle.event_timing.specs.Actions.{IsFinal, MayRun}
+use Rattle.event_timing.specs.Agreement.{IsAgreed}
+use Rattle.event_timing.specs.Edits.{edited}
+use Rattle.event_timing.proofs.Verdict.{determined_late}
+use Rattle.right_records.specs.Records.{IsChecked, IsRight, IsRightRecord, with_cycles}
+use Rattle.right_records.proofs.Beginning.{final_right}
+use Rattle.right_records.proofs.Edited.{final_plain}
+use Rattle.right_records.proofs.Marks.{marks_on}
+use Rattle.right_records.proofs.Local.{beside_right, still_right}
+
+module _ {S : Type 0} (d : Design S) (h : Trace S) (i : IsDesign d) (y : IsHistory d h) (limit : ℕ) (x : Core S) (a : IsAgreed d h limit x)
+    (f : IsFinal d limit x) where
+  pub final_record : IsRightRecord d limit x
+  final_record =
+      record {
+        marks = a.marks;
+        within = a.time.within;
+        right = final_right d h i y limit x a f;
+        below = a.time.below;
+        no_run = f.quiet.no_run;
+        beyond = λ m c e. (determined_late d h i y limit x a f m c e).0;
+        answered = a.time.answered_then;
+        there = a.time.there_then;
+        verified = a.time.verified_then;
+        verified_answered = a.time.verified_answered;
+        plain = final_plain d h i y limit x a f;
+      }
+
+module _ {S : Type 0} (d : Design S) (limit : ℕ) (x : Core S) (r : IsRightRecord d limit x) (fifo depth : ℕ) (cycles : ℕ → ℕ → ℕ) where
+  abbrev now : Core S
+  now = with_cycles x cycles
+
+  abbrev design_now : Design S
+  design_now = edited d fifo depth
+
+  still_no_run : (m : ℕ) → MayRun design_now now m → ⊥
+  still_no_run m z = r.no_run m (record { inside = z.inside; lives = z.lives; answered = z.answered; there = z.there })
+
+  right_now : ((m k : ℕ) → k < x.timed m → IsChecked d x cycles fifo depth 0 m k) → (m k : ℕ) → k < x.timed m → IsRight design_now now m k
+  right_now checked m k q =
+      elim (checked m k q) [
+        | inr w ↦ w
+        | inl (s, e) ↦
+            still_right design_now x cycles m k s
+            (elim e [
+              | inl b ↦ beside_right d x fifo depth m k b (r.right m k q)
+              | inr (inl b) ↦ absurd (omega arith)
+              | inr (inr b) ↦ b
+            ])
+      ]
+
+  pub record_on : ((m k : ℕ) → k < x.timed m → IsChecked d x cycles fifo depth 0 m k) → ((m k : ℕ) → k < x.timed m → cycles m k < limit)
+      → ((m c : ℕ) → candidate design_now (view design_now now) m ≡ Some c → limit ≤ c) → IsRightRecord design_now limit now
+  record_on checked below beyond =
+      record {
+        marks = marks_on d x r.marks fifo depth cycles;
+        within = r.within;
+        right = right_now checked;
+        below = below;
+        no_run = still_no_run;
+        beyond = beyond;
+        answered = r.answered;
+        there = r.there;
+        verified = r.verified;
+        verified_answered = r.verified_answered;
+        plain = r.plain;
+      }

@@ -1,7 +1,9 @@
-//! Tests of single actions of a core. They stand in a crate of their own, since a crate is proved once more with its tests.
+//! Tests of a core: single actions, and edits. They stand in a crate of their own, since a crate is proved once more with its tests.
 #![tactic(auto)]
 
 #[cfg(test)]
 mod actions;
+#[cfg(test)]
+mod edits;
 #[cfg(test)]
 mod orders;

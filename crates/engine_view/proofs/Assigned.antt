@@ -5,7 +5,7 @@ use mathlib.Core.Path.{fun_ext}
 use Rattle.std.proofs.lemmas.Bool.Decides.{eqb_tells}
 use Rattle.std.proofs.lemmas.List.{length-set, get_or-set_same, get_or-set_other, length-append, get_or_push}
 use Rattle.event_graph.specs.Lanes.{Lane, IsSoundLane, no_lane, lane_at, timed, with_cycle}
-use Rattle.time_engine.proofs.Given.{accesses_stay, places_stay}
+use Rattle.time_engine.proofs.Given.{accesses_stay, places_stay, steps_stay}
 use Rattle.event_timing.specs.Machines.{Design}
 use Rattle.event_timing.specs.Core.{Core}
 use Rattle.event_timing.specs.Actions.{put, put_at, after_assign}
@@ -14,16 +14,6 @@ use Rattle.engine_view.specs.Shown.{Shows, IsSound, AreWhole, queries_before}
 use Rattle.engine_view.specs.Timed.{with_timed}
 use Rattle.engine_view.proofs.Cores.{same_core}
 use Rattle.engine_view.proofs.Placing.{taken_stays}
-
-pub steps_stay : (lanes : List Lane) (owner cycle k : ℕ) → owner < length lanes
-    → (lane_at (with_cycle lanes owner cycle) k).steps ≡ (lane_at lanes k).steps
-steps_stay lanes owner cycle k inside =
-    let same = get_or-set_same lanes owner (timed (lane_at lanes owner) cycle) no_lane inside in
-    let other = get_or-set_other lanes owner k (timed (lane_at lanes owner) cycle) no_lane in
-    elim (eqb_tells k owner) [
-      | inl at ↦ rw (at.1, same) refl
-      | inr apart ↦ rw (other apart.1) refl
-    ]
 
 cycles_there : (lanes : List Lane) (owner cycle : ℕ) → owner < length lanes
     → (lane_at (with_cycle lanes owner cycle) owner).cycles ≡ (lane_at lanes owner).cycles ++ cycle ∷ []

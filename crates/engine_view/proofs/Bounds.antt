@@ -18,7 +18,7 @@ use Rattle.time_engine.specs.declared.known.Known.TheVariants as code
 use Rattle.time_engine.specs.Possible.{when_possible}
 use Rattle.time_engine.specs.Cycles.{known_clock, is_waiting, clocks_of, latest, open_step, arrival, first_waiting, cycle_unless}
 use Rattle.time_engine.specs.Cycles.{determined}
-use Rattle.time_engine.proofs.Latest.{clocks_of-append, clocks_of_query, clocks_of_known, clocks_of-none}
+use Rattle.time_engine.proofs.LatestClocks.{clocks_of-append, clocks_of_query, clocks_of_known, clocks_of-none}
 use Rattle.event_timing.specs.Machines as theory
 use Rattle.event_timing.specs.Machines.{Design, IsDesign}
 use Rattle.event_timing.specs.Views.{from, first_accesses}
@@ -73,7 +73,7 @@ kept n l e =
       | inr more ↦ let e' = rw (le-ltb n l more) at e in cc
     ]
 
-position_none : {X : Type 0} (p : X → Bool) (x : X) (xs : List X) → p x ≡ false → position p xs ≡ None → position p (x ∷ xs) ≡ None
+pub position_none : {X : Type 0} (p : X → Bool) (x : X) (xs : List X) → p x ≡ false → position p xs ≡ None → position p (x ∷ xs) ≡ None
 position_none p x xs e n = rw e (skipped (position_or_len p xs) (length xs) n)
 
 position_some : {X : Type 0} (p : X → Bool) (x : X) (xs : List X) → p x ≡ false → is_some (position p xs) ≡ true
@@ -147,7 +147,7 @@ bound_is lanes channels know (a ∷ xs) all =
 
 -- ---- the step
 
-determined_at : (lanes : List Lane) (channels : List Channel) (m : ℕ) (o : Option Step) → open_step (lane_at lanes m) ≡ o
+pub determined_at : (lanes : List Lane) (channels : List Channel) (m : ℕ) (o : Option Step) → open_step (lane_at lanes m) ≡ o
     → determined lanes channels m ≡ option_and_then
     (λ step. cycle_unless (option_and_then (λ step. position (is_waiting lanes channels) step.accesses) o)
     (latest (arrival (lane_at lanes m) step ∷ clocks_of lanes channels step.accesses))) o
@@ -164,7 +164,7 @@ unfolding candidate
 candidate_some {S} d x m l = rw (lt-ltb (x.timed m) (x.emitted m) l) refl
 
 -- what is found access by access is found of the step
-unless : (lanes : List Lane) (channels : List Channel) (xs : List Access) (b : Known) (t : ℕ) → IsBound lanes channels xs b
+pub unless : (lanes : List Lane) (channels : List Channel) (xs : List Access) (b : Known) (t : ℕ) → IsBound lanes channels xs b
     → cycle_unless (position (is_waiting lanes channels) xs) (latest (t ∷ clocks_of lanes channels xs)) ≡ to_clock t b
 unless lanes channels xs b t (inl (h1, h2)) = rw (h1, h2, latest_more t (clocks_of lanes channels xs)) refl
 unless lanes channels xs b t (inr (h1, h2)) = waits (position (is_waiting lanes channels) xs) h1 ∙ sym (h2 t)
@@ -188,7 +188,7 @@ gap_apart [] all k e p l = absurd (omega arith)
 gap_apart (s ∷ steps) all zero e p l = absurd (omega arith)
 gap_apart (s ∷ steps) all (suc k) e p l = all k e (omega arith)
 
-lane_apart : (lanes : List Lane) → All IsSoundLane lanes → (m k : ℕ) → k < length (lane_at lanes m).steps → 0 < k
+pub lane_apart : (lanes : List Lane) → All IsSoundLane lanes → (m k : ℕ) → k < length (lane_at lanes m).steps → 0 < k
     → 1 ≤ (get_or (lane_at lanes m).steps k no_step).gap
 lane_apart lanes all m k l p =
     elim (cases_lt m (length lanes)) [

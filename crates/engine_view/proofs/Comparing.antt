@@ -1,6 +1,6 @@
 -- The loop that compares a step's outcomes.
 use Rattle.std.proofs.Common.{◌≡◌, refl, sym, ap, ap₂, ◌∙◌, ℕ, zero, suc, ◌+◌, ◌<◌, ◌≤◌, Bool, true, cond, ◌||◌, List, [], ◌∷◌, ◌++◌}
-use Rattle.std.proofs.Common.{length, take, drop, get_or, arith, append_assoc, inl, inr, Option, Some, None}
+use Rattle.std.proofs.Common.{length, take, drop, get_or, arith, append_assoc, inl, inr, Option, Some}
 use Rattle.std.specs.Prelude.{slice_get}
 use Rattle.std.proofs.lemmas.Bool.{cases_Bool}
 use Rattle.std.proofs.lemmas.List.{drop_more, drop_all, take_more}
@@ -16,6 +16,7 @@ use Rattle.engine_view.specs.Held.{possible_by, flag_now, queries_in, flags_by}
 use Rattle.engine_view.specs.Known.{as_known, flag_found, found_flags}
 use Rattle.engine_view.specs.Turns.{IsOther}
 use Rattle.engine_view.proofs.Adding.{get_drop, drop_next}
+use Rattle.flow_word.proofs.Ranges.{some_is}
 
 -- the accesses before this index were found alike, whose queries end before this number
 pub record ComparesOn (lanes : List Lane) (channels : List Channel) (cycle : ℕ) (accesses : List Access) (outcomes : List Bool)
@@ -26,13 +27,6 @@ pub record ComparesOn (lanes : List Lane) (channels : List Channel) (cycle : ℕ
   pub within : number ≤ first + index
 
 -- ---- lists that begin alike
-
-some_is : {X : Type 0} → (a b : X) → Some a ≡ Some b → a ≡ b
-some_is {X} a b e = ap (λ (o : Option X). by o) e
-  where
-    by : Option X → X
-    by (Some y) = y
-    by None = a
 
 seam : {X : Type 0} → (as' bs : List X) (b : X) → slice_get (as' ++ b ∷ bs) (length as') ≡ Some b
 seam {X} [] bs b = refl

@@ -37,7 +37,7 @@ undecided_is (code.From u) = ((λ l. cc), (λ e. cc))
 undecided_is code.Never = ((λ l. cc), (λ e. cc))
 undecided_is code.Unknown = ((λ l. refl), (λ e. refl))
 
-flags_found : (lanes : List Lane) (channels : List Channel) (know : theory.Access → Known) (c : ℕ) (xs : List Access)
+pub flags_found : (lanes : List Lane) (channels : List Channel) (know : theory.Access → Known) (c : ℕ) (xs : List Access)
     → All (λ (a : Access). as_known (when_possible lanes channels a) ≡ know (seen a)) xs
     → flags_at know c (map seen xs) ≡ found_flags lanes channels c xs
 flags_found lanes channels know c [] all = refl

@@ -38,7 +38,8 @@ none_from hints from m e l h =
     absurd (omega (arith, h, none))
 
 -- the lowest bit that is left is the first hinted module from there on
-pub first_from : (hints from left : ℕ) → hints < 2 ^ 64 → left ≡ hints / 2 ^ from → (left ≡ 0 → ⊥) → IsFirstHinted hints from (from + trailing_zeros w64 left)
+pub first_from : (hints from left : ℕ) → hints < 2 ^ 64 → left ≡ hints / 2 ^ from → (left ≡ 0 → ⊥)
+    → IsFirstHinted hints from (from + trailing_zeros w64 left)
 first_from hints from left fits e some =
     let small : left < 2 ^ 64 = let le = shr_le hints from in omega (arith, e) in
     let low = bit_at-trailing_zeros w64 left (omega (arith, some)) small in

@@ -13,20 +13,12 @@ use Rattle.engine_view.specs.Held.{Held, step_of, no_step, emitted_of, are_among
 use Rattle.engine_view.specs.Timed.{with_timed}
 use Rattle.engine_view.specs.Stored.{Stored, stored, held_in}
 use Rattle.engine_view.specs.Turns.{HasUnsure, first_of, left_of, left}
+use Rattle.event_timing.proofs.ActionBound.{sum_grows}
 
 sum_less : (f g : ℕ → ℕ) (n : ℕ) → ((k : ℕ) → f k ≤ g k) → sum_to f n ≤ sum_to g n
 unfolding sum_to
 sum_less f g zero l = omega arith
 sum_less f g (suc n) l = omega (arith, sum_less f g n l, l n)
-
-sum_falls : (f g : ℕ → ℕ) (n m : ℕ) → m < n → ((k : ℕ) → f k ≤ g k) → f m < g m → sum_to f n < sum_to g n
-unfolding sum_to
-sum_falls f g zero m l u v = absurd (omega arith)
-sum_falls f g (suc n) m l u v =
-    elim (eqb_tells m n) [
-      | inl e ↦ let v' = subst (λ (k : ℕ). f k < g k) e.1 v in omega (arith, sum_less f g n u, v')
-      | inr e ↦ let w = e.1 in omega (arith, sum_falls f g n m (omega arith) u v, u n)
-    ]
 
 abbrev pub left_in : Held → ℕ
 left_in h = sum_to (left_of h) (length h.lanes)
@@ -37,7 +29,7 @@ left_falls : (g h : Held) (m : ℕ) → length g.lanes ≡ length h.lanes → m 
     → left_in g < left_in h
 left_falls g h m e l others here =
     subst (λ (k : ℕ). sum_to (left_of g) k < sum_to (left_of h) (length h.lanes)) (sym e)
-    (sum_falls (left_of g) (left_of h) (length h.lanes) m l (λ n. elim (eqb_tells n m) [
+    (sum_grows (left_of g) (left_of h) (length h.lanes) m l (λ n. elim (eqb_tells n m) [
       | inl q ↦ subst (λ (k : ℕ). left_of g k ≤ left_of h k) (sym q.1) (omega (arith, here))
       | inr q ↦ omega (arith, others n q.1)
     ]) here)

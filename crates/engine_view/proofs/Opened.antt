@@ -25,7 +25,7 @@ use Rattle.engine_view.specs.Opened.{opening_held, AreKinds}
 use Rattle.engine_view.proofs.Placing.{places_from}
 use Rattle.engine_view.proofs.Reading.{IsRead, read_sound}
 
-copy_at : {X : Type 0} (n k : ℕ) (x : X) → get_or (replicate n x) k x ≡ x
+pub copy_at : {X : Type 0} (n k : ℕ) (x : X) → get_or (replicate n x) k x ≡ x
 copy_at zero k x = refl
 copy_at (suc n) zero x = refl
 copy_at (suc n) (suc k) x = copy_at n k x

@@ -64,6 +64,10 @@ timed lane cycle = record { steps = lane.steps; cycles = lane.cycles ++ cycle �
 abbrev pub timed_below : ℕ → Lane → Lane
 timed_below cycle lane = record { steps = lane.steps; cycles = filter (λ c. nat_lt c cycle) lane.cycles }
 
+-- the lane with another cycle of its step of this number
+abbrev pub put_in : Lane → ℕ → ℕ → Lane
+put_in lane step cycle = record { steps = lane.steps; cycles = slice_set lane.cycles step cycle }
+
 -- the lanes with a step more in one of them
 abbrev pub with_step : List Lane → ℕ → Step → List Lane
 with_step lanes owner step = slice_set lanes owner (longer (lane_at lanes owner) step)
@@ -71,6 +75,10 @@ with_step lanes owner step = slice_set lanes owner (longer (lane_at lanes owner)
 -- the lanes with a cycle more in one of them
 abbrev pub with_cycle : List Lane → ℕ → ℕ → List Lane
 with_cycle lanes owner cycle = slice_set lanes owner (timed (lane_at lanes owner) cycle)
+
+-- the lanes with another cycle of the step at a place
+abbrev pub with_put : List Lane → Place → ℕ → List Lane
+with_put lanes place cycle = slice_set lanes place.module (put_in (lane_at lanes place.module) place.step cycle)
 
 -- a cycle that is below this one
 abbrev pub if_below : ℕ → Option ℕ → Option ℕ

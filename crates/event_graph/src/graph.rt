@@ -3,7 +3,9 @@ ghost use Rattle.std.specs.Prelude.{◌≡◌, ◌≢◌, ℕ, ◌+◌, ◌<◌,
 ghost use Rattle.std.specs.Prelude.{IfOk, OnOk, OnErr};
 ghost use Rattle.std.specs.Option.{ForSome};
 ghost use Rattle.event_graph.specs.Lanes.{no_lane, lane_at, last_cycle, cycle_bound, HasStep, IsSoundStep, IsSoundLane, with_step};
-ghost use Rattle.event_graph.specs.Lanes.{with_cycle, timed_below, if_below};
+ghost use Rattle.event_graph.specs.Lanes.{with_cycle, with_put, timed_below, if_below};
+ghost use Rattle.std.specs.Prelude.{slice_set};
+ghost use Rattle.std.specs.List.Sorted.{IsStrictlyIncreasing};
 ghost use Rattle.event_graph.specs.Lanes.{cycle_of as cycle_at};
 ghost use Rattle.flow_word.specs.declared.access.Place.{Place};
 
@@ -15,9 +17,9 @@ use std::sync::ledger::Ledger;
 
 /// A lane for each module: the steps that it made, and the cycles of the first of them.
 ///
-/// A step keeps its place once it is pushed. Cycles alone come and go: they are given in order, rise along a lane, and
-/// are forgotten from a clock on. Contracts see the lanes, and beside them the room of each lane: how many further
-/// steps it takes without memory.
+/// A step keeps its place once it is pushed. Cycles alone come and go: they are given in order, rise along a lane, become
+/// others where they still rise, and are forgotten from a clock on. Contracts see the lanes, and beside them the room of
+/// each lane: how many further steps it takes without memory.
 pub struct Graph {
     lanes: Vec<RoomyLane>,
 }
@@ -128,7 +130,7 @@ impl Graph {
         lane.cycles().get(place.step as usize).copied()
     }
 
-    /// Gives a module's first step without a cycle this one. No other call gives a step its cycle.
+    /// Gives a module's first step without a cycle this one. No other call gives a step its first cycle.
     pub fn set_cycle<L: Ledger>(&mut self, owner: u32, cycle: u64, steps: &mut Steps<L>)
         requires owner { owner < length self.old.lanes }
         requires waiting { length (lane_at self.old.lanes owner).cycles < length (lane_at self.old.lanes owner).steps }
@@ -140,6 +142,37 @@ impl Graph {
         ensures ticks { steps.new ≡ steps.old + 1 }
     {
         self.lanes[owner as usize].set_cycle(cycle, steps);
+    }
+
+    /// Gives a step that has a cycle another one, with which the cycles of its lane still rise. All else stays. It does not
+    /// tick: whoever puts cycles that stay ticks for them.
+    pub fn put(&mut self, place: Place, cycle: u64)
+        requires owner { place.module < length self.old.lanes }
+        requires there { place.step < length (lane_at self.old.lanes place.module).cycles }
+        requires below { cycle < cycle_bound }
+        requires rising { IsStrictlyIncreasing (slice_set (lane_at self.old.lanes place.module).cycles place.step cycle) }
+        ensures lanes { self.new.lanes ≡ with_put self.old.lanes place cycle }
+        ensures rooms { self.new.rooms ≡ self.old.rooms }
+        ensures sound { All IsSoundLane self.new.lanes }
+    {
+        self.lanes[place.module as usize].put(place.step, cycle);
+    }
+
+    /// The cycles of a module's first steps.
+    pub fn cycles(&self, owner: u32) -> &[u64]
+        requires { owner < length self.now.lanes }
+        ensures { result.now ≡ (lane_at self.now.lanes owner).cycles }
+    {
+        self.lanes[owner as usize].cycles()
+    }
+
+    /// How many of a module's cycles are below this one.
+    pub fn count_below(&self, owner: u32, cycle: u64) -> u64
+        requires { owner < length self.now.lanes }
+        ensures count { result ≡ length (timed_below cycle (lane_at self.now.lanes owner)).cycles }
+        ensures sound { IsSoundLane (lane_at self.now.lanes owner) }
+    {
+        self.lanes[owner as usize].count_below(cycle)
     }
 
     /// Forgets every cycle that is at least this one. All else stays.

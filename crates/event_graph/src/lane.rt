@@ -1,8 +1,9 @@
 //! One module's lane, with its room.
-ghost use Rattle.std.specs.Prelude.{◌≡◌, ◌+◌, ◌<◌, ◌≤◌, length, take, filter, nat_lt, IsOk, OnOk, OnErr};
+ghost use Rattle.std.specs.Prelude.{◌≡◌, ◌+◌, ◌<◌, ◌≤◌, length, take, filter, nat_lt, slice_set, IsOk, OnOk, OnErr};
 ghost use Rattle.std.specs.Option.{ForSome};
 ghost use Rattle.std.specs.List.Sorted.{IsStrictlyIncreasing};
 ghost use Rattle.event_graph.specs.Lanes.{no_lane, last_cycle, cycle_bound, IsSoundStep, IsSoundLane, longer, timed, timed_below};
+ghost use Rattle.event_graph.specs.Lanes.{put_in};
 
 use flow_word::{OutOfMemory, RoomyList, Step, Steps};
 use std::alloc::Global;
@@ -111,6 +112,25 @@ impl RoomyLane {
         steps.tick();
     }
 
+    /// Gives a step that has a cycle another one, with which the cycles still rise.
+    pub fn put(&mut self, step: u64, cycle: u64)
+        requires there { step < length self.old.lane.cycles }
+        requires below { cycle < cycle_bound }
+        requires rising { IsStrictlyIncreasing (slice_set self.old.lane.cycles step cycle) }
+        ensures lane { self.new.lane ≡ put_in self.old.lane step cycle }
+        ensures room { self.new.room ≡ self.old.room }
+        ensures sound { IsSoundLane self.new.lane }
+    {
+        self.cycles[step as usize] = cycle;
+    }
+
+    /// How many cycles are below this one.
+    pub fn count_below(&self, cycle: u64) -> u64
+        ensures { result ≡ length (timed_below cycle self.now.lane).cycles }
+    {
+        count_below(self.cycles.as_slice(), cycle) as u64
+    }
+
     /// Forgets the cycles from this one on.
     pub fn forget_from(&mut self, cycle: u64)
         ensures lane { self.new.lane ≡ timed_below cycle self.old.lane }
@@ -125,7 +145,8 @@ impl RoomyLane {
 /// How many of the rising cycles are below this one. They stand at the front.
 fn count_below(cycles: &[u64], cycle: u64) -> usize
     requires { IsStrictlyIncreasing cycles.now }
-    ensures { take result cycles.now ≡ filter (λ c. nat_lt c cycle) cycles.now }
+    ensures front { take result cycles.now ≡ filter (λ c. nat_lt c cycle) cycles.now }
+    ensures count { result ≡ length (filter (λ c. nat_lt c cycle) cycles.now) }
 {
     cycles.partition_point(|c| *c < cycle)
 }

@@ -20,7 +20,7 @@ unfolding sum_to
 sum_less f g zero m l = omega arith
 sum_less f g (suc n) m l = omega (arith, sum_less f g n m l, l n)
 
-sum_grows : (f g : ℕ → ℕ) (n m : ℕ) → m < n → ((k : ℕ) → f k ≤ g k) → f m < g m → sum_to f n < sum_to g n
+pub sum_grows : (f g : ℕ → ℕ) (n m : ℕ) → m < n → ((k : ℕ) → f k ≤ g k) → f m < g m → sum_to f n < sum_to g n
 unfolding sum_to
 sum_grows f g zero m l u v = absurd (omega arith)
 sum_grows f g (suc n) m l u v =

@@ -17,7 +17,7 @@ use Rattle.event_timing.proofs.Threshold.{Means}
 use Rattle.event_timing.proofs.Candidate.{EachMeans, bound_found, first_means, candidate_from, candidate_done, candidate_steps}
 use Rattle.event_timing.proofs.Candidate.{candidate_ready, reach_then, rest_first}
 
-begin_passed : {S : Type 0} → (d : Design S) (h : Trace S) (v : View) → Agrees d h v → (m c n : ℕ) → n ≡ v.timed m → done d h m c ≡ n
+pub begin_passed : {S : Type 0} → (d : Design S) (h : Trace S) (v : View) → Agrees d h v → (m c n : ℕ) → n ≡ v.timed m → done d h m c ≡ n
     → from (v.cycle m) n ≤ c
 begin_passed {S} d h v g m c zero e k = omega arith
 begin_passed {S} d h v g m c (suc n) e k =
@@ -25,7 +25,7 @@ begin_passed {S} d h v g m c (suc n) e k =
     done_less d h m (v.cycle m n) c (omega (arith, g.done_then m n l))
 
 -- a step that the history does while nobody is ahead of the view is determined, at this clock or before
-step_determined : {S : Type 0} → (d : Design S) (h : Trace S) → IsDesign d → IsHistory d h → (v : View) → Agrees d h v → (m c : ℕ)
+pub step_determined : {S : Type 0} → (d : Design S) (h : Trace S) → IsDesign d → IsHistory d h → (v : View) → Agrees d h v → (m c : ℕ)
     → ((n : ℕ) → done d h n c ≤ v.timed n) → steps d h c m ≡ true → done d h m c ≡ v.timed m → v.more m ≡ true
     → (e : ℕ) × (candidate d v m ≡ Some e) × (e ≤ c)
 step_determined {S} d h i y v g m c n w k o =
@@ -100,7 +100,7 @@ flags_decided {S} d h v c know (a ∷ xs) (g, gs) e f =
     (λ b. answer_known d h v c a.side a.channel (know a) (sym (ap (λ (z : Bool). z || is_decided (know a)) b) ∙ f1) g))
     (flags_decided d h v c know xs gs e2 f2)
 
-flags_late : {S : Type 0} → (d : Design S) (h : Trace S) (v : View) (c : ℕ) (know : Access → Known) (xs : List Access)
+pub flags_late : {S : Type 0} → (d : Design S) (h : Trace S) (v : View) (c : ℕ) (know : Access → Known) (xs : List Access)
     → ((m : ℕ) → done d h m c ≤ v.timed m)
     → EachMeans d h v c know xs → can_all d h c xs ≡ true → flags_at know c xs ≡ possible_all d h c xs
 flags_late {S} d h v c know [] n g e = refl

@@ -143,7 +143,7 @@ steps_alike {S} d h g i y fifo depth t z one u c l m =
     let mv = moves_alike d (edited d fifo depth) h g c refl refl (possible_alike d h g i fifo depth t c one u l a) a m in
     ap₂ (λ (x : Bool) (s : S). x && is_some_access (d.accesses m s)) mv (a.state c (omega arith) m)
 
-done_alike : {S : Type 0} → (d : Design S) (h g : Trace S) → IsDesign d → IsHistory d h → (fifo depth t : ℕ)
+pub done_alike : {S : Type 0} → (d : Design S) (h g : Trace S) → IsDesign d → IsHistory d h → (fifo depth t : ℕ)
     → IsHistory (edited d fifo depth) g
     → ((ch : ℕ) → d.lag Push ch ≡ 1) → IsUntouched d h fifo depth t → (m c : ℕ) → c ≤ t → done (edited d fifo depth) g m c ≡ done d h m c
 done_alike {S} d h g i y fifo depth t z one u m zero l = done_0 (edited d fifo depth) g m ∙ sym (done_0 d h m)
@@ -228,7 +228,7 @@ edit_design {S} d fifo depth i =
       outside = i.outside;
     }
 
-kept_same : (cycle : ℕ → ℕ) (t n k : ℕ) → k < kept cycle t n → kept_cycle cycle t n k ≡ cycle k
+pub kept_same : (cycle : ℕ → ℕ) (t n k : ℕ) → k < kept cycle t n → kept_cycle cycle t n k ≡ cycle k
 kept_same cycle t n k l = cond-true {A = ℕ} (ltb k (kept cycle t n)) (cycle k) 0 (lt-ltb k (kept cycle t n) l)
 
 edit_done : {S : Type 0} → (d : Design S) (h g : Trace S) → IsDesign d → IsHistory d h → (fifo depth t : ℕ)

@@ -17,7 +17,7 @@ use Rattle.event_timing.proofs.Candidate.{begin, done_begin, since_first, rest_f
 use Rattle.event_timing.proofs.Earliest.{nobody_ahead}
 use Rattle.event_timing.proofs.Agreement.{final_stuck, stuck_ended}
 
-early_moves : {S : Type 0} → (d : Design S) (h : Trace S) → IsDesign d → IsHistory d h → (m c : ℕ)
+pub early_moves : {S : Type 0} → (d : Design S) (h : Trace S) → IsDesign d → IsHistory d h → (m c : ℕ)
     → c < since d h m c + d.quiet m (rest d h m c) → moves d h c m ≡ true
 early_moves {S} d h i y m c l =
     let j : min (c - since d h m c) (d.quiet m (rest d h m c)) ≡ c - since d h m c = omega (arith, since_le d h m c) in

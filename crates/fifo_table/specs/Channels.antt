@@ -1,5 +1,5 @@
 -- Channels with the pushes and pops that were emitted so far.
-use Rattle.std.specs.Prelude.{ℕ, ◌-◌, ◌≤◌, List, [], ◌∷◌, ◌++◌, map, slice_get, slice_set, slice_index_or, Option, option_map}
+use Rattle.std.specs.Prelude.{ℕ, ◌-◌, ◌≤◌, List, [], ◌∷◌, ◌++◌, length, map, slice_get, slice_set, slice_index_or, Option, option_map}
 use Rattle.flow_word.specs.declared.access.Place.{Place}
 use Rattle.flow_word.specs.declared.access.Side.{Side}
 use Rattle.flow_word.specs.declared.access.Side.TheVariants.{Pop, Push}
@@ -44,6 +44,14 @@ abbrev pub depth_of : TableChannel → ℕ
 depth_of (Source inputs) = 0
 depth_of Sink = 0
 depth_of (Fifo depth delay) = depth
+
+-- how many pops, or pushes, of a channel wait for nobody: a source's inputs, and a FIFO's places that were never taken
+abbrev pub free_of : TableChannel → Side → ℕ
+free_of (Source inputs) Pop = length inputs
+free_of (Source inputs) Push = 0
+free_of Sink side = 0
+free_of (Fifo depth delay) Pop = 0
+free_of (Fifo depth delay) Push = depth
 
 -- a FIFO of another depth
 abbrev pub deepened : TableChannel → ℕ → TableChannel

@@ -1,6 +1,6 @@
 //! A channel with its pushes and pops.
-ghost use Rattle.std.specs.Prelude.{◌≡◌, ◌≤◌, IfOk, OnOk};
-ghost use Rattle.fifo_table.specs.Channels.{unused, lag_of, deepened};
+ghost use Rattle.std.specs.Prelude.{◌≡◌, ◌≤◌, slice_get, IfOk, OnOk};
+ghost use Rattle.fifo_table.specs.Channels.{unused, lag_of, free_of, deepened, places_of};
 ghost use Rattle.fifo_table.specs.Roomed.{channel_of};
 
 use flow_word::{List, OutOfMemory, Place, RoomyList, Side, Words};
@@ -65,6 +65,32 @@ impl RoomyChannel {
             (TableChannel::Fifo(_, delay), Side::Pop) => *delay,
             (TableChannel::Fifo(_, _), Side::Push) => 1,
             (TableChannel::Source(_) | TableChannel::Sink, _) => 1,
+        }
+    }
+
+    /// How many pops, or pushes, wait for nobody: a source's inputs, and a FIFO's places.
+    pub fn free(&self, side: Side) -> u64
+        ensures { result ≡ free_of self.now.kind side }
+    {
+        match (&self.kind, side) {
+            (TableChannel::Source(inputs), Side::Pop) => inputs.len(),
+            (TableChannel::Fifo(depth, _), Side::Push) => *depth,
+            (TableChannel::Source(_), Side::Push) => 0,
+            (TableChannel::Fifo(_, _), Side::Pop) => 0,
+            (TableChannel::Sink, _) => 0,
+        }
+    }
+
+    /// The step of the pop, or of the push, with so many before it.
+    pub fn place(&self, side: Side, before: u64) -> Option<Place>
+        ensures { result ≡ slice_get (places_of side (channel_of self.now)) before }
+    {
+        match side {
+            Side::Pop => self.pops.as_slice().get(before as usize).copied(),
+            Side::Push => {
+                let push = self.pushes.as_slice().get(before as usize);
+                push.map(|push| push.at)
+            }
         }
     }
 

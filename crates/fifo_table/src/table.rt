@@ -1,7 +1,7 @@
 //! The table of all channels.
-ghost use Rattle.std.specs.Prelude.{◌≡◌, ◌≢◌, ℕ, ◌+◌, ◌<◌, ◌≤◌, ◌^◌, length, map, slice_index, All, IsOk, IfOk, OnOk, OnErr};
+ghost use Rattle.std.specs.Prelude.{◌≡◌, ◌≢◌, ◌↔◌, true, ℕ, ◌+◌, ◌<◌, ◌≤◌, ◌^◌, length, map, slice_get, slice_index, All, IsOk, IfOk, OnOk, OnErr};
 ghost use Rattle.flow_design.specs.declared.limits.TheConstants.{FIFO_DEPTH, FIFO_DELAY};
-ghost use Rattle.fifo_table.specs.Channels.{IsSoundKind, IsSource, IsSink, IsFifo, HasSide, depth_of, lag_of, unused, channel_at, nth};
+ghost use Rattle.fifo_table.specs.Channels.{IsSoundKind, IsSource, IsSink, IsFifo, HasSide, depth_of, lag_of, free_of, unused, channel_at, nth};
 ghost use Rattle.fifo_table.specs.Channels.{places_of, first_module, values_of, with_push, with_pop, with_depth};
 ghost use Rattle.fifo_table.specs.Enablers.{enabler_of, event_at};
 
@@ -106,6 +106,34 @@ impl FifoTable {
         ensures push_rooms { self.new.push_rooms ≡ self.old.push_rooms }
     {
         self.channels[channel as usize].pops.push(at)
+    }
+
+    /// Whether a channel is a FIFO. The others are sources and sinks.
+    pub fn is_fifo(&self, channel: u32) -> bool
+        requires { channel < length self.now.channels }
+        ensures { (result ≡ true) ↔ IsFifo (channel_at self.now.channels channel).kind }
+    {
+        match &self.channels[channel as usize].kind {
+            TableChannel::Fifo(..) => true,
+            TableChannel::Source(_) | TableChannel::Sink => false,
+        }
+    }
+
+    /// The step of a channel's pop, or of its push, with so many before it. None where there is none.
+    pub fn place(&self, channel: u32, side: Side, before: u64) -> Option<Place>
+        requires { channel < length self.now.channels }
+        ensures { result ≡ slice_get (places_of side (channel_at self.now.channels channel)) before }
+    {
+        self.channels[channel as usize].place(side, before)
+    }
+
+    /// How many pops, or pushes, of a channel wait for nobody: a source's inputs, and a FIFO's places. The later ones wait for
+    /// the other side's with so many less before them.
+    pub fn free(&self, channel: u32, side: Side) -> u64
+        requires { channel < length self.now.channels }
+        ensures { result ≡ free_of (channel_at self.now.channels channel).kind side }
+    {
+        self.channels[channel as usize].free(side)
     }
 
     /// The value of a channel's n-th input or push, where there is one.

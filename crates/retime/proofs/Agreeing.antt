@@ -6,21 +6,16 @@ use Rattle.flow_word.specs.declared.access.Place.{Place}
 use Rattle.flow_word.specs.declared.access.Side.TheVariants.{Push}
 use Rattle.event_graph.specs.Lanes.{lane_at}
 use Rattle.fifo_table.specs.Channels.{channel_at, depth_of, places_of}
-use Rattle.query_log.specs.declared.query.Query.{Query}
 use Rattle.event_timing.specs.Machines.{Design, IsDesign}
 use Rattle.event_timing.specs.Histories.{Trace, IsHistory}
-use Rattle.event_timing.specs.Core.{Core, view}
+use Rattle.event_timing.specs.Core.{Core}
 use Rattle.event_timing.specs.Agreement.{IsAgreed}
 use Rattle.event_timing.specs.Edits.{edited, after_edit, IsUntouchedByCycles}
-use Rattle.event_timing.proofs.Agreement.{answer_found}
-use Rattle.event_timing.proofs.Candidate.{candidate_done, candidate_steps}
 use Rattle.event_timing.proofs.Editing.{edit_agrees}
-use Rattle.event_timing.proofs.Fronts.{agrees}
 use Rattle.event_timing.proofs.Touched.{before_first, untouched}
 use Rattle.engine_view.specs.Held.{Held, core_of}
-use Rattle.engine_view.specs.Turns.{IsDifferent}
 use Rattle.retime.specs.Touched.{IsFirstTouched}
-use Rattle.retime.specs.Edits.{IsFinalOf, IsEditFrom, IsOtherInHistory}
+use Rattle.retime.specs.Edits.{IsFinalOf, IsEditFrom}
 use Rattle.retime.proofs.Filling.{clock_of, clock_within}
 use Rattle.retime.proofs.Tallied.{start_is, never_before, never_at_all}
 
@@ -70,22 +65,3 @@ module _ {S : Type 0} (d : Design S) (y : Trace S) (limit : ℕ) (h : Held) (f :
   cut_agrees one z w =
       edit_agrees d y z f.design f.history fifo depth t w one
       (untouched d y f.design f.history limit x f.agreed f.final fifo depth t not_felt.0 not_felt.1) limit x f.agreed
-
--- a query that differs has another outcome in the history
-pub other_in_history : {S : Type 0} (d : Design S) (y : Trace S) → IsDesign d → IsHistory d y → (limit : ℕ) (h : Held)
-    → IsAgreed d y limit (core_of d h)
-    → (q : Query) → IsDifferent d limit h q.module q → IsOtherInHistory d y h q
-other_in_history {S} d y i w limit h g q n =
-    let seen = agrees d y limit (core_of d h) g.marks g.time in
-    let other = n.found.other in
-    record {
-      clock = n.cycle;
-      step = (
-        candidate_steps d y i w (view d (core_of d h)) seen q.module n.cycle n.may.determined.at,
-        candidate_done d y i w (view d (core_of d h)) seen q.module n.cycle n.may.determined.at,
-      );
-      recorded = n.found.recorded;
-      place = other.place;
-      differs = λ same. other.differs (same ∙ ap (λ (fs : List Bool). slice_get fs other.place)
-          (sym (answer_found d y i w limit (core_of d h) g q.module n.cycle n.may)));
-    }

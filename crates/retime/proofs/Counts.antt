@@ -47,7 +47,7 @@ steps_below t (l ∷ lanes) = ap (λ (rest : List (List Step)). l.steps ∷ rest
 
 -- ---- no more cycles than steps
 
-cycles_within : (lanes : List Lane) → All IsSoundLane lanes → cycles_in lanes ≤ steps_in lanes
+pub cycles_within : (lanes : List Lane) → All IsSoundLane lanes → cycles_in lanes ≤ steps_in lanes
 cycles_within [] s = omega arith
 cycles_within (l ∷ lanes) s =
     let here : IsSoundLane l = s 0 l (omega arith) in

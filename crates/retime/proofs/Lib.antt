@@ -5,6 +5,7 @@ pub mod Going
 pub mod Cutting
 pub mod Tallied
 pub mod Agreeing
+pub mod Otherwise
 pub mod Recorded
 pub mod Growing
 pub mod Outcomes

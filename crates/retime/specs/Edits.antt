@@ -1,13 +1,15 @@
 -- An edit of a final core, and the history of the edited design.
-use Rattle.std.specs.Prelude.{Bool, ◌≡◌, ◌≢◌, ℕ, ◌≤◌, ◌⊎◌, true, slice_get, List, length, ◌<◌}
+use Rattle.std.specs.Prelude.{Bool, ◌≡◌, ◌≢◌, ℕ, suc, ◌+◌, ◌≤◌, ◌⊎◌, true, false, slice_get, Some, List, length, take, ◌<◌}
+use Rattle.flow_word.specs.Kinds.{is_blocking, side_of}
+use Rattle.flow_word.specs.declared.access.Access.{Access}
 use Rattle.event_graph.specs.Lanes.{Lane}
 use Rattle.fifo_table.specs.Channels.{Channel, IsFifo, channel_at, depth_of}
 use Rattle.query_log.specs.declared.query.Query.{Query}
-use Rattle.query_log.specs.Logs.{Log}
+use Rattle.query_log.specs.Logs.{Log, outcome_of}
 use Rattle.outcome_guard.specs.Prefixes.{IsPrefix}
 use Rattle.event_timing.specs.Machines.{Design, IsDesign}
-use Rattle.event_timing.specs.Histories.{Trace, IsHistory}
-use Rattle.event_timing.specs.Core.{Core, core_accesses}
+use Rattle.event_timing.specs.Histories.{Trace, IsHistory, is_possible}
+use Rattle.event_timing.specs.Core.{Core, core_tally}
 use Rattle.event_timing.specs.Actions.{IsFinal}
 use Rattle.event_timing.specs.Edits.{edited}
 use Rattle.flow_design.specs.declared.state.ModuleState.{ModuleState}
@@ -16,9 +18,9 @@ use Rattle.outcome_guard.specs.declared.guard.Guard.{Guard}
 use Rattle.engine_view.specs.Stored.{Stored, held_in}
 use Rattle.retime.specs.Rounds.{only_steps}
 use Rattle.retime.specs.Cuts.{HasRetimed}
-use Rattle.event_timing.specs.Agreement.{IsAgreed, IsStepAt, possible_all}
-use Rattle.engine_view.specs.Held.{Held, core_of}
-use Rattle.engine_view.specs.Shown.{IsSound}
+use Rattle.event_timing.specs.Agreement.{IsAgreed, IsStepAt}
+use Rattle.engine_view.specs.Held.{Held, step_of, queries_in, possible_by, core_of}
+use Rattle.engine_view.specs.Shown.{IsSound, queries_before}
 use Rattle.engine_view.specs.Turns.{first_of}
 use Rattle.retime.specs.Touched.{IsFirstTouched, IsNeverTouched}
 
@@ -41,14 +43,27 @@ pub record IsEditFrom (lanes : List Lane) (channels : List Channel) (fifo depth 
   pub from : IsFirstTouched lanes (channel_at channels fifo) depth t
       ⊎ (IsNeverTouched lanes (channel_at channels fifo) depth × (t ≡ limit))
 
--- the history does the query's step in this clock, and an outcome that is possible there is not the recorded one
+-- the query is that of the access at this place of its module's step k: its number counts the module's queries before it, and its ordinal
+-- is one more than the elements that the module popped, or pushed, on the channel before the step
+pub record IsQueryAt {S : Type 0} (d : Design S) (h : Held) (k place : ℕ) (q : Query) : Type 0 where
+  pub access : Access
+  pub is : slice_get (step_of h q.module k).accesses place ≡ Some access
+  pub asks : is_blocking access.kind ≡ false
+  pub kind : q.kind ≡ access.kind
+  pub channel : q.channel ≡ access.channel
+  pub number : q.number ≡ queries_before h q.module k + queries_in (take place (step_of h q.module k).accesses)
+  pub ordinal : q.ordinal ≡ suc (core_tally d (core_of d h) q.module (side_of q.kind) q.channel k)
+
+-- the history does the query's step in this clock, where the query is possible or not, and the outcome that is recorded under its number
+-- says otherwise
 pub record IsOtherInHistory {S : Type 0} (d : Design S) (y : Trace S) (h : Held) (q : Query) : Type 0 where
   pub clock : ℕ
   pub step : IsStepAt d y q.module (first_of h q.module) clock
-  pub recorded : (core_of d h).answered q.module (first_of h q.module) ≡ true
   pub place : ℕ
-  pub differs : slice_get ((core_of d h).flags q.module (first_of h q.module)) place
-      ≢ slice_get (possible_all d y clock (core_accesses d (core_of d h) q.module (first_of h q.module))) place
+  pub query : IsQueryAt d h (first_of h q.module) place q
+  pub outcome : Bool
+  pub recorded : outcome_of h.logs q.module q.number ≡ Some outcome
+  pub differs : possible_by q.kind (Some outcome) ≢ is_possible d y clock (side_of q.kind) q.channel
 
 -- each recorded outcome of the module is verified
 abbrev pub AreVerified : {S : Type 0} → Core S → ℕ → Type 0

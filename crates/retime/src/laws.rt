@@ -32,7 +32,8 @@ pub fn cycles_are_counted<S>()
 {}
 
 /// Up to the clock from which an edit gives cycles anew neither depth was ever felt, so that the core that is cut back there agrees
-/// with the edited design's history `z`. A query that is found to be another is another in the history.
+/// with the edited design's history `z`. A query that is found to be another is another in the history: its number, its channel and its
+/// ordinal are those of one query of the module, and the outcome that is recorded under this number is not the one there.
 pub fn edits_agree<S>()
     ensures untouched { (d : Design S) (y : Trace S) (limit : ℕ) (h : Held) → IsFinalOf d y limit h → (fifo depth t : ℕ)
         → IsEditFrom h.lanes h.channels fifo depth limit t → (t ≤ limit) × IsUntouchedByCycles d (core_of d h) fifo depth t }
@@ -40,8 +41,8 @@ pub fn edits_agree<S>()
         → (fifo depth t : ℕ)
         → IsEditFrom h.lanes h.channels fifo depth limit t → (z : Trace S) → IsHistory (edited d fifo depth) z
         → IsAgreed (edited d fifo depth) z limit (after_edit d (core_of d h) t) }
-    ensures differs { (d : Design S) (y : Trace S) → IsDesign d → IsHistory d y → (limit : ℕ) (h : Held) → IsAgreed d y limit (core_of d h)
-        → (q : Query) → IsDifferent d limit h q.module q → IsOtherInHistory d y h q }
+    ensures differs { (d : Design S) (y : Trace S) → IsDesign d → IsHistory d y → (limit : ℕ) (h : Held) → IsSound d h
+        → IsAgreed d y limit (core_of d h) → (q : Query) → IsDifferent d limit h q.module q → IsOtherInHistory d y h q }
 {}
 
 /// In a final core the verified outcomes are those of the steps with a cycle. While cycles are given and queries answered a module's

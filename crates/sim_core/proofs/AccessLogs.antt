@@ -1,5 +1,6 @@
 -- The log that is read off a final core is the history's.
-use Rattle.std.proofs.Common.{◌≡◌, refl, sym, ap, ap₂, subst, ◌∙◌, ℕ, suc, ◌+◌, ◌<◌, ◌≤◌, List, [], ◌∷◌, ◌++◌, length, map, drop, take, get_or, arith}
+use Rattle.std.proofs.Common.{◌≡◌, refl, sym, ap, ap₂, subst, ◌∙◌, ℕ, suc, ◌+◌, ◌<◌, ◌≤◌, List, [], ◌∷◌, ◌++◌, length, map, drop, take}
+use Rattle.std.proofs.Common.{get_or, arith}
 use Rattle.std.proofs.Common.{append_assoc, Bool, true, false, inl, inr}
 use Rattle.std.specs.Prelude.{All, IsPermutation, Option, Some, None, flat_map, slice_get, unwrap_or}
 use Rattle.std.specs.List.{range_with_len}

@@ -39,18 +39,12 @@ use Rattle.engine_view.specs.Opened.{opening_held, AreKinds}
 use Rattle.engine_view.specs.Rooms.{HasRoom}
 use Rattle.engine_view.specs.Stored.{Stored, held_in}
 use Rattle.engine_view.specs.Taking.{kinds_in}
-use Rattle.engine_view.proofs.Opened.{opening_core_is}
+use Rattle.engine_view.proofs.Opened.{opening_core_is, copy_at}
 use Rattle.engine_view.proofs.Roomy.{room_opening}
 use Rattle.sim_core.specs.Runs.{IsCore, IsRunOf, rest_behind, lent_of, over_of}
 use Rattle.sim_core.proofs.Keeping.{over_at}
 use Rattle.sim_core.specs.Opening.{kind_by, kind_in, kinds_of, source_values, AreFirstRuns}
-
-some_is : {X : Type 0} → (a b : X) → Some a ≡ Some b → a ≡ b
-some_is {X} a b e = ap (λ (o : Option X). by o) e
-  where
-    by : Option X → X
-    by (Some y) = y
-    by None = a
+use Rattle.flow_word.proofs.Ranges.{some_is}
 
 pub runs_none : (p : Plan) → AreFirstRuns p [] 0
 runs_none p = record { count = refl; some = λ m l. absurd (omega arith); each = λ m run e. cc }
@@ -95,11 +89,6 @@ runs_more p runs next n run r e stands quiet = record {
         ]
 
 -- ---- the channels
-
-copy_at : {X : Type 0} (n k : ℕ) (x : X) → get_or (replicate n x) k x ≡ x
-copy_at zero k x = refl
-copy_at (suc n) zero x = refl
-copy_at (suc n) (suc k) x = copy_at n k x
 
 -- the values of inputs are the inputs
 values_cut : (f : ℕ → ℕ) (xs : List ℕ) → values (map (λ v. element_from 0 (f v)) xs) ≡ map f xs

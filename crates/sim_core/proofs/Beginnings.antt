@@ -1,19 +1,16 @@
 -- Beginnings of lists.
 use Rattle.std.proofs.Common.{◌≡◌, refl, sym, ap, ap₂, ◌∙◌, ℕ, zero, suc, ◌+◌, List, [], ◌∷◌, ◌++◌, length, drop, Some, slice_get, arith}
 use Rattle.event_timing.specs.Views.{Begins}
+use Rattle.run_ahead.proofs.Finding.{drop_none}
 
 pub get_drop : (xs : List ℕ) (n i : ℕ) → slice_get (drop n xs) i ≡ slice_get xs (n + i)
 get_drop xs zero i = let z : 0 + i ≡ i = omega arith in rw z refl
 get_drop [] (suc n) i = refl
 get_drop (x ∷ xs) (suc n) i = let z : suc n + i ≡ suc (n + i) = omega arith in rw z (get_drop xs n i)
 
-drop_nil : (n : ℕ) → ◌≡◌ {A = List ℕ} (drop n []) []
-drop_nil zero = refl
-drop_nil (suc n) = refl
-
 pub drop_twice : (xs : List ℕ) (m n : ℕ) → drop n (drop m xs) ≡ drop (m + n) xs
 drop_twice xs zero n = let z : 0 + n ≡ n = omega arith in rw z refl
-drop_twice [] (suc m) n = drop_nil n ∙ sym (drop_nil (suc m + n))
+drop_twice [] (suc m) n = drop_none n ∙ sym (drop_none (suc m + n))
 drop_twice (x ∷ xs) (suc m) n = let z : suc m + n ≡ suc (m + n) = omega arith in rw z (drop_twice xs m n)
 
 pub drop_front : (xs ys : List ℕ) → drop (length xs) (xs ++ ys) ≡ ys

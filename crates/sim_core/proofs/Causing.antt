@@ -25,6 +25,7 @@ use Rattle.sim_core.specs.Causes.{IsPermitted, waiting, over, no_step, has_clock
 use Rattle.sim_core.specs.Causes.{is_unverified, is_undecided, unverified, undecided, no_query, decided, first_module, is_busy, busy}
 use Rattle.sim_core.specs.Causes.{is_earlier, later, cycle_causes, open_causes, cause_of, cause_if, first_some, first_place, later_than}
 use Rattle.sim_core.proofs.Firsts as firsts
+use Rattle.engine_view.proofs.Bounds.{position_none}
 
 -- ---- lists of accesses
 
@@ -63,7 +64,7 @@ all_there s t w [] bs f e = refl
 all_there s t w (a ∷ xs) [] f e = refl
 all_there s t w (a ∷ xs) (b ∷ bs) f e =
     let (here, rest) = and_parts (not (pops_now a b) || ltb (t a.channel) (s a.channel)) (all_below s t xs bs) e in
-    firsts.both_fail (lacks s t w) (a, b) (zip xs bs)
+    position_none (lacks s t w) (a, b) (zip xs bs)
     (not_lacking a.blocks w (pops_now a b) (ltb (t a.channel) (s a.channel)) (first a.blocks (has_query xs) f) here)
     (all_there s t w xs bs (behind a.blocks (has_query xs) f) rest)
   where
@@ -108,8 +109,8 @@ bound_known know (a ∷ xs) u e =
     elim (cases_Bool a.blocks) [
       | inl b ↦
           let (v, w, one, rest) = parts (know a) (bound know xs) (sym (bound_blocks know a xs b) ∙ e) in
-          firsts.both_fail (is_held know) a xs (ap₂ (λ (c : Bool) (k : Known). c && not (has_clock k)) b one) (bound_known know xs w rest)
-      | inr b ↦ firsts.both_fail (is_held know) a xs (ap (λ (c : Bool). c && not (has_clock (know a))) b)
+          position_none (is_held know) a xs (ap₂ (λ (c : Bool) (k : Known). c && not (has_clock k)) b one) (bound_known know xs w rest)
+      | inr b ↦ position_none (is_held know) a xs (ap (λ (c : Bool). c && not (has_clock (know a))) b)
           (bound_known know xs u (sym (bound_free know a xs b) ∙ e))
     ]
   where

@@ -1,5 +1,5 @@
 -- The runs and the ends stand in the edited plan where they stood, and the table has its channels.
-use Rattle.std.proofs.Common.{◌≡◌, refl, sym, ap, subst, ◌∙◌, ℕ, zero, suc, ◌<◌, inl, inr, true, List, length, get_or}
+use Rattle.std.proofs.Common.{◌≡◌, refl, sym, ap, subst, ◌∙◌, ℕ, zero, suc, ◌<◌, inl, inr, Bool, true, List, length, get_or}
 use Rattle.std.proofs.Common.{arith}
 use Rattle.std.proofs.lemmas.Bool.Decides.{eqb_tells}
 use Rattle.std.proofs.lemmas.List.{length-map, length-set, get_or-map, get_or-set_same, get_or-set_other, same_lists}
@@ -28,7 +28,6 @@ use Rattle.fifo_table.specs.declared.channel.TableChannel.TheVariants.{Sink}
 use Rattle.fifo_table.specs.Channels.{Channel, IsFifo, channel_at, deepened, depth_of, unused}
 use Rattle.fifo_table.specs.Channels.{with_depth as with_depths}
 use Rattle.event_timing.specs.Core.{Core}
-use Rattle.event_timing.specs.Edits.{after_edit}
 use Rattle.timing_bridge.specs.Designs.{design}
 use Rattle.timing_bridge.proofs.Edits.{edited_fits}
 use Rattle.engine_view.specs.Taking.{kinds_in}
@@ -72,9 +71,10 @@ module _ (p : Plan) (fits : FitsEngine p) (e : Edit) (fit : EditFits p e) (i : �
     behind = s.behind;
   }
 
-  module _ (t : ℕ) (x : Core ModuleState) where
+  -- with other cycles, of other steps, and other outcomes verified
+  module _ (x : Core ModuleState) (timed : ℕ → ℕ) (cycle : ℕ → ℕ → ℕ) (verified : ℕ → ℕ → Bool) where
     abbrev z : Core ModuleState
-    z = after_edit (design p) x t
+    z = record x { timed = timed; cycle = cycle; verified = verified }
 
     behind_edited : (k : ℕ) → rest_behind q z i k ≡ rest_behind p x i k
     unfolding moment opening owner

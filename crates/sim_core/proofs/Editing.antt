@@ -1,5 +1,5 @@
 -- A final core behind an edit of its plan.
-use Rattle.std.proofs.Common.{◌≡◌, refl, sym, ap, subst, ◌∙◌, ℕ, ◌+◌, ◌≤◌, inl, inr, Bool, List, [], ◌∷◌, length, map}
+use Rattle.std.proofs.Common.{◌≡◌, refl, sym, ap, subst, ◌∙◌, ℕ, ◌+◌, ◌≤◌, inl, inr, Bool, List, [], length, map}
 use Rattle.std.proofs.Common.{set, Option, Some, None, unwrap_or, ◌⊎◌, arith}
 use Rattle.std.specs.Prelude.{IfSome, IsNone}
 use Rattle.std.proofs.lemmas.List.{length-map, set-get_or}
@@ -18,9 +18,9 @@ use Rattle.outcome_guard.specs.declared.guard.Guard.{Guard}
 use Rattle.outcome_guard.specs.declared.guard.Guard.TheVariants.{Same, Differs}
 use Rattle.event_timing.specs.Machines.{Design, IsDesign}
 use Rattle.event_timing.specs.Core.{Core}
-use Rattle.event_timing.specs.Actions.{Action, IsFinal, IsNoRunOf}
-use Rattle.event_timing.specs.Actions.Action.{Run, Assign, Answer, Earliest}
-use Rattle.event_timing.specs.Agreement.{IsAgreed}
+use Rattle.event_timing.specs.Actions.{IsFinal}
+use Rattle.event_timing.specs.Actions.Action.{Run}
+use Rattle.event_timing.specs.Agreement.{AreOwnMarks, IsAgreed}
 use Rattle.event_timing.specs.Edits.{edited, after_edit}
 use Rattle.event_timing.specs.Growth.{GrowsBeside}
 use Rattle.event_timing.proofs.Beside.{others_grow}
@@ -28,34 +28,52 @@ use Rattle.timing_bridge.specs.Designs.{design, lockstep_run}
 use Rattle.timing_bridge.proofs.Edits.{edited_fits, same_design}
 use Rattle.timing_bridge.proofs.History.{plan_is_design, run_is_history}
 use Rattle.engine_view.specs.Held.{core_of}
+use Rattle.engine_view.specs.Kept.{IsKept}
 use Rattle.engine_view.specs.Rooms.{IsRoomy}
+use Rattle.engine_view.specs.Shown.{IsSound}
 use Rattle.engine_view.specs.Stored.{Stored, held_in}
 use Rattle.engine_view.specs.Taking.{kinds_in}
+use Rattle.right_records.specs.Records.{IsRightRecord}
+use Rattle.right_records.proofs.Final.{right_final}
+use Rattle.right_records.proofs.Marks.{marks_on}
+use Rattle.right_records.proofs.Onward.{final_record}
+use Rattle.right_records.proofs.Recording.{right_agrees}
+use Rattle.cycle_changes.specs.Changed.{HasChanged}
 use Rattle.retime.specs.Cuts.{HasRetimed, KeepsRoomEdited}
 use Rattle.retime.specs.Edits.{IsEditFrom, IsEditOf}
-use Rattle.retime.specs.Rounds.{AreTimings, LeadsAll, HasEnded, only_steps, cycles_in, steps_in}
+use Rattle.retime.specs.Rounds.{LeadsAll, HasEnded, only_steps, cycles_in, steps_in}
 use Rattle.retime.specs.Touched.{AreInOrder, IsFirstTouched, IsNeverTouched}
-use Rattle.retime.proofs.Agreeing.{other_in_history}
 use Rattle.retime.proofs.Behind.{agreed_behind, outcomes_behind}
+use Rattle.retime.proofs.Otherwise.{other_in_history}
 use Rattle.retime.proofs.Tallied.{places_in_order}
 use Rattle.sim_core.specs.Edits.{IsEdited, IsTrueGuard}
 use Rattle.sim_core.specs.Runs.{IsCore, over_of}
 use Rattle.sim_core.proofs.Cut.{final_of, history_of, cut_of}
 use Rattle.sim_core.proofs.EditedRuns.{run_edited, end_edited, channel_inside, fifo_there, depth_there, kinds_edited}
 use Rattle.sim_core.proofs.Keeping.{kept_of}
+use Rattle.sim_core.proofs.SameSteps.{same_steps, same_length, marks_beside}
 use Rattle.sim_core.proofs.Staying.{run_stays, end_stays}
 use Rattle.lockstep_defs.specs.Ports.{owner}
 use Rattle.sim_core.specs.Readers.{AreReaders}
 use Rattle.sim_core.specs.Opening.{AreOwnPorts}
 use Rattle.flow_word.specs.declared.access.Port.{Port}
+use Rattle.turn_history.proofs.Lending.{timings_no_run}
 
--- none of them is a Run
-no_runs : (m : ℕ) (actions : List Action) → AreTimings actions → IsNoRunOf m actions
-no_runs m [] t = tt
-no_runs m (Run n ∷ rest) t = absurd t
-no_runs m (Assign n ∷ rest) t = no_runs m rest t
-no_runs m (Answer n ∷ rest) t = no_runs m rest t
-no_runs m (Earliest n ∷ rest) t = absurd t
+-- what a retiming leaves of what is stored, and of the counter
+pub record IsRetiming (guard : Guard) (fifo depth clock limit : ℕ) (s t : Stored) (before after : ℕ) : Type 0 where
+  pub retimed : HasRetimed guard fifo depth clock limit s t
+  pub steps : only_steps t.graph.lanes ≡ only_steps s.graph.lanes
+  pub room : KeepsRoomEdited fifo depth s t
+  pub kinds : kinds_in t.table.channels ≡ kinds_in (with_depths s.table.channels fifo depth)
+  pub ticked : after + cycles_in (map (timed_below clock) s.graph.lanes) ≡ before + cycles_in t.graph.lanes
+  pub few : after + cycles_in (map (timed_below clock) s.graph.lanes) ≤ before + steps_in s.graph.lanes
+
+-- so it does where nothing came before it but a try that left all as it was
+pub retiming_from : (guard : Guard) (fifo depth clock limit : ℕ) (r s t : Stored) (start before after : ℕ) → r ≡ s → before ≡ start
+    → IsRetiming guard fifo depth clock limit r t before after → IsRetiming guard fifo depth clock limit s t start after
+retiming_from guard fifo depth clock limit r s t start before after same from done =
+    subst (λ (z : Stored). IsRetiming guard fifo depth clock limit z t start after) same
+    (subst (λ (b : ℕ). IsRetiming guard fifo depth clock limit r t b after) from done)
 
 module _ (p : Plan) (s : Stored) (ends : List (Option Advance)) (runs : List (Option ModuleRun)) (credits : List ℕ)
     (k : IsCore p s ends runs credits)
@@ -124,7 +142,7 @@ module _ (p : Plan) (s : Stored) (ends : List (Option Advance)) (runs : List (Op
 
     beside : (m : ℕ) → GrowsBeside (design q) cut y m
     beside m = others_grow (design q) (lockstep_run q) (plan_is_design q q_fits) (run_is_history q q_fits) p.cycles cut cut_now m
-        both.0.actions (no_runs m both.0.actions both.0.timings) y both.0.all
+        both.0.actions (timings_no_run m both.0.actions both.0.timings) y both.0.all
 
     lane_count : length t.graph.lanes ≡ length s.graph.lanes
     lane_count = sym (length-map t.graph.lanes (λ (l : Lane). l.steps))
@@ -143,9 +161,11 @@ module _ (p : Plan) (s : Stored) (ends : List (Option Advance)) (runs : List (Op
       room = subst (λ (f : Design ModuleState). IsRoomy f t over credits) same
           (room credits d over is_design (kept_of p s ends runs credits k) k.room);
       runs_are = λ m run there.
-          run_stays q cut y cut_now.marks m (beside m) run (run_edited p k.fits e fit m clock x run (k.runs_are m run there));
+          run_stays q cut y cut_now.marks m (beside m) run
+          (run_edited p k.fits e fit m x cut.timed cut.cycle cut.verified run (k.runs_are m run there));
       ends_are = λ m mark there.
-          end_stays q cut y cut_now.marks m (beside m) mark (end_edited p k.fits e fit m clock x mark (k.ends_are m mark there));
+          end_stays q cut y cut_now.marks m (beside m) mark
+          (end_edited p k.fits e fit m x cut.timed cut.cycle cut.verified mark (k.ends_are m mark there));
     }
 
     pub true_guard : (lent : List Bool) → IsTrueGuard guard (record { plan = q; held = held_in t over; lent = lent })
@@ -156,7 +176,7 @@ module _ (p : Plan) (s : Stored) (ends : List (Option Advance)) (runs : List (Op
         by Same ended = tt
         by (Differs u) ended =
             other_in_history (design q) (lockstep_run q) (plan_is_design q q_fits) (run_is_history q q_fits) p.cycles (held_in t over)
-            agreed_now u ended
+            both.0.kept.sound agreed_now u ended
 
     pub is_edited : (lent : List Bool) (before after : ℕ)
         → after + cycles_in (map (timed_below clock) s.graph.lanes) ≡ before + cycles_in t.graph.lanes
@@ -164,7 +184,7 @@ module _ (p : Plan) (s : Stored) (ends : List (Option Advance)) (runs : List (Op
         → IsEdited (record { plan = p; held = held_in s over; lent = lent })
         (record { plan = q; held = held_in t over; lent = lent }) e guard
         before after
-    is_edited lent before after ticked few = inr (record {
+    is_edited lent before after ticked few = inr (inl (record {
       clock = clock;
       from = from;
       leads = both.0;
@@ -172,7 +192,73 @@ module _ (p : Plan) (s : Stored) (ends : List (Option Advance)) (runs : List (Op
       ticked = ticked;
       few = few;
       outcomes = outcomes_behind d (lockstep_run p) (lockstep_run q) p.cycles over s t guard e.channel e.depth clock is_edit;
-    })
+    }))
+
+  -- ---- few cycles changed
+
+  module _ (final : IsFinal d p.cycles x) (t : Stored) (done : HasChanged e.channel e.depth p.cycles s t)
+      (steps : only_steps t.graph.lanes ≡ only_steps s.graph.lanes) (logs : t.log.logs ≡ s.log.logs) where
+    abbrev now : Core ModuleState
+    now = core_of (design q) (held_in t over)
+
+    -- they are right again
+    right_now : IsRightRecord (design q) p.cycles now × IsKept (design q) (held_in t over)
+    right_now = subst (λ (f : Design ModuleState). IsRightRecord f p.cycles (core_of f (held_in t over)) × IsKept f (held_in t over)) same
+        (done d over is_design (kept_of p s ends runs credits k)
+        (final_record d (lockstep_run p) is_design (run_is_history p k.fits) p.cycles x k.agreed final))
+
+    agrees_now : IsAgreed (design q) (lockstep_run q) p.cycles now
+    agrees_now = right_agrees (design q) (lockstep_run q) (plan_is_design q q_fits) (run_is_history q q_fits) p.cycles now right_now.0
+
+    marks_here : AreOwnMarks (design q) x
+    marks_here = subst (λ (f : Design ModuleState). AreOwnMarks f x) same (marks_on d x k.agreed.marks e.channel e.depth x.cycle)
+
+    beside_now : (m : ℕ) → GrowsBeside (design q) x now m
+    beside_now m =
+        subst (λ (f : Design ModuleState). GrowsBeside f x (core_of f (held_in t over)) m) same
+        (marks_beside d e.channel e.depth (held_in s over) (held_in t over) k.sound
+        (subst (λ (f : Design ModuleState). IsSound f (held_in t over)) (sym same) right_now.1.sound) k.agreed.marks
+        (subst (λ (f : Design ModuleState). AreOwnMarks f (core_of f (held_in t over))) (sym same) right_now.1.marks)
+        (same_steps s.graph.lanes t.graph.lanes steps) logs refl m)
+
+    pub core_changed : KeepsRoomEdited e.channel e.depth s t
+        → kinds_in t.table.channels ≡ kinds_in (with_depths s.table.channels e.channel e.depth)
+        → IsCore q t ends runs credits
+    core_changed room kinds = record {
+      fits = q_fits;
+      sound = right_now.1.sound;
+      agreed = agrees_now;
+      table = kinds ∙ kinds_edited p k.fits e fit s.table.channels k.table;
+      count = k.count ∙ sym (same_length s.graph.lanes t.graph.lanes steps);
+      counted = k.counted ∙ sym (same_length s.graph.lanes t.graph.lanes steps);
+      room = subst (λ (f : Design ModuleState). IsRoomy f t over credits) same
+          (room credits d over is_design (kept_of p s ends runs credits k) k.room);
+      runs_are = λ m run there.
+          run_stays q x now marks_here m (beside_now m) run
+          (run_edited p k.fits e fit m x x.timed x.cycle x.verified run (k.runs_are m run there));
+      ends_are = λ m mark there.
+          end_stays q x now marks_here m (beside_now m) mark
+          (end_edited p k.fits e fit m x x.timed x.cycle x.verified mark (k.ends_are m mark there));
+    }
+
+    pub is_changed : (clock : ℕ) → IsEditFrom s.graph.lanes s.table.channels e.channel e.depth p.cycles clock
+        → (lent : List Bool) (before after : ℕ)
+        → after + cycles_in (map (timed_below clock) s.graph.lanes) ≤ before + steps_in s.graph.lanes
+        → IsEdited (record { plan = p; held = held_in s over; lent = lent })
+        (record { plan = q; held = held_in t over; lent = lent }) e Same
+        before after
+    is_changed clock from lent before after few = inr (inr (record {
+      clock = clock;
+      from = from;
+      same = refl;
+      sound = right_now.1.sound;
+      agreed = agrees_now;
+      final = right_final (design q) p.cycles now right_now.0;
+      steps = steps;
+      logs = logs;
+      over = refl;
+      few = few;
+    }))
 
 -- the clock that the code goes by
 pub edit_from : (p : Plan) (s : Stored) (ends : List (Option Advance)) (runs : List (Option ModuleRun)) (credits : List ℕ)

@@ -48,6 +48,7 @@ use Rattle.sim_core.proofs.Replying.{replies_found, AreAsMany, found_fit}
 use Rattle.sim_core.proofs.Resting.{rest_is}
 use Rattle.sim_core.proofs.Staying.{tell, fed_is}
 use Rattle.sim_core.proofs.Finding.{values_now, are_found, not_found}
+use Rattle.engine_report.proofs.Asking.{same_kind}
 
 -- ---- kinds
 
@@ -59,7 +60,7 @@ kind_by Push false true = TryWrite
 kind_by Pop false false = Empty
 kind_by Push false false = Full
 
-kind_is : (k : Kind) → kind_by (side_of k) (is_blocking k) (is_taking k) ≡ k
+pub kind_is : (k : Kind) → kind_by (side_of k) (is_blocking k) (is_taking k) ≡ k
 kind_is Read = refl
 kind_is Write = refl
 kind_is TryRead = refl
@@ -67,16 +68,13 @@ kind_is TryWrite = refl
 kind_is Empty = refl
 kind_is Full = refl
 
-kind_same : (r : Request) (a : Access) → bridge.seen r ≡ seen a → r.kind ≡ a.kind
-kind_same r a e = sym (kind_is r.kind) ∙ (ap (λ (z : theory.Access). kind_by z.side z.blocks z.takes) e ∙ kind_is a.kind)
-
 no_access : theory.Access
 no_access = record { side = Pop; blocks = false; takes = false; channel = 0; value = 0 }
 
-heads : (x y : theory.Access) (xs ys : List theory.Access) → x ∷ xs ≡ y ∷ ys → x ≡ y
+pub heads : (x y : theory.Access) (xs ys : List theory.Access) → x ∷ xs ≡ y ∷ ys → x ≡ y
 heads x y xs ys e = ap (λ (zs : List theory.Access). get_or zs 0 no_access) e
 
-tails : (x y : theory.Access) (xs ys : List theory.Access) → x ∷ xs ≡ y ∷ ys → xs ≡ ys
+pub tails : (x y : theory.Access) (xs ys : List theory.Access) → x ∷ xs ≡ y ∷ ys → xs ≡ ys
 tails x y xs ys e = ap (λ (zs : List theory.Access). drop 1 zs) e
 
 -- ---- replies
@@ -102,7 +100,7 @@ told_found channels (r ∷ rs) (a ∷ xs) [] e f = absurd f
 told_found channels (r ∷ rs) (a ∷ xs) (b ∷ bs) e (f, fs) =
     ap₂ (λ (q : Reply) (qs : List Reply). q ∷ qs)
     (ap (λ (k : Kind). reply_by k b (cond (pops_now (seen a) b) (get_or (values_at channels a.channel) (a.ordinal - 1) 0) 0))
-    (kind_same r a (heads _ _ _ _ e))
+    (same_kind r a (heads _ _ _ _ e))
     ∙ told_one a.kind b (get_or (values_at channels a.channel) (a.ordinal - 1) 0) f)
     (told_found channels rs xs bs (tails _ _ _ _ e) fs)
 
@@ -113,7 +111,7 @@ fit_same before [] (a ∷ xs) qs e = cc
 fit_same before (r ∷ rs) [] qs e = cc
 fit_same before (r ∷ rs) (a ∷ xs) [] e = refl
 fit_same before (r ∷ rs) (a ∷ xs) (q ∷ qs) e =
-    ap₂ (λ (b c : Bool). b && c) (ap (λ (k : Kind). fits_kind k q) (kind_same r a (heads _ _ _ _ e)))
+    ap₂ (λ (b c : Bool). b && c) (ap (λ (k : Kind). fits_kind k q) (same_kind r a (heads _ _ _ _ e)))
     (fit_same before rs xs qs (tails _ _ _ _ e))
 
 pub as_many : (xs : List Access) (bs : List Bool) → FlagsFit (map seen xs) bs → AreAsMany xs bs

@@ -22,6 +22,8 @@ use Rattle.event_timing.specs.Core.{pops_now}
 use Rattle.run_ahead.specs.Replies.{reply_now, put_first, put_before}
 use Rattle.sim_core.specs.Found.{value_now, replies_now, FindsOn}
 use Rattle.sim_core.proofs.Replying.{replies_found}
+use Rattle.flow_word.proofs.Ranges.{some_is}
+use Rattle.engine_view.proofs.Comparing.{queries_cons}
 
 -- ---- the loop
 
@@ -87,9 +89,6 @@ record IsReply (k : Kind) (o : Option Bool) (v : Option ℕ) (r : Reply) : Type 
   outcome : is_blocking k ≡ false → is_some o ≡ true
   value : needs k (flag_now k o) ≡ true → is_some v ≡ true
 
-some_is : {X : Type 0} → (a b : X) → Some a ≡ Some b → a ≡ b
-some_is {X} a b e = ap (λ (o : Option X). unwrap_or o a) e
-
 reply_is_there : (k : Kind) (o : Option Bool) (v : Option ℕ) (r : Reply) → reply_now k o v ≡ Some r → IsReply k o v r
 reply_is_there Read o None r e = cc
 reply_is_there Read o (Some v) r e = record { is = sym (some_is (Value v) r e); outcome = λ f. cc; value = λ f. refl }
@@ -149,9 +148,6 @@ pub flags_first : (a : Access) (xs : List Access) (os : List Bool) → flags_by 
     (cond (is_blocking a.kind) os (drop 1 os))
 flags_first a xs os = elim (cases_Bool (is_blocking a.kind)) [ inl e ↦ rw e refl | inr e ↦ rw e refl ]
 
-pub queries_first : (a : Access) (xs : List Access) → queries_in (a ∷ xs) ≡ cond (is_blocking a.kind) 0 1 + queries_in xs
-queries_first a xs = elim (cases_Bool (is_blocking a.kind)) [ inl e ↦ rw e (omega arith) | inr e ↦ rw e (omega arith) ]
-
 there_is : (xs : List ℕ) (n : ℕ) → is_some (slice_get xs n) ≡ true → n < length xs
 there_is [] n e = cc
 there_is (x ∷ xs) zero e = omega arith
@@ -175,7 +171,7 @@ are_found channels (a ∷ xs) os rs e =
           (y.is ∙ ap (reply_by a.kind (flag_now a.kind (slice_get os 0)))
           (unwrap_or-slice_get (values_at channels a.channel) (a.ordinal - 1) 0)) f.replies
           ∙ ap (λ (bs : List Bool). replies_found channels (a ∷ xs) bs) (sym (flags_first a xs os)));
-      enough = rw (queries_first a xs) (count os (is_blocking a.kind) f.enough y.outcome);
+      enough = rw (queries_cons a xs) (count os (is_blocking a.kind) f.enough y.outcome);
       there = rw (flags_first a xs os) (and_from _ _ (value_there y.value) f.there);
     }
   where
@@ -201,7 +197,7 @@ not_found channels (a ∷ xs) os e l t =
     let t' = rw (flags_first a xs os) at t in
     let (mine, rest) = and_parts (not (pops_now (seen a) (flag_now a.kind (slice_get os 0))) || ltb (a.ordinal - 1)
     (length (values_at channels a.channel))) (values_now channels xs (flags_by xs (cond (is_blocking a.kind) os (drop 1 os)))) t' in
-    let l' = rw (queries_first a xs) at l in
+    let l' = rw (queries_cons a xs) at l in
     elim (put_none (reply_now a.kind (slice_get os 0) (value_now channels a))
     (replies_now channels xs (cond (is_blocking a.kind) os (drop 1 os))) e) [
       | inl q ↦ no_reply a.kind (slice_get os 0) (value_now channels a) q (λ b. outcome os b (rw b at l')) (λ n. value n mine)

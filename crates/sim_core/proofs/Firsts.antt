@@ -55,9 +55,6 @@ tail_fails {X} p x xs e =
     none_of None e = refl
     none_of (Some n) e = cc
 
-pub both_fail : {X : Type 0} (p : X → Bool) (x : X) (xs : List X) → p x ≡ false → position p xs ≡ None → position p (x ∷ xs) ≡ None
-both_fail {X} p x xs e f = position_more p x xs ∙ rw (e, f) refl
-
 -- ---- the first module that passes
 
 range_at : (n k e : ℕ) → k < n → get_or (range_with_len 0 n) k e ≡ k

@@ -10,6 +10,7 @@ use Rattle.flow_design.specs.Plans.{with_depth}
 use Rattle.flow_design.specs.StaticRules.{FitsEngine}
 use Rattle.lockstep_defs.specs.Channels.{HistoryStep}
 use Rattle.lockstep_defs.specs.Report.{report, outcomes}
+use Rattle.flow_word.specs.declared.access.Step.{Step}
 use Rattle.query_log.specs.Logs.{log_at}
 use Rattle.event_graph.specs.Lanes.{Lane, lane_at, no_lane}
 use Rattle.std.proofs.lemmas.List.{get_or_past}
@@ -17,13 +18,14 @@ use Rattle.query_log.specs.declared.query.Query.{Query}
 use Rattle.event_timing.specs.Machines.{Design}
 use Rattle.event_timing.specs.Core.{Core, core_accesses, view}
 use Rattle.event_timing.specs.Enablers.{candidate}
-use Rattle.event_timing.specs.Actions.{Action, ActsAll, MayRun, new_flags}
-use Rattle.event_timing.specs.Agreement.{IsAgreed}
-use Rattle.event_timing.specs.Edits.{after_edit}
+use Rattle.event_timing.specs.Actions.{Action, ActsAll, IsFinal, MayRun, new_flags}
+use Rattle.event_timing.specs.Agreement.{AreOwnMarks, IsAgreed}
+use Rattle.event_timing.specs.Edits.{edited, after_edit}
 use Rattle.event_timing.proofs.Answering.{first_emitted}
 use Rattle.event_timing.proofs.Beside.{actions_grow}
 use Rattle.timing_bridge.specs.Designs.{design, lockstep_run}
 use Rattle.timing_bridge.specs.Outcomes.{outcomes_by, first_requests, IsNextStep}
+use Rattle.timing_bridge.proofs.Edits.{same_design}
 use Rattle.timing_bridge.proofs.History.{plan_is_design, run_is_history}
 use Rattle.timing_bridge.proofs.Outcomes.{answered_outcomes, earliest_outcomes}
 use Rattle.engine_view.specs.Held.{Held, step_of, emitted_of, are_among, core_of}
@@ -32,12 +34,13 @@ use Rattle.engine_view.specs.Turns.{IsFoundOther, first_of}
 use Rattle.retime.specs.Edits.{OutcomesGrow}
 use Rattle.sim_core.specs.Views.{CoreView, theory_of}
 use Rattle.sim_core.specs.Drives.{Goes, IsDiffering}
-use Rattle.sim_core.specs.Edits.{IsAsBefore, IsRetimed}
+use Rattle.sim_core.specs.Edits.{IsAsBefore, IsRetimed, IsChanged}
 use Rattle.sim_core.specs.Records.{IsEditedOn, HasOtherAnswer}
 use Rattle.sim_core.proofs.Cut.{cut_of, cut_stays}
 use Rattle.sim_core.proofs.Logged.{answered_back, outcomes_on}
 use Rattle.sim_core.proofs.Otherwise.{AreOtherAt, other_answer}
 use Rattle.sim_core.proofs.RecordsGrow.{all_recorded}
+use Rattle.sim_core.proofs.SameSteps.{same_steps, same_flags, same_answered, all_asked}
 use Rattle.sim_core.proofs.Unadded.{IsUnadded, unadded_no_run}
 
 acts_both : {S : Type 0} → (d : Design S) (limit : ℕ) (x : Core S) (actions more : List Action) (y z : Core S)
@@ -165,8 +168,55 @@ module _ (v : CoreView) (e : Edit) (w : CoreView) (t : IsEditedOn v e w) where
         all = all;
       }
 
+  -- where few cycles changed, they lead on from that core itself
+  module _ (c : IsChanged v t.middle e t.guard t.before t.now) where
+    abbrev now : Held
+    now = t.middle.held
+
+    depth_set : edited (design v.plan) e.channel e.depth ≡ design t.middle.plan
+    depth_set = same_design v.plan e.channel e.depth t.fits.entry ∙ ap design (sym t.plan)
+
+    plan_now : edited (design v.plan) e.channel e.depth ≡ design w.plan
+    plan_now = depth_set ∙ ap design (sym t.goes.plan)
+
+    accesses_now : (m k : ℕ) → core_accesses (design w.plan) (core_of (design w.plan) now) m k
+        ≡ core_accesses (design v.plan) (core_of (design v.plan) v.held) m k
+    accesses_now m k =
+        subst (λ (f : Design ModuleState). core_accesses f (core_of f now) m k
+        ≡ core_accesses (design v.plan) (core_of (design v.plan) v.held) m k) plan_now
+        (all_asked (design v.plan) e.channel e.depth v.held now t.from.sound
+        (subst (λ (f : Design ModuleState). IsSound f now) (sym depth_set) c.sound) t.from.agreed.marks
+        (subst (λ (f : Design ModuleState). AreOwnMarks f (core_of f now)) (sym depth_set) c.agreed.marks)
+        (same_steps v.held.lanes now.lanes c.steps) c.logs c.over m k)
+
+    flags_now : (m k : ℕ) → (core_of (design w.plan) now).flags m k ≡ (core_of (design v.plan) v.held).flags m k
+    flags_now m k = same_flags v.held now (same_steps v.held.lanes now.lanes c.steps) c.logs m k
+
+    led_changed : IsLed v.plan w.plan v.held w.held
+    led_changed =
+        let there = subst (λ (q : Plan). IsAgreed (design q) (lockstep_run q) q.cycles (core_of (design q) now)
+        × (IsFinal (design q) q.cycles (core_of (design q) now)
+        × ActsAll (design q) q.cycles (core_of (design q) now) t.goes.actions (theory_of w)))
+        (sym t.goes.plan) (c.agreed, (c.final, t.goes.all)) in
+        record {
+          core = core_of (design w.plan) now;
+          record_is = λ m. record {
+            emitted = ap (λ (ss : List Step). length ss) (same_steps v.held.lanes now.lanes c.steps m);
+            accesses = accesses_now m;
+            answered = same_answered v.held now (same_steps v.held.lanes now.lanes c.steps) c.logs m;
+            flags = flags_now m;
+          };
+          agreed = there.0;
+          no_run = λ m may. there.1.0.quiet.no_run m may;
+          actions = t.goes.actions;
+          all = there.1.1;
+        }
+
   led : IsLed v.plan w.plan v.held w.held
-  led = elim t.edited [ inl same ↦ led_before same | inr r ↦ led_retimed r ]
+  led = elim t.edited [
+    | inl same ↦ led_before same
+    | inr r ↦ elim r [ inl retimed ↦ led_retimed retimed | inr changed ↦ led_changed changed ]
+  ]
 
   same_logs : length w.held.logs ≡ length v.held.logs
   same_logs =
@@ -210,10 +260,10 @@ module _ (v : CoreView) (e : Edit) (w : CoreView) (t : IsEditedOn v e w) where
               absurd (omega arith)
         ]
 
-    other : (j : ℕ) × AreOtherAt j (log_at w.held.logs m).outcomes (get_or (report w.plan).answers m [])
+    other : AreOtherAt q.number (log_at w.held.logs m).outcomes (get_or (report w.plan).answers m [])
     other =
         let (s, clock, is, told) = next in
-        (_, other_answer w.plan w.held t.to.sound t.to.agreed m c inside q found at s is told)
+        other_answer w.plan w.held t.to.sound t.to.agreed m c inside q found at s is told
 
     -- they are as they were before the edit
     as_before : (log_at w.held.logs m).outcomes ≡ (log_at v.held.logs m).outcomes
@@ -231,21 +281,21 @@ module _ (v : CoreView) (e : Edit) (w : CoreView) (t : IsEditedOn v e w) where
               absurd (both_ways _ unsure sure)
         ]
 
-    has_other : HasOtherAnswer v.held.logs w.plan
+    has_other : HasOtherAnswer v.held.logs w.plan q
     has_other =
-        let (j, o) = other in
+        let o = other in
+        let owned = found.other.owned in
         record {
-          owner = m;
-          number = j;
           inside = let n = same_logs in let i = inside in omega arith;
           recorded = o.one;
           found = o.other;
-          was = ap (λ (os : List Bool). slice_get os j) (sym as_before) ∙ o.here;
-          is = o.there;
+          was = ap (λ (k : ℕ). slice_get (log_at v.held.logs k).outcomes q.number) owned
+              ∙ (ap (λ (os : List Bool). slice_get os q.number) (sym as_before) ∙ o.here);
+          is = ap (λ (k : ℕ). slice_get (get_or (report w.plan).answers k []) q.number) owned ∙ o.there;
           differ = o.differ;
         }
 
-  pub differ_led : (q : Query) → IsDiffering w q → HasOtherAnswer v.held.logs w.plan
+  pub differ_led : (q : Query) → IsDiffering w q → HasOtherAnswer v.held.logs w.plan q
   differ_led q (m, inl d) =
       has_other m d.cycle q d.found d.may.determined.at d.may.open_query
       (answered_outcomes w.plan t.to.fits w.plan.cycles x t.to.agreed m d.cycle d.may)

@@ -43,3 +43,6 @@ pub mod Seeking
 pub mod Looking
 pub mod Permitting
 pub mod AccessLogs
+pub mod Given
+pub mod SetFew
+pub mod SameSteps

@@ -40,8 +40,9 @@ use Rattle.sim_core.specs.Found.{value_now}
 use Rattle.sim_core.specs.Missing.{asks, is_open_query, first_missing}
 use Rattle.sim_core.specs.Causes.{first_lacking, has_clock, is_held, is_undecided, is_unverified, lacks_reply}
 use Rattle.sim_core.proofs.Causing.{ArePlain, lacks}
-use Rattle.sim_core.proofs.Finding.{flags_first, queries_first}
+use Rattle.sim_core.proofs.Finding.{flags_first}
 use Rattle.sim_core.proofs.Firsts as firsts
+use Rattle.engine_view.proofs.Comparing.{queries_cons as queries_first}
 
 -- ---- the first step without a cycle
 

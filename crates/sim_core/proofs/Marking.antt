@@ -48,12 +48,12 @@ use Rattle.timing_bridge.specs.CoreReports.{core_step}
 use Rattle.timing_bridge.specs.OwnRuns.{clocks_of_steps}
 use Rattle.timing_bridge.proofs.Ordinals.{ordinals}
 use Rattle.timing_bridge.proofs.Requests.{stand}
-use Rattle.timing_bridge.proofs.Steps.{range_more}
 use Rattle.engine_view.specs.Held.{Held, step_of, emitted_of, seen, queries_in, waited, core_of}
 use Rattle.engine_view.specs.Shown.{IsSound, queries_before}
 use Rattle.engine_view.specs.Emitted.{IsNextStep}
 use Rattle.sim_core.specs.Marks.{exchanges_before, IsRestBehind}
 use Rattle.sim_core.specs.Opening.{kind_by, kind_in, kinds_of}
+use Rattle.flow_word.proofs.Ranges.{range_more}
 
 -- ---- accesses
 

@@ -211,8 +211,11 @@ module _ (p : Plan) (h : Held) (s : IsSound (design p) h) (g : IsAgreed (design 
   answered : get_or (report p).answers m [] ≡ take before outs ++ (asked ++ outcomes next.later)
   answered = answers_next p h s g m inside step next ∙ ap (λ (os : List Bool). take before outs ++ (os ++ outcomes next.later)) told
 
-  pub other_answer : AreOtherAt (before + number) outs (get_or (report p).answers m [])
-  other_answer =
+  told_by : q.number ≡ before + number
+  told_by = found.other.number ∙ ap (λ (n : ℕ). n + number) first_is
+
+  other_at : AreOtherAt (before + number) outs (get_or (report p).answers m [])
+  other_at =
       let n = front_count in
       let at_one = behind_same (take before outs) (drop before outs) [] number other.one other.here in
       let at_other = behind_same (take before outs) asked (outcomes next.later) number other.other other.there in
@@ -227,3 +230,6 @@ module _ (p : Plan) (h : Held) (s : IsSound (design p) h) (g : IsAgreed (design 
             ∙ (ap (slice_get (take before outs ++ (asked ++ outcomes next.later))) (sym place) ∙ at_other);
         differ = other.differ;
       }
+
+  pub other_answer : AreOtherAt q.number outs (get_or (report p).answers m [])
+  other_answer = subst (λ (j : ℕ). AreOtherAt j outs (get_or (report p).answers m [])) (sym told_by) other_at

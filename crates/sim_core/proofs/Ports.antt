@@ -13,6 +13,7 @@ use Rattle.flow_design.specs.declared.plan.Plan.{Plan}
 use Rattle.timing_bridge.specs.Designs.{design}
 use Rattle.engine_view.specs.Rooms.{AreAllPorts}
 use Rattle.sim_core.specs.Opening.{port_where, ports_at, ports_to}
+use Rattle.std.proofs.lemmas.Bool.{eq-eqb}
 
 abbrev Has : List Port → Port → Type 0
 Has ports port = (i : ℕ) × (slice_get ports i ≡ Some port)
@@ -26,15 +27,12 @@ behind : (b : Bool) (side : Side) (c : ℕ) (more : List Port) (port : Port) →
 behind true side c more port (i, e) = (suc i, e)
 behind false side c more port (i, e) = (i, e)
 
-same : (a b : ℕ) → a ≡ b → eqb a b ≡ true
-same a b e = elim (eqb_tells a b) [ inl t ↦ t.0 | inr t ↦ absurd (t.1 e) ]
-
 module _ (p : Plan) (m : ℕ) where
   first : (side : Side) (a c : ℕ) (more : List Port) → a ≡ c → (design p).owner side c ≡ m
       → Has (port_where (eqb ((design p).owner side a) m) side a ++ more) (record { side = side; channel = c })
   first side a c more e o =
       subst (λ (k : ℕ). Has (port_where (eqb ((design p).owner side a) m) side a ++ more) (record { side = side; channel = k })) e
-      (here (eqb ((design p).owner side a) m) side a more (same ((design p).owner side a) m
+      (here (eqb ((design p).owner side a) m) side a more (eq-eqb ((design p).owner side a) m
       (subst (λ (k : ℕ). (design p).owner side k ≡ m) (sym e) o)))
 
   has_port : (a n c : ℕ) (side : Side) → a ≤ c → c < a + n → (design p).owner side c ≡ m

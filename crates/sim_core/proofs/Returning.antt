@@ -1,14 +1,13 @@
 -- Marks that come back, one after the other.
-use Rattle.std.proofs.Common.{◌≡◌, refl, sym, ap, subst, ◌∙◌, ℕ, zero, suc, ◌+◌, ◌*◌, ◌^◌, ◌<◌, ◌≤◌, ◌⊎◌, inl, inr, Bool, true, false, cond}
+use Rattle.std.proofs.Common.{◌≡◌, refl, sym, ap, subst, ◌∙◌, ℕ, zero, suc, ◌+◌, ◌*◌, ◌^◌, ◌<◌, ◌≤◌, ◌⊎◌, inl, inr, Bool, true}
 use Rattle.std.proofs.Common.{List, [], ◌∷◌, length, drop, get_or, set, slice_get, Option, Some, arith}
 use Rattle.std.proofs.lemmas.Bool.{cases_Bool}
 use Rattle.flow_word.specs.declared.access.Step.{Step as StepOf}
 use Rattle.flow_design.specs.declared.plan.Plan.{Plan}
 use Rattle.flow_design.specs.declared.state.ModuleState.{ModuleState}
 use Rattle.flow_design.specs.declared.state.Advance.{Advance}
-use Rattle.flow_design.specs.declared.state.Advance.TheVariants.{Step, Ended, Spent}
+use Rattle.flow_design.specs.declared.state.Advance.TheVariants.{Step}
 use Rattle.flow_design.specs.StaticRules.{FitsEngine}
-use Rattle.lockstep_defs.specs.Machine.{is_spent}
 use Rattle.lockstep_defs.specs.OwnRun.{Own}
 use Rattle.module_interp.specs.declared.run.ModuleRun.{ModuleRun}
 use Rattle.module_interp.specs.OwnRests.{next_rest, accesses_at, mark_at}
@@ -33,16 +32,9 @@ use Rattle.sim_core.specs.Tasks.{IsTaskFor, IsTaskLeft, rest_of}
 use Rattle.sim_core.proofs.Ahead.{Goes, Waits, waits_behind, over_behind, goes_on, waiting_stands, going_stands, over_stands}
 use Rattle.sim_core.proofs.Tasks.{waits_first, goes_first}
 use Rattle.sim_core.proofs.Emission.{IsReady}
+use Rattle.module_interp.proofs.Sound.{gap_at}
 
 -- ---- one mark
-
-gap_is : (p : Plan) (i : ℕ) (o : Own) → gap_of (mark_at p i o) ≡ o.since
-gap_is p i o = go o.state.ended (is_spent p.ops o.state) _ refl
-  where
-    go : (a b : Bool) (s : StepOf) → s.gap ≡ o.since → gap_of (cond a (Ended o.since) (cond b (Spent o.since) (Step s))) ≡ o.since
-    go true b s e = refl
-    go false true s e = refl
-    go false false s e = e
 
 module _ (p : Plan) (s : Stored) (ends : List (Option Advance)) (runs : List (Option ModuleRun)) (credits : List ℕ) (m : ℕ)
     (mark : Advance) (n : IsNextMark p s ends runs credits m mark) where
@@ -53,7 +45,7 @@ module _ (p : Plan) (s : Stored) (ends : List (Option Advance)) (runs : List (Op
   may_record l = record { core = n.room.core; inside = l; lent = n.room.lent; may = n.may }
 
   pub short_rest : rest.since < 10 ^ 18
-  short_rest = let g = gap_is p m rest in let e = ap gap_of n.is in let l = n.sound.short in omega arith
+  short_rest = let g = gap_at p m rest in let e = ap gap_of n.is in let l = n.sound.short in omega arith
 
   pub small_step : (t : StepOf) → mark ≡ Step t → IsSmallStep t
   small_step t e = subst IsSmall e n.sound.small
@@ -254,6 +246,3 @@ are_returned p s t ends runs credits m burst same core lent places outcomes (tas
   is_task = subst (λ (h : Held). IsTaskFor p (core_of (design p) h) m task) (sym same) for';
   is_burst = subst (λ (h : Held). IsBurst p m (rest_of p (core_of (design p) h) m task) task burst) (sym same) is;
 }
-
-pub same_some : (a b : ModuleRun) → Some a ≡ Some b → a ≡ b
-same_some a b e = cc

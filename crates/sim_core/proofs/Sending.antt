@@ -3,7 +3,7 @@ use Rattle.std.proofs.Common.{◌≡◌, refl, sym, ap, ap₂, ◌∙◌, ℕ, z
 use Rattle.std.proofs.Common.{List, [], ◌∷◌, ◌++◌, length, map, take, drop, get_or, slice_index, slice_get, Some, arith}
 use Rattle.std.proofs.lemmas.List.{get_or_past}
 use Rattle.std.proofs.lemmas.Bool.Decides.{eqb_tells}
-use Rattle.std.proofs.lemmas.Bool.{cases_Bool, cond-true, cond-false, cases_lt}
+use Rattle.std.proofs.lemmas.Bool.{cases_Bool, cond-true, cond-false, cases_lt, eq-eqb}
 use Rattle.flow_word.specs.declared.access.Access.{Access}
 use Rattle.flow_word.specs.declared.access.Side.{Side}
 use Rattle.flow_word.specs.declared.access.Side.TheVariants.{Pop, Push}
@@ -17,7 +17,7 @@ use Rattle.lockstep_defs.specs.OwnRun.{access_of}
 use Rattle.lockstep_defs.specs.Report.{queries}
 use Rattle.module_interp.specs.OwnRests.{done_in}
 use Rattle.query_resolve.specs.Decisions.{late_outcome}
-use Rattle.flow_word.specs.Kinds.{side_of, is_blocking, is_taking}
+use Rattle.flow_word.specs.Kinds.{is_blocking}
 use Rattle.event_timing.specs.Machines as theory
 use Rattle.event_timing.specs.Core.{core_tally}
 use Rattle.event_timing.specs.Agreement.{AreOwnMarks}
@@ -39,6 +39,8 @@ use Rattle.sim_core.specs.Opening.{kinds_of}
 use Rattle.sim_core.specs.Tasks.{outcomes_in, values_behind}
 use Rattle.sim_core.proofs.Marking.{moved_before, queries_done, table_count}
 use Rattle.sim_core.proofs.Resting.{rest_is}
+use Rattle.engine_report.proofs.Asking.{same_kind}
+use Rattle.sim_core.proofs.Fed.{heads, tails}
 
 -- ---- kinds
 
@@ -50,25 +52,8 @@ kind_by Push false true = TryWrite
 kind_by Pop false false = Empty
 kind_by Push false false = Full
 
-kind_is : (k : Kind) → kind_by (side_of k) (is_blocking k) (is_taking k) ≡ k
-kind_is Read = refl
-kind_is Write = refl
-kind_is TryRead = refl
-kind_is TryWrite = refl
-kind_is Empty = refl
-kind_is Full = refl
-
-kind_same : (r : Request) (a : Access) → bridge.seen r ≡ seen a → r.kind ≡ a.kind
-kind_same r a e = sym (kind_is r.kind) ∙ (ap (λ (z : theory.Access). kind_by z.side z.blocks z.takes) e ∙ kind_is a.kind)
-
 no_access : theory.Access
 no_access = record { side = Pop; blocks = false; takes = false; channel = 0; value = 0 }
-
-heads : (x y : theory.Access) (xs ys : List theory.Access) → x ∷ xs ≡ y ∷ ys → x ≡ y
-heads x y xs ys e = ap (λ (zs : List theory.Access). get_or zs 0 no_access) e
-
-tails : (x y : theory.Access) (xs ys : List theory.Access) → x ∷ xs ≡ y ∷ ys → xs ≡ ys
-tails x y xs ys e = ap (λ (zs : List theory.Access). drop 1 zs) e
 
 -- ---- outcomes
 
@@ -103,12 +88,12 @@ outcomes_read (r ∷ rs) (a ∷ xs) os e l =
           ap (λ (n : ℕ). take n os) q
           ∙ (outcomes_read rs xs os (tails _ _ _ _ e) (omega arith)
           ∙ (sym (cond-true (is_blocking r.kind) (outcomes_in rs (flags_by xs os))
-          (outcome_by r.kind true ∷ outcomes_in rs (flags_by xs os)) (ap is_blocking (kind_same r a (heads _ _ _ _ e)) ∙ k))
+          (outcome_by r.kind true ∷ outcomes_in rs (flags_by xs os)) (ap is_blocking (same_kind r a (heads _ _ _ _ e)) ∙ k))
           ∙ ap (outcomes_in (r ∷ rs)) (sym (cond-true (is_blocking a.kind) (true ∷ flags_by xs os)
           (possible_by a.kind (slice_get os 0) ∷ flags_by xs (drop 1 os)) k))))
       | inr k ↦
           let q : queries_in (a ∷ xs) ≡ suc (queries_in xs) = rw k refl in
-          ap (λ (n : ℕ). take n os) q ∙ asked r rs a xs os (kind_same r a (heads _ _ _ _ e)) k (omega arith)
+          ap (λ (n : ℕ). take n os) q ∙ asked r rs a xs os (same_kind r a (heads _ _ _ _ e)) k (omega arith)
           (λ os' y. outcomes_read rs xs os' (tails _ _ _ _ e) y)
     ]
 
@@ -120,15 +105,12 @@ asked_same before [] [] e = refl
 asked_same before [] (a ∷ xs) e = cc
 asked_same before (r ∷ rs) [] e = cc
 asked_same before (r ∷ rs) (a ∷ xs) e =
-    let kind = kind_same r a (heads _ _ _ _ e) in
+    let kind = same_kind r a (heads _ _ _ _ e) in
     let more = asked_same before rs xs (tails _ _ _ _ e) in
     elim (cases_Bool (is_blocking a.kind)) [
       | inl k ↦ let y : is_blocking r.kind ≡ true = ap is_blocking kind ∙ k in rw k (rw y more)
       | inr k ↦ let y : is_blocking r.kind ≡ false = ap is_blocking kind ∙ k in rw k (rw y (ap (λ (n : ℕ). suc n) more))
     ]
-
-eqb_is : (a b : ℕ) → a ≡ b → eqb a b ≡ true
-eqb_is a b e = elim (eqb_tells a b) [ inl t ↦ t.0 | inr t ↦ absurd (t.1 e) ]
 
 eqb_not : (a b : ℕ) → (a ≡ b → ⊥) → eqb a b ≡ false
 eqb_not a b n = elim (eqb_tells a b) [ inl t ↦ absurd (n t.1) | inr t ↦ t.0 ]
@@ -193,7 +175,7 @@ module _ (p : Plan) (f : FitsEngine p) (h : Held) (table : kinds_in h.channels �
           let k : c < length readers = omega arith in
           made.each c k
           ∙ (cond-true (eqb (slice_index readers c) m) (drop (slice_index popped c) (values_at h.channels c)) []
-          (eqb_is (slice_index readers c) m (r.each c k ∙ e))
+          (eq-eqb (slice_index readers c) m (r.each c k ∙ e))
           ∙ ap₂ (λ (i : ℕ) (vs : List ℕ). drop i vs) (counts c l ∙ popped_is c) (s.values c (omega arith)))
 
       pub others : (c : ℕ) → ((design p).owner Pop c ≡ m → ⊥) → values_on mail c ≡ []

@@ -20,8 +20,8 @@ use Rattle.event_timing.specs.Growth.{Grows, GrowsBeside, IsSettled}
 use Rattle.event_timing.proofs.Growing.{settled_less, settled_old, settled_all, reply_grow, there_grow}
 use Rattle.timing_bridge.specs.Designs.{design, told_all}
 use Rattle.timing_bridge.specs.OwnRuns.{core_replies}
-use Rattle.timing_bridge.proofs.Steps.{range_more}
 use Rattle.sim_core.specs.Runs.{IsAnswered, IsRunOf, IsEndOf, rest_behind}
+use Rattle.flow_word.proofs.Ranges.{range_more}
 
 -- what the core tells module i of its step k
 abbrev pub tell : Plan → Core ModuleState → ℕ → ℕ → List Reply

@@ -1,5 +1,5 @@
 -- A task of a core stays a task of it while others act; its burst is a list of permitted Runs, and has a mark where memory was there.
-use Rattle.std.proofs.Common.{◌≡◌, refl, sym, ap, ap₂, subst, ◌∙◌, ℕ, zero, suc, ◌+◌, ◌-◌, ◌<◌, Bool, true, false, not, cond, ltb}
+use Rattle.std.proofs.Common.{◌≡◌, refl, sym, ap, ap₂, subst, ◌∙◌, ℕ, ◌+◌, ◌-◌, ◌<◌, Bool, true, false, not, cond, ltb}
 use Rattle.std.proofs.Common.{◌&&◌, ◌||◌, List, [], ◌∷◌, length, map, drop, get_or, replicate, Some, slice_get, slice_index_or, inl}
 use Rattle.std.proofs.Common.{inr, arith}
 use Rattle.std.proofs.lemmas.Bool.{cases_Bool, cond-true, cond-false, lt-ltb, le-ltb, cases_lt, cases_eq, and_parts, ltb-true}
@@ -44,14 +44,9 @@ use Rattle.sim_core.proofs.Resting.{rest_is}
 use Rattle.sim_core.proofs.Beginnings.{get_drop, begins_drop}
 use Rattle.sim_core.proofs.Committed.{committed_waits, committed_goes, committed_below}
 use Rattle.sim_core.proofs.Staying.{run_stays}
+use Rattle.run_ahead.proofs.Finding.{none_at}
 
 -- ---- lists
-
-none_at : (n c : ℕ) → ◌≡◌ {A = ℕ} (get_or (replicate n 0) c 0) 0
-none_at zero zero = refl
-none_at zero (suc c) = refl
-none_at (suc n) zero = refl
-none_at (suc n) (suc c) = none_at n c
 
 -- ---- the task of a core
 

@@ -10,7 +10,8 @@ use Rattle.lockstep_defs.specs.Lockstep.{history}
 use Rattle.lockstep_defs.specs.Machine.{is_yes}
 use Rattle.lockstep_defs.specs.OwnRun.{paired}
 use Rattle.lockstep_defs.specs.Report.{event_of}
-use Rattle.lockstep_defs.specs.Verdict.{verdict, clock_of}
+use Rattle.lockstep_defs.specs.Verdict.{verdict}
+use Rattle.flow_design.specs.Reports.{clock_of}
 use Rattle.engine_view.specs.Held.{Held, step_of}
 use Rattle.engine_report.specs.declared.events.TimedStep.{TimedStep}
 use Rattle.query_log.specs.Logs.{log_at}

@@ -6,10 +6,13 @@ use Rattle.fifo_table.specs.Channels.{channel_at, depth_of}
 use Rattle.query_log.specs.Logs.{log_at}
 use Rattle.outcome_guard.specs.declared.guard.Guard.{Guard}
 use Rattle.outcome_guard.specs.declared.guard.Guard.TheVariants.{Same, Differs}
+use Rattle.event_timing.specs.Actions.{IsFinal}
+use Rattle.event_timing.specs.Agreement.{IsAgreed}
 use Rattle.event_timing.specs.Edits.{after_edit}
 use Rattle.timing_bridge.specs.Designs.{design, lockstep_run}
+use Rattle.engine_view.specs.Shown.{IsSound}
 use Rattle.retime.specs.Edits.{IsEditFrom, IsOtherInHistory, OutcomesGrow}
-use Rattle.retime.specs.Rounds.{LeadsAll, HasEnded, cycles_in, steps_in}
+use Rattle.retime.specs.Rounds.{LeadsAll, HasEnded, only_steps, cycles_in, steps_in}
 use Rattle.sim_core.specs.Views.{CoreView, theory_of}
 
 -- the depth is the one that stands, and nothing changed
@@ -31,8 +34,23 @@ pub record IsRetimed (old new : CoreView) (e : Edit) (guard : Guard) (before aft
   pub few : after + cycles_in (map (timed_below clock) old.held.lanes) ≤ before + steps_in old.held.lanes
   pub outcomes : (m : ℕ) → m < length old.held.logs → OutcomesGrow (log_at old.held.logs m) (log_at new.held.logs m)
 
+-- few cycles changed: with those that did, the core is that of the edited plan, and nothing is left to do
+pub record IsChanged (old new : CoreView) (e : Edit) (guard : Guard) (before after : ℕ) : Type 0 where
+  pub clock : ℕ
+  pub from : IsEditFrom old.held.lanes old.held.channels e.channel e.depth old.plan.cycles clock
+  pub same : guard ≡ Same
+  pub sound : IsSound (design new.plan) new.held
+  pub agreed : IsAgreed (design new.plan) (lockstep_run new.plan) new.plan.cycles (theory_of new)
+  pub final : IsFinal (design new.plan) new.plan.cycles (theory_of new)
+  pub steps : only_steps new.held.lanes ≡ only_steps old.held.lanes
+  pub logs : new.held.logs ≡ old.held.logs
+  pub over : new.held.over ≡ old.held.over
+  -- no more ticks than there are steps beside those whose cycles were below the first touched clock
+  pub few : after + cycles_in (map (timed_below clock) old.held.lanes) ≤ before + steps_in old.held.lanes
+
 abbrev pub IsEdited : CoreView → CoreView → Edit → Guard → ℕ → ℕ → Type 0
-IsEdited old new e guard before after = IsAsBefore old new e guard before after ⊎ IsRetimed old new e guard before after
+IsEdited old new e guard before after =
+    IsAsBefore old new e guard before after ⊎ (IsRetimed old new e guard before after ⊎ IsChanged old new e guard before after)
 
 -- a query that differs has another outcome in the plan's lockstep run
 abbrev pub IsTrueGuard : Guard → CoreView → Type 0

@@ -18,3 +18,4 @@ pub mod Causes
 pub mod Missing
 pub mod Acted
 pub mod AccessLog
+pub mod Costs

@@ -4,8 +4,6 @@ use Rattle.std.specs.List.{position_or_len}
 use Rattle.flow_word.specs.declared.access.Port.{Port}
 use Rattle.flow_word.specs.declared.access.Side.{Side}
 use Rattle.flow_word.specs.declared.access.Side.TheVariants.{Pop}
-use Rattle.flow_design.specs.declared.expr.Op.{Op}
-use Rattle.flow_design.specs.declared.expr.Op.TheVariants.{Set, Load, Store, Read, Write, TryRead, TryWrite, Empty, Full}
 use Rattle.flow_design.specs.declared.design.Module.{Module}
 use Rattle.flow_design.specs.declared.plan.Plan.{Plan}
 use Rattle.flow_design.specs.StaticRules.{uses}
@@ -21,30 +19,6 @@ AreReaders p readers = AreUsers p Pop readers
 
 abbrev pub port_at : Side → ℕ → Port
 port_at side c = record { side = side; channel = c }
-
--- the channel that an operation pops
-abbrev pub popped_channel : Op ℕ → Option ℕ
-popped_channel (Set x e) = None
-popped_channel (Load x n e) = None
-popped_channel (Store n e a) = None
-popped_channel (Read f x) = Some f
-popped_channel (Write f e) = None
-popped_channel (TryRead f x ok) = Some f
-popped_channel (TryWrite f ok e) = None
-popped_channel (Empty f x) = None
-popped_channel (Full f x) = None
-
--- the channel that an operation pushes
-abbrev pub pushed_channel : Op ℕ → Option ℕ
-pushed_channel (Set x e) = None
-pushed_channel (Load x n e) = None
-pushed_channel (Store n e a) = None
-pushed_channel (Read f x) = None
-pushed_channel (Write f e) = Some f
-pushed_channel (TryRead f x ok) = None
-pushed_channel (TryWrite f ok e) = Some f
-pushed_channel (Empty f x) = None
-pushed_channel (Full f x) = None
 
 -- the module is noted at these channels, where it said `none` before
 pub record AreNoted (none owner : ℕ) (at : ℕ → Bool) (before after : List ℕ) : Type 0 where

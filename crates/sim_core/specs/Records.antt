@@ -5,7 +5,8 @@ use Rattle.flow_design.specs.declared.plan.Plan.{Plan}
 use Rattle.flow_design.specs.Plans.{EditFits, with_depth}
 use Rattle.flow_design.specs.StaticRules.{FitsEngine}
 use Rattle.lockstep_defs.specs.Report.{report}
-use Rattle.query_log.specs.Logs.{Log, log_at}
+use Rattle.query_log.specs.declared.query.Query.{Query}
+use Rattle.query_log.specs.Logs.{Log, outcome_of}
 use Rattle.outcome_guard.specs.declared.guard.Guard.{Guard}
 use Rattle.event_timing.specs.Actions.{IsFinal}
 use Rattle.event_timing.specs.Agreement.{IsAgreed}
@@ -44,13 +45,11 @@ pub record IsEditedOn (v : CoreView) (e : Edit) (w : CoreView) : Type 0 where
   pub edited : IsEdited v middle e guard before now
   pub goes : Goes middle later w after
 
--- the plan's report has another outcome of a query than the one that is recorded
-pub record HasOtherAnswer (logs : List Log) (p : Plan) : Type 0 where
-  pub owner : ℕ
-  pub number : ℕ
-  pub inside : owner < length logs
+-- the plan's report has another outcome of the query than the one that is recorded under its number
+pub record HasOtherAnswer (logs : List Log) (p : Plan) (q : Query) : Type 0 where
+  pub inside : q.module < length logs
   pub recorded : Bool
   pub found : Bool
-  pub was : slice_get (log_at logs owner).outcomes number ≡ Some recorded
-  pub is : slice_get (slice_index_or (report p).answers owner []) number ≡ Some found
+  pub was : outcome_of logs q.module q.number ≡ Some recorded
+  pub is : slice_get (slice_index_or (report p).answers q.module []) q.number ≡ Some found
   pub differ : recorded ≢ found

@@ -2,20 +2,9 @@
 ghost use Rattle.flow_design.specs.StaticRules.{FitsEngine};
 
 use engine_view::bit_of;
-use flow_design::{Block, Module, Op, Plan};
+use flow_design::{Block, Module, Plan};
 use flow_word::{List, OutOfMemory, Words};
 use std::alloc::Global;
-
-/// The channel of a FIFO operation.
-fn channel_of(op: &Op<u32>) -> Option<u32> {
-    match op {
-        Op::Read(channel, _) | Op::Empty(channel, _) | Op::Full(channel, _) => Some(*channel),
-        Op::TryRead(channel, _, _) => Some(*channel),
-        Op::Write(channel, _) => Some(*channel),
-        Op::TryWrite(channel, _, _) => Some(*channel),
-        Op::Set(_, _) | Op::Load(_, _, _) | Op::Store(_, _, _) => None,
-    }
-}
 
 /// The bits that stand at a number; 0 where none stand there.
 pub(crate) fn bits_at(bits: &[u64], number: u32) -> u64 {
@@ -32,7 +21,7 @@ fn add_bits(all: &mut [u64], number: u32, bits: u64) {
 /// Adds a module's bit at each channel of a block.
 fn add_block(block: &Block, owner: u32, users: &mut [u64]) {
     for timed in block.ops.as_slice() {
-        if let Some(channel) = channel_of(&timed.op) {
+        if let Some((_, channel)) = timed.op.access() {
             add_bits(users, channel, bit_of(owner));
         }
     }

@@ -35,5 +35,5 @@ pub use flow_design::Plan;
 pub use laws::every_order;
 pub use machine::Core;
 pub use outcome_guard::{Guard, Query};
-pub use records::records_are_answers;
+pub use records::{edits_set_few, records_are_answers};
 pub use run_ahead::{Burst, Mail, Task, work};

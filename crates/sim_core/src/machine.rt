@@ -7,6 +7,7 @@ ghost use Rattle.engine_view.specs.Shown.{IsSound};
 ghost use Rattle.sim_core.specs.Views.{theory_of};
 
 use crate::unread::Unread;
+use cycle_changes::Changes;
 use event_graph::{Candidate, Graph};
 use fifo_table::FifoTable;
 use flow_design::{Advance, Plan, Reply};
@@ -42,6 +43,8 @@ pub struct Core {
     pub(crate) replies: List<Reply>,
     /// Room for a candidate of each module.
     pub(crate) candidates: Vec<Candidate>,
+    /// Room for the few cycles that an edit changes.
+    pub(crate) changes: Changes,
 }
 
 impl Drop for Core {
@@ -60,6 +63,7 @@ impl Drop for Core {
             beside: _beside,
             replies: _replies,
             candidates: _candidates,
+            changes: _changes,
         } = self;
     }
 }

@@ -5,6 +5,7 @@ ghost use Rattle.sim_core.specs.Readers.{AreReaders, AreUsers};
 ghost use Rattle.flow_design.specs.StaticRules.{FitsEngine};
 ghost use Rattle.flow_design.specs.Words.{cut_to};
 ghost use Rattle.event_timing.specs.Core.{opening_core};
+ghost use Rattle.event_timing.specs.Agreement.{AllVerified};
 ghost use Rattle.timing_bridge.specs.Designs.{design};
 ghost use Rattle.sim_core.specs.Opening.{kind_in, kinds_of, port_where, ports_at, ports_to, AreOwnPorts, AreFirstRuns};
 ghost use Rattle.sim_core.specs.Views.{theory_of};
@@ -13,6 +14,7 @@ use crate::beside::find_beside;
 use crate::machine::Core;
 use crate::readers::find_users;
 use crate::unread::nothing_unread;
+use cycle_changes::Changes;
 use event_graph::{Candidate, Graph};
 use fifo_table::{FifoTable, TableChannel};
 use flow_design::{Advance, ChannelKind, Plan};
@@ -22,13 +24,15 @@ use query_log::QueryLog;
 use std::alloc::Global;
 
 impl Core {
-    /// A core of a plan in which nothing is emitted yet. It has the runs of all modules.
+    /// A core of a plan in which nothing is emitted yet. It has the runs of all modules. No outcome is assumed, so that `drive` finds
+    /// none that differs.
     ///
     /// An error leaves nothing, and the plan is gone.
     pub fn new(alloc: Global, plan: Plan) -> Result<Core, OutOfMemory>
         requires { FitsEngine plan }
         ensures plan { IfOk result (λ core. core.plan ≡ plan) }
         ensures opening { IfOk result (λ core. theory_of core ≡ opening_core (design plan)) }
+        ensures verified { IfOk result (λ core. AllVerified (theory_of core)) }
         ensures own { IfOk result (λ core. (m : ℕ) → m < length plan.design.modules → slice_index_or core.lent m true ≡ false) }
     {
         let modules = plan.design.modules.as_slice().len() as u32;
@@ -58,6 +62,7 @@ impl Core {
             beside,
             replies: List::new(alloc),
             candidates,
+            changes: Changes::new(alloc),
         })
     }
 }

@@ -3,36 +3,11 @@ ghost use Rattle.std.specs.Prelude.{◌≡◌, ◌<◌, nat_eq, IfOk};
 ghost use Rattle.std.specs.List.{list_any};
 ghost use Rattle.flow_design.specs.Operations.{used_port};
 ghost use Rattle.flow_design.specs.StaticRules.{uses, is_port, FitsEngine};
-ghost use Rattle.sim_core.specs.Readers.{port_at, popped_channel, pushed_channel, AreNoted, AreUsers};
-ghost use Rattle.flow_word.specs.declared.access.Side.TheVariants.{Pop, Push};
+ghost use Rattle.sim_core.specs.Readers.{port_at, AreNoted, AreUsers};
 
 use flow_design::{Module, Op, Plan, Timed};
 use flow_word::{OutOfMemory, Side};
 use std::alloc::Global;
-
-/// The channel that an operation pops.
-fn popped_channel(op: &Op<u32>) -> Option<u32>
-    ensures { result ≡ popped_channel op.now }
-{
-    match op {
-        Op::Read(channel, _) => Some(*channel),
-        Op::TryRead(channel, _, _) => Some(*channel),
-        Op::Set(_, _) | Op::Load(_, _, _) | Op::Store(_, _, _) => None,
-        Op::Write(_, _) | Op::TryWrite(_, _, _) | Op::Empty(_, _) | Op::Full(_, _) => None,
-    }
-}
-
-/// The channel that an operation pushes.
-fn pushed_channel(op: &Op<u32>) -> Option<u32>
-    ensures { result ≡ pushed_channel op.now }
-{
-    match op {
-        Op::Write(channel, _) => Some(*channel),
-        Op::TryWrite(channel, _, _) => Some(*channel),
-        Op::Set(_, _) | Op::Load(_, _, _) | Op::Store(_, _, _) => None,
-        Op::Read(_, _) | Op::TryRead(_, _, _) | Op::Empty(_, _) | Op::Full(_, _) => None,
-    }
-}
 
 /// Notes a module at a channel, where none is noted.
 fn note(channel: u32, none: u32, owner: u32, users: &mut [u32])
@@ -44,31 +19,13 @@ fn note(channel: u32, none: u32, owner: u32, users: &mut [u32])
     }
 }
 
-/// Notes a module at the channel that its operation pops, where none is noted.
-fn note_pop(op: &Op<u32>, none: u32, owner: u32, users: &mut [u32])
-    ensures { AreNoted none owner (λ c. is_port (port_at Pop c) (used_port op.now)) users.old users.new }
-{
-    if let Some(channel) = popped_channel(op) {
-        note(channel, none, owner, users);
-    }
-}
-
-/// Notes a module at the channel that its operation pushes, where none is noted.
-fn note_push(op: &Op<u32>, none: u32, owner: u32, users: &mut [u32])
-    ensures { AreNoted none owner (λ c. is_port (port_at Push c) (used_port op.now)) users.old users.new }
-{
-    if let Some(channel) = pushed_channel(op) {
-        note(channel, none, owner, users);
-    }
-}
-
 /// Notes a module at the channel that its operation pops, or pushes, where none is noted.
 fn note_op(op: &Op<u32>, side: Side, none: u32, owner: u32, users: &mut [u32])
     ensures { AreNoted none owner (λ c. is_port (port_at side c) (used_port op.now)) users.old users.new }
 {
-    match side {
-        Side::Pop => note_pop(op, none, owner, users),
-        Side::Push => note_push(op, none, owner, users),
+    match op.used_port() {
+        Some(port) if port.side == side => note(port.channel, none, owner, users),
+        Some(_) | None => {}
     }
 }
 

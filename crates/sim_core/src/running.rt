@@ -135,7 +135,8 @@ impl Core {
         requires run { IsRunOf self.old.plan (theory_of self.old) owner run.old }
         requires answered { waits run.old ≡ false }
         requires lives { slice_index_or self.old.held.over owner false ≡ false }
-        ensures acts { OnOk result (Acts (design self.old.plan) self.old.plan.cycles (theory_of self.old) (Run owner) (theory_of self.new)) }
+        ensures acts { OnOk result (Acts (design self.old.plan) self.old.plan.cycles (theory_of self.old) (Run owner)
+            (theory_of self.new)) }
         ensures unchanged { OnErr result (self.new ≡ self.old) }
         ensures run { IsRunOf self.old.plan (theory_of self.new) owner run.new }
         ensures plan { self.new.plan ≡ self.old.plan }

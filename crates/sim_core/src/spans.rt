@@ -2,7 +2,8 @@
 ghost use Rattle.std.specs.Prelude.{◌≡◌, ◌<◌, length, IfOk};
 ghost use Rattle.event_timing.specs.Actions.{IsFinal};
 ghost use Rattle.timing_bridge.specs.Designs.{design};
-ghost use Rattle.lockstep_defs.specs.Verdict.{verdict, clock_of};
+ghost use Rattle.lockstep_defs.specs.Verdict.{verdict};
+ghost use Rattle.flow_design.specs.Reports.{clock_of};
 ghost use Rattle.stall_spans.specs.Spans.{AreSpans};
 ghost use Rattle.sim_core.specs.Views.{theory_of};
 

@@ -6,4 +6,4 @@ mod timing;
 
 pub use event_graph::Candidate;
 pub use known::{Known, known_of};
-pub use timing::{assign, candidate, last_cycle};
+pub use timing::{assign, candidate, last_cycle, latest};

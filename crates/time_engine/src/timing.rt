@@ -79,7 +79,7 @@ pub fn last_cycle(graph: &Graph, owner: u32) -> u64
 
 /// The latest of a clock and of those from which the blocking accesses are possible, or the number of the first access that
 /// waits.
-fn latest(graph: &Graph, fifos: &FifoTable, accesses: &[Access], clock: u64) -> Result<u64, u32>
+pub fn latest(graph: &Graph, fifos: &FifoTable, accesses: &[Access], clock: u64) -> Result<u64, u32>
     requires accesses { All (IsAccess fifos.now.channels) accesses.now }
     requires few { length accesses.now < 2 ^ 32 }
     requires places { HasPlaces graph.now.lanes fifos.now.channels }

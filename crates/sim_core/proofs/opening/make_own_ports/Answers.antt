@@ -3,13 +3,13 @@ use Rattle.std.proofs.Common.{[], ◌∷◌, ◌++◌, suc, append-nil, append_a
 use Rattle.std.specs.Prelude.{flat_map}
 use Rattle.std.specs.List.{range_with_len}
 use Rattle.std.proofs.lemmas.List.Concat.{flat_map-append}
-use Rattle.timing_bridge.proofs.Steps.{range_more}
 use Rattle.flow_word.specs.declared.access.Port.{Port}
 use Rattle.flow_word.specs.declared.access.Side.TheVariants.{Pop, Push}
 use Rattle.flow_design.specs.declared.plan.Plan.{Plan}
 use Rattle.timing_bridge.specs.Designs.{design}
 use Rattle.sim_core.specs.Opening.{port_where, ports_at, ports_to}
 use Rattle.sim_core.proofs.opening.make_own_ports.Goals as goal
+use Rattle.flow_word.proofs.Ranges.{range_more}
 
 ports_more : (p : Plan) (m n : ℕ) → ports_to p m (n + 1) ≡ ports_to p m n ++ ports_at p m n
 ports_more p m n =

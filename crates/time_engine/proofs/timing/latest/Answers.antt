@@ -1,7 +1,7 @@
 use Rattle.std.proofs.Common.{◌≡◌, sym, length, arith}
 use Rattle.time_engine.specs.Cycles.{is_waiting}
 use Rattle.time_engine.proofs.First.{none_more, position_found, position_none}
-use Rattle.time_engine.proofs.Latest.{latest_none, clocks_of-none, latest_next}
+use Rattle.time_engine.proofs.LatestClocks.{latest_none, clocks_of-none, latest_next}
 use Rattle.time_engine.proofs.timing.latest.Goals as goal
 
 pub loop-number-init : goal.loop-number-init

@@ -1,15 +1,21 @@
-use Rattle.std.proofs.Common.{◌≡◌, sym, subst, ◌∙◌, unwrap_or}
+use Rattle.std.proofs.Common.{◌≡◌, ◌<◌, refl, sym, ap₂, subst, ◌∙◌, length, unwrap_or}
+use Rattle.event_graph.specs.Roomed.{RoomedLanes}
+use Rattle.fifo_table.specs.Channels.{IsFifo, channel_at}
+use Rattle.fifo_table.specs.Roomed.{RoomedChannels}
 use Rattle.flow_design.specs.declared.plan.Plan.{Plan}
 use Rattle.flow_design.specs.Plans.{EditFits, with_depth}
+use Rattle.outcome_guard.specs.declared.guard.Guard.TheVariants.{Same}
 use Rattle.event_timing.specs.Actions.{IsFinal}
 use Rattle.timing_bridge.specs.Designs.{design}
 use Rattle.engine_view.specs.Stored.{stored, held_in}
+use Rattle.engine_view.specs.Turns.{IsSomeCore}
 use Rattle.sim_core.specs.Edits.{IsEdited, IsTrueGuard}
 use Rattle.sim_core.specs.Runs.{IsStoredCore, AreUnreadIn, lent_of, over_of}
 use Rattle.sim_core.proofs.Leaving.{unread_none}
 use Rattle.sim_core.specs.Views.{CoreView, theory_of}
 use Rattle.sim_core.proofs.EditedRuns.{channel_inside, fifo_there}
 use Rattle.sim_core.proofs.Editing as editing
+use Rattle.sim_core.proofs.Editing.{IsRetiming}
 use Rattle.sim_core.proofs.Turning.{some_core}
 use Rattle.sim_core.proofs.machine.Core.edit.Goals as goal
 
@@ -41,27 +47,119 @@ first_touched-from-requires-clause-in_order g c = λ side.
     let fit = subst (λ (v : CoreView). EditFits v.plan c.args.edit.now) (sym c.self.view_is) c.requires.fits in
     editing.in_order i.plan s i.ends.items i.runs.items i.credits.items c.self.invariant.core c.args.edit.now fit side
 
-pub retime-requires-clause-core : goal.retime-requires-clause-core
-retime-requires-clause-core g c =
+pub change_few-is_done-requires-clause-core : goal.change_few-is_done-requires-clause-core
+change_few-is_done-requires-clause-core g c =
     let i = c.self.inside in
     let s = stored i.graph i.fifos i.log in
     some_core i.plan s s i.ends.items i.runs.items i.credits.items c.self.invariant.core
+
+-- ---- few cycles changed
 
 pub invariant_of-self : goal.invariant_of-self
 invariant_of-self g c =
     let i = c.self.inside in
     let s = stored i.graph i.fifos i.log in
+    let t = stored c.change_few-is_done.new.graph c.change_few-is_done.new.fifos i.log in
+    let e = c.args.edit.now in
+    let fit = subst (λ (v : CoreView). EditFits v.plan e) (sym c.self.view_is) c.requires.fits in
+    let final = subst (λ (v : CoreView). IsFinal (design v.plan) v.plan.cycles (theory_of v)) (sym c.self.view_is) c.requires.is_final in
+    let tried = c.change_few-is_done.ensures in
+    let yes = c.if-is_done.true in
+    let core = editing.core_changed i.plan s i.ends.items i.runs.items i.credits.items c.self.invariant.core e fit final t
+    (tried.changed yes) tried.steps_stay refl (tried.room yes) (tried.kinds yes) in
+    subst (λ (q : Plan). IsStoredCore q t i.ends.items i.runs.items i.credits.items i.ports i.readers.items
+    c.truncate.new.self i.candidates.items)
+    (sym c.edit_plan.ensures)
+    (record {
+      core = core;
+      ports_are = editing.ports_edited i.plan e.channel e.depth i.ports c.self.invariant.ports_are;
+      readers_are = editing.readers_edited i.plan e.channel e.depth i.readers.items c.self.invariant.readers_are;
+      unread_are = subst (AreUnreadIn (with_depth i.plan e.channel e.depth) t i.ends.items) (sym c.truncate.ensures) (unread_none _ _);
+      candidate_count = c.self.invariant.candidate_count;
+    })
+
+pub returns-then-is_done-clause-edited : goal.returns-then-is_done-clause-edited
+returns-then-is_done-clause-edited g c =
+    let i = c.self.inside in
+    let s = stored i.graph i.fifos i.log in
+    let t = stored c.change_few-is_done.new.graph c.change_few-is_done.new.fifos i.log in
+    let e = c.args.edit.now in
+    let over = over_of i.ends.items in
+    let lent = lent_of i.runs.items in
+    let fit = subst (λ (v : CoreView). EditFits v.plan e) (sym c.self.view_is) c.requires.fits in
+    let final = subst (λ (v : CoreView). IsFinal (design v.plan) v.plan.cycles (theory_of v)) (sym c.self.view_is) c.requires.is_final in
+    let k = c.self.invariant.core in
+    let tried = c.change_few-is_done.ensures in
+    let yes = c.if-is_done.true in
+    let from = editing.edit_from i.plan s i.ends.items i.runs.items i.credits.items k e fit c.depth.result c.depth.ensures.depth
+    c.depth.ensures.least c.if-depth-edit.false c.first_touched-from.result c.first_touched-from.ensures.some
+    c.first_touched-from.ensures.none in
+    let done = editing.is_changed i.plan s i.ends.items i.runs.items i.credits.items k e fit final t (tried.changed yes)
+    tried.steps_stay refl (unwrap_or c.first_touched-from.result i.plan.cycles) from lent c.args.steps.now
+    c.change_few-is_done.new.steps (tried.few yes) in
+    let plan = subst (λ (q : Plan). IsEdited (record { plan = i.plan; held = held_in s over; lent = lent })
+    (record { plan = q; held = held_in t over; lent = lent }) e Same c.args.steps.now c.change_few-is_done.new.steps)
+    (sym c.edit_plan.ensures) done in
+    subst (λ (v : CoreView). IsEdited v (record { plan = c.edit_plan.new.plan; held = held_in t over; lent = lent }) e Same
+    c.args.steps.now c.change_few-is_done.new.steps) c.self.view_is plan
+
+-- ---- cycles are given anew
+
+pub retime-requires-clause-channel : goal.retime-requires-clause-channel
+retime-requires-clause-channel g c =
+    let k = c.self.invariant.core in
+    let fit = subst (λ (v : CoreView). EditFits v.plan c.args.edit.now) (sym c.self.view_is) c.requires.fits in
+    subst (λ (table : RoomedChannels). c.args.edit.now.channel < length table.channels)
+    (sym (c.change_few-is_done.ensures.same_fifos c.if-is_done.false))
+    (channel_inside c.self.inside.plan k.fits c.args.edit.now fit c.self.inside.fifos.channels k.table)
+
+pub retime-requires-clause-fifo : goal.retime-requires-clause-fifo
+retime-requires-clause-fifo g c =
+    let k = c.self.invariant.core in
+    let fit = subst (λ (v : CoreView). EditFits v.plan c.args.edit.now) (sym c.self.view_is) c.requires.fits in
+    subst (λ (table : RoomedChannels). IsFifo (channel_at table.channels c.args.edit.now.channel).kind)
+    (sym (c.change_few-is_done.ensures.same_fifos c.if-is_done.false))
+    (fifo_there c.self.inside.plan k.fits c.args.edit.now fit c.self.inside.fifos.channels k.table)
+
+pub retime-requires-clause-core : goal.retime-requires-clause-core
+retime-requires-clause-core g c =
+    let i = c.self.inside in
+    let s = stored i.graph i.fifos i.log in
+    let tried = c.change_few-is_done.ensures in
+    let no = c.if-is_done.false in
+    subst IsSomeCore (sym (ap₂ (λ (graph : RoomedLanes) (table : RoomedChannels). stored graph table i.log) (tried.same_graph no)
+    (tried.same_fifos no)))
+    (some_core i.plan s s i.ends.items i.runs.items i.credits.items c.self.invariant.core)
+
+pub invariant_of-self-2 : goal.invariant_of-self-2
+invariant_of-self-2 g c =
+    let i = c.self.inside in
+    let s = stored i.graph i.fifos i.log in
+    let r = stored c.change_few-is_done.new.graph c.change_few-is_done.new.fifos i.log in
     let t = stored c.retime.new.graph c.retime.new.fifos c.retime.new.log in
     let e = c.args.edit.now in
     let fit = subst (λ (v : CoreView). EditFits v.plan e) (sym c.self.view_is) c.requires.fits in
     let final = subst (λ (v : CoreView). IsFinal (design v.plan) v.plan.cycles (theory_of v)) (sym c.self.view_is) c.requires.is_final in
     let k = c.self.invariant.core in
+    let clock = unwrap_or c.first_touched-from.result i.plan.cycles in
+    let tried = c.change_few-is_done.ensures in
+    let no = c.if-is_done.false in
     let from = editing.edit_from i.plan s i.ends.items i.runs.items i.credits.items k e fit c.depth.result c.depth.ensures.depth
     c.depth.ensures.least c.if-depth-edit.false c.first_touched-from.result c.first_touched-from.ensures.some
     c.first_touched-from.ensures.none in
-    let core = editing.core_edited i.plan s i.ends.items i.runs.items i.credits.items k e fit final t c.retime.result
-    (unwrap_or c.first_touched-from.result i.plan.cycles) from c.retime.ensures.retimed c.retime.ensures.steps_stay c.retime.ensures.room
-    c.retime.ensures.kinds in
+    let done = editing.retiming_from c.retime.result e.channel e.depth clock i.plan.cycles r s t c.args.steps.now
+    c.change_few-is_done.new.steps c.retime.new.steps
+    (ap₂ (λ (graph : RoomedLanes) (table : RoomedChannels). stored graph table i.log) (tried.same_graph no) (tried.same_fifos no))
+    (tried.same_steps no) (record {
+      retimed = c.retime.ensures.retimed;
+      steps = c.retime.ensures.steps_stay;
+      room = c.retime.ensures.room;
+      kinds = c.retime.ensures.kinds;
+      ticked = c.retime.ensures.ticks;
+      few = c.retime.ensures.few;
+    }) in
+    let core = editing.core_edited i.plan s i.ends.items i.runs.items i.credits.items k e fit final t c.retime.result clock from
+    done.retimed done.steps done.room done.kinds in
     subst (λ (q : Plan). IsStoredCore q t i.ends.items i.runs.items i.credits.items i.ports i.readers.items
     c.truncate.new.self i.candidates.items)
     (sym c.edit_plan.ensures)
@@ -77,6 +175,7 @@ pub returns-clause-edited : goal.returns-clause-edited
 returns-clause-edited g c =
     let i = c.self.inside in
     let s = stored i.graph i.fifos i.log in
+    let r = stored c.change_few-is_done.new.graph c.change_few-is_done.new.fifos i.log in
     let t = stored c.retime.new.graph c.retime.new.fifos c.retime.new.log in
     let e = c.args.edit.now in
     let over = over_of i.ends.items in
@@ -84,15 +183,28 @@ returns-clause-edited g c =
     let fit = subst (λ (v : CoreView). EditFits v.plan e) (sym c.self.view_is) c.requires.fits in
     let final = subst (λ (v : CoreView). IsFinal (design v.plan) v.plan.cycles (theory_of v)) (sym c.self.view_is) c.requires.is_final in
     let k = c.self.invariant.core in
+    let clock = unwrap_or c.first_touched-from.result i.plan.cycles in
+    let tried = c.change_few-is_done.ensures in
+    let no = c.if-is_done.false in
     let from = editing.edit_from i.plan s i.ends.items i.runs.items i.credits.items k e fit c.depth.result c.depth.ensures.depth
     c.depth.ensures.least c.if-depth-edit.false c.first_touched-from.result c.first_touched-from.ensures.some
     c.first_touched-from.ensures.none in
-    let done = editing.is_edited i.plan s i.ends.items i.runs.items i.credits.items k e fit final t c.retime.result
-    (unwrap_or c.first_touched-from.result i.plan.cycles) from c.retime.ensures.retimed c.retime.ensures.steps_stay lent c.args.steps.now
-    c.retime.new.steps c.retime.ensures.ticks c.retime.ensures.few in
+    let done = editing.retiming_from c.retime.result e.channel e.depth clock i.plan.cycles r s t c.args.steps.now
+    c.change_few-is_done.new.steps c.retime.new.steps
+    (ap₂ (λ (graph : RoomedLanes) (table : RoomedChannels). stored graph table i.log) (tried.same_graph no) (tried.same_fifos no))
+    (tried.same_steps no) (record {
+      retimed = c.retime.ensures.retimed;
+      steps = c.retime.ensures.steps_stay;
+      room = c.retime.ensures.room;
+      kinds = c.retime.ensures.kinds;
+      ticked = c.retime.ensures.ticks;
+      few = c.retime.ensures.few;
+    }) in
+    let all = editing.is_edited i.plan s i.ends.items i.runs.items i.credits.items k e fit final t c.retime.result clock from done.retimed
+    done.steps lent c.args.steps.now c.retime.new.steps done.ticked done.few in
     let plan = subst (λ (q : Plan). IsEdited (record { plan = i.plan; held = held_in s over; lent = lent })
     (record { plan = q; held = held_in t over; lent = lent }) e c.retime.result c.args.steps.now c.retime.new.steps)
-    (sym c.edit_plan.ensures) done in
+    (sym c.edit_plan.ensures) all in
     subst (λ (v : CoreView). IsEdited v (record { plan = c.edit_plan.new.plan; held = held_in t over; lent = lent }) e c.retime.result
     c.args.steps.now c.retime.new.steps) c.self.view_is plan
 
@@ -100,6 +212,7 @@ pub returns-clause-differs : goal.returns-clause-differs
 returns-clause-differs g c =
     let i = c.self.inside in
     let s = stored i.graph i.fifos i.log in
+    let r = stored c.change_few-is_done.new.graph c.change_few-is_done.new.fifos i.log in
     let t = stored c.retime.new.graph c.retime.new.fifos c.retime.new.log in
     let e = c.args.edit.now in
     let over = over_of i.ends.items in
@@ -107,10 +220,24 @@ returns-clause-differs g c =
     let fit = subst (λ (v : CoreView). EditFits v.plan e) (sym c.self.view_is) c.requires.fits in
     let final = subst (λ (v : CoreView). IsFinal (design v.plan) v.plan.cycles (theory_of v)) (sym c.self.view_is) c.requires.is_final in
     let k = c.self.invariant.core in
+    let clock = unwrap_or c.first_touched-from.result i.plan.cycles in
+    let tried = c.change_few-is_done.ensures in
+    let no = c.if-is_done.false in
     let from = editing.edit_from i.plan s i.ends.items i.runs.items i.credits.items k e fit c.depth.result c.depth.ensures.depth
     c.depth.ensures.least c.if-depth-edit.false c.first_touched-from.result c.first_touched-from.ensures.some
     c.first_touched-from.ensures.none in
-    let true_now = editing.true_guard i.plan s i.ends.items i.runs.items i.credits.items k e fit final t c.retime.result
-    (unwrap_or c.first_touched-from.result i.plan.cycles) from c.retime.ensures.retimed c.retime.ensures.steps_stay lent in
+    let done = editing.retiming_from c.retime.result e.channel e.depth clock i.plan.cycles r s t c.args.steps.now
+    c.change_few-is_done.new.steps c.retime.new.steps
+    (ap₂ (λ (graph : RoomedLanes) (table : RoomedChannels). stored graph table i.log) (tried.same_graph no) (tried.same_fifos no))
+    (tried.same_steps no) (record {
+      retimed = c.retime.ensures.retimed;
+      steps = c.retime.ensures.steps_stay;
+      room = c.retime.ensures.room;
+      kinds = c.retime.ensures.kinds;
+      ticked = c.retime.ensures.ticks;
+      few = c.retime.ensures.few;
+    }) in
+    let true_now = editing.true_guard i.plan s i.ends.items i.runs.items i.credits.items k e fit final t c.retime.result clock from
+    done.retimed done.steps lent in
     subst (λ (q : Plan). IsTrueGuard c.retime.result (record { plan = q; held = held_in t over; lent = lent }))
     (sym c.edit_plan.ensures) true_now

@@ -1,7 +1,9 @@
-use Rattle.std.proofs.Common.{◌≡◌, sym, ap, ◌∙◌, List, length, map, false, replicate, arith}
+use Rattle.std.proofs.Common.{◌≡◌, sym, ap, subst, ◌∙◌, List, length, map, false, replicate, arith}
 use Rattle.fifo_table.specs.declared.channel.TableChannel.{TableChannel}
 use Rattle.fifo_table.specs.Channels.{unused}
 use Rattle.flow_design.specs.declared.design.Module.{Module}
+use Rattle.event_timing.specs.Agreement.{AllVerified}
+use Rattle.event_timing.proofs.ActionBound.{none_assumed}
 use Rattle.timing_bridge.specs.Designs.{design}
 use Rattle.engine_view.specs.Held.{core_of}
 use Rattle.engine_view.specs.Stored.{stored, held_in}
@@ -52,3 +54,6 @@ pub returns-clause-own : goal.returns-clause-own
 returns-clause-own c = λ m l.
     let e = ap (λ (xs : List Module). length xs) c.as_slice.ensures in
     beginning.not_lent c.args.plan c.in_ok-runs.runs.items (length c.as_slice.result.now) m c.in_ok-runs.ensures (omega arith)
+
+pub returns-clause-verified : goal.returns-clause-verified
+returns-clause-verified c = subst AllVerified (sym (returns-clause-opening c)) (none_assumed (design c.args.plan))

@@ -2,7 +2,8 @@ use Rattle.std.proofs.Common.{Option, ap, sym, subst, ◌∙◌, ◌<◌, length
 use Rattle.std.specs.Prelude.{List as Items, IfOk}
 use Rattle.std.proofs.lemmas.Result.{IfOk-weaker}
 use Rattle.flow_design.specs.declared.state.Advance.{Advance}
-use Rattle.lockstep_defs.specs.Verdict.{verdict, clock_of}
+use Rattle.lockstep_defs.specs.Verdict.{verdict}
+use Rattle.flow_design.specs.Reports.{clock_of}
 use Rattle.event_timing.specs.Actions.{IsFinal}
 use Rattle.timing_bridge.specs.Designs.{design}
 use Rattle.engine_view.specs.Stored.{stored, held_in}

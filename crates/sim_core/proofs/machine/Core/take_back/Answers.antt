@@ -145,7 +145,7 @@ invariant_of-self-2 c =
     record {
       core = lending.core_lent p u ends2 out credits2 c.args.owner (Some c.args.burst.run)
           (c.record_all.ensures.core p out (task_left c.args.burst) returned) inside (λ run e.
-          subst (λ (r : ModuleRun). IsRunOf p (core_in p u ends2) c.args.owner r) (returning.same_some c.args.burst.run run e) run_is.run);
+          subst (λ (r : ModuleRun). IsRunOf p (core_in p u ends2) c.args.owner r) (lending.same_some c.args.burst.run run e) run_is.run);
       ports_are = c.self.invariant.ports_are;
       readers_are = c.self.invariant.readers_are;
       unread_are = c.keep_unread.ensures (core_values (design p) (core_in p u ends2)) (length p.design.channels)

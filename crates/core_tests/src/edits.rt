@@ -1,0 +1,136 @@
+//! An edit of a core sets no more cycles than there are accesses at or after the first clock that it touches.
+ghost use Rattle.std.specs.Prelude.{◌≡◌};
+ghost use Rattle.flow_design.specs.Plans.{EditFits};
+ghost use Rattle.event_timing.specs.Actions.{IsFinal};
+ghost use Rattle.timing_bridge.specs.Designs.{design};
+ghost use Rattle.sim_core.specs.Views.{theory_of};
+ghost use Rattle.sim_core.specs.Drives.{AreOwn};
+
+use flow_check::check;
+use flow_design::Edit;
+use flow_grammar::keeps_rules;
+use flow_text::read_session;
+use flow_word::Steps;
+use sim_core::{Core, Guard, LoggedAccess, run_alone};
+use std::marker::Brand;
+use std::process::Abort;
+use std::sync::ledger::{Blank, Ledger};
+use std::test::Fail;
+
+/// Three values go through a FIFO, of depth two. In clock 1 it holds one element, and it never holds two.
+const THROUGH_DEPTH_TWO: &[u8] = b"\
+flow 1
+fifo b 8
+module P
+reg i 8
+reg g 1
+loop l 1 1 while g
+at 0 write b i
+at 0 set i + i 1
+at 0 set g <u i 2
+stop
+module Q
+reg x 8
+reg i 8
+reg g 1
+loop l 1 1 while g
+at 0 read b x
+at 0 set i + i 1
+at 0 set g <u i 2
+stop
+depth b 1
+depth b 5
+end
+";
+
+/// The same, of depth one.
+const THROUGH_DEPTH_ONE: &[u8] = b"\
+flow 1
+fifo b 8 1
+module P
+reg i 8
+reg g 1
+loop l 1 1 while g
+at 0 write b i
+at 0 set i + i 1
+at 0 set g <u i 2
+stop
+module Q
+reg x 8
+reg i 8
+reg g 1
+loop l 1 1 while g
+at 0 read b x
+at 0 set i + i 1
+at 0 set g <u i 2
+stop
+depth b 1
+end
+";
+
+/// The accesses before this clock, of a log in the order of clocks.
+fn accesses_before(log: &[LoggedAccess], clock: u64) -> &[LoggedAccess] {
+    for i in 0..log.len() {
+        if clock <= log[i].event.cycle {
+            return &log[..i];
+        }
+    }
+    log
+}
+
+/// Does what is left to do in a core, where each outcome stays as it was.
+fn drive_on<L: Ledger, R: Abort>(rt: &R, core: &mut Core, steps: &mut Steps<L>)
+    requires own { AreOwn core.old }
+    ensures is_final { IsFinal (design core.new.plan) core.new.plan.cycles (theory_of core.new) }
+{
+    match core.drive(steps) {
+        Ok(Guard::Same) => {}
+        Ok(Guard::Differs(_)) | Err(_) => panic!(rt; "an outcome is another"),
+    }
+}
+
+/// Edits a final core, where each outcome stays as it was, and does what is left to do.
+fn edit_on<L: Ledger, R: Abort>(rt: &R, core: &mut Core, edit: &Edit, blank: Blank)
+    requires name { blank.name ≡ L.name }
+    requires parts { blank.parts ≡ L.parts }
+    requires one { L.parts ≡ 1 }
+    requires is_final { IsFinal (design core.old.plan) core.old.plan.cycles (theory_of core.old) }
+    requires own { AreOwn core.old }
+    requires fits { EditFits core.old.plan edit.now }
+    ensures is_final { IsFinal (design core.new.plan) core.new.plan.cycles (theory_of core.new) }
+{
+    let mut steps = Steps::<L>::new(blank);
+    let same = core.edit(edit, &mut steps);
+    assert_eq!(rt; same, Guard::Same);
+    drive_on(rt, core, &mut steps);
+}
+
+/// How many accesses there are after an edit of a session, but for those before this clock, which stay as they were.
+fn moved_from<R: AllocGlobal + Abort>(
+    rt: &R,
+    text: &[u8],
+    number: usize,
+    touched: u64,
+) -> Result<usize, Fail> {
+    keeps_rules();
+    let (session, lines) = read_session(rt.alloc(), text)?;
+    let checked = check(rt.alloc(), &session, &lines)?;
+    let edits = checked.edits.as_slice();
+    assert!(rt; number < edits.len());
+    let edit = edits[number];
+    let mut core = run_alone(rt.alloc(), checked.plan)?;
+    let before = core.access_log(rt.alloc())?;
+    edit_on::<Brand, R>(rt, &mut core, &edit, Blank::new(1));
+    let after = core.access_log(rt.alloc())?;
+    let kept = accesses_before(before.as_slice(), touched);
+    assert_eq!(rt; accesses_before(after.as_slice(), touched), kept);
+    Ok(after.as_slice().len().saturating_sub(kept.len()))
+}
+
+#[test]
+fn edits_set_cycles_from_the_first_touched_clock(rt: HostRuntime) -> Result<(), Fail> {
+    assert_eq!(rt; moved_from(&rt, THROUGH_DEPTH_TWO, 0, 1)?, 5);
+    assert_eq!(rt; moved_from(&rt, THROUGH_DEPTH_TWO, 1, u64::MAX)?, 0);
+    assert_eq!(rt; moved_from(&rt, THROUGH_DEPTH_ONE, 0, u64::MAX)?, 0);
+    Ok(())
+}

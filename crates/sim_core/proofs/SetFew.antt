@@ -1,0 +1,110 @@
+-- An edit and the actions behind it set few cycles.
+use Rattle.std.proofs.Common.{◌≡◌, refl, sym, ap, subst, ◌∙◌, ℕ, suc, ◌+◌, ◌≤◌, inl, inr, ◌⊎◌, List, [], ◌∷◌, length, map}
+use Rattle.std.proofs.Common.{not, arith}
+use Rattle.std.specs.Prelude.{nat_lt}
+use Rattle.std.proofs.lemmas.List.Filters.{length-filter_both}
+use Rattle.std.proofs.lemmas.List.Sums.{sum_by-cons}
+use Rattle.flow_design.specs.declared.plan.Edit.{Edit}
+use Rattle.flow_design.specs.declared.plan.Plan.{Plan}
+use Rattle.flow_design.specs.Plans.{with_depth}
+use Rattle.flow_word.specs.declared.access.Step.{Step}
+use Rattle.flow_design.specs.declared.state.ModuleState.{ModuleState}
+use Rattle.event_graph.specs.Lanes.{Lane, lane_at, timed_below}
+use Rattle.event_timing.specs.Machines.{Design}
+use Rattle.event_timing.specs.Core.{Core}
+use Rattle.event_timing.specs.Actions.{Action, ActsAll, IsFinal}
+use Rattle.event_timing.specs.Actions.Action.{Run, Assign, Answer, Earliest}
+use Rattle.timing_bridge.specs.Designs.{design}
+use Rattle.retime.specs.Rounds.{cycles_in, steps_in}
+use Rattle.retime.proofs.Counts.{cycles_within}
+use Rattle.sim_core.specs.Views.{CoreView, theory_of}
+use Rattle.sim_core.specs.Drives.{Goes, given}
+use Rattle.sim_core.specs.Edits.{IsAsBefore, IsRetimed, IsChanged}
+use Rattle.sim_core.specs.Records.{IsEditedOn}
+use Rattle.sim_core.specs.Costs.{HasSetFew, kept_below}
+use Rattle.sim_core.proofs.Given.{goes_cycles}
+use Rattle.sim_core.proofs.SameSteps.{same_steps}
+
+fewer_below : (t : ℕ) (lanes : List Lane) → cycles_in (map (timed_below t) lanes) ≤ cycles_in lanes
+fewer_below t [] = omega arith
+fewer_below t (l ∷ lanes) =
+    let a = sum_by-cons (λ (q : Lane). length q.cycles) (timed_below t l) (map (timed_below t) lanes) in
+    let b = sum_by-cons (λ (q : Lane). length q.cycles) l lanes in
+    let here = length-filter_both (λ (c : ℕ). nat_lt c t) (λ c. not (nat_lt c t)) (λ c. refl) l.cycles in
+    let rest = fewer_below t lanes in
+    omega arith
+
+sums_same : (old new : List Lane) → length old ≡ length new
+    → ((m : ℕ) → length (lane_at old m).steps ≡ length (lane_at new m).steps) → steps_in old ≡ steps_in new
+sums_same [] [] e f = refl
+sums_same [] (l ∷ new) e f = absurd (omega arith)
+sums_same (k ∷ old) [] e f = absurd (omega arith)
+sums_same (k ∷ old) (l ∷ new) e f =
+    let a = sum_by-cons (λ (q : Lane). length q.steps) k old in
+    let b = sum_by-cons (λ (q : Lane). length q.steps) l new in
+    let here = f 0 in
+    let rest = sums_same old new (omega arith) (λ m. f (suc m)) in
+    omega arith
+
+-- from a final core nothing is done
+final_still : {S : Type 0} → (d : Design S) (limit : ℕ) (x : Core S) (actions : List Action) (y : Core S) → IsFinal d limit x
+    → ActsAll d limit x actions y → actions ≡ []
+final_still {S} d limit x [] y f a = refl
+final_still {S} d limit x (Run m ∷ rest) y f (z, (may, e), a) = absurd (f.quiet.no_run m may)
+final_still {S} d limit x (Assign m ∷ rest) y f (z, (c, may, e), a) = absurd (f.quiet.no_assign m c may)
+final_still {S} d limit x (Answer m ∷ rest) y f (z, (c, may, e), a) = absurd (f.quiet.no_answer m c may)
+final_still {S} d limit x (Earliest m ∷ rest) y f (z, (c, may, e), a) = absurd (f.no_earliest m c may)
+
+module _ (v : CoreView) (e : Edit) (w : CoreView) (t : IsEditedOn v e w) (set : ℕ) (is : t.now + t.after ≡ t.before + t.later + set) where
+  same_count : w.plan.design ≡ v.plan.design
+  same_count = ap (λ (p : Plan). p.design) (t.goes.plan ∙ t.plan)
+
+  within : cycles_in w.held.lanes ≤ steps_in w.held.lanes
+  within = cycles_within w.held.lanes t.to.sound.sound_lanes
+
+  as_before : IsAsBefore v t.middle e t.guard t.before t.now → HasSetFew v e w set
+  as_before same =
+      let goes = subst (λ (u : CoreView). Goes u t.later w t.after) same.core t.goes in
+      let a = t.from.sound.lanes in
+      let b = t.to.sound.lanes in
+      let modules : length w.plan.design.modules ≡ length v.plan.design.modules = ap (λ d. length d.modules) same_count in
+      let led = goes_cycles v w t.later t.after goes (omega arith) in
+      let few = fewer_below v.plan.cycles v.held.lanes in
+      let most = within in
+      let none = same.no_tick in
+      record { clock = v.plan.cycles; felt = inr (inl same.stands, refl); few = omega arith }
+
+  retimed : IsRetimed v t.middle e t.guard t.before t.now → HasSetFew v e w set
+  retimed r =
+      let a = r.leads.kept.sound.lanes in
+      let b = t.to.sound.lanes in
+      let modules : length w.plan.design.modules ≡ length t.middle.plan.design.modules =
+      ap (λ (p : Plan). length p.design.modules) t.goes.plan in
+      let led = goes_cycles t.middle w t.later t.after t.goes (omega arith) in
+      let ticked = r.ticked in
+      let most = within in
+      record { clock = r.clock; felt = r.from.from; few = omega arith }
+
+  -- nothing is left to do
+  changed : IsChanged v t.middle e t.guard t.before t.now → HasSetFew v e w set
+  changed c =
+      let none = final_still (design t.middle.plan) t.middle.plan.cycles (theory_of t.middle) t.goes.actions (theory_of w) c.final
+      t.goes.all in
+      let stays = subst (λ (actions : List Action). ActsAll (design t.middle.plan) t.middle.plan.cycles (theory_of t.middle) actions
+      (theory_of w)) none t.goes.all in
+      let no_tick : t.after ≡ t.later + 0 = t.goes.ticked ∙ ap (λ (actions : List Action). t.later + given actions) none in
+      let a = t.from.sound.lanes in
+      let b = t.to.sound.lanes in
+      let modules : length w.plan.design.modules ≡ length v.plan.design.modules =
+      ap (λ (p : Plan). length p.design.modules) (t.goes.plan ∙ t.plan) in
+      let steps : steps_in w.held.lanes ≡ steps_in v.held.lanes = sums_same w.held.lanes v.held.lanes (omega arith)
+      (λ m. ap (λ (x : Core ModuleState). x.emitted m) stays
+      ∙ ap (λ (ss : List Step). length ss) (same_steps v.held.lanes t.middle.held.lanes c.steps m)) in
+      let few = c.few in
+      record { clock = c.clock; felt = c.from.from; few = omega arith }
+
+  pub set_few : HasSetFew v e w set
+  set_few = elim t.edited [
+    | inl same ↦ as_before same
+    | inr r ↦ elim r [ inl anew ↦ retimed anew | inr few ↦ changed few ]
+  ]

@@ -57,7 +57,8 @@ differs_at_once v e w q before now from to settled fits plan edited = (
   where
     found : IsEdited v w e (Differs q) before now → IsDiffering w q
     found (inl same) = let no : Differs q ≡ Same = same.same in cc
-    found (inr retimed) = (q.module, inl retimed.ended)
+    found (inr (inl retimed)) = (q.module, inl retimed.ended)
+    found (inr (inr changed)) = let no : Differs q ≡ Same = changed.same in cc
 
 -- what was left was done, as far as it went
 pub went_on : (v : CoreView) (e : Edit) (middle w : CoreView) (before now after : ℕ) → IsSoundCore v → IsSoundCore w → IsSettled v
@@ -97,18 +98,18 @@ counts_on v e w runs same grow answers =
     sym (ap (next_counts (count_of v runs)) answers ∙ counts_of_logs v.held.logs w.held.logs same grow runs)
 
 -- the recorded outcome, among those that are kept
-is_kept : (v w : CoreView) (o : HasOtherAnswer v.held.logs w.plan)
-    → slice_get (answers_of (recorded_in v.held.logs) o.owner) o.number ≡ Some o.recorded
-is_kept v w o = ap (λ (os : List Bool). slice_get os o.number) (recorded_at v.held.logs o.owner) ∙ o.was
+is_kept : (v w : CoreView) (q : Query) (o : HasOtherAnswer v.held.logs w.plan q)
+    → slice_get (answers_of (recorded_in v.held.logs) q.module) q.number ≡ Some o.recorded
+is_kept v w q o = ap (λ (os : List Bool). slice_get os q.number) (recorded_at v.held.logs q.module) ∙ o.was
 
 -- else one run more is counted
-pub counts_again : (v w : CoreView) (runs : ℕ) → HasOtherAnswer v.held.logs w.plan
+pub counts_again : (v w : CoreView) (runs : ℕ) (q : Query) → HasOtherAnswer v.held.logs w.plan q
     → count_with v runs w ≡ counted (report w.plan).answers (runs + 1)
-counts_again v w runs o =
+counts_again v w runs q o =
     let answers = (report w.plan).answers in
     let count = length-map v.held.logs (λ (l : Log). l.outcomes) in
-    counts_differ (recorded_in v.held.logs) answers o.owner o.number o.recorded o.found (let l = o.inside in omega arith)
-    (within answers o.owner o.number o.found o.is) (is_kept v w o) o.is o.differ runs
+    counts_differ (recorded_in v.held.logs) answers q.module q.number o.recorded o.found (let l = o.inside in omega arith)
+    (within answers q.module q.number o.found o.is) (is_kept v w q o) o.is o.differ runs
   where
     none : (j : ℕ) (b : Bool) → slice_get [] j ≡ Some b → ⊥
     none j b e = cc
@@ -137,11 +138,11 @@ same_logs v e w t =
 
 -- no query is found to be another
 pub none_other : (v w : CoreView) → RepeatsAnswers (recorded_in v.held.logs) (report w.plan).answers
-    → HasOtherAnswer v.held.logs w.plan → ⊥
-none_other v w repeat o =
+    → (q : Query) → HasOtherAnswer v.held.logs w.plan q → ⊥
+none_other v w repeat q o =
     let count = length-map v.held.logs (λ (l : Log). l.outcomes) in
-    apart (answers_of (report w.plan).answers o.owner) (answers_of (recorded_in v.held.logs) o.owner) o.number o.found o.recorded o.is
-    (is_kept v w o) (λ e. o.differ (sym e)) (repeat o.owner (let l = o.inside in omega arith))
+    apart (answers_of (report w.plan).answers q.module) (answers_of (recorded_in v.held.logs) q.module) q.number o.found o.recorded o.is
+    (is_kept v w q o) (λ e. o.differ (sym e)) (repeat q.module (let l = o.inside in omega arith))
 
 -- and no outcome is added
 pub none_added : (v : CoreView) (e : Edit) (w : CoreView) → IsEditedOn v e w

@@ -1,18 +1,15 @@
 -- Lists of outcomes that begin alike.
-use Rattle.std.proofs.Common.{◌≡◌, ◌≢◌, refl, sym, ap, ap₂, subst, ◌∙◌, ℕ, zero, suc, ◌+◌, ◌<◌, ◌≤◌, ◌⊎◌, inl, inr, Bool, true, false, ◌&&◌}
+use Rattle.std.proofs.Common.{◌≡◌, ◌≢◌, refl, sym, ap, ap₂, subst, ◌∙◌, ℕ, zero, suc, ◌+◌, ◌<◌, ◌≤◌, inl, inr, Bool, true, false, ◌&&◌}
 use Rattle.std.proofs.Common.{cond, List, [], ◌∷◌, ◌++◌, length, Some, arith, append-nil}
 use Rattle.std.specs.Prelude.{slice_get}
 use Rattle.std.proofs.lemmas.Bool.{cases_lt, lt-ltb, le-ltb}
 use Rattle.std.proofs.lemmas.List.{length-append}
 use Rattle.outcome_guard.specs.Prefixes.{IsPrefix}
 use Rattle.edit_runs.specs.Runs.{goes_on, longer, all_go_on, all_longer, next_counts}
-use Rattle.edit_runs.proofs.Kept.{tells_alike}
+use Rattle.edit_runs.proofs.Kept.{tells_alike, goes_alike}
 use Rattle.depth_session.specs.Records.{GoesOn, RepeatsAnswers, answers_of, counted}
 
 -- ---- one module
-
-alike_goes : (a b : List Bool) → IsPrefix a b ⊎ IsPrefix b a → goes_on a b ≡ true
-alike_goes a b p = sym (tells_alike true a b ((λ e. p), (λ s. refl)))
 
 apart_stops : (a b : List Bool) → (IsPrefix a b → ⊥) → (IsPrefix b a → ⊥) → goes_on a b ≡ false
 apart_stops a b p q = sym (tells_alike false a b ((λ e. cc), (λ s. absurd (elim s [ inl r ↦ p r | inr r ↦ q r ]))))
@@ -39,10 +36,10 @@ one_goes_on kept found now g =
     elim g.ends [
       | inl e ↦
           let begins = subst (IsPrefix found) e g.begins in
-          (alike_goes kept found (inr begins), e ∙ sym (first_longer kept found (at_most found kept begins)))
+          (goes_alike kept found (inr begins), e ∙ sym (first_longer kept found (at_most found kept begins)))
       | inr e ↦
           let begins = subst (IsPrefix kept) e g.grew in (
-            alike_goes kept found (inl begins),
+            goes_alike kept found (inl begins),
             elim (cases_lt (length kept) (length found)) [
               | inl l ↦ e ∙ sym (second_longer kept found l)
               | inr l ↦ e ∙ (same_length kept found begins l ∙ sym (first_longer kept found l))

@@ -39,6 +39,7 @@ pub(crate) fn follow<R: Threads + Wait + Sync, U: Runner>(
     ensures made { U.made runner.old < u64.MAX → IfOk result (λ now. U.made runner.new + runs ≡ U.made runner.old + now) }
     ensures at_most { U.made runner.old < u64.MAX
         → U.made runner.new + runs ≤ U.made runner.old + (count_with core.old runs core.new).runs }
+    ensures stays { u64.MAX ≤ U.made runner.old → U.made runner.new ≡ U.made runner.old }
     ensures succeeds { RepeatsAnswers (recorded_in core.old.held.logs) (report core.new.plan).answers → IsOk result }
 {
     records_are_answers();
@@ -100,6 +101,7 @@ fn run_again<R: Threads + Wait + Sync, U: Runner>(
     ensures answers { OnOk result (recorded_in core.new.held.logs ≡ (report core.new.plan).answers) }
     ensures counted { U.made runner.old < u64.MAX → OnOk result (U.made runner.new ≡ U.made runner.old + 1) }
     ensures at_most { U.made runner.old < u64.MAX → U.made runner.new ≤ U.made runner.old + 1 }
+    ensures stays { u64.MAX ≤ U.made runner.old → U.made runner.new ≡ U.made runner.old }
 {
     let plan = copy_plan(alloc, core.plan())?;
     *core = first_core(rt, alloc, plan, runner)?;
@@ -118,6 +120,7 @@ pub(crate) fn first_core<R: Threads + Wait + Sync, U: Runner>(
     ensures settled { IfOk result (λ core. IsSettled core) }
     ensures answers { IfOk result (λ core. recorded_in core.held.logs ≡ (report plan).answers) }
     ensures counted { U.made runner.old < u64.MAX → U.made runner.new ≡ U.made runner.old + 1 }
+    ensures stays { u64.MAX ≤ U.made runner.old → U.made runner.new ≡ U.made runner.old }
 {
     records_are_answers();
     let core = runner.run_plan(rt, alloc, plan)?;

@@ -7,6 +7,6 @@ mod runner;
 mod session;
 
 pub use laws::{logs_are_kept, records_go_on};
-pub use runner::{AloneRunner, Asked, Runner};
+pub use runner::{AloneRunner, Asked, Runner, ThreadRunner};
 pub use session::DepthSession;
 pub use sim_core::Core;

@@ -1,5 +1,5 @@
 //! What simulates a plan for a session.
-ghost use Rattle.std.specs.Prelude.{◌≡◌, ℕ, ◌+◌, ◌<◌, ◌≤◌, Bool, true, false, is_some, IfOk};
+ghost use Rattle.std.specs.Prelude.{◌≡◌, ℕ, ◌+◌, ◌<◌, ◌≤◌, Option, Some, None, option_copied, IfOk};
 ghost use Rattle.flow_design.specs.StaticRules.{FitsEngine};
 ghost use Rattle.event_timing.specs.Actions.{IsFinal};
 ghost use Rattle.event_timing.specs.Agreement.{AllVerified};
@@ -9,7 +9,7 @@ ghost use Rattle.sim_core.specs.Drives.{AreOwn};
 
 use flow_design::Plan;
 use flow_word::OutOfMemory;
-use run_threads::{FreeGate, Gate, ThreadRunner, run_threads};
+use run_threads::{FreeGate, Gate, run_threads};
 use sim_core::{Core, run_alone};
 use std::alloc::Global;
 use std::sync::Wait;
@@ -32,21 +32,21 @@ pub trait Runner {
     /// How many runs it was asked for. The count stands still at the greatest u64.
     ghost made: { Self → ℕ };
 
-    /// Whether it simulates with threads.
-    ghost threaded: { Self → Bool };
-
     /// What makes the bursts of its threads.
     type Gate: Gate + Sync;
+
+    /// The gate of its threads; none where it simulates on the calling thread.
+    ghost gate_of: { Self → Option Self.Gate };
 
     /// Counts one run more, which it was asked for.
     fn count_run(&mut self, asked: Asked)
         ensures counted { made self.old < u64.MAX → made self.new ≡ made self.old + 1 }
         ensures stays { u64.MAX ≤ made self.old → made self.new ≡ made self.old }
-        ensures threaded { threaded self.new ≡ threaded self.old };
+        ensures gate { gate_of self.new ≡ gate_of self.old };
 
     /// The gate of its threads; none where it simulates on the calling thread.
     fn gate(&self) -> Option<&Self::Gate>
-        ensures threaded { is_some result ≡ threaded self.now };
+        ensures { option_copied result ≡ gate_of self.now };
 
     /// Simulates a plan: a final core of it, of which no run is lent and no outcome is assumed. The run is counted, also
     /// where there is no memory for it.
@@ -63,7 +63,7 @@ pub trait Runner {
         ensures own { IfOk result (λ core. AreOwn core) }
         ensures counted { made self.old < u64.MAX → made self.new ≡ made self.old + 1 }
         ensures stays { u64.MAX ≤ made self.old → made self.new ≡ made self.old }
-        ensures threaded { threaded self.new ≡ threaded self.old }
+        ensures gate { gate_of self.new ≡ gate_of self.old }
     {
         self.count_run(Asked { of: () });
         match self.gate() {
@@ -95,7 +95,7 @@ fn run_by_threads<R: Threads + Wait + Sync, G: Gate + Sync>(
 #[derive(Clone, Copy, Debug, PartialEq, Eq)]
 pub struct AloneRunner {
     /// How many runs it was asked for.
-    pub runs: u64,
+    runs: u64,
 }
 
 impl AloneRunner {
@@ -110,10 +110,10 @@ impl AloneRunner {
 impl Runner for AloneRunner {
     ghost made = { λ runner. runner.runs };
 
-    ghost threaded = { λ runner. false };
-
     /// No thread asks for it.
     type Gate = FreeGate;
+
+    ghost gate_of = { λ runner. None };
 
     fn count_run(&mut self, _asked: Asked) {
         self.runs = self.runs.saturating_add(1);
@@ -124,12 +124,31 @@ impl Runner for AloneRunner {
     }
 }
 
+/// Simulates with a thread for each module.
+#[derive(Clone, Copy, Debug)]
+pub struct ThreadRunner<'g, G> {
+    /// Makes the bursts of all modules.
+    gate: &'g G,
+    /// How many runs it was asked for.
+    runs: u64,
+}
+
+impl<'g, G: Gate + Sync> ThreadRunner<'g, G> {
+    /// It was asked for no run yet.
+    pub fn new(gate: &'g G) -> ThreadRunner<'g, G>
+        ensures runs { result.runs ≡ 0 }
+        ensures gate { result.gate.now ≡ gate.now }
+    {
+        ThreadRunner { gate, runs: 0 }
+    }
+}
+
 impl<'g, G: Gate + Sync> Runner for ThreadRunner<'g, G> {
     ghost made = { λ runner. runner.runs };
 
-    ghost threaded = { λ runner. true };
-
     type Gate = G;
+
+    ghost gate_of = { λ runner. Some runner.gate.now };
 
     fn count_run(&mut self, _asked: Asked) {
         self.runs = self.runs.saturating_add(1);

@@ -67,6 +67,7 @@ impl DepthSession {
         requires { FitsEngine plan }
         ensures opened { IfOk result (λ session. session ≡ opened plan) }
         ensures counted { U.made runner.old < u64.MAX → U.made runner.new ≡ U.made runner.old + 1 }
+        ensures stays { u64.MAX ≤ U.made runner.old → U.made runner.new ≡ U.made runner.old }
     {
         let core = first_core(rt, alloc, plan, runner)?;
         Ok(DepthSession {
@@ -79,6 +80,9 @@ impl DepthSession {
     /// Edits the depth of a FIFO. The record goes on where outcomes are as they were recorded. The runner is called exactly
     /// where the report counts one run more. Where of each module the report's answers are the first of those that
     /// are kept, there is no error: it needs no memory.
+    ///
+    /// Where the record goes on, the edit sets no more cycles than there are steps at or after the first clock that it touches, steps
+    /// that had no cycle, and new steps (`sim_core::edits_set_few`).
     ///
     /// An error leaves a session that is not live, with the plan edited.
     pub fn edit<R: Threads + Wait + Sync, U: Runner>(
@@ -97,6 +101,7 @@ impl DepthSession {
             → OnOk result (U.made runner.new + self.old.count.runs ≡ U.made runner.old + self.new.count.runs) }
         ensures at_most { U.made runner.old < u64.MAX
             → U.made runner.new + self.old.count.runs ≤ U.made runner.old + (with_edit self.old edit.now).count.runs }
+        ensures stays { u64.MAX ≤ U.made runner.old → U.made runner.new ≡ U.made runner.old }
         ensures succeeds { RepeatsAnswers self.old.count.kept (report (plan_behind self.old edit.now)).answers → IsOk result }
     {
         self.live = false;

@@ -1,8 +1,7 @@
 //! The passes of a hub, which take turns when a test says so.
 ghost use Rattle.std.specs.Prelude.{◌≡◌, IfOk};
-ghost use Rattle.turn_lock.specs.Passes.{pass_lock};
 ghost use Rattle.sim_hub.specs.Places.{HasNoDeskOut};
-ghost use Rattle.sim_hub.specs.Hubs.{hub_id, module_view, IsOfHub};
+ghost use Rattle.sim_hub.specs.Hubs.{hub_id, module_of, module_view, IsOfHub};
 ghost use Rattle.hub_tests.specs.Resting.{AreResting};
 
 use clock_machine::clock_run;
@@ -51,9 +50,9 @@ pub fn open<R: AllocGlobal>(rt: &R, text: &[u8]) -> Result<(Hub, Passes, Report)
 /// A module's pass borrows a desk, makes its burst and returns it.
 fn drive_once<R: Wait>(rt: &R, alloc: Global, hub: &Hub, pass: ModulePass) -> (ModulePass, Answer)
     requires own { IsOfHub hub.now pass }
-    requires home { HasNoDeskOut pass.which (module_view pass) }
-    ensures own { IsOfHub hub.now result.0 × (result.0.which ≡ pass.which) }
-    ensures home { HasNoDeskOut pass.which (module_view result.0) }
+    requires home { HasNoDeskOut (module_of pass) (module_view pass) }
+    ensures own { IsOfHub hub.now result.0 × (module_of result.0 ≡ module_of pass) }
+    ensures home { HasNoDeskOut (module_of pass) (module_view result.0) }
 {
     let (pass, desk) = hub.borrow_desk(rt, pass);
     match desk {
@@ -108,6 +107,16 @@ pub fn perf_turn<R: Wait>(rt: &R, hub: &Hub, passes: Passes) -> (Passes, Answer)
         PerfAnswer::Short => Answer::Short,
     };
     (Passes { perf, modules }, answer)
+}
+
+/// The passes of the modules in the opposite order.
+pub fn turned_round(hub: &Hub, passes: Passes) -> Passes
+    requires resting { AreResting (hub_id hub.now) passes.perf passes.modules.items }
+    ensures resting { AreResting (hub_id hub.now) result.perf result.modules.items }
+{
+    let Passes { perf, mut modules } = passes;
+    modules.reverse();
+    Passes { perf, modules }
 }
 
 /// All is over, and the hub closes with this report.

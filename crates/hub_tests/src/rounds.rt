@@ -3,7 +3,7 @@ ghost use Rattle.std.specs.Prelude.{◌≡◌, IfOk};
 ghost use Rattle.sim_hub.specs.Hubs.{hub_id};
 ghost use Rattle.hub_tests.specs.Resting.{AreResting};
 
-use crate::passes::{Answer, Passes, closes_with, module_turns, open, perf_turn};
+use crate::passes::{Answer, Passes, closes_with, module_turns, open, perf_turn, turned_round};
 use sim_hub::Hub;
 use std::process::Abort;
 use std::sync::Wait;
@@ -75,7 +75,8 @@ fn come_to_end<R: AllocGlobal + Wait + Abort>(
     panic!(rt; "it comes to no end")
 }
 
-/// Rounds up to the end, with the performance pass behind each module's turns, or only where all modules wait.
+/// Rounds up to the end, with the performance pass behind each module's turns, and a hub that closes with the passes of the modules in
+/// order; or with the performance pass only where all modules wait, and a hub that closes with them in the opposite order.
 fn reports_as_lockstep<R: AllocGlobal + Wait + Abort>(
     rt: &R,
     text: &[u8],
@@ -83,6 +84,11 @@ fn reports_as_lockstep<R: AllocGlobal + Wait + Abort>(
 ) -> Result<(), Fail> {
     let (hub, passes, report) = open(rt, text)?;
     let passes = come_to_end(rt, &hub, passes, behind_each)?;
+    let passes = if behind_each {
+        passes
+    } else {
+        turned_round(&hub, passes)
+    };
     closes_with(rt, hub, passes, report)
 }
 

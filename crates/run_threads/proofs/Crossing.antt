@@ -36,6 +36,7 @@ use Rattle.event_graph.proofs.graph.Graph.TheSendSync as graph
 use Rattle.event_graph.proofs.candidate.Candidate.TheSendSync as candidate
 use Rattle.fifo_table.proofs.table.FifoTable.TheSendSync as table
 use Rattle.query_log.proofs.log.QueryLog.TheSendSync as log
+use Rattle.cycle_changes.proofs.changes.Changes.TheSendSync as changes
 use Rattle.sim_core.proofs.unread.Unread.TheSendSync as unread
 use Rattle.sim_core.specs.contracts.machine.Core as engine
 use Rattle.sim_core.specs.contracts.machine.Core.TheInside as core
@@ -152,7 +153,10 @@ core_field =
                         list.the_send _ unread.the_send,
                         (
                           words_send,
-                          (list.the_send _ reply.the_send, ((search (candidate.the_send, crosses, sendable) depth 30 fits 5000), tt)),
+                          (
+                            list.the_send _ reply.the_send,
+                            ((search (candidate.the_send, crosses, sendable) depth 30 fits 5000), (changes.the_field_send, tt)),
+                          ),
                         ),
                       ),
                     ),

@@ -1,24 +1,39 @@
 -- The passes of the modules, by their places.
-use Rattle.std.proofs.Common.{◌≡◌, List, [], ◌∷◌, ◌++◌, length, Some, slice_get, refl, sym, subst}
-use Rattle.turn_lock.specs.Passes.{pass_lock}
+use Rattle.std.proofs.Common.{◌≡◌, ℕ, List, [], ◌∷◌, ◌++◌, length, Some, slice_get, refl, sym, subst, arith}
+use Rattle.flow_design.specs.declared.plan.Plan.{Plan}
 use Rattle.sim_hub.specs.declared.hub.Hub.{Hub}
 use Rattle.sim_hub.specs.declared.pass.ModulePass.{ModulePass}
+use Rattle.sim_hub.specs.declared.pass.PerfPass.{PerfPass}
 use Rattle.sim_hub.specs.Places.{HasNoDeskOut}
-use Rattle.sim_hub.specs.Hubs.{hub_id, module_view}
-use Rattle.sim_hub.specs.Closings.{AreOfHub, AllHome}
+use Rattle.sim_hub.specs.Hubs.{hub_id, module_of, module_view, perf_view}
+use Rattle.sim_hub.specs.Closings.{AreNew, AreOfHub, AllHome, HasEachModule}
+use Rattle.sim_hub.proofs.Lists.{there}
+use Rattle.sim_hub.proofs.Openings.{new_home}
 use Rattle.run_threads.specs.declared.drive.Seat.{Seat}
 use Rattle.run_threads.specs.Driving.{IsHere}
-use Rattle.run_threads.specs.Slots.{passes_in}
-use Rattle.run_threads.proofs.Lists.{all-snoc}
+use Rattle.run_threads.specs.Slots.{AreHere, passes_in}
 
-pub own_snoc : (h : Hub) (ps : List ModulePass) (p : ModulePass) → AreOfHub (hub_id h) ps → IsHere h (length ps) p
-    → AreOfHub (hub_id h) (ps ++ p ∷ [])
-own_snoc h ps p all is = all-snoc (λ k (q : ModulePass). (q.which ≡ k) × (pass_lock q.place.pass ≡ hub_id h)) ps p all (is.1, is.0)
+pub home_at : (h : Hub) (k : ℕ) (p : ModulePass) → IsHere h k p → HasNoDeskOut (module_of p) (module_view p)
+home_at h k p is = subst (λ n. HasNoDeskOut n (module_view p)) (sym is.1) is.2
 
-pub home_snoc : (h : Hub) (ps : List ModulePass) (p : ModulePass) → AllHome ps → IsHere h (length ps) p → AllHome (ps ++ p ∷ [])
-home_snoc h ps p all is =
-    all-snoc (λ k (q : ModulePass). HasNoDeskOut q.which (module_view q)) ps p all
-    (subst (λ n. HasNoDeskOut n (module_view p)) (sym is.1) is.2)
+-- the passes of a hub that was just opened
+pub new_here : (h : Hub) (p : Plan) (passes : List ModulePass) → AreNew (hub_id h) p passes → AreHere h passes
+new_here h p passes new k pass at =
+    let (which, own, seen) = new k pass at in
+    (own, which, subst (λ n. HasNoDeskOut n (module_view pass)) which (new_home (hub_id h) p passes new k pass at))
+
+-- what holds of passes in order holds of them in any order
+pub here_own : (h : Hub) (passes : List ModulePass) → AreHere h passes → AreOfHub (hub_id h) passes
+here_own h passes here k p at = (here k p at).0
+
+pub here_home : (h : Hub) (passes : List ModulePass) → AreHere h passes → AllHome passes
+here_home h passes here k p at = home_at h k p (here k p at)
+
+pub here_each : (h : Hub) (perf : PerfPass) (passes : List ModulePass) → (perf_view perf).made ≡ length passes → AreHere h passes
+    → HasEachModule perf passes
+here_each h perf passes made here m inside =
+    let (p, at) = there passes m (omega arith) in
+    (m, p, at, (here m p at).1)
 
 -- the pass of the seat behind these
 pub seat_here : (ys : List Seat) (s : Seat) (rest : List Seat) → slice_get (passes_in (ys ++ s ∷ rest)) (length ys) ≡ Some s.pass

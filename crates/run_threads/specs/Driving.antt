@@ -5,7 +5,7 @@ use Rattle.turn_history.specs.declared.entry.HubEntry.{HubEntry}
 use Rattle.sim_hub.specs.declared.hub.Hub.{Hub}
 use Rattle.sim_hub.specs.declared.pass.ModulePass.{ModulePass}
 use Rattle.sim_hub.specs.Places.{Behind, HasNoDeskOut}
-use Rattle.sim_hub.specs.Hubs.{IsOfHub, IsFinished, WasShort, module_view}
+use Rattle.sim_hub.specs.Hubs.{IsOfHub, IsFinished, WasShort, module_of, module_view}
 use Rattle.run_threads.specs.declared.drive.Answered.{Answered}
 use Rattle.run_threads.specs.declared.drive.Went.{Went}
 use Rattle.run_threads.specs.declared.drive.Went.TheVariants as went
@@ -26,7 +26,7 @@ EndIs v end.Undriven = Unit {0}
 
 -- the pass of this hub and module, with no desk out
 abbrev pub IsHere : Hub → ℕ → ModulePass → Type 0
-IsHere hub m pass = IsOfHub hub pass × (pass.which ≡ m) × HasNoDeskOut m (module_view pass)
+IsHere hub m pass = IsOfHub hub pass × (module_of pass ≡ m) × HasNoDeskOut m (module_view pass)
 
 -- what a module's thread answers
 abbrev pub IsBack : Hub → ℕ → Answered → Type 0

@@ -7,6 +7,10 @@ use Rattle.run_threads.specs.declared.drive.Seat.{Seat}
 use Rattle.run_threads.specs.declared.start.Slot.{Slot}
 use Rattle.run_threads.specs.declared.start.Slot.TheVariants as slot
 
+-- the passes of the modules, in order, of this hub, with no desk out
+abbrev pub AreHere : Hub → List ModulePass → Type 0
+AreHere hub passes = (k : ℕ) (p : ModulePass) → slice_get passes k ≡ Some p → IsHere hub k p
+
 -- the passes of the seats, in order
 abbrev pub passes_in : List Seat → List ModulePass
 passes_in seats = map (λ (s : Seat). s.pass) seats

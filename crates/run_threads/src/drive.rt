@@ -1,7 +1,7 @@
 //! A module is driven until all is over.
 ghost use Rattle.std.specs.Prelude.{◌≡◌};
 ghost use Rattle.sim_hub.specs.Places.{HasNoDeskOut};
-ghost use Rattle.sim_hub.specs.Hubs.{IsOfHub, module_view};
+ghost use Rattle.sim_hub.specs.Hubs.{IsOfHub, module_of, module_view};
 ghost use Rattle.run_threads.specs.Driving.{WentIs, EndIs};
 
 use crate::bells::Bells;
@@ -74,12 +74,12 @@ pub fn drive_once<G: Gate, R: Wait>(
     pass: ModulePass,
 ) -> (ModulePass, Went)
     requires own { IsOfHub hub.now pass }
-    requires home { HasNoDeskOut pass.which (module_view pass) }
-    ensures own { IsOfHub hub.now result.0 × (result.0.which ≡ pass.which) }
-    ensures home { HasNoDeskOut pass.which (module_view result.0) }
+    requires home { HasNoDeskOut (module_of pass) (module_view pass) }
+    ensures own { IsOfHub hub.now result.0 × (module_of result.0 ≡ module_of pass) }
+    ensures home { HasNoDeskOut (module_of pass) (module_view result.0) }
     ensures went { WentIs (module_view result.0) result.1 }
 {
-    let which = pass.which;
+    let which = pass.which();
     let (pass, desk) = hub.borrow_desk(rt, pass);
     match desk {
         Desk::Run(task) => {
@@ -107,13 +107,13 @@ pub fn drive<G: Gate, R: Wait>(
     seat: Seat,
 ) -> Answered
     requires own { IsOfHub hub.now seat.pass }
-    requires home { HasNoDeskOut seat.pass.which (module_view seat.pass) }
-    ensures own { IsOfHub hub.now result.pass × (result.pass.which ≡ seat.pass.which) }
-    ensures home { HasNoDeskOut seat.pass.which (module_view result.pass) }
+    requires home { HasNoDeskOut (module_of seat.pass) (module_view seat.pass) }
+    ensures own { IsOfHub hub.now result.pass × (module_of result.pass ≡ module_of seat.pass) }
+    ensures home { HasNoDeskOut (module_of seat.pass) (module_view result.pass) }
     ensures end { EndIs (module_view result.pass) result.end }
 {
     let Seat { pass, parker } = seat;
-    let which = pass.which;
+    let which = pass.which();
     if bells.is_forbidden(which) {
         return undriven(pass);
     }
@@ -157,7 +157,7 @@ fn undriven(pass: ModulePass) -> Answered
 fn handed_over(bells: &Bells, pass: ModulePass) -> Answered
     ensures { (result.pass ≡ pass) × (result.end ≡ End.Undriven) }
 {
-    bells.hand_over(pass.which);
+    bells.hand_over(pass.which());
     undriven(pass)
 }
 

@@ -1,11 +1,9 @@
 //! The caller: it gives the cycles, drives the modules that have no thread, and takes all passes back.
 ghost use Rattle.std.specs.Prelude.{◌≡◌, ◌≤◌, [], length, vec_capacity};
-ghost use Rattle.turn_lock.specs.Passes.{pass_lock};
-ghost use Rattle.sim_hub.specs.Hubs.{IsOverAt, hub_id, perf_view};
-ghost use Rattle.sim_hub.specs.Closings.{AreOfHub, AllHome};
+ghost use Rattle.sim_hub.specs.Hubs.{IsOverAt, IsPerfOf, perf_view};
 ghost use Rattle.run_threads.specs.Driving.{IsHere};
 ghost use Rattle.run_threads.specs.Leading.{HasGoneOn};
-ghost use Rattle.run_threads.specs.Slots.{SlotIs, AreSlots};
+ghost use Rattle.run_threads.specs.Slots.{SlotIs, AreSlots, AreHere};
 
 use crate::bells::Bells;
 use crate::concern::News;
@@ -36,7 +34,7 @@ fn try_one<G: Gate, R: Threads + Wait>(
     ensures { SlotIs hub.now which result.0 }
 {
     let pass = take_one(rt, hub, slot, which);
-    let owner = pass.which;
+    let owner = pass.which();
     bells.clear(owner);
     let (pass, went) = drive_once(rt, alloc, hub, gate, pass);
     match went {
@@ -111,9 +109,9 @@ pub fn lead<G: Gate, R: Threads + Wait>(
     perf: PerfPass,
     slots: Vec<Slot>,
 ) -> (PerfPass, Vec<Slot>)
-    requires own { pass_lock perf.place.pass ≡ hub_id hub.now }
+    requires own { IsPerfOf hub.now perf }
     requires slots { AreSlots hub.now slots.items }
-    ensures own { pass_lock result.0.place.pass ≡ hub_id hub.now }
+    ensures own { IsPerfOf hub.now result.0 }
     ensures over { IsOverAt (perf_view result.0).seen }
     ensures later { HasGoneOn (perf_view perf) (perf_view result.0) }
     ensures slots { (length result.1.items ≡ length slots.items) × AreSlots hub.now result.1.items }
@@ -176,8 +174,7 @@ pub fn gather<R: Threads>(
     requires empty { passes.items ≡ [] }
     requires room { length slots.items ≤ vec_capacity passes }
     ensures count { length result.items ≡ length slots.items }
-    ensures own { AreOfHub (hub_id hub.now) result.items }
-    ensures home { AllHome result.items }
+    ensures here { AreHere hub.now result.items }
 {
     let mut passes = passes;
     for slot in slots {

@@ -8,10 +8,8 @@ mod gate;
 mod lead;
 mod readers;
 mod run;
-mod runner;
 mod start;
 
 pub use gate::{FreeGate, Gate};
 pub use run::{run_threads, run_threads_started};
-pub use runner::ThreadRunner;
 pub use sim_hub::{Burst, HubTurn, Task, Threaded, work};

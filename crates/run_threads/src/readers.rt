@@ -1,25 +1,13 @@
 //! Which modules pop what a module pushes.
 use flow_design::{Design, Module, Op};
-use flow_word::OutOfMemory;
+use flow_word::{OutOfMemory, Side};
 use std::alloc::Global;
 
-/// The channel that an operation pushes to.
-fn pushed_channel(op: &Op<u32>) -> Option<u32> {
-    match op {
-        Op::Write(channel, _) => Some(*channel),
-        Op::TryWrite(channel, _, _) => Some(*channel),
-        Op::Set(_, _) | Op::Load(_, _, _) | Op::Store(_, _, _) => None,
-        Op::Read(_, _) | Op::TryRead(_, _, _) | Op::Empty(_, _) | Op::Full(_, _) => None,
-    }
-}
-
-/// The channel that an operation pops.
-fn popped_channel(op: &Op<u32>) -> Option<u32> {
-    match op {
-        Op::Read(channel, _) => Some(*channel),
-        Op::TryRead(channel, _, _) => Some(*channel),
-        Op::Set(_, _) | Op::Load(_, _, _) | Op::Store(_, _, _) => None,
-        Op::Write(_, _) | Op::TryWrite(_, _, _) | Op::Empty(_, _) | Op::Full(_, _) => None,
+/// The channel that an operation pops, or pushes.
+fn channel_at(op: &Op<u32>, side: Side) -> Option<u32> {
+    match op.used_port() {
+        Some(port) if port.side == side => Some(port.channel),
+        Some(_) | None => None,
     }
 }
 
@@ -27,7 +15,7 @@ fn popped_channel(op: &Op<u32>) -> Option<u32> {
 fn note_module(of: &Module, owner: u32, poppers: &mut [Option<u32>]) {
     for block in of.blocks.as_slice() {
         for timed in block.ops.as_slice() {
-            if let Some(channel) = popped_channel(&timed.op) {
+            if let Some(channel) = channel_at(&timed.op, Side::Pop) {
                 if let Some(popper) = poppers.get_mut(channel as usize) {
                     *popper = Some(owner);
                 }
@@ -72,7 +60,7 @@ pub fn find_readers(
     let mut readers = Vec::new(alloc);
     for block in of.blocks.as_slice() {
         for timed in block.ops.as_slice() {
-            if let Some(channel) = pushed_channel(&timed.op) {
+            if let Some(channel) = channel_at(&timed.op, Side::Push) {
                 if let Some(popper) = popper_of(poppers, channel) {
                     add_reader(&mut readers, popper)?;
                 }

@@ -1,11 +1,10 @@
 //! Whole simulations with threads.
 ghost use Rattle.std.specs.Prelude.{◌≡◌, ◌≤◌, [], length, IfOk, vec_capacity};
 ghost use Rattle.flow_design.specs.StaticRules.{FitsEngine};
-ghost use Rattle.turn_lock.specs.Passes.{pass_lock};
-ghost use Rattle.sim_hub.specs.Hubs.{IsOverAt, hub_id, perf_view};
-ghost use Rattle.sim_hub.specs.Closings.{AreOfHub, AllHome, IsRun};
+ghost use Rattle.sim_hub.specs.Hubs.{IsOverAt, IsPerfOf, perf_view};
+ghost use Rattle.sim_hub.specs.Closings.{IsRun};
 ghost use Rattle.run_threads.specs.Leading.{HasGoneOn};
-ghost use Rattle.run_threads.specs.Slots.{passes_in};
+ghost use Rattle.run_threads.specs.Slots.{passes_in, AreHere};
 
 use crate::bells::Bells;
 use crate::drive::Seat;
@@ -37,27 +36,24 @@ fn run_all<G: Gate + Sync, R: Threads + Wait + Sync>(
     slots: Vec<Slot>,
     passes: Vec<ModulePass>,
 ) -> (PerfPass, Vec<ModulePass>)
-    requires perf { pass_lock perf.place.pass ≡ hub_id hub.now }
-    requires own { AreOfHub (hub_id hub.now) (passes_in seats.items) }
-    requires home { AllHome (passes_in seats.items) }
+    requires perf { IsPerfOf hub.now perf }
+    requires here { AreHere hub.now (passes_in seats.items) }
     requires empty { (slots.items ≡ []) × (passes.items ≡ []) }
     requires room { (length seats.items ≤ vec_capacity slots) × (length seats.items ≤ vec_capacity passes) }
-    ensures perf { pass_lock result.0.place.pass ≡ hub_id hub.now }
+    ensures perf { IsPerfOf hub.now result.0 }
     ensures later { HasGoneOn (perf_view perf) (perf_view result.0) }
     ensures over { IsOverAt (perf_view result.0).seen }
     ensures count { length result.1.items ≡ length seats.items }
-    ensures modules { AreOfHub (hub_id hub.now) result.1.items × AllHome result.1.items }
+    ensures here { AreHere hub.now result.1.items }
 {
     thread::scope(
         thread::scope_env(),
         rt,
         move |scope| -> (PerfPass, Vec<ModulePass>)
-            requires { (pass_lock perf.place.pass ≡ hub_id hub.now) × AreOfHub (hub_id hub.now) (passes_in seats.items)
-                × AllHome (passes_in seats.items) × (slots.items ≡ []) × (passes.items ≡ [])
+            requires { IsPerfOf hub.now perf × AreHere hub.now (passes_in seats.items) × (slots.items ≡ []) × (passes.items ≡ [])
                 × (length seats.items ≤ vec_capacity slots) × (length seats.items ≤ vec_capacity passes) }
-            ensures { (pass_lock result.0.place.pass ≡ hub_id hub.entry.now) × HasGoneOn (perf_view perf) (perf_view result.0)
-                × IsOverAt (perf_view result.0).seen × (length result.1.items ≡ length seats.items)
-                × AreOfHub (hub_id hub.entry.now) result.1.items × AllHome result.1.items }
+            ensures { IsPerfOf hub.entry.now result.0 × HasGoneOn (perf_view perf) (perf_view result.0)
+                × IsOverAt (perf_view result.0).seen × (length result.1.items ≡ length seats.items) × AreHere hub.entry.now result.1.items }
         {
             let slots = start_all(scope, rt, alloc, hub, gate, bells, seats, started, slots);
             let (perf, slots) = lead(rt, alloc, hub, gate, bells, &parker, perf, slots);

@@ -1,10 +1,9 @@
 //! A module's thread is started, or the caller keeps the module.
 ghost use Rattle.std.specs.Prelude.{◌≡◌, ◌≤◌, [], length, map, IfOk, vec_capacity};
 ghost use Rattle.sim_hub.specs.Places.{HasNoDeskOut};
-ghost use Rattle.sim_hub.specs.Hubs.{IsOfHub, hub_id, module_view};
-ghost use Rattle.sim_hub.specs.Closings.{AreOfHub, AllHome};
+ghost use Rattle.sim_hub.specs.Hubs.{IsOfHub, module_of, module_view};
 ghost use Rattle.run_threads.specs.Driving.{IsBack};
-ghost use Rattle.run_threads.specs.Slots.{SlotIs, AreSlots, passes_in};
+ghost use Rattle.run_threads.specs.Slots.{SlotIs, AreSlots, AreHere, passes_in};
 
 use crate::bells::Bells;
 use crate::drive::{Answered, Seat, drive};
@@ -67,17 +66,17 @@ fn start_one<'s, 'e, G: Gate + Sync, R: Threads + Wait + Sync>(
     seat: Seat,
 ) -> Slot
     requires own { IsOfHub hub.now seat.pass }
-    requires home { HasNoDeskOut seat.pass.which (module_view seat.pass) }
-    ensures { SlotIs hub.now seat.pass.which result }
+    requires home { HasNoDeskOut (module_of seat.pass) (module_view seat.pass) }
+    ensures { SlotIs hub.now (module_of seat.pass) result }
 {
-    let which = seat.pass.which;
+    let which = seat.pass.which();
     let promise = Comes {
         hub: Snapshot::of(hub),
         which,
     };
     let job = move || -> Answered
-        requires { IsOfHub hub.now seat.pass × HasNoDeskOut seat.pass.which (module_view seat.pass) }
-        ensures { IsBack hub.entry.now seat.pass.which result }
+        requires { IsOfHub hub.now seat.pass × HasNoDeskOut (module_of seat.pass) (module_view seat.pass) }
+        ensures { IsBack hub.entry.now (module_of seat.pass) result }
     { drive(rt, alloc, hub, gate, bells, seat) };
     match scope.spawn_with(promise, job) {
         Ok(child) => Slot::There(child),
@@ -101,13 +100,13 @@ fn place_one<'s, 'e, G: Gate + Sync, R: Threads + Wait + Sync>(
     started: u32,
 ) -> Slot
     requires own { IsOfHub hub.now seat.pass }
-    requires home { HasNoDeskOut seat.pass.which (module_view seat.pass) }
-    ensures { SlotIs hub.now seat.pass.which result }
+    requires home { HasNoDeskOut (module_of seat.pass) (module_view seat.pass) }
+    ensures { SlotIs hub.now (module_of seat.pass) result }
 {
-    if seat.pass.which < started {
+    if seat.pass.which() < started {
         start_one(scope, rt, alloc, hub, gate, bells, seat)
     } else {
-        bells.keep(seat.pass.which);
+        bells.keep(seat.pass.which());
         Slot::Here(seat.pass)
     }
 }
@@ -124,8 +123,7 @@ pub fn start_all<'s, 'e, G: Gate + Sync, R: Threads + Wait + Sync>(
     started: u32,
     slots: Vec<Slot>,
 ) -> Vec<Slot>
-    requires own { AreOfHub (hub_id hub.now) (passes_in seats.items) }
-    requires home { AllHome (passes_in seats.items) }
+    requires here { AreHere hub.now (passes_in seats.items) }
     requires empty { slots.items ≡ [] }
     requires room { length seats.items ≤ vec_capacity slots }
     ensures { (length result.items ≡ length seats.items) × AreSlots hub.now result.items }

@@ -23,7 +23,7 @@ use Rattle.sim_hub.specs.declared.answer.Desk.{Desk}
 use Rattle.sim_hub.specs.declared.answer.Desk.TheVariants as desk
 use Rattle.sim_hub.specs.declared.answer.PerfAnswer.{PerfAnswer}
 use Rattle.sim_hub.specs.declared.answer.PerfAnswer.TheVariants as perf
-use Rattle.sim_hub.specs.Places.{Behind, IsLegal, IsPlace, HasModule, HasModules, HasAdded, HasNoDesk, IsLater}
+use Rattle.sim_hub.specs.Places.{Behind, IsLegal, IsPlace, HasModule, HasModules, HasAdded, HasLooked, HasNoDesk, IsLater}
 use Rattle.sim_hub.specs.Hubs.{IsHeld, IsIdle, IsFinished, WasShort, HadMemory, FoundShort, DeskIs, PerfIs, ReturnIs}
 use Rattle.sim_hub.specs.Steps.{Adds, ShortIs, LendingIs, BackIs, TimingIs, MayAdd, IsEnd}
 use Rattle.sim_hub.proofs.Histories.{plan_since, turns_since, others_later, lent_first, stands_next, mapped_some}
@@ -148,14 +148,20 @@ is_later q tries added log more v t w b may e =
 module _ (tries : ℕ) (log more : List HubEntry) (v t w : View HubEntry) (b : BeginsTurn bearer tries log v t) where
   has_added : (turn : HubTurn) → Adds turn log more → IsEnd true log more t w → HasAdded turn log v w
   has_added turn adds e =
-      let end = e turn adds in record {
-        begins = b.continues.begins;
-        seen = end.seen ∙ adds;
-        own = end.own ∙ ap (λ (es : List HubEntry). es ++ Turn turn ∷ []) b.own;
+      record {
+        tries = tries;
+        turn = t;
+        began = b;
+        ended = subst (λ (es : List HubEntry). EndsTurn (Turn turn ∷ []) es t w) adds (e turn adds);
       }
 
-  has_looked : IsEnd false log more t w → w.own ≡ v.own
-  has_looked e = e.own ∙ append-nil t.own ∙ b.own
+  has_looked : more ≡ log → IsEnd false log more t w → HasLooked v w
+  has_looked same e = record {
+    tries = tries;
+    turn = t;
+    began = subst (λ (es : List HubEntry). BeginsTurn bearer tries es v t) (sym (e.seen ∙ same)) b;
+    ended = subst (λ (es : List HubEntry). EndsTurn [] es t w) (sym e.seen ∙ sym (append-nil w.seen)) e;
+  }
 
   found_short : (q : ℕ) (added : Bool) → ShortIs q log more added → IsEnd added log more t w → FoundShort q v w
   found_short q true (adds, before) e =
@@ -164,7 +170,7 @@ module _ (tries : ℕ) (log more : List HubEntry) (v t w : View HubEntry) (b : B
         inr (log, has_added (Short q) adds e, before),
       )
   found_short q false (same, before) e =
-      (subst (λ (es : List HubEntry). Behind es WasShort) (sym (e.seen ∙ same)) before, inl (has_looked e))
+      (subst (λ (es : List HubEntry). Behind es WasShort) (sym (e.seen ∙ same)) before, inl (has_looked same e))
 
   pub desk_answer : (m : ℕ) (answer : Desk) (added : Bool) → LendingIs m log more answer added → IsEnd added log more t w
       → DeskIs m v w answer
@@ -173,10 +179,10 @@ module _ (tries : ℕ) (log more : List HubEntry) (v t w : View HubEntry) (b : B
   desk_answer m (desk.Held n) true (is, same, count, held) e = absurd (cc)
   desk_answer m (desk.Held n) false (is, same, count, held) e =
       let seen = sym (e.seen ∙ same) in
-      (has_looked e, count ∙ ap length seen, subst (λ (es : List HubEntry). Behind es (IsHeld m)) seen held)
+      (has_looked same e, count ∙ ap length seen, subst (λ (es : List HubEntry). Behind es (IsHeld m)) seen held)
   desk_answer m desk.Over true (is, same, over) e = absurd (cc)
   desk_answer m desk.Over false (is, same, over) e =
-      (has_looked e, subst (λ (es : List HubEntry). Behind es IsFinished) (sym (e.seen ∙ same)) over)
+      (has_looked same e, subst (λ (es : List HubEntry). Behind es IsFinished) (sym (e.seen ∙ same)) over)
   desk_answer m desk.Short added short e = found_short (m + 1) added short e
 
   pub perf_answer : (answer : PerfAnswer) (added : Bool) → TimingIs log more answer added → IsEnd added log more t w → PerfIs v w answer
@@ -184,10 +190,10 @@ module _ (tries : ℕ) (log more : List HubEntry) (v t w : View HubEntry) (b : B
   perf_answer (perf.Did n) false (is, adds) e = absurd (cc)
   perf_answer (perf.Idle n) true (is, same, count, idle) e = absurd (cc)
   perf_answer (perf.Idle n) false (is, same, count, idle) e =
-      let seen = sym (e.seen ∙ same) in (has_looked e, count ∙ ap length seen, subst (λ (es : List HubEntry). Behind es IsIdle) seen idle)
+      let seen = sym (e.seen ∙ same) in (has_looked same e, count ∙ ap length seen, subst (λ (es : List HubEntry). Behind es IsIdle) seen idle)
   perf_answer perf.Over true (is, same, over) e = absurd (cc)
   perf_answer perf.Over false (is, same, over) e =
-      (has_looked e, subst (λ (es : List HubEntry). Behind es IsFinished) (sym (e.seen ∙ same)) over)
+      (has_looked same e, subst (λ (es : List HubEntry). Behind es IsFinished) (sym (e.seen ∙ same)) over)
   perf_answer perf.Short added short e = found_short 0 added short e
 
   pub back_answer : (m n : ℕ) (made : Bool) → BackIs m n log more made → IsEnd true log more t w → ReturnIs m n v w made

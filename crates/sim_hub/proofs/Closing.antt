@@ -1,6 +1,6 @@
 -- What was seen, once the hub is closed.
-use Rattle.std.proofs.Common.{◌≡◌, ℕ, suc, ◌+◌, ◌<◌, ◌≤◌, inl, inr, refl, sym, ap, ◌∙◌, subst, arith}
-use Rattle.std.proofs.Common.{List, [], ◌∷◌, ◌++◌, Some, false, length, map, slice_get, pred, sub-one, append-nil}
+use Rattle.std.proofs.Common.{◌≡◌, ℕ, ◌+◌, ◌<◌, ◌≤◌, inl, inr, refl, sym, ap, ◌∙◌, subst, arith}
+use Rattle.std.proofs.Common.{List, [], ◌∷◌, ◌++◌, false, length, map, pred, sub-one, append-nil}
 use Rattle.std.specs.Coded.{le_prop}
 use Rattle.std.proofs.lemmas.Grind.{merely}
 use Rattle.std.proofs.lemmas.List.{nil_from_length}
@@ -13,7 +13,7 @@ use Rattle.event_timing.specs.Actions.{IsFinal}
 use Rattle.timing_bridge.specs.Designs.{design}
 use Rattle.turn_lock.specs.declared.view.View.{View}
 use Rattle.turn_lock.specs.Entries.{entries_of}
-use Rattle.turn_lock.specs.Passes.{TableId, pass_lock}
+use Rattle.turn_lock.specs.Passes.{TableId}
 use Rattle.turn_lock.specs.Turns.{AreAllMade, ShowsAll, ShowsEach, ShowsPass}
 use Rattle.turn_lock.proofs.Histories.{none_later, prefix_self}
 use Rattle.turn_lock.proofs.Joins.{after_joins, shows_each}
@@ -23,11 +23,11 @@ use Rattle.turn_history.specs.Entries.{bearer, history_of, Stands}
 use Rattle.turn_history.proofs.Lending.{final_stays}
 use Rattle.sim_hub.specs.declared.pass.ModulePass.{ModulePass}
 use Rattle.sim_hub.specs.declared.pass.PerfPass.{PerfPass}
-use Rattle.sim_hub.specs.Places.{HasModule, HasModules, HasMadeAll, HasNoDesk, IsLegal}
-use Rattle.sim_hub.specs.Hubs.{IsOverAt, module_view, perf_view}
+use Rattle.sim_hub.specs.Places.{HasModule, HasModules, HasNoDesk, IsLegal}
+use Rattle.sim_hub.specs.Hubs.{IsOverAt, module_of, module_hub, module_view, perf_view}
 use Rattle.sim_hub.specs.Steps.{ComesHome}
-use Rattle.sim_hub.specs.Closings.{AreFrom, IsWhole}
-use Rattle.sim_hub.proofs.Lists.{get_mapped, get_snoc, there}
+use Rattle.sim_hub.specs.Closings.{AreFrom, HasEachModule, IsWhole}
+use Rattle.sim_hub.proofs.Lists.{get_mapped, get_snoc}
 use Rattle.sim_hub.proofs.Histories.{plan_since, turns_since, short_stays}
 use Rattle.sim_hub.proofs.Answering.{modules_later}
 
@@ -49,8 +49,8 @@ final_since p fits seen log now t (more, all) (inr (q, at, s, short)) memory =
     absurd (cc)
 
 -- a module's pass that is shown has come home
-pub comes_home : (log : List HubEntry) (m : ℕ) (p : ModulePass) → p.which ≡ m → ShowsPass bearer log (module_view p)
-    → HasNoDesk p.which (module_view p).seen → ∥ ComesHome m log ∥₁
+pub comes_home : (log : List HubEntry) (m : ℕ) (p : ModulePass) → module_of p ≡ m → ShowsPass bearer log (module_view p)
+    → HasNoDesk (module_of p) (module_view p).seen → ∥ ComesHome m log ∥₁
 comes_home log m p which shown home =
     let v = module_view p in
     let number : v.number ≡ m + 1 = p.place.numbered ∙ p.is ∙ ap (λ n. n + 1) which in
@@ -71,22 +71,22 @@ comes_home log m p which shown home =
 
 -- one pass more, in order
 pub from_more : (id : TableId) (seen : List HubEntry) (passes : List ModulePass) (p : ModulePass) → AreFrom id seen passes
-    → p.which ≡ length passes → pass_lock p.place.pass ≡ id → (module_view p).seen ≡ seen → AreFrom id seen (passes ++ p ∷ [])
+    → module_of p ≡ length passes → module_hub p ≡ id → (module_view p).seen ≡ seen → AreFrom id seen (passes ++ p ∷ [])
 from_more id seen passes p all which lock same = λ k q at.
     elim (get_snoc passes p q k at) [
       | inl there ↦ all k q there
-      | inr (last, is) ↦ subst (λ (r : ModulePass). (r.which ≡ k) × (pass_lock r.place.pass ≡ id) × ((module_view r).seen ≡ seen)) is
+      | inr (last, is) ↦ subst (λ (r : ModulePass). (module_of r ≡ k) × (module_hub r ≡ id) × ((module_view r).seen ≡ seen)) is
           (which ∙ sym last, lock, same)
     ]
 
--- passes in the order of their modules are all
-pub all_in_order : (v : View HubEntry) (passes : List ModulePass) → v.made ≡ length passes
-    → ((k : ℕ) (p : ModulePass) → slice_get passes k ≡ Some p → p.which ≡ k) → AreAllMade v (map module_view passes)
-all_in_order v passes made order n above below =
-    let k : ℕ = pred n in
-    let is : k + 1 ≡ n = omega (arith, sub-one) in
-    let (p, at) = there passes k (omega (arith, sub-one)) in
-    (k, module_view p, get_mapped module_view passes k p at, p.place.numbered ∙ p.is ∙ ap (λ i. i + 1) (order k p at) ∙ is)
+-- the passes of all modules are all that the performance pass made
+pub all_made : (perf : PerfPass) (passes : List ModulePass) → HasEachModule perf passes
+    → AreAllMade (perf_view perf) (map module_view passes)
+all_made perf passes each n above below =
+    let m : ℕ = pred n in
+    let is : m + 1 ≡ n = omega (arith, sub-one) in
+    let (k, p, at, which) = each m (omega (arith, sub-one)) in
+    (k, module_view p, get_mapped module_view passes k p at, p.place.numbered ∙ p.is ∙ ap (λ i. i + 1) which ∙ is)
 
 -- ---- how many passes there are
 
@@ -100,17 +100,14 @@ same_count a b seen x y =
     one l k =
         ap (λ (p : Plan). length p.design.modules) (plan_since l.plan k.plan seen seen l.at k.at l.stands k.stands (prefix_self seen))
 
-pub made_count : (v : View HubEntry) (n : ℕ) → ∥ HasMadeAll v ∥₁ → HasModules n v.seen → v.made ≡ n
-made_count v n made there =
-    let low : v.made ≤ n = ∥∥₁_elim made le_prop (λ all. let same = same_count v.made n v.seen all.made there in omega arith) in
-    let high : n ≤ v.made = ∥∥₁_elim made le_prop (λ all. let same = same_count v.made n v.seen all.made there in omega arith) in
-    omega arith
-
-pub log_count : (p : Plan) (log : List HubEntry) (now : Turned ModuleState) → Stands p log now → (seen : List HubEntry) (n : ℕ)
-    → IsPrefix seen log → HasModules n seen → n ≡ length p.design.modules
-log_count p log now t seen n begins there =
+-- the performance pass has made one pass for each module of the plan
+pub made_count : (p : Plan) (log : List HubEntry) (now : Turned ModuleState) → Stands p log now → (perf : PerfPass)
+    → IsPrefix (perf_view perf).seen log → (perf_view perf).made ≡ length p.design.modules
+made_count p log now t perf begins =
+    let v = perf_view perf in
+    let there : HasModules v.made v.seen = ∥∥₁_elim perf.made (hlevel) (λ m. m.made) in
     let k : IsLegal log = record { plan = p; at = now; stands = t } in
-    same_count n (length p.design.modules) log (modules_later n seen log there begins k) (merely (k, refl))
+    same_count v.made (length p.design.modules) log (modules_later v.made v.seen log there begins k) (merely (k, refl))
 
 -- a history that was just opened
 pub opened_count : (p : Plan) (n : ℕ) → n ≡ length p.design.modules → HasModules n (history_of p [])
@@ -135,15 +132,13 @@ shown_each log v u passes zeroth is all =
 -- the history is whole
 pub whole : (perf : PerfPass) (passes : List ModulePass) (log : List HubEntry) → IsLegal log
     → ShowsEach bearer (perf_view perf) (map module_view passes) log
-    → ((k : ℕ) (p : ModulePass) → slice_get passes k ≡ Some p → p.which ≡ k)
-    → ((n : ℕ) → length passes < n → length (entries_of bearer n log) ≡ 0) → IsWhole perf passes log
-whole perf passes log legal shown order none_else = record {
+    → ((n : ℕ) → (perf_view perf).made < n → length (entries_of bearer n log) ≡ 0) → IsWhole perf passes log
+whole perf passes log legal shown none_else = record {
   legal = legal;
   first = shown.first.seen;
   first_own = ap (λ n. entries_of bearer n log) (sym (perf.place.numbered ∙ perf.first)) ∙ shown.first.own;
   others = λ k p at.
       let one = shown.others k (module_view p) (get_mapped module_view passes k p at) in
-      let number : suc k ≡ (module_view p).number = let e = p.place.numbered ∙ p.is ∙ ap (λ n. n + 1) (order k p at) in omega arith in
-      (one.seen, ap (λ n. entries_of bearer n log) number ∙ one.own);
+      (one.seen, ap (λ n. entries_of bearer n log) (sym (p.place.numbered ∙ p.is)) ∙ one.own);
   none_else = λ n above. nil_from_length (entries_of bearer n log) (none_else n above);
 }

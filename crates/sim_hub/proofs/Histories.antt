@@ -26,6 +26,7 @@ use Rattle.turn_history.proofs.Legal.{turns_are}
 use Rattle.turn_history.proofs.Turning.{turns_join}
 use Rattle.turn_lock.proofs.Histories.{prefix_self}
 use Rattle.sim_hub.specs.Places.{Behind}
+use Rattle.run_ahead.proofs.Parts.{some_is}
 
 -- ---- turns as entries
 
@@ -59,9 +60,6 @@ turns_behind (x ∷ xs) (y ∷ ys) more e =
     (t.0, t.1, ap (λ (z : HubTurn). z ∷ ys) (sym head) ∙ ap (λ (zs : List HubTurn). x ∷ zs) t.2)
 
 -- ---- what stands behind a history, and behind a longer one
-
-some_same : {A : Type 0} → (a b : A) → Some a ≡ Some b → a ≡ b
-some_same {A} a b e = cc
 
 -- the plan is that of the longer one
 pub plan_since : (p q : Plan) (seen log : List HubEntry) (v w : Turned ModuleState) → Stands p seen v → Stands q log w → IsPrefix seen log
@@ -112,7 +110,7 @@ one_standing p seen v w s t = one_at s.turns t.turns (ap rest_in (sym s.entries 
         ∙ ap (λ (zs : List HubTurn). y ∷ zs) (same_turns xs ys (ap rest_in e))
 
     one_at : (xs ys : List HubTurn) → map Turn xs ≡ map Turn ys → standing_of p xs ≡ Some v → standing_of p ys ≡ Some w → v ≡ w
-    one_at xs ys e a b = some_same v w (sym a ∙ ap (standing_of p) (same_turns xs ys e) ∙ b)
+    one_at xs ys e a b = some_is v w (sym a ∙ ap (standing_of p) (same_turns xs ys e) ∙ b)
 
 -- what holds behind a history holds of what stands there
 pub behind_at : (p : Plan) (log : List HubEntry) (v : Turned ModuleState) → Stands p log v → (P : Plan → Turned ModuleState → Type 0)
@@ -159,7 +157,7 @@ not_to_some r q (Some k) e = either (is_lent_to (Some k) r) refl e
     either : (b : Bool) → is_lent_to (Some k) r ≡ b → cond b None (Some k) ≡ Some q → (Some k ≡ Some q) × (q ≡ r → ⊥)
     either true h g = absurd (cc)
     either false h g =
-        let same : k ≡ q = some_same k q g in
+        let same : k ≡ q = some_is k q g in
         (g, λ is. let both = eq-eqb r k (sym is ∙ sym same) in absurd (cc))
 
 pub mapped_some : (r m q : ℕ) (os : List (Option ℕ)) → get_or (map (not_to r) os) m None ≡ Some q
@@ -171,7 +169,7 @@ module _ {S : Type 0} (d : Design S) (limit : ℕ) where
       → lent_at v m ≡ Some q
   lent_before v u q m (Lent r k) other (short, may, free, same) lent =
       elim (set_some v.lent_to k m q (Some r) (ap (λ (x : Turned S). lent_at x m) (sym same) ∙ lent)) [
-        | inl (here, is) ↦ absurd (other (some_same r q is))
+        | inl (here, is) ↦ absurd (other (some_is r q is))
         | inr there ↦ there
       ]
   lent_before v u q m (Ran r k n) other (holds, some, acts, same) lent =

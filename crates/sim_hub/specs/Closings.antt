@@ -1,10 +1,10 @@
 -- How a hub begins and ends.
-use Rattle.std.specs.Prelude.{◌≡◌, ℕ, suc, ◌<◌, List, [], length, false, Some, slice_get}
+use Rattle.std.specs.Prelude.{◌≡◌, ℕ, ◌+◌, ◌<◌, List, [], false, Some, slice_get}
 use mathlib.Core.List.{IsPrefix}
 use Rattle.flow_design.specs.declared.plan.Plan.{Plan}
 use Rattle.flow_design.specs.declared.state.ModuleState.{ModuleState}
 use Rattle.turn_lock.specs.Entries.{entries_of}
-use Rattle.turn_lock.specs.Passes.{TableId, pass_lock}
+use Rattle.turn_lock.specs.Passes.{TableId}
 use Rattle.event_timing.specs.Actions.{IsFinal}
 use Rattle.timing_bridge.specs.Designs.{design}
 use Rattle.sim_core.specs.Views.{theory_of}
@@ -17,25 +17,26 @@ use Rattle.sim_hub.specs.declared.pass.ModulePass.{ModulePass}
 use Rattle.sim_hub.specs.declared.answer.Threaded.{Threaded}
 use Rattle.sim_hub.specs.declared.answer.Closed.{Closed}
 use Rattle.sim_hub.specs.declared.answer.Closed.TheVariants as closed
-use Rattle.sim_hub.specs.Places.{Behind, HasModules, HasNoDeskOut, IsLegal}
-use Rattle.sim_hub.specs.Hubs.{module_view, perf_view, WasShort}
+use Rattle.sim_hub.specs.Places.{Behind, HasNoDeskOut, IsLegal}
+use Rattle.sim_hub.specs.Hubs.{module_of, module_hub, module_view, perf_view, WasShort}
 
--- the passes of the modules of this hub, in order
+-- the passes are of this hub
 abbrev pub AreOfHub : TableId → List ModulePass → Type 0
-AreOfHub id passes = (k : ℕ) (p : ModulePass) → slice_get passes k ≡ Some p → (p.which ≡ k) × (pass_lock p.place.pass ≡ id)
+AreOfHub id passes = (k : ℕ) (p : ModulePass) → slice_get passes k ≡ Some p → module_hub p ≡ id
 
--- one for each module of the plan
-abbrev pub HasAllModules : List HubEntry → List ModulePass → Type 0
-HasAllModules seen passes = HasModules (length passes) seen
+-- the pass of each module stands somewhere among these, in whatever order. The performance pass has made one for each module of the plan
+abbrev pub HasEachModule : PerfPass → List ModulePass → Type 0
+HasEachModule perf passes =
+    (m : ℕ) → m < (perf_view perf).made → (k : ℕ) × (p : ModulePass) × (slice_get passes k ≡ Some p) × (module_of p ≡ m)
 
 -- no desk is out
 abbrev pub AllHome : List ModulePass → Type 0
-AllHome passes = (k : ℕ) (p : ModulePass) → slice_get passes k ≡ Some p → HasNoDeskOut p.which (module_view p)
+AllHome passes = (k : ℕ) (p : ModulePass) → slice_get passes k ≡ Some p → HasNoDeskOut (module_of p) (module_view p)
 
--- and all have seen this history
+-- the passes of the first modules of this hub, in order, and all have seen this history
 abbrev pub AreFrom : TableId → List HubEntry → List ModulePass → Type 0
 AreFrom id seen passes = (k : ℕ) (p : ModulePass) → slice_get passes k ≡ Some p
-    → (p.which ≡ k) × (pass_lock p.place.pass ≡ id) × ((module_view p).seen ≡ seen)
+    → (module_of p ≡ k) × (module_hub p ≡ id) × ((module_view p).seen ≡ seen)
 
 -- the same of a hub that was just opened
 abbrev pub AreNew : TableId → Plan → List ModulePass → Type 0
@@ -58,8 +59,8 @@ pub record IsWhole (perf : PerfPass) (modules : List ModulePass) (log : List Hub
   pub first : IsPrefix (perf_view perf).seen log
   pub first_own : entries_of bearer 0 log ≡ (perf_view perf).own
   pub others : (k : ℕ) (p : ModulePass) → slice_get modules k ≡ Some p
-      → IsPrefix (module_view p).seen log × (entries_of bearer (suc k) log ≡ (module_view p).own)
-  pub none_else : (n : ℕ) → length modules < n → entries_of bearer n log ≡ []
+      → IsPrefix (module_view p).seen log × (entries_of bearer (module_of p + 1) log ≡ (module_view p).own)
+  pub none_else : (n : ℕ) → (perf_view perf).made < n → entries_of bearer n log ≡ []
 
 -- a final core with all turns, or memory was wanted
 abbrev pub EndsAt : List HubEntry → Closed → Type 0

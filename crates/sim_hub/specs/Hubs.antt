@@ -30,14 +30,28 @@ use Rattle.sim_hub.specs.Places.{Behind, HasAdded, HasLooked, HasDesk, HasNoDesk
 abbrev pub hub_id : Hub → TableId
 hub_id h = lock_id h.lock
 
+-- which module's pass it is, of which hub, and what it knows
+abbrev pub module_of : ModulePass → ℕ
+module_of p = p.which
+
+abbrev pub module_hub : ModulePass → TableId
+module_hub p = pass_lock p.place.pass
+
 abbrev pub module_view : ModulePass → View HubEntry
 module_view p = view_of p.place.pass
+
+-- the same of the performance pass
+abbrev pub perf_hub : PerfPass → TableId
+perf_hub p = pass_lock p.place.pass
 
 abbrev pub perf_view : PerfPass → View HubEntry
 perf_view p = view_of p.place.pass
 
 abbrev pub IsOfHub : Hub → ModulePass → Type 0
-IsOfHub h p = pass_lock p.place.pass ≡ hub_id h
+IsOfHub h p = module_hub p ≡ hub_id h
+
+abbrev pub IsPerfOf : Hub → PerfPass → Type 0
+IsPerfOf h p = perf_hub p ≡ hub_id h
 
 -- ---- what stands behind a history
 

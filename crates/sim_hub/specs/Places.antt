@@ -5,6 +5,7 @@ use Rattle.flow_design.specs.declared.plan.Plan.{Plan}
 use Rattle.flow_design.specs.declared.state.ModuleState.{ModuleState}
 use Rattle.turn_lock.specs.declared.view.View.{View}
 use Rattle.turn_lock.specs.Entries.{entries_of}
+use Rattle.turn_lock.specs.Turns.{BeginsTurn, EndsTurn}
 use Rattle.turn_history.specs.declared.entry.HubEntry.{HubEntry}
 use Rattle.turn_history.specs.declared.entry.HubEntry.TheVariants.{Turn}
 use Rattle.turn_history.specs.declared.turn.HubTurn.{HubTurn}
@@ -69,12 +70,18 @@ pub record IsLater (v w : View HubEntry) : Type 0 where
   pub made : w.made ≡ v.made
   pub joined : w.joined ≡ v.joined
 
--- the history of the turn, which begins with what had been seen, has this turn at its end, the pass's next own entry
-pub record HasAdded (t : HubTurn) (before : List HubEntry) (v w : View HubEntry) : Type 0 where
-  pub begins : IsPrefix v.seen before
-  pub seen : w.seen ≡ before ++ Turn t ∷ []
-  pub own : w.own ≡ v.own ++ Turn t ∷ []
+-- One turn of the lock led from the pass v to the pass w. It began with this history, in which what is new to the pass is of others,
+-- and it was handed back with these entries more, the pass's own, and with no others
+pub record TookTurn (added found : List HubEntry) (v w : View HubEntry) : Type 0 where
+  pub tries : ℕ
+  pub turn : View HubEntry
+  pub began : BeginsTurn bearer tries found v turn
+  pub ended : EndsTurn added (found ++ added) turn w
 
--- the turn added no entry
+-- the turn added this entry to what it found
+abbrev pub HasAdded : HubTurn → List HubEntry → View HubEntry → View HubEntry → Type 0
+HasAdded t found v w = TookTurn (Turn t ∷ []) found v w
+
+-- the turn added no entry: the pass has seen just what the turn found
 abbrev pub HasLooked : View HubEntry → View HubEntry → Type 0
-HasLooked v w = w.own ≡ v.own
+HasLooked v w = TookTurn [] w.seen v w

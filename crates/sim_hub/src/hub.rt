@@ -9,5 +9,5 @@ mod work;
 /// A core that passes change in turns. Its entries are one legal history, whose replay gives the core.
 #[derive(Drop)]
 pub struct Hub {
-    pub lock: TurnLock<Ledger>,
+    lock: TurnLock<Ledger>,
 }

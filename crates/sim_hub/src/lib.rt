@@ -10,7 +10,6 @@ mod pass;
 
 pub use answer::{Closed, Desk, PerfAnswer, Threaded};
 pub use hub::Hub;
-pub use ledger::Ledger;
-pub use pass::{ModulePass, PerfPass, Place};
+pub use pass::{ModulePass, PerfPass};
 pub use sim_core::{Burst, Core, Mail, Task, work};
 pub use turn_history::{HubEntry, HubTurn};

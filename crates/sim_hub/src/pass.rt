@@ -9,8 +9,8 @@ use turn_lock::Pass;
 /// A pass of the turn lock with its number. What it has seen is a legal history.
 #[derive(Drop)]
 pub struct Place {
-    pub pass: Pass<Ledger>,
-    pub number: u32,
+    pub(crate) pass: Pass<Ledger>,
+    pub(crate) number: u32,
     ghost numbered: { (view_of pass).number ≡ number },
     ghost good: { ∥ IsPlace number (view_of pass) ∥₁ },
 }
@@ -18,7 +18,7 @@ pub struct Place {
 /// The performance pass, whose number is 0.
 #[derive(Drop)]
 pub struct PerfPass {
-    pub place: Place,
+    pub(crate) place: Place,
     ghost first: { place.number ≡ 0 },
     ghost made: { ∥ HasMadeAll (view_of place.pass) ∥₁ },
 }
@@ -26,8 +26,17 @@ pub struct PerfPass {
 /// The pass of a module: its number is one more than the module's.
 #[derive(Drop)]
 pub struct ModulePass {
-    pub place: Place,
-    pub which: u32,
+    pub(crate) place: Place,
+    pub(crate) which: u32,
     ghost is: { place.number ≡ which + 1 },
     ghost within: { HasModule which (view_of place.pass).seen },
+}
+
+impl ModulePass {
+    /// Which module's pass it is.
+    pub fn which(&self) -> u32
+        ensures { result ≡ self.now.which }
+    {
+        self.which
+    }
 }

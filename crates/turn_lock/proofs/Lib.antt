@@ -8,3 +8,4 @@ pub mod Freeing
 pub mod Joining
 pub mod Closing
 pub mod Joins
+pub mod Leading

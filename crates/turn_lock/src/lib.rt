@@ -1,6 +1,7 @@
 //! A lock that hands its value out for one turn at a time, and passes that know how far the value's history has come.
 #![tactic(auto)]
 
+mod counts;
 mod kept;
 mod law;
 mod lends;
@@ -9,6 +10,7 @@ mod pass;
 mod plays;
 mod view;
 
+pub use counts::counts_are_of_calls;
 pub use kept::Kept;
 pub use pass::{Pass, Tried, Turn, TurnLock};
 pub use view::{Joined, View};

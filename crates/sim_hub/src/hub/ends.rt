@@ -11,9 +11,9 @@ ghost use Rattle.turn_history.specs.Entries.{bearer, history_of};
 ghost use mathlib.Core.List.{IsPrefix};
 ghost use Rattle.sim_hub.specs.Places.{IsFirst, HasModule, HasModules};
 ghost use Rattle.sim_hub.specs.Steps.{ComesHome};
-ghost use Rattle.sim_hub.specs.Hubs.{hub_id, perf_view, IsOverAt};
+ghost use Rattle.sim_hub.specs.Hubs.{hub_id, perf_view, IsOverAt, IsPerfOf};
 ghost use Rattle.sim_hub.specs.Ledgers.{entries_in};
-ghost use Rattle.sim_hub.specs.Closings.{AreFrom, AreNew, AreOfHub, AllHome, HasAllModules, ClosedIs, EndsAt};
+ghost use Rattle.sim_hub.specs.Closings.{AreFrom, AreNew, AreOfHub, AllHome, HasEachModule, ClosedIs, EndsAt};
 
 use super::Hub;
 use crate::answer::{Closed, Threaded};
@@ -32,8 +32,9 @@ impl Hub {
     pub fn new(alloc: Global, core: Core) -> Result<(Hub, PerfPass, Vec<ModulePass>), OutOfMemory>
         requires opening { theory_of core ≡ opening_core (design core.plan) }
         requires own { AreOwn core }
-        ensures perf { IfOk result (λ r. (pass_lock r.1.place.pass ≡ hub_id r.0) × ((perf_view r.1).seen ≡ history_of core.plan [])) }
+        ensures perf { IfOk result (λ r. IsPerfOf r.0 r.1 × ((perf_view r.1).seen ≡ history_of core.plan [])) }
         ensures count { IfOk result (λ r. length r.2.items ≡ length core.plan.design.modules) }
+        ensures made { IfOk result (λ r. (perf_view r.1).made ≡ length r.2.items) }
         ensures modules { IfOk result (λ r. AreNew (hub_id r.0) core.plan r.2.items) }
     {
         let count = core.modules();
@@ -43,10 +44,10 @@ impl Hub {
         Ok((Hub { lock }, perf_pass(first, count), modules))
     }
 
-    /// The core with all turns that led to it, once no desk is out and all is over.
+    /// The core with all turns that led to it, once no desk is out and all is over. The passes of the modules may come in any order.
     pub fn close(self, perf: PerfPass, modules: Vec<ModulePass>) -> Closed
-        requires own { pass_lock perf.place.pass ≡ hub_id self }
-        requires modules { HasAllModules (perf_view perf).seen modules.items × AreOfHub (hub_id self) modules.items }
+        requires own { IsPerfOf self perf × AreOfHub (hub_id self) modules.items }
+        requires each { HasEachModule perf modules.items }
         requires home { AllHome modules.items }
         requires over { IsOverAt (perf_view perf).seen }
         ensures { ClosedIs perf modules.items result }

@@ -1,8 +1,7 @@
 //! What passes do in a turn.
 ghost use Rattle.std.specs.Prelude.{◌≡◌, ◌⊎◌, ℕ, ◌+◌, ◌^◌, ◌<◌, List, [], ◌∷◌, ◌++◌, length, true, false};
-ghost use Rattle.turn_lock.specs.Passes.{pass_lock};
 ghost use Rattle.sim_hub.specs.Places.{HasDeskOut, HasNoDeskOut, IsLater};
-ghost use Rattle.sim_hub.specs.Hubs.{hub_id, module_view, perf_view, IsOfHub, DeskIs, OutIs, PerfIs, ReturnIs, IsDeskBurst};
+ghost use Rattle.sim_hub.specs.Hubs.{module_of, module_view, perf_view, IsOfHub, IsPerfOf, DeskIs, OutIs, PerfIs, ReturnIs, IsDeskBurst};
 
 use super::Hub;
 use crate::answer::{Desk, PerfAnswer};
@@ -14,11 +13,11 @@ impl Hub {
     /// Lends a module's run with its mail, where a Run of the module is permitted. One turn.
     pub fn borrow_desk<R: Wait>(&self, rt: &R, pass: ModulePass) -> (ModulePass, Desk)
         requires own { IsOfHub self.now pass }
-        requires home { HasNoDeskOut pass.which (module_view pass) }
-        ensures own { IsOfHub self.now result.0 × (result.0.which ≡ pass.which) }
+        requires home { HasNoDeskOut (module_of pass) (module_view pass) }
+        ensures own { IsOfHub self.now result.0 × (module_of result.0 ≡ module_of pass) }
         ensures later { IsLater (module_view pass) (module_view result.0) }
-        ensures answer { DeskIs pass.which (module_view pass) (module_view result.0) result.1 }
-        ensures out { OutIs pass.which (module_view result.0) result.1 }
+        ensures answer { DeskIs (module_of pass) (module_view pass) (module_view result.0) result.1 }
+        ensures out { OutIs (module_of pass) (module_view result.0) result.1 }
     {
         let ModulePass { place, which } = pass;
         let number = place.number;
@@ -33,13 +32,13 @@ impl Hub {
     /// burst wanted memory, or where there is none for its marks. One turn.
     pub fn return_desk<R: Wait>(&self, rt: &R, pass: ModulePass, burst: Burst) -> (ModulePass, bool)
         requires own { IsOfHub self.now pass }
-        requires out { HasDeskOut pass.which (module_view pass) }
-        requires burst { IsDeskBurst pass.which (module_view pass).seen burst }
-        ensures own { IsOfHub self.now result.0 × (result.0.which ≡ pass.which) }
+        requires out { HasDeskOut (module_of pass) (module_view pass) }
+        requires burst { IsDeskBurst (module_of pass) (module_view pass).seen burst }
+        ensures own { IsOfHub self.now result.0 × (module_of result.0 ≡ module_of pass) }
         ensures later { IsLater (module_view pass) (module_view result.0) }
-        ensures turn { ReturnIs pass.which (length burst.emitted) (module_view pass) (module_view result.0) result.1 }
+        ensures turn { ReturnIs (module_of pass) (length burst.emitted) (module_view pass) (module_view result.0) result.1 }
         ensures short { burst.short ≡ true → result.1 ≡ false }
-        ensures home { HasNoDeskOut pass.which (module_view result.0) }
+        ensures home { HasNoDeskOut (module_of pass) (module_view result.0) }
     {
         let ModulePass { place, which } = pass;
         let number = place.number;
@@ -53,8 +52,8 @@ impl Hub {
     /// Does each permitted Assign and Answer, modules in order and round after round; or, where none was done and no Run is permitted
     /// either, one Earliest. One turn.
     pub fn perf_turn<R: Wait>(&self, rt: &R, pass: PerfPass) -> (PerfPass, PerfAnswer)
-        requires own { pass_lock pass.place.pass ≡ hub_id self.now }
-        ensures own { pass_lock result.0.place.pass ≡ hub_id self.now }
+        requires own { IsPerfOf self.now pass }
+        ensures own { IsPerfOf self.now result.0 }
         ensures later { IsLater (perf_view pass) (perf_view result.0) }
         ensures answer { PerfIs (perf_view pass) (perf_view result.0) result.1 }
     {

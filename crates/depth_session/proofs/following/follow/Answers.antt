@@ -41,9 +41,9 @@ returns-in_err-run_again-in-Differs-clause-at_most g c = λ l.
     let w = c.go_on.new.core in
     let e = c.args.edit.now in
     let gone = subst (λ (r : Guard). HasGoneOn r v e w) c.in-Differs.is c.in_ok-go_on.ensures.gone in
-    let other = subst (HasOtherAnswer v.held.logs) (sym c.run_again.ensures.plan)
+    let other = subst (λ (p : Plan). HasOtherAnswer v.held.logs p c.in-Differs.field-0) (sym c.run_again.ensures.plan)
     (c.records_are_answers.ensures.differ v e w gone.0 _ gone.1) in
-    let more = ap (λ (n : RunCount). n.runs) (counts_again v c.run_again.new.core c.args.runs other) in
+    let more = ap (λ (n : RunCount). n.runs) (counts_again v c.run_again.new.core c.args.runs _ other) in
     let most = c.run_again.ensures.at_most l in
     omega arith
 
@@ -54,7 +54,7 @@ returns-in_err-run_again-in-Differs-clause-succeeds g c = λ repeat.
     let e = c.args.edit.now in
     let gone = subst (λ (r : Guard). HasGoneOn r v e w) c.in-Differs.is c.in_ok-go_on.ensures.gone in
     let repeats = subst (λ (p : Plan). RepeatsAnswers (recorded_in v.held.logs) (report p).answers) c.run_again.ensures.plan repeat in
-    absurd (none_other v w repeats (c.records_are_answers.ensures.differ v e w gone.0 _ gone.1))
+    absurd (none_other v w repeats _ (c.records_are_answers.ensures.differ v e w gone.0 _ gone.1))
 
 pub returns-in_ok-run_again-in-Differs-clause-counted : goal.returns-in_ok-run_again-in-Differs-clause-counted
 returns-in_ok-run_again-in-Differs-clause-counted g c =
@@ -62,10 +62,10 @@ returns-in_ok-run_again-in-Differs-clause-counted g c =
     let w = c.go_on.new.core in
     let e = c.args.edit.now in
     let gone = subst (λ (r : Guard). HasGoneOn r v e w) c.in-Differs.is c.in_ok-go_on.ensures.gone in
-    let other = subst (HasOtherAnswer v.held.logs) (sym c.run_again.ensures.plan)
+    let other = subst (λ (p : Plan). HasOtherAnswer v.held.logs p c.in-Differs.field-0) (sym c.run_again.ensures.plan)
     (c.records_are_answers.ensures.differ v e w gone.0 _ gone.1) in
     ap (λ (a : List (List Bool)). counted a (c.args.runs + 1)) c.in_ok-run_again-in-Differs.ensures.answers
-    ∙ sym (counts_again v c.run_again.new.core c.args.runs other)
+    ∙ sym (counts_again v c.run_again.new.core c.args.runs _ other)
 
 pub returns-in_ok-run_again-in-Differs-clause-at_most : goal.returns-in_ok-run_again-in-Differs-clause-at_most
 returns-in_ok-run_again-in-Differs-clause-at_most g c = λ l.
@@ -73,8 +73,8 @@ returns-in_ok-run_again-in-Differs-clause-at_most g c = λ l.
     let w = c.go_on.new.core in
     let e = c.args.edit.now in
     let gone = subst (λ (r : Guard). HasGoneOn r v e w) c.in-Differs.is c.in_ok-go_on.ensures.gone in
-    let other = subst (HasOtherAnswer v.held.logs) (sym c.run_again.ensures.plan)
+    let other = subst (λ (p : Plan). HasOtherAnswer v.held.logs p c.in-Differs.field-0) (sym c.run_again.ensures.plan)
     (c.records_are_answers.ensures.differ v e w gone.0 _ gone.1) in
-    let more = ap (λ (n : RunCount). n.runs) (counts_again v c.run_again.new.core c.args.runs other) in
+    let more = ap (λ (n : RunCount). n.runs) (counts_again v c.run_again.new.core c.args.runs _ other) in
     let most = c.run_again.ensures.at_most l in
     omega arith

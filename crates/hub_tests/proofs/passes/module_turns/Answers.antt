@@ -3,7 +3,7 @@ use Rattle.std.specs.List.{insert}
 use Rattle.std.proofs.lemmas.Option.{slice_get_read}
 use Rattle.sim_hub.specs.declared.pass.ModulePass.{ModulePass}
 use Rattle.sim_hub.specs.Places.{HasNoDeskOut}
-use Rattle.sim_hub.specs.Hubs.{hub_id, module_view}
+use Rattle.sim_hub.specs.Hubs.{hub_id, module_of, module_view}
 use Rattle.hub_tests.specs.Resting.{AreResting}
 use Rattle.hub_tests.proofs.Rests.{resting_put_back}
 use Rattle.hub_tests.proofs.passes.module_turns.Goals as goal
@@ -21,7 +21,6 @@ returns g c =
     let put = c.in_ok-insert.ensures.items ∙ ap (λ (l : List ModulePass). insert l which back) c.remove-pass.ensures.items in record {
       resting =
           subst (AreResting (hub_id c.args.hub.now) c.args.passes.perf) (sym put)
-          (resting_put_back (hub_id c.args.hub.now) c.args.passes.perf items which back within rest
-          (driven.own.1 ∙ (rest.own which out at).0) driven.own.0
+          (resting_put_back (hub_id c.args.hub.now) c.args.passes.perf items which out back at within rest driven.own.1 driven.own.0
           (subst (λ n. HasNoDeskOut n (module_view back)) (sym driven.own.1) driven.home));
     }

@@ -15,7 +15,7 @@ pub returns : goal.returns
 returns g c =
     let made = c.in_ok-hub.ensures in record {
       resting =
-          new_resting (hub_id c.in_ok-hub.hub) c.in_ok-core.core.plan c.in_ok-hub.perf c.in_ok-hub.modules.items made.perf.0 made.perf.1
-          made.count
+          new_resting (hub_id c.in_ok-hub.hub) c.in_ok-core.core.plan c.in_ok-hub.perf c.in_ok-hub.modules.items made.perf.0
+          made.made
           made.modules;
     }

@@ -1,7 +1,7 @@
 use Rattle.std.proofs.Common.{◌≡◌}
 use Rattle.sim_hub.specs.Places.{HasNoDeskOut}
-use Rattle.sim_hub.specs.Hubs.{IsOfHub, module_view}
+use Rattle.sim_hub.specs.Hubs.{IsOfHub, module_of, module_view}
 use Rattle.run_threads.proofs.drive.drive.Given as goal
 
 abbrev pub invariant-loop : goal.invariant-loop
-invariant-loop g l = IsOfHub l.hub l.pass × (l.pass.which ≡ l.which) × HasNoDeskOut l.which (module_view l.pass)
+invariant-loop g l = IsOfHub l.hub l.pass × (module_of l.pass ≡ l.which) × HasNoDeskOut l.which (module_view l.pass)

@@ -1,8 +1,7 @@
 use Rattle.std.proofs.Common.{rules, arith, [], ◌∷◌, ◌++◌, ◌≡◌, length, ap, sym, ◌∙◌, subst, append_assoc, length-append}
-use Rattle.sim_hub.specs.Hubs.{hub_id}
-use Rattle.sim_hub.specs.Closings.{AreOfHub, AllHome}
 use Rattle.run_threads.specs.Driving.{IsHere}
-use Rattle.run_threads.proofs.Places.{own_snoc, home_snoc}
+use Rattle.run_threads.specs.Slots.{AreHere}
+use Rattle.run_threads.proofs.Lists.{all-snoc}
 use Rattle.run_threads.proofs.lead.gather.Goals as goal
 
 pub loop-slot-preserved : goal.loop-slot-preserved
@@ -16,8 +15,7 @@ loop-slot-preserved g c =
     let is : IsHere h (length ps) p = subst (λ n. IsHere h n p) count c.take_one.ensures in
     let e = c.push_reserved.ensures in (
       omega (arith, ap length e.items, length-append ps (p ∷ []), length-append ys (s ∷ [])),
-      subst (AreOfHub (hub_id h)) (sym e.items) (own_snoc h ps p i.1 is),
-      subst AllHome (sym e.items) (home_snoc h ps p i.2 is),
-      (i.3 ∙ ap (λ l. ys ++ l) c.in-Some.ensures.steps.0) ∙ sym (append_assoc ys (s ∷ []) rest),
-      i.4 ∙ sym e.capacity,
+      subst (AreHere h) (sym e.items) (all-snoc (IsHere h) ps p i.1 is),
+      (i.2 ∙ ap (λ l. ys ++ l) c.in-Some.ensures.steps.0) ∙ sym (append_assoc ys (s ∷ []) rest),
+      i.3 ∙ sym e.capacity,
     )

@@ -7,29 +7,36 @@ use Rattle.timing_bridge.specs.Designs.{design}
 use Rattle.turn_history.specs.Entries.{history_of}
 use Rattle.sim_core.specs.Views.{theory_of}
 use Rattle.sim_hub.specs.Hubs.{perf_view}
-use Rattle.sim_hub.specs.Closings.{AllHome, IsRun, ClosedIs}
+use Rattle.sim_hub.specs.Closings.{IsRun, ClosedIs}
 use Rattle.run_threads.specs.declared.drive.Seat.{Seat}
-use Rattle.sim_hub.proofs.Openings.{new_home}
-use Rattle.run_threads.proofs.Openings.{all_since, prefix_trans, one_plan}
+use Rattle.run_threads.specs.Slots.{AreHere}
+use Rattle.run_threads.proofs.Openings.{prefix_trans, one_plan}
+use Rattle.run_threads.proofs.Places.{new_here, here_own, here_home, here_each}
 use Rattle.run_threads.proofs.run.run_threads_started.Goals as goal
 
 pub new-requires-3-clause-opening : goal.new-requires-3-clause-opening
 new-requires-3-clause-opening g c =
     subst (λ (p : Plan). theory_of c.in_ok-core.core ≡ opening_core (design p)) (sym c.in_ok-core.ensures.plan) c.in_ok-core.ensures.opening
 
-pub run_all-perf-requires-clause-home : goal.run_all-perf-requires-clause-home
-run_all-perf-requires-clause-home g c κs within = subst AllHome (sym c.in_ok-seats.ensures) (new_home _ _ _ c.in_ok-hub.ensures.modules)
+pub run_all-perf-requires-clause-here : goal.run_all-perf-requires-clause-here
+run_all-perf-requires-clause-here g c κs within =
+    subst (AreHere c.in_ok-hub.hub) (sym c.in_ok-seats.ensures)
+    (new_here c.in_ok-hub.hub c.in_ok-core.core.plan c.in_ok-hub.modules.items c.in_ok-hub.ensures.modules)
 
-pub close-requires-clause-modules : goal.close-requires-clause-modules
-close-requires-clause-modules g c = let out = c.run_all-perf.ensures in
+pub close-requires-clause-own : goal.close-requires-clause-own
+close-requires-clause-own g c =
+    let out = c.run_all-perf.ensures in (out.perf, here_own c.in_ok-hub.hub c.run_all-perf.result.1.items out.here)
+
+pub close-requires-clause-each : goal.close-requires-clause-each
+close-requires-clause-each g c =
+    let out = c.run_all-perf.ensures in
     let seats : length c.in_ok-seats.seats.items ≡ length c.in_ok-hub.modules.items =
-    sym (length-map c.in_ok-seats.seats.items (λ (s : Seat). s.pass)) ∙ ap length c.in_ok-seats.ensures in (
-      all_since c.in_ok-core.core.plan c.in_ok-hub.perf c.run_all-perf.result.0 c.run_all-perf.result.1.items
-          c.in_ok-hub.ensures.perf.1
-          out.later.made
-          (out.count ∙ (seats ∙ c.in_ok-hub.ensures.count)),
-      out.modules.0,
-    )
+    sym (length-map c.in_ok-seats.seats.items (λ (s : Seat). s.pass)) ∙ ap length c.in_ok-seats.ensures in
+    here_each c.in_ok-hub.hub c.run_all-perf.result.0 c.run_all-perf.result.1.items
+    (out.later.made ∙ (c.in_ok-hub.ensures.made ∙ (sym seats ∙ sym out.count))) out.here
+
+pub close-requires-clause-home : goal.close-requires-clause-home
+close-requires-clause-home g c = here_home c.in_ok-hub.hub c.run_all-perf.result.1.items c.run_all-perf.ensures.here
 
 pub returns-in-Final : goal.returns-in-Final
 returns-in-Final g c = let t = c.in-Final.threaded in let perf = c.run_all-perf.result.0 in let p = c.in_ok-core.core.plan in

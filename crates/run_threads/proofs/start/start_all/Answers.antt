@@ -1,9 +1,10 @@
 use Rattle.std.proofs.Common.{arith, List, [], ◌∷◌, ◌++◌, ◌≡◌, Some, length, slice_get, ap, sym, ◌∙◌, subst, append_assoc}
 use Rattle.std.proofs.Common.{length-append}
+use Rattle.sim_hub.specs.Hubs.{module_of}
 use Rattle.run_threads.specs.declared.drive.Seat.{Seat}
 use Rattle.run_threads.specs.Slots.{SlotIs, AreSlots, passes_in}
 use Rattle.run_threads.proofs.Lists.{all-snoc}
-use Rattle.run_threads.proofs.Places.{seat_here}
+use Rattle.run_threads.proofs.Places.{home_at, seat_here}
 use Rattle.run_threads.proofs.start.start_all.Goals as goal
 
 -- the pass of the next seat
@@ -18,13 +19,13 @@ pub place_one-requires-clause-own : goal.place_one-requires-clause-own
 place_one-requires-clause-own g c κs within = let ys = c.loop-seat.yielded in let s = c.in-Some.seat in
     let rest = c.next.new.self.rest.items in
     let all = left_behind c.args.seats.items ys _ s rest c.loop-seat.invariant.2 c.in-Some.ensures.steps.0 in
-    (c.requires.own (length ys) s.pass (here c.args.seats.items ys s rest all)).1
+    (c.requires.here (length ys) s.pass (here c.args.seats.items ys s rest all)).0
 
 pub place_one-requires-clause-home : goal.place_one-requires-clause-home
 place_one-requires-clause-home g c κs within = let ys = c.loop-seat.yielded in let s = c.in-Some.seat in
     let rest = c.next.new.self.rest.items in
     let all = left_behind c.args.seats.items ys _ s rest c.loop-seat.invariant.2 c.in-Some.ensures.steps.0 in
-    c.requires.home (length ys) s.pass (here c.args.seats.items ys s rest all)
+    home_at c.args.hub.now (length ys) s.pass (c.requires.here (length ys) s.pass (here c.args.seats.items ys s rest all))
 
 pub loop-seat-preserved : goal.loop-seat-preserved
 loop-seat-preserved g c =
@@ -34,7 +35,7 @@ loop-seat-preserved g c =
     let rest = c.next.new.self.rest.items in
     let h = c.args.hub.now in let ss = c.loop-seat.slots.items in let slot = c.place_one.result in
     let all = left_behind c.args.seats.items ys _ s rest i.2 c.in-Some.ensures.steps.0 in
-    let which : s.pass.which ≡ length ss = (c.requires.own (length ys) s.pass (here c.args.seats.items ys s rest all)).0 ∙ sym i.0 in
+    let which : module_of s.pass ≡ length ss = (c.requires.here (length ys) s.pass (here c.args.seats.items ys s rest all)).1 ∙ sym i.0 in
     let e = c.push_reserved.ensures in (
       omega (arith, ap length e.items, length-append ss (slot ∷ []), length-append ys (s ∷ [])),
       subst (AreSlots h) (sym e.items) (all-snoc (SlotIs h) ss slot i.1 (subst (λ n. SlotIs h n slot) which c.place_one.ensures)),

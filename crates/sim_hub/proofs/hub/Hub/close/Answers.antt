@@ -1,5 +1,5 @@
 use Rattle.std.proofs.Common.{rules, arith, List, [], ◌∷◌, ◌++◌}
-use Rattle.std.proofs.Common.{map, length, refl, sym, ap, ◌∙◌, subst, append_assoc}
+use Rattle.std.proofs.Common.{map, refl, sym, ap, ◌∙◌, subst, append_assoc}
 use Rattle.std.proofs.lemmas.List.{map-append}
 use Rattle.turn_lock.specs.declared.view.View.{View}
 use Rattle.turn_lock.specs.Passes.{view_of}
@@ -10,10 +10,10 @@ use Rattle.turn_history.specs.declared.entry.HubEntry.{HubEntry}
 use Rattle.sim_hub.specs.declared.pass.ModulePass.{ModulePass}
 use Rattle.sim_hub.specs.Ledgers.{entries_in}
 use Rattle.sim_hub.specs.Hubs.{module_view}
-use Rattle.sim_hub.proofs.Lists.{get_mapped, there}
+use Rattle.sim_hub.proofs.Lists.{get_mapped}
 use Rattle.sim_hub.specs.Kept.{behind}
 use Rattle.sim_hub.proofs.Keeping.{kept_legal, kept_stands}
-use Rattle.sim_hub.proofs.Closing.{all_in_order, comes_home, joined_all, log_count, made_count, shown_each, whole}
+use Rattle.sim_hub.proofs.Closing.{all_made, comes_home, joined_all, made_count, shown_each, whole}
 use Rattle.sim_hub.proofs.hub.Hub.close.Goals as goal
 
 pub join-pass-requires-clause-first : goal.join-pass-requires-clause-first
@@ -50,8 +50,7 @@ close-requires-clause-joined c =
     let is = joined_all v (view_of c.loop-other.pass) ms c.loop-other.yielded _ c.loop-other.invariant.1 c.loop-other.invariant.2
     (sym c.loop-other.other-iterator.rest.ok.0 ∙ c.in-None.ensures.steps.0) in
     subst AllJoined (sym is)
-    (all_joined v (map module_view ms)
-    (all_in_order v ms (made_count v (length ms) p.made c.requires.modules.0) (λ k m e. (c.requires.modules.1 k m e).0)))
+    (all_joined v (map module_view ms) (all_made p ms c.requires.each))
 
 pub settle-requires-clause-over : goal.settle-requires-clause-over
 settle-requires-clause-over c =
@@ -74,12 +73,10 @@ settle-requires-clause-home c = λ m inside.
     let is = joined_all v (view_of c.loop-other.pass) ms c.loop-other.yielded _ c.loop-other.invariant.1 c.loop-other.invariant.2
     (sym c.loop-other.other-iterator.rest.ok.0 ∙ c.in-None.ensures.steps.0) in
     let shown = shown_each log v (view_of c.loop-other.pass) ms (p.place.numbered ∙ p.first) is c.close.ensures.all in
-    let count = log_count d.core.plan log (behind d.core.plan d.turns.items) (kept_stands d.core d.turns.items d.out d.short _ d.kept)
-    v.seen (length ms)
-    shown.first.seen c.requires.modules.0 in
-    let (o, at) = there ms m (omega arith) in
-    comes_home log m o (c.requires.modules.1 m o at).0
-    (shown.others m (module_view o) (get_mapped module_view ms m o at)) (c.requires.home m o at)
+    let count = made_count d.core.plan log (behind d.core.plan d.turns.items) (kept_stands d.core d.turns.items d.out d.short _ d.kept) p
+    shown.first.seen in
+    let (k, o, at, which) = c.requires.each m (omega arith) in
+    comes_home log m o which (shown.others k (module_view o) (get_mapped module_view ms k o at)) (c.requires.home k o at)
 
 pub returns : goal.returns
 returns c =
@@ -92,10 +89,9 @@ returns c =
     (sym c.loop-other.other-iterator.rest.ok.0 ∙ c.in-None.ensures.steps.0) in
     let shown = shown_each log v (view_of c.loop-other.pass) ms (p.place.numbered ∙ p.first) is c.close.ensures.all in
     let legal = kept_legal d.core d.turns.items d.out d.short _ d.kept in
-    let count = log_count d.core.plan log (behind d.core.plan d.turns.items) (kept_stands d.core d.turns.items d.out d.short _ d.kept)
-    v.seen (length ms)
-    shown.first.seen c.requires.modules.0 in (
+    let count = made_count d.core.plan log (behind d.core.plan d.turns.items) (kept_stands d.core d.turns.items d.out d.short _ d.kept) p
+    shown.first.seen in (
       log,
-      whole p ms log legal shown (λ k m e. (c.requires.modules.1 k m e).0) (λ n above. d.kept.none_else n (omega arith)),
+      whole p ms log legal shown (λ n above. d.kept.none_else n (omega arith)),
       c.settle.ensures,
     )

@@ -1,4 +1,6 @@
-//! Runs session files as `omnisim run` does, and writes of each its name, the answer and the status.
+//! Answers about session files as the program does, and writes what was asked, the answer and the status.
+//!
+//! Each argument that ends in `.flow` names a session. The words since the session before it are what is asked about it.
 #![tactic(auto)]
 
 use sim_io::{StdSink, StdSource};
@@ -12,29 +14,38 @@ use std::thread::Threads;
 use whole_answer::{FreeGate, omnisim};
 
 fn main(rt: HostRuntime) -> ExitCode {
-    match run_all(&rt) {
+    match answer_all(&rt) {
         Ok(()) => ExitCode::SUCCESS,
         Err(_) => ExitCode::FAILURE,
     }
 }
 
-/// Runs the files that the program's arguments name.
-fn run_all<R: Threads + Wait + Sync + Files + Env + Print + AllocGlobal>(rt: &R) -> io::Result<()> {
-    let names: Vec<String> = env::args(rt)?.collect(rt.alloc())?;
+/// Answers what the program's arguments ask.
+fn answer_all<R: Threads + Wait + Sync + Files + Env + Print + AllocGlobal>(
+    rt: &R,
+) -> io::Result<()> {
+    let arguments: Vec<String> = env::args(rt)?.collect(rt.alloc())?;
     let mut words = Vec::new(rt.alloc());
-    words.push(String::from_str(rt.alloc(), "run")?)?;
-    for name in names.as_slice().iter().skip(1) {
-        run_one(rt, words.as_slice(), name.as_str())?;
+    for argument in arguments.as_slice().iter().skip(1) {
+        if argument.as_bytes().ends_with(b".flow") {
+            answer_one(rt, words.as_slice(), argument.as_str())?;
+            words.clear();
+        } else {
+            words.push(String::from_str(rt.alloc(), argument.as_str())?)?;
+        }
     }
     Ok(())
 }
 
-/// Runs one of them.
-fn run_one<R: Threads + Wait + Sync + Files + Print + AllocGlobal>(
+/// Answers what these words ask about a session.
+fn answer_one<R: Threads + Wait + Sync + Files + Print + AllocGlobal>(
     rt: &R,
     words: &[String],
     name: &str,
 ) -> io::Result<()> {
+    for word in words {
+        print!(rt; "{word} ")?;
+    }
     println!(rt; "{name}")?;
     let mut source = StdSource::new(fs::open(rt, name)?);
     let mut sink = StdSink::new(io::writer(rt));

@@ -8,7 +8,9 @@ use Rattle.cli_words.specs.declared.rules.CommandName.{CommandName}
 use Rattle.cli_words.specs.declared.rules.CommandName.TheVariants as name
 use Rattle.cli_words.specs.CommandWords.{Key, Cycles, Ops, Said, Text, Word, End, Events, Takes, Has, Positional, Unknown, after_word}
 use Rattle.cli_words.specs.CommandWords.{begins_with_hyphen, both, command_by, command_named, command_of, gen_of, has_options, limit_in}
-use Rattle.cli_words.specs.CommandWords.{name_of, no_more, options_alone, options_of, range_in, said_from, sweep_of, tells_events, with_events, with_option, with_positionals, word_of}
+use Rattle.cli_words.specs.CommandWords.{name_of, no_more, options_alone, options_of, range_in, said_from, sweep_of, tells_events}
+use Rattle.cli_words.specs.CommandWords.{with_events, with_option, with_positionals, word_of}
+use Rattle.std.proofs.lemmas.Bool.{or_right}
 
 -- a hyphen alone
 abbrev pub hyphen : Text
@@ -27,10 +29,6 @@ if_none false x e = e
 no_more_none : {T : Type 0} (rest : List Text) (o : Option T) → o ≡ None → no_more rest o ≡ None
 no_more_none [] o e = e
 no_more_none (w ∷ ws) o e = refl
-
-or_right : (a b : Bool) → b ≡ true → (a || b) ≡ true
-or_right true b e = refl
-or_right false b e = e
 
 both_none : {A B C : Type 0} (f : A → B → C) (a : Option A) → both f a None ≡ None
 both_none f None = refl

@@ -5,11 +5,12 @@ use Rattle.std.specs.List.{list_any, enumerate_from, flat_map, filter, filter_ma
 use Rattle.std.proofs.Math.ListN.{set}
 use Rattle.std.proofs.lemmas.Bool.{cases_lt}
 use Rattle.std.proofs.lemmas.List.{take_more, take_more_set, take_all, take_at, map-append, append-nil, length-map, get_or-map}
-use Rattle.std.proofs.lemmas.List.{get_or-set_other, get_or-set_same, get_or_append_left, get_or_push, map-id}
+use Rattle.std.proofs.lemmas.List.{get_or-set_other, get_or-set_same, get_or_append_left, get_or_push}
 use Rattle.std.proofs.lemmas.List.Concat.{flat_map-append}
 use Rattle.std.proofs.lemmas.List.Folds.{list_any-append, list_any_at}
 use Rattle.std.proofs.lemmas.List.Elements.{filter-append, filter_map-append}
-use Rattle.std.proofs.lemmas.List.FromFn.{length-enumerate_from, get_or-enumerate_from, map-range_with_len_more}
+use Rattle.std.proofs.lemmas.List.FromFn.{length-enumerate_from, get_or-enumerate_from}
+use Rattle.flow_word.proofs.Ranges.{range_last}
 
 -- one item more, with its place
 pub numbered_more : {X : Type 0} (xs : List X) (i : ℕ) (d : X) → i < length xs
@@ -112,17 +113,12 @@ kept_more f xs i d out next h so now =
     now ∙ (ap (λ l. l ++ filter_map f ((i, get_or xs i d) ∷ [])) so
     ∙ sym (ap (filter_map f) (numbered_more xs i d h) ∙ filter_map-append f (take i (enumerate_from 0 xs)) ((i, get_or xs i d) ∷ [])))
 
-range_more : (i : ℕ) → range_with_len 0 (i + 1) ≡ range_with_len 0 i ++ i ∷ []
-range_more i =
-    let more = map-range_with_len_more (λ (n : ℕ). n) 0 i i (zero-add i) in
-    sym (map-id (range_with_len 0 (i + 1))) ∙ (more ∙ ap (λ (l : List ℕ). l ++ i ∷ []) (map-id (range_with_len 0 i)))
-
 -- a list of what the numbers that pass give
 pub passed_more : {Y : Type 0} (f g : ℕ → Y) (p : ℕ → Bool) (i : ℕ) (out next : List Y) → out ≡ map f (filter p (range_with_len 0 i))
     → next ≡ out ++ map g (filter p (i ∷ [])) → g i ≡ f i → next ≡ map f (filter p (range_with_len 0 (i + 1)))
 passed_more f g p i out next so now same =
     now ∙ (ap (λ l. l ++ map g (filter p (i ∷ []))) so ∙ (ap (λ l. map f (filter p (range_with_len 0 i)) ++ l) (by_test (p i))
-    ∙ sym (ap (λ (l : List ℕ). map f (filter p l)) (range_more i)
+    ∙ sym (ap (λ (l : List ℕ). map f (filter p l)) (range_last i)
     ∙ (ap (map f) (filter-append p (range_with_len 0 i) (i ∷ [])) ∙ map-append f (filter p (range_with_len 0 i)) (filter p (i ∷ []))))))
   where
     by_test : (b : Bool) → map g (cond b (i ∷ []) []) ≡ map f (cond b (i ∷ []) [])

@@ -14,7 +14,7 @@ use Rattle.std.proofs.Common.{false, refl, sym, ◌∙◌, ap, arith, append_ass
 use Rattle.std.specs.List.{enumerate_from}
 use Rattle.std.proofs.Math.ListN.{set}
 use Rattle.std.proofs.lemmas.Bool.Decides.{eqb_tells}
-use Rattle.std.proofs.lemmas.Bool.{eqb-true, cases_lt}
+use Rattle.std.proofs.lemmas.Bool.{eqb-true, cases_lt, eq-eqb}
 use Rattle.std.proofs.lemmas.List.{map-append, get_or_past, append-nil, length-append, drop-drop, map_more, take_more, get_or_default}
 use Rattle.std.proofs.lemmas.List.Concat.{flat_map-append}
 use Rattle.lockstep_defs.specs.Machine.{is_yes, value_in}
@@ -29,9 +29,6 @@ use Rattle.clock_machine.specs.Parts.{exchange, exchanges_of, all_exchanges, aft
 -- channel j changes
 abbrev pub changed : (List Element → List Element) → ℕ → ℕ × List Element → List Element
 changed change j f = cond (eqb j f.0) (change f.1) f.1
-
-pub same_place : (a b : ℕ) → a ≡ b → eqb a b ≡ true
-same_place a b e = ⊎_elim (λ h. h.0) (λ h. absurd (h.1 e)) (eqb_tells a b)
 
 pub other_place : (a b : ℕ) → a ≢ b → eqb a b ≡ false
 other_place a b e = ⊎_elim (λ h. absurd (e h.1)) (λ h. h.0) (eqb_tells a b)
@@ -49,7 +46,7 @@ change_at : (change : List Element → List Element) (n k j : ℕ) (contents : L
 change_at change n k j [] e h = absurd (omega arith)
 change_at change n zero j (held ∷ contents) e h =
     let rest = behind change (n + 1) j contents (omega arith) in
-    let here = same_place j n (sym e ∙ add-zero n) in
+    let here = eq-eqb j n (sym e ∙ add-zero n) in
     rw (here, rest) refl
 change_at change n (suc k) j (held ∷ contents) e h =
     let rest = change_at change (n + 1) k j contents (omega arith) (omega arith) in

@@ -3,7 +3,7 @@ use Rattle.flow_design.specs.declared.state.Element.{Element}
 use Rattle.std.proofs.Common.{◌≡◌, ℕ, suc, zero, ◌+◌, ◌<◌, ◌≢◌, List, [], ◌∷◌, ◌++◌, map, length, get_or, cond, not, Bool, true, false}
 use Rattle.std.proofs.Common.{refl, sym, ◌∙◌, ap, subst, arith, add-zero, zero-add}
 use Rattle.std.specs.List.{enumerate_from, flat_map, filter}
-use Rattle.std.proofs.lemmas.Bool.{false≢true}
+use Rattle.std.proofs.lemmas.Bool.{false≢true, eq-eqb as same_place}
 use Rattle.std.proofs.lemmas.List.{append-nil}
 use Rattle.std.proofs.lemmas.List.Concat.{flat_map-append}
 use Rattle.std.proofs.lemmas.List.Elements.{filter-append}
@@ -26,7 +26,7 @@ use Rattle.clock_machine.specs.Parts.{exchange, answered_as, no_part, part_of, a
 use Rattle.clock_machine.specs.Parts.{event_by, events_from, outcomes_in, after_pops, after_pushes}
 use Rattle.clock_machine.proofs.PartLemmas.{part_when_moving, part_when_still, moves_when}
 use Rattle.clock_machine.proofs.Fronts.{same_by_places, numbered_read}
-use Rattle.clock_machine.proofs.Queues.{same_place, other_place, twice}
+use Rattle.clock_machine.proofs.Queues.{other_place, twice}
 
 -- ---- the steps themselves
 

@@ -71,11 +71,7 @@ fn is_fifo(plan: &Plan, channel: u32) -> bool
 {
     let channels = plan.design.channels.as_slice();
     let channel = channel as usize;
-    channel < channels.len()
-        && match channels[channel].kind {
-            ChannelKind::Fifo(_, _) => true,
-            ChannelKind::Source | ChannelKind::Sink => false,
-        }
+    channel < channels.len() && channels[channel].kind.is_fifo()
 }
 
 /// The depth of a channel, or 0 where a number names none.

@@ -5,7 +5,8 @@ ghost use Rattle.flow_design.specs.StaticRules.{FitsEngine};
 ghost use Rattle.flow_design.specs.Plans.{kind_at};
 ghost use Rattle.lockstep_defs.specs.Machine.{is_spent, nobody};
 ghost use Rattle.lockstep_defs.specs.Channels.{stalls, all_ready, values, contents_of};
-ghost use Rattle.lockstep_defs.specs.Verdict.{settled_verdict, held_at, held_by, held_in, held, clock_of};
+ghost use Rattle.lockstep_defs.specs.Verdict.{settled_verdict, held_at, held_by, held_in, held};
+ghost use Rattle.flow_design.specs.Reports.{clock_of};
 ghost use Rattle.lockstep_defs.specs.Report.{sinks, outputs_in};
 ghost use Rattle.flow_design.specs.Plans.{is_sink};
 ghost use Rattle.clock_machine.specs.Parts.{AreFit, AreFitInTime, AreCodes, report_from};
@@ -185,16 +186,6 @@ fn drain_channel(
     }
 }
 
-/// Whether a channel is a sink.
-fn is_sink(kind: ChannelKind) -> bool
-    ensures { result ≡ is_sink kind }
-{
-    match kind {
-        ChannelKind::Sink => true,
-        ChannelKind::Source | ChannelKind::Fifo(_, _) => false,
-    }
-}
-
 /// Adds the values of channel number i, if it is a sink. The other channels keep theirs.
 fn output_one(
     alloc: Global,
@@ -208,7 +199,7 @@ fn output_one(
         ≡ outputs.old ++ map (λ f. values (contents_of contents.old f)) (filter (λ f. is_sink (kind_at plan.now f)) (i ∷ []))) }
     ensures others { OnOk result ((k : ℕ) → i < k → contents_of contents.new k ≡ contents_of contents.old k) }
 {
-    if is_sink(kind_of(plan, i)) {
+    if kind_of(plan, i).is_sink() {
         let words = drain_channel(alloc, contents, i)?;
         outputs.push(words)?;
     }

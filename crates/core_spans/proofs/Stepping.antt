@@ -8,7 +8,8 @@ use Rattle.flow_design.specs.declared.plan.Plan.{Plan}
 use Rattle.flow_design.specs.declared.state.Advance.{Advance}
 use Rattle.flow_design.specs.declared.state.Advance.TheVariants.{Step, Ended, Spent}
 use Rattle.lockstep_defs.specs.Quiet.{quiet}
-use Rattle.lockstep_defs.specs.Verdict.{verdict, clock_of}
+use Rattle.lockstep_defs.specs.Verdict.{verdict}
+use Rattle.flow_design.specs.Reports.{clock_of}
 use Rattle.event_timing.specs.Views.{own}
 use Rattle.event_timing.specs.Core.{core_reply}
 use Rattle.timing_bridge.specs.Designs.{design, lockstep_run}

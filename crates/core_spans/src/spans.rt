@@ -3,7 +3,8 @@ ghost use Rattle.std.specs.Prelude.{ℕ, ◌≡◌, ◌<◌, ◌+◌, min, max, 
 ghost use Rattle.time_engine.specs.Conditions.{IsAccess, HasAccesses, HasPlaces};
 ghost use Rattle.time_engine.specs.Possible.{when_possible};
 ghost use Rattle.flow_design.specs.declared.plan.Plan.{Plan};
-ghost use Rattle.lockstep_defs.specs.Verdict.{verdict, clock_of};
+ghost use Rattle.lockstep_defs.specs.Verdict.{verdict};
+ghost use Rattle.flow_design.specs.Reports.{clock_of};
 ghost use Rattle.event_graph.specs.Lanes.{HasStep, cycle_bound, gap_bound};
 ghost use Rattle.query_log.specs.Logs.{Log};
 ghost use Rattle.engine_view.specs.Held.{held};

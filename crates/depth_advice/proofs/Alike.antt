@@ -19,7 +19,8 @@ use Rattle.lockstep_defs.specs.Machine.{is_over, move}
 use Rattle.lockstep_defs.specs.Channels.{contents_of, is_full, all_ready, is_possible, stalls, reply, reply_by, front, HistoryStep}
 use Rattle.lockstep_defs.specs.Lockstep.{numbered, requests_of, moves, next_state, step_of, step_with, steps_in, contents_after, clock_step}
 use Rattle.lockstep_defs.specs.Lockstep.{module_at, opening, Moment, next_moment, moment, state, history}
-use Rattle.lockstep_defs.specs.Verdict.{some_moves, is_settled, settled_verdict, verdict, clock_of, held_at, held_by, held_in, held}
+use Rattle.lockstep_defs.specs.Verdict.{some_moves, is_settled, settled_verdict, verdict, held_at, held_by, held_in, held}
+use Rattle.flow_design.specs.Reports.{clock_of}
 use Rattle.lockstep_defs.specs.Report.{report, report_at, report_with}
 use Rattle.lockstep_defs.specs.Laws.{NoneBefore}
 use Rattle.lockstep_defs.proofs.Settled.{full_ready}

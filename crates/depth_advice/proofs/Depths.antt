@@ -12,7 +12,7 @@ use Rattle.flow_design.specs.Plans.{is_fifo, kind_at}
 use Rattle.flow_design.specs.StaticRules.{FitsEngine}
 use Rattle.lockstep_defs.specs.Channels.{contents_of}
 use Rattle.lockstep_defs.specs.Lockstep.{Moment, state}
-use Rattle.lockstep_defs.specs.Verdict.{clock_of}
+use Rattle.flow_design.specs.Reports.{clock_of}
 use Rattle.lockstep_defs.specs.Report.{report}
 use Rattle.fifo_fills.specs.Fills.{fill, last_clock}
 use Rattle.depth_order.specs.Depths.{with_depths, AreDepths, AreDeeper}

@@ -3,7 +3,6 @@ ghost use Rattle.std.specs.Prelude.{◌≡◌, ◌++◌, length, OnOk};
 ghost use Rattle.report_text.specs.Lines.{line, text_of_lines};
 ghost use Rattle.depth_advice.specs.DepthLines.{depth_lines, depth_tokens};
 
-use fifo_fills::is_fifo;
 use flow_design::Channel;
 use flow_word::{List, OutOfMemory};
 use report_text::{push_token, push_value};
@@ -18,7 +17,7 @@ pub fn print_depths(
     ensures { OnOk result (text.new ≡ text.old ++ text_of_lines (depth_lines channels.now depths.now)) }
 {
     for at in 0..channels.len() {
-        if is_fifo(channels[at].kind) {
+        if channels[at].kind.is_fifo() {
             print_depth(text, &channels[at], depths[at])?;
         }
     }

@@ -24,12 +24,14 @@ use Rattle.depth_order.specs.Chain.{moves_at, span_start, port_of, stood_at, goe
 use Rattle.depth_order.specs.Chain.{first_mover, chain_from, path}
 use Rattle.depth_order.specs.Sums.{spent, clocks_across, under_way, IsEnd, IsWhole}
 use Rattle.depth_order.proofs.First.{IsFirst, first_among, verdict_first}
-use Rattle.lockstep_defs.specs.Verdict.{verdict, is_settled, clock_of}
+use Rattle.lockstep_defs.specs.Verdict.{verdict, is_settled}
+use Rattle.flow_design.specs.Reports.{clock_of}
 use Rattle.lockstep_defs.specs.Laws.{NoneBefore}
 use Rattle.lockstep_defs.proofs.Found.{verdict_none}
 use Rattle.lockstep_defs.proofs.Exits.{clock_settled}
 use Rattle.depth_order.proofs.Bound.{must_be}
-use Rattle.depth_order.proofs.Chained.{IsStill, starts, found_in, found_stalls, kept_still, next_clock, chain_more, path_more, found_true, someone_moved}
+use Rattle.depth_order.proofs.Chained.{IsStill, starts, found_in, found_stalls, kept_still, next_clock, chain_more, path_more, found_true}
+use Rattle.depth_order.proofs.Chained.{someone_moved}
 
 -- ---- what becomes possible
 
@@ -58,7 +60,8 @@ was_moved p h b m side f still owned absent present =
     let w = lockstep_run p in
     let y = run_is_history p h in
     let stays = y.taken_stays b side f (subst (λ (k : ℕ). counted.moves d w b k ≡ false) (sym owned) (moves_same p h b m ∙ still)) in
-    let before = limited (d.unlimited side f) (w.taken b side f) (d.start side f + w.taken (suc b - d.lag side f) (other_side side) f) absent in
+    let before = limited (d.unlimited side f) (w.taken b side f)
+    (d.start side f + w.taken (suc b - d.lag side f) (other_side side) f) absent in
     let there = enough (d.unlimited side f) (w.taken (suc b) side f)
     (d.start side f + w.taken (suc (suc b) - d.lag side f) (other_side side) f) before.0 present in
     by_clock (next_clock b (d.lag side f)) stays before.1 there
@@ -67,7 +70,8 @@ was_moved p h b m side f still owned absent present =
     by_clock : (suc (suc b) - (design p).lag side f ≡ suc (suc b - (design p).lag side f))
         ⊎ (suc (suc b) - (design p).lag side f ≡ suc b - (design p).lag side f)
         → (lockstep_run p).taken (suc b) side f ≡ (lockstep_run p).taken b side f
-        → (design p).start side f + (lockstep_run p).taken (suc b - (design p).lag side f) (other_side side) f ≤ (lockstep_run p).taken b side f
+        → (design p).start side f + (lockstep_run p).taken (suc b - (design p).lag side f) (other_side side) f
+        ≤ (lockstep_run p).taken b side f
         → (lockstep_run p).taken (suc b) side f
         < (design p).start side f + (lockstep_run p).taken (suc (suc b) - (design p).lag side f) (other_side side) f
         → (counted.moves (design p) (lockstep_run p) (suc b - (design p).lag side f) ((design p).owner (other_side side) f) ≡ true)

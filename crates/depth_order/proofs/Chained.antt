@@ -4,7 +4,8 @@ use Rattle.std.proofs.Common.{get_or, refl, sym, ◌∙◌, ap, subst, arith, in
 use Rattle.std.specs.Prelude.{find, option_map, ⊤}
 use Rattle.std.specs.List.{list_any, range_with_len, enumerate_from, AllByRecursion}
 use Rattle.std.proofs.Math.Bool.{or-true}
-use Rattle.std.proofs.lemmas.Bool.{cases_Bool, cases_lt, and_parts, and_from, or_parts, or_from, cond-true, cond-false, eq-eqb, lt-ltb, not-true}
+use Rattle.std.proofs.lemmas.Bool.{cases_Bool, cases_lt, and_parts, and_from, or_parts, or_from, cond-true, cond-false, eq-eqb, lt-ltb}
+use Rattle.std.proofs.lemmas.Bool.{not-true}
 use Rattle.flow_word.specs.declared.access.Side.{Side}
 use Rattle.flow_word.specs.declared.access.Side.TheVariants.{Pop, Push}
 use Rattle.flow_word.specs.Kinds.{side_of, other_side, same_side}
@@ -105,7 +106,8 @@ found_waits p c (q ∷ rs) r e side = by_test (stalls p c (state p c).contents q
         let same : q ≡ r = cc in
         let blocks = (and_parts _ _ at).0 in
         let first : pops_of r.channel (seen q) ≡ true =
-        and_from _ _ blocks (and_from _ _ (ap (λ (x : Request). same_side (side_of x.kind) Pop) same ∙ ap (λ (s : Side). same_side s Pop) side)
+        and_from _ _ blocks (and_from _ _ (ap (λ (x : Request). same_side (side_of x.kind) Pop) same
+        ∙ ap (λ (s : Side). same_side s Pop) side)
         (ap (λ (x : Request). eqb x.channel r.channel) same ∙ eq-eqb r.channel r.channel refl)) in
         rw first refl
     by_test false at rest e =
@@ -228,7 +230,8 @@ from_pop p h n all m b l still move r e side clear =
     let waits_then : waits_for f (d.accesses m (w.state (suc b) m)) ≡ true =
     ap (λ (s : ModuleState). waits_for f (d.accesses m s)) stays ∙ waits in
     let owned = waits_owned d m f (d.accesses m (w.state b m)) (i.owned m (w.state b m)) waits in
-    let present = waited d w (suc b) f (d.accesses m (w.state (suc b) m)) waits_then (moves_can d w (suc b) m (moves_same p h (suc b) m ∙ move)) in
+    let present = waited d w (suc b) f (d.accesses m (w.state (suc b) m)) waits_then
+    (moves_can d w (suc b) m (moves_same p h (suc b) m ∙ move)) in
     let absent : is_possible d w b Pop f ≡ false =
     ap (λ (s : Side). is_possible d w b s f) (sym side)
     ∙ ((found_in p m (Alike p b) (stalls p b (state p b).contents) rs r (alike p h b m (state_at p b m)) e).possible

@@ -1,6 +1,6 @@
 -- The FIFOs of a plan, and other depths for them.
-use Rattle.std.proofs.Common.{◌≡◌, sym, ◌∙◌, ap, subst, arith, ℕ, zero, suc, ◌+◌, ◌<◌, ◌≤◌, Bool, true, false, cond, List, [], ◌∷◌, ◌++◌}
-use Rattle.std.proofs.Common.{length, get_or, take, All, add-one, add-zero, zero-add, append-nil}
+use Rattle.std.proofs.Common.{◌≡◌, sym, ◌∙◌, ap, subst, arith, ℕ, zero, ◌+◌, ◌<◌, ◌≤◌, Bool, true, false, cond, List, [], ◌∷◌, ◌++◌}
+use Rattle.std.proofs.Common.{length, get_or, take, All, add-one, zero-add, append-nil}
 use Rattle.std.specs.List.{range_with_len, filter, zip, enumerate_from}
 use Rattle.std.proofs.lemmas.List.{take_more, take_all, length-append, length-map, get_or-map}
 use Rattle.std.proofs.lemmas.List.Elements.{filter-append, filter_passes, All-filter, All-get_or, All-from_get_or}
@@ -15,20 +15,16 @@ use Rattle.flow_design.specs.StaticRules.{FitsEngine}
 use Rattle.edit_runs.specs.Edits.{depth_after, plan_after}
 use Rattle.fifo_fills.specs.Fills.{fifos}
 use Rattle.depth_sweep.specs.Grid.{depth_edits, with_depths}
+use Rattle.flow_word.proofs.Ranges.{range_more}
 
 -- ---- the FIFOs that were passed
-
-numbers_more : (a n : ℕ) → range_with_len a (suc n) ≡ range_with_len a n ++ (a + n) ∷ []
-numbers_more a zero = ap (λ k. k ∷ []) (sym (add-zero a))
-numbers_more a (suc n) =
-    ap (λ ks. a ∷ ks) (numbers_more (a + 1) n ∙ ap (λ k. range_with_len (a + 1) n ++ k ∷ []) (omega arith))
 
 module _ (p : ℕ → Bool) where
   -- one number more is passed
   passed_more : (n : ℕ) → filter p (range_with_len 0 (n + 1)) ≡ filter p (range_with_len 0 n) ++ cond (p n) (n ∷ []) []
   passed_more n =
       ap (λ (k : ℕ). filter p (range_with_len 0 k)) (add-one n)
-      ∙ (ap (filter p) (numbers_more 0 n ∙ ap (λ (k : ℕ). range_with_len 0 n ++ k ∷ []) (zero-add n))
+      ∙ (ap (filter p) (range_more 0 n ∙ ap (λ (k : ℕ). range_with_len 0 n ++ k ∷ []) (zero-add n))
       ∙ filter-append p (range_with_len 0 n) (n ∷ []))
 
   pub kept_more : (n : ℕ) (b : Bool) → b ≡ p n → b ≡ true → filter p (range_with_len 0 (n + 1)) ≡ filter p (range_with_len 0 n) ++ n ∷ []

@@ -7,7 +7,6 @@ ghost use Rattle.depth_sweep.specs.Grid.{with_depths};
 ghost use Rattle.fifo_fills.specs.Fills.{fifos};
 
 use edit_runs::edits_in_order;
-use fifo_fills::is_fifo as is_fifo_kind;
 use flow_design::{Edit, Plan, edit_plan};
 use flow_word::OutOfMemory;
 use std::alloc::Global;
@@ -18,7 +17,7 @@ fn is_fifo(plan: &Plan, channel: usize) -> bool
     requires { channel < length plan.now.design.channels }
     ensures { result ≡ is_fifo (kind_at plan.now channel) }
 {
-    is_fifo_kind(plan.design.channels.as_slice()[channel].kind)
+    plan.design.channels.as_slice()[channel].kind.is_fifo()
 }
 
 /// How many FIFOs a plan has.

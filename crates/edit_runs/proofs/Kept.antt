@@ -34,7 +34,7 @@ second_true : (p : Bool) → p || true ≡ true
 second_true true = refl
 second_true false = refl
 
-goes_alike : (a b : List Bool) → IsPrefix a b ⊎ IsPrefix b a → goes_on a b ≡ true
+pub goes_alike : (a b : List Bool) → IsPrefix a b ⊎ IsPrefix b a → goes_on a b ≡ true
 goes_alike a b (inl p) = ap (λ t. t || begins b a) (prefix_begins a b p)
 goes_alike a b (inr q) = ap (λ t. begins a b || t) (prefix_begins b a q) ∙ second_true (begins a b)
 

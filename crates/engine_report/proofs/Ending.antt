@@ -36,8 +36,8 @@ use Rattle.engine_report.specs.declared.verdict.Standing.{Standing}
 use Rattle.engine_report.specs.Standings.{end_at, standing_behind, standing_at, last_stop, verdict_by}
 use Rattle.engine_report.specs.Finished.{IsEndMark, IsFinished}
 use Rattle.engine_report.proofs.Standing.{stands_behind, stands_before}
-use Rattle.engine_report.proofs.Loops.{range_more}
 use Rattle.engine_report.proofs.Same.{map_same}
+use Rattle.flow_word.proofs.Ranges.{range_last}
 
 -- how a module stands, as the theory's core tells it
 abbrev standing_in : Plan → Core ModuleState → ℕ → Standing
@@ -218,7 +218,7 @@ last_is p x zero = refl
 last_is p x (suc n) =
     let z : suc n ≡ n + 1 = omega arith in
     ap (λ (k : ℕ). last_stop (map (standing_in p x) (range_with_len 0 k))) z
-    ∙ (ap (λ (ks : List ℕ). last_stop (map (standing_in p x) ks)) (range_more n)
+    ∙ (ap (λ (ks : List ℕ). last_stop (map (standing_in p x) ks)) (range_last n)
     ∙ (ap last_stop (map-append (standing_in p x) (range_with_len 0 n) (n ∷ []))
     ∙ (fold-append (λ (clock : ℕ) (s : Standing). max clock s.stop) 0 (map (standing_in p x) (range_with_len 0 n)) (standing_in p x n ∷ [])
     ∙ (ap (λ (c : ℕ). max c (stop (design p) x n)) (last_is p x n) ∙ max_comm (theory.last_stop p x n) (stop (design p) x n)))))

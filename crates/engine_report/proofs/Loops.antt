@@ -2,7 +2,7 @@
 use Rattle.std.proofs.Common.{◌≡◌, refl, sym, ap, ◌∙◌, ℕ, zero, suc, ◌+◌, ◌<◌, Bool, true, false, List, [], ◌∷◌, ◌++◌, map, zero-add, take}
 use Rattle.std.proofs.Common.{drop, length, get_or, arith, inl, inr, append_assoc, Option, None, Some}
 use Rattle.std.specs.List.{range_with_len, filter, filter_map, flat_map, take_while, find, cons_option}
-use Rattle.std.proofs.lemmas.List.{map-append, append-nil, map-id, take_more}
+use Rattle.std.proofs.lemmas.List.{map-append, append-nil, take_more}
 use Rattle.std.proofs.Math.Seq.{drop-cons}
 use Rattle.std.proofs.lemmas.Bool.{cases_Bool, cond-true, cond-false}
 use Rattle.std.proofs.lemmas.List.Folds.{find-append}
@@ -10,18 +10,14 @@ use Rattle.std.proofs.lemmas.List.Concat.{flat_map-append}
 use Rattle.std.proofs.lemmas.List.Elements.{filter-append, filter_map-append}
 use Rattle.std.proofs.lemmas.List.FromFn.{map-range_with_len_more}
 use Rattle.std.proofs.lemmas.List.Sums.{take_while-cons}
-
-pub range_more : (i : ℕ) → range_with_len 0 (i + 1) ≡ range_with_len 0 i ++ i ∷ []
-range_more i =
-    let more = map-range_with_len_more (λ (n : ℕ). n) 0 i i (zero-add i) in
-    sym (map-id (range_with_len 0 (i + 1))) ∙ (more ∙ ap (λ (l : List ℕ). l ++ i ∷ []) (map-id (range_with_len 0 i)))
+use Rattle.flow_word.proofs.Ranges.{range_last}
 
 -- a number more, if it passes a test
 pub passed_more : {Y : Type 0} (f : ℕ → Y) (p : ℕ → Bool) (i : ℕ) (out next : List Y) → out ≡ map f (filter p (range_with_len 0 i))
     → next ≡ out ++ map f (filter p (i ∷ [])) → next ≡ map f (filter p (range_with_len 0 (i + 1)))
 passed_more f p i out next so now =
     now ∙ (ap (λ l. l ++ map f (filter p (i ∷ []))) so ∙ (sym (map-append f (filter p (range_with_len 0 i)) (filter p (i ∷ [])))
-    ∙ (ap (map f) (sym (filter-append p (range_with_len 0 i) (i ∷ []))) ∙ ap (λ l. map f (filter p l)) (sym (range_more i)))))
+    ∙ (ap (map f) (sym (filter-append p (range_with_len 0 i) (i ∷ []))) ∙ ap (λ l. map f (filter p l)) (sym (range_last i)))))
 
 -- a number more
 pub mapped_more : {Y : Type 0} (f : ℕ → Y) (i : ℕ) (out next : List Y) → out ≡ map f (range_with_len 0 i) → next ≡ out ++ f i ∷ []
@@ -40,21 +36,21 @@ pub given_more : {Y : Type 0} (f : ℕ → List Y) (i : ℕ) (out next : List Y)
     → next ≡ flat_map f (range_with_len 0 (i + 1))
 given_more f i out next so now =
     now ∙ (ap (λ l. l ++ f i) so ∙ (ap (λ l. flat_map f (range_with_len 0 i) ++ l) (sym (append-nil (f i)))
-    ∙ (sym (flat_map-append f (range_with_len 0 i) (i ∷ [])) ∙ ap (flat_map f) (sym (range_more i)))))
+    ∙ (sym (flat_map-append f (range_with_len 0 i) (i ∷ [])) ∙ ap (flat_map f) (sym (range_last i)))))
 
 -- and what it gives if it gives something
 pub found_more : {Y : Type 0} (f : ℕ → Option Y) (i : ℕ) (out : List Y) (y : Y) → out ≡ filter_map f (range_with_len 0 i) → f i ≡ Some y
     → out ++ y ∷ [] ≡ filter_map f (range_with_len 0 (i + 1))
 found_more f i out y so gives =
     ap (λ l. l ++ y ∷ []) so ∙ (ap (λ o. filter_map f (range_with_len 0 i) ++ cons_option o []) (sym gives)
-    ∙ (sym (filter_map-append f (range_with_len 0 i) (i ∷ [])) ∙ ap (filter_map f) (sym (range_more i))))
+    ∙ (sym (filter_map-append f (range_with_len 0 i) (i ∷ [])) ∙ ap (filter_map f) (sym (range_last i))))
 
 pub none_more : {Y : Type 0} (f : ℕ → Option Y) (i : ℕ) (out : List Y) → out ≡ filter_map f (range_with_len 0 i) → f i ≡ None
     → out ≡ filter_map f (range_with_len 0 (i + 1))
 none_more f i out so gives =
     so ∙ (sym (append-nil (filter_map f (range_with_len 0 i)))
     ∙ (ap (λ o. filter_map f (range_with_len 0 i) ++ cons_option o []) (sym gives)
-    ∙ (sym (filter_map-append f (range_with_len 0 i) (i ∷ [])) ∙ ap (filter_map f) (sym (range_more i)))))
+    ∙ (sym (filter_map-append f (range_with_len 0 i) (i ∷ [])) ∙ ap (filter_map f) (sym (range_last i)))))
 
 -- ---- the first of a list
 

@@ -35,8 +35,8 @@ use Rattle.engine_view.proofs.Answered.{among_is, queries_step, queries_zero}
 use Rattle.engine_view.proofs.Emitted.{queries_mono}
 use Rattle.engine_report.specs.Read.{timed_outcomes}
 use Rattle.engine_report.proofs.Asking.{same_kind, first_same, rest_same}
-use Rattle.engine_report.proofs.Loops.{range_more}
 use Rattle.engine_report.proofs.Outcomes.{all_there, front_of}
+use Rattle.flow_word.proofs.Ranges.{range_last}
 
 -- a query is told its outcome
 told_outcome : (k : Kind) (o : Bool) (front : ℕ) → is_blocking k ≡ false → is_yes (reply_by k (possible_by k (Some o)) front) ≡ o
@@ -150,7 +150,7 @@ front p h s verified i (suc k) l inside =
     let one = step_of_core p h s i k less (recorded p h s verified i k (omega arith) inside) in
     let first = s.first_query i k less in
     ap (λ (n : ℕ). outcomes (map (core_step p x i) (range_with_len 0 n))) z
-    ∙ (ap (λ (ks : List ℕ). outcomes (map (core_step p x i) ks)) (range_more k)
+    ∙ (ap (λ (ks : List ℕ). outcomes (map (core_step p x i) ks)) (range_last k)
     ∙ (ap outcomes (map-append (core_step p x i) (range_with_len 0 k) (k ∷ []))
     ∙ (flat_map-append (λ (e : HistoryStep). outcomes_in e.exchanges) (map (core_step p x i) (range_with_len 0 k)) (core_step p x i k ∷ [])
     ∙ (ap₂ (λ (a b : List Bool). a ++ b) (front p h s verified i k (omega arith) inside)

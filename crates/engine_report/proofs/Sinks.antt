@@ -100,7 +100,7 @@ push_late p h f pushes taken i d l late =
 
 -- ---- a sink
 
-nothing : (xs : List ℕ) → length xs ≡ 0 → xs ≡ []
+pub nothing : (xs : List ℕ) → length xs ≡ 0 → xs ≡ []
 nothing [] e = refl
 nothing (x ∷ xs) e = cc
 

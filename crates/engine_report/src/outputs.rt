@@ -45,17 +45,13 @@ fn add_output(
     ensures { OnOk result (outputs.new ≡ outputs.old ++ map (λ f. timed_values graph.now.lanes (channel_at fifos.now.channels f).pushes)
         (filter (λ f. is_sink (kind_at plan.now f)) (channel ∷ []))) }
 {
-    if is_sink(plan.design.channels.as_slice()[channel as usize].kind) {
+    if plan.design.channels.as_slice()[channel as usize]
+        .kind
+        .is_sink()
+    {
         outputs.push(timed_values(alloc, graph, fifos.pushed(channel))?)?;
     }
     Ok(())
-}
-
-/// Whether a channel is a sink.
-fn is_sink(kind: ChannelKind) -> bool
-    ensures { result ≡ is_sink kind }
-{
-    matches!(kind, ChannelKind::Sink)
 }
 
 /// The values of the first pushes, as far as their steps have a cycle.

@@ -151,7 +151,7 @@ steps_now : (p : Plan) (c : ℕ) (st : ClockState) → AllByRecursion (λ (s : H
 unfolding steps_in
 steps_now p c st = clock_steps p c st.contents (numbered st)
 
-all_map : {X : Type 0} (P Q : X → Type 0) → ((x : X) → P x → Q x) → (xs : List X) → AllByRecursion P xs → AllByRecursion Q xs
+pub all_map : {X : Type 0} (P Q : X → Type 0) → ((x : X) → P x → Q x) → (xs : List X) → AllByRecursion P xs → AllByRecursion Q xs
 all_map P Q f [] h = tt
 all_map P Q f (x ∷ xs) h = (f x h.0, all_map P Q f xs h.1)
 

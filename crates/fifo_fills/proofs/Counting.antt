@@ -27,7 +27,8 @@ use Rattle.lockstep_defs.specs.Laws.{all_in}
 use Rattle.lockstep_defs.proofs.Settled.{state-suc}
 use Rattle.lockstep_defs.proofs.Counts.{fifo_opens_empty}
 use Rattle.lockstep_defs.proofs.Rules.{keeps_ports}
-use Rattle.lockstep_defs.proofs.Queue.{moved-nil, moved-append, moved-step, nothing_stalls, moves_once, conserved, contents-step, same_channels}
+use Rattle.lockstep_defs.proofs.Queue.{moved-nil, moved-append, moved-step, nothing_stalls, moves_once, conserved, contents-step}
+use Rattle.lockstep_defs.proofs.Queue.{same_channels}
 use Rattle.lockstep_defs.proofs.Queue.{channel_count}
 use Rattle.fifo_fills.specs.Fills.{fill, moved_before}
 
@@ -94,7 +95,8 @@ pushed_steps : (p : Plan) (c : ℕ) (contents : List (List Element)) (f : ℕ) �
 pushed_steps p c contents f full [] = moved-nil Push f
 pushed_steps p c contents f full (m ∷ ms) =
     moved-append Push f (step_of p c contents m) (flat_map (step_of p c contents) ms)
-    ∙ ap₂ (λ (xs ys : List ℕ). xs ++ ys) (pushed_step p c contents f full m (moves p c contents m) refl) (pushed_steps p c contents f full ms)
+    ∙ ap₂ (λ (xs ys : List ℕ). xs ++ ys) (pushed_step p c contents f full m (moves p c contents m) refl)
+    (pushed_steps p c contents f full ms)
 
 pushed_in : (p : Plan) (c : ℕ) (st : ClockState) (f : ℕ) → is_possible p c st.contents Push f ≡ false → moved Push f (steps_in p c st) ≡ []
 unfolding steps_in

@@ -1,14 +1,13 @@
 -- The clock of the verdict is at most the cycle limit.
-use Rattle.std.proofs.Common.{◌≡◌, ℕ, zero, suc, ◌+◌, ◌≤◌, ◌<◌, Bool, true, false, cond, refl, arith, Option, Some, None}
-use Rattle.std.specs.List.{list_any, list_all}
+use Rattle.std.proofs.Common.{◌≡◌, ℕ, zero, suc, ◌+◌, ◌≤◌, ◌<◌, Bool, true, false, refl, arith, Option, Some, None}
 use Rattle.std.proofs.lemmas.Option.{same_Some}
 use Rattle.flow_design.specs.declared.plan.Plan.{Plan}
-use Rattle.flow_design.specs.declared.report.Verdict.TheVariants.{Done, Deadlock, Ops}
 use Rattle.flow_design.specs.declared.state.ClockState.{ClockState}
-use Rattle.lockstep_defs.specs.Machine.{is_spent}
 use Rattle.lockstep_defs.specs.Lockstep.{state, clock_step}
-use Rattle.lockstep_defs.specs.Verdict.{is_settled, first_settled, settled_verdict, verdict_at, verdict, clock_of}
+use Rattle.lockstep_defs.specs.Verdict.{is_settled, first_settled, verdict_at, verdict}
+use Rattle.flow_design.specs.Reports.{clock_of}
 use Rattle.fifo_fills.specs.Fills.{last_clock}
+use Rattle.lockstep_defs.proofs.Exits.{clock_settled}
 
 found_below : (p : Plan) (n clock : ℕ) (st : ClockState) (c : ℕ) → first_settled p n clock st ≡ Some c → c < clock + n
 unfolding first_settled
@@ -21,17 +20,9 @@ found_below p (suc n) clock st c e =
     by_test true f later = let same = same_Some clock c f in omega arith
     by_test false f later = omega (arith, later f)
 
-clock_of_settled : (p : Plan) (c : ℕ) (st : ClockState) → clock_of (settled_verdict p c st) ≡ c
-clock_of_settled p c st = by_tests (list_all (λ s. s.ended) st.modules) (list_any (is_spent p.ops) st.modules)
-  where
-    by_tests : (done spent : Bool) → clock_of (cond done (Done c) (cond spent (Ops c) (Deadlock c))) ≡ c
-    by_tests true spent = refl
-    by_tests false true = refl
-    by_tests false false = refl
-
 by_found : (p : Plan) (o : Option ℕ) → ((c : ℕ) → o ≡ Some c → c < 0 + suc p.cycles) → clock_of (verdict_at p o) ≤ p.cycles
 by_found p None h = omega arith
-by_found p (Some c) h = omega (arith, clock_of_settled p c (state p c), h c refl)
+by_found p (Some c) h = omega (arith, clock_settled p c (state p c), h c refl)
 
 pub last_within : (p : Plan) → last_clock p ≤ p.cycles
 unfolding verdict

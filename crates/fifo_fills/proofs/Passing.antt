@@ -1,12 +1,14 @@
 -- A walk over the events: how it starts, and what one event more changes.
 use Rattle.std.proofs.Common.{◌≡◌, ◌≢◌, ℕ, zero, suc, ◌+◌, ◌-◌, ◌≤◌, ◌<◌, List, [], ◌∷◌, ◌++◌, map, length, take, drop, Bool, true, false}
-use Rattle.std.proofs.Common.{◌==◌, ◌&&◌, cond, refl, sym, ◌∙◌, ap, ap₂, subst, arith, length-append, get_or, set, Some, None, Option, replicate}
+use Rattle.std.proofs.Common.{◌==◌, ◌&&◌, cond, refl, sym, ◌∙◌, ap, ap₂, subst, arith, length-append, get_or, set, Some, None, Option}
+use Rattle.std.proofs.Common.{replicate}
 use Rattle.std.proofs.Common.{add-zero, inl, inr}
 use Rattle.std.specs.Prelude.{slice_get, option_map}
 use Rattle.std.proofs.lemmas.List.Sums.{length-filter}
 use Rattle.std.specs.List.{count_by, filter, range_with_len}
 use Rattle.std.proofs.lemmas.Bool.{cases_Bool, ne_eqb, eq-eqb, cases_eq}
-use Rattle.std.proofs.lemmas.List.{append-nil, take_more, drop_more, length-map, take-append-drop, get_or_at, length-set, get_or-set_same, get_or-set_other}
+use Rattle.std.proofs.lemmas.List.{append-nil, take_more, drop_more, length-map, take-append-drop, get_or_at, length-set, get_or-set_same}
+use Rattle.std.proofs.lemmas.List.{get_or-set_other}
 use Rattle.std.proofs.lemmas.Option.{slice_get-get_or, slice_get_past}
 use Rattle.std.proofs.lemmas.List.Concat.{flat_map-append}
 use Rattle.std.proofs.lemmas.List.FromFn.{get_or-map-range_with_len, length-map-range_with_len, fill_by_all}
@@ -28,7 +30,8 @@ use Rattle.lockstep_defs.specs.Lockstep.{history}
 use Rattle.lockstep_defs.specs.Report.{steps_of, outcomes, report}
 use Rattle.lockstep_defs.proofs.Reported.{report_numbers}
 use Rattle.fifo_fills.specs.Fills.{fifos, last_clock}
-use Rattle.fifo_fills.specs.Passed.{Act, acts, moved_in, outcome_of, outcomes_in, fill_behind, queries_behind, place_of, counted, is_done, with_query}
+use Rattle.fifo_fills.specs.Passed.{Act, acts, moved_in, outcome_of, outcomes_in, fill_behind, queries_behind, place_of, counted, is_done}
+use Rattle.fifo_fills.specs.Passed.{with_query}
 use Rattle.fifo_fills.specs.Passed.{places}
 use Rattle.fifo_fills.specs.Walks.{IsEventWalk}
 use Rattle.fifo_fills.proofs.Acts.{event_by, events_are, outcomes_are, never_under, moved-append}
@@ -170,7 +173,8 @@ unfolding fill_behind
 fill_next p n a f l is =
     ap₂ (λ (x y : ℕ). x - y) (next_moved Push f n (acts p) a l is) (next_moved Pop f n (acts p) a l is)
 
-pub fill_is : (p : Plan) (n f : ℕ) → fill_behind p n f ≡ length (moved_in Push f (take n (acts p))) - length (moved_in Pop f (take n (acts p)))
+pub fill_is : (p : Plan) (n f : ℕ) → fill_behind p n f
+    ≡ length (moved_in Push f (take n (acts p))) - length (moved_in Pop f (take n (acts p)))
 unfolding fill_behind
 fill_is p n f = refl
 
@@ -269,7 +273,8 @@ one_query x queries = by_test (is_blocking x.request.kind)
 pub set_range : (g h : ℕ → ℕ) (n i : ℕ) → i < n → ((j : ℕ) → j ≢ i → h j ≡ g j)
     → set (map g (range_with_len 0 n)) i (h i) ≡ map h (range_with_len 0 n)
 set_range g h n i l same =
-    fill_by_all h (set (map g (range_with_len 0 n)) i (h i)) n 0 (length-set (map g (range_with_len 0 n)) i (h i) ∙ length-map-range_with_len g 0 n)
+    fill_by_all h (set (map g (range_with_len 0 n)) i (h i)) n 0
+    (length-set (map g (range_with_len 0 n)) i (h i) ∙ length-map-range_with_len g 0 n)
     (λ k m. elim (cases_eq k i) [
       | inl e ↦ subst (λ (j : ℕ). get_or (set (map g (range_with_len 0 n)) i (h i)) j 0 ≡ h j) (sym e)
           (get_or-set_same (map g (range_with_len 0 n)) i (h i) 0 (omega (arith, length-map-range_with_len g 0 n)))

@@ -82,7 +82,8 @@ get_placed kind g k (c ∷ cs) h (suc j) l t =
   where
     by_test : (b : Bool) → is_fifo (kind k) ≡ b → get_or (map g (numbers kind (k + 1) cs)) (place cs j) 0 ≡ g (k + suc j)
         → get_or (map g (cond (is_fifo (kind k)) (k ∷ numbers kind (k + 1) cs) (numbers kind (k + 1) cs)))
-        (length (cond b (c ∷ filter (λ (c : Channel). is_fifo c.kind) (take j cs)) (filter (λ (c : Channel). is_fifo c.kind) (take j cs)))) 0
+        (length (cond b (c ∷ filter (λ (c : Channel). is_fifo c.kind) (take j cs))
+        (filter (λ (c : Channel). is_fifo c.kind) (take j cs)))) 0
         ≡ g (k + suc j)
     by_test true e rest = rw e rest
     by_test false e rest = rw e rest

@@ -1,5 +1,6 @@
 -- A walk over the events, at its next event.
-use Rattle.std.proofs.Common.{◌≡◌, ℕ, ◌+◌, ◌-◌, ◌≤◌, ◌<◌, ◌^◌, List, [], map, length, take, drop, Bool, true, false, get_or, set, Some, None, Option}
+use Rattle.std.proofs.Common.{◌≡◌, ℕ, ◌+◌, ◌-◌, ◌≤◌, ◌<◌, ◌^◌, List, [], map, length, take, drop, Bool, true, false, get_or, set, Some}
+use Rattle.std.proofs.Common.{None, Option}
 use Rattle.std.proofs.Common.{◌&&◌, cond, refl, sym, ◌∙◌, ap, ap₂, subst, arith, ◌⊎◌, inl, inr}
 use Rattle.std.specs.Prelude.{IfSome}
 use Rattle.std.specs.List.{range_with_len, refill}
@@ -20,7 +21,8 @@ use Rattle.fifo_fills.specs.Passed.{Act, acts, outcomes_in, fill_behind, queries
 use Rattle.fifo_fills.specs.Walks.{IsEventWalk}
 use Rattle.fifo_fills.proofs.Acts.{event_by}
 use Rattle.fifo_fills.proofs.Placing.{at_place}
-use Rattle.fifo_fills.proofs.Passing.{report_events, report_answers, was_done, has_moved, outcome_within, done_is, all_queries_next, held_next}
+use Rattle.fifo_fills.proofs.Passing.{report_events, report_answers, was_done, has_moved, outcome_within, done_is, all_queries_next}
+use Rattle.fifo_fills.proofs.Passing.{held_next}
 use Rattle.fifo_fills.proofs.Passing.{fill_is, popped_some, moved_few}
 
 -- the operation of an event

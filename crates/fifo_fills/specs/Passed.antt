@@ -1,5 +1,6 @@
 -- What stands behind a number of operations of the history, in the order in which they were done.
-use Rattle.std.specs.Prelude.{◌≡◌, ◌≢◌, ℕ, ◌+◌, ◌-◌, ◌==◌, Bool, true, false, if◌then◌else◌, Option, Some, None, List, [], ◌∷◌, length, map, filter, take}
+use Rattle.std.specs.Prelude.{◌≡◌, ◌≢◌, ℕ, ◌+◌, ◌-◌, ◌==◌, Bool, true, false, if◌then◌else◌, Option, Some, None, List, [], ◌∷◌, length}
+use Rattle.std.specs.Prelude.{map, filter, take}
 use Rattle.std.specs.Prelude.{slice_set, slice_index, slice_index_or}
 use Rattle.std.specs.List.{range_with_len, flat_map}
 use Rattle.flow_word.specs.declared.access.Side.{Side}
@@ -59,7 +60,8 @@ queries_behind p n i = length (outcomes_in i (take n (acts p)))
 -- the place of a channel among the FIFOs, if it is one: how many there are before it
 abbrev pub place_of : List Channel → ℕ → Option ℕ
 place_of channels f =
-    if is_fifo (slice_index_or channels f no_channel).kind then Some (length (filter (λ (c : Channel). is_fifo c.kind) (take f channels))) else None
+    if is_fifo (slice_index_or channels f no_channel).kind
+    then Some (length (filter (λ (c : Channel). is_fifo c.kind) (take f channels))) else None
 
 -- of each channel
 abbrev pub places : List Channel → List (Option ℕ)

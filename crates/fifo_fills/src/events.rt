@@ -1,5 +1,6 @@
 //! A walk over a report, event by event.
-ghost use Rattle.std.specs.Prelude.{◌≡◌, ◌+◌, ◌<◌, ◌^◌, Some, map, length, slice_get, slice_index, slice_index_or, slice_set, option_map, count_by};
+ghost use Rattle.std.specs.Prelude.{◌≡◌, ◌+◌, ◌<◌, ◌^◌, Some, map, length, slice_get, slice_index, slice_index_or, slice_set, option_map};
+ghost use Rattle.std.specs.Prelude.{count_by};
 ghost use Rattle.std.specs.Prelude.{IfOk, IfSome, false, []};
 ghost use Rattle.std.specs.List.{range_with_len};
 ghost use Rattle.flow_word.specs.declared.access.Side.TheVariants.{Pop, Push};
@@ -103,20 +104,13 @@ impl<'a> EventWalk<'a> {
     }
 }
 
-/// Whether a channel is a FIFO.
-pub fn is_fifo(kind: ChannelKind) -> bool
-    ensures { result ≡ is_fifo kind }
-{
-    matches!(kind, ChannelKind::Fifo(_, _))
-}
-
 /// How many channels are FIFOs.
 fn count_fifos(channels: &[Channel]) -> usize
     ensures { result ≡ count_by (λ c. is_fifo c.kind) channels.now }
 {
     channels
         .iter()
-        .filter(|channel| is_fifo(channel.kind))
+        .filter(|channel| channel.kind.is_fifo())
         .count()
 }
 
@@ -128,7 +122,7 @@ fn places(alloc: Global, channels: &[Channel]) -> Result<List<Option<u32>>, OutO
     let mut places = List::with_room(alloc, channels.len() as u64)?;
     let mut fifos = 0u32;
     for channel in channels {
-        if is_fifo(channel.kind) {
+        if channel.kind.is_fifo() {
             places.push(Some(fifos))?;
             fifos += 1;
         } else {

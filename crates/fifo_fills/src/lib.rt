@@ -5,6 +5,5 @@ mod events;
 mod laws;
 mod walk;
 
-pub use events::is_fifo;
 pub use laws::fills_are_counted;
 pub use walk::FillWalk;

@@ -2,76 +2,25 @@
 ghost use Rattle.std.specs.Prelude.{◌≡◌, ◌||◌, [], map, option_map, if◌then◌else◌, IfOk, OnOk};
 ghost use Rattle.std.specs.List.{list_any};
 ghost use Rattle.flow_word.specs.declared.access.Port.{Port as PortOf};
-ghost use Rattle.flow_design.specs.Operations.{access_of, port, port_of, used_port};
+ghost use Rattle.flow_design.specs.Operations.{used_port};
 ghost use Rattle.flow_design.specs.StaticRules.{uses, is_port};
 ghost use Rattle.flow_check.specs.Ports.{has, has_slot, has_this, HasPorts, HavePorts};
 ghost use Rattle.flow_check.specs.Rules.{phase, slot, clashes, is_slot, Slot as SlotOf};
 ghost use Rattle.flow_check.specs.First.{first_behind};
 
 use flow_design::{BlockKind, Module, Op, Timed};
-use flow_word::{Kind, List, OutOfMemory, Port};
+use flow_word::{List, OutOfMemory, Port};
 use indexmap::IndexSet;
 use std::alloc::Global;
 
 /// A port that an operation uses, with the operation's offset, in a loop modulo its interval.
 type Slot = (Port, u64);
 
-/// The kind of a FIFO operation, and its channel.
-fn access_of(op: &Op<u32>) -> Option<(Kind, u32)>
-    ensures { result ≡ access_of op.now }
-{
-    match op {
-        Op::Set(_, _) | Op::Load(_, _, _) | Op::Store(_, _, _) => None,
-        Op::Read(channel, _) => Some((Kind::Read, *channel)),
-        Op::Write(channel, _) => Some((Kind::Write, *channel)),
-        Op::TryRead(channel, _, _) => Some((Kind::TryRead, *channel)),
-        Op::TryWrite(channel, _, _) => Some((Kind::TryWrite, *channel)),
-        Op::Empty(channel, _) => Some((Kind::Empty, *channel)),
-        Op::Full(channel, _) => Some((Kind::Full, *channel)),
-    }
-}
-
-/// The port of an access of this kind.
-fn port(kind: Kind, channel: u32) -> Port
-    ensures { result ≡ port kind channel }
-{
-    Port {
-        side: kind.side(),
-        channel,
-    }
-}
-
-/// The port at which an operation stands.
-pub(crate) fn port_of(op: &Op<u32>) -> Option<Port>
-    ensures { result ≡ port_of op.now }
-{
-    match access_of(op) {
-        Some((kind, channel)) => Some(port(kind, channel)),
-        None => None,
-    }
-}
-
-/// The port at which an operation pops or pushes.
-fn used_port(op: &Op<u32>) -> Option<Port>
-    ensures { result ≡ used_port op.now }
-{
-    match access_of(op) {
-        Some((kind, channel)) => {
-            if kind.takes() {
-                Some(port(kind, channel))
-            } else {
-                None
-            }
-        }
-        None => None,
-    }
-}
-
 /// Adds the port that an operation uses.
 fn add_port(op: &Op<u32>, ports: &mut IndexSet<Port>) -> Result<(), OutOfMemory>
     ensures { OnOk result ((a : PortOf) → has ports.new a ≡ (has ports.old a || is_port a (used_port op.now))) }
 {
-    if let Some(port) = used_port(op) {
+    if let Some(port) = op.used_port() {
         ports.insert(port)?;
     }
     Ok(())
@@ -126,7 +75,7 @@ fn phase(kind: BlockKind, offset: u64) -> u64
 fn slot(kind: BlockKind, timed: &Timed) -> Option<Slot>
     ensures { result ≡ slot kind timed.now }
 {
-    match used_port(&timed.op) {
+    match timed.op.used_port() {
         Some(port) => Some((port, phase(kind, timed.offset))),
         None => None,
     }

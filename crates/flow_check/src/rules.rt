@@ -9,7 +9,7 @@ ghost use Rattle.flow_check.specs.Rules.{leads_out, breaks_limits, has_users, is
 ghost use Rattle.flow_check.specs.Rules.{is_on_wrong_side, spot, spot_in, in_module, broken_by, rules, checking_fault};
 
 use crate::item::{Item, Spot};
-use crate::ports::{first_clash, port_of, ports_of_each};
+use crate::ports::{first_clash, ports_of_each};
 use flow_design::{Block, BlockKind, Channel, ChannelKind, Module, Next, Plan, Timed, limits};
 use flow_grammar::Code;
 use flow_word::{OutOfMemory, Port, Side};
@@ -49,7 +49,7 @@ fn is_on_wrong_side(of: &Module, ports: &IndexSet<Port>, timed: &Timed) -> bool
     requires { HasPorts ports.now of.now }
     ensures { result ≡ is_on_wrong_side of.now timed.now }
 {
-    match port_of(&timed.op) {
+    match timed.op.port() {
         Some(port) => !has(ports, port),
         None => false,
     }

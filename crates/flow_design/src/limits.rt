@@ -1,4 +1,5 @@
-//! The limits of the language: what is more is refused. Definitions and code name them here alone.
+//! The limits of the language: what is more is refused. Definitions of sessions and all code take them from here. The
+//! definitions of the command's words tell three of them again as numerals, so that they can be read alone.
 
 /// The bytes of a session text.
 pub const TEXT_BYTES: u64 = 4_194_304;

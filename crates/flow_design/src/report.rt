@@ -1,4 +1,7 @@
 //! Reports.
+ghost use Rattle.std.specs.Prelude.{◌≡◌};
+ghost use Rattle.flow_design.specs.Reports.{clock_of};
+
 use flow_word::{Flags, Kind, List, Words};
 
 /// How a simulation ends, with its clock.
@@ -12,6 +15,20 @@ pub enum Verdict {
     Cycles(u64),
     /// No module moves, and one is spent: it reached the operation limit.
     Ops(u64),
+}
+
+impl Verdict {
+    /// Its clock.
+    pub fn clock(self) -> u64
+        ensures { result ≡ clock_of self }
+    {
+        match self {
+            Verdict::Done(clock) => clock,
+            Verdict::Deadlock(clock) => clock,
+            Verdict::Cycles(clock) => clock,
+            Verdict::Ops(clock) => clock,
+        }
+    }
 }
 
 /// A module that is held by a channel which is full, or else empty.

@@ -1,19 +1,15 @@
 -- A number is read by the digits' value.
-use Rattle.std.proofs.Common.{◌≡◌, ℕ, List, [], ◌∷◌, Bool, true, false, Option, None, refl, ap, arith}
+use Rattle.std.proofs.Common.{◌≡◌, ℕ, List, [], ◌∷◌, true, false, Option, None, refl, ap, arith}
 use Rattle.std.specs.Prelude.{position}
 use Rattle.std.specs.Char.{is_ascii_digit}
 use Rattle.std.specs.List.{list_all, position_or_len}
-use Rattle.std.proofs.lemmas.Bool.{le-ltb}
+use Rattle.std.proofs.lemmas.Bool.{le-ltb, and_parts}
 use Rattle.std.proofs.Common.{inl, inr, length, cond}
-use Rattle.std.specs.Prelude.{◌==◌, ◌&&◌}
+use Rattle.std.specs.Prelude.{◌==◌}
 use Rattle.std.proofs.Common.{◌≤◌}
 use Rattle.std.proofs.lemmas.Bool.Decides.{nat_tests, eqb_tells}
 use Rattle.flow_word.specs.Number.{is_no_digit, number_of as number_read_of, fitting, word_of, judged}
 use Rattle.flow_grammar.specs.Tokens.{is_number, number_of}
-
-both_true : (a b : Bool) → a && b ≡ true → (a ≡ true) × (b ≡ true)
-both_true true b h = (refl, h)
-both_true false b h = absurd cc
 
 digit_is : (c : ℕ) → is_ascii_digit c ≡ true → is_no_digit c ≡ false
 digit_is c h = grind (arith, nat_tests)
@@ -21,7 +17,7 @@ digit_is c h = grind (arith, nat_tests)
 all_digits_long : (token : List ℕ) → list_all is_ascii_digit token ≡ true → length token ≤ position_or_len is_no_digit token
 all_digits_long [] h = omega arith
 all_digits_long (c ∷ cs) h =
-    let p = both_true (is_ascii_digit c) (list_all is_ascii_digit cs) h in
+    let p = and_parts (is_ascii_digit c) (list_all is_ascii_digit cs) h in
     let rest = all_digits_long cs p.1 in
     rw (digit_is c p.0) (omega arith)
 

@@ -1,7 +1,7 @@
 -- A session that a text stands for keeps the rules of reading, and its line numbers rise.
-use Rattle.std.proofs.Common.{◌≡◌, ℕ, zero, suc, ◌+◌, ◌<◌, ◌≤◌, List, [], ◌∷◌, ◌++◌, length, take, None, Some, Bool, true, refl, sym, ap}
+use Rattle.std.proofs.Common.{◌≡◌, ℕ, zero, suc, ◌+◌, ◌<◌, ◌≤◌, List, [], ◌∷◌, ◌++◌, length, take, None, Some, true, refl, sym, ap}
 use Rattle.std.proofs.Common.{subst, ◌∙◌, append_assoc, inl, inr, arith}
-use Rattle.std.specs.Prelude.{slice_get, reverse, false, ◌&&◌, ◌||◌, ◌==◌}
+use Rattle.std.specs.Prelude.{slice_get, reverse, ◌||◌, ◌==◌}
 use Rattle.std.specs.List.{list_all, All, AllPairs}
 use Rattle.std.proofs.lemmas.List.{append-nil}
 use Rattle.std.proofs.lemmas.List.Kept.{AllPairs-cons}
@@ -15,6 +15,7 @@ use Rattle.flow_grammar.specs.Spelling.{Spells, Spelled, WritesFifo, Writes}
 use Rattle.flow_grammar.specs.Rules.{is_well_named, fits_version, KeepsRules, KeepsReadingRules}
 use Rattle.flow_grammar.specs.Text.{statements_among, numbers_among, StandsFor}
 use Rattle.flow_grammar.proofs.TextLaws.{Words, InOrderFrom, ordered}
+use Rattle.std.proofs.lemmas.Bool.{or_right, and_from}
 
 -- ---- names
 
@@ -25,18 +26,11 @@ spelled_named t (Use sort n) s = subst (λ (x : Token). is_name x ≡ true) s.1 
 spelled_named t (Label n) s = subst (λ (x : Token). is_name x ≡ true) s.1 s.0
 spelled_named t (Num least most n) s = refl
 
-either_true : (a b : Bool) → b ≡ true → a || b ≡ true
-either_true true b h = refl
-either_true false b h = h
-
-both_named : (a b : Bool) → a ≡ true → b ≡ true → a && b ≡ true
-both_named a b h k = rw (h, k) refl
-
 all_named : (ts : List Token) (ps : List Part) → Spelled ts ps → list_all is_well_named ps ≡ true
 all_named [] [] s = refl
 all_named [] (p ∷ ps) s = absurd s
 all_named (t ∷ ts) [] s = absurd s
-all_named (t ∷ ts) (p ∷ ps) s = both_named (is_well_named p) (list_all is_well_named ps) (spelled_named t p s.0) (all_named ts ps s.1)
+all_named (t ∷ ts) (p ∷ ps) s = and_from (is_well_named p) (list_all is_well_named ps) (spelled_named t p s.0) (all_named ts ps s.1)
 
 -- a written FIFO has names that are names
 fifo_named : (v : ℕ) (ts : List Token) (n : Name) (w depth delay : ℕ) → WritesFifo v ts n w depth delay
@@ -49,8 +43,8 @@ fifo_named v ts n w depth delay (inr (inr h)) = all_named ts (bare_parts n w) h.
 fifo_fits : (v : ℕ) (ts : List Token) (n : Name) (w depth delay : ℕ) → WritesFifo v ts n w depth delay
     → has_delays v || (delay == default_delay) ≡ true
 fifo_fits v ts n w depth delay (inl h) = rw h.0 refl
-fifo_fits v ts n w depth delay (inr (inl h)) = either_true (has_delays v) (delay == default_delay) (rw h.0 refl)
-fifo_fits v ts n w depth delay (inr (inr h)) = either_true (has_delays v) (delay == default_delay) (rw h.1 refl)
+fifo_fits v ts n w depth delay (inr (inl h)) = or_right (has_delays v) (delay == default_delay) (rw h.0 refl)
+fifo_fits v ts n w depth delay (inr (inr h)) = or_right (has_delays v) (delay == default_delay) (rw h.1 refl)
 
 written_named : (v : ℕ) (ts : List Token) (s : Statement) → Writes v ts s → list_all is_well_named (parts s) ≡ true
 written_named v ts (Flow n) h = all_named ts (parts (Flow n)) h

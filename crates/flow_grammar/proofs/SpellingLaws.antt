@@ -1,6 +1,6 @@
 -- The expressions of some tokens are those whose parts the tokens spell.
 use Rattle.std.proofs.Common.{◌≡◌, ℕ, List, [], ◌∷◌, ◌++◌, Bool, true, false, cond, Option, None, Some, refl, subst, append_assoc}
-use Rattle.std.specs.Prelude.{codes, ◌==◌, ◌&&◌}
+use Rattle.std.specs.Prelude.{codes, ◌==◌}
 use Rattle.std.specs.List.{find}
 use Rattle.std.specs.Option.{option_and_then}
 use Rattle.flow_design.specs.declared.expr.Expr.{Expr}
@@ -11,7 +11,7 @@ use Rattle.flow_design.specs.declared.expr.UnOp.TheVariants.{Not}
 use Rattle.flow_design.specs.declared.expr.BinOp.{BinOp}
 use Rattle.flow_grammar.specs.declared.operator.Operator.{Operator}
 use Rattle.flow_grammar.specs.declared.operator.Operator.TheVariants.{One, Two, Extend, Choose}
-use Rattle.std.proofs.lemmas.Bool.{eqb-true}
+use Rattle.std.proofs.lemmas.Bool.{eqb-true, and_parts}
 use Rattle.flow_grammar.specs.Tokens.{is_word, is_number, is_name, number_of}
 use Rattle.flow_grammar.specs.declared.keyword.Keyword.{Keyword}
 use Rattle.flow_grammar.specs.declared.keyword.Verb.{Verb}
@@ -55,15 +55,11 @@ pub parts_Pick : (a b c : Expr (List ℕ)) → expr_parts (Pick a b c) ≡ layer
 unfolding expr_parts
 parts_Pick a b c = folded-Pick (List ℕ) (List Part) layer_parts a b c
 
-both_true : (a b : Bool) → a && b ≡ true → (a ≡ true) × (b ≡ true)
-both_true true b h = (refl, h)
-both_true false b h = absurd cc
-
 pub word_is : (t w : List ℕ) → is_word t w ≡ true → t ≡ w
 word_is [] [] h = refl
 word_is [] (y ∷ ys) h = absurd cc
 word_is (x ∷ xs) [] h = absurd cc
-word_is (x ∷ xs) (y ∷ ys) h = let p = both_true (x == y) (is_word xs ys) h in λ i. eqb-true x y p.0 i ∷ word_is xs ys p.1 i
+word_is (x ∷ xs) (y ∷ ys) h = let p = and_parts (x == y) (is_word xs ys) h in λ i. eqb-true x y p.0 i ∷ word_is xs ys p.1 i
 
 -- ---- words
 

@@ -23,10 +23,7 @@ use Rattle.flow_grammar.specs.Forms.{only_if, if_then, one_tree, two_trees, stat
 use Rattle.flow_grammar.specs.Forms.{loop_of, at_of, branch_of, input_of, limits_of, bare, form_of, form_if, op_form_of, op_form_if, op_of}
 use Rattle.flow_grammar.specs.Forms.{set_of, load_of, store_of, two_names, write_of, try_read_of, try_write_of, guarded_of}
 use Rattle.flow_grammar.proofs.SpellingLaws.{trees_spelled, word_is, keyword_is, verb_is}
-
-both : (a b : Bool) → a && b ≡ true → (a ≡ true) × (b ≡ true)
-both true b h = (refl, h)
-both false b h = absurd cc
+use Rattle.std.proofs.lemmas.Bool.{and_parts}
 
 -- ---- operations
 
@@ -74,7 +71,7 @@ load_written : (k : Token) (ts : List Token) → k ≡ codes "load" → OpSpelle
 load_written k [] w = tt
 load_written k (r ∷ []) w = tt
 load_written k (r ∷ m ∷ us) w = op_one (is_name r && is_name m) (op.Load r m) us (k ∷ r ∷ m ∷ us)
-    (λ n e s. let p = both (is_name r) (is_name m) n in (w, ((p.0, refl), ((p.1, refl), s))))
+    (λ n e s. let p = and_parts (is_name r) (is_name m) n in (w, ((p.0, refl), ((p.1, refl), s))))
 
 store_written : (k : Token) (ts : List Token) → k ≡ codes "store" → OpSpelled (k ∷ ts) (store_of ts)
 store_written k [] w = tt
@@ -86,7 +83,7 @@ names_written : (make : Token → Token → Op Name) (k : Token) (ts : List Toke
 names_written make k [] h = tt
 names_written make k (f ∷ []) h = tt
 names_written make k (f ∷ r ∷ []) h =
-    op_only (is_name f && is_name r) (k ∷ f ∷ r ∷ []) (make f r) (λ n. let p = both (is_name f) (is_name r) n in h f r p.0 p.1)
+    op_only (is_name f && is_name r) (k ∷ f ∷ r ∷ []) (make f r) (λ n. let p = and_parts (is_name f) (is_name r) n in h f r p.0 p.1)
 names_written make k (f ∷ r ∷ u ∷ us) h = tt
 
 write_written : (k : Token) (ts : List Token) → k ≡ codes "write" → OpSpelled (k ∷ ts) (write_of ts)
@@ -98,15 +95,15 @@ try_read_written k [] w = tt
 try_read_written k (f ∷ []) w = tt
 try_read_written k (f ∷ r ∷ []) w = tt
 try_read_written k (f ∷ r ∷ ok ∷ []) w = op_only (is_name f && (is_name r && is_name ok)) (k ∷ f ∷ r ∷ ok ∷ []) (op.TryRead f r ok)
-    (λ n. let p = both (is_name f) (is_name r && is_name ok) n in
-    let q = both (is_name r) (is_name ok) p.1 in (w, ((p.0, refl), ((q.0, refl), ((q.1, refl), tt)))))
+    (λ n. let p = and_parts (is_name f) (is_name r && is_name ok) n in
+    let q = and_parts (is_name r) (is_name ok) p.1 in (w, ((p.0, refl), ((q.0, refl), ((q.1, refl), tt)))))
 try_read_written k (f ∷ r ∷ ok ∷ u ∷ us) w = tt
 
 try_write_written : (k : Token) (ts : List Token) → k ≡ codes "trywrite" → OpSpelled (k ∷ ts) (try_write_of ts)
 try_write_written k [] w = tt
 try_write_written k (f ∷ []) w = tt
 try_write_written k (f ∷ ok ∷ us) w = op_one (is_name f && is_name ok) (op.TryWrite f ok) us (k ∷ f ∷ ok ∷ us)
-    (λ n e s. let p = both (is_name f) (is_name ok) n in (w, ((p.0, refl), ((p.1, refl), s))))
+    (λ n e s. let p = and_parts (is_name f) (is_name ok) n in (w, ((p.0, refl), ((p.1, refl), s))))
 
 form_written : (v : Verb) (k : Token) (ts : List Token) → k ≡ verb_word v → OpSpelled (k ∷ ts) (op_form_of v ts)
 form_written verb.Set k ts w = set_written k ts w
@@ -160,7 +157,7 @@ module _ (version : ℕ) where
   width_written make k (n ∷ []) h = tt
   width_written make k (n ∷ v ∷ []) h =
       only (is_name n && is_number v) (k ∷ n ∷ v ∷ []) (make n (number_of v))
-      (λ t. let p = both (is_name n) (is_number v) t in h n v p.0 p.1)
+      (λ t. let p = and_parts (is_name n) (is_number v) t in h n v p.0 p.1)
   width_written make k (n ∷ v ∷ u ∷ us) h = tt
 
   name_written : (make : Token → Statement) (k : Token) (ts : List Token)
@@ -174,11 +171,11 @@ module _ (version : ℕ) where
   fifo_written k [] w = tt
   fifo_written k (n ∷ []) w = tt
   fifo_written k (n ∷ v ∷ []) w = only (is_name n && is_number v) (k ∷ n ∷ v ∷ []) (Fifo n (number_of v) default_depth default_delay)
-      (λ t. let p = both (is_name n) (is_number v) t in inr (inr (refl, refl, (w, ((p.0, refl), ((p.1, refl), tt))))))
+      (λ t. let p = and_parts (is_name n) (is_number v) t in inr (inr (refl, refl, (w, ((p.0, refl), ((p.1, refl), tt))))))
   fifo_written k (n ∷ v ∷ d ∷ []) w =
       only (is_name n && (is_number v && is_number d)) (k ∷ n ∷ v ∷ d ∷ []) (Fifo n (number_of v) (number_of d) default_delay)
-      (λ t. let p = both (is_name n) (is_number v && is_number d) t in
-      let q = both (is_number v) (is_number d) p.1 in
+      (λ t. let p = and_parts (is_name n) (is_number v && is_number d) t in
+      let q = and_parts (is_number v) (is_number d) p.1 in
       inr (inl (refl, (w, ((p.0, refl), ((q.0, refl), ((q.1, refl), tt)))))))
   fifo_written k (n ∷ v ∷ d ∷ e ∷ []) w = go (has_delays version) refl
     where
@@ -191,9 +188,9 @@ module _ (version : ℕ) where
       go : (b : Bool) → has_delays version ≡ b → IsWritten (k ∷ n ∷ v ∷ d ∷ e ∷ []) (if_then b (only_if are_well statement))
       go false h = tt
       go true h = only are_well (k ∷ n ∷ v ∷ d ∷ e ∷ []) statement
-          (λ t. let p = both (is_name n) (is_number v && (is_number d && is_number e)) t in
-          let q = both (is_number v) (is_number d && is_number e) p.1 in
-          let r = both (is_number d) (is_number e) q.1 in
+          (λ t. let p = and_parts (is_name n) (is_number v && (is_number d && is_number e)) t in
+          let q = and_parts (is_number v) (is_number d && is_number e) p.1 in
+          let r = and_parts (is_number d) (is_number e) q.1 in
           inl (h, (w, ((p.0, refl), ((q.0, refl), ((r.0, refl), ((r.1, refl), tt)))))))
   fifo_written k (n ∷ v ∷ d ∷ e ∷ u ∷ us) w = tt
 
@@ -204,8 +201,8 @@ module _ (version : ℕ) where
   mem_written k (n ∷ v ∷ []) w = tt
   mem_written k (n ∷ v ∷ l ∷ []) w =
       only (is_name n && (is_number v && is_number l)) (k ∷ n ∷ v ∷ l ∷ []) (Mem n (number_of v) (number_of l))
-      (λ t. let p = both (is_name n) (is_number v && is_number l) t in
-      let q = both (is_number v) (is_number l) p.1 in (w, ((p.0, refl), ((q.0, refl), ((q.1, refl), tt)))))
+      (λ t. let p = and_parts (is_name n) (is_number v && is_number l) t in
+      let q = and_parts (is_number v) (is_number l) p.1 in (w, ((p.0, refl), ((q.0, refl), ((q.1, refl), tt)))))
   mem_written k (n ∷ v ∷ l ∷ u ∷ us) w = tt
 
   loop_written : (k : Token) (ts : List Token) → k ≡ codes "loop" → IsWritten (k ∷ ts) (loop_of ts)
@@ -218,10 +215,10 @@ module _ (version : ℕ) where
   loop_written k (n ∷ i ∷ l ∷ x ∷ r ∷ []) w =
       only (is_name n && (is_number i && (is_number l && (is_word x (codes "while") && is_name r)))) (k ∷ n ∷ i ∷ l ∷ x ∷ r ∷ [])
       (Loop n (number_of i) (number_of l) r)
-      (λ t. let p = both (is_name n) (is_number i && (is_number l && (is_word x (codes "while") && is_name r))) t in
-      let q = both (is_number i) (is_number l && (is_word x (codes "while") && is_name r)) p.1 in
-      let o = both (is_number l) (is_word x (codes "while") && is_name r) q.1 in
-      let z = both (is_word x (codes "while")) (is_name r) o.1 in
+      (λ t. let p = and_parts (is_name n) (is_number i && (is_number l && (is_word x (codes "while") && is_name r))) t in
+      let q = and_parts (is_number i) (is_number l && (is_word x (codes "while") && is_name r)) p.1 in
+      let o = and_parts (is_number l) (is_word x (codes "while") && is_name r) q.1 in
+      let z = and_parts (is_word x (codes "while")) (is_name r) o.1 in
       (w, ((p.0, refl), ((q.0, refl), ((o.0, refl), (word_is x (codes "while") z.0, ((z.1, refl), tt)))))))
   loop_written k (n ∷ i ∷ l ∷ x ∷ r ∷ u ∷ us) w = tt
 
@@ -231,8 +228,8 @@ module _ (version : ℕ) where
   branch_written k (r ∷ []) w = tt
   branch_written k (r ∷ b ∷ []) w = tt
   branch_written k (r ∷ b ∷ c ∷ []) w = only (is_name r && (is_name b && is_name c)) (k ∷ r ∷ b ∷ c ∷ []) (Branch r b c)
-      (λ t. let p = both (is_name r) (is_name b && is_name c) t in
-      let q = both (is_name b) (is_name c) p.1 in (w, ((p.0, refl), ((q.0, refl), ((q.1, refl), tt)))))
+      (λ t. let p = and_parts (is_name r) (is_name b && is_name c) t in
+      let q = and_parts (is_name b) (is_name c) p.1 in (w, ((p.0, refl), ((q.0, refl), ((q.1, refl), tt)))))
   branch_written k (r ∷ b ∷ c ∷ u ∷ us) w = tt
 
   limits_written : (k : Token) (ts : List Token) → k ≡ codes "limits" → IsWritten (k ∷ ts) (limits_of ts)
@@ -240,7 +237,7 @@ module _ (version : ℕ) where
   limits_written k [] w = tt
   limits_written k (c ∷ []) w = tt
   limits_written k (c ∷ o ∷ []) w = only (is_number c && is_number o) (k ∷ c ∷ o ∷ []) (Limits (number_of c) (number_of o))
-      (λ t. let p = both (is_number c) (is_number o) t in (w, ((p.0, refl), ((p.1, refl), tt))))
+      (λ t. let p = and_parts (is_number c) (is_number o) t in (w, ((p.0, refl), ((p.1, refl), tt))))
   limits_written k (c ∷ o ∷ u ∷ us) w = tt
 
   bare_written : (s : Statement) (k : Token) (ts : List Token) → Writes version (k ∷ []) s → IsWritten (k ∷ ts) (bare s ts)
@@ -249,13 +246,13 @@ module _ (version : ℕ) where
 
   values_written : (ts : List Token) → list_all is_number ts ≡ true → Spelled ts (map plain (map number_of ts))
   values_written [] h = tt
-  values_written (t ∷ ts) h = let p = both (is_number t) (list_all is_number ts) h in ((p.0, refl), values_written ts p.1)
+  values_written (t ∷ ts) h = let p = and_parts (is_number t) (list_all is_number ts) h in ((p.0, refl), values_written ts p.1)
 
   input_written : (k : Token) (ts : List Token) → k ≡ codes "input" → IsWritten (k ∷ ts) (input_of ts)
   unfolding input_of
   input_written k [] w = tt
   input_written k (n ∷ us) w = only (is_name n && list_all is_number us) (k ∷ n ∷ us) (Input n (map number_of us))
-      (λ t. let p = both (is_name n) (list_all is_number us) t in (w, ((p.0, refl), values_written us p.1)))
+      (λ t. let p = and_parts (is_name n) (list_all is_number us) t in (w, ((p.0, refl), values_written us p.1)))
 
   plain_written : (k off : Token) (ts : List Token) → k ≡ codes "at" → is_number off ≡ true
       → IsWritten (k ∷ off ∷ ts) (option_map (At (number_of off) None) (op_of ts))

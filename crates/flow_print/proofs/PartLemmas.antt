@@ -1,11 +1,11 @@
 -- The token of each part of a statement that keeps the rules is printed whole, and spells the part.
 use Rattle.std.proofs.Common.{◌≡◌, ℕ, ◌+◌, ◌<◌, ◌≤◌, ◌^◌, ◌%◌, List, [], ◌∷◌, ◌++◌, map, length, Bool, true, false, not, Option, None, Some}
 use Rattle.std.proofs.Common.{refl, arith}
-use Rattle.std.specs.Prelude.{if◌then◌else◌, ◌&&◌, ◌==◌, nat_le, nat_lt}
+use Rattle.std.specs.Prelude.{if◌then◌else◌, ◌==◌, nat_le, nat_lt}
 use Rattle.std.specs.Char.{is_ascii_digit}
 use Rattle.std.specs.Fmt.{decimal}
 use Rattle.std.specs.List.{list_all}
-use Rattle.std.proofs.lemmas.Bool.{and_parts, leb-true, ltb-true}
+use Rattle.std.proofs.lemmas.Bool.{and_parts, leb-true, ltb-true, and_from}
 use Rattle.std.proofs.lemmas.Bool.Decides.{nat_tests}
 use Rattle.std.proofs.lemmas.Fmt.{decimal_is_IsNumeral, decimal_by_steps, decimal_nonempty}
 use Rattle.flow_design.specs.declared.expr.Expr.{Expr}
@@ -32,9 +32,6 @@ use Rattle.flow_grammar.proofs.SpellingLaws.{parts_Number, parts_Var, parts_Unar
 use Rattle.flow_print.specs.Canonical.{token_of, written_parts}
 use Rattle.flow_print.proofs.SplitLemmas.{is_visible, is_printed, all_of}
 
-and_true : (a b : Bool) → a ≡ true → b ≡ true → a && b ≡ true
-and_true a b h k = rw (h, k) refl
-
 -- ---- numbers
 
 digit_is : (d : ℕ) → d < 10 → is_ascii_digit (48 + d) ≡ true
@@ -45,17 +42,17 @@ digit_visible b h = grind (arith, nat_tests)
 
 digit_behind : (ds : List ℕ) (b : ℕ) → list_all is_ascii_digit ds ≡ true → is_ascii_digit b ≡ true
     → list_all is_ascii_digit (ds ++ b ∷ []) ≡ true
-digit_behind [] b h k = and_true (is_ascii_digit b) true k refl
+digit_behind [] b h k = and_from (is_ascii_digit b) true k refl
 digit_behind (d ∷ ds) b h k =
     let p = and_parts (is_ascii_digit d) (list_all is_ascii_digit ds) h in
-    and_true (is_ascii_digit d) (list_all is_ascii_digit (ds ++ b ∷ [])) p.0 (digit_behind ds b p.1 k)
+    and_from (is_ascii_digit d) (list_all is_ascii_digit (ds ++ b ∷ [])) p.0 (digit_behind ds b p.1 k)
 
 last_digit : (n : ℕ) → n % 10 < 10
 last_digit n = omega arith
 
 digits_all : (n : ℕ) → n < 2 ^ 64 → list_all is_ascii_digit (decimal n) ≡ true
 digits_all n h = decimal_by_steps (λ _ ds. list_all is_ascii_digit ds ≡ true)
-    (λ m l. and_true (is_ascii_digit (48 + m)) true (digit_is m l) refl)
+    (λ m l. and_from (is_ascii_digit (48 + m)) true (digit_is m l) refl)
     (λ m ds l rest. digit_behind ds (48 + m % 10) rest (digit_is (m % 10) (last_digit m))) n h
 
 filled_of : (t : Token) → 0 < length t → is_filled t ≡ true
@@ -69,7 +66,7 @@ digits_printed : (t : Token) → 0 < length t → list_all is_ascii_digit t ≡ 
 unfolding is_printed
 digits_printed [] h k = absurd (omega arith)
 digits_printed (b ∷ bs) h k =
-    and_true (is_no_comment (b ∷ bs)) (list_all is_visible (b ∷ bs))
+    and_from (is_no_comment (b ∷ bs)) (list_all is_visible (b ∷ bs))
     (no_hash b (and_parts (is_ascii_digit b) (list_all is_ascii_digit bs) k).0) (all_of is_ascii_digit is_visible digit_visible (b ∷ bs) k)
 
 number_printed : (n : ℕ) → n < 2 ^ 64 → is_printed (decimal n) ≡ true
@@ -78,7 +75,7 @@ number_printed n h = digits_printed (decimal n) (decimal_nonempty n h) (digits_a
 number_spelled : (n : ℕ) → n < 2 ^ 64 → (is_number (decimal n) ≡ true) × (number_of (decimal n) ≡ n)
 unfolding is_number
 number_spelled n h = (
-  and_true (is_filled (decimal n)) (list_all is_ascii_digit (decimal n)) (filled_of (decimal n) (decimal_nonempty n h)) (digits_all n h),
+  and_from (is_filled (decimal n)) (list_all is_ascii_digit (decimal n)) (filled_of (decimal n) (decimal_nonempty n h)) (digits_all n h),
   (decimal_is_IsNumeral n h).1,
 )
 
@@ -96,7 +93,7 @@ name_printed [] h = absurd cc
 name_printed (b ∷ bs) h =
     let p = and_parts (begins_with_letter (b ∷ bs)) _ h in
     let q = and_parts (list_all is_name_byte (b ∷ bs)) _ p.1 in
-    and_true (is_no_comment (b ∷ bs)) (list_all is_visible (b ∷ bs))
+    and_from (is_no_comment (b ∷ bs)) (list_all is_visible (b ∷ bs))
     (letter_no_hash b (and_parts (is_name_byte b) (list_all is_name_byte bs) q.0).0)
     (all_of is_name_byte is_visible letter_visible (b ∷ bs) q.0)
 
@@ -130,12 +127,12 @@ parts_printed (p ∷ ps) f n r =
     let r' = and_parts (is_in_range p) (list_all is_in_range ps) r in
     let here = part_printed p f'.0 n'.0 r'.0 in
     let rest = parts_printed ps f'.1 n'.1 r'.1 in
-    (and_true (is_printed (token_of p)) (list_all is_printed (map token_of ps)) here.0 rest.0, (here.1, rest.1))
+    (and_from (is_printed (token_of p)) (list_all is_printed (map token_of ps)) here.0 rest.0, (here.1, rest.1))
 
 fit_append : (ps qs : List Part) → list_all is_fit ps ≡ true → list_all is_fit qs ≡ true → list_all is_fit (ps ++ qs) ≡ true
 fit_append [] qs h k = k
 fit_append (p ∷ ps) qs h k =
-    let q = and_parts (is_fit p) (list_all is_fit ps) h in and_true (is_fit p) (list_all is_fit (ps ++ qs)) q.0 (fit_append ps qs q.1 k)
+    let q = and_parts (is_fit p) (list_all is_fit ps) h in and_from (is_fit p) (list_all is_fit (ps ++ qs)) q.0 (fit_append ps qs q.1 k)
 
 fit_binary : (o : BinOp) → is_printed (binary_word o) ≡ true
 unfolding is_printed
@@ -176,7 +173,7 @@ fit_expr = by_cases Name Fit (record {
   var = λ x. rw (parts_Var x) refl;
   unary = fit_unary;
   binary = λ o a b h k. rw (parts_Binary o a b)
-      (and_true (is_printed (binary_word o)) (list_all is_fit (expr_parts a ++ expr_parts b)) (fit_binary o)
+      (and_from (is_printed (binary_word o)) (list_all is_fit (expr_parts a ++ expr_parts b)) (fit_binary o)
       (fit_append (expr_parts a) (expr_parts b) h k));
   sext = fit_sext;
   pick = fit_pick;
@@ -208,7 +205,7 @@ all_front : (test : Part → Bool) (ps qs : List Part) → list_all test (ps ++ 
 all_front test [] qs h = refl
 all_front test (p ∷ ps) qs h =
     let q = and_parts (test p) (list_all test (ps ++ qs)) h in
-    and_true (test p) (list_all test ps) q.0 (all_front test ps qs q.1)
+    and_from (test p) (list_all test ps) q.0 (all_front test ps qs q.1)
 
 -- what is written of a statement passes the tests that its parts pass
 module _ (version : ℕ) where

@@ -4,7 +4,7 @@ use Rattle.std.specs.Prelude.{◌&&◌, nat_le, filter, take_while}
 use Rattle.std.specs.List.{list_all, slice_split, join_with_byte, onto_first}
 use Rattle.std.proofs.lemmas.List.Splits.{slice_split-cons_yes, slice_split-cons_no}
 use Rattle.std.proofs.lemmas.List.Sums.{take_while-cons}
-use Rattle.std.proofs.lemmas.Bool.{and_parts}
+use Rattle.std.proofs.lemmas.Bool.{and_parts, and_from}
 use Rattle.std.proofs.lemmas.Bool.Decides.{nat_tests}
 use Rattle.flow_grammar.specs.Tokens.{Token, is_line_feed, is_separator, is_permitted, is_filled, is_no_comment, lines_of, tokens_of}
 use Rattle.report_text.specs.Lines.{text_of_lines}
@@ -54,13 +54,10 @@ is_visible b = nat_le 33 b && nat_le b 126
 unfoldable pub is_printed : Token → Bool
 is_printed t = is_filled t && (is_no_comment t && list_all is_visible t)
 
-and_true : (a b : Bool) → a ≡ true → b ≡ true → a && b ≡ true
-and_true a b h k = rw (h, k) refl
-
 pub all_of : (q r : ℕ → Bool) → ((b : ℕ) → q b ≡ true → r b ≡ true) → (bs : List ℕ) → list_all q bs ≡ true → list_all r bs ≡ true
 all_of q r step [] h = refl
 all_of q r step (b ∷ bs) h =
-    let parts = and_parts (q b) (list_all q bs) h in and_true (r b) (list_all r bs) (step b parts.0) (all_of q r step bs parts.1)
+    let parts = and_parts (q b) (list_all q bs) h in and_from (r b) (list_all r bs) (step b parts.0) (all_of q r step bs parts.1)
 
 visible_separates : (b : ℕ) → is_visible b ≡ true → is_other is_separator b ≡ true
 visible_separates b h = grind (arith, nat_tests)
@@ -81,12 +78,12 @@ tokens_bytes : (r : ℕ → Bool) → ((b : ℕ) → is_visible b ≡ true → r
 tokens_bytes r step [] h = refl
 tokens_bytes r step (t ∷ ts) h =
     let parts = and_parts (is_printed t) (list_all is_printed ts) h in
-    and_true (list_all r t) (list_all (list_all r) ts) (all_of is_visible r step t (token_bytes t parts.0)) (tokens_bytes r step ts parts.1)
+    and_from (list_all r t) (list_all (list_all r) ts) (all_of is_visible r step t (token_bytes t parts.0)) (tokens_bytes r step ts parts.1)
 
 all_append : (q : ℕ → Bool) (xs ys : List ℕ) → list_all q xs ≡ true → list_all q ys ≡ true → list_all q (xs ++ ys) ≡ true
 all_append q [] ys h k = k
 all_append q (x ∷ xs) ys h k =
-    let parts = and_parts (q x) (list_all q xs) h in and_true (q x) (list_all q (xs ++ ys)) parts.0 (all_append q xs ys parts.1 k)
+    let parts = and_parts (q x) (list_all q xs) h in and_from (q x) (list_all q (xs ++ ys)) parts.0 (all_append q xs ys parts.1 k)
 
 all_joined : (r : ℕ → Bool) → r 32 ≡ true → (ts : List Token) → list_all (list_all r) ts ≡ true → list_all r (join_with_byte 32 ts) ≡ true
 all_joined r e [] h = refl
@@ -94,7 +91,7 @@ all_joined r e (t ∷ []) h = (and_parts (list_all r t) true h).0
 all_joined r e (t ∷ u ∷ us) h =
     let parts = and_parts (list_all r t) (list_all (list_all r) (u ∷ us)) h in
     all_append r t (32 ∷ join_with_byte 32 (u ∷ us)) parts.0
-    (and_true (r 32) (list_all r (join_with_byte 32 (u ∷ us))) e (all_joined r e (u ∷ us) parts.1))
+    (and_from (r 32) (list_all r (join_with_byte 32 (u ∷ us))) e (all_joined r e (u ∷ us) parts.1))
 
 -- the bytes of a line of printed tokens may stand in a line
 pub line_permitted : (ts : List Token) → list_all is_printed ts ≡ true → list_all is_permitted (join_with_byte 32 ts) ≡ true

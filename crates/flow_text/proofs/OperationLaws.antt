@@ -30,14 +30,11 @@ use Rattle.flow_text.specs.declared.operations.TwoNames.{TwoNames}
 use Rattle.flow_text.specs.declared.operations.TwoNames.TheVariants as two
 use Rattle.flow_text.specs.Operations.{tested, tree_judged, trees_judged, op_judged, tree_reading, trees_reading, op_reading, tree_kept}
 use Rattle.flow_text.specs.Operations.{trees_kept, made, with_tree, store_op, op_of_names, named_op, is_variable}
+use Rattle.std.proofs.lemmas.Bool.{and_from}
 
 and_assoc : (a b c : Bool) → a && (b && c) ≡ (a && b) && c
 and_assoc true b c = refl
 and_assoc false b c = refl
-
-both_true : (a b : Bool) → a ≡ true → b ≡ true → a && b ≡ true
-both_true true b h k = k
-both_true false b h k = h
 
 and_true : (b : Bool) → b && true ≡ b
 and_true true = refl
@@ -263,7 +260,7 @@ module _ (t : Tables) where
         → op_reading t (if_then (is_name r && is_name m) (option_map (op.Load r m) (one_tree trees))) ≡ Ok result
     load_read r m register memory h i k n o l =
         one_read (op.Load r m) (op.Load register memory) (is_name r && is_name m) (is_variable t r && is_among t.memories m) (load_is r m)
-        (both_true (is_name r) (is_name m) h i) k (λ j. op.Load (n j) (o j)) l
+        (and_from (is_name r) (is_name m) h i) k (λ j. op.Load (n j) (o j)) l
 
     pub write_read : (f channel : Name) → is_name f ≡ true → known ≡ is_among t.channels f → channel ≡ f
         → result ≡ with_tree (op.Write channel) tree
@@ -278,7 +275,7 @@ module _ (t : Tables) where
     try_write_read f ok channel outcome h i k n o l =
         one_read (op.TryWrite f ok) (op.TryWrite channel outcome) (is_name f && is_name ok) (is_among t.channels f && is_variable t ok)
         (try_write_is f ok)
-        (both_true (is_name f) (is_name ok) h i) k (λ j. op.TryWrite (n j) (o j)) l
+        (and_from (is_name f) (is_name ok) h i) k (λ j. op.TryWrite (n j) (o j)) l
 
   module _ (known : Bool) (trees : Option Trees) (both : Result (Expr Name × Expr Name) Code) (result : Result (Op Name) Code)
       (read : trees_reading t known trees ≡ Ok both) where

@@ -4,7 +4,7 @@ use Rattle.std.proofs.Common.{arith, inl, inr}
 use Rattle.std.specs.Prelude.{◌⊎◌, ◌||◌, codes, decimal}
 use Rattle.std.specs.Fmt.{digits}
 use Rattle.std.specs.Str.{bytes_eq}
-use Rattle.std.proofs.lemmas.Bool.{false_from_ne_true, agree_below_at, cases_eq}
+use Rattle.std.proofs.lemmas.Bool.{false_from_ne_true, agree_below_at, cases_eq, or_right}
 use Rattle.std.proofs.lemmas.Slice.Eq.{bytes_eq-Decides}
 use Rattle.std.proofs.lemmas.Fmt.{decimal_injective}
 use Rattle.flow_gen.specs.Channel.{name_of}
@@ -44,10 +44,6 @@ name_itself n = (bytes_eq-Decides n n).1 refl
 abbrev pub channels_back : ℕ → List Name
 channels_back zero = codes "y" ∷ codes "a" ∷ []
 channels_back (suc n) = fifo (suc n) ∷ channels_back n
-
-or_right : (a b : Bool) → b ≡ true → a || b ≡ true
-or_right true b h = refl
-or_right false b h = h
 
 pub source_among : (n : ℕ) → is_among (channels_back n) (codes "a") ≡ true
 source_among zero = refl

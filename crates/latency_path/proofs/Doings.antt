@@ -1,5 +1,6 @@
 -- What a module does in a clock, and whether it moves.
-use Rattle.std.proofs.Common.{◌||◌, List, [], ◌∷◌, ◌≡◌, ℕ, suc, ◌<◌, Bool, true, false, not, ◌&&◌, cond, Option, Some, None, refl, sym, ◌∙◌, ap, arith, inl, inr, length}
+use Rattle.std.proofs.Common.{◌||◌, List, [], ◌∷◌, ◌≡◌, ℕ, suc, ◌<◌, Bool, true, false, not, ◌&&◌, cond, Option, Some, None, refl, sym}
+use Rattle.std.proofs.Common.{◌∙◌, ap, arith, inl, inr, length}
 use Rattle.std.specs.Prelude.{find, option_map}
 use Rattle.std.specs.List.{list_any}
 use Rattle.std.proofs.lemmas.Bool.{cases_lt}

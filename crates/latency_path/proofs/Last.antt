@@ -1,5 +1,6 @@
 -- The last clock in which a module moves.
-use Rattle.std.proofs.Common.{◌≡◌, ◌≢◌, ℕ, zero, suc, ◌+◌, ◌-◌, ◌<◌, ◌≤◌, Bool, true, false, cond, Option, Some, None, List, [], ◌∷◌, length, get_or, refl, sym, ◌∙◌, ap, subst, arith, inl, inr, ◌⊎◌}
+use Rattle.std.proofs.Common.{◌≡◌, ◌≢◌, ℕ, zero, suc, ◌+◌, ◌-◌, ◌<◌, ◌≤◌, Bool, true, false, cond, Option, Some, None, List, [], ◌∷◌}
+use Rattle.std.proofs.Common.{length, get_or, refl, sym, ◌∙◌, ap, subst, arith, inl, inr, ◌⊎◌}
 use Rattle.std.specs.Prelude.{find, fold}
 use Rattle.std.specs.List.{range_with_len}
 use Rattle.std.proofs.lemmas.Bool.{cases_Bool, cases_lt, cases_eq, le-leb, lt-leb}
@@ -110,7 +111,8 @@ moving_end_is p m end spans a = by_ends (moving_end spans) (ends_with spans list
           after = no_move_after p m end spans a s.until most;
         })
     by_ends e (inr (is, none)) =
-        subst (IsMovingEnd p m end) (sym is) (λ c l. no_move_after p m end spans a 0 (λ t n moving. absurd (none t n moving)) c (omega arith) l)
+        subst (IsMovingEnd p m end) (sym is) (λ c l. no_move_after p m end spans a 0 (λ t n moving. absurd (none t n moving)) c
+        (omega arith) l)
 
 -- ---- module after module
 

@@ -1,5 +1,6 @@
 -- A link of the chain, by the spans of its module.
-use Rattle.std.proofs.Common.{◌≡◌, ℕ, zero, suc, ◌+◌, ◌-◌, ◌<◌, ◌≤◌, true, false, Option, Some, None, List, get_or, refl, sym, ◌∙◌, ap, subst, arith, inl, inr}
+use Rattle.std.proofs.Common.{◌≡◌, ℕ, zero, suc, ◌+◌, ◌-◌, ◌<◌, ◌≤◌, true, false, Option, Some, None, List, get_or, refl, sym, ◌∙◌, ap}
+use Rattle.std.proofs.Common.{subst, arith, inl, inr}
 use Rattle.std.proofs.lemmas.Bool.{cases_Bool}
 use Rattle.std.proofs.lemmas.List.Elements.{Contains-get_or}
 use Rattle.flow_word.specs.declared.access.Port.{Port}
@@ -119,7 +120,8 @@ link_is p m end t x o l move e stood =
     let there = subst (λ (k : ℕ). moves_at p k m ≡ true) (sym e) start.moves in
     let still = subst (IsStill p m) (sym e) start.still in
     let crossed = by_start x still (stood (omega arith) there) in
-    (λ i. record { «module» = m; first = e i; last = t; crossed = crossed i }) ∙ ap (λ (k : ℕ). record { «module» = m; first = span_start p m t; last = t; crossed = stood_at p k m }) e
+    (λ i. record { «module» = m; first = e i; last = t; crossed = crossed i })
+    ∙ ap (λ (k : ℕ). record { «module» = m; first = span_start p m t; last = t; crossed = stood_at p k m }) e
   where
     by_start : (x : ℕ) → IsStill p m x → StoodBefore p m x o → o ≡ stood_at p x m
     by_start zero still h = h

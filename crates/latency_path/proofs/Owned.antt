@@ -35,7 +35,8 @@ pub before_pop : (p : Plan) (l : Link) (a : Port) (pushers : List ℕ) (delay : 
 before_pop p l a pushers delay e s inside known lag =
     let there = ap (λ (xs : List ℕ). slice_index xs a.channel) known ∙ owner_at p Push a.channel inside in
     (λ i. Some (record { «module» = there i; clock = l.first - lag i }))
-    ∙ (sym (ap (λ (o : Option Port). before_link p (record l { crossed = o })) (ap (λ (t : Side). Some (record { side = t; channel = a.channel })) s))
+    ∙ (sym (ap (λ (o : Option Port). before_link p (record l { crossed = o }))
+    (ap (λ (t : Side). Some (record { side = t; channel = a.channel })) s))
     ∙ sym (ap (λ (o : Option Port). before_link p (record l { crossed = o })) e))
 
 pub before_push : (p : Plan) (l : Link) (a : Port) (poppers : List ℕ) → l.crossed ≡ Some a → a.side ≡ Push
@@ -44,7 +45,8 @@ pub before_push : (p : Plan) (l : Link) (a : Port) (poppers : List ℕ) → l.cr
 before_push p l a poppers e s inside known =
     let there = ap (λ (xs : List ℕ). slice_index xs a.channel) known ∙ owner_at p Pop a.channel inside in
     (λ i. Some (record { «module» = there i; clock = l.first - 1 }))
-    ∙ (sym (ap (λ (o : Option Port). before_link p (record l { crossed = o })) (ap (λ (t : Side). Some (record { side = t; channel = a.channel })) s))
+    ∙ (sym (ap (λ (o : Option Port). before_link p (record l { crossed = o }))
+    (ap (λ (t : Side). Some (record { side = t; channel = a.channel })) s))
     ∙ sym (ap (λ (o : Option Port). before_link p (record l { crossed = o })) e))
 
 -- ---- the table
@@ -59,7 +61,8 @@ owners_more p side n found new o so_far added is =
     ∙ sym (map-range_with_len_more (λ f. owner p (record { side = side; channel = f })) 0 n n (omega arith))))
 
 -- the channel at a place
-pub channel_is : (all slice : List Channel) (f : ℕ) (d : Channel) → f < length all → slice ≡ all → get_or slice f d ≡ get_or all f no_channel
+pub channel_is : (all slice : List Channel) (f : ℕ) (d : Channel) → f < length all → slice ≡ all → get_or slice f d
+    ≡ get_or all f no_channel
 channel_is all slice f d l same = ap (λ (cs : List Channel). get_or cs f d) same ∙ get_or_default all f d no_channel l
 
 pub owner_is : (p : Plan) (a : Port) (modules : List Module) → modules ≡ p.design.modules → position_or_len (uses a) modules ≡ owner p a

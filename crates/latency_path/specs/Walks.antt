@@ -1,5 +1,6 @@
 -- The chain, link by link, and what spans tell of it.
-use Rattle.std.specs.Prelude.{◌≡◌, ⊤, ℕ, zero, suc, ◌-◌, ◌<◌, ◌≤◌, true, false, nat_le, if◌then◌else◌, Option, Some, None, option_map, List, [], All, AllPairs, Contains, fold, length, slice_index_or}
+use Rattle.std.specs.Prelude.{◌≡◌, ⊤, ℕ, zero, suc, ◌-◌, ◌<◌, ◌≤◌, true, false, nat_le, if◌then◌else◌, Option, Some, None, option_map}
+use Rattle.std.specs.Prelude.{List, [], All, AllPairs, Contains, fold, length, slice_index_or}
 use Rattle.flow_word.specs.declared.access.Port.{Port}
 use Rattle.flow_word.specs.Kinds.{other_side}
 use Rattle.flow_design.specs.declared.plan.Plan.{Plan}

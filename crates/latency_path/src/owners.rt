@@ -60,17 +60,5 @@ fn any_uses(ops: &[Timed], port: Port) -> bool
 fn is_at(op: &Op<u32>, port: Port) -> bool
     ensures { result ≡ is_port port (used_port op.now) }
 {
-    let used = match op {
-        Op::Read(channel, _) | Op::TryRead(channel, _, _) => Port {
-            side: Side::Pop,
-            channel: *channel,
-        },
-        Op::Write(channel, _) | Op::TryWrite(channel, _, _) => Port {
-            side: Side::Push,
-            channel: *channel,
-        },
-        Op::Set(_, _) | Op::Load(_, _, _) | Op::Store(_, _, _) => return false,
-        Op::Empty(_, _) | Op::Full(_, _) => return false,
-    };
-    used == port
+    op.used_port() == Some(port)
 }

@@ -16,7 +16,8 @@ use Rattle.least_depths.proofs.Least.{own_depths}
 below_digits : (k n : ℕ) → n ≤ k → n < 2 ^ digits k n
 below_digits zero n l = omega arith
 below_digits (suc k) zero l = omega arith
-below_digits (suc k) (suc n) l = let half = below_digits k (suc n / 2) (omega arith) in let twice = two-pow-succ (digits k (suc n / 2)) in omega arith
+below_digits (suc k) (suc n) l = let half = below_digits k (suc n / 2) (omega arith) in
+    let twice = two-pow-succ (digits k (suc n / 2)) in omega arith
 
 below_bits : (n : ℕ) → n < 2 ^ bits n
 unfolding bits
@@ -29,7 +30,8 @@ untouched_yet p clock zero f l = refl
 untouched_yet p clock (suc n) f l = elim (cases_Bool (is_fifo (kind_at p n))) [
   | inl e ↦
       let q = (lowered p clock n).plan in
-      rw e (get_or-set_other q.depths n f (least_for q clock n).number 0 (λ same. absurd (omega arith)) ∙ untouched_yet p clock n f (omega arith))
+      rw e (get_or-set_other q.depths n f (least_for q clock n).number 0 (λ same. absurd (omega arith))
+      ∙ untouched_yet p clock n f (omega arith))
   | inr e ↦ rw e (untouched_yet p clock n f (omega arith))
 ]
 

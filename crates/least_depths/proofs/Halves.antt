@@ -25,7 +25,8 @@ halved_upper fits n lo hi l e = rw (lt-ltb lo hi l) (rw e refl)
 module _ (fits : ℕ → Bool) (P : ℕ → ℕ → Found → Type 0)
     (none : (lo : ℕ) → P lo lo (untried lo))
     (lower : (lo hi : ℕ) (x : Found) → lo < hi → fits (middle lo hi) ≡ true → P lo (middle lo hi) x → P lo hi (tried_one_more x))
-    (upper : (lo hi : ℕ) (x : Found) → lo < hi → fits (middle lo hi) ≡ false → P (suc (middle lo hi)) hi x → P lo hi (tried_one_more x)) where
+    (upper : (lo hi : ℕ) (x : Found) → lo < hi → fits (middle lo hi) ≡ false → P (suc (middle lo hi)) hi x
+    → P lo hi (tried_one_more x)) where
   at_end : (n lo hi : ℕ) → lo ≤ hi → hi ≤ lo → P lo hi (halved fits n lo hi)
   at_end n lo hi l done = let same : hi ≡ lo = omega arith in rw (halved_none fits n lo hi done) (rw same (none lo))
 
@@ -35,7 +36,8 @@ module _ (fits : ℕ → Bool) (P : ℕ → ℕ → Found → Type 0)
     | inr done ↦ at_end (suc n) lo hi l done
     | inl here ↦ elim (cases_Bool (fits (middle lo hi))) [
       | inl e ↦ rw (halved_lower fits n lo hi here e) (lower lo hi _ here e (by_halves n lo (middle lo hi) (omega arith) (omega arith)))
-      | inr e ↦ rw (halved_upper fits n lo hi here e) (upper lo hi _ here e (by_halves n (suc (middle lo hi)) hi (omega arith) (omega arith)))
+      | inr e ↦ rw (halved_upper fits n lo hi here e) (upper lo hi _ here e
+          (by_halves n (suc (middle lo hi)) hi (omega arith) (omega arith)))
     ]
   ]
 
@@ -83,7 +85,8 @@ few_tries fits = by_halves fits (λ lo hi x. (k : ℕ) → hi - lo < 2 ^ k → x
     more_tries lo hi rest x l half h (suc k) m = let less = h k (omega arith) in omega arith
 
 -- the number of tries that are left does not matter, if it is enough
-pub enough_tries : (fits : ℕ → Bool) (n lo hi : ℕ) → lo ≤ hi → hi ≤ lo + n → (m : ℕ) → hi ≤ lo + m → halved fits m lo hi ≡ halved fits n lo hi
+pub enough_tries : (fits : ℕ → Bool) (n lo hi : ℕ) → lo ≤ hi → hi ≤ lo + n → (m : ℕ) → hi ≤ lo + m → halved fits m lo hi
+    ≡ halved fits n lo hi
 enough_tries fits = by_halves fits (λ lo hi x. (m : ℕ) → hi ≤ lo + m → halved fits m lo hi ≡ x)
     (λ lo m l. halved_none fits m lo lo (omega arith))
     (λ lo hi x l e h m. by_lower lo hi x l e h m)
@@ -115,7 +118,8 @@ pub upper_half : (fits : ℕ → Bool) (lo hi : ℕ) → lo < hi → fits (middl
 upper_half fits lo hi l e =
     let more : hi - lo ≡ suc (hi - lo - 1) = omega arith in
     ap (λ (n : ℕ). halved fits n lo hi) more ∙ (halved_upper fits (hi - lo - 1) lo hi l e
-    ∙ ap tried_one_more (enough_tries fits (hi - suc (middle lo hi)) (suc (middle lo hi)) hi (omega arith) (omega arith) (hi - lo - 1) (omega arith)))
+    ∙ ap tried_one_more (enough_tries fits (hi - suc (middle lo hi)) (suc (middle lo hi)) hi (omega arith) (omega arith) (hi - lo - 1)
+    (omega arith)))
 
 pub none_left : (fits : ℕ → Bool) (n lo hi : ℕ) → hi ≤ lo → halved fits n lo hi ≡ untried lo
 none_left = halved_none

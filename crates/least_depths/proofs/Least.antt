@@ -56,7 +56,8 @@ in_time_more : (p : Plan) → FitsEngine p → AsksNothing p → (ds : List ℕ)
     → is_in_time (with_depths p ds) clock f b ≡ true
 in_time_more p h none ds x f e clock a b low l high t =
     done_by_test clock (verdict (with_depths p (slice_set ds f b)))
-    (no_later p h none (slice_set ds f a) (slice_set ds f b) (set_depths p ds f a x e low (omega arith)) (set_depths p ds f b x e (omega arith) high)
+    (no_later p h none (slice_set ds f a) (slice_set ds f b) (set_depths p ds f a x e low (omega arith))
+    (set_depths p ds f b x e (omega arith) high)
     (set_deeper p ds ds f a b x x e (λ g k. omega arith) l) clock
     (test_done_by clock (verdict (with_depths p (slice_set ds f a))) t))
 
@@ -172,16 +173,17 @@ lowered_first p h clock (suc n) =
 -- lower depths that are done in time are these
 pub none_lower : (p : Plan) → FitsEngine p → AsksNothing p → (clock : ℕ) (ds : List ℕ) → AreDepths p ds
     → HasNoneBelow p clock (length p.design.channels) ds → AreLeast p clock ds
-none_lower p h none clock ds a least es b less done = ext_get_or 0 es ds (b.count ∙ sym a.count) (λ f l. elim (cases_Bool (is_fifo (kind_at p f))) [
-  | inr source ↦ b.others f source ∙ sym (a.others f source)
-  | inl e ↦ elim (cases_lt (slice_index es f) (slice_index ds f)) [
-    | inr as_deep ↦ let lower = less f e in omega arith
-    | inl below ↦
-        let low = b.least f e in
-        let most = b.most f e in
-        absurd (least f (fifo_inside p f e) e (slice_index es f) low below
-        (no_later p h none es (slice_set ds f (slice_index es f)) b (set_depths p ds f (slice_index es f) a e low most)
-        (subst (λ (fs : List ℕ). AreDeeper p fs (slice_set ds f (slice_index es f))) (set-get_or es f 0)
-        (set_deeper p es ds f (slice_index es f) (slice_index es f) b a e less (omega arith))) clock done))
-  ]
-])
+none_lower p h none clock ds a least es b less done = ext_get_or 0 es ds (b.count ∙ sym a.count)
+    (λ f l. elim (cases_Bool (is_fifo (kind_at p f))) [
+      | inr source ↦ b.others f source ∙ sym (a.others f source)
+      | inl e ↦ elim (cases_lt (slice_index es f) (slice_index ds f)) [
+        | inr as_deep ↦ let lower = less f e in omega arith
+        | inl below ↦
+            let low = b.least f e in
+            let most = b.most f e in
+            absurd (least f (fifo_inside p f e) e (slice_index es f) low below
+            (no_later p h none es (slice_set ds f (slice_index es f)) b (set_depths p ds f (slice_index es f) a e low most)
+            (subst (λ (fs : List ℕ). AreDeeper p fs (slice_set ds f (slice_index es f))) (set-get_or es f 0)
+            (set_deeper p es ds f (slice_index es f) (slice_index es f) b a e less (omega arith))) clock done))
+      ]
+    ])

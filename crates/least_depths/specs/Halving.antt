@@ -16,7 +16,8 @@ tried_one_more found = record { number = found.number; tries = suc found.tries }
 abbrev pub middle : ℕ → ℕ → ℕ
 middle lo hi = (lo + hi) / 2
 
--- from lo to hi, by so many tries at most: where the middle fits, halving goes on from lo to the middle, and else from the next number to hi
+-- from lo to hi, by so many tries at most: where the middle fits, halving goes on from lo to the middle, and else from the
+-- next number to hi
 unfoldable pub halved : (ℕ → Bool) → ℕ → ℕ → ℕ → Found
 halved fits zero lo hi = untried lo
 halved fits (suc n) lo hi =

@@ -6,7 +6,6 @@ ghost use Rattle.flow_design.specs.StaticRules.{FitsEngine};
 ghost use Rattle.least_depths.specs.Lowering.{is_done_by, is_in_time, least_for, lowered};
 
 use depth_session::{DepthSession, Runner};
-use fifo_fills::is_fifo as is_fifo_kind;
 use flow_design::{Edit, Verdict};
 use flow_word::OutOfMemory;
 use std::alloc::Global;
@@ -46,7 +45,9 @@ fn is_fifo(session: &DepthSession, channel: u64) -> bool
     requires { channel < length session.now.plan.design.channels }
     ensures { result ≡ is_fifo (kind_at session.now.plan channel) }
 {
-    is_fifo_kind(session.plan().design.channels.as_slice()[channel as usize].kind)
+    session.plan().design.channels.as_slice()[channel as usize]
+        .kind
+        .is_fifo()
 }
 
 /// Lowers the depth of one FIFO to what halving finds. How many depths were tried.

@@ -15,7 +15,8 @@ ghost use Rattle.least_depths.specs.Lowering.{lowered, AreLeast, all_bits};
 pub fn lowered_depths_are_least()
     ensures depths { (p : Plan) → FitsEngine p → (clock n : ℕ) → AreDepths p (lowered p clock n).plan.depths }
     ensures lower { (p : Plan) → FitsEngine p → (clock n : ℕ) → AreDeeper p (lowered p clock n).plan.depths p.depths }
-    ensures in_time { (p : Plan) → FitsEngine p → (clock n : ℕ) → verdict p ≡ Done clock → IsDoneBy clock (verdict (lowered p clock n).plan) }
+    ensures in_time { (p : Plan) → FitsEngine p → (clock n : ℕ) → verdict p ≡ Done clock
+        → IsDoneBy clock (verdict (lowered p clock n).plan) }
     ensures least { (p : Plan) → FitsEngine p → AsksNothing p → (clock : ℕ)
         → AreLeast p clock (lowered p clock (length p.design.channels)).plan.depths }
     ensures few { (p : Plan) → FitsEngine p → (clock : ℕ) → (lowered p clock (length p.design.channels)).tries ≤ all_bits p.depths }

@@ -12,7 +12,8 @@ use Rattle.flow_design.specs.declared.report.Verdict.TheVariants.{Done, Deadlock
 use Rattle.flow_design.specs.declared.state.ClockState.{ClockState}
 use Rattle.lockstep_defs.specs.Channels.{HistoryStep}
 use Rattle.lockstep_defs.specs.Lockstep.{clock_step, steps_in, opening, moment, state, history}
-use Rattle.lockstep_defs.specs.Verdict.{is_settled, settled_verdict, verdict, clock_of, held}
+use Rattle.lockstep_defs.specs.Verdict.{is_settled, settled_verdict, verdict, held}
+use Rattle.flow_design.specs.Reports.{clock_of}
 use Rattle.lockstep_defs.specs.Report.{steps_of, outcomes, events_of, outputs_in, answers_in, report_with, report_at, report}
 use Rattle.lockstep_defs.proofs.Settled.{state-suc, history-suc}
 use Rattle.lockstep_defs.specs.Laws.{NoneBefore}

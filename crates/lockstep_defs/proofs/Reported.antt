@@ -25,7 +25,8 @@ use Rattle.lockstep_defs.specs.Lockstep.{requests_of, numbered, moves, answered,
 use Rattle.lockstep_defs.specs.Machine.{is_over}
 use Rattle.lockstep_defs.specs.Report.{steps_of, outcomes, sinks, event_of, events_of, report}
 use Rattle.lockstep_defs.specs.Laws.{HasNumbersOf}
-use Rattle.lockstep_defs.specs.Verdict.{held_at, held_by, held_in, held, verdict, clock_of}
+use Rattle.lockstep_defs.specs.Verdict.{held_at, held_by, held_in, held, verdict}
+use Rattle.flow_design.specs.Reports.{clock_of}
 use Rattle.lockstep_defs.proofs.Agrees.{all_modules}
 use Rattle.lockstep_defs.proofs.Queue.{all-append}
 use Rattle.lockstep_defs.proofs.Settled.{history-zero, history-suc}

@@ -1,7 +1,7 @@
 -- Quiet clocks end.
-use Rattle.std.proofs.Common.{◌≡◌, ℕ, zero, suc, ◌+◌, ◌*◌, ◌-◌, ◌≤◌, ◌<◌, List, [], ◌∷◌, length, Bool, true, false, ◌||◌, refl, sym, ap}
+use Rattle.std.proofs.Common.{◌≡◌, ℕ, zero, suc, ◌+◌, ◌*◌, ◌-◌, ◌≤◌, ◌<◌, List, [], ◌∷◌, length, Bool, true, false, refl, sym, ap}
 use Rattle.std.proofs.Common.{subst, arith, ◌∙◌, zero-add, add-zero, suc-add, ◌⊎◌, inl, inr, mul-le-mul_right, suc-mul}
-use Rattle.std.proofs.lemmas.Bool.{cases_Bool, or_parts}
+use Rattle.std.proofs.lemmas.Bool.{cases_Bool, or_parts, or_left}
 use Rattle.flow_design.specs.declared.design.BlockKind.{BlockKind}
 use Rattle.flow_design.specs.declared.design.BlockKind.TheVariants.{Plain, Loop}
 use Rattle.flow_design.specs.declared.design.Block.{Block}
@@ -101,13 +101,9 @@ idle p i (suc n) s j h = by_test (idle p i n (move (module_at p i) s [])) (cases
         let q = below_goes p i n s e in
         subst (λ (z : ModuleState). rests p i z ≡ false) (sym (skip_front p i j s)) (rest j (omega arith))
 
-or_one : (a b : Bool) → a ≡ true → (a || b) ≡ true
-or_one true b h = refl
-or_one false b h = cc
-
 over_rests : (p : Plan) (i : ℕ) (s : ModuleState) → s.ended ≡ true → rests p i s ≡ true
 unfolding is_over
-over_rests p i s h = or_one _ _ (or_one s.ended _ h)
+over_rests p i s h = or_left _ _ (or_left s.ended _ h)
 
 reaches : (p : Plan) → FitsEngine p → (i n : ℕ) (s : ModuleState) → fits p i s ≡ true → ((rests p i s ≡ true) ⊎ (measure p i s < n))
     → rests p i (skip p i (quiet_below p i n s) s) ≡ true

@@ -11,7 +11,8 @@ use Rattle.lockstep_defs.specs.Machine.{is_yes}
 use Rattle.flow_word.specs.Kinds.{is_blocking}
 use Rattle.lockstep_defs.specs.Channels.{HistoryStep, Exchange, values, contents_of}
 use Rattle.lockstep_defs.specs.Lockstep.{state, history}
-use Rattle.lockstep_defs.specs.Verdict.{verdict, held, clock_of}
+use Rattle.lockstep_defs.specs.Verdict.{verdict, held}
+use Rattle.flow_design.specs.Reports.{clock_of}
 
 -- the steps of one module
 abbrev pub steps_of : ℕ → List HistoryStep → List HistoryStep

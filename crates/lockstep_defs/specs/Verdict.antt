@@ -48,12 +48,6 @@ verdict_at p (Some clock) = settled_verdict p clock (state p clock)
 unfoldable pub verdict : Plan → Verdict
 verdict p = verdict_at p (first_settled p (suc p.cycles) 0 (state p 0))
 
-abbrev pub clock_of : Verdict → ℕ
-clock_of (Done clock) = clock
-clock_of (Deadlock clock) = clock
-clock_of (Cycles clock) = clock
-clock_of (Ops clock) = clock
-
 -- ---- held modules
 
 abbrev pub held_at : ℕ → Request → Held

@@ -9,7 +9,8 @@ use Rattle.flow_design.specs.declared.report.EventLine.{EventLine}
 use Rattle.lockstep_defs.specs.Channels.{HistoryStep, Exchange}
 use Rattle.lockstep_defs.specs.Lockstep.{history}
 use Rattle.lockstep_defs.specs.Report.{event_of, events_of, report}
-use Rattle.lockstep_defs.specs.Verdict.{verdict, clock_of}
+use Rattle.lockstep_defs.specs.Verdict.{verdict}
+use Rattle.flow_design.specs.Reports.{clock_of}
 use Rattle.lockstep_defs.specs.Laws.{HasNumbersOf}
 use Rattle.sim_core.specs.declared.access_log.LoggedAccess.{LoggedAccess}
 use Rattle.sim_core.specs.AccessLog.{log_of, logged, logged_in}
@@ -27,7 +28,8 @@ events (s ∷ steps) =
     ∙ ap₂ (λ (xs ys : List EventLine). xs ++ ys) (step_events s s.exchanges) (events steps)
 
 named : (design : Design) (log : List LoggedAccess)
-    → All (λ (e : EventLine). (e.module < length design.modules) × (e.channel < length design.channels)) (map (λ (a : LoggedAccess). a.event) log)
+    → All (λ (e : EventLine). (e.module < length design.modules) × (e.channel < length design.channels))
+    (map (λ (a : LoggedAccess). a.event) log)
     → All (IsNamed design) log
 named design [] h = All-nil (IsNamed design)
 named design (a ∷ log) h =
@@ -37,5 +39,6 @@ pub all_named : (p : Plan) → HasNumbersOf p (report p) → All (IsNamed p.desi
 unfolding report log_of
 all_named p h =
     let steps = history p (clock_of (verdict p)) in
-    named p.design (logged_in steps) (subst (All (λ (e : EventLine). (e.module < length p.design.modules) × (e.channel < length p.design.channels)))
+    named p.design (logged_in steps) (subst (All (λ (e : EventLine). (e.module < length p.design.modules)
+    × (e.channel < length p.design.channels)))
     (sym (events steps)) h.events)

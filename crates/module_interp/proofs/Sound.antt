@@ -35,7 +35,7 @@ use Rattle.module_interp.proofs.Timing.{module_sound}
 
 -- ---- marks
 
-gap_at : (p : Plan) (i : ℕ) (o : Own) → gap_of (mark_at p i o) ≡ o.since
+pub gap_at : (p : Plan) (i : ℕ) (o : Own) → gap_of (mark_at p i o) ≡ o.since
 gap_at p i o =
     cond_both o.state.ended (Ended o.since) _ (λ (m : Advance). gap_of m ≡ o.since) (λ e. refl)
     (λ e. cond_both (is_spent p.ops o.state) (Spent o.since) _ (λ (m : Advance). gap_of m ≡ o.since) (λ f. refl) (λ f. refl))

@@ -1,6 +1,5 @@
 -- Sources and FIFOs are channels.
-use Rattle.std.proofs.Common.{◌≡◌, ℕ, List, [], ◌∷◌, Bool, true, false, Option, None, Some, refl, nat_eq}
-use Rattle.std.specs.Prelude.{◌||◌}
+use Rattle.std.proofs.Common.{◌≡◌, ℕ, List, [], ◌∷◌, false, Option, None, Some, refl, nat_eq}
 use Rattle.std.specs.List.{filter_map}
 use Rattle.std.specs.Cmp.Lexicographic.{pointwise}
 use Rattle.flow_design.specs.declared.session.Statement.{Statement}
@@ -9,6 +8,7 @@ use Rattle.flow_design.specs.declared.session.Statement.TheVariants.{Goto, Branc
 use Rattle.flow_grammar.specs.Before.{channel_name, source_name, fifo_name, channels, is_among}
 use Rattle.name_tables.specs.declared.tables.Tables.{Tables}
 use Rattle.name_tables.specs.TablesOf.{tables_of, IsOfStatements}
+use Rattle.std.proofs.lemmas.Bool.{or_parts}
 
 abbrev Name : Type 0
 Name = List ℕ
@@ -57,21 +57,16 @@ fifos_are (Limits c o) n e = absurd cc
 fifos_are (Depth m d) n e = absurd cc
 fifos_are End n e = absurd cc
 
-or_none : (a b : Bool) → a || b ≡ false → (a ≡ false) × (b ≡ false)
-or_none false false h = (refl, refl)
-or_none false true h = absurd cc
-or_none true b h = absurd cc
-
 module _ (part : Statement → Option Name) (are : IsPart part) where
   absent_cons : (s : Statement) (earlier : List Statement) (n : Name) (p c : Option Name) → part s ≡ p → channel_name s ≡ c
       → (is_among (channels earlier) n ≡ false → is_among (filter_map part earlier) n ≡ false)
       → is_among (channels (s ∷ earlier)) n ≡ false → is_among (filter_map part (s ∷ earlier)) n ≡ false
   absent_cons s earlier n None None e k rest h = rw e (rest (rw k at h))
   absent_cons s earlier n None (Some m) e k rest h =
-      rw e (rest ((or_none (pointwise nat_eq n m) (is_among (channels earlier) n) (rw k at h)).1))
+      rw e (rest ((or_parts (pointwise nat_eq n m) (is_among (channels earlier) n) (rw k at h)).1))
   absent_cons s earlier n (Some l) c e k rest h =
       let same : channel_name s ≡ Some l = are s l e in
-      let both = or_none (pointwise nat_eq n l) (is_among (channels earlier) n) (rw same at h) in
+      let both = or_parts (pointwise nat_eq n l) (is_among (channels earlier) n) (rw same at h) in
       rw (e, both.0) (rest both.1)
 
   absent : (earlier : List Statement) (n : Name) → is_among (channels earlier) n ≡ false → is_among (filter_map part earlier) n ≡ false

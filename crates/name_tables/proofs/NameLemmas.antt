@@ -5,6 +5,7 @@ use Rattle.std.specs.Prelude.{◌||◌, if◌then◌else◌, reverse}
 use Rattle.std.specs.List.{list_any}
 use Rattle.std.specs.Cmp.Lexicographic.{pointwise}
 use Rattle.flow_grammar.specs.Before.{is_among}
+use Rattle.std.proofs.lemmas.Bool.{or_parts}
 
 or_assoc : (a b c : Bool) → (a || b) || c ≡ a || (b || c)
 or_assoc true b c = refl
@@ -29,14 +30,9 @@ among_reverse (x ∷ xs) n =
     ap (λ (ys : List (List ℕ)). is_among ys n) (reverse-append (x ∷ []) xs) ∙ among_append (reverse xs) (x ∷ []) n
     ∙ or_swap (is_among (reverse xs) n) (pointwise nat_eq n x) ∙ ap (λ (b : Bool). pointwise nat_eq n x || b) (among_reverse xs n)
 
-or_none : (a b : Bool) → a || b ≡ false → (a ≡ false) × (b ≡ false)
-or_none false false h = (refl, refl)
-or_none false true h = absurd cc
-or_none true b h = absurd cc
-
 -- a name in neither of two tables
 pub absent_append : (xs ys : List (List ℕ)) (n : List ℕ) → is_among (xs ++ ys) n ≡ false → (is_among xs n ≡ false) × (is_among ys n ≡ false)
-absent_append xs ys n h = or_none (is_among xs n) (is_among ys n) (sym (among_append xs ys n) ∙ h)
+absent_append xs ys n h = or_parts (is_among xs n) (is_among ys n) (sym (among_append xs ys n) ∙ h)
 
 module _ {A : Type 0} (f : A → List ℕ) where
   among_keys : (keys : List A) (n : List ℕ) → list_any (λ k. pointwise nat_eq n (f k)) keys ≡ is_among (map f keys) n

@@ -1,34 +1,14 @@
 -- Lines that grow.
 use Rattle.std.proofs.Common.{◌≡◌, ℕ, zero, suc, ◌+◌, ◌<◌, List, [], ◌∷◌, ◌++◌, refl, sym, ap, ap₂, ◌∙◌, arith, length}
-use Rattle.std.proofs.Common.{append_assoc, zero-add, add-one}
+use Rattle.std.proofs.Common.{append_assoc}
 use Rattle.std.specs.List.{flat_map, range_with_len}
-use Rattle.std.proofs.lemmas.List.{append-nil}
-use Rattle.std.proofs.lemmas.List.Concat.{flat_map-append}
-use Rattle.timing_bridge.proofs.Steps.{range_more}
 use Rattle.flow_word.specs.declared.access.Side.{Side}
 use Rattle.flow_word.specs.declared.access.Side.TheVariants.{Pop, Push}
 use Rattle.flow_design.specs.declared.design.Design.{Design}
 use Rattle.report_text.specs.Lines.{Token, line, text_of_lines}
 use Rattle.report_text.specs.ReportText.{module_name, channel_name}
 use Rattle.path_text.specs.PathText.{spend_lines, cross_lines, module_lines, channel_lines}
-
-pub text-append : (xs ys : List (List Token)) → text_of_lines (xs ++ ys) ≡ text_of_lines xs ++ text_of_lines ys
-text-append xs ys = flat_map-append line xs ys
-
--- the lines of one number more
-pub numbers_more : (g : ℕ → List (List Token)) (n : ℕ) (first text next : List ℕ)
-    → text ≡ first ++ text_of_lines (flat_map g (range_with_len 0 n)) → next ≡ text ++ text_of_lines (g n)
-    → next ≡ first ++ text_of_lines (flat_map g (range_with_len 0 (n + 1)))
-numbers_more g n first text next e r =
-    let more : range_with_len 0 (n + 1) ≡ range_with_len 0 n ++ n ∷ [] =
-    ap (range_with_len 0) (add-one n) ∙ (range_more 0 n ∙ ap (λ (k : ℕ). range_with_len 0 n ++ k ∷ []) (zero-add n)) in
-    r ∙ (ap (λ (t : List ℕ). t ++ text_of_lines (g n)) e
-    ∙ (append_assoc first (text_of_lines (flat_map g (range_with_len 0 n))) (text_of_lines (g n))
-    ∙ ap (λ (t : List ℕ). first ++ t)
-    (sym (text-append (flat_map g (range_with_len 0 n)) (g n))
-    ∙ (ap text_of_lines (sym (flat_map-append g (range_with_len 0 n) (n ∷ [])
-    ∙ ap (λ (l : List (List Token)). flat_map g (range_with_len 0 n) ++ l) (append-nil (g n))))
-    ∙ ap (λ (l : List ℕ). text_of_lines (flat_map g l)) (sym more)))))
+use Rattle.report_text.proofs.LineLemmas.{text-append}
 
 -- two groups of lines
 pub two_groups : (first text next : List ℕ) (xs ys : List (List Token)) → text ≡ first ++ text_of_lines xs

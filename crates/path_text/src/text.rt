@@ -1,6 +1,7 @@
 //! The text of a core's plan.
 ghost use Rattle.std.specs.Prelude.{◌≡◌, ◌++◌, ◌<◌, ◌^◌, IfOk, OnOk, length, sum_by};
-ghost use Rattle.lockstep_defs.specs.Verdict.{clock_of as clock_in, verdict as verdict_of};
+ghost use Rattle.lockstep_defs.specs.Verdict.{verdict as verdict_of};
+ghost use Rattle.flow_design.specs.Reports.{clock_of as clock_in};
 ghost use Rattle.event_timing.specs.Actions.{IsFinal};
 ghost use Rattle.timing_bridge.specs.Designs.{design as design_of};
 ghost use Rattle.sim_core.specs.Views.{theory_of};
@@ -13,7 +14,7 @@ ghost use Rattle.path_text.specs.PathText as form;
 use crate::counts::{clocks_by_module, crossings_by_channel};
 use crate::lines::{print_channels, print_links, print_modules};
 use depth_order::Link;
-use flow_design::{Design, Verdict};
+use flow_design::Design;
 use flow_word::{List, OutOfMemory, Side};
 use latency_path::find_path;
 use report_text::print_verdict;
@@ -33,25 +34,13 @@ pub fn path_text(alloc: Global, core: &Core, events: bool) -> Result<List<u8>, O
     let modules = core.modules();
     let report = core.report(alloc, false)?;
     let verdict = report.verdict;
-    let spans = all_spans(alloc, core, modules, clock_of(verdict))?;
+    let spans = all_spans(alloc, core, modules, verdict.clock())?;
     let links = find_path(alloc, core.plan(), spans.as_slice())?;
     let mut text = List::from_slice(alloc, b"path\n")?;
     print_verdict(&mut text, verdict)?;
     print_counts(alloc, &mut text, &core.plan().design, links.as_slice())?;
     print_links(&mut text, &core.plan().design, events, links.as_slice())?;
     Ok(text)
-}
-
-/// The clock of a verdict.
-fn clock_of(verdict: Verdict) -> u64
-    ensures { result ≡ clock_in verdict }
-{
-    match verdict {
-        Verdict::Done(clock)
-        | Verdict::Deadlock(clock)
-        | Verdict::Cycles(clock)
-        | Verdict::Ops(clock) => clock,
-    }
 }
 
 /// The spans of each module below the clock of the plan's verdict.

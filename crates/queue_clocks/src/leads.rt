@@ -1,5 +1,6 @@
 //! Lists of clocks that rise, and by how many one is ahead of the other.
-ghost use Rattle.std.specs.Prelude.{◌≡◌, ◌+◌, ◌-◌, ◌<◌, ◌≤◌, ◌^◌, ℕ, true, max, length, slice_get, option_map, unwrap_or, nat_lt, All, AllPairs};
+ghost use Rattle.std.specs.Prelude.{◌≡◌, ◌+◌, ◌-◌, ◌<◌, ◌≤◌, ◌^◌, ℕ, true, max, length, slice_get, option_map, unwrap_or, nat_lt, All};
+ghost use Rattle.std.specs.Prelude.{AllPairs};
 ghost use Rattle.queue_clocks.specs.Leads as counts;
 
 /// In how many clocks below `clock` at least `margin` more of the first clocks are before it than of the second.

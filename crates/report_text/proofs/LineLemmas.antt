@@ -1,12 +1,14 @@
 -- Lines and numbers one after another.
 use Rattle.std.proofs.Common.{◌≡◌, ℕ, ◌+◌, ◌<◌, List, [], ◌∷◌, ◌++◌, length, map, take, get_or, ap, sym, ◌≤◌, ◌∙◌, append-nil, length-take}
-use Rattle.std.proofs.Common.{take-take, arith}
+use Rattle.std.proofs.Common.{append_assoc, take-take, arith}
 use Rattle.std.proofs.lemmas.Grind.{common_steps}
 use Rattle.std.specs.Fmt.{decimal}
-use Rattle.std.specs.List.{join_with_byte}
+use Rattle.std.specs.List.{flat_map, join_with_byte, range_with_len}
 use Rattle.std.specs.Io.{StartsWith}
 use Rattle.std.proofs.Math.Seq.{take-append_seam}
 use Rattle.std.proofs.lemmas.List.{map_more, take_more, flat_map_more}
+use Rattle.std.proofs.lemmas.List.Concat.{flat_map-append}
+use Rattle.flow_word.proofs.Ranges.{range_last}
 use Rattle.report_text.specs.Lines.{Token, line, text_of_lines, spaced}
 
 -- the lines of the items before one, and that one's line
@@ -57,3 +59,21 @@ pub all_parts : (text : List ℕ) (a b : List Token) (xs ys zs : List (List Toke
     → ((((text ++ line a) ++ line b) ++ text_of_lines xs) ++ text_of_lines ys) ++ text_of_lines zs
     ≡ text ++ text_of_lines (a ∷ b ∷ xs ++ ys ++ zs)
 all_parts text a b xs ys zs = grind (arith, common_steps)
+
+-- ---- lists of lines
+
+pub text-append : (xs ys : List (List Token)) → text_of_lines (xs ++ ys) ≡ text_of_lines xs ++ text_of_lines ys
+text-append xs ys = flat_map-append line xs ys
+
+-- the lines of one number more
+pub numbers_more : (g : ℕ → List (List Token)) (n : ℕ) (first text next : List ℕ)
+    → text ≡ first ++ text_of_lines (flat_map g (range_with_len 0 n)) → next ≡ text ++ text_of_lines (g n)
+    → next ≡ first ++ text_of_lines (flat_map g (range_with_len 0 (n + 1)))
+numbers_more g n first text next e r =
+    r ∙ (ap (λ (t : List ℕ). t ++ text_of_lines (g n)) e
+    ∙ (append_assoc first (text_of_lines (flat_map g (range_with_len 0 n))) (text_of_lines (g n))
+    ∙ ap (λ (t : List ℕ). first ++ t)
+    (sym (text-append (flat_map g (range_with_len 0 n)) (g n))
+    ∙ (ap text_of_lines (sym (flat_map-append g (range_with_len 0 n) (n ∷ [])
+    ∙ ap (λ (l : List (List Token)). flat_map g (range_with_len 0 n) ++ l) (append-nil (g n))))
+    ∙ ap (λ (l : List ℕ). text_of_lines (flat_map g l)) (sym (range_last n))))))

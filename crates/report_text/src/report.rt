@@ -40,13 +40,6 @@ fn tells_held(verdict: Verdict) -> bool
     matches!(verdict, Verdict::Deadlock(_) | Verdict::Ops(_))
 }
 
-/// Whether a channel is a sink.
-fn is_sink(kind: ChannelKind) -> bool
-    ensures { result ≡ is_sink kind }
-{
-    matches!(kind, ChannelKind::Sink)
-}
-
 /// Adds a line for each sink.
 #[tactic(auto, using(crate::proofs::OutputLemmas::has_output, crate::proofs::OutputLemmas::passed_more, crate::proofs::OutputLemmas::printed_more, crate::proofs::LineLemmas::still_starts))]
 fn print_outputs(
@@ -60,7 +53,7 @@ fn print_outputs(
 {
     let mut at = 0;
     for channel in channels {
-        if is_sink(channel.kind) {
+        if channel.kind.is_sink() {
             print_output(text, channel.name.bytes(), outputs[at].as_slice())?;
             at += 1;
         }

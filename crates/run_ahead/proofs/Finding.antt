@@ -136,7 +136,7 @@ replies_fit mail told taken (a ∷ xs) qs e =
 
 -- ---- what is left
 
-none_at : (n c : ℕ) → ◌≡◌ {A = ℕ} (get_or (replicate n 0) c 0) 0
+pub none_at : (n c : ℕ) → ◌≡◌ {A = ℕ} (get_or (replicate n 0) c 0) 0
 none_at zero zero = refl
 none_at zero (suc c) = refl
 none_at (suc n) zero = refl
@@ -153,7 +153,7 @@ drop_more [] (suc n) = refl
 drop_more (x ∷ xs) zero = refl
 drop_more (x ∷ xs) (suc n) = drop_more xs n
 
-drop_none : (n : ℕ) → ◌≡◌ {A = List ℕ} (drop n []) []
+pub drop_none : (n : ℕ) → ◌≡◌ {A = List ℕ} (drop n []) []
 drop_none zero = refl
 drop_none (suc n) = refl
 

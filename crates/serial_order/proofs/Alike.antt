@@ -1,7 +1,7 @@
 -- What an operation makes of a thing follows from the things that it uses and from the temps of its iteration.
 use Rattle.std.proofs.Common.{◌≡◌, ℕ, zero, suc, ◌-◌, ◌%◌, ◌^◌, ◌<◌, List, [], ◌∷◌, length, get_or, set, Option, Some, None, Bool, true}
 use Rattle.std.proofs.Common.{false, not, ◌||◌, nat_lt, refl, sym, ◌∙◌, ap, arith, ◌==◌}
-use Rattle.std.proofs.lemmas.Bool.{ltb-true, ltb-false, eq-eqb}
+use Rattle.std.proofs.lemmas.Bool.{ltb-true, ltb-false, eq-eqb, or_right, or_left}
 use Rattle.std.proofs.Math.ListN.{get_or-append}
 use Rattle.std.proofs.Math.Seq.{get_or-append_right}
 use Rattle.flow_word.specs.declared.access.Side.TheVariants.{Pop, Push}
@@ -23,13 +23,6 @@ use Rattle.serial_order.specs.SerialRun.{Progress}
 use Rattle.serial_order.proofs.Outcomes.{ToVariable, Setting, outcome, exchange}
 
 -- ---- tests and lists
-
-or_left : (a b : Bool) → a ≡ true → (a || b) ≡ true
-or_left a b e = rw e refl
-
-or_right : (a b : Bool) → b ≡ true → (a || b) ≡ true
-or_right true b e = refl
-or_right false b e = e
 
 pub only : {A : Type 0} {a b : A} → a ∷ [] ≡ b ∷ [] → a ≡ b
 only e = cc

@@ -11,10 +11,9 @@ use flow_design::{Op, Timed};
 fn is_query(op: &Op<u32>) -> bool
     ensures { result ≡ is_query op.now }
 {
-    match op {
-        Op::TryRead(_, _, _) | Op::TryWrite(_, _, _) | Op::Empty(_, _) | Op::Full(_, _) => true,
-        Op::Set(_, _) | Op::Load(_, _, _) | Op::Store(_, _, _) | Op::Read(_, _) | Op::Write(_, _) =>
-            false,
+    match op.access() {
+        Some((kind, _)) => !kind.is_blocking(),
+        None => false,
     }
 }
 

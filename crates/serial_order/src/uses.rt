@@ -80,33 +80,6 @@ fn stored_in(op: &Op<u32>) -> Option<u32>
     }
 }
 
-/// The port at which an operation stands.
-fn port_of(op: &Op<u32>) -> Option<Port>
-    ensures { result ≡ port_of op.now }
-{
-    match op {
-        Op::Read(channel, _) | Op::TryRead(channel, _, _) | Op::Empty(channel, _) => Some(Port {
-            side: Side::Pop,
-            channel: *channel,
-        }),
-        Op::Write(channel, _) | Op::TryWrite(channel, _, _) | Op::Full(channel, _) => Some(Port {
-            side: Side::Push,
-            channel: *channel,
-        }),
-        Op::Set(_, _) | Op::Load(_, _, _) | Op::Store(_, _, _) => None,
-    }
-}
-
-/// The port at which an operation pops or pushes.
-fn used_port(op: &Op<u32>) -> Option<Port>
-    ensures { result ≡ used_port op.now }
-{
-    match op {
-        Op::Empty(_, _) | Op::Full(_, _) => None,
-        _ => port_of(op),
-    }
-}
-
 /// Whether a port is this side of this channel.
 fn is_end(port: Option<Port>, side: Side, channel: u32) -> bool
     ensures { result ≡ is_port (record { side = side; channel = channel }) port }
@@ -128,8 +101,8 @@ pub(crate) fn writes(op: &Op<u32>, used: Used) -> bool
     match used {
         Used::Register(register) => is_place(op, register),
         Used::Memory(memory) => is_this(stored_in(op), memory),
-        Used::Reading(channel) => is_end(used_port(op), Side::Pop, channel),
-        Used::Writing(channel) => is_end(used_port(op), Side::Push, channel),
+        Used::Reading(channel) => is_end(op.used_port(), Side::Pop, channel),
+        Used::Writing(channel) => is_end(op.used_port(), Side::Push, channel),
     }
 }
 
@@ -143,7 +116,7 @@ pub(crate) fn is_use(timed: &Timed, used: Used) -> bool
             is_this(timed.guard, register) || is_named(op, register) || is_place(op, register)
         }
         Used::Memory(memory) => is_this(memory_of(op), memory),
-        Used::Reading(channel) => is_end(port_of(op), Side::Pop, channel),
-        Used::Writing(channel) => is_end(port_of(op), Side::Push, channel),
+        Used::Reading(channel) => is_end(op.port(), Side::Pop, channel),
+        Used::Writing(channel) => is_end(op.port(), Side::Push, channel),
     }
 }

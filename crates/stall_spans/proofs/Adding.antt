@@ -15,8 +15,8 @@ use Rattle.lockstep_defs.specs.Machine.{is_over}
 use Rattle.lockstep_defs.specs.Channels.{stalls}
 use Rattle.lockstep_defs.specs.Lockstep.{requests_of, state, state_at}
 use Rattle.lockstep_defs.specs.Ports.{StandsAtPort}
-use Rattle.lockstep_defs.specs.Verdict.{verdict, clock_of}
-use Rattle.timing_bridge.proofs.Steps.{range_more}
+use Rattle.lockstep_defs.specs.Verdict.{verdict}
+use Rattle.flow_design.specs.Reports.{clock_of}
 use Rattle.timing_bridge.proofs.Requests.{stand}
 use Rattle.stall_spans.specs.declared.span.Doing.{Doing}
 use Rattle.stall_spans.specs.declared.span.Doing.TheVariants.{Moves, Still}
@@ -25,6 +25,7 @@ use Rattle.stall_spans.specs.Totals.{is_moving, is_still, is_still_at, clocks_in
 use Rattle.stall_spans.specs.Totals.{IsOverFrom}
 use Rattle.stall_spans.proofs.Counting.{clocks_none, clocks_done, clocks_over}
 use Rattle.stall_spans.proofs.Existing.{none_stays}
+use Rattle.flow_word.proofs.Ranges.{range_more}
 
 -- ---- up to the clock in which it is over
 

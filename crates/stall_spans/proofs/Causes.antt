@@ -1,6 +1,6 @@
 -- What a final core of a plan tells of a module in a clock is what the lockstep machine does.
-use Rattle.std.proofs.Common.{◌≡◌, ℕ, ◌<◌, ◌≤◌, List, [], ◌∷◌, map, Bool, true, false, not, ◌&&◌, cond, refl, sym, ◌∙◌, ap, ap₂}
-use Rattle.std.proofs.Common.{arith, Some, None, Option}
+use Rattle.std.proofs.Common.{◌≡◌, ℕ, ◌<◌, ◌≤◌, List, [], ◌∷◌, map, Bool, true, false, not, ◌&&◌, cond, refl, sym, ◌∙◌, ap}
+use Rattle.std.proofs.Common.{arith, Some, None}
 use Rattle.std.specs.List.{find, list_any, AllByRecursion}
 use Rattle.std.proofs.lemmas.Bool.{cond-true, cond-false, and_parts, or_parts, le-ltb}
 use Rattle.flow_word.specs.Kinds.{is_blocking}
@@ -29,12 +29,9 @@ use Rattle.stall_spans.specs.CoreDoings.{known_in, arrives, waits_in, core_block
 use Rattle.event_timing.proofs.Fronts.{agrees}
 use Rattle.stall_spans.proofs.Placed.{arrives_before}
 use Rattle.stall_spans.proofs.Waits.{moves_early, waits_right, ends_right, step_clocks, last_clocks, cycle_moves}
+use Rattle.timing_bridge.proofs.Settling.{find_alike}
 
 -- ---- lists
-
-find_alike : (f g : Request → Bool) (rs : List Request) → AllByRecursion (λ r. f r ≡ g r) rs → find f rs ≡ find g rs
-find_alike f g [] h = refl
-find_alike f g (r ∷ rs) h = ap₂ (λ (b : Bool) (o : Option Request). cond b (Some r) o) h.0 (find_alike f g rs h.1)
 
 find_none : (f : Request → Bool) (rs : List Request) → list_any f rs ≡ false → find f rs ≡ None
 find_none f [] e = refl
@@ -63,7 +60,7 @@ lives-doing : (p : Plan) (c i : ℕ) → is_over p.ops (state_at p c i) ≡ fals
 unfolding doing
 lives-doing p c i e = cond-false (is_over p.ops (state_at p c i)) None _ e
 
-over-doing : (p : Plan) (c i : ℕ) → is_over p.ops (state_at p c i) ≡ true → doing p c i ≡ None
+pub over-doing : (p : Plan) (c i : ℕ) → is_over p.ops (state_at p c i) ≡ true → doing p c i ≡ None
 unfolding doing
 over-doing p c i e = cond-true (is_over p.ops (state_at p c i)) None _ e
 

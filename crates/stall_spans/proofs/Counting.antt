@@ -4,10 +4,10 @@ use Rattle.std.proofs.Common.{Some, None, Option, zero-add}
 use Rattle.std.specs.List.{range_with_len, count_by}
 use Rattle.std.proofs.lemmas.List.Sums.{sum_by_push}
 use Rattle.flow_design.specs.declared.plan.Plan.{Plan}
-use Rattle.timing_bridge.proofs.Steps.{range_more}
 use Rattle.stall_spans.specs.declared.span.Doing.{Doing}
 use Rattle.stall_spans.specs.Doings.{doing}
 use Rattle.stall_spans.specs.Totals.{passes, clocks_in}
+use Rattle.flow_word.proofs.Ranges.{range_more}
 
 pub clocks_none : (test : Doing → Bool) (p : Plan) (i : ℕ) → clocks_in test p i 0 ≡ 0
 unfolding clocks_in

@@ -2,7 +2,7 @@
 use Rattle.std.proofs.Common.{◌≡◌, ◌≢◌, ℕ, zero, suc, ◌+◌, ◌-◌, ◌<◌, ◌≤◌, List, [], ◌∷◌, ◌++◌, refl, sym, ap, ◌∙◌, subst, arith, ◌⊎◌, inl}
 use Rattle.std.proofs.Common.{inr}
 use Rattle.std.proofs.Common.{Some, None, Option, Bool, true, false, not, ◌&&◌, cond, length, ap₂}
-use Rattle.std.proofs.lemmas.Bool.{cases_lt, cases_eq, cond-true, cond-false}
+use Rattle.std.proofs.lemmas.Bool.{cases_lt, cases_eq, cond-false}
 use Rattle.std.proofs.lemmas.List.{get_or_past}
 use Rattle.flow_word.specs.declared.access.Port.{Port}
 use Rattle.flow_word.specs.declared.access.Side.{Side}
@@ -23,6 +23,7 @@ use Rattle.stall_spans.proofs.Extending.{Listed, listed_spans, only_spans, span_
 use Rattle.stall_spans.specs.Totals.{is_moving, clocks_in, span_clocks, spans_clocks}
 use Rattle.stall_spans.proofs.Counting.{clocks_none, clocks_over, clocks_done}
 use Rattle.std.proofs.lemmas.List.Sums.{sum_by_push}
+use Rattle.stall_spans.proofs.Causes.{over-doing}
 
 -- ---- a module that is over stays so
 
@@ -50,12 +51,8 @@ over_is p c i e = by_test (is_over p.ops (state_at p c i)) e
     by_test true h = refl
     by_test false h = cc
 
-is_none : (p : Plan) (c i : ℕ) → is_over p.ops (state_at p c i) ≡ true → doing p c i ≡ None
-unfolding doing
-is_none p c i e = cond-true (is_over p.ops (state_at p c i)) None _ e
-
 pub none_stays : (p : Plan) (c i : ℕ) → doing p c i ≡ None → doing p (suc c) i ≡ None
-none_stays p c i e = is_none p (suc c) i (over_stays p c i (over_is p c i e))
+none_stays p c i e = over-doing p (suc c) i (over_stays p c i (over_is p c i e))
 
 -- ---- what a module does is the same or another
 

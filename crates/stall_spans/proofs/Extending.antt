@@ -1,7 +1,9 @@
 -- The spans below a clock, and those below a later one.
 use Rattle.std.proofs.Common.{◌≡◌, ◌≢◌, ℕ, ◌+◌, ◌-◌, ◌<◌, ◌≤◌, List, [], ◌∷◌, ◌++◌, refl, sym, ap, ◌∙◌, subst, arith, ◌⊎◌, inl}
 use Rattle.std.proofs.Common.{inr}
-use Rattle.std.proofs.Common.{Some, None}
+use Rattle.std.proofs.Common.{Some, None, get_or}
+use Rattle.std.specs.Prelude.{All}
+use Rattle.std.proofs.lemmas.List.{get_or_default}
 use Rattle.std.proofs.lemmas.Bool.{cases_lt}
 use Rattle.flow_design.specs.declared.plan.Plan.{Plan}
 use Rattle.stall_spans.specs.declared.span.Span.{Span}
@@ -222,3 +224,10 @@ span_none p i = record {
   all = λ s h. let k = h.some in let m = h.below in absurd (omega arith);
   rising = tt;
 }
+
+-- no span ends before it begins
+pub spans_order : (p : Plan) (i end : ℕ) (ss : List Span) → AreSpansBelow p i end ss → All (λ (s : Span). s.first ≤ s.until) ss
+spans_order p i end ss a k d l =
+    let s = get_or ss k d in
+    let h = ((spans_listed p i end ss a).are s (contains_member ss s (k, l, get_or_default ss k _ _ l))).some in
+    omega arith

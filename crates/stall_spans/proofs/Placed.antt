@@ -1,13 +1,14 @@
 -- Which step a module is at in a clock, and where it stands.
-use Rattle.std.proofs.Common.{◌≡◌, ℕ, zero, suc, ◌+◌, ◌-◌, ◌<◌, ◌≤◌, min, true, false, inl, inr, sym, ap, ap₂, ◌∙◌, subst, arith, ◌⊎◌}
+use Rattle.std.proofs.Common.{◌≡◌, ℕ, zero, suc, ◌+◌, ◌-◌, ◌<◌, ◌≤◌, true, false, inl, inr, sym, ap, ap₂, ◌∙◌, subst, arith, ◌⊎◌}
 use Rattle.std.proofs.lemmas.Bool.{cases_Bool}
 use Rattle.event_timing.specs.Machines.{Design, IsDesign, ready}
 use Rattle.event_timing.specs.Histories.{Trace, IsHistory, moves}
 use Rattle.event_timing.specs.Steps.{steps, done, since, rest}
 use Rattle.event_timing.specs.Views.{View, Agrees, from, own}
 use Rattle.event_timing.proofs.Steps.{done_more, done_same, done_mono, same_clock, since_more, since_same}
-use Rattle.event_timing.proofs.Standing.{since_0, since_le, where_now, idle_moves, late_ready, steps_moves, step_reached}
+use Rattle.event_timing.proofs.Standing.{since_0, late_ready, steps_moves, step_reached}
 use Rattle.event_timing.proofs.OwnRuns.{follows, rest_own, done_0}
+use Rattle.event_timing.proofs.Verdict.{early_moves}
 
 -- the clock after the latest step is that of the view
 pub since_is : {S : Type 0} → (d : Design S) (h : Trace S) (v : View) → Agrees d h v → (m c : ℕ) → done d h m c ≤ v.timed m
@@ -37,16 +38,6 @@ pub arrives_is : {S : Type 0} → (d : Design S) (h : Trace S) → IsDesign d �
 arrives_is {S} d h i y v g m c k e l =
     ap₂ (λ (n : ℕ) (s : S). n + d.quiet m s) (since_is d h v g m c (omega arith) ∙ ap (from (v.cycle m)) e)
     (rest_is d h i y v g m c k e l)
-
-early_moves : {S : Type 0} → (d : Design S) (h : Trace S) → IsDesign d → IsHistory d h → (m c : ℕ)
-    → c < since d h m c + d.quiet m (rest d h m c) → moves d h c m ≡ true
-early_moves {S} d h i y m c l =
-    let j : min (c - since d h m c) (d.quiet m (rest d h m c)) ≡ c - since d h m c = omega (arith, since_le d h m c) in
-    let e = rw j at (where_now d h i y m c) in
-    let b : c - since d h m c < d.quiet m (rest d h m c) = omega (arith, since_le d h m c) in
-    let a = i.quiet_idle m (rest d h m c) (c - since d h m c) b in
-    let o = i.quiet_lives m (rest d h m c) (c - since d h m c) b in
-    idle_moves d h c m (ap (d.is_over m) e ∙ o) (ap (d.accesses m) e ∙ a)
 
 -- before that clock it moves
 pub moves_before : {S : Type 0} → (d : Design S) (h : Trace S) → IsDesign d → IsHistory d h → (v : View) → Agrees d h v → (m c k : ℕ)

@@ -5,7 +5,8 @@ use Rattle.flow_word.specs.declared.access.Port.{Port}
 use Rattle.flow_word.specs.declared.access.Side.{Side}
 use Rattle.flow_design.specs.declared.plan.Plan.{Plan}
 use Rattle.flow_design.specs.StaticRules.{same_port}
-use Rattle.lockstep_defs.specs.Verdict.{verdict, clock_of}
+use Rattle.lockstep_defs.specs.Verdict.{verdict}
+use Rattle.flow_design.specs.Reports.{clock_of}
 use Rattle.stall_spans.specs.declared.span.Doing.{Doing}
 use Rattle.stall_spans.specs.declared.span.Doing.TheVariants.{Moves, Still}
 use Rattle.stall_spans.specs.declared.span.Span.{Span}

@@ -64,7 +64,8 @@ abbrev by_side : Side → Kind → Bool → ℕ → ℕ → List ℕ
 by_side Pop kind done v w = popped_value kind done v
 by_side Push kind done v w = pushed_value kind done w
 
-side_is : (side : Side) (x : Exchange) → moved_value side x ≡ by_side side x.request.kind (is_yes x.reply) (value_in x.reply) x.request.value
+side_is : (side : Side) (x : Exchange) → moved_value side x
+    ≡ by_side side x.request.kind (is_yes x.reply) (value_in x.reply) x.request.value
 side_is Pop x = refl
 side_is Push x = refl
 
@@ -94,7 +95,8 @@ same_test a b = elim (cases_eq a b) [
   | inr n ↦ ne_eqb a b n ∙ sym (ne_eqb b a (λ e. n (sym e)))
 ]
 
-by_channel : (b some same : Bool) (xs : List ℕ) → length xs ≡ cond (some && same) 1 0 → length (cond b xs []) ≡ cond (some && (same && b)) 1 0
+by_channel : (b some same : Bool) (xs : List ℕ) → length xs ≡ cond (some && same) 1 0 → length (cond b xs [])
+    ≡ cond (some && (same && b)) 1 0
 by_channel true true true xs e = e
 by_channel true true false xs e = e
 by_channel true false same xs e = e
@@ -106,13 +108,15 @@ moved_one : (side : Side) (f : ℕ) (s : HistoryStep) (x : Exchange)
     → length (cond (x.request.channel == f) (moved_value side x) []) ≡ cond (moved_at (on side f) (logged s x)) 1 0
 moved_one side f s x =
     let kind = x.request.kind in
-    let some = ap (λ (xs : List ℕ). cond (is_some (slice_get xs 0) && same_side side (side_of kind)) 1 0) (sym (side_is (side_of kind) x)) in
+    let some = ap (λ (xs : List ℕ). cond (is_some (slice_get xs 0) && same_side side (side_of kind)) 1 0)
+    (sym (side_is (side_of kind) x)) in
     by_channel (x.request.channel == f) (is_some (slice_get (moved_value (side_of kind) x) 0)) (same_side side (side_of kind))
     (moved_value side x) (ap length (side_is side x) ∙ (at_side kind side (is_yes x.reply) (value_in x.reply) x.request.value ∙ some))
     ∙ ap (λ (b : Bool). cond (is_some (slice_get (moved_value (side_of kind) x) 0) && (same_side side (side_of kind) && b)) 1 0)
     (same_test x.request.channel f)
 
-one_more : (b : Bool) (a : LoggedAccess) (xs : List LoggedAccess) → length (clocks_of (cond b (a ∷ xs) xs)) ≡ cond b 1 0 + length (clocks_of xs)
+one_more : (b : Bool) (a : LoggedAccess) (xs : List LoggedAccess) → length (clocks_of (cond b (a ∷ xs) xs))
+    ≡ cond b 1 0 + length (clocks_of xs)
 one_more true a xs = omega arith
 one_more false a xs = omega arith
 

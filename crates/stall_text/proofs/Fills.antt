@@ -1,5 +1,6 @@
 -- How full a FIFO is, by the clocks in which elements were pushed on it and popped off it.
-use Rattle.std.proofs.Common.{◌≡◌, ℕ, zero, suc, ◌+◌, ◌-◌, ◌<◌, ◌≤◌, ◌^◌, List, [], ◌∷◌, map, length, Bool, true, false, ◌&&◌, not, cond, max}
+use Rattle.std.proofs.Common.{◌≡◌, ℕ, zero, suc, ◌+◌, ◌-◌, ◌<◌, ◌≤◌, ◌^◌, List, [], ◌∷◌, map, length, Bool, true, false, ◌&&◌, not, cond}
+use Rattle.std.proofs.Common.{max}
 use Rattle.std.proofs.Common.{refl, sym, ◌∙◌, ap, ap₂, subst, arith, get_or, ltb, leb, inl, inr, length-append}
 use Rattle.std.specs.Prelude.{All, AllPairs}
 use Rattle.std.specs.List.{filter, fold, range_with_len, count_by}
@@ -184,7 +185,8 @@ module _ (p : Plan) (fits : FitsEngine p) (f : ℕ) (l : f < length p.design.cha
   pub empty_clocks_are : empty_clocks p f ≡ empty_by d (last_clock p) pops pushes
   unfolding empty_clocks ahead_clocks
   empty_clocks_are =
-      let sum = others_counted (λ c. is_empty c (contents_of (state p c).contents f)) (is_ahead 1 (later (d - 1) pushes) pops) 0 (last_clock p)
+      let sum = others_counted (λ c. is_empty c (contents_of (state p c).contents f)) (is_ahead 1 (later (d - 1) pushes) pops) 0
+      (last_clock p)
       (λ c m. empty_is c (omega arith)) in
       omega arith
 

@@ -1,21 +1,18 @@
 -- Lines that grow.
-use Rattle.std.proofs.Common.{◌≡◌, ◌≢◌, ℕ, zero, suc, ◌+◌, ◌<◌, List, [], ◌∷◌, ◌++◌, refl, sym, ap, ap₂, ◌∙◌, arith, length, get_or, append_assoc}
-use Rattle.std.proofs.Common.{Bool, true, false, cond, zero-add, add-one, map}
+use Rattle.std.proofs.Common.{◌≡◌, ◌≢◌, ℕ, zero, suc, ◌+◌, ◌<◌, List, [], ◌∷◌, ◌++◌, refl, sym, ap, ap₂, ◌∙◌, arith, length, get_or}
+use Rattle.std.proofs.Common.{append_assoc}
+use Rattle.std.proofs.Common.{Bool, true, false, cond, map}
 use Rattle.std.specs.Prelude.{codes, decimal}
 use Rattle.std.specs.List.{flat_map, filter, range_with_len}
 use Rattle.std.proofs.lemmas.Bool.{ne_eqb}
 use Rattle.std.proofs.lemmas.List.{append-nil, map-append}
-use Rattle.std.proofs.lemmas.List.Concat.{flat_map-append}
 use Rattle.std.proofs.lemmas.List.Elements.{filter-append}
-use Rattle.timing_bridge.proofs.Steps.{range_more}
 use Rattle.flow_word.specs.declared.access.Side.{Side}
 use Rattle.flow_word.specs.declared.access.Side.TheVariants.{Pop, Push}
 use Rattle.report_text.specs.Lines.{Token, line, text_of_lines}
-use Rattle.report_text.proofs.LineLemmas.{line_of_five}
+use Rattle.report_text.proofs.LineLemmas.{line_of_five, text-append, numbers_more}
 use Rattle.stall_text.specs.StallText.{side_word, cause_word, cause_lines, port_lines, last_of, at_each_side}
-
-pub text-append : (xs ys : List (List Token)) → text_of_lines (xs ++ ys) ≡ text_of_lines xs ++ text_of_lines ys
-text-append xs ys = flat_map-append line xs ys
+use Rattle.flow_word.proofs.Ranges.{range_last}
 
 pub text-one : (l : List Token) → text_of_lines (l ∷ []) ≡ line l
 text-one l = append-nil (line l)
@@ -82,22 +79,6 @@ port_line text name channel word side clocks last t u v w x y z n some is p q r 
     ∙ ap (λ (l : List ℕ). text ++ l) (sym (port_tokens name channel side clocks last some))))
 
 -- ---- many
-
-pub range_last : (n : ℕ) → range_with_len 0 (n + 1) ≡ range_with_len 0 n ++ n ∷ []
-range_last n = ap (range_with_len 0) (add-one n) ∙ (range_more 0 n ∙ ap (λ (k : ℕ). range_with_len 0 n ++ k ∷ []) (zero-add n))
-
--- the lines of one number more
-pub numbers_more : (g : ℕ → List (List Token)) (n : ℕ) (first text next : List ℕ)
-    → text ≡ first ++ text_of_lines (flat_map g (range_with_len 0 n)) → next ≡ text ++ text_of_lines (g n)
-    → next ≡ first ++ text_of_lines (flat_map g (range_with_len 0 (n + 1)))
-numbers_more g n first text next e r =
-    r ∙ (ap (λ (t : List ℕ). t ++ text_of_lines (g n)) e
-    ∙ (append_assoc first (text_of_lines (flat_map g (range_with_len 0 n))) (text_of_lines (g n))
-    ∙ ap (λ (t : List ℕ). first ++ t)
-    (sym (text-append (flat_map g (range_with_len 0 n)) (g n))
-    ∙ (ap text_of_lines (sym (flat_map-append g (range_with_len 0 n) (n ∷ [])
-    ∙ ap (λ (l : List (List Token)). flat_map g (range_with_len 0 n) ++ l) (append-nil (g n))))
-    ∙ ap (λ (l : List ℕ). text_of_lines (flat_map g l)) (sym (range_last n))))))
 
 two_more : (text t u : List ℕ) (xs ys : List (List Token)) → t ≡ text ++ text_of_lines xs → u ≡ t ++ text_of_lines ys
     → u ≡ text ++ text_of_lines (xs ++ ys)

@@ -29,12 +29,6 @@ pub record AreStill (side : Side) (channels : ℕ) (spans : List Span) (clocks :
 
 -- ---- the spans of a module
 
-pub spans_order : (p : Plan) (i : ℕ) (ss : List Span) → AreSpans p i ss → All (λ (s : Span). s.first ≤ s.until) ss
-spans_order p i ss a k d l =
-    let s = get_or ss k d in
-    let h = ((spans_listed p i (last_clock p) ss a).are s (contains_member ss s (k, l, get_or_default ss k _ _ l))).some in
-    omega arith
-
 inside_by : (p : Plan) → FitsEngine p → (c i : ℕ) (d : Doing) → doing p c i ≡ Some d → IsInside (length p.design.channels) d
 inside_by p h c i Moves e = tt
 inside_by p h c i (Still port) e = cause_inside p h c i port e

@@ -1,8 +1,9 @@
 -- The uses of ports, access by access.
-use Rattle.std.proofs.Common.{◌≡◌, ◌≢◌, ℕ, ◌+◌, ◌<◌, List, [], ◌∷◌, ◌++◌, map, length, take, set, replicate, Bool, true, false, ◌&&◌, ◌==◌, cond}
+use Rattle.std.proofs.Common.{◌≡◌, ◌≢◌, ℕ, ◌+◌, ◌<◌, List, [], ◌∷◌, ◌++◌, map, length, take, set, replicate, Bool, true, false, ◌&&◌}
+use Rattle.std.proofs.Common.{◌==◌, cond}
 use Rattle.std.proofs.Common.{refl, sym, ◌∙◌, ap, ap₂, subst, arith, get_or, inl, inr, is_some, eqb, length-set}
 use Rattle.std.specs.List.{filter, AllByRecursion}
-use Rattle.std.proofs.lemmas.Bool.{cases_eq, ne_eqb, and_parts}
+use Rattle.std.proofs.lemmas.Bool.{cases_eq, ne_eqb, and_parts, eqb-true}
 use Rattle.std.proofs.lemmas.List.{append-nil, map-append, take_more, get_or-set_same, get_or-set_other, get_or-replicate, length-replicate}
 use Rattle.std.proofs.lemmas.List.Elements.{filter-append}
 use Rattle.flow_word.specs.declared.access.Port.{Port}
@@ -23,6 +24,7 @@ use Rattle.stall_text.specs.Stalls.{moved_at, clocks_of, port_clocks}
 use Rattle.stall_text.specs.StallText.{port_lines, ports_of}
 use Rattle.stall_text.specs.Ports.{last_module, use_of, use_at, unused, used_by, own_lines, own_lines_of, AreUsesOf}
 use Rattle.stall_text.proofs.Accesses.{on, logged_act, log_is, ActStands, all_stand}
+use Rattle.event_timing.proofs.OwnRuns.{same_side_is}
 
 -- ---- one access more
 
@@ -122,24 +124,12 @@ owned : (p : Plan) (done : List Act) → AllByRecursion (ActStands p) done → A
 owned p [] h = tt
 owned p (a ∷ done) h = ((h.0).owned, owned p done h.1)
 
-sides_same : (a b : Side) → same_side a b ≡ true → a ≡ b
-sides_same Pop Pop e = refl
-sides_same Pop Push e = cc
-sides_same Push Pop e = cc
-sides_same Push Push e = refl
-
-numbers_same : (a b : ℕ) → eqb a b ≡ true → a ≡ b
-numbers_same a b e = elim (cases_eq a b) [
-  | inl w ↦ w
-  | inr w ↦ let f = ne_eqb a b w in cc
-]
-
 moved_owner : (p : Plan) (port : Port) (a : LoggedAccess) → Owns p a → moved_at port a ≡ true → a.event.«module» ≡ owner p port
 moved_owner p port a h e =
     let both = and_parts (is_some a.value) (same_port port (record { side = side_of a.event.kind; channel = a.event.channel })) e in
     let parts = and_parts (same_side port.side (side_of a.event.kind)) (eqb port.channel a.event.channel) both.1 in
-    sym (ap₂ (λ (s : Side) (f : ℕ). owner p (record { side = s; channel = f })) (sides_same port.side (side_of a.event.kind) parts.0)
-    (numbers_same port.channel a.event.channel parts.1) ∙ h)
+    sym (ap₂ (λ (s : Side) (f : ℕ). owner p (record { side = s; channel = f })) (same_side_is port.side (side_of a.event.kind) parts.0)
+    (eqb-true port.channel a.event.channel parts.1) ∙ h)
 
 module _ (p : Plan) (i : ℕ) (port : Port) where
   abbrev o : ℕ
@@ -155,7 +145,8 @@ module _ (p : Plan) (i : ℕ) (port : Port) where
   all_own [] h = tt
   all_own (a ∷ log) h = by_test (moved_at port a) refl (all_own log h.1)
     where
-      by_test : (b : Bool) → moved_at port a ≡ b → AllByRecursion IsOwn (there log) → AllByRecursion IsOwn (cond b (a ∷ there log) (there log))
+      by_test : (b : Bool) → moved_at port a ≡ b → AllByRecursion IsOwn (there log)
+          → AllByRecursion IsOwn (cond b (a ∷ there log) (there log))
       by_test true e rest = (moved_owner p port a h.0 e, rest)
       by_test false e rest = rest
 
@@ -189,7 +180,8 @@ module _ (p : Plan) (i : ℕ) (port : Port) where
   last_owner m x [] h = h.0
   last_owner m x (y ∷ ys) h = last_owner x.event.«module» y ys h.1
 
-  by_last : (xs : List LoggedAccess) → AllByRecursion IsOwn xs → clocks_of (cond (o == i) xs []) ≡ cond (last_module 0 xs == i) (clocks_of xs) []
+  by_last : (xs : List LoggedAccess) → AllByRecursion IsOwn xs → clocks_of (cond (o == i) xs [])
+      ≡ cond (last_module 0 xs == i) (clocks_of xs) []
   by_last [] h = by_both (o == i) (0 == i)
     where
       by_both : (a b : Bool) → clocks_of (cond a [] []) ≡ cond b [] []

@@ -25,14 +25,16 @@ use Rattle.fifo_fills.proofs.Ending.{last_within}
 use Rattle.queue_clocks.specs.Leads.{most_ahead, ahead_clocks}
 use Rattle.stall_spans.specs.Totals.{moved_clocks, still_clocks, still_clocks_at}
 use Rattle.stall_text.specs.declared.ports.PortUse.{PortUse}
-use Rattle.stall_text.specs.StallText.{module_tokens, cause_lines, at_each_side, causes_of, ports_of, clock_lines, module_lines, fifo_tokens, fifo_line}
+use Rattle.stall_text.specs.StallText.{module_tokens, cause_lines, at_each_side, causes_of, ports_of, clock_lines, module_lines}
+use Rattle.stall_text.specs.StallText.{fifo_tokens, fifo_line}
 use Rattle.stall_text.specs.StallText.{stalls_text}
 use Rattle.stall_text.specs.Causes.{causes_by}
 use Rattle.stall_text.specs.Ports.{own_lines, AreUsesOf, unused, use_at}
 use Rattle.stall_text.specs.Filling.{empty_by, clocks_at, filled_at, AreUses}
-use Rattle.stall_text.proofs.Lines.{text-append, same_sides, numbers_more}
+use Rattle.stall_text.proofs.Lines.{same_sides}
 use Rattle.stall_text.proofs.Uses.{own_is}
 use Rattle.stall_text.proofs.Fills.{fifos_are, uses_fit}
+use Rattle.report_text.proofs.LineLemmas.{text-append, numbers_more}
 
 pub verdict_is : (p : Plan) (r : Report) → r ≡ report_with false p → r.verdict ≡ verdict p
 unfolding report

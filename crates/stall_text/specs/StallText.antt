@@ -38,7 +38,8 @@ last_of n (m ∷ more) = last_of m more
 abbrev pub port_lines : Token → Token → Side → List ℕ → List (List Token)
 port_lines name channel side [] = []
 port_lines name channel side (first ∷ more) =
-    (codes "port" ∷ name ∷ side_word side ∷ channel ∷ decimal (length (first ∷ more)) ∷ decimal first ∷ decimal (last_of first more) ∷ []) ∷ []
+    (codes "port" ∷ name ∷ side_word side ∷ channel ∷ decimal (length (first ∷ more)) ∷ decimal first
+    ∷ decimal (last_of first more) ∷ []) ∷ []
 
 -- of each channel, in order of declaration, the lines of its popping side and then those of its pushing side
 abbrev pub at_each_side : ℕ → (ℕ → Side → List (List Token)) → List (List Token)

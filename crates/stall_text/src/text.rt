@@ -6,7 +6,6 @@ ghost use Rattle.timing_bridge.specs.Designs.{design as design_of};
 ghost use Rattle.sim_core.specs.Views.{theory_of};
 ghost use Rattle.fifo_fills.specs.Fills.{last_clock};
 ghost use Rattle.flow_word.specs.declared.access.Side.TheVariants.{Pop, Push};
-ghost use Rattle.lockstep_defs.specs.Verdict as verdicts;
 ghost use Rattle.report_text.specs.Lines.{text_of_lines};
 ghost use Rattle.stall_text.specs.StallText.{module_lines};
 ghost use Rattle.stall_text.specs.StallText as form;
@@ -15,7 +14,6 @@ ghost use Rattle.stall_text.specs.Ports.{AreUsesOf};
 use crate::causes::{clocks_of, print_causes, print_clocks, still_clocks};
 use crate::fifos::print_fifos;
 use crate::ports::{PortUse, print_ports, uses_at};
-use flow_design::Verdict;
 use flow_word::{List, OutOfMemory, Side};
 use report_text::{module_name, print_verdict};
 use sim_core::Core;
@@ -36,7 +34,7 @@ pub fn stalls_text(alloc: Global, core: &Core) -> Result<List<u8>, OutOfMemory>
     let channels = core.plan().design.channels.as_slice().len();
     let pops = uses_at(alloc, channels, Side::Pop, log.as_slice())?;
     let pushes = uses_at(alloc, channels, Side::Push, log.as_slice())?;
-    let clock = clock_of(report.verdict);
+    let clock = report.verdict.clock();
     let mut text = List::from_slice(alloc, b"stalls\n")?;
     print_verdict(&mut text, report.verdict)?;
     print_modules(
@@ -56,18 +54,6 @@ pub fn stalls_text(alloc: Global, core: &Core) -> Result<List<u8>, OutOfMemory>
         clock,
     )?;
     Ok(text)
-}
-
-/// The clock of a verdict.
-fn clock_of(verdict: Verdict) -> u64
-    ensures { result ≡ verdicts.clock_of verdict }
-{
-    match verdict {
-        Verdict::Done(clock)
-        | Verdict::Deadlock(clock)
-        | Verdict::Cycles(clock)
-        | Verdict::Ops(clock) => clock,
-    }
 }
 
 /// Adds the lines of each module, by the uses of the popping sides and of the pushing sides.

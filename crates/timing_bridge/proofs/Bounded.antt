@@ -1,8 +1,8 @@
 -- A module's own run has fewer steps than the operation limit.
-use Rattle.std.proofs.Common.{◌≡◌, ℕ, zero, suc, ◌+◌, ◌≤◌, ◌<◌, List, [], ◌∷◌, map, length, ◌-◌, true, false, ◌&&◌, not, arith, ◌==◌}
-use Rattle.std.specs.Prelude.{nat_le, slice_index}
+use Rattle.std.proofs.Common.{◌≡◌, ℕ, zero, suc, ◌+◌, ◌≤◌, ◌<◌, List, [], ◌∷◌, map, length, ◌-◌, true, false, ◌&&◌, arith, ◌==◌}
+use Rattle.std.specs.Prelude.{slice_index}
 use Rattle.std.specs.List.{filter_map}
-use Rattle.std.proofs.lemmas.Bool.{cond_both, or_parts, leb-false}
+use Rattle.std.proofs.lemmas.Bool.{cond_both}
 use Rattle.flow_design.specs.declared.design.Block.{Block}
 use Rattle.flow_design.specs.declared.design.Module.{Module}
 use Rattle.flow_design.specs.declared.design.Next.{Next}
@@ -23,6 +23,7 @@ use Rattle.event_timing.specs.Agreement.{IsBounded}
 use Rattle.event_timing.proofs.OwnRuns.{own_fits}
 use Rattle.timing_bridge.specs.Designs.{design, seen, told_all, accesses_in}
 use Rattle.timing_bridge.proofs.History.{plan_is_design}
+use Rattle.lockstep_defs.proofs.Agrees.{below_limit}
 
 -- ---- a move adds at least what is due to the count
 
@@ -49,7 +50,7 @@ ticked_counts : (b : Block) (n : ℕ) (u : ModuleState) → n ≤ u.count → n 
 unfolding ticked
 ticked_counts b n u h = h
 
-move_counts : (m : Module) (s : ModuleState) (rs : List Reply) → s.count + length (due m s) ≤ (move m s rs).count
+pub move_counts : (m : Module) (s : ModuleState) (rs : List Reply) → s.count + length (due m s) ≤ (move m s rs).count
 unfolding move
 move_counts m s rs =
     let b = block_of m s in
@@ -73,13 +74,6 @@ some_due p i s h = by_list (due (module_at p i) s) h
     by_list [] h = cc
     by_list (d ∷ ds) h = omega arith
 
--- a module that is not over has counted less than the limit
-lives : (limit : ℕ) (s : ModuleState) → is_over limit s ≡ false → s.count < limit
-unfolding is_over
-lives limit s h =
-    let parts = or_parts s.ended (not s.ended && nat_le limit s.count) h in
-    leb-false limit s.count (rw parts.0 at parts.1)
-
 -- so many steps, so much counted
 steps_count : (p : Plan) → FitsEngine p → (i : ℕ) (r : ℕ → List theory.Reply) (k : ℕ)
     → ((j : ℕ) → j < k → is_over p.ops (ready (design p) i (own (design p) i r j)) ≡ false) → k ≤ (own (design p) i r k).count
@@ -99,5 +93,5 @@ pub plan_is_bounded : (p : Plan) → FitsEngine p → IsBounded (design p) p.ops
 plan_is_bounded p h i r k f =
     let before = steps_count p h i r k (λ j l. f j (omega arith)) in
     let skipped = skip_counts p i ((design p).quiet i (own (design p) i r k)) (own (design p) i r k) in
-    let below = lives p.ops (ready (design p) i (own (design p) i r k)) (f k (omega arith)) in
+    let below = below_limit p.ops (ready (design p) i (own (design p) i r k)) (f k (omega arith)) in
     omega arith

@@ -6,7 +6,8 @@ use Rattle.flow_design.specs.declared.state.ModuleState.{ModuleState}
 use Rattle.flow_design.specs.StaticRules.{FitsEngine}
 use Rattle.lockstep_defs.specs.Channels.{HistoryStep}
 use Rattle.lockstep_defs.specs.Lockstep.{state, history}
-use Rattle.lockstep_defs.specs.Verdict.{is_settled, verdict, clock_of}
+use Rattle.lockstep_defs.specs.Verdict.{is_settled, verdict}
+use Rattle.flow_design.specs.Reports.{clock_of}
 use Rattle.lockstep_defs.specs.Laws.{NoneBefore}
 use Rattle.lockstep_defs.proofs.Found.{verdict_found, verdict_none}
 use Rattle.lockstep_defs.proofs.Order.{in_order}

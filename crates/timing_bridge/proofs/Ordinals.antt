@@ -24,7 +24,7 @@ use Rattle.event_timing.proofs.Fronts.{core_tally_is}
 use Rattle.timing_bridge.specs.Designs.{design, seen, told_all}
 use Rattle.timing_bridge.specs.CoreReports.{core_step}
 use Rattle.timing_bridge.proofs.Alike.{pop_kind, push_kind, one_long}
-use Rattle.timing_bridge.proofs.Steps.{range_more}
+use Rattle.flow_word.proofs.Ranges.{range_more}
 
 -- ---- one step
 

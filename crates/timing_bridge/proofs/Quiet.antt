@@ -19,7 +19,7 @@ use Rattle.timing_bridge.specs.Designs.{design, seen, told_all, accesses_in, mov
 
 -- ---- quiet clocks
 
-told_none : (rs : List Request) → told_all rs [] ≡ []
+pub told_none : (rs : List Request) → told_all rs [] ≡ []
 told_none [] = refl
 told_none (r ∷ rs) = refl
 

@@ -12,7 +12,8 @@ use Rattle.flow_design.specs.StaticRules.{FitsEngine}
 use Rattle.lockstep_defs.specs.Machine.{nobody}
 use Rattle.lockstep_defs.specs.Channels.{HistoryStep}
 use Rattle.lockstep_defs.specs.Lockstep.{state, history}
-use Rattle.lockstep_defs.specs.Verdict.{settled_verdict, verdict, clock_of, held_in, held}
+use Rattle.lockstep_defs.specs.Verdict.{settled_verdict, verdict, held_in, held}
+use Rattle.flow_design.specs.Reports.{clock_of}
 use Rattle.lockstep_defs.specs.Report.{steps_of, outcomes, events_of, answers_in, report_at, report}
 use Rattle.event_timing.specs.Steps.{done}
 use Rattle.event_timing.specs.Views.{own, from}

@@ -82,7 +82,7 @@ last_states p h limit x g f u c top =
 
 -- ---- held modules
 
-find_alike : (f g : Request → Bool) (rs : List Request) → AllByRecursion (λ r. f r ≡ g r) rs → find f rs ≡ find g rs
+pub find_alike : (f g : Request → Bool) (rs : List Request) → AllByRecursion (λ r. f r ≡ g r) rs → find f rs ≡ find g rs
 find_alike f g [] h = refl
 find_alike f g (r ∷ rs) h = ap₂ (λ (b : Bool) (o : Option Request). cond b (Some r) o) h.0 (find_alike f g rs h.1)
 

@@ -30,6 +30,7 @@ use Rattle.event_timing.proofs.Fronts.{agrees}
 use Rattle.timing_bridge.specs.Designs.{design, lockstep_run, seen, told_all}
 use Rattle.timing_bridge.specs.CoreReports.{core_step, core_steps, AreInOrder}
 use Rattle.timing_bridge.proofs.History.{plan_is_design, run_is_history, moves_same, replies_same}
+use Rattle.flow_word.proofs.Ranges.{range_more}
 
 -- ---- one clock
 
@@ -102,12 +103,6 @@ core_step_is p h limit x g c i k s e l =
     (done_is ∙ ap (λ (t : ModuleState). paired (requests_of p (i, t)) (told_all (requests_of p (i, t)) (core_reply d x i k))) here)
 
 -- ---- all clocks
-
-pub range_more : (a n : ℕ) → range_with_len a (suc n) ≡ range_with_len a n ++ (a + n) ∷ []
-range_more a zero = let z : a ≡ a + 0 = omega arith in ap (λ (k : ℕ). k ∷ []) z
-range_more a (suc n) =
-    let z : (a + 1) + n ≡ a + suc n = omega arith in
-    ap (λ (l : List ℕ). a ∷ l) (range_more (a + 1) n ∙ ap (λ (k : ℕ). range_with_len (a + 1) n ++ k ∷ []) z)
 
 -- a module's steps before a clock up to which the core has them all
 pub steps_are : (p : Plan) → FitsEngine p → (limit : ℕ) (x : Core ModuleState) → IsAgreed (design p) (lockstep_run p) limit x → (i : ℕ)

@@ -11,7 +11,6 @@ use Rattle.std.proofs.lemmas.List.{get_or-set_other}
 use Rattle.std.proofs.lemmas.List.Concat.{flat_map-append}
 use Rattle.std.proofs.lemmas.List.Elements.{All-from_recursion}
 use Rattle.std.proofs.lemmas.List.FromFn.{length-map-range_with_len, get_or-map-range_with_len}
-use Rattle.timing_bridge.proofs.Steps.{range_more}
 use Rattle.flow_word.specs.declared.access.Side.TheVariants.{Pop}
 use Rattle.flow_design.specs.declared.design.Design.{Design}
 use Rattle.flow_design.specs.declared.design.ChannelKind.{ChannelKind}
@@ -25,6 +24,7 @@ use Rattle.trace_text.specs.Events.{fill_event, fill_events_at, fill_events}
 use Rattle.trace_text.specs.TraceText.{further}
 use Rattle.trace_text.specs.Counters.{fill_line, first_line, change_line, AreTold}
 use Rattle.trace_text.proofs.Lines.{further-append, further-one}
+use Rattle.flow_word.proofs.Ranges.{range_more}
 
 -- ---- one FIFO
 

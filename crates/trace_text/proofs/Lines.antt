@@ -10,8 +10,8 @@ use Rattle.std.proofs.lemmas.List.Elements.{filter-append}
 use Rattle.std.proofs.lemmas.List.Folds.{concat-append}
 use Rattle.std.proofs.lemmas.Bool.{lt-ltb}
 use Rattle.std.proofs.lemmas.List.FromFn.{map-range_with_len_more, length-map-range_with_len}
-use Rattle.timing_bridge.proofs.Steps.{range_more}
 use Rattle.trace_text.specs.TraceText.{further, lines_of}
+use Rattle.flow_word.proofs.Ranges.{range_more}
 
 pub further-append : (xs ys : List (List ℕ)) → further (xs ++ ys) ≡ further xs ++ further ys
 further-append xs ys = flat_map-append (λ (e : List ℕ). codes ",\n" ++ e) xs ys

@@ -4,7 +4,7 @@ use Rattle.std.proofs.Common.{inl, inr}
 use Rattle.std.proofs.Common.{Some, None, Option, Bool, true, false, not, ◌&&◌, ◌||◌, cond, get_or, map, eqb, add-one}
 use Rattle.std.specs.Prelude.{unwrap_or, All}
 use Rattle.std.specs.List.{filter, range_with_len, prefix_len}
-use Rattle.std.proofs.lemmas.Bool.{cases_lt, cases_eq, cases_Bool, eq-eqb, ne_eqb, and_parts}
+use Rattle.std.proofs.lemmas.Bool.{cases_lt, cases_eq, cases_Bool, eq-eqb, ne_eqb, and_parts, eqb-true}
 use Rattle.std.proofs.lemmas.List.{append-nil, map-append, get_or_default}
 use Rattle.std.proofs.lemmas.List.FromFn.{length-range_with_len, get_or-range_with_len}
 use Rattle.std.proofs.lemmas.List.Sums.{prefix_len-le-length, prefix_len_is, prefix_len_passes, prefix_len_stops}
@@ -26,26 +26,15 @@ use Rattle.stall_spans.proofs.Extending.{Listed, listed_spans, spans_listed, onl
 use Rattle.trace_text.specs.Spans.{same_doing, is_doing, does, begins_with, begins, span_with, span_at, spans_of}
 use Rattle.trace_text.specs.Events.{IsDrawn}
 use Rattle.trace_text.proofs.Lines.{passed_more}
+use Rattle.event_timing.proofs.OwnRuns.{same_side_is}
 
 -- ---- what is done is the same or not
-
-sides_same : (a b : Side) → same_side a b ≡ true → a ≡ b
-sides_same Pop Pop e = refl
-sides_same Pop Push e = cc
-sides_same Push Pop e = cc
-sides_same Push Push e = refl
-
-numbers_same : (a b : ℕ) → eqb a b ≡ true → a ≡ b
-numbers_same a b e = elim (cases_eq a b) [
-  | inl w ↦ w
-  | inr w ↦ let f = ne_eqb a b w in cc
-]
 
 ports_same : (a b : Port) → same_port a b ≡ true → a ≡ b
 ports_same a b e =
     let parts = and_parts (same_side a.side b.side) (eqb a.channel b.channel) e in
-    ap₂ (λ (s : Side) (c : ℕ). record { side = s; channel = c }) (sides_same a.side b.side parts.0)
-    (numbers_same a.channel b.channel parts.1)
+    ap₂ (λ (s : Side) (c : ℕ). record { side = s; channel = c }) (same_side_is a.side b.side parts.0)
+    (eqb-true a.channel b.channel parts.1)
 
 same_is : (d e : Doing) → same_doing d e ≡ true → d ≡ e
 same_is Moves Moves h = refl
@@ -255,12 +244,6 @@ spans_are p i ss a =
     (listed_spans p i (last_clock p) (made p i (last_clock p)) (listed p i))
 
 -- ---- what is drawn of them
-
-pub spans_order : (p : Plan) (i : ℕ) (ss : List Span) → AreSpans p i ss → All (λ (s : Span). s.first ≤ s.until) ss
-spans_order p i ss a k d l =
-    let s = get_or ss k d in
-    let h = ((spans_listed p i (last_clock p) ss a).are s (contains_member ss s (k, l, get_or_default ss k _ _ l))).some in
-    omega arith
 
 drawn_by : (p : Plan) → FitsEngine p → (c i : ℕ) (d : Doing) → doing p c i ≡ Some d → IsDrawn p.design d
 drawn_by p h c i Moves e = tt

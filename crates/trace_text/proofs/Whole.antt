@@ -8,7 +8,7 @@ use Rattle.flow_design.specs.declared.plan.Plan.{Plan}
 use Rattle.flow_design.specs.declared.report.Report.{Report}
 use Rattle.flow_design.specs.StaticRules.{FitsEngine}
 use Rattle.lockstep_defs.specs.Report.{report}
-use Rattle.lockstep_defs.specs.Verdict.{clock_of}
+use Rattle.flow_design.specs.Reports.{clock_of}
 use Rattle.engine_report.specs.Finished.{report_with}
 use Rattle.report_text.specs.ReportText.{module_name}
 use Rattle.fifo_fills.specs.Fills.{fifos, last_clock}

@@ -12,7 +12,7 @@ ghost use Rattle.trace_text.specs.TraceText.{further};
 ghost use Rattle.trace_text.specs.Counters.{first_line, AreTold};
 
 use crate::events::print_fill;
-use fifo_fills::{FillWalk, is_fifo};
+use fifo_fills::FillWalk;
 use flow_design::{Channel, Design, Plan, Report};
 use flow_word::{List, OutOfMemory};
 use report_text::channel_name;
@@ -56,7 +56,7 @@ fn fifo_numbers(alloc: Global, channels: &[Channel]) -> Result<List<u32>, OutOfM
 {
     let mut numbers = List::new(alloc);
     for (number, channel) in channels.iter().enumerate() {
-        if is_fifo(channel.kind) {
+        if channel.kind.is_fifo() {
             numbers.push(number as u32)?;
         }
     }

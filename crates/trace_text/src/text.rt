@@ -3,7 +3,6 @@ ghost use Rattle.std.specs.Prelude.{◌≡◌, ◌++◌, ◌<◌, ◌^◌, map, 
 ghost use Rattle.std.specs.List.{flat_map, range_with_len};
 ghost use Rattle.flow_design.specs.StaticRules.{FitsEngine};
 ghost use Rattle.lockstep_defs.specs.Report as lockstep;
-ghost use Rattle.lockstep_defs.specs.Verdict as verdicts;
 ghost use Rattle.event_timing.specs.Actions.{IsFinal};
 ghost use Rattle.timing_bridge.specs.Designs.{design as design_of};
 ghost use Rattle.sim_core.specs.Views.{theory_of};
@@ -14,7 +13,7 @@ ghost use Rattle.trace_text.specs.TraceText as form;
 
 use crate::events::{print_name, print_spans};
 use crate::fills::fill_lines;
-use flow_design::{Design, Plan, Report, Verdict};
+use flow_design::{Design, Plan, Report};
 use flow_word::{List, OutOfMemory};
 use report_text::module_name;
 use sim_core::Core;
@@ -33,22 +32,10 @@ pub fn trace_text(alloc: Global, core: &Core) -> Result<List<u8>, OutOfMemory>
     let report = core.report(alloc, true)?;
     let mut text = List::from_slice(alloc, b"{\"displayTimeUnit\":\"ns\",\"traceEvents\":[")?;
     print_names(&mut text, &core.plan().design)?;
-    print_tracks(alloc, &mut text, core, clock_of(report.verdict))?;
+    print_tracks(alloc, &mut text, core, report.verdict.clock())?;
     print_counters(alloc, &mut text, core.plan(), &report)?;
     text.extend_from_slice(b"\n]}\n")?;
     Ok(text)
-}
-
-/// The clock of a verdict.
-fn clock_of(verdict: Verdict) -> u64
-    ensures { result ≡ verdicts.clock_of verdict }
-{
-    match verdict {
-        Verdict::Done(clock)
-        | Verdict::Deadlock(clock)
-        | Verdict::Cycles(clock)
-        | Verdict::Ops(clock) => clock,
-    }
 }
 
 /// Adds the names of the modules' tracks, with a comma between each two.

@@ -28,7 +28,7 @@ no_run_join m (Assign k ∷ actions) more a b = no_run_join m actions more a b
 no_run_join m (Answer k ∷ actions) more a b = no_run_join m actions more a b
 no_run_join m (Earliest k ∷ actions) more a b = no_run_join m actions more a b
 
-timings_no_run : (m : ℕ) (actions : List Action) → AreTimings actions → IsNoRunOf m actions
+pub timings_no_run : (m : ℕ) (actions : List Action) → AreTimings actions → IsNoRunOf m actions
 timings_no_run m [] t = tt
 timings_no_run m (Run k ∷ actions) t = absurd t
 timings_no_run m (Assign k ∷ actions) t = timings_no_run m actions t

@@ -9,12 +9,14 @@ use Rattle.std.proofs.lemmas.List.Concat.{flat_map-append}
 use Rattle.flow_design.specs.declared.plan.Plan.{Plan}
 use Rattle.flow_design.specs.declared.report.Report.{Report}
 use Rattle.lockstep_defs.specs.Report.{report}
-use Rattle.lockstep_defs.specs.Verdict.{clock_of}
+use Rattle.flow_design.specs.Reports.{clock_of}
 use Rattle.fifo_fills.specs.Fills.{fifos, fill, fills, last_clock, AreSteady, IsNextClock}
 use Rattle.report_text.specs.Lines.{line, text_of_lines}
-use Rattle.vcd_wave.specs.Wave.{Change, Instant, Wave, fifo_names, changes_between, instant_of, instant_at, instants_to, closing, wave_of, has_some}
+use Rattle.vcd_wave.specs.Wave.{Change, Instant, Wave, fifo_names, changes_between, instant_of, instant_at, instants_to, closing, wave_of}
+use Rattle.vcd_wave.specs.Wave.{has_some}
 use Rattle.vcd_wave.specs.WaveText.{time_tokens, instant_lines}
-use Rattle.vcd_wave.proofs.LineLemmas.{range_push, none_same, text-append}
+use Rattle.vcd_wave.proofs.LineLemmas.{range_push, none_same}
+use Rattle.report_text.proofs.LineLemmas.{text-append}
 
 -- ---- one clock more
 
@@ -236,4 +238,7 @@ last_is p r last e f = f ∙ ap (λ (x : Report). clock_of x.verdict) e
 pub wave_is : (p : Plan) (names : List (List ℕ)) → names ≡ fifo_names p.design.channels
     → record { names = names; later = (wave_of p).later } ≡ wave_of p
 unfolding wave_of
-wave_is p names e = ap (λ (ns : List (List ℕ)). let w : Wave = record { names = ns; later = instants_to p (last_clock p) ++ closing p (last_clock p) } in w) e
+wave_is p names e = ap (λ (ns : List (List ℕ)). let w : Wave = record {
+  names = ns;
+  later = instants_to p (last_clock p) ++ closing p (last_clock p);
+} in w) e

@@ -1,31 +1,31 @@
 -- The lines of the header, of clock 0 and of a clock, one after the other.
-use Rattle.std.proofs.Common.{◌≡◌, ◌≢◌, ℕ, zero, suc, ◌+◌, ◌≤◌, ◌<◌, ◌==◌, Bool, true, false, not, cond, List, [], ◌∷◌, ◌++◌, map, length, take}
-use Rattle.std.proofs.Common.{refl, sym, ◌∙◌, ap, ap₂, subst, arith, get_or, append_assoc, length-append, add-zero, inl, inr, Result, Ok, Err, OnOk}
+use Rattle.std.proofs.Common.{◌≡◌, ◌≢◌, ℕ, zero, suc, ◌+◌, ◌≤◌, ◌<◌, ◌==◌, Bool, true, false, not, cond, List, [], ◌∷◌, ◌++◌, map, length}
+use Rattle.std.proofs.Common.{take}
+use Rattle.std.proofs.Common.{refl, sym, ◌∙◌, ap, ap₂, subst, arith, get_or, append_assoc, length-append, add-zero, inl, inr, Result, Ok}
+use Rattle.std.proofs.Common.{Err, OnOk}
 use Rattle.std.specs.Prelude.{codes}
 use Rattle.std.proofs.Common.{◌&&◌, eqb}
 use Rattle.std.specs.List.{filter, flat_map, range_with_len, enumerate_from}
 use Rattle.std.specs.Cmp.Lexicographic.{pointwise}
 use Rattle.std.proofs.lemmas.Bool.{and_parts, eqb-true, eq-eqb, cases_eq, ne_eqb}
 use Rattle.std.proofs.lemmas.List.{append-nil, map-append, take_more, length-take, length-map, ext_get_or}
-use Rattle.std.proofs.lemmas.List.Concat.{flat_map-append}
 use Rattle.flow_design.specs.declared.design.Channel.{Channel}
 use Rattle.flow_design.specs.Plans.{is_fifo}
 use Rattle.report_text.specs.Lines.{Token, line, text_of_lines}
 use Rattle.vcd_wave.specs.Wave.{Change, Instant, fifo_names, differs, changes_between, instant_of, has_some}
-use Rattle.report_text.proofs.LineLemmas.{line_of_four}
+use Rattle.report_text.proofs.LineLemmas.{line_of_four, text-append}
 use Rattle.vcd_wave.specs.WaveText.{code_of, var_tokens, time_tokens, change_tokens, instant_lines, opening, header_lines, wave_text}
+use Rattle.module_move.proofs.Readiness.{fewer_pass}
 
 -- ---- lines in general
-
-pub text-append : (xs ys : List (List Token)) → text_of_lines (xs ++ ys) ≡ text_of_lines xs ++ text_of_lines ys
-text-append xs ys = flat_map-append line xs ys
 
 -- behind a text with lines, some more
 pub lines_push : (first : List ℕ) (xs : List (List Token)) (x : List Token)
     → (first ++ text_of_lines xs) ++ line x ≡ first ++ text_of_lines (xs ++ x ∷ [])
 lines_push first xs x =
     append_assoc first (text_of_lines xs) (line x)
-    ∙ ap (λ (t : List ℕ). first ++ t) (ap (λ (t : List ℕ). text_of_lines xs ++ t) (sym (append-nil (line x))) ∙ sym (text-append xs (x ∷ [])))
+    ∙ ap (λ (t : List ℕ). first ++ t) (ap (λ (t : List ℕ). text_of_lines xs ++ t) (sym (append-nil (line x)))
+    ∙ sym (text-append xs (x ∷ [])))
 
 pub mapped_push : {X : Type 0} (f : X → List Token) (first : List ℕ) (xs : List X) (x : X)
     → (first ++ text_of_lines (map f xs)) ++ line (f x) ≡ first ++ text_of_lines (map f (xs ++ x ∷ []))
@@ -74,18 +74,10 @@ names_no cs i c l is no_fifo =
     ∙ ap (map (λ (x : Channel). x.name)) (filter-append (λ (x : Channel). is_fifo x.kind) (take i cs) (c ∷ [])
     ∙ (ap (λ (b : Bool). filter (λ (x : Channel). is_fifo x.kind) (take i cs) ++ cond b (c ∷ []) []) no_fifo ∙ append-nil _))
 
-filter_few : {X : Type 0} (p : X → Bool) (xs : List X) → length (filter p xs) ≤ length xs
-filter_few p [] = omega arith
-filter_few {X} p (x ∷ xs) = by_test (p x) (filter_few p xs)
-  where
-    by_test : (b : Bool) → length (filter p xs) ≤ length xs → length (cond b (x ∷ filter p xs) (filter p xs)) ≤ suc (length xs)
-    by_test true h = omega arith
-    by_test false h = omega arith
-
 pub names_few : (cs : List Channel) (i : ℕ) → length (fifo_names (take i cs)) ≤ i
 names_few cs i =
     let mapped = length-map (filter (λ (x : Channel). is_fifo x.kind) (take i cs)) (λ (x : Channel). x.name) in
-    let few = filter_few (λ (x : Channel). is_fifo x.kind) (take i cs) in
+    let few = fewer_pass (λ (x : Channel). is_fifo x.kind) (take i cs) in
     omega (arith, length-take i cs)
 
 -- what stands behind the lines of some of the channels
@@ -123,7 +115,8 @@ abbrev pub zeros_to : ℕ → List Change
 zeros_to n = map (λ i. record { fifo = i; fill = 0 }) (range_with_len 0 n)
 
 pub zeros_push : (n : ℕ) → zeros_to (n + 1) ≡ zeros_to n ++ record { fifo = n; fill = 0 } ∷ []
-zeros_push n = ap (map (λ i. let x : Change = record { fifo = i; fill = 0 } in x)) (range_push 0 n ∙ ap (λ (m : ℕ). range_with_len 0 n ++ m ∷ []) (omega arith))
+zeros_push n = ap (map (λ i. let x : Change = record { fifo = i; fill = 0 } in x))
+    (range_push 0 n ∙ ap (λ (m : ℕ). range_with_len 0 n ++ m ∷ []) (omega arith))
     ∙ map-append (λ i. let x : Change = record { fifo = i; fill = 0 } in x) (range_with_len 0 n) (n ∷ [])
 
 pub opening_more : (first : List ℕ) (n : ℕ)
@@ -142,7 +135,8 @@ pub changes_more : (before now : List ℕ) (n : ℕ) (b : Bool) → differs befo
     → changes_to before now (n + 1) ≡ changes_to before now n ++ cond b (record { fifo = n; fill = get_or now n 0 } ∷ []) []
 changes_more before now n b e =
     let mk : ℕ → Change = λ i. record { fifo = i; fill = get_or now i 0 } in
-    ap (λ (l : List ℕ). map mk (filter (differs before now) l)) (range_push 0 n ∙ ap (λ (m : ℕ). range_with_len 0 n ++ m ∷ []) (omega arith))
+    ap (λ (l : List ℕ). map mk (filter (differs before now) l))
+    (range_push 0 n ∙ ap (λ (m : ℕ). range_with_len 0 n ++ m ∷ []) (omega arith))
     ∙ (ap (map mk) (filter-append (differs before now) (range_with_len 0 n) (n ∷ []))
     ∙ (map-append mk (filter (differs before now) (range_with_len 0 n)) (cond (differs before now n) (n ∷ []) [])
     ∙ ap (λ (l : List Change). changes_to before now n ++ l) (by_test b e)))
@@ -294,6 +288,7 @@ pub whole_text : (names : List (List ℕ)) (later : List Instant) (a b c d : Lis
 unfolding wave_text
 whole_text names later a b c d p q r s =
     s ∙ (ap (λ (t : List ℕ). t ++ text_of_lines (flat_map instant_lines later))
-    (r ∙ (ap (λ (t : List ℕ). t ++ text_of_lines (instant_lines (opening (length names)))) (q ∙ ap (λ (t : List ℕ). t ++ text_of_lines (header_lines names)) p)
+    (r ∙ (ap (λ (t : List ℕ). t ++ text_of_lines (instant_lines (opening (length names))))
+    (q ∙ ap (λ (t : List ℕ). t ++ text_of_lines (header_lines names)) p)
     ∙ sym (text-append (header_lines names) (instant_lines (opening (length names))))))
     ∙ sym (text-append (header_lines names ++ instant_lines (opening (length names))) (flat_map instant_lines later)))

@@ -23,21 +23,19 @@ use Rattle.lockstep_defs.specs.Channels.{moved}
 use Rattle.lockstep_defs.proofs.Settled.{history-zero}
 use Rattle.lockstep_defs.proofs.Queue.{moved-nil}
 use Rattle.lockstep_defs.proofs.Queue.{all-append}
-use Rattle.vcd_wave.specs.Wave.{Change, Instant, fifo_names, differs, changes_between, instant_of, instant_at, instants_to, closing, wave_of, has_some}
+use Rattle.vcd_wave.specs.Wave.{Change, Instant, fifo_names, differs, changes_between, instant_of, instant_at, instants_to, closing}
+use Rattle.vcd_wave.specs.Wave.{wave_of, has_some}
 use Rattle.vcd_wave.specs.Told.{last_or, told_in, last_told, Varies, IsChange, IsWave}
 use Rattle.vcd_wave.proofs.LineLemmas.{changes_to, changes_more}
 use Rattle.vcd_wave.proofs.Instants.{instants_zero, instants_more, later_is}
 use Rattle.vcd_wave.proofs.Telling.{tells_up_to, told-append, last_push}
+use Rattle.fifo_fills.proofs.Acts.{all_map}
 
 -- ---- lists in order
 
 abbrev Rises : {X : Type 0} → (X → ℕ) → List X → Type 0
 Rises key [] = Unit {0}
 Rises key (x ∷ xs) = AllByRecursion (λ y. key x < key y) xs × Rises key xs
-
-all_map : {X : Type 0} (P Q : X → Type 0) → ((x : X) → P x → Q x) → (xs : List X) → AllByRecursion P xs → AllByRecursion Q xs
-all_map P Q f [] h = tt
-all_map P Q f (x ∷ xs) h = (f x h.0, all_map P Q f xs h.1)
 
 -- what is below a bound, and then what is not
 rises-append : {X : Type 0} (key : X → ℕ) (bound : ℕ) (xs ys : List X) → Rises key xs → Rises key ys
@@ -248,7 +246,8 @@ last_instant : (c : ℕ) (xs : List Instant) (cs : List Change) → has_some (in
     → last_or 0 (clock_list (xs ++ instant_of c cs)) ≡ c
 last_instant c xs [] e = cc
 last_instant c xs (x ∷ rest) e =
-    ap (last_or 0) (map-append (λ (i : Instant). i.clock) xs (record { clock = c; changes = x ∷ rest } ∷ [])) ∙ last_push 0 (clock_list xs) c
+    ap (last_or 0) (map-append (λ (i : Instant). i.clock) xs (record { clock = c; changes = x ∷ rest } ∷ []))
+    ∙ last_push 0 (clock_list xs) c
 
 last_by : (p : Plan) (last : ℕ) (b : Bool) → closes p last ≡ b
     → last_or 0 (clock_list (instants_to p last ++ cond b (record { clock = last; changes = [] } ∷ []) [])) ≡ last

@@ -1,5 +1,6 @@
 -- What a wave tells of each FIFO in each clock.
-use Rattle.std.specs.Prelude.{ℕ, ◌≡◌, ◌≢◌, ◌+◌, ◌^◌, ◌<◌, ◌≤◌, ◌==◌, nat_le, IsTrue, List, [], ◌∷◌, map, filter, length, slice_index_or, All, AllPairs}
+use Rattle.std.specs.Prelude.{ℕ, ◌≡◌, ◌≢◌, ◌+◌, ◌^◌, ◌<◌, ◌≤◌, ◌==◌, nat_le, IsTrue, List, [], ◌∷◌, map, filter, length, slice_index_or}
+use Rattle.std.specs.Prelude.{All, AllPairs}
 use Rattle.std.specs.List.{flat_map}
 use Rattle.flow_design.specs.Names.{is_name}
 use Rattle.vcd_wave.specs.Wave.{Change, Instant, Wave}

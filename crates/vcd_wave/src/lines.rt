@@ -6,7 +6,6 @@ ghost use Rattle.vcd_wave.specs.Wave.{fifo_names, changes_between, has_some, ins
 ghost use Rattle.vcd_wave.specs.WaveText.{code_of, var_tokens, time_tokens, change_tokens, header_lines, opening, instant_lines};
 
 use crate::binary::push_binary;
-use fifo_fills::is_fifo;
 use flow_design::Channel;
 use flow_word::{List, OutOfMemory};
 use report_text::{push_number, push_token};
@@ -38,7 +37,7 @@ fn print_vars(text: &mut List<u8>, channels: &[Channel]) -> Result<u64, OutOfMem
 {
     let mut count = 0;
     for channel in channels {
-        if is_fifo(channel.kind) {
+        if channel.kind.is_fifo() {
             print_var(text, count, channel.name.bytes())?;
             count += 1;
         }

@@ -3,7 +3,6 @@ ghost use Rattle.std.specs.Prelude.{◌≡◌, ◌++◌, IfOk, OnOk};
 ghost use Rattle.std.specs.List.{flat_map};
 ghost use Rattle.flow_design.specs.StaticRules.{FitsEngine};
 ghost use Rattle.lockstep_defs.specs.Report as lockstep;
-ghost use Rattle.lockstep_defs.specs.Verdict as verdicts;
 ghost use Rattle.event_timing.specs.Actions.{IsFinal};
 ghost use Rattle.timing_bridge.specs.Designs.{design as design_of};
 ghost use Rattle.sim_core.specs.Views.{theory_of};
@@ -14,7 +13,7 @@ ghost use Rattle.vcd_wave.specs.WaveText as form;
 
 use crate::lines::{print_header, print_instant, print_opening, print_time};
 use fifo_fills::FillWalk;
-use flow_design::{Design, Plan, Report, Verdict};
+use flow_design::{Design, Plan, Report};
 use flow_word::{List, OutOfMemory, Words};
 use sim_core::Core;
 use std::alloc::Global;
@@ -38,18 +37,6 @@ pub fn wave_text(alloc: Global, design: &Design, core: &Core) -> Result<List<u8>
     Ok(text)
 }
 
-/// The clock of a verdict.
-fn clock_of(verdict: Verdict) -> u64
-    ensures { result ≡ verdicts.clock_of verdict }
-{
-    match verdict {
-        Verdict::Done(clock)
-        | Verdict::Deadlock(clock)
-        | Verdict::Cycles(clock)
-        | Verdict::Ops(clock) => clock,
-    }
-}
-
 /// Adds the clocks behind clock 0 in which a FIFO holds another number of elements than in the clock before, and the last clock.
 fn print_later(
     alloc: Global,
@@ -71,7 +58,7 @@ fn print_later(
         }
         before.as_mut_slice().copy_from_slice(now);
     }
-    let last = clock_of(report.verdict);
+    let last = report.verdict.clock();
     if told < last {
         print_time(text, last)?;
     }

@@ -1,5 +1,6 @@
 -- What stands before the later clocks.
-use Rattle.std.proofs.Common.{◌≡◌, ℕ, suc, ◌+◌, ◌-◌, ◌^◌, ◌<◌, ◌≤◌, true, false, List, [], ◌∷◌, ◌++◌, length, take, drop, nat_eq, ◌⊎◌, inl, inr}
+use Rattle.std.proofs.Common.{◌≡◌, ℕ, suc, ◌+◌, ◌-◌, ◌^◌, ◌<◌, ◌≤◌, true, false, List, [], ◌∷◌, ◌++◌, length, take, drop, nat_eq, ◌⊎◌}
+use Rattle.std.proofs.Common.{inl, inr}
 use Rattle.std.proofs.Common.{refl, sym, ◌∙◌, ap, ap₂, arith, subst, get_or, append_assoc, length-append}
 use Rattle.std.specs.Prelude.{IsTrue, codes, decimal}
 use Rattle.std.specs.Cmp.Lexicographic.{same_text, other_text, pointwise}
@@ -13,10 +14,6 @@ use Rattle.wave_reader.specs.Headers.{named, Names, empty_text, empty_from}
 use Rattle.wave_reader.proofs.Cutting.{cut, name_lacks}
 use Rattle.wave_reader.proofs.Numerals.{numeral_binary, numeral_decimal, lacks_each}
 use Rattle.wave_reader.proofs.OneWave.{vars_from, var_parts, change_parts}
-
-pub is_nothing : (xs : List ℕ) → length xs ≡ 0 → xs ≡ []
-is_nothing [] h = refl
-is_nothing (x ∷ xs) h = absurd (omega arith)
 
 pub front_is : (text front : List ℕ) → true ≡ pointwise nat_eq front (take (length front) text)
     → text ≡ front ++ drop (length front) text

@@ -13,8 +13,9 @@ use Rattle.vcd_wave.specs.Binary.{binary}
 use Rattle.vcd_wave.specs.Wave.{Change, Instant, Wave}
 use Rattle.vcd_wave.specs.WaveText.{code_of, var_tokens, time_tokens, change_tokens, instant_lines, opening, header_lines, wave_text}
 use Rattle.vcd_wave.specs.Told.{IsChange, IsWave}
-use Rattle.vcd_wave.proofs.LineLemmas.{text-append}
 use Rattle.wave_reader.proofs.Cutting.{Lacks, cut, decimal_lacks, binary_lacks, binary_same, name_lacks}
+use Rattle.fifo_fills.proofs.Acts.{all_map}
+use Rattle.report_text.proofs.LineLemmas.{text-append}
 
 -- ---- lines and what follows
 
@@ -182,11 +183,6 @@ names_long w =
     let parts = ap length (wave_parts w) ∙ length-append scope (vars_from 0 w.names ++ rest) in
     omega (arith, parts, vars_long 0 w.names rest)
 
--- each element keeps what it is said to keep
-pub each : {X : Type 0} (P Q : X → Type 0) → ((x : X) → P x → Q x) → (xs : List X) → AllByRecursion P xs → AllByRecursion Q xs
-each P Q f [] h = tt
-each P Q f (x ∷ xs) h = (f x h.0, each P Q f xs h.1)
-
 pub both : {X : Type 0} (P Q : X → Type 0) (xs : List X) → AllByRecursion P xs → AllByRecursion Q xs → AllByRecursion (λ x. P x × Q x) xs
 both P Q [] h g = tt
 both P Q (x ∷ xs) h g = ((h.0, g.0), both P Q xs h.1 g.1)
@@ -195,14 +191,14 @@ pub timed : (w : Wave) → IsWave w → length w.names < 2 ^ 64 → AllByRecursi
 timed w h few =
     both (λ (i : Instant). i.clock < 2 ^ 64) (λ (i : Instant). AllByRecursion IsWritten i.changes) w.later
     (recursion_from_All (λ (i : Instant). i.clock < 2 ^ 64) w.later h.clocks)
-    (each (λ (i : Instant). All (IsChange (length w.names)) i.changes) (λ (i : Instant). AllByRecursion IsWritten i.changes)
-    (λ i all. each (IsChange (length w.names)) IsWritten (λ c g. omega (arith, g.declared)) i.changes
+    (all_map (λ (i : Instant). All (IsChange (length w.names)) i.changes) (λ (i : Instant). AllByRecursion IsWritten i.changes)
+    (λ i all. all_map (IsChange (length w.names)) IsWritten (λ c g. omega (arith, g.declared)) i.changes
     (recursion_from_All (IsChange (length w.names)) i.changes all))
     w.later (recursion_from_All (λ (i : Instant). All (IsChange (length w.names)) i.changes) w.later h.changes))
 
 pub names_lack : (w : Wave) → IsWave w → AllByRecursion (Lacks 32) w.names
 names_lack w h =
-    each (λ (n : List ℕ). IsTrue (is_name n)) (Lacks 32) name_lacks w.names
+    all_map (λ (n : List ℕ). IsTrue (is_name n)) (Lacks 32) name_lacks w.names
     (recursion_from_All (λ (n : List ℕ). IsTrue (is_name n)) w.names h.names)
 
 pub one_wave : (v w : Wave) → IsWave v → IsWave w → length v.names < 2 ^ 64 → wave_text v ≡ wave_text w → v ≡ w

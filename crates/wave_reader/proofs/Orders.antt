@@ -1,5 +1,6 @@
 -- Lines in order are those of waves.
-use Rattle.std.proofs.Common.{◌≡◌, ◌≢◌, ℕ, zero, suc, ◌+◌, ◌^◌, ◌<◌, ◌≤◌, Bool, true, false, cond, eqb, leb, List, [], ◌∷◌, ◌++◌, map, length, Some, inl, inr}
+use Rattle.std.proofs.Common.{◌≡◌, ◌≢◌, ℕ, zero, suc, ◌+◌, ◌^◌, ◌<◌, ◌≤◌, Bool, true, false, cond, eqb, leb, List, [], ◌∷◌, ◌++◌, map}
+use Rattle.std.proofs.Common.{length, Some, inl, inr}
 use Rattle.std.proofs.Common.{refl, sym, ◌∙◌, ap, arith, subst, get_or, eq-eqb}
 use Rattle.std.specs.List.{filter, All, AllByRecursion, AllPairs}
 use Rattle.std.proofs.lemmas.List.Kept.{AllPairs-cons}
@@ -8,10 +9,10 @@ use Rattle.std.proofs.lemmas.Bool.{cases_eq, ne_eqb}
 use Rattle.std.proofs.lemmas.Bool.Decides.{leb_tells}
 use Rattle.vcd_wave.specs.Wave.{Change, Instant}
 use Rattle.vcd_wave.specs.Told.{last_or, told_in, Varies, IsChange}
-use Rattle.wave_reader.proofs.OneWave.{each}
 use Rattle.wave_reader.specs.Scans.{change_step, time_step, ChangesLead, InstantsLead}
 use Rattle.wave_reader.specs.declared.scan.Asked.{Asked}
 use Rattle.wave_reader.specs.declared.scan.Scan.{Scan}
+use Rattle.fifo_fills.proofs.Acts.{all_map as each}
 
 -- ---- one change
 

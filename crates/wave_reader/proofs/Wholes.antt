@@ -13,9 +13,10 @@ use Rattle.wave_reader.specs.Scans.{ChangesLead, InstantsLead, Leads, LeadsFor, 
 use Rattle.wave_reader.specs.declared.scan.Asked.{Asked}
 use Rattle.wave_reader.specs.declared.scan.Scan.{Scan}
 use Rattle.wave_reader.proofs.OneWave.{changes_text, instants_text, opening_text, vars_from, scope, end_of_scope, wave_parts}
-use Rattle.wave_reader.proofs.OneWave.{names_long, instants_same, IsTimed, IsWritten, each, both, timed}
+use Rattle.wave_reader.proofs.OneWave.{names_long, instants_same, IsTimed, IsWritten, both, timed}
 use Rattle.vcd_wave.specs.Told.{last_or}
 use Rattle.wave_reader.proofs.Orders.{changes_told, InstantsTold, instants_told, instants_go}
+use Rattle.fifo_fills.proofs.Acts.{all_map}
 
 abbrev last_clock : List Instant → ℕ
 last_clock is = last_or 0 (map (λ i. i.clock) is)
@@ -42,8 +43,8 @@ opened a text r h = opened_from a text r h.middle h.changes h.later h.is_text h.
 timed_by : (a : Asked) (text : List ℕ) (r : Scan) (o : Opened a text r) → a.count < 2 ^ 64 → AllByRecursion IsTimed o.later
 timed_by a text r o few =
     both (λ (i : Instant). i.clock < 2 ^ 64) (λ (i : Instant). AllByRecursion IsWritten i.changes) o.later o.told.clocks
-    (each (λ (i : Instant). All (IsChange a.count) i.changes) (λ (i : Instant). AllByRecursion IsWritten i.changes)
-    (λ i all. each (IsChange a.count) IsWritten (λ c g. omega (arith, g.declared, few)) i.changes
+    (all_map (λ (i : Instant). All (IsChange a.count) i.changes) (λ (i : Instant). AllByRecursion IsWritten i.changes)
+    (λ i all. all_map (IsChange a.count) IsWritten (λ c g. omega (arith, g.declared, few)) i.changes
     (recursion_from_All (IsChange a.count) i.changes all)) o.later o.told.changes)
 
 empties : (k n : ℕ) → empty_from k n ≡ map (λ i. let x : Change = record { fifo = i; fill = 0 } in x) (range_with_len k n)

@@ -1,5 +1,6 @@
 -- Lines of clocks and changes, read in order for one FIFO.
-use Rattle.std.specs.Prelude.{ℕ, ◌≡◌, ◌+◌, ◌^◌, ◌<◌, ◌==◌, ◌&&◌, not, nat_le, nat_lt, true, false, if◌then◌else◌, List, [], ◌∷◌, ◌++◌, map, Option, None, Some}
+use Rattle.std.specs.Prelude.{ℕ, ◌≡◌, ◌+◌, ◌^◌, ◌<◌, ◌==◌, ◌&&◌, not, nat_le, nat_lt, true, false, if◌then◌else◌, List, [], ◌∷◌, ◌++◌}
+use Rattle.std.specs.Prelude.{map, Option, None, Some}
 use Rattle.std.specs.List.{flat_map}
 use Rattle.report_text.specs.Lines.{text_of_lines}
 use Rattle.vcd_wave.specs.Wave.{Change as WaveChange, Instant}

@@ -1,6 +1,6 @@
 -- A job, report after report.
-use Rattle.std.proofs.Common.{◌≡◌, refl, sym, ◌∙◌, ap, ap₂, subst, arith, ℕ, zero, suc, ◌+◌, ◌<◌, ◌≤◌, Bool, true, false, cond, List, []}
-use Rattle.std.proofs.Common.{◌∷◌, ◌++◌, length, map, take, get_or, All, add-one, add-zero, append-nil}
+use Rattle.std.proofs.Common.{◌≡◌, refl, sym, ◌∙◌, ap, ap₂, subst, arith, ℕ, ◌+◌, ◌<◌, ◌≤◌, Bool, true, false, cond, List, []}
+use Rattle.std.proofs.Common.{◌∷◌, ◌++◌, length, map, take, get_or, All, add-one, append-nil}
 use Rattle.std.specs.Prelude.{if◌then◌else◌, flat_map}
 use Rattle.std.specs.List.{range_with_len, enumerate_from}
 use Rattle.std.proofs.lemmas.List.{map-append, take_more, flat_map_more, length-map}
@@ -26,13 +26,9 @@ use Rattle.whole_answer.specs.Answer.{IsAnswer}
 use Rattle.whole_answer.specs.Job.{plan_at, report_at, first_numbers, texts_of, counts_in, status_of, is_done, first_not_done, statuses_of}
 use Rattle.whole_answer.specs.Job.{job}
 use Rattle.whole_answer.specs.Going.{Told, told_of, first_told, more_told, HasAdded, IsGoing}
+use Rattle.flow_word.proofs.Ranges.{range_more}
 
 -- ---- lists that grow at their end
-
-numbers_more : (a n : ℕ) → range_with_len a (suc n) ≡ range_with_len a n ++ (a + n) ∷ []
-numbers_more a zero = ap (λ k. k ∷ []) (sym (add-zero a))
-numbers_more a (suc n) =
-    ap (λ ks. a ∷ ks) (numbers_more (a + 1) n ∙ ap (λ k. range_with_len (a + 1) n ++ k ∷ []) (omega arith))
 
 counts_more : (c : RunCount) (all : List (List (List Bool))) (found : List (List Bool))
     → counts_after c (all ++ found ∷ []) ≡ next_counts (counts_after c all) found
@@ -74,11 +70,11 @@ unfolding next_counts
 runs_more c found = one_run_at_most (all_go_on c.kept found) _ found c.runs
 
 one_number_more : (k : ℕ) → first_numbers ((k + 1) + 1) ≡ first_numbers (k + 1) ++ (k + 1) ∷ []
-one_number_more k = ap (range_with_len 0) (add-one (k + 1)) ∙ (numbers_more 0 (k + 1)
+one_number_more k = ap (range_with_len 0) (add-one (k + 1)) ∙ (range_more 0 (k + 1)
     ∙ ap (λ (j : ℕ). range_with_len 0 (k + 1) ++ j ∷ []) (omega arith))
 
 one_edit_more : (k : ℕ) → range_with_len 1 (k + 1) ≡ range_with_len 1 k ++ (k + 1) ∷ []
-one_edit_more k = ap (range_with_len 1) (add-one k) ∙ (numbers_more 1 k ∙ ap (λ (j : ℕ). range_with_len 1 k ++ j ∷ []) (omega arith))
+one_edit_more k = ap (range_with_len 1) (add-one k) ∙ (range_more 1 k ∙ ap (λ (j : ℕ). range_with_len 1 k ++ j ∷ []) (omega arith))
 
 -- ---- a job
 

@@ -11,10 +11,12 @@ module _ (lo hi : ℕ) (p : Plan) where
   swept_few few = elim (cases_lt most_points (length (grid_of p lo hi))) [
     | inl wide ↦ absurd (few wide)
     | inr most ↦
-        sym (ap (λ (b : Bool). cond b refused_grid (told_points (map (point p) (grid_of p lo hi)))) (le-ltb most_points (length (grid_of p lo hi)) most))
+        sym (ap (λ (b : Bool). cond b refused_grid (told_points (map (point p) (grid_of p lo hi))))
+        (le-ltb most_points (length (grid_of p lo hi)) most))
   ]
 
   pub swept_wide : most_points < length (grid_of p lo hi) → refused_grid ≡ swept lo hi p
   unfolding swept
   swept_wide wide =
-      sym (ap (λ (b : Bool). cond b refused_grid (told_points (map (point p) (grid_of p lo hi)))) (lt-ltb most_points (length (grid_of p lo hi)) wide))
+      sym (ap (λ (b : Bool). cond b refused_grid (told_points (map (point p) (grid_of p lo hi))))
+      (lt-ltb most_points (length (grid_of p lo hi)) wide))

@@ -7,7 +7,7 @@ use Rattle.flow_design.specs.declared.plan.Plan.{Plan}
 use Rattle.flow_design.specs.declared.report.Verdict.{Verdict}
 use Rattle.flow_design.specs.declared.report.Verdict.TheVariants as verdict
 use Rattle.lockstep_defs.specs.Report.{report}
-use Rattle.lockstep_defs.specs.Verdict.{clock_of}
+use Rattle.flow_design.specs.Reports.{clock_of}
 use Rattle.serial_order.specs.declared.order.Used.{Used}
 use Rattle.serial_order.specs.declared.order.Used.TheVariants as used
 use Rattle.serial_order.specs.declared.order.Order.{Order}

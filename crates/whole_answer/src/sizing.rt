@@ -6,10 +6,11 @@ ghost use Rattle.whole_answer.specs.Further.{sized};
 
 use crate::answer::Answer;
 use crate::status::Status;
+use depth_session::ThreadRunner;
 use flow_design::Plan;
 use flow_word::OutOfMemory;
 use least_depths::tell_sizes;
-use run_threads::{Gate, ThreadRunner};
+use run_threads::Gate;
 use std::alloc::Global;
 use std::sync::Wait;
 use std::thread::Threads;

@@ -1,7 +1,8 @@
 use Rattle.std.proofs.Common.{◌≡◌, ◌<◌, map, List}
 use Rattle.std.specs.Prelude.{is_some}
 use Rattle.flow_design.specs.declared.plan.Plan.{Plan}
-use Rattle.lockstep_defs.specs.Verdict.{verdict, clock_of}
+use Rattle.lockstep_defs.specs.Verdict.{verdict}
+use Rattle.flow_design.specs.Reports.{clock_of}
 use Rattle.query_log.specs.Logs.{Log}
 use Rattle.event_graph.specs.Lanes.{lane_at, cycle_bound}
 use Rattle.engine_view.specs.Held.{held}

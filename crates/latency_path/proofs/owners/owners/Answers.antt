@@ -7,4 +7,5 @@ loop-channel-preserved c =
     let p = c.args.plan.now in
     owners_more p c.args.side c.loop-channel.channel c.loop-channel.found c.push.new.self c.owner.result c.loop-channel.invariant
     c.in_ok-push.ensures.ok
-    (c.owner.ensures ∙ owner_is p (record { side = c.args.side; channel = c.loop-channel.channel }) c.as_slice.result.now c.as_slice.ensures)
+    (c.owner.ensures
+    ∙ owner_is p (record { side = c.args.side; channel = c.loop-channel.channel }) c.as_slice.result.now c.as_slice.ensures)

@@ -9,13 +9,15 @@ use Rattle.latency_path.proofs.walk.before_link.Goals as goal
 
 pub bounds-pushers-channel : goal.bounds-pushers-channel
 bounds-pushers-channel c =
-    let inside = subst (λ (o : Option Port). IfSome o (λ a. a.channel < length c.args.plan.now.design.channels)) c.in_ok-port.was c.requires.crossed in
+    let inside = subst
+    (λ (o : Option Port). IfSome o (λ a. a.channel < length c.args.plan.now.design.channels)) c.in_ok-port.was c.requires.crossed in
     let count = ap (λ (xs : List ℕ). length xs) c.requires.pushers ∙ owners_count c.args.plan.now side.Push in
     omega arith
 
 pub bounds-poppers-channel : goal.bounds-poppers-channel
 bounds-poppers-channel c =
-    let inside = subst (λ (o : Option Port). IfSome o (λ a. a.channel < length c.args.plan.now.design.channels)) c.in_ok-port.was c.requires.crossed in
+    let inside = subst
+    (λ (o : Option Port). IfSome o (λ a. a.channel < length c.args.plan.now.design.channels)) c.in_ok-port.was c.requires.crossed in
     let count = ap (λ (xs : List ℕ). length xs) c.requires.poppers ∙ owners_count c.args.plan.now side.Pop in
     omega arith
 

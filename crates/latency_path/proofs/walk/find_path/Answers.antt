@@ -1,6 +1,7 @@
 use Rattle.std.proofs.Common.{sym, ap, subst, arith, ℕ, ◌<◌, ◌≤◌, length}
 use Rattle.std.specs.Prelude.{IfSome}
-use Rattle.lockstep_defs.specs.Verdict.{verdict, clock_of}
+use Rattle.lockstep_defs.specs.Verdict.{verdict}
+use Rattle.flow_design.specs.Reports.{clock_of}
 use Rattle.timing_bridge.specs.Designs.{lag_in}
 use Rattle.depth_order.specs.declared.link.Link.{Link}
 use Rattle.latency_path.specs.Walks.{IsLastMove}

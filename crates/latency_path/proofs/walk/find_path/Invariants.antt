@@ -1,4 +1,5 @@
-use Rattle.lockstep_defs.specs.Verdict.{verdict, clock_of}
+use Rattle.lockstep_defs.specs.Verdict.{verdict}
+use Rattle.flow_design.specs.Reports.{clock_of}
 use Rattle.latency_path.proofs.Chains.{IsWalk, left}
 use Rattle.latency_path.proofs.walk.find_path.Given as goal
 

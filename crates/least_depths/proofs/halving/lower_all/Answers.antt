@@ -26,17 +26,20 @@ is_fifo-requires g c =
 
 pub lower-requires-clause-entry : goal.lower-requires-clause-entry
 lower-requires-clause-entry g c = λ κs outlives. (next_depth c.args.session.now.plan c.requires.fits c.args.clock c.loop-channel.channel
-    c.loop-channel.session.plan c.loop-channel.invariant.plan (let count = c.len-channels.ensures ∙ ap (λ (p : Plan). length p.design.channels) c.plan.ensures in
+    c.loop-channel.session.plan c.loop-channel.invariant.plan
+    (let count = c.len-channels.ensures ∙ ap (λ (p : Plan). length p.design.channels) c.plan.ensures in
     omega (arith, c.loop-channel-test.true)) (sym c.is_fifo.ensures ∙ c.if-is_fifo.true)).entry
 
 pub lower-requires-clause-least : goal.lower-requires-clause-least
 lower-requires-clause-least g c = λ κs outlives. (next_depth c.args.session.now.plan c.requires.fits c.args.clock c.loop-channel.channel
-    c.loop-channel.session.plan c.loop-channel.invariant.plan (let count = c.len-channels.ensures ∙ ap (λ (p : Plan). length p.design.channels) c.plan.ensures in
+    c.loop-channel.session.plan c.loop-channel.invariant.plan
+    (let count = c.len-channels.ensures ∙ ap (λ (p : Plan). length p.design.channels) c.plan.ensures in
     omega (arith, c.loop-channel-test.true)) (sym c.is_fifo.ensures ∙ c.if-is_fifo.true)).least
 
 pub lower-requires-clause-most : goal.lower-requires-clause-most
 lower-requires-clause-most g c = λ κs outlives. (next_depth c.args.session.now.plan c.requires.fits c.args.clock c.loop-channel.channel
-    c.loop-channel.session.plan c.loop-channel.invariant.plan (let count = c.len-channels.ensures ∙ ap (λ (p : Plan). length p.design.channels) c.plan.ensures in
+    c.loop-channel.session.plan c.loop-channel.invariant.plan
+    (let count = c.len-channels.ensures ∙ ap (λ (p : Plan). length p.design.channels) c.plan.ensures in
     omega (arith, c.loop-channel-test.true)) (sym c.is_fifo.ensures ∙ c.if-is_fifo.true)).most
 
 pub loop-channel-preserved : goal.loop-channel-preserved
@@ -58,7 +61,8 @@ loop-channel-preserved g c =
             few = subst (λ (t : ℕ). t ≤ (n + 1) * FIFO_DEPTH) (sym w.tries-is) (omega (arith, x.few));
             plan = ap (λ (s : Session). s.plan) w.session-is
                 ∙ fifo_plan p c.requires.fits clock n q w.lower.new.session.plan x.plan fifo ok.plan;
-            tries = w.tries-is ∙ fifo_tries p c.requires.fits clock n q c.loop-channel.tries w.in_ok-tries.field-0 x.plan fifo x.tries ok.tries;
+            tries = w.tries-is
+                ∙ fifo_tries p c.requires.fits clock n q c.loop-channel.tries w.in_ok-tries.field-0 x.plan fifo x.tries ok.tries;
           }
       | else-is_fifo w ↦
           let other = sym c.is_fifo.ensures ∙ w.if-is_fifo.false in

@@ -3,8 +3,9 @@ use Rattle.flow_word.specs.declared.access.Side.TheVariants.{Pop, Push}
 use Rattle.report_text.specs.Lines.{text_of_lines}
 use Rattle.report_text.specs.ReportText.{channel_name}
 use Rattle.path_text.specs.PathText.{cross_lines}
-use Rattle.path_text.proofs.Printed.{numbers_more, two_groups}
+use Rattle.path_text.proofs.Printed.{two_groups}
 use Rattle.path_text.proofs.lines.print_channels.Goals as goal
+use Rattle.report_text.proofs.LineLemmas.{numbers_more}
 
 pub loop-number-preserved : goal.loop-number-preserved
 loop-number-preserved c =

@@ -3,7 +3,8 @@ use Rattle.std.specs.Prelude.{All, sum_by}
 use Rattle.flow_design.specs.declared.plan.Plan.{Plan}
 use Rattle.flow_design.specs.declared.report.Verdict.{Verdict}
 use Rattle.flow_design.specs.StaticRules.{FitsEngine}
-use Rattle.lockstep_defs.specs.Verdict.{verdict, clock_of}
+use Rattle.lockstep_defs.specs.Verdict.{verdict}
+use Rattle.flow_design.specs.Reports.{clock_of}
 use Rattle.stall_spans.specs.declared.span.Span.{Span}
 use Rattle.latency_path.specs.Walks.{HasSpans}
 use Rattle.depth_order.specs.declared.link.Link.{Link}
@@ -16,7 +17,7 @@ use Rattle.path_text.proofs.text.path_text.Goals as goal
 
 pub all_spans-requires-clause-clock : goal.all_spans-requires-clause-clock
 all_spans-requires-clause-clock c =
-    c.clock_of.ensures ∙ ap clock_of (verdict_is c.args.core.now.plan c.in_ok-report.report c.in_ok-report.ensures)
+    c.clock.ensures ∙ ap clock_of (verdict_is c.args.core.now.plan c.in_ok-report.report c.in_ok-report.ensures)
 
 pub find_path-requires-clause-fits : goal.find_path-requires-clause-fits
 find_path-requires-clause-fits c = subst FitsEngine (sym c.plan.ensures) c.modules-modules.ensures.fits
@@ -24,7 +25,7 @@ find_path-requires-clause-fits c = subst FitsEngine (sym c.plan.ensures) c.modul
 pub find_path-requires-clause-spans : goal.find_path-requires-clause-spans
 find_path-requires-clause-spans c =
     let p = c.args.core.now.plan in
-    let clock = c.clock_of.ensures ∙ ap clock_of (verdict_is p c.in_ok-report.report c.in_ok-report.ensures) in
+    let clock = c.clock.ensures ∙ ap clock_of (verdict_is p c.in_ok-report.report c.in_ok-report.ensures) in
     subst (λ (q : Plan). HasSpans q (clock_of (verdict q)) c.as_slice.result.now) (sym c.plan.ensures)
     (subst (λ (ss : List (List Span)). HasSpans p (clock_of (verdict p)) ss) (sym c.as_slice.ensures)
     (subst (λ (k : ℕ). HasSpans p k c.in_ok-spans.spans) clock c.in_ok-spans.ensures))
@@ -51,8 +52,8 @@ print_counts-requires-clause-few c =
     let p = c.args.core.now.plan in
     let links = ap (sum_by clocks_of) (c.as_slice-2.ensures ∙ (c.in_ok-links.ensures ∙ ap path_of c.plan.ensures)) in
     let few = path_few p c.modules-modules.ensures.fits (clock_of (verdict p)) in
-    let clock = c.clock_of.ensures ∙ ap clock_of (verdict_is p c.in_ok-report.report c.in_ok-report.ensures) in
-    let fits = c.clock_of.type_inv in
+    let clock = c.clock.ensures ∙ ap clock_of (verdict_is p c.in_ok-report.report c.in_ok-report.ensures) in
+    let fits = c.clock.type_inv in
     omega arith
 
 pub print_links-requires : goal.print_links-requires

@@ -17,7 +17,8 @@ filling_of-requires-clause-pops c =
     let l = c.loop-at-test.true in
     let inside : n < length c.args.plan.now.design.channels = omega (arith, ap length c.as_slice-channel-items.ensures) in
     let found = get_or_default c.args.pops.now n _ unused (let e = c.requires.pops.count in omega arith) in
-    subst (AreClocks c.args.clock) (sym (c.as_slice-popped.ensures ∙ ap (λ (u : PortUse). u.clocks) found)) (c.requires.pops.clocks n inside)
+    subst (AreClocks c.args.clock) (sym (c.as_slice-popped.ensures ∙ ap (λ (u : PortUse). u.clocks) found))
+    (c.requires.pops.clocks n inside)
 
 pub filling_of-requires-clause-pushes : goal.filling_of-requires-clause-pushes
 filling_of-requires-clause-pushes c =
@@ -43,8 +44,10 @@ loop-at-preserved c =
     (elim c.match-channel.branch [
       | in-Fifo+in_ok-filling+in_ok-print_filling w ↦
           let fifo = sym kind ∙ w.in-Fifo.is in
-          let popped = w.as_slice-popped.ensures ∙ ap (λ (u : PortUse). u.clocks) (get_or_default c.args.pops.now n _ unused (let e = c.requires.pops.count in omega arith)) in
-          let pushed = w.as_slice-pushed.ensures ∙ ap (λ (u : PortUse). u.clocks) (get_or_default c.args.pushes.now n _ unused (let e = c.requires.pushes.count in omega arith)) in
+          let popped = w.as_slice-popped.ensures ∙ ap (λ (u : PortUse). u.clocks)
+          (get_or_default c.args.pops.now n _ unused (let e = c.requires.pops.count in omega arith)) in
+          let pushed = w.as_slice-pushed.ensures ∙ ap (λ (u : PortUse). u.clocks)
+          (get_or_default c.args.pushes.now n _ unused (let e = c.requires.pushes.count in omega arith)) in
           let tokens = fill_line p c.args.clock c.args.pops.now c.args.pushes.now n w.channel_name.result.now
           (get_or c.as_slice-depths.result.now n 0) w.in-Fifo.delay w.as_slice-popped.result.now w.as_slice-pushed.result.now
           w.in_ok-filling.filling.most w.in_ok-filling.filling.empty w.in_ok-filling.filling.full w.channel_name.ensures

@@ -10,7 +10,8 @@ pub loop-number-preserved : goal.loop-number-preserved
 loop-number-preserved c =
     let n = c.loop-number.number in
     let i = c.args.owner in
-    let few : n < length c.args.design.now.channels = let e = c.len-count.ensures in let l = c.loop-number-test.true in let f = c.requires.few in omega arith in
+    let few : n < length c.args.design.now.channels =
+    let e = c.len-count.ensures in let l = c.loop-number-test.true in let f = c.requires.few in omega arith in
     let pop : c.index-pops-number.result ≡ get_or c.args.pops.now n unused =
     c.index-pops-number.is ∙ get_or_default c.args.pops.now n _ unused (let e = c.requires.pops in omega arith) in
     let push : c.index-pushes-number.result ≡ get_or c.args.pushes.now n unused =

@@ -13,14 +13,15 @@ use Rattle.stall_spans.specs.Totals.{spans_clocks, is_moving, is_still}
 use Rattle.stall_spans.proofs.Existing.{counted_spans}
 use Rattle.stall_text.specs.StallText.{module_tokens, at_each_side}
 use Rattle.stall_text.specs.Causes.{IsInside, causes_by}
-use Rattle.stall_text.proofs.Totals.{spans_order, spans_inside, spans_few, still_is}
+use Rattle.stall_text.proofs.Totals.{spans_inside, spans_few, still_is}
 use Rattle.stall_text.proofs.Whole.{module_text}
 use Rattle.stall_text.proofs.text.print_module.Goals as goal
+use Rattle.stall_spans.proofs.Extending.{spans_order}
 
 pub still_clocks-requires-clause-order : goal.still_clocks-requires-clause-order
 still_clocks-requires-clause-order c =
     subst (All (λ (s : Span). s.first ≤ s.until)) (sym c.as_slice.ensures)
-    (spans_order c.args.core.now.plan c.args.owner c.in_ok-spans.spans c.in_ok-spans.ensures)
+    (spans_order c.args.core.now.plan c.args.owner _ c.in_ok-spans.spans c.in_ok-spans.ensures)
 
 pub still_clocks-requires-clause-inside : goal.still_clocks-requires-clause-inside
 still_clocks-requires-clause-inside c =
@@ -37,7 +38,7 @@ still_clocks-requires-clause-few c =
 pub still_clocks-requires-2-clause-order : goal.still_clocks-requires-2-clause-order
 still_clocks-requires-2-clause-order c =
     subst (All (λ (s : Span). s.first ≤ s.until)) (sym c.as_slice-2.ensures)
-    (spans_order c.args.core.now.plan c.args.owner c.in_ok-spans.spans c.in_ok-spans.ensures)
+    (spans_order c.args.core.now.plan c.args.owner _ c.in_ok-spans.spans c.in_ok-spans.ensures)
 
 pub still_clocks-requires-2-clause-inside : goal.still_clocks-requires-2-clause-inside
 still_clocks-requires-2-clause-inside c =
@@ -54,7 +55,7 @@ still_clocks-requires-2-clause-few c =
 pub clocks_of-requires-clause-order : goal.clocks_of-requires-clause-order
 clocks_of-requires-clause-order c =
     subst (All (λ (s : Span). s.first ≤ s.until)) (sym c.as_slice-3.ensures)
-    (spans_order c.args.core.now.plan c.args.owner c.in_ok-spans.spans c.in_ok-spans.ensures)
+    (spans_order c.args.core.now.plan c.args.owner _ c.in_ok-spans.spans c.in_ok-spans.ensures)
 
 pub clocks_of-requires-clause-few : goal.clocks_of-requires-clause-few
 clocks_of-requires-clause-few c =

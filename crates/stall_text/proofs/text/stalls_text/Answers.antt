@@ -4,7 +4,7 @@ use Rattle.flow_word.specs.declared.access.Side.TheVariants.{Pop, Push}
 use Rattle.flow_design.specs.declared.design.Channel.{Channel}
 use Rattle.flow_design.specs.declared.plan.Plan.{Plan}
 use Rattle.sim_core.specs.declared.access_log.LoggedAccess.{LoggedAccess}
-use Rattle.lockstep_defs.specs.Verdict.{clock_of}
+use Rattle.flow_design.specs.Reports.{clock_of}
 use Rattle.report_text.specs.Lines.{text_of_lines}
 use Rattle.fifo_fills.specs.Fills.{fifos}
 use Rattle.stall_text.specs.Filling.{filled_at}
@@ -32,37 +32,37 @@ uses_at-requires-2 c =
 
 pub print_modules-requires-clause-clock : goal.print_modules-requires-clause-clock
 print_modules-requires-clause-clock c =
-    c.clock_of-clock.ensures ∙ ap clock_of (verdict_is c.args.core.now.plan c.in_ok-report.report c.in_ok-report.ensures)
+    c.clock-clock.ensures ∙ ap clock_of (verdict_is c.args.core.now.plan c.in_ok-report.report c.in_ok-report.ensures)
 
 pub print_fifos-requires-clause-clock : goal.print_fifos-requires-clause-clock
 print_fifos-requires-clause-clock c =
-    clock_few c.args.core.now.plan c.modules-modules.ensures.fits c.clock_of-clock.result
-    (c.clock_of-clock.ensures ∙ ap clock_of (verdict_is c.args.core.now.plan c.in_ok-report.report c.in_ok-report.ensures))
+    clock_few c.args.core.now.plan c.modules-modules.ensures.fits c.clock-clock.result
+    (c.clock-clock.ensures ∙ ap clock_of (verdict_is c.args.core.now.plan c.in_ok-report.report c.in_ok-report.ensures))
 
 pub print_fifos-requires-clause-pops : goal.print_fifos-requires-clause-pops
 print_fifos-requires-clause-pops c =
     let p = c.args.core.now.plan in
-    fit_uses p c.plan-2.result.now Pop c.as_slice-5.result.now c.clock_of-clock.result
+    fit_uses p c.plan-2.result.now Pop c.as_slice-5.result.now c.clock-clock.result
     (are_uses p Pop c.in_ok-pops.pops c.as_slice-5.result.now c.as_slice-5.ensures (length c.as_slice-channels.result.now)
     (ap length (c.as_slice-channels.ensures ∙ ap (λ (q : Plan). q.design.channels) c.plan.ensures)) c.as_slice.result.now
     (c.as_slice.ensures ∙ c.in_ok-log.ensures) c.in_ok-pops.ensures.count c.in_ok-pops.ensures.each) c.plan-2.ensures
-    (c.clock_of-clock.ensures ∙ ap clock_of (verdict_is p c.in_ok-report.report c.in_ok-report.ensures))
+    (c.clock-clock.ensures ∙ ap clock_of (verdict_is p c.in_ok-report.report c.in_ok-report.ensures))
 
 pub print_fifos-requires-clause-pushes : goal.print_fifos-requires-clause-pushes
 print_fifos-requires-clause-pushes c =
     let p = c.args.core.now.plan in
-    fit_uses p c.plan-2.result.now Push c.as_slice-6.result.now c.clock_of-clock.result
+    fit_uses p c.plan-2.result.now Push c.as_slice-6.result.now c.clock-clock.result
     (are_uses p Push c.in_ok-pushes.pushes c.as_slice-6.result.now c.as_slice-6.ensures (length c.as_slice-channels.result.now)
     (ap length (c.as_slice-channels.ensures ∙ ap (λ (q : Plan). q.design.channels) c.plan.ensures)) c.as_slice-2.result.now
     (c.as_slice-2.ensures ∙ c.in_ok-log.ensures) c.in_ok-pushes.ensures.count c.in_ok-pushes.ensures.each) c.plan-2.ensures
-    (c.clock_of-clock.ensures ∙ ap clock_of (verdict_is p c.in_ok-report.report c.in_ok-report.ensures))
+    (c.clock-clock.ensures ∙ ap clock_of (verdict_is p c.in_ok-report.report c.in_ok-report.ensures))
 
 pub returns : goal.returns
 returns c =
     let p = c.args.core.now.plan in
     let xs = c.as_slice-5.result.now in
     let ys = c.as_slice-6.result.now in
-    let clock = c.clock_of-clock.result in
+    let clock = c.clock-clock.result in
     let channels = ap length (c.as_slice-channels.ensures ∙ ap (λ (q : Plan). q.design.channels) c.plan.ensures) in
     let pops = are_uses p Pop c.in_ok-pops.pops xs c.as_slice-5.ensures (length c.as_slice-channels.result.now) channels
     c.as_slice.result.now (c.as_slice.ensures ∙ c.in_ok-log.ensures) c.in_ok-pops.ensures.count c.in_ok-pops.ensures.each in
@@ -70,7 +70,7 @@ returns c =
     c.as_slice-2.result.now (c.as_slice-2.ensures ∙ c.in_ok-log.ensures) c.in_ok-pushes.ensures.count c.in_ok-pushes.ensures.each in
     let verdict = verdict_is p c.in_ok-report.report c.in_ok-report.ensures in
     whole_text p c.modules-modules.ensures.fits xs ys pops pushes c.in_ok-report.report.verdict clock c.in_ok-text.text
-    c.print_verdict.new.text c.print_modules.new.text c.print_fifos.new.text verdict (c.clock_of-clock.ensures ∙ ap clock_of verdict)
+    c.print_verdict.new.text c.print_modules.new.text c.print_fifos.new.text verdict (c.clock-clock.ensures ∙ ap clock_of verdict)
     c.in_ok-text.ensures c.in_ok-print_verdict.ensures.ok c.in_ok-print_modules.ensures
     (c.in_ok-print_fifos.ensures
     ∙ ap (λ (q : Plan). c.print_modules.new.text ++ text_of_lines (map (filled_at q clock xs ys) (fifos q))) c.plan-2.ensures)

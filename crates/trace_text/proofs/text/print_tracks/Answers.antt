@@ -5,13 +5,14 @@ use Rattle.stall_spans.specs.declared.span.Span.{Span}
 use Rattle.trace_text.specs.Events.{span_event, span_events, IsDrawn}
 use Rattle.trace_text.specs.TraceText.{further}
 use Rattle.trace_text.proofs.Lines.{numbers_more}
-use Rattle.trace_text.proofs.Showing.{spans_are, spans_order, spans_drawn}
+use Rattle.trace_text.proofs.Showing.{spans_are, spans_drawn}
 use Rattle.trace_text.proofs.text.print_tracks.Goals as goal
+use Rattle.stall_spans.proofs.Extending.{spans_order}
 
 pub print_spans-requires-clause-order : goal.print_spans-requires-clause-order
 print_spans-requires-clause-order c =
     subst (λ (ss : List Span). All (λ (s : Span). s.first ≤ s.until) ss) (sym c.as_slice.ensures)
-    (spans_order c.args.core.now.plan c.loop-owner.owner c.in_ok-spans.spans c.in_ok-spans.ensures)
+    (spans_order c.args.core.now.plan c.loop-owner.owner _ c.in_ok-spans.spans c.in_ok-spans.ensures)
 
 pub print_spans-requires-clause-drawn : goal.print_spans-requires-clause-drawn
 print_spans-requires-clause-drawn c =

@@ -14,7 +14,7 @@ print_names-requires c =
     (few_modules c.args.core.now.plan c.modules-modules.ensures.fits)
 
 pub print_tracks-requires-clause-clock : goal.print_tracks-requires-clause-clock
-print_tracks-requires-clause-clock c = c.clock_of.ensures ∙ clock_is c.args.core.now.plan c.in_ok-report.report c.in_ok-report.ensures
+print_tracks-requires-clause-clock c = c.clock.ensures ∙ clock_is c.args.core.now.plan c.in_ok-report.report c.in_ok-report.ensures
 
 pub print_counters-requires-clause-fits : goal.print_counters-requires-clause-fits
 print_counters-requires-clause-fits c = subst FitsEngine (sym c.plan-2.ensures) c.modules-modules.ensures.fits

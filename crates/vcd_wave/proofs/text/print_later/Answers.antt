@@ -46,15 +46,15 @@ loop-clock-preserved c =
 pub returns : goal.returns
 returns c =
     let p = c.args.plan.now in
-    let last = last_is p c.args.report.now c.clock_of-last.result c.requires.report c.clock_of-last.ensures in
+    let last = last_is p c.args.report.now c.clock-last.result c.requires.report c.clock-last.ensures in
     let steady : AreSteady p c.loop-clock.walk.clock (last_clock p) =
     subst (λ (x : Plan). AreSteady x c.loop-clock.walk.clock (last_clock x)) c.loop-clock.invariant.plan (c.in_default.ensures.end refl) in
     elim c.if-told-last.branch [
       | then-told-last+in_ok-print_time w ↦ w.text-is
           ∙ told_closing p c.args.text.now c.loop-clock.text c.loop-clock.before w.print_time.new.text c.loop-clock.told
-          c.loop-clock.walk.clock c.clock_of-last.result last c.loop-clock.invariant.telling steady w.if-told-last.true
+          c.loop-clock.walk.clock c.clock-last.result last c.loop-clock.invariant.telling steady w.if-told-last.true
           w.in_ok-print_time.ensures
       | else-told-last w ↦ w.text-is
           ∙ told_whole p c.args.text.now c.loop-clock.text c.loop-clock.before c.loop-clock.told c.loop-clock.walk.clock
-          c.clock_of-last.result last c.loop-clock.invariant.telling steady w.if-told-last.false
+          c.clock-last.result last c.loop-clock.invariant.telling steady w.if-told-last.false
     ]

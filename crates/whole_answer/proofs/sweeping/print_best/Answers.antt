@@ -16,7 +16,8 @@ returns-in-Some c =
     let there : c.index-points-place.result ≡ point_at points place =
     get_or_read points place c.index-points-place.result best.done.within c.index-points-place.is no_point in
     let tokens : codes "best" ∷ map decimal c.as_slice.result.now ≡ best_tokens (best_of points) =
-    ap (λ (ds : List ℕ). codes "best" ∷ map decimal ds) (c.as_slice.ensures ∙ ap (λ (p : Point). p.depths) (sym c.index-points-place.is ∙ there))
+    ap (λ (ds : List ℕ). codes "best" ∷ map decimal ds) (c.as_slice.ensures
+    ∙ ap (λ (p : Point). p.depths) (sym c.index-points-place.is ∙ there))
     ∙ ap best_tokens (sym (best_is points place best)) in
     subst (λ (ts : List Token). OnOk c.print_numbers.result (c.print_numbers.new.text ≡ c.args.text.now ++ line ts)) tokens
     c.print_numbers.ensures.ok

@@ -1,7 +1,8 @@
 use Rattle.std.proofs.Common.{arith, sym, ◌∙◌, subst, None, ◌<◌, length, inl, inr}
 use Rattle.fifo_fills.specs.Passed.{acts}
 use Rattle.fifo_fills.specs.Walks.{BehindEvents}
-use Rattle.fifo_fills.proofs.Stepping.{as_many, event_of, answers_count, owner_inside, channel_inside, outcome_inside, place_bound, place_some}
+use Rattle.fifo_fills.proofs.Stepping.{as_many, event_of, answers_count, owner_inside, channel_inside, outcome_inside, place_bound}
+use Rattle.fifo_fills.proofs.Stepping.{place_some}
 use Rattle.fifo_fills.proofs.Stepping.{place_few, moved_on, stayed}
 use Rattle.fifo_fills.proofs.events.EventWalk.pass.Goals as goal
 

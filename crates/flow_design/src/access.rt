@@ -1,0 +1,44 @@
+//! Where an operation stands, and what it does there.
+ghost use Rattle.std.specs.Prelude.{◌≡◌};
+ghost use Rattle.flow_design.specs.Operations.{access_of, port_of, used_port};
+
+use crate::expr::Op;
+use flow_word::{Kind, Port};
+
+impl Op<u32> {
+    /// The kind of a FIFO operation, and its channel; none of another operation.
+    pub fn access(&self) -> Option<(Kind, u32)>
+        ensures { result ≡ access_of self.now }
+    {
+        match self {
+            Op::Set(_, _) | Op::Load(_, _, _) | Op::Store(_, _, _) => None,
+            Op::Read(channel, _) => Some((Kind::Read, *channel)),
+            Op::Write(channel, _) => Some((Kind::Write, *channel)),
+            Op::TryRead(channel, _, _) => Some((Kind::TryRead, *channel)),
+            Op::TryWrite(channel, _, _) => Some((Kind::TryWrite, *channel)),
+            Op::Empty(channel, _) => Some((Kind::Empty, *channel)),
+            Op::Full(channel, _) => Some((Kind::Full, *channel)),
+        }
+    }
+
+    /// The port at which a FIFO operation stands.
+    pub fn port(&self) -> Option<Port>
+        ensures { result ≡ port_of self.now }
+    {
+        let (kind, channel) = self.access()?;
+        Some(Port {
+            side: kind.side(),
+            channel,
+        })
+    }
+
+    /// The port at which an operation pops or pushes; none of one that only tests.
+    pub fn used_port(&self) -> Option<Port>
+        ensures { result ≡ used_port self.now }
+    {
+        match self.access() {
+            Some((kind, _)) if kind.takes() => self.port(),
+            Some(_) | None => None,
+        }
+    }
+}

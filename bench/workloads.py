@@ -1,0 +1,160 @@
+"""The texts of sessions that the scripts here measure and try."""
+import random
+
+TEXT_LIMIT = 4_194_304
+
+
+def pipeline(modules, values):
+    """Modules in a row, each of which reads a value and writes it plus one in each clock."""
+    lines = ['flow 1', 'source a 32', 'sink y 32']
+    lines += [f'fifo f{k} 32 4' for k in range(1, modules)]
+    for k in range(modules):
+        before = 'a' if k == 0 else f'f{k}'
+        behind = 'y' if k == modules - 1 else f'f{k + 1}'
+        lines += [f'module m{k}', 'reg x 32', 'reg n 32', 'reg go 1', 'loop l 1 2 while go', f'at 0 read {before} x',
+                  'at 0 set n + n 1', f'at 0 set go <u n {values - 1}', f'at 1 write {behind} + x 1', 'stop']
+    lines += ['input a ' + ' '.join(str(v % 1000) for v in range(values)), 'limits 1000000000 200000', 'end']
+    return '\n'.join(lines) + '\n'
+
+
+def polling(pollers, clocks):
+    """Modules that look into a FIFO each clock until a late writer fills it."""
+    lines = ['flow 1'] + [f'fifo f{k} 8' for k in range(pollers)]
+    lines += ['module late', f'block k {clocks + 1}'] + [f'at {clocks} write f{k} 1' for k in range(pollers)] + ['stop']
+    for k in range(pollers):
+        lines += [f'module p{k}', 'reg x 8', 'reg ok 1', 'reg go 1', 'block first 1', 'at 0 set go 1', 'goto l', 'loop l 1 2 while go',
+                  f'at 0 tryread f{k} x ok', 'at 1 set go == ok 0', 'stop']
+    lines += ['limits 1000000000 200000', 'end']
+    return '\n'.join(lines) + '\n'
+
+
+def sparse(interval, values):
+    """Two modules that do something once in so many clocks."""
+    lines = ['flow 1', 'source a 32', 'fifo f 32', 'sink y 32']
+    for name, before, behind in (('p', 'a', 'f'), ('q', 'f', 'y')):
+        lines += [f'module {name}', 'reg x 32', 'reg n 32', 'reg go 1', f'loop l {interval} {interval} while go', f'at 0 read {before} x',
+                  'at 0 set n + n 1', f'at 0 set go <u n {values - 1}', f'at 1 write {behind} x', 'stop']
+    lines += ['input a ' + ' '.join(str(v) for v in range(values)), 'limits 1000000000 200000', 'end']
+    return '\n'.join(lines) + '\n'
+
+
+def ring(modules, rounds):
+    """Modules in a ring that pass one token on, so that all but one wait."""
+    lines = ['flow 1'] + [f'fifo f{k} 32' for k in range(modules)]
+    for k in range(modules):
+        lines += [f'module m{k}', 'reg x 32', 'reg n 32', 'reg go 1']
+        if k == 0:
+            lines += ['block first 1', f'at 0 write f{1 % modules} 1', 'goto l']
+        lines += ['loop l 2 2 while go', f'at 0 read f{k} x', 'at 0 set n + n 1', f'at 0 set go <u n {rounds - 1}',
+                  f'at 1 write f{(k + 1) % modules} + x 1', 'stop']
+    lines += ['limits 1000000000 200000', 'end']
+    return '\n'.join(lines) + '\n'
+
+
+def heavy(modules, values, sets):
+    """Modules between sources and sinks of their own, each of which does so many operations for each value."""
+    lines = ['flow 1'] + [f'source a{k} 32' for k in range(modules)] + [f'sink y{k} 32' for k in range(modules)]
+    for k in range(modules):
+        lines += [f'module m{k}', 'reg x 32', 'reg n 32', 'reg go 1'] + [f'reg r{i} 32' for i in range(200)]
+        lines += ['loop l 2 2 while go', f'at 0 read a{k} x', 'at 0 set n + n 1', f'at 0 set go <u n {values - 1}']
+        lines += [f'at 1 set r{i % 200} + * r{i % 200} 3 ^ x {i}' for i in range(sets)]
+        lines += [f'at 1 write y{k} r0', 'stop']
+    lines += [f'input a{k} ' + ' '.join(str(v % 1000) for v in range(values)) for k in range(modules)]
+    return '\n'.join(lines + ['limits 1000000000 200000', 'end']) + '\n'
+
+
+def waiting(modules, rounds, sets):
+    """Modules that wait for one, which does so many operations before it writes to each of them."""
+    others = range(1, modules)
+    lines = ['flow 1'] + [f'fifo f{k} 32' for k in others]
+    lines += ['module m0', 'reg n 32', 'reg go 1'] + [f'reg r{i} 32' for i in range(200)]
+    lines += ['loop l 2 2 while go', 'at 0 set n + n 1', f'at 0 set go <u n {rounds - 1}']
+    lines += [f'at 0 set r{i % 200} + * r{i % 200} 3 {i}' for i in range(sets)]
+    lines += [f'at 1 write f{k} r{k}' for k in others] + ['stop']
+    for k in others:
+        lines += [f'module m{k}', 'reg x 32', 'reg n 32', 'reg go 1', 'loop l 1 1 while go', f'at 0 read f{k} x', 'at 0 set n + n 1',
+                  f'at 0 set go <u n {rounds - 1}', 'stop']
+    return '\n'.join(lines + ['limits 1000000000 200000', 'end']) + '\n'
+
+
+def asking(values, tries):
+    """A module that tries so often to read from a source of so many values."""
+    lines = ['flow 1', 'source a 32', 'sink y 32', 'module m', 'reg x 32', 'reg ok 1', 'reg n 32', 'reg go 1', 'loop l 1 2 while go',
+             'at 0 tryread a x ok', 'at 0 set n + n 1', f'at 0 set go <u n {tries - 1}', 'at 1 write y x', 'stop']
+    lines += ['input a ' + ' '.join(str(v % 1000) for v in range(values)), 'limits 1000000000 200000', 'end']
+    return '\n'.join(lines) + '\n'
+
+
+def filled(values):
+    """A FIFO that is filled with so many values, and then read with a query for each pop."""
+    lines = ['flow 1', f'fifo f 32 {values + 1}', 'sink y 32', 'module p', 'reg i 32', 'reg g 1', 'loop l 1 1 while g', 'at 0 write f i',
+             'at 0 set i + i 1', f'at 0 set g <u i {values - 1}', 'stop']
+    lines += ['module q', 'reg x 32', 'reg ok 1', 'reg i 32', 'reg g 1', f'block w {values + 5}', f'at {values + 4} set g 1', 'goto l',
+              'loop l 1 2 while g', 'at 0 tryread f x ok', 'at 0 set i + i 1', f'at 0 set g <u i {values - 1}', 'at 1 write y x', 'stop',
+              'limits 1000000000 200000', 'end']
+    return '\n'.join(lines) + '\n'
+
+
+def wide(fifos, writes):
+    """Many FIFOs, at which a module waits from its first clock on, and another with so many writes in a block that it repeats
+    up to the limit."""
+    lines = ['flow 1'] + [f'fifo f{k} 32' for k in range(fifos)] + ['sink y 32', 'module m', f'block k {writes}']
+    lines += [f'at {i} write y {i % 7}' for i in range(writes)] + ['goto k', 'module waits', 'reg x 32', f'block k {2 * fifos}']
+    lines += [f'at {k} read f{k} x' for k in range(fifos)] + [f'at {fifos + k} write f{k} 0' for k in range(fifos)]
+    lines += ['stop', 'limits 1000000000 200000', 'end']
+    return '\n'.join(lines) + '\n'
+
+
+def staggered(modules, values):
+    """Modules in a row whose loops have intervals of 1, 2 and 3, between FIFOs of depth 1 to 4, so that few FIFOs make the latency."""
+    lines = ['flow 1', 'source a 32', 'sink y 32'] + [f'fifo f{k} 32 {1 + k % 4}' for k in range(1, modules)]
+    for k in range(modules):
+        before = 'a' if k == 0 else f'f{k}'
+        behind = 'y' if k == modules - 1 else f'f{k + 1}'
+        interval = 1 + 7 * k % 3
+        lines += [f'module m{k}', 'reg x 32', 'reg n 32', 'reg go 1', f'loop l {interval} {interval + 1} while go', f'at 0 read {before} x',
+                  'at 0 set n + n 1', f'at 0 set go <u n {values - 1}', f'at 1 write {behind} + * x 3 {k}', 'stop']
+    lines += ['input a ' + ' '.join(str(v % 1000) for v in range(values)), 'limits 1000000000 200000', 'end']
+    return '\n'.join(lines) + '\n'
+
+
+def edited_at_random(text, fifos, edits, seed):
+    """The same session with so many edits, each of one of these FIFOs to a depth from 1 to 8, small ones more often."""
+    draw = random.Random(seed)
+    assert text.endswith('end\n')
+    lines = [f'depth {draw.choice(fifos)} {draw.choice((1, 1, 2, 2, 3, 4, 8))}\n' for _ in range(edits)]
+    return text[:-4] + ''.join(lines) + 'end\n'
+
+
+def edited(text, name, depths):
+    """The same session with an edit of a FIFO for each of these depths."""
+    assert text.endswith('end\n')
+    return text[:-4] + ''.join(f'depth {name} {depth}\n' for depth in depths) + 'end\n'
+
+
+def late_write(clocks):
+    """A module that does one thing, after so many clocks."""
+    return f'flow 1\nsink y 8\nmodule m\nblock k {clocks}\nat {clocks - 1} write y 1\nstop\nlimits 1000000000000000 10\nend\n'
+
+
+def long_text(inputs, operations):
+    """One module of many blocks: as many operations and inputs as fit into a text."""
+    body = 1013
+    lines = ['flow 1', 'source a 32', 'module m', 'reg some_register_of_this_module 32']
+    blocks = -(-operations // body)
+    for k in range(blocks):
+        lines.append(f'block b{k} {body}')
+        for i in range(min(body, operations - k * body)):
+            lines.append(f'at {i} set some_register_of_this_module + some_register_of_this_module {i}')
+        if k == 0:
+            lines.append('at 0 read a some_register_of_this_module')
+        lines.append(f'goto b{k + 1}' if k + 1 < blocks else 'stop')
+    lines += ['input a ' + ' '.join(str(v) for v in range(inputs)), 'end']
+    return '\n'.join(lines) + '\n'
+
+
+def deep_expression():
+    """One line of four megabytes of operators."""
+    head = 'flow 1\nmodule m\nreg x 8\nblock k 1\nat 0 set x '
+    tail = '1\nstop\nend\n'
+    return head + '~ ' * ((TEXT_LIMIT - len(head) - len(tail)) // 2) + tail

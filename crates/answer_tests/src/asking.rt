@@ -33,7 +33,7 @@ pub fn answer<R: Threads + Wait + Sync + AllocGlobal>(
 ) -> Result<(Status, MemSink), Fail> {
     let alloc = rt.alloc();
     let mut source = MemSource::new(alloc, text, 64, takes)?;
-    let mut sink = MemSink::new(alloc, 8192, 4, puts)?;
+    let mut sink = MemSink::new(alloc, 131_072, 4, puts)?;
     let status = omnisim(rt, alloc, words, &mut source, &mut sink, &FreeGate);
     Ok((status, sink))
 }

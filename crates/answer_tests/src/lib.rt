@@ -12,6 +12,8 @@ mod further;
 #[cfg(test)]
 mod gates;
 #[cfg(test)]
+mod limited;
+#[cfg(test)]
 mod refusing;
 #[cfg(test)]
 mod views;

@@ -1,5 +1,6 @@
 //! What `log`, `stalls`, `path`, `trace` and `size` answer.
 use crate::asking::answers;
+use crate::further::THREE_FIFOS;
 use std::test::Fail;
 use whole_answer::Status;
 
@@ -622,65 +623,83 @@ depth c 1
 ",
         sized: Status::Done,
     },
-];
-
-/// Bursts of four values, and a reader that takes one value in two clocks.
-const BURSTS: &[u8] = b"\
-flow 1
-fifo burst 8 1
-sink y 8
-module producer
-reg n 8
-reg v 8
-reg go 1
-loop bursts 12 12 while go
-at 0 write burst v
-at 0 set n + n 1
-at 0 set go <u n 3
-at 1 write burst + v 1
-at 2 write burst + v 2
-at 3 write burst + v 3
-at 4 set v + v 4
-stop
-module consumer
-reg x 8
-reg n 8
-reg go 1
-loop take 2 3 while go
-at 0 read burst x
-at 0 set n + n 1
-at 0 set go <u n 15
-at 2 write y x
-stop
-end
-";
-
-const BURSTS_FOR_17_CLOCKS: &[u8] = b"\
+    // Three FIFOs, two of them with a delay.
+    Viewed {
+        text: THREE_FIFOS,
+        log: b"\
+log
+verdict done 10
+access P write b 0 1 5
+access P write c 1 1 2
+access Q read b 3 1 5
+access Q read c 3 1 2
+access Q write d 4 1 7
+access R read d 8 1 7
+access R write y 9 1 7
+",
+        stalls: b"\
 stalls
-verdict cycles 17
-module producer 13 4
-stall producer full burst 4
-port producer push burst 5 0 15
-module consumer 9 8
-stall consumer empty burst 8
-port consumer pop burst 5 1 16
-port consumer push y 4 3 16
-fifo burst 1 12 5
-";
-
-const BURSTS_FOR_20_CLOCKS: &[u8] = b"\
+verdict done 10
+module P 2 0
+port P push b 1 0 0
+port P push c 1 1 1
+module Q 2 3
+stall Q empty b 3
+port Q pop b 1 3 3
+port Q pop c 1 3 3
+port Q push d 1 4 4
+module R 2 8
+stall R empty d 8
+port R pop d 1 8 8
+port R push y 1 9 9
+fifo b 1 9 0
+fifo c 1 8 2
+fifo d 1 9 4
+",
+        path: b"\
 path
-verdict cycles 20
-spend producer 12
-spend consumer 8
-cross empty burst 2
-cross full burst 2
-link producer 0 0
-link consumer 1 5
-link producer 6 15
-link consumer 16 18
-link producer 19 19
-";
+verdict done 10
+spend P 1
+spend Q 2
+spend R 2
+cross empty b 1
+cross empty d 1
+link P 0 0
+link Q 3 4
+link R 8 9
+",
+        trace: b"\
+{\"displayTimeUnit\":\"ns\",\"traceEvents\":[
+{\"ph\":\"M\",\"pid\":0,\"tid\":0,\"name\":\"thread_name\",\"args\":{\"name\":\"P\"}},
+{\"ph\":\"M\",\"pid\":0,\"tid\":1,\"name\":\"thread_name\",\"args\":{\"name\":\"Q\"}},
+{\"ph\":\"M\",\"pid\":0,\"tid\":2,\"name\":\"thread_name\",\"args\":{\"name\":\"R\"}},
+{\"ph\":\"X\",\"pid\":0,\"tid\":0,\"ts\":0,\"dur\":2,\"name\":\"moves\"},
+{\"ph\":\"X\",\"pid\":0,\"tid\":1,\"ts\":0,\"dur\":3,\"name\":\"empty b\"},
+{\"ph\":\"X\",\"pid\":0,\"tid\":1,\"ts\":3,\"dur\":2,\"name\":\"moves\"},
+{\"ph\":\"X\",\"pid\":0,\"tid\":2,\"ts\":0,\"dur\":8,\"name\":\"empty d\"},
+{\"ph\":\"X\",\"pid\":0,\"tid\":2,\"ts\":8,\"dur\":2,\"name\":\"moves\"},
+{\"ph\":\"C\",\"pid\":0,\"ts\":0,\"name\":\"b\",\"args\":{\"fill\":0}},
+{\"ph\":\"C\",\"pid\":0,\"ts\":1,\"name\":\"b\",\"args\":{\"fill\":1}},
+{\"ph\":\"C\",\"pid\":0,\"ts\":4,\"name\":\"b\",\"args\":{\"fill\":0}},
+{\"ph\":\"C\",\"pid\":0,\"ts\":0,\"name\":\"c\",\"args\":{\"fill\":0}},
+{\"ph\":\"C\",\"pid\":0,\"ts\":2,\"name\":\"c\",\"args\":{\"fill\":1}},
+{\"ph\":\"C\",\"pid\":0,\"ts\":4,\"name\":\"c\",\"args\":{\"fill\":0}},
+{\"ph\":\"C\",\"pid\":0,\"ts\":0,\"name\":\"d\",\"args\":{\"fill\":0}},
+{\"ph\":\"C\",\"pid\":0,\"ts\":5,\"name\":\"d\",\"args\":{\"fill\":1}},
+{\"ph\":\"C\",\"pid\":0,\"ts\":9,\"name\":\"d\",\"args\":{\"fill\":0}}
+]}
+",
+        shown: Status::Done,
+        size: b"\
+size
+verdict done 10
+depth b 1
+depth c 1
+depth d 1
+",
+        sized: Status::Done,
+    },
+];
 
 #[test]
 fn views(rt: HostRuntime) -> Result<(), Fail> {
@@ -699,35 +718,4 @@ fn views(rt: HostRuntime) -> Result<(), Fail> {
         answers(&rt, "size", &[], viewed.text, viewed.size, viewed.sized)?;
     }
     Ok(())
-}
-
-#[test]
-fn views_up_to_a_limit(rt: HostRuntime) -> Result<(), Fail> {
-    let stalls = BURSTS_FOR_17_CLOCKS;
-    let path = BURSTS_FOR_20_CLOCKS;
-    let sized = b"size\nverdict done 48\ndepth burst 3\n";
-    answers(
-        &rt,
-        "stalls",
-        &["--cycles=17"],
-        BURSTS,
-        stalls,
-        Status::Cycles,
-    )?;
-    answers(
-        &rt,
-        "path",
-        &["--cycles", "20", "--events"],
-        BURSTS,
-        path,
-        Status::Cycles,
-    )?;
-    answers(
-        &rt,
-        "size",
-        &["--cycles", "50"],
-        BURSTS,
-        sized,
-        Status::Done,
-    )
 }

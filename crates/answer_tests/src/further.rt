@@ -3,7 +3,7 @@ use crate::asking::{answer, answers, words_of};
 use std::test::Fail;
 use wave_reader::wave_fill;
 use whole_answer::Status;
-use worked_sessions::{REALISTIC_LINE, TWO_MODULES};
+use worked_sessions::{LATE_CHANNEL, REALISTIC_LINE, TWO_MODULES};
 
 /// A session, and what these commands tell of it.
 struct Explored {
@@ -145,30 +145,7 @@ best 1
     },
     // Three values wait in one FIFO until the other has one; an edit deepens the first.
     Explored {
-        text: b"\
-flow 1
-fifo b 8
-fifo c 8
-sink y 8
-module P
-block k 4
-at 0 write b 1
-at 1 write b 2
-at 2 write b 3
-at 3 write c 9
-stop
-module Q
-reg x 8
-block k 5
-at 0 read c x
-at 1 read b x
-at 2 read b x
-at 3 read b x
-at 4 write y x
-stop
-depth b 3
-end
-",
+        text: LATE_CHANNEL,
         advised: b"\
 advise
 verdict done 9

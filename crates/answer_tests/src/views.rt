@@ -3,6 +3,9 @@ use crate::asking::answers;
 use crate::further::THREE_FIFOS;
 use std::test::Fail;
 use whole_answer::Status;
+use worked_sessions::{
+    BOTH_ENDS_IN_ONE_MODULE, LATE_CHANNEL, LATER_STALL, POLLING_LOOP, TWO_MODULES,
+};
 
 /// A session, what each view shows of it, and its smallest depths.
 struct Viewed {
@@ -51,26 +54,7 @@ verdict done 0
     },
     // A value goes through one FIFO.
     Viewed {
-        text: b"\
-flow 1
-source a 8
-fifo b 8
-sink y 8
-module p
-reg x 8
-block k 2
-at 0 read a x
-at 1 write b x
-stop
-module q
-reg z 8
-block k 2
-at 0 read b z
-at 1 write y z
-stop
-input a 5
-end
-",
+        text: TWO_MODULES,
         log: b"\
 log
 verdict done 4
@@ -205,29 +189,7 @@ depth b 3
     },
     // Three values fill a FIFO of two places before the value that is waited for.
     Viewed {
-        text: b"\
-flow 1
-fifo b 8
-fifo c 8
-sink y 8
-module P
-block k 4
-at 0 write b 1
-at 1 write b 2
-at 2 write b 3
-at 3 write c 9
-stop
-module Q
-reg x 8
-block k 5
-at 0 read c x
-at 1 read b x
-at 2 read b x
-at 3 read b x
-at 4 write y x
-stop
-end
-",
+        text: LATE_CHANNEL,
         log: b"\
 log
 verdict deadlock 2
@@ -273,22 +235,7 @@ depth c 1
     },
     // A module at both ends of one FIFO, whose first try comes too early.
     Viewed {
-        text: b"\
-flow 1
-fifo b 8
-sink y 8
-module m
-reg x 8
-reg o 1
-reg p 1
-block k 3
-at 0 write b 5
-at 0 tryread b x o
-at 1 tryread b x p
-at 2 write y | << p 1 o
-stop
-end
-",
+        text: BOTH_ENDS_IN_ONE_MODULE,
         log: b"\
 log
 verdict done 3
@@ -331,25 +278,7 @@ depth b 1
     },
     // A module that polls until its operations are used up, and one without a step.
     Viewed {
-        text: b"\
-flow 1
-fifo b 8
-module P
-reg x 8
-reg ok 1
-reg one 1
-loop l 1 1 while one
-at 0 tryread b x ok
-at 0 set one 1
-stop
-module W
-reg z 1
-block k 1
-at 0 if z write b 1
-stop
-limits 1000 10
-end
-",
+        text: POLLING_LOOP,
         log: b"\
 log
 verdict ops 3
@@ -450,31 +379,7 @@ depth b 1
     },
     // A module that reads one FIFO and tests another.
     Viewed {
-        text: b"\
-flow 1
-fifo b 8
-fifo c 8
-sink y 8
-module R
-reg x 8
-reg e 1
-reg g 1
-reg z 1
-loop l 1 4 while g
-at 0 read b x
-at 0 set g ^ g 1
-at 2 empty c e
-at 3 write y e
-at 3 if z read c x
-stop
-module S
-block k 11
-at 0 write b 1
-at 9 write b 2
-at 10 write c 1
-stop
-end
-",
+        text: LATER_STALL,
         log: b"\
 log
 verdict done 14

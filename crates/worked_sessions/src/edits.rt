@@ -88,6 +88,32 @@ depth q 8
 end
 ";
 
+/// Three values wait in one FIFO until the other has one; an edit deepens the first.
+pub const LATE_CHANNEL: &[u8] = b"\
+flow 1
+fifo b 8
+fifo c 8
+sink y 8
+module P
+block k 4
+at 0 write b 1
+at 1 write b 2
+at 2 write b 3
+at 3 write c 9
+stop
+module Q
+reg x 8
+block k 5
+at 0 read c x
+at 1 read b x
+at 2 read b x
+at 3 read b x
+at 4 write y x
+stop
+depth b 3
+end
+";
+
 /// Designs with depth edits.
 pub const EDITS: &[Worked] = &[
     // edit without a new run
@@ -173,30 +199,7 @@ runs 2
     // deadlocked record goes on
     Worked {
         options: &[],
-        text: b"\
-flow 1
-fifo b 8
-fifo c 8
-sink y 8
-module P
-block k 4
-at 0 write b 1
-at 1 write b 2
-at 2 write b 3
-at 3 write c 9
-stop
-module Q
-reg x 8
-block k 5
-at 0 read c x
-at 1 read b x
-at 2 read b x
-at 3 read b x
-at 4 write y x
-stop
-depth b 3
-end
-",
+        text: LATE_CHANNEL,
         told: b"\
 report 0
 verdict deadlock 2

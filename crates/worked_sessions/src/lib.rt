@@ -13,7 +13,7 @@ mod worked;
 pub use deadlocks::DEADLOCKS;
 pub use delays::DELAYS;
 pub use designs::{DESIGNS, PLAIN_ANSWER, PLAIN_CASE, TWO_MODULES, TWO_MODULES_ANSWER};
-pub use edits::{EDITS, REALISTIC_LINE};
+pub use edits::{EDITS, LATE_CHANNEL, REALISTIC_LINE};
 pub use limits::{LIMITS, POLLING_LOOP};
 pub use plan::read_plan;
 pub use queries::{

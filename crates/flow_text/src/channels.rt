@@ -8,42 +8,15 @@ ghost use Rattle.flow_grammar.specs.Parts.{default_depth, default_delay};
 ghost use Rattle.name_tables.specs.TablesOf.{accepted, IsOfStatements};
 ghost use Rattle.name_tables.specs.TableTests.{reading_by};
 
+use crate::ensure::ensure;
 use flow_design::limits::{CHANNELS, FIFO_DELAY, FIFO_DEPTH};
 use flow_design::{Name, Statement};
 use flow_grammar::{Code, LineFail, is_identifier, is_numeral, number_in, width_of};
 use name_tables::Tables;
 use std::alloc::Global;
 
-/// The source of this name and width.
-#[tactic(auto, unfolding(name_tables::specs::TableTests::fault_by))]
-fn new_source<'a>(
-    alloc: Global,
-    tables: &mut Tables<'a>,
-    name: &'a [u8],
-    width: &[u8],
-) -> Result<Statement, LineFail>
-    requires { IsOfStatements tables.old }
-    ensures given { LineGives (λ s. s) result
-        (reading_by tables.old (only_if (is_name name.now && is_number width.now) (Source name.now (number_of width.now)))) }
-    ensures kept { IfOk result (λ s. tables.new ≡ accepted tables.old s) }
-{
-    if !tables.place.takes_channels() || !is_identifier(name) || !is_numeral(width) {
-        return Err(LineFail::Fault(Code::Syntax));
-    }
-    let Some(width) = width_of(width) else {
-        return Err(LineFail::Fault(Code::BadNumber));
-    };
-    if tables.channels.has(name) {
-        return Err(LineFail::Fault(Code::DoubleName));
-    }
-    if !tables.channels.has_room(CHANNELS) {
-        return Err(LineFail::Fault(Code::TooMany));
-    }
-    tables.add_source(name)?;
-    Ok(Statement::Source(Name::new(alloc, name)?, width))
-}
-
 /// `source N W`, behind its keyword.
+#[tactic(auto, unfolding(name_tables::specs::TableTests::fault_by))]
 pub fn source<'a>(
     alloc: Global,
     tables: &mut Tables<'a>,
@@ -53,41 +26,22 @@ pub fn source<'a>(
     ensures given { LineGives (λ s. s) result (reading_by tables.old (name_width Source (map (λ t. t.now) tokens.now))) }
     ensures kept { IfOk result (λ s. tables.new ≡ accepted tables.old s) }
 {
-    match tokens {
-        [name, width] => new_source(alloc, tables, *name, *width),
-        _ => Err(LineFail::Fault(Code::Syntax)),
-    }
-}
-
-/// The sink of this name and width.
-#[tactic(auto, unfolding(name_tables::specs::TableTests::fault_by))]
-fn new_sink<'a>(
-    alloc: Global,
-    tables: &mut Tables<'a>,
-    name: &'a [u8],
-    width: &[u8],
-) -> Result<Statement, LineFail>
-    ensures given { LineGives (λ s. s) result
-        (reading_by tables.old (only_if (is_name name.now && is_number width.now) (Sink name.now (number_of width.now)))) }
-    ensures kept { IfOk result (λ s. tables.new ≡ accepted tables.old s) }
-{
-    if !tables.place.takes_channels() || !is_identifier(name) || !is_numeral(width) {
+    let [name, width] = tokens else {
         return Err(LineFail::Fault(Code::Syntax));
-    }
-    let Some(width) = width_of(width) else {
-        return Err(LineFail::Fault(Code::BadNumber));
     };
-    if tables.channels.has(name) {
-        return Err(LineFail::Fault(Code::DoubleName));
-    }
-    if !tables.channels.has_room(CHANNELS) {
-        return Err(LineFail::Fault(Code::TooMany));
-    }
-    tables.add_sink(name)?;
-    Ok(Statement::Sink(Name::new(alloc, name)?, width))
+    ensure(
+        tables.place.takes_channels() && is_identifier(name) && is_numeral(width),
+        Code::Syntax,
+    )?;
+    let width = width_of(width).ok_or(LineFail::Fault(Code::BadNumber))?;
+    ensure(!tables.channels.has(name), Code::DoubleName)?;
+    ensure(tables.channels.has_room(CHANNELS), Code::TooMany)?;
+    tables.add_source(*name)?;
+    Ok(Statement::Source(Name::new(alloc, *name)?, width))
 }
 
 /// `sink N W`, behind its keyword.
+#[tactic(auto, unfolding(name_tables::specs::TableTests::fault_by))]
 pub fn sink<'a>(
     alloc: Global,
     tables: &mut Tables<'a>,
@@ -96,10 +50,18 @@ pub fn sink<'a>(
     ensures given { LineGives (λ s. s) result (reading_by tables.old (name_width Sink (map (λ t. t.now) tokens.now))) }
     ensures kept { IfOk result (λ s. tables.new ≡ accepted tables.old s) }
 {
-    match tokens {
-        [name, width] => new_sink(alloc, tables, *name, *width),
-        _ => Err(LineFail::Fault(Code::Syntax)),
-    }
+    let [name, width] = tokens else {
+        return Err(LineFail::Fault(Code::Syntax));
+    };
+    ensure(
+        tables.place.takes_channels() && is_identifier(name) && is_numeral(width),
+        Code::Syntax,
+    )?;
+    let width = width_of(width).ok_or(LineFail::Fault(Code::BadNumber))?;
+    ensure(!tables.channels.has(name), Code::DoubleName)?;
+    ensure(tables.channels.has_room(CHANNELS), Code::TooMany)?;
+    tables.add_sink(*name)?;
+    Ok(Statement::Sink(Name::new(alloc, *name)?, width))
 }
 
 /// The FIFO of this name, width, depth and delay.
@@ -119,27 +81,19 @@ fn new_fifo<'a>(
         (Fifo name.now (number_of width.now) (number_of depth.now) (number_of delay.now)))) }
     ensures kept { IfOk result (λ s. tables.new ≡ accepted tables.old s) }
 {
-    if !tables.place.takes_channels() || !is_identifier(name) {
-        return Err(LineFail::Fault(Code::Syntax));
-    }
-    if !is_numeral(width) || !is_numeral(depth) || !is_numeral(delay) {
-        return Err(LineFail::Fault(Code::Syntax));
-    }
-    let Some(width) = width_of(width) else {
-        return Err(LineFail::Fault(Code::BadNumber));
-    };
-    let Some(depth) = number_in(depth, 1, FIFO_DEPTH) else {
-        return Err(LineFail::Fault(Code::BadNumber));
-    };
-    let Some(delay) = number_in(delay, 1, FIFO_DELAY) else {
-        return Err(LineFail::Fault(Code::BadNumber));
-    };
-    if tables.channels.has(name) {
-        return Err(LineFail::Fault(Code::DoubleName));
-    }
-    if !tables.channels.has_room(CHANNELS) {
-        return Err(LineFail::Fault(Code::TooMany));
-    }
+    ensure(
+        tables.place.takes_channels() && is_identifier(name),
+        Code::Syntax,
+    )?;
+    ensure(
+        is_numeral(width) && is_numeral(depth) && is_numeral(delay),
+        Code::Syntax,
+    )?;
+    let width = width_of(width).ok_or(LineFail::Fault(Code::BadNumber))?;
+    let depth = number_in(depth, 1, FIFO_DEPTH).ok_or(LineFail::Fault(Code::BadNumber))?;
+    let delay = number_in(delay, 1, FIFO_DELAY).ok_or(LineFail::Fault(Code::BadNumber))?;
+    ensure(!tables.channels.has(name), Code::DoubleName)?;
+    ensure(tables.channels.has_room(CHANNELS), Code::TooMany)?;
     tables.add_fifo(name)?;
     Ok(Statement::Fifo(Name::new(alloc, name)?, width, depth, delay))
 }
@@ -194,9 +148,7 @@ pub fn fifo<'a>(
         [name, width] => new_bare_fifo(alloc, tables, *name, *width),
         [name, width, depth] => new_depth_fifo(alloc, tables, *name, *width, *depth),
         [name, width, depth, delay] => {
-            if !tables.has_delays() {
-                return Err(LineFail::Fault(Code::Syntax));
-            }
+            ensure(tables.has_delays(), Code::Syntax)?;
             new_fifo(alloc, tables, *name, *width, *depth, *delay)
         }
         _ => Err(LineFail::Fault(Code::Syntax)),

@@ -3,6 +3,7 @@
 
 mod channels;
 mod ends;
+mod ensure;
 mod inputs;
 mod lines;
 mod modules;

@@ -1,6 +1,6 @@
 -- An operation with its offset and guard fails the first test of those that its parts fail.
 use Rattle.std.proofs.Common.{◌≡◌, ◌<◌, ◌≤◌, length, map, arith, ℕ, ◌-◌, ◌^◌, List, [], ◌∷◌, ◌++◌, Bool, true, false, Option, None, Some}
-use Rattle.std.proofs.Common.{Result, Ok, Err, refl, sym, ap, subst, ◌∙◌}
+use Rattle.std.proofs.Common.{Result, Ok, refl, sym, ap, subst, ◌∙◌}
 use Rattle.std.specs.Prelude.{◌&&◌, not, option_map, if◌then◌else◌, nat_lt, nat_le}
 use Rattle.std.specs.List.{list_all}
 use Rattle.flow_design.specs.declared.limits.TheConstants.{OPERATIONS}
@@ -15,13 +15,12 @@ use Rattle.flow_design.specs.declared.session.Statement.TheVariants.{At}
 use Rattle.flow_grammar.specs.declared.fault.Code.{Code}
 use Rattle.flow_grammar.specs.declared.fault.Code.TheVariants.{Syntax, BadNumber, DoubleName, UnknownName, TooMany}
 use Rattle.flow_grammar.specs.declared.fault.LineFail.{LineFail}
-use Rattle.flow_grammar.specs.declared.fault.LineFail.TheVariants as line_fails
 use Rattle.flow_grammar.specs.Numbers.{number_within}
 use Rattle.flow_grammar.specs.Tokens.{Token, is_name}
 use Rattle.flow_grammar.specs.Parts.{Name, Part, expr_parts, op_parts, layer_parts}
 use Rattle.flow_grammar.specs.Rules.{is_in_range, has_small_trees}
 use Rattle.flow_grammar.specs.Forms.{if_then, guarded_of, op_of}
-use Rattle.flow_grammar.specs.Gives.{LineGives, LineFails, judged}
+use Rattle.flow_grammar.specs.Gives.{LineGives, judged}
 use Rattle.flow_grammar.proofs.Induction.{by_cases}
 use Rattle.flow_grammar.proofs.Kept.{all_append}
 use Rattle.flow_grammar.proofs.SpellingLaws.{parts_Number, parts_Var, parts_Unary, parts_Binary, parts_Sext, parts_Pick}
@@ -166,20 +165,3 @@ module _ (t : Tables) where
       ((λ i. timed_reading t (e i) (Some (m i)) (k i) o) ∙ at_read n (Some r) found o h
       ∙ passed (is_name r) (option_map (At n (Some r)) found) w)
       g
-
-  refused : (n : ℕ) (g : Option Name) (found : Option (Op Name)) (c : Code) → op_reading t found ≡ Err c
-      → reading_by t (option_map (At n g) found) ≡ Err c
-  refused n g None c h = let k : Syntax ≡ c = cc in ap (λ (x : Code). Err x) k
-  refused n g (Some p) c h = absurd cc
-
-  -- what no operation gives
-  pub unguarded_fails : (n : ℕ) (g : Option Name) (found : Option (Op Name)) (fail : LineFail) → LineFails fail (op_reading t found)
-      → LineFails fail (reading_by t (option_map (At n g) found))
-  unguarded_fails n g found line_fails.OutOfMemory h = tt
-  unguarded_fails n g found (line_fails.Fault c) h = refused n g found c h
-
-  pub guarded_fails : (n : ℕ) (r : Name) (found : Option (Op Name)) (fail : LineFail) → is_name r ≡ true
-      → LineFails fail (op_reading t found) → LineFails fail (reading_by t (if_then (is_name r) (option_map (At n (Some r)) found)))
-  guarded_fails n r found line_fails.OutOfMemory w h = tt
-  guarded_fails n r found (line_fails.Fault c) w h =
-      sym (passed (is_name r) (option_map (At n (Some r)) found) w) ∙ refused n (Some r) found c h

@@ -64,10 +64,8 @@ fn statement_behind<'a>(
         (reading_by tables.old (statement_of tables.old.version (keyword.now ∷ map (λ t. t.now) rest.now))) }
     ensures kept { IfOk result (λ s. tables.new ≡ accepted tables.old s) }
 {
-    match keyword_in(keyword) {
-        Some(keyword) => form(alloc, tables, keyword, rest),
-        None => Err(LineFail::Fault(Code::Syntax)),
-    }
+    let keyword = keyword_in(keyword).ok_or(LineFail::Fault(Code::Syntax))?;
+    form(alloc, tables, keyword, rest)
 }
 
 /// What the tokens of a line say: nothing where there is none, else the statement that they write.
@@ -82,10 +80,7 @@ fn said<'a>(
     ensures kept { IfOk result (λ s. tables.new ≡ accepted_if tables.old s) }
 {
     match tokens {
-        [keyword, rest @ ..] => match statement_behind(alloc, tables, *keyword, rest) {
-            Ok(statement) => Ok(Some(statement)),
-            Err(fail) => Err(fail),
-        },
+        [keyword, rest @ ..] => Ok(Some(statement_behind(alloc, tables, *keyword, rest)?)),
         _ => Ok(None),
     }
 }

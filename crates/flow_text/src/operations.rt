@@ -80,10 +80,8 @@ fn tree(
 ) -> Result<Result<Expr<Name>, Code>, LineFail>
     ensures { LineGives (λ r. r) result (tree_reading tables.now known (trees_of (map (λ t. t.now) tokens.now))) }
 {
-    match one_operand(alloc, tables, tokens) {
-        Ok(operand) => Ok(tree_of(known, operand)),
-        Err(fail) => Err(fail),
-    }
+    let operand = one_operand(alloc, tables, tokens)?;
+    Ok(tree_of(known, operand))
 }
 
 /// The two expressions that tokens write, beside a name that is known or not, or the first test that fails.
@@ -95,10 +93,8 @@ fn trees(
 ) -> Result<Result<(Expr<Name>, Expr<Name>), Code>, LineFail>
     ensures { LineGives (λ r. r) result (trees_reading tables.now known (trees_of (map (λ t. t.now) tokens.now))) }
 {
-    match two_operands(alloc, tables, tokens) {
-        Ok((first, second)) => Ok(both(tree_of(known, first), tree_of(true, second))),
-        Err(fail) => Err(fail),
-    }
+    let (first, second) = two_operands(alloc, tables, tokens)?;
+    Ok(both(tree_of(known, first), tree_of(true, second)))
 }
 
 /// The assignment of an expression that passed.
@@ -127,10 +123,8 @@ fn new_set(
     }
     let known = tables.is_known(register);
     let register = Name::new(alloc, register)?;
-    match tree(alloc, tables, known, expression) {
-        Ok(tree) => Ok(set_to(register, tree)),
-        Err(fail) => Err(fail),
-    }
+    let tree = tree(alloc, tables, known, expression)?;
+    Ok(set_to(register, tree))
 }
 
 /// `set R E`, behind its verb.
@@ -183,10 +177,8 @@ fn new_load(
     let known = knows_load(tables, register, memory);
     let register = Name::new(alloc, register)?;
     let memory = Name::new(alloc, memory)?;
-    match tree(alloc, tables, known, expression) {
-        Ok(tree) => Ok(load_from(register, memory, tree)),
-        Err(fail) => Err(fail),
-    }
+    let tree = tree(alloc, tables, known, expression)?;
+    Ok(load_from(register, memory, tree))
 }
 
 /// `load R M E`, behind its verb.
@@ -231,10 +223,8 @@ fn new_store(
     }
     let known = tables.memories.has(memory);
     let memory = Name::new(alloc, memory)?;
-    match trees(alloc, tables, known, expressions) {
-        Ok(trees) => Ok(store_to(memory, trees)),
-        Err(fail) => Err(fail),
-    }
+    let trees = trees(alloc, tables, known, expressions)?;
+    Ok(store_to(memory, trees))
 }
 
 /// `store M E E`, behind its verb.
@@ -277,10 +267,8 @@ fn new_write(
     }
     let known = tables.channels.has(channel);
     let channel = Name::new(alloc, channel)?;
-    match tree(alloc, tables, known, expression) {
-        Ok(tree) => Ok(written(channel, tree)),
-        Err(fail) => Err(fail),
-    }
+    let tree = tree(alloc, tables, known, expression)?;
+    Ok(written(channel, tree))
 }
 
 /// `write F E`, behind its verb.
@@ -337,10 +325,8 @@ fn new_try_write(
     let known = knows_outcome(tables, channel, outcome);
     let channel = Name::new(alloc, channel)?;
     let outcome = Name::new(alloc, outcome)?;
-    match tree(alloc, tables, known, expression) {
-        Ok(tree) => Ok(tried_write(channel, outcome, tree)),
-        Err(fail) => Err(fail),
-    }
+    let tree = tree(alloc, tables, known, expression)?;
+    Ok(tried_write(channel, outcome, tree))
 }
 
 /// `trywrite F OK E`, behind its verb.

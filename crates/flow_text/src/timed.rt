@@ -12,6 +12,7 @@ ghost use Rattle.flow_grammar.specs.Places.{takes_operations};
 ghost use Rattle.flow_design.specs.declared.limits.TheConstants.{OPERATIONS};
 ghost use Rattle.name_tables.specs.TableTests.{reading_by};
 
+use crate::ensure::ensure;
 use crate::operations::{TwoNames, load, set, store, try_read, try_write, two_names, write};
 use flow_design::limits::OPERATIONS;
 use flow_design::{Name, Op, Statement};
@@ -52,26 +53,11 @@ fn operation(
 ) -> Result<Result<Op<Name>, Code>, LineFail>
     ensures { LineGives (λ o. o) result (op_reading tables.now (op_of (map (λ t. t.now) tokens.now))) }
 {
-    match tokens {
-        [verb, rest @ ..] => operation_behind(alloc, tables, *verb, rest),
-        _ => Err(LineFail::Fault(Code::Syntax)),
-    }
-}
-
-/// The operation that a verb and the tokens behind it write, or the first test that it fails.
-#[tactic(auto, unfolding(flow_grammar::specs::Forms::op_of))]
-fn operation_behind(
-    alloc: Global,
-    tables: &Tables<'_>,
-    verb: &[u8],
-    rest: &[&[u8]],
-) -> Result<Result<Op<Name>, Code>, LineFail>
-    ensures { LineGives (λ o. o) result (op_reading tables.now (op_of (verb.now ∷ map (λ t. t.now) rest.now))) }
-{
-    match verb_in(verb) {
-        Some(verb) => form(alloc, tables, verb, rest),
-        None => Err(LineFail::Fault(Code::Syntax)),
-    }
+    let [verb, rest @ ..] = tokens else {
+        return Err(LineFail::Fault(Code::Syntax));
+    };
+    let verb = verb_in(verb).ok_or(LineFail::Fault(Code::Syntax))?;
+    form(alloc, tables, verb, rest)
 }
 
 /// The first test that fails, where names beside an operation are known or not, and there is room for it or not.
@@ -189,10 +175,8 @@ fn unguarded(
     ensures kept { IfOk result (λ s. tables.new ≡ accepted tables.old s) }
 {
     let offset = number_in(offset, 0, u64::MAX);
-    match operation(alloc, tables, tokens) {
-        Ok(operation) => timed(tables, offset, None, true, operation),
-        Err(fail) => Err(fail),
-    }
+    let operation = operation(alloc, tables, tokens)?;
+    timed(tables, offset, None, true, operation)
 }
 
 /// The operation at this offset, with this guard.
@@ -216,10 +200,8 @@ fn guarded(
     let offset = number_in(offset, 0, u64::MAX);
     let known = tables.is_known(register);
     let guard = Name::new(alloc, register)?;
-    match operation(alloc, tables, tokens) {
-        Ok(operation) => timed(tables, offset, Some(guard), known, operation),
-        Err(fail) => Err(fail),
-    }
+    let operation = operation(alloc, tables, tokens)?;
+    timed(tables, offset, Some(guard), known, operation)
 }
 
 /// The operation at this offset, with a guard or without.
@@ -246,23 +228,6 @@ fn with_offset(
     }
 }
 
-/// An operation behind an offset.
-fn at_offset(
-    alloc: Global,
-    tables: &mut Tables<'_>,
-    offset: &[u8],
-    tokens: &[&[u8]],
-) -> Result<Statement, LineFail>
-    ensures given { LineGives (λ s. s) result
-        (reading_by tables.old (if_then (is_number offset.now) (guarded_of (number_of offset.now) (map (λ t. t.now) tokens.now)))) }
-    ensures kept { IfOk result (λ s. tables.new ≡ accepted tables.old s) }
-{
-    if !is_numeral(offset) {
-        return Err(LineFail::Fault(Code::Syntax));
-    }
-    with_offset(alloc, tables, offset, tokens)
-}
-
 /// `at OFF OP` or `at OFF if R OP`, behind its keyword.
 #[tactic(auto, unfolding(flow_grammar::specs::Forms::at_of))]
 pub fn at<'a>(
@@ -273,8 +238,9 @@ pub fn at<'a>(
     ensures given { LineGives (λ s. s) result (reading_by tables.old (at_of (map (λ t. t.now) tokens.now))) }
     ensures kept { IfOk result (λ s. tables.new ≡ accepted tables.old s) }
 {
-    match tokens {
-        [offset, rest @ ..] => at_offset(alloc, tables, *offset, rest),
-        _ => Err(LineFail::Fault(Code::Syntax)),
-    }
+    let [offset, rest @ ..] = tokens else {
+        return Err(LineFail::Fault(Code::Syntax));
+    };
+    ensure(is_numeral(offset), Code::Syntax)?;
+    with_offset(alloc, tables, *offset, rest)
 }

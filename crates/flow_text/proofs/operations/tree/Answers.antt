@@ -6,7 +6,7 @@ use Rattle.flow_grammar.specs.Trees.{trees_of}
 use Rattle.flow_text.proofs.OperationLaws.{tree_of_operand}
 use Rattle.flow_text.proofs.operations.tree.Goals as goal
 
-pub returns-in-Ok : goal.returns-in-Ok
-returns-in-Ok c =
-    tree_of_operand c.args.tables.now c.args.known (trees_of (map (λ t. t.now) c.args.tokens.now)) c.in-Ok.operand c.in-Ok.ensures
+pub returns : goal.returns
+returns c =
+    tree_of_operand c.args.tables.now c.args.known (trees_of (map (λ t. t.now) c.args.tokens.now)) c.in_ok-operand.operand c.in_ok-operand.ensures
     ∙ ap (λ (x : Result (Expr Name) Code). Ok x) (sym c.tree_of.ensures)

@@ -19,8 +19,7 @@ use Rattle.flow_grammar.specs.Places.{place, may_stand, may_follow}
 use Rattle.flow_grammar.specs.Rules.{statement_fault}
 use Rattle.name_tables.specs.TablesOf.{tables_of, accepted}
 use Rattle.flow_grammar.specs.Line.{form_fault}
-use Rattle.flow_grammar.specs.Gives.{form_reading, judged}
-use Rattle.name_tables.specs.TableTests.{fault_by, form_fault_by, reading_by, is_new, is_first_input, is_known, has_room}
+use Rattle.name_tables.specs.TableTests.{fault_by, form_fault_by, is_new, is_first_input, is_known, has_room}
 
 new_same : (earlier : List Statement) (p : Part) → is_new (tables_of earlier) p ≡ rules.is_new earlier p
 unfolding tables_of
@@ -113,10 +112,6 @@ pub form_fault_same : (s : Option Statement) (earlier : List Statement) → form
 form_fault_same None earlier = refl
 form_fault_same (Some s) earlier = λ i. if place_same s earlier i then fault_same s earlier i else Some Syntax
 
-pub reading_same : (s : Option Statement) (earlier : List Statement) → reading_by (tables_of earlier) s ≡ form_reading earlier s
-reading_same None earlier = refl
-reading_same (Some s) earlier = ap (λ (o : Option Code). judged o s) (form_fault_same (Some s) earlier)
-
 -- counts of one statement more
 not_counted : (p : Statement → Bool) (s : Statement) (xs : List Statement) → p s ≡ false → count_by p xs ≡ count_by p (s ∷ xs)
 not_counted p s xs h =
@@ -167,6 +162,17 @@ parted s earlier = λ i. tables_from (s ∷ earlier) (take_while-cons is_no_modu
 
 -- what one statement more counts
 module _ (s : Statement) (earlier : List Statement) where
+  -- its tables, which these are but for the counts
+  abbrev more : Tables
+  more = tables_from (s ∷ earlier) (cond (is_no_module s) (s ∷ in_module earlier) []) (cond (is_no_block s) (s ∷ in_body earlier) [])
+
+  abbrev IsMore : Tables → Type 0
+  IsMore t = record t { operations = more.operations; input_values = more.input_values; edits = more.edits } ≡ more
+
+  by_counts : (t : Tables) → IsMore t → t.operations ≡ more.operations → t.input_values ≡ input_values (s ∷ earlier)
+      → t.edits ≡ edits (s ∷ earlier) → t ≡ tables_of (s ∷ earlier)
+  by_counts t same o i e = with_counts t _ _ _ o i e ∙ same ∙ sym (parted s earlier)
+
   no_operation : is_operation s ≡ false → count_by is_operation (in_body earlier) ≡ count_by is_operation (s ∷ in_body earlier)
   no_operation h = not_counted is_operation s (in_body earlier) h
 
@@ -176,65 +182,38 @@ module _ (s : Statement) (earlier : List Statement) where
   no_edit : is_edit s ≡ false → edits earlier ≡ edits (s ∷ earlier)
   no_edit h = not_counted is_edit s earlier h
 
+  -- a statement in a body that counts as nothing
+  quiet : (t : Tables) → IsMore t → more.operations ≡ count_by is_operation (s ∷ in_body earlier)
+      → t.operations ≡ count_by is_operation (in_body earlier) → t.input_values ≡ input_values earlier → t.edits ≡ edits earlier
+      → is_operation s ≡ false → input_count s ≡ 0 → is_edit s ≡ false → t ≡ tables_of (s ∷ earlier)
+  quiet t same m o i e a b c = by_counts t same (o ∙ no_operation a ∙ sym m) (i ∙ no_value b) (e ∙ no_edit c)
+
 -- the tables of one statement more
 pub accepted_same : (s : Statement) (earlier : List Statement) → accepted (tables_of earlier) s ≡ tables_of (s ∷ earlier)
 unfolding tables_of
-accepted_same (Flow v) earlier =
-    with_counts _ _ _ _ (no_operation (Flow v) earlier refl) (no_value (Flow v) earlier refl) (no_edit (Flow v) earlier refl)
-    ∙ sym (parted (Flow v) earlier)
-accepted_same (Source n w) earlier =
-    with_counts _ _ _ _ (no_operation (Source n w) earlier refl) (no_value (Source n w) earlier refl) (no_edit (Source n w) earlier refl)
-    ∙ sym (parted (Source n w) earlier)
-accepted_same (Sink n w) earlier =
-    with_counts _ _ _ _ (no_operation (Sink n w) earlier refl) (no_value (Sink n w) earlier refl) (no_edit (Sink n w) earlier refl)
-    ∙ sym (parted (Sink n w) earlier)
-accepted_same (Fifo n w depth delay) earlier =
-    with_counts _ _ _ _ (no_operation (Fifo n w depth delay) earlier refl) (no_value (Fifo n w depth delay) earlier refl)
-    (no_edit (Fifo n w depth delay) earlier refl)
-    ∙ sym (parted (Fifo n w depth delay) earlier)
-accepted_same (Module n) earlier =
-    with_counts _ _ _ _ (no_operation (Module n) earlier refl) (no_value (Module n) earlier refl) (no_edit (Module n) earlier refl)
-    ∙ sym (parted (Module n) earlier)
-accepted_same (Reg n w) earlier =
-    with_counts _ _ _ _ (no_operation (Reg n w) earlier refl) (no_value (Reg n w) earlier refl) (no_edit (Reg n w) earlier refl)
-    ∙ sym (parted (Reg n w) earlier)
-accepted_same (Mem n w l) earlier =
-    with_counts _ _ _ _ (no_operation (Mem n w l) earlier refl) (no_value (Mem n w l) earlier refl) (no_edit (Mem n w l) earlier refl)
-    ∙ sym (parted (Mem n w l) earlier)
+accepted_same (Flow v) earlier = quiet (Flow v) earlier _ refl refl refl refl refl refl refl refl
+accepted_same (Source n w) earlier = quiet (Source n w) earlier _ refl refl refl refl refl refl refl refl
+accepted_same (Sink n w) earlier = quiet (Sink n w) earlier _ refl refl refl refl refl refl refl refl
+accepted_same (Fifo n w depth delay) earlier = quiet (Fifo n w depth delay) earlier _ refl refl refl refl refl refl refl refl
+accepted_same (Module n) earlier = quiet (Module n) earlier _ refl refl refl refl refl refl refl refl
+accepted_same (Reg n w) earlier = quiet (Reg n w) earlier _ refl refl refl refl refl refl refl refl
+accepted_same (Mem n w l) earlier = quiet (Mem n w l) earlier _ refl refl refl refl refl refl refl refl
 accepted_same (Block n l) earlier =
-    with_counts _ _ _ _ refl (no_value (Block n l) earlier refl) (no_edit (Block n l) earlier refl)
-    ∙ sym (parted (Block n l) earlier)
+    by_counts (Block n l) earlier _ refl refl (no_value (Block n l) earlier refl) (no_edit (Block n l) earlier refl)
 accepted_same (Loop n ii l r) earlier =
-    with_counts _ _ _ _ refl (no_value (Loop n ii l r) earlier refl) (no_edit (Loop n ii l r) earlier refl)
-    ∙ sym (parted (Loop n ii l r) earlier)
-accepted_same (Temp n w) earlier =
-    with_counts _ _ _ _ (no_operation (Temp n w) earlier refl) (no_value (Temp n w) earlier refl) (no_edit (Temp n w) earlier refl)
-    ∙ sym (parted (Temp n w) earlier)
+    by_counts (Loop n ii l r) earlier _ refl refl (no_value (Loop n ii l r) earlier refl) (no_edit (Loop n ii l r) earlier refl)
+accepted_same (Temp n w) earlier = quiet (Temp n w) earlier _ refl refl refl refl refl refl refl refl
 accepted_same (At off guard o) earlier =
-    with_counts _ _ _ _ (counted is_operation (At off guard o) (in_body earlier) refl) (no_value (At off guard o) earlier refl)
-    (no_edit (At off guard o) earlier refl)
-    ∙ sym (parted (At off guard o) earlier)
-accepted_same (Goto b) earlier =
-    with_counts _ _ _ _ (no_operation (Goto b) earlier refl) (no_value (Goto b) earlier refl) (no_edit (Goto b) earlier refl)
-    ∙ sym (parted (Goto b) earlier)
-accepted_same (Branch r b c) earlier =
-    with_counts _ _ _ _ (no_operation (Branch r b c) earlier refl) (no_value (Branch r b c) earlier refl)
-    (no_edit (Branch r b c) earlier refl)
-    ∙ sym (parted (Branch r b c) earlier)
-accepted_same Stop earlier =
-    with_counts _ _ _ _ (no_operation Stop earlier refl) (no_value Stop earlier refl) (no_edit Stop earlier refl)
-    ∙ sym (parted Stop earlier)
+    by_counts (At off guard o) earlier _ refl (counted is_operation (At off guard o) (in_body earlier) refl)
+    (no_value (At off guard o) earlier refl) (no_edit (At off guard o) earlier refl)
+accepted_same (Goto b) earlier = quiet (Goto b) earlier _ refl refl refl refl refl refl refl refl
+accepted_same (Branch r b c) earlier = quiet (Branch r b c) earlier _ refl refl refl refl refl refl refl refl
+accepted_same Stop earlier = quiet Stop earlier _ refl refl refl refl refl refl refl refl
 accepted_same (Input n values) earlier =
-    with_counts _ _ _ _ (no_operation (Input n values) earlier refl) (summed input_count (Input n values) earlier)
+    by_counts (Input n values) earlier _ refl (no_operation (Input n values) earlier refl) (summed input_count (Input n values) earlier)
     (no_edit (Input n values) earlier refl)
-    ∙ sym (parted (Input n values) earlier)
-accepted_same (Limits c o) earlier =
-    with_counts _ _ _ _ (no_operation (Limits c o) earlier refl) (no_value (Limits c o) earlier refl) (no_edit (Limits c o) earlier refl)
-    ∙ sym (parted (Limits c o) earlier)
+accepted_same (Limits c o) earlier = quiet (Limits c o) earlier _ refl refl refl refl refl refl refl refl
 accepted_same (Depth n d) earlier =
-    with_counts _ _ _ _ (no_operation (Depth n d) earlier refl) (no_value (Depth n d) earlier refl)
+    by_counts (Depth n d) earlier _ refl (no_operation (Depth n d) earlier refl) (no_value (Depth n d) earlier refl)
     (counted is_edit (Depth n d) earlier refl)
-    ∙ sym (parted (Depth n d) earlier)
-accepted_same End earlier =
-    with_counts _ _ _ _ (no_operation End earlier refl) (no_value End earlier refl) (no_edit End earlier refl)
-    ∙ sym (parted End earlier)
+accepted_same End earlier = quiet End earlier _ refl refl refl refl refl refl refl refl

@@ -1,5 +1,5 @@
 -- The values of an input pass the tests of its parts.
-use Rattle.std.proofs.Common.{◌≡◌, ℕ, zero, suc, ◌+◌, ◌-◌, ◌^◌, ◌<◌, ◌≤◌, drop, get_or, arith, List, [], ◌∷◌, ◌++◌, map, length, Bool, true}
+use Rattle.std.proofs.Common.{◌≡◌, ℕ, ◌+◌, ◌-◌, ◌^◌, List, [], ◌∷◌, ◌++◌, map, length, Bool, true}
 use Rattle.std.proofs.Common.{false, Option, None, Some, Result, Ok, Err, refl, sym, ap, subst, ◌∙◌, append_assoc}
 use Rattle.std.specs.Prelude.{◌&&◌, not, if◌then◌else◌, nat_le}
 use Rattle.std.specs.List.{list_all}
@@ -21,36 +21,6 @@ use Rattle.name_tables.specs.declared.tables.Tables.{Tables}
 use Rattle.flow_grammar.specs.Places.{takes_inputs}
 use Rattle.name_tables.specs.TableTests.{is_new, is_known, fault_by, reading_by}
 use Rattle.flow_text.specs.Inputs.{is_plain, words_within, input_of_words, input_reading}
-
--- a list from one place on
-cell : {A : Type 0} (xs : List A) (k : ℕ) (d : A) → k < length xs → drop k xs ≡ get_or xs k d ∷ drop (k + 1) xs
-cell [] k d h = absurd (omega arith)
-cell (x ∷ xs) zero d h = refl
-cell (x ∷ xs) (suc k) d h = let e : suc k + 1 ≡ suc (k + 1) = omega arith in rw e (cell xs k d (omega arith))
-
-drop_all : {A : Type 0} (xs : List A) (k : ℕ) → length xs ≤ k → drop k xs ≡ []
-drop_all [] zero h = refl
-drop_all [] (suc k) h = refl
-drop_all (x ∷ xs) zero h = absurd (omega arith)
-drop_all (x ∷ xs) (suc k) h = drop_all xs k (omega arith)
-
--- whether all from one place on pass a test
-module _ {A : Type 0} (f : A → List ℕ) (p : List ℕ → Bool) (xs : List A) where
-  abbrev pub from_place : ℕ → Bool
-  from_place k = list_all p (map f (drop k xs))
-
-  pub passes : (k : ℕ) (d : A) → k < length xs → p (f (get_or xs k d)) ≡ true → from_place k ≡ list_all p (map f xs)
-      → from_place (k + 1) ≡ list_all p (map f xs)
-  passes k d h t s = let e : drop k xs ≡ get_or xs k d ∷ drop (k + 1) xs = cell xs k d h in
-      ap (λ (b : Bool). b && from_place (k + 1)) (sym t) ∙ ap (λ (ys : List A). list_all p (map f ys)) (sym e) ∙ s
-
-  pub passes_not : (k : ℕ) (d : A) → k < length xs → p (f (get_or xs k d)) ≡ false → from_place k ≡ list_all p (map f xs)
-      → false ≡ list_all p (map f xs)
-  passes_not k d h t s = let e : drop k xs ≡ get_or xs k d ∷ drop (k + 1) xs = cell xs k d h in
-      ap (λ (b : Bool). b && from_place (k + 1)) (sym t) ∙ ap (λ (ys : List A). list_all p (map f ys)) (sym e) ∙ s
-
-  pub all_pass : (k : ℕ) → length xs ≤ k → from_place k ≡ list_all p (map f xs) → true ≡ list_all p (map f xs)
-  all_pass k h s = ap (λ (ys : List A). list_all p (map f ys)) (sym (drop_all xs k h)) ∙ s
 
 plain_ranged : (ns : List ℕ) → list_all is_in_range (map plain ns) ≡ list_all is_plain ns
 plain_ranged [] = refl
@@ -196,22 +166,3 @@ module _ {A : Type 0} (f : A → List ℕ) where
       let d : true ≡ list_all is_plain (numbers all) = rw e at r.passed in
       let w : words ≡ numbers all = sym (append-nil words) ∙ s in
       ap (λ (ws : List ℕ). Some ws) w ∙ ap (λ (b : Bool). if b then Some (numbers all) else None) d
-
-  -- the same at a place of the list
-  pub is_numeral_at : (all : List A) (words : List ℕ) (k : ℕ) (d : A) → k < length all → Reading all words (drop k all)
-      → is_number (f (get_or all k d)) ≡ true
-  is_numeral_at all words k d h r = is_numeral all words (get_or all k d) (drop (k + 1) all) (drop k all) (cell all k d h) r
-
-  pub next_at : (all : List A) (words words' : List ℕ) (k : ℕ) (d : A) (w : ℕ) → k < length all
-      → number_within 0 (2 ^ 64 - 1) (number_of (f (get_or all k d))) ≡ Some w → words' ≡ words ++ w ∷ []
-      → Reading all words (drop k all) → Reading all words' (drop (k + 1) all)
-  next_at all words words' k d w h n e r = next all words words' (get_or all k d) w (drop (k + 1) all) (drop k all) (cell all k d h) n e r
-
-  pub beyond_at : (all : List A) (words : List ℕ) (k : ℕ) (d : A) → k < length all
-      → number_within 0 (2 ^ 64 - 1) (number_of (f (get_or all k d))) ≡ None
-      → Reading all words (drop k all) → None ≡ words_within (numbers all)
-  beyond_at all words k d h n r = beyond all words (get_or all k d) (drop (k + 1) all) (drop k all) (cell all k d h) n r
-
-  pub done_at : (all : List A) (words : List ℕ) (k : ℕ) → length all ≤ k → Reading all words (drop k all)
-      → Some words ≡ words_within (numbers all)
-  done_at all words k h r = done all words (drop k all) (drop_all all k h) r

@@ -20,12 +20,12 @@ use std::alloc::Global;
 fn are_numerals(tokens: &[&[u8]]) -> bool
     ensures { result ≡ list_all is_number (map (λ t. t.now) tokens.now) }
 {
-    let mut at = 0usize;
-    while at < tokens.len() {
-        if !is_numeral(tokens[at]) {
+    let mut rest = tokens;
+    while let [token, behind @ ..] = rest {
+        if !is_numeral(token) {
             return false;
         }
-        at += 1;
+        rest = behind;
     }
     true
 }
@@ -36,13 +36,13 @@ fn words_in(alloc: Global, tokens: &[&[u8]]) -> Result<Option<Words>, OutOfMemor
     ensures { IfOk result (λ words. words ≡ words_within (map number_of (map (λ t. t.now) tokens.now))) }
 {
     let mut words = List::with_room(alloc, tokens.len() as u64)?;
-    let mut at = 0usize;
-    while at < tokens.len() {
-        let Some(word) = number_in(tokens[at], 0, u64::MAX) else {
+    let mut rest = tokens;
+    while let [token, behind @ ..] = rest {
+        let Some(word) = number_in(token, 0, u64::MAX) else {
             return Ok(None);
         };
         words.push(word)?;
-        at += 1;
+        rest = behind;
     }
     Ok(Some(words))
 }

@@ -21,73 +21,48 @@ use Rattle.name_tables.specs.TablesOf.{tables_of, accepted}
 use Rattle.flow_grammar.specs.Line.{form_fault}
 use Rattle.name_tables.specs.TableTests.{fault_by, form_fault_by, is_new, is_first_input, is_known, has_room}
 
-new_same : (earlier : List Statement) (p : Part) → is_new (tables_of earlier) p ≡ rules.is_new earlier p
+-- what a part is by the tables and by the grammar
+part_same : (earlier : List Statement) (p : Part)
+    → (is_new (tables_of earlier) p ≡ rules.is_new earlier p) × (is_known (tables_of earlier) p ≡ rules.is_known earlier p)
 unfolding tables_of
-new_same earlier (New ChannelName n) = refl
-new_same earlier (New ModuleName n) = refl
-new_same earlier (New RegisterName n) = refl
-new_same earlier (New MemoryName n) = refl
-new_same earlier (New TempName n) = refl
-new_same earlier (New BlockName n) = refl
-new_same earlier (Word w) = refl
-new_same earlier (Use sort n) = refl
-new_same earlier (Label n) = refl
-new_same earlier (Num least most n) = refl
+part_same earlier (New ChannelName n) = (refl, refl)
+part_same earlier (New ModuleName n) = (refl, refl)
+part_same earlier (New RegisterName n) = (refl, refl)
+part_same earlier (New MemoryName n) = (refl, refl)
+part_same earlier (New TempName n) = (refl, refl)
+part_same earlier (New BlockName n) = (refl, refl)
+part_same earlier (Use AnyChannel n) = (refl, refl)
+part_same earlier (Use ASource n) = (refl, refl)
+part_same earlier (Use AFifo n) = (refl, refl)
+part_same earlier (Use ARegister n) = (refl, refl)
+part_same earlier (Use AMemory n) = (refl, refl)
+part_same earlier (Use AVariable n) = (refl, refl)
+part_same earlier (Word w) = (refl, refl)
+part_same earlier (Label n) = (refl, refl)
+part_same earlier (Num least most n) = (refl, refl)
 
-known_same : (earlier : List Statement) (p : Part) → is_known (tables_of earlier) p ≡ rules.is_known earlier p
+-- and what a statement is
+statement_same : (s : Statement) (earlier : List Statement)
+    → (is_first_input (tables_of earlier) s ≡ rules.is_first_input earlier s) × (has_room (tables_of earlier) s ≡ rules.has_room earlier s)
 unfolding tables_of
-known_same earlier (Use AnyChannel n) = refl
-known_same earlier (Use ASource n) = refl
-known_same earlier (Use AFifo n) = refl
-known_same earlier (Use ARegister n) = refl
-known_same earlier (Use AMemory n) = refl
-known_same earlier (Use AVariable n) = refl
-known_same earlier (Word w) = refl
-known_same earlier (New space n) = refl
-known_same earlier (Label n) = refl
-known_same earlier (Num least most n) = refl
-
-first_same : (s : Statement) (earlier : List Statement) → is_first_input (tables_of earlier) s ≡ rules.is_first_input earlier s
-unfolding tables_of
-first_same (Flow n) earlier = refl
-first_same (Source n w) earlier = refl
-first_same (Sink n w) earlier = refl
-first_same (Fifo n w depth delay) earlier = refl
-first_same (Module n) earlier = refl
-first_same (Reg n w) earlier = refl
-first_same (Mem n w l) earlier = refl
-first_same (Block n l) earlier = refl
-first_same (Loop n ii l r) earlier = refl
-first_same (Temp n w) earlier = refl
-first_same (At off guard o) earlier = refl
-first_same (Goto b) earlier = refl
-first_same (Branch r b c) earlier = refl
-first_same Stop earlier = refl
-first_same (Input n values) earlier = refl
-first_same (Limits c o) earlier = refl
-first_same (Depth n d) earlier = refl
-first_same End earlier = refl
-
-room_same : (s : Statement) (earlier : List Statement) → has_room (tables_of earlier) s ≡ rules.has_room earlier s
-unfolding tables_of
-room_same (Flow n) earlier = refl
-room_same (Source n w) earlier = refl
-room_same (Sink n w) earlier = refl
-room_same (Fifo n w depth delay) earlier = refl
-room_same (Module n) earlier = refl
-room_same (Reg n w) earlier = refl
-room_same (Mem n w l) earlier = refl
-room_same (Block n l) earlier = refl
-room_same (Loop n ii l r) earlier = refl
-room_same (Temp n w) earlier = refl
-room_same (At off guard o) earlier = refl
-room_same (Goto b) earlier = refl
-room_same (Branch r b c) earlier = refl
-room_same Stop earlier = refl
-room_same (Input n values) earlier = refl
-room_same (Limits c o) earlier = refl
-room_same (Depth n d) earlier = refl
-room_same End earlier = refl
+statement_same (Flow n) earlier = (refl, refl)
+statement_same (Source n w) earlier = (refl, refl)
+statement_same (Sink n w) earlier = (refl, refl)
+statement_same (Fifo n w depth delay) earlier = (refl, refl)
+statement_same (Module n) earlier = (refl, refl)
+statement_same (Reg n w) earlier = (refl, refl)
+statement_same (Mem n w l) earlier = (refl, refl)
+statement_same (Block n l) earlier = (refl, refl)
+statement_same (Loop n ii l r) earlier = (refl, refl)
+statement_same (Temp n w) earlier = (refl, refl)
+statement_same (At off guard o) earlier = (refl, refl)
+statement_same (Goto b) earlier = (refl, refl)
+statement_same (Branch r b c) earlier = (refl, refl)
+statement_same Stop earlier = (refl, refl)
+statement_same (Input n values) earlier = (refl, refl)
+statement_same (Limits c o) earlier = (refl, refl)
+statement_same (Depth n d) earlier = (refl, refl)
+statement_same End earlier = (refl, refl)
 
 place_same : (s : Statement) (earlier : List Statement) → may_stand s (tables_of earlier).place ≡ may_follow earlier s
 unfolding tables_of may_follow
@@ -104,8 +79,9 @@ first_broken ranged new known room =
 fault_same : (s : Statement) (earlier : List Statement) → fault_by (tables_of earlier) s ≡ statement_fault earlier s
 unfolding fault_by statement_fault
 fault_same s earlier =
-    λ i. first_broken (list_all rules.is_in_range (parts s)) (list_all (λ p. new_same earlier p i) (parts s) && first_same s earlier i)
-    (list_all (λ p. known_same earlier p i) (parts s)) (room_same s earlier i)
+    λ i. first_broken (list_all rules.is_in_range (parts s))
+    (list_all (λ p. (part_same earlier p).0 i) (parts s) && (statement_same s earlier).0 i)
+    (list_all (λ p. (part_same earlier p).1 i) (parts s)) ((statement_same s earlier).1 i)
 
 -- the first test that tokens fail, by the tables and by the grammar
 pub form_fault_same : (s : Option Statement) (earlier : List Statement) → form_fault_by (tables_of earlier) s ≡ form_fault earlier s

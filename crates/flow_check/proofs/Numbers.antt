@@ -195,26 +195,29 @@ module _ (earlier : List Statement) (scope : Scope) (heard : Within (registers e
   tree : (e : Expr Name) → list_all (is_known earlier) (expr_parts e) ≡ true → is_small e ≡ true → IsSound (numbered (places scope) e)
   tree e known small = sound earlier (places scope) heard e known small
 
+  one : {X : Type 0} (P : X → Type 0) (x : X) → P x → All P (x ∷ [])
+  one P x h = all_cons P x [] h (all_none P)
+
+  channel : (f : Name) → is_among (channels earlier) f ≡ true → number_of scope.channels f < length scope.channels
+  channel f h = number_below scope.channels f (heard_channels f h)
+
+  -- a channel and a variable
+  named : (f x : Name) → (is_among (channels earlier) f && (V x && true)) ≡ true
+      → All IsPlace (number_of (places scope) x ∷ []) × (number_of scope.channels f < length scope.channels)
+  named f x known =
+      let a = and_parts (is_among (channels earlier) f) (V x && true) known in
+      (one IsPlace _ (place x (and_parts (V x) true a.1).0), channel f a.0)
+
   pub op_read : (o : Op Name) → list_all (is_known earlier) (op_parts o) ≡ true → has_small_trees o ≡ true
       → OpRead (length (places scope)) (length scope.memories) (length scope.channels) (operation scope o)
   op_read (op.Set x e) known small =
       let a = and_parts (V x) (list_all (is_known earlier) (expr_parts e)) known in
-      record {
-        at = all_cons IsPlace _ [] (place x a.0) (all_none IsPlace);
-        expressions
-            = all_cons IsSound _ [] (tree e a.1 small) (all_none IsSound);
-        memory = tt;
-        channel = tt;
-      }
+      record { at = one IsPlace _ (place x a.0); expressions = one IsSound _ (tree e a.1 small); memory = tt; channel = tt }
   op_read (op.Load x m e) known small =
       let a = and_parts (V x) (is_among (memories earlier) m && list_all (is_known earlier) (expr_parts e)) known in
       let b = and_parts (is_among (memories earlier) m) (list_all (is_known earlier) (expr_parts e)) a.1 in
-      record {
-        at = all_cons IsPlace _ [] (place x a.0) (all_none IsPlace);
-        expressions = all_cons IsSound _ [] (tree e b.1 small) (all_none IsSound);
-        memory = number_below scope.memories m (heard_memories m b.0);
-        channel = tt;
-      }
+      let m_there = number_below scope.memories m (heard_memories m b.0) in
+      record { at = one IsPlace _ (place x a.0); expressions = one IsSound _ (tree e b.1 small); memory = m_there; channel = tt }
   op_read (op.Store m e f) known small =
       let a = and_parts (is_among (memories earlier) m) (list_all (is_known earlier) (expr_parts e ++ expr_parts f)) known in
       let b = and_parts (list_all (is_known earlier) (expr_parts e)) (list_all (is_known earlier) (expr_parts f))
@@ -223,65 +226,26 @@ module _ (earlier : List Statement) (scope : Scope) (heard : Within (registers e
       record {
         at = all_none IsPlace;
         expressions = all_cons IsSound _ (numbered (places scope) f ∷ []) (tree e b.0 s.0)
-            (all_cons IsSound _ [] (tree f b.1 s.1) (all_none IsSound));
+            (one IsSound _ (tree f b.1 s.1));
         memory = number_below scope.memories m (heard_memories m a.0);
         channel = tt;
       }
   op_read (op.Read f x) known small =
-      let a = and_parts (is_among (channels earlier) f) (V x && true) known in
-      let b = and_parts (V x) true a.1 in
-      record {
-        at = all_cons IsPlace _ [] (place x b.0) (all_none IsPlace);
-        expressions = all_none IsSound;
-        memory = tt;
-        channel
-            = number_below scope.channels f (heard_channels f a.0);
-      }
+      let n = named f x known in record { at = n.0; expressions = all_none IsSound; memory = tt; channel = n.1 }
   op_read (op.Write f e) known small =
       let a = and_parts (is_among (channels earlier) f) (list_all (is_known earlier) (expr_parts e)) known in
-      record {
-        at = all_none IsPlace;
-        expressions = all_cons IsSound _ [] (tree e a.1 small) (all_none IsSound);
-        memory = tt;
-        channel
-            = number_below scope.channels f (heard_channels f a.0);
-      }
+      record { at = all_none IsPlace; expressions = one IsSound _ (tree e a.1 small); memory = tt; channel = channel f a.0 }
   op_read (op.TryRead f x ok) known small =
       let a = and_parts (is_among (channels earlier) f) (V x && (V ok && true)) known in
       let b = and_parts (V x) (V ok && true) a.1 in
       let c = and_parts (V ok) true b.1 in
-      record {
-        at = all_cons IsPlace _ (number_of (places scope) ok ∷ []) (place x b.0) (all_cons IsPlace _ [] (place ok c.0) (all_none IsPlace));
-        expressions = all_none IsSound;
-        memory = tt;
-        channel = number_below scope.channels f (heard_channels f a.0);
-      }
+      let both = all_cons IsPlace _ (number_of (places scope) ok ∷ []) (place x b.0) (one IsPlace _ (place ok c.0)) in
+      record { at = both; expressions = all_none IsSound; memory = tt; channel = channel f a.0 }
   op_read (op.TryWrite f ok e) known small =
       let a = and_parts (is_among (channels earlier) f) (V ok && list_all (is_known earlier) (expr_parts e)) known in
       let b = and_parts (V ok) (list_all (is_known earlier) (expr_parts e)) a.1 in
-      record {
-        at = all_cons IsPlace _ [] (place ok b.0) (all_none IsPlace);
-        expressions = all_cons IsSound _ [] (tree e b.1 small) (all_none IsSound);
-        memory = tt;
-        channel = number_below scope.channels f (heard_channels f a.0);
-      }
+      record { at = one IsPlace _ (place ok b.0); expressions = one IsSound _ (tree e b.1 small); memory = tt; channel = channel f a.0 }
   op_read (op.Empty f x) known small =
-      let a = and_parts (is_among (channels earlier) f) (V x && true) known in
-      let b = and_parts (V x) true a.1 in
-      record {
-        at = all_cons IsPlace _ [] (place x b.0) (all_none IsPlace);
-        expressions = all_none IsSound;
-        memory = tt;
-        channel
-            = number_below scope.channels f (heard_channels f a.0);
-      }
+      let n = named f x known in record { at = n.0; expressions = all_none IsSound; memory = tt; channel = n.1 }
   op_read (op.Full f x) known small =
-      let a = and_parts (is_among (channels earlier) f) (V x && true) known in
-      let b = and_parts (V x) true a.1 in
-      record {
-        at = all_cons IsPlace _ [] (place x b.0) (all_none IsPlace);
-        expressions = all_none IsSound;
-        memory = tt;
-        channel
-            = number_below scope.channels f (heard_channels f a.0);
-      }
+      let n = named f x known in record { at = n.0; expressions = all_none IsSound; memory = tt; channel = n.1 }

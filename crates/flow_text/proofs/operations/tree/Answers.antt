@@ -8,5 +8,6 @@ use Rattle.flow_text.proofs.operations.tree.Goals as goal
 
 pub returns : goal.returns
 returns c =
-    tree_of_operand c.args.tables.now c.args.known (trees_of (map (λ t. t.now) c.args.tokens.now)) c.in_ok-operand.operand c.in_ok-operand.ensures
+    tree_of_operand c.args.tables.now c.args.known (trees_of (map (λ t. t.now) c.args.tokens.now)) c.in_ok-operand.operand
+    c.in_ok-operand.ensures
     ∙ ap (λ (x : Result (Expr Name) Code). Ok x) (sym c.tree_of.ensures)

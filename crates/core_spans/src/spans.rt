@@ -1,5 +1,5 @@
 //! The spans of a module.
-ghost use Rattle.std.specs.Prelude.{ℕ, ◌≡◌, ◌<◌, ◌+◌, min, max, length, map, is_some, All, IfOk, OnOk};
+ghost use Rattle.std.specs.Prelude.{ℕ, ◌≡◌, ◌<◌, ◌≤◌, ◌+◌, min, max, length, map, is_some, All, IfOk, OnOk};
 ghost use Rattle.time_engine.specs.Conditions.{IsAccess, HasAccesses, HasPlaces};
 ghost use Rattle.time_engine.specs.Possible.{when_possible};
 ghost use Rattle.flow_design.specs.declared.plan.Plan.{Plan};
@@ -94,8 +94,34 @@ fn stand(
 {
     let step = graph.step(place);
     let arrival = (last + step.gap).min(until);
+    stand_from(
+        spans,
+        graph,
+        fifos,
+        step.accesses.as_slice(),
+        arrival,
+        until,
+    )
+}
+
+/// A module comes to a step in a clock, and stands at it up to another.
+fn stand_from(
+    spans: &mut List<Span>,
+    graph: &Graph,
+    fifos: &FifoTable,
+    accesses: &[Access],
+    arrival: u64,
+    until: u64,
+) -> Result<(), OutOfMemory>
+    requires inside { All (IsAccess fifos.now.channels) accesses.now }
+    requires places { HasPlaces graph.now.lanes fifos.now.channels }
+    requires arrival { arrival ≤ until }
+    ensures spans { OnOk result ((p : Plan) (i : ℕ) → Comes p i spans.old → Does p i (reached spans.old) arrival Moves
+        → Stands p i graph.now.lanes fifos.now.channels accesses.now (max (reached spans.old) arrival) until → Comes p i spans.new) }
+    ensures reached { OnOk result (reached spans.new ≡ max (reached spans.old) until) }
+{
     go_on(spans, arrival, Doing::Moves)?;
-    wait(spans, graph, fifos, step.accesses.as_slice(), until)?;
+    wait(spans, graph, fifos, accesses, until)?;
     go_on(spans, until, Doing::Moves)
 }
 

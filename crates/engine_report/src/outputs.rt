@@ -1,13 +1,12 @@
 //! What the sinks hold at the end.
-ghost use Rattle.std.specs.Prelude.{◌≡◌, ◌<◌, ◌∷◌, ◌++◌, [], length, map, filter, is_some, All, IfOk, OnOk};
+ghost use Rattle.std.specs.Prelude.{◌≡◌, ◌<◌, ◌∷◌, ◌++◌, [], length, map, filter, IfOk, OnOk};
 ghost use Rattle.flow_design.specs.Plans.{is_sink, kind_at};
-ghost use Rattle.event_graph.specs.Lanes.{HasStep};
 ghost use Rattle.fifo_table.specs.Channels.{channel_at};
 ghost use Rattle.time_engine.specs.Conditions.{HasPlaces};
 ghost use Rattle.engine_report.specs.Read.{timed_values, outputs_of};
 
 use event_graph::Graph;
-use fifo_table::{FifoTable, Pushed};
+use fifo_table::FifoTable;
 use flow_design::{ChannelKind, Plan};
 use flow_word::{List, OutOfMemory, Words};
 use std::alloc::Global;
@@ -49,18 +48,28 @@ fn add_output(
         .kind
         .is_sink()
     {
-        outputs.push(timed_values(alloc, graph, fifos.pushed(channel))?)?;
+        outputs.push(timed_values(alloc, graph, fifos, channel)?)?;
     }
     Ok(())
 }
 
-/// The values of the first pushes, as far as their steps have a cycle.
-fn timed_values(alloc: Global, graph: &Graph, pushes: &[Pushed]) -> Result<Words, OutOfMemory>
-    requires { All (λ e. HasStep graph.now.lanes e.at) pushes.now }
-    ensures { IfOk result (λ values. values ≡ timed_values graph.now.lanes pushes.now) }
+/// The values of a channel's first pushes, as far as their steps have a cycle.
+fn timed_values(
+    alloc: Global,
+    graph: &Graph,
+    fifos: &FifoTable,
+    channel: u32,
+) -> Result<Words, OutOfMemory>
+    requires channel { channel < length fifos.now.channels }
+    requires places { HasPlaces graph.now.lanes fifos.now.channels }
+    ensures { IfOk result (λ values. values ≡ timed_values graph.now.lanes (channel_at fifos.now.channels channel).pushes) }
 {
-    let mut values = List::with_room(alloc, pushes.len() as u64)?;
-    for push in pushes {
+    let count = fifos.pushes(channel);
+    let mut values = List::with_room(alloc, count)?;
+    for before in 0..count {
+        let Some(push) = fifos.pushed(channel, before) else {
+            break;
+        };
         if graph.cycle_of(push.at).is_none() {
             break;
         }

@@ -10,12 +10,13 @@ ghost use Rattle.engine_view.specs.Known.{as_known, flag_found, found_flags};
 ghost use Rattle.engine_view.specs.Answered.{outcome_by, outcomes_of};
 ghost use Rattle.engine_view.specs.Turns.{IsOther};
 
-use crate::take::{query_count, was_possible};
+use crate::take::was_possible;
 use event_graph::{Access, Graph};
 use fifo_table::FifoTable;
 use outcome_guard::Guard;
 use query_log::{Query, QueryLog};
 use query_resolve::{Decision, decide, late};
+use time_engine::query_count;
 
 /// Adds the outcomes of a step's queries in this clock, where an undecided one counts as not possible. There is room for
 /// them.

@@ -13,6 +13,7 @@ use fifo_table::FifoTable;
 use flow_word::Side;
 use query_log::QueryLog;
 use query_resolve::late;
+use time_engine::query_count;
 
 /// Adds the pushes and pops of a step: where it is only emitted those of the accesses that block, and later those of the
 /// queries that were possible by their recorded outcomes. There is room for them.
@@ -29,6 +30,7 @@ pub fn take_all(
     requires apart { AreApart accesses.now }
     requires room { HasRoomFor fifos.old accesses.now }
     requires few { first_query + length accesses.now < 2 ^ 64 }
+    requires step { at.step < 2 ^ 32 }
     ensures channels { fifos.new.channels ≡ taken_all at fifos.old.channels accesses.now
         (done_by later accesses.now (drop first_query (log_at log.now.logs at.module).outcomes)) }
     ensures kinds { kinds_in fifos.new.channels ≡ kinds_in fifos.old.channels }
@@ -70,6 +72,7 @@ pub fn was_possible(log: &QueryLog, owner: u32, number: u64, kind: Kind) -> bool
 /// Adds the push or the pop of an access that takes, where it is done.
 fn take_if(fifos: &mut FifoTable, at: Place, access: &Access, done: bool)
     requires access { IsAccess fifos.old.channels access.now }
+    requires step { at.step < 2 ^ 32 }
     requires room { is_taking access.now.kind ≡ true → 0 < room_of fifos.old (side_of access.now.kind) access.now.channel }
     ensures channels { fifos.new.channels ≡ cond (is_taking access.now.kind && done)
         (taken_by (side_of access.now.kind) at fifos.old.channels access.now) fifos.old.channels }
@@ -84,6 +87,7 @@ fn take_if(fifos: &mut FifoTable, at: Place, access: &Access, done: bool)
 /// Adds the push or the pop of an access. There is room for it.
 fn add(fifos: &mut FifoTable, at: Place, access: &Access)
     requires access { IsAccess fifos.old.channels access.now }
+    requires step { at.step < 2 ^ 32 }
     requires taking { is_taking access.now.kind ≡ true }
     requires room { 0 < room_of fifos.old (side_of access.now.kind) access.now.channel }
     ensures channels { fifos.new.channels ≡ taken_by (side_of access.now.kind) at fifos.old.channels access.now }
@@ -94,12 +98,4 @@ fn add(fifos: &mut FifoTable, at: Place, access: &Access)
         Side::Pop => fifos.add_pop(access.channel, at),
         Side::Push => fifos.add_push(access.channel, at, access.value),
     };
-}
-
-/// How many queries an access of this kind is.
-pub fn query_count(kind: Kind) -> u64
-    ensures count { result ≡ cond (is_blocking kind) 0 1 }
-    ensures most { result ≤ 1 }
-{
-    if kind.is_blocking() { 0 } else { 1 }
 }

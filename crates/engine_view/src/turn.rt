@@ -1,6 +1,7 @@
 //! One turn at a module.
 ghost use Rattle.std.specs.Prelude.{◌≡◌, ℕ, ◌+◌, ◌<◌, ◌≤◌, true, length, All};
 ghost use Rattle.event_graph.specs.Lanes.{cycle_bound};
+ghost use Rattle.event_graph.specs.Packed.{whole};
 ghost use Rattle.time_engine.specs.Conditions.{IsAccess, HasPlaces};
 ghost use Rattle.time_engine.specs.Possible.{when_possible};
 ghost use Rattle.event_timing.specs.Enablers.{is_decided as decided};
@@ -11,14 +12,14 @@ ghost use Rattle.engine_view.specs.Taking.{kinds_in};
 ghost use Rattle.engine_view.specs.Turns.{IsSomeCore, HasTimed, KeepsRoom, lanes_behind, ticks_of, is_progress, left};
 
 use crate::answer::answer_first;
-use event_graph::{Access, Candidate, Graph, Place, Step};
+use event_graph::{Access, Candidate, Graph, Place, StepView};
 use fifo_table::FifoTable;
 use flow_word::Steps;
 use outcome_guard::Guard;
 use query_log::{Query, QueryLog};
 use query_resolve::{Decision, decide};
 use std::sync::ledger::Ledger;
-use time_engine::{assign, candidate};
+use time_engine::{assign, candidate_and_queries};
 
 /// What was done of a module's first step without a cycle.
 #[derive(Clone, Copy, Debug, PartialEq, Eq)]
@@ -55,14 +56,15 @@ pub fn time_first<L: Ledger>(
     ensures less { is_progress result ≡ true → left (stored graph.new fifos.new log.new) < left (stored graph.old fifos.old log.old) }
     ensures ticks { steps.new ≡ steps.old + ticks_of result }
 {
-    let Candidate::At(cycle) = candidate(graph, fifos, owner, limit) else {
+    let (found, queries) = candidate_and_queries(graph, fifos, owner, limit);
+    let Candidate::At(cycle) = found else {
         return Timing::Nothing;
     };
     let first = graph.step(Place {
         module: owner,
         step: graph.frontier(owner),
     });
-    if are_first(first, log.verified(owner)) {
+    if are_first(&first, queries, log.verified(owner)) {
         assign(graph, owner, cycle, steps);
         return Timing::Assigned(cycle);
     }
@@ -75,11 +77,11 @@ pub fn time_first<L: Ledger>(
     }
 }
 
-/// Whether all queries of a step are among its module's first so many.
-fn are_first(step: &Step, verified: u64) -> bool
-    ensures { result ≡ are_among step.now verified }
+/// Whether all queries of a step, which are so many, are among its module's first so many.
+fn are_first(step: &StepView, queries: u64, verified: u64) -> bool
+    requires { queries ≡ queries_in step.now.accesses }
+    ensures { result ≡ are_among (whole step.now) verified }
 {
-    let queries = count_queries(step.accesses.as_slice());
     if queries == 0 {
         return true;
     }

@@ -1,5 +1,5 @@
 //! The lanes of all modules.
-ghost use Rattle.std.specs.Prelude.{◌≡◌, ◌≢◌, ℕ, ◌+◌, ◌<◌, ◌≤◌, length, map, replicate, slice_get, slice_index, All, Some, IfSome, IsOk};
+ghost use Rattle.std.specs.Prelude.{◌≡◌, ◌≢◌, ℕ, ◌+◌, ◌<◌, ◌≤◌, ◌^◌, length, map, replicate, slice_get, slice_index, All, Some, IfSome, IsOk};
 ghost use Rattle.std.specs.Prelude.{IfOk, OnOk, OnErr};
 ghost use Rattle.std.specs.Option.{ForSome};
 ghost use Rattle.event_graph.specs.Lanes.{no_lane, lane_at, last_cycle, cycle_bound, HasStep, IsSoundStep, IsSoundLane, with_step};
@@ -7,9 +7,11 @@ ghost use Rattle.event_graph.specs.Lanes.{with_cycle, with_put, timed_below, if_
 ghost use Rattle.std.specs.Prelude.{slice_set};
 ghost use Rattle.std.specs.List.Sorted.{IsStrictlyIncreasing};
 ghost use Rattle.event_graph.specs.Lanes.{cycle_of as cycle_at};
+ghost use Rattle.event_graph.specs.Packed.{whole};
 ghost use Rattle.flow_word.specs.declared.access.Place.{Place};
 
 use crate::lane::RoomyLane;
+use crate::view::StepView;
 use flow_word::{OutOfMemory, Place, Step, Steps};
 use std::alloc::Global;
 use std::marker::Model;
@@ -96,6 +98,7 @@ impl Graph {
     pub fn len(&self, owner: u32) -> u64
         requires { owner < length self.now.lanes }
         ensures count { result ≡ length (lane_at self.now.lanes owner).steps }
+        ensures few { result < 2 ^ 32 }
         ensures sound { IsSoundLane (lane_at self.now.lanes owner) }
     {
         self.lanes[owner as usize].len()
@@ -105,19 +108,20 @@ impl Graph {
     pub fn frontier(&self, owner: u32) -> u64
         requires { owner < length self.now.lanes }
         ensures count { result ≡ length (lane_at self.now.lanes owner).cycles }
+        ensures few { result < 2 ^ 32 }
         ensures sound { IsSoundLane (lane_at self.now.lanes owner) }
     {
-        self.lanes[owner as usize].cycles().len() as u64
+        self.lanes[owner as usize].frontier()
     }
 
     /// The step at a place.
-    pub fn step(&self, place: Place) -> &Step
+    pub fn step(&self, place: Place) -> StepView<'_>
         requires { HasStep self.now.lanes place }
-        ensures step { slice_get (lane_at self.now.lanes place.module).steps place.step ≡ Some result.now }
-        ensures sound { IsSoundStep result.now }
-        ensures apart { 0 < place.step → 1 ≤ result.now.gap }
+        ensures step { slice_get (lane_at self.now.lanes place.module).steps place.step ≡ Some (whole result) }
+        ensures sound { IsSoundStep (whole result) }
+        ensures apart { 0 < place.step → 1 ≤ result.gap }
     {
-        &self.lanes[place.module as usize].steps()[place.step as usize]
+        self.lanes[place.module as usize].step(place.step)
     }
 
     /// The cycle of the step at a place, where it has one.

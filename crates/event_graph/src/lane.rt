@@ -1,11 +1,14 @@
 //! One module's lane, with its room.
-ghost use Rattle.std.specs.Prelude.{◌≡◌, ◌+◌, ◌<◌, ◌≤◌, length, take, filter, nat_lt, slice_set, IsOk, OnOk, OnErr};
+ghost use Rattle.std.specs.Prelude.{◌≡◌, ◌+◌, ◌<◌, ◌≤◌, ◌^◌, length, take, filter, nat_lt, slice_get, slice_set, Some, IsOk, OnOk, OnErr};
 ghost use Rattle.std.specs.Option.{ForSome};
 ghost use Rattle.std.specs.List.Sorted.{IsStrictlyIncreasing};
 ghost use Rattle.event_graph.specs.Lanes.{no_lane, last_cycle, cycle_bound, IsSoundStep, IsSoundLane, longer, timed, timed_below};
 ghost use Rattle.event_graph.specs.Lanes.{put_in};
+ghost use Rattle.event_graph.specs.Packed.{whole};
 
-use flow_word::{OutOfMemory, RoomyList, Step, Steps};
+use crate::steps::StepList;
+use crate::view::StepView;
+use flow_word::{OutOfMemory, Step, Steps};
 use std::alloc::Global;
 use std::marker::Model;
 use std::sync::ledger::Ledger;
@@ -13,12 +16,12 @@ use std::sync::ledger::Ledger;
 /// A module's steps, and the cycles of the first of them. Each step has room for its cycle.
 #[derive(Drop)]
 pub struct RoomyLane {
-    steps: RoomyList<Step>,
+    steps: StepList,
     cycles: Vec<u64>,
 }
 
 impl Model for RoomyLane {
-    ghost use Rattle.std.specs.Prelude.{◌-◌, ◌≤◌, length, min, vec_capacity};
+    ghost use Rattle.std.specs.Prelude.{◌-◌, ◌<◌, ◌≤◌, ◌^◌, length, min, vec_capacity};
     ghost use Rattle.event_graph.specs.Lanes.{IsSoundLane};
     ghost use Rattle.event_graph.specs.Roomed.{RoomedLane};
 
@@ -31,7 +34,7 @@ impl Model for RoomyLane {
     } };
 
     ghost invariant = { λ l. IsSoundLane (record { steps = l.steps.items; cycles = l.cycles.items })
-        × (length l.steps.items ≤ vec_capacity l.cycles) };
+        × (length l.steps.items ≤ vec_capacity l.cycles) × (length l.steps.items < 2 ^ 32) };
 }
 
 impl RoomyLane {
@@ -41,23 +44,33 @@ impl RoomyLane {
         ensures sound { IsSoundLane result.lane }
     {
         RoomyLane {
-            steps: RoomyList::new(alloc),
+            steps: StepList::new(alloc),
             cycles: Vec::new(alloc),
         }
     }
 
     /// How many steps there are.
     pub fn len(&self) -> u64
-        ensures { result ≡ length self.now.lane.steps }
+        ensures count { result ≡ length self.now.lane.steps }
+        ensures few { result < 2 ^ 32 }
     {
         self.steps.len()
     }
 
-    /// The steps.
-    pub fn steps(&self) -> &[Step]
-        ensures { result.now ≡ self.now.lane.steps }
+    /// The step of this number.
+    pub fn step(&self, at: u64) -> StepView<'_>
+        requires { at < length self.now.lane.steps }
+        ensures { slice_get self.now.lane.steps at ≡ Some (whole result) }
     {
-        self.steps.as_slice()
+        self.steps.get(at)
+    }
+
+    /// How many steps have their cycle.
+    pub fn frontier(&self) -> u64
+        ensures count { result ≡ length self.now.lane.cycles }
+        ensures few { result < 2 ^ 32 }
+    {
+        self.cycles.len() as u64
     }
 
     /// The cycles of the first steps.

@@ -4,7 +4,10 @@
 mod candidate;
 mod graph;
 mod lane;
+mod steps;
+mod view;
 
 pub use candidate::Candidate;
 pub use flow_word::{Access, Accesses, Kind, Place, Step};
 pub use graph::Graph;
+pub use view::{AccessesView, StepView};

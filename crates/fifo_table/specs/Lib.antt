@@ -1,3 +1,4 @@
 pub mod Channels
 pub mod Enablers
+pub mod Narrow
 pub mod Roomed

@@ -5,7 +5,7 @@ ghost use Rattle.fifo_table.specs.Channels.{IsSoundKind, IsSource, IsSink, IsFif
 ghost use Rattle.fifo_table.specs.Channels.{places_of, first_module, values_of, with_push, with_pop, with_depth};
 ghost use Rattle.fifo_table.specs.Enablers.{enabler_of, event_at};
 
-use crate::channel::{Pushed, RoomyChannel, TableChannel};
+use crate::channel::{NarrowPlace, NarrowPush, Pushed, RoomyChannel, TableChannel};
 use crate::enabler::Enabler;
 use flow_word::{OutOfMemory, Place, Side};
 use std::alloc::Global;
@@ -79,6 +79,7 @@ impl FifoTable {
     pub fn add_push(&mut self, channel: u32, at: Place, value: u64) -> Result<(), OutOfMemory>
         requires channel { channel < length self.old.channels }
         requires no_source { ¬ IsSource (channel_at self.old.channels channel).kind }
+        requires step { at.step < 2 ^ 32 }
         ensures ok { OnOk result (self.new.channels ≡ with_push self.old.channels channel at value) }
         ensures err { OnErr result (self.new.channels ≡ self.old.channels) }
         ensures succeeds { 0 < slice_index self.old.push_rooms channel → IsOk result }
@@ -86,9 +87,10 @@ impl FifoTable {
         ensures other_rooms { (k : ℕ) → k ≢ channel → slice_index self.old.push_rooms k ≤ slice_index self.new.push_rooms k }
         ensures pop_rooms { self.new.pop_rooms ≡ self.old.pop_rooms }
     {
+        let at = NarrowPlace::of(at);
         self.channels[channel as usize]
             .pushes
-            .push(Pushed { at, value })
+            .push(NarrowPush { at, value })
     }
 
     /// Adds the next pop of a channel.
@@ -98,6 +100,7 @@ impl FifoTable {
     pub fn add_pop(&mut self, channel: u32, at: Place) -> Result<(), OutOfMemory>
         requires channel { channel < length self.old.channels }
         requires no_sink { ¬ IsSink (channel_at self.old.channels channel).kind }
+        requires step { at.step < 2 ^ 32 }
         ensures ok { OnOk result (self.new.channels ≡ with_pop self.old.channels channel at) }
         ensures err { OnErr result (self.new.channels ≡ self.old.channels) }
         ensures succeeds { 0 < slice_index self.old.pop_rooms channel → IsOk result }
@@ -105,6 +108,7 @@ impl FifoTable {
         ensures other_rooms { (k : ℕ) → k ≢ channel → slice_index self.old.pop_rooms k ≤ slice_index self.new.pop_rooms k }
         ensures push_rooms { self.new.push_rooms ≡ self.old.push_rooms }
     {
+        let at = NarrowPlace::of(at);
         self.channels[channel as usize].pops.push(at)
     }
 
@@ -143,11 +147,10 @@ impl FifoTable {
         ensures { result ≡ nth (values_of (channel_at self.now.channels channel).kind (channel_at self.now.channels channel).pushes) n }
     {
         let channel = &self.channels[channel as usize];
-        let at = (n - 1) as usize;
         match &channel.kind {
-            TableChannel::Source(inputs) => inputs.as_slice().get(at).copied(),
+            TableChannel::Source(inputs) => inputs.as_slice().get((n - 1) as usize).copied(),
             TableChannel::Sink | TableChannel::Fifo(..) => {
-                channel.pushes.as_slice().get(at).map(|push| push.value)
+                channel.push(n - 1).map(|push| push.value)
             }
         }
     }
@@ -175,12 +178,12 @@ impl FifoTable {
         self.channels[channel as usize].pushes.len()
     }
 
-    /// The pushes of a channel, in order.
-    pub fn pushed(&self, channel: u32) -> &[Pushed]
+    /// The push of a channel with so many before it. None where there is none.
+    pub fn pushed(&self, channel: u32, before: u64) -> Option<Pushed>
         requires { channel < length self.now.channels }
-        ensures { result.now ≡ (channel_at self.now.channels channel).pushes }
+        ensures { result ≡ slice_get (channel_at self.now.channels channel).pushes before }
     {
-        self.channels[channel as usize].pushes.as_slice()
+        self.channels[channel as usize].push(before)
     }
 
     /// The module of a channel's first pop. None where there is no pop yet.
@@ -188,8 +191,8 @@ impl FifoTable {
         requires { channel < length self.now.channels }
         ensures { result ≡ first_module (places_of Side.Pop (channel_at self.now.channels channel)) }
     {
-        let pops = self.channels[channel as usize].pops.as_slice();
-        pops.first().map(|at| at.module)
+        let pop = self.channels[channel as usize].pop(0);
+        pop.map(|at| at.module)
     }
 
     /// The module of a channel's first push. None where there is no push yet.
@@ -197,8 +200,8 @@ impl FifoTable {
         requires { channel < length self.now.channels }
         ensures { result ≡ first_module (places_of Side.Push (channel_at self.now.channels channel)) }
     {
-        let pushes = self.channels[channel as usize].pushes.as_slice();
-        pushes.first().map(|push| push.at.module)
+        let push = self.channels[channel as usize].push(0);
+        push.map(|push| push.at.module)
     }
 
     /// What the n-th pop of a channel, or its n-th push, waits for. `Never` comes only from a source.
@@ -228,10 +231,7 @@ impl FifoTable {
             TableChannel::Source(inputs) if n <= inputs.len() => Enabler::Free,
             TableChannel::Source(_) => Enabler::Never,
             TableChannel::Sink => Enabler::Missing,
-            TableChannel::Fifo(..) => {
-                let push = channel.pushes.as_slice().get((n - 1) as usize);
-                emitted(push.map(|push| push.at))
-            }
+            TableChannel::Fifo(..) => emitted(channel.push(n - 1).map(|push| push.at)),
         }
     }
 
@@ -248,10 +248,7 @@ impl FifoTable {
             TableChannel::Source(_) => Enabler::Missing,
             TableChannel::Sink => Enabler::Free,
             TableChannel::Fifo(depth, _) if n <= *depth => Enabler::Free,
-            TableChannel::Fifo(depth, _) => {
-                let pop = channel.pops.as_slice().get((n - *depth - 1) as usize);
-                emitted(pop.copied())
-            }
+            TableChannel::Fifo(depth, _) => emitted(channel.pop(n - *depth - 1)),
         }
     }
 

@@ -76,7 +76,10 @@ fn due_cycle(graph: &Graph, fifos: &FifoTable, at: Place) -> Option<u64>
 {
     let step = graph.step(at);
     let arrival = cycle_before(graph, at) + step.gap;
-    latest(graph, fifos, step.accesses.as_slice(), arrival).ok()
+    match latest(graph, fifos, step.accesses.as_slice(), arrival) {
+        Ok(cycle) => Some(cycle),
+        Err(_access) => None,
+    }
 }
 
 /// The cycle of the step before, and 0 before a module's first.

@@ -6,4 +6,4 @@ mod timing;
 
 pub use event_graph::Candidate;
 pub use known::{Known, known_of};
-pub use timing::{assign, candidate, last_cycle, latest};
+pub use timing::{assign, candidate, candidate_and_queries, last_cycle, latest, query_count};

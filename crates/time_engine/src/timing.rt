@@ -1,6 +1,8 @@
 //! The cycle of a module's first step without one.
-ghost use Rattle.std.specs.Prelude.{◌≡◌, ℕ, List, All, ◌+◌, ◌^◌, ◌<◌, ◌≤◌, ◌↔◌, ◌∷◌, [], length, slice_get, slice_index, position};
+ghost use Rattle.std.specs.Prelude.{◌≡◌, ℕ, List, All, ◌+◌, ◌^◌, ◌<◌, ◌≤◌, ◌↔◌, ◌∷◌, [], length, filter, not, cond, slice_get, slice_index, position};
 ghost use Rattle.std.specs.Prelude.{unwrap_or, is_none, None, Some, IfSome, IfOk, OnOk, IfErr, IsSomeAnd};
+ghost use Rattle.std.specs.Option.{ForSome};
+ghost use Rattle.flow_word.specs.Kinds.{is_blocking};
 ghost use Rattle.event_graph.specs.Lanes.{IsSoundLane, lane_at, cycle_bound, with_cycle};
 ghost use Rattle.event_graph.specs.Lanes.{last_cycle as last_of};
 ghost use Rattle.time_engine.specs.Conditions.{IsAccess, HasAccesses, HasPlaces};
@@ -9,7 +11,7 @@ ghost use Rattle.time_engine.specs.Cycles.{latest as latest_of};
 ghost use Rattle.fifo_table.specs.Channels.{Channel};
 
 use crate::known::{Known, known_of};
-use event_graph::{Access, Candidate, Graph, Place};
+use event_graph::{Access, Candidate, Graph, Kind, Place};
 use fifo_table::FifoTable;
 use flow_word::Steps;
 use std::sync::ledger::Ledger;
@@ -30,19 +32,44 @@ pub fn candidate(graph: &Graph, fifos: &FifoTable, owner: u32, limit: u64) -> Ca
         × (cycle < limit)) }
     ensures may_take { (cycle : ℕ) → result ≡ Candidate.At cycle → MayTake graph.now.lanes owner cycle }
 {
+    candidate_and_queries(graph, fifos, owner, limit).0
+}
+
+/// The same, and how many of the step's accesses are queries, where none waits.
+#[inline(always)]
+pub fn candidate_and_queries(
+    graph: &Graph,
+    fifos: &FifoTable,
+    owner: u32,
+    limit: u64,
+) -> (Candidate, u64)
+    requires owner { owner < length graph.now.lanes }
+    requires accesses { HasAccesses graph.now.lanes fifos.now.channels }
+    requires places { HasPlaces graph.now.lanes fifos.now.channels }
+    requires limit { limit ≤ cycle_bound }
+    ensures nothing { (result.0 ≡ Candidate.Nothing) ↔ (open_step (lane_at graph.now.lanes owner) ≡ None) }
+    ensures waits { (i : ℕ) → (result.0 ≡ Candidate.Waits i) ↔ (first_waiting graph.now.lanes fifos.now.channels owner ≡ Some i) }
+    ensures beyond { (result.0 ≡ Candidate.Beyond)
+        ↔ IsSomeAnd (determined graph.now.lanes fifos.now.channels owner) (λ cycle. limit ≤ cycle) }
+    ensures at { (cycle : ℕ) → (result.0 ≡ Candidate.At cycle) ↔ ((determined graph.now.lanes fifos.now.channels owner ≡ Some cycle)
+        × (cycle < limit)) }
+    ensures may_take { (cycle : ℕ) → result.0 ≡ Candidate.At cycle → MayTake graph.now.lanes owner cycle }
+    ensures queries { (cycle : ℕ) → result.0 ≡ Candidate.At cycle → ForSome (open_step (lane_at graph.now.lanes owner))
+        (λ step. result.1 ≡ length (filter (λ a. not (is_blocking a.kind)) step.accesses)) }
+{
     let first = graph.frontier(owner);
     if first == graph.len(owner) {
-        return Candidate::Nothing;
+        return (Candidate::Nothing, 0);
     }
     let step = graph.step(Place {
         module: owner,
         step: first,
     });
     let arrival = last_cycle(graph, owner) + step.gap;
-    match latest(graph, fifos, step.accesses.as_slice(), arrival) {
-        Err(access) => Candidate::Waits(access),
-        Ok(cycle) if cycle < limit => Candidate::At(cycle),
-        Ok(_) => Candidate::Beyond,
+    match latest_and_queries(graph, fifos, step.accesses.as_slice(), arrival) {
+        Err(access) => (Candidate::Waits(access), 0),
+        Ok((cycle, queries)) if cycle < limit => (Candidate::At(cycle), queries),
+        Ok((_, queries)) => (Candidate::Beyond, queries),
     }
 }
 
@@ -87,14 +114,36 @@ pub fn latest(graph: &Graph, fifos: &FifoTable, accesses: &[Access], clock: u64)
     ensures latest { IfOk result (λ cycle. cycle ≡ latest_of (clock ∷ clocks_of graph.now.lanes fifos.now.channels accesses.now)) }
     ensures waits { IfErr result (λ i. position (is_waiting graph.now.lanes fifos.now.channels) accesses.now ≡ Some i) }
 {
+    let (cycle, _queries) = latest_and_queries(graph, fifos, accesses, clock)?;
+    Ok(cycle)
+}
+
+/// The same, and how many of the accesses are queries.
+fn latest_and_queries(
+    graph: &Graph,
+    fifos: &FifoTable,
+    accesses: &[Access],
+    clock: u64,
+) -> Result<(u64, u64), u32>
+    requires accesses { All (IsAccess fifos.now.channels) accesses.now }
+    requires few { length accesses.now < 2 ^ 32 }
+    requires places { HasPlaces graph.now.lanes fifos.now.channels }
+    ensures none_waits { OnOk result (position (is_waiting graph.now.lanes fifos.now.channels) accesses.now ≡ None) }
+    ensures latest { IfOk result (λ found. found.0
+        ≡ latest_of (clock ∷ clocks_of graph.now.lanes fifos.now.channels accesses.now)) }
+    ensures waits { IfErr result (λ i. position (is_waiting graph.now.lanes fifos.now.channels) accesses.now ≡ Some i) }
+    ensures queries { IfOk result (λ found. found.1 ≡ length (filter (λ a. not (is_blocking a.kind)) accesses.now)) }
+{
     let mut cycle = clock;
+    let mut queries = 0u64;
     for (number, access) in accesses.iter().enumerate() {
         match later(graph, fifos, access, cycle) {
             Some(later) => cycle = later,
             None => return Err(number as u32),
         }
+        queries += query_count(access.kind);
     }
-    Ok(cycle)
+    Ok((cycle, queries))
 }
 
 /// The later of a clock and of the one from which the access, if it blocks, is possible. None where it waits.
@@ -111,4 +160,12 @@ fn later(graph: &Graph, fifos: &FifoTable, access: &Access, clock: u64) -> Optio
         Known::From(possible) => Some(clock.max(possible)),
         Known::Never | Known::Unknown => None,
     }
+}
+
+/// How many queries an access of this kind is.
+pub fn query_count(kind: Kind) -> u64
+    ensures count { result ≡ cond (is_blocking kind) 0 1 }
+    ensures most { result ≤ 1 }
+{
+    if kind.is_blocking() { 0 } else { 1 }
 }

@@ -10,6 +10,7 @@ use Rattle.step_looks.proofs.HeldSteps.{step_is}
 use Rattle.cycle_changes.specs.Around.{AreLooked, WaitsAt}
 use Rattle.cycle_changes.proofs.Reaching.{waits_some}
 use Rattle.cycle_changes.proofs.Waiting.{no_access}
+use Rattle.event_graph.specs.Packed.{whole}
 use Rattle.cycle_changes.proofs.reach.are_waiting_right.Goals as goal
 
 pub loop-access-preserved : goal.loop-access-preserved
@@ -29,7 +30,7 @@ pub returns : goal.returns
 returns c = λ e m k l q.
     let (d, over, credits, i, kept, r) = c.requires.core in
     let h = held_in (stored c.args.graph.now c.args.fifos.now c.args.log.now) over in
-    let same = ap (λ (t : Step). t.accesses) (step_is h c.args.at.module c.args.at.step c.step-step.result.now c.step-step.ensures.step)
+    let same = ap (λ (t : Step). t.accesses) (step_is h c.args.at.module c.args.at.step (whole c.step-step.result) c.step-step.ensures.step)
     ∙ sym c.as_slice-access-items.ensures in
     let (j, u, w) = waits_some d i h kept.sound c.args.at m k l q in
     let u' = subst (λ (xs : List Access). j < length xs) same u in

@@ -1,7 +1,9 @@
 use Rattle.std.proofs.Common.{◌≡◌, ◌++◌, drop}
+use Rattle.fifo_table.specs.Channels.{channel_at}
 use Rattle.engine_report.specs.Read.{timed_values}
 use Rattle.engine_report.proofs.outputs.timed_values.Given as goal
 
 -- what is left to add comes from the pushes behind those that were looked at
-abbrev pub invariant-loop-push : goal.invariant-loop-push
-invariant-loop-push l = timed_values l.graph.lanes l.pushes ≡ l.values ++ timed_values l.graph.lanes (drop l.push-index l.pushes)
+abbrev pub invariant-loop-before : goal.invariant-loop-before
+invariant-loop-before l = timed_values l.graph.lanes (channel_at l.fifos.channels l.channel).pushes
+    ≡ l.values ++ timed_values l.graph.lanes (drop l.before (channel_at l.fifos.channels l.channel).pushes)

@@ -4,6 +4,7 @@ use Rattle.event_graph.specs.Lanes.{lane_at}
 use Rattle.time_engine.specs.Cycles.{open_step}
 use Rattle.engine_report.specs.Standings.{end_at, standing_behind}
 use Rattle.engine_report.proofs.Standing.{open_none, stands_behind, stands_before}
+use Rattle.event_graph.specs.Packed.{whole}
 use Rattle.engine_report.proofs.verdict.stand.Goals as goal
 
 pub returns-then-first-len : goal.returns-then-first-len
@@ -20,8 +21,8 @@ returns-then-first-len c =
 
 pub returns : goal.returns
 returns c =
-    let there : open_step (lane_at c.args.graph.now.lanes c.args.owner) ≡ Some c.step-step.result.now = rw
+    let there : open_step (lane_at c.args.graph.now.lanes c.args.owner) ≡ Some (whole c.step-step.result) = rw
     (← c.frontier-first.ensures.count) c.step-step.ensures.step in
     stands_before c.args.graph.now.lanes c.args.fifos.now.channels c.args.ends.now c.args.owner c.last_cycle-last.result
-    c.step-step.result.now c.is_determined.result there
+    (whole c.step-step.result) c.is_determined.result there
     c.last_cycle-last.ensures.cycle c.is_determined.ensures

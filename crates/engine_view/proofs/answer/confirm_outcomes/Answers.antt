@@ -14,6 +14,7 @@ use Rattle.engine_view.proofs.Roomy.{few_queries}
 use Rattle.engine_view.proofs.Resolving.{first_is}
 use Rattle.engine_view.proofs.Confirming.{unsure_in, recorded_in}
 use Rattle.engine_view.proofs.Confirming as confirming
+use Rattle.event_graph.specs.Packed.{whole}
 use Rattle.engine_view.proofs.answer.confirm_outcomes.Goals as goal
 
 pub compare_outcomes-requires-clause-owner : goal.compare_outcomes-requires-clause-owner
@@ -22,7 +23,7 @@ compare_outcomes-requires-clause-owner c =
     let (d, over, credits, i, k, r) = c.requires.core in
     let h = held_in s over in
     let f = unsure_in s c.args.owner c.requires.unsure d over i k in
-    let step = first_is h c.args.owner c.frontier.result c.step-step.result.now c.frontier.ensures.count c.step-step.ensures.step in
+    let step = first_is h c.args.owner c.frontier.result (whole c.step-step.result) c.frontier.ensures.count c.step-step.ensures.step in
     confirming.again_owner d h c.args.owner c.args.cycle f
 
 pub compare_outcomes-requires-clause-inside : goal.compare_outcomes-requires-clause-inside
@@ -31,7 +32,7 @@ compare_outcomes-requires-clause-inside c =
     let (d, over, credits, i, k, r) = c.requires.core in
     let h = held_in s over in
     let f = unsure_in s c.args.owner c.requires.unsure d over i k in
-    let step = first_is h c.args.owner c.frontier.result c.step-step.result.now c.frontier.ensures.count c.step-step.ensures.step in
+    let step = first_is h c.args.owner c.frontier.result (whole c.step-step.result) c.frontier.ensures.count c.step-step.ensures.step in
     let xs : (step_of h c.args.owner (first_of h c.args.owner)).accesses ≡ c.as_slice-accesses.result.now =
     ap (λ (t : Step). t.accesses) step ∙ sym c.as_slice-accesses.ensures in
     subst (All (IsAccess c.args.fifos.now.channels)) xs (confirming.again_inside d h c.args.owner c.args.cycle f)
@@ -42,7 +43,7 @@ compare_outcomes-requires-clause-places c =
     let (d, over, credits, i, k, r) = c.requires.core in
     let h = held_in s over in
     let f = unsure_in s c.args.owner c.requires.unsure d over i k in
-    let step = first_is h c.args.owner c.frontier.result c.step-step.result.now c.frontier.ensures.count c.step-step.ensures.step in
+    let step = first_is h c.args.owner c.frontier.result (whole c.step-step.result) c.frontier.ensures.count c.step-step.ensures.step in
     k.sound.places
 
 pub compare_outcomes-requires-clause-few : goal.compare_outcomes-requires-clause-few
@@ -51,7 +52,7 @@ compare_outcomes-requires-clause-few c =
     let (d, over, credits, i, k, r) = c.requires.core in
     let h = held_in s over in
     let f = unsure_in s c.args.owner c.requires.unsure d over i k in
-    let step = first_is h c.args.owner c.frontier.result c.step-step.result.now c.frontier.ensures.count c.step-step.ensures.step in
+    let step = first_is h c.args.owner c.frontier.result (whole c.step-step.result) c.frontier.ensures.count c.step-step.ensures.step in
     let few = confirming.again_few d h c.args.owner c.args.cycle f c.args.graph.now.rooms c.args.fifos.now c.args.log.now.rooms credits r in
     let first = ap (λ (t : Step). t.first_query) step in
     let size = ap (λ (as' : List Access). length as') c.as_slice-accesses.ensures in
@@ -64,7 +65,7 @@ verify_up_to-requires-clause-owner c =
     let (d, over, credits, i, k, r) = c.requires.core in
     let h = held_in s over in
     let f = unsure_in s c.args.owner c.requires.unsure d over i k in
-    let step = first_is h c.args.owner c.frontier.result c.step-step.result.now c.frontier.ensures.count c.step-step.ensures.step in
+    let step = first_is h c.args.owner c.frontier.result (whole c.step-step.result) c.frontier.ensures.count c.step-step.ensures.step in
     confirming.again_owner d h c.args.owner c.args.cycle f
 
 pub verify_up_to-requires-clause-recorded : goal.verify_up_to-requires-clause-recorded
@@ -73,7 +74,7 @@ verify_up_to-requires-clause-recorded c =
     let (d, over, credits, i, k, r) = c.requires.core in
     let h = held_in s over in
     let f = unsure_in s c.args.owner c.requires.unsure d over i k in
-    let step = first_is h c.args.owner c.frontier.result c.step-step.result.now c.frontier.ensures.count c.step-step.ensures.step in
+    let step = first_is h c.args.owner c.frontier.result (whole c.step-step.result) c.frontier.ensures.count c.step-step.ensures.step in
     let xs : (step_of h c.args.owner (first_of h c.args.owner)).accesses ≡ c.as_slice-accesses.result.now =
     ap (λ (t : Step). t.accesses) step ∙ sym c.as_slice-accesses.ensures in
     let there = recorded_in s c.args.owner c.requires.unsure d over i k c.requires.recorded in
@@ -88,7 +89,7 @@ overflow_add-first c =
     let (d, over, credits, i, k, r) = c.requires.core in
     let h = held_in s over in
     let f = unsure_in s c.args.owner c.requires.unsure d over i k in
-    let step = first_is h c.args.owner c.frontier.result c.step-step.result.now c.frontier.ensures.count c.step-step.ensures.step in
+    let step = first_is h c.args.owner c.frontier.result (whole c.step-step.result) c.frontier.ensures.count c.step-step.ensures.step in
     let xs : (step_of h c.args.owner (first_of h c.args.owner)).accesses ≡ c.as_slice-accesses.result.now =
     ap (λ (t : Step). t.accesses) step ∙ sym c.as_slice-accesses.ensures in
     let few = confirming.again_few d h c.args.owner c.args.cycle f c.args.graph.now.rooms c.args.fifos.now c.args.log.now.rooms credits r in
@@ -104,13 +105,13 @@ returns-in-Same-clause-answered c = λ d over i k.
     let s = stored c.args.graph.now c.args.fifos.now c.args.log.now in
     let h = held_in s over in
     let f = unsure_in s c.args.owner c.requires.unsure d over i k in
-    let step = first_is h c.args.owner c.frontier.result c.step-step.result.now c.frontier.ensures.count c.step-step.ensures.step in
+    let step = first_is h c.args.owner c.frontier.result (whole c.step-step.result) c.frontier.ensures.count c.step-step.ensures.step in
     let xs : (step_of h c.args.owner (first_of h c.args.owner)).accesses ≡ c.as_slice-accesses.result.now =
     ap (λ (t : Step). t.accesses) step ∙ sym c.as_slice-accesses.ensures in
     let first = ap (λ (t : Step). t.first_query) step in
     let there = recorded_in s c.args.owner c.requires.unsure d over i k c.requires.recorded in
-    let again = confirming.flags_at_step d h c.args.owner c.args.cycle f c.as_slice-accesses.result.now c.step-step.result.now.first_query
-    (sym xs) (sym first) (c.in-Same.ensures.same refl) in
+    let again = confirming.flags_at_step d h c.args.owner c.args.cycle f c.as_slice-accesses.result.now
+    (whole c.step-step.result).first_query (sym xs) (sym first) (c.in-Same.ensures.same refl) in
     let behind = confirming.again_behind d h c.args.owner c.args.cycle f there again _ c.verify_up_to.new.self.logs
     (let count = c.count_queries.ensures.count ∙ ap queries_in (sym xs) in omega arith) c.verify_up_to.ensures.logs in
     subst (IsAnswered d h c.args.owner c.args.cycle) (sym behind)
@@ -121,13 +122,13 @@ returns-in-Same-clause-room c = λ credits d over i k r.
     let s = stored c.args.graph.now c.args.fifos.now c.args.log.now in
     let h = held_in s over in
     let f = unsure_in s c.args.owner c.requires.unsure d over i k in
-    let step = first_is h c.args.owner c.frontier.result c.step-step.result.now c.frontier.ensures.count c.step-step.ensures.step in
+    let step = first_is h c.args.owner c.frontier.result (whole c.step-step.result) c.frontier.ensures.count c.step-step.ensures.step in
     let xs : (step_of h c.args.owner (first_of h c.args.owner)).accesses ≡ c.as_slice-accesses.result.now =
     ap (λ (t : Step). t.accesses) step ∙ sym c.as_slice-accesses.ensures in
     let first = ap (λ (t : Step). t.first_query) step in
     let there = recorded_in s c.args.owner c.requires.unsure d over i k c.requires.recorded in
-    let again = confirming.flags_at_step d h c.args.owner c.args.cycle f c.as_slice-accesses.result.now c.step-step.result.now.first_query
-    (sym xs) (sym first) (c.in-Same.ensures.same refl) in
+    let again = confirming.flags_at_step d h c.args.owner c.args.cycle f c.as_slice-accesses.result.now
+    (whole c.step-step.result).first_query (sym xs) (sym first) (c.in-Same.ensures.same refl) in
     let behind = confirming.again_behind d h c.args.owner c.args.cycle f there again _ c.verify_up_to.new.self.logs
     (let count = c.count_queries.ensures.count ∙ ap queries_in (sym xs) in omega arith) c.verify_up_to.ensures.logs in
     subst (λ (q : Held). HasRoom d q s.graph.rooms s.table c.verify_up_to.new.self.rooms credits) (sym behind)
@@ -146,12 +147,13 @@ returns-in-Differs-clause-answered c = (
       let s = stored c.args.graph.now c.args.fifos.now c.args.log.now in
       let h = held_in s over in
       let f = unsure_in s c.args.owner c.requires.unsure d over i k in
-      let step = first_is h c.args.owner c.frontier.result c.step-step.result.now c.frontier.ensures.count c.step-step.ensures.step in
+      let step = first_is h c.args.owner c.frontier.result (whole c.step-step.result) c.frontier.ensures.count c.step-step.ensures.step in
       let xs : (step_of h c.args.owner (first_of h c.args.owner)).accesses ≡ c.as_slice-accesses.result.now =
       ap (λ (t : Step). t.accesses) step ∙ sym c.as_slice-accesses.ensures in
       record {
         recorded = recorded_in s c.args.owner c.requires.unsure d over i k c.requires.recorded;
-        other = confirming.other_at_step d h c.args.owner c.args.cycle f c.as_slice-accesses.result.now c.step-step.result.now.first_query
+        other = confirming.other_at_step d h c.args.owner c.args.cycle f c.as_slice-accesses.result.now
+            (whole c.step-step.result).first_query
             (sym xs)
             (sym (ap (λ (t : Step). t.first_query) step)) c.in-Differs.query (c.in-Differs.ensures.differs c.in-Differs.query refl);
       },

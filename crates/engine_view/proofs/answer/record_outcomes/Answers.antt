@@ -13,6 +13,7 @@ use Rattle.engine_view.specs.Turns.{IsAnswered, first_of}
 use Rattle.engine_view.proofs.Unsure.{answered_on}
 use Rattle.engine_view.proofs.Confirming.{fresh_in}
 use Rattle.engine_view.proofs.Resolving as resolving
+use Rattle.event_graph.specs.Packed.{whole}
 use Rattle.engine_view.proofs.answer.record_outcomes.Goals as goal
 
 pub write_outcomes-requires-clause-verified : goal.write_outcomes-requires-clause-verified
@@ -21,7 +22,7 @@ write_outcomes-requires-clause-verified c =
     let (d, over, credits, i, k, r) = c.requires.core in
     let h = held_in s over in
     let f = fresh_in s c.args.owner c.requires.unsure d over i k c.requires.fresh in
-    let step = resolving.first_is h c.args.owner c.frontier.result c.step-step.result.now c.frontier.ensures.count
+    let step = resolving.first_is h c.args.owner c.frontier.result (whole c.step-step.result) c.frontier.ensures.count
     c.step-step.ensures.step in
     resolving.fresh_verified d h c.args.owner c.args.cycle f
 
@@ -31,7 +32,7 @@ write_outcomes-requires-clause-inside c =
     let (d, over, credits, i, k, r) = c.requires.core in
     let h = held_in s over in
     let f = fresh_in s c.args.owner c.requires.unsure d over i k c.requires.fresh in
-    let step = resolving.first_is h c.args.owner c.frontier.result c.step-step.result.now c.frontier.ensures.count
+    let step = resolving.first_is h c.args.owner c.frontier.result (whole c.step-step.result) c.frontier.ensures.count
     c.step-step.ensures.step in
     let xs : (step_of h c.args.owner (first_of h c.args.owner)).accesses ≡ c.as_slice.result.now = ap (λ (t : Step). t.accesses) step
     ∙ sym c.as_slice.ensures in
@@ -43,7 +44,7 @@ write_outcomes-requires-clause-places c =
     let (d, over, credits, i, k, r) = c.requires.core in
     let h = held_in s over in
     let f = fresh_in s c.args.owner c.requires.unsure d over i k c.requires.fresh in
-    let step = resolving.first_is h c.args.owner c.frontier.result c.step-step.result.now c.frontier.ensures.count
+    let step = resolving.first_is h c.args.owner c.frontier.result (whole c.step-step.result) c.frontier.ensures.count
     c.step-step.ensures.step in
     k.sound.places
 
@@ -53,7 +54,7 @@ write_outcomes-requires-clause-owner c =
     let (d, over, credits, i, k, r) = c.requires.core in
     let h = held_in s over in
     let f = fresh_in s c.args.owner c.requires.unsure d over i k c.requires.fresh in
-    let step = resolving.first_is h c.args.owner c.frontier.result c.step-step.result.now c.frontier.ensures.count
+    let step = resolving.first_is h c.args.owner c.frontier.result (whole c.step-step.result) c.frontier.ensures.count
     c.step-step.ensures.step in
     resolving.fresh_owner d h c.args.owner c.args.cycle f
 
@@ -63,7 +64,7 @@ write_outcomes-requires-clause-room c =
     let (d, over, credits, i, k, r) = c.requires.core in
     let h = held_in s over in
     let f = fresh_in s c.args.owner c.requires.unsure d over i k c.requires.fresh in
-    let step = resolving.first_is h c.args.owner c.frontier.result c.step-step.result.now c.frontier.ensures.count
+    let step = resolving.first_is h c.args.owner c.frontier.result (whole c.step-step.result) c.frontier.ensures.count
     c.step-step.ensures.step in
     let xs : (step_of h c.args.owner (first_of h c.args.owner)).accesses ≡ c.as_slice.result.now = ap (λ (t : Step). t.accesses) step
     ∙ sym c.as_slice.ensures in
@@ -76,7 +77,7 @@ take_all-requires-clause-inside c =
     let (d, over, credits, i, k, r) = c.requires.core in
     let h = held_in s over in
     let f = fresh_in s c.args.owner c.requires.unsure d over i k c.requires.fresh in
-    let step = resolving.first_is h c.args.owner c.frontier.result c.step-step.result.now c.frontier.ensures.count
+    let step = resolving.first_is h c.args.owner c.frontier.result (whole c.step-step.result) c.frontier.ensures.count
     c.step-step.ensures.step in
     let xs : (step_of h c.args.owner (first_of h c.args.owner)).accesses ≡ c.as_slice-2.result.now = ap (λ (t : Step). t.accesses) step
     ∙ sym c.as_slice-2.ensures in
@@ -88,7 +89,7 @@ take_all-requires-clause-apart c =
     let (d, over, credits, i, k, r) = c.requires.core in
     let h = held_in s over in
     let f = fresh_in s c.args.owner c.requires.unsure d over i k c.requires.fresh in
-    let step = resolving.first_is h c.args.owner c.frontier.result c.step-step.result.now c.frontier.ensures.count
+    let step = resolving.first_is h c.args.owner c.frontier.result (whole c.step-step.result) c.frontier.ensures.count
     c.step-step.ensures.step in
     let xs : (step_of h c.args.owner (first_of h c.args.owner)).accesses ≡ c.as_slice-2.result.now = ap (λ (t : Step). t.accesses) step
     ∙ sym c.as_slice-2.ensures in
@@ -100,7 +101,7 @@ take_all-requires-clause-room c =
     let (d, over, credits, i, k, r) = c.requires.core in
     let h = held_in s over in
     let f = fresh_in s c.args.owner c.requires.unsure d over i k c.requires.fresh in
-    let step = resolving.first_is h c.args.owner c.frontier.result c.step-step.result.now c.frontier.ensures.count
+    let step = resolving.first_is h c.args.owner c.frontier.result (whole c.step-step.result) c.frontier.ensures.count
     c.step-step.ensures.step in
     let xs : (step_of h c.args.owner (first_of h c.args.owner)).accesses ≡ c.as_slice-2.result.now = ap (λ (t : Step). t.accesses) step
     ∙ sym c.as_slice-2.ensures in
@@ -113,7 +114,7 @@ take_all-requires-clause-few c =
     let (d, over, credits, i, k, r) = c.requires.core in
     let h = held_in s over in
     let f = fresh_in s c.args.owner c.requires.unsure d over i k c.requires.fresh in
-    let step = resolving.first_is h c.args.owner c.frontier.result c.step-step.result.now c.frontier.ensures.count
+    let step = resolving.first_is h c.args.owner c.frontier.result (whole c.step-step.result) c.frontier.ensures.count
     c.step-step.ensures.step in
     let few = resolving.fresh_few d h c.args.owner c.args.cycle f c.args.graph.now.rooms c.args.fifos.now c.args.log.now.rooms credits r in
     let first = ap (λ (t : Step). t.first_query) step in
@@ -126,9 +127,9 @@ returns-clause-answered c = λ d over i k.
     let s = stored c.args.graph.now c.args.fifos.now c.args.log.now in
     let h = held_in s over in
     let f = fresh_in s c.args.owner c.requires.unsure d over i k c.requires.fresh in
-    let step = resolving.first_is h c.args.owner c.frontier.result c.step-step.result.now c.frontier.ensures.count
+    let step = resolving.first_is h c.args.owner c.frontier.result (whole c.step-step.result) c.frontier.ensures.count
     c.step-step.ensures.step in
-    let behind = resolving.behind_is d h c.args.owner c.args.cycle f c.frontier.result c.step-step.result.now c.as_slice.result.now
+    let behind = resolving.behind_is d h c.args.owner c.args.cycle f c.frontier.result (whole c.step-step.result) c.as_slice.result.now
     c.as_slice-2.result.now c.write_outcomes.new.log.logs c.take_all.new.fifos.channels c.frontier.ensures.count step c.as_slice.ensures
     c.as_slice-2.ensures c.write_outcomes.ensures.logs c.take_all.ensures.channels in
     subst (IsAnswered d h c.args.owner c.args.cycle) (sym behind)
@@ -140,11 +141,11 @@ returns-clause-room c = λ credits d over i k r.
     let s = stored c.args.graph.now c.args.fifos.now c.args.log.now in
     let h = held_in s over in
     let f = fresh_in s c.args.owner c.requires.unsure d over i k c.requires.fresh in
-    let step = resolving.first_is h c.args.owner c.frontier.result c.step-step.result.now c.frontier.ensures.count
+    let step = resolving.first_is h c.args.owner c.frontier.result (whole c.step-step.result) c.frontier.ensures.count
     c.step-step.ensures.step in
     let xs : (step_of h c.args.owner (first_of h c.args.owner)).accesses ≡ c.as_slice-2.result.now =
     ap (λ (t : Step). t.accesses) step ∙ sym c.as_slice-2.ensures in
-    let behind = resolving.behind_is d h c.args.owner c.args.cycle f c.frontier.result c.step-step.result.now c.as_slice.result.now
+    let behind = resolving.behind_is d h c.args.owner c.args.cycle f c.frontier.result (whole c.step-step.result) c.as_slice.result.now
     c.as_slice-2.result.now c.write_outcomes.new.log.logs c.take_all.new.fifos.channels c.frontier.ensures.count step c.as_slice.ensures
     c.as_slice-2.ensures c.write_outcomes.ensures.logs c.take_all.ensures.channels in
     subst (λ (q : Held). HasRoom d q s.graph.rooms c.take_all.new.fifos c.write_outcomes.new.log.rooms credits) (sym behind)

@@ -8,6 +8,7 @@ invariant_of-self-2 c = (
   longer_sound _ c.args.step _ _ c.self.invariant.0 c.requires.sound (rw (← c.self.view_is) at c.requires.apart) c.in_ok-push.ensures.ok
       c.reserve.ensures.items,
   let count = ap length c.in_ok-push.ensures.ok in grind (arith, common_steps, length-append),
+  let count = ap length c.in_ok-push.ensures.ok in grind (arith, common_steps, length-append),
 )
 
 pub returns-clause-lane_sound : goal.returns-clause-lane_sound

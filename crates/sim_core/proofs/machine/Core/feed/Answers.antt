@@ -8,6 +8,7 @@ use Rattle.engine_view.specs.Stored.{stored, held_in}
 use Rattle.sim_core.specs.Found.{replies_now}
 use Rattle.sim_core.specs.Runs.{over_of}
 use Rattle.sim_core.proofs.Fed as fed
+use Rattle.event_graph.specs.Packed.{whole}
 use Rattle.sim_core.proofs.machine.Core.feed.Goals as goal
 
 pub find_replies-requires-clause-inside : goal.find_replies-requires-clause-inside
@@ -21,10 +22,11 @@ find_replies-requires-clause-inside c =
     let inside : c.args.owner < length c.self.inside.graph.lanes = let a = rw (← c.self.view_is) at c.requires.owner in
     let b = k.sound.lanes in omega arith in
     let w = sym c.is_waiting.ensures ∙ c.if-not-is_waiting.false in
-    let there : slice_get (lane_at h.lanes c.args.owner).steps (emitted_of h c.args.owner - 1) ≡ Some c.step-step.result.now = subst
-    (λ (n : ℕ). slice_get (lane_at h.lanes c.args.owner).steps (n - 1) ≡ Some c.step-step.result.now) c.len.ensures.count
+    let there : slice_get (lane_at h.lanes c.args.owner).steps (emitted_of h c.args.owner - 1) ≡ Some (whole c.step-step.result) = subst
+    (λ (n : ℕ). slice_get (lane_at h.lanes c.args.owner).steps (n - 1) ≡ Some (whole c.step-step.result)) c.len.ensures.count
     c.step-step.ensures.step in
-    rw c.as_slice.ensures (fed.asked_inside p k.fits h k.sound k.agreed.marks c.args.owner inside c.args.run.now r w c.step-step.result.now
+    rw c.as_slice.ensures (fed.asked_inside p k.fits h k.sound k.agreed.marks c.args.owner inside c.args.run.now r w
+    (whole c.step-step.result)
     there)
 
 pub find_replies-requires-clause-few : goal.find_replies-requires-clause-few
@@ -38,10 +40,10 @@ find_replies-requires-clause-few c =
     let inside : c.args.owner < length c.self.inside.graph.lanes = let a = rw (← c.self.view_is) at c.requires.owner in
     let b = k.sound.lanes in omega arith in
     let w = sym c.is_waiting.ensures ∙ c.if-not-is_waiting.false in
-    let there : slice_get (lane_at h.lanes c.args.owner).steps (emitted_of h c.args.owner - 1) ≡ Some c.step-step.result.now = subst
-    (λ (n : ℕ). slice_get (lane_at h.lanes c.args.owner).steps (n - 1) ≡ Some c.step-step.result.now) c.len.ensures.count
+    let there : slice_get (lane_at h.lanes c.args.owner).steps (emitted_of h c.args.owner - 1) ≡ Some (whole c.step-step.result) = subst
+    (λ (n : ℕ). slice_get (lane_at h.lanes c.args.owner).steps (n - 1) ≡ Some (whole c.step-step.result)) c.len.ensures.count
     c.step-step.ensures.step in
-    let few = fed.asked_few p k.fits h k.sound k.agreed.marks c.args.owner inside c.args.run.now r w c.step-step.result.now there
+    let few = fed.asked_few p k.fits h k.sound k.agreed.marks c.args.owner inside c.args.run.now r w (whole c.step-step.result) there
     (k.room.few c.args.owner) in
     let short = c.step-step.ensures.sound.accesses in
     let size = ap (λ (xs : List Access). length xs) c.as_slice.ensures in
@@ -58,12 +60,13 @@ returns-then-not-all-clause-not_fed c = λ e.
     let inside : c.args.owner < length c.self.inside.graph.lanes = let a = rw (← c.self.view_is) at c.requires.owner in
     let b = k.sound.lanes in omega arith in
     let w = sym c.is_waiting.ensures ∙ c.if-not-is_waiting.false in
-    let there : slice_get (lane_at h.lanes c.args.owner).steps (emitted_of h c.args.owner - 1) ≡ Some c.step-step.result.now = subst
-    (λ (n : ℕ). slice_get (lane_at h.lanes c.args.owner).steps (n - 1) ≡ Some c.step-step.result.now) c.len.ensures.count
+    let there : slice_get (lane_at h.lanes c.args.owner).steps (emitted_of h c.args.owner - 1) ≡ Some (whole c.step-step.result) = subst
+    (λ (n : ℕ). slice_get (lane_at h.lanes c.args.owner).steps (n - 1) ≡ Some (whole c.step-step.result)) c.len.ensures.count
     c.step-step.ensures.step in
-    let found = subst (λ (xs : List Access). replies_now h.channels xs (drop c.step-step.result.now.first_query
+    let found = subst (λ (xs : List Access). replies_now h.channels xs (drop (whole c.step-step.result).first_query
     (log_at h.logs c.args.owner).outcomes) ≡ None) c.as_slice.ensures (c.in_ok-all.ensures.some c.if-not-all.true) in
-    rw (← c.self.view_is) (fed.asked_not_fed p k.fits h k.sound k.agreed.marks c.args.owner inside c.args.run.now r w c.step-step.result.now
+    rw (← c.self.view_is) (fed.asked_not_fed p k.fits h k.sound k.agreed.marks c.args.owner inside c.args.run.now r w
+    (whole c.step-step.result)
     there found)
 
 pub feed-requires-clause-stands : goal.feed-requires-clause-stands
@@ -77,10 +80,10 @@ feed-requires-clause-stands c =
     let inside : c.args.owner < length c.self.inside.graph.lanes = let a = rw (← c.self.view_is) at c.requires.owner in
     let b = k.sound.lanes in omega arith in
     let w = sym c.is_waiting.ensures ∙ c.if-not-is_waiting.false in
-    let there : slice_get (lane_at h.lanes c.args.owner).steps (emitted_of h c.args.owner - 1) ≡ Some c.step-step.result.now = subst
-    (λ (n : ℕ). slice_get (lane_at h.lanes c.args.owner).steps (n - 1) ≡ Some c.step-step.result.now) c.len.ensures.count
+    let there : slice_get (lane_at h.lanes c.args.owner).steps (emitted_of h c.args.owner - 1) ≡ Some (whole c.step-step.result) = subst
+    (λ (n : ℕ). slice_get (lane_at h.lanes c.args.owner).steps (n - 1) ≡ Some (whole c.step-step.result)) c.len.ensures.count
     c.step-step.ensures.step in
-    let found = subst (λ (xs : List Access). replies_now h.channels xs (drop c.step-step.result.now.first_query
+    let found = subst (λ (xs : List Access). replies_now h.channels xs (drop (whole c.step-step.result).first_query
     (log_at h.logs c.args.owner).outcomes) ≡ Some c.find_replies.new.replies) c.as_slice.ensures
     (c.in_ok-all.ensures.all c.if-not-all.false) in (
       p,
@@ -91,7 +94,7 @@ feed-requires-clause-stands c =
           (
             fed.asked_stands p k.fits h k.sound k.agreed.marks c.args.owner inside c.args.run.now r w,
             rw c.as_slice-2.ensures (fed.asked_fits p k.fits h k.sound k.agreed.marks c.args.owner inside c.args.run.now r w
-                c.step-step.result.now there c.find_replies.new.replies found),
+                (whole c.step-step.result) there c.find_replies.new.replies found),
           ),
         ),
       ),
@@ -108,11 +111,12 @@ returns-clause-run c =
     let inside : c.args.owner < length c.self.inside.graph.lanes = let a = rw (← c.self.view_is) at c.requires.owner in
     let b = k.sound.lanes in omega arith in
     let w = sym c.is_waiting.ensures ∙ c.if-not-is_waiting.false in
-    let there : slice_get (lane_at h.lanes c.args.owner).steps (emitted_of h c.args.owner - 1) ≡ Some c.step-step.result.now = subst
-    (λ (n : ℕ). slice_get (lane_at h.lanes c.args.owner).steps (n - 1) ≡ Some c.step-step.result.now) c.len.ensures.count
+    let there : slice_get (lane_at h.lanes c.args.owner).steps (emitted_of h c.args.owner - 1) ≡ Some (whole c.step-step.result) = subst
+    (λ (n : ℕ). slice_get (lane_at h.lanes c.args.owner).steps (n - 1) ≡ Some (whole c.step-step.result)) c.len.ensures.count
     c.step-step.ensures.step in
-    let found = subst (λ (xs : List Access). replies_now h.channels xs (drop c.step-step.result.now.first_query
+    let found = subst (λ (xs : List Access). replies_now h.channels xs (drop (whole c.step-step.result).first_query
     (log_at h.logs c.args.owner).outcomes) ≡ Some c.find_replies.new.replies) c.as_slice.ensures
     (c.in_ok-all.ensures.all c.if-not-all.false) in
-    rw (← c.self.view_is) (fed.asked_run p k.fits h k.sound k.agreed.marks c.args.owner inside c.args.run.now r w c.step-step.result.now
+    rw (← c.self.view_is) (fed.asked_run p k.fits h k.sound k.agreed.marks c.args.owner inside c.args.run.now r w
+    (whole c.step-step.result)
     there c.find_replies.new.replies found c.feed.new.self (rw c.as_slice-2.ensures at c.feed.ensures.stands) c.feed.ensures.fed)

@@ -3,7 +3,8 @@ use Rattle.std.proofs.lemmas.Option.{slice_get_past}
 use Rattle.event_graph.specs.Lanes.{lane_at}
 use Rattle.time_engine.specs.Cycles.{open_step, clocks_of}
 use Rattle.time_engine.proofs.Candidates.{says_nothing, says_waits, says_at, says_beyond, may_take}
-use Rattle.time_engine.proofs.timing.candidate.Goals as goal
+use Rattle.event_graph.specs.Packed.{whole}
+use Rattle.time_engine.proofs.timing.candidate_and_queries.Goals as goal
 
 pub returns-then-first-len : goal.returns-then-first-len
 returns-then-first-len c =
@@ -11,21 +12,36 @@ returns-then-first-len c =
     let all : length lane.steps ≤ length lane.cycles = omega arith in
     let says = says_nothing c.args.graph.now.lanes c.args.fifos.now.channels c.args.owner c.args.limit
     (slice_get_past lane.steps (length lane.cycles) all) in
-    record { nothing = says.nothing; waits = says.waits; beyond = says.beyond; at = says.at; may_take = λ cycle e. cc }
+    record {
+      nothing = says.nothing;
+      waits = says.waits;
+      beyond = says.beyond;
+      at = says.at;
+      may_take = λ cycle e. cc;
+      queries = λ cycle e. cc;
+    }
 
 pub returns-in-Err : goal.returns-in-Err
 returns-in-Err c =
-    let there : open_step (lane_at c.args.graph.now.lanes c.args.owner) ≡ Some c.step-step.result.now =
+    let there : open_step (lane_at c.args.graph.now.lanes c.args.owner) ≡ Some (whole c.step-step.result) =
     rw (← c.frontier-first.ensures.count) c.step-step.ensures.step in
-    let says = says_waits c.args.graph.now.lanes c.args.fifos.now.channels c.args.owner c.args.limit c.step-step.result.now c.in-Err.access
+    let says = says_waits c.args.graph.now.lanes c.args.fifos.now.channels c.args.owner c.args.limit (whole c.step-step.result)
+    c.in-Err.access
     there (rw (← c.as_slice.ensures) c.in-Err.ensures.waits) in
-    record { nothing = says.nothing; waits = says.waits; beyond = says.beyond; at = says.at; may_take = λ cycle e. cc }
+    record {
+      nothing = says.nothing;
+      waits = says.waits;
+      beyond = says.beyond;
+      at = says.at;
+      may_take = λ cycle e. cc;
+      queries = λ cycle e. cc;
+    }
 
 pub returns-in-Ok : goal.returns-in-Ok
 returns-in-Ok c =
     let lanes = c.args.graph.now.lanes in
     let channels = c.args.fifos.now.channels in
-    let step = c.step-step.result.now in
+    let step = (whole c.step-step.result) in
     let there : open_step (lane_at lanes c.args.owner) ≡ Some step = rw (← c.frontier-first.ensures.count) c.step-step.ensures.step in
     let latest = rw (c.as_slice.ensures, c.last_cycle.ensures.cycle) at c.in-Ok.ensures.latest in
     let says = says_at lanes channels c.args.owner c.args.limit step c.in-Ok.cycle there
@@ -40,15 +56,23 @@ returns-in-Ok c =
       at = says.at;
       may_take = λ cycle e. let same : c.in-Ok.cycle
           ≡ cycle = cc in rw (← same) takes;
+      queries = λ cycle e s is. let same : s ≡ step = cc in rw (same, ← c.as_slice.ensures) c.in-Ok.ensures.queries;
     }
 
 pub returns-in-Ok-2 : goal.returns-in-Ok-2
 returns-in-Ok-2 c =
     let lanes = c.args.graph.now.lanes in
     let channels = c.args.fifos.now.channels in
-    let step = c.step-step.result.now in
+    let step = (whole c.step-step.result) in
     let there : open_step (lane_at lanes c.args.owner) ≡ Some step = rw (← c.frontier-first.ensures.count) c.step-step.ensures.step in
     let latest = rw (c.as_slice.ensures, c.last_cycle.ensures.cycle) at c.in-Ok.ensures.latest in
     let says = says_beyond lanes channels c.args.owner c.args.limit step c.in-Ok.cycle there
     (rw (← c.as_slice.ensures) c.in-Ok.ensures.none_waits) latest c.if-cycle-limit.false in
-    record { nothing = says.nothing; waits = says.waits; beyond = says.beyond; at = says.at; may_take = λ cycle e. cc }
+    record {
+      nothing = says.nothing;
+      waits = says.waits;
+      beyond = says.beyond;
+      at = says.at;
+      may_take = λ cycle e. cc;
+      queries = λ cycle e. cc;
+    }

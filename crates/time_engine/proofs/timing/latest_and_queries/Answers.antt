@@ -1,13 +1,16 @@
-use Rattle.std.proofs.Common.{◌≡◌, sym, length, arith}
+use Rattle.std.proofs.Common.{◌≡◌, ◌≤◌, refl, sym, length, arith}
 use Rattle.time_engine.specs.Cycles.{is_waiting}
 use Rattle.time_engine.proofs.First.{none_more, position_found, position_none}
 use Rattle.time_engine.proofs.LatestClocks.{latest_none, clocks_of-none, latest_next}
-use Rattle.time_engine.proofs.timing.latest.Goals as goal
+use Rattle.time_engine.proofs.Counting.{queries_next, queries_all}
+use Rattle.time_engine.proofs.timing.latest_and_queries.Goals as goal
 
 pub loop-number-init : goal.loop-number-init
 loop-number-init c = record {
   none = λ k d h. absurd (omega arith);
   latest = rw (clocks_of-none c.args.graph.now.lanes c.args.fifos.now.channels) (latest_none c.args.clock);
+  queries = refl;
+  few = omega arith;
 }
 
 pub returns-in-None-clause-waits : goal.returns-in-None-clause-waits
@@ -20,6 +23,9 @@ loop-number-preserved c = record {
       c.loop-number-test.true c.loop-number.invariant.none (sym c.in-Some.ensures.waits);
   latest = latest_next c.args.graph.now.lanes c.args.fifos.now.channels c.args.accesses.now c.loop-number.number _ c.args.clock
       c.loop-number.cycle c.in-Some.later c.loop-number-test.true c.loop-number.invariant.latest c.in-Some.ensures.later;
+  queries = queries_next c.args.accesses.now c.loop-number.number _ c.loop-number.queries c.query_count-queries.result
+      c.loop-number-test.true c.loop-number.invariant.queries c.query_count-queries.ensures.count;
+  few = let most = c.query_count-queries.ensures.most in let few = c.loop-number.invariant.few in omega arith;
 }
 
 pub returns-clause-none_waits : goal.returns-clause-none_waits
@@ -27,3 +33,8 @@ returns-clause-none_waits c =
     let all : c.loop-number.number ≡ length c.args.accesses.now = omega arith in
     position_none (is_waiting c.args.graph.now.lanes c.args.fifos.now.channels) c.args.accesses.now c.loop-number.number all
     c.loop-number.invariant.none
+
+pub returns-clause-queries : goal.returns-clause-queries
+returns-clause-queries c =
+    let all : length c.args.accesses.now ≤ c.loop-number.number = omega arith in
+    queries_all c.args.accesses.now c.loop-number.number c.loop-number.queries all c.loop-number.invariant.queries

@@ -124,6 +124,7 @@ impl Action {
     }
 
     /// Whether it is that of a FIFO operation, which takes a reply.
+    #[inline(always)]
     pub fn takes_reply(&self) -> bool
         ensures { result ≡ takes_reply self.now }
     {

@@ -28,6 +28,7 @@ pub enum Instruction {
 }
 
 /// The value of an argument, where these results are there.
+#[inline(always)]
 pub(crate) fn argument_value(
     arg: Argument,
     registers: &[u64],
@@ -45,6 +46,7 @@ pub(crate) fn argument_value(
 }
 
 /// The result of an instruction, where these results are there.
+#[inline(always)]
 fn result_of(instruction: &Instruction, registers: &[u64], temps: &[u64], results: &[u64]) -> u64
     requires { IsInstructionSound (length registers.now + length temps.now) (length results.now) instruction.now }
     ensures { result ≡ result_of registers.now temps.now results.now instruction.now }
@@ -71,6 +73,7 @@ fn result_of(instruction: &Instruction, registers: &[u64], temps: &[u64], result
 }
 
 /// The results of code, which go to the front of `scratch`, in order. It takes no memory.
+#[inline(never)]
 pub(crate) fn run(code: &[Instruction], registers: &[u64], temps: &[u64], scratch: &mut [u64])
     requires sound { AreSound (length registers.now + length temps.now) 0 code.now }
     requires room { length code.now ≤ length scratch.old }

@@ -49,6 +49,7 @@ impl Operand {
 }
 
 /// The value of an operand. It takes no memory: results of code go to `scratch`.
+#[inline(always)]
 pub(crate) fn evaluate(
     operand: &Operand,
     registers: &[u64],

@@ -5,6 +5,7 @@ ghost use Rattle.lockstep_defs.specs.Machine.{is_yes, value_in};
 use flow_design::Reply;
 
 /// Whether the operation was done, or the test held.
+#[inline(always)]
 pub fn is_yes(reply: Reply) -> bool
     ensures { result ≡ is_yes reply }
 {
@@ -16,6 +17,7 @@ pub fn is_yes(reply: Reply) -> bool
 }
 
 /// The value that was popped, or 0.
+#[inline(always)]
 pub(crate) fn value_in(reply: Reply) -> u64
     ensures { result ≡ value_in reply }
 {

@@ -28,6 +28,7 @@ pub struct Prepared {
 
 /// What the state from before the clock gives an action of a live iteration. It takes no memory: results of long expressions
 /// go to `scratch`.
+#[inline(always)]
 pub fn prepare(
     action: &Action,
     state: &ModuleState,
@@ -68,6 +69,7 @@ pub fn prepare(
 }
 
 /// An action that writes this value, and asks nothing.
+#[inline(always)]
 fn writes(value: u64, address: u64) -> Prepared
     ensures value { result.value ≡ value }
     ensures address { result.address ≡ address }
@@ -81,6 +83,7 @@ fn writes(value: u64, address: u64) -> Prepared
 }
 
 /// An action that asks this, and writes by its reply alone.
+#[inline(always)]
 fn asks(kind: Kind, channel: u32, value: u64) -> Prepared
     ensures value { result.value ≡ 0 }
     ensures address { result.address ≡ 0 }
@@ -98,6 +101,7 @@ fn asks(kind: Kind, channel: u32, value: u64) -> Prepared
 }
 
 /// The value of an operand in a live iteration.
+#[inline(always)]
 fn held(operand: &Operand, state: &ModuleState, iteration: u32, scratch: &mut [u64]) -> u64
     requires sound { IsOperandSound (places_in state.now iteration) operand.now }
     requires room { room_of operand.now ≤ length scratch.old }
@@ -113,6 +117,7 @@ fn held(operand: &Operand, state: &ModuleState, iteration: u32, scratch: &mut [u
 }
 
 /// The temps of a live iteration, or none.
+#[inline(always)]
 pub fn temps_of(state: &ModuleState, iteration: u32) -> &[u64]
     ensures { result.now ≡ temps_of state.now iteration }
 {
@@ -123,6 +128,7 @@ pub fn temps_of(state: &ModuleState, iteration: u32) -> &[u64]
 }
 
 /// The words of a memory.
+#[inline(always)]
 fn memory_of(state: &ModuleState, number: u32) -> &[u64]
     ensures { result.now ≡ memory_of state.now number }
 {
@@ -133,6 +139,7 @@ fn memory_of(state: &ModuleState, number: u32) -> &[u64]
 }
 
 /// An address, modulo the memory's length.
+#[inline(always)]
 fn address_in(state: &ModuleState, number: u32, address: u64) -> u64
     requires { 0 < length (memory_of state.now number) }
     ensures { result ≡ address_in state.now number address }
@@ -141,6 +148,7 @@ fn address_in(state: &ModuleState, number: u32, address: u64) -> u64
 }
 
 /// The word at an address, modulo the memory's length.
+#[inline(always)]
 fn word_at(state: &ModuleState, number: u32, address: u64) -> u64
     requires { 0 < length (memory_of state.now number) }
     ensures { result ≡ slice_index (memory_of state.now number) (address_in state.now number address) }
@@ -149,6 +157,7 @@ fn word_at(state: &ModuleState, number: u32, address: u64) -> u64
 }
 
 /// Writes what an action writes, by what was noted of it and its reply. It takes no memory.
+#[inline(always)]
 pub fn carry_out(action: &Action, noted: &Noted, reply: Reply, state: &mut ModuleState)
     ensures { state.new ≡ carried_out state.old noted.now reply action.now }
 {

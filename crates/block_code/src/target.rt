@@ -53,6 +53,7 @@ pub(crate) fn mask_of(width: Width) -> u64
 }
 
 /// Puts a value into a target.
+#[inline(always)]
 pub(crate) fn put(state: &mut ModuleState, iteration: u32, target: Target, value: u64)
     ensures { state.new ≡ put state.old iteration target value }
 {
@@ -76,6 +77,7 @@ pub(crate) fn put(state: &mut ModuleState, iteration: u32, target: Target, value
 }
 
 /// Puts a word at an address of a memory.
+#[inline(always)]
 pub(crate) fn put_word(state: &mut ModuleState, memory: u32, address: u64, word: u64)
     ensures { state.new ≡ put_word state.old memory address word }
 {
@@ -84,6 +86,7 @@ pub(crate) fn put_word(state: &mut ModuleState, memory: u32, address: u64, word:
 
 /// Puts a word at a place of one of these lists, where both are there.
 #[tactic(auto, using(crate::proofs::Masking::set_beyond))]
+#[inline(always)]
 fn put_at(lists: &mut [Words], list: u32, at: u64, word: u64)
     ensures { lists.new ≡ slice_set lists.old list (slice_set (slice_index_or lists.old list []) at word) }
 {
@@ -93,6 +96,7 @@ fn put_at(lists: &mut [Words], list: u32, at: u64, word: u64)
 }
 
 /// Puts a word at a place, where it is there.
+#[inline(always)]
 fn set_at(words: &mut [u64], at: u64, word: u64)
     ensures { words.new ≡ slice_set words.old at word }
 {

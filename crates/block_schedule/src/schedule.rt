@@ -58,6 +58,7 @@ impl Schedule {
     }
 
     /// The numbers of the block's operations at an offset, in text order.
+    #[inline(always)]
     pub fn due(&self, offset: u64) -> &[u32]
         requires { (block : BlockOf) × IsScheduleOf block self.now }
         ensures { (block : BlockOf) → IsScheduleOf block self.now → result.now ≡ due_at block offset }
@@ -67,6 +68,7 @@ impl Schedule {
     }
 
     /// From which place on and up to which place the operations at an offset stand.
+    #[inline(always)]
     fn span(&self, offset: u64) -> (usize, usize)
         requires in_order { IsNonDecreasing self.now.offsets.items }
         requires spans { AreSpans self.now.offsets.items self.now.spans.items }

@@ -12,6 +12,7 @@ use flow_word::OutOfMemory;
 use std::alloc::Global;
 
 /// The local clocks between the starts of two iterations: II of a loop, and LEN of a plain block.
+#[inline(always)]
 pub fn interval(block: &Block) -> u64
     ensures { result ≡ interval block.now }
 {
@@ -78,6 +79,7 @@ pub(crate) fn first_above(offsets: &[u64], offset: u64) -> usize
 }
 
 /// From which of the offsets on and up to which they are this one.
+#[inline(never)]
 pub(crate) fn span_of(offsets: &[u64], offset: u64) -> (usize, usize)
     requires { IsNonDecreasing offsets.now }
     ensures { IsSpan offsets.now offset result.0 result.1 }

@@ -18,6 +18,7 @@ use flow_word::{List, OutOfMemory, Queue, Words};
 use module_move::{is_over, note};
 
 /// Module number i of a plan.
+#[inline(always)]
 pub fn module_at(plan: &Plan, i: usize) -> &Module
     requires { i < length plan.now.design.modules }
     ensures { result.now ≡ module_at plan.now i }
@@ -26,6 +27,7 @@ pub fn module_at(plan: &Plan, i: usize) -> &Module
 }
 
 /// The state of module number i.
+#[inline(always)]
 pub fn state_at(state: &ClockState, i: usize) -> &ModuleState
     requires { i < length state.now.modules }
     ensures { result.now ≡ slice_index_or state.now.modules i nobody }
@@ -35,6 +37,7 @@ pub fn state_at(state: &ClockState, i: usize) -> &ModuleState
 
 /// Fills in what is noted of the due operations of module number i, in this state, and the requests of the FIFO operations
 /// among them.
+#[inline(always)]
 pub fn note_one(
     plan: &Plan,
     codes: &[List<BlockCode>],
@@ -68,6 +71,7 @@ pub fn note_one(
 }
 
 /// Adds the replies to these requests to a part.
+#[inline(always)]
 fn answer(
     plan: &Plan,
     clock: u64,
@@ -92,6 +96,7 @@ fn answer(
 }
 
 /// The part of one module: no part where it is ended, spent or stalls, else what it has due, and the replies.
+#[inline(always)]
 fn take_part(
     plan: &Plan,
     codes: &[List<BlockCode>],

@@ -8,6 +8,7 @@ use flow_design::{ChannelKind, Element, Plan, Reply, Request};
 use flow_word::{Kind, Queue, Side};
 
 /// How many elements a channel holds.
+#[inline(always)]
 fn held(contents: &[Queue<Element>], channel: u32) -> u64
     ensures { result ≡ length (contents_of contents.now channel) }
 {
@@ -20,6 +21,7 @@ fn held(contents: &[Queue<Element>], channel: u32) -> u64
 }
 
 /// The value at a channel's front, or 0 where it holds none.
+#[inline(always)]
 fn front(contents: &[Queue<Element>], channel: u32) -> u64
     ensures { result ≡ front (contents_of contents.now channel) }
 {
@@ -35,6 +37,7 @@ fn front(contents: &[Queue<Element>], channel: u32) -> u64
 }
 
 /// Whether a channel holds nothing that can be popped in this clock.
+#[inline(always)]
 fn is_empty(clock: u64, contents: &[Queue<Element>], channel: u32) -> bool
     ensures { result ≡ is_empty clock (contents_of contents.now channel) }
 {
@@ -50,6 +53,7 @@ fn is_empty(clock: u64, contents: &[Queue<Element>], channel: u32) -> bool
 }
 
 /// The delay of a channel: 1 where it is no FIFO, or a number names none.
+#[inline(always)]
 pub fn delay(plan: &Plan, channel: u32) -> u64
     ensures { result ≡ delay_at plan.now channel }
 {
@@ -66,6 +70,7 @@ pub fn delay(plan: &Plan, channel: u32) -> u64
 }
 
 /// Whether a channel is a FIFO.
+#[inline(always)]
 fn is_fifo(plan: &Plan, channel: u32) -> bool
     ensures { result ≡ is_fifo (kind_at plan.now channel) }
 {
@@ -75,6 +80,7 @@ fn is_fifo(plan: &Plan, channel: u32) -> bool
 }
 
 /// The depth of a channel, or 0 where a number names none.
+#[inline(always)]
 fn depth(plan: &Plan, channel: u32) -> u64
     ensures { result ≡ slice_index plan.now.depths channel }
 {
@@ -88,6 +94,7 @@ fn depth(plan: &Plan, channel: u32) -> u64
 }
 
 /// Whether a channel is a FIFO that holds as many elements as its depth.
+#[inline(always)]
 fn is_full(plan: &Plan, contents: &[Queue<Element>], channel: u32) -> bool
     ensures { result ≡ is_full plan.now channel (contents_of contents.now channel) }
 {
@@ -95,6 +102,7 @@ fn is_full(plan: &Plan, contents: &[Queue<Element>], channel: u32) -> bool
 }
 
 /// Whether a channel has an element to pop in this clock, or else a place to push.
+#[inline(always)]
 fn is_possible(
     plan: &Plan,
     clock: u64,
@@ -121,6 +129,7 @@ fn is_possible_ever(plan: &Plan, contents: &[Queue<Element>], side: Side, channe
 }
 
 /// Whether an operation blocks and cannot be done.
+#[inline(always)]
 pub fn stalls(plan: &Plan, clock: u64, contents: &[Queue<Element>], request: &Request) -> bool
     ensures { result ≡ stalls plan.now clock contents.now request.now }
 {
@@ -137,6 +146,7 @@ pub fn stalls_ever(plan: &Plan, contents: &[Queue<Element>], request: &Request) 
 }
 
 /// Whether one of these operations blocks and cannot be done.
+#[inline(always)]
 pub fn any_stalls(
     plan: &Plan,
     clock: u64,
@@ -161,6 +171,7 @@ pub fn any_stalls_ever(plan: &Plan, contents: &[Queue<Element>], requests: &[Req
 
 /// The reply to an operation whose module moves.
 #[tactic(auto, unfolding(lockstep_defs::specs::Channels::reply))]
+#[inline(always)]
 pub fn reply_to(plan: &Plan, clock: u64, contents: &[Queue<Element>], request: &Request) -> Reply
     ensures { result ≡ reply plan.now clock contents.now request.now }
 {

@@ -14,6 +14,7 @@ use flow_design::{Element, Plan, Reply};
 use flow_word::{Kind, OutOfMemory, Queue};
 
 /// Takes the front off a channel.
+#[inline(always)]
 fn pop_front(contents: &mut [Queue<Element>], channel: u32)
     ensures { contents.new ≡ map (λ f. if channel == f.0 then drop 1 f.1 else f.1) (enumerate_from 0 contents.old) }
 {
@@ -24,6 +25,7 @@ fn pop_front(contents: &mut [Queue<Element>], channel: u32)
 }
 
 /// Puts an element in at a channel's back.
+#[inline(always)]
 fn push_back(
     contents: &mut [Queue<Element>],
     channel: u32,
@@ -39,6 +41,7 @@ fn push_back(
 }
 
 /// Whether an operation took a value off its channel.
+#[inline(always)]
 fn is_popped(kind: Kind, reply: Reply) -> bool
     ensures { length (popped_value kind (is_yes reply) (value_in reply)) ≡ (if result then 1 else 0) }
 {
@@ -50,6 +53,7 @@ fn is_popped(kind: Kind, reply: Reply) -> bool
 }
 
 /// Whether an operation put its value into its channel.
+#[inline(always)]
 fn is_pushed(kind: Kind, reply: Reply, value: u64) -> bool
     ensures { pushed_value kind (is_yes reply) value ≡ (if result then value ∷ [] else []) }
 {
@@ -61,6 +65,7 @@ fn is_pushed(kind: Kind, reply: Reply, value: u64) -> bool
 }
 
 /// Takes off what one operation pops.
+#[inline(always)]
 fn pop_one(contents: &mut [Queue<Element>], done: &Answered)
     ensures { contents.new ≡ map (after_pops (exchange done.now ∷ [])) (enumerate_from 0 contents.old) }
 {
@@ -70,6 +75,7 @@ fn pop_one(contents: &mut [Queue<Element>], done: &Answered)
 }
 
 /// Puts in what one operation pushes.
+#[inline(always)]
 fn push_one(
     plan: &Plan,
     clock: u64,
@@ -93,6 +99,7 @@ fn push_one(
 }
 
 /// Takes off what a module pops.
+#[inline(always)]
 fn pop_part(contents: &mut [Queue<Element>], part: &Part)
     ensures { contents.new ≡ map (after_pops (exchanges_of part.now)) (enumerate_from 0 contents.old) }
 {
@@ -102,6 +109,7 @@ fn pop_part(contents: &mut [Queue<Element>], part: &Part)
 }
 
 /// Puts in what a module pushes.
+#[inline(always)]
 fn push_part(
     plan: &Plan,
     clock: u64,

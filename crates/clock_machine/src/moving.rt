@@ -15,6 +15,7 @@ use module_move::{MoveRoom, make_move};
 use std::alloc::Global;
 
 /// The move of one module by its part in the clock.
+#[inline(always)]
 fn move_one(
     alloc: Global,
     plan: &Plan,

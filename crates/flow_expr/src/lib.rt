@@ -8,6 +8,7 @@ use flow_design::BinOp;
 use flow_word::{Width, cut};
 
 /// The value of a register, or of a temp: the temps of a body are numbered behind the module's registers. It takes no memory.
+#[inline(always)]
 pub fn variable(at: u32, registers: &[u64], temps: &[u64]) -> u64
     requires { at < length registers.now + length temps.now }
     ensures { result ≡ variable registers.now temps.now at }
@@ -21,6 +22,7 @@ pub fn variable(at: u32, registers: &[u64], temps: &[u64]) -> u64
 }
 
 /// The value of an operator on two words.
+#[inline(always)]
 pub fn binary(op: BinOp, a: u64, b: u64) -> u64
     ensures { result ≡ binary op a b }
 {
@@ -42,6 +44,7 @@ pub fn binary(op: BinOp, a: u64, b: u64) -> u64
     }
 }
 
+#[inline(always)]
 fn shifted_left(a: u64, b: u64) -> u64
     ensures { result ≡ binary BinOp.Shl a b }
 {

@@ -16,6 +16,7 @@ impl Path {
     /// Comes to the next local clock with a due FIFO operation, or to the end of the run.
     ///
     /// After want of memory the path still leads to the same rest.
+    #[inline(always)]
     pub fn come_to_rest(&mut self) -> Result<(), OutOfMemory>
         requires path { IsPath self.old }
         requires answered { self.old.stage ≢ Asked }
@@ -31,6 +32,7 @@ impl Path {
     }
 
     /// Does what is left of the move, and then comes nearer to the rest. Whether it is there.
+    #[inline(always)]
     fn go_a_way(&mut self) -> Result<bool, OutOfMemory>
         requires path { IsPath self.old }
         requires answered { self.old.stage ≢ Asked }
@@ -49,6 +51,7 @@ impl Path {
     }
 
     /// Where the clock has gone up, the loop decides and the block may end.
+    #[inline(always)]
     fn settle(&mut self) -> Result<(), OutOfMemory>
         requires path { IsPath self.old }
         requires answered { self.old.stage ≢ Asked }
@@ -69,6 +72,7 @@ impl Path {
 
     /// Whether a FIFO operation is due. If not, the due operations commit and the clock goes up, or it jumps to the next
     /// local clock with work.
+    #[inline(always)]
     fn stands_still(&mut self) -> Result<bool, OutOfMemory>
         requires path { IsPath self.old }
         requires begun { self.old.stage ≡ Begun }
@@ -88,6 +92,7 @@ impl Path {
     }
 
     /// A local clock in which no FIFO operation is due. Where nothing is due it may jump, else the due operations commit.
+    #[inline(always)]
     fn move_on(&mut self)
         requires path { IsPath self.old }
         requires begun { self.old.stage ≡ Begun }
@@ -110,6 +115,7 @@ impl Path {
     }
 
     /// Jumps to a later local clock, before which there is no work.
+    #[inline(never)]
     fn jump(&mut self, clock: u64)
         requires path { IsPath self.old }
         requires begun { self.old.stage ≡ Begun }
@@ -126,6 +132,7 @@ impl Path {
     }
 
     /// Notes the due operations and their requests.
+    #[inline(always)]
     fn ask(&mut self) -> Result<(), OutOfMemory>
         requires path { IsPath self.old }
         requires begun { self.old.stage ≡ Begun }
@@ -149,6 +156,7 @@ impl Path {
     }
 
     /// A local clock in which no FIFO operation is due: the due operations commit.
+    #[inline(always)]
     fn pass(&mut self)
         requires path { IsPath self.old }
         requires begun { self.old.stage ≡ Begun }
@@ -164,6 +172,7 @@ impl Path {
     }
 
     /// The due operations commit on these replies, and the clock goes up. It takes no memory.
+    #[inline(always)]
     pub fn commit_due(&mut self, replies: &[Reply])
         requires path { IsPath self.old }
         requires answer { CanAnswer self.old }

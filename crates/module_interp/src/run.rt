@@ -153,6 +153,7 @@ impl ModuleRun {
 }
 
 /// Lists the accesses of these requests twice. What the kept list held before is gone.
+#[inline(always)]
 fn list_accesses(
     alloc: Global,
     tally: &Tally,

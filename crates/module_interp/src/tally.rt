@@ -34,6 +34,7 @@ impl Tally {
     }
 
     /// A request as an access.
+    #[inline(always)]
     pub fn access(&self, request: Request) -> Access
         requires tally { (channels : ℕ)
             × ((before : Items Exchange) × (IsTallyOf channels before self.now
@@ -51,6 +52,7 @@ impl Tally {
     }
 
     /// How many elements were popped, or pushed, at the side of the channel at which an operation stands.
+    #[inline(always)]
     fn count_of(&self, kind: Kind, channel: u32) -> u64
         requires { (channels : ℕ) × ((before : Items Exchange) × (IsTallyOf channels before self.now × (channel < channels))) }
         ensures { (channels : ℕ) (before : Items Exchange) → IsTallyOf channels before self.now → channel < channels
@@ -63,6 +65,7 @@ impl Tally {
     }
 
     /// Counts the operations of a step.
+    #[inline(always)]
     pub fn count_step(&mut self, requests: &[Request], replies: &[Reply])
         requires tally { (channels : ℕ)
             × ((before : Items Exchange) × (IsTallyOf channels before self.old
@@ -77,6 +80,7 @@ impl Tally {
     }
 
     /// Counts an operation that was done.
+    #[inline(always)]
     fn count(&mut self, request: Request, reply: Reply)
         requires tally { (channels : ℕ)
             × ((before : Items Exchange) × (IsTallyOf channels before self.old
@@ -99,6 +103,7 @@ impl Tally {
 }
 
 /// Adds to the count at a place.
+#[inline(always)]
 fn add_at(counts: &mut Words, at: u32, more: u64)
     requires there { at < length counts.old }
     requires small { slice_index counts.old at + more < 2 ^ 64 }
@@ -108,6 +113,7 @@ fn add_at(counts: &mut Words, at: u32, more: u64)
 }
 
 /// How many elements an operation popped.
+#[inline(always)]
 fn popped(kind: Kind, reply: Reply) -> u64
     ensures count { (value : ℕ) → result ≡ length (popped_value kind (is_yes reply) value) }
     ensures most { result ≤ 1 }
@@ -120,6 +126,7 @@ fn popped(kind: Kind, reply: Reply) -> u64
 }
 
 /// How many elements an operation pushed.
+#[inline(always)]
 fn pushed(kind: Kind, reply: Reply) -> u64
     ensures count { (value : ℕ) → result ≡ length (pushed_value kind (is_yes reply) value) }
     ensures most { result ≤ 1 }
@@ -132,6 +139,7 @@ fn pushed(kind: Kind, reply: Reply) -> u64
 }
 
 /// How many queries an operation is.
+#[inline(always)]
 fn asked(kind: Kind) -> u64
     ensures count { result ≡ from_bool (not (is_blocking kind)) }
     ensures most { result ≤ 1 }

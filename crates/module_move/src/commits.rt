@@ -13,6 +13,7 @@ use flow_design::{ModuleState, Reply};
 
 /// Writes what the due operations write, by what was noted of them and their replies, in order, so that the last write to a
 /// place wins. Each FIFO operation takes the next reply.
+#[inline(always)]
 pub(crate) fn commit_all(
     code: &BlockCode,
     state: &mut ModuleState,
@@ -32,6 +33,7 @@ pub(crate) fn commit_all(
 }
 
 /// The reply of this number, or that of a write where there are not so many.
+#[inline(always)]
 fn reply_at(replies: &[Reply], at: usize) -> Reply
     ensures { result ≡ slice_index_or replies.now at Reply.Done }
 {
@@ -43,6 +45,7 @@ fn reply_at(replies: &[Reply], at: usize) -> Reply
 
 /// How many replies were taken, once an action has taken its own.
 #[tactic(auto, using(crate::proofs::Writing::one_taken, crate::proofs::Writing::none_there))]
+#[inline(always)]
 fn answered_after(action: &Action, replies: &[Reply], answered: usize) -> usize
     ensures { drop result replies.now
         ≡ (if takes_reply action.now then drop 1 (drop answered replies.now) else drop answered replies.now) }

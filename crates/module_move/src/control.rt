@@ -60,6 +60,7 @@ pub fn go_on(
 
 /// Where the newest iteration of a loop has been live for II local clocks, its register decides whether the next one starts.
 #[tactic(auto, unfolding(lockstep_defs::specs::Machine::decided))]
+#[inline(always)]
 fn decide(
     alloc: Global,
     block: &Block,
@@ -90,6 +91,7 @@ fn decide(
 
 /// Where the block is over, its terminator leads on.
 #[tactic(auto, unfolding(lockstep_defs::specs::Machine::finished))]
+#[inline(never)]
 fn finish(
     alloc: Global,
     of: &Module,
@@ -122,6 +124,7 @@ fn finish(
 }
 
 /// The value of the register that decides whether a loop goes on.
+#[inline(always)]
 fn again(block: &Block, registers: &[u64]) -> u64
     ensures { result ≡ slice_index registers.now (again_of block.now.kind) }
 {
@@ -132,6 +135,7 @@ fn again(block: &Block, registers: &[u64]) -> u64
 }
 
 /// The word at a place, or 0.
+#[inline(always)]
 fn word_at(words: &[u64], at: u32) -> u64
     ensures { result ≡ slice_index words.now at }
 {

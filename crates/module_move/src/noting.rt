@@ -53,6 +53,7 @@ fn make_room(scratch: &mut Words, room: u64) -> Result<(), OutOfMemory>
 
 /// Fills the two lists, where there is room for the results of each expression.
 #[tactic(auto, unfolding(lockstep_defs::specs::Machine::requests))]
+#[inline(always)]
 fn note_due(
     channels: &[Channel],
     of: &Module,
@@ -88,6 +89,7 @@ fn note_due(
 }
 
 /// Adds what is noted of those of these operations of a live iteration that have no guard, or one that is not 0, and their requests.
+#[inline(always)]
 fn note_iteration(
     channels: &[Channel],
     of: &Module,
@@ -129,6 +131,7 @@ fn note_iteration(
 }
 
 /// Whether an operation has no guard, or one that is not 0.
+#[inline(always)]
 fn passes(block: &Block, registers: &[u64], temps: &[u64], number: u32) -> bool
     requires number { number < length block.now.ops }
     requires guards { AreGuardsSound (length registers.now + length temps.now) block.now.ops }
@@ -141,6 +144,7 @@ fn passes(block: &Block, registers: &[u64], temps: &[u64], number: u32) -> bool
 }
 
 /// Adds what is noted of an operation where it is due, and its request if it is a FIFO operation.
+#[inline(always)]
 fn note_if(
     passes: bool,
     channels: &[Channel],

@@ -8,6 +8,7 @@ use block_schedule::interval;
 use flow_design::{Block, Control, Module, ModuleState};
 
 /// The block in which the module stands.
+#[inline(always)]
 pub(crate) fn block_of<'a>(of: &'a Module, state: &ModuleState) -> &'a Block
     requires { state.now.control.block < length of.now.blocks }
     ensures { result.now ≡ block_of of.now state.now }
@@ -34,6 +35,7 @@ pub(crate) fn live_count(block: &Block, control: &Control) -> u64
 }
 
 /// Whether a module is spent: not ended, and its count is at least the operation limit.
+#[inline(always)]
 pub fn is_spent(limit: u64, state: &ModuleState) -> bool
     ensures { result ≡ is_spent limit state.now }
 {
@@ -42,6 +44,7 @@ pub fn is_spent(limit: u64, state: &ModuleState) -> bool
 
 /// Whether a module is ended or spent, so that it moves no more.
 #[tactic(auto, unfolding(lockstep_defs::specs::Machine::is_over))]
+#[inline(always)]
 pub fn is_over(limit: u64, state: &ModuleState) -> bool
     ensures { result ≡ is_over limit state.now }
 {

@@ -1,6 +1,5 @@
 -- Cutting by a mask, and putting into a target.
-use Rattle.std.proofs.Common.{◌≡◌, refl, ap, ◌∙◌, arith, ℕ, zero, suc, ◌-◌, ◌<◌, ◌≤◌, ◌%◌, ◌^◌}
-use Rattle.std.proofs.Common.{List, [], ◌∷◌, length, set}
+use Rattle.std.proofs.Common.{◌≡◌, ap, ◌∙◌, arith, ℕ, ◌-◌, ◌<◌, ◌≤◌, ◌%◌, ◌^◌, length}
 use Rattle.std.specs.Prelude.{slice_index, slice_set}
 use Rattle.std.specs.Int.Bits.{bit_and}
 use Rattle.std.proofs.lemmas.Nat.{and_mask}
@@ -29,9 +28,3 @@ temp_target m b x t mask outside at ones s i v =
     rw (le-ltb x (length m.registers) outside, ← at)
     (ap (λ (w : ℕ). record s { temps = slice_set s.temps i (slice_set (temps_of s i) t w) })
     (masked_is v (slice_index b.temps t) mask ones))
-
--- a place that is not there
-pub set_beyond : {X : Type 0} (xs : List X) (i : ℕ) (x : X) → length xs ≤ i → set xs i x ≡ xs
-set_beyond [] i x h = refl
-set_beyond (y ∷ ys) zero x h = absurd (omega arith)
-set_beyond (y ∷ ys) (suc i) x h = ap (λ zs. y ∷ zs) (set_beyond ys i x (omega arith))

@@ -121,10 +121,7 @@ fn held(operand: &Operand, state: &ModuleState, iteration: u32, scratch: &mut [u
 pub fn temps_of(state: &ModuleState, iteration: u32) -> &[u64]
     ensures { result.now ≡ temps_of state.now iteration }
 {
-    match state.temps.as_slice().get(iteration as usize) {
-        Some(temps) => temps.as_slice(),
-        None => &[],
-    }
+    state.temps.get(iteration)
 }
 
 /// The words of a memory.

@@ -1,10 +1,10 @@
 //! Where operations write: a register or a temp, with the mask of its width.
-ghost use Rattle.std.specs.Prelude.{◌≡◌, ℕ, ◌+◌, ◌^◌, slice_index, slice_index_or, slice_set, []};
+ghost use Rattle.std.specs.Prelude.{◌≡◌, ℕ, ◌+◌, ◌^◌, slice_index};
 ghost use Rattle.block_code.specs.Masks.{IsMaskOf};
 ghost use Rattle.block_code.specs.Targets.{IsTargetOf, put, put_word};
 
-use flow_design::{Block, Module, ModuleState};
-use flow_word::{Width, Words};
+use flow_design::{Block, Module, ModuleState, put_at, set_at};
+use flow_word::Width;
 
 /// Where a value goes. A value is cut by the mask, which has a one for each bit of the width.
 #[derive(Clone, Copy, Debug, PartialEq)]
@@ -66,12 +66,7 @@ pub(crate) fn put(state: &mut ModuleState, iteration: u32, target: Target, value
             );
         }
         Target::Temp(temp, mask) => {
-            put_at(
-                state.temps.as_mut_slice(),
-                iteration,
-                temp as u64,
-                value & mask,
-            );
+            state.temps.put(iteration, temp as u64, value & mask);
         }
     }
 }
@@ -81,26 +76,5 @@ pub(crate) fn put(state: &mut ModuleState, iteration: u32, target: Target, value
 pub(crate) fn put_word(state: &mut ModuleState, memory: u32, address: u64, word: u64)
     ensures { state.new ≡ put_word state.old memory address word }
 {
-    put_at(state.memories.as_mut_slice(), memory, address, word);
-}
-
-/// Puts a word at a place of one of these lists, where both are there.
-#[tactic(auto, using(crate::proofs::Masking::set_beyond))]
-#[inline(always)]
-fn put_at(lists: &mut [Words], list: u32, at: u64, word: u64)
-    ensures { lists.new ≡ slice_set lists.old list (slice_set (slice_index_or lists.old list []) at word) }
-{
-    if (list as usize) < lists.len() {
-        set_at(lists[list as usize].as_mut_slice(), at, word);
-    }
-}
-
-/// Puts a word at a place, where it is there.
-#[inline(always)]
-fn set_at(words: &mut [u64], at: u64, word: u64)
-    ensures { words.new ≡ slice_set words.old at word }
-{
-    if at < words.len() as u64 {
-        words[at as usize] = word;
-    }
+    put_at(state.memories.as_mut_slice(), memory as u64, address, word);
 }

@@ -11,7 +11,7 @@ use crate::part::Part;
 use block_code::BlockCode;
 use flow_design::{ModuleState, Plan};
 use flow_word::{List, OutOfMemory};
-use module_move::{MoveRoom, make_move};
+use module_move::make_move;
 use std::alloc::Global;
 
 /// The move of one module by its part in the clock.
@@ -24,7 +24,6 @@ fn move_one(
     i: usize,
     part: &Part,
     state: &mut ModuleState,
-    room: &mut MoveRoom,
 ) -> Result<(), OutOfMemory>
     requires fits { FitsEngine plan.now }
     requires codes { AreCodes plan.now codes.now }
@@ -48,7 +47,6 @@ fn move_one(
         state,
         part.noted.as_slice(),
         part.replies.as_slice(),
-        room,
     )?;
     Ok(())
 }
@@ -61,7 +59,6 @@ pub fn move_all(
     clock: u64,
     parts: &[Part],
     states: &mut [ModuleState],
-    room: &mut MoveRoom,
 ) -> Result<(), OutOfMemory>
     requires fits { FitsEngine plan.now }
     requires codes { AreCodes plan.now codes.now }
@@ -75,7 +72,7 @@ pub fn move_all(
     ensures fit { OnOk result (AreFit plan.now (clock + 1) states.new) }
 {
     for (i, state) in states.iter_mut().enumerate() {
-        move_one(alloc, plan, codes, clock, i, &parts[i], state, room)?;
+        move_one(alloc, plan, codes, clock, i, &parts[i], state)?;
     }
     Ok(())
 }

@@ -5,7 +5,6 @@ ghost use Rattle.clock_machine.specs.Parts.{no_part};
 use block_code::Noted;
 use flow_design::{Reply, Request};
 use flow_word::{List, OutOfMemory, Words};
-use module_move::MoveRoom;
 use std::alloc::Global;
 
 /// A FIFO operation that is done in a clock: what was asked, and the reply.
@@ -36,7 +35,6 @@ pub struct Scratch {
     pub requests: List<Request>,
     /// For the results of expressions.
     pub words: Words,
-    pub room: MoveRoom,
 }
 
 impl Part {
@@ -76,6 +74,5 @@ pub fn new_scratch(alloc: Global, modules: u64) -> Result<Scratch, OutOfMemory>
         noted: List::new(alloc),
         requests: List::new(alloc),
         words: List::new(alloc),
-        room: MoveRoom::new(alloc),
     })
 }

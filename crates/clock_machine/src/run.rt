@@ -15,7 +15,6 @@ use crate::telling::{tell_all_outcomes, tell_kept_events};
 use block_code::BlockCode;
 use flow_design::{ClockState, EventLine, Plan, Report, Verdict};
 use flow_word::{Flags, List, OutOfMemory};
-use module_move::MoveRoom;
 use std::alloc::Global;
 
 /// One clock: the modules move by their parts, then all that they pop is taken off, and then all that they push is put in.
@@ -26,7 +25,6 @@ fn step(
     clock: u64,
     parts: &[Part],
     state: &mut ClockState,
-    room: &mut MoveRoom,
 ) -> Result<(), OutOfMemory>
     requires fits { FitsEngine plan.now }
     requires codes { AreCodes plan.now codes.now }
@@ -43,7 +41,6 @@ fn step(
         clock,
         parts,
         state.modules.as_mut_slice(),
-        room,
     )?;
     pop_all(state.contents.as_mut_slice(), parts);
     push_all(plan, clock, state.contents.as_mut_slice(), parts)?;
@@ -79,7 +76,7 @@ fn next_clock(
     let parts = scratch.parts.as_slice();
     tell_kept_events(keep, events, clock, parts)?;
     tell_all_outcomes(answers.as_mut_slice(), parts)?;
-    step(alloc, plan, codes, clock, parts, state, &mut scratch.room)?;
+    step(alloc, plan, codes, clock, parts, state)?;
     Ok(())
 }
 

@@ -1,1 +1,4 @@
+pub mod Beyond
+pub mod Failing
+pub mod Rings
 pub mod Values

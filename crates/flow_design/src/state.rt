@@ -1,4 +1,5 @@
 //! States of modules and of the whole machine, which the definitions and the program share.
+use crate::temps::LiveTemps;
 use flow_word::{Kind, List, Queue, Step, Words};
 
 /// Where a module stands in its block, in local clocks.
@@ -20,7 +21,7 @@ pub struct ModuleState {
     pub registers: Words,
     pub memories: List<Words>,
     /// The temps of each live iteration, the oldest first.
-    pub temps: List<Words>,
+    pub temps: LiveTemps,
     /// The operation count.
     pub count: u64,
     /// Whether the module is ended.

@@ -99,7 +99,7 @@ after_done m o (r ∷ rs) qs h = flat_push o.steps (record { gap = o.since; requ
 
 -- the due operations have committed on these replies, and the clock has gone up
 pub record HasCommitted (x y : Path) (qs : List Reply) : Type 0 where
-  pub frame : y ≡ record x { state = y.state; stage = Ticked; room = y.room }
+  pub frame : y ≡ record x { state = y.state; stage = Ticked }
   pub moved : gone_on y.of y.state ≡ move x.of x.state qs
   pub block : y.state.control.block ≡ x.state.control.block
   pub has_started : y.state.control.newest ≤ y.state.control.clock

@@ -4,7 +4,6 @@ use Rattle.std.proofs.Common.{get_or, refl, sym, ap, subst, arith, ◌∙◌}
 use Rattle.std.proofs.lemmas.Bool.{ltb-true, and_parts}
 use Rattle.flow_design.specs.declared.design.Module.{Module}
 use Rattle.flow_design.specs.declared.plan.Plan.{Plan}
-use Rattle.module_move.specs.declared.room.MoveRoom.{MoveRoom}
 use Rattle.flow_design.specs.declared.state.Request.{Request}
 use Rattle.flow_design.specs.declared.state.ModuleState.{ModuleState}
 use Rattle.flow_design.specs.Module.{block_of, interval}
@@ -142,15 +141,14 @@ idle x clock n path begun alive next far p i b =
     })
 
 -- a jump to the next clock with work
-pub jumps : (x : Path) (clock n : ℕ) (room : MoveRoom) → IsPath x → x.stage ≡ Begun → is_over x.limit x.state ≡ false
+pub jumps : (x : Path) (clock n : ℕ) → IsPath x → x.stage ≡ Begun → is_over x.limit x.state ≡ false
     → IsNextDue (block_of x.of x.state) x.state.control clock → clock ≡ x.state.control.clock + suc n
     → Passes x (record x {
       since = x.since + (clock - x.state.control.clock);
       state = ticked_to x.of clock x.state;
       stage = Ticked;
-      room = room;
     }) n
-jumps x clock n room path begun alive next far =
+jumps x clock n path begun alive next far =
     let sound = (has_begun x path begun alive).sound in
     let started = sound.state.control.has_started in
     record {

@@ -9,7 +9,7 @@ use crate::path::{Path, Stage};
 use block_code::codes_of;
 use flow_design::Plan;
 use flow_word::{List, OutOfMemory, TryCopy};
-use module_move::{MoveRoom, open};
+use module_move::open;
 use std::alloc::Global;
 
 /// The path of a module of a plan, in local clock 0 of its first block.
@@ -35,6 +35,5 @@ pub fn first_path(alloc: Global, plan: &Plan, number: u32) -> Result<Path, OutOf
         noted: List::new(alloc),
         asked: List::new(alloc),
         scratch: List::new(alloc),
-        room: MoveRoom::new(alloc),
     })
 }

@@ -2,7 +2,6 @@
 use block_code::{BlockCode, Noted};
 use flow_design::{Channel, Module, ModuleState, Request};
 use flow_word::{List, Words};
-use module_move::MoveRoom;
 use std::alloc::Global;
 
 /// What is left to do of the move in which a module stands.
@@ -36,6 +35,4 @@ pub struct Path {
     pub asked: List<Request>,
     /// Room for the results of expressions. What it holds means nothing.
     pub scratch: Words,
-    /// Room that its moves use again.
-    pub room: MoveRoom,
 }

@@ -62,7 +62,7 @@ impl Path {
     {
         match self.stage {
             Stage::Ticked => {
-                go_on(self.alloc, &self.of, &mut self.state, &mut self.room)?;
+                go_on(self.alloc, &self.of, &mut self.state)?;
                 self.stage = Stage::Begun;
                 Ok(())
             }
@@ -127,7 +127,7 @@ impl Path {
         ensures nearer { clocks_to_end self.new < clocks_to_end self.old }
     {
         self.since += clock - self.state.control.clock;
-        tick_to(&self.of, &mut self.state, clock, &mut self.room);
+        tick_to(&self.of, &mut self.state, clock);
         self.stage = Stage::Ticked;
     }
 
@@ -176,7 +176,7 @@ impl Path {
     pub fn commit_due(&mut self, replies: &[Reply])
         requires path { IsPath self.old }
         requires answer { CanAnswer self.old }
-        ensures frame { self.new ≡ record self.old { state = self.new.state; stage = Ticked; room = self.new.room } }
+        ensures frame { self.new ≡ record self.old { state = self.new.state; stage = Ticked } }
         ensures moved { gone_on self.new.of self.new.state ≡ move self.old.of self.old.state replies.now }
         ensures block { self.new.state.control.block ≡ self.old.state.control.block }
         ensures started { self.new.state.control.newest ≤ self.new.state.control.clock }
@@ -184,7 +184,7 @@ impl Path {
         let code = &self.codes.as_slice()[self.state.control.block as usize];
         commit(code, &mut self.state, self.noted.as_slice(), replies);
         let next = self.state.control.clock + 1;
-        tick_to(&self.of, &mut self.state, next, &mut self.room);
+        tick_to(&self.of, &mut self.state, next);
         self.stage = Stage::Ticked;
     }
 }

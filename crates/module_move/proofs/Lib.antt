@@ -1,9 +1,7 @@
 pub mod Ages
 pub mod Begins
-pub mod Failing
 pub mod Looking
 pub mod Moving
 pub mod Noted
 pub mod Readiness
-pub mod Ticking
 pub mod Writing

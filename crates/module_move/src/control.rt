@@ -7,7 +7,6 @@ ghost use Rattle.lockstep_defs.specs.Machine.{again_of, decided, finished};
 ghost use Rattle.module_move.specs.Moves.{ticked_to, gone_on};
 
 use crate::opening::enter;
-use crate::room::MoveRoom;
 use crate::standing::{block_of, live_count};
 use block_schedule::interval;
 use flow_design::{Block, BlockKind, Module, ModuleState, Next};
@@ -16,7 +15,8 @@ use std::alloc::Global;
 
 /// The local clock goes up to a later one, and the temps of the iterations that are then no longer live go.
 #[tactic(auto, using(crate::proofs::Begins::block_sound, crate::proofs::Begins::some_interval, crate::proofs::Begins::span))]
-pub fn tick_to(of: &Module, state: &mut ModuleState, clock: u64, room: &mut MoveRoom)
+#[inline(always)]
+pub fn tick_to(of: &Module, state: &mut ModuleState, clock: u64)
     requires module { (channels : ℕ) × IsModuleSound channels of.now }
     requires there { state.old.control.block < length of.now.blocks }
     requires started { state.old.control.newest ≤ state.old.control.clock }
@@ -27,19 +27,15 @@ pub fn tick_to(of: &Module, state: &mut ModuleState, clock: u64, room: &mut Move
     let block = block_of(of, state);
     state.control.clock = clock;
     let live = live_count(block, &state.control);
-    room.keep_newest(&mut state.temps, live);
+    state.temps.keep_newest(live);
 }
 
 /// The loop decides, and the block may end, in the local clock that has begun.
 ///
 /// After want of memory the call may be made again: what it does then is what is left to do.
 #[tactic(auto, using(crate::proofs::Begins::block_sound, crate::proofs::Begins::some_interval))]
-pub fn go_on(
-    alloc: Global,
-    of: &Module,
-    state: &mut ModuleState,
-    room: &mut MoveRoom,
-) -> Result<(), OutOfMemory>
+#[inline(always)]
+pub fn go_on(alloc: Global, of: &Module, state: &mut ModuleState) -> Result<(), OutOfMemory>
     requires module { (channels : ℕ) × IsModuleSound channels of.now }
     requires there { state.old.control.block < length of.now.blocks }
     requires started { state.old.control.newest ≤ state.old.control.clock }
@@ -53,20 +49,15 @@ pub fn go_on(
     ensures few { OnErr result (state.new.count ≤ state.old.count + 1) }
 {
     let block = block_of(of, state);
-    decide(alloc, block, state, room)?;
-    finish(alloc, of, block, state, room)?;
+    decide(alloc, block, state)?;
+    finish(alloc, of, block, state)?;
     Ok(())
 }
 
 /// Where the newest iteration of a loop has been live for II local clocks, its register decides whether the next one starts.
 #[tactic(auto, unfolding(lockstep_defs::specs::Machine::decided))]
 #[inline(always)]
-fn decide(
-    alloc: Global,
-    block: &Block,
-    state: &mut ModuleState,
-    room: &mut MoveRoom,
-) -> Result<(), OutOfMemory>
+fn decide(alloc: Global, block: &Block, state: &mut ModuleState) -> Result<(), OutOfMemory>
     requires started { state.old.control.newest ≤ state.old.control.clock }
     requires few { state.old.count < 2 ^ 61 - 2 }
     ensures decided { OnOk result (state.new ≡ decided block.now state.old) }
@@ -81,7 +72,7 @@ fn decide(
         if again(block, state.registers.as_slice()) == 0 {
             state.control.looping = false;
         } else {
-            state.temps.push(room.new_temps(alloc, block.temps.len())?)?;
+            state.temps.start(alloc, block.temps.len())?;
             state.control.newest = state.control.clock;
             state.count += 1;
         }
@@ -97,7 +88,6 @@ fn finish(
     of: &Module,
     block: &Block,
     state: &mut ModuleState,
-    room: &mut MoveRoom,
 ) -> Result<(), OutOfMemory>
     requires next { IsNextSound (length of.now.registers) (length of.now.blocks) block.now.next }
     requires started { state.old.control.newest ≤ state.old.control.clock }
@@ -111,10 +101,10 @@ fn finish(
         return Ok(());
     }
     match block.next {
-        Next::Goto(to) => enter(alloc, of, to, state, room),
+        Next::Goto(to) => enter(alloc, of, to, state),
         Next::Branch(register, to, other) => {
             let value = word_at(state.registers.as_slice(), register);
-            enter(alloc, of, if value == 0 { other } else { to }, state, room)
+            enter(alloc, of, if value == 0 { other } else { to }, state)
         }
         Next::Stop => {
             state.ended = true;

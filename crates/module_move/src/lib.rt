@@ -6,12 +6,10 @@ mod control;
 mod moves;
 mod noting;
 mod opening;
-mod room;
 mod standing;
 
 pub use control::{go_on, tick_to};
 pub use moves::{commit, make_move};
 pub use noting::note;
 pub use opening::open;
-pub use room::MoveRoom;
 pub use standing::{is_over, is_spent};

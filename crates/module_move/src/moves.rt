@@ -9,13 +9,13 @@ ghost use Rattle.module_move.specs.Sound.{CanCommit, IsRunnable};
 
 use crate::commits::commit_all;
 use crate::control::{go_on, tick_to};
-use crate::room::MoveRoom;
 use block_code::{BlockCode, Noted};
 use flow_design::{Module, ModuleState, Reply};
 use flow_word::OutOfMemory;
 use std::alloc::Global;
 
 /// The operations that are due commit together, by what was noted of them and on the replies, and count. It takes no memory.
+#[inline(always)]
 pub fn commit(code: &BlockCode, state: &mut ModuleState, noted: &[Noted], replies: &[Reply])
     requires can { (channels : Items ChannelOf) × ((m : ModuleOf) × CanCommit channels m state.old code.now noted.now) }
     ensures committed { (channels : Items ChannelOf) (m : ModuleOf) → CanCommit channels m state.old code.now noted.now
@@ -32,6 +32,7 @@ pub fn commit(code: &BlockCode, state: &mut ModuleState, noted: &[Noted], replie
 /// up, and the loop and the block may go on or end.
 ///
 /// After want of memory the state may be anything.
+#[inline(always)]
 pub fn make_move(
     alloc: Global,
     of: &Module,
@@ -39,7 +40,6 @@ pub fn make_move(
     state: &mut ModuleState,
     noted: &[Noted],
     replies: &[Reply],
-    room: &mut MoveRoom,
 ) -> Result<(), OutOfMemory>
     requires can { (channels : Items ChannelOf) × CanCommit channels of.now state.old code.now noted.now }
     requires small { state.old.control.clock < 2 ^ 60 }
@@ -50,7 +50,7 @@ pub fn make_move(
 {
     commit(code, state, noted, replies);
     let next = state.control.clock + 1;
-    tick_to(of, state, next, room);
-    go_on(alloc, of, state, room)?;
+    tick_to(of, state, next);
+    go_on(alloc, of, state)?;
     Ok(())
 }

@@ -5,8 +5,7 @@ ghost use Rattle.flow_design.specs.Module.{is_loop};
 ghost use Rattle.lockstep_defs.specs.Machine.{opened, entered};
 ghost use Rattle.lockstep_defs.specs.States.{IsStateOf};
 
-use crate::room::MoveRoom;
-use flow_design::{BlockKind, Control, Memory, Module, ModuleState};
+use flow_design::{BlockKind, Control, LiveTemps, Memory, Module, ModuleState};
 use flow_word::{List, OutOfMemory, Words};
 use std::alloc::Global;
 
@@ -36,11 +35,11 @@ fn first_state(alloc: Global, of: &Module) -> Result<ModuleState, OutOfMemory>
         },
         registers: Words::zeros(alloc, of.registers.len())?,
         memories: zero_memories(alloc, of.memories.as_slice())?,
-        temps: List::new(alloc),
+        temps: LiveTemps::new(alloc),
         count: 0,
         ended: false,
     };
-    enter(alloc, of, 0, &mut state, &mut MoveRoom::new(alloc))?;
+    enter(alloc, of, 0, &mut state)?;
     Ok(state)
 }
 
@@ -57,12 +56,12 @@ fn zero_memories(alloc: Global, memories: &[Memory]) -> Result<List<Words>, OutO
 
 /// The module enters a block, whose first iteration starts. After want of memory the state is as it was.
 #[tactic(auto, unfolding(lockstep_defs::specs::Machine::entered))]
+#[inline(never)]
 pub(crate) fn enter(
     alloc: Global,
     of: &Module,
     number: u32,
     state: &mut ModuleState,
-    room: &mut MoveRoom,
 ) -> Result<(), OutOfMemory>
     requires there { number < length of.now.blocks }
     requires few { state.old.count < 2 ^ 61 }
@@ -72,8 +71,8 @@ pub(crate) fn enter(
     ensures unchanged { OnErr result (state.new ≡ state.old) }
 {
     let block = &of.blocks.as_slice()[number as usize];
-    state.temps.push(room.new_temps(alloc, block.temps.len())?)?;
-    room.keep_newest(&mut state.temps, 1);
+    state.temps.start(alloc, block.temps.len())?;
+    state.temps.keep_newest(1);
     state.control = Control {
         block: number,
         clock: 0,

@@ -18,6 +18,7 @@ pub(crate) fn block_of<'a>(of: &'a Module, state: &ModuleState) -> &'a Block
 
 /// How many iterations are live.
 #[tactic(auto, using(crate::proofs::Begins::live_count_is, crate::proofs::Begins::few_live))]
+#[inline(always)]
 pub(crate) fn live_count(block: &Block, control: &Control) -> u64
     requires some { 1 ≤ interval block.now }
     requires span { block.now.len ≤ LIVE_ITERATIONS * interval block.now }

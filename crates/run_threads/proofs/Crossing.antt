@@ -27,7 +27,6 @@ use Rattle.flow_design.specs.contracts.design.Design as design
 use Rattle.flow_design.specs.contracts.plan.Plan as plan
 use Rattle.block_code.proofs.code.BlockCode.TheSendSync as code
 use Rattle.block_code.proofs.noted.Noted.TheSendSync as noted
-use Rattle.module_move.proofs.room.MoveRoom.TheSendSync as room
 use Rattle.module_interp.proofs.path.Stage.TheSendSync as stage
 use Rattle.module_interp.proofs.tally.Tally.TheSendSync as tally
 use Rattle.module_interp.specs.contracts.path.Path as path
@@ -108,7 +107,7 @@ path_field =
                     plain_send _ _ _ _ _,
                     (
                       list.the_send _ noted.the_send,
-                      (list.the_send _ request.the_send, (words_send, ((search (room.the_field_send, sendable) depth 20 fits 5000), tt))),
+                      (list.the_send _ request.the_send, (words_send, tt)),
                     ),
                   ),
                 ),

@@ -2,7 +2,7 @@ use Rattle.std.proofs.Common.{◌≡◌, ◌∙◌}
 use Rattle.flow_design.specs.Module.{block_of}
 use Rattle.lockstep_defs.specs.Machine.{decided}
 use Rattle.lockstep_defs.proofs.Blocks.{block_sound, some_interval}
-use Rattle.module_move.proofs.Failing.{on_err}
+use Rattle.flow_design.proofs.Failing.{on_err}
 use Rattle.module_move.proofs.Moving.{gone_on_again}
 use Rattle.module_move.proofs.control.go_on.Goals as goal
 

@@ -25,10 +25,10 @@ returns-clause-kept c =
     let x = c.args.self.now in
     let n = c.args.clock - x.state.control.clock - 1 in
     let far : c.args.clock ≡ x.state.control.clock + suc n = let l = c.requires.later in omega arith in
-    let j = jumps x c.args.clock n c.tick_to.new.room c.requires.path c.requires.begun c.requires.alive c.requires.next far in
+    let j = jumps x c.args.clock n c.requires.path c.requires.begun c.requires.alive c.requires.next far in
     passes_keep x _ n
     (subst (λ (t : ModuleState). Passes x
-    (record x { since = x.since + (c.args.clock - x.state.control.clock); state = t; stage = Ticked; room = c.tick_to.new.room }) n)
+    (record x { since = x.since + (c.args.clock - x.state.control.clock); state = t; stage = Ticked }) n)
     (sym c.tick_to.ensures.ticked) j)
 
 pub returns-clause-nearer : goal.returns-clause-nearer
@@ -36,8 +36,8 @@ returns-clause-nearer c =
     let x = c.args.self.now in
     let n = c.args.clock - x.state.control.clock - 1 in
     let far : c.args.clock ≡ x.state.control.clock + suc n = let l = c.requires.later in omega arith in
-    let j = jumps x c.args.clock n c.tick_to.new.room c.requires.path c.requires.begun c.requires.alive c.requires.next far in
+    let j = jumps x c.args.clock n c.requires.path c.requires.begun c.requires.alive c.requires.next far in
     passes_nearer x _ n c.requires.path
     (subst (λ (t : ModuleState). Passes x
-    (record x { since = x.since + (c.args.clock - x.state.control.clock); state = t; stage = Ticked; room = c.tick_to.new.room }) n)
+    (record x { since = x.since + (c.args.clock - x.state.control.clock); state = t; stage = Ticked }) n)
     (sym c.tick_to.ensures.ticked) j)

@@ -11,7 +11,7 @@ commit_due-requires-clause-answer c =
     let h = has_begun c.args.self.now c.requires.path c.requires.begun c.requires.alive in
     record { state = h.sound; noted = c.requires.noted; clock = h.clock; count = h.count }
 
-passed : (x y : Path) → y ≡ record x { state = y.state; stage = Ticked; room = y.room }
+passed : (x y : Path) → y ≡ record x { state = y.state; stage = Ticked }
     → x.stage ≡ Begun → is_over x.limit x.state ≡ false → requests x.channels x.of x.state ≡ []
     → gone_on y.of y.state ≡ move x.of x.state [] → y.state.control.block ≡ x.state.control.block
     → y.state.control.newest ≤ y.state.control.clock

@@ -9,7 +9,8 @@ use Rattle.flow_design.specs.Rings.{window, slot}
 
 -- a place is before the end of the rows, or goes around it
 slot_cases : (len first after : ℕ) → first ≤ len
-    → ((after < len - first) × (slot len first after ≡ first + after)) ⊎ ((len - first ≤ after) × (slot len first after ≡ after - (len - first)))
+    → ((after < len - first) × (slot len first after ≡ first + after))
+    ⊎ ((len - first ≤ after) × (slot len first after ≡ after - (len - first)))
 slot_cases len first after within = elim (cases_lt after (len - first)) [
   | inl low ↦ inl (low, rw (lt-ltb after (len - first) low) refl)
   | inr high ↦ inr (high, rw (le-ltb after (len - first) high) refl)

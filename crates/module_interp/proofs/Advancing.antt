@@ -1,5 +1,5 @@
 -- A run at its rest.
-use Rattle.std.proofs.Common.{◌≡◌, ◌≢◌, ℕ, ◌^◌, ◌<◌, ◌⊎◌, inl, inr, false, List, map, length, sym, ap, subst, arith}
+use Rattle.std.proofs.Common.{◌≡◌, ◌≢◌, ℕ, ◌^◌, ◌<◌, ◌⊎◌, inl, inr, false, List, map, length, sym, ap, subst, arith, ◌∙◌}
 use Rattle.std.specs.Prelude.{All}
 use Rattle.std.proofs.lemmas.Bool.{both_ways}
 use Rattle.flow_word.specs.declared.access.Access.{Access}
@@ -17,6 +17,7 @@ use Rattle.module_interp.specs.Paths.{LeadsTo, KeepsRest, IsAtStep, IsAtEnd}
 use Rattle.module_interp.specs.Runs.{StandsAt}
 use Rattle.module_interp.proofs.Ways.{has_begun}
 use Rattle.module_interp.proofs.Standing.{IsAtRest, step_rest, end_rest, accesses_are, asked_leads}
+use Rattle.module_interp.proofs.Unnamed.{asks_same}
 
 -- the way to the rest went on
 pub stands_on : (p : Plan) (i : ℕ) (o : Own) (r : ModuleRun) (y : Path) (accesses : List Access) → KeepsRest r.path y → y.stage ≢ Asked
@@ -53,7 +54,7 @@ can_list p i o r y keeps s h =
     let count : o.state.count ≡ y.state.count = ap (λ z. z.count) rest.state in
     let small = began.count in
     let few = s.few in
-    let asked : y.asked ≡ requests_of p (i, y.state) = rw (← b.channels, ← b.of) h.asked in
+    let asked : y.asked ≡ requests_of p (i, y.state) = h.asked ∙ asks_same p i y b in
     record {
       few = omega arith;
       all = subst (All (λ (r : Request). r.channel < length p.design.channels)) (sym asked)

@@ -36,6 +36,7 @@ use Rattle.module_interp.proofs.Keeping.{at_stage, sound_at, begun_alive}
 use Rattle.module_interp.proofs.Standing.{IsAtRest, at_rest, some_asked}
 use Rattle.module_interp.proofs.Tallies.{length-paired}
 use Rattle.module_interp.proofs.Timing.{module_sound, step_in_time}
+use Rattle.module_interp.proofs.Unnamed.{asks_same}
 
 pub asked_stage : (g : Stage) → is_asked g ≡ true → g ≡ Asked
 asked_stage Begun h = cc
@@ -64,7 +65,7 @@ waits_at p i o x l asked =
     let b = l.path in
     let can : CanAsk x = sound_at x Asked asked b.stage in
     let here : after_move x ≡ x.state = at_stage x Asked asked in
-    let same : x.asked ≡ requests_of p (i, x.state) = rw (← b.channels, ← b.of) can.asked in
+    let same : x.asked ≡ requests_of p (i, x.state) = can.asked ∙ asks_same p i x b in
     let life = begun_alive x.limit x.state can.alive in
     record {
       can = can;

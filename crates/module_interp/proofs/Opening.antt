@@ -1,5 +1,5 @@
 -- A run begins on the way to its first rest.
-use Rattle.std.proofs.Common.{◌≡◌, ℕ, ◌+◌, ◌^◌, ◌<◌, List, length, get_or, refl, sym, ap, subst, arith, ◌∙◌}
+use Rattle.std.proofs.Common.{◌≡◌, ℕ, ◌+◌, ◌^◌, ◌<◌, List, map, length, get_or, refl, sym, ap, subst, arith, ◌∙◌}
 use Rattle.std.specs.Prelude.{All}
 use Rattle.std.proofs.lemmas.List.{get_or_default}
 use Rattle.flow_design.specs.declared.design.Module.{Module}
@@ -19,11 +19,12 @@ use Rattle.module_interp.specs.declared.path.Stage.{Stage}
 use Rattle.module_interp.specs.declared.path.Stage.TheVariants.{Begun}
 use Rattle.module_interp.specs.declared.path.Path.{Path}
 use Rattle.module_interp.specs.OwnRests.{first_rest}
-use Rattle.module_interp.specs.Paths.{after_move, IsStageSoundBy, LeadsTo}
+use Rattle.module_interp.specs.Paths.{after_move, IsStageSoundBy, LeadsTo, unnamed}
 use Rattle.module_interp.proofs.Keeping.{at_stage}
 use Rattle.module_interp.proofs.Timing.{module_sound, opened_in_time}
 
-pub opened_leads : (p : Plan) → FitsEngine p → (i : ℕ) → i < length p.design.modules → (x : Path) → x.channels ≡ p.design.channels
+pub opened_leads : (p : Plan) → FitsEngine p → (i : ℕ) → i < length p.design.modules → (x : Path)
+    → x.channels ≡ map unnamed p.design.channels
     → x.of ≡ module_at p i
     → x.limit ≡ p.ops → AreCodesOf x.channels x.of x.codes
     → x.state ≡ opened x.of → x.stage ≡ Begun → x.since ≡ 0 → LeadsTo p i (first_rest p i) x

@@ -20,6 +20,7 @@ use Rattle.module_interp.specs.Paths.{after_move, LeadsTo, IsAtStep, IsAtEnd}
 use Rattle.module_interp.proofs.Keeping.{leads_still, at_stage, begun_alive}
 use Rattle.module_interp.proofs.Rests.{none_at_rest}
 use Rattle.module_interp.proofs.Ways.{has_begun}
+use Rattle.module_interp.proofs.Unnamed.{asks_same}
 
 -- ---- at a rest
 
@@ -47,7 +48,7 @@ some_asked (r ∷ rs) h = refl
 pub step_rest : (p : Plan) (i : ℕ) (o : Own) (x : Path) → LeadsTo p i o x → IsAtStep x → IsAtRest p i o x
 step_rest p i o x l h =
     let b = l.path in
-    let asked : requests_of p (i, x.state) ≡ x.asked = rw (← b.channels, ← b.of) (sym h.asked) in
+    let asked : requests_of p (i, x.state) ≡ x.asked = sym (h.asked ∙ asks_same p i x b) in
     at_rest p i o x l (at_stage x Begun h.begun)
     (or_right (is_over p.ops x.state) _ (ap is_some_request asked ∙ some_asked x.asked h.some))
 
@@ -101,7 +102,7 @@ pub accesses_are : (p : Plan) (i : ℕ) (o : Own) (x : Path) (accesses : List Ac
     → accesses ≡ map (access_of (done_in o.steps)) x.asked → accesses ≡ accesses_at p i o
 accesses_are p i o x accesses l h asked are =
     let b = l.path in
-    let same : x.asked ≡ requests_of p (i, o.state) = rw (h.state, ← b.channels, ← b.of) asked in
+    let same : x.asked ≡ requests_of p (i, o.state) = rw h.state (asked ∙ asks_same p i x b) in
     are ∙ ap (map (access_of (done_in o.steps))) same
 
 pub asked_leads : (p : Plan) (i : ℕ) (o : Own) (x : Path) → LeadsTo p i o x → IsAtStep x → LeadsTo p i o (record x { stage = Asked })

@@ -25,6 +25,7 @@ use Rattle.module_interp.specs.Paths.{clocks_to_end}
 use Rattle.module_interp.proofs.Idle.{IsIdle, skip_ticks, skip_on, never_rests}
 use Rattle.module_interp.proofs.Timing.{GoesOn, skip_goes_on, lives}
 use Rattle.module_interp.proofs.Keeping.{IsFixed, leads_on, leads_still, at_stage, end_nearer, asks_nothing, begun_alive}
+use Rattle.module_interp.proofs.Unnamed.{asks_same}
 
 -- ---- a local clock that has begun
 
@@ -116,7 +117,7 @@ one_passes x y f begun ticked later alive none moved block started = record {
   has_started = started;
   never_rests = λ p i b j less.
       let zero_ : 0 ≡ j = omega arith in
-      let asks : requests_of p (i, x.state) ≡ [] = rw (← b.channels, ← b.of) none in
+      let asks : requests_of p (i, x.state) ≡ [] = sym (asks_same p i x b) ∙ none in
       subst (λ (k : ℕ). rests p i (skip p i k x.state) ≡ false) zero_ (asks_nothing p i x.state (rw (← b.limit) alive) asks);
   moved = λ p i b. moved ∙ ap (λ (m : Module). move m x.state []) b.of;
 }

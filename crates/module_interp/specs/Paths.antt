@@ -1,7 +1,8 @@
 -- How the program's run stands in a module's own run.
-use Rattle.std.specs.Prelude.{ℕ, ◌≡◌, ◌+◌, ◌-◌, ◌*◌, ◌^◌, ◌<◌, ◌≤◌, if◌then◌else◌, true, false, List, length, slice_index}
+use Rattle.std.specs.Prelude.{ℕ, ◌≡◌, ◌+◌, ◌-◌, ◌*◌, ◌^◌, ◌<◌, ◌≤◌, if◌then◌else◌, true, false, List, [], map, length, slice_index}
 use Rattle.flow_word.specs.declared.access.Side.TheVariants.{Pop, Push}
 use Rattle.flow_design.specs.declared.limits.TheConstants.{BLOCK_CLOCKS, COUNTED_OPERATIONS}
+use Rattle.flow_design.specs.declared.design.Channel.{Channel}
 use Rattle.flow_design.specs.declared.design.Module.{Module}
 use Rattle.flow_design.specs.declared.plan.Plan.{Plan}
 use Rattle.flow_design.specs.declared.state.ModuleState.{ModuleState}
@@ -75,11 +76,15 @@ IsStageSoundBy Begun x = Unit {0}
 IsStageSoundBy Asked x = CanAsk x
 IsStageSoundBy Ticked x = CanGoOn x
 
+-- a channel without its name
+abbrev pub unnamed : Channel → Channel
+unnamed c = record { name = []; width = c.width; kind = c.kind }
+
 -- the path is that of module i of a plan
 pub record IsPathOf (p : Plan) (i : ℕ) (x : Path) : Type 0 where
   pub fits : FitsEngine p
   pub owner : i < length p.design.modules
-  pub channels : x.channels ≡ p.design.channels
+  pub channels : x.channels ≡ map unnamed p.design.channels
   pub of : x.of ≡ module_at p i
   pub limit : x.limit ≡ p.ops
   pub codes : AreCodesOf x.channels x.of x.codes

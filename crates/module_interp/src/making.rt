@@ -1,13 +1,13 @@
 //! How a run begins.
-ghost use Rattle.std.specs.Prelude.{◌≡◌, ◌<◌, length, IfOk};
+ghost use Rattle.std.specs.Prelude.{◌≡◌, ◌<◌, length, map, IfOk};
 ghost use Rattle.flow_design.specs.StaticRules.{FitsEngine};
 ghost use Rattle.module_interp.specs.declared.path.Stage.TheVariants.{Begun};
 ghost use Rattle.module_interp.specs.OwnRests.{first_rest};
-ghost use Rattle.module_interp.specs.Paths.{LeadsTo};
+ghost use Rattle.module_interp.specs.Paths.{LeadsTo, unnamed};
 
 use crate::path::{Path, Stage};
 use block_code::codes_of;
-use flow_design::Plan;
+use flow_design::{Channel, Name, Plan};
 use flow_word::{List, OutOfMemory, TryCopy};
 use module_move::open;
 use std::alloc::Global;
@@ -21,7 +21,7 @@ pub fn first_path(alloc: Global, plan: &Plan, number: u32) -> Result<Path, OutOf
 {
     let of = plan.design.modules.as_slice()[number as usize].try_copy(alloc)?;
     let state = open(alloc, &of)?;
-    let channels = plan.design.channels.try_copy(alloc)?;
+    let channels = unnamed(alloc, plan.design.channels.as_slice())?;
     let codes = codes_of(alloc, channels.as_slice(), &of)?;
     Ok(Path {
         alloc,
@@ -36,4 +36,19 @@ pub fn first_path(alloc: Global, plan: &Plan, number: u32) -> Result<Path, OutOf
         asked: List::new(alloc),
         scratch: List::new(alloc),
     })
+}
+
+/// Channels without their names: a run asks for widths alone.
+fn unnamed(alloc: Global, channels: &[Channel]) -> Result<List<Channel>, OutOfMemory>
+    ensures { IfOk result (λ copies. copies ≡ map unnamed channels.now) }
+{
+    let mut copies = List::with_room(alloc, channels.len() as u64)?;
+    for channel in channels {
+        copies.push(Channel {
+            name: Name::new(alloc, &[])?,
+            width: channel.width,
+            kind: channel.kind,
+        })?;
+    }
+    Ok(copies)
 }

@@ -19,6 +19,7 @@ pub enum Stage {
 #[derive(Drop)]
 pub struct Path {
     pub alloc: Global,
+    /// The channels of the plan, without their names.
     pub channels: List<Channel>,
     pub of: Module,
     /// The operation limit.

@@ -1,4 +1,5 @@
 use Rattle.std.proofs.Common.{◌≡◌, ◌∙◌, arith, List, get_or}
+use Rattle.std.proofs.lemmas.List.{length-map}
 use Rattle.block_code.specs.declared.code.BlockCode.{BlockCode}
 use Rattle.block_code.specs.declared.noted.Noted.{Noted}
 use Rattle.module_move.specs.Sound.{CanCommit}
@@ -12,7 +13,7 @@ use Rattle.module_interp.proofs.path.Path.commit_due.Goals as goal
 can_commit : (x : Path) → IsPath x → CanAnswer x → (xs : List BlockCode) (d : BlockCode) → xs ≡ x.codes
     → d ≡ get_or xs x.state.control.block d → (noted : List Noted) → noted ≡ x.noted → CanCommit x.channels x.of x.state d noted
 can_commit x path can xs d same read noted is = record {
-  of = rw (path.is.channels, path.is.of) (module_sound path.plan path.is.fits path.number path.is.owner);
+  of = rw (path.is.channels, length-map, path.is.of) (module_sound path.plan path.is.fits path.number path.is.owner);
   state = can.state;
   code_is = code_read x path xs d same read can.state.state.block;
   noted_are = is ∙ can.noted;

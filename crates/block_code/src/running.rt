@@ -26,15 +26,17 @@ pub struct Prepared {
     pub request: Option<Request>,
 }
 
-/// What the state from before the clock gives an action of a live iteration. It takes no memory: results of long expressions
-/// go to `scratch`.
+/// What the state from before the clock gives an action of a live iteration, which has these temps. It takes no memory: results
+/// of long expressions go to `scratch`.
 #[inline(always)]
 pub fn prepare(
     action: &Action,
     state: &ModuleState,
     iteration: u32,
+    temps: &[u64],
     scratch: &mut [u64],
 ) -> Prepared
+    requires temps { temps.now ≡ temps_of state.now iteration }
     requires ready { IsActionReady state.now iteration action.now }
     requires room { action_room action.now ≤ length scratch.old }
     ensures value { result.value ≡ action_value state.now iteration action.now }
@@ -43,24 +45,24 @@ pub fn prepare(
     ensures room { length scratch.new ≡ length scratch.old }
 {
     match action {
-        Action::Set(_, value) => writes(held(value, state, iteration, scratch), 0),
+        Action::Set(_, value) => writes(held(value, state, iteration, temps, scratch), 0),
         Action::Load(_, memory, address) => {
-            let address = held(address, state, iteration, scratch);
+            let address = held(address, state, iteration, temps, scratch);
             writes(word_at(state, *memory, address), 0)
         }
         Action::Store(memory, _, address, value) => {
-            let address = held(address, state, iteration, scratch);
+            let address = held(address, state, iteration, temps, scratch);
             let address = address_in(state, *memory, address);
-            writes(held(value, state, iteration, scratch), address)
+            writes(held(value, state, iteration, temps, scratch), address)
         }
         Action::Read(channel, _) => asks(Kind::Read, *channel, 0),
         Action::Write(channel, mask, value) => {
-            let value = held(value, state, iteration, scratch);
+            let value = held(value, state, iteration, temps, scratch);
             asks(Kind::Write, *channel, value & *mask)
         }
         Action::TryRead(channel, _, _) => asks(Kind::TryRead, *channel, 0),
         Action::TryWrite(channel, mask, _, value) => {
-            let value = held(value, state, iteration, scratch);
+            let value = held(value, state, iteration, temps, scratch);
             asks(Kind::TryWrite, *channel, value & *mask)
         }
         Action::Empty(channel, _) => asks(Kind::Empty, *channel, 0),
@@ -100,20 +102,22 @@ fn asks(kind: Kind, channel: u32, value: u64) -> Prepared
     }
 }
 
-/// The value of an operand in a live iteration.
+/// The value of an operand in a live iteration, which has these temps.
 #[inline(always)]
-fn held(operand: &Operand, state: &ModuleState, iteration: u32, scratch: &mut [u64]) -> u64
+fn held(
+    operand: &Operand,
+    state: &ModuleState,
+    iteration: u32,
+    temps: &[u64],
+    scratch: &mut [u64],
+) -> u64
+    requires temps { temps.now ≡ temps_of state.now iteration }
     requires sound { IsOperandSound (places_in state.now iteration) operand.now }
     requires room { room_of operand.now ≤ length scratch.old }
     ensures value { result ≡ held state.now iteration operand.now }
     ensures room { length scratch.new ≡ length scratch.old }
 {
-    evaluate(
-        operand,
-        state.registers.as_slice(),
-        temps_of(state, iteration),
-        scratch,
-    )
+    evaluate(operand, state.registers.as_slice(), temps, scratch)
 }
 
 /// The temps of a live iteration, or none.

@@ -2,7 +2,7 @@
 ghost use Rattle.std.specs.Prelude.{◌≡◌, ℕ, ◌+◌, ◌*◌, ◌<◌, ◌≤◌, ◌^◌, ◌++◌, ◌∷◌, [], if◌then◌else◌, length, map, filter_map, All, OnOk};
 ghost use Rattle.flow_design.specs.declared.limits.TheConstants.{LIVE_ITERATIONS, OPERATIONS};
 ghost use Rattle.flow_design.specs.StaticRules.{IsModuleSound};
-ghost use Rattle.flow_design.specs.Module.{block_of, operation_at, passes};
+ghost use Rattle.flow_design.specs.Module.{block_of, operation_at, passes, temps_of};
 ghost use Rattle.lockstep_defs.specs.Machine.{request_for, requests};
 ghost use Rattle.block_code.specs.Codes.{IsBlockCodeOf};
 ghost use Rattle.block_code.specs.Notes.{noted_for};
@@ -124,7 +124,7 @@ fn note_iteration(
         };
         let passes = passes(block, state.registers.as_slice(), temps, *number);
         note_if(
-            passes, channels, of, code, state, due, scratch, noted, asked,
+            passes, channels, of, code, state, due, temps, scratch, noted, asked,
         )?;
     }
     Ok(())
@@ -143,7 +143,7 @@ fn passes(block: &Block, registers: &[u64], temps: &[u64], number: u32) -> bool
     }
 }
 
-/// Adds what is noted of an operation where it is due, and its request if it is a FIFO operation.
+/// Adds what is noted of an operation of an iteration with these temps where it is due, and its request if it is a FIFO operation.
 #[inline(always)]
 fn note_if(
     passes: bool,
@@ -152,6 +152,7 @@ fn note_if(
     code: &BlockCode,
     state: &ModuleState,
     due: Due,
+    temps: &[u64],
     scratch: &mut Words,
     noted: &mut List<Noted>,
     asked: &mut List<Request>,
@@ -160,6 +161,7 @@ fn note_if(
     requires sound { IsStateSound of.now state.now }
     requires code { IsBlockCodeOf channels.now of.now (block_of of.now state.now) code.now }
     requires due { IsDueSound of.now state.now due }
+    requires temps { temps.now ≡ temps_of state.now due.iteration }
     requires room { code.now.room ≤ length scratch.old }
     ensures noted { OnOk result (noted.new
         ≡ noted.old ++ map (noted_for (block_of of.now state.now) state.now) (if passes then due ∷ [] else [])) }
@@ -169,7 +171,7 @@ fn note_if(
 {
     if passes {
         let action = &code.actions.as_slice()[due.op as usize];
-        let prepared = prepare(action, state, due.iteration, scratch.as_mut_slice());
+        let prepared = prepare(action, state, due.iteration, temps, scratch.as_mut_slice());
         noted.push(Noted {
             op: due.op,
             iteration: due.iteration,

@@ -1,7 +1,8 @@
 -- What the due operations write, one operation after another.
-use Rattle.std.proofs.Common.{◌≡◌, refl, sym, ◌∙◌, ap, subst, arith, ℕ, zero, suc, add-one, ◌+◌, ◌<◌, ◌≤◌, Bool, cond, List, [], ◌∷◌}
+use Rattle.std.proofs.Common.{◌≡◌, refl, sym, ◌∙◌, ap, subst, arith, ℕ, zero, suc, add-one, ◌+◌, ◌<◌, ◌≤◌, Bool, false, cond, List, [], ◌∷◌}
 use Rattle.std.proofs.Common.{◌++◌, length, drop}
 use Rattle.std.proofs.Common.{get_or}
+use Rattle.std.proofs.lemmas.Bool.{true≢false}
 use Rattle.std.proofs.lemmas.Grind.{common_steps}
 use Rattle.std.proofs.lemmas.List.{drop_more, get_or-drop}
 use Rattle.std.proofs.lemmas.List.Sums.{fold-append}
@@ -16,6 +17,7 @@ use Rattle.flow_design.specs.declared.state.Reply.TheVariants.{Done}
 use Rattle.flow_design.specs.Module.{operation_at}
 use Rattle.lockstep_defs.specs.Machine.{stored, is_fifo_operation}
 use Rattle.block_code.specs.declared.action.Action.{Action}
+use Rattle.block_code.specs.declared.action.Action.TheVariants.{Set, Load, Store, Read, Write, TryRead, TryWrite, Empty, Full}
 use Rattle.block_code.specs.declared.code.BlockCode.{BlockCode}
 use Rattle.block_code.specs.declared.noted.Noted.{Noted}
 use Rattle.block_code.specs.Actions.{IsActionOf, carried_out, takes_reply}
@@ -34,6 +36,18 @@ pub none_there : (replies : List Reply) (n : ℕ) → length replies ≤ n → d
 none_there replies n over =
     let empty : drop n replies ≡ [] = grind (arith, common_steps) in
     rw empty refl
+
+-- an action that takes no reply does the same on each
+pub no_reply : (c : Action) (s : ModuleState) (n : Noted) (r q : Reply) → takes_reply c ≡ false → carried_out s n r c ≡ carried_out s n q c
+no_reply (Set t o) s n r q none = refl
+no_reply (Load t m o) s n r q none = refl
+no_reply (Store m mask o a) s n r q none = refl
+no_reply (Read f t) s n r q none = absurd (true≢false none)
+no_reply (Write f mask o) s n r q none = refl
+no_reply (TryRead f t ok) s n r q none = absurd (true≢false none)
+no_reply (TryWrite f mask ok o) s n r q none = absurd (true≢false none)
+no_reply (Empty f t) s n r q none = absurd (true≢false none)
+no_reply (Full f t) s n r q none = absurd (true≢false none)
 
 -- one operation more was written
 pub writing_more : (channels : List Channel) (m : Module) (b : Block) (code : BlockCode) (noted : List Noted) (replies : List Reply)

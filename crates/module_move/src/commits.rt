@@ -4,7 +4,7 @@ ghost use Rattle.flow_design.specs.declared.design.Block.{Block as BlockOf};
 ghost use Rattle.flow_design.specs.declared.design.Channel.{Channel as ChannelOf};
 ghost use Rattle.flow_design.specs.declared.design.Module.{Module as ModuleOf};
 ghost use Rattle.lockstep_defs.specs.Machine.{stored};
-ghost use Rattle.block_code.specs.Actions.{takes_reply};
+ghost use Rattle.block_code.specs.Actions.{carried_out, takes_reply};
 ghost use Rattle.block_code.specs.Codes.{IsBlockCodeOf};
 ghost use Rattle.block_code.specs.Notes.{effects_by};
 
@@ -27,9 +27,30 @@ pub(crate) fn commit_all(
     let mut answered = 0usize;
     for due in noted {
         let action = &code.actions.as_slice()[due.op as usize];
-        carry_out(action, due, reply_at(replies, answered), state);
-        answered = answered_after(action, replies, answered);
+        answered = carry_out_next(action, due, replies, answered, state);
     }
+}
+
+/// Carries out an action by what was noted of it, and on the next reply if it takes one. How many replies were taken then.
+#[tactic(auto, using(crate::proofs::Writing::no_reply))]
+#[inline(always)]
+fn carry_out_next(
+    action: &Action,
+    noted: &Noted,
+    replies: &[Reply],
+    answered: usize,
+    state: &mut ModuleState,
+) -> usize
+    ensures state { state.new ≡ carried_out state.old noted.now (slice_index_or replies.now answered Reply.Done) action.now }
+    ensures answered { drop result replies.now
+        ≡ (if takes_reply action.now then drop 1 (drop answered replies.now) else drop answered replies.now) }
+{
+    if !action.takes_reply() {
+        carry_out(action, noted, Reply::Done, state);
+        return answered;
+    }
+    carry_out(action, noted, reply_at(replies, answered), state);
+    answered_after(replies, answered)
 }
 
 /// The reply of this number, or that of a write where there are not so many.
@@ -43,14 +64,13 @@ fn reply_at(replies: &[Reply], at: usize) -> Reply
     }
 }
 
-/// How many replies were taken, once an action has taken its own.
+/// How many replies were taken, once one more was, if it was there.
 #[tactic(auto, using(crate::proofs::Writing::one_taken, crate::proofs::Writing::none_there))]
 #[inline(always)]
-fn answered_after(action: &Action, replies: &[Reply], answered: usize) -> usize
-    ensures { drop result replies.now
-        ≡ (if takes_reply action.now then drop 1 (drop answered replies.now) else drop answered replies.now) }
+fn answered_after(replies: &[Reply], answered: usize) -> usize
+    ensures { drop result replies.now ≡ drop 1 (drop answered replies.now) }
 {
-    if action.takes_reply() && answered < replies.len() {
+    if answered < replies.len() {
         answered + 1
     } else {
         answered

@@ -82,7 +82,7 @@ fn decide(alloc: Global, block: &Block, state: &mut ModuleState) -> Result<(), O
 
 /// Where the block is over, its terminator leads on.
 #[tactic(auto, unfolding(lockstep_defs::specs::Machine::finished))]
-#[inline(never)]
+#[inline(always)]
 fn finish(
     alloc: Global,
     of: &Module,

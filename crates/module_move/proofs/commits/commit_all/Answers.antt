@@ -2,10 +2,8 @@ use Rattle.std.proofs.Common.{◌≡◌, refl, ap, subst, ◌∙◌, get_or, Lis
 use Rattle.std.proofs.lemmas.Grind.{common_steps}
 use Rattle.std.specs.Prelude.{fold}
 use Rattle.std.proofs.Common.{arith}
-use Rattle.flow_design.specs.declared.state.Reply.{Reply}
 use Rattle.lockstep_defs.specs.Machine.{stored}
 use Rattle.block_code.specs.declared.action.Action.{Action}
-use Rattle.block_code.specs.Actions.{carried_out}
 use Rattle.block_code.specs.declared.noted.Noted.{Noted}
 use Rattle.block_code.specs.Notes.{effects_by}
 use Rattle.module_move.proofs.Writing.{writing_more}
@@ -19,10 +17,10 @@ loop-due-preserved c channels m b is =
     let n : Noted = get_or c.args.noted.now c.loop-due.due-index none in
     let action = c.index-as_slice-due.result in
     writing_more channels m b c.args.code.now c.args.noted.now c.args.replies.now c.loop-due.due-index c.loop-due.answered
-    c.answered_after-answered.result n none action c.args.state.now c.loop-due.state c.carry_out.new.state is c.loop-due-test.true refl
+    c.carry_out_next-answered.result n none action c.args.state.now c.loop-due.state c.carry_out_next-answered.new.state is c.loop-due-test.true refl
     (c.requires.there c.loop-due.due-index none c.loop-due-test.true)
     (c.index-as_slice-due.is ∙ ap (λ (as' : List Action). get_or as' n.op action) c.as_slice.ensures)
-    (c.carry_out.ensures ∙ ap (λ (r : Reply). carried_out c.loop-due.state n r action) c.reply_at.ensures) c.answered_after-answered.ensures
+    c.carry_out_next-answered.ensures.state c.carry_out_next-answered.ensures.answered
     (c.loop-due.invariant channels m b is)
 
 pub returns : goal.returns

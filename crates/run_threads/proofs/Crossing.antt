@@ -44,7 +44,8 @@ use Rattle.turn_history.specs.contracts.entry.HubEntry as entry
 use Rattle.turn_history.specs.Entries.{bearer}
 use Rattle.turn_lock.proofs.pass.TurnLock.TheSendSync as lock
 use Rattle.turn_lock.proofs.pass.Pass.TheSendSync as pass
-use Rattle.sim_hub.specs.Ledgers.{entries_in}
+use Rattle.sim_hub.specs.Ledgers.{entries_under}
+use Rattle.sim_hub.specs.contracts.kept.Books as books
 use Rattle.sim_hub.specs.contracts.ledger.Ledger as ledger
 use Rattle.sim_hub.specs.contracts.hub.Hub as hub
 use Rattle.sim_hub.specs.contracts.pass.Place as place
@@ -181,10 +182,16 @@ ledger_field =
 ledger_send : IsSend ledger.the_row
 ledger_send = recorded_send (ledger.the_field).row _ _ (ledger.the_type).to_one ledger_field
 
+books_field : IsSend (books.the_field).row
+books_field = struct_send (shape books.the_type) ((search (ledger_send, crosses, sendable) depth 30 fits 5000), tt)
+
+books_send : IsSend books.the_row
+books_send = recorded_send (books.the_field).row _ _ (books.the_type).to_one books_field
+
 hub_field : IsSync (hub.the_field).row
 hub_field =
     struct_sync (shape hub.the_type)
-    (lock.the_field_sync ledger.the_row entry.the_row (record { history = entries_in; bearer = bearer }) ledger_send, tt)
+    (lock.the_field_sync books.the_row entry.the_row (record { history = entries_under; bearer = bearer }) books_send, tt)
 
 pub hub_sync : IsSync hub.the_row
 hub_sync = recorded_sync (hub.the_field).row _ _ (hub.the_type).to_one hub_field
@@ -192,7 +199,7 @@ hub_sync = recorded_sync (hub.the_field).row _ _ (hub.the_type).to_one hub_field
 place_field : IsSend (place.the_field).row
 place_field =
     struct_send (shape place.the_type) (
-      pass.the_field_send ledger.the_row entry.the_row (record { history = entries_in; bearer = bearer }) ledger_send,
+      pass.the_field_send books.the_row entry.the_row (record { history = entries_under; bearer = bearer }) books_send,
       (plain_send _ _ _ _ _, tt),
     )
 

@@ -190,7 +190,8 @@ module _ (tries : ℕ) (log more : List HubEntry) (v t w : View HubEntry) (b : B
   perf_answer (perf.Did n) false (is, adds) e = absurd (cc)
   perf_answer (perf.Idle n) true (is, same, count, idle) e = absurd (cc)
   perf_answer (perf.Idle n) false (is, same, count, idle) e =
-      let seen = sym (e.seen ∙ same) in (has_looked same e, count ∙ ap length seen, subst (λ (es : List HubEntry). Behind es IsIdle) seen idle)
+      let seen = sym (e.seen ∙ same) in
+      (has_looked same e, count ∙ ap length seen, subst (λ (es : List HubEntry). Behind es IsIdle) seen idle)
   perf_answer perf.Over true (is, same, over) e = absurd (cc)
   perf_answer perf.Over false (is, same, over) e =
       (has_looked same e, subst (λ (es : List HubEntry). Behind es IsFinished) (sym (e.seen ∙ same)) over)

@@ -2,8 +2,13 @@
 use Rattle.std.specs.Prelude.{List}
 use Rattle.turn_history.specs.declared.entry.HubEntry.{HubEntry}
 use Rattle.turn_history.specs.Entries.{history_of}
+use Rattle.sim_hub.specs.declared.kept.Books.{Books}
 use Rattle.sim_hub.specs.declared.ledger.Ledger.{Ledger}
 
 -- the plan at whose opening it began, and the turns since
 abbrev pub entries_in : Ledger → List HubEntry
 entries_in l = history_of l.core.plan l.turns.items
+
+-- the same of the ledger that lies under the lock
+abbrev pub entries_under : Books → List HubEntry
+entries_under b = entries_in b.ledger.value

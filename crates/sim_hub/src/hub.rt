@@ -1,5 +1,5 @@
 //! The hub.
-use crate::ledger::Ledger;
+use crate::kept::Books;
 use turn_lock::TurnLock;
 
 mod ends;
@@ -9,5 +9,5 @@ mod work;
 /// A core that passes change in turns. Its entries are one legal history, whose replay gives the core.
 #[derive(Drop)]
 pub struct Hub {
-    lock: TurnLock<Ledger>,
+    lock: TurnLock<Books>,
 }

@@ -1,19 +1,35 @@
 //! The ledger as a list of entries.
+ghost use Rattle.std.specs.Prelude.{◌≡◌, length};
 ghost use Rattle.turn_history.specs.Entries.{bearer};
-ghost use Rattle.sim_hub.specs.Ledgers.{entries_in};
+ghost use Rattle.sim_hub.specs.Ledgers.{entries_in, entries_under};
 
 use crate::ledger::Ledger;
 use turn_history::HubEntry;
 use turn_lock::Kept;
 
-impl Kept for Ledger {
+/// A ledger on the heap, so that a turn moves its address and not its core.
+#[derive(Drop)]
+pub struct Books {
+    pub(crate) ledger: Box<Ledger>,
+}
+
+impl Kept for Books {
     type Entry = HubEntry;
 
-    ghost history = { entries_in };
+    ghost history = { entries_under };
 
     ghost bearer = { bearer };
 
     fn count(&self) -> u64 {
+        self.ledger.count()
+    }
+}
+
+impl Ledger {
+    /// How many entries it has: one more than turns.
+    pub(crate) fn count(&self) -> u64
+        ensures { result ≡ length (entries_in self.now) }
+    {
         self.turns.len() as u64 + 1
     }
 }

@@ -17,6 +17,7 @@ ghost use Rattle.sim_hub.specs.Closings.{AreFrom, AreNew, AreOfHub, AllHome, Has
 
 use super::Hub;
 use crate::answer::{Closed, Threaded};
+use crate::kept::Books;
 use crate::ledger::Ledger;
 use crate::pass::{ModulePass, PerfPass, Place};
 use flow_word::OutOfMemory;
@@ -28,7 +29,7 @@ impl Hub {
     /// A hub of an opening core, of which no run is lent, with its performance pass and a pass for each module, in order. Its history
     /// has one entry.
     ///
-    /// An error leaves nothing, and the core is gone.
+    /// It takes memory for the core with its turns, the lock, and a pass for each module. An error leaves nothing, and the core is gone.
     pub fn new(alloc: Global, core: Core) -> Result<(Hub, PerfPass, Vec<ModulePass>), OutOfMemory>
         requires opening { theory_of core ≡ opening_core (design core.plan) }
         requires own { AreOwn core }
@@ -38,8 +39,9 @@ impl Hub {
         ensures modules { IfOk result (λ r. AreNew (hub_id r.0) core.plan r.2.items) }
     {
         let count = core.modules();
-        let ledger = Ledger::new(alloc, core)?;
-        let (lock, first) = TurnLock::new(alloc, ledger, count + 1)?;
+        let opening = Ledger::new(alloc, core)?;
+        let ledger = Box::new(alloc, opening)?;
+        let (lock, first) = TurnLock::new(alloc, Books { ledger }, count + 1)?;
         let (first, modules) = split_all(alloc, &lock, first, count)?;
         Ok((Hub { lock }, perf_pass(first, count), modules))
     }
@@ -66,17 +68,18 @@ impl Hub {
             } = place;
             pass = lock.join(pass, next);
         }
-        settle(lock.close(pass))
+        let Books { ledger } = lock.close(pass);
+        settle(Box::into_inner(ledger))
     }
 }
 
 /// The first pass makes a pass for each of so many modules, in order.
 fn split_all(
     alloc: Global,
-    lock: &TurnLock<Ledger>,
-    first: Pass<Ledger>,
+    lock: &TurnLock<Books>,
+    first: Pass<Books>,
     count: u32,
-) -> Result<(Pass<Ledger>, Vec<ModulePass>), OutOfMemory>
+) -> Result<(Pass<Books>, Vec<ModulePass>), OutOfMemory>
     requires own { pass_lock first ≡ lock_id lock.now }
     requires first { IsFirst 0 (view_of first).seen (view_of first) }
     requires room { count < (view_of first).passes }
@@ -98,7 +101,7 @@ fn split_all(
 }
 
 /// A module's pass, which was just made.
-fn module_pass(pass: Pass<Ledger>, which: u32) -> ModulePass
+fn module_pass(pass: Pass<Books>, which: u32) -> ModulePass
     requires room { which + 1 < 2 ^ 32 }
     requires number { (view_of pass).number ≡ which + 1 }
     requires own { (view_of pass).own ≡ entries_of bearer (which + 1) (view_of pass).seen }
@@ -113,7 +116,7 @@ fn module_pass(pass: Pass<Ledger>, which: u32) -> ModulePass
 }
 
 /// The performance pass, which has just made a pass for each of so many modules.
-fn perf_pass(pass: Pass<Ledger>, count: u32) -> PerfPass
+fn perf_pass(pass: Pass<Books>, count: u32) -> PerfPass
     requires first { IsFirst count (view_of pass).seen (view_of pass) }
     requires modules { HasModules count (view_of pass).seen }
     requires fresh { entries_of bearer 0 (view_of pass).seen ≡ [] }

@@ -4,34 +4,34 @@ ghost use Rattle.turn_lock.specs.Passes.{view_of, pass_lock, turn_view, turn_loc
 ghost use Rattle.turn_lock.specs.Turns.{BeginsTurn};
 ghost use Rattle.turn_history.specs.Entries.{bearer};
 ghost use Rattle.sim_hub.specs.Hubs.{hub_id};
-ghost use Rattle.sim_hub.specs.Ledgers.{entries_in};
+ghost use Rattle.sim_hub.specs.Ledgers.{entries_under};
 ghost use Rattle.sim_hub.specs.Steps.{MayAdd, IsEnd};
 
 use super::Hub;
-use crate::ledger::Ledger;
+use crate::kept::Books;
 use crate::pass::Place;
 use std::sync::Wait;
 use turn_lock::Turn;
 
 impl Hub {
     /// Takes the turn for a pass.
-    pub(super) fn begin<R: Wait>(&self, rt: &R, place: Place) -> Turn<Ledger>
+    pub(super) fn begin<R: Wait>(&self, rt: &R, place: Place) -> Turn<Books>
         requires own { pass_lock place.pass ≡ hub_id self.now }
         ensures lock { turn_lock_of result ≡ hub_id self.now }
-        ensures turn { (tries : ℕ) × BeginsTurn bearer tries (entries_in result.value) (view_of place.pass) (turn_view result) }
+        ensures turn { (tries : ℕ) × BeginsTurn bearer tries (entries_under result.value) (view_of place.pass) (turn_view result) }
     {
         let Place { pass, number: _ } = place;
         self.lock.take(rt, pass)
     }
 
     /// Ends a turn, in which the pass with this number added one of its own, or nothing.
-    pub(super) fn end(&self, turn: Turn<Ledger>, number: u32, added: bool) -> Place
+    pub(super) fn end(&self, turn: Turn<Books>, number: u32, added: bool) -> Place
         requires own { turn_lock_of turn ≡ hub_id self.now }
         requires number { (turn_view turn).number ≡ number }
-        requires adds { MayAdd number added (begun_at turn) (entries_in turn.value) }
+        requires adds { MayAdd number added (begun_at turn) (entries_under turn.value) }
         ensures lock { pass_lock result.pass ≡ hub_id self.now }
         ensures number { result.number ≡ number }
-        ensures end { IsEnd added (begun_at turn) (entries_in turn.value) (turn_view turn) (view_of result.pass) }
+        ensures end { IsEnd added (begun_at turn) (entries_under turn.value) (turn_view turn) (view_of result.pass) }
     {
         let pass = if added {
             self.lock.put(turn)

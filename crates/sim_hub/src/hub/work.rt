@@ -22,7 +22,7 @@ impl Hub {
         let ModulePass { place, which } = pass;
         let number = place.number;
         let mut turn = self.begin(rt, place);
-        let (desk, added) = turn.value_mut().lend(number, which);
+        let (desk, added) = turn.value_mut().ledger.lend(number, which);
         let place = self.end(turn, number, added);
         let pass = ModulePass { place, which };
         (pass, desk)
@@ -43,7 +43,7 @@ impl Hub {
         let ModulePass { place, which } = pass;
         let number = place.number;
         let mut turn = self.begin(rt, place);
-        let made = turn.value_mut().take_back(number, which, burst);
+        let made = turn.value_mut().ledger.take_back(number, which, burst);
         let place = self.end(turn, number, true);
         let pass = ModulePass { place, which };
         (pass, made)
@@ -59,7 +59,7 @@ impl Hub {
     {
         let PerfPass { place } = pass;
         let mut turn = self.begin(rt, place);
-        let (answer, added) = turn.value_mut().time();
+        let (answer, added) = turn.value_mut().ledger.time();
         let place = self.end(turn, 0, added);
         let pass = PerfPass { place };
         (pass, answer)

@@ -17,7 +17,6 @@ use flow_word::OutOfMemory;
 use sim_core::{Burst, Core};
 use std::alloc::Global;
 use turn_history::HubTurn;
-use turn_lock::Kept;
 
 impl Ledger {
     /// A ledger of an opening core, of which no run is lent. An error leaves nothing, and the core is gone.

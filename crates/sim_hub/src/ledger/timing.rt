@@ -19,7 +19,6 @@ use sim_core::Core;
 use std::marker::Brand;
 use std::sync::ledger::{Blank, Ledger as Ticks};
 use turn_history::HubTurn;
-use turn_lock::Kept;
 
 impl Ledger {
     /// Does each permitted Assign and Answer, round after round; or, where none was done, one Earliest, where it is permitted. Beside

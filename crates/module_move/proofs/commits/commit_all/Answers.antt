@@ -17,8 +17,8 @@ loop-due-preserved c channels m b is =
     let n : Noted = get_or c.args.noted.now c.loop-due.due-index none in
     let action = c.index-as_slice-due.result in
     writing_more channels m b c.args.code.now c.args.noted.now c.args.replies.now c.loop-due.due-index c.loop-due.answered
-    c.carry_out_next-answered.result n none action c.args.state.now c.loop-due.state c.carry_out_next-answered.new.state is c.loop-due-test.true refl
-    (c.requires.there c.loop-due.due-index none c.loop-due-test.true)
+    c.carry_out_next-answered.result n none action c.args.state.now c.loop-due.state c.carry_out_next-answered.new.state is
+    c.loop-due-test.true refl (c.requires.there c.loop-due.due-index none c.loop-due-test.true)
     (c.index-as_slice-due.is ∙ ap (λ (as' : List Action). get_or as' n.op action) c.as_slice.ensures)
     c.carry_out_next-answered.ensures.state c.carry_out_next-answered.ensures.answered
     (c.loop-due.invariant channels m b is)

@@ -10,6 +10,7 @@ use Rattle.sim_hub.specs.Places.{IsLater, IsLegal}
 use Rattle.sim_hub.specs.declared.answer.Desk.{Desk}
 use Rattle.sim_hub.specs.Hubs.{OutAt}
 use Rattle.sim_hub.specs.Steps.{ComesHome, LendingIs, MayAdd, IsEnd}
+use Rattle.sim_hub.proofs.Books.{of_borrowed, of_books}
 use Rattle.sim_hub.proofs.Keeping.{kept_legal}
 use Rattle.sim_hub.proofs.Answering.{lending_adds, is_later, desk_answer, end_seen, module_later}
 use Rattle.sim_hub.proofs.hub.Hub.borrow_desk.Goals as goal
@@ -20,14 +21,14 @@ lend-desk-requires-clause-pass g c = c.args.pass.is
 pub lend-desk-requires-clause-home : goal.lend-desk-requires-clause-home
 lend-desk-requires-clause-home g c =
     let p = c.args.pass in
-    let d : Ledger = c.begin-turn.result.value in
+    let d : Ledger = c.begin-turn.result.value.ledger.value in
     let home : ComesHome p.which (entries_in d) = record {
       before = view_of p.place.pass;
       number = p.place.numbered ∙ p.is;
       continues = c.begin-turn.ensures.turn.1.continues;
       within = p.within;
       home = c.requires.home;
-    } in subst (λ (x : Ledger). ComesHome p.which (entries_in x)) (sym c.value_mut.ensures.value) home
+    } in of_borrowed (ComesHome p.which) c.deref_mut.ensures.value c.value_mut.ensures.value home
 
 pub end-place-requires-clause-number : goal.end-place-requires-clause-number
 end-place-requires-clause-number g c = c.begin-turn.ensures.turn.1.same.number ∙ c.args.pass.place.numbered
@@ -35,11 +36,11 @@ end-place-requires-clause-number g c = c.begin-turn.ensures.turn.1.same.number �
 pub end-place-requires-clause-adds : goal.end-place-requires-clause-adds
 end-place-requires-clause-adds g c =
     let p = c.args.pass in
-    let d : Ledger = c.begin-turn.result.value in
+    let d : Ledger = c.begin-turn.result.value.ledger.value in
     let more = entries_in c.lend-desk.new.self in
     let answer = c.lend-desk.result.0 in
     let added = c.lend-desk.result.1 in
-    let lending = subst (λ (x : Ledger). LendingIs p.which (entries_in x) more answer added) c.value_mut.ensures.value
+    let lending = of_books (λ log. LendingIs p.which log more answer added) c.deref_mut.ensures.value c.value_mut.ensures.value
     c.lend-desk.ensures.lending in
     subst (λ (b : List HubEntry). MayAdd p.place.number added b more) (sym c.begin-turn.ensures.turn.1.history)
     (subst (λ (q : ℕ). MayAdd q added (entries_in d) more) (sym p.is) (lending_adds p.which (entries_in d) more answer added lending))
@@ -55,7 +56,7 @@ later m tries answer added log more begun v t w b same lending e =
 pub invariant_of-pass : goal.invariant_of-pass
 invariant_of-pass g c =
     let p = c.args.pass in
-    let d : Ledger = c.begin-turn.result.value in
+    let d : Ledger = c.begin-turn.result.value.ledger.value in
     let l : Ledger = c.lend-desk.new.self in
     let more = entries_in l in
     let answer = c.lend-desk.result.0 in
@@ -63,7 +64,7 @@ invariant_of-pass g c =
     let turn = c.begin-turn.ensures.turn in
     let t = turn_view c.begin-turn.result in
     let w = view_of c.end-place.result.pass in
-    let lending = subst (λ (x : Ledger). LendingIs p.which (entries_in x) more answer added) c.value_mut.ensures.value
+    let lending = of_books (λ log. LendingIs p.which log more answer added) c.deref_mut.ensures.value c.value_mut.ensures.value
     c.lend-desk.ensures.lending in
     let after = later p.which turn.0 answer added (entries_in d) more _ (view_of p.place.pass) t w turn.1 turn.1.history lending
     c.end-place.ensures.end in
@@ -78,12 +79,12 @@ invariant_of-pass g c =
 pub returns-clause-later : goal.returns-clause-later
 returns-clause-later g c =
     let p = c.args.pass in
-    let d : Ledger = c.begin-turn.result.value in
+    let d : Ledger = c.begin-turn.result.value.ledger.value in
     let more = entries_in c.lend-desk.new.self in
     let answer = c.lend-desk.result.0 in
     let added = c.lend-desk.result.1 in
     let turn = c.begin-turn.ensures.turn in
-    let lending = subst (λ (x : Ledger). LendingIs p.which (entries_in x) more answer added) c.value_mut.ensures.value
+    let lending = of_books (λ log. LendingIs p.which log more answer added) c.deref_mut.ensures.value c.value_mut.ensures.value
     c.lend-desk.ensures.lending in
     later p.which turn.0 answer added (entries_in d) more _ (view_of p.place.pass) (turn_view c.begin-turn.result)
     (view_of c.end-place.result.pass) turn.1 turn.1.history lending c.end-place.ensures.end
@@ -91,14 +92,14 @@ returns-clause-later g c =
 pub returns-clause-answer : goal.returns-clause-answer
 returns-clause-answer g c =
     let p = c.args.pass in
-    let d : Ledger = c.begin-turn.result.value in
+    let d : Ledger = c.begin-turn.result.value.ledger.value in
     let more = entries_in c.lend-desk.new.self in
     let answer = c.lend-desk.result.0 in
     let added = c.lend-desk.result.1 in
     let turn = c.begin-turn.ensures.turn in
     let t = turn_view c.begin-turn.result in
     let w = view_of c.end-place.result.pass in
-    let lending = subst (λ (x : Ledger). LendingIs p.which (entries_in x) more answer added) c.value_mut.ensures.value
+    let lending = of_books (λ log. LendingIs p.which log more answer added) c.deref_mut.ensures.value c.value_mut.ensures.value
     c.lend-desk.ensures.lending in
     desk_answer turn.0 (entries_in d) more (view_of p.place.pass) t w turn.1 p.which answer added lending
     (subst (λ (x : List HubEntry). IsEnd added x more t w) turn.1.history c.end-place.ensures.end)
@@ -106,14 +107,14 @@ returns-clause-answer g c =
 pub returns-clause-out : goal.returns-clause-out
 returns-clause-out g c =
     let p = c.args.pass in
-    let d : Ledger = c.begin-turn.result.value in
+    let d : Ledger = c.begin-turn.result.value.ledger.value in
     let more = entries_in c.lend-desk.new.self in
     let answer = c.lend-desk.result.0 in
     let added = c.lend-desk.result.1 in
     let turn = c.begin-turn.ensures.turn in
     let t = turn_view c.begin-turn.result in
     let w = view_of c.end-place.result.pass in
-    let lending = subst (λ (x : Ledger). LendingIs p.which (entries_in x) more answer added) c.value_mut.ensures.value
+    let lending = of_books (λ log. LendingIs p.which log more answer added) c.deref_mut.ensures.value c.value_mut.ensures.value
     c.lend-desk.ensures.lending in
     let seen = end_seen (p.which + 1) added (entries_in d) more t w (lending_adds p.which (entries_in d) more answer added lending)
     (subst (λ (x : List HubEntry). IsEnd added x more t w) turn.1.history c.end-place.ensures.end) in

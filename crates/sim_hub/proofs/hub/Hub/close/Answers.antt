@@ -11,6 +11,7 @@ use Rattle.sim_hub.specs.declared.pass.ModulePass.{ModulePass}
 use Rattle.sim_hub.specs.Ledgers.{entries_in}
 use Rattle.sim_hub.specs.Hubs.{module_view}
 use Rattle.sim_hub.proofs.Lists.{get_mapped}
+use Rattle.sim_hub.proofs.Books.{shown_ledger}
 use Rattle.sim_hub.specs.Kept.{behind}
 use Rattle.sim_hub.proofs.Keeping.{kept_legal, kept_stands}
 use Rattle.sim_hub.proofs.Closing.{all_made, comes_home, joined_all, made_count, shown_each, whole}
@@ -35,15 +36,15 @@ loop-other-preserved c =
       i.2 ∙ ap (λ (l : List ModulePass). ys ++ l) c.in-Some.ensures.steps.0 ∙ sym (append_assoc ys (o ∷ []) c.next.new.self.rest.items),
     )
 
-pub close-requires-clause-first : goal.close-requires-clause-first
-close-requires-clause-first c =
+pub close-ledger-requires-clause-first : goal.close-ledger-requires-clause-first
+close-ledger-requires-clause-first c =
     let p = c.args.perf in
     ap (λ v. v.number) c.loop-other.invariant.1 ∙ joins_keep (λ v. v.number) (λ _ _. refl) (view_of p.place.pass)
     (map module_view c.loop-other.yielded)
     ∙ p.place.numbered ∙ p.first
 
-pub close-requires-clause-joined : goal.close-requires-clause-joined
-close-requires-clause-joined c =
+pub close-ledger-requires-clause-joined : goal.close-ledger-requires-clause-joined
+close-ledger-requires-clause-joined c =
     let p = c.args.perf in
     let v = view_of p.place.pass in
     let ms = c.args.modules.items in
@@ -59,8 +60,8 @@ settle-requires-clause-over c =
     let ms = c.args.modules.items in
     let is = joined_all v (view_of c.loop-other.pass) ms c.loop-other.yielded _ c.loop-other.invariant.1 c.loop-other.invariant.2
     (sym c.loop-other.other-iterator.rest.ok.0 ∙ c.in-None.ensures.steps.0) in
-    let shown = shown_each (entries_in c.close.result) v (view_of c.loop-other.pass) ms
-    (p.place.numbered ∙ p.first) is c.close.ensures.all in
+    let shown = shown_each (entries_in c.into_inner.result) v (view_of c.loop-other.pass) ms
+    (p.place.numbered ∙ p.first) is (shown_ledger _ c.into_inner.ensures c.close-ledger.ensures.all) in
     (v.seen, shown.first.seen, c.requires.over)
 
 pub settle-requires-clause-home : goal.settle-requires-clause-home
@@ -68,11 +69,12 @@ settle-requires-clause-home c = λ m inside.
     let p = c.args.perf in
     let v = view_of p.place.pass in
     let ms = c.args.modules.items in
-    let d = c.close.result in
+    let d = c.into_inner.result in
     let log = entries_in d in
     let is = joined_all v (view_of c.loop-other.pass) ms c.loop-other.yielded _ c.loop-other.invariant.1 c.loop-other.invariant.2
     (sym c.loop-other.other-iterator.rest.ok.0 ∙ c.in-None.ensures.steps.0) in
-    let shown = shown_each log v (view_of c.loop-other.pass) ms (p.place.numbered ∙ p.first) is c.close.ensures.all in
+    let shown = shown_each log v (view_of c.loop-other.pass) ms (p.place.numbered ∙ p.first) is
+    (shown_ledger _ c.into_inner.ensures c.close-ledger.ensures.all) in
     let count = made_count d.core.plan log (behind d.core.plan d.turns.items) (kept_stands d.core d.turns.items d.out d.short _ d.kept) p
     shown.first.seen in
     let (k, o, at, which) = c.requires.each m (omega arith) in
@@ -83,11 +85,12 @@ returns c =
     let p = c.args.perf in
     let v = view_of p.place.pass in
     let ms = c.args.modules.items in
-    let d = c.close.result in
+    let d = c.into_inner.result in
     let log = entries_in d in
     let is = joined_all v (view_of c.loop-other.pass) ms c.loop-other.yielded _ c.loop-other.invariant.1 c.loop-other.invariant.2
     (sym c.loop-other.other-iterator.rest.ok.0 ∙ c.in-None.ensures.steps.0) in
-    let shown = shown_each log v (view_of c.loop-other.pass) ms (p.place.numbered ∙ p.first) is c.close.ensures.all in
+    let shown = shown_each log v (view_of c.loop-other.pass) ms (p.place.numbered ∙ p.first) is
+    (shown_ledger _ c.into_inner.ensures c.close-ledger.ensures.all) in
     let legal = kept_legal d.core d.turns.items d.out d.short _ d.kept in
     let count = made_count d.core.plan log (behind d.core.plan d.turns.items) (kept_stands d.core d.turns.items d.out d.short _ d.kept) p
     shown.first.seen in (

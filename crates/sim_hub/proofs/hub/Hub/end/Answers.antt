@@ -14,7 +14,7 @@ use Rattle.sim_hub.proofs.hub.Hub.end.Goals.{then-added, else-added}
 pub invariant_of-result : goal.invariant_of-result
 invariant_of-result c =
     let t = c.args.turn in
-    let l = t.value in
+    let l = t.value.ledger.value in
     let more = entries_in l in
     let may = c.requires.adds in
     let over : (es : List HubEntry) × EndsTurn es more (turn_view t) (view_of c.if-added.pass) =

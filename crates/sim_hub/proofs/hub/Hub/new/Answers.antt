@@ -1,6 +1,7 @@
 use Rattle.std.proofs.Common.{◌∙◌, List, sym, ap, subst}
 use Rattle.turn_lock.specs.Passes.{lock_id}
 use Rattle.turn_history.specs.declared.entry.HubEntry.{HubEntry}
+use Rattle.sim_hub.specs.Ledgers.{entries_in}
 use Rattle.sim_hub.specs.Places.{HasModules}
 use Rattle.sim_hub.specs.Closings.{AreFrom}
 use Rattle.sim_hub.proofs.Closing.{opened_count}
@@ -8,17 +9,19 @@ use Rattle.sim_hub.proofs.hub.Hub.new.Goals as goal
 
 pub split_all-requires-clause-modules : goal.split_all-requires-clause-modules
 split_all-requires-clause-modules c =
-    let seen = ap (λ v. v.seen) c.in_ok-lock.ensures.first ∙ c.in_ok-ledger.ensures in
+    let seen = ap (λ v. v.seen) c.in_ok-lock.ensures.first ∙ ap entries_in c.in_ok-ledger.ensures.ok ∙ c.in_ok-opening.ensures in
     subst (HasModules c.modules-count.result) (sym seen)
     (opened_count c.args.core.plan c.modules-count.result c.modules-count.ensures.count)
 
 pub perf_pass-requires-clause-modules : goal.perf_pass-requires-clause-modules
 perf_pass-requires-clause-modules c =
-    let seen = c.in_ok-first.ensures.first.seen_is ∙ ap (λ v. v.seen) c.in_ok-lock.ensures.first ∙ c.in_ok-ledger.ensures in
+    let seen = c.in_ok-first.ensures.first.seen_is ∙ ap (λ v. v.seen) c.in_ok-lock.ensures.first
+    ∙ ap entries_in c.in_ok-ledger.ensures.ok ∙ c.in_ok-opening.ensures in
     subst (HasModules c.modules-count.result) (sym seen)
     (opened_count c.args.core.plan c.modules-count.result c.modules-count.ensures.count)
 
 pub returns-clause-modules : goal.returns-clause-modules
 returns-clause-modules c =
     subst (λ (es : List HubEntry). AreFrom (lock_id c.in_ok-lock.lock) es c.in_ok-first.modules.items)
-    (ap (λ v. v.seen) c.in_ok-lock.ensures.first ∙ c.in_ok-ledger.ensures) c.in_ok-first.ensures.modules
+    (ap (λ v. v.seen) c.in_ok-lock.ensures.first ∙ ap entries_in c.in_ok-ledger.ensures.ok ∙ c.in_ok-opening.ensures)
+    c.in_ok-first.ensures.modules

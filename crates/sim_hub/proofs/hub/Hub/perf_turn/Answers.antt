@@ -6,6 +6,7 @@ use Rattle.sim_hub.specs.declared.ledger.Ledger.{Ledger}
 use Rattle.sim_hub.specs.Ledgers.{entries_in}
 use Rattle.sim_hub.specs.Places.{HasModules, IsLegal}
 use Rattle.sim_hub.specs.Steps.{TimingIs, MayAdd, IsEnd}
+use Rattle.sim_hub.proofs.Books.{of_books}
 use Rattle.sim_hub.proofs.Keeping.{kept_legal}
 use Rattle.sim_hub.proofs.Answering.{timing_adds, is_later, perf_answer, end_seen, modules_later}
 use Rattle.sim_hub.proofs.hub.Hub.perf_turn.Goals as goal
@@ -15,18 +16,19 @@ end-place-requires-clause-number g c = c.begin-turn.ensures.turn.1.same.number �
 
 pub end-place-requires-clause-adds : goal.end-place-requires-clause-adds
 end-place-requires-clause-adds g c =
-    let d : Ledger = c.begin-turn.result.value in
+    let d : Ledger = c.begin-turn.result.value.ledger.value in
     let more = entries_in c.time-answer.new.self in
     let answer = c.time-answer.result.0 in
     let added = c.time-answer.result.1 in
-    let timing = subst (λ (x : Ledger). TimingIs (entries_in x) more answer added) c.value_mut.ensures.value c.time-answer.ensures in
+    let timing = of_books (λ log. TimingIs log more answer added) c.deref_mut.ensures.value c.value_mut.ensures.value
+    c.time-answer.ensures in
     subst (λ (b : List HubEntry). MayAdd 0 added b more) (sym c.begin-turn.ensures.turn.1.history)
     (timing_adds (entries_in d) more answer added timing)
 
 pub invariant_of-pass : goal.invariant_of-pass
 invariant_of-pass g c =
     let p = c.args.pass in
-    let d : Ledger = c.begin-turn.result.value in
+    let d : Ledger = c.begin-turn.result.value.ledger.value in
     let l : Ledger = c.time-answer.new.self in
     let more = entries_in l in
     let answer = c.time-answer.result.0 in
@@ -35,7 +37,8 @@ invariant_of-pass g c =
     let v = view_of p.place.pass in
     let t = turn_view c.begin-turn.result in
     let w = view_of c.end-place.result.pass in
-    let timing = subst (λ (x : Ledger). TimingIs (entries_in x) more answer added) c.value_mut.ensures.value c.time-answer.ensures in
+    let timing = of_books (λ log. TimingIs log more answer added) c.deref_mut.ensures.value c.value_mut.ensures.value
+    c.time-answer.ensures in
     let may = timing_adds (entries_in d) more answer added timing in
     let over = subst (λ (x : List HubEntry). IsEnd added x more t w) turn.1.history c.end-place.ensures.end in
     let after = is_later 0 turn.0 added (entries_in d) more v t w turn.1 may over in
@@ -52,27 +55,29 @@ invariant_of-pass g c =
 
 pub returns-clause-later : goal.returns-clause-later
 returns-clause-later g c =
-    let d : Ledger = c.begin-turn.result.value in
+    let d : Ledger = c.begin-turn.result.value.ledger.value in
     let more = entries_in c.time-answer.new.self in
     let answer = c.time-answer.result.0 in
     let added = c.time-answer.result.1 in
     let turn = c.begin-turn.ensures.turn in
     let t = turn_view c.begin-turn.result in
     let w = view_of c.end-place.result.pass in
-    let timing = subst (λ (x : Ledger). TimingIs (entries_in x) more answer added) c.value_mut.ensures.value c.time-answer.ensures in
+    let timing = of_books (λ log. TimingIs log more answer added) c.deref_mut.ensures.value c.value_mut.ensures.value
+    c.time-answer.ensures in
     is_later 0 turn.0 added (entries_in d) more (view_of c.args.pass.place.pass) t w turn.1
     (timing_adds (entries_in d) more answer added timing)
     (subst (λ (x : List HubEntry). IsEnd added x more t w) turn.1.history c.end-place.ensures.end)
 
 pub returns-clause-answer : goal.returns-clause-answer
 returns-clause-answer g c =
-    let d : Ledger = c.begin-turn.result.value in
+    let d : Ledger = c.begin-turn.result.value.ledger.value in
     let more = entries_in c.time-answer.new.self in
     let answer = c.time-answer.result.0 in
     let added = c.time-answer.result.1 in
     let turn = c.begin-turn.ensures.turn in
     let t = turn_view c.begin-turn.result in
     let w = view_of c.end-place.result.pass in
-    let timing = subst (λ (x : Ledger). TimingIs (entries_in x) more answer added) c.value_mut.ensures.value c.time-answer.ensures in
+    let timing = of_books (λ log. TimingIs log more answer added) c.deref_mut.ensures.value c.value_mut.ensures.value
+    c.time-answer.ensures in
     perf_answer turn.0 (entries_in d) more (view_of c.args.pass.place.pass) t w turn.1 answer added timing
     (subst (λ (x : List HubEntry). IsEnd added x more t w) turn.1.history c.end-place.ensures.end)

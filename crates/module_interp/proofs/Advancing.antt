@@ -1,4 +1,5 @@
 -- A run at its rest.
+use Rattle.std.specs.Box.{with_value}
 use Rattle.std.proofs.Common.{◌≡◌, ◌≢◌, ℕ, ◌^◌, ◌<◌, ◌⊎◌, inl, inr, false, List, map, length, sym, ap, subst, arith, ◌∙◌}
 use Rattle.std.specs.Prelude.{All}
 use Rattle.std.proofs.lemmas.Bool.{both_ways}
@@ -19,10 +20,15 @@ use Rattle.module_interp.proofs.Ways.{has_begun}
 use Rattle.module_interp.proofs.Standing.{IsAtRest, step_rest, end_rest, accesses_are, asked_leads}
 use Rattle.module_interp.proofs.Unnamed.{asks_same}
 
+-- the way that was kept began at the path in the box
+pub kept_on : (x z y : Path) → z ≡ x → KeepsRest z y → KeepsRest x y
+kept_on x z y is keeps = subst (λ (p : Path). KeepsRest p y) is keeps
+
 -- the way to the rest went on
-pub stands_on : (p : Plan) (i : ℕ) (o : Own) (r : ModuleRun) (y : Path) (accesses : List Access) → KeepsRest r.path y → y.stage ≢ Asked
+pub stands_on : (p : Plan) (i : ℕ) (o : Own) (r : ModuleRun) (y : Path) (accesses : List Access) → KeepsRest r.path.value y
+    → y.stage ≢ Asked
     → StandsAt p i o r
-    → StandsAt p i o (record { path = y; tally = r.tally; accesses = accesses })
+    → StandsAt p i o (record { path = with_value r.path y; tally = r.tally; accesses = accesses })
 stands_on p i o r y accesses keeps unasked s = record {
   leads = keeps p i o s.leads;
   tally = s.tally;
@@ -45,7 +51,8 @@ pub record CanList (p : Plan) (o : Own) (y : Path) : Type 0 where
   pub few : length (done_in o.steps) < 2 ^ 40
   pub all : All (λ (r : Request). r.channel < length p.design.channels) y.asked
 
-pub can_list : (p : Plan) (i : ℕ) (o : Own) (r : ModuleRun) (y : Path) → KeepsRest r.path y → StandsAt p i o r → IsAtStep y → CanList p o y
+pub can_list : (p : Plan) (i : ℕ) (o : Own) (r : ModuleRun) (y : Path) → KeepsRest r.path.value y → StandsAt p i o r → IsAtStep y
+    → CanList p o y
 can_list p i o r y keeps s h =
     let l = keeps p i o s.leads in
     let b = l.path in
@@ -63,9 +70,9 @@ can_list p i o r y keeps s h =
 
 -- the step was given
 pub stands_asked : (p : Plan) (i : ℕ) (o : Own) (r : ModuleRun) (y : Path) (accesses : List Access)
-    → KeepsRest r.path y → StandsAt p i o r → IsAtStep y
+    → KeepsRest r.path.value y → StandsAt p i o r → IsAtStep y
     → accesses ≡ map (access_of (done_in o.steps)) y.asked
-    → StandsAt p i o (record { path = record y { stage = Asked }; tally = r.tally; accesses = accesses })
+    → StandsAt p i o (record { path = with_value r.path (record y { stage = Asked }); tally = r.tally; accesses = accesses })
 stands_asked p i o r y accesses keeps s h given =
     let l = keeps p i o s.leads in
     record {

@@ -1,4 +1,5 @@
 -- A run goes on from its rest on replies.
+use Rattle.std.specs.Box.{with_value}
 use Rattle.std.proofs.Common.{◌≡◌, ℕ, zero, suc, ◌+◌, ◌^◌, ◌<◌, ◌≤◌, true, false, List, [], ◌∷◌, ◌++◌, length, refl, sym, ap, subst, arith}
 use Rattle.std.proofs.Common.{◌∙◌, length-append, append_assoc}
 use Rattle.std.specs.Prelude.{All, filter_map, Option, Some, None}
@@ -183,15 +184,15 @@ fed_few p i o qs some few =
     let later = skip_up p i (quiet p i z) z in
     omega arith
 
-fed_in_time : (p : Plan) (i : ℕ) (o : Own) (r : ModuleRun) (qs : List Reply) → StandsAt p i o r → r.path.stage ≡ Asked
+fed_in_time : (p : Plan) (i : ℕ) (o : Own) (r : ModuleRun) (qs : List Reply) → StandsAt p i o r → r.path.value.stage ≡ Asked
     → 0 < length (requests_at p i o) → IsOwnInTime p i (next_rest p i o qs)
 fed_in_time p i o r qs s asked some =
     let b = s.leads.path in
     let m = module_at p i in
-    let w = waits_at p i o r.path s.leads asked in
+    let w = waits_at p i o r.path.value s.leads asked in
     let state : IsStateOf m o.state = subst (IsStateOf m) (sym w.rest.state) w.state in
     let alive : o.state.ended ≡ false = ap (λ (z : ModuleState). z.ended) w.rest.state ∙ w.alive in
-    let count : o.state.count ≡ r.path.state.count = ap (λ (z : ModuleState). z.count) w.rest.state in
+    let count : o.state.count ≡ r.path.value.state.count = ap (λ (z : ModuleState). z.count) w.rest.state in
     let few = w.few in
     let later : IsStateOf m (own_after m o (requests_at p i o) qs).state =
     subst (IsStateOf m) (sym (after_state m o (requests_at p i o) qs some))
@@ -202,15 +203,16 @@ unasked : {P : Type 0} (g : Stage) → g ≡ Ticked → g ≡ Asked → P
 unasked g ticked asked = cc
 
 pub fed_stands : (p : Plan) (i : ℕ) (o : Own) (r : ModuleRun) (y : Path) (qs : List Reply) (t : Tally) → StandsAt p i o r
-    → r.path.stage ≡ Asked → HasCommitted r.path y qs → IsTallyOf (length p.design.channels) (done_in o.steps ++ paired r.path.asked qs) t
-    → StandsAt p i (next_rest p i o qs) (record { path = record y { since = 1 }; tally = t; accesses = r.accesses })
+    → r.path.value.stage ≡ Asked → HasCommitted r.path.value y qs
+    → IsTallyOf (length p.design.channels) (done_in o.steps ++ paired r.path.value.asked qs) t
+    → StandsAt p i (next_rest p i o qs) (record { path = with_value r.path (record y { since = 1 }); tally = t; accesses = r.accesses })
 fed_stands p i o r y qs t s asked h tally =
-    let w = waits_at p i o r.path s.leads asked in
+    let w = waits_at p i o r.path.value s.leads asked in
     let m = module_at p i in
-    let same : r.path.asked ≡ requests_at p i o = w.asked ∙ ap (λ (s : ModuleState). requests_of p (i, s)) (sym w.rest.state) in
+    let same : r.path.value.asked ≡ requests_at p i o = w.asked ∙ ap (λ (s : ModuleState). requests_of p (i, s)) (sym w.rest.state) in
     let some : 0 < length (requests_at p i o) = subst (λ (rs : List Request). 0 < length rs) same w.can.some in
     record {
-      leads = fed_leads p i o r.path y qs s.leads asked h;
+      leads = fed_leads p i o r.path.value y qs s.leads asked h;
       tally = subst (λ (xs : List Exchange). IsTallyOf (length p.design.channels) xs t)
           (ap (λ (rs : List Request). done_in o.steps ++ paired rs qs) same ∙ sym (after_done m o (requests_at p i o) qs some)) tally;
       few = fed_few p i o qs some s.few;
@@ -225,20 +227,24 @@ pub record CanCount (p : Plan) (o : Own) (x : Path) (qs : List Reply) : Type 0 w
   pub all : All (λ (r : Request). r.channel < length p.design.channels) x.asked
   pub one_each : length qs ≡ length x.asked
 
-pub can_count : (p : Plan) (i : ℕ) (o : Own) (r : ModuleRun) (qs : List Reply) → StandsAt p i o r → r.path.stage ≡ Asked
+pub can_count : (p : Plan) (i : ℕ) (o : Own) (r : ModuleRun) (qs : List Reply) → StandsAt p i o r → r.path.value.stage ≡ Asked
     → all_fit (accesses_at p i o) qs ≡ true
-    → CanCount p o r.path qs
+    → CanCount p o r.path.value qs
 can_count p i o r qs s asked fit =
-    let w = waits_at p i o r.path s.leads asked in
+    let w = waits_at p i o r.path.value s.leads asked in
     let b = s.leads.path in
     let m = module_at p i in
-    let same : r.path.asked ≡ requests_at p i o = w.asked ∙ ap (λ (s : ModuleState). requests_of p (i, s)) (sym w.rest.state) in
-    let count : o.state.count ≡ r.path.state.count = ap (λ (z : ModuleState). z.count) w.rest.state in
+    let same : r.path.value.asked ≡ requests_at p i o = w.asked ∙ ap (λ (s : ModuleState). requests_of p (i, s)) (sym w.rest.state) in
+    let count : o.state.count ≡ r.path.value.state.count = ap (λ (z : ModuleState). z.count) w.rest.state in
     let due_few =
-    few_due (length p.design.channels) m r.path.state (module_sound p b.fits i b.owner) (record { state = w.state; running = w.alive }) in
-    let less = fewer_requests p.design.channels m r.path.state in
-    let size : length r.path.asked ≡ length (requests_of p (i, r.path.state)) = ap (λ (rs : List Request). length rs) w.asked in
-    let each : length qs ≡ length r.path.asked =
+    few_due (length p.design.channels) m r.path.value.state (module_sound p b.fits i b.owner) (record {
+      state = w.state;
+      running =
+          w.alive;
+    }) in
+    let less = fewer_requests p.design.channels m r.path.value.state in
+    let size : length r.path.value.asked ≡ length (requests_of p (i, r.path.value.state)) = ap (λ (rs : List Request). length rs) w.asked in
+    let each : length qs ≡ length r.path.value.asked =
     fit_length (accesses_at p i o) qs fit ∙ (length-map (requests_at p i o) _ ∙ ap (λ (rs : List Request). length rs) (sym same)) in
     let few = s.few in
     let ops = b.fits.operations in
@@ -246,14 +252,14 @@ can_count p i o r qs s asked fit =
     record {
       few = omega arith;
       all = subst (All (λ (r : Request). r.channel < length p.design.channels)) (sym w.asked)
-          (λ k d inside. (requests_stand p b.fits i b.owner r.path.state k d inside).in_range);
+          (λ k d inside. (requests_stand p b.fits i b.owner r.path.value.state k d inside).in_range);
       one_each = each;
     }
 
-pub waits_channels : (p : Plan) (i : ℕ) (o : Own) (r : ModuleRun) → StandsAt p i o r → r.path.stage ≡ Asked
-    → All (λ (q : Request). q.channel < length p.design.channels) r.path.asked
+pub waits_channels : (p : Plan) (i : ℕ) (o : Own) (r : ModuleRun) → StandsAt p i o r → r.path.value.stage ≡ Asked
+    → All (λ (q : Request). q.channel < length p.design.channels) r.path.value.asked
 waits_channels p i o r s asked =
-    let w = waits_at p i o r.path s.leads asked in
+    let w = waits_at p i o r.path.value s.leads asked in
     let b = s.leads.path in
     subst (All (λ (q : Request). q.channel < length p.design.channels)) (sym w.asked)
-    (λ k d inside. (requests_stand p b.fits i b.owner r.path.state k d inside).in_range)
+    (λ k d inside. (requests_stand p b.fits i b.owner r.path.value.state k d inside).in_range)

@@ -50,19 +50,19 @@ sound_mark p i o r mark s is small =
 -- ---- steps
 
 -- the numbers of a step that waits
-pub small_step : (p : Plan) (i : ℕ) (o : Own) (r : ModuleRun) → StandsAt p i o r → r.path.stage ≡ Asked
+pub small_step : (p : Plan) (i : ℕ) (o : Own) (r : ModuleRun) → StandsAt p i o r → r.path.value.stage ≡ Asked
     → (length r.accesses ≤ LIVE_ITERATIONS * OPERATIONS) × (length (done_in o.steps) < 2 ^ 40)
 small_step p i o r s asked =
-    let w = waits_at p i o r.path s.leads asked in
+    let w = waits_at p i o r.path.value s.leads asked in
     let b = s.leads.path in
     let m = module_at p i in
-    let same : r.path.asked ≡ requests_at p i o = w.asked ∙ ap (λ (s : ModuleState). requests_of p (i, s)) (sym w.rest.state) in
-    let count : o.state.count ≡ r.path.state.count = ap (λ (z : ModuleState). z.count) w.rest.state in
-    let sound : IsStateSound m r.path.state = record { state = w.state; running = w.alive } in
-    let due_few = few_due (length p.design.channels) m r.path.state (module_sound p b.fits i b.owner) sound in
-    let less = fewer_requests p.design.channels m r.path.state in
-    let size : length r.path.asked ≡ length (requests_of p (i, r.path.state)) = ap (λ (rs : List Request). length rs) w.asked in
-    let here : length r.path.asked ≡ length (requests_at p i o) = ap (λ (rs : List Request). length rs) same in
+    let same : r.path.value.asked ≡ requests_at p i o = w.asked ∙ ap (λ (s : ModuleState). requests_of p (i, s)) (sym w.rest.state) in
+    let count : o.state.count ≡ r.path.value.state.count = ap (λ (z : ModuleState). z.count) w.rest.state in
+    let sound : IsStateSound m r.path.value.state = record { state = w.state; running = w.alive } in
+    let due_few = few_due (length p.design.channels) m r.path.value.state (module_sound p b.fits i b.owner) sound in
+    let less = fewer_requests p.design.channels m r.path.value.state in
+    let size : length r.path.value.asked ≡ length (requests_of p (i, r.path.value.state)) = ap (λ (rs : List Request). length rs) w.asked in
+    let here : length r.path.value.asked ≡ length (requests_at p i o) = ap (λ (rs : List Request). length rs) same in
     let listed : length r.accesses ≡ length (accesses_at p i o) = ap (λ (xs : List Access). length xs) (s.accesses asked) in
     let each = length-map (requests_at p i o) (access_of (done_in o.steps)) in
     let few = s.few in
@@ -70,11 +70,12 @@ small_step p i o r s asked =
     (omega arith, omega arith)
 
 -- a step that waits has an access
-pub some_accesses : (p : Plan) (i : ℕ) (o : Own) (r : ModuleRun) → StandsAt p i o r → r.path.stage ≡ Asked → 0 < length (accesses_at p i o)
+pub some_accesses : (p : Plan) (i : ℕ) (o : Own) (r : ModuleRun) → StandsAt p i o r → r.path.value.stage ≡ Asked
+    → 0 < length (accesses_at p i o)
 some_accesses p i o r s asked =
-    let w = waits_at p i o r.path s.leads asked in
-    let same : r.path.asked ≡ requests_at p i o = w.asked ∙ ap (λ (s : ModuleState). requests_of p (i, s)) (sym w.rest.state) in
-    let here : length r.path.asked ≡ length (requests_at p i o) = ap (λ (rs : List Request). length rs) same in
+    let w = waits_at p i o r.path.value s.leads asked in
+    let same : r.path.value.asked ≡ requests_at p i o = w.asked ∙ ap (λ (s : ModuleState). requests_of p (i, s)) (sym w.rest.state) in
+    let here : length r.path.value.asked ≡ length (requests_at p i o) = ap (λ (rs : List Request). length rs) same in
     let each = length-map (requests_at p i o) (access_of (done_in o.steps)) in
     let some = w.can.some in
     omega arith

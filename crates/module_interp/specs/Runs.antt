@@ -20,7 +20,7 @@ is_asked Ticked = false
 
 -- the step of the rest was given, and its replies are not there
 abbrev pub waits : ModuleRun → Bool
-waits r = is_asked r.path.stage
+waits r = is_asked r.path.value.stage
 
 -- the mark is a step
 abbrev pub is_step : Advance → Bool
@@ -52,9 +52,9 @@ pub record IsSoundMark (steps : ℕ) (mark : Advance) : Type 0 where
 
 -- the run stands at this rest of module i's own run
 pub record StandsAt (p : Plan) (i : ℕ) (o : Own) (r : ModuleRun) : Type 0 where
-  pub leads : LeadsTo p i o r.path
+  pub leads : LeadsTo p i o r.path.value
   pub tally : IsTallyOf (length p.design.channels) (done_in o.steps) r.tally
   pub few : length (done_in o.steps) ≤ o.state.count
-  pub accesses : r.path.stage ≡ Asked → r.accesses ≡ accesses_at p i o
+  pub accesses : r.path.value.stage ≡ Asked → r.accesses ≡ accesses_at p i o
   pub in_time : IsInTime p (module_at p i) o.state (clocks_in o)
   pub behind : 0 < length o.steps → 1 ≤ o.since

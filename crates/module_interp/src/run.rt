@@ -25,7 +25,8 @@ use std::alloc::Global;
 /// Contracts see where it stands: at a rest of the own run of the definitions, that is at its next step or its end, and
 /// whether that step waits for replies. How far the call has come towards the rest doesn't show.
 pub struct ModuleRun {
-    path: Path,
+    /// On the heap, since a run goes out of its core and back at each turn.
+    path: Box<Path>,
     tally: Tally,
     /// The accesses of the last step.
     accesses: List<Access>,
@@ -49,7 +50,8 @@ impl ModuleRun {
         ensures stands { IfOk result (λ run. StandsAt plan.now number (first_rest plan.now number) run) }
         ensures waits { IfOk result (λ run. waits run ≡ false) }
     {
-        let path = first_path(alloc, plan, number)?;
+        let first = first_path(alloc, plan, number)?;
+        let path = Box::new(alloc, first)?;
         let tally = Tally::new(alloc, plan.design.channels.len())?;
         Ok(ModuleRun {
             path,
@@ -116,22 +118,23 @@ impl ModuleRun {
         ensures sound { IfOk result (λ mark. (p : PlanOf) (i : ℕ) (o : Own) → StandsAt p i o self.old → IsSoundMark (length o.steps) mark) }
         ensures as_before { OnErr result (waits self.new ≡ false) }
     {
-        self.path.come_to_rest()?;
-        if self.path.state.ended {
-            return Ok(Advance::Ended(self.path.since));
+        let path = self.path.as_mut();
+        path.come_to_rest()?;
+        if path.state.ended {
+            return Ok(Advance::Ended(path.since));
         }
-        if is_over(self.path.limit, &self.path.state) {
-            return Ok(Advance::Spent(self.path.since));
+        if is_over(path.limit, &path.state) {
+            return Ok(Advance::Spent(path.since));
         }
         let accesses = list_accesses(
-            self.path.alloc,
+            path.alloc,
             &self.tally,
-            self.path.asked.as_slice(),
+            path.asked.as_slice(),
             &mut self.accesses,
         )?;
-        self.path.stage = Stage::Asked;
+        path.stage = Stage::Asked;
         Ok(Advance::Step(Step {
-            gap: self.path.since,
+            gap: path.since,
             accesses,
             first_query: self.tally.queries,
         }))
@@ -146,9 +149,10 @@ impl ModuleRun {
         ensures stands { (p : PlanOf) (i : ℕ) (o : Own) → StandsAt p i o self.old → StandsAt p i (next_rest p i o replies.now) self.new }
         ensures fed { waits self.new ≡ false }
     {
-        self.tally.count_step(self.path.asked.as_slice(), replies);
-        self.path.commit_due(replies);
-        self.path.since = 1;
+        let path = self.path.as_mut();
+        self.tally.count_step(path.asked.as_slice(), replies);
+        path.commit_due(replies);
+        path.since = 1;
     }
 }
 

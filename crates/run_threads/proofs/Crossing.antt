@@ -119,10 +119,13 @@ path_field =
       ),
     )
 
+path_send : IsSend path.the_row
+path_send = recorded_send (path.the_field).row _ _ (path.the_type).to_one path_field
+
 run_field : IsSend (run.the_field).row
 run_field =
     struct_send (shape run.the_type) (
-      path_field,
+      (search (path_send, crosses, sendable) depth 30 fits 5000),
       ((search (tally.the_field_send, sendable) depth 20 fits 5000), (list.the_send _ access.the_send, tt)),
     )
 

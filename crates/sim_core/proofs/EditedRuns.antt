@@ -63,7 +63,7 @@ module _ (p : Plan) (fits : FitsEngine p) (e : Edit) (fit : EditFits p e) (i : �
   stands_edited : (o : Own) (run : ModuleRun) → StandsAt p i o run → StandsAt q i o run
   unfolding quiet quiet_below measure
   stands_edited o run s = record {
-    leads = record { path = path_edited run.path s.leads.path; rest = s.leads.rest; since = s.leads.since };
+    leads = record { path = path_edited run.path.value s.leads.path; rest = s.leads.rest; since = s.leads.since };
     tally = s.tally;
     few = s.few;
     accesses = s.accesses;

@@ -4,7 +4,7 @@ use Rattle.std.proofs.Common.{set, subst}
 use Rattle.std.proofs.lemmas.List.{drop_more, take_more_set, length-append, get_or_append_left}
 use Rattle.std.proofs.Math.Seq.{get_or-append_seam}
 use Rattle.block_code.specs.declared.flat.Argument.{Argument}
-use Rattle.block_code.specs.declared.flat.Argument.TheVariants.{Number, Var, Result}
+use Rattle.block_code.specs.declared.flat.Argument.TheVariants.{Number, Var, VarNumber, VarVar, Result}
 use Rattle.block_code.specs.declared.flat.Instruction.{Instruction}
 use Rattle.block_code.specs.Flat.{argument_value, result_of, ran, IsArgumentSound, IsInstructionSound, AreSound}
 
@@ -91,6 +91,8 @@ pub stays : (registers temps : List ℕ) (places : ℕ) (code more after : List 
     → argument_value registers temps (ran registers temps [] after) arg ≡ argument_value registers temps (ran registers temps [] code) arg
 stays registers temps places code more after (Number n) is there = refl
 stays registers temps places code more after (Var at) is there = refl
+stays registers temps places code more after (VarNumber op at n) is there = refl
+stays registers temps places code more after (VarVar op at other) is there = refl
 stays registers temps places code more after (Result k) is there =
     ap (λ (c : List Instruction). get_or (ran registers temps [] c) k 0) is
     ∙ (ap (λ (rs : List ℕ). get_or rs k 0) (ran_append registers temps [] code more)
@@ -114,6 +116,8 @@ last_result registers temps code after i is =
 pub argument_later : (places n m : ℕ) (arg : Argument) → n ≤ m → IsArgumentSound places n arg → IsArgumentSound places m arg
 argument_later places n m (Number v) most there = tt
 argument_later places n m (Var at) most there = there
+argument_later places n m (VarNumber op at v) most there = there
+argument_later places n m (VarVar op at other) most there = there
 argument_later places n m (Result k) most there = omega arith
 
 same_place : (places n m : ℕ) (i : Instruction) → n ≡ m → IsInstructionSound places n i → IsInstructionSound places m i

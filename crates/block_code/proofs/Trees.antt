@@ -4,7 +4,7 @@ use Rattle.std.proofs.lemmas.List.{append_assoc}
 use Rattle.flow_design.specs.declared.expr.Expr.{Expr, Number, Var, Unary, Binary, Sext, Pick}
 use Rattle.flow_design.specs.declared.expr.UnOp.{UnOp}
 use Rattle.flow_design.specs.declared.expr.BinOp.{BinOp}
-use Rattle.flow_design.specs.Words.{unary, binary, extended, value, reach}
+use Rattle.flow_design.specs.Words.{unary, binary, extended, variable, value, reach}
 use Rattle.flow_design.proofs.Values.{value_number, value_var, value_unary, value_binary, value_sext, value_pick}
 use Rattle.block_code.specs.declared.flat.Argument.{Argument}
 use Rattle.block_code.specs.declared.flat.Argument.TheVariants as arg
@@ -35,6 +35,35 @@ var_code code at = record {
   there = λ places wide. var_below at places wide;
   sound = λ places wide all. all;
 }
+
+pub var_number_code : (op : BinOp) (at n : ℕ) (code : List Instruction)
+    → IsCodeOf code code (arg.VarNumber op at n) (Binary op (Var at) (Number n))
+var_number_code op at n code = record {
+  more = [];
+  grown = none_more code;
+  values = λ registers temps. sym (value_binary registers temps op (Var at) (Number n)
+      ∙ (ap (λ (v : ℕ). binary op v (value registers temps (Number n))) (value_var registers temps at)
+      ∙ ap (λ (v : ℕ). binary op (variable registers temps at) v) (value_number registers temps n)));
+  there = λ places wide. var_below at places (binary_first op (Var at) (Number n) places wide);
+  sound = λ places wide all. all;
+}
+
+pub var_var_code : (op : BinOp) (at other : ℕ) (code : List Instruction)
+    → IsCodeOf code code (arg.VarVar op at other) (Binary op (Var at) (Var other))
+var_var_code op at other code = record {
+  more = [];
+  grown = none_more code;
+  values = λ registers temps. sym (value_binary registers temps op (Var at) (Var other)
+      ∙ (ap (λ (v : ℕ). binary op v (value registers temps (Var other))) (value_var registers temps at)
+      ∙ ap (λ (v : ℕ). binary op (variable registers temps at) v) (value_var registers temps other)));
+  there = λ places wide. (
+    var_below at places (binary_first op (Var at) (Var other) places wide),
+    var_below other places (binary_second op (Var at) (Var other) places wide),
+  );
+  sound = λ places wide all. all;
+}
+
+pub ruleset the_pairs = (var_number_code, var_var_code)
 
 -- an instruction behind code that grew
 behind : (before more middle after : List Instruction) (i : Instruction) → middle ≡ before ++ more → after ≡ middle ++ i ∷ []

@@ -5,15 +5,17 @@ use Rattle.flow_design.specs.declared.design.Channel.{Channel}
 use Rattle.flow_design.specs.declared.design.Module.{Module}
 use Rattle.flow_design.specs.Module.{block_at, operation_at}
 use Rattle.block_schedule.specs.Schedules.{IsScheduleOf}
-use Rattle.block_code.specs.declared.action.Action.{Action}
 use Rattle.block_code.specs.declared.code.BlockCode.{BlockCode}
+use Rattle.block_code.specs.declared.code.Guarded.{Guarded}
 use Rattle.block_code.specs.Actions.{IsActionOf, action_room}
 
--- one action for each operation, which finds room for its results
-pub record AreActionsOf (channels : List Channel) (m : Module) (b : Block) (room : ℕ) (actions : List Action) : Type 0 where
+-- the action of each operation beside its guard, which finds room for its results
+pub record AreActionsOf (channels : List Channel) (m : Module) (b : Block) (room : ℕ) (actions : List Guarded) : Type 0 where
   pub count : length actions ≡ length b.ops
-  pub each : (n : ℕ) (d : Action) → n < length b.ops → IsActionOf channels m b (slice_index_or actions n d) (operation_at b n).op
-  pub rooms : (n : ℕ) (d : Action) → n < length b.ops → action_room (slice_index_or actions n d) ≤ room
+  pub guards : (n : ℕ) (d : Guarded) → n < length b.ops → (slice_index_or actions n d).guard ≡ (operation_at b n).guard
+  pub each : (n : ℕ) (d : Guarded) → n < length b.ops
+      → IsActionOf channels m b (slice_index_or actions n d).action (operation_at b n).op
+  pub rooms : (n : ℕ) (d : Guarded) → n < length b.ops → action_room (slice_index_or actions n d).action ≤ room
 
 -- the block's schedule, and its operations as actions
 pub record IsBlockCodeOf (channels : List Channel) (m : Module) (b : Block) (c : BlockCode) : Type 0 where

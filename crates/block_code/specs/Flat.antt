@@ -3,7 +3,7 @@ use Rattle.std.specs.Prelude.{ℕ, ◌≡◌, ◌≤◌, ◌+◌, ◌%◌, ◌^�
 use Rattle.flow_design.specs.declared.expr.Expr.{Expr}
 use Rattle.flow_design.specs.Words.{unary, binary, extended, variable, value, reach}
 use Rattle.block_code.specs.declared.flat.Argument.{Argument}
-use Rattle.block_code.specs.declared.flat.Argument.TheVariants.{Number, Var, Result}
+use Rattle.block_code.specs.declared.flat.Argument.TheVariants.{Number, Var, VarNumber, VarVar, Result}
 use Rattle.block_code.specs.declared.flat.Instruction.{Instruction}
 use Rattle.block_code.specs.declared.flat.Instruction.TheVariants.{Unary, Binary, Sext, Pick}
 
@@ -11,6 +11,8 @@ use Rattle.block_code.specs.declared.flat.Instruction.TheVariants.{Unary, Binary
 abbrev pub argument_value : List ℕ → List ℕ → List ℕ → Argument → ℕ
 argument_value registers temps results (Number n) = n
 argument_value registers temps results (Var at) = variable registers temps at
+argument_value registers temps results (VarNumber op at n) = binary op (variable registers temps at) n
+argument_value registers temps results (VarVar op at other) = binary op (variable registers temps at) (variable registers temps other)
 argument_value registers temps results (Result k) = slice_index results k
 
 abbrev pub result_of : List ℕ → List ℕ → List ℕ → Instruction → ℕ
@@ -33,6 +35,8 @@ ran registers temps results (i ∷ is) = ran registers temps (results ++ result_
 abbrev pub IsArgumentSound : ℕ → ℕ → Argument → Type 0
 IsArgumentSound places results (Number n) = Unit {0}
 IsArgumentSound places results (Var at) = at < places
+IsArgumentSound places results (VarNumber op at n) = at < places
+IsArgumentSound places results (VarVar op at other) = (at < places) × (other < places)
 IsArgumentSound places results (Result k) = k < results
 
 abbrev pub IsInstructionSound : ℕ → ℕ → Instruction → Type 0

@@ -4,5 +4,6 @@ pub mod Flat
 pub mod Masks
 pub mod Notes
 pub mod Operands
+pub mod Prepared
 pub mod Ready
 pub mod Targets

@@ -9,12 +9,28 @@ use flow_design::{Block, Channel, Module};
 use flow_word::{List, OutOfMemory};
 use std::alloc::Global;
 
+/// An operation as a machine runs it: what it does, where it has no guard or one that is not 0.
+#[derive(Debug)]
+pub struct Guarded {
+    pub guard: Option<u32>,
+    pub action: Action,
+}
+
+impl Drop for Guarded {
+    fn drop(self) {
+        let Guarded {
+            guard: _guard,
+            action: _action,
+        } = self;
+    }
+}
+
 /// A block as a machine runs it: when its operations are due, and what each does.
 #[derive(Debug)]
 pub struct BlockCode {
     pub schedule: Schedule,
-    /// The action of each operation, in text order.
-    pub actions: List<Action>,
+    /// The operations, in text order.
+    pub actions: List<Guarded>,
     /// How many instructions its longest expression has: its results need so much room.
     pub room: u64,
 }
@@ -62,7 +78,10 @@ fn code_of(
     for timed in block.ops.as_slice() {
         let action = action_of(alloc, channels, of, block, &timed.op)?;
         room = room.max(action.room());
-        actions.push(action)?;
+        actions.push(Guarded {
+            guard: timed.guard,
+            action,
+        })?;
     }
     Ok(BlockCode {
         schedule,

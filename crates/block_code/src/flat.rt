@@ -1,7 +1,9 @@
 //! Expressions as flat code.
-ghost use Rattle.std.specs.Prelude.{◌≡◌, ℕ, ◌+◌, ◌<◌, ◌≤◌, ◌++◌, [], List as Items, length, take, drop, ◌∷◌, All, IfOk, OnOk};
+ghost use Rattle.std.specs.Prelude.{◌≡◌, ℕ, ◌+◌, ◌<◌, ◌≤◌, ◌++◌, [], List as Items, length, take, drop, ◌∷◌, All, IfOk, IfSome, OnOk};
 ghost use Rattle.std.specs.Prelude.{slice_index, slice_set};
+ghost use Rattle.flow_design.specs.declared.expr.Expr.{Binary as BinaryOf};
 ghost use Rattle.flow_design.specs.Words.{value, reach};
+ghost use Rattle.block_code.specs.declared.flat.Instruction.{Instruction as InstructionOf};
 ghost use Rattle.block_code.specs.declared.flat.Argument.TheVariants.{Result as ResultAt};
 ghost use Rattle.block_code.specs.Flat.{argument_value, result_of, ran, IsArgumentSound, IsInstructionSound, AreSound, IsCodeOf};
 
@@ -9,11 +11,16 @@ use flow_design::{BinOp, Expr, UnOp};
 use flow_expr::{binary, sign_extended, variable};
 use flow_word::{List, OutOfMemory, Width};
 
-/// What an instruction works on: a number, a register or temp, or the result of an earlier instruction, by its number.
+/// What an instruction works on: a number, a register or temp, an operator on two of these, or the result of an earlier
+/// instruction, by its number.
 #[derive(Clone, Copy, Debug, PartialEq)]
 pub enum Argument {
     Number(u64),
     Var(u32),
+    /// An operator on a register or temp, and a number.
+    VarNumber(BinOp, u32, u64),
+    /// An operator on two registers or temps.
+    VarVar(BinOp, u32, u32),
     Result(u64),
 }
 
@@ -41,13 +48,24 @@ pub(crate) fn argument_value(
     match arg {
         Argument::Number(number) => number,
         Argument::Var(at) => variable(at, registers, temps),
+        Argument::VarNumber(op, at, number) => binary(op, variable(at, registers, temps), number),
+        Argument::VarVar(op, at, other) => binary(
+            op,
+            variable(at, registers, temps),
+            variable(other, registers, temps),
+        ),
         Argument::Result(at) => results[at as usize],
     }
 }
 
 /// The result of an instruction, where these results are there.
 #[inline(always)]
-fn result_of(instruction: &Instruction, registers: &[u64], temps: &[u64], results: &[u64]) -> u64
+pub(crate) fn result_of(
+    instruction: &Instruction,
+    registers: &[u64],
+    temps: &[u64],
+    results: &[u64],
+) -> u64
     requires { IsInstructionSound (length registers.now + length temps.now) (length results.now) instruction.now }
     ensures { result ≡ result_of registers.now temps.now results.now instruction.now }
 {
@@ -96,6 +114,21 @@ fn add(instruction: Instruction, code: &mut List<Instruction>) -> Result<Argumen
     Ok(Argument::Result(at))
 }
 
+/// An operator on a register or temp and a leaf as an argument, if it is that.
+#[tactic(auto, using(crate::proofs::Trees::the_pairs))]
+fn pair(op: BinOp, a: &Expr<u32>, b: &Expr<u32>) -> Option<Argument>
+    ensures { IfSome result (λ arg. (code : Items InstructionOf) → IsCodeOf code code arg (BinaryOf op a.now b.now)) }
+{
+    match a {
+        Expr::Var(at) => match b {
+            Expr::Number(number) => Some(Argument::VarNumber(op, *at, *number)),
+            Expr::Var(other) => Some(Argument::VarVar(op, *at, *other)),
+            _ => None,
+        },
+        _ => None,
+    }
+}
+
 /// Adds the code of an expression. The argument stands for its value.
 #[tactic(auto, using(crate::proofs::Trees::the_code))]
 pub(crate) fn flatten(
@@ -113,6 +146,9 @@ pub(crate) fn flatten(
             Ok(arg)
         }
         Expr::Binary(op, a, b) => {
+            if let Some(arg) = pair(*op, a.get(), b.get()) {
+                return Ok(arg);
+            }
             let a = flatten(a.get(), code)?;
             let b = flatten(b.get(), code)?;
             let arg = add(Instruction::Binary(*op, a, b), code)?;

@@ -11,7 +11,7 @@ mod running;
 mod target;
 
 pub use action::Action;
-pub use code::{BlockCode, codes_of};
+pub use code::{BlockCode, Guarded, codes_of};
 pub use flat::{Argument, Instruction};
 pub use noted::{Noted, notes_are_enough};
 pub use operand::Operand;

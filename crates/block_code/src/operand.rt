@@ -1,10 +1,11 @@
-//! The operands of actions: expressions, of which the commonest forms need no code.
-ghost use Rattle.std.specs.Prelude.{◌≡◌, ℕ, ◌+◌, ◌≤◌, List as Items, length, IfOk, IfSome};
-ghost use Rattle.flow_design.specs.declared.expr.Expr.{Binary};
+//! The operands of actions: expressions, of which short ones need no list of instructions.
+ghost use Rattle.std.specs.Prelude.{◌≡◌, ℕ, ◌+◌, ◌≤◌, [], List as Items, length, IfOk};
+ghost use Rattle.flow_design.specs.declared.expr.Expr.{Expr as ExprOf};
 ghost use Rattle.flow_design.specs.Words.{value, reach};
+ghost use Rattle.block_code.specs.Flat.{IsCodeOf, IsInstructionSound, result_of};
 ghost use Rattle.block_code.specs.Operands.{operand_value, IsOperandSound, room_of, IsOperandOf};
 
-use crate::flat::{Argument, Instruction, argument_value, flatten, run};
+use crate::flat::{Argument, Instruction, argument_value, flatten, result_of, run};
 use flow_design::{BinOp, Expr};
 use flow_expr::{binary, variable};
 use flow_word::{List, OutOfMemory};
@@ -19,6 +20,8 @@ pub enum Operand {
     VarNumber(BinOp, u32, u64),
     /// An operator on two registers or temps.
     VarVar(BinOp, u32, u32),
+    /// An instruction that needs no result.
+    Single(Instruction),
     /// Code, and the argument that stands for the value.
     Long(List<Instruction>, Argument),
 }
@@ -30,6 +33,7 @@ impl Drop for Operand {
             Operand::Var(_a) => {}
             Operand::VarNumber(_a, _b, _c) => {}
             Operand::VarVar(_a, _b, _c) => {}
+            Operand::Single(_a) => {}
             Operand::Long(_a, _b) => {}
         }
     }
@@ -41,7 +45,7 @@ impl Operand {
         ensures { result ≡ room_of self.now }
     {
         match self {
-            Operand::Number(_) | Operand::Var(_) => 0,
+            Operand::Number(_) | Operand::Var(_) | Operand::Single(_) => 0,
             Operand::VarNumber(_, _, _) | Operand::VarVar(_, _, _) => 0,
             Operand::Long(code, _) => code.len(),
         }
@@ -72,6 +76,7 @@ pub(crate) fn evaluate(
             variable(*at, registers, temps),
             variable(*other, registers, temps),
         ),
+        Operand::Single(instruction) => single_result(instruction, registers, temps),
         Operand::Long(code, arg) => {
             let code = code.as_slice();
             run(code, registers, temps, scratch);
@@ -80,43 +85,35 @@ pub(crate) fn evaluate(
     }
 }
 
-/// An expression that has code of its own.
-#[tactic(auto, using(crate::proofs::Forms::long_form))]
-fn long(alloc: Global, expr: &Expr<u32>) -> Result<Operand, OutOfMemory>
-    ensures { IfOk result (λ operand. IsOperandOf operand expr.now) }
+/// The result of an instruction that needs no other result.
+#[inline(never)]
+fn single_result(instruction: &Instruction, registers: &[u64], temps: &[u64]) -> u64
+    requires { IsInstructionSound (length registers.now + length temps.now) 0 instruction.now }
+    ensures { result ≡ result_of registers.now temps.now [] instruction.now }
 {
-    let mut code = List::new(alloc);
-    let arg = flatten(expr, &mut code)?;
-    Ok(Operand::Long(code, arg))
+    result_of(instruction, registers, temps, &[])
 }
 
-/// An operator on a register or temp and a leaf, if it is that.
+/// Code as an operand.
 #[tactic(auto, using(crate::proofs::Forms::the_forms))]
-fn pair(op: BinOp, a: &Expr<u32>, b: &Expr<u32>) -> Option<Operand>
-    ensures { IfSome result (λ operand. IsOperandOf operand (Binary op a.now b.now)) }
+fn operand_by(code: List<Instruction>, arg: Argument) -> Operand
+    ensures { (e : ExprOf ℕ) → IsCodeOf [] code arg e → IsOperandOf result e }
 {
-    match a {
-        Expr::Var(at) => match b {
-            Expr::Number(number) => Some(Operand::VarNumber(op, *at, *number)),
-            Expr::Var(other) => Some(Operand::VarVar(op, *at, *other)),
-            _ => None,
-        },
-        _ => None,
+    match arg {
+        Argument::Result(0) if code.len() == 1 => Operand::Single(code.as_slice()[0]),
+        Argument::Result(_) => Operand::Long(code, arg),
+        Argument::Number(number) => Operand::Number(number),
+        Argument::Var(at) => Operand::Var(at),
+        Argument::VarNumber(op, at, number) => Operand::VarNumber(op, at, number),
+        Argument::VarVar(op, at, other) => Operand::VarVar(op, at, other),
     }
 }
 
 /// An expression as an operand.
-#[tactic(auto, using(crate::proofs::Forms::the_forms))]
 pub(crate) fn operand_of(alloc: Global, expr: &Expr<u32>) -> Result<Operand, OutOfMemory>
     ensures { IfOk result (λ operand. IsOperandOf operand expr.now) }
 {
-    match expr {
-        Expr::Number(number) => Ok(Operand::Number(*number)),
-        Expr::Var(at) => Ok(Operand::Var(*at)),
-        Expr::Binary(op, a, b) => match pair(*op, a.get(), b.get()) {
-            Some(operand) => Ok(operand),
-            None => long(alloc, expr),
-        },
-        Expr::Unary(_, _) | Expr::Sext(_, _) | Expr::Pick(_, _, _) => long(alloc, expr),
-    }
+    let mut code = List::new(alloc);
+    let arg = flatten(expr, &mut code)?;
+    Ok(operand_by(code, arg))
 }

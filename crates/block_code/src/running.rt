@@ -6,6 +6,8 @@ ghost use Rattle.block_code.specs.Operands.{IsOperandSound, room_of};
 ghost use Rattle.block_code.specs.Ready.{places_in};
 ghost use Rattle.block_code.specs.Actions.{held, action_value, action_address, action_request, action_room};
 ghost use Rattle.block_code.specs.Actions.{IsActionReady, carried_out};
+ghost use Rattle.block_code.specs.declared.running.Prepared.TheVariants.{Asks};
+ghost use Rattle.block_code.specs.Prepared.{written_value, written_address, request_in};
 
 use crate::action::Action;
 use crate::noted::Noted;
@@ -17,13 +19,11 @@ use flow_word::Kind;
 
 /// What the state from before the clock gives an action.
 #[derive(Clone, Copy, Debug)]
-pub struct Prepared {
-    /// The value that it writes, where no reply decides it.
-    pub value: u64,
-    /// The address of a `store`.
-    pub address: u64,
+pub enum Prepared {
+    /// The value that it writes, and the address of a `store`: no reply decides them.
+    Writes(u64, u64),
     /// What it asks of a channel.
-    pub request: Option<Request>,
+    Asks(Request),
 }
 
 /// What the state from before the clock gives an action of a live iteration, which has these temps. It takes no memory: results
@@ -39,21 +39,21 @@ pub fn prepare(
     requires temps { temps.now ≡ temps_of state.now iteration }
     requires ready { IsActionReady state.now iteration action.now }
     requires room { action_room action.now ≤ length scratch.old }
-    ensures value { result.value ≡ action_value state.now iteration action.now }
-    ensures address { result.address ≡ action_address state.now iteration action.now }
-    ensures request { result.request ≡ action_request state.now iteration action.now }
+    ensures value { written_value result ≡ action_value state.now iteration action.now }
+    ensures address { written_address result ≡ action_address state.now iteration action.now }
+    ensures request { request_in result ≡ action_request state.now iteration action.now }
     ensures room { length scratch.new ≡ length scratch.old }
 {
     match action {
-        Action::Set(_, value) => writes(held(value, state, iteration, temps, scratch), 0),
+        Action::Set(_, value) => Prepared::Writes(held(value, state, iteration, temps, scratch), 0),
         Action::Load(_, memory, address) => {
             let address = held(address, state, iteration, temps, scratch);
-            writes(word_at(state, *memory, address), 0)
+            Prepared::Writes(word_at(state, *memory, address), 0)
         }
         Action::Store(memory, _, address, value) => {
             let address = held(address, state, iteration, temps, scratch);
             let address = address_in(state, *memory, address);
-            writes(held(value, state, iteration, temps, scratch), address)
+            Prepared::Writes(held(value, state, iteration, temps, scratch), address)
         }
         Action::Read(channel, _) => asks(Kind::Read, *channel, 0),
         Action::Write(channel, mask, value) => {
@@ -70,36 +70,16 @@ pub fn prepare(
     }
 }
 
-/// An action that writes this value, and asks nothing.
-#[inline(always)]
-fn writes(value: u64, address: u64) -> Prepared
-    ensures value { result.value ≡ value }
-    ensures address { result.address ≡ address }
-    ensures request { result.request ≡ None }
-{
-    Prepared {
-        value,
-        address,
-        request: None,
-    }
-}
-
 /// An action that asks this, and writes by its reply alone.
 #[inline(always)]
 fn asks(kind: Kind, channel: u32, value: u64) -> Prepared
-    ensures value { result.value ≡ 0 }
-    ensures address { result.address ≡ 0 }
-    ensures request { result.request ≡ Some (record { kind = kind; channel = channel; value = value }) }
+    ensures { result ≡ Asks (record { kind = kind; channel = channel; value = value }) }
 {
-    Prepared {
-        value: 0,
-        address: 0,
-        request: Some(Request {
-            kind,
-            channel,
-            value,
-        }),
-    }
+    Prepared::Asks(Request {
+        kind,
+        channel,
+        value,
+    })
 }
 
 /// The value of an operand in a live iteration, which has these temps.

@@ -1,5 +1,5 @@
 -- The live iterations, from the oldest on.
-use Rattle.std.proofs.Common.{◌≡◌, refl, sym, ◌∙◌, ap, arith, ℕ, suc, ◌+◌, ◌-◌, ◌*◌, ◌/◌, ◌<◌, ◌≤◌, List, ◌∷◌, ◌++◌, length, append_assoc}
+use Rattle.std.proofs.Common.{◌≡◌, refl, sym, ◌∙◌, ap, arith, ℕ, suc, ◌+◌, ◌-◌, ◌*◌, ◌/◌, ◌<◌, ◌≤◌, List, ◌∷◌, ◌++◌, append_assoc}
 use Rattle.std.proofs.Math.Nat.{div-mul-le_self, mul-le-mul_right}
 use Rattle.std.specs.List.{flat_map, enumerate_from}
 use Rattle.flow_design.specs.declared.design.Module.{Module}
@@ -7,10 +7,7 @@ use Rattle.flow_design.specs.declared.design.Block.{Block}
 use Rattle.flow_design.specs.declared.state.Control.{Control}
 use Rattle.flow_design.specs.declared.state.ModuleState.{ModuleState}
 use Rattle.flow_design.specs.declared.state.Due.{Due}
-use Rattle.flow_design.specs.Module.{block_of, interval, live_count, ages_down, ages, temps_of, due_in, due}
-use Rattle.flow_design.specs.StaticRules.{IsModuleSound}
-use Rattle.lockstep_defs.proofs.Blocks.{block_sound}
-use Rattle.module_move.specs.Sound.{IsStateSound, AreGuardsSound}
+use Rattle.flow_design.specs.Module.{block_of, interval, live_count, ages_down, ages, due_in, due}
 use Rattle.module_move.proofs.Begins.{live_count_is}
 
 -- ---- bounds
@@ -25,16 +22,6 @@ older_age b k n live below =
     let whole : (b.len - 1 - (k.clock - k.newest)) / interval b * interval b
     ≤ b.len - 1 - (k.clock - k.newest) = div-mul-le_self (b.len - 1 - (k.clock - k.newest)) (interval b) in
     omega arith
-
--- the guards of a block's operations, over the temps of a live iteration
-pub guards_sound : (channels : ℕ) (m : Module) (s : ModuleState) (place : ℕ) → IsModuleSound channels m → IsStateSound m s
-    → place < length s.temps
-    → AreGuardsSound (length s.registers + length (temps_of s place)) (block_of m s).ops
-guards_sound channels m s place h sound there =
-    let block = block_sound channels m s.control.block h sound.state.block in
-    let temps : length (temps_of s place)
-    ≡ length (block_of m s).temps = sound.state.places.each_temps place (rw sound.state.places.temps at there) in
-    λ i d within. rw (sound.state.places.registers, temps) (block.operations i d within).guard
 
 -- ---- one iteration after another
 

@@ -19,6 +19,7 @@ use Rattle.lockstep_defs.specs.Machine.{stored, is_fifo_operation}
 use Rattle.block_code.specs.declared.action.Action.{Action}
 use Rattle.block_code.specs.declared.action.Action.TheVariants.{Set, Load, Store, Read, Write, TryRead, TryWrite, Empty, Full}
 use Rattle.block_code.specs.declared.code.BlockCode.{BlockCode}
+use Rattle.block_code.specs.declared.code.Guarded.{Guarded}
 use Rattle.block_code.specs.declared.noted.Noted.{Noted}
 use Rattle.block_code.specs.Actions.{IsActionOf, carried_out, takes_reply}
 use Rattle.block_code.specs.Codes.{IsBlockCodeOf}
@@ -51,17 +52,17 @@ no_reply (Full f t) s n r q none = absurd (true≢false none)
 
 -- one operation more was written
 pub writing_more : (channels : List Channel) (m : Module) (b : Block) (code : BlockCode) (noted : List Noted) (replies : List Reply)
-    (i taken after : ℕ) (n e : Noted) (c : Action) (first before now : ModuleState) → IsBlockCodeOf channels m b code → i < length noted
-    → n ≡ get_or noted i e → n.op < length code.actions → c ≡ get_or code.actions n.op c
-    → now ≡ carried_out before n (get_or replies taken Done) c
-    → drop after replies ≡ cond (takes_reply c) (drop 1 (drop taken replies)) (drop taken replies)
+    (i taken after : ℕ) (n e : Noted) (g : Guarded) (first before now : ModuleState) → IsBlockCodeOf channels m b code → i < length noted
+    → n ≡ get_or noted i e → n.op < length code.actions → g ≡ get_or code.actions n.op g
+    → now ≡ carried_out before n (get_or replies taken Done) g.action
+    → drop after replies ≡ cond (takes_reply g.action) (drop 1 (drop taken replies)) (drop taken replies)
     → fold (stored m b) before (effects_by b (drop i noted) (drop taken replies)) ≡ fold (stored m b) first (effects_by b noted replies)
     → fold (stored m b) now (effects_by b (drop (i + 1) noted) (drop after replies)) ≡ fold (stored m b) first (effects_by b noted replies)
-writing_more channels m b code noted replies i taken after n e c first before now is within read inside there written next so_far =
+writing_more channels m b code noted replies i taken after n e g first before now is within read inside there written next so_far =
     let op = (operation_at b n.op).op in
     let reply = get_or replies taken Done in
-    let action : IsActionOf channels m b c op =
-    subst (λ (a : Action). IsActionOf channels m b a op) (sym there) (is.actions.each n.op c (omega (arith, is.actions.count))) in
+    let action : IsActionOf channels m b g.action op =
+    subst (λ (x : Guarded). IsActionOf channels m b x.action op) (sym there) (is.actions.each n.op g (omega (arith, is.actions.count))) in
     let left = effects_by b (drop (i + 1) noted) (drop after replies) in
     let front : drop i noted ≡ n ∷ drop (i + 1) noted = drop_more noted i e within
     ∙ ap (λ (x : Noted). x ∷ drop (i + 1) noted) (sym read) in

@@ -1,8 +1,7 @@
 -- What a module's machine needs to look up and compute its requests and its move.
-use Rattle.std.specs.Prelude.{◌≡◌, IfSome, ℕ, ◌<◌, ◌^◌, false, List, length, All}
+use Rattle.std.specs.Prelude.{◌≡◌, ◌<◌, ◌^◌, false, List, length}
 use Rattle.flow_design.specs.declared.design.Channel.{Channel}
 use Rattle.flow_design.specs.declared.design.Module.{Module}
-use Rattle.flow_design.specs.declared.design.Timed.{Timed}
 use Rattle.flow_design.specs.declared.state.ModuleState.{ModuleState}
 use Rattle.flow_design.specs.declared.state.Due.{Due}
 use Rattle.flow_design.specs.StaticRules.{IsModuleSound}
@@ -21,13 +20,6 @@ pub record IsStateSound (m : Module) (s : ModuleState) : Type 0 where
 -- a module that is not ended is in a sound state
 abbrev pub IsRunnable : Module → ModuleState → Type 0
 IsRunnable m s = s.ended ≡ false → IsStateSound m s
-
--- the guard of a scheduled operation, over so many registers and temps
-abbrev pub IsGuardSound : ℕ → Timed → Type 0
-IsGuardSound places t = IfSome t.guard (λ g. g < places)
-
-abbrev pub AreGuardsSound : ℕ → List Timed → Type 0
-AreGuardsSound places ts = All (IsGuardSound places) ts
 
 -- a due operation of a sound state: its iteration is live, and the block has it
 pub record IsDueSound (m : Module) (s : ModuleState) (d : Due) : Type 0 where

@@ -26,8 +26,8 @@ pub(crate) fn commit_all(
 {
     let mut answered = 0usize;
     for due in noted {
-        let action = &code.actions.as_slice()[due.op as usize];
-        answered = carry_out_next(action, due, replies, answered, state);
+        let guarded = &code.actions.as_slice()[due.op as usize];
+        answered = carry_out_next(&guarded.action, due, replies, answered, state);
     }
 }
 

@@ -1,18 +1,20 @@
 //! What is noted of the due operations before the replies, and what they ask of the channels.
-ghost use Rattle.std.specs.Prelude.{◌≡◌, ℕ, ◌+◌, ◌*◌, ◌<◌, ◌≤◌, ◌^◌, ◌++◌, ◌∷◌, [], if◌then◌else◌, length, map, filter_map, All, OnOk};
+ghost use Rattle.std.specs.Prelude.{◌≡◌, ℕ, ◌+◌, ◌*◌, ◌<◌, ◌≤◌, ◌^◌, ◌++◌, ◌∷◌, [], if◌then◌else◌, length, map, filter_map, All};
+ghost use Rattle.std.specs.Prelude.{IfSome, OnOk};
 ghost use Rattle.flow_design.specs.declared.limits.TheConstants.{LIVE_ITERATIONS, OPERATIONS};
 ghost use Rattle.flow_design.specs.StaticRules.{IsModuleSound};
 ghost use Rattle.flow_design.specs.Module.{block_of, operation_at, passes, temps_of};
 ghost use Rattle.lockstep_defs.specs.Machine.{request_for, requests};
+ghost use Rattle.block_code.specs.Actions.{IsActionOf, action_room};
 ghost use Rattle.block_code.specs.Codes.{IsBlockCodeOf};
 ghost use Rattle.block_code.specs.Notes.{noted_for};
 ghost use Rattle.module_move.specs.Moves.{passing, notes_of};
-ghost use Rattle.module_move.specs.Sound.{IsStateSound, IsDueSound, AreGuardsSound};
+ghost use Rattle.module_move.specs.Sound.{IsStateSound, IsDueSound};
 
 use crate::standing::block_of;
-use block_code::{BlockCode, Noted, prepare, temps_of};
+use block_code::{Action, BlockCode, Noted, Prepared, prepare, temps_of};
 use block_schedule::interval;
-use flow_design::{Block, Channel, Due, Module, ModuleState, Request};
+use flow_design::{Channel, Due, Module, ModuleState, Request};
 use flow_expr::variable;
 use flow_word::{List, OutOfMemory, Words};
 
@@ -115,29 +117,37 @@ fn note_iteration(
         (passing (block_of of.now state.now) state.now place numbers.now)) }
     ensures room { OnOk result (length scratch.new ≡ length scratch.old) }
 {
-    let block = block_of(of, state);
     let temps = temps_of(state, place);
     for number in numbers {
         let due = Due {
             iteration: place,
             op: *number,
         };
-        let passes = passes(block, state.registers.as_slice(), temps, *number);
+        let guarded = &code.actions.as_slice()[*number as usize];
+        let passes = passes(guarded.guard, state.registers.as_slice(), temps);
         note_if(
-            passes, channels, of, code, state, due, temps, scratch, noted, asked,
+            passes,
+            channels,
+            of,
+            &guarded.action,
+            state,
+            due,
+            temps,
+            scratch,
+            noted,
+            asked,
         )?;
     }
     Ok(())
 }
 
-/// Whether an operation has no guard, or one that is not 0.
+/// Whether there is no guard, or one that is not 0.
 #[inline(always)]
-fn passes(block: &Block, registers: &[u64], temps: &[u64], number: u32) -> bool
-    requires number { number < length block.now.ops }
-    requires guards { AreGuardsSound (length registers.now + length temps.now) block.now.ops }
-    ensures { result ≡ passes registers.now temps.now (operation_at block.now number).guard }
+fn passes(guard: Option<u32>, registers: &[u64], temps: &[u64]) -> bool
+    requires { IfSome guard (λ at. at < length registers.now + length temps.now) }
+    ensures { result ≡ passes registers.now temps.now guard }
 {
-    match block.ops.as_slice()[number as usize].guard {
+    match guard {
         None => true,
         Some(at) => variable(at, registers, temps) != 0,
     }
@@ -149,7 +159,7 @@ fn note_if(
     passes: bool,
     channels: &[Channel],
     of: &Module,
-    code: &BlockCode,
+    action: &Action,
     state: &ModuleState,
     due: Due,
     temps: &[u64],
@@ -159,10 +169,11 @@ fn note_if(
 ) -> Result<(), OutOfMemory>
     requires module { IsModuleSound (length channels.now) of.now }
     requires sound { IsStateSound of.now state.now }
-    requires code { IsBlockCodeOf channels.now of.now (block_of of.now state.now) code.now }
+    requires action { IsActionOf channels.now of.now (block_of of.now state.now) action.now
+        (operation_at (block_of of.now state.now) due.op).op }
     requires due { IsDueSound of.now state.now due }
     requires temps { temps.now ≡ temps_of state.now due.iteration }
-    requires room { code.now.room ≤ length scratch.old }
+    requires room { action_room action.now ≤ length scratch.old }
     ensures noted { OnOk result (noted.new
         ≡ noted.old ++ map (noted_for (block_of of.now state.now) state.now) (if passes then due ∷ [] else [])) }
     ensures asked { OnOk result (asked.new
@@ -170,16 +181,24 @@ fn note_if(
     ensures room { OnOk result (length scratch.new ≡ length scratch.old) }
 {
     if passes {
-        let action = &code.actions.as_slice()[due.op as usize];
-        let prepared = prepare(action, state, due.iteration, temps, scratch.as_mut_slice());
-        noted.push(Noted {
-            op: due.op,
-            iteration: due.iteration,
-            value: prepared.value,
-            address: prepared.address,
-        })?;
-        if let Some(request) = prepared.request {
-            asked.push(request)?;
+        let op = due.op;
+        let iteration = due.iteration;
+        match prepare(action, state, iteration, temps, scratch.as_mut_slice()) {
+            Prepared::Writes(value, address) => noted.push(Noted {
+                op,
+                iteration,
+                value,
+                address,
+            })?,
+            Prepared::Asks(request) => {
+                noted.push(Noted {
+                    op,
+                    iteration,
+                    value: 0,
+                    address: 0,
+                })?;
+                asked.push(request)?;
+            }
         }
     }
     Ok(())

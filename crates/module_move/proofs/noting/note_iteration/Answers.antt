@@ -1,9 +1,10 @@
-use Rattle.std.proofs.Common.{◌≡◌, ◌∙◌, ℕ, map, get_or}
+use Rattle.std.proofs.Common.{◌≡◌, ◌∙◌, ap, ℕ, ◌<◌, List, map, length, get_or}
 use Rattle.std.specs.List.{filter_map}
 use Rattle.std.proofs.lemmas.List.{get_or_default, map-append}
 use Rattle.std.proofs.lemmas.List.Elements.{filter_map-append}
 use Rattle.flow_design.specs.Module.{block_of, operation_at, temps_of, passes}
 use Rattle.lockstep_defs.specs.Machine.{request_for}
+use Rattle.block_code.specs.declared.code.Guarded.{Guarded}
 use Rattle.block_code.specs.Notes.{noted_for}
 use Rattle.module_move.proofs.Looking.{passing_more}
 use Rattle.module_move.proofs.noting.note_iteration.Goals as goal
@@ -15,8 +16,16 @@ loop-number-preserved c =
     let b = block_of m s in
     let n : ℕ = get_or c.args.numbers.now c.loop-number.number-index 0 in
     let request = request_for c.args.channels.now m s in
+    let g = c.index-as_slice-number.result in
+    let found : g ≡ get_or c.args.code.now.actions n g =
+    c.index-as_slice-number.is ∙ ap (λ (gs : List Guarded). get_or gs n g) c.as_slice.ensures in
+    let within : n < length b.ops = c.requires.numbers c.loop-number.number-index 0 c.loop-number-test.true in
+    let guard : g.guard ≡ (operation_at b n).guard =
+    ap (λ (x : Guarded). x.guard) found ∙ c.requires.code.actions.guards n g within in
+    let same : c.passes-passes.result ≡ passes s.registers (temps_of s c.args.place) g.guard =
+    rw (c.as_slice-in-loop-number.ensures, c.temps_of-temps.ensures) at c.passes-passes.ensures in
     let test : c.passes-passes.result ≡ passes s.registers (temps_of s c.args.place) (operation_at b n).guard =
-    rw (c.as_slice.ensures, c.temps_of-temps.ensures, c.block_of-block.ensures) at c.passes-passes.ensures in
+    same ∙ ap (passes s.registers (temps_of s c.args.place)) guard in
     let read : n ≡ get_or c.args.numbers.now c.loop-number.number-index n =
     get_or_default c.args.numbers.now c.loop-number.number-index 0 n c.loop-number-test.true in
     record {

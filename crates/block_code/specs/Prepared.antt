@@ -1,0 +1,20 @@
+-- What is prepared of an action before the replies.
+use Rattle.std.specs.Prelude.{ℕ, Option, Some, None}
+use Rattle.flow_design.specs.declared.state.Request.{Request}
+use Rattle.block_code.specs.declared.running.Prepared.{Prepared}
+use Rattle.block_code.specs.declared.running.Prepared.TheVariants.{Writes, Asks}
+
+-- the value that it writes, where no reply decides it
+abbrev pub written_value : Prepared → ℕ
+written_value (Writes value address) = value
+written_value (Asks request) = 0
+
+-- the address of a `store`
+abbrev pub written_address : Prepared → ℕ
+written_address (Writes value address) = address
+written_address (Asks request) = 0
+
+-- what it asks of a channel
+abbrev pub request_in : Prepared → Option Request
+request_in (Writes value address) = None
+request_in (Asks request) = Some request

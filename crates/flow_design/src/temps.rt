@@ -91,6 +91,7 @@ impl LiveTemps {
     }
 
     /// An iteration starts, with so many temps, each 0. After want of memory they are as they were.
+    #[inline(always)]
     pub fn start(&mut self, alloc: Global, temps: u64) -> Result<(), OutOfMemory>
         ensures started { OnOk result (self.new ≡ self.old ++ replicate temps 0 ∷ []) }
         ensures unchanged { OnErr result (self.new ≡ self.old) }
@@ -137,7 +138,20 @@ fn slot(len: u64, first: u64, after: u64) -> u64
 }
 
 /// So many zeros, in the place of what the list held.
+#[inline(always)]
 fn zero(words: &mut Words, len: u64) -> Result<(), OutOfMemory>
+    ensures { OnOk result (words.new ≡ replicate len 0) }
+{
+    if words.len() == len {
+        words.as_mut_slice().fill(0);
+        return Ok(());
+    }
+    refill(words, len)
+}
+
+/// The same for a list of any length.
+#[inline(never)]
+fn refill(words: &mut Words, len: u64) -> Result<(), OutOfMemory>
     ensures { OnOk result (words.new ≡ replicate len 0) }
 {
     words.truncate(0);

@@ -83,8 +83,7 @@ all_statements names (x ∷ rest) a cs =
 
 kept : (k : ChannelKind) (width : ℕ) (values : List ℕ) → length (inputs_of k width values) ≤ length values
 kept kind.Source width values = simp length-map (omega arith)
-kept kind.Sink width values = omega arith
-kept (kind.Fifo d l) width values = omega arith
+kept k width values = omega arith
 
 pub taken_most : (names : List Name) (statements : List Statement) (a : ℕ) (cs : List Channel)
     → sum_by length (map (inputs_for names statements) (enumerate_from a cs)) ≤ spread

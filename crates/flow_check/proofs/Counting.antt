@@ -66,17 +66,7 @@ counted earlier (s.Loop n ii l r) =
     built _ _ refl refl (blocks_more (s.Loop n ii l r) earlier refl ∙ omega arith) (no_operations (s.Loop n ii l r) earlier refl)
 counted earlier (s.At off guard o) =
     built _ _ refl refl (blocks_more (s.At off guard o) earlier refl) (operations_more (s.At off guard o) earlier refl ∙ omega arith)
-counted earlier (s.Flow v) = let p = plain (s.Flow v) earlier refl refl refl refl in built _ _ refl refl p.0 p.1
-counted earlier (s.Reg n w) = let p = plain (s.Reg n w) earlier refl refl refl refl in built _ _ refl refl p.0 p.1
-counted earlier (s.Mem n w l) = let p = plain (s.Mem n w l) earlier refl refl refl refl in built _ _ refl refl p.0 p.1
-counted earlier (s.Temp n w) = let p = plain (s.Temp n w) earlier refl refl refl refl in built _ _ refl refl p.0 p.1
-counted earlier (s.Goto b) = let p = plain (s.Goto b) earlier refl refl refl refl in built _ _ refl refl p.0 p.1
-counted earlier (s.Branch r b c) = let p = plain (s.Branch r b c) earlier refl refl refl refl in built _ _ refl refl p.0 p.1
-counted earlier s.Stop = let p = plain s.Stop earlier refl refl refl refl in built _ _ refl refl p.0 p.1
-counted earlier (s.Input n v) = let p = plain (s.Input n v) earlier refl refl refl refl in built _ _ refl refl p.0 p.1
-counted earlier (s.Limits c o) = let p = plain (s.Limits c o) earlier refl refl refl refl in built _ _ refl refl p.0 p.1
-counted earlier (s.Depth n d) = let p = plain (s.Depth n d) earlier refl refl refl refl in built _ _ refl refl p.0 p.1
-counted earlier s.End = let p = plain s.End earlier refl refl refl refl in built _ _ refl refl p.0 p.1
+counted earlier st = let p = plain st earlier refl refl refl refl in built _ _ refl refl p.0 p.1
 
 -- ---- each count is at most that of the statements
 
@@ -103,12 +93,6 @@ few_more before most st few = by st
 
     by : (st : Statement) → IsFew (counts_more before st) (suc most)
     by (s.Source n w) = record { channels = omega arith; modules = omega arith; blocks = omega arith; operations = omega arith }
-    by (s.Sink n w) = record { channels = omega arith; modules = omega arith; blocks = omega arith; operations = omega arith }
-    by (s.Fifo n w depth delay) = record { channels = omega arith; modules = omega arith; blocks = omega arith; operations = omega arith }
-    by (s.Module n) = record { channels = omega arith; modules = omega arith; blocks = omega arith; operations = omega arith }
-    by (s.Block n l) = record { channels = omega arith; modules = omega arith; blocks = omega arith; operations = omega arith }
-    by (s.Loop n ii l r) = record { channels = omega arith; modules = omega arith; blocks = omega arith; operations = omega arith }
-    by (s.At off guard o) = record { channels = omega arith; modules = omega arith; blocks = omega arith; operations = omega arith }
     by other = record { channels = omega arith; modules = omega arith; blocks = omega arith; operations = omega arith }
 
 pub all_few : (earlier : List Statement) → IsFew (counts earlier) (length earlier)

@@ -84,10 +84,6 @@ channel_stands earlier (st ∷ rest) f c h = by st (channel_stands (st ∷ earli
     by (s.Sink n w) more e (suc f) q = behind (s.Sink n w) f (ap (λ (k : Counts). k.channels) e) (more f c q)
     by (s.Fifo n w depth delay) more e zero q = here (s.Fifo n w depth delay) refl
     by (s.Fifo n w depth delay) more e (suc f) q = behind (s.Fifo n w depth delay) f (ap (λ (k : Counts). k.channels) e) (more f c q)
-    by (s.Module n) more e f q = other (s.Module n) f (ap (λ (k : Counts). k.channels) e) (more f c q)
-    by (s.Block n l) more e f q = other (s.Block n l) f (ap (λ (k : Counts). k.channels) e) (more f c q)
-    by (s.Loop n ii l r) more e f q = other (s.Loop n ii l r) f (ap (λ (k : Counts). k.channels) e) (more f c q)
-    by (s.At off guard o) more e f q = other (s.At off guard o) f (ap (λ (k : Counts). k.channels) e) (more f c q)
     by st more e f q = other st f (ap (λ (k : Counts). k.channels) e) (more f c q)
 
 limits_stand : (earlier rest : List Statement) → breaks_limits (limits_of rest).0 (limits_of rest).1 ≡ true
@@ -121,11 +117,7 @@ module _ (m b : ℕ) (own : Scope) where
   last_more before (s.Module n) x y last = absurd (true≢false x)
   last_more before (s.Block n l) x y last = absurd (true≢false y)
   last_more before (s.Loop n ii l r) x y last = absurd (true≢false y)
-  last_more before (s.Source n w) x y last = record { modules = last.modules; blocks = last.blocks }
-  last_more before (s.Sink n w) x y last = record { modules = last.modules; blocks = last.blocks }
-  last_more before (s.Fifo n w depth delay) x y last = record { modules = last.modules; blocks = last.blocks }
-  last_more before (s.At off guard o) x y last = record { modules = last.modules; blocks = last.blocks }
-  last_more before st x y last = last
+  last_more before st x y last = record { modules = last.modules; blocks = last.blocks }
 
   operation_stands : (earlier body : List Statement) (k : ℕ) (t : Timed) → Plain level.Modules body → Plain level.Blocks body
       → AreLast (counts earlier) m b → slice_get (filter_map (timed own) body) k ≡ Some t
@@ -162,10 +154,6 @@ module _ (m b : ℕ) (own : Scope) where
           (subst (λ (n : ℕ). Stands (s.At off guard o ∷ earlier) body (item.InModule m (b, Operation n))) (omega (arith, one)) (more k q))
       by (s.Block n l) e more y k q = absurd (true≢false y)
       by (s.Loop n ii l r) e more y k q = absurd (true≢false y)
-      by (s.Source n w) e more y k q = other (s.Source n w) k (ap (λ (c : Counts). c.operations) e) (more k q)
-      by (s.Sink n w) e more y k q = other (s.Sink n w) k (ap (λ (c : Counts). c.operations) e) (more k q)
-      by (s.Fifo n w depth delay) e more y k q = other (s.Fifo n w depth delay) k (ap (λ (c : Counts). c.operations) e) (more k q)
-      by (s.Module n) e more y k q = other (s.Module n) k (ap (λ (c : Counts). c.operations) e) (more k q)
       by st e more y k q = other st k (ap (λ (c : Counts). c.operations) e) (more k q)
 
   terminator_stands : (count : ℕ) (earlier body : List Statement) → Plain level.Modules body → Plain level.Blocks body
@@ -266,12 +254,6 @@ block_stands scope m count earlier (st ∷ body) n blk a plain e at h =
       where
         same : (st : Statement) → begins level.Modules st ≡ false → (counts_more (counts earlier) st).modules ≡ (counts earlier).modules
         same (s.Module n) h = absurd (true≢false h)
-        same (s.Source n w) h = refl
-        same (s.Sink n w) h = refl
-        same (s.Fifo n w depth delay) h = refl
-        same (s.Block n l) h = refl
-        same (s.Loop n ii l r) h = refl
-        same (s.At off guard o) h = refl
         same st h = refl
 
     one_block : (st : Statement) → begins level.Blocks st ≡ true → (counts_more (counts earlier) st).blocks ≡ (counts earlier).blocks + 1
@@ -284,10 +266,6 @@ block_stands scope m count earlier (st ∷ body) n blk a plain e at h =
     no_block (s.Module n) h q = absurd (true≢false h)
     no_block (s.Block n l) h q = absurd (true≢false q)
     no_block (s.Loop n ii l r) h q = absurd (true≢false q)
-    no_block (s.Source n w) h q = refl
-    no_block (s.Sink n w) h q = refl
-    no_block (s.Fifo n w depth delay) h q = refl
-    no_block (s.At off guard o) h q = refl
     no_block st h q = refl
 
     by : (b : Bool) → begins level.Blocks st ≡ b → (n : ℕ)
@@ -348,12 +326,6 @@ module_stands names earlier (st ∷ rest) n c own blk a at block_at h =
         let one : (counts (s.Module x ∷ earlier)).modules ≡ (counts earlier).modules + 1 = ap (λ (k : Counts). k.modules) e in
         later earlier rest (s.Module x) _
         (subst (λ (k : ℕ). Stands (s.Module x ∷ earlier) rest (item.InModule k (c, a))) (omega (arith, one)) (more n q))
-    by (s.Source m w) e n more q = other (s.Source m w) n (ap (λ (k : Counts). k.modules) e) (more n q)
-    by (s.Sink m w) e n more q = other (s.Sink m w) n (ap (λ (k : Counts). k.modules) e) (more n q)
-    by (s.Fifo m w depth delay) e n more q = other (s.Fifo m w depth delay) n (ap (λ (k : Counts). k.modules) e) (more n q)
-    by (s.Block m l) e n more q = other (s.Block m l) n (ap (λ (k : Counts). k.modules) e) (more n q)
-    by (s.Loop m ii l r) e n more q = other (s.Loop m ii l r) n (ap (λ (k : Counts). k.modules) e) (more n q)
-    by (s.At off guard o) e n more q = other (s.At off guard o) n (ap (λ (k : Counts). k.modules) e) (more n q)
     by st e n more q = other st n (ap (λ (k : Counts). k.modules) e) (more n q)
 
 -- an item that breaks a rule has its statement

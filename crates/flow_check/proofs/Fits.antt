@@ -273,15 +273,7 @@ each_rule plan a b c d e code.PortClash = none_mapped in_module _ b
 each_rule plan a b c d e code.BadLoop = none_mapped in_module _ c
 each_rule plan a b c d e code.BadOffset = none_mapped in_module _ d
 each_rule plan a b c d e code.WrongSide = none_mapped in_module _ e
-each_rule plan a b c d e code.TooLong = other_rule code.TooLong (λ m b. refl) plan.design.modules
-each_rule plan a b c d e code.NotAscii = other_rule code.NotAscii (λ m b. refl) plan.design.modules
-each_rule plan a b c d e code.Syntax = other_rule code.Syntax (λ m b. refl) plan.design.modules
-each_rule plan a b c d e code.BadNumber = other_rule code.BadNumber (λ m b. refl) plan.design.modules
-each_rule plan a b c d e code.DoubleName = other_rule code.DoubleName (λ m b. refl) plan.design.modules
-each_rule plan a b c d e code.BadLimit = other_rule code.BadLimit (λ m b. refl) plan.design.modules
-each_rule plan a b c d e code.Ends = other_rule code.Ends (λ m b. refl) plan.design.modules
-each_rule plan a b c d e code.Truncated = other_rule code.Truncated (λ m b. refl) plan.design.modules
-each_rule plan a b c d e code.TooMany = other_rule code.TooMany (λ m b. refl) plan.design.modules
+each_rule plan a b c d e rule = other_rule rule (λ m b. refl) plan.design.modules
 
 pub fits : (plan : Plan) → IsPlanRead plan → checking_fault plan ≡ None → FitsEngine plan
 unfolding checking_fault

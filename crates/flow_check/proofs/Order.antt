@@ -112,10 +112,6 @@ less before st item.Limits h = tt
 less before (s.Source n w) (item.Channel f) h = omega arith
 less before (s.Sink n w) (item.Channel f) h = omega arith
 less before (s.Fifo n w depth delay) (item.Channel f) h = omega arith
-less before (s.Module n) (item.Channel f) h = h
-less before (s.Block n l) (item.Channel f) h = h
-less before (s.Loop n ii l r) (item.Channel f) h = h
-less before (s.At off guard o) (item.Channel f) h = h
 less before st (item.Channel f) h = h
 less before (s.Module n) (item.InModule m (b, a)) h = after_module before m b a h
 less before (s.Block n l) (item.InModule m (b, a)) h = after_block before m b a h
@@ -136,8 +132,7 @@ channel_later : (f : ℕ) (j : Item) (before : Counts) → f ≡ before.channels
     → Upto j (item.Channel f)
     → item.Channel f ≡ j
 channel_later f (item.Channel g) before e behind upto = absurd (omega (arith, e))
-channel_later f item.Limits before e behind upto = absurd upto
-channel_later f (item.InModule n c) before e behind upto = absurd upto
+channel_later f j before e behind upto = absurd upto
 
 -- of a block that begins here
 head_later : (m p n q : ℕ) (t : Spot) (before : Counts) → before.modules ≡ m + 1 → before.blocks ≡ p
@@ -150,8 +145,7 @@ head_later m p n q t before em ep (inr (e, inl l)) (inr (u, inl v)) = omega arit
 head_later m p n q t before em ep (inr (e, inl l)) (inr (u, inr v)) = let w : q ≡ p = v.0 in omega arith
 head_later m p n q t before em ep (inr (e, inr h)) (inr (u, inl v)) = let w : before.blocks + 1 ≡ q + 1 = h.0 in omega arith
 head_later m p n q Head before em ep (inr (e, inr h)) (inr (u, inr v)) = h.1
-head_later m p n q (Operation k) before em ep (inr (e, inr h)) (inr (u, inr v)) = v.1
-head_later m p n q Terminator before em ep (inr (e, inr h)) (inr (u, inr v)) = v.1
+head_later m p n q t before em ep (inr (e, inr h)) (inr (u, inr v)) = v.1
 
 -- of a statement in a block
 body_later : (m p n q : ℕ) (a t : Spot) (before after : Counts) → before.modules ≡ m + 1 → before.blocks ≡ p + 1
@@ -171,9 +165,8 @@ body_later m p n q a t before after em ep am ap' same (inr (e, inr h)) (inr (u, 
 
 operation_same : (before : Counts) (t : Spot) → SpotBehind (record before { operations = before.operations + 1 }) t
     → SpotUpto t (Operation before.operations) → Operation before.operations ≡ t
-operation_same before Head h u = absurd u
 operation_same before (Operation k) h u = absurd (omega arith)
-operation_same before Terminator h u = absurd u
+operation_same before t h u = absurd u
 
 terminator_same : (before : Counts) (t : Spot) → SpotBehind before t → SpotUpto t Terminator → Terminator ≡ t
 terminator_same before Head h u = absurd h
@@ -190,8 +183,7 @@ block_first before i j is behind upto =
     by : (j : Item) → Behind (record before { blocks = before.blocks + 1; operations = 0 }) j → (m : ℕ)
         → Upto j (item.InModule m (before.blocks, Head)) → before.modules ≡ m + 1 → item.InModule m (before.blocks, Head) ≡ j
     by (item.InModule n (q, t)) h m u e = absurd (head_later m before.blocks n q t before e refl h u)
-    by item.Limits h m u e = absurd u
-    by (item.Channel f) h m u e = absurd u
+    by j h m u e = absurd u
 
 operation_first : (before : Counts) (i j : Item) → in_last_block before (Operation before.operations) ≡ Some i
     → Behind (record before { operations = before.operations + 1 }) j → Upto j i → i ≡ j
@@ -205,8 +197,7 @@ operation_first before i j is behind upto =
     by m b e f (item.InModule n (q, t)) h u =
         body_later m b n q (Operation before.operations) t before (record before { operations = before.operations + 1 }) e f refl refl
         (operation_same before t) h u
-    by m b e f item.Limits h u = absurd u
-    by m b e f (item.Channel g) h u = absurd u
+    by m b e f j h u = absurd u
 
 terminator_first : (before : Counts) (i j : Item) → in_last_block before Terminator ≡ Some i → Behind before j → Upto j i → i ≡ j
 terminator_first before i j is behind upto =
@@ -216,16 +207,14 @@ terminator_first before i j is behind upto =
     by : (m b : ℕ) → before.modules ≡ m + 1 → before.blocks ≡ b + 1 → (j : Item) → Behind before j
         → Upto j (item.InModule m (b, Terminator)) → item.InModule m (b, Terminator) ≡ j
     by m b e f (item.InModule n (q, t)) h u = body_later m b n q Terminator t before before e f refl refl (terminator_same before t) h u
-    by m b e f item.Limits h u = absurd u
-    by m b e f (item.Channel g) h u = absurd u
+    by m b e f j h u = absurd u
 
 limits_first : (i j : Item) → item.Limits ≡ i → Upto j i → i ≡ j
 limits_first i j e upto = by j (subst (Upto j) (sym e) upto)
   where
     by : (j : Item) → Upto j item.Limits → i ≡ j
     by item.Limits u = sym e
-    by (item.Channel f) u = absurd u
-    by (item.InModule n c) u = absurd u
+    by j u = absurd u
 
 channel_first : (before : Counts) (i j : Item) → item.Channel before.channels ≡ i
     → Behind (record before { channels = before.channels + 1 }) j → Upto j i → i ≡ j

@@ -28,12 +28,7 @@ spot_is : (a b : Spot) → same_spot a b ≡ true → a ≡ b
 spot_is Head Head h = refl
 spot_is (Operation j) (Operation k) h = ap Operation (eqb-true j k h)
 spot_is Terminator Terminator h = refl
-spot_is Head (Operation k) h = absurd (true≢false (sym h))
-spot_is Head Terminator h = absurd (true≢false (sym h))
-spot_is (Operation j) Head h = absurd (true≢false (sym h))
-spot_is (Operation j) Terminator h = absurd (true≢false (sym h))
-spot_is Terminator Head h = absurd (true≢false (sym h))
-spot_is Terminator (Operation k) h = absurd (true≢false (sym h))
+spot_is a b h = absurd (true≢false (sym h))
 
 item_is : (i j : Item) → same_item i j ≡ true → i ≡ j
 item_is item.Limits item.Limits h = refl
@@ -43,12 +38,7 @@ item_is (item.InModule m (b, a)) (item.InModule n (c, d)) h =
     let second = and_parts (b == c) (same_spot a d) first.1 in
     ap (λ (k : ℕ). item.InModule k (b, a)) (eqb-true m n first.0) ∙ ap (λ (k : ℕ). item.InModule n (k, a)) (eqb-true b c second.0)
     ∙ ap (λ (x : Spot). item.InModule n (c, x)) (spot_is a d second.1)
-item_is item.Limits (item.Channel g) h = absurd (true≢false (sym h))
-item_is item.Limits (item.InModule n c) h = absurd (true≢false (sym h))
-item_is (item.Channel f) item.Limits h = absurd (true≢false (sym h))
-item_is (item.Channel f) (item.InModule n c) h = absurd (true≢false (sym h))
-item_is (item.InModule m b) item.Limits h = absurd (true≢false (sym h))
-item_is (item.InModule m b) (item.Channel g) h = absurd (true≢false (sym h))
+item_is i j h = absurd (true≢false (sym h))
 
 spot_itself : (a : Spot) → same_spot a a ≡ true
 spot_itself Head = refl

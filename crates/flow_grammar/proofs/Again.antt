@@ -10,7 +10,7 @@ use Rattle.flow_design.specs.declared.expr.Expr.TheVariants.{Number, Var, Unary,
 use Rattle.flow_design.specs.declared.expr.UnOp.{UnOp}
 use Rattle.flow_design.specs.declared.expr.UnOp.TheVariants.{Not}
 use Rattle.flow_design.specs.declared.expr.BinOp.{BinOp}
-use Rattle.flow_design.specs.declared.expr.BinOp.TheVariants.{Add, Sub, Mul, And, Or, Xor, Shl, Shr, Eq, Ne, LtU, LtS, Div, Rem}
+use Rattle.flow_design.specs.declared.expr.BinOp.TheVariants.{Add}
 use Rattle.flow_grammar.specs.declared.operator.Operator.{Operator}
 use Rattle.flow_grammar.specs.declared.operator.Operator.TheVariants.{One, Two, Extend, Choose}
 use Rattle.flow_grammar.specs.Tokens.{is_number, is_name, number_of}
@@ -42,19 +42,7 @@ operator_token o t = (operator_of t ≡ Some o) × (is_number t ≡ false) × (i
 two_token : (o : BinOp) → operator_token (Two o) (binary_word o)
 unfolding operator_of is_number is_name
 two_token Add = (refl, refl, refl)
-two_token Sub = (refl, refl, refl)
-two_token Mul = (refl, refl, refl)
-two_token And = (refl, refl, refl)
-two_token Or = (refl, refl, refl)
-two_token Xor = (refl, refl, refl)
-two_token Shl = (refl, refl, refl)
-two_token Shr = (refl, refl, refl)
-two_token Eq = (refl, refl, refl)
-two_token Ne = (refl, refl, refl)
-two_token LtU = (refl, refl, refl)
-two_token LtS = (refl, refl, refl)
-two_token Div = (refl, refl, refl)
-two_token Rem = (refl, refl, refl)
+two_token o = (refl, refl, refl)
 
 one_token : operator_token (One Not) (codes "~")
 unfolding operator_of is_number is_name

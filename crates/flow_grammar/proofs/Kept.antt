@@ -4,18 +4,15 @@ use Rattle.std.specs.Prelude.{◌&&◌, nat_le, nat_lt, max, not}
 use Rattle.std.specs.List.{list_all}
 use Rattle.std.proofs.lemmas.Bool.Decides.{nat_tests}
 use Rattle.flow_design.specs.declared.expr.Expr.{Expr}
-use Rattle.flow_design.specs.declared.expr.Expr.TheOpen.{Expr-F}
 use Rattle.flow_design.specs.declared.expr.Expr.TheVariants.{Number, Var, Unary, Binary, Sext, Pick}
 use Rattle.flow_design.specs.declared.expr.UnOp.{UnOp}
 use Rattle.flow_design.specs.declared.expr.UnOp.TheVariants.{Not}
 use Rattle.flow_design.specs.declared.expr.BinOp.{BinOp}
-use Rattle.flow_design.specs.declared.session.Statement.{Statement}
 use Rattle.flow_grammar.specs.declared.fault.Code.TheVariants.{BadNumber, UnknownName, TooMany}
 use Rattle.flow_grammar.specs.declared.operand.Operand.TheVariants.{Whole, Faulty}
-use Rattle.flow_grammar.specs.Parts.{Part, AVariable, expr_parts, layer_parts}
+use Rattle.flow_grammar.specs.Parts.{Part, expr_parts}
 use Rattle.flow_design.specs.Words.{nodes, depth, layer_nodes, layer_depth}
-use Rattle.flow_grammar.specs.Before.{is_among}
-use Rattle.flow_grammar.specs.Rules.{is_in_range, is_known, named, is_small}
+use Rattle.flow_grammar.specs.Rules.{is_in_range, is_small}
 use Rattle.flow_grammar.specs.Operands.{seen, two, choose, kept, is_known_by}
 use Rattle.flow_grammar.proofs.Induction.{by_cases}
 use Rattle.flow_grammar.proofs.Trees.{folded-Number, folded-Var, folded-Unary, folded-Binary, folded-Sext, folded-Pick, seen_Number}
@@ -167,30 +164,3 @@ module _ (known : List ℕ → Bool) where
 
   pub kept_all : seen known ≡ kept known
   kept_all = λ i e. kept_of e i
-
--- the names of an expression are all variables
-module _ (earlier : List Statement) where
-  abbrev Agrees : List Part → Type 0
-  Agrees ps = list_all (is_known earlier) ps ≡ list_all (is_known_by (λ n. is_among (named earlier AVariable) n)) ps
-
-  abbrev Variables : Expr (List ℕ) → Type 0
-  Variables e = Agrees (expr_parts e)
-
-  agrees_append : (xs ys : List Part) → Agrees xs → Agrees ys → Agrees (xs ++ ys)
-  agrees_append xs ys h k =
-      all_append (is_known earlier) xs ys ∙ (λ i. h i && k i)
-      ∙ sym (all_append (is_known_by (λ n. is_among (named earlier AVariable) n)) xs ys)
-
-  pub variables : (e : Expr (List ℕ)) → Variables e
-  variables = by_cases (List ℕ) Variables (record {
-    number = λ n. rw (parts_Number n) refl;
-    var = λ x. rw (parts_Var x) refl;
-    unary = λ o a h. rw (parts_Unary o a) (of_unary o (expr_parts a) h);
-    binary = λ o a b h k. rw (parts_Binary o a b) (agrees_append (expr_parts a) (expr_parts b) h k);
-    sext = λ k a h. rw (parts_Sext k a) h;
-    pick = λ a b c h k l. rw (parts_Pick a b c)
-        (agrees_append (expr_parts a) (expr_parts b ++ expr_parts c) h (agrees_append (expr_parts b) (expr_parts c) k l));
-  })
-    where
-      of_unary : (o : UnOp) (ps : List Part) → Agrees ps → Agrees (layer_parts (Expr-F.Unary o ps))
-      of_unary Not ps h = h

@@ -6,11 +6,10 @@ use Rattle.std.specs.List.{list_all, All, AllPairs}
 use Rattle.std.proofs.lemmas.List.{append-nil}
 use Rattle.std.proofs.lemmas.List.Kept.{AllPairs-cons}
 use Rattle.flow_design.specs.declared.session.Statement.{Statement}
-use Rattle.flow_design.specs.declared.session.Statement.TheVariants.{Flow, Source, Sink, Fifo, Module, Reg, Mem, Block, Loop, Temp, At}
-use Rattle.flow_design.specs.declared.session.Statement.TheVariants.{Goto, Branch, Stop, Input, Limits, Depth, End}
+use Rattle.flow_design.specs.declared.session.Statement.TheVariants.{Fifo}
 use Rattle.flow_grammar.specs.Tokens.{Line, Token, is_name, lines_of, tokens_of}
 use Rattle.flow_grammar.specs.Before.{version, has_delays}
-use Rattle.flow_grammar.specs.Parts.{Name, Part, Word, New, Use, Label, Num, parts, bare_parts, depth_parts, fifo_parts, default_delay}
+use Rattle.flow_grammar.specs.Parts.{Name, Part, Word, Num, parts, bare_parts, depth_parts, fifo_parts, default_delay}
 use Rattle.flow_grammar.specs.Spelling.{Spells, Spelled, WritesFifo, Writes}
 use Rattle.flow_grammar.specs.Rules.{is_well_named, fits_version, KeepsRules, KeepsReadingRules}
 use Rattle.flow_grammar.specs.Text.{statements_among, numbers_among, StandsFor}
@@ -21,10 +20,8 @@ use Rattle.std.proofs.lemmas.Bool.{or_right, and_from}
 
 spelled_named : (t : Token) (p : Part) → Spells t p → is_well_named p ≡ true
 spelled_named t (Word w) s = refl
-spelled_named t (New space n) s = subst (λ (x : Token). is_name x ≡ true) s.1 s.0
-spelled_named t (Use sort n) s = subst (λ (x : Token). is_name x ≡ true) s.1 s.0
-spelled_named t (Label n) s = subst (λ (x : Token). is_name x ≡ true) s.1 s.0
 spelled_named t (Num least most n) s = refl
+spelled_named t name s = subst (λ (x : Token). is_name x ≡ true) s.1 s.0
 
 all_named : (ts : List Token) (ps : List Part) → Spelled ts ps → list_all is_well_named ps ≡ true
 all_named [] [] s = refl
@@ -47,44 +44,12 @@ fifo_fits v ts n w depth delay (inr (inl h)) = or_right (has_delays v) (delay ==
 fifo_fits v ts n w depth delay (inr (inr h)) = or_right (has_delays v) (delay == default_delay) (rw h.1 refl)
 
 written_named : (v : ℕ) (ts : List Token) (s : Statement) → Writes v ts s → list_all is_well_named (parts s) ≡ true
-written_named v ts (Flow n) h = all_named ts (parts (Flow n)) h
-written_named v ts (Source n w) h = all_named ts (parts (Source n w)) h
-written_named v ts (Sink n w) h = all_named ts (parts (Sink n w)) h
 written_named v ts (Fifo n w depth delay) h = fifo_named v ts n w depth delay h
-written_named v ts (Module n) h = all_named ts (parts (Module n)) h
-written_named v ts (Reg n w) h = all_named ts (parts (Reg n w)) h
-written_named v ts (Mem n w l) h = all_named ts (parts (Mem n w l)) h
-written_named v ts (Block n l) h = all_named ts (parts (Block n l)) h
-written_named v ts (Loop n ii l r) h = all_named ts (parts (Loop n ii l r)) h
-written_named v ts (Temp n w) h = all_named ts (parts (Temp n w)) h
-written_named v ts (At off guard o) h = all_named ts (parts (At off guard o)) h
-written_named v ts (Goto b) h = all_named ts (parts (Goto b)) h
-written_named v ts (Branch r b c) h = all_named ts (parts (Branch r b c)) h
-written_named v ts Stop h = all_named ts (parts Stop) h
-written_named v ts (Input n values) h = all_named ts (parts (Input n values)) h
-written_named v ts (Limits c o) h = all_named ts (parts (Limits c o)) h
-written_named v ts (Depth n d) h = all_named ts (parts (Depth n d)) h
-written_named v ts End h = all_named ts (parts End) h
+written_named v ts s h = all_named ts (parts s) h
 
 written_fits : (v : ℕ) (ts : List Token) (s : Statement) → Writes v ts s → fits_version v s ≡ true
-written_fits v ts (Flow n) h = refl
-written_fits v ts (Source n w) h = refl
-written_fits v ts (Sink n w) h = refl
 written_fits v ts (Fifo n w depth delay) h = fifo_fits v ts n w depth delay h
-written_fits v ts (Module n) h = refl
-written_fits v ts (Reg n w) h = refl
-written_fits v ts (Mem n w l) h = refl
-written_fits v ts (Block n l) h = refl
-written_fits v ts (Loop n ii l r) h = refl
-written_fits v ts (Temp n w) h = refl
-written_fits v ts (At off guard o) h = refl
-written_fits v ts (Goto b) h = refl
-written_fits v ts (Branch r b c) h = refl
-written_fits v ts Stop h = refl
-written_fits v ts (Input n values) h = refl
-written_fits v ts (Limits c o) h = refl
-written_fits v ts (Depth n d) h = refl
-written_fits v ts End h = refl
+written_fits v ts s h = refl
 
 -- ---- statements
 

@@ -3,8 +3,7 @@ use Rattle.std.proofs.Common.{◌≡◌, ℕ, ◌+◌, List, [], ◌∷◌, ◌+
 use Rattle.std.specs.Prelude.{reverse, unwrap_or}
 use Rattle.std.proofs.lemmas.List.{reverse-append}
 use Rattle.flow_design.specs.declared.session.Statement.{Statement}
-use Rattle.flow_design.specs.declared.session.Statement.TheVariants.{Flow, Source, Sink, Fifo, Module, Reg, Mem, Block, Loop, Temp, At}
-use Rattle.flow_design.specs.declared.session.Statement.TheVariants.{Goto, Branch, Stop, Input, Limits, Depth, End}
+use Rattle.flow_design.specs.declared.session.Statement.TheVariants.{Flow, Fifo}
 use Rattle.flow_grammar.specs.Tokens.{Line, Token, lines_of, tokens_of}
 use Rattle.flow_grammar.specs.Before.{flow_number, version, has_delays}
 use Rattle.flow_grammar.specs.Places.{place_after, takes_flow, may_follow}
@@ -21,23 +20,7 @@ use Rattle.flow_grammar.proofs.TextLaws.{Words, InOrderFrom, ordered}
 
 no_flow_after : (s : Statement) → takes_flow (place_after s) ≡ true → ⊥
 no_flow_after (Flow n) h = cc
-no_flow_after (Source n w) h = cc
-no_flow_after (Sink n w) h = cc
-no_flow_after (Fifo n w depth delay) h = cc
-no_flow_after (Module n) h = cc
-no_flow_after (Reg n w) h = cc
-no_flow_after (Mem n w l) h = cc
-no_flow_after (Block n l) h = cc
-no_flow_after (Loop n ii l r) h = cc
-no_flow_after (Temp n w) h = cc
-no_flow_after (At off guard o) h = cc
-no_flow_after (Goto b) h = cc
-no_flow_after (Branch r b c) h = cc
-no_flow_after Stop h = cc
-no_flow_after (Input n values) h = cc
-no_flow_after (Limits c o) h = cc
-no_flow_after (Depth n d) h = cc
-no_flow_after End h = cc
+no_flow_after s h = cc
 
 -- behind other statements none declares a version
 pub no_flow_behind : (e : Statement) (earlier : List Statement) (v : ℕ) → may_follow (e ∷ earlier) (Flow v) ≡ true → ⊥
@@ -48,23 +31,7 @@ no_flow_behind e earlier v h = no_flow_after e h
 pub same_version : (e : Statement) (earlier : List Statement) (s : Statement) → may_follow (e ∷ earlier) s ≡ true
     → version (s ∷ e ∷ earlier) ≡ version (e ∷ earlier)
 same_version e earlier (Flow v) h = absurd (no_flow_behind e earlier v h)
-same_version e earlier (Source n w) h = refl
-same_version e earlier (Sink n w) h = refl
-same_version e earlier (Fifo n w depth delay) h = refl
-same_version e earlier (Module n) h = refl
-same_version e earlier (Reg n w) h = refl
-same_version e earlier (Mem n w l) h = refl
-same_version e earlier (Block n l) h = refl
-same_version e earlier (Loop n ii l r) h = refl
-same_version e earlier (Temp n w) h = refl
-same_version e earlier (At off guard o) h = refl
-same_version e earlier (Goto b) h = refl
-same_version e earlier (Branch r b c) h = refl
-same_version e earlier Stop h = refl
-same_version e earlier (Input n values) h = refl
-same_version e earlier (Limits c o) h = refl
-same_version e earlier (Depth n d) h = refl
-same_version e earlier End h = refl
+same_version e earlier s h = refl
 
 not_behind : (x : Statement) (xs : List Statement) (v : ℕ) → may_follow (reverse (x ∷ xs)) (Flow v) ≡ true → ⊥
 not_behind x xs v h = go (reverse xs) (subst (λ (e : List Statement). may_follow e (Flow v) ≡ true) (reverse-append (x ∷ []) xs) h)
@@ -78,23 +45,7 @@ not_behind x xs v h = go (reverse xs) (subst (λ (e : List Statement). may_follo
 later_writes : (v w : ℕ) → (has_delays v ≡ true → has_delays w ≡ true) → (ts : List Token) (s : Statement) → Writes v ts s → Writes w ts s
 later_writes v w up ts (Fifo n x depth delay) (inl h) = inl (up h.0, h.1)
 later_writes v w up ts (Fifo n x depth delay) (inr h) = inr h
-later_writes v w up ts (Flow n) h = h
-later_writes v w up ts (Source n x) h = h
-later_writes v w up ts (Sink n x) h = h
-later_writes v w up ts (Module n) h = h
-later_writes v w up ts (Reg n x) h = h
-later_writes v w up ts (Mem n x l) h = h
-later_writes v w up ts (Block n l) h = h
-later_writes v w up ts (Loop n ii l r) h = h
-later_writes v w up ts (Temp n x) h = h
-later_writes v w up ts (At off guard o) h = h
-later_writes v w up ts (Goto b) h = h
-later_writes v w up ts (Branch r b c) h = h
-later_writes v w up ts Stop h = h
-later_writes v w up ts (Input n values) h = h
-later_writes v w up ts (Limits c o) h = h
-later_writes v w up ts (Depth n d) h = h
-later_writes v w up ts End h = h
+later_writes v w up ts s h = h
 
 delays_kept : (ys : List Statement) → has_delays (version (ys ++ Flow 1 ∷ [])) ≡ true → has_delays (version (ys ++ Flow 2 ∷ [])) ≡ true
 delays_kept [] h = refl

@@ -43,10 +43,8 @@ op_one false make us ts h = tt
 op_one true make us ts h = go (trees_of us) refl
   where
     go : (found : Option Trees) → trees_of us ≡ found → OpSpelled ts (option_map make (one_tree found))
-    go None e = tt
-    go (Some []) e = tt
     go (Some (x ∷ [])) e = h refl x (let s = trees_spelled us (x ∷ []) e in rw (← append-nil (expr_parts x)) s)
-    go (Some (x ∷ y ∷ es)) e = tt
+    go found e = tt
 
 op_two : (test : Bool) (make : Expr Name → Expr Name → Op Name) (us ts : List Token)
     → (test ≡ true → (e f : Expr Name) → Spelled us (expr_parts e ++ expr_parts f) → Spelled ts (op_parts (make e f)))
@@ -55,55 +53,45 @@ op_two false make us ts h = tt
 op_two true make us ts h = go (trees_of us) refl
   where
     go : (found : Option Trees) → trees_of us ≡ found → OpSpelled ts (two_trees make found)
-    go None e = tt
-    go (Some []) e = tt
-    go (Some (x ∷ [])) e = tt
     go (Some (x ∷ y ∷ [])) e =
         h refl x y
         (subst (λ (ps : List Part). Spelled us (expr_parts x ++ ps)) (append-nil (expr_parts y)) (trees_spelled us (x ∷ y ∷ []) e))
-    go (Some (x ∷ y ∷ z ∷ es)) e = tt
+    go found e = tt
 
 set_written : (k : Token) (ts : List Token) → k ≡ codes "set" → OpSpelled (k ∷ ts) (set_of ts)
-set_written k [] w = tt
 set_written k (r ∷ us) w = op_one (is_name r) (op.Set r) us (k ∷ r ∷ us) (λ n e s. (w, ((n, refl), s)))
+set_written k ts w = tt
 
 load_written : (k : Token) (ts : List Token) → k ≡ codes "load" → OpSpelled (k ∷ ts) (load_of ts)
-load_written k [] w = tt
-load_written k (r ∷ []) w = tt
 load_written k (r ∷ m ∷ us) w = op_one (is_name r && is_name m) (op.Load r m) us (k ∷ r ∷ m ∷ us)
     (λ n e s. let p = and_parts (is_name r) (is_name m) n in (w, ((p.0, refl), ((p.1, refl), s))))
+load_written k ts w = tt
 
 store_written : (k : Token) (ts : List Token) → k ≡ codes "store" → OpSpelled (k ∷ ts) (store_of ts)
-store_written k [] w = tt
 store_written k (m ∷ us) w = op_two (is_name m) (op.Store m) us (k ∷ m ∷ us) (λ n e f s. (w, ((n, refl), s)))
+store_written k ts w = tt
 
 names_written : (make : Token → Token → Op Name) (k : Token) (ts : List Token)
     → ((f r : Token) → is_name f ≡ true → is_name r ≡ true → Spelled (k ∷ f ∷ r ∷ []) (op_parts (make f r)))
     → OpSpelled (k ∷ ts) (two_names make ts)
-names_written make k [] h = tt
-names_written make k (f ∷ []) h = tt
 names_written make k (f ∷ r ∷ []) h =
     op_only (is_name f && is_name r) (k ∷ f ∷ r ∷ []) (make f r) (λ n. let p = and_parts (is_name f) (is_name r) n in h f r p.0 p.1)
-names_written make k (f ∷ r ∷ u ∷ us) h = tt
+names_written make k ts h = tt
 
 write_written : (k : Token) (ts : List Token) → k ≡ codes "write" → OpSpelled (k ∷ ts) (write_of ts)
-write_written k [] w = tt
 write_written k (f ∷ us) w = op_one (is_name f) (op.Write f) us (k ∷ f ∷ us) (λ n e s. (w, ((n, refl), s)))
+write_written k ts w = tt
 
 try_read_written : (k : Token) (ts : List Token) → k ≡ codes "tryread" → OpSpelled (k ∷ ts) (try_read_of ts)
-try_read_written k [] w = tt
-try_read_written k (f ∷ []) w = tt
-try_read_written k (f ∷ r ∷ []) w = tt
 try_read_written k (f ∷ r ∷ ok ∷ []) w = op_only (is_name f && (is_name r && is_name ok)) (k ∷ f ∷ r ∷ ok ∷ []) (op.TryRead f r ok)
     (λ n. let p = and_parts (is_name f) (is_name r && is_name ok) n in
     let q = and_parts (is_name r) (is_name ok) p.1 in (w, ((p.0, refl), ((q.0, refl), ((q.1, refl), tt)))))
-try_read_written k (f ∷ r ∷ ok ∷ u ∷ us) w = tt
+try_read_written k ts w = tt
 
 try_write_written : (k : Token) (ts : List Token) → k ≡ codes "trywrite" → OpSpelled (k ∷ ts) (try_write_of ts)
-try_write_written k [] w = tt
-try_write_written k (f ∷ []) w = tt
 try_write_written k (f ∷ ok ∷ us) w = op_one (is_name f && is_name ok) (op.TryWrite f ok) us (k ∷ f ∷ ok ∷ us)
     (λ n e s. let p = and_parts (is_name f) (is_name ok) n in (w, ((p.0, refl), ((p.1, refl), s))))
+try_write_written k ts w = tt
 
 form_written : (v : Verb) (k : Token) (ts : List Token) → k ≡ verb_word v → OpSpelled (k ∷ ts) (op_form_of v ts)
 form_written verb.Set k ts w = set_written k ts w
@@ -146,30 +134,24 @@ module _ (version : ℕ) where
 
   flow_written : (k : Token) (ts : List Token) → k ≡ codes "flow" → IsWritten (k ∷ ts) (flow_of ts)
   unfolding flow_of
-  flow_written k [] w = tt
   flow_written k (n ∷ []) w = only (is_number n) (k ∷ n ∷ []) (Flow (number_of n)) (λ h. (w, ((h, refl), tt)))
-  flow_written k (n ∷ u ∷ us) w = tt
+  flow_written k ts w = tt
 
   width_written : (make : Token → ℕ → Statement) (k : Token) (ts : List Token)
       → ((n v : Token) → is_name n ≡ true → is_number v ≡ true → Writes version (k ∷ n ∷ v ∷ []) (make n (number_of v)))
       → IsWritten (k ∷ ts) (name_width make ts)
-  width_written make k [] h = tt
-  width_written make k (n ∷ []) h = tt
   width_written make k (n ∷ v ∷ []) h =
       only (is_name n && is_number v) (k ∷ n ∷ v ∷ []) (make n (number_of v))
       (λ t. let p = and_parts (is_name n) (is_number v) t in h n v p.0 p.1)
-  width_written make k (n ∷ v ∷ u ∷ us) h = tt
+  width_written make k ts h = tt
 
   name_written : (make : Token → Statement) (k : Token) (ts : List Token)
       → ((n : Token) → is_name n ≡ true → Writes version (k ∷ n ∷ []) (make n)) → IsWritten (k ∷ ts) (one_name make ts)
-  name_written make k [] h = tt
   name_written make k (n ∷ []) h = only (is_name n) (k ∷ n ∷ []) (make n) (h n)
-  name_written make k (n ∷ u ∷ us) h = tt
+  name_written make k ts h = tt
 
   fifo_written : (k : Token) (ts : List Token) → k ≡ codes "fifo" → IsWritten (k ∷ ts) (fifo_of version ts)
   unfolding fifo_of
-  fifo_written k [] w = tt
-  fifo_written k (n ∷ []) w = tt
   fifo_written k (n ∷ v ∷ []) w = only (is_name n && is_number v) (k ∷ n ∷ v ∷ []) (Fifo n (number_of v) default_depth default_delay)
       (λ t. let p = and_parts (is_name n) (is_number v) t in inr (inr (refl, refl, (w, ((p.0, refl), ((p.1, refl), tt))))))
   fifo_written k (n ∷ v ∷ d ∷ []) w =
@@ -192,26 +174,18 @@ module _ (version : ℕ) where
           let q = and_parts (is_number v) (is_number d && is_number e) p.1 in
           let r = and_parts (is_number d) (is_number e) q.1 in
           inl (h, (w, ((p.0, refl), ((q.0, refl), ((r.0, refl), ((r.1, refl), tt)))))))
-  fifo_written k (n ∷ v ∷ d ∷ e ∷ u ∷ us) w = tt
+  fifo_written k ts w = tt
 
   mem_written : (k : Token) (ts : List Token) → k ≡ codes "mem" → IsWritten (k ∷ ts) (mem_of ts)
   unfolding mem_of
-  mem_written k [] w = tt
-  mem_written k (n ∷ []) w = tt
-  mem_written k (n ∷ v ∷ []) w = tt
   mem_written k (n ∷ v ∷ l ∷ []) w =
       only (is_name n && (is_number v && is_number l)) (k ∷ n ∷ v ∷ l ∷ []) (Mem n (number_of v) (number_of l))
       (λ t. let p = and_parts (is_name n) (is_number v && is_number l) t in
       let q = and_parts (is_number v) (is_number l) p.1 in (w, ((p.0, refl), ((q.0, refl), ((q.1, refl), tt)))))
-  mem_written k (n ∷ v ∷ l ∷ u ∷ us) w = tt
+  mem_written k ts w = tt
 
   loop_written : (k : Token) (ts : List Token) → k ≡ codes "loop" → IsWritten (k ∷ ts) (loop_of ts)
   unfolding loop_of
-  loop_written k [] w = tt
-  loop_written k (n ∷ []) w = tt
-  loop_written k (n ∷ i ∷ []) w = tt
-  loop_written k (n ∷ i ∷ l ∷ []) w = tt
-  loop_written k (n ∷ i ∷ l ∷ x ∷ []) w = tt
   loop_written k (n ∷ i ∷ l ∷ x ∷ r ∷ []) w =
       only (is_name n && (is_number i && (is_number l && (is_word x (codes "while") && is_name r)))) (k ∷ n ∷ i ∷ l ∷ x ∷ r ∷ [])
       (Loop n (number_of i) (number_of l) r)
@@ -220,25 +194,20 @@ module _ (version : ℕ) where
       let o = and_parts (is_number l) (is_word x (codes "while") && is_name r) q.1 in
       let z = and_parts (is_word x (codes "while")) (is_name r) o.1 in
       (w, ((p.0, refl), ((q.0, refl), ((o.0, refl), (word_is x (codes "while") z.0, ((z.1, refl), tt)))))))
-  loop_written k (n ∷ i ∷ l ∷ x ∷ r ∷ u ∷ us) w = tt
+  loop_written k ts w = tt
 
   branch_written : (k : Token) (ts : List Token) → k ≡ codes "branch" → IsWritten (k ∷ ts) (branch_of ts)
   unfolding branch_of
-  branch_written k [] w = tt
-  branch_written k (r ∷ []) w = tt
-  branch_written k (r ∷ b ∷ []) w = tt
   branch_written k (r ∷ b ∷ c ∷ []) w = only (is_name r && (is_name b && is_name c)) (k ∷ r ∷ b ∷ c ∷ []) (Branch r b c)
       (λ t. let p = and_parts (is_name r) (is_name b && is_name c) t in
       let q = and_parts (is_name b) (is_name c) p.1 in (w, ((p.0, refl), ((q.0, refl), ((q.1, refl), tt)))))
-  branch_written k (r ∷ b ∷ c ∷ u ∷ us) w = tt
+  branch_written k ts w = tt
 
   limits_written : (k : Token) (ts : List Token) → k ≡ codes "limits" → IsWritten (k ∷ ts) (limits_of ts)
   unfolding limits_of
-  limits_written k [] w = tt
-  limits_written k (c ∷ []) w = tt
   limits_written k (c ∷ o ∷ []) w = only (is_number c && is_number o) (k ∷ c ∷ o ∷ []) (Limits (number_of c) (number_of o))
       (λ t. let p = and_parts (is_number c) (is_number o) t in (w, ((p.0, refl), ((p.1, refl), tt))))
-  limits_written k (c ∷ o ∷ u ∷ us) w = tt
+  limits_written k ts w = tt
 
   bare_written : (s : Statement) (k : Token) (ts : List Token) → Writes version (k ∷ []) s → IsWritten (k ∷ ts) (bare s ts)
   bare_written s k [] h = h

@@ -9,7 +9,7 @@ use Rattle.flow_grammar.specs.declared.fault.ReadFail.{ReadFail}
 use Rattle.flow_grammar.specs.declared.fault.ReadFail.TheVariants as fails
 use Rattle.flow_grammar.specs.declared.fault.LineFail.{LineFail}
 use Rattle.flow_grammar.specs.declared.fault.LineFail.TheVariants as line_fails
-use Rattle.flow_grammar.specs.Line.{statement_in, line_fault, form_fault}
+use Rattle.flow_grammar.specs.Line.{statement_in, line_fault}
 use Rattle.flow_grammar.specs.Rules.{is_over}
 
 -- one line: its fault, or its statement
@@ -71,11 +71,6 @@ reading before n [] = ended (is_over before) n
 reading before n (line ∷ lines) =
     at_line (n + 1) (line_reading before line) >>= λ statement. reading (with_statement before statement) (n + 1) lines >>= λ r. Ok
     (in_front (n + 1) statement r)
-
--- what tokens give that write this statement, or none: the first test that it fails behind the earlier ones, or the statement
-abbrev pub form_reading : List Statement → Option Statement → Result Statement Code
-form_reading earlier None = Err Syntax
-form_reading earlier (Some s) = judged (form_fault earlier (Some s)) s
 
 -- the one operand
 abbrev pub only_operand : Option (List Operand) → Result Operand Code

@@ -19,43 +19,11 @@ IsPart part = (s : Statement) (n : Name) → part s ≡ Some n → channel_name 
 
 sources_are : IsPart source_name
 sources_are (Source m w) n e = e
-sources_are (Flow v) n e = absurd cc
-sources_are (Sink m w) n e = absurd cc
-sources_are (Fifo m w depth delay) n e = absurd cc
-sources_are (Module m) n e = absurd cc
-sources_are (Reg m w) n e = absurd cc
-sources_are (Mem m w l) n e = absurd cc
-sources_are (Block m l) n e = absurd cc
-sources_are (Loop m ii l r) n e = absurd cc
-sources_are (Temp m w) n e = absurd cc
-sources_are (At off guard o) n e = absurd cc
-sources_are (Goto b) n e = absurd cc
-sources_are (Branch r b c) n e = absurd cc
-sources_are Stop n e = absurd cc
-sources_are (Input m values) n e = absurd cc
-sources_are (Limits c o) n e = absurd cc
-sources_are (Depth m d) n e = absurd cc
-sources_are End n e = absurd cc
+sources_are s n e = absurd cc
 
 fifos_are : IsPart fifo_name
 fifos_are (Fifo m w depth delay) n e = e
-fifos_are (Flow v) n e = absurd cc
-fifos_are (Sink m w) n e = absurd cc
-fifos_are (Source m w) n e = absurd cc
-fifos_are (Module m) n e = absurd cc
-fifos_are (Reg m w) n e = absurd cc
-fifos_are (Mem m w l) n e = absurd cc
-fifos_are (Block m l) n e = absurd cc
-fifos_are (Loop m ii l r) n e = absurd cc
-fifos_are (Temp m w) n e = absurd cc
-fifos_are (At off guard o) n e = absurd cc
-fifos_are (Goto b) n e = absurd cc
-fifos_are (Branch r b c) n e = absurd cc
-fifos_are Stop n e = absurd cc
-fifos_are (Input m values) n e = absurd cc
-fifos_are (Limits c o) n e = absurd cc
-fifos_are (Depth m d) n e = absurd cc
-fifos_are End n e = absurd cc
+fifos_are s n e = absurd cc
 
 module _ (part : Statement → Option Name) (are : IsPart part) where
   absent_cons : (s : Statement) (earlier : List Statement) (n : Name) (p c : Option Name) → part s ≡ p → channel_name s ≡ c

@@ -26,43 +26,17 @@ part_same : (earlier : List Statement) (p : Part)
     → (is_new (tables_of earlier) p ≡ rules.is_new earlier p) × (is_known (tables_of earlier) p ≡ rules.is_known earlier p)
 unfolding tables_of
 part_same earlier (New ChannelName n) = (refl, refl)
-part_same earlier (New ModuleName n) = (refl, refl)
-part_same earlier (New RegisterName n) = (refl, refl)
-part_same earlier (New MemoryName n) = (refl, refl)
-part_same earlier (New TempName n) = (refl, refl)
-part_same earlier (New BlockName n) = (refl, refl)
+part_same earlier (New space n) = (refl, refl)
 part_same earlier (Use AnyChannel n) = (refl, refl)
-part_same earlier (Use ASource n) = (refl, refl)
-part_same earlier (Use AFifo n) = (refl, refl)
-part_same earlier (Use ARegister n) = (refl, refl)
-part_same earlier (Use AMemory n) = (refl, refl)
-part_same earlier (Use AVariable n) = (refl, refl)
-part_same earlier (Word w) = (refl, refl)
-part_same earlier (Label n) = (refl, refl)
-part_same earlier (Num least most n) = (refl, refl)
+part_same earlier (Use sort n) = (refl, refl)
+part_same earlier part = (refl, refl)
 
 -- and what a statement is
 statement_same : (s : Statement) (earlier : List Statement)
     → (is_first_input (tables_of earlier) s ≡ rules.is_first_input earlier s) × (has_room (tables_of earlier) s ≡ rules.has_room earlier s)
 unfolding tables_of
 statement_same (Flow n) earlier = (refl, refl)
-statement_same (Source n w) earlier = (refl, refl)
-statement_same (Sink n w) earlier = (refl, refl)
-statement_same (Fifo n w depth delay) earlier = (refl, refl)
-statement_same (Module n) earlier = (refl, refl)
-statement_same (Reg n w) earlier = (refl, refl)
-statement_same (Mem n w l) earlier = (refl, refl)
-statement_same (Block n l) earlier = (refl, refl)
-statement_same (Loop n ii l r) earlier = (refl, refl)
-statement_same (Temp n w) earlier = (refl, refl)
-statement_same (At off guard o) earlier = (refl, refl)
-statement_same (Goto b) earlier = (refl, refl)
-statement_same (Branch r b c) earlier = (refl, refl)
-statement_same Stop earlier = (refl, refl)
-statement_same (Input n values) earlier = (refl, refl)
-statement_same (Limits c o) earlier = (refl, refl)
-statement_same (Depth n d) earlier = (refl, refl)
-statement_same End earlier = (refl, refl)
+statement_same s earlier = (refl, refl)
 
 place_same : (s : Statement) (earlier : List Statement) → may_stand s (tables_of earlier).place ≡ may_follow earlier s
 unfolding tables_of may_follow
@@ -167,29 +141,17 @@ module _ (s : Statement) (earlier : List Statement) where
 -- the tables of one statement more
 pub accepted_same : (s : Statement) (earlier : List Statement) → accepted (tables_of earlier) s ≡ tables_of (s ∷ earlier)
 unfolding tables_of
-accepted_same (Flow v) earlier = quiet (Flow v) earlier _ refl refl refl refl refl refl refl refl
-accepted_same (Source n w) earlier = quiet (Source n w) earlier _ refl refl refl refl refl refl refl refl
-accepted_same (Sink n w) earlier = quiet (Sink n w) earlier _ refl refl refl refl refl refl refl refl
-accepted_same (Fifo n w depth delay) earlier = quiet (Fifo n w depth delay) earlier _ refl refl refl refl refl refl refl refl
-accepted_same (Module n) earlier = quiet (Module n) earlier _ refl refl refl refl refl refl refl refl
-accepted_same (Reg n w) earlier = quiet (Reg n w) earlier _ refl refl refl refl refl refl refl refl
-accepted_same (Mem n w l) earlier = quiet (Mem n w l) earlier _ refl refl refl refl refl refl refl refl
 accepted_same (Block n l) earlier =
     by_counts (Block n l) earlier _ refl refl (no_value (Block n l) earlier refl) (no_edit (Block n l) earlier refl)
 accepted_same (Loop n ii l r) earlier =
     by_counts (Loop n ii l r) earlier _ refl refl (no_value (Loop n ii l r) earlier refl) (no_edit (Loop n ii l r) earlier refl)
-accepted_same (Temp n w) earlier = quiet (Temp n w) earlier _ refl refl refl refl refl refl refl refl
 accepted_same (At off guard o) earlier =
     by_counts (At off guard o) earlier _ refl (counted is_operation (At off guard o) (in_body earlier) refl)
     (no_value (At off guard o) earlier refl) (no_edit (At off guard o) earlier refl)
-accepted_same (Goto b) earlier = quiet (Goto b) earlier _ refl refl refl refl refl refl refl refl
-accepted_same (Branch r b c) earlier = quiet (Branch r b c) earlier _ refl refl refl refl refl refl refl refl
-accepted_same Stop earlier = quiet Stop earlier _ refl refl refl refl refl refl refl refl
 accepted_same (Input n values) earlier =
     by_counts (Input n values) earlier _ refl (no_operation (Input n values) earlier refl) (summed input_count (Input n values) earlier)
     (no_edit (Input n values) earlier refl)
-accepted_same (Limits c o) earlier = quiet (Limits c o) earlier _ refl refl refl refl refl refl refl refl
 accepted_same (Depth n d) earlier =
     by_counts (Depth n d) earlier _ refl (no_operation (Depth n d) earlier refl) (no_value (Depth n d) earlier refl)
     (counted is_edit (Depth n d) earlier refl)
-accepted_same End earlier = quiet End earlier _ refl refl refl refl refl refl refl refl
+accepted_same s earlier = quiet s earlier _ refl refl refl refl refl refl refl refl

@@ -21,11 +21,11 @@ use Rattle.session_plan.specs.Sections.{begins, body_of, sections, declared, dec
 use Rattle.session_plan.specs.declared.section.Level.TheVariants as level
 use Rattle.session_plan.specs.declared.section.Sort.TheVariants as sort
 use Rattle.flow_check.specs.Read.{IsTimedRead, IsKindRead, IsNextRead, IsBlockRead}
-use Rattle.flow_check.proofs.Following.{Keeps, Follow, Plain, plain_body, follow_body, inside, nothing_inside, grows, tally, length_found}
-use Rattle.flow_check.proofs.Following.{tally_same, within, Heard, heard_none}
+use Rattle.flow_check.proofs.Following.{Keeps, Follow, Plain, plain_body, follow_body, inside, nothing_inside, grows, at_most, as_many}
+use Rattle.flow_check.proofs.Following.{Heard, heard_none}
 use Rattle.flow_check.proofs.Numbers.{all_none, all_cons}
-use Rattle.flow_check.proofs.Bodies.{temp_same, found_same, Hears, hears_more, hears_body, plain_later, TimedRead, ops_read, next_read}
-use Rattle.flow_check.proofs.Bodies.{temps_before, few_temps, few_operations, len_read, kind_read}
+use Rattle.flow_check.proofs.Bodies.{temp_same, heard_all, Hears, hears_more, hears_body, plain_later, TimedRead, ops_read, next_read}
+use Rattle.flow_check.proofs.Bodies.{few_temps, few_operations, len_read, kind_read}
 
 hears_own : (scope : Scope) (names : List Name) (earlier rest : List Statement) → Hears scope earlier rest
     → Hears (record scope { temps = names }) earlier rest
@@ -40,10 +40,9 @@ hears_own scope names earlier rest h = record {
 
 -- so many temps have names as have widths
 temps_long : (body : List Statement) → length (filter_map (declared sort.Temps) body) ≡ length (filter_map (declared_width sort.Temps) body)
-temps_long body = length_found (declared sort.Temps) body ∙ tally_same _ temps_before by body
-    ∙ sym (length_found (declared_width sort.Temps) body)
+temps_long body = as_many (declared sort.Temps) (declared_width sort.Temps) by body
   where
-    by : (x : Statement) → is_some (declared sort.Temps x) ≡ temps_before x
+    by : (x : Statement) → is_some (declared sort.Temps x) ≡ is_some (declared_width sort.Temps x)
     by (s.Temp n w) = refl
     by x = refl
 
@@ -80,20 +79,14 @@ module _ (count : ℕ) (m : Module) (scope : Scope) (chans : length scope.channe
       let no_blocks : Plain level.Blocks body = plain_body level.Blocks rest in
       let start : Heard temp_name names (inside level.Blocks e0)
       = subst (Heard temp_name names) (sym nothing) (heard_none temp_name names) in
-      let later : Heard temp_name names body
-      = λ n h. sym (ap (λ (l : List Name). is_among l n) (found_same temp_name (declared sort.Temps) temp_same body)) ∙ h in
       let ops : List Timed = filter_map (timed own) body in
-      let all : All (TimedRead own) ops = ops_read own e0 body follows no_modules no_blocks heard start later in
-      let no_temps : tally temps_before (inside level.Blocks e0) ≡ 0 = ap (tally temps_before) nothing in
-      let no_ops : tally (λ y. is_some (timed own y)) (inside level.Blocks e0) ≡ 0 = ap (tally (λ y. is_some (timed own y))) nothing in
-      let few : tally temps_before (inside level.Blocks e0) + tally temps_before body ≤ TEMPS
-      = within (inside level.Blocks) temps_before TEMPS few_temps e0 body follows (grows level.Blocks body no_blocks) (omega arith) in
-      let fewer : tally (λ y. is_some (timed own y)) (inside level.Blocks e0) + tally (λ y. is_some (timed own y)) body ≤ OPERATIONS
-      = within (inside level.Blocks) (λ y. is_some (timed own y)) OPERATIONS (few_operations own) e0 body follows
-      (grows level.Blocks body no_blocks) (omega arith) in
-      let long : length (filter_map (declared_width sort.Temps) body) ≡ tally temps_before body
-      = length_found (declared_width sort.Temps) body in
-      let many : length ops ≡ tally (λ y. is_some (timed own y)) body = length_found (timed own) body in
+      let all : All (TimedRead own) ops
+      = ops_read own e0 body follows no_modules no_blocks heard start (heard_all temp_name (declared sort.Temps) temp_same body) in
+      let few : length names ≤ TEMPS
+      = at_most (inside level.Blocks) (declared sort.Temps) TEMPS few_temps e0 body nothing follows (grows level.Blocks body no_blocks) in
+      let fewer : length ops ≤ OPERATIONS
+      = at_most (inside level.Blocks) (timed own) OPERATIONS (few_operations own) e0 body nothing follows
+      (grows level.Blocks body no_blocks) in
       let after : Next = first_or next.Stop (filter_map (terminator own) body) in
       let leads : IsNextRead (length scope.registers) after = next_read own e0 body follows no_modules heard in
       let len = len_read earlier head b keeps in
@@ -101,8 +94,8 @@ module _ (count : ℕ) (m : Module) (scope : Scope) (chans : length scope.channe
         least = len.0;
         most = len.1;
         kind = subst (λ (n : ℕ). IsKindRead n (kind_of scope head)) regs (kind_read scope earlier head keeps hears.registers);
-        temps = omega arith;
-        count = omega arith;
+        temps = subst (λ (n : ℕ). n ≤ TEMPS) (temps_long body) few;
+        count = fewer;
         operations = λ i d there. timed_read names (block scope (head, body)) (temps_long body) _ (all i d there);
         next = subst (λ (n : ℕ). IsNextRead n after) regs leads;
       }

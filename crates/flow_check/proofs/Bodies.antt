@@ -14,7 +14,7 @@ use Rattle.flow_design.specs.declared.design.Next.{Next}
 use Rattle.flow_design.specs.declared.design.Next.TheVariants as next
 use Rattle.flow_grammar.specs.Parts.{op_parts}
 use Rattle.flow_grammar.specs.Before.{channel_name, register_name, memory_name, temp_name, is_operation, channels, registers, memories}
-use Rattle.flow_grammar.specs.Before.{temps, operations, is_among}
+use Rattle.flow_grammar.specs.Before.{temps, operations, is_among, in_body}
 use Rattle.flow_grammar.specs.Rules.{is_known, has_small_trees}
 use Rattle.session_plan.specs.Names.{Name, number_of, Scope}
 use Rattle.session_plan.specs.Numbered.{places, operation, timed, terminator}
@@ -24,7 +24,7 @@ use Rattle.session_plan.specs.declared.section.Level.{Level}
 use Rattle.session_plan.specs.declared.section.Level.TheVariants as level
 use Rattle.session_plan.specs.declared.section.Sort.TheVariants as sort
 use Rattle.flow_check.specs.Read.{IsKindRead, IsNextRead}
-use Rattle.flow_check.proofs.Following.{Keeps, Follow, Plain, body_first, inside, no_beginning, tally, length_found, tally_same}
+use Rattle.flow_check.proofs.Following.{Keeps, Follow, Plain, body_first, inside, no_beginning}
 use Rattle.flow_check.proofs.Following.{number_below, Within, within_both, Heard, heard_none, heard_more, heard_later}
 use Rattle.flow_check.proofs.Numbers.{in_range, all_none, all_cons, OpRead, op_read}
 
@@ -48,18 +48,21 @@ channel_same (s.Sink n w) = refl
 channel_same (s.Fifo n w d l) = refl
 channel_same x = refl
 
-pub found_same : {X Y : Type 0} (f g : X → Option Y) → ((x : X) → f x ≡ g x) → (xs : List X) → filter_map f xs ≡ filter_map g xs
-found_same f g h [] = refl
-found_same {X} {Y} f g h (x ∷ xs) = ap (λ (o : Option Y). cons_option o (filter_map f xs)) (h x)
-    ∙ ap (cons_option (g x)) (found_same f g h xs)
+-- where g declares what f does, all the names that f gives are heard
+pub heard_all : (f g : Statement → Option Name) → ((x : Statement) → f x ≡ g x) → (xs : List Statement) → Heard f (filter_map g xs) xs
+heard_all f g same xs = subst (λ (names : List Name). Heard f names xs) (λ i. filter_map (λ x. same x i) xs) (λ n h. h)
 
-pub count_tally : {X : Type 0} (p : X → Bool) (xs : List X) → count_by p xs ≡ tally p xs
-count_tally p [] = refl
-count_tally {X} p (x ∷ xs) = sum_by-cons (λ y. cond (p y) 1 0) x xs ∙ by (p x) (count_tally p xs)
+-- the operations of a body are as many as it counts
+counted : {X Y : Type 0} (p : X → Bool) (f : X → Option Y) → ((x : X) → is_some (f x) ≡ p x) → (xs : List X)
+    → length (filter_map f xs) ≡ count_by p xs
+counted p f same [] = refl
+counted {X} {Y} p f same (x ∷ xs) = by (f x) (p x) (same x) (counted p f same xs) ∙ sym (sum_by-cons (λ y. cond (p y) 1 0) x xs)
   where
-    by : (b : Bool) → count_by p xs ≡ tally p xs → cond b 1 0 + count_by p xs ≡ cond b (suc (tally p xs)) (tally p xs)
-    by true e = omega arith
-    by false e = omega arith
+    by : (o : Option Y) (b : Bool) → is_some o ≡ b → length (filter_map f xs) ≡ count_by p xs
+        → length (cons_option o (filter_map f xs)) ≡ cond b 1 0 + count_by p xs
+    by None false e h = omega arith
+    by (Some y) true e h = omega arith
+    by o b e h = absurd cc
 
 -- ---- the names that are heard at a statement
 
@@ -179,36 +182,19 @@ next_read own earlier (x ∷ body) follow pm hears =
 
 -- ---- blocks
 
-abbrev pub temps_before : (x : Statement) → Bool
-temps_before x = is_some (declared_width sort.Temps x)
-
-pub few_temps : (earlier : List Statement) (x : Statement) → Keeps earlier x → temps_before x ≡ true
-    → tally temps_before (inside level.Blocks earlier) < TEMPS
+pub few_temps : (earlier : List Statement) (x : Statement) → Keeps earlier x → is_some (declared sort.Temps x) ≡ true
+    → length (filter_map (declared sort.Temps) (inside level.Blocks earlier)) < TEMPS
 few_temps earlier (s.Temp n w) keeps h =
-    let e : length (temps earlier) ≡ tally (λ y. is_some (temp_name y)) (inside level.Blocks earlier)
-    = length_found temp_name (inside level.Blocks earlier) in
-    let f : tally (λ y. is_some (temp_name y)) (inside level.Blocks earlier) ≡ tally temps_before (inside level.Blocks earlier)
-    = tally_same _ temps_before by (inside level.Blocks earlier) in
-    let g : length (temps earlier) < TEMPS = ltb-true (length (temps earlier)) TEMPS keeps.room in
-    omega arith
-  where
-    by : (y : Statement) → is_some (temp_name y) ≡ temps_before y
-    by (s.Temp m v) = refl
-    by y = refl
+    subst (λ (f : Statement → Option Name). length (filter_map f (in_body earlier)) < TEMPS) (λ i x. temp_same x i) (ltb-true _ _ keeps.room)
 few_temps earlier x keeps h = absurd (true≢false (sym h))
 
 pub few_operations : (own : Scope) (earlier : List Statement) (x : Statement) → Keeps earlier x → is_some (timed own x) ≡ true
-    → tally (λ y. is_some (timed own y)) (inside level.Blocks earlier) < OPERATIONS
+    → length (filter_map (timed own) (inside level.Blocks earlier)) < OPERATIONS
 few_operations own earlier (s.At offset guard o) keeps h =
     let room = and_parts (nat_lt (operations earlier) OPERATIONS) (has_small_trees o) keeps.room in
-    let e : operations earlier ≡ tally is_operation (inside level.Blocks earlier)
-    = count_tally is_operation (inside level.Blocks earlier) in
-    let f : tally is_operation (inside level.Blocks earlier) ≡ tally (λ y. is_some (timed own y)) (inside level.Blocks earlier)
-    = tally_same is_operation _ by (inside level.Blocks earlier) in
-    let g : operations earlier < OPERATIONS = ltb-true (operations earlier) OPERATIONS room.0 in
-    omega arith
+    subst (λ (k : ℕ). k < OPERATIONS) (sym (counted is_operation (timed own) by (inside level.Blocks earlier))) (ltb-true _ _ room.0)
   where
-    by : (y : Statement) → is_operation y ≡ is_some (timed own y)
+    by : (y : Statement) → is_some (timed own y) ≡ is_operation y
     by (s.At m v p) = refl
     by y = refl
 few_operations own earlier x keeps h = absurd (true≢false (sym h))

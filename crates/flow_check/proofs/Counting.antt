@@ -39,11 +39,7 @@ no_operations st earlier h =
     ap (count_by is_operation) (take_while-cons is_no_block st earlier ∙ ap (λ (b : Bool). cond b (st ∷ in_body earlier) []) h)
 
 built : (a b : Counts) → a.channels ≡ b.channels → a.modules ≡ b.modules → a.blocks ≡ b.blocks → a.operations ≡ b.operations → a ≡ b
-built a b c m k o =
-    ap (λ (n : ℕ). record a { channels = n }) c
-    ∙ ap (λ (n : ℕ). record { channels = b.channels; modules = n; blocks = a.blocks; operations = a.operations }) m
-    ∙ ap (λ (n : ℕ). record { channels = b.channels; modules = b.modules; blocks = n; operations = a.operations }) k
-    ∙ ap (λ (n : ℕ). record { channels = b.channels; modules = b.modules; blocks = b.blocks; operations = n }) o
+built a b c m k o = λ i. record { channels = c i; modules = m i; blocks = k i; operations = o i }
 
 plain : (st : Statement) (earlier : List Statement) → is_no_module st ≡ true → is_no_block st ≡ true → is_operation st ≡ false
     → block_name st ≡ None
@@ -109,13 +105,6 @@ pub record IsSought (statements : List Statement) (item : Item) (at : ℕ) (befo
   pub rest : place_where (is_item item) (items_of statements)
       ≡ option_map (λ k. at + k) (place_where (is_item item) (items_behind (reverse (take at statements)) (drop at statements)))
 
-pub sought_first : (statements : List Statement) (item : Item) → IsSought statements item 0 (counts [])
-sought_first statements item = record { counts = refl; rest = none_before (place_where (is_item item) (items_of statements)) }
-  where
-    none_before : (o : Option ℕ) → o ≡ option_map (λ k. 0 + k) o
-    none_before None = refl
-    none_before (Some k) = ap Some (omega arith)
-
 module _ (statements : List Statement) (item : Item) (at : ℕ) (before : Counts) (d : Statement) (there : at < length statements)
     (sought : IsSought statements item at before) where
   abbrev pub earlier : List Statement
@@ -143,17 +132,6 @@ module _ (statements : List Statement) (item : Item) (at : ℕ) (before : Counts
       (later (reverse (take (at + 1) statements)) (drop n statements)))
       (sym (add-one at))
 
-  -- the statement stands for it
-  pub sought_found : is_item item (item_behind before st) ≡ true → at ≡ place_of statements item
-  sought_found h =
-      let e : place_where (is_item item) (items_of statements) ≡ Some (at + 0)
-      = sought.rest ∙ ap (option_map (λ k. at + k)) (opened
-      ∙ ap (λ (b : Bool). cond b (Some 0)
-      (option_map (λ k. k + 1) (place_where (is_item item)
-      (items_behind (reverse (take (at + 1) statements)) (drop (at + 1) statements))))) h) in
-      let f : place_of statements item ≡ at + 0 = ap (λ (o : Option ℕ). unwrap_or o (length statements)) e in
-      omega arith
-
   -- it does not
   pub sought_more : is_item item (item_behind before st) ≡ false → IsSought statements item (at + 1) (counts_more before st)
   sought_more h = record {
@@ -175,13 +153,3 @@ module _ (statements : List Statement) (item : Item) (at : ℕ) (before : Counts
       ∙ omega arith in
       subst (λ (n : ℕ). IsFew before n) long (subst (λ (k : Counts). IsFew k (length (reverse (take at statements)))) (sym sought.counts)
       (all_few (reverse (take at statements))))
-
--- no statement does
-pub sought_none : (statements : List Statement) (item : Item) (at : ℕ) (before : Counts) → length statements ≤ at
-    → IsSought statements item at before → length statements ≡ place_of statements item
-sought_none statements item at before over sought =
-    let none : place_where (is_item item) (items_of statements) ≡ None
-    = sought.rest ∙ ap (λ (l : List Statement). option_map (λ k. at + k)
-    (place_where (is_item item) (items_behind (reverse (take at statements)) l)))
-    (drop_of_length-le statements over) in
-    sym (ap (λ (o : Option ℕ). unwrap_or o (length statements)) none)

@@ -6,6 +6,7 @@ use Rattle.std.specs.Prelude.{◌&&◌, ◌||◌, reverse}
 use Rattle.std.specs.List.{list_all, filter_map, cons_option}
 use Rattle.std.proofs.lemmas.Bool.{and_parts}
 use Rattle.std.proofs.lemmas.List.{reverse-append}
+use Rattle.std.proofs.lemmas.List.Folds.{list_any-append}
 use Rattle.std.proofs.lemmas.List.Sums.{take_while-cons}
 use Rattle.std.specs.Str.{bytes_eq}
 use Rattle.flow_design.specs.declared.session.Statement.{Statement}
@@ -138,45 +139,52 @@ grows level (s ∷ body) plain = (no_beginning level s plain.0, grows level body
 
 -- ---- counts
 
-abbrev pub tally : {X : Type 0} → (X → Bool) → List X → ℕ
-tally p [] = 0
-tally p (x ∷ xs) = cond (p x) (suc (tally p xs)) (tally p xs)
-
-pub length_found : {X Y : Type 0} (f : X → Option Y) (xs : List X) → length (filter_map f xs) ≡ tally (λ x. is_some (f x)) xs
-length_found f [] = refl
-length_found {X} {Y} f (x ∷ xs) = by (f x) (length_found f xs)
+-- where each statement that f takes finds fewer than the limit that it took before, it takes at most as many as the limit
+within : {Y : Type 0} (part : List Statement → List Statement) (f : Statement → Option Y) (most : ℕ)
+    → ((earlier : List Statement) (s : Statement) → Keeps earlier s → is_some (f s) ≡ true → length (filter_map f (part earlier)) < most)
+    → (earlier body : List Statement) → Follow earlier body → Grows part body → length (filter_map f (part earlier)) ≤ most
+    → length (filter_map f (part earlier)) + length (filter_map f body) ≤ most
+within part f most few earlier [] follow grown h = omega arith
+within {Y} part f most few earlier (s ∷ body) follow grown h =
+    by (f s) refl (within part f most few (s ∷ earlier) body follow.1 grown.1)
   where
-    by : (o : Option Y) → length (filter_map f xs) ≡ tally (λ x. is_some (f x)) xs
-        → length (cons_option o (filter_map f xs)) ≡ cond (is_some o) (suc (tally (λ x. is_some (f x)) xs)) (tally (λ x. is_some (f x)) xs)
-    by None e = e
-    by (Some y) e = ap suc e
+    each : (o : Option Y) → length (filter_map f (part (s ∷ earlier))) ≡ length (cons_option o (filter_map f (part earlier)))
+        → (is_some o ≡ true → length (filter_map f (part earlier)) < most)
+        → (length (filter_map f (part (s ∷ earlier))) ≤ most
+        → length (filter_map f (part (s ∷ earlier))) + length (filter_map f body) ≤ most)
+        → length (filter_map f (part earlier)) + length (cons_option o (filter_map f body)) ≤ most
+    each None more room later = let all = later (omega arith) in omega arith
+    each (Some y) more room later = let below = room refl in let all = later (omega arith) in omega arith
 
-pub tally_same : {X : Type 0} (p q : X → Bool) → ((x : X) → p x ≡ q x) → (xs : List X) → tally p xs ≡ tally q xs
-tally_same p q h [] = refl
-tally_same p q h (x ∷ xs) = ap (λ (b : Bool). cond b (suc (tally p xs)) (tally p xs)) (h x)
-    ∙ ap (λ (n : ℕ). cond (q x) (suc n) n) (tally_same p q h xs)
+    by : (o : Option Y) → f s ≡ o → (length (filter_map f (part (s ∷ earlier))) ≤ most
+        → length (filter_map f (part (s ∷ earlier))) + length (filter_map f body) ≤ most)
+        → length (filter_map f (part earlier)) + length (cons_option o (filter_map f body)) ≤ most
+    by o e later =
+        let more : length (filter_map f (part (s ∷ earlier))) ≡ length (cons_option o (filter_map f (part earlier)))
+        = ap (λ (l : List Statement). length (filter_map f l)) (grown.0 earlier)
+        ∙ ap (λ (x : Option Y). length (cons_option x (filter_map f (part earlier)))) e in
+        each o more (λ some. few earlier s follow.0 (ap is_some e ∙ some)) later
 
--- where each counted statement finds fewer than the limit before it, there are at most as many as the limit
-pub within : (part : List Statement → List Statement) (p : Statement → Bool) (most : ℕ)
-    → ((earlier : List Statement) (s : Statement) → Keeps earlier s → p s ≡ true → tally p (part earlier) < most)
-    → (earlier body : List Statement) → Follow earlier body → Grows part body → tally p (part earlier) ≤ most
-    → tally p (part earlier) + tally p body ≤ most
-within part p most few earlier [] follow grown h = omega arith
-within part p most few earlier (s ∷ body) follow grown h = by (p s) refl (within part p most few (s ∷ earlier) body follow.1 grown.1)
+-- the same where nothing stands before
+pub at_most : {Y : Type 0} (part : List Statement → List Statement) (f : Statement → Option Y) (most : ℕ)
+    → ((earlier : List Statement) (s : Statement) → Keeps earlier s → is_some (f s) ≡ true → length (filter_map f (part earlier)) < most)
+    → (earlier body : List Statement) → part earlier ≡ [] → Follow earlier body → Grows part body → length (filter_map f body) ≤ most
+at_most part f most few earlier body nothing follow grown =
+    let none : length (filter_map f (part earlier)) ≡ 0 = ap (λ (l : List Statement). length (filter_map f l)) nothing in
+    let all = within part f most few earlier body follow grown (omega arith) in
+    omega arith
+
+-- what takes the same statements takes as many
+pub as_many : {X Y Z : Type 0} (f : X → Option Y) (g : X → Option Z) → ((x : X) → is_some (f x) ≡ is_some (g x)) → (xs : List X)
+    → length (filter_map f xs) ≡ length (filter_map g xs)
+as_many f g same [] = refl
+as_many {X} {Y} {Z} f g same (x ∷ xs) = by (f x) (g x) (same x) (as_many f g same xs)
   where
-    by : (b : Bool) → p s ≡ b → (tally p (part (s ∷ earlier)) ≤ most → tally p (part (s ∷ earlier)) + tally p body ≤ most)
-        → tally p (part earlier) + cond b (suc (tally p body)) (tally p body) ≤ most
-    by true e later =
-        let one : tally p (part (s ∷ earlier)) ≡ suc (tally p (part earlier)) = ap (tally p) (grown.0 earlier)
-        ∙ ap (λ (c : Bool). cond c (suc (tally p (part earlier))) (tally p (part earlier))) e in
-        let room : tally p (part earlier) < most = few earlier s follow.0 e in
-        let all : tally p (part (s ∷ earlier)) + tally p body ≤ most = later (omega arith) in
-        omega arith
-    by false e later =
-        let one : tally p (part (s ∷ earlier)) ≡ tally p (part earlier) = ap (tally p) (grown.0 earlier)
-        ∙ ap (λ (c : Bool). cond c (suc (tally p (part earlier))) (tally p (part earlier))) e in
-        let all : tally p (part (s ∷ earlier)) + tally p body ≤ most = later (omega arith) in
-        omega arith
+    by : (o : Option Y) (u : Option Z) → is_some o ≡ is_some u → length (filter_map f xs) ≡ length (filter_map g xs)
+        → length (cons_option o (filter_map f xs)) ≡ length (cons_option u (filter_map g xs))
+    by None None e h = h
+    by (Some y) (Some z) e h = ap suc h
+    by o u e h = absurd cc
 
 -- ---- names
 
@@ -202,14 +210,6 @@ number_below names n h =
 abbrev pub Within : List Name → List Name → Type 0
 Within names more = (n : Name) → is_among names n ≡ true → is_among more n ≡ true
 
-among_append : (a b : List Name) (n : Name) → is_among (a ++ b) n ≡ is_among a n || is_among b n
-among_append [] b n = refl
-among_append (m ∷ a) b n = by (bytes_eq n m) (among_append a b n)
-  where
-    by : (c : Bool) → is_among (a ++ b) n ≡ is_among a n || is_among b n → c || is_among (a ++ b) n ≡ (c || is_among a n) || is_among b n
-    by true e = refl
-    by false e = e
-
 either : (a b c d : Bool) → (a ≡ true → c ≡ true) → (b ≡ true → d ≡ true) → a || b ≡ true → c || d ≡ true
 either true b c d f g h = ap (λ (x : Bool). x || d) (f refl)
 either false true true d f g h = refl
@@ -218,7 +218,8 @@ either false false c d f g h = absurd (true≢false (sym h))
 
 pub within_both : (a b c d : List Name) → Within a c → Within b d → Within (a ++ b) (c ++ d)
 within_both a b c d f g n h =
-    among_append c d n ∙ either (is_among a n) (is_among b n) (is_among c n) (is_among d n) (f n) (g n) (sym (among_append a b n) ∙ h)
+    list_any-append (bytes_eq n) c d ∙ either (is_among a n) (is_among b n) (is_among c n) (is_among d n) (f n) (g n)
+    (sym (list_any-append (bytes_eq n) a b) ∙ h)
 
 -- the names of a part of the statements before, where those of that part and of the statements left are among these
 abbrev pub Heard : (Statement → Option Name) → List Name → List Statement → Type 0

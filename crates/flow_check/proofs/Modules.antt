@@ -1,5 +1,5 @@
 -- What the rules of reading give of modules.
-use Rattle.std.proofs.Common.{◌≡◌, suc, ◌<◌, ◌≤◌, List, [], ◌∷◌, ◌++◌, length, map, is_some, Bool, true, false, cond, refl, sym, ap, subst}
+use Rattle.std.proofs.Common.{◌≡◌, suc, ◌<◌, ◌≤◌, List, [], ◌∷◌, ◌++◌, length, map, Option, Some, None, is_some, Bool, true, false, cond, refl, sym, ap, subst}
 use Rattle.std.proofs.Common.{◌∙◌, arith, true≢false, append_assoc, append-nil}
 use Rattle.std.specs.Prelude.{◌&&◌, nat_le, IsTrue, reverse}
 use Rattle.std.specs.List.{All, filter_map, cons_option}
@@ -13,10 +13,9 @@ use Rattle.flow_design.specs.declared.design.Module.{Module}
 use Rattle.flow_design.specs.Names.{is_name}
 use Rattle.flow_design.specs.StaticRules.{IsMemorySound}
 use Rattle.flow_grammar.specs.Tokens.{is_name as is_name_token}
-use Rattle.flow_grammar.specs.Before.{channel_name, register_name, memory_name, block_name, registers, memories, blocks, is_among}
+use Rattle.flow_grammar.specs.Before.{channel_name, register_name, memory_name, block_name, blocks, in_module}
 use Rattle.flow_grammar.specs.declared.place.Place.{Place}
-use Rattle.flow_grammar.specs.declared.place.Place.TheVariants.{AtStart, AmongChannels, AmongRegisters, AmongTemps, AmongOperations}
-use Rattle.flow_grammar.specs.declared.place.Place.TheVariants.{AfterBody, AmongInputs, AmongEdits, AtEnd}
+use Rattle.flow_grammar.specs.declared.place.Place.TheVariants.{AmongRegisters, AtEnd}
 use Rattle.flow_grammar.specs.Places.{place, may_stand, may_follow}
 use Rattle.flow_grammar.specs.Rules.{is_over}
 use Rattle.session_plan.specs.Names.{Name, Scope}
@@ -26,10 +25,10 @@ use Rattle.session_plan.specs.declared.section.Level.{Level}
 use Rattle.session_plan.specs.declared.section.Level.TheVariants as level
 use Rattle.session_plan.specs.declared.section.Sort.TheVariants as sort
 use Rattle.flow_check.specs.Read.{IsModuleRead}
-use Rattle.flow_check.proofs.Following.{Keeps, Follow, Plain, body_first, plain_body, follow_body, inside, nothing_inside, grows, tally}
-use Rattle.flow_check.proofs.Following.{length_found, tally_same, within, Heard, heard_none, heard_more, heard_later}
+use Rattle.flow_check.proofs.Following.{Keeps, Follow, Plain, body_first, plain_body, follow_body, inside, nothing_inside, Grows, grows}
+use Rattle.flow_check.proofs.Following.{at_most, as_many, Heard, heard_none, heard_more, heard_later}
 use Rattle.flow_check.proofs.Numbers.{in_range, all_none, all_cons}
-use Rattle.flow_check.proofs.Bodies.{register_same, memory_same, found_same, heard_body, Hears}
+use Rattle.flow_check.proofs.Bodies.{register_same, memory_same, heard_all, heard_body, Hears}
 use Rattle.flow_check.proofs.Blocks.{blocks_read}
 
 -- ---- a session is over
@@ -51,14 +50,7 @@ ends statements h = by (place (reverse statements)) refl
   where
     by : (p : Place) → place (reverse statements) ≡ p → place (reverse statements) ≡ AtEnd
     by AtEnd e = e
-    by AtStart e = absurd (true≢false (sym (rw e at h)))
-    by AmongChannels e = absurd (true≢false (sym (rw e at h)))
-    by AmongRegisters e = absurd (true≢false (sym (rw e at h)))
-    by AmongTemps e = absurd (true≢false (sym (rw e at h)))
-    by AmongOperations e = absurd (true≢false (sym (rw e at h)))
-    by AfterBody e = absurd (true≢false (sym (rw e at h)))
-    by AmongInputs e = absurd (true≢false (sym (rw e at h)))
-    by AmongEdits e = absurd (true≢false (sym (rw e at h)))
+    by p e = absurd (true≢false (sym (rw e at h)))
 
 pub all_over : (statements : List Statement) → is_over statements ≡ true → Over [] statements
 all_over statements h = over_behind [] statements (ap place (append-nil (reverse statements)) ∙ ends statements h)
@@ -83,75 +75,40 @@ some_block earlier (x ∷ rest) here follow over = absurd (true≢false (sym (sy
 
 -- ---- counts
 
-pub sections_long : (l : Level) (xs : List Statement) → length (sections l xs) ≡ tally (begins l) xs
-sections_long l [] = refl
-sections_long l (x ∷ xs) = by (begins l x) (sections_long l xs)
+pub sections_long : (l : Level) (name : Statement → Option Name) → ((x : Statement) → is_some (name x) ≡ begins l x) → (xs : List Statement)
+    → length (sections l xs) ≡ length (filter_map name xs)
+sections_long l name same [] = refl
+sections_long l name same (x ∷ xs) = by (begins l x) (name x) (same x) (sections_long l name same xs)
   where
-    by : (b : Bool) → length (sections l xs) ≡ tally (begins l) xs
-        → length (cond b ((x, body_of l xs) ∷ sections l xs) (sections l xs)) ≡ cond b (suc (tally (begins l) xs)) (tally (begins l) xs)
-    by true e = ap suc e
-    by false e = e
+    by : (b : Bool) (o : Option Name) → is_some o ≡ b → length (sections l xs) ≡ length (filter_map name xs)
+        → length (cond b ((x, body_of l xs) ∷ sections l xs) (sections l xs)) ≡ length (cons_option o (filter_map name xs))
+    by true (Some n) e h = ap suc h
+    by false None e h = h
+    by b o e h = absurd cc
 
-abbrev is_register : Statement → Bool
-is_register x = is_some (declared_width sort.Registers x)
-
-few_registers : (earlier : List Statement) (x : Statement) → Keeps earlier x → is_register x ≡ true
-    → tally is_register (inside level.Modules earlier) < REGISTERS
+few_registers : (earlier : List Statement) (x : Statement) → Keeps earlier x → is_some (declared sort.Registers x) ≡ true
+    → length (filter_map (declared sort.Registers) (inside level.Modules earlier)) < REGISTERS
 few_registers earlier (s.Reg n w) keeps h =
-    let e : length (registers earlier) ≡ tally (λ y. is_some (register_name y)) (inside level.Modules earlier)
-    = length_found register_name (inside level.Modules earlier) in
-    let f : tally (λ y. is_some (register_name y)) (inside level.Modules earlier) ≡ tally is_register (inside level.Modules earlier)
-    = tally_same _ is_register by (inside level.Modules earlier) in
-    let g : length (registers earlier) < REGISTERS = ltb-true (length (registers earlier)) REGISTERS keeps.room in
-    omega arith
-  where
-    by : (y : Statement) → is_some (register_name y) ≡ is_register y
-    by (s.Reg m v) = refl
-    by y = refl
+    subst (λ (f : Statement → Option Name). length (filter_map f (in_module earlier)) < REGISTERS) (λ i x. register_same x i)
+    (ltb-true _ _ keeps.room)
 few_registers earlier x keeps h = absurd (true≢false (sym h))
 
-abbrev is_memory : Statement → Bool
-is_memory x = is_some (memory x)
-
-few_memories : (earlier : List Statement) (x : Statement) → Keeps earlier x → is_memory x ≡ true
-    → tally is_memory (inside level.Modules earlier) < MEMORIES
+few_memories : (earlier : List Statement) (x : Statement) → Keeps earlier x → is_some (declared sort.Memories x) ≡ true
+    → length (filter_map (declared sort.Memories) (inside level.Modules earlier)) < MEMORIES
 few_memories earlier (s.Mem n w len) keeps h =
-    let e : length (memories earlier) ≡ tally (λ y. is_some (memory_name y)) (inside level.Modules earlier)
-    = length_found memory_name (inside level.Modules earlier) in
-    let f : tally (λ y. is_some (memory_name y)) (inside level.Modules earlier) ≡ tally is_memory (inside level.Modules earlier)
-    = tally_same _ is_memory by (inside level.Modules earlier) in
-    let g : length (memories earlier) < MEMORIES = ltb-true (length (memories earlier)) MEMORIES keeps.room in
-    omega arith
-  where
-    by : (y : Statement) → is_some (memory_name y) ≡ is_memory y
-    by (s.Mem m v k) = refl
-    by y = refl
+    subst (λ (f : Statement → Option Name). length (filter_map f (in_module earlier)) < MEMORIES) (λ i x. memory_same x i)
+    (ltb-true _ _ keeps.room)
 few_memories earlier x keeps h = absurd (true≢false (sym h))
+
+few_blocks : (earlier : List Statement) (x : Statement) → Keeps earlier x → is_some (block_name x) ≡ true → length (blocks earlier) < BLOCKS
+few_blocks earlier (s.Block n len) keeps h = ltb-true _ _ keeps.room
+few_blocks earlier (s.Loop n ii len again) keeps h = ltb-true _ _ keeps.room
+few_blocks earlier x keeps h = absurd (true≢false (sym h))
 
 block_named : (y : Statement) → is_some (block_name y) ≡ begins level.Blocks y
 block_named (s.Block m v) = refl
 block_named (s.Loop m v k r) = refl
 block_named y = refl
-
-few_blocks : (earlier : List Statement) (x : Statement) → Keeps earlier x → begins level.Blocks x ≡ true
-    → tally (begins level.Blocks) (inside level.Modules earlier) < BLOCKS
-few_blocks earlier (s.Block n len) keeps h =
-    let e : length (blocks earlier) ≡ tally (λ y. is_some (block_name y)) (inside level.Modules earlier)
-    = length_found block_name (inside level.Modules earlier) in
-    let f : tally (λ y. is_some (block_name y)) (inside level.Modules earlier)
-    ≡ tally (begins level.Blocks) (inside level.Modules earlier)
-    = tally_same _ (begins level.Blocks) block_named (inside level.Modules earlier) in
-    let g : length (blocks earlier) < BLOCKS = ltb-true (length (blocks earlier)) BLOCKS keeps.room in
-    omega arith
-few_blocks earlier (s.Loop n ii len again) keeps h =
-    let e : length (blocks earlier) ≡ tally (λ y. is_some (block_name y)) (inside level.Modules earlier)
-    = length_found block_name (inside level.Modules earlier) in
-    let f : tally (λ y. is_some (block_name y)) (inside level.Modules earlier)
-    ≡ tally (begins level.Blocks) (inside level.Modules earlier)
-    = tally_same _ (begins level.Blocks) block_named (inside level.Modules earlier) in
-    let g : length (blocks earlier) < BLOCKS = ltb-true (length (blocks earlier)) BLOCKS keeps.room in
-    omega arith
-few_blocks earlier x keeps h = absurd (true≢false (sym h))
 
 -- ---- memories
 
@@ -170,17 +127,16 @@ words_read earlier (x ∷ body) follow = words_more earlier x follow.0 (filter_m
 
 registers_long : (body : List Statement)
     → length (filter_map (declared sort.Registers) body) ≡ length (filter_map (declared_width sort.Registers) body)
-registers_long body = length_found (declared sort.Registers) body ∙ tally_same _ is_register by body
-    ∙ sym (length_found (declared_width sort.Registers) body)
+registers_long body = as_many (declared sort.Registers) (declared_width sort.Registers) by body
   where
-    by : (x : Statement) → is_some (declared sort.Registers x) ≡ is_register x
+    by : (x : Statement) → is_some (declared sort.Registers x) ≡ is_some (declared_width sort.Registers x)
     by (s.Reg n w) = refl
     by x = refl
 
 memories_long : (body : List Statement) → length (filter_map (declared sort.Memories) body) ≡ length (filter_map memory body)
-memories_long body = length_found (declared sort.Memories) body ∙ tally_same _ is_memory by body ∙ sym (length_found memory body)
+memories_long body = as_many (declared sort.Memories) memory by body
   where
-    by : (x : Statement) → is_some (declared sort.Memories x) ≡ is_memory x
+    by : (x : Statement) → is_some (declared sort.Memories x) ≡ is_some (memory x)
     by (s.Mem n w len) = refl
     by x = refl
 
@@ -206,25 +162,21 @@ module_read names earlier n rest keeps follow over heard later =
       channels = heard_more channel_name names (s.Module n) earlier rest heard later;
       channels_later = heard_body channel_name names level.Modules rest (heard_later channel_name names (s.Module n) rest later);
       registers = subst (Heard register_name own.registers) (sym nothing) (heard_none register_name own.registers);
-      registers_later = λ k h. sym (ap (λ (l : List Name). is_among l k)
-          (found_same register_name (declared sort.Registers) register_same body)) ∙ h;
+      registers_later = heard_all register_name (declared sort.Registers) register_same body;
       memories = subst (Heard memory_name own.memories) (sym nothing) (heard_none memory_name own.memories);
-      memories_later = λ k h. sym (ap (λ (l : List Name). is_among l k)
-          (found_same memory_name (declared sort.Memories) memory_same body)) ∙ h;
+      memories_later = heard_all memory_name (declared sort.Memories) memory_same body;
     } in
     let m : Module = module_of names (s.Module n, body) in
-    let no_registers : tally is_register (inside level.Modules e0) ≡ 0 = ap (tally is_register) nothing in
-    let no_memories : tally is_memory (inside level.Modules e0) ≡ 0 = ap (tally is_memory) nothing in
-    let no_blocks : tally (begins level.Blocks) (inside level.Modules e0) ≡ 0 = ap (tally (begins level.Blocks)) nothing in
-    let a = within (inside level.Modules) is_register REGISTERS few_registers e0 body follows (grows level.Modules body plain)
-    (omega arith) in
-    let b = within (inside level.Modules) is_memory MEMORIES few_memories e0 body follows (grows level.Modules body plain) (omega arith) in
-    let c = within (inside level.Modules) (begins level.Blocks) BLOCKS few_blocks e0 body follows (grows level.Modules body plain)
-    (omega arith) in
-    let long_a : length (filter_map (declared_width sort.Registers) body) ≡ tally is_register body
-    = length_found (declared_width sort.Registers) body in
-    let long_b : length (filter_map memory body) ≡ tally is_memory body = length_found memory body in
-    let long_c : length (sections level.Blocks body) ≡ tally (begins level.Blocks) body = sections_long level.Blocks body in
+    let grown : Grows (inside level.Modules) body = grows level.Modules body plain in
+    let a : length (filter_map (declared sort.Registers) body) ≤ REGISTERS
+    = at_most (inside level.Modules) (declared sort.Registers) REGISTERS few_registers e0 body nothing follows grown in
+    let b : length (filter_map (declared sort.Memories) body) ≤ MEMORIES
+    = at_most (inside level.Modules) (declared sort.Memories) MEMORIES few_memories e0 body nothing follows grown in
+    let c : length (filter_map block_name body) ≤ BLOCKS
+    = at_most (inside level.Modules) block_name BLOCKS few_blocks e0 body nothing follows grown in
+    let long_a = registers_long body in
+    let long_b = memories_long body in
+    let long_c = sections_long level.Blocks block_name block_named body in
     let long_d : length (map (block own) (sections level.Blocks body)) ≡ length (sections level.Blocks body) = simp length-map in
     let some : 1 ≤ length (sections level.Blocks body) = some_block e0 rest refl follow over in
     record {

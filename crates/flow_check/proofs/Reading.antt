@@ -26,9 +26,9 @@ use Rattle.session_plan.specs.declared.section.Level.TheVariants as level
 use Rattle.session_plan.specs.declared.section.Sort.TheVariants as sort
 use Rattle.flow_check.specs.Read.{IsModuleRead, IsPlanRead}
 use Rattle.flow_check.proofs.Amounts.{taken_within, amount_most}
-use Rattle.flow_check.proofs.Following.{Keeps, Follow, all_follow, Grows, tally, length_found, tally_same, within, Heard, heard_none}
+use Rattle.flow_check.proofs.Following.{Keeps, Follow, all_follow, Grows, at_most, as_many, Heard, heard_none}
 use Rattle.flow_check.proofs.Numbers.{in_range, all_none, all_cons}
-use Rattle.flow_check.proofs.Bodies.{channel_same, found_same}
+use Rattle.flow_check.proofs.Bodies.{channel_same, heard_all}
 use Rattle.flow_check.proofs.Modules.{all_over, sections_long, modules_read}
 
 -- ---- counts
@@ -37,37 +37,30 @@ grows_all : (rest : List Statement) → Grows (λ l. l) rest
 grows_all [] = tt
 grows_all (x ∷ rest) = (λ earlier. refl, grows_all rest)
 
-abbrev is_channel : Statement → Bool
-is_channel x = is_some (channel x)
-
-channel_named : (y : Statement) → is_some (channel_name y) ≡ is_channel y
-channel_named (s.Source n w) = refl
-channel_named (s.Sink n w) = refl
-channel_named (s.Fifo n w d l) = refl
-channel_named y = refl
-
-counted : (earlier : List Statement) → length (channels earlier) ≡ tally is_channel earlier
-counted earlier = length_found channel_name earlier ∙ tally_same _ is_channel channel_named earlier
-
-few_channels : (earlier : List Statement) (x : Statement) → Keeps earlier x → is_channel x ≡ true → tally is_channel earlier < CHANNELS
-few_channels earlier (s.Source n w) keeps h
-    = subst (λ (k : ℕ). k < CHANNELS) (counted earlier) (ltb-true (length (channels earlier)) CHANNELS keeps.room)
-few_channels earlier (s.Sink n w) keeps h
-    = subst (λ (k : ℕ). k < CHANNELS) (counted earlier) (ltb-true (length (channels earlier)) CHANNELS keeps.room)
-few_channels earlier (s.Fifo n w d l) keeps h
-    = subst (λ (k : ℕ). k < CHANNELS) (counted earlier) (ltb-true (length (channels earlier)) CHANNELS keeps.room)
+few_channels : (earlier : List Statement) (x : Statement) → Keeps earlier x → is_some (channel_name x) ≡ true
+    → length (channels earlier) < CHANNELS
+few_channels earlier (s.Source n w) keeps h = ltb-true _ _ keeps.room
+few_channels earlier (s.Sink n w) keeps h = ltb-true _ _ keeps.room
+few_channels earlier (s.Fifo n w d l) keeps h = ltb-true _ _ keeps.room
 few_channels earlier x keeps h = absurd (true≢false (sym h))
+
+channels_long : (xs : List Statement) → length (channels_of xs) ≡ length (channels xs)
+channels_long xs = as_many channel channel_name by xs
+  where
+    by : (y : Statement) → is_some (channel y) ≡ is_some (channel_name y)
+    by (s.Source n w) = refl
+    by (s.Sink n w) = refl
+    by (s.Fifo n w d l) = refl
+    by y = refl
+
+few_modules : (earlier : List Statement) (x : Statement) → Keeps earlier x → is_some (module_name x) ≡ true
+    → length (modules earlier) < MODULES
+few_modules earlier (s.Module n) keeps h = ltb-true _ _ keeps.room
+few_modules earlier x keeps h = absurd (true≢false (sym h))
 
 module_named : (y : Statement) → is_some (module_name y) ≡ begins level.Modules y
 module_named (s.Module n) = refl
 module_named y = refl
-
-few_modules : (earlier : List Statement) (x : Statement) → Keeps earlier x → begins level.Modules x ≡ true
-    → tally (begins level.Modules) earlier < MODULES
-few_modules earlier (s.Module n) keeps h =
-    subst (λ (k : ℕ). k < MODULES) (length_found module_name earlier ∙ tally_same _ (begins level.Modules) module_named earlier)
-    (ltb-true (length (modules earlier)) MODULES keeps.room)
-few_modules earlier x keeps h = absurd (true≢false (sym h))
 
 -- ---- channels
 
@@ -110,13 +103,12 @@ plan_read statements rules =
     let follow : Follow [] statements = all_follow statements rules in
     let cs : List Channel = channels_of statements in
     let names : List Name = channel_names statements in
-    let a : 0 + tally is_channel statements ≤ CHANNELS
-    = within (λ l. l) is_channel CHANNELS few_channels [] statements follow (grows_all statements) (omega arith) in
-    let b : 0 + tally (begins level.Modules) statements ≤ MODULES
-    = within (λ l. l) (begins level.Modules) MODULES few_modules [] statements follow (grows_all statements) (omega arith) in
-    let long_a : length cs ≡ tally is_channel statements = length_found channel statements in
-    let long_b : length (sections level.Modules statements) ≡ tally (begins level.Modules) statements
-    = sections_long level.Modules statements in
+    let a : length (channels statements) ≤ CHANNELS
+    = at_most (λ l. l) channel_name CHANNELS few_channels [] statements refl follow (grows_all statements) in
+    let b : length (modules statements) ≤ MODULES
+    = at_most (λ l. l) module_name MODULES few_modules [] statements refl follow (grows_all statements) in
+    let long_a : length cs ≡ length (channels statements) = channels_long statements in
+    let long_b = sections_long level.Modules module_name module_named statements in
     let long_c : length (map (module_of names) (sections level.Modules statements)) ≡ length (sections level.Modules statements)
     = simp length-map in
     let long_d : length (map (inputs_for names statements) (enumerate_from 0 cs)) ≡ length cs = simp (length-map, length-enumerate_from) in
@@ -124,9 +116,7 @@ plan_read statements rules =
     let read : All ChannelRead cs = channels_read [] statements follow in
     let most = amount_most [] statements follow (omega arith) in
     let took = taken_within names statements cs in
-    let heard : Heard channel_name names statements
-    = λ n h. sym (ap (λ (l : List Name). is_among l n) (found_same channel_name (declared sort.Channels) channel_same statements))
-    ∙ h in
+    let heard : Heard channel_name names statements = heard_all channel_name (declared sort.Channels) channel_same statements in
     record {
       channel_count = omega arith;
       module_count = omega arith;

@@ -6,6 +6,7 @@ use Rattle.std.specs.List.{list_any}
 use Rattle.std.proofs.Math.Seq.{take-suc, drop-cons}
 use Rattle.std.proofs.Math.ListN.{drop_of_length-le}
 use Rattle.std.proofs.lemmas.Bool.Decides.{nat_tests}
+use Rattle.std.proofs.lemmas.List.Folds.{list_any_more}
 use Rattle.indexmap.specs.IndexSet.{IndexSet, keys}
 use Rattle.flow_design.specs.declared.design.BlockKind.{BlockKind}
 use Rattle.flow_design.specs.declared.design.Timed.{Timed}
@@ -31,18 +32,6 @@ option_zero (Some k) = ap Some (omega arith)
 option_next : (at : ℕ) (o : Option ℕ) → option_map (λ k. at + k) (option_map (λ k. k + 1) o) ≡ option_map (λ k. (at + 1) + k) o
 option_next at None = refl
 option_next at (Some k) = ap Some (omega arith)
-
-pub any_behind : {X : Type 0} (p : X → Bool) (xs : List X) (x : X) → list_any p (xs ++ x ∷ []) ≡ list_any p xs || p x
-any_behind p [] x = by (p x)
-  where
-    by : (b : Bool) → b || false ≡ false || b
-    by true = refl
-    by false = refl
-any_behind p (y ∷ xs) x = by (p y) (any_behind p xs x)
-  where
-    by : (b : Bool) → list_any p (xs ++ x ∷ []) ≡ list_any p xs || p x → b || list_any p (xs ++ x ∷ []) ≡ (b || list_any p xs) || p x
-    by true e = refl
-    by false e = e
 
 -- no slot is taken yet
 pub none_taken : {S : Type 0} (kind : BlockKind) (ops : List Timed) (slots : IndexSet Slot S) → keys slots ≡ [] → AreTaken kind ops 0 slots
@@ -75,9 +64,7 @@ module _ {S : Type 0} (kind : BlockKind) (ops : List Timed) (at : ℕ) (slots : 
   taken_more new free more = record {
     each = λ s. more s
         ∙ ap (λ (b : Bool). b || is_slot s (slot kind (get_or ops at d))) (taken.each s)
-        ∙ sym (any_behind (λ t. is_slot s (slot kind t)) (take at ops) (get_or ops at d))
-        ∙ ap (list_any (λ t. is_slot s (slot kind t))) (sym (take-suc ops at d there))
-        ∙ ap (λ (n : ℕ). list_any (λ t. is_slot s (slot kind t)) (take n ops)) (sym (add-one at));
+        ∙ sym (list_any_more (λ t. is_slot s (slot kind t)) ops at d there);
     rest = taken.rest
         ∙ ap (option_map (λ k. at + k))
         (opened ∙ ap (λ (b : Bool). cond b (Some 0)
@@ -125,18 +112,14 @@ plain_port Push Push n m = refl
 plain_is : (s t : Slot) → plain s t ≡ same_slot s t
 plain_is (a, i) (b, j) = ap (λ (c : Bool). c && (i == j)) (plain_port a.side b.side a.channel b.channel)
 
-pub any_same : {X : Type 0} (p q : X → Bool) → ((x : X) → p x ≡ q x) → (xs : List X) → list_any p xs ≡ list_any q xs
-any_same p q h [] = refl
-any_same p q h (x ∷ xs) = ap (λ (b : Bool). b || list_any p xs) (h x) ∙ ap (λ (b : Bool). q x || b) (any_same p q h xs)
-
 -- a slot more among the keys of a set
 pub slot_more : (old new : List Slot) (own : Slot) (o : Option Slot) → o ≡ Some own
     → ((q : Slot) → list_any (plain q) new ≡ cond (plain own q) true (list_any (plain q) old))
     → (s : Slot) → list_any (same_slot s) new ≡ list_any (same_slot s) old || is_slot s o
 slot_more old new own o is more s =
-    sym (any_same (plain s) (same_slot s) (plain_is s) new) ∙ more s
+    (λ i. list_any (λ x. sym (plain_is s x) i) new) ∙ more s
     ∙ ap (λ (b : Bool). cond b true (list_any (plain s) old)) (plain_is own s ∙ slots_turn own s)
-    ∙ ap (λ (b : Bool). cond (same_slot s own) true b) (any_same (plain s) (same_slot s) (plain_is s) old)
+    ∙ (λ i. cond (same_slot s own) true (list_any (λ x. plain_is s x i) old))
     ∙ by (same_slot s own) (list_any (same_slot s) old)
     ∙ ap (λ (p : Option Slot). list_any (same_slot s) old || is_slot s p) (sym is)
   where

@@ -2,6 +2,7 @@
 use Rattle.std.proofs.Common.{◌≡◌, ℕ, ◌+◌, ◌<◌, ◌≤◌, List, [], ◌∷◌, ◌++◌, length, map, is_some, IfSome, Bool, true, false, cond, refl, sym}
 use Rattle.std.proofs.Common.{ap, subst, ◌∙◌, arith, length-append}
 use Rattle.std.specs.List.{All, filter_map}
+use Rattle.std.proofs.lemmas.List.Elements.{All-nil, All-cons}
 use Rattle.flow_word.specs.declared.access.Port.{Port}
 use Rattle.flow_design.specs.declared.limits.TheConstants.{TEMPS, OPERATIONS}
 use Rattle.flow_design.specs.declared.session.Statement.{Statement}
@@ -23,7 +24,6 @@ use Rattle.session_plan.specs.declared.section.Sort.TheVariants as sort
 use Rattle.flow_check.specs.Read.{IsTimedRead, IsKindRead, IsNextRead, IsBlockRead}
 use Rattle.flow_check.proofs.Following.{Keeps, Follow, Plain, plain_body, follow_body, inside, nothing_inside, grows, at_most, as_many}
 use Rattle.flow_check.proofs.Following.{Heard, heard_none}
-use Rattle.flow_check.proofs.Numbers.{all_none, all_cons}
 use Rattle.flow_check.proofs.Bodies.{temp_same, heard_all, Hears, hears_more, hears_body, plain_later, TimedRead, ops_read, next_read}
 use Rattle.flow_check.proofs.Bodies.{few_temps, few_operations, len_read, kind_read}
 
@@ -102,13 +102,13 @@ module _ (count : ℕ) (m : Module) (scope : Scope) (chans : length scope.channe
 
   pub blocks_read : (earlier body : List Statement) → Follow earlier body → Plain level.Modules body → Hears scope earlier body
       → All (IsBlockRead count m) (map (block scope) (sections level.Blocks body))
-  blocks_read earlier [] follow pm hears = all_none (IsBlockRead count m)
+  blocks_read earlier [] follow pm hears = All-nil (IsBlockRead count m)
   blocks_read earlier (x ∷ body) follow pm hears =
       by (begins level.Blocks x) refl (blocks_read (x ∷ earlier) body follow.1 pm.1 (hears_more scope earlier x body pm.0 hears))
     where
       by : (b : Bool) → begins level.Blocks x ≡ b → All (IsBlockRead count m) (map (block scope) (sections level.Blocks body))
           → All (IsBlockRead count m) (map (block scope)
           (cond b ((x, body_of level.Blocks body) ∷ sections level.Blocks body) (sections level.Blocks body)))
-      by true e later = all_cons (IsBlockRead count m) _ (map (block scope) (sections level.Blocks body))
+      by true e later = All-cons (IsBlockRead count m) _ (map (block scope) (sections level.Blocks body))
           (block_read earlier x body e pm.0 follow.0 follow.1 pm.1 hears) later
       by false e later = later

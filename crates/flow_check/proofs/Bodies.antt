@@ -5,6 +5,7 @@ use Rattle.std.specs.Prelude.{◌&&◌, nat_lt, nat_le}
 use Rattle.std.specs.List.{All, list_all, filter_map, cons_option}
 use Rattle.std.proofs.lemmas.Bool.{and_parts, ltb-true}
 use Rattle.std.proofs.lemmas.List.Sums.{sum_by-cons}
+use Rattle.std.proofs.lemmas.List.Elements.{All-nil, All-cons}
 use Rattle.flow_design.specs.declared.limits.TheConstants.{TEMPS, OPERATIONS, BLOCK_CLOCKS}
 use Rattle.flow_design.specs.declared.expr.Op.{Op}
 use Rattle.flow_design.specs.declared.session.Statement.{Statement}
@@ -26,7 +27,7 @@ use Rattle.session_plan.specs.declared.section.Sort.TheVariants as sort
 use Rattle.flow_check.specs.Read.{IsKindRead, IsNextRead}
 use Rattle.flow_check.proofs.Following.{Keeps, Follow, Plain, body_first, inside, no_beginning}
 use Rattle.flow_check.proofs.Following.{number_below, Within, within_both, Heard, heard_none, heard_more, heard_later}
-use Rattle.flow_check.proofs.Numbers.{in_range, all_none, all_cons, OpRead, op_read}
+use Rattle.flow_check.proofs.Numbers.{in_range, OpRead, op_read}
 
 -- ---- the same names and counts, by either function
 
@@ -142,14 +143,14 @@ timed_more : (earlier : List Statement) (own : Scope) → Within (registers earl
     → (x : Statement) → Keeps earlier x → (later : List Timed) → All (TimedRead own) later
     → All (TimedRead own) (cons_option (timed own x) later)
 timed_more earlier own v m c (s.At offset guard o) keeps later h
-    = all_cons (TimedRead own) _ later (at_read earlier own v m c offset guard o keeps) h
+    = All-cons (TimedRead own) _ later (at_read earlier own v m c offset guard o keeps) h
 timed_more earlier own v m c x keeps later h = h
 
 pub ops_read : (own : Scope) (earlier body : List Statement) → Follow earlier body → Plain level.Modules body → Plain level.Blocks body
     → Hears own earlier body
     → Heard temp_name own.temps (inside level.Blocks earlier) → Heard temp_name own.temps body
     → All (TimedRead own) (filter_map (timed own) body)
-ops_read own earlier [] follow pm pb hears t tl = all_none (TimedRead own)
+ops_read own earlier [] follow pm pb hears t tl = All-nil (TimedRead own)
 ops_read own earlier (x ∷ body) follow pm pb hears t tl =
     let t' : Heard temp_name own.temps (inside level.Blocks (x ∷ earlier))
     = subst (Heard temp_name own.temps) (sym (no_beginning level.Blocks x pb.0 earlier))

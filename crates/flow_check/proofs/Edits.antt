@@ -4,9 +4,10 @@ use Rattle.std.proofs.Common.{Bool, true, false, not, cond, refl, sym, ap, ◌�
 use Rattle.std.specs.Prelude.{◌&&◌, ◌||◌, nat_le}
 use Rattle.std.specs.Str.{bytes_eq}
 use Rattle.std.specs.List.{All, filter_map, cons_option}
-use Rattle.std.proofs.lemmas.Bool.{and_parts, not-true}
+use Rattle.std.proofs.lemmas.Bool.{and_parts, not-true, or_right}
 use Rattle.std.proofs.lemmas.List.{length-map}
 use Rattle.std.proofs.lemmas.Slice.Eq.{bytes_eq-Decides}
+use Rattle.std.proofs.lemmas.List.Elements.{All-nil, All-cons}
 use Rattle.flow_design.specs.declared.limits.TheConstants.{FIFO_DEPTH}
 use Rattle.flow_design.specs.declared.session.Statement.{Statement}
 use Rattle.flow_design.specs.declared.session.Statement.TheVariants as s
@@ -22,7 +23,7 @@ use Rattle.session_plan.specs.Plans.{channel, depth_in, edit, channels_of, chann
 use Rattle.session_plan.specs.Sections.{declared}
 use Rattle.session_plan.specs.declared.section.Sort.TheVariants as sort
 use Rattle.flow_check.proofs.Following.{Keeps, Follow, all_follow, Heard, heard_none, heard_more, heard_later}
-use Rattle.flow_check.proofs.Numbers.{in_range, all_none, all_cons}
+use Rattle.flow_check.proofs.Numbers.{in_range}
 
 abbrev name : Channel → Name
 name c = c.name
@@ -64,11 +65,7 @@ names_are (x ∷ rest) = by x (names_are rest)
 
 still : (n : Name) (o : Option Name) (names : List Name) → is_among names n ≡ true → is_among (cons_option o names) n ≡ true
 still n None names h = h
-still n (Some m) names h = by (bytes_eq n m)
-  where
-    by : (b : Bool) → b || is_among names n ≡ true
-    by true = refl
-    by false = h
+still n (Some m) names h = or_right (bytes_eq n m) (is_among names n) h
 
 -- no FIFO behind has the name of a channel before
 no_later : (n : Name) (earlier rest : List Statement) → Follow earlier rest → is_among (channels earlier) n ≡ true
@@ -95,6 +92,13 @@ fifo_first : (n : Name) (earlier rest : List Statement) → Follow earlier rest 
 fifo_first n earlier [] follow h = absurd (true≢false (sym h))
 fifo_first n earlier (x ∷ rest) follow h = by x (λ q. no_later n (x ∷ earlier) rest follow.1 q) (fifo_first n (x ∷ earlier) rest follow.1) h
   where
+    behind : (b : Bool) (k : ChannelKind) → (b || is_among (channels earlier) n ≡ true → is_among (filter_map fifo_name rest) n ≡ false)
+        → is_among (filter_map fifo_name rest) n ≡ true
+        → (is_among (filter_map fifo_name rest) n ≡ true → (d l : ℕ) × (first_kind n (filter_map channel rest) ≡ Some (kind.Fifo d l)))
+        → (d l : ℕ) × (cond b (Some k) (first_kind n (filter_map channel rest)) ≡ Some (kind.Fifo d l))
+    behind true k none q later = absurd (true≢false (sym q ∙ none refl))
+    behind false k none q later = later q
+
     by : (y : Statement) → (is_among (cons_option (channel_name y) (channels earlier)) n ≡ true
         → is_among (filter_map fifo_name rest) n ≡ false)
         → (is_among (filter_map fifo_name rest) n ≡ true → (d l : ℕ) × (first_kind n (filter_map channel rest) ≡ Some (kind.Fifo d l)))
@@ -106,18 +110,8 @@ fifo_first n earlier (x ∷ rest) follow h = by x (λ q. no_later n (x ∷ earli
             × (cond b (Some (kind.Fifo d l)) (first_kind n (filter_map channel rest)) ≡ Some (kind.Fifo e k))
         one true p = (d, l, refl)
         one false p = later p
-    by (s.Source m w) none later q = one (bytes_eq n m) none
-      where
-        one : (b : Bool) → (b || is_among (channels earlier) n ≡ true → is_among (filter_map fifo_name rest) n ≡ false)
-            → (e k : ℕ) × (cond b (Some kind.Source) (first_kind n (filter_map channel rest)) ≡ Some (kind.Fifo e k))
-        one true p = absurd (true≢false (sym q ∙ p refl))
-        one false p = later q
-    by (s.Sink m w) none later q = one (bytes_eq n m) none
-      where
-        one : (b : Bool) → (b || is_among (channels earlier) n ≡ true → is_among (filter_map fifo_name rest) n ≡ false)
-            → (e k : ℕ) × (cond b (Some kind.Sink) (first_kind n (filter_map channel rest)) ≡ Some (kind.Fifo e k))
-        one true p = absurd (true≢false (sym q ∙ p refl))
-        one false p = later q
+    by (s.Source m w) none later q = behind (bytes_eq n m) kind.Source none q later
+    by (s.Sink m w) none later q = behind (bytes_eq n m) kind.Sink none q later
     by y none later q = later q
 
 -- ---- edits
@@ -151,7 +145,7 @@ edit_more statements earlier follow heard (s.Depth n depth) keeps later h =
     let known = and_parts (is_among (fifos earlier) n) true keeps.known in
     let range = and_parts (nat_le 1 depth && nat_le depth FIFO_DEPTH) true keeps.ranged in
     let within = in_range 1 depth FIFO_DEPTH range.0 in
-    all_cons (EditFits (plan_of statements)) _ later
+    All-cons (EditFits (plan_of statements)) _ later
     (edit_fits statements follow n depth (heard n known.0) within.0 within.1) h
 edit_more statements earlier follow heard x keeps later h = h
 
@@ -159,7 +153,7 @@ edits_from : (statements earlier rest : List Statement) → Follow [] statements
     → Heard fifo_name (filter_map fifo_name statements) earlier
     → Heard fifo_name (filter_map fifo_name statements) rest
     → All (EditFits (plan_of statements)) (filter_map (edit (channel_names statements)) rest)
-edits_from statements earlier [] whole follow heard later = all_none (EditFits (plan_of statements))
+edits_from statements earlier [] whole follow heard later = All-nil (EditFits (plan_of statements))
 edits_from statements earlier (x ∷ rest) whole follow heard later =
     edit_more statements earlier whole heard x follow.0 (filter_map (edit (channel_names statements)) rest)
     (edits_from statements (x ∷ earlier) rest whole follow.1

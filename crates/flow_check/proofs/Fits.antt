@@ -8,6 +8,7 @@ use Rattle.std.proofs.lemmas.Bool.{and_parts, ltb-true, leb-true, eqb-true, eq-e
 use Rattle.std.proofs.lemmas.List.{get_or-take, length-take}
 use Rattle.std.proofs.lemmas.List.Folds.{list_any_at}
 use Rattle.std.proofs.lemmas.List.FromFn.{get_or-enumerate_from, length-enumerate_from}
+use Rattle.std.proofs.lemmas.Bool.Decides.{nat_tests}
 use Rattle.flow_word.specs.declared.access.Side.{Side}
 use Rattle.flow_word.specs.declared.access.Side.TheVariants.{Pop, Push}
 use Rattle.flow_word.specs.Kinds.{same_side}
@@ -117,16 +118,12 @@ kind_sound : (registers len : ℕ) (kind : BlockKind) → IsKindRead registers k
     → IsKindSound registers len kind
 kind_sound registers len Plain read h = tt
 kind_sound registers len (Loop ii again) read h =
-    let parts = and_parts (nat_le ii len) (nat_le len (LIVE_ITERATIONS * ii))
-    (not-false (nat_le ii len && nat_le len (LIVE_ITERATIONS * ii)) h) in
-    record { interval = read.0; least = leb-true ii len parts.0; most = leb-true len (LIVE_ITERATIONS * ii) parts.1; register = read.1 }
+    record { interval = read.0; least = grind (arith, nat_tests); most = grind (arith, nat_tests); register = read.1 }
 
 next_sound : (registers blocks : ℕ) (next : Next) → IsNextRead registers next → leads_out blocks next ≡ false
     → IsNextSound registers blocks next
-next_sound registers blocks (Goto n) read h = ltb-true n blocks (not-false (nat_lt n blocks) h)
-next_sound registers blocks (Branch r n o) read h =
-    let parts = and_parts (nat_lt n blocks) (nat_lt o blocks) (not-false (nat_lt n blocks && nat_lt o blocks) h) in
-    (read, ltb-true n blocks parts.0, ltb-true o blocks parts.1)
+next_sound registers blocks (Goto n) read h = grind (arith, nat_tests)
+next_sound registers blocks (Branch r n o) read h = (read, grind (arith, nat_tests), grind (arith, nat_tests))
 next_sound registers blocks Stop read h = tt
 
 -- offsets that are equal modulo the interval are equal phases
@@ -288,10 +285,7 @@ fits plan read h =
     let six = none_for f code.BadOffset (code.WrongSide ∷ []) five.1 in
     let seven = none_for f code.WrongSide [] six.1 in
     let each : (rule : Code) → first_in (spot_in rule) plan.design.modules ≡ None = each_rule plan one.0 four.0 five.0 six.0 seven.0 in
-    let limits = and_parts (nat_le 1 plan.cycles && nat_le plan.cycles CYCLES) (nat_le 1 plan.ops && nat_le plan.ops COUNTED_OPERATIONS)
-    (not-false _ (not_when (breaks_limits plan.cycles plan.ops) _ two.0)) in
-    let cycles = and_parts (nat_le 1 plan.cycles) (nat_le plan.cycles CYCLES) limits.0 in
-    let ops = and_parts (nat_le 1 plan.ops) (nat_le plan.ops COUNTED_OPERATIONS) limits.1 in
+    let limits : breaks_limits plan.cycles plan.ops ≡ false = not_when (breaks_limits plan.cycles plan.ops) _ two.0 in
     record {
       channel_count = read.channel_count;
       module_count = read.module_count;
@@ -300,8 +294,8 @@ fits plan read h =
       input_count = read.input_count;
       channels = λ f there. channel_sound plan read (none_mapped _ _ three.0) f there;
       modules = λ m dm lm. module_sound plan read each m dm lm;
-      some_cycles = leb-true _ _ cycles.0;
-      cycles = leb-true _ _ cycles.1;
-      some_operations = leb-true _ _ ops.0;
-      operations = leb-true _ _ ops.1;
+      some_cycles = grind (arith, nat_tests);
+      cycles = grind (arith, nat_tests);
+      some_operations = grind (arith, nat_tests);
+      operations = grind (arith, nat_tests);
     }

@@ -4,7 +4,9 @@ use Rattle.std.proofs.Common.{unwrap_or, is_some, Bool, true, false, not, cond, 
 use Rattle.std.proofs.Common.{slice_get}
 use Rattle.std.specs.Prelude.{◌&&◌, ◌||◌, reverse}
 use Rattle.std.specs.List.{list_all, filter_map, cons_option}
-use Rattle.std.proofs.lemmas.Bool.{and_parts}
+use Rattle.std.proofs.lemmas.Bool.{and_parts, or_cases, or_left, or_right}
+use Rattle.std.specs.Prelude.{◌⊎◌}
+use Rattle.std.proofs.Common.{inl, inr}
 use Rattle.std.proofs.lemmas.List.{reverse-append}
 use Rattle.std.proofs.lemmas.List.Folds.{list_any-append}
 use Rattle.std.proofs.lemmas.List.Sums.{take_while-cons}
@@ -210,16 +212,11 @@ number_below names n h =
 abbrev pub Within : List Name → List Name → Type 0
 Within names more = (n : Name) → is_among names n ≡ true → is_among more n ≡ true
 
-either : (a b c d : Bool) → (a ≡ true → c ≡ true) → (b ≡ true → d ≡ true) → a || b ≡ true → c || d ≡ true
-either true b c d f g h = ap (λ (x : Bool). x || d) (f refl)
-either false true true d f g h = refl
-either false true false d f g h = g refl
-either false false c d f g h = absurd (true≢false (sym h))
-
 pub within_both : (a b c d : List Name) → Within a c → Within b d → Within (a ++ b) (c ++ d)
 within_both a b c d f g n h =
-    list_any-append (bytes_eq n) c d ∙ either (is_among a n) (is_among b n) (is_among c n) (is_among d n) (f n) (g n)
-    (sym (list_any-append (bytes_eq n) a b) ∙ h)
+    list_any-append (bytes_eq n) c d
+    ∙ (elim (or_cases (is_among a n) (is_among b n) (sym (list_any-append (bytes_eq n) a b) ∙ h))
+    [ inl e ↦ or_left (is_among c n) (is_among d n) (f n e) | inr e ↦ or_right (is_among c n) (is_among d n) (g n e) ])
 
 -- the names of a part of the statements before, where those of that part and of the statements left are among these
 abbrev pub Heard : (Statement → Option Name) → List Name → List Statement → Type 0
@@ -236,13 +233,8 @@ heard_more f names s before after was comes n = by (f s) (was n) (comes n)
         → (is_among (cons_option o (filter_map f after)) n ≡ true → is_among names n ≡ true)
         → is_among (cons_option o (filter_map f before)) n ≡ true → is_among names n ≡ true
     by None old new h = old h
-    by (Some m) old new h = by_name (bytes_eq n m) old new h
-      where
-        by_name : (b : Bool) → (is_among (filter_map f before) n ≡ true → is_among names n ≡ true)
-            → (b || is_among (filter_map f after) n ≡ true → is_among names n ≡ true)
-            → b || is_among (filter_map f before) n ≡ true → is_among names n ≡ true
-        by_name true old new h = new refl
-        by_name false old new h = old h
+    by (Some m) old new h =
+        elim (or_cases (bytes_eq n m) (is_among (filter_map f before) n) h) [ inl e ↦ new (or_left _ _ e) | inr e ↦ old e ]
 
 pub heard_later : (f : Statement → Option Name) (names : List Name) (s : Statement) (after : List Statement) → Heard f names (s ∷ after)
     → Heard f names after
@@ -250,8 +242,4 @@ heard_later f names s after comes n h = comes n (by (f s))
   where
     by : (o : Option Name) → is_among (cons_option o (filter_map f after)) n ≡ true
     by None = h
-    by (Some m) = either_right (bytes_eq n m)
-      where
-        either_right : (b : Bool) → b || is_among (filter_map f after) n ≡ true
-        either_right true = refl
-        either_right false = h
+    by (Some m) = or_right (bytes_eq n m) (is_among (filter_map f after) n) h

@@ -5,6 +5,7 @@ use Rattle.std.specs.Prelude.{◌&&◌, nat_le, IsTrue, reverse}
 use Rattle.std.specs.List.{All, filter_map, cons_option}
 use Rattle.std.proofs.lemmas.Bool.{and_parts, ltb-true}
 use Rattle.std.proofs.lemmas.List.{length-map, reverse-append}
+use Rattle.std.proofs.lemmas.List.Elements.{All-nil, All-cons}
 use Rattle.flow_design.specs.declared.limits.TheConstants.{REGISTERS, MEMORIES, MEMORY_WORDS, BLOCKS}
 use Rattle.flow_design.specs.declared.session.Statement.{Statement}
 use Rattle.flow_design.specs.declared.session.Statement.TheVariants as s
@@ -27,7 +28,7 @@ use Rattle.session_plan.specs.declared.section.Sort.TheVariants as sort
 use Rattle.flow_check.specs.Read.{IsModuleRead}
 use Rattle.flow_check.proofs.Following.{Keeps, Follow, Plain, body_first, plain_body, follow_body, inside, nothing_inside, Grows, grows}
 use Rattle.flow_check.proofs.Following.{at_most, as_many, Heard, heard_none, heard_more, heard_later}
-use Rattle.flow_check.proofs.Numbers.{in_range, all_none, all_cons}
+use Rattle.flow_check.proofs.Numbers.{in_range}
 use Rattle.flow_check.proofs.Bodies.{register_same, memory_same, heard_all, heard_body, Hears}
 use Rattle.flow_check.proofs.Blocks.{blocks_read}
 
@@ -118,11 +119,11 @@ words_more earlier (s.Mem n w len) keeps later h =
     let first = and_parts (nat_le 1 w && nat_le w 64) ((nat_le 1 len && nat_le len MEMORY_WORDS) && true) keeps.ranged in
     let range = and_parts (nat_le 1 len && nat_le len MEMORY_WORDS) true first.1 in
     let words = in_range 1 len MEMORY_WORDS range.0 in
-    all_cons IsMemorySound (record { width = w; len = len }) later (record { least = words.0; most = words.1 }) h
+    All-cons IsMemorySound (record { width = w; len = len }) later (record { least = words.0; most = words.1 }) h
 words_more earlier x keeps later h = h
 
 words_read : (earlier body : List Statement) → Follow earlier body → All IsMemorySound (filter_map memory body)
-words_read earlier [] follow = all_none IsMemorySound
+words_read earlier [] follow = All-nil IsMemorySound
 words_read earlier (x ∷ body) follow = words_more earlier x follow.0 (filter_map memory body) (words_read (x ∷ earlier) body follow.1)
 
 registers_long : (body : List Statement)
@@ -192,7 +193,7 @@ module_read names earlier n rest keeps follow over heard later =
 pub modules_read : (names : List Name) (earlier rest : List Statement) → Follow earlier rest → Over earlier rest
     → Heard channel_name names earlier → Heard channel_name names rest
     → All (IsModuleRead (length names)) (map (module_of names) (sections level.Modules rest))
-modules_read names earlier [] follow over heard later = all_none (IsModuleRead (length names))
+modules_read names earlier [] follow over heard later = All-nil (IsModuleRead (length names))
 modules_read names earlier (x ∷ rest) follow over heard later =
     more x follow.0 follow.1 over later
     (modules_read names (x ∷ earlier) rest follow.1 over (heard_more channel_name names x earlier rest heard later)
@@ -202,6 +203,6 @@ modules_read names earlier (x ∷ rest) follow over heard later =
         → All (IsModuleRead (length names)) (map (module_of names) (sections level.Modules rest))
         → All (IsModuleRead (length names)) (map (module_of names) (sections level.Modules (x ∷ rest)))
     more (s.Module n) keeps follow over later h =
-        all_cons (IsModuleRead (length names)) _ (map (module_of names) (sections level.Modules rest))
+        All-cons (IsModuleRead (length names)) _ (map (module_of names) (sections level.Modules rest))
         (module_read names earlier n rest keeps follow over heard later) h
     more y keeps follow over later h = h

@@ -4,6 +4,7 @@ use Rattle.std.specs.Prelude.{◌&&◌, nat_le, max}
 use Rattle.std.specs.List.{All, list_all}
 use Rattle.std.proofs.lemmas.Bool.{and_parts, leb-true}
 use Rattle.std.proofs.lemmas.List.Folds.{list_all-append}
+use Rattle.std.proofs.lemmas.List.Elements.{All-nil, All-cons}
 use Rattle.flow_design.specs.declared.limits.TheConstants.{EXPRESSION_NODES, EXPRESSION_DEPTH}
 use Rattle.flow_design.specs.declared.expr.Expr.{Expr}
 use Rattle.flow_design.specs.declared.expr.Expr.TheVariants.{Number, Var, Unary, Binary, Sext, Pick}
@@ -33,15 +34,6 @@ pub in_range : (least n most : ℕ) → nat_le least n && nat_le n most ≡ true
 in_range least n most h =
     let parts = and_parts (nat_le least n) (nat_le n most) h in
     (leb-true least n parts.0, leb-true n most parts.1)
-
--- ---- lists of one or two
-
-pub all_none : {A : Type 0} (P : A → Type 0) → All P []
-all_none P k d l = absurd (omega arith)
-
-pub all_cons : {A : Type 0} (P : A → Type 0) (x : A) (xs : List A) → P x → All P xs → All P (x ∷ xs)
-all_cons P x xs h rest zero d l = h
-all_cons P x xs h rest (suc k) d l = rest k d (omega arith)
 
 -- ---- sizes
 
@@ -196,7 +188,7 @@ module _ (earlier : List Statement) (scope : Scope) (heard : Within (registers e
   tree e known small = sound earlier (places scope) heard e known small
 
   one : {X : Type 0} (P : X → Type 0) (x : X) → P x → All P (x ∷ [])
-  one P x h = all_cons P x [] h (all_none P)
+  one P x h = All-cons P x [] h (All-nil P)
 
   channel : (f : Name) → is_among (channels earlier) f ≡ true → number_of scope.channels f < length scope.channels
   channel f h = number_below scope.channels f (heard_channels f h)
@@ -224,28 +216,28 @@ module _ (earlier : List Statement) (scope : Scope) (heard : Within (registers e
       (sym (list_all-append (is_known earlier) (expr_parts e) (expr_parts f)) ∙ a.1) in
       let s = and_parts (is_small e) (is_small f) small in
       record {
-        at = all_none IsPlace;
-        expressions = all_cons IsSound _ (numbered (places scope) f ∷ []) (tree e b.0 s.0)
+        at = All-nil IsPlace;
+        expressions = All-cons IsSound _ (numbered (places scope) f ∷ []) (tree e b.0 s.0)
             (one IsSound _ (tree f b.1 s.1));
         memory = number_below scope.memories m (heard_memories m a.0);
         channel = tt;
       }
   op_read (op.Read f x) known small =
-      let n = named f x known in record { at = n.0; expressions = all_none IsSound; memory = tt; channel = n.1 }
+      let n = named f x known in record { at = n.0; expressions = All-nil IsSound; memory = tt; channel = n.1 }
   op_read (op.Write f e) known small =
       let a = and_parts (is_among (channels earlier) f) (list_all (is_known earlier) (expr_parts e)) known in
-      record { at = all_none IsPlace; expressions = one IsSound _ (tree e a.1 small); memory = tt; channel = channel f a.0 }
+      record { at = All-nil IsPlace; expressions = one IsSound _ (tree e a.1 small); memory = tt; channel = channel f a.0 }
   op_read (op.TryRead f x ok) known small =
       let a = and_parts (is_among (channels earlier) f) (V x && (V ok && true)) known in
       let b = and_parts (V x) (V ok && true) a.1 in
       let c = and_parts (V ok) true b.1 in
-      let both = all_cons IsPlace _ (number_of (places scope) ok ∷ []) (place x b.0) (one IsPlace _ (place ok c.0)) in
-      record { at = both; expressions = all_none IsSound; memory = tt; channel = channel f a.0 }
+      let both = All-cons IsPlace _ (number_of (places scope) ok ∷ []) (place x b.0) (one IsPlace _ (place ok c.0)) in
+      record { at = both; expressions = All-nil IsSound; memory = tt; channel = channel f a.0 }
   op_read (op.TryWrite f ok e) known small =
       let a = and_parts (is_among (channels earlier) f) (V ok && list_all (is_known earlier) (expr_parts e)) known in
       let b = and_parts (V ok) (list_all (is_known earlier) (expr_parts e)) a.1 in
       record { at = one IsPlace _ (place ok b.0); expressions = one IsSound _ (tree e b.1 small); memory = tt; channel = channel f a.0 }
   op_read (op.Empty f x) known small =
-      let n = named f x known in record { at = n.0; expressions = all_none IsSound; memory = tt; channel = n.1 }
+      let n = named f x known in record { at = n.0; expressions = All-nil IsSound; memory = tt; channel = n.1 }
   op_read (op.Full f x) known small =
-      let n = named f x known in record { at = n.0; expressions = all_none IsSound; memory = tt; channel = n.1 }
+      let n = named f x known in record { at = n.0; expressions = All-nil IsSound; memory = tt; channel = n.1 }

@@ -6,6 +6,7 @@ use Rattle.std.specs.List.{All, filter_map, cons_option, enumerate_from}
 use Rattle.std.proofs.lemmas.Bool.{and_parts, ltb-true}
 use Rattle.std.proofs.lemmas.List.{length-map, get_or-map}
 use Rattle.std.proofs.lemmas.List.FromFn.{get_or-enumerate_from, length-enumerate_from}
+use Rattle.std.proofs.lemmas.List.Elements.{All-nil, All-cons}
 use Rattle.flow_design.specs.declared.limits.TheConstants.{MODULES, CHANNELS, FIFO_DEPTH, FIFO_DELAY}
 use Rattle.flow_design.specs.declared.session.Statement.{Statement}
 use Rattle.flow_design.specs.declared.session.Statement.TheVariants as s
@@ -27,7 +28,7 @@ use Rattle.session_plan.specs.declared.section.Sort.TheVariants as sort
 use Rattle.flow_check.specs.Read.{IsModuleRead, IsPlanRead}
 use Rattle.flow_check.proofs.Amounts.{taken_within, amount_most}
 use Rattle.flow_check.proofs.Following.{Keeps, Follow, all_follow, Grows, at_most, as_many, Heard, heard_none}
-use Rattle.flow_check.proofs.Numbers.{in_range, all_none, all_cons}
+use Rattle.flow_check.proofs.Numbers.{in_range}
 use Rattle.flow_check.proofs.Bodies.{channel_same, heard_all}
 use Rattle.flow_check.proofs.Modules.{all_over, sections_long, modules_read}
 
@@ -75,8 +76,8 @@ ChannelRead c = IsTrue (is_name c.name) × IsKindOf c.kind
 channel_more : (earlier : List Statement) (x : Statement) → Keeps earlier x → (later : List Channel) → All ChannelRead later
     → All ChannelRead (cons_option (channel x) later)
 unfolding is_name_token
-channel_more earlier (s.Source n w) keeps later h = all_cons ChannelRead _ later ((and_parts (is_name n) true keeps.named).0, tt) h
-channel_more earlier (s.Sink n w) keeps later h = all_cons ChannelRead _ later ((and_parts (is_name n) true keeps.named).0, tt) h
+channel_more earlier (s.Source n w) keeps later h = All-cons ChannelRead _ later ((and_parts (is_name n) true keeps.named).0, tt) h
+channel_more earlier (s.Sink n w) keeps later h = All-cons ChannelRead _ later ((and_parts (is_name n) true keeps.named).0, tt) h
 channel_more earlier (s.Fifo n w d l) keeps later h =
     let first = and_parts (nat_le 1 w && nat_le w 64)
     ((nat_le 1 d && nat_le d FIFO_DEPTH) && ((nat_le 1 l && nat_le l FIFO_DELAY) && true)) keeps.ranged in
@@ -84,11 +85,11 @@ channel_more earlier (s.Fifo n w d l) keeps later h =
     let third = and_parts (nat_le 1 l && nat_le l FIFO_DELAY) true second.1 in
     let depth = in_range 1 d FIFO_DEPTH second.0 in
     let delay = in_range 1 l FIFO_DELAY third.0 in
-    all_cons ChannelRead _ later ((and_parts (is_name n) true keeps.named).0, (depth.0, depth.1, delay.0, delay.1)) h
+    All-cons ChannelRead _ later ((and_parts (is_name n) true keeps.named).0, (depth.0, depth.1, delay.0, delay.1)) h
 channel_more earlier x keeps later h = h
 
 channels_read : (earlier rest : List Statement) → Follow earlier rest → All ChannelRead (filter_map channel rest)
-channels_read earlier [] follow = all_none ChannelRead
+channels_read earlier [] follow = All-nil ChannelRead
 channels_read earlier (x ∷ rest) follow
     = channel_more earlier x follow.0 (filter_map channel rest) (channels_read (x ∷ earlier) rest follow.1)
 

@@ -7,6 +7,7 @@ use Rattle.std.proofs.lemmas.Bool.{and_parts, and_from, lt-ltb, le-leb, eqb-true
 use Rattle.std.proofs.lemmas.List.{get_or-take, length-take, get_or_default}
 use Rattle.std.proofs.lemmas.List.Folds.{list_any_none}
 use Rattle.std.proofs.lemmas.List.FromFn.{get_or-enumerate_from, length-enumerate_from}
+use Rattle.std.proofs.lemmas.Bool.Decides.{nat_tests}
 use Rattle.flow_word.specs.declared.access.Side.{Side}
 use Rattle.flow_word.specs.declared.access.Side.TheVariants.{Pop, Push}
 use Rattle.flow_word.specs.declared.access.Port.{Port}
@@ -114,18 +115,13 @@ no_clash b d apart k there = by (slot b.kind u) refl
 -- ---- blocks
 
 next_within : (registers blocks : ℕ) (next : Next) → IsNextSound registers blocks next → leads_out blocks next ≡ false
-next_within registers blocks (Goto n) sound = not_from_true (nat_lt n blocks) (lt-ltb n blocks sound)
-next_within registers blocks (Branch r n o) sound =
-    not_from_true (nat_lt n blocks && nat_lt o blocks)
-    (and_from (nat_lt n blocks) (nat_lt o blocks) (lt-ltb n blocks sound.1) (lt-ltb o blocks sound.2))
+next_within registers blocks (Goto n) sound = grind (arith, nat_tests)
+next_within registers blocks (Branch r n o) sound = grind (arith, nat_tests)
 next_within registers blocks Stop sound = refl
 
 loop_within : (registers len : ℕ) (kind : BlockKind) → IsKindSound registers len kind → is_bad_loop len kind ≡ false
 loop_within registers len Plain sound = refl
-loop_within registers len (Loop ii again) sound =
-    not_from_true (nat_le ii len && nat_le len (LIVE_ITERATIONS * ii))
-    (and_from (nat_le ii len) (nat_le len (LIVE_ITERATIONS * ii)) (le-leb ii len sound.least)
-    (le-leb len (LIVE_ITERATIONS * ii) sound.most))
+loop_within registers len (Loop ii again) sound = grind (arith, nat_tests)
 
 port_kept : (m : Module) (o : Option Port) → IfSome o (λ a. IsTrue (uses a m)) → lacks_port m o ≡ false
 port_kept m None h = refl
@@ -158,9 +154,7 @@ module _ (plan : Plan) (fits : FitsEngine plan) where
       ((fits.modules m no_module lm).blocks b no_block lb) no_operation rule))
 
   limits_kept : breaks_limits plan.cycles plan.ops ≡ false
-  limits_kept = not_from_true _ (and_from _ _
-      (and_from _ _ (le-leb 1 plan.cycles fits.some_cycles) (le-leb plan.cycles CYCLES fits.cycles))
-      (and_from _ _ (le-leb 1 plan.ops fits.some_operations) (le-leb plan.ops COUNTED_OPERATIONS fits.operations)))
+  limits_kept = grind (arith, nat_tests)
 
   all_served : place_where (lacks_users plan.design.modules) (enumerate_from 0 plan.design.channels) ≡ None
   all_served = where_none (lacks_users plan.design.modules) (0, no_channel) (enumerate_from 0 plan.design.channels) (λ f l.

@@ -4,6 +4,7 @@ use Rattle.std.proofs.Common.{subst, ◌∙◌, arith, true≢false, slice_get}
 use Rattle.std.specs.Prelude.{◌==◌, ◌&&◌}
 use Rattle.std.specs.List.{All}
 use Rattle.std.proofs.lemmas.Bool.{and_parts, and_from, eqb-true, eq-eqb, false_from_ne_true}
+use Rattle.std.proofs.lemmas.List.Elements.{All-nil, All-cons}
 use Rattle.flow_design.specs.declared.session.Statement.{Statement}
 use Rattle.flow_grammar.specs.declared.fault.Code.{Code}
 use Rattle.flow_grammar.specs.declared.fault.TextFault.{TextFault}
@@ -17,7 +18,6 @@ use Rattle.flow_check.specs.First.{first_for, or_later, place_where}
 use Rattle.flow_check.specs.Places.{items_of, same_spot, same_item, is_item, place_of}
 use Rattle.flow_check.specs.Rules.{broken_by, rules, checking_fault}
 use Rattle.flow_check.specs.Broken.{passes, breaks, statement_breaks, TellsFirst}
-use Rattle.flow_check.proofs.Numbers.{all_none, all_cons}
 use Rattle.flow_check.proofs.Existing.{exists}
 use Rattle.flow_check.proofs.Firsts.{passed, mapped, some_is, where_some, where_least, broken_some, broken_least, Upto}
 use Rattle.flow_check.proofs.Order.{one_item}
@@ -73,7 +73,7 @@ first_rule {A} {B} f (z ∷ xs) x y h = by (f z) refl (first_rule f xs x y) h
         let pair : (z, w) ≡ (x, y) = some_is q in
         let at : z ≡ x = ap (λ (r : A × B). r.0) pair in
         let is : w ≡ y = ap (λ (r : A × B). r.1) pair in
-        record { earlier = []; later = xs; order = ap (λ (a : A). a ∷ xs) at; gives = ap f (sym at) ∙ e ∙ ap Some is; none = all_none _ }
+        record { earlier = []; later = xs; order = ap (λ (a : A). a ∷ xs) at; gives = ap f (sym at) ∙ e ∙ ap Some is; none = All-nil _ }
     by None e more q =
         let p = more q in
         record {
@@ -81,7 +81,7 @@ first_rule {A} {B} f (z ∷ xs) x y h = by (f z) refl (first_rule f xs x y) h
           later = p.later;
           order = ap (λ (l : List A). z ∷ l) p.order;
           gives = p.gives;
-          none = all_cons (λ (a : A). f a ≡ None) z p.earlier e p.none;
+          none = All-cons (λ (a : A). f a ≡ None) z p.earlier e p.none;
         }
 
 -- ---- the first statement

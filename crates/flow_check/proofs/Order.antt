@@ -54,12 +54,6 @@ last_block before a i h = by before.blocks refl h
 
 -- ---- an item is behind what stands before its statement
 
-in_order : (before : Counts) (block : ℕ) (i : Item) → block ≡ before.blocks → in_last_module before block Head ≡ Some i → Behind before i
-in_order before block i e h =
-    let p = last_module before block Head i h in
-    let there : before.blocks ≤ block = omega (arith, e) in
-    subst (Behind before) (sym p.2) (inr (p.1, inl there))
-
 in_body : (before : Counts) (a : Spot) (i : Item) → SpotBehind before a → in_last_block before a ≡ Some i → Behind before i
 in_body before a i behind h =
     let p = last_block before a i h in
@@ -70,8 +64,8 @@ at_behind before (s.Limits c o) i h = let e : item.Limits ≡ i = cc in subst (B
 at_behind before (s.Source n w) i h = let e : item.Channel before.channels ≡ i = cc in subst (Behind before) e (omega arith)
 at_behind before (s.Sink n w) i h = let e : item.Channel before.channels ≡ i = cc in subst (Behind before) e (omega arith)
 at_behind before (s.Fifo n w depth delay) i h = let e : item.Channel before.channels ≡ i = cc in subst (Behind before) e (omega arith)
-at_behind before (s.Block n l) i h = in_order before before.blocks i refl h
-at_behind before (s.Loop n ii l r) i h = in_order before before.blocks i refl h
+at_behind before (s.Block n l) i h = let p = last_module before before.blocks Head i h in subst (Behind before) (sym p.2) (grind arith)
+at_behind before (s.Loop n ii l r) i h = let p = last_module before before.blocks Head i h in subst (Behind before) (sym p.2) (grind arith)
 at_behind before (s.At off guard o) i h = in_body before (Operation before.operations) i (omega arith) h
 at_behind before (s.Goto b) i h = in_body before Terminator i tt h
 at_behind before (s.Branch r b c) i h = in_body before Terminator i tt h
@@ -80,44 +74,15 @@ at_behind before st i h = absurd cc
 
 -- ---- what is behind more is behind less
 
-new_block : (before : Counts) (b : ℕ) (a : Spot)
-    → (before.blocks + 1 ≤ b) ⊎ ((before.blocks + 1 ≡ b + 1) × SpotBehind (record before { blocks = before.blocks + 1; operations = 0 }) a)
-    → InBlock before b a
-new_block before b a (inl l) = inl (omega arith)
-new_block before b a (inr p) = let e : before.blocks + 1 ≡ b + 1 = p.0 in inl (omega arith)
-
-new_operation : (before : Counts) (a : Spot) → SpotBehind (record before { operations = before.operations + 1 }) a → SpotBehind before a
-new_operation before Head h = h
-new_operation before (Operation k) h = omega arith
-new_operation before Terminator h = h
-
-after_block : (before : Counts) (m b : ℕ) (a : Spot) → InModule (record before { blocks = before.blocks + 1; operations = 0 }) m b a
-    → InModule before m b a
-after_block before m b a (inl l) = inl l
-after_block before m b a (inr p) = inr (p.0, new_block before b a p.1)
-
-after_operation : (before : Counts) (m b : ℕ) (a : Spot) → InModule (record before { operations = before.operations + 1 }) m b a
-    → InModule before m b a
-after_operation before m b a (inl l) = inl l
-after_operation before m b a (inr (e, inl l)) = inr (e, inl l)
-after_operation before m b a (inr (e, inr (f, h))) = inr (e, inr (f, new_operation before a h))
-
-after_module : (before : Counts) (m b : ℕ) (a : Spot) → InModule (record before { modules = before.modules + 1; blocks = 0 }) m b a
-    → InModule before m b a
-after_module before m b a (inl l) = inl (omega arith)
-after_module before m b a (inr p) = let e : before.modules + 1 ≡ m + 1 = p.0 in inl (omega arith)
-
 less : (before : Counts) (st : Statement) (i : Item) → Behind (counts_more before st) i → Behind before i
-less before st item.Limits h = tt
 less before (s.Source n w) (item.Channel f) h = omega arith
 less before (s.Sink n w) (item.Channel f) h = omega arith
 less before (s.Fifo n w depth delay) (item.Channel f) h = omega arith
-less before st (item.Channel f) h = h
-less before (s.Module n) (item.InModule m (b, a)) h = after_module before m b a h
-less before (s.Block n l) (item.InModule m (b, a)) h = after_block before m b a h
-less before (s.Loop n ii l r) (item.InModule m (b, a)) h = after_block before m b a h
-less before (s.At off guard o) (item.InModule m (b, a)) h = after_operation before m b a h
-less before st (item.InModule m (b, a)) h = h
+less before (s.Module n) (item.InModule m (b, a)) h = grind arith
+less before (s.Block n l) (item.InModule m (b, a)) h = grind arith
+less before (s.Loop n ii l r) (item.InModule m (b, a)) h = grind arith
+less before (s.At off guard o) (item.InModule m (b, Operation k)) h = grind arith
+less before st i h = h
 
 all_behind : (earlier rest : List Statement) (k : ℕ) (i : Item) → slice_get (items_behind earlier rest) k ≡ Some (Some i)
     → Behind (counts earlier) i
@@ -128,50 +93,21 @@ all_behind earlier (st ∷ rest) (suc k) i h =
 
 -- ---- an item that comes later does not come before
 
-channel_later : (f : ℕ) (j : Item) (before : Counts) → f ≡ before.channels → Behind (record before { channels = before.channels + 1 }) j
-    → Upto j (item.Channel f)
-    → item.Channel f ≡ j
-channel_later f (item.Channel g) before e behind upto = absurd (omega (arith, e))
-channel_later f j before e behind upto = absurd upto
+limits_first : (i j : Item) → item.Limits ≡ i → Upto j i → i ≡ j
+limits_first i j e upto = sym e ∙ by j (subst (Upto j) (sym e) upto)
+  where
+    by : (j : Item) → Upto j item.Limits → item.Limits ≡ j
+    by item.Limits u = refl
+    by j u = absurd u
 
--- of a block that begins here
-head_later : (m p n q : ℕ) (t : Spot) (before : Counts) → before.modules ≡ m + 1 → before.blocks ≡ p
-    → InModule (record before { blocks = before.blocks + 1; operations = 0 }) n q t
-    → Upto (item.InModule n (q, t)) (item.InModule m (p, Head)) → ⊥
-head_later m p n q t before em ep (inl l) (inl u) = omega arith
-head_later m p n q t before em ep (inl l) (inr u) = let e : n ≡ m = u.0 in omega arith
-head_later m p n q t before em ep (inr h) (inl u) = let e : before.modules ≡ n + 1 = h.0 in omega arith
-head_later m p n q t before em ep (inr (e, inl l)) (inr (u, inl v)) = omega arith
-head_later m p n q t before em ep (inr (e, inl l)) (inr (u, inr v)) = let w : q ≡ p = v.0 in omega arith
-head_later m p n q t before em ep (inr (e, inr h)) (inr (u, inl v)) = let w : before.blocks + 1 ≡ q + 1 = h.0 in omega arith
-head_later m p n q Head before em ep (inr (e, inr h)) (inr (u, inr v)) = h.1
-head_later m p n q t before em ep (inr (e, inr h)) (inr (u, inr v)) = v.1
-
--- of a statement in a block
-body_later : (m p n q : ℕ) (a t : Spot) (before after : Counts) → before.modules ≡ m + 1 → before.blocks ≡ p + 1
-    → after.modules ≡ before.modules
-    → after.blocks ≡ before.blocks → (SpotBehind after t → SpotUpto t a → a ≡ t)
-    → InModule after n q t → Upto (item.InModule n (q, t)) (item.InModule m (p, a)) → item.InModule m (p, a) ≡ item.InModule n (q, t)
-body_later m p n q a t before after em ep am ap' same (inl l) (inl u) = absurd (omega arith)
-body_later m p n q a t before after em ep am ap' same (inl l) (inr u) = let e : n ≡ m = u.0 in absurd (omega arith)
-body_later m p n q a t before after em ep am ap' same (inr h) (inl u) = let e : after.modules ≡ n + 1 = h.0 in absurd (omega arith)
-body_later m p n q a t before after em ep am ap' same (inr (e, inl l)) (inr (u, inl v)) = absurd (omega arith)
-body_later m p n q a t before after em ep am ap' same (inr (e, inl l)) (inr (u, inr v)) = let w : q ≡ p = v.0 in absurd (omega arith)
-body_later m p n q a t before after em ep am ap' same (inr (e, inr h)) (inr (u, inl v)) = let w : after.blocks ≡ q + 1 = h.0 in
-    absurd (omega arith)
-body_later m p n q a t before after em ep am ap' same (inr (e, inr h)) (inr (u, inr v)) =
-    ap (λ (k : ℕ). item.InModule k (p, a)) (sym u) ∙ ap (λ (k : ℕ). item.InModule n (k, a)) (sym v.0)
-    ∙ ap (λ (x : Spot). item.InModule n (q, x)) (same h.1 v.1)
-
-operation_same : (before : Counts) (t : Spot) → SpotBehind (record before { operations = before.operations + 1 }) t
-    → SpotUpto t (Operation before.operations) → Operation before.operations ≡ t
-operation_same before (Operation k) h u = absurd (omega arith)
-operation_same before t h u = absurd u
-
-terminator_same : (before : Counts) (t : Spot) → SpotBehind before t → SpotUpto t Terminator → Terminator ≡ t
-terminator_same before Head h u = absurd h
-terminator_same before (Operation k) h u = absurd u
-terminator_same before Terminator h u = refl
+channel_first : (before : Counts) (i j : Item) → item.Channel before.channels ≡ i
+    → Behind (record before { channels = before.channels + 1 }) j → Upto j i → i ≡ j
+channel_first before i j e behind upto = sym e ∙ by j behind (subst (Upto j) (sym e) upto)
+  where
+    by : (j : Item) → Behind (record before { channels = before.channels + 1 }) j → Upto j (item.Channel before.channels)
+        → item.Channel before.channels ≡ j
+    by (item.Channel g) h u = grind arith
+    by j h u = absurd u
 
 block_first : (before : Counts) (i j : Item) → in_last_module before before.blocks Head ≡ Some i
     → Behind (record before { blocks = before.blocks + 1; operations = 0 }) j
@@ -182,7 +118,8 @@ block_first before i j is behind upto =
   where
     by : (j : Item) → Behind (record before { blocks = before.blocks + 1; operations = 0 }) j → (m : ℕ)
         → Upto j (item.InModule m (before.blocks, Head)) → before.modules ≡ m + 1 → item.InModule m (before.blocks, Head) ≡ j
-    by (item.InModule n (q, t)) h m u e = absurd (head_later m before.blocks n q t before e refl h u)
+    by (item.InModule n (q, Head)) h m u e = absurd (grind arith)
+    by (item.InModule n (q, t)) h m u e = absurd (grind arith)
     by j h m u e = absurd u
 
 operation_first : (before : Counts) (i j : Item) → in_last_block before (Operation before.operations) ≡ Some i
@@ -194,9 +131,8 @@ operation_first before i j is behind upto =
     by : (m b : ℕ) → before.modules ≡ m + 1 → before.blocks ≡ b + 1 → (j : Item)
         → Behind (record before { operations = before.operations + 1 }) j
         → Upto j (item.InModule m (b, Operation before.operations)) → item.InModule m (b, Operation before.operations) ≡ j
-    by m b e f (item.InModule n (q, t)) h u =
-        body_later m b n q (Operation before.operations) t before (record before { operations = before.operations + 1 }) e f refl refl
-        (operation_same before t) h u
+    by m b e f (item.InModule n (q, Operation k)) h u = absurd (grind arith)
+    by m b e f (item.InModule n (q, t)) h u = absurd (grind arith)
     by m b e f j h u = absurd u
 
 terminator_first : (before : Counts) (i j : Item) → in_last_block before Terminator ≡ Some i → Behind before j → Upto j i → i ≡ j
@@ -206,19 +142,9 @@ terminator_first before i j is behind upto =
   where
     by : (m b : ℕ) → before.modules ≡ m + 1 → before.blocks ≡ b + 1 → (j : Item) → Behind before j
         → Upto j (item.InModule m (b, Terminator)) → item.InModule m (b, Terminator) ≡ j
-    by m b e f (item.InModule n (q, t)) h u = body_later m b n q Terminator t before before e f refl refl (terminator_same before t) h u
+    by m b e f (item.InModule n (q, Terminator)) h u = grind arith
+    by m b e f (item.InModule n (q, t)) h u = absurd (grind arith)
     by m b e f j h u = absurd u
-
-limits_first : (i j : Item) → item.Limits ≡ i → Upto j i → i ≡ j
-limits_first i j e upto = by j (subst (Upto j) (sym e) upto)
-  where
-    by : (j : Item) → Upto j item.Limits → i ≡ j
-    by item.Limits u = sym e
-    by j u = absurd u
-
-channel_first : (before : Counts) (i j : Item) → item.Channel before.channels ≡ i
-    → Behind (record before { channels = before.channels + 1 }) j → Upto j i → i ≡ j
-channel_first before i j e behind upto = sym e ∙ channel_later before.channels j before refl behind (subst (Upto j) (sym e) upto)
 
 first_here : (before : Counts) (st : Statement) (i j : Item) → item_behind before st ≡ Some i → Behind (counts_more before st) j
     → Upto j i → i ≡ j

@@ -1,7 +1,11 @@
 -- The expressions of some tokens are those whose parts the tokens spell.
 use Rattle.std.proofs.Common.{◌≡◌, ℕ, List, [], ◌∷◌, ◌++◌, Bool, true, false, cond, Option, None, Some, refl, subst, append_assoc}
-use Rattle.std.specs.Prelude.{codes, ◌==◌}
-use Rattle.std.specs.List.{find}
+use Rattle.std.specs.Prelude.{codes, ◌==◌, ◌&&◌}
+use Rattle.std.specs.List.{find, list_all}
+use Rattle.std.proofs.Common.{◌-◌, ◌^◌, sym, ◌∙◌}
+use Rattle.std.proofs.lemmas.List.Folds.{list_all-append}
+use Rattle.flow_grammar.proofs.Induction.{by_cases}
+use Rattle.flow_grammar.specs.Parts.{Word, Num, Use, AVariable}
 use Rattle.std.specs.Option.{option_and_then}
 use Rattle.flow_design.specs.declared.expr.Expr.{Expr}
 use Rattle.flow_design.specs.declared.expr.Expr.TheOpen.{Expr-F}
@@ -177,3 +181,31 @@ says (t ∷ behind) = go (trees_of behind) refl (says behind)
 pub trees_spelled : (ts : List (List ℕ)) (es : Trees) → trees_of ts ≡ Some es → Spelled ts (all_parts es)
 unfolding Says
 trees_spelled ts es e = subst (Says ts) e (says ts)
+
+-- ---- tests of the parts of an expression
+
+-- two tests that agree on words, numbers and variables agree on each expression
+module _ (p q : Part → Bool) (words : (w : List ℕ) → p (Word w) ≡ q (Word w))
+    (numbers : (least most n : ℕ) → p (Num least most n) ≡ q (Num least most n))
+    (variables : (x : List ℕ) → p (Use AVariable x) ≡ q (Use AVariable x)) where
+  abbrev Same : List Part → Type 0
+  Same ps = list_all p ps ≡ list_all q ps
+
+  same_append : (xs ys : List Part) → Same xs → Same ys → Same (xs ++ ys)
+  same_append xs ys h k = list_all-append p xs ys ∙ (λ i. h i && k i) ∙ sym (list_all-append q xs ys)
+
+  pub same_tests : (e : Expr (List ℕ)) → Same (expr_parts e)
+  same_tests = by_cases (List ℕ) (λ e. Same (expr_parts e)) (record {
+    number = λ n. rw (parts_Number n) (λ i. numbers 0 (2 ^ 64 - 1) n i && true);
+    var = λ x. rw (parts_Var x) (λ i. variables x i && true);
+    unary = λ o a h. rw (parts_Unary o a) (of_unary o (expr_parts a) h);
+    binary = λ o a b h k. rw (parts_Binary o a b)
+        (λ i. words (operator_word (Two o)) i && same_append (expr_parts a) (expr_parts b) h k i);
+    sext = λ w a h. rw (parts_Sext w a) (λ i. words (operator_word Extend) i && (numbers 1 64 w i && h i));
+    pick = λ a b c h k l. rw (parts_Pick a b c)
+        (λ i. words (operator_word Choose) i
+        && same_append (expr_parts a) (expr_parts b ++ expr_parts c) h (same_append (expr_parts b) (expr_parts c) k l) i);
+  })
+    where
+      of_unary : (o : UnOp) (ps : List Part) → Same ps → Same (layer_parts (Expr-F.Unary o ps))
+      of_unary Not ps h = λ i. words (operator_word (One Not)) i && h i

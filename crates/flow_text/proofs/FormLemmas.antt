@@ -1,5 +1,5 @@
 -- FIFOs that are written without their delay, or without their depth too.
-use Rattle.std.proofs.Common.{◌≡◌, ℕ, List, Bool, true, false, refl}
+use Rattle.std.proofs.Common.{◌≡◌, ℕ, List, Bool, true, false, refl, arith}
 use Rattle.std.specs.Prelude.{codes, ◌&&◌}
 use Rattle.flow_design.specs.declared.session.Statement.{Statement}
 use Rattle.flow_design.specs.declared.session.Statement.TheVariants.{Fifo}
@@ -18,21 +18,9 @@ module _ (n w : List ℕ) where
   pub without_delay : (depth : List ℕ) → only_if (tests depth (codes "1")) (fifo depth (codes "1"))
       ≡ only_if (is_name n && (is_number w && is_number depth)) (Fifo n (number_of w) (number_of depth) default_delay)
   unfolding is_number
-  without_delay depth = go (is_name n) (is_number w) (is_number depth)
-    where
-      go : (a b c : Bool) → only_if (a && (b && (c && true))) (Fifo n (number_of w) (number_of depth) 1)
-          ≡ only_if (a && (b && c)) (Fifo n (number_of w) (number_of depth) 1)
-      go true true true = refl
-      go true true false = refl
-      go true false c = refl
-      go false b c = refl
+  without_delay depth = grind arith
 
   pub without_depth : only_if (tests (codes "2") (codes "1")) (fifo (codes "2") (codes "1"))
       ≡ only_if (is_name n && is_number w) (Fifo n (number_of w) default_depth default_delay)
   unfolding is_number
-  without_depth = go (is_name n) (is_number w)
-    where
-      go : (a b : Bool) → only_if (a && (b && true)) (Fifo n (number_of w) 2 1) ≡ only_if (a && b) (Fifo n (number_of w) 2 1)
-      go true true = refl
-      go true false = refl
-      go false b = refl
+  without_depth = grind arith

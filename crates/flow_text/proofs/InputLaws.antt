@@ -4,6 +4,8 @@ use Rattle.std.proofs.Common.{false, Option, None, Some, Result, Ok, Err, refl, 
 use Rattle.std.specs.Prelude.{◌&&◌, not, if◌then◌else◌, nat_le}
 use Rattle.std.specs.List.{list_all}
 use Rattle.std.proofs.lemmas.List.{append-nil}
+use Rattle.std.proofs.lemmas.Bool.{and_parts}
+use Rattle.std.proofs.Common.{arith}
 use Rattle.flow_design.specs.declared.limits.TheConstants.{INPUT_VALUES}
 use Rattle.flow_design.specs.declared.session.Statement.{Statement}
 use Rattle.flow_design.specs.declared.session.Statement.TheVariants.{Input}
@@ -54,12 +56,7 @@ module _ (t : Tables) where
   in_cases : (n : Name) (values : List ℕ) (h r d k m : Bool)
       → (if h then given_by d k m n (words_if r values) else Err Syntax)
       ≡ judged (if h then input_fault r (true && not d) (k && true) m else Some Syntax) (Input n values)
-  in_cases n values false r d k m = refl
-  in_cases n values true false d k m = refl
-  in_cases n values true true true k m = refl
-  in_cases n values true true false false m = refl
-  in_cases n values true true false true true = refl
-  in_cases n values true true false true false = refl
+  in_cases n values h r d k m = grind arith
 
   given_is : (n : Name) (words : Option (List ℕ)) (values : List ℕ) → words ≡ words_within values
       → input_of_words t n words
@@ -92,9 +89,7 @@ module _ (t : Tables) where
       (Input n values))
 
   fits : (b c : Bool) (s : Statement) → b ≡ true → c ≡ true → reading_by t (Some s) ≡ reading_by t (only_if (b && c) s)
-  fits true true s h k = refl
-  fits true false s h k = absurd cc
-  fits false c s h k = absurd cc
+  fits b c s h k = grind arith
 
   pub input_read : (n : Name) (tokens : List (List ℕ)) (words : Option (List ℕ)) (result : Result Statement LineFail)
       → is_name n ≡ true → list_all is_number tokens ≡ true → words ≡ words_within (map number_of tokens)
@@ -118,20 +113,16 @@ module _ {A : Type 0} (f : A → List ℕ) where
     pub so_far : words ++ numbers left ≡ numbers all
     pub passed : list_all is_plain (numbers left) ≡ list_all is_plain (numbers all)
 
-  both : (a b : Bool) → a && b ≡ true → (a ≡ true) × (b ≡ true)
-  both true b h = (refl, h)
-  both false b h = absurd cc
-
   pub begins : (all : List A) → list_all is_number (map f all) ≡ true → Reading all [] all
   begins all h = record { numerals = h; so_far = refl; passed = refl }
 
   pub is_numeral : (all : List A) (words : List ℕ) (x : A) (rest left : List A) → left ≡ x ∷ rest → Reading all words left
       → is_number (f x) ≡ true
-  is_numeral all words x rest left e r = (both (is_number (f x)) (list_all is_number (map f rest)) (rw e at r.numerals)).0
+  is_numeral all words x rest left e r = (and_parts (is_number (f x)) (list_all is_number (map f rest)) (rw e at r.numerals)).0
 
   is_within : (b : Bool) (n w : ℕ) → (if b then Some n else None) ≡ Some w → (b ≡ true) × (n ≡ w)
   is_within true n w h = (refl, cc)
-  is_within false n w h = absurd cc
+  is_within b n w h = absurd cc
 
   pub next : (all : List A) (words words' : List ℕ) (x : A) (w : ℕ) (rest left : List A) → left ≡ x ∷ rest
       → number_within 0 (2 ^ 64 - 1) (number_of (f x)) ≡ Some w → words' ≡ words ++ w ∷ []
@@ -141,7 +132,7 @@ module _ {A : Type 0} (f : A → List ℕ) where
       let s : words ++ number_of (f x) ∷ numbers rest ≡ numbers all = rw e at r.so_far in
       let d : is_plain (number_of (f x)) && list_all is_plain (numbers rest) ≡ list_all is_plain (numbers all) = rw e at r.passed in
       record {
-        numerals = (both (is_number (f x)) (list_all is_number (map f rest)) (rw e at r.numerals)).1;
+        numerals = (and_parts (is_number (f x)) (list_all is_number (map f rest)) (rw e at r.numerals)).1;
         so_far = ap (λ (ws : List ℕ). ws ++ numbers rest) p ∙ append_assoc words (w ∷ []) (numbers rest)
             ∙ ap (λ (n : ℕ). words ++ n ∷ numbers rest) (sym q.1) ∙ s;
         passed = ap (λ (b : Bool). b && list_all is_plain (numbers rest)) (sym q.0) ∙ d;

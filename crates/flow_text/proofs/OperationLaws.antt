@@ -21,9 +21,9 @@ use Rattle.flow_grammar.specs.Forms.{one_tree, two_trees, if_then}
 use Rattle.flow_grammar.specs.Trees.{Trees}
 use Rattle.flow_grammar.specs.Operands.{kept, is_known_by, earlier}
 use Rattle.flow_grammar.specs.Gives.{only_operand, both_operands}
-use Rattle.flow_grammar.proofs.Induction.{by_cases}
-use Rattle.flow_grammar.proofs.Kept.{all_append}
-use Rattle.flow_grammar.proofs.SpellingLaws.{parts_Number, parts_Var, parts_Unary, parts_Binary, parts_Sext, parts_Pick}
+use Rattle.flow_grammar.proofs.SpellingLaws.{same_tests}
+use Rattle.std.proofs.lemmas.List.Folds.{list_all-append}
+use Rattle.std.proofs.Common.{arith}
 use Rattle.name_tables.specs.declared.tables.Tables.{Tables}
 use Rattle.name_tables.specs.TableTests.{is_known}
 use Rattle.flow_text.specs.declared.operations.TwoNames.{TwoNames}
@@ -33,20 +33,12 @@ use Rattle.flow_text.specs.Operations.{trees_kept, made, with_tree, store_op, op
 use Rattle.std.proofs.lemmas.Bool.{and_from}
 
 and_assoc : (a b c : Bool) → a && (b && c) ≡ (a && b) && c
-and_assoc true b c = refl
-and_assoc false b c = refl
-
-and_true : (b : Bool) → b && true ≡ b
-and_true true = refl
-and_true false = refl
+and_assoc a b c = grind arith
 
 -- what is made of what passed three tests
 made_of : {A B : Type 0} (make : A → B) (ranged known small : Bool) (x : A)
     → tested ranged known small (make x) ≡ with_tree make (tested ranged known small x)
-made_of make true true true x = refl
-made_of make true true false x = refl
-made_of make true false s x = refl
-made_of make false k s x = refl
+made_of make ranged known small x = grind arith
 
 module _ (t : Tables) where
   -- ---- the tests of an expression
@@ -67,75 +59,22 @@ module _ (t : Tables) where
   abbrev Agrees : List Part → Type 0
   Agrees ps = list_all (is_known t) ps ≡ list_all (is_known_by (is_variable t)) ps
 
-  agrees_append : (xs ys : List Part) → Agrees xs → Agrees ys → Agrees (xs ++ ys)
-  agrees_append xs ys h k = all_append (is_known t) xs ys ∙ (λ i. h i && k i) ∙ sym (all_append (is_known_by (is_variable t)) xs ys)
-
-  agrees_unary : (o : UnOp) (ps : List Part) → Agrees ps → Agrees (layer_parts (Expr-F.Unary o ps))
-  agrees_unary Not ps h = h
-
   -- the names of an expression are all variables
   variables : (e : Expr Name) → Agrees (expr_parts e)
-  variables = by_cases Name (λ e. Agrees (expr_parts e)) (record {
-    number = λ n. rw (parts_Number n) refl;
-    var = λ x. rw (parts_Var x) refl;
-    unary = λ o a h. rw (parts_Unary o a) (agrees_unary o (expr_parts a) h);
-    binary = λ o a b h k. rw (parts_Binary o a b) (agrees_append (expr_parts a) (expr_parts b) h k);
-    sext = λ k a h. rw (parts_Sext k a) h;
-    pick = λ a b c h k l.
-        let behind = agrees_append (expr_parts b) (expr_parts c) k l in
-        rw (parts_Pick a b c) (agrees_append (expr_parts a) (expr_parts b ++ expr_parts c) h behind);
-  })
+  variables e = same_tests (is_known t) (is_known_by (is_variable t)) (λ w. refl) (λ least most n. refl) (λ x. refl) e
 
   -- ---- expressions beside names that are known or not
-
-  -- an operand by its three tests
-  abbrev by_tests : Bool → Bool → Bool → Expr Name → Operand
-  by_tests r f s e =
-      cond (not r) (Faulty BadNumber) (cond (not f) (Faulty UnknownName) (cond (not s) (Faulty TooMany) (Whole e (nodes e) (depth e))))
 
   -- one is the first test that it fails
   tree_is : (known : Bool) (e : Expr Name) → tree_kept known (kept_of e) ≡ tree_judged t known e
   unfolding kept tree_judged
-  tree_is known e = go (ranged e) (familiar e) (is_small e) known
-    where
-      go : (r f s k : Bool) → tree_kept k (by_tests r f s e) ≡ tested r (k && f) s e
-      go true true true true = refl
-      go true true true false = refl
-      go true true false true = refl
-      go true true false false = refl
-      go true false s true = refl
-      go true false s false = refl
-      go false f s k = refl
+  tree_is known e = grind arith
 
   -- two are the first test that one of them fails
-  both_tested : (e f : Expr Name) (r k s r' k' s' : Bool)
-      → trees_kept (tested r k s e) (tested r' k' s' f) ≡ tested (r && r') (k && k') (s && s') (e, f)
-  unfolding earlier
-  both_tested e f true true true true true true = refl
-  both_tested e f true true true true true false = refl
-  both_tested e f true true true true false s' = refl
-  both_tested e f true true true false k' s' = refl
-  both_tested e f true true false true true true = refl
-  both_tested e f true true false true true false = refl
-  both_tested e f true true false true false s' = refl
-  both_tested e f true true false false k' s' = refl
-  both_tested e f true false s true true true = refl
-  both_tested e f true false s true true false = refl
-  both_tested e f true false s true false s' = refl
-  both_tested e f true false s false k' s' = refl
-  both_tested e f false k s true true true = refl
-  both_tested e f false k s true true false = refl
-  both_tested e f false k s true false s' = refl
-  both_tested e f false k s false k' s' = refl
-
   trees_are : (known : Bool) (e f : Expr Name)
       → trees_kept (tree_kept known (kept_of e)) (tree_kept true (kept_of f)) ≡ trees_judged t known e f
-  unfolding tree_judged trees_judged
-  trees_are known e f =
-      (λ i. trees_kept (tree_is known e i) (tree_is true f i))
-      ∙ both_tested e f (ranged e) (known && familiar e) (is_small e) (ranged f) (familiar f) (is_small f)
-      ∙ ap (λ (b : Bool). tested (ranged e && ranged f) b (is_small e && is_small f) (e, f))
-      (sym (and_assoc known (familiar e) (familiar f)))
+  unfolding kept trees_judged earlier
+  trees_are known e f = grind arith
 
   -- ---- what tokens give that write these expressions
 
@@ -145,25 +84,20 @@ module _ (t : Tables) where
 
   pub tree_of_operand : (known : Bool) (trees : Option Trees) (o : Operand) → only_operand (found_in trees) ≡ Ok o
       → tree_reading t known trees ≡ Ok (tree_kept known o)
-  tree_of_operand known None o h = absurd cc
-  tree_of_operand known (Some []) o h = absurd cc
   tree_of_operand known (Some (e ∷ [])) o h =
       let same : kept_of e ≡ o = (cc) in
       ap (λ (x : Result (Expr Name) Code). Ok x) (sym (tree_is known e) ∙ ap (tree_kept known) same)
-  tree_of_operand known (Some (e ∷ f ∷ es)) o h = absurd cc
+  tree_of_operand known trees o h = absurd cc
 
   pub trees_of_operands : (known : Bool) (trees : Option Trees) (o p : Operand) → both_operands (found_in trees) ≡ Ok (o, p)
       → trees_reading t known trees ≡ Ok (trees_kept (tree_kept known o) (tree_kept true p))
-  trees_of_operands known None o p h = absurd cc
-  trees_of_operands known (Some []) o p h = absurd cc
-  trees_of_operands known (Some (e ∷ [])) o p h = absurd cc
   trees_of_operands known (Some (e ∷ f ∷ [])) o p h =
       let pair : (kept_of e, kept_of f) ≡ (o, p) = (cc) in
       let first : kept_of e ≡ o = ap (λ (x : Operand × Operand). x.0) pair in
       let second : kept_of f ≡ p = ap (λ (x : Operand × Operand). x.1) pair in
       ap (λ (x : Result (Expr Name × Expr Name) Code). Ok x)
       (sym (trees_are known e f) ∙ (λ i. trees_kept (tree_kept known (first i)) (tree_kept true (second i))))
-  trees_of_operands known (Some (e ∷ f ∷ g ∷ es)) o p h = absurd cc
+  trees_of_operands known trees o p h = absurd cc
 
   -- ---- operations with one expression
 
@@ -194,11 +128,9 @@ module _ (t : Tables) where
   one_made : (known : Bool) (make : Expr Name → Op Name) → IsOne known make → (trees : Option Trees)
       → op_reading t (option_map make (one_tree trees)) ≡ made make (tree_reading t known trees)
   unfolding tree_judged
-  one_made known make is None = refl
-  one_made known make is (Some []) = refl
   one_made known make is (Some (e ∷ [])) =
       ap (λ (x : Result (Op Name) Code). Ok x) (is e ∙ made_of make (ranged e) (known && familiar e) (is_small e) e)
-  one_made known make is (Some (e ∷ f ∷ es)) = refl
+  one_made known make is trees = refl
 
   -- ---- the operation with two
 
@@ -207,23 +139,20 @@ module _ (t : Tables) where
       ≡ tested (ranged e && ranged f) (is_among t.memories m && (familiar e && familiar f)) (is_small e && is_small f) (op.Store m e f)
   unfolding op_judged
   store_is m e f =
-      λ i. tested (all_append is_in_range (expr_parts e) (expr_parts f) i) (is_among t.memories m && both i) (is_small e && is_small f)
+      λ i. tested (list_all-append is_in_range (expr_parts e) (expr_parts f) i) (is_among t.memories m && both i) (is_small e && is_small f)
       (op.Store m e f)
     where
       both : list_all (is_known t) (expr_parts e ++ expr_parts f) ≡ familiar e && familiar f
-      both = all_append (is_known t) (expr_parts e) (expr_parts f) ∙ (λ i. variables e i && variables f i)
+      both = list_all-append (is_known t) (expr_parts e) (expr_parts f) ∙ (λ i. variables e i && variables f i)
 
   store_made : (m : Name) (trees : Option Trees)
       → op_reading t (two_trees (op.Store m) trees) ≡ made (store_op m) (trees_reading t (is_among t.memories m) trees)
   unfolding trees_judged
-  store_made m None = refl
-  store_made m (Some []) = refl
-  store_made m (Some (e ∷ [])) = refl
   store_made m (Some (e ∷ f ∷ [])) =
       ap (λ (x : Result (Op Name) Code). Ok x)
       (store_is m e f
       ∙ made_of (store_op m) (ranged e && ranged f) (is_among t.memories m && (familiar e && familiar f)) (is_small e && is_small f) (e, f))
-  store_made m (Some (e ∷ f ∷ g ∷ es)) = refl
+  store_made m trees = refl
 
   -- ---- what tokens give that write such operations
 
@@ -289,28 +218,14 @@ module _ (t : Tables) where
 
   -- ---- operations on names alone
 
-  named_is : (o : Op Name) (known : Bool) → tested true known true o ≡ named_op known o
-  named_is o true = refl
-  named_is o false = refl
-
-  -- those on a channel and a variable
-  names_are : (o : Op Name) (f r : Name)
-      → tested true (is_among t.channels f && (is_variable t r && true)) true o ≡ named_op (is_among t.channels f && is_variable t r) o
-  names_are o f r =
-      (λ i. tested true (is_among t.channels f && and_true (is_variable t r) i) true o)
-      ∙ named_is o (is_among t.channels f && is_variable t r)
-
   pub two_names_is : (which : TwoNames) (f r : Name)
       → op_judged t (op_of_names which f r) ≡ named_op (is_among t.channels f && is_variable t r) (op_of_names which f r)
   unfolding op_judged
-  two_names_is two.Read f r = names_are (op.Read f r) f r
-  two_names_is two.Empty f r = names_are (op.Empty f r) f r
-  two_names_is two.Full f r = names_are (op.Full f r) f r
+  two_names_is two.Read f r = grind arith
+  two_names_is which f r = grind arith
 
   -- the read with an outcome
   pub try_read_is : (f r ok : Name)
       → op_judged t (op.TryRead f r ok) ≡ named_op (is_among t.channels f && (is_variable t r && is_variable t ok)) (op.TryRead f r ok)
   unfolding op_judged
-  try_read_is f r ok =
-      (λ i. tested true (is_among t.channels f && (is_variable t r && and_true (is_variable t ok) i)) true (op.TryRead f r ok))
-      ∙ named_is (op.TryRead f r ok) (is_among t.channels f && (is_variable t r && is_variable t ok))
+  try_read_is f r ok = grind arith

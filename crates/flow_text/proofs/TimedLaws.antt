@@ -21,9 +21,8 @@ use Rattle.flow_grammar.specs.Parts.{Name, Part, expr_parts, op_parts, layer_par
 use Rattle.flow_grammar.specs.Rules.{is_in_range, has_small_trees}
 use Rattle.flow_grammar.specs.Forms.{if_then, guarded_of, op_of}
 use Rattle.flow_grammar.specs.Gives.{LineGives, judged}
-use Rattle.flow_grammar.proofs.Induction.{by_cases}
-use Rattle.flow_grammar.proofs.Kept.{all_append}
-use Rattle.flow_grammar.proofs.SpellingLaws.{parts_Number, parts_Var, parts_Unary, parts_Binary, parts_Sext, parts_Pick}
+use Rattle.flow_grammar.proofs.SpellingLaws.{same_tests}
+use Rattle.std.proofs.lemmas.List.Folds.{list_all-append}
 use Rattle.name_tables.specs.declared.tables.Tables.{Tables}
 use Rattle.flow_grammar.specs.Places.{takes_operations}
 use Rattle.name_tables.specs.TableTests.{is_new, is_known, fault_by, reading_by}
@@ -40,15 +39,7 @@ guarded_one off f (x ∷ y ∷ ys) h k = absurd (omega arith)
 -- a whole operation passes where what stands beside it does
 pub whole_read : (here room : Bool) (off : Option ℕ) (g : Option Name) (known : Bool) (o : Op Name) (r : Result ℕ Code)
     → r ≡ offset_there here room off known → timed_by here room off g known (Ok o) ≡ with_tree (λ n. At n g o) r
-whole_read here room off g known o r h = go here room off known ∙ ap (with_tree (λ n. At n g o)) (sym h)
-  where
-    go : (here room : Bool) (off : Option ℕ) (known : Bool)
-        → timed_by here room off g known (Ok o) ≡ with_tree (λ n. At n g o) (offset_there here room off known)
-    go false room off known = refl
-    go true room None known = refl
-    go true room (Some n) false = refl
-    go true true (Some n) true = refl
-    go true false (Some n) true = refl
+whole_read here room off g known o r h = grind arith
 
 module _ (t : Tables) where
   -- no part of an operation is a new name
@@ -56,21 +47,14 @@ module _ (t : Tables) where
   NoneNew ps = list_all (is_new t) ps ≡ true
 
   none_new_append : (xs ys : List Part) → NoneNew xs → NoneNew ys → NoneNew (xs ++ ys)
-  none_new_append xs ys h k = all_append (is_new t) xs ys ∙ (λ i. h i && k i)
-
-  of_unary : (o : UnOp) (ps : List Part) → NoneNew ps → NoneNew (layer_parts (Expr-F.Unary o ps))
-  of_unary Not ps h = h
+  none_new_append xs ys h k = list_all-append (is_new t) xs ys ∙ (λ i. h i && k i)
 
   expr_new : (e : Expr Name) → NoneNew (expr_parts e)
-  expr_new = by_cases Name (λ e. NoneNew (expr_parts e)) (record {
-    number = λ n. rw (parts_Number n) refl;
-    var = λ x. rw (parts_Var x) refl;
-    unary = λ o a h. rw (parts_Unary o a) (of_unary o (expr_parts a) h);
-    binary = λ o a b h k. rw (parts_Binary o a b) (none_new_append (expr_parts a) (expr_parts b) h k);
-    sext = λ k a h. rw (parts_Sext k a) h;
-    pick = λ a b c h k l. rw (parts_Pick a b c)
-        (none_new_append (expr_parts a) (expr_parts b ++ expr_parts c) h (none_new_append (expr_parts b) (expr_parts c) k l));
-  })
+  expr_new e = same_tests (is_new t) (λ p. true) (λ w. refl) (λ least most n. refl) (λ x. refl) e ∙ all_pass (expr_parts e)
+    where
+      all_pass : (ps : List Part) → list_all (λ p. true) ps ≡ true
+      all_pass [] = refl
+      all_pass (p ∷ ps) = all_pass ps
 
   op_new : (o : Op Name) → NoneNew (op_parts o)
   op_new (op.Set r e) = expr_new e
@@ -94,19 +78,7 @@ module _ (t : Tables) where
   in_cases : (n : ℕ) (g : Option Name) (o : Op Name) (h rn r kg k m s : Bool)
       → timed_by h m (if rn then Some n else None) g kg (tested r k s o)
       ≡ judged (if h then at_fault (rn && r) (true && true) (kg && k) (m && s) else Some Syntax) (At n g o)
-  in_cases n g o false rn r kg k m s = refl
-  in_cases n g o true false r kg k m s = refl
-  in_cases n g o true true false true k true s = refl
-  in_cases n g o true true false true k false s = refl
-  in_cases n g o true true false false k m s = refl
-  in_cases n g o true true true false true m true = refl
-  in_cases n g o true true true false true m false = refl
-  in_cases n g o true true true false false m s = refl
-  in_cases n g o true true true true false m s = refl
-  in_cases n g o true true true true true true true = refl
-  in_cases n g o true true true true true true false = refl
-  in_cases n g o true true true true true false true = refl
-  in_cases n g o true true true true true false false = refl
+  in_cases n g o h rn r kg k m s = grind arith
 
   abbrev ranged_offset : ℕ → Bool
   ranged_offset n = nat_le 0 n && nat_le n (2 ^ 64 - 1)

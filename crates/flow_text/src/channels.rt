@@ -8,7 +8,7 @@ ghost use Rattle.flow_grammar.specs.Parts.{default_depth, default_delay};
 ghost use Rattle.name_tables.specs.TablesOf.{accepted, IsOfStatements};
 ghost use Rattle.name_tables.specs.TableTests.{reading_by};
 
-use crate::ensure::ensure;
+use crate::ensure::{Parsed, ensure, syntax};
 use flow_design::limits::{CHANNELS, FIFO_DELAY, FIFO_DEPTH};
 use flow_design::{Name, Statement};
 use flow_grammar::{Code, LineFail, is_identifier, is_numeral, number_in, width_of};
@@ -17,11 +17,7 @@ use std::alloc::Global;
 
 /// `source N W`, behind its keyword.
 #[tactic(auto, unfolding(name_tables::specs::TableTests::fault_by))]
-pub fn source<'a>(
-    alloc: Global,
-    tables: &mut Tables<'a>,
-    tokens: &[&'a [u8]],
-) -> Result<Statement, LineFail>
+pub fn source<'a>(alloc: Global, tables: &mut Tables<'a>, tokens: &[&'a [u8]]) -> Parsed<Statement>
     requires { IsOfStatements tables.old }
     ensures given { LineGives (λ s. s) result (reading_by tables.old (name_width Source (map (λ t. t.now) tokens.now))) }
     ensures kept { IfOk result (λ s. tables.new ≡ accepted tables.old s) }
@@ -29,10 +25,7 @@ pub fn source<'a>(
     let [name, width] = tokens else {
         return Err(LineFail::Fault(Code::Syntax));
     };
-    ensure(
-        tables.place.takes_channels() && is_identifier(name) && is_numeral(width),
-        Code::Syntax,
-    )?;
+    syntax(tables.place.takes_channels() && is_identifier(name) && is_numeral(width))?;
     let width = width_of(width).ok_or(LineFail::Fault(Code::BadNumber))?;
     ensure(!tables.channels.has(name), Code::DoubleName)?;
     ensure(tables.channels.has_room(CHANNELS), Code::TooMany)?;
@@ -42,21 +35,14 @@ pub fn source<'a>(
 
 /// `sink N W`, behind its keyword.
 #[tactic(auto, unfolding(name_tables::specs::TableTests::fault_by))]
-pub fn sink<'a>(
-    alloc: Global,
-    tables: &mut Tables<'a>,
-    tokens: &[&'a [u8]],
-) -> Result<Statement, LineFail>
+pub fn sink<'a>(alloc: Global, tables: &mut Tables<'a>, tokens: &[&'a [u8]]) -> Parsed<Statement>
     ensures given { LineGives (λ s. s) result (reading_by tables.old (name_width Sink (map (λ t. t.now) tokens.now))) }
     ensures kept { IfOk result (λ s. tables.new ≡ accepted tables.old s) }
 {
     let [name, width] = tokens else {
         return Err(LineFail::Fault(Code::Syntax));
     };
-    ensure(
-        tables.place.takes_channels() && is_identifier(name) && is_numeral(width),
-        Code::Syntax,
-    )?;
+    syntax(tables.place.takes_channels() && is_identifier(name) && is_numeral(width))?;
     let width = width_of(width).ok_or(LineFail::Fault(Code::BadNumber))?;
     ensure(!tables.channels.has(name), Code::DoubleName)?;
     ensure(tables.channels.has_room(CHANNELS), Code::TooMany)?;
@@ -73,7 +59,7 @@ fn new_fifo<'a>(
     width: &[u8],
     depth: &[u8],
     delay: &[u8],
-) -> Result<Statement, LineFail>
+) -> Parsed<Statement>
     requires { IsOfStatements tables.old }
     ensures given { LineGives (λ s. s) result
         (reading_by tables.old
@@ -81,14 +67,8 @@ fn new_fifo<'a>(
         (Fifo name.now (number_of width.now) (number_of depth.now) (number_of delay.now)))) }
     ensures kept { IfOk result (λ s. tables.new ≡ accepted tables.old s) }
 {
-    ensure(
-        tables.place.takes_channels() && is_identifier(name),
-        Code::Syntax,
-    )?;
-    ensure(
-        is_numeral(width) && is_numeral(depth) && is_numeral(delay),
-        Code::Syntax,
-    )?;
+    syntax(tables.place.takes_channels() && is_identifier(name))?;
+    syntax(is_numeral(width) && is_numeral(depth) && is_numeral(delay))?;
     let width = width_of(width).ok_or(LineFail::Fault(Code::BadNumber))?;
     let depth = number_in(depth, 1, FIFO_DEPTH).ok_or(LineFail::Fault(Code::BadNumber))?;
     let delay = number_in(delay, 1, FIFO_DELAY).ok_or(LineFail::Fault(Code::BadNumber))?;
@@ -105,7 +85,7 @@ fn new_depth_fifo<'a>(
     name: &'a [u8],
     width: &[u8],
     depth: &[u8],
-) -> Result<Statement, LineFail>
+) -> Parsed<Statement>
     requires { IsOfStatements tables.old }
     ensures given { LineGives (λ s. s) result
         (reading_by tables.old
@@ -122,7 +102,7 @@ fn new_bare_fifo<'a>(
     tables: &mut Tables<'a>,
     name: &'a [u8],
     width: &[u8],
-) -> Result<Statement, LineFail>
+) -> Parsed<Statement>
     requires { IsOfStatements tables.old }
     ensures given { LineGives (λ s. s) result
         (reading_by tables.old
@@ -135,11 +115,7 @@ fn new_bare_fifo<'a>(
 /// `fifo N W`, `fifo N W DEPTH` or, in the version that has delays, `fifo N W DEPTH DELAY`, behind its keyword. A depth that
 /// is not written is 2, and a delay 1.
 #[tactic(auto, unfolding(flow_grammar::specs::Forms::fifo_of))]
-pub fn fifo<'a>(
-    alloc: Global,
-    tables: &mut Tables<'a>,
-    tokens: &[&'a [u8]],
-) -> Result<Statement, LineFail>
+pub fn fifo<'a>(alloc: Global, tables: &mut Tables<'a>, tokens: &[&'a [u8]]) -> Parsed<Statement>
     requires { IsOfStatements tables.old }
     ensures given { LineGives (λ s. s) result (reading_by tables.old (fifo_of tables.old.version (map (λ t. t.now) tokens.now))) }
     ensures kept { IfOk result (λ s. tables.new ≡ accepted tables.old s) }
@@ -148,7 +124,7 @@ pub fn fifo<'a>(
         [name, width] => new_bare_fifo(alloc, tables, *name, *width),
         [name, width, depth] => new_depth_fifo(alloc, tables, *name, *width, *depth),
         [name, width, depth, delay] => {
-            ensure(tables.has_delays(), Code::Syntax)?;
+            syntax(tables.has_delays())?;
             new_fifo(alloc, tables, *name, *width, *depth, *delay)
         }
         _ => Err(LineFail::Fault(Code::Syntax)),

@@ -6,7 +6,7 @@ ghost use Rattle.flow_grammar.specs.Gives.{LineGives};
 ghost use Rattle.name_tables.specs.TablesOf.{accepted};
 ghost use Rattle.name_tables.specs.TableTests.{reading_by};
 
-use crate::ensure::ensure;
+use crate::ensure::{Parsed, ensure, syntax};
 use flow_design::limits::{EDITS, FIFO_DEPTH};
 use flow_design::{Name, Statement};
 use flow_grammar::{Code, LineFail, NEWEST, Place, is_identifier, is_numeral, number_in};
@@ -15,17 +15,14 @@ use std::alloc::Global;
 
 /// `flow V`, behind its keyword.
 #[tactic(auto, unfolding(name_tables::specs::TableTests::fault_by, flow_grammar::specs::Forms::flow_of))]
-pub fn flow<'a>(tables: &mut Tables<'a>, tokens: &[&'a [u8]]) -> Result<Statement, LineFail>
+pub fn flow<'a>(tables: &mut Tables<'a>, tokens: &[&'a [u8]]) -> Parsed<Statement>
     ensures given { LineGives (λ s. s) result (reading_by tables.old (flow_of (map (λ t. t.now) tokens.now))) }
     ensures kept { IfOk result (λ s. tables.new ≡ accepted tables.old s) }
 {
     let [version] = tokens else {
         return Err(LineFail::Fault(Code::Syntax));
     };
-    ensure(
-        tables.place.takes_flow() && is_numeral(version),
-        Code::Syntax,
-    )?;
+    syntax(tables.place.takes_flow() && is_numeral(version))?;
     let version = number_in(version, 1, NEWEST).ok_or(LineFail::Fault(Code::BadNumber))?;
     tables.add_flow(version);
     Ok(Statement::Flow(version))
@@ -33,43 +30,29 @@ pub fn flow<'a>(tables: &mut Tables<'a>, tokens: &[&'a [u8]]) -> Result<Statemen
 
 /// `goto N`, behind its keyword.
 #[tactic(auto, unfolding(name_tables::specs::TableTests::fault_by))]
-pub fn goto<'a>(
-    alloc: Global,
-    tables: &mut Tables<'a>,
-    tokens: &[&'a [u8]],
-) -> Result<Statement, LineFail>
+pub fn goto<'a>(alloc: Global, tables: &mut Tables<'a>, tokens: &[&'a [u8]]) -> Parsed<Statement>
     ensures given { LineGives (λ s. s) result (reading_by tables.old (one_name Goto (map (λ t. t.now) tokens.now))) }
     ensures kept { IfOk result (λ s. tables.new ≡ accepted tables.old s) }
 {
     let [block] = tokens else {
         return Err(LineFail::Fault(Code::Syntax));
     };
-    ensure(
-        tables.place.takes_operations() && is_identifier(block),
-        Code::Syntax,
-    )?;
+    syntax(tables.place.takes_operations() && is_identifier(block))?;
     tables.go_on(Place::AfterBody);
     Ok(Statement::Goto(Name::new(alloc, *block)?))
 }
 
 /// `branch R N N`, behind its keyword.
 #[tactic(auto, unfolding(name_tables::specs::TableTests::fault_by, flow_grammar::specs::Forms::branch_of))]
-pub fn branch<'a>(
-    alloc: Global,
-    tables: &mut Tables<'a>,
-    tokens: &[&'a [u8]],
-) -> Result<Statement, LineFail>
+pub fn branch<'a>(alloc: Global, tables: &mut Tables<'a>, tokens: &[&'a [u8]]) -> Parsed<Statement>
     ensures given { LineGives (λ s. s) result (reading_by tables.old (branch_of (map (λ t. t.now) tokens.now))) }
     ensures kept { IfOk result (λ s. tables.new ≡ accepted tables.old s) }
 {
     let [register, first, second] = tokens else {
         return Err(LineFail::Fault(Code::Syntax));
     };
-    ensure(
-        tables.place.takes_operations() && is_identifier(register),
-        Code::Syntax,
-    )?;
-    ensure(is_identifier(first) && is_identifier(second), Code::Syntax)?;
+    syntax(tables.place.takes_operations() && is_identifier(register))?;
+    syntax(is_identifier(first) && is_identifier(second))?;
     ensure(tables.registers.has(register), Code::UnknownName)?;
     tables.go_on(Place::AfterBody);
     let register = Name::new(alloc, *register)?;
@@ -79,31 +62,25 @@ pub fn branch<'a>(
 
 /// `stop`, behind its keyword.
 #[tactic(auto, unfolding(name_tables::specs::TableTests::fault_by))]
-pub fn stop<'a>(tables: &mut Tables<'a>, tokens: &[&'a [u8]]) -> Result<Statement, LineFail>
+pub fn stop<'a>(tables: &mut Tables<'a>, tokens: &[&'a [u8]]) -> Parsed<Statement>
     ensures given { LineGives (λ s. s) result (reading_by tables.old (bare Stop (map (λ t. t.now) tokens.now))) }
     ensures kept { IfOk result (λ s. tables.new ≡ accepted tables.old s) }
 {
-    ensure(
-        tokens.is_empty() && tables.place.takes_operations(),
-        Code::Syntax,
-    )?;
+    syntax(tokens.is_empty() && tables.place.takes_operations())?;
     tables.go_on(Place::AfterBody);
     Ok(Statement::Stop)
 }
 
 /// `limits C OPS`, behind its keyword.
 #[tactic(auto, unfolding(name_tables::specs::TableTests::fault_by, flow_grammar::specs::Forms::limits_of))]
-pub fn limits<'a>(tables: &mut Tables<'a>, tokens: &[&'a [u8]]) -> Result<Statement, LineFail>
+pub fn limits<'a>(tables: &mut Tables<'a>, tokens: &[&'a [u8]]) -> Parsed<Statement>
     ensures given { LineGives (λ s. s) result (reading_by tables.old (limits_of (map (λ t. t.now) tokens.now))) }
     ensures kept { IfOk result (λ s. tables.new ≡ accepted tables.old s) }
 {
     let [cycles, ops] = tokens else {
         return Err(LineFail::Fault(Code::Syntax));
     };
-    ensure(
-        tables.place.takes_inputs() && is_numeral(cycles) && is_numeral(ops),
-        Code::Syntax,
-    )?;
+    syntax(tables.place.takes_inputs() && is_numeral(cycles) && is_numeral(ops))?;
     let cycles = number_in(cycles, 0, u64::MAX).ok_or(LineFail::Fault(Code::BadNumber))?;
     let ops = number_in(ops, 0, u64::MAX).ok_or(LineFail::Fault(Code::BadNumber))?;
     tables.go_on(Place::AmongEdits);
@@ -112,21 +89,14 @@ pub fn limits<'a>(tables: &mut Tables<'a>, tokens: &[&'a [u8]]) -> Result<Statem
 
 /// `depth N D`, behind its keyword.
 #[tactic(auto, unfolding(name_tables::specs::TableTests::fault_by))]
-pub fn edit<'a>(
-    alloc: Global,
-    tables: &mut Tables<'a>,
-    tokens: &[&'a [u8]],
-) -> Result<Statement, LineFail>
+pub fn edit<'a>(alloc: Global, tables: &mut Tables<'a>, tokens: &[&'a [u8]]) -> Parsed<Statement>
     ensures given { LineGives (λ s. s) result (reading_by tables.old (name_width Depth (map (λ t. t.now) tokens.now))) }
     ensures kept { IfOk result (λ s. tables.new ≡ accepted tables.old s) }
 {
     let [fifo, depth] = tokens else {
         return Err(LineFail::Fault(Code::Syntax));
     };
-    ensure(
-        tables.place.takes_edits() && is_identifier(fifo) && is_numeral(depth),
-        Code::Syntax,
-    )?;
+    syntax(tables.place.takes_edits() && is_identifier(fifo) && is_numeral(depth))?;
     let depth = number_in(depth, 1, FIFO_DEPTH).ok_or(LineFail::Fault(Code::BadNumber))?;
     ensure(tables.fifos.has(fifo), Code::UnknownName)?;
     ensure(tables.edits < EDITS, Code::TooMany)?;
@@ -136,14 +106,11 @@ pub fn edit<'a>(
 
 /// `end`, behind its keyword.
 #[tactic(auto, unfolding(name_tables::specs::TableTests::fault_by))]
-pub fn end<'a>(tables: &mut Tables<'a>, tokens: &[&'a [u8]]) -> Result<Statement, LineFail>
+pub fn end<'a>(tables: &mut Tables<'a>, tokens: &[&'a [u8]]) -> Parsed<Statement>
     ensures given { LineGives (λ s. s) result (reading_by tables.old (bare End (map (λ t. t.now) tokens.now))) }
     ensures kept { IfOk result (λ s. tables.new ≡ accepted tables.old s) }
 {
-    ensure(
-        tokens.is_empty() && tables.place.takes_edits(),
-        Code::Syntax,
-    )?;
+    syntax(tokens.is_empty() && tables.place.takes_edits())?;
     tables.go_on(Place::AtEnd);
     Ok(Statement::End)
 }

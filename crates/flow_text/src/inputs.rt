@@ -9,6 +9,7 @@ ghost use Rattle.flow_text.specs.Inputs.{words_within, input_reading};
 ghost use Rattle.name_tables.specs.TablesOf.{accepted};
 ghost use Rattle.name_tables.specs.TableTests.{reading_by};
 
+use crate::ensure::Parsed;
 use flow_design::limits::INPUT_VALUES;
 use flow_design::{Name, Statement};
 use flow_grammar::{Code, LineFail, is_identifier, is_numeral, number_in};
@@ -53,7 +54,7 @@ fn given_input<'a>(
     tables: &mut Tables<'a>,
     name: &'a [u8],
     words: Words,
-) -> Result<Statement, LineFail>
+) -> Parsed<Statement>
     ensures given { LineGives (λ s. s) result (input_reading tables.old name.now (Some words)) }
     ensures kept { IfOk result (λ s. tables.new ≡ accepted tables.old s) }
 {
@@ -80,7 +81,7 @@ fn kept_input<'a>(
     tables: &mut Tables<'a>,
     name: &'a [u8],
     words: Option<Words>,
-) -> Result<Statement, LineFail>
+) -> Parsed<Statement>
     ensures given { LineGives (λ s. s) result (input_reading tables.old name.now words) }
     ensures kept { IfOk result (λ s. tables.new ≡ accepted tables.old s) }
 {
@@ -102,7 +103,7 @@ fn new_input<'a>(
     tables: &mut Tables<'a>,
     name: &'a [u8],
     values: &[&[u8]],
-) -> Result<Statement, LineFail>
+) -> Parsed<Statement>
     ensures given { LineGives (λ s. s) result
         (reading_by tables.old
         (only_if (is_name name.now && list_all is_number (map (λ t. t.now) values.now))
@@ -121,11 +122,7 @@ fn new_input<'a>(
 
 /// `input N V V V`, with any number of values, behind its keyword.
 #[tactic(auto, unfolding(flow_grammar::specs::Forms::input_of))]
-pub fn input<'a>(
-    alloc: Global,
-    tables: &mut Tables<'a>,
-    tokens: &[&'a [u8]],
-) -> Result<Statement, LineFail>
+pub fn input<'a>(alloc: Global, tables: &mut Tables<'a>, tokens: &[&'a [u8]]) -> Parsed<Statement>
     ensures given { LineGives (λ s. s) result (reading_by tables.old (input_of (map (λ t. t.now) tokens.now))) }
     ensures kept { IfOk result (λ s. tables.new ≡ accepted tables.old s) }
 {

@@ -10,6 +10,7 @@ ghost use Rattle.name_tables.specs.TableTests.{reading_by};
 
 use crate::channels::{fifo, sink, source};
 use crate::ends::{branch, edit, end, flow, goto, limits, stop};
+use crate::ensure::Parsed;
 use crate::inputs::input;
 use crate::modules::{block, memory, module, pipelined_loop, register, temp};
 use crate::timed::at;
@@ -24,7 +25,7 @@ fn form<'a>(
     tables: &mut Tables<'a>,
     keyword: Keyword,
     tokens: &[&'a [u8]],
-) -> Result<Statement, LineFail>
+) -> Parsed<Statement>
     requires { IsOfStatements tables.old }
     ensures given { LineGives (λ s. s) result (reading_by tables.old (form_of tables.old.version keyword (map (λ t. t.now) tokens.now))) }
     ensures kept { IfOk result (λ s. tables.new ≡ accepted tables.old s) }
@@ -58,7 +59,7 @@ fn statement_behind<'a>(
     tables: &mut Tables<'a>,
     keyword: &[u8],
     rest: &[&'a [u8]],
-) -> Result<Statement, LineFail>
+) -> Parsed<Statement>
     requires { IsOfStatements tables.old }
     ensures given { LineGives (λ s. s) result
         (reading_by tables.old (statement_of tables.old.version (keyword.now ∷ map (λ t. t.now) rest.now))) }
@@ -74,7 +75,7 @@ fn said<'a>(
     alloc: Global,
     tables: &mut Tables<'a>,
     tokens: &[&'a [u8]],
-) -> Result<Option<Statement>, LineFail>
+) -> Parsed<Option<Statement>>
     requires { IsOfStatements tables.old }
     ensures given { LineGives (λ s. s) result (tokens_reading_by tables.old (map (λ t. t.now) tokens.now)) }
     ensures kept { IfOk result (λ s. tables.new ≡ accepted_if tables.old s) }
@@ -105,7 +106,7 @@ pub fn line_statement<'a>(
     alloc: Global,
     tables: &mut Tables<'a>,
     line: &'a [u8],
-) -> Result<Option<Statement>, LineFail>
+) -> Parsed<Option<Statement>>
     requires { IsOfStatements tables.old }
     ensures given { LineGives (λ s. s) result (line_reading_by tables.old line.now) }
     ensures kept { IfOk result (λ s. tables.new ≡ accepted_if tables.old s) }

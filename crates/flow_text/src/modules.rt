@@ -6,7 +6,7 @@ ghost use Rattle.flow_grammar.specs.Gives.{LineGives};
 ghost use Rattle.name_tables.specs.TablesOf.{accepted};
 ghost use Rattle.name_tables.specs.TableTests.{reading_by};
 
-use crate::ensure::ensure;
+use crate::ensure::{Parsed, ensure, syntax};
 use flow_design::limits::{
     BLOCK_CLOCKS, BLOCKS, MEMORIES, MEMORY_WORDS, MODULES, REGISTERS, TEMPS,
 };
@@ -17,21 +17,14 @@ use std::alloc::Global;
 
 /// `module N`, behind its keyword.
 #[tactic(auto, unfolding(name_tables::specs::TableTests::fault_by))]
-pub fn module<'a>(
-    alloc: Global,
-    tables: &mut Tables<'a>,
-    tokens: &[&'a [u8]],
-) -> Result<Statement, LineFail>
+pub fn module<'a>(alloc: Global, tables: &mut Tables<'a>, tokens: &[&'a [u8]]) -> Parsed<Statement>
     ensures given { LineGives (λ s. s) result (reading_by tables.old (one_name Module (map (λ t. t.now) tokens.now))) }
     ensures kept { IfOk result (λ s. tables.new ≡ accepted tables.old s) }
 {
     let [name] = tokens else {
         return Err(LineFail::Fault(Code::Syntax));
     };
-    ensure(
-        tables.place.takes_modules() && is_identifier(name),
-        Code::Syntax,
-    )?;
+    syntax(tables.place.takes_modules() && is_identifier(name))?;
     ensure(!tables.modules.has(name), Code::DoubleName)?;
     ensure(tables.modules.has_room(MODULES), Code::TooMany)?;
     tables.add_module(*name)?;
@@ -44,17 +37,14 @@ pub fn register<'a>(
     alloc: Global,
     tables: &mut Tables<'a>,
     tokens: &[&'a [u8]],
-) -> Result<Statement, LineFail>
+) -> Parsed<Statement>
     ensures given { LineGives (λ s. s) result (reading_by tables.old (name_width Reg (map (λ t. t.now) tokens.now))) }
     ensures kept { IfOk result (λ s. tables.new ≡ accepted tables.old s) }
 {
     let [name, width] = tokens else {
         return Err(LineFail::Fault(Code::Syntax));
     };
-    ensure(
-        tables.place.takes_registers() && is_identifier(name) && is_numeral(width),
-        Code::Syntax,
-    )?;
+    syntax(tables.place.takes_registers() && is_identifier(name) && is_numeral(width))?;
     let width = width_of(width).ok_or(LineFail::Fault(Code::BadNumber))?;
     ensure(!tables.has_register_or_memory(name), Code::DoubleName)?;
     ensure(tables.registers.has_room(REGISTERS), Code::TooMany)?;
@@ -64,22 +54,15 @@ pub fn register<'a>(
 
 /// `mem N W LEN`, behind its keyword.
 #[tactic(auto, unfolding(name_tables::specs::TableTests::fault_by, flow_grammar::specs::Forms::mem_of))]
-pub fn memory<'a>(
-    alloc: Global,
-    tables: &mut Tables<'a>,
-    tokens: &[&'a [u8]],
-) -> Result<Statement, LineFail>
+pub fn memory<'a>(alloc: Global, tables: &mut Tables<'a>, tokens: &[&'a [u8]]) -> Parsed<Statement>
     ensures given { LineGives (λ s. s) result (reading_by tables.old (mem_of (map (λ t. t.now) tokens.now))) }
     ensures kept { IfOk result (λ s. tables.new ≡ accepted tables.old s) }
 {
     let [name, width, len] = tokens else {
         return Err(LineFail::Fault(Code::Syntax));
     };
-    ensure(
-        tables.place.takes_registers() && is_identifier(name),
-        Code::Syntax,
-    )?;
-    ensure(is_numeral(width) && is_numeral(len), Code::Syntax)?;
+    syntax(tables.place.takes_registers() && is_identifier(name))?;
+    syntax(is_numeral(width) && is_numeral(len))?;
     let width = width_of(width).ok_or(LineFail::Fault(Code::BadNumber))?;
     let len = number_in(len, 1, MEMORY_WORDS).ok_or(LineFail::Fault(Code::BadNumber))?;
     ensure(!tables.has_register_or_memory(name), Code::DoubleName)?;
@@ -90,21 +73,14 @@ pub fn memory<'a>(
 
 /// `block N LEN`, behind its keyword.
 #[tactic(auto, unfolding(name_tables::specs::TableTests::fault_by))]
-pub fn block<'a>(
-    alloc: Global,
-    tables: &mut Tables<'a>,
-    tokens: &[&'a [u8]],
-) -> Result<Statement, LineFail>
+pub fn block<'a>(alloc: Global, tables: &mut Tables<'a>, tokens: &[&'a [u8]]) -> Parsed<Statement>
     ensures given { LineGives (λ s. s) result (reading_by tables.old (name_width Block (map (λ t. t.now) tokens.now))) }
     ensures kept { IfOk result (λ s. tables.new ≡ accepted tables.old s) }
 {
     let [name, len] = tokens else {
         return Err(LineFail::Fault(Code::Syntax));
     };
-    ensure(
-        tables.place.takes_blocks() && is_identifier(name) && is_numeral(len),
-        Code::Syntax,
-    )?;
+    syntax(tables.place.takes_blocks() && is_identifier(name) && is_numeral(len))?;
     let len = number_in(len, 1, BLOCK_CLOCKS).ok_or(LineFail::Fault(Code::BadNumber))?;
     ensure(!tables.blocks.has(name), Code::DoubleName)?;
     ensure(tables.blocks.has_room(BLOCKS), Code::TooMany)?;
@@ -118,22 +94,16 @@ pub fn pipelined_loop<'a>(
     alloc: Global,
     tables: &mut Tables<'a>,
     tokens: &[&'a [u8]],
-) -> Result<Statement, LineFail>
+) -> Parsed<Statement>
     ensures given { LineGives (λ s. s) result (reading_by tables.old (loop_of (map (λ t. t.now) tokens.now))) }
     ensures kept { IfOk result (λ s. tables.new ≡ accepted tables.old s) }
 {
     let [name, interval, len, word, register] = tokens else {
         return Err(LineFail::Fault(Code::Syntax));
     };
-    ensure(
-        tables.place.takes_blocks() && is_identifier(name),
-        Code::Syntax,
-    )?;
-    ensure(is_numeral(interval) && is_numeral(len), Code::Syntax)?;
-    ensure(
-        is_word(word, b"while") && is_identifier(register),
-        Code::Syntax,
-    )?;
+    syntax(tables.place.takes_blocks() && is_identifier(name))?;
+    syntax(is_numeral(interval) && is_numeral(len))?;
+    syntax(is_word(word, b"while") && is_identifier(register))?;
     let interval = number_in(interval, 1, BLOCK_CLOCKS).ok_or(LineFail::Fault(Code::BadNumber))?;
     let len = number_in(len, 1, BLOCK_CLOCKS).ok_or(LineFail::Fault(Code::BadNumber))?;
     ensure(!tables.blocks.has(name), Code::DoubleName)?;
@@ -146,21 +116,14 @@ pub fn pipelined_loop<'a>(
 
 /// `temp N W`, behind its keyword.
 #[tactic(auto, unfolding(name_tables::specs::TableTests::fault_by))]
-pub fn temp<'a>(
-    alloc: Global,
-    tables: &mut Tables<'a>,
-    tokens: &[&'a [u8]],
-) -> Result<Statement, LineFail>
+pub fn temp<'a>(alloc: Global, tables: &mut Tables<'a>, tokens: &[&'a [u8]]) -> Parsed<Statement>
     ensures given { LineGives (λ s. s) result (reading_by tables.old (name_width Temp (map (λ t. t.now) tokens.now))) }
     ensures kept { IfOk result (λ s. tables.new ≡ accepted tables.old s) }
 {
     let [name, width] = tokens else {
         return Err(LineFail::Fault(Code::Syntax));
     };
-    ensure(
-        tables.place.takes_temps() && is_identifier(name) && is_numeral(width),
-        Code::Syntax,
-    )?;
+    syntax(tables.place.takes_temps() && is_identifier(name) && is_numeral(width))?;
     let width = width_of(width).ok_or(LineFail::Fault(Code::BadNumber))?;
     ensure(!tables.has_variable_or_memory(name), Code::DoubleName)?;
     ensure(tables.temps.has_room(TEMPS), Code::TooMany)?;

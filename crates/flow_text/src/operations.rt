@@ -11,6 +11,7 @@ ghost use Rattle.flow_grammar.specs.Gives.{LineGives};
 ghost use Rattle.flow_text.specs.Operations.{tree_reading, trees_reading, op_reading, tree_kept, trees_kept, with_tree, store_op};
 ghost use Rattle.flow_text.specs.Operations.{op_of_names, is_variable};
 
+use crate::ensure::{Judged, Parsed};
 use flow_design::{Expr, Name, Op};
 use flow_grammar::{Code, Known, LineFail, Operand, is_identifier, one_operand, two_operands};
 use name_tables::Tables;
@@ -30,7 +31,7 @@ fn earlier_test(a: Code, b: Code) -> Code
 }
 
 /// The expression of an operand beside names that are known or not, or the first test that fails.
-fn tree_of(known: bool, operand: Operand) -> Result<Expr<Name>, Code>
+fn tree_of(known: bool, operand: Operand) -> Judged<Expr<Name>>
     ensures { result ≡ tree_kept known operand }
 {
     match operand {
@@ -53,10 +54,7 @@ fn tree_of(known: bool, operand: Operand) -> Result<Expr<Name>, Code>
 }
 
 /// Two expressions, or the first test that they fail.
-fn both(
-    first: Result<Expr<Name>, Code>,
-    second: Result<Expr<Name>, Code>,
-) -> Result<(Expr<Name>, Expr<Name>), Code>
+fn both(first: Judged<Expr<Name>>, second: Judged<Expr<Name>>) -> Judged<(Expr<Name>, Expr<Name>)>
     ensures { result ≡ trees_kept first second }
 {
     match first {
@@ -77,7 +75,7 @@ fn tree(
     tables: &Tables<'_>,
     known: bool,
     tokens: &[&[u8]],
-) -> Result<Result<Expr<Name>, Code>, LineFail>
+) -> Parsed<Judged<Expr<Name>>>
     ensures { LineGives (λ r. r) result (tree_reading tables.now known (trees_of (map (λ t. t.now) tokens.now))) }
 {
     let operand = one_operand(alloc, tables, tokens)?;
@@ -90,7 +88,7 @@ fn trees(
     tables: &Tables<'_>,
     known: bool,
     tokens: &[&[u8]],
-) -> Result<Result<(Expr<Name>, Expr<Name>), Code>, LineFail>
+) -> Parsed<Judged<(Expr<Name>, Expr<Name>)>>
     ensures { LineGives (λ r. r) result (trees_reading tables.now known (trees_of (map (λ t. t.now) tokens.now))) }
 {
     let (first, second) = two_operands(alloc, tables, tokens)?;
@@ -98,7 +96,7 @@ fn trees(
 }
 
 /// The assignment of an expression that passed.
-fn set_to(register: Name, tree: Result<Expr<Name>, Code>) -> Result<Op<Name>, Code>
+fn set_to(register: Name, tree: Judged<Expr<Name>>) -> Judged<Op<Name>>
     ensures { result ≡ with_tree (op.Set register) tree }
 {
     match tree {
@@ -113,7 +111,7 @@ fn new_set(
     tables: &Tables<'_>,
     register: &[u8],
     expression: &[&[u8]],
-) -> Result<Result<Op<Name>, Code>, LineFail>
+) -> Parsed<Judged<Op<Name>>>
     ensures { LineGives (λ o. o) result
         (op_reading tables.now
         (if_then (is_name register.now) (option_map (op.Set register.now) (one_tree (trees_of (map (λ t. t.now) expression.now)))))) }
@@ -128,11 +126,7 @@ fn new_set(
 }
 
 /// `set R E`, behind its verb.
-pub fn set(
-    alloc: Global,
-    tables: &Tables<'_>,
-    tokens: &[&[u8]],
-) -> Result<Result<Op<Name>, Code>, LineFail>
+pub fn set(alloc: Global, tables: &Tables<'_>, tokens: &[&[u8]]) -> Parsed<Judged<Op<Name>>>
     ensures { LineGives (λ o. o) result (op_reading tables.now (set_of (map (λ t. t.now) tokens.now))) }
 {
     match tokens {
@@ -149,7 +143,7 @@ fn knows_load(tables: &Tables<'_>, register: &[u8], memory: &[u8]) -> bool
 }
 
 /// The load from an expression that passed.
-fn load_from(register: Name, memory: Name, tree: Result<Expr<Name>, Code>) -> Result<Op<Name>, Code>
+fn load_from(register: Name, memory: Name, tree: Judged<Expr<Name>>) -> Judged<Op<Name>>
     ensures { result ≡ with_tree (op.Load register memory) tree }
 {
     match tree {
@@ -165,7 +159,7 @@ fn new_load(
     register: &[u8],
     memory: &[u8],
     expression: &[&[u8]],
-) -> Result<Result<Op<Name>, Code>, LineFail>
+) -> Parsed<Judged<Op<Name>>>
     ensures { LineGives (λ o. o) result
         (op_reading tables.now
         (if_then (is_name register.now && is_name memory.now)
@@ -182,11 +176,7 @@ fn new_load(
 }
 
 /// `load R M E`, behind its verb.
-pub fn load(
-    alloc: Global,
-    tables: &Tables<'_>,
-    tokens: &[&[u8]],
-) -> Result<Result<Op<Name>, Code>, LineFail>
+pub fn load(alloc: Global, tables: &Tables<'_>, tokens: &[&[u8]]) -> Parsed<Judged<Op<Name>>>
     ensures { LineGives (λ o. o) result (op_reading tables.now (load_of (map (λ t. t.now) tokens.now))) }
 {
     match tokens {
@@ -198,7 +188,7 @@ pub fn load(
 }
 
 /// The store to and of expressions that passed.
-fn store_to(memory: Name, trees: Result<(Expr<Name>, Expr<Name>), Code>) -> Result<Op<Name>, Code>
+fn store_to(memory: Name, trees: Judged<(Expr<Name>, Expr<Name>)>) -> Judged<Op<Name>>
     ensures { result ≡ with_tree (store_op memory) trees }
 {
     match trees {
@@ -213,7 +203,7 @@ fn new_store(
     tables: &Tables<'_>,
     memory: &[u8],
     expressions: &[&[u8]],
-) -> Result<Result<Op<Name>, Code>, LineFail>
+) -> Parsed<Judged<Op<Name>>>
     ensures { LineGives (λ o. o) result
         (op_reading tables.now
         (if_then (is_name memory.now) (two_trees (op.Store memory.now) (trees_of (map (λ t. t.now) expressions.now))))) }
@@ -228,11 +218,7 @@ fn new_store(
 }
 
 /// `store M E E`, behind its verb.
-pub fn store(
-    alloc: Global,
-    tables: &Tables<'_>,
-    tokens: &[&[u8]],
-) -> Result<Result<Op<Name>, Code>, LineFail>
+pub fn store(alloc: Global, tables: &Tables<'_>, tokens: &[&[u8]]) -> Parsed<Judged<Op<Name>>>
     ensures { LineGives (λ o. o) result (op_reading tables.now (store_of (map (λ t. t.now) tokens.now))) }
 {
     match tokens {
@@ -242,7 +228,7 @@ pub fn store(
 }
 
 /// The write of an expression that passed.
-fn written(channel: Name, tree: Result<Expr<Name>, Code>) -> Result<Op<Name>, Code>
+fn written(channel: Name, tree: Judged<Expr<Name>>) -> Judged<Op<Name>>
     ensures { result ≡ with_tree (op.Write channel) tree }
 {
     match tree {
@@ -257,7 +243,7 @@ fn new_write(
     tables: &Tables<'_>,
     channel: &[u8],
     expression: &[&[u8]],
-) -> Result<Result<Op<Name>, Code>, LineFail>
+) -> Parsed<Judged<Op<Name>>>
     ensures { LineGives (λ o. o) result
         (op_reading tables.now
         (if_then (is_name channel.now) (option_map (op.Write channel.now) (one_tree (trees_of (map (λ t. t.now) expression.now)))))) }
@@ -272,11 +258,7 @@ fn new_write(
 }
 
 /// `write F E`, behind its verb.
-pub fn write(
-    alloc: Global,
-    tables: &Tables<'_>,
-    tokens: &[&[u8]],
-) -> Result<Result<Op<Name>, Code>, LineFail>
+pub fn write(alloc: Global, tables: &Tables<'_>, tokens: &[&[u8]]) -> Parsed<Judged<Op<Name>>>
     ensures { LineGives (λ o. o) result (op_reading tables.now (write_of (map (λ t. t.now) tokens.now))) }
 {
     match tokens {
@@ -293,11 +275,7 @@ fn knows_outcome(tables: &Tables<'_>, channel: &[u8], outcome: &[u8]) -> bool
 }
 
 /// The write of an expression that passed, with its outcome.
-fn tried_write(
-    channel: Name,
-    outcome: Name,
-    tree: Result<Expr<Name>, Code>,
-) -> Result<Op<Name>, Code>
+fn tried_write(channel: Name, outcome: Name, tree: Judged<Expr<Name>>) -> Judged<Op<Name>>
     ensures { result ≡ with_tree (op.TryWrite channel outcome) tree }
 {
     match tree {
@@ -313,7 +291,7 @@ fn new_try_write(
     channel: &[u8],
     outcome: &[u8],
     expression: &[&[u8]],
-) -> Result<Result<Op<Name>, Code>, LineFail>
+) -> Parsed<Judged<Op<Name>>>
     ensures { LineGives (λ o. o) result
         (op_reading tables.now
         (if_then (is_name channel.now && is_name outcome.now)
@@ -330,11 +308,7 @@ fn new_try_write(
 }
 
 /// `trywrite F OK E`, behind its verb.
-pub fn try_write(
-    alloc: Global,
-    tables: &Tables<'_>,
-    tokens: &[&[u8]],
-) -> Result<Result<Op<Name>, Code>, LineFail>
+pub fn try_write(alloc: Global, tables: &Tables<'_>, tokens: &[&[u8]]) -> Parsed<Judged<Op<Name>>>
     ensures { LineGives (λ o. o) result (op_reading tables.now (try_write_of (map (λ t. t.now) tokens.now))) }
 {
     match tokens {
@@ -372,7 +346,7 @@ fn new_two_names(
     which: TwoNames,
     channel: &[u8],
     register: &[u8],
-) -> Result<Result<Op<Name>, Code>, LineFail>
+) -> Parsed<Judged<Op<Name>>>
     ensures { LineGives (λ o. o) result
         (op_reading tables.now (only_if (is_name channel.now && is_name register.now) (op_of_names which channel.now register.now))) }
 {
@@ -392,7 +366,7 @@ pub fn two_names(
     tables: &Tables<'_>,
     which: TwoNames,
     tokens: &[&[u8]],
-) -> Result<Result<Op<Name>, Code>, LineFail>
+) -> Parsed<Judged<Op<Name>>>
     ensures { LineGives (λ o. o) result (op_reading tables.now (two_names (op_of_names which) (map (λ t. t.now) tokens.now))) }
 {
     match tokens {
@@ -409,7 +383,7 @@ fn new_try_read(
     channel: &[u8],
     register: &[u8],
     outcome: &[u8],
-) -> Result<Result<Op<Name>, Code>, LineFail>
+) -> Parsed<Judged<Op<Name>>>
     ensures { LineGives (λ o. o) result
         (op_reading tables.now
         (only_if (is_name channel.now && (is_name register.now && is_name outcome.now))
@@ -430,11 +404,7 @@ fn new_try_read(
 }
 
 /// `tryread F R OK`, behind its verb.
-pub fn try_read(
-    alloc: Global,
-    tables: &Tables<'_>,
-    tokens: &[&[u8]],
-) -> Result<Result<Op<Name>, Code>, LineFail>
+pub fn try_read(alloc: Global, tables: &Tables<'_>, tokens: &[&[u8]]) -> Parsed<Judged<Op<Name>>>
     ensures { LineGives (λ o. o) result (op_reading tables.now (try_read_of (map (λ t. t.now) tokens.now))) }
 {
     match tokens {

@@ -12,7 +12,7 @@ ghost use Rattle.flow_grammar.specs.Places.{takes_operations};
 ghost use Rattle.flow_design.specs.declared.limits.TheConstants.{OPERATIONS};
 ghost use Rattle.name_tables.specs.TableTests.{reading_by};
 
-use crate::ensure::ensure;
+use crate::ensure::{Judged, Parsed, syntax};
 use crate::operations::{TwoNames, load, set, store, try_read, try_write, two_names, write};
 use flow_design::limits::OPERATIONS;
 use flow_design::{Name, Op, Statement};
@@ -28,7 +28,7 @@ fn form(
     tables: &Tables<'_>,
     verb: Verb,
     tokens: &[&[u8]],
-) -> Result<Result<Op<Name>, Code>, LineFail>
+) -> Parsed<Judged<Op<Name>>>
     ensures { LineGives (λ o. o) result (op_reading tables.now (op_form_of verb (map (λ t. t.now) tokens.now))) }
 {
     match verb {
@@ -46,11 +46,7 @@ fn form(
 
 /// An operation, or the first test that it fails.
 #[tactic(auto, unfolding(flow_grammar::specs::Forms::op_of))]
-fn operation(
-    alloc: Global,
-    tables: &Tables<'_>,
-    tokens: &[&[u8]],
-) -> Result<Result<Op<Name>, Code>, LineFail>
+fn operation(alloc: Global, tables: &Tables<'_>, tokens: &[&[u8]]) -> Parsed<Judged<Op<Name>>>
     ensures { LineGives (λ o. o) result (op_reading tables.now (op_of (map (λ t. t.now) tokens.now))) }
 {
     let [verb, rest @ ..] = tokens else {
@@ -85,7 +81,7 @@ fn refused(
     offset: Option<u64>,
     known: bool,
     code: Code,
-) -> Result<Statement, LineFail>
+) -> Parsed<Statement>
     ensures given { (guard : Option NameValue) → LineGives (λ s. s) result (timed_reading tables.old offset guard known (Err code)) }
     ensures kept { IfOk result (λ s. tables.new ≡ accepted tables.old s) }
 {
@@ -100,7 +96,7 @@ fn refused(
 }
 
 /// The offset, where what stands beside a whole operation passes its tests.
-fn tested_offset(tables: &Tables<'_>, offset: Option<u64>, known: bool) -> Result<u64, Code>
+fn tested_offset(tables: &Tables<'_>, offset: Option<u64>, known: bool) -> Judged<u64>
     ensures value { result
         ≡ operations.offset_there (takes_operations tables.now.place) (nat_lt tables.now.operations OPERATIONS) offset known }
     ensures room { IfOk result (λ _. tables.now.operations < OPERATIONS) }
@@ -127,7 +123,7 @@ fn whole(
     guard: Option<Name>,
     known: bool,
     operation: Op<Name>,
-) -> Result<Statement, LineFail>
+) -> Parsed<Statement>
     ensures given { LineGives (λ s. s) result (timed_reading tables.old offset guard known (Ok operation)) }
     ensures kept { IfOk result (λ s. tables.new ≡ accepted tables.old s) }
 {
@@ -151,8 +147,8 @@ fn timed(
     offset: Option<u64>,
     guard: Option<Name>,
     known: bool,
-    operation: Result<Op<Name>, Code>,
-) -> Result<Statement, LineFail>
+    operation: Judged<Op<Name>>,
+) -> Parsed<Statement>
     ensures given { LineGives (λ s. s) result (timed_reading tables.old offset guard known operation) }
     ensures kept { IfOk result (λ s. tables.new ≡ accepted tables.old s) }
 {
@@ -168,7 +164,7 @@ fn unguarded(
     tables: &mut Tables<'_>,
     offset: &[u8],
     tokens: &[&[u8]],
-) -> Result<Statement, LineFail>
+) -> Parsed<Statement>
     requires { is_number offset.now ≡ true }
     ensures given { LineGives (λ s. s) result
         (reading_by tables.old (option_map (At (number_of offset.now) None) (op_of (map (λ t. t.now) tokens.now)))) }
@@ -186,7 +182,7 @@ fn guarded(
     offset: &[u8],
     register: &[u8],
     tokens: &[&[u8]],
-) -> Result<Statement, LineFail>
+) -> Parsed<Statement>
     requires { is_number offset.now ≡ true }
     ensures given { LineGives (λ s. s) result
         (reading_by tables.old
@@ -210,7 +206,7 @@ fn with_offset(
     tables: &mut Tables<'_>,
     offset: &[u8],
     tokens: &[&[u8]],
-) -> Result<Statement, LineFail>
+) -> Parsed<Statement>
     requires { is_number offset.now ≡ true }
     ensures given { LineGives (λ s. s) result (reading_by tables.old (guarded_of (number_of offset.now) (map (λ t. t.now) tokens.now))) }
     ensures kept { IfOk result (λ s. tables.new ≡ accepted tables.old s) }
@@ -230,17 +226,13 @@ fn with_offset(
 
 /// `at OFF OP` or `at OFF if R OP`, behind its keyword.
 #[tactic(auto, unfolding(flow_grammar::specs::Forms::at_of))]
-pub fn at<'a>(
-    alloc: Global,
-    tables: &mut Tables<'a>,
-    tokens: &[&'a [u8]],
-) -> Result<Statement, LineFail>
+pub fn at<'a>(alloc: Global, tables: &mut Tables<'a>, tokens: &[&'a [u8]]) -> Parsed<Statement>
     ensures given { LineGives (λ s. s) result (reading_by tables.old (at_of (map (λ t. t.now) tokens.now))) }
     ensures kept { IfOk result (λ s. tables.new ≡ accepted tables.old s) }
 {
     let [offset, rest @ ..] = tokens else {
         return Err(LineFail::Fault(Code::Syntax));
     };
-    ensure(is_numeral(offset), Code::Syntax)?;
+    syntax(is_numeral(offset))?;
     with_offset(alloc, tables, *offset, rest)
 }

@@ -25,61 +25,6 @@ pub record AreTaken {S : Type 0} (kind : BlockKind) (ops : List Timed) (at : ℕ
   pub each : (s : Slot) → has_slot slots s ≡ list_any (λ t. is_slot s (slot kind t)) (take at ops)
   pub rest : first_behind (clashes kind) [] ops ≡ option_map (λ k. at + k) (first_behind (clashes kind) (take at ops) (drop at ops))
 
-option_zero : (o : Option ℕ) → o ≡ option_map (λ k. 0 + k) o
-option_zero None = refl
-option_zero (Some k) = ap Some (omega arith)
-
-option_next : (at : ℕ) (o : Option ℕ) → option_map (λ k. at + k) (option_map (λ k. k + 1) o) ≡ option_map (λ k. (at + 1) + k) o
-option_next at None = refl
-option_next at (Some k) = ap Some (omega arith)
-
--- no slot is taken yet
-pub none_taken : {S : Type 0} (kind : BlockKind) (ops : List Timed) (slots : IndexSet Slot S) → keys slots ≡ [] → AreTaken kind ops 0 slots
-none_taken kind ops slots e = record {
-  each = λ s. ap (list_any (same_slot s)) e;
-  rest = option_zero (first_behind (clashes kind) [] ops);
-}
-
-module _ {S : Type 0} (kind : BlockKind) (ops : List Timed) (at : ℕ) (slots : IndexSet Slot S) (d : Timed) (there : at < length ops)
-    (taken : AreTaken kind ops at slots) where
-  asked : (o : Option Slot) → takes_again kind (take at ops) o ≡ has_this slots o
-  asked None = refl
-  asked (Some s) = sym (taken.each s)
-
-  opened : first_behind (clashes kind) (take at ops) (drop at ops)
-      ≡ cond (has_this slots (slot kind (get_or ops at d))) (Some 0)
-      (option_map (λ k. k + 1) (first_behind (clashes kind) (take (at + 1) ops) (drop (at + 1) ops)))
-  opened = ap (first_behind (clashes kind) (take at ops)) (drop-cons ops at d there)
-      ∙ ap (λ (b : Bool). cond b (Some 0)
-      (option_map (λ k. k + 1) (first_behind (clashes kind) (take at ops ++ get_or ops at d ∷ []) (drop (suc at) ops))))
-      (asked (slot kind (get_or ops at d)))
-      ∙ ap (λ (l : List Timed). cond (has_this slots (slot kind (get_or ops at d))) (Some 0)
-      (option_map (λ k. k + 1) (first_behind (clashes kind) l (drop (suc at) ops)))) (sym (take-suc ops at d there))
-      ∙ ap (λ (n : ℕ). cond (has_this slots (slot kind (get_or ops at d))) (Some 0)
-      (option_map (λ k. k + 1) (first_behind (clashes kind) (take n ops) (drop n ops)))) (sym (add-one at))
-
-  -- it is free, and the operation takes it
-  pub taken_more : (new : IndexSet Slot S) → has_this slots (slot kind (get_or ops at d)) ≡ false
-      → ((s : Slot) → has_slot new s ≡ has_slot slots s || is_slot s (slot kind (get_or ops at d))) → AreTaken kind ops (at + 1) new
-  taken_more new free more = record {
-    each = λ s. more s
-        ∙ ap (λ (b : Bool). b || is_slot s (slot kind (get_or ops at d))) (taken.each s)
-        ∙ sym (list_any_more (λ t. is_slot s (slot kind t)) ops at d there);
-    rest = taken.rest
-        ∙ ap (option_map (λ k. at + k))
-        (opened ∙ ap (λ (b : Bool). cond b (Some 0)
-        (option_map (λ k. k + 1) (first_behind (clashes kind) (take (at + 1) ops) (drop (at + 1) ops)))) free)
-        ∙ option_next at (first_behind (clashes kind) (take (at + 1) ops) (drop (at + 1) ops));
-  }
-
--- all have taken theirs
-pub all_taken : {S : Type 0} (kind : BlockKind) (ops : List Timed) (at : ℕ) (slots : IndexSet Slot S) → length ops ≤ at
-    → AreTaken kind ops at slots
-    → None ≡ first_behind (clashes kind) [] ops
-all_taken kind ops at slots over taken =
-    sym (taken.rest ∙ ap (λ (l : List Timed). option_map (λ k. at + k) (first_behind (clashes kind) (take at ops) l))
-    (drop_of_length-le ops over))
-
 -- ---- equal ports and slots
 
 sides_turn : (a b : Side) → same_side a b ≡ same_side b a
@@ -128,12 +73,3 @@ slot_more old new own o is more s =
     by true false = refl
     by false true = refl
     by false false = refl
-
--- the same of the operation as the code reads it
-pub taken_by : {S : Type 0} (kind : BlockKind) (ops : List Timed) (at : ℕ) (slots : IndexSet Slot S) (t : Timed) → at < length ops
-    → AreTaken kind ops at slots
-    → t ≡ get_or ops at t → (new : IndexSet Slot S) → has_this slots (slot kind t) ≡ false
-    → ((s : Slot) → has_slot new s ≡ has_slot slots s || is_slot s (slot kind t)) → AreTaken kind ops (at + 1) new
-taken_by kind ops at slots t there taken is new free more =
-    taken_more kind ops at slots t there taken new (sym (ap (λ (u : Timed). has_this slots (slot kind u)) is) ∙ free)
-    (λ s. more s ∙ ap (λ (u : Timed). has_slot slots s || is_slot s (slot kind u)) is)

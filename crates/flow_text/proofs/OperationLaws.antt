@@ -23,7 +23,8 @@ use Rattle.flow_grammar.specs.Operands.{kept, is_known_by, earlier}
 use Rattle.flow_grammar.specs.Gives.{only_operand, both_operands}
 use Rattle.flow_grammar.proofs.SpellingLaws.{same_tests}
 use Rattle.std.proofs.lemmas.List.Folds.{list_all-append}
-use Rattle.std.proofs.Common.{arith}
+use Rattle.std.proofs.Common.{arith, Err}
+use Rattle.flow_grammar.specs.declared.fault.Code.TheVariants.{Syntax}
 use Rattle.name_tables.specs.declared.tables.Tables.{Tables}
 use Rattle.name_tables.specs.TableTests.{is_known}
 use Rattle.flow_text.specs.declared.operations.TwoNames.{TwoNames}
@@ -156,65 +157,38 @@ module _ (t : Tables) where
 
   -- ---- what tokens give that write such operations
 
-  -- The expressions were read beside names that were found known or not, and an operation was made of them with these names:
-  -- it is what is to be given, where the names are those of the tokens and were found known as they are.
-  given : {A : Type 0} (make made_with : A → Op Name) (test known wanted : Bool) (found : Option (Op Name))
-      (reading : Bool → Result (Result A Code) Code)
-      (read : Result A Code) (result : Result (Op Name) Code)
-      → op_reading t found ≡ made make (reading wanted) → test ≡ true → known ≡ wanted → made_with ≡ make → reading known ≡ Ok read
-      → result ≡ with_tree made_with read → op_reading t (if_then test found) ≡ Ok result
-  given make made_with true known wanted found reading read result e h k n r m =
-      let here : made make (reading wanted) ≡ made make (Ok read) = ap (made make) (ap reading (sym k) ∙ r) in
-      let same : with_tree make read ≡ result = ap (λ f. with_tree f read) (sym n) ∙ sym m in
-      e ∙ here ∙ ap (λ (x : Result (Op Name) Code). Ok x) same
-  given make made_with false known wanted found reading read result e h k n r m = absurd cc
+  where_named : (test : Bool) (found : Option (Op Name)) (read : Result (Result (Op Name) Code) Code) → op_reading t found ≡ read
+      → op_reading t (if_then test found) ≡ cond test read (Err Syntax)
+  where_named test found read e = grind arith
 
-  module _ (known : Bool) (trees : Option Trees) (tree : Result (Expr Name) Code) (result : Result (Op Name) Code)
-      (read : tree_reading t known trees ≡ Ok tree) where
-    -- an operation with one expression
-    one_read : (make made_with : Expr Name → Op Name) (test wanted : Bool) → IsOne wanted make → test ≡ true → known ≡ wanted
-        → made_with ≡ make
-        → result ≡ with_tree made_with tree → op_reading t (if_then test (option_map make (one_tree trees))) ≡ Ok result
-    one_read make made_with test wanted is h k n m =
-        given make made_with test known wanted (option_map make (one_tree trees)) (λ b. tree_reading t b trees) tree result
-        (one_made wanted make is trees) h k n read m
+  pub set_reads : (r : Name) (trees : Option Trees)
+      → op_reading t (if_then (is_name r) (option_map (op.Set r) (one_tree trees)))
+      ≡ cond (is_name r) (made (op.Set r) (tree_reading t (is_variable t r) trees)) (Err Syntax)
+  set_reads r trees = where_named (is_name r) _ _ (one_made (is_variable t r) (op.Set r) (set_is r) trees)
 
-    pub set_read : (r register : Name) → is_name r ≡ true → known ≡ is_variable t r → register ≡ r
-        → result ≡ with_tree (op.Set register) tree
-        → op_reading t (if_then (is_name r) (option_map (op.Set r) (one_tree trees))) ≡ Ok result
-    set_read r register h k n m = one_read (op.Set r) (op.Set register) (is_name r) (is_variable t r) (set_is r) h k (ap op.Set n) m
+  pub load_reads : (r m : Name) (trees : Option Trees)
+      → op_reading t (if_then (is_name r && is_name m) (option_map (op.Load r m) (one_tree trees)))
+      ≡ cond (is_name r && is_name m) (made (op.Load r m) (tree_reading t (is_variable t r && is_among t.memories m) trees)) (Err Syntax)
+  load_reads r m trees =
+      where_named (is_name r && is_name m) _ _ (one_made (is_variable t r && is_among t.memories m) (op.Load r m) (load_is r m) trees)
 
-    pub load_read : (r m register memory : Name) → is_name r ≡ true → is_name m ≡ true → known ≡ (is_variable t r && is_among t.memories m)
-        → register ≡ r → memory ≡ m → result ≡ with_tree (op.Load register memory) tree
-        → op_reading t (if_then (is_name r && is_name m) (option_map (op.Load r m) (one_tree trees))) ≡ Ok result
-    load_read r m register memory h i k n o l =
-        one_read (op.Load r m) (op.Load register memory) (is_name r && is_name m) (is_variable t r && is_among t.memories m) (load_is r m)
-        (and_from (is_name r) (is_name m) h i) k (λ j. op.Load (n j) (o j)) l
+  pub write_reads : (f : Name) (trees : Option Trees)
+      → op_reading t (if_then (is_name f) (option_map (op.Write f) (one_tree trees)))
+      ≡ cond (is_name f) (made (op.Write f) (tree_reading t (is_among t.channels f) trees)) (Err Syntax)
+  write_reads f trees = where_named (is_name f) _ _ (one_made (is_among t.channels f) (op.Write f) (write_is f) trees)
 
-    pub write_read : (f channel : Name) → is_name f ≡ true → known ≡ is_among t.channels f → channel ≡ f
-        → result ≡ with_tree (op.Write channel) tree
-        → op_reading t (if_then (is_name f) (option_map (op.Write f) (one_tree trees))) ≡ Ok result
-    write_read f channel h k n m =
-        one_read (op.Write f) (op.Write channel) (is_name f) (is_among t.channels f) (write_is f) h k (ap op.Write n) m
+  pub try_write_reads : (f ok : Name) (trees : Option Trees)
+      → op_reading t (if_then (is_name f && is_name ok) (option_map (op.TryWrite f ok) (one_tree trees)))
+      ≡ cond (is_name f && is_name ok) (made (op.TryWrite f ok) (tree_reading t (is_among t.channels f && is_variable t ok) trees))
+      (Err Syntax)
+  try_write_reads f ok trees =
+      where_named (is_name f && is_name ok) _ _
+      (one_made (is_among t.channels f && is_variable t ok) (op.TryWrite f ok) (try_write_is f ok) trees)
 
-    pub try_write_read : (f ok channel outcome : Name) → is_name f ≡ true → is_name ok ≡ true
-        → known ≡ (is_among t.channels f && is_variable t ok)
-        → channel ≡ f → outcome ≡ ok → result ≡ with_tree (op.TryWrite channel outcome) tree
-        → op_reading t (if_then (is_name f && is_name ok) (option_map (op.TryWrite f ok) (one_tree trees))) ≡ Ok result
-    try_write_read f ok channel outcome h i k n o l =
-        one_read (op.TryWrite f ok) (op.TryWrite channel outcome) (is_name f && is_name ok) (is_among t.channels f && is_variable t ok)
-        (try_write_is f ok)
-        (and_from (is_name f) (is_name ok) h i) k (λ j. op.TryWrite (n j) (o j)) l
-
-  module _ (known : Bool) (trees : Option Trees) (both : Result (Expr Name × Expr Name) Code) (result : Result (Op Name) Code)
-      (read : trees_reading t known trees ≡ Ok both) where
-    pub store_read : (m memory : Name) → is_name m ≡ true → known ≡ is_among t.memories m → memory ≡ m
-        → result ≡ with_tree (store_op memory) both
-        → op_reading t (if_then (is_name m) (two_trees (op.Store m) trees)) ≡ Ok result
-    store_read m memory h k n l =
-        given (store_op m) (store_op memory) (is_name m) known (is_among t.memories m) (two_trees (op.Store m) trees)
-        (λ b. trees_reading t b trees) both result
-        (store_made m trees) h k (ap store_op n) read l
+  pub store_reads : (m : Name) (trees : Option Trees)
+      → op_reading t (if_then (is_name m) (two_trees (op.Store m) trees))
+      ≡ cond (is_name m) (made (store_op m) (trees_reading t (is_among t.memories m) trees)) (Err Syntax)
+  store_reads m trees = where_named (is_name m) _ _ (store_made m trees)
 
   -- ---- operations on names alone
 

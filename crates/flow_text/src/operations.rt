@@ -95,16 +95,6 @@ fn trees(
     Ok(both(tree_of(known, first), tree_of(true, second)))
 }
 
-/// The assignment of an expression that passed.
-fn set_to(register: Name, tree: Judged<Expr<Name>>) -> Judged<Op<Name>>
-    ensures { result ≡ with_tree (op.Set register) tree }
-{
-    match tree {
-        Ok(tree) => Ok(Op::Set(register, tree)),
-        Err(code) => Err(code),
-    }
-}
-
 /// An assignment to this variable.
 fn new_set(
     alloc: Global,
@@ -122,7 +112,7 @@ fn new_set(
     let known = tables.is_known(register);
     let register = Name::new(alloc, register)?;
     let tree = tree(alloc, tables, known, expression)?;
-    Ok(set_to(register, tree))
+    Ok(tree.map(|tree| Op::Set(register, tree)))
 }
 
 /// `set R E`, behind its verb.
@@ -140,16 +130,6 @@ fn knows_load(tables: &Tables<'_>, register: &[u8], memory: &[u8]) -> bool
     ensures { result ≡ (is_variable tables.now register.now && is_among tables.now.memories memory.now) }
 {
     tables.is_known(register) && tables.memories.has(memory)
-}
-
-/// The load from an expression that passed.
-fn load_from(register: Name, memory: Name, tree: Judged<Expr<Name>>) -> Judged<Op<Name>>
-    ensures { result ≡ with_tree (op.Load register memory) tree }
-{
-    match tree {
-        Ok(tree) => Ok(Op::Load(register, memory, tree)),
-        Err(code) => Err(code),
-    }
 }
 
 /// A load to this variable from this memory.
@@ -172,7 +152,7 @@ fn new_load(
     let register = Name::new(alloc, register)?;
     let memory = Name::new(alloc, memory)?;
     let tree = tree(alloc, tables, known, expression)?;
-    Ok(load_from(register, memory, tree))
+    Ok(tree.map(|tree| Op::Load(register, memory, tree)))
 }
 
 /// `load R M E`, behind its verb.
@@ -184,16 +164,6 @@ pub fn load(alloc: Global, tables: &Tables<'_>, tokens: &[&[u8]]) -> Parsed<Judg
             alloc, tables, *register, *memory, expression,
         ),
         _ => Err(LineFail::Fault(Code::Syntax)),
-    }
-}
-
-/// The store to and of expressions that passed.
-fn store_to(memory: Name, trees: Judged<(Expr<Name>, Expr<Name>)>) -> Judged<Op<Name>>
-    ensures { result ≡ with_tree (store_op memory) trees }
-{
-    match trees {
-        Ok((place, value)) => Ok(Op::Store(memory, place, value)),
-        Err(code) => Err(code),
     }
 }
 
@@ -214,7 +184,7 @@ fn new_store(
     let known = tables.memories.has(memory);
     let memory = Name::new(alloc, memory)?;
     let trees = trees(alloc, tables, known, expressions)?;
-    Ok(store_to(memory, trees))
+    Ok(trees.map(|(place, value)| Op::Store(memory, place, value)))
 }
 
 /// `store M E E`, behind its verb.
@@ -224,16 +194,6 @@ pub fn store(alloc: Global, tables: &Tables<'_>, tokens: &[&[u8]]) -> Parsed<Jud
     match tokens {
         [memory, expressions @ ..] => new_store(alloc, tables, *memory, expressions),
         _ => Err(LineFail::Fault(Code::Syntax)),
-    }
-}
-
-/// The write of an expression that passed.
-fn written(channel: Name, tree: Judged<Expr<Name>>) -> Judged<Op<Name>>
-    ensures { result ≡ with_tree (op.Write channel) tree }
-{
-    match tree {
-        Ok(tree) => Ok(Op::Write(channel, tree)),
-        Err(code) => Err(code),
     }
 }
 
@@ -254,7 +214,7 @@ fn new_write(
     let known = tables.channels.has(channel);
     let channel = Name::new(alloc, channel)?;
     let tree = tree(alloc, tables, known, expression)?;
-    Ok(written(channel, tree))
+    Ok(tree.map(|tree| Op::Write(channel, tree)))
 }
 
 /// `write F E`, behind its verb.
@@ -272,16 +232,6 @@ fn knows_outcome(tables: &Tables<'_>, channel: &[u8], outcome: &[u8]) -> bool
     ensures { result ≡ (is_among tables.now.channels channel.now && is_variable tables.now outcome.now) }
 {
     tables.channels.has(channel) && tables.is_known(outcome)
-}
-
-/// The write of an expression that passed, with its outcome.
-fn tried_write(channel: Name, outcome: Name, tree: Judged<Expr<Name>>) -> Judged<Op<Name>>
-    ensures { result ≡ with_tree (op.TryWrite channel outcome) tree }
-{
-    match tree {
-        Ok(tree) => Ok(Op::TryWrite(channel, outcome, tree)),
-        Err(code) => Err(code),
-    }
 }
 
 /// A write to this channel where it is not full, with the outcome in this variable.
@@ -304,7 +254,7 @@ fn new_try_write(
     let channel = Name::new(alloc, channel)?;
     let outcome = Name::new(alloc, outcome)?;
     let tree = tree(alloc, tables, known, expression)?;
-    Ok(tried_write(channel, outcome, tree))
+    Ok(tree.map(|tree| Op::TryWrite(channel, outcome, tree)))
 }
 
 /// `trywrite F OK E`, behind its verb.

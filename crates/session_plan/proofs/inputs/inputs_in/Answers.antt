@@ -4,11 +4,8 @@ use Rattle.std.proofs.lemmas.List.{take_all, get_or_default}
 use Rattle.flow_design.specs.declared.session.Statement.{Statement}
 use Rattle.flow_design.specs.declared.session.Statement.TheVariants.{End}
 use Rattle.session_plan.specs.Plans.{values_for}
-use Rattle.session_plan.proofs.Giving.{taken, AreGiven, given_start, given_more, given_all}
+use Rattle.session_plan.proofs.Giving.{taken, AreGiven, given_more, given_all}
 use Rattle.session_plan.proofs.inputs.inputs_in.Goals as goal
-
-pub loop-statement-init : goal.loop-statement-init
-loop-statement-init c = given_start c.args.names.now c.args.channels.now c.in_ok-inputs.inputs c.in_ok-inputs.ensures
 
 pub loop-statement-preserved : goal.loop-statement-preserved
 loop-statement-preserved c =

@@ -40,13 +40,8 @@ use Rattle.flow_check.specs.Read.{IsTimedRead, IsKindRead, IsNextRead, IsBlockRe
 
 -- ---- where nothing is found
 
-pub none_for : {A B : Type 0} (f : A → Option B) (x : A) (xs : List A) → first_for f (x ∷ xs) ≡ None → (f x ≡ None)
-    × (first_for f xs ≡ None)
-none_for {A} {B} f x xs h = by (f x) refl h
-  where
-    by : (o : Option B) → f x ≡ o → or_later x o (first_for f xs) ≡ None → (f x ≡ None) × (first_for f xs ≡ None)
-    by None e q = (e, q)
-    by (Some y) e q = absurd cc
+pub none_for : {A B : Type 0} (f : A → Option B) (x : A) (xs : List A) → first_for f (x ∷ xs) ≡ None → (f x ≡ None) × (first_for f xs ≡ None)
+none_for f x xs h = (grind arith, grind arith)
 
 pub none_mapped : {A B : Type 0} (f : A → B) (o : Option A) → option_map f o ≡ None → o ≡ None
 none_mapped f None h = refl
@@ -56,27 +51,15 @@ none_mapped f (Some x) h = absurd cc
 pub none_in : {A B : Type 0} (f : A → Option B) (xs : List A) → first_in f xs ≡ None → (k : ℕ) (d : A) → k < length xs
     → f (get_or xs k d) ≡ None
 none_in f [] h k d l = absurd (omega arith)
-none_in {A} {B} f (x ∷ xs) h k d l = by (f x) refl h (none_in f xs) k l
-  where
-    by : (o : Option B) → f x ≡ o → sooner o (first_in f xs) ≡ None
-        → (first_in f xs ≡ None → (k : ℕ) (d : A) → k < length xs → f (get_or xs k d) ≡ None)
-        → (k : ℕ) → k < suc (length xs) → f (get_or (x ∷ xs) k d) ≡ None
-    by (Some y) e q later k l = absurd cc
-    by None e q later zero l = e
-    by None e q later (suc k) l = later (none_mapped (λ p. (p.0 + 1, p.1)) (first_in f xs) q) k d (omega arith)
+none_in f (x ∷ xs) h zero d l = grind arith
+none_in f (x ∷ xs) h (suc k) d l = grind (arith, none_in f xs)
 
 -- no item passes
 pub none_where : {A : Type 0} (p : A → Bool) (xs : List A) → place_where p xs ≡ None → (k : ℕ) (d : A) → k < length xs
     → p (get_or xs k d) ≡ false
 none_where p [] h k d l = absurd (omega arith)
-none_where {A} p (x ∷ xs) h k d l = by (p x) refl h (none_where p xs) k l
-  where
-    by : (b : Bool) → p x ≡ b → cond b (Some 0) (option_map (λ k. k + 1) (place_where p xs)) ≡ None
-        → (place_where p xs ≡ None → (k : ℕ) (d : A) → k < length xs → p (get_or xs k d) ≡ false)
-        → (k : ℕ) → k < suc (length xs) → p (get_or (x ∷ xs) k d) ≡ false
-    by true e q later k l = absurd cc
-    by false e q later zero l = e
-    by false e q later (suc k) l = later (none_mapped (λ k. k + 1) (place_where p xs) q) k d (omega arith)
+none_where p (x ∷ xs) h zero d l = grind arith
+none_where p (x ∷ xs) h (suc k) d l = grind (arith, none_where p xs)
 
 -- none fails behind those before it
 pub none_behind : {A : Type 0} (fails : List A → A → Bool) (before xs : List A) → first_behind fails before xs ≡ None

@@ -39,16 +39,14 @@ use Rattle.flow_check.specs.Rules.{checking_fault}
 in_none : {A B : Type 0} (f : A → Option B) (d : A) (xs : List A) → ((k : ℕ) → k < length xs → f (get_or xs k d) ≡ None)
     → first_in f xs ≡ None
 in_none f d [] h = refl
-in_none {A} {B} f d (x ∷ xs) h =
-    ap (λ (o : Option B). sooner o (first_in f xs)) (h 0 (omega arith))
-    ∙ ap (option_map (λ (p : ℕ × B). (p.0 + 1, p.1))) (in_none f d xs (λ k l. h (suc k) (omega arith)))
+in_none f d (x ∷ xs) h =
+    let first = h 0 (omega arith) in let rest = in_none f d xs (λ k l. h (suc k) (omega arith)) in grind arith
 
 where_none : {A : Type 0} (p : A → Bool) (d : A) (xs : List A) → ((k : ℕ) → k < length xs → p (get_or xs k d) ≡ false)
     → place_where p xs ≡ None
 where_none p d [] h = refl
 where_none p d (x ∷ xs) h =
-    ap (λ (b : Bool). cond b (Some 0) (option_map (λ k. k + 1) (place_where p xs))) (h 0 (omega arith))
-    ∙ ap (option_map (λ k. k + 1)) (where_none p d xs (λ k l. h (suc k) (omega arith)))
+    let first = h 0 (omega arith) in let rest = where_none p d xs (λ k l. h (suc k) (omega arith)) in grind arith
 
 behind_none : {A : Type 0} (fails : List A → A → Bool) (d : A) (before xs : List A)
     → ((k : ℕ) → k < length xs → fails (before ++ take k xs) (get_or xs k d) ≡ false) → first_behind fails before xs ≡ None

@@ -1,36 +1,429 @@
 -- What the rules of reading give of a plan and of its edits.
-use Rattle.std.proofs.Common.{◌≡◌, ℕ, ◌+◌, ◌<◌, ◌≤◌, List, [], ◌∷◌, length, map, get_or, is_some, Bool, true, refl, sym, ap, subst, ◌∙◌}
-use Rattle.std.proofs.Common.{arith, true≢false}
-use Rattle.std.specs.Prelude.{◌&&◌, nat_le, IsTrue}
-use Rattle.std.specs.List.{All, filter_map, cons_option, enumerate_from}
-use Rattle.std.proofs.lemmas.Bool.{and_parts, ltb-true}
-use Rattle.std.proofs.lemmas.List.{length-map, get_or-map}
-use Rattle.std.proofs.lemmas.List.FromFn.{get_or-enumerate_from, length-enumerate_from}
+use Rattle.std.proofs.Common.{◌≡◌, ℕ, ◌+◌, ◌<◌, ◌≤◌, List, [], ◌∷◌, ◌++◌, length, map, is_some, IfSome, Bool, true, false, cond, refl, sym}
+use Rattle.std.proofs.Common.{ap, subst, ◌∙◌, arith, length-append, suc, Option, Some, None, true≢false, append_assoc, append-nil, ◌==◌}
+use Rattle.std.proofs.Common.{sum_by, get_or, option_map, unwrap_or, not}
+use Rattle.std.specs.List.{All, filter_map, cons_option, flat_map, enumerate_from}
 use Rattle.std.proofs.lemmas.List.Elements.{All-nil, All-cons}
+use Rattle.flow_word.specs.declared.access.Port.{Port}
+use Rattle.flow_design.specs.declared.limits.TheConstants.{TEMPS, OPERATIONS, REGISTERS, MEMORIES, MEMORY_WORDS, BLOCKS, INPUT_VALUES}
 use Rattle.flow_design.specs.declared.limits.TheConstants.{MODULES, CHANNELS, FIFO_DEPTH, FIFO_DELAY}
 use Rattle.flow_design.specs.declared.session.Statement.{Statement}
-use Rattle.flow_design.specs.declared.session.Statement.TheVariants as s
-use Rattle.flow_design.specs.declared.design.ChannelKind.{ChannelKind}
-use Rattle.flow_design.specs.declared.design.ChannelKind.TheVariants as kind
-use Rattle.flow_design.specs.declared.design.Channel.{Channel}
+use Rattle.flow_design.specs.declared.design.Timed.{Timed}
+use Rattle.flow_design.specs.declared.design.Next.{Next}
+use Rattle.flow_design.specs.declared.design.Block.{Block}
+use Rattle.flow_design.specs.declared.design.Module.{Module}
+use Rattle.flow_design.specs.Operations.{places_of, expressions_of, memory_of, port_of}
+use Rattle.flow_design.specs.StaticRules.{IsExpressionSound, IsMemorySound, AreEntriesSound}
+use Rattle.flow_grammar.specs.Before.{temp_name, is_among, channel_name, register_name, memory_name, block_name, blocks, in_module}
+use Rattle.flow_grammar.specs.Before.{input_count, input_values, module_name, channels, modules, fifo_name, fifos}
+use Rattle.session_plan.specs.Names.{Name, Scope, number_of, place_of}
+use Rattle.session_plan.specs.Numbered.{timed, terminator}
+use Rattle.session_plan.specs.Plans.{first_or, kind_of, block, memory, scope_of, module_of, values_for, inputs_of, inputs_for, channel}
+use Rattle.session_plan.specs.Plans.{depth_in, channels_of, channel_names, plan_of, edit, edits_of}
+use Rattle.session_plan.specs.Sections.{begins, body_of, sections, declared, declared_width}
+use Rattle.flow_check.specs.Read.{IsTimedRead, IsKindRead, IsNextRead, IsBlockRead, IsModuleRead, IsPlanRead}
+use Rattle.flow_check.proofs.Following.{Keeps, Follow, Plain, plain_body, follow_body, inside, nothing_inside, grows, at_most, as_many}
+use Rattle.flow_check.proofs.Following.{Heard, heard_none, body_first, Grows, heard_more, heard_later, all_follow}
+use Rattle.flow_check.proofs.Bodies.{temp_same, heard_all, Hears, hears_more, hears_body, plain_later, TimedRead, ops_read, next_read}
+use Rattle.flow_check.proofs.Bodies.{few_temps, few_operations, len_read, kind_read, register_same, memory_same, heard_body, channel_same}
+use Rattle.std.specs.Prelude.{◌&&◌, nat_le, IsTrue, reverse, ◌||◌}
+use Rattle.std.proofs.lemmas.Bool.{and_parts, ltb-true, leb-true, eqb-true, not-true, or_right}
+use Rattle.std.proofs.lemmas.List.{length-map, reverse-append, get_or-map}
+use Rattle.flow_design.specs.declared.design.Memory.{Memory}
 use Rattle.flow_design.specs.Names.{is_name}
-use Rattle.flow_design.specs.Plans.{no_channel}
-use Rattle.flow_design.specs.StaticRules.{AreEntriesSound}
 use Rattle.flow_grammar.specs.Tokens.{is_name as is_name_token}
-use Rattle.flow_grammar.specs.Before.{channel_name, module_name, channels, modules, is_among}
-use Rattle.flow_grammar.specs.Rules.{KeepsReadingRules}
-use Rattle.session_plan.specs.Names.{Name}
+use Rattle.flow_grammar.specs.declared.place.Place.{Place}
+use Rattle.flow_grammar.specs.declared.place.Place.TheVariants.{AmongRegisters, AtEnd}
+use Rattle.flow_grammar.specs.Places.{place, may_stand, may_follow}
+use Rattle.flow_grammar.specs.Rules.{is_over, KeepsReadingRules}
+use Rattle.session_plan.specs.declared.section.Level.{Level}
+use Rattle.flow_check.proofs.Numbers.{in_range}
+use Rattle.std.proofs.lemmas.List.Concat.{flat_map-cons}
+use Rattle.std.proofs.lemmas.List.Sums.{sum_by-cons}
+use Rattle.flow_design.specs.declared.session.Statement.TheVariants.{Input}
+use Rattle.flow_design.specs.declared.design.ChannelKind.{ChannelKind}
+use Rattle.flow_design.specs.declared.design.Channel.{Channel}
+use Rattle.std.proofs.lemmas.List.FromFn.{get_or-enumerate_from, length-enumerate_from}
+use Rattle.flow_design.specs.Plans.{no_channel, is_fifo, EditFits}
 use Rattle.session_plan.proofs.Counts.{names_long}
-use Rattle.session_plan.specs.Plans.{channel, depth_in, inputs_of, inputs_for, channels_of, channel_names, module_of, plan_of}
-use Rattle.session_plan.specs.Sections.{begins, sections, declared}
+use Rattle.std.specs.Str.{bytes_eq}
+use Rattle.std.proofs.lemmas.Slice.Eq.{bytes_eq-Decides}
+use Rattle.flow_design.specs.declared.plan.Edit.{Edit}
+use Rattle.flow_design.specs.declared.session.Statement.TheVariants as s
+use Rattle.flow_design.specs.declared.design.Next.TheVariants as next
 use Rattle.session_plan.specs.declared.section.Level.TheVariants as level
 use Rattle.session_plan.specs.declared.section.Sort.TheVariants as sort
-use Rattle.flow_check.specs.Read.{IsModuleRead, IsPlanRead}
-use Rattle.flow_check.proofs.Amounts.{taken_within, amount_most}
-use Rattle.flow_check.proofs.Following.{Keeps, Follow, all_follow, Grows, at_most, as_many, Heard, heard_none}
-use Rattle.flow_check.proofs.Numbers.{in_range}
-use Rattle.flow_check.proofs.Bodies.{channel_same, heard_all}
-use Rattle.flow_check.proofs.Modules.{all_over, sections_long, modules_read}
+use Rattle.flow_design.specs.declared.design.ChannelKind.TheVariants as kind
+
+hears_own : (scope : Scope) (names : List Name) (earlier rest : List Statement) → Hears scope earlier rest
+    → Hears (record scope { temps = names }) earlier rest
+hears_own scope names earlier rest h = record {
+  channels = h.channels;
+  channels_later = h.channels_later;
+  registers = h.registers;
+  registers_later = h.registers_later;
+  memories = h.memories;
+  memories_later = h.memories_later;
+}
+
+-- so many temps have names as have widths
+temps_long : (body : List Statement) → length (filter_map (declared sort.Temps) body) ≡ length (filter_map (declared_width sort.Temps) body)
+temps_long body = as_many (declared sort.Temps) (declared_width sort.Temps) by body
+  where
+    by : (x : Statement) → is_some (declared sort.Temps x) ≡ is_some (declared_width sort.Temps x)
+    by (s.Temp n w) = refl
+    by x = refl
+
+module _ (count : ℕ) (m : Module) (scope : Scope) (chans : length scope.channels ≡ count)
+    (regs : length scope.registers ≡ length m.registers) (mems : length scope.memories ≡ length m.memories) where
+  timed_read : (names : List Name) (b : Block) → length names ≡ length b.temps → (t : Timed)
+      → TimedRead (record scope { temps = names }) t → IsTimedRead count m b t
+  timed_read names b long t h =
+      let total : length (scope.registers ++ names) ≡ length m.registers + length b.temps = length-append scope.registers names
+      ∙ omega arith in
+      record {
+        guard = subst (λ (n : ℕ). IfSome t.guard (λ g. g < n)) total h.0;
+        places = subst (λ (n : ℕ). All (λ x. x < n) (places_of t.op)) total h.1.at;
+        expressions = subst (λ (n : ℕ). All (IsExpressionSound n) (expressions_of t.op)) total h.1.expressions;
+        memory = subst (λ (n : ℕ). IfSome (memory_of t.op) (λ k. k < n)) mems h.1.memory;
+        channel = subst (λ (n : ℕ). IfSome (port_of t.op) (λ (a : Port). a.channel < n)) chans h.1.channel;
+      }
+
+  block_read : (earlier : List Statement) (head : Statement) (rest : List Statement) → begins level.Blocks head ≡ true
+      → begins level.Modules head ≡ false → Keeps earlier head
+      → Follow (head ∷ earlier) rest → Plain level.Modules rest → Hears scope earlier (head ∷ rest)
+      → IsBlockRead count m (block scope (head, body_of level.Blocks rest))
+  unfolding block
+  block_read earlier head rest b plain keeps follow pm hears =
+      let body : List Statement = body_of level.Blocks rest in
+      let e0 : List Statement = head ∷ earlier in
+      let names : List Name = filter_map (declared sort.Temps) body in
+      let own : Scope = record scope { temps = names } in
+      let nothing : inside level.Blocks e0 ≡ [] = nothing_inside level.Blocks head b earlier in
+      let heard : Hears own e0 body = hears_own scope names e0 body
+      (hears_body scope e0 level.Blocks rest (hears_more scope earlier head rest plain hears)) in
+      let follows : Follow e0 body = follow_body level.Blocks e0 rest follow in
+      let no_modules : Plain level.Modules body = plain_later level.Modules level.Blocks rest pm in
+      let no_blocks : Plain level.Blocks body = plain_body level.Blocks rest in
+      let start : Heard temp_name names (inside level.Blocks e0)
+      = subst (Heard temp_name names) (sym nothing) (heard_none temp_name names) in
+      let ops : List Timed = filter_map (timed own) body in
+      let all : All (TimedRead own) ops
+      = ops_read own e0 body follows no_modules no_blocks heard start (heard_all temp_name (declared sort.Temps) temp_same body) in
+      let few : length names ≤ TEMPS
+      = at_most (inside level.Blocks) (declared sort.Temps) TEMPS few_temps e0 body nothing follows (grows level.Blocks body no_blocks) in
+      let fewer : length ops ≤ OPERATIONS
+      = at_most (inside level.Blocks) (timed own) OPERATIONS (few_operations own) e0 body nothing follows
+      (grows level.Blocks body no_blocks) in
+      let after : Next = first_or next.Stop (filter_map (terminator own) body) in
+      let leads : IsNextRead (length scope.registers) after = next_read own e0 body follows no_modules heard in
+      let len = len_read earlier head b keeps in
+      record {
+        least = len.0;
+        most = len.1;
+        kind = subst (λ (n : ℕ). IsKindRead n (kind_of scope head)) regs (kind_read scope earlier head keeps hears.registers);
+        temps = subst (λ (n : ℕ). n ≤ TEMPS) (temps_long body) few;
+        count = fewer;
+        operations = λ i d there. timed_read names (block scope (head, body)) (temps_long body) _ (all i d there);
+        next = subst (λ (n : ℕ). IsNextRead n after) regs leads;
+      }
+
+  pub blocks_read : (earlier body : List Statement) → Follow earlier body → Plain level.Modules body → Hears scope earlier body
+      → All (IsBlockRead count m) (map (block scope) (sections level.Blocks body))
+  blocks_read earlier [] follow pm hears = All-nil (IsBlockRead count m)
+  blocks_read earlier (x ∷ body) follow pm hears =
+      by (begins level.Blocks x) refl (blocks_read (x ∷ earlier) body follow.1 pm.1 (hears_more scope earlier x body pm.0 hears))
+    where
+      by : (b : Bool) → begins level.Blocks x ≡ b → All (IsBlockRead count m) (map (block scope) (sections level.Blocks body))
+          → All (IsBlockRead count m) (map (block scope)
+          (cond b ((x, body_of level.Blocks body) ∷ sections level.Blocks body) (sections level.Blocks body)))
+      by true e later = All-cons (IsBlockRead count m) _ (map (block scope) (sections level.Blocks body))
+          (block_read earlier x body e pm.0 follow.0 follow.1 pm.1 hears) later
+      by false e later = later
+
+-- ---- what the rules of reading give of modules
+
+-- ---- a session is over
+
+abbrev pub Over : List Statement → List Statement → Type 0
+Over earlier [] = place earlier ≡ AtEnd
+Over earlier (x ∷ rest) = Over (x ∷ earlier) rest
+
+over_behind : (earlier rest : List Statement) → place (reverse rest ++ earlier) ≡ AtEnd → Over earlier rest
+over_behind earlier [] h = h
+over_behind earlier (x ∷ rest) h =
+    over_behind (x ∷ earlier) rest
+    (ap place (sym (ap (λ (l : List Statement). l ++ earlier) (reverse-append (x ∷ []) rest)
+    ∙ append_assoc (reverse rest) (x ∷ []) earlier)) ∙ h)
+
+ends : (statements : List Statement) → is_over statements ≡ true → place (reverse statements) ≡ AtEnd
+unfolding is_over
+ends statements h = by (place (reverse statements)) refl
+  where
+    by : (p : Place) → place (reverse statements) ≡ p → place (reverse statements) ≡ AtEnd
+    by AtEnd e = e
+    by p e = absurd (true≢false (sym (rw e at h)))
+
+pub all_over : (statements : List Statement) → is_over statements ≡ true → Over [] statements
+all_over statements h = over_behind [] statements (ap place (append-nil (reverse statements)) ∙ ends statements h)
+
+-- a module has a block
+pub some_block : (earlier rest : List Statement) → place earlier ≡ AmongRegisters → Follow earlier rest → Over earlier rest
+    → 1 ≤ length (sections level.Blocks (body_of level.Modules rest))
+unfolding may_follow
+some_block earlier [] here follow over = absurd cc
+some_block earlier (s.Reg n w ∷ rest) here follow over =
+    subst (λ (l : List Statement). 1 ≤ length (sections level.Blocks l)) (sym (body_first level.Modules (s.Reg n w) rest))
+    (some_block (s.Reg n w ∷ earlier) rest refl follow.1 over)
+some_block earlier (s.Mem n w len ∷ rest) here follow over =
+    subst (λ (l : List Statement). 1 ≤ length (sections level.Blocks l)) (sym (body_first level.Modules (s.Mem n w len) rest))
+    (some_block (s.Mem n w len ∷ earlier) rest refl follow.1 over)
+some_block earlier (s.Block n len ∷ rest) here follow over =
+    subst (λ (l : List Statement). 1 ≤ length (sections level.Blocks l)) (sym (body_first level.Modules (s.Block n len) rest)) (omega arith)
+some_block earlier (s.Loop n ii len again ∷ rest) here follow over =
+    subst (λ (l : List Statement). 1 ≤ length (sections level.Blocks l)) (sym (body_first level.Modules (s.Loop n ii len again) rest))
+    (omega arith)
+some_block earlier (x ∷ rest) here follow over = absurd (true≢false (sym (sym (ap (may_stand x) here) ∙ follow.0.permitted)))
+
+-- ---- counts
+
+pub sections_long : (l : Level) (name : Statement → Option Name) → ((x : Statement) → is_some (name x) ≡ begins l x) → (xs : List Statement)
+    → length (sections l xs) ≡ length (filter_map name xs)
+sections_long l name same [] = refl
+sections_long l name same (x ∷ xs) = by (begins l x) (name x) (same x) (sections_long l name same xs)
+  where
+    by : (b : Bool) (o : Option Name) → is_some o ≡ b → length (sections l xs) ≡ length (filter_map name xs)
+        → length (cond b ((x, body_of l xs) ∷ sections l xs) (sections l xs)) ≡ length (cons_option o (filter_map name xs))
+    by true (Some n) e h = ap suc h
+    by false None e h = h
+    by b o e h = absurd cc
+
+few_registers : (earlier : List Statement) (x : Statement) → Keeps earlier x → is_some (declared sort.Registers x) ≡ true
+    → length (filter_map (declared sort.Registers) (inside level.Modules earlier)) < REGISTERS
+few_registers earlier (s.Reg n w) keeps h =
+    subst (λ (f : Statement → Option Name). length (filter_map f (in_module earlier)) < REGISTERS) (λ i x. register_same x i)
+    (ltb-true _ _ keeps.room)
+few_registers earlier x keeps h = absurd (true≢false (sym h))
+
+few_memories : (earlier : List Statement) (x : Statement) → Keeps earlier x → is_some (declared sort.Memories x) ≡ true
+    → length (filter_map (declared sort.Memories) (inside level.Modules earlier)) < MEMORIES
+few_memories earlier (s.Mem n w len) keeps h =
+    subst (λ (f : Statement → Option Name). length (filter_map f (in_module earlier)) < MEMORIES) (λ i x. memory_same x i)
+    (ltb-true _ _ keeps.room)
+few_memories earlier x keeps h = absurd (true≢false (sym h))
+
+few_blocks : (earlier : List Statement) (x : Statement) → Keeps earlier x → is_some (block_name x) ≡ true → length (blocks earlier) < BLOCKS
+few_blocks earlier (s.Block n len) keeps h = ltb-true _ _ keeps.room
+few_blocks earlier (s.Loop n ii len again) keeps h = ltb-true _ _ keeps.room
+few_blocks earlier x keeps h = absurd (true≢false (sym h))
+
+block_named : (y : Statement) → is_some (block_name y) ≡ begins level.Blocks y
+block_named (s.Block m v) = refl
+block_named (s.Loop m v k r) = refl
+block_named y = refl
+
+-- ---- memories
+
+words_more : (earlier : List Statement) (x : Statement) → Keeps earlier x → (later : List Memory) → All IsMemorySound later
+    → All IsMemorySound (cons_option (memory x) later)
+words_more earlier (s.Mem n w len) keeps later h =
+    let first = and_parts (nat_le 1 w && nat_le w 64) ((nat_le 1 len && nat_le len MEMORY_WORDS) && true) keeps.ranged in
+    let range = and_parts (nat_le 1 len && nat_le len MEMORY_WORDS) true first.1 in
+    let words = in_range 1 len MEMORY_WORDS range.0 in
+    All-cons IsMemorySound (record { width = w; len = len }) later (record { least = words.0; most = words.1 }) h
+words_more earlier x keeps later h = h
+
+words_read : (earlier body : List Statement) → Follow earlier body → All IsMemorySound (filter_map memory body)
+words_read earlier [] follow = All-nil IsMemorySound
+words_read earlier (x ∷ body) follow = words_more earlier x follow.0 (filter_map memory body) (words_read (x ∷ earlier) body follow.1)
+
+registers_long : (body : List Statement)
+    → length (filter_map (declared sort.Registers) body) ≡ length (filter_map (declared_width sort.Registers) body)
+registers_long body = as_many (declared sort.Registers) (declared_width sort.Registers) by body
+  where
+    by : (x : Statement) → is_some (declared sort.Registers x) ≡ is_some (declared_width sort.Registers x)
+    by (s.Reg n w) = refl
+    by x = refl
+
+memories_long : (body : List Statement) → length (filter_map (declared sort.Memories) body) ≡ length (filter_map memory body)
+memories_long body = as_many (declared sort.Memories) memory by body
+  where
+    by : (x : Statement) → is_some (declared sort.Memories x) ≡ is_some (memory x)
+    by (s.Mem n w len) = refl
+    by x = refl
+
+-- ---- modules
+
+name_read : (earlier : List Statement) (n : Name) → Keeps earlier (s.Module n) → IsTrue (is_name n)
+unfolding is_name_token
+name_read earlier n keeps = (and_parts (is_name n) true keeps.named).0
+
+module_read : (names : List Name) (earlier : List Statement) (n : Name) (rest : List Statement) → Keeps earlier (s.Module n)
+    → Follow (s.Module n ∷ earlier) rest
+    → Over (s.Module n ∷ earlier) rest → Heard channel_name names earlier → Heard channel_name names (s.Module n ∷ rest)
+    → IsModuleRead (length names) (module_of names (s.Module n, body_of level.Modules rest))
+unfolding module_of
+module_read names earlier n rest keeps follow over heard later =
+    let body : List Statement = body_of level.Modules rest in
+    let e0 : List Statement = s.Module n ∷ earlier in
+    let own : Scope = scope_of names body in
+    let nothing : inside level.Modules e0 ≡ [] = nothing_inside level.Modules (s.Module n) refl earlier in
+    let follows : Follow e0 body = follow_body level.Modules e0 rest follow in
+    let plain : Plain level.Modules body = plain_body level.Modules rest in
+    let hears : Hears own e0 body = record {
+      channels = heard_more channel_name names (s.Module n) earlier rest heard later;
+      channels_later = heard_body channel_name names level.Modules rest (heard_later channel_name names (s.Module n) rest later);
+      registers = subst (Heard register_name own.registers) (sym nothing) (heard_none register_name own.registers);
+      registers_later = heard_all register_name (declared sort.Registers) register_same body;
+      memories = subst (Heard memory_name own.memories) (sym nothing) (heard_none memory_name own.memories);
+      memories_later = heard_all memory_name (declared sort.Memories) memory_same body;
+    } in
+    let m : Module = module_of names (s.Module n, body) in
+    let grown : Grows (inside level.Modules) body = grows level.Modules body plain in
+    let a : length (filter_map (declared sort.Registers) body) ≤ REGISTERS
+    = at_most (inside level.Modules) (declared sort.Registers) REGISTERS few_registers e0 body nothing follows grown in
+    let b : length (filter_map (declared sort.Memories) body) ≤ MEMORIES
+    = at_most (inside level.Modules) (declared sort.Memories) MEMORIES few_memories e0 body nothing follows grown in
+    let c : length (filter_map block_name body) ≤ BLOCKS
+    = at_most (inside level.Modules) block_name BLOCKS few_blocks e0 body nothing follows grown in
+    let long_a = registers_long body in
+    let long_b = memories_long body in
+    let long_c = sections_long level.Blocks block_name block_named body in
+    let long_d : length (map (block own) (sections level.Blocks body)) ≡ length (sections level.Blocks body) = simp length-map in
+    let some : 1 ≤ length (sections level.Blocks body) = some_block e0 rest refl follow over in
+    record {
+      name = name_read earlier n keeps;
+      registers = omega arith;
+      memories = omega arith;
+      words = words_read e0 body follows;
+      some = omega arith;
+      count = omega arith;
+      blocks = blocks_read (length names) m own refl (registers_long body) (memories_long body) e0 body follows plain hears;
+    }
+
+pub modules_read : (names : List Name) (earlier rest : List Statement) → Follow earlier rest → Over earlier rest
+    → Heard channel_name names earlier → Heard channel_name names rest
+    → All (IsModuleRead (length names)) (map (module_of names) (sections level.Modules rest))
+modules_read names earlier [] follow over heard later = All-nil (IsModuleRead (length names))
+modules_read names earlier (x ∷ rest) follow over heard later =
+    more x follow.0 follow.1 over later
+    (modules_read names (x ∷ earlier) rest follow.1 over (heard_more channel_name names x earlier rest heard later)
+    (heard_later channel_name names x rest later))
+  where
+    more : (x : Statement) → Keeps earlier x → Follow (x ∷ earlier) rest → Over (x ∷ earlier) rest → Heard channel_name names (x ∷ rest)
+        → All (IsModuleRead (length names)) (map (module_of names) (sections level.Modules rest))
+        → All (IsModuleRead (length names)) (map (module_of names) (sections level.Modules (x ∷ rest)))
+    more (s.Module n) keeps follow over later h =
+        All-cons (IsModuleRead (length names)) _ (map (module_of names) (sections level.Modules rest))
+        (module_read names earlier n rest keeps follow over heard later) h
+    more y keeps follow over later h = h
+
+-- ---- how many input values a session has
+
+-- the sum of f over the numbers from a on, one for each item
+abbrev spread : {A : Type 0} → (ℕ → ℕ) → ℕ → List A → ℕ
+spread f a [] = 0
+spread f a (c ∷ cs) = f a + spread f (a + 1) cs
+
+spread_same : {A : Type 0} (f g : ℕ → ℕ) → ((i : ℕ) → f i ≡ g i) → (a : ℕ) (cs : List A) → spread f a cs ≡ spread g a cs
+spread_same f g h a [] = refl
+spread_same f g h a (c ∷ cs) = ap (λ (n : ℕ). n + spread f (a + 1) cs) (h a) ∙ ap (λ (n : ℕ). g a + n) (spread_same f g h (a + 1) cs)
+
+spread_add : {A : Type 0} (f g : ℕ → ℕ) (a : ℕ) (cs : List A) → spread (λ i. f i + g i) a cs ≡ spread f a cs + spread g a cs
+spread_add f g a [] = refl
+spread_add f g a (c ∷ cs) = let e : spread (λ i. f i + g i) (a + 1) cs ≡ spread f (a + 1) cs + spread g (a + 1) cs
+    = spread_add f g (a + 1) cs in omega arith
+
+spread_zero : {A : Type 0} (f : ℕ → ℕ) (a : ℕ) → ((i : ℕ) → a ≤ i → f i ≡ 0) → (cs : List A) → spread f a cs ≡ 0
+spread_zero f a h [] = refl
+spread_zero f a h (c ∷ cs) =
+    let e : spread f (a + 1) cs ≡ 0 = spread_zero f (a + 1) (λ i l. h i (omega arith)) cs in
+    let z : f a ≡ 0 = h a (omega arith) in
+    omega arith
+
+-- what one number gives, is given once at most
+given_once : {A : Type 0} (k : ℕ) (values : List ℕ) (a : ℕ) (cs : List A)
+    → spread (λ i. length (cond (k == i) values [])) a cs ≤ length values
+given_once k values a [] = omega arith
+given_once {A} k values a (c ∷ cs) = by (k == a) refl (given_once k values (a + 1) cs)
+  where
+    by : (b : Bool) → (k == a) ≡ b → spread (λ i. length (cond (k == i) values [])) (a + 1) cs ≤ length values
+        → length (cond b values []) + spread (λ i. length (cond (k == i) values [])) (a + 1) cs ≤ length values
+    by false e later = omega arith
+    by true e later =
+        let same : k ≡ a = eqb-true k a e in
+        let none : spread (λ i. length (cond (k == i) values [])) (a + 1) cs ≡ 0
+        = spread_zero (λ i. length (cond (k == i) values [])) (a + 1) (λ i l. other i (k == i) refl l) cs in
+        omega arith
+      where
+        other : (i : ℕ) (d : Bool) → (k == i) ≡ d → a + 1 ≤ i → length (cond d values []) ≡ 0
+        other i true q l = let p : k ≡ i = eqb-true k i q in let r : k ≡ a = eqb-true k a e in absurd (omega arith)
+        other i false q l = refl
+
+one_statement : {A : Type 0} (names : List Name) (x : Statement) (a : ℕ) (cs : List A)
+    → spread (λ i. length (values_for names i x)) a cs ≤ input_count x
+one_statement names (Input n values) a cs = given_once (number_of names n) values a cs
+one_statement names x a cs = let e = spread_zero (λ i. length (values_for names i x)) a (λ i l. refl) cs in omega arith
+
+-- the values of all statements
+abbrev pub amount : List Statement → ℕ
+amount [] = 0
+amount (x ∷ rest) = input_count x + amount rest
+
+all_statements : {A : Type 0} (names : List Name) (statements : List Statement) (a : ℕ) (cs : List A)
+    → spread (λ i. length (flat_map (values_for names i) statements)) a cs ≤ amount statements
+all_statements names [] a cs = let e = spread_zero (λ i. length (flat_map (values_for names i) [])) a (λ i l. refl) cs in omega arith
+all_statements names (x ∷ rest) a cs =
+    let one : spread (λ i. length (values_for names i x)) a cs ≤ input_count x = one_statement names x a cs in
+    let later : spread (λ i. length (flat_map (values_for names i) rest)) a cs ≤ amount rest = all_statements names rest a cs in
+    let both : spread (λ i. length (flat_map (values_for names i) (x ∷ rest))) a cs
+    ≡ spread (λ i. length (values_for names i x)) a cs + spread (λ i. length (flat_map (values_for names i) rest)) a cs
+    = spread_same _ (λ i. length (values_for names i x) + length (flat_map (values_for names i) rest))
+    (λ i. ap length (flat_map-cons (values_for names i) x rest)
+    ∙ length-append (values_for names i x) (flat_map (values_for names i) rest)) a cs
+    ∙ spread_add (λ i. length (values_for names i x)) (λ i. length (flat_map (values_for names i) rest)) a cs in
+    omega arith
+
+kept : (k : ChannelKind) (width : ℕ) (values : List ℕ) → length (inputs_of k width values) ≤ length values
+kept kind.Source width values = simp length-map (omega arith)
+kept k width values = omega arith
+
+pub taken_most : (names : List Name) (statements : List Statement) (a : ℕ) (cs : List Channel)
+    → sum_by length (map (inputs_for names statements) (enumerate_from a cs)) ≤ spread
+    (λ i. length (flat_map (values_for names i) statements)) a cs
+taken_most names statements a [] = omega arith
+taken_most names statements a (c ∷ cs) =
+    let e : sum_by length (map (inputs_for names statements) (enumerate_from a (c ∷ cs)))
+    ≡ length (inputs_for names statements (a, c)) + sum_by length (map (inputs_for names statements) (enumerate_from (a + 1) cs))
+    = sum_by-cons length (inputs_for names statements (a, c)) (map (inputs_for names statements) (enumerate_from (a + 1) cs)) in
+    let later = taken_most names statements (a + 1) cs in
+    let own : length (inputs_for names statements (a, c)) ≤ length (flat_map (values_for names a) statements)
+    = kept c.kind c.width (flat_map (values_for names a) statements) in
+    omega arith
+
+pub taken_within : (names : List Name) (statements : List Statement) (cs : List Channel)
+    → sum_by length (map (inputs_for names statements) (enumerate_from 0 cs)) ≤ amount statements
+taken_within names statements cs =
+    let a = taken_most names statements 0 cs in
+    let b = all_statements names statements 0 cs in
+    omega arith
+
+-- at most 100,000
+few : (earlier : List Statement) (x : Statement) → Keeps earlier x → input_values earlier ≤ INPUT_VALUES
+    → input_values earlier + input_count x ≤ INPUT_VALUES
+few earlier (Input n values) keeps h = leb-true (input_values earlier + length values) INPUT_VALUES keeps.room
+few earlier x keeps h = omega arith
+
+pub amount_most : (earlier rest : List Statement) → Follow earlier rest → input_values earlier ≤ INPUT_VALUES
+    → input_values earlier + amount rest ≤ INPUT_VALUES
+amount_most earlier [] follow h = omega arith
+amount_most earlier (x ∷ rest) follow h =
+    let e : input_values (x ∷ earlier) ≡ input_count x + input_values earlier = sum_by-cons input_count x earlier in
+    let now : input_values earlier + input_count x ≤ INPUT_VALUES = few earlier x follow.0 h in
+    let later : input_values (x ∷ earlier) + amount rest ≤ INPUT_VALUES = amount_most (x ∷ earlier) rest follow.1 (omega arith) in
+    omega arith
+
+-- ---- what the rules of reading give of a plan and of its edits
 
 -- ---- counts
 
@@ -139,3 +532,146 @@ plan_read statements rules =
       modules = subst (λ (n : ℕ). All (IsModuleRead n) (map (module_of names) (sections level.Modules statements))) (names_long statements)
           (modules_read names [] statements follow (all_over statements rules.over) (heard_none channel_name names) heard);
     }
+
+-- ---- the edits of a session that was read are those of FIFOs of its plan
+
+abbrev name : Channel → Name
+name c = c.name
+
+-- the kind of the first channel of a name
+abbrev first_kind : Name → List Channel → Option ChannelKind
+first_kind n [] = None
+first_kind n (c ∷ cs) = cond (bytes_eq n c.name) (Some c.kind) (first_kind n cs)
+
+-- it stands at the name's place
+kind_placed : (n : Name) (cs : List Channel) (k : ChannelKind) → first_kind n cs ≡ Some k
+    → (i : ℕ) × (place_of (map name cs) n ≡ Some i) × (i < length cs) × ((get_or cs i no_channel).kind ≡ k)
+kind_placed n [] k h = absurd cc
+kind_placed n (c ∷ cs) k h = by (bytes_eq n c.name) (kind_placed n cs k) h
+  where
+    by : (b : Bool) → (first_kind n cs ≡ Some k → (i : ℕ) × (place_of (map name cs) n ≡ Some i) × (i < length cs)
+        × ((get_or cs i no_channel).kind ≡ k))
+        → cond b (Some c.kind) (first_kind n cs) ≡ Some k
+        → (i : ℕ) × (cond b (Some 0) (option_map (λ j. j + 1) (place_of (map name cs) n)) ≡ Some i) × (i < suc (length cs))
+        × ((get_or (c ∷ cs) i no_channel).kind ≡ k)
+    by true later q = (0, refl, omega arith, cc)
+    by false later q =
+        let p = later q in
+        let below : p.0 < length cs = p.2 in
+        (suc p.0, ap (option_map (λ j. j + 1)) p.1 ∙ ap Some (omega arith), omega arith, p.3)
+
+names_are : (statements : List Statement) → channel_names statements ≡ map name (channels_of statements)
+names_are [] = refl
+names_are (x ∷ rest) = by x (names_are rest)
+  where
+    by : (y : Statement) → channel_names rest ≡ map name (channels_of rest)
+        → cons_option (declared sort.Channels y) (channel_names rest) ≡ map name (cons_option (channel y) (channels_of rest))
+    by (s.Source n w) e = ap (λ (l : List Name). n ∷ l) e
+    by (s.Sink n w) e = ap (λ (l : List Name). n ∷ l) e
+    by (s.Fifo n w d l) e = ap (λ (l : List Name). n ∷ l) e
+    by y e = e
+
+-- ---- a name stands for one channel
+
+still : (n : Name) (o : Option Name) (names : List Name) → is_among names n ≡ true → is_among (cons_option o names) n ≡ true
+still n None names h = h
+still n (Some m) names h = or_right (bytes_eq n m) (is_among names n) h
+
+-- no FIFO behind has the name of a channel before
+no_later : (n : Name) (earlier rest : List Statement) → Follow earlier rest → is_among (channels earlier) n ≡ true
+    → is_among (filter_map fifo_name rest) n ≡ false
+no_later n earlier [] follow h = refl
+no_later n earlier (x ∷ rest) follow h
+    = by x follow.0 (no_later n (x ∷ earlier) rest follow.1 (still n (channel_name x) (channels earlier) h))
+  where
+    by : (y : Statement) → Keeps earlier y → is_among (filter_map fifo_name rest) n ≡ false
+        → is_among (cons_option (fifo_name y) (filter_map fifo_name rest)) n ≡ false
+    by (s.Fifo m w d l) keeps later = other (bytes_eq n m) refl
+      where
+        other : (b : Bool) → bytes_eq n m ≡ b → b || is_among (filter_map fifo_name rest) n ≡ false
+        other false e = later
+        other true e =
+            let fresh : is_among (channels earlier) m ≡ false
+            = not-true (is_among (channels earlier) m) (and_parts (not (is_among (channels earlier) m)) true keeps.fresh).0 in
+            absurd (true≢false (sym h ∙ ap (is_among (channels earlier)) ((bytes_eq-Decides n m).0 e) ∙ fresh))
+    by y keeps later = later
+
+-- the first channel of a FIFO's name is a FIFO
+fifo_first : (n : Name) (earlier rest : List Statement) → Follow earlier rest → is_among (filter_map fifo_name rest) n ≡ true
+    → (d l : ℕ) × (first_kind n (filter_map channel rest) ≡ Some (kind.Fifo d l))
+fifo_first n earlier [] follow h = absurd (true≢false (sym h))
+fifo_first n earlier (x ∷ rest) follow h = by x (λ q. no_later n (x ∷ earlier) rest follow.1 q) (fifo_first n (x ∷ earlier) rest follow.1) h
+  where
+    behind : (b : Bool) (k : ChannelKind) → (b || is_among (channels earlier) n ≡ true → is_among (filter_map fifo_name rest) n ≡ false)
+        → is_among (filter_map fifo_name rest) n ≡ true
+        → (is_among (filter_map fifo_name rest) n ≡ true → (d l : ℕ) × (first_kind n (filter_map channel rest) ≡ Some (kind.Fifo d l)))
+        → (d l : ℕ) × (cond b (Some k) (first_kind n (filter_map channel rest)) ≡ Some (kind.Fifo d l))
+    behind true k none q later = absurd (true≢false (sym q ∙ none refl))
+    behind false k none q later = later q
+
+    by : (y : Statement) → (is_among (cons_option (channel_name y) (channels earlier)) n ≡ true
+        → is_among (filter_map fifo_name rest) n ≡ false)
+        → (is_among (filter_map fifo_name rest) n ≡ true → (d l : ℕ) × (first_kind n (filter_map channel rest) ≡ Some (kind.Fifo d l)))
+        → is_among (cons_option (fifo_name y) (filter_map fifo_name rest)) n ≡ true
+        → (d l : ℕ) × (first_kind n (cons_option (channel y) (filter_map channel rest)) ≡ Some (kind.Fifo d l))
+    by (s.Fifo m w d l) none later q = one (bytes_eq n m) q
+      where
+        one : (b : Bool) → b || is_among (filter_map fifo_name rest) n ≡ true → (e k : ℕ)
+            × (cond b (Some (kind.Fifo d l)) (first_kind n (filter_map channel rest)) ≡ Some (kind.Fifo e k))
+        one true p = (d, l, refl)
+        one false p = later p
+    by (s.Source m w) none later q = behind (bytes_eq n m) kind.Source none q later
+    by (s.Sink m w) none later q = behind (bytes_eq n m) kind.Sink none q later
+    by y none later q = later q
+
+-- ---- edits
+
+edit_fits : (statements : List Statement) → Follow [] statements → (n : Name) (depth : ℕ)
+    → is_among (filter_map fifo_name statements) n ≡ true → 1 ≤ depth → depth ≤ FIFO_DEPTH
+    → EditFits (plan_of statements) (record { channel = number_of (channel_names statements) n; depth = depth })
+unfolding plan_of
+edit_fits statements follow n depth there least most =
+    let found = fifo_first n [] statements follow there in
+    let placed = kind_placed n (channels_of statements) (kind.Fifo found.0 found.1) found.2 in
+    let e : place_of (channel_names statements) n ≡ Some placed.0 = ap (λ (l : List Name). place_of l n) (names_are statements)
+    ∙ placed.1 in
+    let number : number_of (channel_names statements) n ≡ placed.0
+    = ap (λ (o : Option ℕ). unwrap_or o (length (channel_names statements))) e in
+    let below : placed.0 < length (channels_of statements) = placed.2 in
+    let long : length (map (λ (c : Channel). depth_in c.kind) (channels_of statements)) ≡ length (channels_of statements)
+    = simp length-map in
+    record {
+      fifo = ap (λ (i : ℕ). is_fifo (get_or (channels_of statements) i no_channel).kind) number ∙ ap is_fifo placed.3;
+      entry = omega arith;
+      least = least;
+      most = most;
+    }
+
+edit_more : (statements earlier : List Statement) → Follow [] statements → Heard fifo_name (filter_map fifo_name statements) earlier
+    → (x : Statement) → Keeps earlier x
+    → (later : List Edit) → All (EditFits (plan_of statements)) later
+    → All (EditFits (plan_of statements)) (cons_option (edit (channel_names statements) x) later)
+edit_more statements earlier follow heard (s.Depth n depth) keeps later h =
+    let known = and_parts (is_among (fifos earlier) n) true keeps.known in
+    let range = and_parts (nat_le 1 depth && nat_le depth FIFO_DEPTH) true keeps.ranged in
+    let within = in_range 1 depth FIFO_DEPTH range.0 in
+    All-cons (EditFits (plan_of statements)) _ later
+    (edit_fits statements follow n depth (heard n known.0) within.0 within.1) h
+edit_more statements earlier follow heard x keeps later h = h
+
+edits_from : (statements earlier rest : List Statement) → Follow [] statements → Follow earlier rest
+    → Heard fifo_name (filter_map fifo_name statements) earlier
+    → Heard fifo_name (filter_map fifo_name statements) rest
+    → All (EditFits (plan_of statements)) (filter_map (edit (channel_names statements)) rest)
+edits_from statements earlier [] whole follow heard later = All-nil (EditFits (plan_of statements))
+edits_from statements earlier (x ∷ rest) whole follow heard later =
+    edit_more statements earlier whole heard x follow.0 (filter_map (edit (channel_names statements)) rest)
+    (edits_from statements (x ∷ earlier) rest whole follow.1
+    (heard_more fifo_name (filter_map fifo_name statements) x earlier rest heard later)
+    (heard_later fifo_name (filter_map fifo_name statements) x rest later))
+
+pub edits_fit : (statements : List Statement) → KeepsReadingRules statements → All (EditFits (plan_of statements)) (edits_of statements)
+unfolding edits_of
+edits_fit statements rules =
+    let follow : Follow [] statements = all_follow statements rules in
+    edits_from statements [] statements follow follow (heard_none fifo_name (filter_map fifo_name statements)) (λ n h. h)

@@ -1,7 +1,7 @@
 use Rattle.std.proofs.Common.{◌==◌, ◌∙◌, ℕ, ap, count_by}
 use Rattle.flow_word.specs.declared.access.Port.{Port}
 use Rattle.flow_design.specs.StaticRules.{uses}
-use Rattle.flow_check.proofs.Sets.{count_users}
+use Rattle.flow_check.proofs.Slots.{count_users}
 use Rattle.flow_check.proofs.rules.has_users.Goals as goal
 
 pub returns : goal.returns

@@ -1,5 +1,5 @@
 use Rattle.std.proofs.Common.{arith}
-use Rattle.flow_check.proofs.Sets.{long, at_place}
+use Rattle.flow_check.proofs.Slots.{long, at_place}
 use Rattle.flow_check.proofs.rules.item_in.Goals as goal
 
 pub bounds-all-at : goal.bounds-all-at

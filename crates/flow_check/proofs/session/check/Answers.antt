@@ -9,9 +9,8 @@ use Rattle.flow_grammar.specs.Rules.{KeepsReadingRules}
 use Rattle.session_plan.specs.Plans.{plan_of}
 use Rattle.flow_check.specs.Checked.{at_line, fault_of}
 use Rattle.flow_check.specs.Rules.{checking_fault}
-use Rattle.flow_check.proofs.Edits.{edits_fit}
+use Rattle.flow_check.proofs.Reading.{edits_fit, plan_read}
 use Rattle.flow_check.proofs.Fits.{fits, none_mapped}
-use Rattle.flow_check.proofs.Reading.{plan_read}
 use Rattle.flow_check.proofs.session.check.Goals as goal
 
 pub returns-in-None-clause-engine : goal.returns-in-None-clause-engine

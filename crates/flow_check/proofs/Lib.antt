@@ -1,11 +1,7 @@
 pub mod Bodies
 pub mod Counting
-pub mod Existing
 pub mod Firsts
 pub mod Fits
-pub mod Following
-pub mod Numbers
-pub mod Order
-pub mod Slots
 pub mod Reading
+pub mod Slots
 pub mod Telling

@@ -22,10 +22,10 @@ use Rattle.session_plan.specs.Plans.{first_or, kind_of, block, memory, scope_of,
 use Rattle.session_plan.specs.Plans.{depth_in, channels_of, channel_names, plan_of, edit, edits_of}
 use Rattle.session_plan.specs.Sections.{begins, body_of, sections, declared, declared_width}
 use Rattle.flow_check.specs.Read.{IsTimedRead, IsKindRead, IsNextRead, IsBlockRead, IsModuleRead, IsPlanRead}
-use Rattle.flow_check.proofs.Following.{Keeps, Follow, Plain, plain_body, follow_body, inside, nothing_inside, grows, at_most, as_many}
-use Rattle.flow_check.proofs.Following.{Heard, heard_none, body_first, Grows, heard_more, heard_later, all_follow}
-use Rattle.flow_check.proofs.Bodies.{temp_same, heard_all, Hears, hears_more, hears_body, plain_later, TimedRead, ops_read, next_read}
-use Rattle.flow_check.proofs.Bodies.{few_temps, few_operations, len_read, kind_read, register_same, memory_same, heard_body, channel_same}
+use Rattle.flow_check.proofs.Bodies.{Keeps, Follow, Plain, plain_body, follow_body, inside, nothing_inside, grows, at_most, as_many, Heard}
+use Rattle.flow_check.proofs.Bodies.{heard_none, body_first, Grows, heard_more, heard_later, all_follow, temp_same, heard_all, Hears}
+use Rattle.flow_check.proofs.Bodies.{hears_more, hears_body, plain_later, TimedRead, ops_read, next_read, few_temps, few_operations}
+use Rattle.flow_check.proofs.Bodies.{len_read, kind_read, register_same, memory_same, heard_body, channel_same, in_range}
 use Rattle.std.specs.Prelude.{◌&&◌, nat_le, IsTrue, reverse, ◌||◌}
 use Rattle.std.proofs.lemmas.Bool.{and_parts, ltb-true, leb-true, eqb-true, not-true, or_right}
 use Rattle.std.proofs.lemmas.List.{length-map, reverse-append, get_or-map}
@@ -37,7 +37,6 @@ use Rattle.flow_grammar.specs.declared.place.Place.TheVariants.{AmongRegisters, 
 use Rattle.flow_grammar.specs.Places.{place, may_stand, may_follow}
 use Rattle.flow_grammar.specs.Rules.{is_over, KeepsReadingRules}
 use Rattle.session_plan.specs.declared.section.Level.{Level}
-use Rattle.flow_check.proofs.Numbers.{in_range}
 use Rattle.std.proofs.lemmas.List.Concat.{flat_map-cons}
 use Rattle.std.proofs.lemmas.List.Sums.{sum_by-cons}
 use Rattle.flow_design.specs.declared.session.Statement.TheVariants.{Input}

@@ -1,10 +1,7 @@
-pub mod Again
 pub mod Induction
 pub mod Kept
-pub mod LineLaws
 pub mod Numbers
 pub mod PrefixLoop
-pub mod ReadAgain
 pub mod SessionLaws
 pub mod SpellingLaws
 pub mod StackLemmas
@@ -13,4 +10,3 @@ pub mod TokenLemmas
 pub mod Trees
 pub mod Verdicts
 pub mod VersionLaws
-pub mod Written

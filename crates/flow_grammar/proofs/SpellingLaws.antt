@@ -1,11 +1,12 @@
--- The expressions of some tokens are those whose parts the tokens spell.
-use Rattle.std.proofs.Common.{◌≡◌, ℕ, List, [], ◌∷◌, ◌++◌, Bool, true, false, cond, Option, None, Some, refl, subst, append_assoc}
-use Rattle.std.specs.Prelude.{codes, ◌==◌, ◌&&◌}
+-- Tokens write what is worked out from them, and that alone.
+use Rattle.std.proofs.Common.{◌≡◌, ℕ, List, [], ◌∷◌, ◌++◌, Bool, true, false, cond, Option, None, Some, refl, subst, append_assoc, ◌-◌, ◌^◌}
+use Rattle.std.proofs.Common.{sym, ◌∙◌, arith, zero, suc, map, ap, inl, inr}
+use Rattle.std.specs.Prelude.{codes, ◌==◌, ◌&&◌, ◌||◌, option_map, if◌then◌else◌}
 use Rattle.std.specs.List.{find, list_all}
-use Rattle.std.proofs.Common.{◌-◌, ◌^◌, sym, ◌∙◌}
 use Rattle.std.proofs.lemmas.List.Folds.{list_all-append}
 use Rattle.flow_grammar.proofs.Induction.{by_cases}
-use Rattle.flow_grammar.specs.Parts.{Word, Num, Use, AVariable}
+use Rattle.flow_grammar.specs.Parts.{Word, Num, Use, AVariable, Part, expr_parts, layer_parts, Name, parts, bare_parts, depth_parts}
+use Rattle.flow_grammar.specs.Parts.{fifo_parts, op_parts, guard_parts, plain, default_depth, default_delay}
 use Rattle.std.specs.Option.{option_and_then}
 use Rattle.flow_design.specs.declared.expr.Expr.{Expr}
 use Rattle.flow_design.specs.declared.expr.Expr.TheOpen.{Expr-F}
@@ -16,22 +17,33 @@ use Rattle.flow_design.specs.declared.expr.BinOp.{BinOp}
 use Rattle.flow_grammar.specs.declared.operator.Operator.{Operator}
 use Rattle.flow_grammar.specs.declared.operator.Operator.TheVariants.{One, Two, Extend, Choose}
 use Rattle.std.proofs.lemmas.Bool.{eqb-true, and_parts}
-use Rattle.flow_grammar.specs.Tokens.{is_word, is_number, is_name, number_of}
+use Rattle.flow_grammar.specs.Tokens.{is_word, is_number, is_name, number_of, Token}
 use Rattle.flow_grammar.specs.declared.keyword.Keyword.{Keyword}
 use Rattle.flow_grammar.specs.declared.keyword.Verb.{Verb}
 use Rattle.flow_grammar.specs.Keywords.{keyword_word, keywords, keyword_of, verb_word, verbs, verb_of}
-use Rattle.flow_grammar.specs.Operators.{operator_word, operators, operator_of}
-use Rattle.flow_grammar.specs.Parts.{Part, expr_parts, layer_parts}
-use Rattle.flow_grammar.specs.Spelling.{Spelled}
+use Rattle.flow_grammar.specs.Operators.{operator_word, operators, operator_of, binary_word}
+use Rattle.flow_grammar.specs.Spelling.{Spelled, Spells, Writes}
 use Rattle.flow_grammar.specs.Trees.{Trees, trees_of, with_token, extended, applied_if}
 use Rattle.flow_grammar.proofs.Trees.{folded-Number, folded-Var, folded-Unary, folded-Binary, folded-Sext, folded-Pick}
+use Rattle.std.specs.Char.{is_ascii_digit, is_ascii_alphabetic}
+use Rattle.std.proofs.lemmas.Bool.Decides.{nat_tests}
+use Rattle.std.proofs.lemmas.List.{append-nil}
+use Rattle.flow_design.specs.declared.expr.BinOp.TheVariants.{Add}
+use Rattle.flow_design.specs.declared.expr.Op.{Op}
+use Rattle.flow_design.specs.declared.session.Statement.{Statement}
+use Rattle.flow_design.specs.declared.session.Statement.TheVariants.{Flow, Source, Sink, Fifo, Module, Reg, Mem, Block, Loop, Temp, At}
+use Rattle.flow_design.specs.declared.session.Statement.TheVariants.{Goto, Branch, Stop, Input, Limits, Depth, End}
+use Rattle.flow_grammar.specs.Forms.{statement_of, flow_of, fifo_of, mem_of, loop_of, at_of, branch_of, input_of, limits_of, op_of}
+use Rattle.flow_grammar.specs.Forms.{guarded_of, only_if, if_then, one_tree, two_trees, name_width, one_name, bare, form_of, form_if}
+use Rattle.flow_grammar.specs.Forms.{op_form_of, op_form_if, set_of, load_of, store_of, two_names, write_of, try_read_of, try_write_of}
+use Rattle.flow_grammar.specs.Before.{has_delays}
+use Rattle.flow_design.specs.declared.expr.Op.TheVariants as op
+use Rattle.flow_grammar.specs.declared.keyword.Keyword.TheVariants as keyword
+use Rattle.flow_grammar.specs.declared.keyword.Verb.TheVariants as verb
 
 pub parts_Unary : (o : UnOp) (a : Expr (List ℕ)) → expr_parts (Unary o a) ≡ layer_parts (Expr-F.Unary o (expr_parts a))
 unfolding expr_parts
 parts_Unary o a = folded-Unary (List ℕ) (List Part) layer_parts o a
-
-Token : Type 0
-Token = List ℕ
 
 -- what trees_of gives is spelled by the tokens
 abbrev all_parts : Trees → List Part
@@ -209,3 +221,529 @@ module _ (p q : Part → Bool) (words : (w : List ℕ) → p (Word w) ≡ q (Wor
     where
       of_unary : (o : UnOp) (ps : List Part) → Same ps → Same (layer_parts (Expr-F.Unary o ps))
       of_unary Not ps h = λ i. words (operator_word (One Not)) i && h i
+
+-- ---- tokens that spell an expression are read as that expression
+
+first_true : (a b : Bool) → a && b ≡ true → a ≡ true
+first_true true b h = refl
+first_true false b h = absurd cc
+
+-- the expression is read from the front of the tokens, and these are behind it
+pub record Reads (e : Expr (List ℕ)) (ts : List (List ℕ)) (ps : List Part) : Type 0 where
+  pub rest : List (List ℕ)
+  pub spelled : Spelled rest ps
+  pub reads : (es : Trees) → trees_of rest ≡ Some es → trees_of ts ≡ Some (e ∷ es)
+
+abbrev Again : Expr (List ℕ) → Type 0
+Again e = (ts : List (List ℕ)) (ps : List Part) → Spelled ts (expr_parts e ++ ps) → Reads e ts ps
+
+abbrev operator_token : Operator → List ℕ → Type 0
+operator_token o t = (operator_of t ≡ Some o) × (is_number t ≡ false) × (is_name t ≡ false)
+
+two_token : (o : BinOp) → operator_token (Two o) (binary_word o)
+unfolding operator_of is_number is_name
+two_token Add = (refl, refl, refl)
+two_token o = (refl, refl, refl)
+
+one_token : operator_token (One Not) (codes "~")
+unfolding operator_of is_number is_name
+one_token = (refl, refl, refl)
+
+extend_token : operator_token Extend (codes "sext")
+unfolding operator_of is_number is_name
+extend_token = (refl, refl, refl)
+
+choose_token : operator_token Choose (codes "?:")
+unfolding operator_of is_number is_name
+choose_token = (refl, refl, refl)
+
+-- an operator in front
+applies : (o : Operator) (t : List ℕ) (us : List (List ℕ)) (found : Trees) → operator_token o t → trees_of us ≡ Some found
+    → trees_of (t ∷ us) ≡ applied_if (Some o) us found
+unfolding trees_of with_token
+applies o t us found k e = rw (e, k.1, k.2, k.0) refl
+
+-- a number in front
+numeral : (t : List ℕ) (us : List (List ℕ)) (found : Trees) → is_number t ≡ true → trees_of us ≡ Some found
+    → trees_of (t ∷ us) ≡ Some (Number (number_of t) ∷ found)
+unfolding trees_of with_token
+numeral t us found h e = rw (e, h) refl
+
+letter_is_no_digit : (b : ℕ) → is_ascii_alphabetic b || (b == 95) ≡ true → is_ascii_digit b ≡ false
+letter_is_no_digit b h = grind (arith, nat_tests)
+
+name_is_no_number : (t : List ℕ) → is_name t ≡ true → is_number t ≡ false
+unfolding is_name is_number
+name_is_no_number [] h = refl
+name_is_no_number (b ∷ bs) h = rw (letter_is_no_digit b (first_true (is_ascii_alphabetic b || (b == 95)) _ h)) refl
+
+again_number : (n : ℕ) → Again (Number n)
+unfolding trees_of with_token
+again_number n [] ps s = absurd (let q = rw (parts_Number n) at s in q)
+again_number n (t ∷ us) ps s =
+    let q = rw (parts_Number n) at s in
+    record { rest = us; spelled = q.1; reads = λ es e. rw (e, q.0.0, q.0.1) refl }
+
+again_var : (x : List ℕ) → Again (Var x)
+unfolding trees_of with_token
+again_var x [] ps s = absurd (let q = rw (parts_Var x) at s in q)
+again_var x (t ∷ us) ps s =
+    let q = rw (parts_Var x) at s in
+    record { rest = us; spelled = q.1; reads = λ es e. rw (e, name_is_no_number t q.0.0, q.0.0, q.0.1) refl }
+
+again_unary : (o : UnOp) (a : Expr (List ℕ)) → Again a → Again (Unary o a)
+again_unary Not a ih [] ps s = absurd (let q = rw (parts_Unary Not a) at s in q)
+again_unary Not a ih (t ∷ us) ps s =
+    let q = rw (parts_Unary Not a) at s in
+    let r = ih us ps q.1 in
+    record {
+      rest = r.rest;
+      spelled = r.spelled;
+      reads = λ es e. subst (λ (w : List ℕ). trees_of (w ∷ us) ≡ Some (Unary Not a ∷ es)) (sym q.0)
+          (applies (One Not) (codes "~") us (a ∷ es) one_token (r.reads es e));
+    }
+
+again_binary : (o : BinOp) (a b : Expr (List ℕ)) → Again a → Again b → Again (Binary o a b)
+again_binary o a b ia ib [] ps s = absurd (let q = rw (parts_Binary o a b) at s in q)
+again_binary o a b ia ib (t ∷ us) ps s =
+    let q = rw (parts_Binary o a b, append_assoc (expr_parts a) (expr_parts b) ps) at s in
+    let ra = ia us (expr_parts b ++ ps) q.1 in
+    let rb = ib ra.rest ps ra.spelled in
+    record {
+      rest = rb.rest;
+      spelled = rb.spelled;
+      reads = λ es e. subst (λ (w : List ℕ). trees_of (w ∷ us) ≡ Some (Binary o a b ∷ es)) (sym q.0)
+          (applies (Two o) (binary_word o) us (a ∷ b ∷ es) (two_token o) (ra.reads (b ∷ es) (rb.reads es e)));
+    }
+
+again_pick : (a b c : Expr (List ℕ)) → Again a → Again b → Again c → Again (Pick a b c)
+again_pick a b c ia ib ic [] ps s = absurd (let q = rw (parts_Pick a b c) at s in q)
+again_pick a b c ia ib ic (t ∷ us) ps s =
+    let q =
+    rw (parts_Pick a b c, append_assoc (expr_parts a) (expr_parts b ++ expr_parts c) ps, append_assoc (expr_parts b) (expr_parts c) ps) at s
+    in
+    let ra = ia us (expr_parts b ++ (expr_parts c ++ ps)) q.1 in
+    let rb = ib ra.rest (expr_parts c ++ ps) ra.spelled in
+    let rc = ic rb.rest ps rb.spelled in
+    record {
+      rest = rc.rest;
+      spelled = rc.spelled;
+      reads = λ es e. subst (λ (w : List ℕ). trees_of (w ∷ us) ≡ Some (Pick a b c ∷ es)) (sym q.0)
+          (applies Choose (codes "?:") us (a ∷ b ∷ c ∷ es) choose_token (ra.reads (b ∷ c ∷ es) (rb.reads (c ∷ es) (rc.reads es e))));
+    }
+
+again_sext : (k : ℕ) (a : Expr (List ℕ)) → Again a → Again (Sext k a)
+again_sext k a ih [] ps s = absurd (let q = rw (parts_Sext k a) at s in q)
+again_sext k a ih (t ∷ []) ps s = absurd (let q = rw (parts_Sext k a) at s in q.1)
+again_sext k a ih (t ∷ u ∷ vs) ps s =
+    let q = rw (parts_Sext k a) at s in
+    let r = ih vs ps q.1.1 in
+    record {
+      rest = r.rest;
+      spelled = r.spelled;
+      reads = λ es e.
+          let number = numeral u vs (a ∷ es) q.1.0.0 (r.reads es e) in
+          subst (λ (w : List ℕ). trees_of (w ∷ u ∷ vs) ≡ Some (Sext k a ∷ es)) (sym q.0)
+          (applies Extend (codes "sext") (u ∷ vs) (Number (number_of u) ∷ a ∷ es) extend_token number ∙ rw (q.1.0.0, q.1.0.1) refl);
+    }
+
+pub again : (e : Expr (List ℕ)) → Again e
+again =
+    by_cases (List ℕ) Again
+    (record { number = again_number; var = again_var; unary = again_unary; binary = again_binary; sext = again_sext; pick = again_pick })
+
+none_left : (ts : List (List ℕ)) → Spelled ts [] → ts ≡ []
+none_left [] s = refl
+none_left (t ∷ ts) s = absurd s
+
+trees_of_none : (ts : List (List ℕ)) → Spelled ts [] → trees_of ts ≡ Some []
+unfolding trees_of
+trees_of_none ts s = rw (none_left ts s) refl
+
+pub one_again : (e : Expr (List ℕ)) (ts : List (List ℕ)) → Spelled ts (expr_parts e) → trees_of ts ≡ Some (e ∷ [])
+one_again e ts s =
+    let r = again e ts [] (rw (append-nil (expr_parts e)) s) in
+    r.reads [] (trees_of_none r.rest r.spelled)
+
+pub two_again : (e f : Expr (List ℕ)) (ts : List (List ℕ)) → Spelled ts (expr_parts e ++ expr_parts f) → trees_of ts ≡ Some (e ∷ f ∷ [])
+two_again e f ts s =
+    let r = again e ts (expr_parts f) s in
+    r.reads (f ∷ []) (one_again f r.rest r.spelled)
+
+-- ---- tokens that write a statement are read as that statement
+
+-- ---- tokens that spell some parts, one after the other
+
+abbrev Each : List Part → (List Token → Type 0) → Type 0
+Each [] P = P []
+Each (p ∷ ps) P = (t : Token) → Spells t p → Each ps (λ ts. P (t ∷ ts))
+
+each : (ps : List Part) (P : List Token → Type 0) → Each ps P → (ts : List Token) → Spelled ts ps → P ts
+each [] P h [] s = h
+each [] P h (t ∷ ts) s = absurd s
+each (p ∷ ps) P h [] s = absurd s
+each (p ∷ ps) P h (t ∷ ts) s = each ps (λ us. P (t ∷ us)) (h t s.0) ts s.1
+
+-- the first of them alone
+abbrev Front : ℕ → List Part → (List Token → Type 0) → Type 0
+Front zero ps P = (ts : List Token) → Spelled ts ps → P ts
+Front (suc n) [] P = ⊥
+Front (suc n) (p ∷ ps) P = (t : Token) → Spells t p → Front n ps (λ ts. P (t ∷ ts))
+
+front : (n : ℕ) (ps : List Part) (P : List Token → Type 0) → Front n ps P → (ts : List Token) → Spelled ts ps → P ts
+front zero ps P h ts s = h ts s
+front (suc n) [] P h ts s = absurd h
+front (suc n) (p ∷ ps) P h [] s = absurd s
+front (suc n) (p ∷ ps) P h (t ∷ ts) s = front n ps (λ us. P (t ∷ us)) (h t s.0) ts s.1
+
+-- ---- operations
+
+abbrev IsOp : Op Name → List Token → Type 0
+IsOp o ts = op_of ts ≡ Some o
+
+op_again : (o : Op Name) (ts : List Token) → Spelled ts (op_parts o) → op_of ts ≡ Some o
+unfolding op_of verb_of
+op_again (op.Set r e) = front 2 (op_parts (op.Set r e)) (IsOp (op.Set r e)) (λ k a t b us s. rw (a, b.0, one_again e us s, b.1) refl)
+op_again (op.Load r m e) = front 3 (op_parts (op.Load r m e)) (IsOp (op.Load r m e))
+    (λ k a t b u c us s. rw (a, b.0, c.0, one_again e us s, b.1, c.1) refl)
+op_again (op.Store m e f) = front 2 (op_parts (op.Store m e f)) (IsOp (op.Store m e f))
+    (λ k a t b us s. rw (a, b.0, two_again e f us s, b.1) refl)
+op_again (op.Read f r) = each (op_parts (op.Read f r)) (IsOp (op.Read f r)) (λ k a t b u c. rw (a, b.0, c.0, b.1, c.1) refl)
+op_again (op.Write f e) = front 2 (op_parts (op.Write f e)) (IsOp (op.Write f e)) (λ k a t b us s. rw (a, b.0, one_again e us s, b.1) refl)
+op_again (op.TryRead f r ok) = each (op_parts (op.TryRead f r ok)) (IsOp (op.TryRead f r ok))
+    (λ k a t b u c v d. rw (a, b.0, c.0, d.0, b.1, c.1, d.1) refl)
+op_again (op.TryWrite f ok e) = front 3 (op_parts (op.TryWrite f ok e)) (IsOp (op.TryWrite f ok e))
+    (λ k a t b u c us s. rw (a, b.0, c.0, one_again e us s, b.1, c.1) refl)
+op_again (op.Empty f r) = each (op_parts (op.Empty f r)) (IsOp (op.Empty f r)) (λ k a t b u c. rw (a, b.0, c.0, b.1, c.1) refl)
+op_again (op.Full f r) = each (op_parts (op.Full f r)) (IsOp (op.Full f r)) (λ k a t b u c. rw (a, b.0, c.0, b.1, c.1) refl)
+
+-- an operation does not begin with `if`
+no_guard : (o : Op Name) (k : Token) (ts : List Token) → Spelled (k ∷ ts) (op_parts o) → is_word k (codes "if") ≡ false
+no_guard (op.Set r e) k ts s = rw s.0 refl
+no_guard o k ts s = rw s.0 refl
+
+guarded_again : (off : ℕ) (guard : Option Name) (o : Op Name) (ts : List Token) → Spelled ts (guard_parts guard ++ op_parts o)
+    → guarded_of off ts ≡ Some (At off guard o)
+guarded_again off None o (k ∷ t ∷ ts) s = rw (no_guard o k (t ∷ ts) s) (ap (option_map (At off None)) (op_again o (k ∷ t ∷ ts) s))
+guarded_again off None o ts s = ap (option_map (At off None)) (op_again o ts s)
+guarded_again off (Some r) o ts s = front 2 (guard_parts (Some r) ++ op_parts o) (λ us. guarded_of off us ≡ Some (At off (Some r) o))
+    (λ i a t b us u. rw (a, b.0, op_again o us u, b.1) refl) ts s
+
+-- ---- statements
+
+values_again : (values : List ℕ) (ts : List Token) → Spelled ts (map plain values)
+    → (list_all is_number ts ≡ true) × (map number_of ts ≡ values)
+values_again [] [] s = (refl, refl)
+values_again [] (t ∷ ts) s = absurd s
+values_again (v ∷ vs) [] s = absurd s
+values_again (v ∷ vs) (t ∷ ts) s =
+    let rest = values_again vs ts s.1 in
+    (rw (s.0.0, rest.0) refl, λ i. s.0.1 i ∷ rest.1 i)
+
+module _ (version : ℕ) where
+  abbrev IsRead : Statement → List Token → Type 0
+  IsRead s ts = statement_of version ts ≡ Some s
+
+  flat : (s : Statement) (ts : List Token) → Spelled ts (parts s) → Each (parts s) (IsRead s) → statement_of version ts ≡ Some s
+  flat s ts h read = each (parts s) (IsRead s) read ts h
+
+  -- tokens that write a statement are read as it
+  pub written_is_read : (ts : List Token) (s : Statement) → Writes version ts s → statement_of version ts ≡ Some s
+  unfolding statement_of keyword_of flow_of fifo_of mem_of loop_of at_of branch_of input_of limits_of
+  written_is_read ts (Flow n) h = flat (Flow n) ts h (λ k a t b. rw (a, b.0, b.1) refl)
+  written_is_read ts (Source n w) h = flat (Source n w) ts h (λ k a t b u c. rw (a, b.0, c.0, b.1, c.1) refl)
+  written_is_read ts (Sink n w) h = flat (Sink n w) ts h (λ k a t b u c. rw (a, b.0, c.0, b.1, c.1) refl)
+  written_is_read ts (Fifo n w depth delay) (inl h) = each (fifo_parts n w depth delay) (IsRead (Fifo n w depth delay))
+      (λ k a t b u c v d x e. rw (a, h.0, b.0, c.0, d.0, e.0, b.1, c.1, d.1, e.1) refl) ts h.1
+  written_is_read ts (Fifo n w depth delay) (inr (inl h)) = each (depth_parts n w depth) (IsRead (Fifo n w depth delay))
+      (λ k a t b u c v d. rw (a, b.0, c.0, d.0, h.0, b.1, c.1, d.1) refl) ts h.1
+  written_is_read ts (Fifo n w depth delay) (inr (inr h)) = each (bare_parts n w) (IsRead (Fifo n w depth delay))
+      (λ k a t b u c. rw (a, b.0, c.0, h.0, h.1, b.1, c.1) refl) ts h.2
+  written_is_read ts (Module n) h = flat (Module n) ts h (λ k a t b. rw (a, b.0, b.1) refl)
+  written_is_read ts (Reg n w) h = flat (Reg n w) ts h (λ k a t b u c. rw (a, b.0, c.0, b.1, c.1) refl)
+  written_is_read ts (Mem n w l) h = flat (Mem n w l) ts h (λ k a t b u c v d. rw (a, b.0, c.0, d.0, b.1, c.1, d.1) refl)
+  written_is_read ts (Block n l) h = flat (Block n l) ts h (λ k a t b u c. rw (a, b.0, c.0, b.1, c.1) refl)
+  written_is_read ts (Loop n ii l r) h = flat (Loop n ii l r) ts h
+      (λ k a t b u c v d x e y f. rw (a, b.0, c.0, d.0, e, f.0, b.1, c.1, d.1, f.1) refl)
+  written_is_read ts (Temp n w) h = flat (Temp n w) ts h (λ k a t b u c. rw (a, b.0, c.0, b.1, c.1) refl)
+  written_is_read ts (At off guard o) h = front 2 (parts (At off guard o)) (IsRead (At off guard o))
+      (λ k a t b us s. rw (a, b.0, b.1, guarded_again off guard o us s) refl) ts h
+  written_is_read ts (Goto b) h = flat (Goto b) ts h (λ k a t b. rw (a, b.0, b.1) refl)
+  written_is_read ts (Branch r b c) h = flat (Branch r b c) ts h (λ k a t b u c v d. rw (a, b.0, c.0, d.0, b.1, c.1, d.1) refl)
+  written_is_read ts Stop h = flat Stop ts h (λ k a. rw a refl)
+  written_is_read ts (Input n values) h = front 2 (parts (Input n values)) (IsRead (Input n values))
+      (λ k a t b us s. let rest = values_again values us s in rw (a, b.0, rest.0, b.1, rest.1) refl) ts h
+  written_is_read ts (Limits c o) h = flat (Limits c o) ts h (λ k a t b u d. rw (a, b.0, d.0, b.1, d.1) refl)
+  written_is_read ts (Depth n w) h = flat (Depth n w) ts h (λ k a t b u c. rw (a, b.0, c.0, b.1, c.1) refl)
+  written_is_read ts End h = flat End ts h (λ k a. rw a refl)
+
+-- ---- the statement that is worked out from tokens is one that they write
+
+-- ---- operations
+
+-- what is worked out is spelled, where it is anything
+abbrev OpSpelled : List Token → Option (Op Name) → Type 0
+OpSpelled ts None = Unit {0}
+OpSpelled ts (Some o) = Spelled ts (op_parts o)
+
+op_only : (test : Bool) (ts : List Token) (o : Op Name) → (test ≡ true → Spelled ts (op_parts o)) → OpSpelled ts (only_if test o)
+op_only true ts o h = h refl
+op_only false ts o h = tt
+
+op_one : (test : Bool) (make : Expr Name → Op Name) (us ts : List Token)
+    → (test ≡ true → (e : Expr Name) → Spelled us (expr_parts e) → Spelled ts (op_parts (make e)))
+    → OpSpelled ts (if_then test (option_map make (one_tree (trees_of us))))
+op_one false make us ts h = tt
+op_one true make us ts h = go (trees_of us) refl
+  where
+    go : (found : Option Trees) → trees_of us ≡ found → OpSpelled ts (option_map make (one_tree found))
+    go (Some (x ∷ [])) e = h refl x (let s = trees_spelled us (x ∷ []) e in rw (← append-nil (expr_parts x)) s)
+    go found e = tt
+
+op_two : (test : Bool) (make : Expr Name → Expr Name → Op Name) (us ts : List Token)
+    → (test ≡ true → (e f : Expr Name) → Spelled us (expr_parts e ++ expr_parts f) → Spelled ts (op_parts (make e f)))
+    → OpSpelled ts (if_then test (two_trees make (trees_of us)))
+op_two false make us ts h = tt
+op_two true make us ts h = go (trees_of us) refl
+  where
+    go : (found : Option Trees) → trees_of us ≡ found → OpSpelled ts (two_trees make found)
+    go (Some (x ∷ y ∷ [])) e =
+        h refl x y
+        (subst (λ (ps : List Part). Spelled us (expr_parts x ++ ps)) (append-nil (expr_parts y)) (trees_spelled us (x ∷ y ∷ []) e))
+    go found e = tt
+
+set_written : (k : Token) (ts : List Token) → k ≡ codes "set" → OpSpelled (k ∷ ts) (set_of ts)
+set_written k (r ∷ us) w = op_one (is_name r) (op.Set r) us (k ∷ r ∷ us) (λ n e s. (w, ((n, refl), s)))
+set_written k ts w = tt
+
+load_written : (k : Token) (ts : List Token) → k ≡ codes "load" → OpSpelled (k ∷ ts) (load_of ts)
+load_written k (r ∷ m ∷ us) w = op_one (is_name r && is_name m) (op.Load r m) us (k ∷ r ∷ m ∷ us)
+    (λ n e s. let p = and_parts (is_name r) (is_name m) n in (w, ((p.0, refl), ((p.1, refl), s))))
+load_written k ts w = tt
+
+store_written : (k : Token) (ts : List Token) → k ≡ codes "store" → OpSpelled (k ∷ ts) (store_of ts)
+store_written k (m ∷ us) w = op_two (is_name m) (op.Store m) us (k ∷ m ∷ us) (λ n e f s. (w, ((n, refl), s)))
+store_written k ts w = tt
+
+names_written : (make : Token → Token → Op Name) (k : Token) (ts : List Token)
+    → ((f r : Token) → is_name f ≡ true → is_name r ≡ true → Spelled (k ∷ f ∷ r ∷ []) (op_parts (make f r)))
+    → OpSpelled (k ∷ ts) (two_names make ts)
+names_written make k (f ∷ r ∷ []) h =
+    op_only (is_name f && is_name r) (k ∷ f ∷ r ∷ []) (make f r) (λ n. let p = and_parts (is_name f) (is_name r) n in h f r p.0 p.1)
+names_written make k ts h = tt
+
+write_written : (k : Token) (ts : List Token) → k ≡ codes "write" → OpSpelled (k ∷ ts) (write_of ts)
+write_written k (f ∷ us) w = op_one (is_name f) (op.Write f) us (k ∷ f ∷ us) (λ n e s. (w, ((n, refl), s)))
+write_written k ts w = tt
+
+try_read_written : (k : Token) (ts : List Token) → k ≡ codes "tryread" → OpSpelled (k ∷ ts) (try_read_of ts)
+try_read_written k (f ∷ r ∷ ok ∷ []) w = op_only (is_name f && (is_name r && is_name ok)) (k ∷ f ∷ r ∷ ok ∷ []) (op.TryRead f r ok)
+    (λ n. let p = and_parts (is_name f) (is_name r && is_name ok) n in
+    let q = and_parts (is_name r) (is_name ok) p.1 in (w, ((p.0, refl), ((q.0, refl), ((q.1, refl), tt)))))
+try_read_written k ts w = tt
+
+try_write_written : (k : Token) (ts : List Token) → k ≡ codes "trywrite" → OpSpelled (k ∷ ts) (try_write_of ts)
+try_write_written k (f ∷ ok ∷ us) w = op_one (is_name f && is_name ok) (op.TryWrite f ok) us (k ∷ f ∷ ok ∷ us)
+    (λ n e s. let p = and_parts (is_name f) (is_name ok) n in (w, ((p.0, refl), ((p.1, refl), s))))
+try_write_written k ts w = tt
+
+form_written : (v : Verb) (k : Token) (ts : List Token) → k ≡ verb_word v → OpSpelled (k ∷ ts) (op_form_of v ts)
+form_written verb.Set k ts w = set_written k ts w
+form_written verb.Load k ts w = load_written k ts w
+form_written verb.Store k ts w = store_written k ts w
+form_written verb.Read k ts w = names_written op.Read k ts (λ f r p q. (w, ((p, refl), ((q, refl), tt))))
+form_written verb.Write k ts w = write_written k ts w
+form_written verb.TryRead k ts w = try_read_written k ts w
+form_written verb.TryWrite k ts w = try_write_written k ts w
+form_written verb.Empty k ts w = names_written op.Empty k ts (λ f r p q. (w, ((p, refl), ((q, refl), tt))))
+form_written verb.Full k ts w = names_written op.Full k ts (λ f r p q. (w, ((p, refl), ((q, refl), tt))))
+
+op_written : (ts : List Token) → OpSpelled ts (op_of ts)
+unfolding op_of
+op_written [] = tt
+op_written (k ∷ ts) = go (verb_of k) refl
+  where
+    go : (found : Option Verb) → verb_of k ≡ found → OpSpelled (k ∷ ts) (op_form_if found ts)
+    go None e = tt
+    go (Some v) e = form_written v k ts (verb_is k v e)
+
+-- ---- statements
+
+module _ (version : ℕ) where
+  abbrev IsWritten : List Token → Option Statement → Type 0
+  IsWritten ts None = Unit {0}
+  IsWritten ts (Some s) = Writes version ts s
+
+  branch : (k w : Token) (ts : List Token) (here rest : Option Statement) → (k ≡ w → IsWritten ts here) → IsWritten ts rest
+      → IsWritten ts (if is_word k w then here else rest)
+  branch k w ts here rest h r = go (is_word k w) refl
+    where
+      go : (b : Bool) → is_word k w ≡ b → IsWritten ts (cond b here rest)
+      go true e = h (word_is k w e)
+      go false e = r
+
+  only : (test : Bool) (ts : List Token) (s : Statement) → (test ≡ true → Writes version ts s) → IsWritten ts (only_if test s)
+  only true ts s h = h refl
+  only false ts s h = tt
+
+  flow_written : (k : Token) (ts : List Token) → k ≡ codes "flow" → IsWritten (k ∷ ts) (flow_of ts)
+  unfolding flow_of
+  flow_written k (n ∷ []) w = only (is_number n) (k ∷ n ∷ []) (Flow (number_of n)) (λ h. (w, ((h, refl), tt)))
+  flow_written k ts w = tt
+
+  width_written : (make : Token → ℕ → Statement) (k : Token) (ts : List Token)
+      → ((n v : Token) → is_name n ≡ true → is_number v ≡ true → Writes version (k ∷ n ∷ v ∷ []) (make n (number_of v)))
+      → IsWritten (k ∷ ts) (name_width make ts)
+  width_written make k (n ∷ v ∷ []) h =
+      only (is_name n && is_number v) (k ∷ n ∷ v ∷ []) (make n (number_of v))
+      (λ t. let p = and_parts (is_name n) (is_number v) t in h n v p.0 p.1)
+  width_written make k ts h = tt
+
+  name_written : (make : Token → Statement) (k : Token) (ts : List Token)
+      → ((n : Token) → is_name n ≡ true → Writes version (k ∷ n ∷ []) (make n)) → IsWritten (k ∷ ts) (one_name make ts)
+  name_written make k (n ∷ []) h = only (is_name n) (k ∷ n ∷ []) (make n) (h n)
+  name_written make k ts h = tt
+
+  fifo_written : (k : Token) (ts : List Token) → k ≡ codes "fifo" → IsWritten (k ∷ ts) (fifo_of version ts)
+  unfolding fifo_of
+  fifo_written k (n ∷ v ∷ []) w = only (is_name n && is_number v) (k ∷ n ∷ v ∷ []) (Fifo n (number_of v) default_depth default_delay)
+      (λ t. let p = and_parts (is_name n) (is_number v) t in inr (inr (refl, refl, (w, ((p.0, refl), ((p.1, refl), tt))))))
+  fifo_written k (n ∷ v ∷ d ∷ []) w =
+      only (is_name n && (is_number v && is_number d)) (k ∷ n ∷ v ∷ d ∷ []) (Fifo n (number_of v) (number_of d) default_delay)
+      (λ t. let p = and_parts (is_name n) (is_number v && is_number d) t in
+      let q = and_parts (is_number v) (is_number d) p.1 in
+      inr (inl (refl, (w, ((p.0, refl), ((q.0, refl), ((q.1, refl), tt)))))))
+  fifo_written k (n ∷ v ∷ d ∷ e ∷ []) w = go (has_delays version) refl
+    where
+      statement : Statement
+      statement = Fifo n (number_of v) (number_of d) (number_of e)
+
+      are_well : Bool
+      are_well = is_name n && (is_number v && (is_number d && is_number e))
+
+      go : (b : Bool) → has_delays version ≡ b → IsWritten (k ∷ n ∷ v ∷ d ∷ e ∷ []) (if_then b (only_if are_well statement))
+      go false h = tt
+      go true h = only are_well (k ∷ n ∷ v ∷ d ∷ e ∷ []) statement
+          (λ t. let p = and_parts (is_name n) (is_number v && (is_number d && is_number e)) t in
+          let q = and_parts (is_number v) (is_number d && is_number e) p.1 in
+          let r = and_parts (is_number d) (is_number e) q.1 in
+          inl (h, (w, ((p.0, refl), ((q.0, refl), ((r.0, refl), ((r.1, refl), tt)))))))
+  fifo_written k ts w = tt
+
+  mem_written : (k : Token) (ts : List Token) → k ≡ codes "mem" → IsWritten (k ∷ ts) (mem_of ts)
+  unfolding mem_of
+  mem_written k (n ∷ v ∷ l ∷ []) w =
+      only (is_name n && (is_number v && is_number l)) (k ∷ n ∷ v ∷ l ∷ []) (Mem n (number_of v) (number_of l))
+      (λ t. let p = and_parts (is_name n) (is_number v && is_number l) t in
+      let q = and_parts (is_number v) (is_number l) p.1 in (w, ((p.0, refl), ((q.0, refl), ((q.1, refl), tt)))))
+  mem_written k ts w = tt
+
+  loop_written : (k : Token) (ts : List Token) → k ≡ codes "loop" → IsWritten (k ∷ ts) (loop_of ts)
+  unfolding loop_of
+  loop_written k (n ∷ i ∷ l ∷ x ∷ r ∷ []) w =
+      only (is_name n && (is_number i && (is_number l && (is_word x (codes "while") && is_name r)))) (k ∷ n ∷ i ∷ l ∷ x ∷ r ∷ [])
+      (Loop n (number_of i) (number_of l) r)
+      (λ t. let p = and_parts (is_name n) (is_number i && (is_number l && (is_word x (codes "while") && is_name r))) t in
+      let q = and_parts (is_number i) (is_number l && (is_word x (codes "while") && is_name r)) p.1 in
+      let o = and_parts (is_number l) (is_word x (codes "while") && is_name r) q.1 in
+      let z = and_parts (is_word x (codes "while")) (is_name r) o.1 in
+      (w, ((p.0, refl), ((q.0, refl), ((o.0, refl), (word_is x (codes "while") z.0, ((z.1, refl), tt)))))))
+  loop_written k ts w = tt
+
+  branch_written : (k : Token) (ts : List Token) → k ≡ codes "branch" → IsWritten (k ∷ ts) (branch_of ts)
+  unfolding branch_of
+  branch_written k (r ∷ b ∷ c ∷ []) w = only (is_name r && (is_name b && is_name c)) (k ∷ r ∷ b ∷ c ∷ []) (Branch r b c)
+      (λ t. let p = and_parts (is_name r) (is_name b && is_name c) t in
+      let q = and_parts (is_name b) (is_name c) p.1 in (w, ((p.0, refl), ((q.0, refl), ((q.1, refl), tt)))))
+  branch_written k ts w = tt
+
+  limits_written : (k : Token) (ts : List Token) → k ≡ codes "limits" → IsWritten (k ∷ ts) (limits_of ts)
+  unfolding limits_of
+  limits_written k (c ∷ o ∷ []) w = only (is_number c && is_number o) (k ∷ c ∷ o ∷ []) (Limits (number_of c) (number_of o))
+      (λ t. let p = and_parts (is_number c) (is_number o) t in (w, ((p.0, refl), ((p.1, refl), tt))))
+  limits_written k ts w = tt
+
+  bare_written : (s : Statement) (k : Token) (ts : List Token) → Writes version (k ∷ []) s → IsWritten (k ∷ ts) (bare s ts)
+  bare_written s k [] h = h
+  bare_written s k (u ∷ us) h = tt
+
+  values_written : (ts : List Token) → list_all is_number ts ≡ true → Spelled ts (map plain (map number_of ts))
+  values_written [] h = tt
+  values_written (t ∷ ts) h = let p = and_parts (is_number t) (list_all is_number ts) h in ((p.0, refl), values_written ts p.1)
+
+  input_written : (k : Token) (ts : List Token) → k ≡ codes "input" → IsWritten (k ∷ ts) (input_of ts)
+  unfolding input_of
+  input_written k [] w = tt
+  input_written k (n ∷ us) w = only (is_name n && list_all is_number us) (k ∷ n ∷ us) (Input n (map number_of us))
+      (λ t. let p = and_parts (is_name n) (list_all is_number us) t in (w, ((p.0, refl), values_written us p.1)))
+
+  plain_written : (k off : Token) (ts : List Token) → k ≡ codes "at" → is_number off ≡ true
+      → IsWritten (k ∷ off ∷ ts) (option_map (At (number_of off) None) (op_of ts))
+  plain_written k off ts w n = go (op_of ts) (op_written ts)
+    where
+      go : (found : Option (Op Name)) → OpSpelled ts found → IsWritten (k ∷ off ∷ ts) (option_map (At (number_of off) None) found)
+      go None s = tt
+      go (Some o) s = (w, ((n, refl), s))
+
+  guard_written : (k off i r : Token) (ts : List Token) → k ≡ codes "at" → is_number off ≡ true → i ≡ codes "if"
+      → IsWritten (k ∷ off ∷ i ∷ r ∷ ts) (if_then (is_name r) (option_map (At (number_of off) (Some r)) (op_of ts)))
+  guard_written k off i r ts w n x = test (is_name r) refl
+    where
+      go : (found : Option (Op Name)) → is_name r ≡ true → OpSpelled ts found
+          → IsWritten (k ∷ off ∷ i ∷ r ∷ ts) (option_map (At (number_of off) (Some r)) found)
+      go None m s = tt
+      go (Some o) m s = (w, ((n, refl), (x, ((m, refl), s))))
+
+      test : (b : Bool) → is_name r ≡ b → IsWritten (k ∷ off ∷ i ∷ r ∷ ts) (if_then b (option_map (At (number_of off) (Some r)) (op_of ts)))
+      test true m = go (op_of ts) m (op_written ts)
+      test false m = tt
+
+  guarded_written : (k off : Token) (ts : List Token) → k ≡ codes "at" → is_number off ≡ true
+      → IsWritten (k ∷ off ∷ ts) (guarded_of (number_of off) ts)
+  guarded_written k off [] w n = plain_written k off [] w n
+  guarded_written k off (i ∷ []) w n = plain_written k off (i ∷ []) w n
+  guarded_written k off (i ∷ r ∷ ts) w n =
+      branch i (codes "if") (k ∷ off ∷ i ∷ r ∷ ts) _ _ (guard_written k off i r ts w n) (plain_written k off (i ∷ r ∷ ts) w n)
+
+  at_written : (k : Token) (ts : List Token) → k ≡ codes "at" → IsWritten (k ∷ ts) (at_of ts)
+  unfolding at_of
+  at_written k [] w = tt
+  at_written k (off ∷ ts) w = go (is_number off) refl
+    where
+      go : (b : Bool) → is_number off ≡ b → IsWritten (k ∷ off ∷ ts) (if_then b (guarded_of (number_of off) ts))
+      go true n = guarded_written k off ts w n
+      go false n = tt
+
+  statement_written : (keyword : Keyword) (k : Token) (ts : List Token) → k ≡ keyword_word keyword
+      → IsWritten (k ∷ ts) (form_of version keyword ts)
+  statement_written keyword.Flow k ts w = flow_written k ts w
+  statement_written keyword.Source k ts w = width_written Source k ts (λ n v p q. (w, ((p, refl), ((q, refl), tt))))
+  statement_written keyword.Sink k ts w = width_written Sink k ts (λ n v p q. (w, ((p, refl), ((q, refl), tt))))
+  statement_written keyword.Fifo k ts w = fifo_written k ts w
+  statement_written keyword.Module k ts w = name_written Module k ts (λ n p. (w, ((p, refl), tt)))
+  statement_written keyword.Reg k ts w = width_written Reg k ts (λ n v p q. (w, ((p, refl), ((q, refl), tt))))
+  statement_written keyword.Mem k ts w = mem_written k ts w
+  statement_written keyword.Block k ts w = width_written Block k ts (λ n v p q. (w, ((p, refl), ((q, refl), tt))))
+  statement_written keyword.Loop k ts w = loop_written k ts w
+  statement_written keyword.Temp k ts w = width_written Temp k ts (λ n v p q. (w, ((p, refl), ((q, refl), tt))))
+  statement_written keyword.At k ts w = at_written k ts w
+  statement_written keyword.Goto k ts w = name_written Goto k ts (λ n p. (w, ((p, refl), tt)))
+  statement_written keyword.Branch k ts w = branch_written k ts w
+  statement_written keyword.Stop k ts w = bare_written Stop k ts (w, tt)
+  statement_written keyword.Input k ts w = input_written k ts w
+  statement_written keyword.Limits k ts w = limits_written k ts w
+  statement_written keyword.Depth k ts w = width_written Depth k ts (λ n v p q. (w, ((p, refl), ((q, refl), tt))))
+  statement_written keyword.End k ts w = bare_written End k ts (w, tt)
+
+  written : (ts : List Token) → IsWritten ts (statement_of version ts)
+  unfolding statement_of
+  written [] = tt
+  written (k ∷ ts) = go (keyword_of k) refl
+    where
+      go : (found : Option Keyword) → keyword_of k ≡ found → IsWritten (k ∷ ts) (form_if version found ts)
+      go None e = tt
+      go (Some keyword) e = statement_written keyword k ts (keyword_is k keyword e)
+
+  -- the statement that is worked out is written
+  pub read_is_written : (ts : List Token) (s : Statement) → statement_of version ts ≡ Some s → Writes version ts s
+  read_is_written ts s e = subst (IsWritten ts) e (written ts)

@@ -12,9 +12,8 @@ use Rattle.flow_grammar.specs.Spelling.{Spelled, Writes}
 use Rattle.flow_grammar.specs.Gives.{with_statement}
 use Rattle.flow_grammar.specs.Text.{statements_among, numbers_among, IsInOrder, StandsFor}
 use Rattle.flow_grammar.specs.Versions.{DifferInVersion, SameButVersion}
-use Rattle.flow_grammar.proofs.ReadAgain.{written_is_read}
-use Rattle.flow_grammar.proofs.LineLaws.{no_tokens}
-use Rattle.flow_grammar.proofs.TextLaws.{Words, InOrderFrom, ordered}
+use Rattle.flow_grammar.proofs.SpellingLaws.{written_is_read}
+use Rattle.flow_grammar.proofs.TextLaws.{no_tokens, Words, InOrderFrom, ordered}
 
 -- ---- `flow` stands at the start alone
 

@@ -1,5 +1,3 @@
-pub mod FormLemmas
-pub mod InputLaws
+pub mod FormLaws
 pub mod OperationLaws
 pub mod ReadingLaws
-pub mod TimedLaws

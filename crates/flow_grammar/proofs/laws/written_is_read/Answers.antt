@@ -1,4 +1,4 @@
-use Rattle.flow_grammar.proofs.ReadAgain.{written_is_read}
+use Rattle.flow_grammar.proofs.SpellingLaws.{written_is_read}
 use Rattle.flow_grammar.proofs.laws.written_is_read.Goals as goal
 
 pub returns : goal.returns

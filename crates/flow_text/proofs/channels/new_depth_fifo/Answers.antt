@@ -2,7 +2,7 @@ use Rattle.std.proofs.Common.{Option, subst}
 use Rattle.flow_design.specs.declared.session.Statement.{Statement}
 use Rattle.flow_grammar.specs.Gives.{LineGives}
 use Rattle.name_tables.specs.TableTests.{reading_by}
-use Rattle.flow_text.proofs.FormLemmas.{without_delay}
+use Rattle.flow_text.proofs.FormLaws.{without_delay}
 use Rattle.flow_text.proofs.channels.new_depth_fifo.Goals as goal
 
 pub returns-clause-given : goal.returns-clause-given

@@ -1,5 +1,5 @@
 use Rattle.std.proofs.Common.{map, sym, ◌∙◌}
-use Rattle.flow_text.proofs.InputLaws.{input_read}
+use Rattle.flow_text.proofs.FormLaws.{input_read}
 use Rattle.flow_text.proofs.inputs.new_input.Goals as goal
 
 pub returns-clause-given : goal.returns-clause-given

@@ -1,5 +1,5 @@
 use Rattle.std.proofs.Common.{length}
-use Rattle.flow_text.proofs.InputLaws.{Reading}
+use Rattle.flow_text.proofs.FormLaws.{Reading}
 use Rattle.flow_text.proofs.inputs.words_in.Given as goal
 
 abbrev pub invariant-loop-rest : goal.invariant-loop-rest

@@ -1,7 +1,7 @@
 use Rattle.std.proofs.Common.{map}
 use Rattle.flow_grammar.specs.Tokens.{number_of}
 use Rattle.flow_grammar.specs.Forms.{op_of}
-use Rattle.flow_text.proofs.TimedLaws.{unguarded_read}
+use Rattle.flow_text.proofs.OperationLaws.{unguarded_read}
 use Rattle.flow_text.proofs.timed.unguarded.Goals as goal
 
 pub returns-clause-given : goal.returns-clause-given

@@ -2,7 +2,7 @@ use Rattle.std.proofs.Common.{Ok, Err}
 use Rattle.std.specs.Prelude.{nat_lt}
 use Rattle.flow_design.specs.declared.limits.TheConstants.{OPERATIONS}
 use Rattle.flow_grammar.specs.Places.{takes_operations}
-use Rattle.flow_text.proofs.TimedLaws.{whole_read}
+use Rattle.flow_text.proofs.OperationLaws.{whole_read}
 use Rattle.flow_text.proofs.timed.whole.Goals as goal
 
 pub returns-in-Ok-clause-given : goal.returns-in-Ok-clause-given

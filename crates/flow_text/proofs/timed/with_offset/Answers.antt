@@ -3,7 +3,7 @@ use Rattle.flow_design.specs.declared.session.Statement.{Statement}
 use Rattle.flow_grammar.specs.Tokens.{number_of}
 use Rattle.flow_grammar.specs.Gives.{LineGives}
 use Rattle.name_tables.specs.TableTests.{reading_by}
-use Rattle.flow_text.proofs.TimedLaws.{guarded_one}
+use Rattle.flow_text.proofs.OperationLaws.{guarded_one}
 use Rattle.flow_text.proofs.timed.with_offset.Goals as goal
 
 pub returns-in-len1-clause-given : goal.returns-in-len1-clause-given

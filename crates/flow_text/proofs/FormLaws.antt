@@ -1,28 +1,47 @@
--- The values of an input pass the tests of its parts.
-use Rattle.std.proofs.Common.{◌≡◌, ℕ, ◌+◌, ◌-◌, ◌^◌, List, [], ◌∷◌, ◌++◌, map, length, Bool, true}
-use Rattle.std.proofs.Common.{false, Option, None, Some, Result, Ok, Err, refl, sym, ap, subst, ◌∙◌, append_assoc}
-use Rattle.std.specs.Prelude.{◌&&◌, not, if◌then◌else◌, nat_le}
+-- FIFOs without their delay or depth, and the values of an input.
+use Rattle.std.proofs.Common.{◌≡◌, ℕ, List, Bool, true, false, refl, arith, ◌+◌, ◌-◌, ◌^◌, [], ◌∷◌, ◌++◌, map, length, Option, None, Some}
+use Rattle.std.proofs.Common.{Result, Ok, Err, sym, ap, subst, ◌∙◌, append_assoc}
+use Rattle.std.specs.Prelude.{codes, ◌&&◌, not, if◌then◌else◌, nat_le}
+use Rattle.flow_design.specs.declared.session.Statement.{Statement}
+use Rattle.flow_design.specs.declared.session.Statement.TheVariants.{Fifo, Input}
+use Rattle.flow_grammar.specs.Parts.{default_depth, default_delay, Name, plain}
+use Rattle.flow_grammar.specs.Tokens.{is_number, is_name, number_of}
+use Rattle.flow_grammar.specs.Forms.{only_if}
 use Rattle.std.specs.List.{list_all}
 use Rattle.std.proofs.lemmas.List.{append-nil}
 use Rattle.std.proofs.lemmas.Bool.{and_parts}
-use Rattle.std.proofs.Common.{arith}
 use Rattle.flow_design.specs.declared.limits.TheConstants.{INPUT_VALUES}
-use Rattle.flow_design.specs.declared.session.Statement.{Statement}
-use Rattle.flow_design.specs.declared.session.Statement.TheVariants.{Input}
 use Rattle.flow_grammar.specs.declared.fault.Code.{Code}
 use Rattle.flow_grammar.specs.declared.fault.Code.TheVariants.{Syntax, BadNumber, DoubleName, UnknownName, TooMany}
 use Rattle.flow_grammar.specs.declared.fault.LineFail.{LineFail}
-use Rattle.flow_grammar.specs.Tokens.{is_number, is_name, number_of}
-use Rattle.flow_grammar.specs.Parts.{Name, plain}
 use Rattle.flow_grammar.specs.Before.{is_among}
 use Rattle.flow_grammar.specs.Rules.{is_in_range}
-use Rattle.flow_grammar.specs.Forms.{only_if}
 use Rattle.flow_grammar.specs.Gives.{LineGives, judged}
 use Rattle.flow_grammar.specs.Numbers.{number_within}
 use Rattle.name_tables.specs.declared.tables.Tables.{Tables}
 use Rattle.flow_grammar.specs.Places.{takes_inputs}
 use Rattle.name_tables.specs.TableTests.{is_new, is_known, fault_by, reading_by}
 use Rattle.flow_text.specs.Inputs.{is_plain, words_within, input_of_words, input_reading}
+
+module _ (n w : List ℕ) where
+  -- the tests of a FIFO whose depth and delay are these tokens, and the FIFO
+  abbrev tests : List ℕ → List ℕ → Bool
+  tests depth delay = is_name n && (is_number w && (is_number depth && is_number delay))
+
+  abbrev fifo : List ℕ → List ℕ → Statement
+  fifo depth delay = Fifo n (number_of w) (number_of depth) (number_of delay)
+
+  pub without_delay : (depth : List ℕ) → only_if (tests depth (codes "1")) (fifo depth (codes "1"))
+      ≡ only_if (is_name n && (is_number w && is_number depth)) (Fifo n (number_of w) (number_of depth) default_delay)
+  unfolding is_number
+  without_delay depth = grind arith
+
+  pub without_depth : only_if (tests (codes "2") (codes "1")) (fifo (codes "2") (codes "1"))
+      ≡ only_if (is_name n && is_number w) (Fifo n (number_of w) default_depth default_delay)
+  unfolding is_number
+  without_depth = grind arith
+
+-- ---- the values of an input pass the tests of its parts
 
 plain_ranged : (ns : List ℕ) → list_all is_in_range (map plain ns) ≡ list_all is_plain ns
 plain_ranged [] = refl

@@ -1,8 +1,8 @@
 -- Statements that keep the rules of reading, and what these give of bodies.
 use Rattle.std.proofs.Common.{◌≡◌, ℕ, suc, ◌+◌, ◌<◌, ◌≤◌, List, [], ◌∷◌, ◌++◌, length, take, take_while, Option, None, Some, option_map}
 use Rattle.std.proofs.Common.{unwrap_or, is_some, Bool, true, false, not, cond, refl, sym, ap, subst, ◌∙◌, arith, true≢false, append_assoc}
-use Rattle.std.proofs.Common.{slice_get, inl, inr, zero, IfSome, count_by}
-use Rattle.std.specs.Prelude.{◌&&◌, ◌||◌, reverse, ◌⊎◌, nat_le, max, nat_lt}
+use Rattle.std.proofs.Common.{slice_get, inl, inr, IfSome, count_by}
+use Rattle.std.specs.Prelude.{◌&&◌, ◌||◌, reverse, nat_le, max, nat_lt}
 use Rattle.std.specs.List.{list_all, filter_map, cons_option, All}
 use Rattle.std.proofs.lemmas.Bool.{and_parts, or_cases, or_left, or_right, leb-true, ltb-true}
 use Rattle.std.proofs.lemmas.List.{reverse-append}
@@ -19,7 +19,7 @@ use Rattle.flow_grammar.specs.Places.{may_follow}
 use Rattle.flow_grammar.specs.Rules.{is_well_named, is_in_range, is_new, is_first_input, is_known, has_room, statement_fault, KeepsRules}
 use Rattle.flow_grammar.specs.Rules.{KeepsReadingRules, is_small, has_small_trees}
 use Rattle.session_plan.specs.Names.{Name, place_of, number_of, Scope}
-use Rattle.session_plan.specs.Sections.{begins, body_of, declared, declared_width}
+use Rattle.session_plan.specs.Sections.{begins, body_of, declared}
 use Rattle.session_plan.specs.declared.section.Level.{Level}
 use Rattle.session_plan.proofs.NameLemmas.{place_below}
 use Rattle.std.proofs.lemmas.List.Elements.{All-nil, All-cons}

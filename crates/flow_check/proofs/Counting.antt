@@ -1,10 +1,9 @@
 -- What stands before a statement, counted statement by statement.
 use Rattle.std.proofs.Common.{◌≡◌, ℕ, suc, ◌+◌, ◌<◌, ◌≤◌, List, [], ◌∷◌, length, take, drop, get_or, count_by, Option, None, Some}
-use Rattle.std.proofs.Common.{option_map, unwrap_or, Bool, true, false, cond, refl, sym, ap, subst, ◌∙◌, arith, add-one}
+use Rattle.std.proofs.Common.{option_map, Bool, true, false, cond, refl, sym, ap, subst, ◌∙◌, arith, add-one}
 use Rattle.std.specs.Prelude.{reverse}
 use Rattle.std.specs.List.{filter_map, cons_option}
 use Rattle.std.proofs.Math.Seq.{take-suc, drop-cons}
-use Rattle.std.proofs.Math.ListN.{drop_of_length-le}
 use Rattle.std.proofs.lemmas.List.{reverse-append, length-reverse, length-take}
 use Rattle.std.proofs.lemmas.List.Sums.{take_while-cons, sum_by-cons}
 use Rattle.flow_design.specs.declared.session.Statement.{Statement}
@@ -13,7 +12,7 @@ use Rattle.flow_grammar.specs.Before.{is_no_module, is_no_block, is_operation, b
 use Rattle.flow_check.specs.declared.item.Item.{Item}
 use Rattle.flow_check.specs.declared.place.Counts.{Counts}
 use Rattle.flow_check.specs.First.{place_where}
-use Rattle.flow_check.specs.Places.{counts, counts_more, item_behind, items_behind, items_of, is_item, place_of}
+use Rattle.flow_check.specs.Places.{counts, counts_more, item_behind, items_behind, items_of, is_item}
 
 -- ---- one statement more
 

@@ -1,27 +1,24 @@
 -- The ports that modules use, and the slots that operations have taken.
 use Rattle.std.proofs.Common.{◌≡◌, ℕ, ◌+◌, ◌<◌, List, [], ◌∷◌, length, map, get_or, count_by, sum_by, Bool, false, cond, refl, sym, ap, ◌∙◌}
-use Rattle.std.proofs.Common.{arith, suc, ◌≤◌, ◌++◌, take, drop, Option, None, Some, option_map, true, add-one}
+use Rattle.std.proofs.Common.{arith, take, drop, Option, Some, option_map, true}
 use Rattle.std.proofs.lemmas.List.{get_or-map, length-map}
 use Rattle.std.proofs.lemmas.List.Sums.{sum_by-append}
-use Rattle.indexmap.specs.IndexSet.{IndexSet, keys}
+use Rattle.indexmap.specs.IndexSet.{IndexSet}
 use Rattle.flow_design.specs.declared.design.Module.{Module}
 use Rattle.flow_word.specs.declared.access.Side.TheVariants.{Pop, Push}
 use Rattle.flow_word.specs.declared.access.Port.{Port}
 use Rattle.flow_design.specs.StaticRules.{uses, same_port}
-use Rattle.flow_check.specs.Ports.{has, HasPorts, HavePorts, has_slot, has_this}
+use Rattle.flow_check.specs.Ports.{has, HasPorts, HavePorts, has_slot}
 use Rattle.std.specs.Prelude.{◌||◌, ◌&&◌, ◌==◌}
 use Rattle.std.specs.List.{list_any}
-use Rattle.std.proofs.Math.Seq.{take-suc, drop-cons}
-use Rattle.std.proofs.Math.ListN.{drop_of_length-le}
 use Rattle.std.proofs.lemmas.Bool.Decides.{nat_tests}
-use Rattle.std.proofs.lemmas.List.Folds.{list_any_more}
 use Rattle.flow_design.specs.declared.design.BlockKind.{BlockKind}
 use Rattle.flow_design.specs.declared.design.Timed.{Timed}
 use Rattle.flow_word.specs.declared.access.Side.{Side}
 use Rattle.flow_word.specs.Kinds.{same_side}
 use Rattle.flow_word.specs.contracts.access.PortPartialEq.TheImpl.{ghosts}
 use Rattle.flow_check.specs.First.{first_behind}
-use Rattle.flow_check.specs.Rules.{Slot, slot, is_slot, same_slot, clashes, takes_again}
+use Rattle.flow_check.specs.Rules.{Slot, slot, is_slot, same_slot, clashes}
 
 module _ {S : Type 0} (all : List (IndexSet Port S)) (modules : List Module) (have : HavePorts all modules) where
   pub long : length all ≡ length modules

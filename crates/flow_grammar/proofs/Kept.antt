@@ -1,6 +1,6 @@
 -- What is kept of an expression is the first test that it fails, or the expression with its size.
-use Rattle.std.proofs.Common.{◌≡◌, ℕ, ◌+◌, ◌^◌, ◌-◌, List, [], ◌∷◌, ◌++◌, Bool, true, false, cond, refl, sym, ap, ◌∙◌, arith}
-use Rattle.std.specs.Prelude.{◌&&◌, nat_le, nat_lt, max, not}
+use Rattle.std.proofs.Common.{◌≡◌, ℕ, ◌^◌, ◌-◌, List, ◌++◌, Bool, true, refl, sym, ap, ◌∙◌, arith}
+use Rattle.std.specs.Prelude.{◌&&◌, nat_le, nat_lt}
 use Rattle.std.specs.List.{list_all}
 use Rattle.std.proofs.lemmas.Bool.Decides.{nat_tests}
 use Rattle.std.proofs.lemmas.List.Folds.{list_all-append}
@@ -9,11 +9,9 @@ use Rattle.flow_design.specs.declared.expr.Expr.TheVariants.{Number, Var, Unary,
 use Rattle.flow_design.specs.declared.expr.UnOp.{UnOp}
 use Rattle.flow_design.specs.declared.expr.UnOp.TheVariants.{Not}
 use Rattle.flow_design.specs.declared.expr.BinOp.{BinOp}
-use Rattle.flow_grammar.specs.declared.fault.Code.TheVariants.{BadNumber, UnknownName, TooMany}
-use Rattle.flow_grammar.specs.declared.operand.Operand.TheVariants.{Whole, Faulty}
-use Rattle.flow_grammar.specs.Parts.{Part, expr_parts}
+use Rattle.flow_grammar.specs.Parts.{expr_parts}
 use Rattle.flow_design.specs.Words.{nodes, depth, layer_nodes, layer_depth}
-use Rattle.flow_grammar.specs.Rules.{is_in_range, is_small}
+use Rattle.flow_grammar.specs.Rules.{is_in_range}
 use Rattle.flow_grammar.specs.Operands.{seen, one, two, extend, choose, kept, is_known_by}
 use Rattle.flow_grammar.proofs.Induction.{by_cases}
 use Rattle.flow_grammar.proofs.Trees.{folded-Number, folded-Var, folded-Unary, folded-Binary, folded-Sext, folded-Pick, seen_Number}

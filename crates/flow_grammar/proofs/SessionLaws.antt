@@ -5,6 +5,7 @@ use Rattle.std.specs.Prelude.{slice_get, reverse, ◌||◌, ◌==◌}
 use Rattle.std.specs.List.{list_all, All, AllPairs}
 use Rattle.std.proofs.lemmas.List.{append-nil}
 use Rattle.std.proofs.lemmas.List.Kept.{AllPairs-cons}
+use Rattle.std.proofs.lemmas.List.Elements.{All-nil, All-cons}
 use Rattle.flow_design.specs.declared.session.Statement.{Statement}
 use Rattle.flow_design.specs.declared.session.Statement.TheVariants.{Fifo}
 use Rattle.flow_grammar.specs.Tokens.{Line, Token, is_name, lines_of, tokens_of}
@@ -25,9 +26,8 @@ spelled_named t name s = subst (λ (x : Token). is_name x ≡ true) s.1 s.0
 
 all_named : (ts : List Token) (ps : List Part) → Spelled ts ps → list_all is_well_named ps ≡ true
 all_named [] [] s = refl
-all_named [] (p ∷ ps) s = absurd s
-all_named (t ∷ ts) [] s = absurd s
 all_named (t ∷ ts) (p ∷ ps) s = and_from (is_well_named p) (list_all is_well_named ps) (spelled_named t p s.0) (all_named ts ps s.1)
+all_named ts ps s = absurd s
 
 -- a written FIFO has names that are names
 fifo_named : (v : ℕ) (ts : List Token) (n : Name) (w depth delay : ℕ) → WritesFifo v ts n w depth delay
@@ -57,8 +57,6 @@ keeps_from : (front : List Statement) (lines : List Line) (said : Words) → InO
     → (i : ℕ) (s : Statement) → slice_get (statements_among said) i ≡ Some s → KeepsRules (front ++ take i (statements_among said)) s
 unfolding InOrderFrom
 keeps_from front [] [] p i s e = absurd cc
-keeps_from front [] (o ∷ said) p i s e = absurd p
-keeps_from front (line ∷ lines) [] p i s e = absurd p
 keeps_from front (line ∷ lines) (None ∷ said) p i s e = keeps_from front lines said p.1 i s e
 keeps_from front (line ∷ lines) (Some st ∷ said) p zero s e =
     let same : st ≡ s = (cc) in
@@ -73,6 +71,7 @@ keeps_from front (line ∷ lines) (Some st ∷ said) p zero s e =
 keeps_from front (line ∷ lines) (Some st ∷ said) p (suc i) s e =
     subst (λ (b : List Statement). KeepsRules b s) (append_assoc front (st ∷ []) (take i (statements_among said)))
     (keeps_from (front ++ st ∷ []) lines said p.1 i s e)
+keeps_from front lines said p i s e = absurd p
 
 pub keeps_rules : (text : List ℕ) (s : List Statement) (l : List ℕ) → StandsFor text s l → KeepsReadingRules s
 keeps_rules text s l p =
@@ -89,14 +88,10 @@ as_many n (Some s ∷ said) = ap suc (as_many (n + 1) said)
 pub numbered : (text : List ℕ) (s : List Statement) (l : List ℕ) → StandsFor text s l → length l ≡ length s
 numbered text s l p = ap length p.numbers_are ∙ as_many 1 p.said ∙ sym (ap length p.statements_are)
 
-in_front_of : (n m : ℕ) (xs : List ℕ) → n ≤ m → All (λ x. n ≤ x) xs → All (λ x. n ≤ x) (m ∷ xs)
-in_front_of n m xs h rest zero d l = h
-in_front_of n m xs h rest (suc k) d l = rest k d (omega arith)
-
 at_least : (n m : ℕ) (said : Words) → n ≤ m → All (λ x. n ≤ x) (numbers_among m said)
-at_least n m [] h = λ k d l. absurd (omega arith)
+at_least n m [] h = All-nil (λ x. n ≤ x)
 at_least n m (None ∷ said) h = at_least n (m + 1) said (omega arith)
-at_least n m (Some s ∷ said) h = in_front_of n m (numbers_among (m + 1) said) h (at_least n (m + 1) said (omega arith))
+at_least n m (Some s ∷ said) h = All-cons (λ x. n ≤ x) m (numbers_among (m + 1) said) h (at_least n (m + 1) said (omega arith))
 
 rising_from : (n : ℕ) (said : Words) → AllPairs (λ a b. a < b) (numbers_among n said)
 rising_from n [] = λ i j d l m. absurd (omega arith)

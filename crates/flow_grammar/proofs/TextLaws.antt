@@ -165,9 +165,8 @@ among_more front (Some s) said = append_assoc front (s ∷ []) (statements_among
 same_length : (front : List Statement) (lines : List Line) (said : Words) → InOrderFrom front lines said → length said ≡ length lines
 unfolding InOrderFrom
 same_length front [] [] p = refl
-same_length front [] (o ∷ said) p = absurd p
-same_length front (line ∷ lines) [] p = absurd p
 same_length front (line ∷ lines) (o ∷ said) p = ap suc (same_length (with_statement front o) lines said p.1)
+same_length front lines said p = absurd p
 
 each_of : (front : List Statement) (lines : List Line) (said : Words) → InOrderFrom front lines said
     → (i : ℕ) → i < length lines → IsInOrder (front ++ statements_among (take i said)) (get_or lines i []) (get_or said i None)
@@ -184,14 +183,13 @@ order_from : (front : List Statement) (lines : List Line) (said : Words) → len
     → InOrderFrom front lines said
 unfolding InOrderFrom
 order_from front [] [] e each = tt
-order_from front [] (o ∷ said) e each = absurd (omega arith)
-order_from front (line ∷ lines) [] e each = absurd (omega arith)
 order_from front (line ∷ lines) (o ∷ said) e each = (
   subst (λ (b : List Statement). IsInOrder b line o) (append-nil front) (each 0 (omega arith)),
   order_from (with_statement front o) lines said (omega arith)
       (λ i l. subst (λ (b : List Statement). IsInOrder b (get_or lines i []) (get_or said i None)) (sym (among_more front o (take i said)))
       (each (suc i) (omega arith))),
 )
+order_from front lines said e each = absurd (omega arith)
 
 pub ordered : (lines : List Line) (said : Words) → AreInOrder lines said → InOrderFrom [] lines said
 ordered lines said p = order_from [] lines said p.count p.each
@@ -336,8 +334,6 @@ stands_only : (front : List Statement) (n : ℕ) (lines : List Line) (said : Wor
     → reading front n lines ≡ Ok (statements_among said, numbers_among (n + 1) said)
 unfolding InOrderFrom
 stands_only front n [] [] p over = end_reads front n true over
-stands_only front n [] (o ∷ said) p over = absurd p
-stands_only front n (line ∷ lines) [] p over = absurd p
 stands_only front n (line ∷ lines) (o ∷ said) p over =
     goes_on front n line lines o p.0
     ∙ ap (λ (read : Result Read TextFault). read >>= λ r. Ok (in_front (n + 1) o r))
@@ -349,6 +345,7 @@ stands_only front n (line ∷ lines) (o ∷ said) p over =
         ≡ good (statements_among (x ∷ said), numbers_among (n + 1) (x ∷ said))
     put None = refl
     put (Some s) = refl
+stands_only front n lines said p over = absurd p
 
 same_fault : (a b : TextFault) → a.line ≡ b.line → a.code ≡ b.code → a ≡ b
 same_fault a b l c = λ i. record { line = l i; code = c i }
@@ -382,12 +379,11 @@ cut_only : (front : List Statement) (n : ℕ) (lines : List Line) (fault : TextF
     → fault.code ≡ Truncated → fault.line ≡ n + length lines → reading front n lines ≡ Err fault
 unfolding InOrderFrom
 cut_only front n [] fault [] p over c e = end_reads front n false over ∙ err_is fault n Truncated (omega arith) c
-cut_only front n [] fault (o ∷ said) p over c e = absurd p
-cut_only front n (line ∷ lines) fault [] p over c e = absurd p
 cut_only front n (line ∷ lines) fault (o ∷ said) p over c e =
     goes_on front n line lines o p.0
     ∙ ap (λ (read : Result Read TextFault). read >>= λ r. Ok (in_front (n + 1) o r))
     (cut_only (with_statement front o) (n + 1) lines fault said p.1 (ap is_over (among_more front o said) ∙ over) c (omega arith))
+cut_only front n lines fault said p over c e = absurd p
 
 -- ---- texts
 

@@ -1,16 +1,15 @@
 -- What the reader keeps of an expression is the first test that it fails, or the expression.
-use Rattle.std.proofs.Common.{◌≡◌, ℕ, ◌+◌, List, Bool, true, false, cond, refl, ap, ◌∙◌, arith, Some, None}
+use Rattle.std.proofs.Common.{◌≡◌, ℕ, ◌+◌, List, Bool, cond, ap, ◌∙◌, arith}
 use Rattle.std.specs.Prelude.{◌&&◌, nat_le, max}
 use Rattle.std.proofs.lemmas.Bool.Decides.{nat_tests}
 use Rattle.flow_design.specs.declared.expr.Expr.{Expr}
 use Rattle.flow_design.specs.declared.expr.Expr.TheVariants.{Unary, Binary, Sext, Pick}
 use Rattle.flow_design.specs.declared.expr.UnOp.{UnOp}
 use Rattle.flow_design.specs.declared.expr.BinOp.{BinOp}
-use Rattle.flow_grammar.specs.declared.fault.Code.{Code}
 use Rattle.flow_grammar.specs.declared.fault.Code.TheVariants.{BadNumber, UnknownName, TooMany}
 use Rattle.flow_grammar.specs.declared.operand.Operand.{Operand}
 use Rattle.flow_grammar.specs.declared.operand.Operand.TheVariants.{Whole, Faulty}
-use Rattle.flow_grammar.specs.Operands.{one, two, sized, earlier, earlier_of, extend, widened, widened_by, choose}
+use Rattle.flow_grammar.specs.Operands.{one, two, sized, earlier, earlier_of, extend, choose}
 
 -- by three tests
 abbrev pub verdict : Bool → Bool → Expr (List ℕ) → ℕ → ℕ → Operand

@@ -6,29 +6,19 @@ use Rattle.std.specs.List.{list_any}
 use Rattle.std.specs.Cmp.Lexicographic.{pointwise}
 use Rattle.flow_grammar.specs.Before.{is_among}
 use Rattle.std.proofs.lemmas.Bool.{or_parts}
-
-or_assoc : (a b c : Bool) → (a || b) || c ≡ a || (b || c)
-or_assoc true b c = refl
-or_assoc false b c = refl
+use Rattle.std.proofs.lemmas.List.Folds.{list_any-append}
+use Rattle.std.proofs.Common.{arith}
 
 pub among_append : (xs ys : List (List ℕ)) (n : List ℕ) → is_among (xs ++ ys) n ≡ is_among xs n || is_among ys n
-among_append [] ys n = refl
-among_append (x ∷ xs) ys n =
-    ap (λ (b : Bool). pointwise nat_eq n x || b) (among_append xs ys n)
-    ∙ sym (or_assoc (pointwise nat_eq n x) (is_among xs n) (is_among ys n))
-
-or_swap : (a b : Bool) → a || (b || false) ≡ b || a
-or_swap true true = refl
-or_swap true false = refl
-or_swap false true = refl
-or_swap false false = refl
+among_append xs ys n = list_any-append (pointwise nat_eq n) xs ys
 
 -- the order of names does not matter
 pub among_reverse : (xs : List (List ℕ)) (n : List ℕ) → is_among (reverse xs) n ≡ is_among xs n
 among_reverse [] n = refl
 among_reverse (x ∷ xs) n =
-    ap (λ (ys : List (List ℕ)). is_among ys n) (reverse-append (x ∷ []) xs) ∙ among_append (reverse xs) (x ∷ []) n
-    ∙ or_swap (is_among (reverse xs) n) (pointwise nat_eq n x) ∙ ap (λ (b : Bool). pointwise nat_eq n x || b) (among_reverse xs n)
+    let later = among_reverse xs n in
+    let both = among_append (reverse xs) (x ∷ []) n in
+    ap (λ (ys : List (List ℕ)). is_among ys n) (reverse-append (x ∷ []) xs) ∙ grind arith
 
 -- a name in neither of two tables
 pub absent_append : (xs ys : List (List ℕ)) (n : List ℕ) → is_among (xs ++ ys) n ≡ false → (is_among xs n ≡ false) × (is_among ys n ≡ false)

@@ -64,16 +64,10 @@ form_fault_same (Some s) earlier = λ i. if place_same s earlier i then fault_sa
 
 -- counts of one statement more
 not_counted : (p : Statement → Bool) (s : Statement) (xs : List Statement) → p s ≡ false → count_by p xs ≡ count_by p (s ∷ xs)
-not_counted p s xs h =
-    let e : count_by p (s ∷ xs) ≡ 0 + count_by p xs = sum_by-cons (λ x. cond (p x) 1 0) s xs
-    ∙ ap (λ (b : Bool). cond b 1 0 + count_by p xs) h in
-    omega arith
+not_counted p s xs h = let e = sum_by-cons (λ x. cond (p x) 1 0) s xs in grind arith
 
 counted : (p : Statement → Bool) (s : Statement) (xs : List Statement) → p s ≡ true → count_by p xs + 1 ≡ count_by p (s ∷ xs)
-counted p s xs h =
-    let e : count_by p (s ∷ xs) ≡ 1 + count_by p xs = sum_by-cons (λ x. cond (p x) 1 0) s xs
-    ∙ ap (λ (b : Bool). cond b 1 0 + count_by p xs) h in
-    omega arith
+counted p s xs h = let e = sum_by-cons (λ x. cond (p x) 1 0) s xs in grind arith
 
 summed : (f : Statement → ℕ) (s : Statement) (xs : List Statement) → sum_by f xs + f s ≡ sum_by f (s ∷ xs)
 summed f s xs = let e : sum_by f (s ∷ xs) ≡ f s + sum_by f xs = sum_by-cons f s xs in omega arith

@@ -1,20 +1,17 @@
 -- The inputs that the statements so far have given.
-use Rattle.std.proofs.Common.{◌≡◌, ◌≢◌, ℕ, ◌<◌, ◌≤◌, ◌==◌, List, [], ◌∷◌, ◌++◌, length, take, drop, map, get_or, set, replicate, Bool, true}
-use Rattle.std.proofs.Common.{false, cond, refl, sym, ap, subst, ◌∙◌, arith, append-nil}
-use Rattle.std.proofs.lemmas.Bool.{eqb-true, eq-eqb}
-use Rattle.std.proofs.lemmas.List.{get_or-set_same, get_or-set_other, map-append, get_or-map, ext_get_or, length-map, length-replicate}
-use Rattle.std.proofs.lemmas.List.{get_or-replicate, take_all, take-append-le, length-set, get_or_default}
+use Rattle.std.proofs.Common.{◌≡◌, ℕ, ◌<◌, List, [], ◌∷◌, ◌++◌, length, map, get_or}
+use Rattle.std.proofs.Common.{refl, sym, ap, ◌∙◌, arith, append-nil}
+use Rattle.std.proofs.lemmas.List.{map-append, get_or-map, ext_get_or, length-map}
 use Rattle.std.proofs.lemmas.List.FromFn.{get_or-enumerate_from, length-enumerate_from}
 use Rattle.std.proofs.lemmas.Grind.{flat_map-append}
 use Rattle.std.specs.List.{flat_map, enumerate_from}
 use Rattle.flow_design.specs.declared.session.Statement.{Statement}
-use Rattle.flow_design.specs.declared.session.Statement.TheVariants.{Input}
 use Rattle.flow_design.specs.declared.design.ChannelKind.{ChannelKind}
 use Rattle.flow_design.specs.declared.design.ChannelKind.TheVariants.{Source, Sink, Fifo}
 use Rattle.flow_design.specs.declared.design.Channel.{Channel}
 use Rattle.flow_design.specs.Plans.{no_channel}
 use Rattle.flow_design.specs.Words.{cut_to}
-use Rattle.session_plan.specs.Names.{Name, number_of}
+use Rattle.session_plan.specs.Names.{Name}
 use Rattle.session_plan.specs.Plans.{values_for, inputs_of, inputs_for}
 
 -- what channel number f takes of values

@@ -4,16 +4,11 @@ use Rattle.std.proofs.Common.{arith, Err, ◌<◌, ◌≤◌, length, ℕ, ◌-�
 use Rattle.std.specs.Prelude.{◌&&◌, not, option_map, if◌then◌else◌, nat_lt, nat_le}
 use Rattle.std.specs.List.{list_all}
 use Rattle.flow_design.specs.declared.expr.Expr.{Expr}
-use Rattle.flow_design.specs.declared.expr.Expr.TheOpen.{Expr-F}
-use Rattle.flow_design.specs.declared.expr.UnOp.{UnOp}
-use Rattle.flow_design.specs.declared.expr.UnOp.TheVariants.{Not}
 use Rattle.flow_design.specs.declared.expr.Op.{Op}
-use Rattle.flow_design.specs.Words.{nodes, depth}
 use Rattle.flow_grammar.specs.declared.fault.Code.{Code}
 use Rattle.flow_grammar.specs.declared.fault.Code.TheVariants.{BadNumber, UnknownName, TooMany, Syntax, DoubleName}
 use Rattle.flow_grammar.specs.declared.operand.Operand.{Operand}
-use Rattle.flow_grammar.specs.declared.operand.Operand.TheVariants.{Whole, Faulty}
-use Rattle.flow_grammar.specs.Parts.{Name, Part, expr_parts, layer_parts, op_parts}
+use Rattle.flow_grammar.specs.Parts.{Name, Part, expr_parts, op_parts}
 use Rattle.flow_grammar.specs.Before.{is_among}
 use Rattle.flow_grammar.specs.Rules.{is_in_range, is_small, has_small_trees}
 use Rattle.flow_grammar.specs.Tokens.{is_name, Token}
@@ -29,7 +24,6 @@ use Rattle.flow_text.specs.declared.operations.TwoNames.{TwoNames}
 use Rattle.flow_text.specs.Operations.{tested, tree_judged, trees_judged, op_judged, tree_reading, trees_reading, op_reading, tree_kept}
 use Rattle.flow_text.specs.Operations.{trees_kept, made, with_tree, store_op, op_of_names, named_op, is_variable, timed_by, timed_reading}
 use Rattle.flow_text.specs.Operations.{guard_known, offset_there}
-use Rattle.std.proofs.lemmas.Bool.{and_from}
 use Rattle.flow_design.specs.declared.limits.TheConstants.{OPERATIONS}
 use Rattle.flow_design.specs.declared.session.Statement.{Statement}
 use Rattle.flow_design.specs.declared.session.Statement.TheVariants.{At}

@@ -642,7 +642,8 @@ next_read own earlier (x ∷ body) follow pm hears =
 pub few_temps : (earlier : List Statement) (x : Statement) → Keeps earlier x → is_some (declared sort.Temps x) ≡ true
     → length (filter_map (declared sort.Temps) (inside level.Blocks earlier)) < TEMPS
 few_temps earlier (s.Temp n w) keeps h =
-    subst (λ (f : Statement → Option Name). length (filter_map f (in_body earlier)) < TEMPS) (λ i x. temp_same x i) (ltb-true _ _ keeps.room)
+    subst (λ (f : Statement → Option Name). length (filter_map f (in_body earlier)) < TEMPS) (λ i x. temp_same x i)
+    (ltb-true _ _ keeps.room)
 few_temps earlier x keeps h = absurd (true≢false (sym h))
 
 pub few_operations : (own : Scope) (earlier : List Statement) (x : Statement) → Keeps earlier x → is_some (timed own x) ≡ true

@@ -40,7 +40,8 @@ use Rattle.flow_grammar.specs.declared.fault.Code.TheVariants as code
 
 -- ---- where nothing is found
 
-pub none_for : {A B : Type 0} (f : A → Option B) (x : A) (xs : List A) → first_for f (x ∷ xs) ≡ None → (f x ≡ None) × (first_for f xs ≡ None)
+pub none_for : {A B : Type 0} (f : A → Option B) (x : A) (xs : List A) → first_for f (x ∷ xs) ≡ None
+    → (f x ≡ None) × (first_for f xs ≡ None)
 none_for f x xs h = (grind arith, grind arith)
 
 pub none_mapped : {A B : Type 0} (f : A → B) (o : Option A) → option_map f o ≡ None → o ≡ None

@@ -44,8 +44,8 @@ module _ (a b c : Expr (List ℕ)) (n d m e l h : ℕ) where
   unfolding choose earlier earlier_of
   pick_tested r f s r' f' s' r'' f'' s'' = grind arith
 
-  pick_small : cond ((nat_le n 256 && nat_le d 32) && ((nat_le m 256 && nat_le e 32) && (nat_le l 256 && nat_le h 32))) picked (Faulty TooMany)
-      ≡ picked
+  pick_small : cond ((nat_le n 256 && nat_le d 32) && ((nat_le m 256 && nat_le e 32) && (nat_le l 256 && nat_le h 32))) picked
+      (Faulty TooMany) ≡ picked
   pick_small = grind (arith, nat_tests)
 
   pub verdict_pick : (r f r' f' r'' f'' : Bool) → choose (verdict r f a n d) (verdict r' f' b m e) (verdict r'' f'' c l h)

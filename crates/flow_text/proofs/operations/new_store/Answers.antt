@@ -4,4 +4,6 @@ use Rattle.flow_text.proofs.OperationLaws.{store_reads}
 use Rattle.flow_text.proofs.operations.new_store.Goals as goal
 
 pub returns : goal.returns
-returns c = grind (arith, store_reads c.args.tables.now c.args.memory.now (trees_of (map (λ t. t.now) c.args.expressions.now)), c.map.ensures.cases)
+returns c =
+    let told = store_reads c.args.tables.now c.args.memory.now (trees_of (map (λ t. t.now) c.args.expressions.now)) in
+    grind (arith, told, c.map.ensures.cases)

@@ -4,4 +4,6 @@ use Rattle.flow_text.proofs.OperationLaws.{write_reads}
 use Rattle.flow_text.proofs.operations.new_write.Goals as goal
 
 pub returns : goal.returns
-returns c = grind (arith, write_reads c.args.tables.now c.args.channel.now (trees_of (map (λ t. t.now) c.args.expression.now)), c.map.ensures.cases)
+returns c =
+    let told = write_reads c.args.tables.now c.args.channel.now (trees_of (map (λ t. t.now) c.args.expression.now)) in
+    grind (arith, told, c.map.ensures.cases)

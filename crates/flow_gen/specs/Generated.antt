@@ -1,13 +1,13 @@
 -- The generated session: modules in a row, each of which adds a number to 1,000 values.
-use Rattle.std.specs.Prelude.{◌+◌, ◌-◌, ◌*◌, ◌%◌, ◌==◌, ◌++◌, ◌∷◌, ℕ, zero, suc, List, [], codes, decimal, length, take, if◌then◌else◌}
-use Rattle.flow_gen.specs.Channel.{name_of}
-use Rattle.flow_gen.specs.declared.channel.Channel.{Channel}
-use Rattle.flow_gen.specs.declared.channel.Channel.TheVariants.{Fifo, Sink, Source}
+use Rattle.std.specs.Prelude.{◌+◌, ◌-◌, ◌*◌, ◌%◌, ◌==◌, ◌++◌, ◌∷◌, ℕ, zero, suc, List, [], None, codes, decimal, if◌then◌else◌}
+use Rattle.std.specs.List.{range_with_len}
+use Rattle.flow_design.specs.declared.expr.Expr.TheVariants.{Number, Var, Binary}
+use Rattle.flow_design.specs.declared.expr.BinOp.TheVariants.{Add, LtU}
+use Rattle.flow_design.specs.declared.expr.Op.TheVariants.{Set, Read, Write, Full}
+use Rattle.flow_design.specs.declared.session.Statement.{Statement}
+use Rattle.flow_design.specs.declared.session.Statement.TheVariants.{Flow, Source, Sink, Fifo, Module, Reg, Loop, At, Stop, Input, End}
 use Rattle.flow_gen.specs.declared.draws.Drawn.{Drawn}
-
--- a text, as its bytes
-abbrev pub Text : Type 0
-Text = List ℕ
+use Rattle.flow_print.specs.Canonical.{canonical_text}
 
 -- ---- draws
 
@@ -32,76 +32,75 @@ drawn_from state = record {
 abbrev pub drawn : ℕ → ℕ → Drawn
 drawn seed k = drawn_from (state_after seed (3 * k))
 
--- the draws of the first n modules
-unfoldable pub draws : ℕ → ℕ → List Drawn
-draws seed zero = []
-draws seed (suc n) = draws seed n ++ drawn seed n ∷ []
+-- ---- names
 
--- ---- lines
+abbrev pub Name : Type 0
+Name = List ℕ
 
--- the FIFO behind module k
-unfoldable pub fifo_line : ℕ → Drawn → Text
-fifo_line k drawn =
-    codes "fifo f" ++ decimal (k + 1) ++ codes " 32 " ++ decimal drawn.depth ++ codes "\n"
+abbrev pub fifo_name : ℕ → Name
+fifo_name k = codes "f" ++ decimal k
 
--- module k, with its registers
-unfoldable pub declarations : ℕ → Text
-declarations k =
-    codes "module m" ++ decimal k ++ codes "\nreg x 32\nreg n 32\nreg g 1\nreg e 1\n"
-
--- the loop, an iteration of which is one clock longer than the interval at which they start
-unfoldable pub loop_line : ℕ → Text
-loop_line interval =
-    codes "loop l " ++ decimal interval ++ codes " " ++ decimal (interval + 1) ++ codes " while g\n"
-
--- the operations in the first clock of an iteration; another one follows where n is below 999
-unfoldable pub first_clock : Channel → Channel → Text
-first_clock input output =
-    codes "at 0 read " ++ name_of input ++ codes " x\nat 0 full " ++ name_of output
-    ++ codes " e\nat 0 set n + n 1\nat 0 set g <u n 999\n"
-
--- the operation in the second clock of an iteration
-unfoldable pub second_clock : Channel → ℕ → Text
-second_clock output addend =
-    codes "at 1 write " ++ name_of output ++ codes " + x + " ++ decimal addend ++ codes " e\nstop\n"
+abbrev pub module_name : ℕ → Name
+module_name k = codes "m" ++ decimal k
 
 -- the first module reads the source, each other one the FIFO before it
-abbrev pub input_of : ℕ → Channel
-input_of k = if k == 0 then Source else Fifo k
+abbrev pub input_of : ℕ → Name
+input_of k = if k == 0 then codes "a" else fifo_name k
 
 -- the last module writes the sink, each other one the FIFO behind it
-abbrev pub output_of : ℕ → ℕ → Channel
-output_of modules k = if k + 1 == modules then Sink else Fifo (k + 1)
+abbrev pub output_of : ℕ → ℕ → Name
+output_of modules k = if k + 1 == modules then codes "y" else fifo_name (k + 1)
+
+-- ---- statements
+
+-- the FIFO behind module k
+abbrev pub fifo_behind : ℕ → Drawn → List Statement
+fifo_behind k drawn = Fifo (fifo_name (k + 1)) 32 drawn.depth 1 ∷ []
+
+-- a module's registers, and its loop, an iteration of which is one clock longer than the interval at which they start
+unfoldable pub head_of : Name → ℕ → List Statement
+head_of name interval =
+    Module name ∷ Reg (codes "x") 32 ∷ Reg (codes "n") 32 ∷ Reg (codes "g") 1 ∷ Reg (codes "e") 1
+    ∷ Loop (codes "l") interval (interval + 1) (codes "g") ∷ []
+
+-- its operations in the first clock of an iteration; another iteration follows where n is below 999
+unfoldable pub first_clock : Name → Name → List Statement
+first_clock input output =
+    At 0 None (Read input (codes "x"))
+    ∷ At 0 None (Full output (codes "e"))
+    ∷ At 0 None (Set (codes "n") (Binary Add (Var (codes "n")) (Number 1)))
+    ∷ At 0 None (Set (codes "g") (Binary LtU (Var (codes "n")) (Number 999)))
+    ∷ []
+
+-- its operation in the second clock, and the end of the loop
+unfoldable pub second_clock : Name → ℕ → List Statement
+second_clock output addend =
+    At 1 None (Write output (Binary Add (Var (codes "x")) (Binary Add (Number addend) (Var (codes "e"))))) ∷ Stop ∷ []
 
 -- module k of so many
-unfoldable pub module_lines : ℕ → ℕ → Drawn → Text
-module_lines modules k drawn =
-    declarations k ++ loop_line drawn.interval ++ first_clock (input_of k) (output_of modules k)
-    ++ second_clock (output_of modules k) drawn.addend
+abbrev pub module_of : ℕ → ℕ → Drawn → List Statement
+module_of modules k drawn =
+    head_of (module_name k) drawn.interval
+    ++ (first_clock (input_of k) (output_of modules k) ++ second_clock (output_of modules k) drawn.addend)
 
--- a number behind a space
-unfoldable pub spaced : ℕ → Text
-spaced number = codes " " ++ decimal number
+-- the statements for each of the first n modules, of which these are the draws
+unfoldable pub each : (ℕ → Drawn → List Statement) → (ℕ → Drawn) → ℕ → List Statement
+each statements draws zero = []
+each statements draws (suc n) = each statements draws n ++ statements n (draws n)
 
--- ---- the text
-
--- the lines of one module after the other, the first of which has the number k
-unfoldable pub each_module : (ℕ → Drawn → Text) → ℕ → List Drawn → Text
-each_module lines k [] = []
-each_module lines k (d ∷ ds) = lines k d ++ each_module lines (k + 1) ds
-
--- the first n numbers, from 0 on
-unfoldable pub first_numbers : ℕ → Text
-first_numbers zero = []
-first_numbers (suc n) = first_numbers n ++ spaced n
+-- the values of the source
+unfoldable pub values : List ℕ
+values = range_with_len 0 1000
 
 -- the session whose modules have these draws: a FIFO behind each module but the last
-unfoldable pub session_of : List Drawn → Text
-session_of ds =
-    codes "flow 1\nsource a 32\nsink y 32\n" ++ each_module fifo_line 0 (take (length ds - 1) ds)
-    ++ each_module (module_lines (length ds)) 0 ds ++ codes "input a" ++ first_numbers 1000
-    ++ codes "\nend\n"
+abbrev pub session_of : (ℕ → Drawn) → ℕ → List Statement
+session_of draws modules =
+    (Flow 1 ∷ Source (codes "a") 32 ∷ Sink (codes "y") 32 ∷ [])
+    ++ (each fifo_behind draws (modules - 1) ++ (each (module_of modules) draws modules ++ Input (codes "a") values ∷ End ∷ []))
 
--- the session of a seed, with so many modules
-abbrev pub session_text : ℕ → ℕ → Text
-session_text seed modules = session_of (draws seed modules)
+-- the session of a seed, with so many modules, and its text
+unfoldable pub session : ℕ → ℕ → List Statement
+session seed modules = session_of (drawn seed) modules
+
+abbrev pub session_text : ℕ → ℕ → List ℕ
+session_text seed modules = canonical_text (session seed modules)

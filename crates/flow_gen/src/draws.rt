@@ -1,9 +1,6 @@
 //! The numbers drawn for each module.
-ghost use Rattle.std.specs.Prelude.{◌≡◌, ◌≤◌, ◌<◌, IfOk};
-ghost use Rattle.flow_gen.specs.Generated.{drawn_from, draws, next};
-
-use flow_word::{List, OutOfMemory};
-use std::alloc::Global;
+ghost use Rattle.std.specs.Prelude.{◌≡◌, ◌<◌};
+ghost use Rattle.flow_gen.specs.Generated.{drawn_from, next};
 
 const MODULUS: u64 = 65_537;
 
@@ -18,22 +15,8 @@ pub struct Drawn {
     pub depth: u8,
 }
 
-/// What is drawn for so many modules, the first module first.
-#[tactic(auto, using(crate::proofs::DrawLemmas::draw_steps))]
-pub fn draw_modules(alloc: Global, seed: u64, modules: u64) -> Result<List<Drawn>, OutOfMemory>
-    requires { seed ≤ 65_535 }
-    ensures { IfOk result (λ list. list ≡ draws seed modules) }
-{
-    let mut list = List::new(alloc);
-    let mut state = seed;
-    for _ in 0..modules {
-        list.push(draw_module(&mut state))?;
-    }
-    Ok(list)
-}
-
 /// The next three draws, as what they are for one module.
-fn draw_module(state: &mut u64) -> Drawn
+pub fn draw_module(state: &mut u64) -> Drawn
     requires { state.old < 65_537 }
     ensures drawn { result ≡ drawn_from state.old }
     ensures after { state.new ≡ next (next (next state.old)) }

@@ -1,11 +1,4 @@
-pub mod Chains
 pub mod Checking
-pub mod Draws
-pub mod Facts
-pub mod Lengths
-pub mod ModuleRules
-pub mod Planned
+pub mod Fitting
+pub mod Passing
 pub mod Reading
-pub mod Rules
-pub mod Served
-pub mod Texts

@@ -78,18 +78,6 @@ pub made_text : {E : Type 0} (task : Task) (text : List ℕ) (s : List Statement
 made_text task text s l (Ok whole) stands e h = read s l stands (fit e h)
 made_text task text s l (Err e) stands f h = tt
 
--- the answer to a text of which nothing else is said than that it stands for a session without a fault
-pub only_made : (task : Task) (text : List ℕ) (s : List Statement) (l : List ℕ)
-    → ((x : Result (List Statement × List ℕ) TextFault) → Said text x → x ≡ Ok (s, l)) → fault_of s l ≡ None
-    → (a : Answer) → AnswersText task text a → a ≡ made task s
-only_made task text s l only none a p = text_only task text (Ok (s, l)) only a p ∙ ap (λ (o : Option TextFault). answer_by o task s l) none
-
-pub generated_is : {E : Type 0} (task : Task) (text : List ℕ) (s : List Statement) (l : List ℕ)
-    → ((x : Result (List Statement × List ℕ) TextFault) → Said text x → x ≡ Ok (s, l)) → fault_of s l ≡ None
-    → (r : Result Answer E) → IfOk r (λ whole. AnswersText task text whole) → IfOk r (λ whole. whole ≡ made task s)
-generated_is task text s l only none (Ok whole) h = only_made task text s l only none whole h
-generated_is task text s l only none (Err e) h = tt
-
 -- ---- what was read
 
 -- what holds of each value

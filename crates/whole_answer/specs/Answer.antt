@@ -12,7 +12,7 @@ use Rattle.cli_words.specs.declared.Command.TheVariants as command
 use Rattle.whole_answer.specs.declared.answer.Answer.{Answer}
 use Rattle.whole_answer.specs.Made.{refused_words, refused, made, generated}
 use Rattle.whole_answer.specs.declared.task.Task.{Task}
-use Rattle.whole_answer.specs.declared.task.Task.TheVariants.{Simulate, Print, Summarize, Advise, Show, Order, Sweep, Size}
+use Rattle.whole_answer.specs.declared.task.Task.TheVariants.{Simulate, Print, Advise, Show, Order, Sweep, Size}
 use Rattle.whole_answer.specs.declared.status.Status.{Status}
 use Rattle.whole_answer.specs.declared.status.Status.TheVariants.{ReadFault, WriteFault, Memory}
 
@@ -65,7 +65,6 @@ takes_input (Some command) = true
 abbrev pub IsSound : Task → Type 0
 IsSound (Simulate simulator o) = AreLimits o
 IsSound Print = Unit {0}
-IsSound (Summarize seed modules) = Unit {0}
 IsSound (Advise o) = AreLimits o
 IsSound (Show view o) = AreLimits o
 IsSound Order = Unit {0}

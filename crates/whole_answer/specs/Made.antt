@@ -9,12 +9,11 @@ use Rattle.flow_grammar.specs.declared.fault.Code.{Code}
 use Rattle.flow_grammar.specs.declared.fault.Code.TheVariants as code
 use Rattle.flow_grammar.specs.declared.fault.TextFault.{TextFault}
 use Rattle.flow_print.specs.Canonical.{canonical_text}
-use Rattle.flow_gen.specs.Generated.{draws}
-use Rattle.generated_sessions.specs.Statements.{session}
+use Rattle.flow_gen.specs.Generated.{session}
 use Rattle.session_plan.specs.Plans.{plan_of, edits_of}
 use Rattle.cli_words.specs.declared.Options.{Options}
 use Rattle.whole_answer.specs.declared.task.Task.{Task}
-use Rattle.whole_answer.specs.declared.task.Task.TheVariants.{Simulate, Print, Summarize, Advise, Show, Order, Sweep, Size}
+use Rattle.whole_answer.specs.declared.task.Task.TheVariants.{Simulate, Print, Advise, Show, Order, Sweep, Size}
 use Rattle.whole_answer.specs.declared.answer.Answer.{Answer}
 use Rattle.whole_answer.specs.declared.status.Status.TheVariants.{Done, Words, Text}
 use Rattle.whole_answer.specs.Further.{advice, ordered, swept, sized}
@@ -95,7 +94,6 @@ abbrev pub made : Task → List Statement → Answer
 -- whatever simulates it
 made (Simulate by o) statements = simulated o statements
 made Print statements = canonical statements
-made (Summarize seed modules) statements = summary seed modules (plan_of statements)
 made (Advise o) statements = advice (with_limits o (plan_of statements))
 made (Show view o) statements = shown view o.events (with_limits o (plan_of statements))
 made Order statements = ordered (plan_of statements).design
@@ -104,4 +102,4 @@ made (Size o) statements = sized (with_limits o (plan_of statements))
 
 -- the summary of the session of this seed
 abbrev pub generated : ℕ → ℕ → Answer
-generated seed modules = summary seed modules (plan_of (session (draws seed modules)))
+generated seed modules = summary seed modules (plan_of (session seed modules))

@@ -5,19 +5,20 @@ ghost use Rattle.cli_words.specs.CommandWords.{accepted, IsInRange};
 ghost use Rattle.whole_answer.specs.Made.{refused_words, refused, generated, number_of};
 ghost use Rattle.whole_answer.specs.Answer.{Answers, AnswersCommand, AnswersText, takes_input, IsSound, IsAnswer};
 
-use crate::making::make;
+use crate::making::{make, summarize};
 use crate::status::Status;
 use crate::task::Task;
 use cli_words::{Command, WordFault, read_words};
 use flow_check::check;
 use flow_design::limits;
-use flow_gen::generate;
-use flow_grammar::{Code, ReadFail, TextFault, keeps_rules, one_answer as one_reading};
+use flow_gen::generate_session;
+use flow_grammar::{Code, ReadFail, TextFault, keeps_rules};
 use flow_text::read_session;
 use flow_word::{List, OutOfMemory};
-use generated_sessions::{generated_sessions_are_checked, generated_texts_are_read};
+use generated_sessions::generated_sessions_are_checked;
 use report_text::print_numbers;
 use run_threads::Gate;
+use session_plan::elaborate;
 use sim_io::{Source, TakeFault, read_all};
 use std::alloc::Global;
 use std::sync::Wait;
@@ -140,7 +141,7 @@ fn answer_source<R: Threads + Wait + Sync, S: Source, G: Gate + Sync>(
     }
 }
 
-/// The summary of the session of a seed: its text is made, read, checked and run like any other.
+/// The summary of the session of a seed, of which the plan is made as of any other.
 fn answer_generated<R: Threads + Wait + Sync, G: Gate + Sync>(
     rt: &R,
     alloc: Global,
@@ -152,12 +153,10 @@ fn answer_generated<R: Threads + Wait + Sync, G: Gate + Sync>(
     ensures generated { IfOk result (λ whole. whole ≡ generated seed modules) }
     ensures status { IfOk result (λ whole. IsAnswer whole.status) }
 {
-    one_reading();
-    generated_texts_are_read();
     generated_sessions_are_checked();
-    let text = generate(alloc, seed, modules)?;
-    let task = Task::Summarize(seed, modules);
-    answer_text(rt, alloc, &task, text.as_slice(), gate)
+    let session = generate_session(alloc, seed, modules)?;
+    let plan = elaborate(alloc, session.statements.as_slice())?.plan;
+    summarize(rt, alloc, seed, modules, plan, gate)
 }
 
 /// The answer to a text: it is read to a session, the session is checked, and the task makes the answer of it.

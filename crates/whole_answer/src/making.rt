@@ -50,7 +50,6 @@ pub(crate) fn make<R: Threads + Wait + Sync, G: Gate + Sync>(
     match task {
         Task::Simulate(by, options) => simulate(rt, alloc, *by, options, checked, gate),
         Task::Print => print(alloc, session),
-        Task::Summarize(seed, modules) => summarize(rt, alloc, *seed, *modules, checked.plan, gate),
         Task::Advise(options) => advise_depths(rt, alloc, limited(checked, options), gate),
         Task::Show(view, options) => {
             let plan = limited(checked, options);
@@ -121,7 +120,7 @@ fn set_limits(plan: &mut Plan, options: &Options)
 
 /// The summary of a generated session, which is run with a thread for each module.
 #[tactic(auto, unfolding(crate::specs::Made::summary))]
-fn summarize<R: Threads + Wait + Sync, G: Gate + Sync>(
+pub(crate) fn summarize<R: Threads + Wait + Sync, G: Gate + Sync>(
     rt: &R,
     alloc: Global,
     seed: u64,

@@ -8,8 +8,6 @@ pub enum Task {
     Simulate(Simulator, Options),
     /// Write its canonical form.
     Print,
-    /// Simulate it, and write the summary of the session made from this seed with so many modules.
-    Summarize(u64, u64),
     /// Simulate it with room for all in each FIFO, and write depths that never block.
     Advise(Options),
     /// Simulate it, and write this of the simulation.

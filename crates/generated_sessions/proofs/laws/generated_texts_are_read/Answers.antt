@@ -1,5 +1,5 @@
-use Rattle.generated_sessions.proofs.Reading.{same, stands}
+use Rattle.generated_sessions.proofs.Reading.{stands}
 use Rattle.generated_sessions.proofs.laws.generated_texts_are_read.Goals as goal
 
 pub returns : goal.returns
-returns c = record { canonical = same; read = stands }
+returns c = stands

@@ -1,0 +1,228 @@
+//! The statements of the session.
+ghost use Rattle.std.specs.Prelude.{◌≡◌, ◌++◌, ◌≤◌, ◌<◌, IfOk, OnOk};
+ghost use Rattle.flow_design.specs.declared.limits.TheConstants.{MODULES};
+ghost use Rattle.flow_gen.specs.Generated.{drawn, each, fifo_behind, fifo_name, first_clock, head_of, input_of, module_name};
+ghost use Rattle.flow_gen.specs.Generated.{module_of, output_of, second_clock, session, values as values_given};
+
+use crate::draws::{Drawn, draw_module};
+use flow_design::{BinOp, Expr, Name, Op, Session, Statement};
+use flow_word::{Boxed, List, OutOfMemory, Width, Words};
+use std::alloc::Global;
+
+/// How many values the source has.
+const VALUES: u64 = 1000;
+
+/// The session of a seed, with so many modules.
+#[tactic(auto, unfolding(crate::specs::Generated::session))]
+pub fn generate_session(alloc: Global, seed: u64, modules: u64) -> Result<Session, OutOfMemory>
+    requires seed { seed ≤ 65_535 }
+    requires some { 1 ≤ modules }
+    requires most { modules ≤ MODULES }
+    ensures { IfOk result (λ made. made.statements ≡ session seed modules) }
+{
+    let mut statements = List::new(alloc);
+    statements.push(Statement::Flow(1))?;
+    statements.push(Statement::Source(Name::new(alloc, b"a")?, width(32)))?;
+    statements.push(Statement::Sink(Name::new(alloc, b"y")?, width(32)))?;
+    push_fifos(alloc, &mut statements, seed, modules - 1)?;
+    push_modules(alloc, &mut statements, seed, modules)?;
+    statements.push(Statement::Input(Name::new(alloc, b"a")?, values(alloc)?))?;
+    statements.push(Statement::End)?;
+    Ok(Session { statements })
+}
+
+/// The FIFOs behind the first modules, so many.
+fn push_fifos(
+    alloc: Global,
+    statements: &mut List<Statement>,
+    seed: u64,
+    fifos: u64,
+) -> Result<(), OutOfMemory>
+    requires seed { seed ≤ 65_535 }
+    requires most { fifos ≤ MODULES }
+    ensures { OnOk result (statements.new ≡ statements.old ++ each fifo_behind (drawn seed) fifos) }
+{
+    let mut state = seed;
+    for k in 0..fifos {
+        push_fifo(alloc, statements, k, draw_module(&mut state))?;
+    }
+    Ok(())
+}
+
+/// The modules, one behind the other.
+fn push_modules(
+    alloc: Global,
+    statements: &mut List<Statement>,
+    seed: u64,
+    modules: u64,
+) -> Result<(), OutOfMemory>
+    requires seed { seed ≤ 65_535 }
+    requires most { modules ≤ MODULES }
+    ensures { OnOk result (statements.new ≡ statements.old ++ each (module_of modules) (drawn seed) modules) }
+{
+    let mut state = seed;
+    for k in 0..modules {
+        push_module(alloc, statements, modules, k, draw_module(&mut state))?;
+    }
+    Ok(())
+}
+
+fn push_fifo(
+    alloc: Global,
+    statements: &mut List<Statement>,
+    k: u64,
+    drawn: Drawn,
+) -> Result<(), OutOfMemory>
+    requires { k < MODULES }
+    ensures { OnOk result (statements.new ≡ statements.old ++ fifo_behind k drawn) }
+{
+    let depth = u64::from(drawn.depth);
+    statements.push(Statement::Fifo(fifo_name(alloc, k + 1)?, width(32), depth, 1))
+}
+
+fn push_module(
+    alloc: Global,
+    statements: &mut List<Statement>,
+    modules: u64,
+    k: u64,
+    drawn: Drawn,
+) -> Result<(), OutOfMemory>
+    requires { k < MODULES }
+    ensures { OnOk result (statements.new ≡ statements.old ++ module_of modules k drawn) }
+{
+    push_head(alloc, statements, k, u64::from(drawn.interval))?;
+    let (input, output) = (input_of(alloc, k)?, output_of(alloc, modules, k)?);
+    push_first_clock(alloc, statements, input, output)?;
+    let output = output_of(alloc, modules, k)?;
+    push_second_clock(alloc, statements, output, u64::from(drawn.addend))
+}
+
+/// A module with its registers, and the head of its loop.
+#[tactic(auto, unfolding(crate::specs::Generated::head_of))]
+fn push_head(
+    alloc: Global,
+    statements: &mut List<Statement>,
+    k: u64,
+    interval: u64,
+) -> Result<(), OutOfMemory>
+    requires { interval ≤ 255 }
+    ensures { OnOk result (statements.new ≡ statements.old ++ head_of (module_name k) interval) }
+{
+    statements.push(Statement::Module(module_name(alloc, k)?))?;
+    statements.push(Statement::Reg(Name::new(alloc, b"x")?, width(32)))?;
+    statements.push(Statement::Reg(Name::new(alloc, b"n")?, width(32)))?;
+    statements.push(Statement::Reg(Name::new(alloc, b"g")?, width(1)))?;
+    statements.push(Statement::Reg(Name::new(alloc, b"e")?, width(1)))?;
+    let (name, again) = (Name::new(alloc, b"l")?, Name::new(alloc, b"g")?);
+    statements.push(Statement::Loop(name, interval, interval + 1, again))
+}
+
+/// The operations at offset 0.
+#[tactic(auto, unfolding(crate::specs::Generated::first_clock))]
+fn push_first_clock(
+    alloc: Global,
+    statements: &mut List<Statement>,
+    input: Name,
+    output: Name,
+) -> Result<(), OutOfMemory>
+    ensures { OnOk result (statements.new ≡ statements.old ++ first_clock input output) }
+{
+    let count = binary(alloc, BinOp::Add, variable(alloc, b"n")?, Expr::Number(1))?;
+    let again = binary(alloc, BinOp::LtU, variable(alloc, b"n")?, Expr::Number(999))?;
+    statements.push(Statement::At(0, None, Op::Read(input, Name::new(alloc, b"x")?)))?;
+    statements.push(Statement::At(0, None, Op::Full(output, Name::new(alloc, b"e")?)))?;
+    statements.push(Statement::At(0, None, Op::Set(Name::new(alloc, b"n")?, count)))?;
+    statements.push(Statement::At(0, None, Op::Set(Name::new(alloc, b"g")?, again)))
+}
+
+/// The operation at offset 1, and the end of the loop.
+#[tactic(auto, unfolding(crate::specs::Generated::second_clock))]
+fn push_second_clock(
+    alloc: Global,
+    statements: &mut List<Statement>,
+    output: Name,
+    addend: u64,
+) -> Result<(), OutOfMemory>
+    ensures { OnOk result (statements.new ≡ statements.old ++ second_clock output addend) }
+{
+    let added = binary(
+        alloc,
+        BinOp::Add,
+        Expr::Number(addend),
+        variable(alloc, b"e")?,
+    )?;
+    let sum = binary(alloc, BinOp::Add, variable(alloc, b"x")?, added)?;
+    statements.push(Statement::At(1, None, Op::Write(output, sum)))?;
+    statements.push(Statement::Stop)
+}
+
+/// The channel that a module reads: the source, or the FIFO before it.
+fn input_of(alloc: Global, k: u64) -> Result<Name, OutOfMemory>
+    ensures { IfOk result (λ name. name ≡ input_of k) }
+{
+    if k == 0 {
+        Name::new(alloc, b"a")
+    } else {
+        fifo_name(alloc, k)
+    }
+}
+
+/// The channel that a module writes: the sink, or the FIFO behind it.
+fn output_of(alloc: Global, modules: u64, k: u64) -> Result<Name, OutOfMemory>
+    requires { k < MODULES }
+    ensures { IfOk result (λ name. name ≡ output_of modules k) }
+{
+    if k + 1 == modules {
+        Name::new(alloc, b"y")
+    } else {
+        fifo_name(alloc, k + 1)
+    }
+}
+
+fn fifo_name(alloc: Global, k: u64) -> Result<Name, OutOfMemory>
+    ensures { IfOk result (λ name. name ≡ fifo_name k) }
+{
+    Name::new(alloc, format!(in alloc; "f{k}")?.as_bytes())
+}
+
+fn module_name(alloc: Global, k: u64) -> Result<Name, OutOfMemory>
+    ensures { IfOk result (λ name. name ≡ module_name k) }
+{
+    Name::new(alloc, format!(in alloc; "m{k}")?.as_bytes())
+}
+
+fn variable(alloc: Global, name: &[u8]) -> Result<Expr<Name>, OutOfMemory>
+    ensures { IfOk result (λ expr. expr ≡ Expr.Var name.now) }
+{
+    Ok(Expr::Var(Name::new(alloc, name)?))
+}
+
+fn binary(alloc: Global, op: BinOp, a: Expr<Name>, b: Expr<Name>) -> Result<Expr<Name>, OutOfMemory>
+    ensures { IfOk result (λ expr. expr ≡ Expr.Binary op a b) }
+{
+    Ok(Expr::Binary(op, Boxed::new(alloc, a)?, Boxed::new(alloc, b)?))
+}
+
+/// The width of so many bits.
+fn width(bits: u64) -> Width
+    requires some { 1 ≤ bits }
+    requires most { bits ≤ 64 }
+    ensures { result ≡ bits }
+{
+    match Width::new(bits) {
+        Some(width) => width,
+        None => unreachable!(),
+    }
+}
+
+/// The numbers from 0 on, so many as the source has.
+#[tactic(auto, using(crate::proofs::Steps::range_more), unfolding(crate::specs::Generated::values))]
+fn values(alloc: Global) -> Result<Words, OutOfMemory>
+    ensures { IfOk result (λ words. words ≡ values_given) }
+{
+    let mut words = List::new(alloc);
+    for value in 0..VALUES {
+        words.push(value)?;
+    }
+    Ok(words)
+}

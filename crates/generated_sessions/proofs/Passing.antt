@@ -1,0 +1,78 @@
+-- What the session of each number of modules passes, whatever its draws: these tests compute.
+use Rattle.std.proofs.Common.{◌≡◌, ℕ, suc, ◌+◌, ◌-◌, ◌*◌, ◌^◌, ◌<◌, List, [], ◌∷◌, length, Bool, true, refl, not, is_some, sum_by}
+use Rattle.std.specs.Prelude.{◌&&◌, nat_le, nat_lt, codes}
+use Rattle.std.specs.Fmt.{digits}
+use Rattle.std.specs.List.{list_all}
+use Rattle.std.proofs.lemmas.Bool.{agree_below_at}
+use Rattle.flow_design.specs.declared.limits.TheConstants.{OPERATIONS, TEXT_BYTES}
+use Rattle.flow_design.specs.declared.expr.Op.TheVariants as op
+use Rattle.flow_design.specs.declared.session.Statement.{Statement}
+use Rattle.flow_design.specs.declared.session.Statement.TheVariants.{At, Input}
+use Rattle.flow_gen.specs.Generated.{each, first_clock, head_of, second_clock, session_of, values}
+use Rattle.flow_gen.specs.declared.draws.Drawn.{Drawn}
+use Rattle.flow_grammar.specs.declared.fault.Code.{Code}
+use Rattle.flow_grammar.specs.declared.fault.Code.TheVariants as code
+use Rattle.flow_grammar.specs.Tokens.{is_name}
+use Rattle.flow_grammar.specs.Parts.{Part, Num, Use, AnyChannel, AVariable, parts}
+use Rattle.flow_grammar.specs.Before.{version, operations}
+use Rattle.flow_grammar.specs.Places.{may_follow}
+use Rattle.flow_grammar.specs.Rules.{is_well_named, fits_version, is_new, is_first_input, is_known, has_room, is_over}
+use Rattle.flow_print.specs.Canonical.{token_of}
+use Rattle.session_plan.specs.Plans.{plan_of, module_of, block}
+use Rattle.flow_check.specs.Rules.{broken_by}
+
+-- the parts of a statement, but for its expression the variables that may stand there
+abbrev pub variables : List Part
+variables = Use AVariable (codes "n") ∷ Use AVariable (codes "x") ∷ Use AVariable (codes "e") ∷ []
+
+abbrev pub seen : Statement → List Part
+seen (At off guard (op.Set r e)) = Use AVariable r ∷ variables
+seen (At off guard (op.Write f e)) = Use AnyChannel f ∷ variables
+seen s = parts s
+
+-- there is room for a statement, but for its expression
+abbrev pub has_place : List Statement → Statement → Bool
+has_place earlier (At off guard o) = nat_lt (operations earlier) OPERATIONS
+has_place earlier s = has_room earlier s
+
+-- no token of the part is long
+abbrev pub is_brief : Part → Bool
+is_brief (Num least most n) = nat_le most (2 ^ 64 - 1)
+is_brief p = nat_le (length (token_of p)) 64
+
+-- no token of a statement is long, and it keeps the rules of reading, but for its numbers and its expression
+abbrev pub keeps : List Statement → Statement → Bool
+keeps earlier s =
+    list_all is_brief (seen s) && (list_all is_well_named (seen s) && (fits_version (version earlier) s && (may_follow earlier s
+    && (list_all (is_new earlier) (seen s) && (is_first_input earlier s
+    && (list_all (is_known earlier) (seen s) && has_place earlier s))))))
+
+abbrev pub follow : List Statement → List Statement → Bool
+follow earlier [] = true
+follow earlier (s ∷ rest) = keeps earlier s && follow (s ∷ earlier) rest
+
+-- so many parts a statement has at most
+abbrev pub most_parts : Statement → ℕ
+most_parts (Input n given) = 1002
+most_parts s = 20
+
+-- the rules of checking that do not speak of numbers
+abbrev pub rules : List Code
+rules = code.UnknownName ∷ code.BadLimit ∷ code.Ends ∷ code.PortClash ∷ code.WrongSide ∷ []
+
+module _ (draws : ℕ → Drawn) where
+  unfoldable pub reads : ℕ → Bool
+  reads n =
+      follow [] (session_of draws (suc n))
+      && (is_over (session_of draws (suc n)) && nat_le (sum_by (λ s. 65 * most_parts s + 1) (session_of draws (suc n))) TEXT_BYTES)
+
+  unfoldable pub checks : ℕ → Bool
+  checks n = list_all (λ rule. not (is_some (broken_by (plan_of (session_of draws (suc n))) rule))) rules
+
+  pub all_read : (n : ℕ) → n < 64 → reads n ≡ true
+  unfolding reads each head_of first_clock second_clock values digits is_name may_follow is_over
+  all_read n below = agree_below_at reads (λ k. true) 64 n refl below
+
+  pub all_checked : (n : ℕ) → n < 64 → checks n ≡ true
+  unfolding checks each head_of first_clock second_clock values digits plan_of module_of block
+  all_checked n below = agree_below_at checks (λ k. true) 64 n refl below

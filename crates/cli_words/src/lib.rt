@@ -81,7 +81,6 @@ pub enum WordFault {
 
 /// Reads the words after the program's name: the command that they are, or `Refused` where they are
 /// none of the accepted lists. Its numbers are within their bounds.
-#[tactic(auto, using(crate::proofs::RangeLemmas::accepted_in_range))]
 pub fn read_words(alloc: Global, words: &[String]) -> Result<Command, WordFault>
     ensures command { IfOk result
         (λ command. accepted (map string_bytes words.now) ≡ Some command) }

@@ -1,5 +1,6 @@
 //! The rules on commands: which options and positionals each one takes.
-ghost use Rattle.std.specs.Prelude.{◌≡◌, Some};
+ghost use Rattle.std.specs.Prelude.{◌≡◌, ◌≤◌, IfSome, Some};
+ghost use Rattle.cli_words.specs.CommandWords.{AreLimits, IsInRange, IsLimit};
 ghost use Rattle.cli_words.specs.CommandWords.{command_of, gen_of, has_options, limit_in, name_of, no_more};
 ghost use Rattle.cli_words.specs.CommandWords.{number_in, options_alone, options_of, sweep_of, tells_events, without_option};
 ghost use Rattle.cli_words.specs.Given.{rest_of, said_of, text_of};
@@ -33,7 +34,8 @@ enum CommandName {
 
 /// The command, if the rules accept what is given.
 pub fn command_of(given: &Given<'_>) -> Option<Command>
-    ensures { result ≡ command_of (said_of given.now) }
+    ensures command { result ≡ command_of (said_of given.now) }
+    ensures range { IfSome result IsInRange }
 {
     match name_of(given.command?)? {
         CommandName::Simulate(by) => Some(Command::Simulate(by, options_alone(given, true)?)),
@@ -81,7 +83,8 @@ fn has_options(given: &Given<'_>) -> bool
 
 /// A command that takes no option and no further positional.
 fn bare(given: &Given<'_>, command: Command) -> Option<Command>
-    ensures { result ≡ without_option (said_of given.now) (no_more (rest_of given.now) (Some command)) }
+    ensures command { result ≡ without_option (said_of given.now) (no_more (rest_of given.now) (Some command)) }
+    ensures same { IfSome result (λ found. found ≡ command) }
 {
     if has_options(given) || given.second.is_some() {
         return None;
@@ -91,7 +94,8 @@ fn bare(given: &Given<'_>, command: Command) -> Option<Command>
 
 /// The options of a command without further positionals, which takes `--events` or does not.
 fn options_alone(given: &Given<'_>, takes_events: bool) -> Option<Options>
-    ensures { result ≡ options_alone takes_events (said_of given.now) (rest_of given.now) }
+    ensures options { result ≡ options_alone takes_events (said_of given.now) (rest_of given.now) }
+    ensures range { IfSome result AreLimits }
 {
     if given.second.is_some() || given.events && !takes_events {
         return None;
@@ -108,7 +112,8 @@ fn tells_events(view: View) -> bool
 
 /// The options, each in its bounds.
 fn options_of(given: &Given<'_>) -> Option<Options>
-    ensures { result ≡ options_of (said_of given.now) }
+    ensures options { result ≡ options_of (said_of given.now) }
+    ensures range { IfSome result AreLimits }
 {
     Some(Options {
         events: given.events,
@@ -119,7 +124,8 @@ fn options_of(given: &Given<'_>) -> Option<Options>
 
 /// An option's value, which need not be given.
 fn limit(most: u64, text: Option<&str>) -> Option<Option<u64>>
-    ensures { result ≡ limit_in most (text_of text.entry) }
+    ensures limit { result ≡ limit_in most (text_of text.entry) }
+    ensures range { IfSome result (IsLimit most) }
 {
     match text {
         Some(text) => Some(Some(number(1, most, text)?)),
@@ -129,7 +135,8 @@ fn limit(most: u64, text: Option<&str>) -> Option<Option<u64>>
 
 /// The seed and the number of modules, both given.
 fn gen_of(given: &Given<'_>) -> Option<Command>
-    ensures { result ≡ gen_of (rest_of given.now) }
+    ensures command { result ≡ gen_of (rest_of given.now) }
+    ensures range { IfSome result IsInRange }
 {
     let seed = number(0, MOST_SEED, given.second?)?;
     let modules = number(1, MOST_MODULES, given.third?)?;
@@ -138,7 +145,8 @@ fn gen_of(given: &Given<'_>) -> Option<Command>
 
 /// The least and the greatest depth, both given, and the limits.
 fn sweep_of(given: &Given<'_>) -> Option<Command>
-    ensures { result ≡ sweep_of (said_of given.now) (rest_of given.now) }
+    ensures command { result ≡ sweep_of (said_of given.now) (rest_of given.now) }
+    ensures range { IfSome result IsInRange }
 {
     if given.events {
         return None;
@@ -150,7 +158,8 @@ fn sweep_of(given: &Given<'_>) -> Option<Command>
 
 /// The number that the digits write, if it lies in the bounds.
 fn number(least: u64, most: u64, text: &str) -> Option<u64>
-    ensures { result ≡ number_in least most text.now }
+    ensures number { result ≡ number_in least most text.now }
+    ensures range { IfSome result (λ number. (least ≤ number) × (number ≤ most)) }
 {
     let number = read_number(text.as_bytes()).ok()?;
     if least <= number && number <= most {

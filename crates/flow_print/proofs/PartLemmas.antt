@@ -1,25 +1,25 @@
 -- The token of each part of a statement that keeps the rules is printed whole, and spells the part.
 use Rattle.std.proofs.Common.{◌≡◌, ℕ, ◌+◌, ◌<◌, ◌≤◌, ◌^◌, ◌%◌, List, [], ◌∷◌, ◌++◌, map, length, Bool, true, false, not, Option, None, Some}
-use Rattle.std.proofs.Common.{refl, arith}
+use Rattle.std.proofs.Common.{refl, sym, ◌∙◌, arith}
 use Rattle.std.specs.Prelude.{if◌then◌else◌, ◌==◌, nat_le, nat_lt}
 use Rattle.std.specs.Char.{is_ascii_digit}
 use Rattle.std.specs.Fmt.{decimal}
 use Rattle.std.specs.List.{list_all}
 use Rattle.std.proofs.lemmas.Bool.{and_parts, leb-true, ltb-true, and_from}
 use Rattle.std.proofs.lemmas.Bool.Decides.{nat_tests}
+use Rattle.std.proofs.lemmas.List.Folds.{list_all-append}
 use Rattle.std.proofs.lemmas.Fmt.{decimal_is_IsNumeral, decimal_by_steps, decimal_nonempty}
 use Rattle.flow_design.specs.declared.expr.Expr.{Expr}
 use Rattle.flow_design.specs.declared.expr.Expr.TheVariants.{Unary, Sext, Pick}
 use Rattle.flow_design.specs.declared.expr.UnOp.{UnOp}
 use Rattle.flow_design.specs.declared.expr.UnOp.TheVariants.{Not}
 use Rattle.flow_design.specs.declared.expr.BinOp.{BinOp}
-use Rattle.flow_design.specs.declared.expr.BinOp.TheVariants.{Add, Sub, Mul, And, Or, Xor, Shl, Shr, Eq, Ne, LtU, LtS, Div, Rem}
+use Rattle.flow_design.specs.declared.expr.BinOp.TheVariants.{Add}
 use Rattle.flow_design.specs.declared.expr.Op.{Op}
 use Rattle.flow_design.specs.declared.expr.Op.TheVariants as op
 use Rattle.flow_design.specs.declared.limits.TheConstants.{FIFO_DELAY}
 use Rattle.flow_design.specs.declared.session.Statement.{Statement}
-use Rattle.flow_design.specs.declared.session.Statement.TheVariants.{Flow, Source, Sink, Fifo, Module, Reg, Mem, Block, Loop, Temp, At}
-use Rattle.flow_design.specs.declared.session.Statement.TheVariants.{Goto, Branch, Stop, Input, Limits, Depth, End}
+use Rattle.flow_design.specs.declared.session.Statement.TheVariants.{Fifo, At, Input}
 use Rattle.flow_design.specs.Names.{is_name_byte, begins_with_letter}
 use Rattle.flow_grammar.specs.Tokens.{Token, is_filled, is_no_comment, is_number, is_name, number_of}
 use Rattle.flow_grammar.specs.Parts.{Name, Part, Word, New, Use, Label, Num, parts, op_parts, guard_parts, expr_parts, plain, depth_parts}
@@ -130,26 +130,12 @@ parts_printed (p ∷ ps) f n r =
     (and_from (is_printed (token_of p)) (list_all is_printed (map token_of ps)) here.0 rest.0, (here.1, rest.1))
 
 fit_append : (ps qs : List Part) → list_all is_fit ps ≡ true → list_all is_fit qs ≡ true → list_all is_fit (ps ++ qs) ≡ true
-fit_append [] qs h k = k
-fit_append (p ∷ ps) qs h k =
-    let q = and_parts (is_fit p) (list_all is_fit ps) h in and_from (is_fit p) (list_all is_fit (ps ++ qs)) q.0 (fit_append ps qs q.1 k)
+fit_append ps qs h k = list_all-append is_fit ps qs ∙ and_from (list_all is_fit ps) (list_all is_fit qs) h k
 
 fit_binary : (o : BinOp) → is_printed (binary_word o) ≡ true
 unfolding is_printed
 fit_binary Add = refl
-fit_binary Sub = refl
-fit_binary Mul = refl
-fit_binary And = refl
-fit_binary Or = refl
-fit_binary Xor = refl
-fit_binary Shl = refl
-fit_binary Shr = refl
-fit_binary Eq = refl
-fit_binary Ne = refl
-fit_binary LtU = refl
-fit_binary LtS = refl
-fit_binary Div = refl
-fit_binary Rem = refl
+fit_binary o = refl
 
 abbrev Fit : Expr Name → Type 0
 Fit e = list_all is_fit (expr_parts e) ≡ true
@@ -184,12 +170,9 @@ unfolding is_printed
 fit_op (op.Set r e) = fit_expr e
 fit_op (op.Load r m e) = fit_expr e
 fit_op (op.Store m e f) = fit_append (expr_parts e) (expr_parts f) (fit_expr e) (fit_expr f)
-fit_op (op.Read f r) = refl
 fit_op (op.Write f e) = fit_expr e
-fit_op (op.TryRead f r ok) = refl
 fit_op (op.TryWrite f ok e) = fit_expr e
-fit_op (op.Empty f r) = refl
-fit_op (op.Full f r) = refl
+fit_op o = refl
 
 fit_guard : (guard : Option Name) → list_all is_fit (guard_parts guard) ≡ true
 unfolding is_printed
@@ -200,61 +183,27 @@ fit_values : (values : List ℕ) → list_all is_fit (map plain values) ≡ true
 fit_values [] = refl
 fit_values (v ∷ values) = fit_values values
 
--- what all parts pass, those in front pass
-all_front : (test : Part → Bool) (ps qs : List Part) → list_all test (ps ++ qs) ≡ true → list_all test ps ≡ true
-all_front test [] qs h = refl
-all_front test (p ∷ ps) qs h =
-    let q = and_parts (test p) (list_all test (ps ++ qs)) h in
-    and_from (test p) (list_all test ps) q.0 (all_front test ps qs q.1)
-
 -- what is written of a statement passes the tests that its parts pass
 module _ (version : ℕ) where
   pub fit_parts : (s : Statement) → list_all is_fit (written_parts version s) ≡ true
   unfolding is_printed
-  fit_parts (Flow n) = refl
-  fit_parts (Source n w) = refl
-  fit_parts (Sink n w) = refl
   fit_parts (Fifo n w depth delay) = go (has_delays version)
     where
       go : (b : Bool) → list_all is_fit (if b then parts (Fifo n w depth delay) else depth_parts n w depth) ≡ true
       go true = refl
       go false = refl
-  fit_parts (Module n) = refl
-  fit_parts (Reg n w) = refl
-  fit_parts (Mem n w l) = refl
-  fit_parts (Block n l) = refl
-  fit_parts (Loop n ii l r) = refl
-  fit_parts (Temp n w) = refl
   fit_parts (At off guard o) = fit_append (guard_parts guard) (op_parts o) (fit_guard guard) (fit_op o)
-  fit_parts (Goto b) = refl
-  fit_parts (Branch r b c) = refl
-  fit_parts Stop = refl
   fit_parts (Input n values) = fit_values values
-  fit_parts (Limits c o) = refl
-  fit_parts (Depth n d) = refl
-  fit_parts End = refl
+  fit_parts s = refl
 
   pub written_pass : (test : Part → Bool) (s : Statement) → list_all test (parts s) ≡ true → list_all test (written_parts version s) ≡ true
-  written_pass test (Flow n) h = h
-  written_pass test (Source n w) h = h
-  written_pass test (Sink n w) h = h
   written_pass test (Fifo n w depth delay) h = go (has_delays version) h
     where
       go : (b : Bool) → list_all test (parts (Fifo n w depth delay)) ≡ true
           → list_all test (if b then parts (Fifo n w depth delay) else depth_parts n w depth) ≡ true
       go true k = k
-      go false k = all_front test (depth_parts n w depth) (Num 1 FIFO_DELAY delay ∷ []) k
-  written_pass test (Module n) h = h
-  written_pass test (Reg n w) h = h
-  written_pass test (Mem n w l) h = h
-  written_pass test (Block n l) h = h
-  written_pass test (Loop n ii l r) h = h
-  written_pass test (Temp n w) h = h
-  written_pass test (At off guard o) h = h
-  written_pass test (Goto b) h = h
-  written_pass test (Branch r b c) h = h
-  written_pass test Stop h = h
-  written_pass test (Input n values) h = h
-  written_pass test (Limits c o) h = h
-  written_pass test (Depth n d) h = h
-  written_pass test End h = h
+      go false k =
+          let last : List Part = Num 1 FIFO_DELAY delay ∷ [] in
+          (and_parts (list_all test (depth_parts n w depth)) (list_all test last)
+          (sym (list_all-append test (depth_parts n w depth) last) ∙ k)).0
+  written_pass test s h = h

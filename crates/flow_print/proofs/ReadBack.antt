@@ -5,8 +5,7 @@ use Rattle.std.specs.Prelude.{slice_get, reverse, ◌==◌, ◌||◌, if◌then�
 use Rattle.std.proofs.lemmas.Bool.{eqb-true}
 use Rattle.std.proofs.lemmas.List.{reverse-append}
 use Rattle.flow_design.specs.declared.limits.TheConstants.{TEXT_BYTES}
-use Rattle.flow_design.specs.declared.session.Statement.TheVariants.{Flow, Source, Sink, Fifo, Module, Reg, Mem, Block, Loop, Temp, At}
-use Rattle.flow_design.specs.declared.session.Statement.TheVariants.{Goto, Branch, Stop, Input, Limits, Depth, End}
+use Rattle.flow_design.specs.declared.session.Statement.TheVariants.{Flow, Fifo}
 use Rattle.std.specs.List.{list_all, join_with_byte, range_with_len}
 use Rattle.flow_design.specs.declared.session.Statement.{Statement}
 use Rattle.flow_grammar.specs.declared.fault.Code.{Code}
@@ -36,29 +35,13 @@ range_of earlier s h = go (list_all is_in_range (parts s)) _ h
 
 -- a statement of the version is written by what is printed of it
 writes_printed : (v : ℕ) (ts : List Token) (s : Statement) → fits_version v s ≡ true → Spelled ts (written_parts v s) → Writes v ts s
-writes_printed v ts (Flow n) f p = p
-writes_printed v ts (Source n w) f p = p
-writes_printed v ts (Sink n w) f p = p
 writes_printed v ts (Fifo n w depth delay) f p = go (has_delays v) refl f p
   where
     go : (b : Bool) → has_delays v ≡ b → b || (delay == default_delay) ≡ true
         → Spelled ts (if b then fifo_parts n w depth delay else depth_parts n w depth) → WritesFifo v ts n w depth delay
     go true h k q = inl (h, q)
     go false h k q = inr (inl (eqb-true delay default_delay k, q))
-writes_printed v ts (Module n) f p = p
-writes_printed v ts (Reg n w) f p = p
-writes_printed v ts (Mem n w l) f p = p
-writes_printed v ts (Block n l) f p = p
-writes_printed v ts (Loop n ii l r) f p = p
-writes_printed v ts (Temp n w) f p = p
-writes_printed v ts (At off guard o) f p = p
-writes_printed v ts (Goto b) f p = p
-writes_printed v ts (Branch r b c) f p = p
-writes_printed v ts Stop f p = p
-writes_printed v ts (Input n values) f p = p
-writes_printed v ts (Limits c o) f p = p
-writes_printed v ts (Depth n d) f p = p
-writes_printed v ts End f p = p
+writes_printed v ts s f p = p
 
 abbrev printed_line : ℕ → Statement → Line
 printed_line v s = join_with_byte 32 (printed_tokens v s)
@@ -122,23 +105,7 @@ all_lines [] k = (record { bytes = refl; says = refl; stands = tt }, tt)
 all_lines (Flow v ∷ ss) k =
     let here = keep_first [] (Flow v) ss k in
     (line_in_order v [] (Flow v) here (λ ts p. p), all_in_order v (Flow v ∷ []) ss (Flow v) [] refl refl (keep_rest [] (Flow v) ss k))
-all_lines (Source n w ∷ ss) k = absurd (let p = (keep_first [] (Source n w) ss k).permitted in cc)
-all_lines (Sink n w ∷ ss) k = absurd (let p = (keep_first [] (Sink n w) ss k).permitted in cc)
-all_lines (Fifo n w depth delay ∷ ss) k = absurd (let p = (keep_first [] (Fifo n w depth delay) ss k).permitted in cc)
-all_lines (Module n ∷ ss) k = absurd (let p = (keep_first [] (Module n) ss k).permitted in cc)
-all_lines (Reg n w ∷ ss) k = absurd (let p = (keep_first [] (Reg n w) ss k).permitted in cc)
-all_lines (Mem n w l ∷ ss) k = absurd (let p = (keep_first [] (Mem n w l) ss k).permitted in cc)
-all_lines (Block n l ∷ ss) k = absurd (let p = (keep_first [] (Block n l) ss k).permitted in cc)
-all_lines (Loop n ii l r ∷ ss) k = absurd (let p = (keep_first [] (Loop n ii l r) ss k).permitted in cc)
-all_lines (Temp n w ∷ ss) k = absurd (let p = (keep_first [] (Temp n w) ss k).permitted in cc)
-all_lines (At off guard o ∷ ss) k = absurd (let p = (keep_first [] (At off guard o) ss k).permitted in cc)
-all_lines (Goto b ∷ ss) k = absurd (let p = (keep_first [] (Goto b) ss k).permitted in cc)
-all_lines (Branch r b c ∷ ss) k = absurd (let p = (keep_first [] (Branch r b c) ss k).permitted in cc)
-all_lines (Stop ∷ ss) k = absurd (let p = (keep_first [] Stop ss k).permitted in cc)
-all_lines (Input n values ∷ ss) k = absurd (let p = (keep_first [] (Input n values) ss k).permitted in cc)
-all_lines (Limits c o ∷ ss) k = absurd (let p = (keep_first [] (Limits c o) ss k).permitted in cc)
-all_lines (Depth n d ∷ ss) k = absurd (let p = (keep_first [] (Depth n d) ss k).permitted in cc)
-all_lines (End ∷ ss) k = absurd (let p = (keep_first [] End ss k).permitted in cc)
+all_lines (s ∷ ss) k = absurd (let p = (keep_first [] s ss k).permitted in cc)
 
 all_printed : (v : ℕ) (front ss : List Statement) → Keep front ss → list_all (list_all is_printed) (map (printed_tokens v) ss) ≡ true
 all_printed v front [] k = refl

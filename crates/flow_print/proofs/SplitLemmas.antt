@@ -2,6 +2,7 @@
 use Rattle.std.proofs.Common.{◌≡◌, ℕ, List, [], ◌∷◌, ◌++◌, map, Bool, true, false, not, refl, ap, ◌∙◌, append_assoc, arith}
 use Rattle.std.specs.Prelude.{◌&&◌, nat_le, filter, take_while}
 use Rattle.std.specs.List.{list_all, slice_split, join_with_byte, onto_first}
+use Rattle.std.proofs.lemmas.List.Folds.{list_all-append}
 use Rattle.std.proofs.lemmas.List.Splits.{slice_split-cons_yes, slice_split-cons_no}
 use Rattle.std.proofs.lemmas.List.Sums.{take_while-cons}
 use Rattle.std.proofs.lemmas.Bool.{and_parts, and_from}
@@ -80,17 +81,13 @@ tokens_bytes r step (t ∷ ts) h =
     let parts = and_parts (is_printed t) (list_all is_printed ts) h in
     and_from (list_all r t) (list_all (list_all r) ts) (all_of is_visible r step t (token_bytes t parts.0)) (tokens_bytes r step ts parts.1)
 
-all_append : (q : ℕ → Bool) (xs ys : List ℕ) → list_all q xs ≡ true → list_all q ys ≡ true → list_all q (xs ++ ys) ≡ true
-all_append q [] ys h k = k
-all_append q (x ∷ xs) ys h k =
-    let parts = and_parts (q x) (list_all q xs) h in and_from (q x) (list_all q (xs ++ ys)) parts.0 (all_append q xs ys parts.1 k)
-
 all_joined : (r : ℕ → Bool) → r 32 ≡ true → (ts : List Token) → list_all (list_all r) ts ≡ true → list_all r (join_with_byte 32 ts) ≡ true
 all_joined r e [] h = refl
 all_joined r e (t ∷ []) h = (and_parts (list_all r t) true h).0
 all_joined r e (t ∷ u ∷ us) h =
     let parts = and_parts (list_all r t) (list_all (list_all r) (u ∷ us)) h in
-    all_append r t (32 ∷ join_with_byte 32 (u ∷ us)) parts.0
+    list_all-append r t (32 ∷ join_with_byte 32 (u ∷ us))
+    ∙ and_from (list_all r t) (list_all r (32 ∷ join_with_byte 32 (u ∷ us))) parts.0
     (and_from (r 32) (list_all r (join_with_byte 32 (u ∷ us))) e (all_joined r e (u ∷ us) parts.1))
 
 -- the bytes of a line of printed tokens may stand in a line

@@ -10,7 +10,7 @@ use flow_word::{List, OutOfMemory};
 use report_text::push_token;
 
 /// Adds `if R`, where there is a guard.
-#[tactic(auto, using(crate::proofs::Printed::printed_guards))]
+#[tactic(auto, unfolding(crate::specs::Canonical::spaced_parts))]
 pub fn print_guard(text: &mut List<u8>, guard: &Option<Name>) -> Result<(), OutOfMemory>
     ensures { OnOk result (text.new ≡ text.old ++ spaced_parts (guard_parts guard.now)) }
 {
@@ -21,7 +21,7 @@ pub fn print_guard(text: &mut List<u8>, guard: &Option<Name>) -> Result<(), OutO
 }
 
 /// Adds an operation.
-#[tactic(auto, using(crate::proofs::Printed::printed_operations))]
+#[tactic(auto, using(crate::proofs::Printed::spaced_append), unfolding(crate::specs::Canonical::spaced_parts))]
 pub fn print_operation(text: &mut List<u8>, op: &Op<Name>) -> Result<(), OutOfMemory>
     ensures { OnOk result (text.new ≡ text.old ++ spaced_parts (op_parts op.now)) }
 {

@@ -101,7 +101,6 @@ fn print_named(
 }
 
 /// Adds the line of a loop.
-#[tactic(auto, using(crate::proofs::Printed::loop_line))]
 fn print_loop(
     text: &mut List<u8>,
     name: &Name,
@@ -140,7 +139,7 @@ fn print_branch(
 }
 
 /// Adds the line of an operation with its offset and guard.
-#[tactic(auto, using(crate::proofs::Printed::timed_line))]
+#[tactic(auto, using(crate::proofs::Printed::spaced_lines))]
 fn print_timed(
     text: &mut List<u8>,
     offset: u64,

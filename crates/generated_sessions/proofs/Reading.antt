@@ -1,23 +1,23 @@
 -- The text of the session stands for it: the session keeps the rules of reading, and the text is not too long.
-use Rattle.std.proofs.Common.{◌≡◌, ◌∙◌, drop, ℕ, zero, suc, ◌+◌, ◌-◌, ◌*◌, ◌≤◌, ◌^◌, List, [], ◌∷◌, ◌++◌, length, map, take, Some, Bool}
+use Rattle.std.proofs.Common.{◌≡◌, ℕ, zero, suc, ◌+◌, ◌-◌, ◌*◌, ◌≤◌, ◌^◌, List, [], ◌∷◌, ◌++◌, length, map, take, Some}
 use Rattle.std.proofs.Common.{true, refl, sym, subst, append_assoc, append-nil, arith, length-append, slice_get, sum_by}
 use Rattle.std.specs.Prelude.{nat_le, reverse}
 use Rattle.std.specs.List.{list_all, join_with_byte, range_with_len}
 use Rattle.std.proofs.lemmas.Bool.{and_from, and_parts, leb-true}
 use Rattle.std.proofs.lemmas.Fmt.{length-decimal-le}
 use Rattle.std.proofs.lemmas.List.{reverse-append}
-use Rattle.std.proofs.lemmas.List.Folds.{list_all-append}
 use Rattle.std.proofs.lemmas.List.Concat.{flat_map-cons}
 use Rattle.std.proofs.lemmas.List.Sums.{sum_by-cons}
 use Rattle.flow_design.specs.declared.limits.TheConstants.{TEXT_BYTES}
 use Rattle.flow_design.specs.declared.session.Statement.{Statement}
 use Rattle.flow_design.specs.declared.session.Statement.TheVariants.{Fifo}
-use Rattle.flow_grammar.specs.Parts.{Part, Word, New, Use, Label, Num, depth_parts, parts}
+use Rattle.flow_grammar.specs.Parts.{Part, Word, New, Use, Label, Num, parts}
 use Rattle.flow_grammar.specs.Rules.{is_well_named, is_first_input, is_in_range, is_new, is_known, is_over, statement_fault}
 use Rattle.flow_grammar.specs.Rules.{KeepsReadingRules, KeepsRules}
 use Rattle.flow_grammar.specs.Text.{StandsFor}
 use Rattle.report_text.specs.Lines.{line, text_of_lines}
 use Rattle.flow_print.specs.Canonical.{token_of, tokens_of, written_parts, canonical_text}
+use Rattle.flow_print.proofs.PartLemmas.{written_pass}
 use Rattle.flow_print.proofs.ReadBack.{reads_back}
 use Rattle.flow_gen.specs.Generated.{drawn, session, session_of, session_text}
 use Rattle.generated_sessions.proofs.Passing.{is_brief, keeps, follow, most_parts, reads, all_read}
@@ -81,13 +81,7 @@ tokens_short (p ∷ r ∷ ps) brief ranges =
     (and_parts (is_in_range p) (list_all is_in_range (r ∷ ps)) ranges).1 in
     omega (arith, own, later, length-append (token_of p) (32 ∷ join_with_byte 32 (map token_of (r ∷ ps))))
 
--- the parts that are written under version 1 are among all the parts
-written : (s : Statement) (q : Part → Bool) → list_all q (parts s) ≡ true → list_all q (written_parts 1 s) ≡ true
-written (Fifo n w depth delay) q h =
-    let ps : List Part = depth_parts n w depth in
-    (and_parts (list_all q ps) _ (sym (list_all-append q ps (drop 4 (parts (Fifo n w depth delay)))) ∙ h)).0
-written s q h = h
-
+-- no more parts are written under version 1
 no_more : (s : Statement) → length (written_parts 1 s) ≤ length (parts s)
 no_more (Fifo n w depth delay) = omega arith
 no_more s = omega arith
@@ -95,8 +89,8 @@ no_more s = omega arith
 line_short : (earlier : List Statement) (s : Statement) → keeps earlier s ≡ true → Fits s
     → length (line (tokens_of 1 s)) ≤ 65 * most_parts s + 1
 line_short earlier s h f =
-    let brief = written s is_brief (f.covers is_brief (λ w short. short) (λ n below. refl) (and_parts _ _ h).0) in
-    let short = tokens_short (written_parts 1 s) brief (written s is_in_range f.ranges) in
+    let brief = written_pass 1 is_brief s (f.covers is_brief (λ w short. short) (λ n below. refl) (and_parts _ _ h).0) in
+    let short = tokens_short (written_parts 1 s) brief (written_pass 1 is_in_range s f.ranges) in
     omega (arith, short, no_more s, f.few, length-append (join_with_byte 32 (tokens_of 1 s)) (10 ∷ []))
 
 text_short : (earlier rest : List Statement) → follow earlier rest ≡ true → AllFit rest

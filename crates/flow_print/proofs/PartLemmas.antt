@@ -10,7 +10,7 @@ use Rattle.std.proofs.lemmas.Bool.Decides.{nat_tests}
 use Rattle.std.proofs.lemmas.List.Folds.{list_all-append}
 use Rattle.std.proofs.lemmas.Fmt.{decimal_is_IsNumeral, decimal_by_steps, decimal_nonempty}
 use Rattle.flow_design.specs.declared.expr.Expr.{Expr}
-use Rattle.flow_design.specs.declared.expr.Expr.TheVariants.{Unary, Sext, Pick}
+use Rattle.flow_design.specs.declared.expr.Expr.TheVariants.{Unary}
 use Rattle.flow_design.specs.declared.expr.UnOp.{UnOp}
 use Rattle.flow_design.specs.declared.expr.UnOp.TheVariants.{Not}
 use Rattle.flow_design.specs.declared.expr.BinOp.{BinOp}
@@ -144,16 +144,8 @@ fit_unary : (o : UnOp) (a : Expr Name) → Fit a → Fit (Unary o a)
 unfolding is_printed
 fit_unary Not a h = rw (parts_Unary Not a) h
 
-fit_sext : (k : ℕ) (a : Expr Name) → Fit a → Fit (Sext k a)
-unfolding is_printed
-fit_sext k a h = rw (parts_Sext k a) h
-
-fit_pick : (a b c : Expr Name) → Fit a → Fit b → Fit c → Fit (Pick a b c)
-unfolding is_printed
-fit_pick a b c h k l =
-    rw (parts_Pick a b c) (fit_append (expr_parts a) (expr_parts b ++ expr_parts c) h (fit_append (expr_parts b) (expr_parts c) k l))
-
 fit_expr : (e : Expr Name) → Fit e
+unfolding is_printed
 fit_expr = by_cases Name Fit (record {
   number = λ n. rw (parts_Number n) refl;
   var = λ x. rw (parts_Var x) refl;
@@ -161,8 +153,9 @@ fit_expr = by_cases Name Fit (record {
   binary = λ o a b h k. rw (parts_Binary o a b)
       (and_from (is_printed (binary_word o)) (list_all is_fit (expr_parts a ++ expr_parts b)) (fit_binary o)
       (fit_append (expr_parts a) (expr_parts b) h k));
-  sext = fit_sext;
-  pick = fit_pick;
+  sext = λ k a h. rw (parts_Sext k a) h;
+  pick = λ a b c h k l. rw (parts_Pick a b c)
+      (fit_append (expr_parts a) (expr_parts b ++ expr_parts c) h (fit_append (expr_parts b) (expr_parts c) k l));
 })
 
 fit_op : (o : Op Name) → list_all is_fit (op_parts o) ≡ true

@@ -19,6 +19,7 @@ use Rattle.cli_words.specs.Given.{IsGivenBy, positionals_of, said_of, text_of}
 use Rattle.cli_words.specs.declared.parser.Given.{Given}
 use Rattle.cli_words.specs.declared.WordFault.{WordFault}
 use Rattle.cli_words.specs.declared.WordFault.TheVariants as fault
+use Rattle.cli_words.proofs.RowLemmas.{AtCommand, AtCycles, AtOps, AtSecond, AtThird}
 use Rattle.cli_words.proofs.WalkSteps.{some_kind}
 use Rattle.cli_words.proofs.ParserLemmas.{Agrees, agrees, refuses, takes}
 use Rattle.std.specs.Prelude.{IfOk}
@@ -76,9 +77,9 @@ given_ok words u f clear rows g events cycles ops command second third = go (agr
         (text_of g.command) (text_of g.second) (text_of g.third) said.positionals
         (events said.events
         (one_text-rows f (codes "events") ∙ ap (one_of (codes "events")) rows ∙ final.events))
-        (cycles ∙ read (codes "cycles") ∙ final.cycles) (ops ∙ read (codes "ops") ∙ final.ops)
-        (command ∙ read (codes "command") ∙ final.command) (second ∙ read (codes "second") ∙ final.second)
-        (third ∙ read (codes "third") ∙ final.third) few))
+        (cycles ∙ read (codes "cycles") ∙ final.values AtCycles refl) (ops ∙ read (codes "ops") ∙ final.values AtOps refl)
+        (command ∙ read (codes "command") ∙ final.values AtCommand refl) (second ∙ read (codes "second") ∙ final.values AtSecond refl)
+        (third ∙ read (codes "third") ∙ final.values AtThird refl) few))
 
 either_way : (words : List Text) (w : WordFault) → accepted words ≡ None → IsGivenBy words (Err w)
 either_way words fault.Refused e = e

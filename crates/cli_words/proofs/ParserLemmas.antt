@@ -3,7 +3,7 @@ use Rattle.std.proofs.Common.{◌≡◌, ◌∙◌, List, [], ◌∷◌, ◌++�
 use Rattle.std.proofs.Common.{drop, fold, is_some, arith}
 use Rattle.std.specs.Prelude.{slice_get, option_and_then}
 use Rattle.std.specs.List.{AllByRecursion, list_all}
-use Rattle.std.specs.Str.{IsUtf8}
+use Rattle.std.specs.Str.{IsUtf8, bytes_eq}
 use Rattle.clap.specs.Values.{bool_text}
 use Rattle.clap.specs.Walk.{Row, Rule, default_rows, reading_by, with_values, Held, first_of, has_row, idle, is_empty, more_values}
 use Rattle.clap.specs.Walk.{nothing_held, one_of, row_text, with_default}
@@ -17,7 +17,8 @@ use Rattle.clap.proofs.SimpleLemmas.{is_nil}
 use Rattle.clap.proofs.WalkLemmas.{both}
 use Rattle.cli_words.specs.Parser.{parser}
 use Rattle.cli_words.specs.CommandWords.{Said, Text, accepted, command_of, nothing, said_from}
-use Rattle.cli_words.proofs.RowLemmas.{Rows, events_row, has_row-row_at, missing, other, own, row_at, rules, value_row}
+use Rattle.cli_words.proofs.RowLemmas.{AtEvents, Rows, Slot, has_row-row_at, id_of, missing, other, own, row, row_at, rules, text_said}
+use Rattle.cli_words.proofs.RowLemmas.{value_row}
 use Rattle.cli_words.proofs.WalkSteps.{AtMostThree, Ends, Holds, at, clear, end_of, events_filled, fails, fault_at, first_clear, passes}
 use Rattle.cli_words.proofs.WalkSteps.{rows_in, second_clear, settle_at}
 use Rattle.cli_words.proofs.ReadLemmas.{both_read}
@@ -79,11 +80,7 @@ module _ (rows : List Row) where
 
 pub record Final (said : Said) (rows : List Row) : Type 0 where
   pub events : one_of (codes "events") rows ≡ Some (bool_text said.events)
-  pub cycles : first_of (codes "cycles") rows ≡ said.cycles
-  pub ops : first_of (codes "ops") rows ≡ said.ops
-  pub command : first_of (codes "command") rows ≡ slice_get said.positionals 0
-  pub second : first_of (codes "second") rows ≡ slice_get said.positionals 1
-  pub third : first_of (codes "third") rows ≡ slice_get said.positionals 2
+  pub values : (k : Slot) → bytes_eq (codes "events") (id_of k) ≡ false → first_of (id_of k) rows ≡ text_said said k
 
 first_is : (id : Text) (o : Option Text) (rows : List Row) → row_at id rows ≡ value_row id o
     → first_of id rows ≡ o
@@ -105,22 +102,19 @@ final said rows h = go said.events refl
   where
     go : (b : Bool) → said.events ≡ b → Final said (completed rows)
     go true e =
-        let has : has_row (codes "events") rows ≡ true = has_row-row_at (codes "events") rows
-        ∙ ap is_some (h.events ∙ ap events_row e) in
+        let said_so : row_at (codes "events") rows ≡ Some (row (codes "events") (codes "true")) =
+        h AtEvents ∙ ap (λ b. value_row (codes "events") (cond b (Some (codes "true")) None)) e in
+        let has : has_row (codes "events") rows ≡ true = has_row-row_at (codes "events") rows ∙ ap is_some said_so in
         let same : completed rows ≡ rows = ap
         (λ b. cond b rows
         (with_values (codes "events") AsWritten DefaultValue (codes "false" ∷ []) rows)) has in
         subst (Final said) (sym same) (record {
-          events =
-              ap (option_and_then row_text) (h.events ∙ ap events_row e) ∙ ap (λ b. Some (bool_text b)) (sym e);
-          cycles = first_is (codes "cycles") said.cycles rows h.cycles;
-          ops = first_is (codes "ops") said.ops rows h.ops;
-          command = first_is (codes "command") (slice_get said.positionals 0) rows h.command;
-          second = first_is (codes "second") (slice_get said.positionals 1) rows h.second;
-          third = first_is (codes "third") (slice_get said.positionals 2) rows h.third;
+          events = ap (option_and_then row_text) said_so ∙ ap (λ b. Some (bool_text b)) (sym e);
+          values = λ k differs. first_is (id_of k) (text_said said k) rows (h k);
         })
     go false e =
-        let none : row_at (codes "events") rows ≡ None = h.events ∙ ap events_row e in
+        let none : row_at (codes "events") rows ≡ None =
+        h AtEvents ∙ ap (λ b. value_row (codes "events") (cond b (Some (codes "true")) None)) e in
         let has : has_row (codes "events") rows ≡ false = has_row-row_at (codes "events") rows
         ∙ ap is_some none in
         let same : completed rows ≡ rows ++ no_row ∷ [] =
@@ -131,21 +125,8 @@ final said rows h = go said.events refl
           events =
               ap (option_and_then row_text) (own (codes "events") no_row rows refl none)
               ∙ ap (λ b. Some (bool_text b)) (sym e);
-          cycles =
-              first_is (codes "cycles") said.cycles (rows ++ no_row ∷ [])
-              (other (codes "cycles") no_row rows refl ∙ h.cycles);
-          ops =
-              first_is (codes "ops") said.ops (rows ++ no_row ∷ [])
-              (other (codes "ops") no_row rows refl ∙ h.ops);
-          command =
-              first_is (codes "command") (slice_get said.positionals 0) (rows ++ no_row ∷ [])
-              (other (codes "command") no_row rows refl ∙ h.command);
-          second =
-              first_is (codes "second") (slice_get said.positionals 1) (rows ++ no_row ∷ [])
-              (other (codes "second") no_row rows refl ∙ h.second);
-          third =
-              first_is (codes "third") (slice_get said.positionals 2) (rows ++ no_row ∷ [])
-              (other (codes "third") no_row rows refl ∙ h.third);
+          values = λ k differs. first_is (id_of k) (text_said said k) (rows ++ no_row ∷ [])
+              (other (id_of k) no_row rows differs ∙ h k);
         })
 
 -- ---- the whole parse
@@ -160,11 +141,11 @@ abbrev start : Held
 start = nothing_held
 
 starts : Holds nothing nothing_held
-starts = record {
-  skip = refl;
-  settles = refl;
-  rows = record { events = refl; cycles = refl; ops = refl; command = refl; second = refl; third = refl };
-}
+starts = record { skip = refl; settles = refl; rows = none_yet }
+  where
+    none_yet : Rows nothing []
+    none_yet AtEvents = refl
+    none_yet k = refl
 
 fault_is : (words : List Text)
     → fault_of parser words ≡ or_else (fault_at (at idle 1 false nothing_held) words)

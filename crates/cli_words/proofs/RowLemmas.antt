@@ -1,5 +1,5 @@
 -- What the rows of a parse are after each use of an option or a positional.
-use Rattle.std.proofs.Common.{◌≡◌, ◌∙◌, List, [], ◌∷◌, ◌++◌, ◌||◌, Option, Some, None, refl, ap, codes, true, false, Bool, cond, append-nil}
+use Rattle.std.proofs.Common.{◌≡◌, ◌∙◌, List, [], ◌∷◌, ◌++◌, ◌||◌, Option, Some, None, refl, sym, ap, codes, true, false, Bool, cond, append-nil}
 use Rattle.std.proofs.Common.{is_some, option_map, true≢false}
 use Rattle.std.specs.Prelude.{slice_get, find}
 use Rattle.std.specs.Str.{bytes_eq}
@@ -78,92 +78,87 @@ own id r (x ∷ xs) e none = go (bytes_eq x.id id) none (own id r xs e)
 
 -- ---- all rows
 
-abbrev pub events_row : Bool → Option Row
-events_row true = Some (row (codes "events") (codes "true"))
-events_row false = None
+-- what has a row
+pub data Slot : Type 0 where
+  AtEvents AtCycles AtOps AtCommand AtSecond AtThird : Slot
+
+abbrev pub id_of : Slot → Text
+id_of AtEvents = codes "events"
+id_of AtCycles = codes "cycles"
+id_of AtOps = codes "ops"
+id_of AtCommand = codes "command"
+id_of AtSecond = codes "second"
+id_of AtThird = codes "third"
+
+-- the text that was said for it
+abbrev pub text_said : Said → Slot → Option Text
+text_said said AtEvents = cond said.events (Some (codes "true")) None
+text_said said AtCycles = said.cycles
+text_said said AtOps = said.ops
+text_said said AtCommand = slice_get said.positionals 0
+text_said said AtSecond = slice_get said.positionals 1
+text_said said AtThird = slice_get said.positionals 2
 
 abbrev pub value_row : Text → Option Text → Option Row
 value_row id = option_map (row id)
 
 -- the rows are those of what was said
-pub record Rows (said : Said) (rows : List Row) : Type 0 where
-  pub events : row_at (codes "events") rows ≡ events_row said.events
-  pub cycles : row_at (codes "cycles") rows ≡ value_row (codes "cycles") said.cycles
-  pub ops : row_at (codes "ops") rows ≡ value_row (codes "ops") said.ops
-  pub command : row_at (codes "command") rows ≡ value_row (codes "command") (slice_get said.positionals 0)
-  pub second : row_at (codes "second") rows ≡ value_row (codes "second") (slice_get said.positionals 1)
-  pub third : row_at (codes "third") rows ≡ value_row (codes "third") (slice_get said.positionals 2)
+abbrev pub Rows : Said → List Row → Type 0
+Rows said rows = (k : Slot) → row_at (id_of k) rows ≡ value_row (id_of k) (text_said said k)
 
-module _ (events : Bool) (cycles ops : Option Text) (ps : List Text) (rows : List Row) where
-  abbrev all : Said
-  all = record { events = events; cycles = cycles; ops = ops; positionals = ps }
+-- what was said for the other slots is as it was
+abbrev pub SameBut : Slot → Said → Said → Type 0
+SameBut k said now = (j : Slot) → bytes_eq (id_of k) (id_of j) ≡ false → text_said now j ≡ text_said said j
 
-  pub events_added : Rows all rows → events ≡ false
-      → Rows (record all { events = true }) (rows ++ row (codes "events") (codes "true") ∷ [])
-  events_added h e = record {
-    events = own _ _ rows refl (h.events ∙ ap events_row e);
-    cycles = other _ _ rows refl ∙ h.cycles;
-    ops = other _ _ rows refl ∙ h.ops;
-    command = other _ _ rows refl ∙ h.command;
-    second = other _ _ rows refl ∙ h.second;
-    third = other _ _ rows refl ∙ h.third;
-  }
+slot_is : (k j : Slot) → bytes_eq (id_of k) (id_of j) ≡ true → k ≡ j
+slot_is AtEvents AtEvents e = refl
+slot_is AtCycles AtCycles e = refl
+slot_is AtOps AtOps e = refl
+slot_is AtCommand AtCommand e = refl
+slot_is AtSecond AtSecond e = refl
+slot_is AtThird AtThird e = refl
+slot_is k j e = absurd cc
 
-  pub cycles_added : (v : Text) → Rows all rows → cycles ≡ None
-      → Rows (record all { cycles = Some v }) (rows ++ row (codes "cycles") v ∷ [])
-  cycles_added v h e = record {
-    events = other _ _ rows refl ∙ h.events;
-    cycles = own _ _ rows refl (h.cycles ∙ ap (value_row (codes "cycles")) e);
-    ops = other _ _ rows refl ∙ h.ops;
-    command = other _ _ rows refl ∙ h.command;
-    second = other _ _ rows refl ∙ h.second;
-    third = other _ _ rows refl ∙ h.third;
-  }
+-- a row for a slot for which nothing was said
+pub rows_more : (k : Slot) (v : Text) (said now : Said) (rows : List Row) → Rows said rows → text_said said k ≡ None
+    → text_said now k ≡ Some v → SameBut k said now → Rows now (rows ++ row (id_of k) v ∷ [])
+rows_more k v said now rows h none some same j = go (bytes_eq (id_of k) (id_of j)) refl
+  where
+    go : (b : Bool) → bytes_eq (id_of k) (id_of j) ≡ b
+        → row_at (id_of j) (rows ++ row (id_of k) v ∷ []) ≡ value_row (id_of j) (text_said now j)
+    go false e = other (id_of j) (row (id_of k) v) rows e ∙ h j ∙ ap (value_row (id_of j)) (sym (same j e))
+    go true e =
+        let here : k ≡ j = slot_is k j e in
+        own (id_of j) (row (id_of k) v) rows e (h j ∙ ap (value_row (id_of j)) (sym (ap (text_said said) here) ∙ none))
+        ∙ ap (λ (i : Slot). Some (row (id_of i) v)) here
+        ∙ ap (value_row (id_of j)) (sym (sym (ap (text_said now) here) ∙ some))
 
-  pub ops_added : (v : Text) → Rows all rows → ops ≡ None
-      → Rows (record all { ops = Some v }) (rows ++ row (codes "ops") v ∷ [])
-  ops_added v h e = record {
-    events = other _ _ rows refl ∙ h.events;
-    cycles = other _ _ rows refl ∙ h.cycles;
-    ops = own _ _ rows refl (h.ops ∙ ap (value_row (codes "ops")) e);
-    command = other _ _ rows refl ∙ h.command;
-    second = other _ _ rows refl ∙ h.second;
-    third = other _ _ rows refl ∙ h.third;
-  }
+-- ---- what each use leaves as it was
 
-module _ (events : Bool) (cycles ops : Option Text) (rows : List Row) where
-  abbrev having : List Text → Said
+pub events_same : (said : Said) → SameBut AtEvents said (record said { events = true })
+events_same said AtEvents e = absurd cc
+events_same said j e = refl
+
+pub cycles_same : (said : Said) (v : Text) → SameBut AtCycles said (record said { cycles = Some v })
+cycles_same said v AtCycles e = absurd cc
+cycles_same said v j e = refl
+
+pub ops_same : (said : Said) (v : Text) → SameBut AtOps said (record said { ops = Some v })
+ops_same said v AtOps e = absurd cc
+ops_same said v j e = refl
+
+module _ (events : Bool) (cycles ops : Option Text) where
+  abbrev pub having : List Text → Said
   having ps = record { events = events; cycles = cycles; ops = ops; positionals = ps }
 
-  pub command_added : (v : Text) → Rows (having []) rows
-      → Rows (having (v ∷ [])) (rows ++ row (codes "command") v ∷ [])
-  command_added v h = record {
-    events = other _ _ rows refl ∙ h.events;
-    cycles = other _ _ rows refl ∙ h.cycles;
-    ops = other _ _ rows refl ∙ h.ops;
-    command = own _ _ rows refl h.command;
-    second = other _ _ rows refl ∙ h.second;
-    third = other _ _ rows refl ∙ h.third;
-  }
+  pub first_same : (v : Text) → SameBut AtCommand (having []) (having (v ∷ []))
+  first_same v AtCommand e = absurd cc
+  first_same v j e = refl
 
-  pub second_added : (a v : Text) → Rows (having (a ∷ [])) rows
-      → Rows (having (a ∷ v ∷ [])) (rows ++ row (codes "second") v ∷ [])
-  second_added a v h = record {
-    events = other _ _ rows refl ∙ h.events;
-    cycles = other _ _ rows refl ∙ h.cycles;
-    ops = other _ _ rows refl ∙ h.ops;
-    command = other _ _ rows refl ∙ h.command;
-    second = own _ _ rows refl h.second;
-    third = other _ _ rows refl ∙ h.third;
-  }
+  pub second_same : (a v : Text) → SameBut AtSecond (having (a ∷ [])) (having (a ∷ v ∷ []))
+  second_same a v AtSecond e = absurd cc
+  second_same a v j e = refl
 
-  pub third_added : (a b v : Text) → Rows (having (a ∷ b ∷ [])) rows
-      → Rows (having (a ∷ b ∷ v ∷ [])) (rows ++ row (codes "third") v ∷ [])
-  third_added a b v h = record {
-    events = other _ _ rows refl ∙ h.events;
-    cycles = other _ _ rows refl ∙ h.cycles;
-    ops = other _ _ rows refl ∙ h.ops;
-    command = other _ _ rows refl ∙ h.command;
-    second = other _ _ rows refl ∙ h.second;
-    third = own _ _ rows refl h.third;
-  }
+  pub third_same : (a b v : Text) → SameBut AtThird (having (a ∷ b ∷ [])) (having (a ∷ b ∷ v ∷ []))
+  third_same a b v AtThird e = absurd cc
+  third_same a b v j e = refl

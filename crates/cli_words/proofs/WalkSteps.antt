@@ -12,8 +12,9 @@ use Rattle.clap.specs.declared.error.kind.ErrorKind.TheVariants as kind
 use Rattle.cli_words.specs.Parser.{cycles_rule, events_rule, ops_rule}
 use Rattle.cli_words.specs.CommandWords.{Cycles, Key, Ops, Said, Text, Unknown, Word, command_of, option_named, with_events, with_option}
 use Rattle.cli_words.specs.CommandWords.{with_positionals, with_value, without_value}
-use Rattle.cli_words.proofs.RowLemmas.{Rows, added, command_added, cycles_added, events_added, events_row, has_row-row_at, ops_added, row}
-use Rattle.cli_words.proofs.RowLemmas.{row_at, rules, second_added, third_added, top}
+use Rattle.cli_words.proofs.RowLemmas.{AtCommand, AtCycles, AtEvents, AtOps, AtSecond, AtThird, Rows, added, cycles_same, events_same}
+use Rattle.cli_words.proofs.RowLemmas.{first_same, has_row-row_at, having as said_with, ops_same, row_at, rows_more, rules, second_same}
+use Rattle.cli_words.proofs.RowLemmas.{text_said, third_same, top, value_row}
 use Rattle.cli_words.proofs.AcceptedLemmas.{given}
 
 -- ---- kinds of fault
@@ -156,28 +157,28 @@ using Cycles v said rows h = go said.cycles refl
     go : (c : Option Text) → said.cycles ≡ c → Used Cycles v said rows
     go (Some x) e =
         repeated (value_fails Cycles v rows
-        (has_no _ rows _ (h.cycles ∙ ap (option_map (row (codes "cycles"))) e)))
+        (has_no _ rows _ (h AtCycles ∙ ap (value_row (codes "cycles")) e)))
         (ap (λ (c : Option Text). cond (is_some c) None (Some (record said { cycles = Some v }))) e)
     go None e =
         unused (record said { cycles = Some v })
         (ap (λ (c : Option Text). cond (is_some c) None (Some (record said { cycles = Some v }))) e)
-        (value_passes Cycles v rows (has_no _ rows _ (h.cycles ∙ ap (option_map (row (codes "cycles"))) e)))
+        (value_passes Cycles v rows (has_no _ rows _ (h AtCycles ∙ ap (value_row (codes "cycles")) e)))
         (subst (Rows (record said { cycles = Some v }))
-        (sym (added (codes "cycles") v rows (h.cycles ∙ ap (option_map (row (codes "cycles"))) e)))
-        (cycles_added said.events said.cycles said.ops said.positionals rows v h e)) refl
+        (sym (added (codes "cycles") v rows (h AtCycles ∙ ap (value_row (codes "cycles")) e)))
+        (rows_more AtCycles v said (record said { cycles = Some v }) rows h e refl (cycles_same said v))) refl
 using Ops v said rows h = go said.ops refl
   where
     go : (c : Option Text) → said.ops ≡ c → Used Ops v said rows
     go (Some x) e =
-        repeated (value_fails Ops v rows (has_no _ rows _ (h.ops ∙ ap (option_map (row (codes "ops"))) e)))
+        repeated (value_fails Ops v rows (has_no _ rows _ (h AtOps ∙ ap (value_row (codes "ops")) e)))
         (ap (λ (c : Option Text). cond (is_some c) None (Some (record said { ops = Some v }))) e)
     go None e =
         unused (record said { ops = Some v })
         (ap (λ (c : Option Text). cond (is_some c) None (Some (record said { ops = Some v }))) e)
-        (value_passes Ops v rows (has_no _ rows _ (h.ops ∙ ap (option_map (row (codes "ops"))) e)))
+        (value_passes Ops v rows (has_no _ rows _ (h AtOps ∙ ap (value_row (codes "ops")) e)))
         (subst (Rows (record said { ops = Some v }))
-        (sym (added (codes "ops") v rows (h.ops ∙ ap (option_map (row (codes "ops"))) e)))
-        (ops_added said.events said.cycles said.ops said.positionals rows v h e)) refl
+        (sym (added (codes "ops") v rows (h AtOps ∙ ap (value_row (codes "ops")) e)))
+        (rows_more AtOps v said (record said { ops = Some v }) rows h e refl (ops_same said v))) refl
 
 pub data Flagged (said : Said) (rows : List Row) : Type 0 where
   again : (use_fault false events_filled [] rows ≡ [] → ⊥) → with_events said ≡ None → Flagged said rows
@@ -189,14 +190,15 @@ flagging said rows h = go said.events refl
   where
     go : (b : Bool) → said.events ≡ b → Flagged said rows
     go true e =
-        again (flag_fails rows (has_no _ rows _ (h.events ∙ ap events_row e)))
+        again (flag_fails rows (has_no _ rows _ (h AtEvents ∙ ap (λ b. value_row (codes "events") (cond b (Some (codes "true")) None)) e)))
         (ap (λ b. cond b None (Some (record said { events = true }))) e)
     go false e =
+        let none : text_said said AtEvents ≡ None = ap (λ b. cond b (Some (codes "true")) None) e in
+        let no_row : row_at (codes "events") rows ≡ None = h AtEvents ∙ ap (value_row (codes "events")) none in
         once (ap (λ b. cond b None (Some (record said { events = true }))) e)
-        (flag_passes rows (has_no _ rows _ (h.events ∙ ap events_row e)))
-        (subst (Rows (record said { events = true }))
-        (sym (added (codes "events") (codes "true") rows (h.events ∙ ap events_row e)))
-        (events_added said.events said.cycles said.ops said.positionals rows h e))
+        (flag_passes rows (has_no _ rows _ no_row))
+        (subst (Rows (record said { events = true })) (sym (added (codes "events") (codes "true") rows no_row))
+        (rows_more AtEvents (codes "true") said (record said { events = true }) rows h none refl (events_same said)))
 
 -- ---- positionals
 
@@ -248,7 +250,7 @@ slot_passes id i word rows e = ap (λ b. or_else (cond (b && true) (kind.Argumen
 
 module _ (events : Bool) (cycles ops : Option Text) (t : Bool) (h : Held) (word : Text) where
   abbrev having : List Text → Said
-  having ps = record { events = events; cycles = cycles; ops = ops; positionals = ps }
+  having ps = said_with events cycles ops ps
 
   pub placing : (ps : List Text) → Holds (having ps) h → length ps ≤ 3 → Placed (having ps) t h word
   placing [] holds few =
@@ -260,11 +262,12 @@ module _ (events : Bool) (cycles ops : Option Text) (t : Bool) (h : Held) (word 
         skip = holds.skip;
         settles =
             slot_passes (codes "command") 1 word (rows_in h)
-            (has_no (codes "command") (rows_in h) _ holds.rows.command);
+            (has_no (codes "command") (rows_in h) _ (holds.rows AtCommand));
         rows =
             subst (Rows (having (word ∷ [])))
-            (sym (added (codes "command") word (rows_in h) holds.rows.command))
-            (command_added events cycles ops (rows_in h) word holds.rows);
+            (sym (added (codes "command") word (rows_in h) (holds.rows AtCommand)))
+            (rows_more AtCommand word (having []) (having (word ∷ [])) (rows_in h) holds.rows refl refl
+            (first_same events cycles ops word));
       }) (omega arith)
   placing (a ∷ []) holds few =
       placed (holding (slot 2 (codes "second")) word h)
@@ -275,11 +278,12 @@ module _ (events : Bool) (cycles ops : Option Text) (t : Bool) (h : Held) (word 
         skip = holds.skip;
         settles =
             slot_passes (codes "second") 2 word (rows_in h)
-            (has_no (codes "second") (rows_in h) _ holds.rows.second);
+            (has_no (codes "second") (rows_in h) _ (holds.rows AtSecond));
         rows =
             subst (Rows (having (a ∷ word ∷ [])))
-            (sym (added (codes "second") word (rows_in h) holds.rows.second))
-            (second_added events cycles ops (rows_in h) a word holds.rows);
+            (sym (added (codes "second") word (rows_in h) (holds.rows AtSecond)))
+            (rows_more AtSecond word (having (a ∷ [])) (having (a ∷ word ∷ [])) (rows_in h) holds.rows refl refl
+            (second_same events cycles ops a word));
       }) (omega arith)
   placing (a ∷ b ∷ []) holds few =
       placed (holding (slot 3 (codes "third")) word h) (fault_is (slot 3 (codes "third")) h refl holds.settles)
@@ -289,11 +293,12 @@ module _ (events : Bool) (cycles ops : Option Text) (t : Bool) (h : Held) (word 
         skip = holds.skip;
         settles =
             slot_passes (codes "third") 3 word (rows_in h)
-            (has_no (codes "third") (rows_in h) _ holds.rows.third);
+            (has_no (codes "third") (rows_in h) _ (holds.rows AtThird));
         rows =
             subst (Rows (having (a ∷ b ∷ word ∷ [])))
-            (sym (added (codes "third") word (rows_in h) holds.rows.third))
-            (third_added events cycles ops (rows_in h) a b word holds.rows);
+            (sym (added (codes "third") word (rows_in h) (holds.rows AtThird)))
+            (rows_more AtThird word (having (a ∷ b ∷ [])) (having (a ∷ b ∷ word ∷ [])) (rows_in h) holds.rows refl refl
+            (third_same events cycles ops a b word));
       }) (omega arith)
   placing (a ∷ b ∷ c ∷ []) holds few = stray (λ e. some_kind _ _ e) (omega arith)
   placing (a ∷ b ∷ c ∷ d ∷ rest) holds few = absurd (omega arith)

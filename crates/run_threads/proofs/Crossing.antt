@@ -5,6 +5,8 @@ use denote.Struct.Declared.{shape}
 use Rattle.std.proofs.Crossing.{crosses}
 use Rattle.flow_word.specs.contracts.list.List as list_of
 use Rattle.flow_word.proofs.list.List.TheSendSync as list
+use Rattle.flow_word.specs.contracts.queue.Queue as queue_of
+use Rattle.flow_word.proofs.queue.Queue.TheSendSync as queue
 use Rattle.flow_word.proofs.boxed.Boxed.TheSendSync as boxed
 use Rattle.flow_word.proofs.width.Width.TheSendSync as width
 use Rattle.flow_word.proofs.access.Access.TheSendSync as access
@@ -157,8 +159,14 @@ core_field =
                         (
                           words_send,
                           (
-                            list.the_send _ reply.the_send,
-                            ((search (candidate.the_send, crosses, sendable) depth 30 fits 5000), (changes.the_field_send, tt)),
+                            plain_send _ _ _ _ _,
+                            (
+                              list.the_send (queue_of.the_row u64) (queue.the_send u64 (plain_send _ _ _ _ _)),
+                              (
+                                list.the_send _ reply.the_send,
+                                ((search (candidate.the_send, crosses, sendable) depth 30 fits 5000), (changes.the_field_send, tt)),
+                              ),
+                            ),
                           ),
                         ),
                       ),

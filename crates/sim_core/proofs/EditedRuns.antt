@@ -28,7 +28,6 @@ use Rattle.fifo_table.specs.declared.channel.TableChannel.TheVariants.{Sink}
 use Rattle.fifo_table.specs.Channels.{Channel, IsFifo, channel_at, deepened, depth_of, unused}
 use Rattle.fifo_table.specs.Channels.{with_depth as with_depths}
 use Rattle.event_timing.specs.Core.{Core}
-use Rattle.timing_bridge.specs.Designs.{design}
 use Rattle.timing_bridge.proofs.Edits.{edited_fits}
 use Rattle.engine_view.specs.Taking.{kinds_in}
 use Rattle.sim_core.specs.Opening.{kind_by, kind_in, kinds_of, source_values}

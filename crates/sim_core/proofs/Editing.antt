@@ -1,5 +1,5 @@
 -- A final core behind an edit of its plan.
-use Rattle.std.proofs.Common.{◌≡◌, refl, sym, ap, subst, ◌∙◌, ℕ, ◌+◌, ◌≤◌, inl, inr, Bool, List, [], length, map}
+use Rattle.std.proofs.Common.{◌≡◌, refl, sym, ap, subst, ◌∙◌, ℕ, ◌+◌, ◌≤◌, inl, inr, Bool, List, length, map}
 use Rattle.std.proofs.Common.{set, Option, Some, None, unwrap_or, ◌⊎◌, arith}
 use Rattle.std.specs.Prelude.{IfSome, IsNone}
 use Rattle.std.proofs.lemmas.List.{length-map, set-get_or}
@@ -19,7 +19,6 @@ use Rattle.outcome_guard.specs.declared.guard.Guard.TheVariants.{Same, Differs}
 use Rattle.event_timing.specs.Machines.{Design, IsDesign}
 use Rattle.event_timing.specs.Core.{Core}
 use Rattle.event_timing.specs.Actions.{IsFinal}
-use Rattle.event_timing.specs.Actions.Action.{Run}
 use Rattle.event_timing.specs.Agreement.{AreOwnMarks, IsAgreed}
 use Rattle.event_timing.specs.Edits.{edited, after_edit}
 use Rattle.event_timing.specs.Growth.{GrowsBeside}

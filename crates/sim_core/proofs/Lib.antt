@@ -46,3 +46,4 @@ pub mod AccessLogs
 pub mod Given
 pub mod SetFew
 pub mod SameSteps
+pub mod Asking

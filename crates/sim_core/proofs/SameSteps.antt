@@ -1,5 +1,5 @@
 -- Where the steps and the outcomes are the same, so are the marks: what is held may differ in cycles and in the depth of a FIFO.
-use Rattle.std.proofs.Common.{◌≡◌, refl, sym, ap, ap₂, subst, ◌∙◌, ℕ, zero, suc, ◌<◌, ◌≤◌, inl, inr, Bool, true, cond, ltb, ◌&&◌, ◌++◌}
+use Rattle.std.proofs.Common.{◌≡◌, sym, ap, ap₂, subst, ◌∙◌, ℕ, zero, suc, ◌<◌, ◌≤◌, inl, inr, Bool, ltb, ◌&&◌, ◌++◌}
 use Rattle.std.proofs.Common.{List, [], length, map, drop, get_or, arith}
 use Rattle.std.specs.Prelude.{slice_index_or, false}
 use Rattle.std.proofs.Math.ListN.{get_or-map}
@@ -20,7 +20,7 @@ use Rattle.event_timing.specs.Growth.{GrowsBeside}
 use Rattle.event_timing.proofs.Fronts.{tally_same, pushed_same}
 use Rattle.event_timing.proofs.OwnRuns.{own_0, own_more}
 use Rattle.event_timing.proofs.Values.{begins_self}
-use Rattle.engine_view.specs.Held.{Held, step_of, no_step, emitted_of, seen, flags_by, flags_of, are_among, has_all, waited, core_of}
+use Rattle.engine_view.specs.Held.{Held, no_step, emitted_of, seen, flags_by, flags_of, are_among, has_all, waited, core_of}
 use Rattle.engine_view.specs.Shown.{IsSound}
 use Rattle.retime.specs.Rounds.{only_steps}
 

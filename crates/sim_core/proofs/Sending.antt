@@ -1,9 +1,9 @@
 -- What a run's counts, the log and the table tell of its mail is what the core tells.
-use Rattle.std.proofs.Common.{◌≡◌, refl, sym, ap, ap₂, ◌∙◌, ℕ, zero, suc, ◌+◌, ◌<◌, ◌≤◌, Bool, true, false, not, cond, eqb, inl, inr}
-use Rattle.std.proofs.Common.{List, [], ◌∷◌, ◌++◌, length, map, take, drop, get_or, slice_index, slice_get, Some, arith}
-use Rattle.std.proofs.lemmas.List.{get_or_past}
+use Rattle.std.proofs.Common.{◌≡◌, refl, sym, ap, ap₂, ◌∙◌, ℕ, suc, ◌+◌, ◌<◌, ◌≤◌, Bool, true, false, not, cond, eqb, inl, inr}
+use Rattle.std.proofs.Common.{List, [], ◌∷◌, length, map, take, drop, get_or, set, slice_index, slice_index_or, slice_get, Some, arith}
+use Rattle.std.proofs.lemmas.List.{get_or_past, get_or-set_same, get_or-set_other, length-set}
 use Rattle.std.proofs.lemmas.Bool.Decides.{eqb_tells}
-use Rattle.std.proofs.lemmas.Bool.{cases_Bool, cond-true, cond-false, cases_lt, eq-eqb}
+use Rattle.std.proofs.lemmas.Bool.{cases_eq, cases_Bool, cond-true, cond-false, cases_lt, eq-eqb}
 use Rattle.flow_word.specs.declared.access.Access.{Access}
 use Rattle.flow_word.specs.declared.access.Side.{Side}
 use Rattle.flow_word.specs.declared.access.Side.TheVariants.{Pop, Push}
@@ -117,34 +117,19 @@ eqb_not a b n = elim (eqb_tells a b) [ inl t ↦ absurd (n t.1) | inr t ↦ t.0 
 
 -- one channel more is read
 pub mailed_more : (channels : List Channel) (readers : List ℕ) (m : ℕ) (popped : List ℕ) (values more : List (List ℕ)) (n : ℕ)
-    (words : List ℕ) → AreMailed channels readers m popped values n → more ≡ values ++ words ∷ []
-    → words ≡ mailed channels readers m popped n → AreMailed channels readers m popped more (n + 1)
-mailed_more channels readers m popped values more n words k e w = record {
-  count = ap length e ∙ (length_push values words ∙ ap (λ (i : ℕ). i + 1) k.count);
-  each = λ c l.
-      elim (cases_lt c n) [
-        | inl q ↦ ap (λ (xs : List (List ℕ)). get_or xs c []) e ∙ (get_or_front values (words ∷ []) c [] (let a = k.count in omega arith)
-            ∙ k.each c q)
-        | inr q ↦
-            let here : c ≡ n = omega arith in
-            ap (λ (xs : List (List ℕ)). get_or xs c []) e
-            ∙ (ap (λ (i : ℕ). get_or (values ++ words ∷ []) i []) (here ∙ sym k.count)
-            ∙ (at_end values words ∙ (w ∙ ap (mailed channels readers m popped) (sym here))))
-      ];
-}
-  where
-    length_push : (xs : List (List ℕ)) (x : List ℕ) → length (xs ++ x ∷ []) ≡ length xs + 1
-    length_push [] x = refl
-    length_push (y ∷ xs) x = let q = length_push xs x in omega arith
-
-    get_or_front : (xs ys : List (List ℕ)) (i : ℕ) (d : List ℕ) → i < length xs → get_or (xs ++ ys) i d ≡ get_or xs i d
-    get_or_front [] ys i d l = absurd (omega arith)
-    get_or_front (x ∷ xs) ys zero d l = refl
-    get_or_front (x ∷ xs) ys (suc i) d l = get_or_front xs ys i d (omega arith)
-
-    at_end : (xs : List (List ℕ)) (x : List ℕ) → get_or (xs ++ x ∷ []) (length xs) [] ≡ x
-    at_end [] x = refl
-    at_end (y ∷ xs) x = at_end xs x
+    (words : List ℕ) → length values ≡ length readers → n < length readers
+    → ((c : ℕ) → c < n → slice_index_or values c [] ≡ mailed channels readers m popped c) → more ≡ set values n words
+    → words ≡ mailed channels readers m popped n
+    → (length more ≡ length readers) × ((c : ℕ) → c < n + 1 → slice_index_or more c [] ≡ mailed channels readers m popped c)
+mailed_more channels readers m popped values more n words count inside each e w = (
+  ap length e ∙ (length-set values n words ∙ count),
+  λ c l.
+      elim (cases_eq c n) [
+        | inl here ↦ ap (λ (xs : List (List ℕ)). get_or xs c []) e ∙ (ap (λ (i : ℕ). get_or (set values n words) i []) here
+            ∙ (get_or-set_same values n words [] (omega arith) ∙ (w ∙ ap (mailed channels readers m popped) (sym here))))
+        | inr other ↦ ap (λ (xs : List (List ℕ)). get_or xs c []) e ∙ (get_or-set_other values n c words [] other ∙ each c (omega arith))
+      ],
+)
 
 -- behind n steps of a core
 module _ (p : Plan) (f : FitsEngine p) (h : Held) (table : kinds_in h.channels ≡ kinds_of p) (s : IsSound (design p) h)

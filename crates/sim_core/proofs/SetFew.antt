@@ -1,12 +1,11 @@
 -- An edit and the actions behind it set few cycles.
-use Rattle.std.proofs.Common.{◌≡◌, refl, sym, ap, subst, ◌∙◌, ℕ, suc, ◌+◌, ◌≤◌, inl, inr, ◌⊎◌, List, [], ◌∷◌, length, map}
+use Rattle.std.proofs.Common.{◌≡◌, refl, ap, subst, ◌∙◌, ℕ, suc, ◌+◌, ◌≤◌, inl, inr, List, [], ◌∷◌, length, map}
 use Rattle.std.proofs.Common.{not, arith}
 use Rattle.std.specs.Prelude.{nat_lt}
 use Rattle.std.proofs.lemmas.List.Filters.{length-filter_both}
 use Rattle.std.proofs.lemmas.List.Sums.{sum_by-cons}
 use Rattle.flow_design.specs.declared.plan.Edit.{Edit}
 use Rattle.flow_design.specs.declared.plan.Plan.{Plan}
-use Rattle.flow_design.specs.Plans.{with_depth}
 use Rattle.flow_word.specs.declared.access.Step.{Step}
 use Rattle.flow_design.specs.declared.state.ModuleState.{ModuleState}
 use Rattle.event_graph.specs.Lanes.{Lane, lane_at, timed_below}
@@ -21,7 +20,7 @@ use Rattle.sim_core.specs.Views.{CoreView, theory_of}
 use Rattle.sim_core.specs.Drives.{Goes, given}
 use Rattle.sim_core.specs.Edits.{IsAsBefore, IsRetimed, IsChanged}
 use Rattle.sim_core.specs.Records.{IsEditedOn}
-use Rattle.sim_core.specs.Costs.{HasSetFew, kept_below}
+use Rattle.sim_core.specs.Costs.{HasSetFew}
 use Rattle.sim_core.proofs.Given.{goes_cycles}
 use Rattle.sim_core.proofs.SameSteps.{same_steps}
 

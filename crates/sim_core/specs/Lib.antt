@@ -19,3 +19,4 @@ pub mod Missing
 pub mod Acted
 pub mod AccessLog
 pub mod Costs
+pub mod Asking

@@ -23,6 +23,7 @@ use Rattle.engine_view.specs.Stored.{Stored, held_in}
 use Rattle.engine_view.specs.Taking.{kinds_in}
 use Rattle.sim_core.specs.Opening.{kinds_of, AreOwnPorts}
 use Rattle.sim_core.specs.Readers.{AreReaders}
+use Rattle.sim_core.specs.Asking.{AreBeside, AreAsking}
 use Rattle.sim_core.specs.Unread.{AreUnread}
 use Rattle.sim_core.specs.declared.unread.Unread.{Unread}
 
@@ -78,13 +79,15 @@ abbrev pub AreUnreadIn : Plan → Stored → List (Option Advance) → List Unre
 AreUnreadIn p s ends unread = AreUnread (core_values (design p) (core_of (design p) (held_in s (over_of ends)))) (length p.design.channels)
     unread
 
--- and each module has its own ports, which are given room, it is told who pops each channel, and what came back unread, and there is a
--- candidate for each module
+-- and each module has its own ports, which are given room, it is told who pops each channel, what came back unread, who shares a channel
+-- with whom and who may be given a cycle or an answer, and there is a candidate for each module
 pub record IsStoredCore (p : Plan) (s : Stored) (ends : List (Option Advance)) (runs : List (Option ModuleRun)) (credits : List ℕ)
     (ports : List (List Port))
-    (readers : List ℕ) (unread : List Unread) (candidates : List Candidate) : Type 0 where
+    (readers : List ℕ) (unread : List Unread) (beside : List ℕ) (asking : ℕ) (candidates : List Candidate) : Type 0 where
   pub core : IsCore p s ends runs credits
   pub ports_are : AreOwnPorts p (length p.design.modules) ports
   pub readers_are : AreReaders p readers
   pub unread_are : AreUnreadIn p s ends unread
+  pub beside_are : AreBeside p beside
+  pub asking_are : AreAsking p (core_of (design p) (held_in s (over_of ends))) asking
   pub candidate_count : length candidates ≡ length p.design.modules

@@ -1,66 +1,93 @@
-//! Which modules share a channel with each module. It serves for hints alone, so no clause speaks of it.
+//! Which modules may be given a cycle or an answer, and which share a channel with one that was.
+ghost use Rattle.std.specs.Prelude.{◌≡◌, ◌≢◌, ◌<◌, ℕ, All, true, false, length, slice_index, IfOk};
 ghost use Rattle.flow_design.specs.StaticRules.{FitsEngine};
+ghost use Rattle.flow_word.specs.Kinds.{other_side};
+ghost use Rattle.flow_word.specs.declared.access.Side.TheVariants.{Push};
+ghost use Rattle.timing_bridge.specs.Designs.{design};
+ghost use Rattle.engine_view.specs.Hints.{IsHinted};
+ghost use Rattle.engine_view.specs.Turns.{is_progress};
+ghost use Rattle.engine_view.specs.declared.turn.Timing.TheVariants.{Nothing};
+ghost use Rattle.sim_core.specs.Asking.{IsUnhinted, AreAcross, AreBeside};
+ghost use Rattle.sim_core.specs.Opening.{AreOwnPorts};
+ghost use Rattle.sim_core.specs.Readers.{AreReaders, AreUsers};
 
-use engine_view::bit_of;
-use flow_design::{Block, Module, Plan};
-use flow_word::{List, OutOfMemory, Words};
+use crate::opening::ports_of;
+use engine_view::{Timing, bit_of};
+use flow_design::Plan;
+use flow_word::{List, OutOfMemory, Port, Side, Words};
 use std::alloc::Global;
 
-/// The bits that stand at a number; 0 where none stand there.
-pub(crate) fn bits_at(bits: &[u64], number: u32) -> u64 {
-    bits.get(number as usize).copied().unwrap_or(0)
-}
-
-/// Adds bits to those at a number.
-fn add_bits(all: &mut [u64], number: u32, bits: u64) {
-    if let Some(old) = all.get_mut(number as usize) {
-        *old |= bits;
+/// The module at the other end of a port's channel; the number of modules where none is.
+fn across(plan: &Plan, port: Port, readers: &[u32], writers: &[u32]) -> u32
+    requires within { port.channel < length plan.now.design.channels }
+    requires readers { AreReaders plan.now readers.now }
+    requires writers { AreUsers plan.now Push writers.now }
+    ensures { result ≡ (design plan.now).owner (other_side port.side) port.channel }
+{
+    let at = port.channel as usize;
+    match port.side {
+        Side::Pop => writers[at],
+        Side::Push => readers[at],
     }
 }
 
-/// Adds a module's bit at each channel of a block.
-fn add_block(block: &Block, owner: u32, users: &mut [u64]) {
-    for timed in block.ops.as_slice() {
-        if let Some((_, channel)) = timed.op.access() {
-            add_bits(users, channel, bit_of(owner));
-        }
+/// The modules at the other ends of these ports' channels, as bits.
+fn bits_across(plan: &Plan, ports: &[Port], readers: &[u32], writers: &[u32]) -> u64
+    requires within { All (λ port. port.channel < length plan.now.design.channels) ports.now }
+    requires readers { AreReaders plan.now readers.now }
+    requires writers { AreUsers plan.now Push writers.now }
+    ensures { AreAcross plan.now ports.now result }
+{
+    let mut bits = 0;
+    for port in ports {
+        bits |= bit_of(across(plan, *port, readers, writers));
     }
-}
-
-/// Adds a module's bit at each of its channels.
-fn add_module(of: &Module, owner: u32, users: &mut [u64]) {
-    for block in of.blocks.as_slice() {
-        add_block(block, owner, users);
-    }
-}
-
-/// Adds the users of a channel to those beside each of them.
-fn spread(users: u64, modules: u32, beside: &mut [u64]) {
-    for owner in 0..modules {
-        if users & bit_of(owner) != 0 {
-            add_bits(beside, owner, users & !bit_of(owner));
-        }
-    }
+    bits
 }
 
 /// Of each module the others that use one of its channels, as bits.
-pub(crate) fn find_beside(alloc: Global, plan: &Plan) -> Result<Words, OutOfMemory>
-    requires { FitsEngine plan.now }
+pub(crate) fn find_beside(
+    alloc: Global,
+    plan: &Plan,
+    ports: &List<List<Port>>,
+    readers: &[u32],
+    writers: &[u32],
+) -> Result<Words, OutOfMemory>
+    requires fits { FitsEngine plan.now }
+    requires ports { AreOwnPorts plan.now (length plan.now.design.modules) ports.now }
+    requires readers { AreReaders plan.now readers.now }
+    requires writers { AreUsers plan.now Push writers.now }
+    ensures { IfOk result (λ beside. AreBeside plan.now beside) }
 {
-    let modules = plan.design.modules.as_slice();
-    let count = modules.len() as u32;
-    let mut users = List::zeros(alloc, plan.design.channels.len())?;
-    for owner in 0..count {
-        add_module(&modules[owner as usize], owner, users.as_mut_slice());
+    let mut beside = List::with_room(alloc, ports.len())?;
+    for owner in 0..ports.len() as u32 {
+        let bits = bits_across(plan, ports_of(ports, owner), readers, writers);
+        beside.push(bits)?;
     }
-    let mut beside = List::zeros(alloc, count as u64)?;
-    spread_all(users.as_slice(), count, beside.as_mut_slice());
     Ok(beside)
 }
 
-/// Adds the users of all channels to those beside each of them.
-fn spread_all(users: &[u64], modules: u32, beside: &mut [u64]) {
-    for bits in users {
-        spread(*bits, modules, beside);
+/// Which modules may be given a cycle or an answer after this was done of one: itself and those that share a channel with it, beside those
+/// that might before. Where nothing was permitted, all but itself.
+pub(crate) fn asking_after(asking: u64, beside: &[u64], owner: u32, timing: &Timing) -> u64
+    requires { owner < length beside.now }
+    ensures others { (n : ℕ) → n < 64 → n ≢ owner → IsUnhinted result n → IsUnhinted asking n }
+    ensures own { timing.now ≢ Nothing → IsUnhinted result owner → IsUnhinted asking owner }
+    ensures acted { is_progress timing.now ≡ true → owner < 64 → IsHinted result owner }
+    ensures beside { is_progress timing.now ≡ true → (n : ℕ) → IsUnhinted result n → IsUnhinted (slice_index beside.now owner) n }
+{
+    match timing {
+        Timing::Assigned(_) | Timing::Answered(_) => {
+            asking | beside[owner as usize] | bit_of(owner)
+        }
+        Timing::Differs(_) => asking,
+        Timing::Nothing => asking & !bit_of(owner),
     }
+}
+
+/// Whether a module may be given a cycle or an answer.
+pub(crate) fn asks(asking: u64, owner: u32) -> bool
+    ensures { result ≡ false → owner < 64 → IsUnhinted asking owner }
+{
+    asking.checked_shr(owner).unwrap_or(0) % 2 == 1
 }

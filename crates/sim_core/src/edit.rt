@@ -48,6 +48,7 @@ impl Core {
         }
         let limit = self.plan.cycles;
         self.unread.truncate(0);
+        self.asking = u64::MAX;
         let from = first_touched(&self.graph, &self.fifos, edit.channel, edit.depth);
         edit_plan(&mut self.plan, edit);
         let is_done = change_few(

@@ -12,11 +12,12 @@ use crate::machine::Core;
 use crate::opening::ports_of;
 use crate::post::make_mail;
 use crate::unread::keep_unread;
-use engine_view::make_room_for;
+use engine_view::{bit_of, make_room_for};
 use flow_design::limits::{LIVE_ITERATIONS, OPERATIONS};
-use flow_word::OutOfMemory;
+use flow_word::{List, OutOfMemory};
 use run_ahead::{Burst, Task};
 use std::alloc::Global;
+use std::mem;
 
 /// The places at each end that a module is given at once, as for 256 Runs of its own.
 const CREDIT: u64 = 512;
@@ -58,6 +59,7 @@ impl Core {
         let Some(run) = &self.runs[owner as usize] else {
             return Ok(None);
         };
+        let spare = mem::replace(&mut self.spare, List::new(alloc));
         let mail = make_mail(
             alloc,
             &self.fifos,
@@ -68,6 +70,7 @@ impl Core {
             run.queries(),
             run.popped(),
             run.waiting(),
+            spare,
         )?;
         let Some(run) = self.runs[owner as usize].take() else {
             return Ok(None);
@@ -93,6 +96,7 @@ impl Core {
             short: _,
             mut mail,
         } = burst;
+        self.asking |= bit_of(owner);
         let Some(wanted) = emitted.len().checked_mul(2) else {
             return Err(OutOfMemory);
         };
@@ -125,6 +129,7 @@ impl Core {
             run.popped(),
             &mut mail.values,
         );
+        self.spare = mem::replace(&mut mail.values, List::new(alloc));
         self.runs[owner as usize] = Some(run);
         Ok(())
     }

@@ -11,7 +11,7 @@ use cycle_changes::Changes;
 use event_graph::{Candidate, Graph};
 use fifo_table::FifoTable;
 use flow_design::{Advance, Plan, Reply};
-use flow_word::{List, Port, Words};
+use flow_word::{List, Port, Queue, Words};
 use module_interp::ModuleRun;
 use query_log::QueryLog;
 use std::marker::Model;
@@ -37,8 +37,12 @@ pub struct Core {
     pub(crate) readers: Vec<u32>,
     /// Of each channel what came back unread with the run that pops it.
     pub(crate) unread: List<Unread>,
-    /// Of each module the others that access one of its channels, as bits. It serves for hints alone.
+    /// Of each module the others that access one of its channels, as bits.
     pub(crate) beside: Words,
+    /// The modules of which an Assign or an Answer may be permitted, as bits.
+    pub(crate) asking: u64,
+    /// Room for the values of a mail: the lists of the last one that came back.
+    pub(crate) spare: List<Queue<u64>>,
     /// Room for the replies to a step.
     pub(crate) replies: List<Reply>,
     /// Room for a candidate of each module.
@@ -61,6 +65,8 @@ impl Drop for Core {
             readers: _readers,
             unread: _unread,
             beside: _beside,
+            asking: _,
+            spare: _spare,
             replies: _replies,
             candidates: _candidates,
             changes: _changes,
@@ -86,7 +92,7 @@ impl Model for Core {
     } };
 
     ghost invariant = { λ c. IsStoredCore c.plan (stored c.graph c.fifos c.log) c.ends.items c.runs.items c.credits.items c.ports
-        c.readers.items c.unread c.candidates.items };
+        c.readers.items c.unread c.beside c.asking c.candidates.items };
 }
 
 impl Core {

@@ -44,10 +44,11 @@ impl Core {
         let ends = no_ends(alloc, modules)?;
         let credits = vec![in alloc; 0; modules as usize]?;
         let readers = find_users(alloc, &plan, Side::Pop)?;
-        let ports = make_ports(alloc, &plan, readers.as_slice())?;
+        let writers = find_users(alloc, &plan, Side::Push)?;
+        let ports = make_ports(alloc, &plan, readers.as_slice(), writers.as_slice())?;
         let unread = nothing_unread(alloc, plan.design.channels.len())?;
         let candidates = no_candidates(alloc, modules)?;
-        let beside = find_beside(alloc, &plan)?;
+        let beside = find_beside(alloc, &plan, &ports, readers.as_slice(), writers.as_slice())?;
         Ok(Core {
             plan,
             graph,
@@ -60,6 +61,8 @@ impl Core {
             readers,
             unread,
             beside,
+            asking: u64::MAX,
+            spare: List::new(alloc),
             replies: List::new(alloc),
             candidates,
             changes: Changes::new(alloc),
@@ -185,16 +188,21 @@ fn make_own_ports(
     Ok(ports)
 }
 
-/// The ports of each module, where it is told who pops each channel.
-fn make_ports(alloc: Global, plan: &Plan, readers: &[u32]) -> Result<List<List<Port>>, OutOfMemory>
+/// The ports of each module, where it is told who pops and who pushes each channel.
+fn make_ports(
+    alloc: Global,
+    plan: &Plan,
+    readers: &[u32],
+    writers: &[u32],
+) -> Result<List<List<Port>>, OutOfMemory>
     requires fits { FitsEngine plan.now }
     requires readers { AreReaders plan.now readers.now }
+    requires writers { AreUsers plan.now Push writers.now }
     ensures { IfOk result (λ ports. AreOwnPorts plan.now (length plan.now.design.modules) ports) }
 {
-    let writers = find_users(alloc, plan, Side::Push)?;
     let mut ports = List::new(alloc);
     for owner in 0..plan.design.modules.len() as u32 {
-        let own = make_own_ports(alloc, plan, readers, writers.as_slice(), owner)?;
+        let own = make_own_ports(alloc, plan, readers, writers, owner)?;
         ports.push(own)?;
     }
     Ok(ports)

@@ -63,8 +63,17 @@ fn read_values(
     Err(OutOfMemory)
 }
 
-/// The values of a channel that a module's next pops find, where it is the one that pops it. Those that came back unread are not
-/// copied again.
+/// Lets go of values, where there are some.
+fn empty(alloc: Global, values: &mut Queue<u64>)
+    ensures { values.new ≡ [] }
+{
+    if values.len() > 0 {
+        *values = Queue::new(alloc);
+    }
+}
+
+/// Puts the values of a channel there that a module's next pops find, where it is the one that pops it, and else none. Those that came
+/// back unread are not copied again.
 fn read_channel(
     alloc: Global,
     fifos: &FifoTable,
@@ -72,22 +81,38 @@ fn read_channel(
     channel: u32,
     is_reader: bool,
     first: u64,
-) -> Result<Queue<u64>, OutOfMemory>
+    values: &mut Queue<u64>,
+) -> Result<(), OutOfMemory>
     requires channel { channel < length fifos.now.channels }
     requires unread { IsUnread (values_at fifos.now.channels channel) (unread_at unread.old channel) }
-    ensures mine { IfOk result (λ words. is_reader ≡ true → words ≡ drop first (values_at fifos.now.channels channel)) }
-    ensures others { IfOk result (λ words. is_reader ≡ false → words ≡ []) }
+    ensures mine { OnOk result (is_reader ≡ true → values.new ≡ drop first (values_at fifos.now.channels channel)) }
+    ensures others { OnOk result (is_reader ≡ false → values.new ≡ []) }
     ensures left { (all : ℕ → Items ℕ) (n : ℕ) → AreUnread all n unread.old → AreUnread all n unread.new }
 {
     if !is_reader {
-        return Ok(Queue::new(alloc));
+        empty(alloc, values);
+        return Ok(());
     }
-    let mut values = take_unread(alloc, unread, channel, first);
-    read_values(fifos, channel, first, &mut values)?;
-    Ok(values)
+    *values = take_unread(alloc, unread, channel, first);
+    read_values(fifos, channel, first, values)
 }
 
-/// Reads the values of all channels that a module's next pops find, behind so many of each.
+/// Makes a list one of so many channels.
+fn make_places(
+    alloc: Global,
+    values: &mut List<Queue<u64>>,
+    channels: u64,
+) -> Result<(), OutOfMemory>
+    ensures { OnOk result (length values.new ≡ channels) }
+{
+    values.truncate(channels);
+    while values.len() < channels {
+        values.push(Queue::new(alloc))?;
+    }
+    Ok(())
+}
+
+/// Reads the values of all channels that a module's next pops find, behind so many of each, over what is there.
 pub(crate) fn read_all(
     alloc: Global,
     fifos: &FifoTable,
@@ -100,21 +125,21 @@ pub(crate) fn read_all(
     requires readers { length readers.now ≡ length fifos.now.channels }
     requires popped { length popped.now ≡ length fifos.now.channels }
     requires unread { AreUnread (values_at fifos.now.channels) (length fifos.now.channels) unread.old }
-    requires none { values.old ≡ [] }
+    requires places { length values.old ≡ length readers.now }
     ensures read { OnOk result (AreMailed fifos.now.channels readers.now owner popped.now values.new (length readers.now)) }
     ensures left { (all : ℕ → Items ℕ) (n : ℕ) → AreUnread all n unread.old → AreUnread all n unread.new }
 {
     for channel in 0..fifos.len() {
         let at = channel as usize;
-        let first = popped[at];
-        let words = read_channel(alloc, fifos, unread, channel, readers[at] == owner, first)?;
-        values.push(words)?;
+        let is_reader = readers[at] == owner;
+        let words = &mut values.as_mut_slice()[at];
+        read_channel(alloc, fifos, unread, channel, is_reader, popped[at], words)?;
     }
     Ok(())
 }
 
 /// The mail of a run that made so many queries and pops of each channel, and waits for the replies to these accesses: all of them that
-/// are there.
+/// are there. Its lists of values are those that are given, whatever is in them.
 pub(crate) fn make_mail(
     alloc: Global,
     fifos: &FifoTable,
@@ -125,6 +150,7 @@ pub(crate) fn make_mail(
     first: u64,
     popped: &[u64],
     accesses: &[Access],
+    values: List<Queue<u64>>,
 ) -> Result<Mail, OutOfMemory>
     requires owner { owner < length log.now.logs }
     requires readers { length readers.now ≡ length fifos.now.channels }
@@ -136,7 +162,8 @@ pub(crate) fn make_mail(
 {
     let mut outcomes = Flags::new(alloc);
     read_outcomes(log, owner, first, count_queries(accesses), &mut outcomes)?;
-    let mut values = List::with_room(alloc, readers.len() as u64)?;
+    let mut values = values;
+    make_places(alloc, &mut values, readers.len() as u64)?;
     read_all(alloc, fifos, unread, readers, owner, popped, &mut values)?;
     Ok(Mail { outcomes, values })
 }

@@ -11,7 +11,7 @@ use crate::actions::Action;
 use crate::machine::Core;
 use crate::opening::ports_of;
 use crate::replies::find_replies;
-use engine_view::{emit_step, make_room};
+use engine_view::{bit_of, emit_step, make_room};
 use event_graph::Place;
 use flow_design::limits::{LIVE_ITERATIONS, OPERATIONS};
 use flow_word::OutOfMemory;
@@ -143,6 +143,7 @@ impl Core {
         ensures lent { self.new.lent ≡ self.old.lent }
     {
         gaps_are_short();
+        self.asking |= bit_of(owner);
         // No step makes more queries.
         let queries = LIVE_ITERATIONS * OPERATIONS;
         make_room(

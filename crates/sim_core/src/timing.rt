@@ -10,6 +10,7 @@ ghost use Rattle.sim_core.specs.Drives.{Goes};
 ghost use Rattle.sim_core.specs.Timings.{HasMore, IsTimed, IsUntimable};
 
 use crate::actions::Action;
+use crate::beside::asks;
 use crate::machine::Core;
 use engine_view::Timing;
 use flow_word::Steps;
@@ -52,6 +53,9 @@ impl Core {
     {
         // The core agrees with its plan.
         let _count = self.modules();
+        if !asks(self.asking, owner) {
+            return false;
+        }
         match self.time(owner, steps) {
             Timing::Assigned(_) | Timing::Answered(_) => true,
             Timing::Differs(_) | Timing::Nothing => false,

@@ -9,8 +9,9 @@ ghost use Rattle.sim_core.specs.Views.{theory_of};
 ghost use Rattle.sim_core.specs.Turns.{HasTurned, HasAnsweredLeast, IsFirstEarliest};
 ghost use Rattle.sim_core.specs.Candidates.{AreCandidates};
 
+use crate::beside::asking_after;
 use crate::machine::Core;
-use engine_view::{Timing, answer_first, time_first};
+use engine_view::{Timing, answer_first, bit_of, time_first};
 use event_graph::{Candidate, Graph};
 use fifo_table::FifoTable;
 use flow_word::Steps;
@@ -30,14 +31,16 @@ impl Core {
         ensures ticks { steps.new ≡ steps.old + ticks_of result }
     {
         let limit = self.plan.cycles;
-        time_first(
+        let timing = time_first(
             &mut self.graph,
             &mut self.fifos,
             &mut self.log,
             owner,
             limit,
             steps,
-        )
+        );
+        self.asking = asking_after(self.asking, self.beside.as_slice(), owner, &timing);
+        timing
     }
 
     /// Where no Run, Assign or Answer of any module is permitted, answers the first of the least open steps, and gives its
@@ -65,6 +68,7 @@ impl Core {
         ensures plan { self.new.plan ≡ self.old.plan }
         ensures lent { self.new.lent ≡ self.old.lent }
     {
+        self.asking = self.beside.as_slice()[owner as usize] | bit_of(owner);
         answer_first(&self.graph, &mut self.fifos, &mut self.log, owner, cycle)
     }
 }

@@ -7,7 +7,6 @@ ghost use Rattle.sim_core.specs.Views.{theory_of};
 ghost use Rattle.sim_core.specs.Drives.{Goes, GoesOn, HasTimed, HasVisited};
 
 use crate::actions::Action;
-use crate::beside::bits_at;
 use crate::machine::Core;
 use engine_view::{Timing, bit_of};
 use flow_word::{OutOfMemory, Steps};
@@ -156,7 +155,9 @@ impl Core {
     }
 
     /// The modules beside one, as bits.
-    fn bits_beside(&self, owner: u32) -> u64 {
-        bits_at(self.beside.as_slice(), owner)
+    fn bits_beside(&self, owner: u32) -> u64
+        requires { owner < length self.now.plan.design.modules }
+    {
+        self.beside.as_slice()[owner as usize]
     }
 }

@@ -5,3 +5,4 @@ pub mod Turning
 pub mod Lending
 pub mod Legal
 pub mod Plans
+pub mod Apart

@@ -3,7 +3,8 @@ use Rattle.std.proofs.Common.{◌≡◌, ℕ, zero, suc, ◌<◌, ◌≤◌, Boo
 use Rattle.std.proofs.lemmas.Bool.{cases_Bool, cond-true, cond-false, both_ways, or_cases}
 use Rattle.std.specs.Option.{is_none}
 use Rattle.event_timing.specs.Machines.{Design}
-use Rattle.event_timing.specs.Core.{Core}
+use Rattle.event_timing.specs.Enablers.{candidate}
+use Rattle.event_timing.specs.Core.{Core, view}
 use Rattle.event_timing.specs.Actions.{MayAssign, MayAnswer, MayEarliest, after_assign, after_answer}
 use Rattle.event_timing.specs.Permitted.{IsInside, may_assign, may_answer, may_earliest}
 use Rattle.event_timing.proofs.Deciding.{assign_decided, answer_decided, earliest_decided}
@@ -29,12 +30,19 @@ module _ {S : Type 0} (d : Design S) (limit : ℕ) (x : Core S) (m : ℕ) where
         | inr f ↦ f
       ]
 
+  -- where no outcome is verified yet, nothing but an answer
+  pub opened_is : (c : ℕ) → candidate d (view d x) m ≡ Some c → x.verified m (x.timed m) ≡ false
+      → after_timing d limit x m ≡ after_answer d x m c
+  unfolding after_timing
+  opened_is c at e =
+      cond-false (may_assign d limit x m) _ _ (not_assigned e) ∙ ap (after_answer d x m) (found_is d limit x m c at)
+
   pub answered_is : (c : ℕ) → MayAnswer d limit x m c → (may_time d limit x m ≡ true) × (after_timing d limit x m ≡ after_answer d x m c)
-  unfolding may_time after_timing
+  unfolding may_time
   answered_is c may =
       let none = not_assigned may.open_query in (
         ap₂ (λ (a b : Bool). a || b) none ((answer_decided d limit x m).1 (c, may)),
-        cond-false (may_assign d limit x m) _ _ none ∙ ap (after_answer d x m) (found_is d limit x m c may.determined.at),
+        opened_is c may.determined.at may.open_query,
       )
 
   pub idle_is : ((c : ℕ) → MayAssign d limit x m c → ⊥) → ((c : ℕ) → MayAnswer d limit x m c → ⊥) → may_time d limit x m ≡ false

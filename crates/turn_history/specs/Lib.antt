@@ -4,3 +4,4 @@ pub mod Rounds
 pub mod Replays
 pub mod Histories
 pub mod Entries
+pub mod Apart

@@ -11,6 +11,7 @@ use Rattle.engine_view.specs.Stored.{stored, held_in}
 use Rattle.engine_view.specs.Turns.{IsSomeCore}
 use Rattle.sim_core.specs.Edits.{IsEdited, IsTrueGuard}
 use Rattle.sim_core.specs.Runs.{IsStoredCore, AreUnreadIn, lent_of, over_of}
+use Rattle.sim_core.proofs.Asking.{asking_all, beside_edited}
 use Rattle.sim_core.proofs.Leaving.{unread_none}
 use Rattle.sim_core.specs.Views.{CoreView, theory_of}
 use Rattle.sim_core.proofs.EditedRuns.{channel_inside, fifo_there}
@@ -68,13 +69,15 @@ invariant_of-self g c =
     let core = editing.core_changed i.plan s i.ends.items i.runs.items i.credits.items c.self.invariant.core e fit final t
     (tried.changed yes) tried.steps_stay refl (tried.room yes) (tried.kinds yes) in
     subst (λ (q : Plan). IsStoredCore q t i.ends.items i.runs.items i.credits.items i.ports i.readers.items
-    c.truncate.new.self i.candidates.items)
+    c.truncate.new.self i.beside 18446744073709551615 i.candidates.items)
     (sym c.edit_plan.ensures)
     (record {
       core = core;
       ports_are = editing.ports_edited i.plan e.channel e.depth i.ports c.self.invariant.ports_are;
       readers_are = editing.readers_edited i.plan e.channel e.depth i.readers.items c.self.invariant.readers_are;
       unread_are = subst (AreUnreadIn (with_depth i.plan e.channel e.depth) t i.ends.items) (sym c.truncate.ensures) (unread_none _ _);
+      beside_are = beside_edited i.plan e.channel e.depth i.beside c.self.invariant.beside_are;
+      asking_are = asking_all (with_depth i.plan e.channel e.depth) core.fits _;
       candidate_count = c.self.invariant.candidate_count;
     })
 
@@ -161,13 +164,15 @@ invariant_of-self-2 g c =
     let core = editing.core_edited i.plan s i.ends.items i.runs.items i.credits.items k e fit final t c.retime.result clock from
     done.retimed done.steps done.room done.kinds in
     subst (λ (q : Plan). IsStoredCore q t i.ends.items i.runs.items i.credits.items i.ports i.readers.items
-    c.truncate.new.self i.candidates.items)
+    c.truncate.new.self i.beside 18446744073709551615 i.candidates.items)
     (sym c.edit_plan.ensures)
     (record {
       core = core;
       ports_are = editing.ports_edited i.plan e.channel e.depth i.ports c.self.invariant.ports_are;
       readers_are = editing.readers_edited i.plan e.channel e.depth i.readers.items c.self.invariant.readers_are;
       unread_are = subst (AreUnreadIn (with_depth i.plan e.channel e.depth) t i.ends.items) (sym c.truncate.ensures) (unread_none _ _);
+      beside_are = beside_edited i.plan e.channel e.depth i.beside c.self.invariant.beside_are;
+      asking_are = asking_all (with_depth i.plan e.channel e.depth) core.fits _;
       candidate_count = c.self.invariant.candidate_count;
     })
 

@@ -8,6 +8,7 @@ use Rattle.engine_view.specs.Stored.{stored, held_in}
 use Rattle.engine_view.proofs.Roomy.{few_queries}
 use Rattle.timing_bridge.specs.Designs.{design}
 use Rattle.sim_core.specs.Runs.{over_of, rest_behind}
+use Rattle.sim_core.proofs.Asking.{asking_kept, asking_emitted}
 use Rattle.sim_core.proofs.Emitting as emitting
 use Rattle.event_timing.specs.Actions.Action.{Run}
 use Rattle.sim_core.proofs.Returning as returning
@@ -49,6 +50,9 @@ invariant_of-self c =
       readers_are = c.self.invariant.readers_are;
       unread_are = unread.unread_same p (held_in s (over_of ends)) (held_in t (over_of ends)) c.self.inside.unread same
           c.self.invariant.unread_are;
+      beside_are = c.self.invariant.beside_are;
+      asking_are = asking_kept p (held_in s (over_of ends)) (held_in t (over_of ends)) same k.fits c.self.inside.asking
+          c.self.invariant.asking_are c.bit_of.result;
       candidate_count = c.self.invariant.candidate_count;
     }
 
@@ -93,6 +97,9 @@ invariant_of-self-in_err-end c =
       readers_are = c.self.invariant.readers_are;
       unread_are = unread.unread_same p (held_in s (over_of ends)) (held_in t (over_of ends)) c.self.inside.unread same
           c.self.invariant.unread_are;
+      beside_are = c.self.invariant.beside_are;
+      asking_are = asking_kept p (held_in s (over_of ends)) (held_in t (over_of ends)) same k.fits c.self.inside.asking
+          c.self.invariant.asking_are c.bit_of.result;
       candidate_count = c.self.invariant.candidate_count;
     }
 
@@ -350,19 +357,21 @@ invariant_of-self-in-Step c =
     let owner = rw (← c.self.view_is) at c.requires.owner in
     let credits = c.make_room.ensures.credits in
     let read = get_or_read others c.args.owner c.index_mut.result.now (omega arith) c.index_mut.ensures.value 0 in
+    let roomed = lending.core_roomed p s ends c.self.inside.runs.items c.self.inside.credits.items others t k same
+    c.make_room.ensures.credits room in
+    let acts = returning.acts_in p (held_in t (over_of ends)) (held_in u (over_of ends)) _ c.args.owner held_is
+    (emitting.step_acts p t ends c.self.inside.runs.items others c.args.owner c.args.run.now r c.in-Step.step mark short
+    sound_step.small (c.gaps_are_short.ensures.least p c.args.owner)) in
     record {
       core = rw read after;
       ports_are = c.self.invariant.ports_are;
       readers_are = c.self.invariant.readers_are;
-      unread_are = unread.unread_acted p t ends c.self.inside.runs.items others
-          (lending.core_roomed p s ends c.self.inside.runs.items c.self.inside.credits.items others t k same
-          c.make_room.ensures.credits room)
-          c.self.inside.unread
+      unread_are = unread.unread_acted p t ends c.self.inside.runs.items others roomed c.self.inside.unread
           (unread.unread_same p (held_in s (over_of ends)) (held_in t (over_of ends)) c.self.inside.unread same c.self.invariant.unread_are)
-          (Run c.args.owner) (core_of (design p) (held_in u (over_of ends)))
-          (returning.acts_in p (held_in t (over_of ends)) (held_in u (over_of ends)) _ c.args.owner held_is
-          (emitting.step_acts p t ends c.self.inside.runs.items others c.args.owner c.args.run.now r c.in-Step.step mark short
-          sound_step.small (c.gaps_are_short.ensures.least p c.args.owner)));
+          (Run c.args.owner) (core_of (design p) (held_in u (over_of ends))) acts;
+      beside_are = c.self.invariant.beside_are;
+      asking_are = asking_emitted p (held_in s (over_of ends)) (held_in t (over_of ends)) same roomed.fits roomed.agreed
+          c.self.inside.asking c.self.invariant.asking_are c.args.owner c.bit_of.result c.bit_of.ensures _ acts;
       candidate_count = c.self.invariant.candidate_count;
     }
 
@@ -390,18 +399,21 @@ invariant_of-self-in_default c =
     let is = c.in_ok-end.ensures.mark p c.args.owner rest stands in
     let sound = c.in_ok-end.ensures.sound p c.args.owner rest stands in
     let no_step = emitting.not_a_step c.in_ok-end.end c.in_default.not-Step in
+    let roomed = lending.core_roomed p s ends c.self.inside.runs.items c.self.inside.credits.items others t k same
+    c.make_room.ensures.credits room in
+    let acts = emitting.end_acts p t ends c.self.inside.runs.items others c.args.owner c.args.run.now r c.in_ok-end.end is no_step
+    sound.short in
     record {
       core = emitting.end_core p t ends c.self.inside.runs.items others c.args.owner c.args.run.now r c.in_ok-end.end is no_step
           sound.short;
       ports_are = c.self.invariant.ports_are;
       readers_are = c.self.invariant.readers_are;
-      unread_are = unread.unread_acted p t ends c.self.inside.runs.items others
-          (lending.core_roomed p s ends c.self.inside.runs.items c.self.inside.credits.items others t k same
-          c.make_room.ensures.credits room)
-          c.self.inside.unread
+      unread_are = unread.unread_acted p t ends c.self.inside.runs.items others roomed c.self.inside.unread
           (unread.unread_same p (held_in s (over_of ends)) (held_in t (over_of ends)) c.self.inside.unread same c.self.invariant.unread_are)
-          (Run c.args.owner) _
-          (emitting.end_acts p t ends c.self.inside.runs.items others c.args.owner c.args.run.now r c.in_ok-end.end is no_step sound.short);
+          (Run c.args.owner) _ acts;
+      beside_are = c.self.invariant.beside_are;
+      asking_are = asking_emitted p (held_in s (over_of ends)) (held_in t (over_of ends)) same roomed.fits roomed.agreed
+          c.self.inside.asking c.self.invariant.asking_are c.args.owner c.bit_of.result c.bit_of.ensures _ acts;
       candidate_count = c.self.invariant.candidate_count;
     }
 

@@ -44,6 +44,8 @@ invariant_of-self c = record {
   ports_are = c.self.invariant.ports_are;
   readers_are = c.self.invariant.readers_are;
   unread_are = c.make_mail.ensures.left _ _ c.self.invariant.unread_are;
+  beside_are = c.self.invariant.beside_are;
+  asking_are = c.self.invariant.asking_are;
   candidate_count = c.self.invariant.candidate_count;
 }
 
@@ -59,6 +61,8 @@ invariant_of-self-2 c =
       ports_are = c.self.invariant.ports_are;
       readers_are = c.self.invariant.readers_are;
       unread_are = c.make_mail.ensures.left _ _ c.self.invariant.unread_are;
+      beside_are = c.self.invariant.beside_are;
+      asking_are = c.self.invariant.asking_are;
       candidate_count = c.self.invariant.candidate_count;
     }
 

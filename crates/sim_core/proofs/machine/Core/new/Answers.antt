@@ -9,6 +9,7 @@ use Rattle.engine_view.specs.Held.{core_of}
 use Rattle.engine_view.specs.Stored.{stored, held_in}
 use Rattle.sim_core.specs.Opening.{kinds_of}
 use Rattle.sim_core.specs.Runs.{over_of}
+use Rattle.sim_core.proofs.Asking.{asking_all}
 use Rattle.sim_core.proofs.Beginning as beginning
 use Rattle.sim_core.proofs.machine.Core.new.Goals as goal
 
@@ -37,6 +38,8 @@ invariant_of-result c =
       ports_are = c.in_ok-ports.ensures;
       readers_are = c.in_ok-readers.ensures;
       unread_are = c.in_ok-unread.ensures _ _;
+      beside_are = c.in_ok-beside.ensures;
+      asking_are = asking_all c.args.plan c.requires _;
       candidate_count = c.in_ok-candidates.ensures ∙ ap (λ (xs : List Module). length xs) c.as_slice.ensures;
     }
 

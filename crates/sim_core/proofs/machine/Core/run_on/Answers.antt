@@ -22,6 +22,8 @@ invariant_of-self-2 c =
       ports_are = c.self.invariant.ports_are;
       readers_are = c.self.invariant.readers_are;
       unread_are = c.self.invariant.unread_are;
+      beside_are = c.self.invariant.beside_are;
+      asking_are = c.self.invariant.asking_are;
       candidate_count = c.self.invariant.candidate_count;
     }
 
@@ -62,6 +64,8 @@ invariant_of-self-3 c =
       ports_are = c.self-2.invariant.ports_are;
       readers_are = c.self-2.invariant.readers_are;
       unread_are = c.self-2.invariant.unread_are;
+      beside_are = c.self-2.invariant.beside_are;
+      asking_are = c.self-2.invariant.asking_are;
       candidate_count = c.self-2.invariant.candidate_count;
     }
 

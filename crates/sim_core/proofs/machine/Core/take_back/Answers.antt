@@ -9,6 +9,7 @@ use Rattle.sim_core.specs.Returned.{core_in}
 use Rattle.sim_core.specs.Runs.{over_of, IsRunOf}
 use Rattle.sim_core.specs.Tasks.{IsBurstOf}
 use Rattle.sim_core.specs.Views.{CoreView, theory_of}
+use Rattle.sim_core.proofs.Asking.{asking_more, asking_kept, asking_returned}
 use Rattle.sim_core.proofs.Lending as lending
 use Rattle.sim_core.proofs.Marking.{table_count}
 use Rattle.sim_core.proofs.Ports.{all_there, all_within}
@@ -31,7 +32,18 @@ ports_of-requires c =
     let a = rw (← c.self.view_is) at c.requires.owner in let n = c.self.invariant.ports_are.count in omega arith
 
 pub invariant_of-self : goal.invariant_of-self
-invariant_of-self c =
+invariant_of-self c = record {
+  core = c.self.invariant.core;
+  ports_are = c.self.invariant.ports_are;
+  readers_are = c.self.invariant.readers_are;
+  unread_are = c.self.invariant.unread_are;
+  beside_are = c.self.invariant.beside_are;
+  asking_are = asking_more c.self.inside.plan c.self.invariant.core.fits _ c.self.inside.asking c.self.invariant.asking_are c.bit_of.result;
+  candidate_count = c.self.invariant.candidate_count;
+}
+
+pub invariant_of-self-in_err-make_room_for : goal.invariant_of-self-in_err-make_room_for
+invariant_of-self-in_err-make_room_for c =
     let k = c.self.invariant.core in
     let p = c.self.inside.plan in
     let ends = c.self.inside.ends.items in
@@ -52,6 +64,9 @@ invariant_of-self c =
       readers_are = c.self.invariant.readers_are;
       unread_are = unread_same p (held_in s (over_of ends)) (held_in t (over_of ends)) c.self.inside.unread same
           c.self.invariant.unread_are;
+      beside_are = c.self.invariant.beside_are;
+      asking_are = asking_kept p (held_in s (over_of ends)) (held_in t (over_of ends)) same k.fits c.self.inside.asking
+          c.self.invariant.asking_are c.bit_of.result;
       candidate_count = c.self.invariant.candidate_count;
     }
 
@@ -157,6 +172,10 @@ invariant_of-self-2 c =
           lends.left_next p u ends2 out credits2 (c.record_all.ensures.core p out (task_left c.args.burst) returned) c.args.owner
           (rw (← c.self.view_is) at c.requires.owner) (task_left c.args.burst) run_is c.popped.result.now c.popped.ensures.each channel
           within);
+      beside_are = c.self.invariant.beside_are;
+      asking_are = asking_returned p (held_in s (over_of ends)) (held_in t (over_of ends)) same core.fits core.agreed c.self.inside.asking
+          c.self.invariant.asking_are c.args.owner c.bit_of.result c.bit_of.ensures (length c.args.burst.emitted) (core_in p u ends2)
+          (c.record_all.ensures.acts p out (task_left c.args.burst) returned);
       candidate_count = c.self.invariant.candidate_count;
     }
 

@@ -1,0 +1,5 @@
+use Rattle.sim_core.specs.Asking.{AreBesideTo}
+use Rattle.sim_core.proofs.beside.find_beside.Given as goal
+
+abbrev pub invariant-loop-owner : goal.invariant-loop-owner
+invariant-loop-owner l = AreBesideTo l.plan l.owner l.beside

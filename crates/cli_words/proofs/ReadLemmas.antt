@@ -4,10 +4,7 @@ use Rattle.std.proofs.Common.{arith, append-nil, append_assoc, length-append, su
 use Rattle.std.specs.Prelude.{option_and_then}
 use Rattle.std.specs.List.{AllByRecursion}
 use Rattle.std.specs.Str.{IsUtf8}
-use Rattle.clap.specs.Walk.{subcommand_met, is_pending, Held, Rule, Step, Waiting, Walk, after_flag, after_step, arg_by_id, arg_by_index}
-use Rattle.clap.specs.Walk.{arg_by_long, idle, long_met, long_or_other, long_word, next, option, positional, takes_values, Row, option_word}
-use Rattle.clap.specs.Walk.{plain_word, pushed, reacted, settled, short_or_plain, takes_several, to_positional, trailing, value, walked}
-use Rattle.clap.specs.Walk.{word_met}
+use Rattle.clap.specs.Walk.{Held, Row, Rule, Walk, arg_by_long, idle, option, reacted, used, walked}
 use Rattle.clap.specs.Kinds.{or_else}
 use Rattle.clap.specs.Faults.{turn_fault, use_fault, walk_fault}
 use Rattle.clap.specs.declared.error.kind.ErrorKind.TheVariants as kind
@@ -245,27 +242,21 @@ refused_anyway : (w : Walk) (rest : List Text) (o : Option Said) → given o ≡
 refused_anyway w rest o none (fails f n) = fails f refl
 refused_anyway w rest o none (passes t e held few same) = passes t e held few (sym none ∙ same)
 
+settled_value : (k : Key) (word : Text) (rows : List Row) (skip : ℕ)
+    → settle_at (with_word k word rows skip) ≡ use_fault false (rule_at k) (word ∷ []) rows
+settled_value Cycles word rows skip = refl
+settled_value Ops word rows skip = refl
+
+settled_rows_are : (k : Key) (word : Text) (rows : List Row) (skip : ℕ)
+    → rows_in (with_word k word rows skip) ≡ used (rule_at k) (word ∷ []) rows
+settled_rows_are Cycles word rows skip = refl
+settled_rows_are Ops word rows skip = refl
+
 module _ (word : Text) (rest : List Text) (u : AllByRecursion IsUtf8 rest) (k : Key) (said : Said)
     (rows : List Row) (skip : ℕ) (zero_skip : skip ≡ 0) (said_rows : Rows said rows)
     (few : AtMostThree said) (reads : Reads rest) where
   abbrev now_at : Held → Walk
   now_at x = between said x
-
-  settled_value : settle_at (with_word k word rows skip) ≡ use_fault false (rule_at k) (word ∷ []) rows
-  settled_value = by k
-    where
-      by : (j : Key) → settle_at (with_word j word rows skip) ≡ use_fault false (rule_at j) (word ∷ []) rows
-      by Cycles = refl
-      by Ops = refl
-
-  settled_rows_are : rows_in (with_word k word rows skip)
-      ≡ Rattle.clap.specs.Walk.used (rule_at k) (word ∷ []) rows
-  settled_rows_are = by k
-    where
-      by : (j : Key)
-          → rows_in (with_word j word rows skip) ≡ Rattle.clap.specs.Walk.used (rule_at j) (word ∷ []) rows
-      by Cycles = refl
-      by Ops = refl
 
   -- where the option takes the word, and the rest is read
   taken_rest : Ends (now_at (with_word k word rows skip)) rest (option_and_then (rest_of rest None) (with_option k word said))
@@ -274,7 +265,7 @@ module _ (word : Text) (rest : List Text) (u : AllByRecursion IsUtf8 rest) (k : 
       go : Used k word said rows
           → Ends (now_at (with_word k word rows skip)) rest (option_and_then (rest_of rest None) (with_option k word said))
       go (repeated bad none) =
-          fails (stuck_idle _ (with_word k word rows skip) (λ e. bad (sym settled_value ∙ e)) zero_skip rest u)
+          fails (stuck_idle _ (with_word k word rows skip) (λ e. bad (sym (settled_value k word rows skip) ∙ e)) zero_skip rest u)
           (ap (λ o. given (option_and_then (rest_of rest None) o)) none)
       go (unused now some none now_rows same) =
           subst (λ o. Ends (now_at (with_word k word rows skip)) rest (option_and_then (rest_of rest None) o))
@@ -282,9 +273,8 @@ module _ (word : Text) (rest : List Text) (u : AllByRecursion IsUtf8 rest) (k : 
           (onward rest said few reads now (with_word k word rows skip) same
           (record {
             skip = zero_skip;
-            settles = settled_value
-                ∙ none;
-            rows = subst (Rows now) (sym settled_rows_are) now_rows;
+            settles = settled_value k word rows skip ∙ none;
+            rows = subst (Rows now) (sym (settled_rows_are k word rows skip)) now_rows;
           }))
 
   taken_dash : word ≡ hyphen → Ends (now_at (with_word k word rows skip)) rest None

@@ -1,6 +1,6 @@
 -- What the rows of a parse are after each use of an option or a positional.
-use Rattle.std.proofs.Common.{◌≡◌, ◌∙◌, List, [], ◌∷◌, ◌++◌, ◌||◌, Option, Some, None, refl, sym, ap, codes, true, false, Bool, cond, append-nil}
-use Rattle.std.proofs.Common.{is_some, option_map, true≢false}
+use Rattle.std.proofs.Common.{◌≡◌, ◌∙◌, List, [], ◌∷◌, ◌++◌, ◌||◌, Option, Some, None, refl, sym, ap, codes, true, false, Bool}
+use Rattle.std.proofs.Common.{append-nil, cond, is_some, option_map, true≢false}
 use Rattle.std.specs.Prelude.{slice_get, find}
 use Rattle.std.specs.Str.{bytes_eq}
 use Rattle.clap.specs.Walk.{Rule, Row, Text, at_row, has_row, more_values, with_values, without}

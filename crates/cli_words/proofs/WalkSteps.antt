@@ -1,9 +1,11 @@
 -- One word of the parser's walk.
 use Rattle.std.proofs.Common.{◌≡◌, ◌∙◌, ℕ, List, [], ◌∷◌, ◌++◌, ◌<◌, ◌≤◌, ◌&&◌, ◌||◌, Option, Some, None, refl, sym, ap, ap₂, subst, codes}
-use Rattle.std.proofs.Common.{true, false, Bool, cond, length, arith, fold, suc, option_map, is_some}
+use Rattle.std.proofs.Common.{true, false, Bool, cond, length, arith, fold, suc, is_some}
 use Rattle.std.specs.Str.{bytes_eq}
 use Rattle.clap.specs.Walk.{Held, Rule, Row, Waiting, Walk, arg_by_index, arg_by_long, idle, is_pending, positional_held, pushed, settled}
-use Rattle.clap.specs.Walk.{settled_rows, takes_several, to_positional, used, value, walked, has_row}
+use Rattle.clap.specs.Walk.{settled_rows, takes_several, to_positional, used, value, walked, has_row, with_values, without}
+use Rattle.clap.specs.declared.builder.value_parser.Reading.TheVariants.{AsWritten}
+use Rattle.clap.specs.declared.parser.matches.ValueSource.TheVariants.{CommandLine}
 use Rattle.clap.specs.Simple.{filled, new_rule, with_index}
 use Rattle.clap.specs.Kinds.{Kinds, or_else}
 use Rattle.clap.specs.Faults.{positional_fault, settle_fault, step_fault, turn_fault, use_fault, walk_fault}
@@ -14,7 +16,7 @@ use Rattle.cli_words.specs.CommandWords.{Cycles, Key, Ops, Said, Text, Unknown, 
 use Rattle.cli_words.specs.CommandWords.{with_positionals, with_value, without_value}
 use Rattle.cli_words.proofs.RowLemmas.{AtCommand, AtCycles, AtEvents, AtOps, AtSecond, AtThird, Rows, added, cycles_same, events_same}
 use Rattle.cli_words.proofs.RowLemmas.{first_same, has_row-row_at, having as said_with, ops_same, row_at, rows_more, rules, second_same}
-use Rattle.cli_words.proofs.RowLemmas.{text_said, third_same, top, value_row}
+use Rattle.cli_words.proofs.RowLemmas.{SameBut, Slot, id_of, text_said, third_same, top, value_row}
 use Rattle.cli_words.proofs.AcceptedLemmas.{given}
 
 -- ---- kinds of fault
@@ -252,53 +254,35 @@ module _ (events : Bool) (cycles ops : Option Text) (t : Bool) (h : Held) (word 
   abbrev having : List Text → Said
   having ps = said_with events cycles ops ps
 
+  -- the word is held for a slot for which nothing was said
+  held : (k : Slot) (i : ℕ) (said now : Said) → Holds said h → text_said said k ≡ None → text_said now k ≡ Some word → SameBut k said now
+      → settle_at (holding (slot i (id_of k)) word h) ≡ use_fault false (slot i (id_of k)) (word ∷ []) (rows_in h)
+      → rows_in (holding (slot i (id_of k)) word h) ≡ with_values (id_of k) AsWritten CommandLine (word ∷ []) (without (id_of k) (rows_in h))
+      → Holds now (holding (slot i (id_of k)) word h)
+  held k i said now holds none some same settled_is rows_are =
+      let no_row : row_at (id_of k) (rows_in h) ≡ None = holds.rows k ∙ ap (value_row (id_of k)) none in
+      record {
+        skip = holds.skip;
+        settles = settled_is ∙ slot_passes (id_of k) i word (rows_in h) (has_no (id_of k) (rows_in h) _ no_row);
+        rows =
+            subst (Rows now) (sym (rows_are ∙ added (id_of k) word (rows_in h) no_row))
+            (rows_more k word said now (rows_in h) holds.rows none some same);
+      }
+
   pub placing : (ps : List Text) → Holds (having ps) h → length ps ≤ 3 → Placed (having ps) t h word
   placing [] holds few =
-      placed (holding (slot 1 (codes "command")) word h)
-      (fault_is (slot 1 (codes "command")) h refl holds.settles)
-      (ap₂ (λ (b : Bool) (x : Held). at idle 2 b x) (or_false t)
-      (holding_is (slot 1 (codes "command")) word h refl))
-      (record {
-        skip = holds.skip;
-        settles =
-            slot_passes (codes "command") 1 word (rows_in h)
-            (has_no (codes "command") (rows_in h) _ (holds.rows AtCommand));
-        rows =
-            subst (Rows (having (word ∷ [])))
-            (sym (added (codes "command") word (rows_in h) (holds.rows AtCommand)))
-            (rows_more AtCommand word (having []) (having (word ∷ [])) (rows_in h) holds.rows refl refl
-            (first_same events cycles ops word));
-      }) (omega arith)
+      placed (holding (slot 1 (codes "command")) word h) (fault_is (slot 1 (codes "command")) h refl holds.settles)
+      (ap₂ (λ (b : Bool) (x : Held). at idle 2 b x) (or_false t) (holding_is (slot 1 (codes "command")) word h refl))
+      (held AtCommand 1 (having []) (having (word ∷ [])) holds refl refl (first_same events cycles ops word) refl refl) (omega arith)
   placing (a ∷ []) holds few =
-      placed (holding (slot 2 (codes "second")) word h)
-      (fault_is (slot 2 (codes "second")) h refl holds.settles)
-      (ap₂ (λ (b : Bool) (x : Held). at idle 3 b x) (or_false t)
-      (holding_is (slot 2 (codes "second")) word h refl))
-      (record {
-        skip = holds.skip;
-        settles =
-            slot_passes (codes "second") 2 word (rows_in h)
-            (has_no (codes "second") (rows_in h) _ (holds.rows AtSecond));
-        rows =
-            subst (Rows (having (a ∷ word ∷ [])))
-            (sym (added (codes "second") word (rows_in h) (holds.rows AtSecond)))
-            (rows_more AtSecond word (having (a ∷ [])) (having (a ∷ word ∷ [])) (rows_in h) holds.rows refl refl
-            (second_same events cycles ops a word));
-      }) (omega arith)
+      placed (holding (slot 2 (codes "second")) word h) (fault_is (slot 2 (codes "second")) h refl holds.settles)
+      (ap₂ (λ (b : Bool) (x : Held). at idle 3 b x) (or_false t) (holding_is (slot 2 (codes "second")) word h refl))
+      (held AtSecond 2 (having (a ∷ [])) (having (a ∷ word ∷ [])) holds refl refl (second_same events cycles ops a word) refl refl)
+      (omega arith)
   placing (a ∷ b ∷ []) holds few =
       placed (holding (slot 3 (codes "third")) word h) (fault_is (slot 3 (codes "third")) h refl holds.settles)
-      (ap₂ (λ (b : Bool) (x : Held). at idle 4 b x) (or_false t)
-      (holding_is (slot 3 (codes "third")) word h refl))
-      (record {
-        skip = holds.skip;
-        settles =
-            slot_passes (codes "third") 3 word (rows_in h)
-            (has_no (codes "third") (rows_in h) _ (holds.rows AtThird));
-        rows =
-            subst (Rows (having (a ∷ b ∷ word ∷ [])))
-            (sym (added (codes "third") word (rows_in h) (holds.rows AtThird)))
-            (rows_more AtThird word (having (a ∷ b ∷ [])) (having (a ∷ b ∷ word ∷ [])) (rows_in h) holds.rows refl refl
-            (third_same events cycles ops a b word));
-      }) (omega arith)
+      (ap₂ (λ (b : Bool) (x : Held). at idle 4 b x) (or_false t) (holding_is (slot 3 (codes "third")) word h refl))
+      (held AtThird 3 (having (a ∷ b ∷ [])) (having (a ∷ b ∷ word ∷ [])) holds refl refl (third_same events cycles ops a b word) refl refl)
+      (omega arith)
   placing (a ∷ b ∷ c ∷ []) holds few = stray (λ e. some_kind _ _ e) (omega arith)
   placing (a ∷ b ∷ c ∷ d ∷ rest) holds few = absurd (omega arith)

@@ -24,136 +24,136 @@ pub fn generate_session(alloc: Global, seed: u64, modules: u64) -> Result<Sessio
     statements.push(Statement::Flow(1))?;
     statements.push(Statement::Source(Name::new(alloc, b"a")?, width(32)))?;
     statements.push(Statement::Sink(Name::new(alloc, b"y")?, width(32)))?;
-    push_fifos(alloc, &mut statements, seed, modules - 1)?;
-    push_modules(alloc, &mut statements, seed, modules)?;
+    let mut maker = Maker { alloc, statements };
+    maker.push_fifos(seed, modules - 1)?;
+    maker.push_modules(seed, modules)?;
+    let Maker { mut statements, .. } = maker;
     statements.push(Statement::Input(Name::new(alloc, b"a")?, values(alloc)?))?;
     statements.push(Statement::End)?;
     Ok(Session { statements })
 }
 
-/// The FIFOs behind the first modules, so many.
-fn push_fifos(
+/// A session in the making.
+#[derive(Debug, Drop)]
+struct Maker {
     alloc: Global,
-    statements: &mut List<Statement>,
-    seed: u64,
-    fifos: u64,
-) -> Result<(), OutOfMemory>
-    requires seed { seed ≤ 65_535 }
-    requires most { fifos ≤ MODULES }
-    ensures { OnOk result (statements.new ≡ statements.old ++ each fifo_behind (drawn seed) fifos) }
-{
-    let mut state = seed;
-    for k in 0..fifos {
-        push_fifo(alloc, statements, k, draw_module(&mut state))?;
+    statements: List<Statement>,
+}
+
+impl Maker {
+    /// The FIFOs behind the first modules, so many.
+    fn push_fifos(&mut self, seed: u64, fifos: u64) -> Result<(), OutOfMemory>
+        requires seed { seed ≤ 65_535 }
+        requires most { fifos ≤ MODULES }
+        ensures { OnOk result (self.new.statements ≡ self.old.statements ++ each fifo_behind (drawn seed) fifos) }
+    {
+        let mut state = seed;
+        for k in 0..fifos {
+            self.push_fifo(k, draw_module(&mut state))?;
+        }
+        Ok(())
     }
-    Ok(())
-}
 
-/// The modules, one behind the other.
-fn push_modules(
-    alloc: Global,
-    statements: &mut List<Statement>,
-    seed: u64,
-    modules: u64,
-) -> Result<(), OutOfMemory>
-    requires seed { seed ≤ 65_535 }
-    requires most { modules ≤ MODULES }
-    ensures { OnOk result (statements.new ≡ statements.old ++ each (module_of modules) (drawn seed) modules) }
-{
-    let mut state = seed;
-    for k in 0..modules {
-        push_module(alloc, statements, modules, k, draw_module(&mut state))?;
+    /// The modules, one behind the other.
+    fn push_modules(&mut self, seed: u64, modules: u64) -> Result<(), OutOfMemory>
+        requires seed { seed ≤ 65_535 }
+        requires most { modules ≤ MODULES }
+        ensures { OnOk result (self.new.statements ≡ self.old.statements ++ each (module_of modules) (drawn seed) modules) }
+    {
+        let mut state = seed;
+        for k in 0..modules {
+            self.push_module(modules, k, draw_module(&mut state))?;
+        }
+        Ok(())
     }
-    Ok(())
-}
 
-fn push_fifo(
-    alloc: Global,
-    statements: &mut List<Statement>,
-    k: u64,
-    drawn: Drawn,
-) -> Result<(), OutOfMemory>
-    requires { k < MODULES }
-    ensures { OnOk result (statements.new ≡ statements.old ++ fifo_behind k drawn) }
-{
-    let depth = u64::from(drawn.depth);
-    statements.push(Statement::Fifo(fifo_name(alloc, k + 1)?, width(32), depth, 1))
-}
+    fn push_fifo(&mut self, k: u64, drawn: Drawn) -> Result<(), OutOfMemory>
+        requires { k < MODULES }
+        ensures { OnOk result (self.new.statements ≡ self.old.statements ++ fifo_behind k drawn) }
+    {
+        let depth = u64::from(drawn.depth);
+        self.statements.push(Statement::Fifo(fifo_name(self.alloc, k + 1)?, width(32), depth, 1))
+    }
 
-fn push_module(
-    alloc: Global,
-    statements: &mut List<Statement>,
-    modules: u64,
-    k: u64,
-    drawn: Drawn,
-) -> Result<(), OutOfMemory>
-    requires { k < MODULES }
-    ensures { OnOk result (statements.new ≡ statements.old ++ module_of modules k drawn) }
-{
-    push_head(alloc, statements, k, u64::from(drawn.interval))?;
-    let (input, output) = (input_of(alloc, k)?, output_of(alloc, modules, k)?);
-    push_first_clock(alloc, statements, input, output)?;
-    let output = output_of(alloc, modules, k)?;
-    push_second_clock(alloc, statements, output, u64::from(drawn.addend))
-}
+    fn push_module(&mut self, modules: u64, k: u64, drawn: Drawn) -> Result<(), OutOfMemory>
+        requires { k < MODULES }
+        ensures { OnOk result (self.new.statements ≡ self.old.statements ++ module_of modules k drawn) }
+    {
+        self.push_head(k, u64::from(drawn.interval))?;
+        let (input, output) = (input_of(self.alloc, k)?, output_of(self.alloc, modules, k)?);
+        self.push_first_clock(input, output)?;
+        let output = output_of(self.alloc, modules, k)?;
+        self.push_second_clock(output, u64::from(drawn.addend))
+    }
 
-/// A module with its registers, and the head of its loop.
-#[tactic(auto, unfolding(crate::specs::Generated::head_of))]
-fn push_head(
-    alloc: Global,
-    statements: &mut List<Statement>,
-    k: u64,
-    interval: u64,
-) -> Result<(), OutOfMemory>
-    requires { interval ≤ 255 }
-    ensures { OnOk result (statements.new ≡ statements.old ++ head_of (module_name k) interval) }
-{
-    statements.push(Statement::Module(module_name(alloc, k)?))?;
-    statements.push(Statement::Reg(Name::new(alloc, b"x")?, width(32)))?;
-    statements.push(Statement::Reg(Name::new(alloc, b"n")?, width(32)))?;
-    statements.push(Statement::Reg(Name::new(alloc, b"g")?, width(1)))?;
-    statements.push(Statement::Reg(Name::new(alloc, b"e")?, width(1)))?;
-    let (name, again) = (Name::new(alloc, b"l")?, Name::new(alloc, b"g")?);
-    statements.push(Statement::Loop(name, interval, interval + 1, again))
-}
+    /// A module with its registers, and the head of its loop.
+    #[tactic(auto, unfolding(crate::specs::Generated::head_of))]
+    fn push_head(&mut self, k: u64, interval: u64) -> Result<(), OutOfMemory>
+        requires { interval ≤ 255 }
+        ensures { OnOk result (self.new.statements ≡ self.old.statements ++ head_of (module_name k) interval) }
+    {
+        self.statements
+            .push(Statement::Module(module_name(self.alloc, k)?))?;
+        self.statements
+            .push(Statement::Reg(Name::new(self.alloc, b"x")?, width(32)))?;
+        self.statements
+            .push(Statement::Reg(Name::new(self.alloc, b"n")?, width(32)))?;
+        self.statements
+            .push(Statement::Reg(Name::new(self.alloc, b"g")?, width(1)))?;
+        self.statements
+            .push(Statement::Reg(Name::new(self.alloc, b"e")?, width(1)))?;
+        let (name, again) = (Name::new(self.alloc, b"l")?, Name::new(self.alloc, b"g")?);
+        self.statements
+            .push(Statement::Loop(name, interval, interval + 1, again))
+    }
 
-/// The operations at offset 0.
-#[tactic(auto, unfolding(crate::specs::Generated::first_clock))]
-fn push_first_clock(
-    alloc: Global,
-    statements: &mut List<Statement>,
-    input: Name,
-    output: Name,
-) -> Result<(), OutOfMemory>
-    ensures { OnOk result (statements.new ≡ statements.old ++ first_clock input output) }
-{
-    let count = binary(alloc, BinOp::Add, variable(alloc, b"n")?, Expr::Number(1))?;
-    let again = binary(alloc, BinOp::LtU, variable(alloc, b"n")?, Expr::Number(999))?;
-    statements.push(Statement::At(0, None, Op::Read(input, Name::new(alloc, b"x")?)))?;
-    statements.push(Statement::At(0, None, Op::Full(output, Name::new(alloc, b"e")?)))?;
-    statements.push(Statement::At(0, None, Op::Set(Name::new(alloc, b"n")?, count)))?;
-    statements.push(Statement::At(0, None, Op::Set(Name::new(alloc, b"g")?, again)))
-}
+    /// The operations at offset 0.
+    #[tactic(auto, unfolding(crate::specs::Generated::first_clock))]
+    fn push_first_clock(&mut self, input: Name, output: Name) -> Result<(), OutOfMemory>
+        ensures { OnOk result (self.new.statements ≡ self.old.statements ++ first_clock input output) }
+    {
+        let count = binary(
+            self.alloc,
+            BinOp::Add,
+            variable(self.alloc, b"n")?,
+            Expr::Number(1),
+        )?;
+        let again = binary(
+            self.alloc,
+            BinOp::LtU,
+            variable(self.alloc, b"n")?,
+            Expr::Number(999),
+        )?;
+        self.statements.push(Statement::At(
+            0,
+            None,
+            Op::Read(input, Name::new(self.alloc, b"x")?),
+        ))?;
+        self.statements.push(Statement::At(
+            0,
+            None,
+            Op::Full(output, Name::new(self.alloc, b"e")?),
+        ))?;
+        self.statements.push(Statement::At(0, None, Op::Set(Name::new(self.alloc, b"n")?, count)))?;
+        self.statements.push(Statement::At(0, None, Op::Set(Name::new(self.alloc, b"g")?, again)))
+    }
 
-/// The operation at offset 1, and the end of the loop.
-#[tactic(auto, unfolding(crate::specs::Generated::second_clock))]
-fn push_second_clock(
-    alloc: Global,
-    statements: &mut List<Statement>,
-    output: Name,
-    addend: u64,
-) -> Result<(), OutOfMemory>
-    ensures { OnOk result (statements.new ≡ statements.old ++ second_clock output addend) }
-{
-    let added = binary(
-        alloc,
-        BinOp::Add,
-        Expr::Number(addend),
-        variable(alloc, b"e")?,
-    )?;
-    let sum = binary(alloc, BinOp::Add, variable(alloc, b"x")?, added)?;
-    statements.push(Statement::At(1, None, Op::Write(output, sum)))?;
-    statements.push(Statement::Stop)
+    /// The operation at offset 1, and the end of the loop.
+    #[tactic(auto, unfolding(crate::specs::Generated::second_clock))]
+    fn push_second_clock(&mut self, output: Name, addend: u64) -> Result<(), OutOfMemory>
+        ensures { OnOk result (self.new.statements ≡ self.old.statements ++ second_clock output addend) }
+    {
+        let added = binary(
+            self.alloc,
+            BinOp::Add,
+            Expr::Number(addend),
+            variable(self.alloc, b"e")?,
+        )?;
+        let sum = binary(self.alloc, BinOp::Add, variable(self.alloc, b"x")?, added)?;
+        self.statements
+            .push(Statement::At(1, None, Op::Write(output, sum)))?;
+        self.statements.push(Statement::Stop)
+    }
 }
 
 /// The channel that a module reads: the source, or the FIFO before it.

@@ -1,9 +1,9 @@
 use Rattle.flow_gen.specs.Generated.{module_of}
 use Rattle.flow_gen.proofs.Steps.{none_pushed, one_pushed}
-use Rattle.flow_gen.proofs.session.push_modules.Goals as goal
+use Rattle.flow_gen.proofs.session.Maker.push_modules.Goals as goal
 
 pub loop-k-init : goal.loop-k-init
-loop-k-init c = none_pushed (module_of c.args.modules) c.args.seed c.args.statements.now c.requires.seed
+loop-k-init c = none_pushed (module_of c.args.modules) c.args.seed c.args.self.now.statements c.requires.seed
 
 pub draw_module-requires : goal.draw_module-requires
 draw_module-requires c = c.loop-k.invariant.below
@@ -11,5 +11,5 @@ draw_module-requires c = c.loop-k.invariant.below
 pub loop-k-preserved : goal.loop-k-preserved
 loop-k-preserved c =
     let drawn = c.draw_module.ensures in
-    one_pushed (module_of c.args.modules) c.args.seed c.loop-k.k c.args.statements.now _ _ _ _ _ c.loop-k.invariant drawn.drawn drawn.after drawn.below
+    one_pushed (module_of c.args.modules) c.args.seed c.loop-k.k c.args.self.now.statements _ _ _ _ _ c.loop-k.invariant drawn.drawn drawn.after drawn.below
     (c.in_ok-push_module.ensures {u = tt})

@@ -257,7 +257,8 @@ module _ (events : Bool) (cycles ops : Option Text) (t : Bool) (h : Held) (word 
   -- the word is held for a slot for which nothing was said
   held : (k : Slot) (i : ℕ) (said now : Said) → Holds said h → text_said said k ≡ None → text_said now k ≡ Some word → SameBut k said now
       → settle_at (holding (slot i (id_of k)) word h) ≡ use_fault false (slot i (id_of k)) (word ∷ []) (rows_in h)
-      → rows_in (holding (slot i (id_of k)) word h) ≡ with_values (id_of k) AsWritten CommandLine (word ∷ []) (without (id_of k) (rows_in h))
+      → rows_in (holding (slot i (id_of k)) word h)
+      ≡ with_values (id_of k) AsWritten CommandLine (word ∷ []) (without (id_of k) (rows_in h))
       → Holds now (holding (slot i (id_of k)) word h)
   held k i said now holds none some same settled_is rows_are =
       let no_row : row_at (id_of k) (rows_in h) ≡ None = holds.rows k ∙ ap (value_row (id_of k)) none in

@@ -89,7 +89,8 @@ offsets_kept m scope x p = ap (option_map Operation)
 
 -- a rule that each block keeps
 kept : (rule : Code) → ((m : Module) (scope : Scope) (x : Section) → IsSection level.Blocks x → spot rule m (block scope x) ≡ None)
-    → (ss : List Statement) → AllFit ss → option_map in_module (first_in (spot_in rule) (map (module_of (channel_names ss)) (sections level.Modules ss)))
+    → (ss : List Statement) → AllFit ss
+    → option_map in_module (first_in (spot_in rule) (map (module_of (channel_names ss)) (sections level.Modules ss)))
     ≡ None
 unfolding module_of
 kept rule keeps ss f =

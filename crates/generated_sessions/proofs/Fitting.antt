@@ -28,7 +28,8 @@ use Rattle.generated_sessions.proofs.Passing.{has_place, most_parts, seen, varia
 
 -- an expression over these variables: what holds of short words, of numbers and of the variables holds of its parts; and its size
 record IsFine (e : Expr Name) (size height : ℕ) : Type 0 where
-  covers : (q : Part → Bool) → ((w : List ℕ) → nat_le (length w) 64 ≡ true → q (Word w) ≡ true) → ((n : ℕ) → n < 2 ^ 64 → q (plain n) ≡ true)
+  covers : (q : Part → Bool) → ((w : List ℕ) → nat_le (length w) 64 ≡ true → q (Word w) ≡ true)
+      → ((n : ℕ) → n < 2 ^ 64 → q (plain n) ≡ true)
       → list_all q variables ≡ true → list_all q (expr_parts e) ≡ true
   size_is : nodes e ≡ size
   height_is : depth e ≡ height
@@ -89,7 +90,8 @@ IsPaced s = Unit {0}
 
 -- what a statement keeps, whatever stands before it
 pub record Fits (s : Statement) : Type 0 where
-  pub covers : (q : Part → Bool) → ((w : List ℕ) → nat_le (length w) 64 ≡ true → q (Word w) ≡ true) → ((n : ℕ) → n < 2 ^ 64 → q (plain n) ≡ true)
+  pub covers : (q : Part → Bool) → ((w : List ℕ) → nat_le (length w) 64 ≡ true → q (Word w) ≡ true)
+      → ((n : ℕ) → n < 2 ^ 64 → q (plain n) ≡ true)
       → list_all q (seen s) ≡ true → list_all q (parts s) ≡ true
   pub room : (earlier : List Statement) → has_place earlier s ≡ true → has_room earlier s ≡ true
   pub ranges : list_all is_in_range (parts s) ≡ true
@@ -172,7 +174,10 @@ unfolding head_of first_clock second_clock
 module_fits modules k d drawn =
     let at_least = le-leb 1 d.interval drawn.least in
     let at_most = le-leb d.interval BLOCK_CLOCKS (omega (arith, drawn.most)) in
-    let longer = and_from _ _ (le-leb 1 (d.interval + 1) (omega arith)) (le-leb (d.interval + 1) BLOCK_CLOCKS (omega (arith, drawn.most))) in
+    let longer = and_from _ _ (le-leb 1 (d.interval + 1) (omega arith))
+    (le-leb (d.interval + 1) BLOCK_CLOCKS (omega (arith, drawn.most))) in
+    let counted = binary Add (Var (codes "n")) (Number 1) 1 1 1 1 refl of_n (number 1 (omega arith)) in
+    let compared = binary LtU (Var (codes "n")) (Number 999) 1 1 1 1 refl of_n (number 999 (omega arith)) in
     let added = binary Add (Number d.addend) (Var (codes "e")) 1 1 1 1 refl (number d.addend (omega (arith, drawn.small))) of_e in (
       whole _ refl (λ e h. h) refl (omega arith) tt,
       (
@@ -191,9 +196,9 @@ module_fits modules k d drawn =
                   (
                     whole _ refl (λ e h. and_from _ _ h refl) refl (omega arith) (omega arith),
                     (
-                      setting _ _ 3 2 (binary Add (Var (codes "n")) (Number 1) 1 1 1 1 refl of_n (number 1 (omega arith))) (omega arith) (omega arith),
+                      setting _ _ 3 2 counted (omega arith) (omega arith),
                       (
-                        setting _ _ 3 2 (binary LtU (Var (codes "n")) (Number 999) 1 1 1 1 refl of_n (number 999 (omega arith))) (omega arith) (omega arith),
+                        setting _ _ 3 2 compared (omega arith) (omega arith),
                         (
                           writing _ _ 5 3 (binary Add (Var (codes "x")) _ 1 3 1 2 refl of_x added) (omega arith) (omega arith),
                           (whole _ refl (λ e h. h) refl (omega arith) tt, tt),

@@ -11,5 +11,6 @@ draw_module-requires c = c.loop-k.invariant.below
 pub loop-k-preserved : goal.loop-k-preserved
 loop-k-preserved c =
     let drawn = c.draw_module.ensures in
-    one_pushed fifo_behind c.args.seed c.loop-k.k c.args.self.now.statements _ _ _ _ _ c.loop-k.invariant drawn.drawn drawn.after drawn.below
+    one_pushed fifo_behind c.args.seed c.loop-k.k c.args.self.now.statements _ _ _ _ _ c.loop-k.invariant
+    drawn.drawn drawn.after drawn.below
     (c.in_ok-push_fifo.ensures {u = tt})

@@ -213,11 +213,6 @@ guarded_one off f [] h k = absurd (omega arith)
 guarded_one off f (x ∷ []) h k = refl
 guarded_one off f (x ∷ y ∷ ys) h k = absurd (omega arith)
 
--- a whole operation passes where what stands beside it does
-pub whole_read : (here room : Bool) (off : Option ℕ) (g : Option Name) (known : Bool) (o : Op Name) (r : Result ℕ Code)
-    → r ≡ offset_there here room off known → timed_by here room off g known (Ok o) ≡ with_tree (λ n. At n g o) r
-whole_read here room off g known o r h = grind arith
-
 module _ (t : Tables) where
   -- no part of an operation is a new name
   abbrev NoneNew : List Part → Type 0

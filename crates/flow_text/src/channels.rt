@@ -79,6 +79,7 @@ fn new_fifo<'a>(
 }
 
 /// The FIFO of this name, width and depth, of delay 1.
+#[tactic(auto, using(crate::proofs::FormLaws::without_delay))]
 fn new_depth_fifo<'a>(
     alloc: Global,
     tables: &mut Tables<'a>,
@@ -97,6 +98,7 @@ fn new_depth_fifo<'a>(
 }
 
 /// The FIFO of this name and width, of depth 2 and delay 1.
+#[tactic(auto, using(crate::proofs::FormLaws::without_depth))]
 fn new_bare_fifo<'a>(
     alloc: Global,
     tables: &mut Tables<'a>,

@@ -98,6 +98,7 @@ fn kept_input<'a>(
 }
 
 /// The input of this source, with these values.
+#[tactic(auto, using(crate::proofs::FormLaws::input_read))]
 fn new_input<'a>(
     alloc: Global,
     tables: &mut Tables<'a>,

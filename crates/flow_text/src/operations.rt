@@ -70,6 +70,7 @@ fn both(first: Judged<Expr<Name>>, second: Judged<Expr<Name>>) -> Judged<(Expr<N
 }
 
 /// The one expression that tokens write, beside names that are known or not, or the first test that fails.
+#[tactic(auto, using(crate::proofs::OperationLaws::tree_of_operand))]
 fn tree(
     alloc: Global,
     tables: &Tables<'_>,
@@ -83,6 +84,7 @@ fn tree(
 }
 
 /// The two expressions that tokens write, beside a name that is known or not, or the first test that fails.
+#[tactic(auto, using(crate::proofs::OperationLaws::trees_of_operands))]
 fn trees(
     alloc: Global,
     tables: &Tables<'_>,

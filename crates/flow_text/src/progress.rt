@@ -69,6 +69,7 @@ fn keep(
 }
 
 /// Reads the line with this number.
+#[tactic(auto, using(crate::proofs::ReadingLaws::is_added, crate::proofs::ReadingLaws::line_fails))]
 pub fn read_line<'a>(
     alloc: Global,
     progress: &mut Progress<'a>,

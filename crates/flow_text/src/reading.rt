@@ -59,6 +59,7 @@ fn read_on<'a>(alloc: Global, progress: &mut Progress<'a>, text: &'a [u8]) -> Re
 }
 
 /// The session of so many lines, or that they have no end.
+#[tactic(auto, using(crate::proofs::ReadingLaws::closes, crate::proofs::ReadingLaws::is_cut))]
 fn closed(
     place: Place,
     statements: List<Statement>,

@@ -201,6 +201,7 @@ fn guarded(
 }
 
 /// The operation at this offset, with a guard or without.
+#[tactic(auto, using(crate::proofs::OperationLaws::guarded_one))]
 fn with_offset(
     alloc: Global,
     tables: &mut Tables<'_>,

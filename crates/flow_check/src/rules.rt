@@ -134,6 +134,7 @@ fn spot_in(
 }
 
 /// What of the modules breaks a rule: the first.
+#[tactic(auto, using(crate::proofs::Slots::long, crate::proofs::Slots::at_place))]
 fn item_in(
     alloc: Global,
     rule: Code,

@@ -4,8 +4,7 @@ use Rattle.std.proofs.Common.{option_map, Bool, true, false, cond, refl, sym, ap
 use Rattle.std.specs.Prelude.{◌&&◌, ◌==◌, nat_eq, nat_lt, IsTrue}
 use Rattle.std.specs.List.{AllPairs, enumerate_from}
 use Rattle.std.proofs.Math.Nat.{mod-eq_of_lt}
-use Rattle.std.proofs.lemmas.Bool.{and_parts, ltb-true, eqb-true, eq-eqb, not-false, and_from, lt-ltb, not_from_true}
-use Rattle.std.proofs.lemmas.Bool.{false_from_ne_true}
+use Rattle.std.proofs.lemmas.Bool.{and_parts, ltb-true, eqb-true, eq-eqb, not-false, and_from, lt-ltb, not_from_true, false_from_ne_true}
 use Rattle.std.proofs.lemmas.List.{get_or-take, length-take, get_or_default}
 use Rattle.std.proofs.lemmas.List.Folds.{list_any_at, list_any_none}
 use Rattle.std.proofs.lemmas.List.FromFn.{get_or-enumerate_from, length-enumerate_from}

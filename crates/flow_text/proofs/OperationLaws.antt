@@ -23,7 +23,7 @@ use Rattle.name_tables.specs.TableTests.{is_known, is_new, fault_by, reading_by}
 use Rattle.flow_text.specs.declared.operations.TwoNames.{TwoNames}
 use Rattle.flow_text.specs.Operations.{tested, tree_judged, trees_judged, op_judged, tree_reading, trees_reading, op_reading, tree_kept}
 use Rattle.flow_text.specs.Operations.{trees_kept, made, with_tree, store_op, op_of_names, named_op, is_variable, timed_by, timed_reading}
-use Rattle.flow_text.specs.Operations.{guard_known, offset_there}
+use Rattle.flow_text.specs.Operations.{guard_known}
 use Rattle.flow_design.specs.declared.limits.TheConstants.{OPERATIONS}
 use Rattle.flow_design.specs.declared.session.Statement.{Statement}
 use Rattle.flow_design.specs.declared.session.Statement.TheVariants.{At}

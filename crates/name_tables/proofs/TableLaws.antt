@@ -1,5 +1,5 @@
 -- The tables of statements: their tests are those of the grammar, and one statement more is accepted.
-use Rattle.std.proofs.Common.{◌≡◌, ℕ, ◌+◌, List, [], ◌∷◌, Bool, true, false, Option, None, Some, refl, sym, ap, ◌∙◌, arith}
+use Rattle.std.proofs.Common.{◌≡◌, ℕ, ◌+◌, List, [], ◌∷◌, Bool, true, false, Option, None, Some, refl, sym, ◌∙◌, arith}
 use Rattle.std.specs.Prelude.{◌&&◌, not, if◌then◌else◌, count_by, sum_by, cond}
 use Rattle.std.specs.List.{list_all, filter_map}
 use Rattle.std.proofs.lemmas.List.Sums.{sum_by-cons, take_while-cons}
@@ -10,10 +10,8 @@ use Rattle.flow_grammar.specs.Before.{temp_name, channels, sources, fifos, modul
 use Rattle.flow_grammar.specs.Before.{input_values, edits}
 use Rattle.name_tables.specs.declared.tables.Tables.{Tables}
 use Rattle.flow_design.specs.declared.session.Statement.{Statement}
-use Rattle.flow_design.specs.declared.session.Statement.TheVariants.{Flow, Source, Sink, Fifo, Module, Reg, Mem, Block, Loop, Temp, At}
-use Rattle.flow_design.specs.declared.session.Statement.TheVariants.{Goto, Branch, Stop, Input, Limits, Depth, End}
-use Rattle.flow_grammar.specs.Parts.{Part, Word, New, Use, Label, Num, ChannelName, ModuleName, RegisterName, MemoryName, TempName}
-use Rattle.flow_grammar.specs.Parts.{BlockName, AnyChannel, ASource, AFifo, ARegister, AMemory, AVariable, parts}
+use Rattle.flow_design.specs.declared.session.Statement.TheVariants.{Flow, Block, Loop, At, Input, Depth}
+use Rattle.flow_grammar.specs.Parts.{Part, New, Use, ChannelName, AnyChannel, parts}
 use Rattle.flow_grammar.specs.Rules as rules
 use Rattle.flow_grammar.specs.Places.{place, may_stand, may_follow}
 use Rattle.flow_grammar.specs.Rules.{statement_fault}

@@ -17,6 +17,28 @@ def pipeline(modules, values):
     return '\n'.join(lines) + '\n'
 
 
+def generated(seed, modules):
+    """The session whose summary `gen` writes."""
+    state = seed
+
+    def draw():
+        nonlocal state
+        state = (75 * state + 74) % 65_537
+        return state
+
+    drawn = [(1 + draw() % 3, draw() % 256, 1 + draw() % 4) for _ in range(modules)]
+    lines = ['flow 1', 'source a 32', 'sink y 32']
+    lines += [f'fifo f{k + 1} 32 {depth}' for k, (_, _, depth) in enumerate(drawn[:-1])]
+    for k, (interval, addend, _) in enumerate(drawn):
+        before = 'a' if k == 0 else f'f{k}'
+        behind = 'y' if k == modules - 1 else f'f{k + 1}'
+        lines += [f'module m{k}', 'reg x 32', 'reg n 32', 'reg g 1', 'reg e 1', f'loop l {interval} {interval + 1} while g',
+                  f'at 0 read {before} x', f'at 0 full {behind} e', 'at 0 set n + n 1', 'at 0 set g <u n 999',
+                  f'at 1 write {behind} + x + {addend} e', 'stop']
+    lines += ['input a ' + ' '.join(str(v) for v in range(1000)), 'end']
+    return '\n'.join(lines) + '\n'
+
+
 def polling(pollers, clocks):
     """Modules that look into a FIFO each clock until a late writer fills it."""
     lines = ['flow 1'] + [f'fifo f{k} 8' for k in range(pollers)]

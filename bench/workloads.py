@@ -17,28 +17,6 @@ def pipeline(modules, values):
     return '\n'.join(lines) + '\n'
 
 
-def generated(seed, modules):
-    """The session whose summary `gen` writes."""
-    state = seed
-
-    def draw():
-        nonlocal state
-        state = (75 * state + 74) % 65_537
-        return state
-
-    drawn = [(1 + draw() % 3, draw() % 256, 1 + draw() % 4) for _ in range(modules)]
-    lines = ['flow 1', 'source a 32', 'sink y 32']
-    lines += [f'fifo f{k + 1} 32 {depth}' for k, (_, _, depth) in enumerate(drawn[:-1])]
-    for k, (interval, addend, _) in enumerate(drawn):
-        before = 'a' if k == 0 else f'f{k}'
-        behind = 'y' if k == modules - 1 else f'f{k + 1}'
-        lines += [f'module m{k}', 'reg x 32', 'reg n 32', 'reg g 1', 'reg e 1', f'loop l {interval} {interval + 1} while g',
-                  f'at 0 read {before} x', f'at 0 full {behind} e', 'at 0 set n + n 1', 'at 0 set g <u n 999',
-                  f'at 1 write {behind} + x + {addend} e', 'stop']
-    lines += ['input a ' + ' '.join(str(v) for v in range(1000)), 'end']
-    return '\n'.join(lines) + '\n'
-
-
 def polling(pollers, clocks):
     """Modules that look into a FIFO each clock until a late writer fills it."""
     lines = ['flow 1'] + [f'fifo f{k} 8' for k in range(pollers)]
@@ -152,6 +130,20 @@ def edited(text, name, depths):
     """The same session with an edit of a FIFO for each of these depths."""
     assert text.endswith('end\n')
     return text[:-4] + ''.join(f'depth {name} {depth}\n' for depth in depths) + 'end\n'
+
+
+def tried(values, edits):
+    """Four modules in a row that try their accesses, and edits of which most change what a query was told."""
+    lines = ['flow 1', 'source a 32', 'sink y 32'] + [f'fifo f{k} 32 2' for k in (1, 2, 3)]
+    names = ['a', 'f1', 'f2', 'f3', 'y']
+    for k, (before, behind) in enumerate(zip(names, names[1:])):
+        lines += [f'module m{k}', 'reg x 32', 'reg n 32', 'reg go 1', 'reg ok 1', f'loop l {1 + k} {2 + k} while go']
+        lines += [f'at 0 tryread {before} x ok' if k else f'at 0 read {before} x', 'at 0 set n + n 1', f'at 0 set go <u n {values - 1}']
+        lines += [f'at 1 trywrite {behind} x ok' if k < 3 else f'at 1 write {behind} x', 'stop']
+    lines += ['input a ' + ' '.join(str(v) for v in range(values))]
+    chance = random.Random(1)
+    lines += [f'depth {chance.choice(names[1:4])} {chance.randint(1, 12)}' for _ in range(edits)]
+    return '\n'.join(lines + ['end']) + '\n'
 
 
 def late_write(clocks):

@@ -1,5 +1,5 @@
 -- Room stays while modules act.
-use Rattle.std.proofs.Common.{◌≡◌, refl, sym, ap, ap₂, subst, ◌∙◌, ℕ, zero, suc, ◌+◌, ◌-◌, ◌<◌, ◌≤◌, inl, inr, Bool, true, false, cond}
+use Rattle.std.proofs.Common.{◌≡◌, refl, sym, ap, ap₂, subst, ◌∙◌, ℕ, zero, suc, ◌+◌, ◌-◌, ◌*◌, ◌<◌, ◌≤◌, inl, inr, Bool, true, false, cond}
 use Rattle.std.proofs.Common.{List, [], ◌∷◌, length, map, get_or, set, arith, eqb, ◌||◌}
 use Rattle.std.specs.Prelude.{All}
 use Rattle.std.proofs.lemmas.Bool.{cases_Bool, cases_lt, eq-eqb}
@@ -176,7 +176,7 @@ module _ {S : Type 0} (d : Design S) (i : IsDesign d) (h : Held) (m : ℕ) (t : 
         ends_now side c (omega arith);
     steps = λ n.
         elim (eqb_tells n m) [
-          | inl e ↦ subst (λ (k : ℕ). get_or (set credits m (get_or credits m 0 - 2)) k 0 ≤ get_or lanes' k 0) (sym e.1)
+          | inl e ↦ subst (λ (k : ℕ). get_or (set credits m (get_or credits m 0 - 2)) k 0 ≤ 2 * get_or lanes' k 0) (sym e.1)
               (rw mine (let l = old.steps m in let k = used.lane in omega arith))
           | inr e ↦ rw (rest n e.1) (let l = old.steps n in let k = used.other_lanes n e.1 in omega arith)
         ];
@@ -239,7 +239,7 @@ room_kept {S} d h lanes lanes' table table' logs logs' credits r f g q = record 
 -- a credit is set to what there is room for
 pub room_lent : {S : Type 0} → (d : Design S) (h : Held) (lanes : List ℕ) (table : RoomedChannels) (logs credits : List ℕ) (m n : ℕ)
     → HasRoom d h lanes table logs credits → m < length credits
-    → n ≤ get_or lanes m 0 → ((side : Side) (c : ℕ) → c < length h.channels → d.owner side c ≡ m → n + 1 ≤ room_of table side c)
+    → n ≤ 2 * get_or lanes m 0 → ((side : Side) (c : ℕ) → c < length h.channels → d.owner side c ≡ m → n + 1 ≤ room_of table side c)
     → HasRoom d h lanes table logs (set credits m n)
 room_lent {S} d h lanes table logs credits m n r inside lane sides = record {
   ends = λ side c l.
@@ -252,7 +252,7 @@ room_lent {S} d h lanes table logs credits m n r inside lane sides = record {
       ];
   steps = λ k.
       elim (eqb_tells k m) [
-        | inl e ↦ subst (λ (v : ℕ). get_or (set credits m n) v 0 ≤ get_or lanes v 0) (sym e.1)
+        | inl e ↦ subst (λ (v : ℕ). get_or (set credits m n) v 0 ≤ 2 * get_or lanes v 0) (sym e.1)
             (rw (get_or-set_same credits m n 0 inside) lane)
         | inr e ↦ rw (get_or-set_other credits m k n 0 e.1) (r.steps k)
       ];

@@ -1,5 +1,5 @@
 -- Room for the pushes, pops and outcomes of the steps to come.
-use Rattle.std.specs.Prelude.{◌≡◌, ◌≢◌, ℕ, ◌+◌, ◌-◌, ◌^◌, ◌<◌, ◌≤◌, Bool, true, cond, not, eqb, ◌&&◌, ◌||◌, List, [], ◌∷◌, length, drop}
+use Rattle.std.specs.Prelude.{◌≡◌, ◌≢◌, ℕ, ◌+◌, ◌-◌, ◌*◌, ◌^◌, ◌<◌, ◌≤◌, Bool, true, cond, not, eqb, ◌&&◌, ◌||◌, List, [], ◌∷◌, length, drop}
 use Rattle.std.specs.Prelude.{slice_get, slice_index, All, Some}
 use Rattle.flow_word.specs.Kinds.{side_of, is_blocking, is_taking}
 use Rattle.flow_word.specs.declared.access.Access.{Access}
@@ -60,12 +60,12 @@ query_bound = 2 ^ 62
 unfoldable pub pending : {S : Type 0} → Core S → ℕ → ℕ
 pending {S} x m = cond (eqb (x.emitted m) 0 || x.answered m (x.emitted m - 1)) 0 1
 
--- a module's credit is how many more places its steps may take at each of its ends. Beside it there is room for what its newest step
--- still may take, and for that step's outcomes
+-- a module's credit is how many more places its steps may take at each of its ends, two for a step. Beside it there is room for what its
+-- newest step still may take, and for that step's outcomes
 pub record HasRoom {S : Type 0} (d : Design S) (h : Held) (lanes : List ℕ) (table : RoomedChannels) (logs credits : List ℕ) : Type 0 where
   pub ends : (side : Side) (c : ℕ) → c < length h.channels
       → slice_index credits (d.owner side c) + pending (core_of d h) (d.owner side c) ≤ room_of table side c
-  pub steps : (m : ℕ) → slice_index credits m ≤ slice_index lanes m
+  pub steps : (m : ℕ) → slice_index credits m ≤ 2 * slice_index lanes m
   pub outcomes : (m : ℕ) → queries_before h m (emitted_of h m) ≤ slice_index logs m + length (log_at h.logs m).outcomes
   pub few : (m : ℕ) → queries_before h m (emitted_of h m) < query_bound
 

@@ -84,7 +84,7 @@ pub fn make_room_for(
     if credits[owner as usize] >= places {
         return Ok(());
     }
-    graph.reserve(owner, places)?;
+    graph.reserve(owner, places / 2 + places % 2)?;
     reserve_ports(fifos, ports, places)?;
     credits[owner as usize] = places;
     Ok(())

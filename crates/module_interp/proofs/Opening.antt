@@ -1,5 +1,5 @@
 -- A run begins on the way to its first rest.
-use Rattle.std.proofs.Common.{◌≡◌, ℕ, ◌+◌, ◌^◌, ◌<◌, List, map, length, get_or, refl, sym, ap, subst, arith, ◌∙◌}
+use Rattle.std.proofs.Common.{◌≡◌, ℕ, ◌+◌, ◌^◌, ◌<◌, List, [], map, length, get_or, refl, sym, ap, subst, arith, ◌∙◌}
 use Rattle.std.specs.Prelude.{All}
 use Rattle.std.proofs.lemmas.List.{get_or_default}
 use Rattle.flow_design.specs.declared.design.Module.{Module}
@@ -16,10 +16,13 @@ use Rattle.block_schedule.specs.Schedules.{KeepsLimits}
 use Rattle.block_code.specs.Codes.{AreCodesOf}
 use Rattle.block_schedule.proofs.Limits.{blocks_keep_limits}
 use Rattle.module_interp.specs.declared.path.Stage.{Stage}
-use Rattle.module_interp.specs.declared.path.Stage.TheVariants.{Begun}
+use Rattle.module_interp.specs.declared.path.Stage.TheVariants.{Begun, Asked}
 use Rattle.module_interp.specs.declared.path.Path.{Path}
+use Rattle.module_interp.specs.declared.run.ModuleRun.{ModuleRun}
 use Rattle.module_interp.specs.OwnRests.{first_rest}
-use Rattle.module_interp.specs.Paths.{after_move, IsStageSoundBy, LeadsTo, unnamed}
+use Rattle.module_interp.specs.Paths.{after_move, IsStageSoundBy, LeadsTo, IsTallyOf, unnamed}
+use Rattle.module_interp.specs.Runs.{StandsAt}
+use Rattle.module_interp.proofs.Gaps.{first_in_time}
 use Rattle.module_interp.proofs.Keeping.{at_stage}
 use Rattle.module_interp.proofs.Timing.{module_sound, opened_in_time}
 
@@ -50,6 +53,21 @@ opened_leads p h i inside x channels of limit codes state begun since =
       rest = subst (λ (z : ModuleState). (first_rest p i).state ≡ skip p i (quiet p i z) z) (sym base) refl;
       since = sym (ap (λ (n : ℕ). n + quiet p i (after_move x)) since ∙ ap (λ (z : ModuleState). 0 + quiet p i z) base);
     }
+
+unasked : {P : Type 0} (stage : Stage) → stage ≡ Begun → stage ≡ Asked → P
+unasked stage begun asked = cc
+
+-- a run on such a path, in which nothing is counted yet, stands at the first rest
+pub first_stands : (p : Plan) (i : ℕ) (r : ModuleRun) → LeadsTo p i (first_rest p i) r.path.value → r.path.value.stage ≡ Begun
+    → IsTallyOf (length p.design.channels) [] r.tally → StandsAt p i (first_rest p i) r
+first_stands p i r leads begun tally = record {
+  leads = leads;
+  tally = tally;
+  few = omega arith;
+  accesses = λ asked. unasked r.path.value.stage begun asked;
+  in_time = first_in_time p leads.path.fits i leads.path.owner;
+  behind = λ some. absurd (omega arith);
+}
 
 -- the copied module
 pub module_is : (p : Plan) (i : ℕ) (xs : List Module) (item copy : Module) → i < length p.design.modules → xs ≡ p.design.modules

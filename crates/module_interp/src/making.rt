@@ -1,9 +1,10 @@
 //! How a run begins.
-ghost use Rattle.std.specs.Prelude.{◌≡◌, ◌<◌, length, map, IfOk};
+ghost use Rattle.std.specs.Prelude.{◌≡◌, ℕ, ◌<◌, length, map, IfOk, OnOk};
 ghost use Rattle.flow_design.specs.StaticRules.{FitsEngine};
+ghost use Rattle.flow_design.specs.declared.plan.Plan.{Plan as PlanOf};
 ghost use Rattle.module_interp.specs.declared.path.Stage.TheVariants.{Begun};
 ghost use Rattle.module_interp.specs.OwnRests.{first_rest};
-ghost use Rattle.module_interp.specs.Paths.{LeadsTo, unnamed};
+ghost use Rattle.module_interp.specs.Paths.{IsPath, IsPathOf, LeadsTo, unnamed};
 
 use crate::path::{Path, Stage};
 use block_code::codes_of;
@@ -36,6 +37,18 @@ pub fn first_path(alloc: Global, plan: &Plan, number: u32) -> Result<Path, OutOf
         asked: List::new(alloc),
         scratch: List::new(alloc),
     })
+}
+
+/// The path goes to local clock 0 of the module's first block again, from wherever it is. What else it holds stays.
+pub fn go_to_start(alloc: Global, path: &mut Path) -> Result<(), OutOfMemory>
+    requires path { IsPath path.old }
+    ensures leads { OnOk result ((p : PlanOf) (i : ℕ) → IsPathOf p i path.old → LeadsTo p i (first_rest p i) path.new) }
+    ensures begun { OnOk result (path.new.stage ≡ Begun) }
+{
+    path.state = open(alloc, &path.of)?;
+    path.stage = Stage::Begun;
+    path.since = 0;
+    Ok(())
 }
 
 /// Channels without their names: a run asks for widths alone.

@@ -11,7 +11,7 @@ ghost use Rattle.module_interp.specs.OwnRests.{done_in, first_rest, next_rest, a
 ghost use Rattle.module_interp.specs.Paths.{IsTallyOf};
 ghost use Rattle.module_interp.specs.Runs.{waits, is_step, IsSoundMark, StandsAt};
 
-use crate::making::first_path;
+use crate::making::{first_path, go_to_start};
 use crate::path::{Path, Stage};
 use crate::tally::Tally;
 use flow_design::{Advance, Plan, Reply, Request};
@@ -57,6 +57,29 @@ impl ModuleRun {
             path,
             tally,
             accesses: List::new(alloc),
+        })
+    }
+
+    /// The same module's run at its first rest again. Its blocks are not compiled again.
+    ///
+    /// An error leaves nothing.
+    pub fn again(self, alloc: Global) -> Result<ModuleRun, OutOfMemory>
+        requires stands { (p : PlanOf) × ((i : ℕ) × ((o : Own) × StandsAt p i o self)) }
+        ensures stands { IfOk result (λ run. (p : PlanOf) (i : ℕ) (o : Own) → StandsAt p i o self
+            → StandsAt p i (first_rest p i) run) }
+        ensures waits { IfOk result (λ run. waits run ≡ false) }
+    {
+        let ModuleRun {
+            mut path,
+            mut tally,
+            accesses,
+        } = self;
+        go_to_start(alloc, path.as_mut())?;
+        tally.clear();
+        Ok(ModuleRun {
+            path,
+            tally,
+            accesses,
         })
     }
 

@@ -1,6 +1,6 @@
 //! How many elements a module has popped and pushed, and how many queries it has made.
 ghost use Rattle.std.specs.Prelude.{◌≡◌, ℕ, ◌+◌, ◌<◌, ◌≤◌, ◌^◌, ◌++◌, ◌∷◌, [], not, List as Items, length, slice_index, slice_set, All};
-ghost use Rattle.std.specs.Prelude.{IfOk};
+ghost use Rattle.std.specs.Prelude.{replicate, IfOk};
 ghost use Rattle.std.specs.Int.{from_bool};
 ghost use Rattle.flow_word.specs.Kinds.{side_of, is_blocking};
 ghost use Rattle.lockstep_defs.specs.Machine.{is_yes};
@@ -31,6 +31,15 @@ impl Tally {
             pushed: Words::zeros(alloc, channels)?,
             queries: 0,
         })
+    }
+
+    /// No step yet, of the same plan.
+    pub fn clear(&mut self)
+        ensures { (channels : ℕ) (before : Items Exchange) → IsTallyOf channels before self.old → IsTallyOf channels [] self.new }
+    {
+        zero(&mut self.popped);
+        zero(&mut self.pushed);
+        self.queries = 0;
     }
 
     /// A request as an access.
@@ -100,6 +109,13 @@ impl Tally {
         );
         self.queries += asked(request.kind);
     }
+}
+
+/// Each count is 0.
+fn zero(counts: &mut Words)
+    ensures { counts.new ≡ replicate (length counts.old) 0 }
+{
+    counts.as_mut_slice().fill(0);
 }
 
 /// Adds to the count at a place.

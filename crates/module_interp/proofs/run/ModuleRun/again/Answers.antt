@@ -1,0 +1,12 @@
+use Rattle.std.proofs.Common.{length, sym, subst}
+use Rattle.module_interp.specs.OwnRests.{done_in}
+use Rattle.module_interp.specs.Paths.{IsPathOf}
+use Rattle.module_interp.proofs.Opening.{first_stands}
+use Rattle.module_interp.proofs.run.ModuleRun.again.Goals as goal
+
+pub returns-clause-stands : goal.returns-clause-stands
+returns-clause-stands c p i o s =
+    first_stands p i _
+    (c.in_ok-go_to_start.ensures.leads p i (subst (IsPathOf p i) (sym c.as_mut.ensures.value) s.leads.path))
+    c.in_ok-go_to_start.ensures.begun
+    (c.clear.ensures (length p.design.channels) (done_in o.steps) s.tally)

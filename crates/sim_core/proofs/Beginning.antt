@@ -1,10 +1,11 @@
 -- How a core begins.
 use Rattle.std.proofs.Common.{◌≡◌, refl, sym, ap, subst, ◌∙◌, ℕ, suc, ◌+◌, ◌<◌, Bool, true, false, List, [], ◌∷◌, ◌++◌, length, map, get_or}
-use Rattle.std.proofs.Common.{Option, Some, None, arith, inl, inr, is_none, is_some, length-append, zero, not, ◌&&◌, replicate}
-use Rattle.std.specs.Prelude.{All, slice_index, slice_index_or}
+use Rattle.std.proofs.Common.{Option, Some, None, arith, inl, inr, is_none, is_some, length-append, zero, not, ◌&&◌, replicate, set}
+use Rattle.std.specs.Prelude.{All, IfSome, slice_index, slice_index_or}
 use Rattle.std.proofs.lemmas.List.FromFn.{get_or-map-range_with_len, length-map-range_with_len}
-use Rattle.std.proofs.lemmas.Bool.{cases_lt, both_ways}
-use Rattle.std.proofs.lemmas.List.{get_or_past, get_or_append_left, get_or-map, length-replicate}
+use Rattle.std.proofs.lemmas.Bool.{cases_lt, cases_Bool, both_ways}
+use Rattle.std.proofs.lemmas.Bool.Decides.{eqb_tells}
+use Rattle.std.proofs.lemmas.List.{get_or_past, get_or_append_left, get_or-map, get_or-set_other, length-replicate, length-set}
 use Rattle.std.proofs.Math.Seq.{get_or-append_seam}
 use Rattle.flow_word.specs.declared.access.Side.{Side}
 use Rattle.flow_word.specs.declared.access.Side.TheVariants.{Pop, Push}
@@ -21,6 +22,7 @@ use Rattle.flow_design.specs.StaticRules.{FitsEngine, AreEntriesSound}
 use Rattle.flow_design.specs.Plans.{is_fifo, kind_at, delay_of}
 use Rattle.flow_design.specs.Words.{cut_to}
 use Rattle.lockstep_defs.specs.Machine.{width_of}
+use Rattle.lockstep_defs.specs.OwnRun.{Own}
 use Rattle.lockstep_defs.specs.Channels.{contents_of, values, element_from}
 use Rattle.lockstep_defs.specs.Lockstep.{inputs_of, opening, moment, state}
 use Rattle.event_graph.specs.Lanes.{Lane, no_lane}
@@ -43,7 +45,7 @@ use Rattle.engine_view.proofs.Opened.{opening_core_is, copy_at}
 use Rattle.engine_view.proofs.Roomy.{room_opening}
 use Rattle.sim_core.specs.Runs.{IsCore, IsRunOf, rest_behind, lent_of, over_of}
 use Rattle.sim_core.proofs.Keeping.{over_at}
-use Rattle.sim_core.specs.Opening.{kind_by, kind_in, kinds_of, source_values, AreFirstRuns}
+use Rattle.sim_core.specs.Opening.{kind_by, kind_in, kinds_of, source_values, AreFirstRuns, AreLeft, AreOlderRuns}
 use Rattle.flow_word.proofs.Ranges.{some_is}
 
 pub runs_none : (p : Plan) → AreFirstRuns p [] 0
@@ -87,6 +89,62 @@ runs_more p runs next n run r e stands quiet = record {
                     (subst (λ (k : ℕ). StandsAt p k (first_rest p k) run × (waits run ≡ false)) (sym same) (stands, quiet))
               ]
         ]
+
+-- ---- older runs
+
+pub all_left : (runs : List (Option ModuleRun)) → AreLeft runs runs
+all_left runs = record { count = refl; each = λ m run e. e }
+
+gone : (runs : List (Option ModuleRun)) (m : ℕ) → get_or (set runs m None) m None ≡ None
+gone [] m = refl
+gone (r ∷ rs) zero = refl
+gone (r ∷ rs) (suc m) = gone rs m
+
+-- without the one at a place
+pub left_without : (runs left next : List (Option ModuleRun)) (m : ℕ) → AreLeft runs left → next ≡ set left m None → AreLeft runs next
+left_without runs left next m l e = record {
+  count = ap (λ (q : List (Option ModuleRun)). length q) e ∙ (length-set left m None ∙ l.count);
+  each = λ n run there.
+      let at : get_or (set left m None) n None ≡ Some run = ap (λ (q : List (Option ModuleRun)). get_or q n None) (sym e) ∙ there in
+      elim (eqb_tells n m) [
+        | inl u ↦
+            let none : get_or (set left m None) n None ≡ None = ap (λ (k : ℕ). get_or (set left m None) k None) u.1 ∙ gone left m in
+            let both = sym none ∙ at in cc
+        | inr u ↦ l.each n run (sym (get_or-set_other left m n None None u.1) ∙ at)
+      ];
+}
+
+-- what is found at a place is an older run
+pub older_at : (p : Plan) (runs left : List (Option ModuleRun)) (m : ℕ) (found : Option ModuleRun) → AreOlderRuns p runs → AreLeft runs left
+    → found ≡ get_or left m None → IfSome found (λ run. (o : Own) × StandsAt p m o run)
+older_at p runs left m None older l e = tt
+older_at p runs left m (Some run) older l e = older m run (l.each m run (sym e))
+
+-- the runs of a core
+pub core_runs : (p : Plan) (s : Stored) (ends : List (Option Advance)) (runs : List (Option ModuleRun)) (credits : List ℕ)
+    → IsCore p s ends runs credits → AreOlderRuns p runs
+core_runs p s ends runs credits c m run there =
+    let x = core_of (design p) (held_in s (over_of ends)) in
+    let is : IsRunOf p x m run = c.runs_are m run there in
+    elim (cases_Bool (waits run)) [
+      | inl w ↦ let (k, e, stands) = is.waiting w in (rest_behind p x m k, stands)
+      | inr w ↦ (rest_behind p x m (x.emitted m), (is.going w).1)
+    ]
+
+-- a core whose runs are lent, or go over to another
+pub core_left : (p : Plan) (s : Stored) (ends : List (Option Advance)) (runs left : List (Option ModuleRun)) (credits : List ℕ)
+    → IsCore p s ends runs credits → AreLeft runs left → IsCore p s ends left credits
+core_left p s ends runs left credits c l = record {
+  fits = c.fits;
+  sound = c.sound;
+  agreed = c.agreed;
+  table = c.table;
+  count = l.count ∙ c.count;
+  counted = c.counted;
+  room = c.room;
+  runs_are = λ m run there. c.runs_are m run (l.each m run there);
+  ends_are = c.ends_are;
+}
 
 -- ---- the channels
 

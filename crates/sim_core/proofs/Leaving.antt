@@ -1,7 +1,7 @@
 -- What came back unread stays the next values of its channel, whatever acts.
-use Rattle.std.proofs.Common.{◌≡◌, refl, ap, subst, ℕ, zero, suc, ◌+◌, ◌<◌, ◌≤◌, List}
+use Rattle.std.proofs.Common.{◌≡◌, refl, ap, subst, ℕ, zero, suc, ◌+◌, ◌<◌, List}
 use Rattle.std.proofs.Common.{[], ◌∷◌, ◌++◌, length, drop, get_or, set, inl, inr, arith, sym}
-use Rattle.std.proofs.Common.{Option, ◌∙◌}
+use Rattle.std.proofs.Common.{Option, ◌∙◌, ◌⊎◌}
 use Rattle.std.proofs.lemmas.Bool.{cases_lt}
 use Rattle.std.proofs.lemmas.Bool.Decides.{eqb_tells}
 use Rattle.std.proofs.lemmas.List.{get_or-set_same, get_or-set_other, get_or_past, length-set}
@@ -70,38 +70,41 @@ unread_grow all more n unread grows are c l =
 
 -- ---- what a mail has left
 
--- a loop over channels has kept what is left of the first ones
+-- a loop over ports has kept what is left of some channels, and taken it out
 pub record IsKeeping (first : List Unread) (readers : List ℕ) (m : ℕ) (popped : List ℕ) (values : List (List ℕ)) (unread : List Unread)
-    (now : List (List ℕ)) (at : ℕ) : Type 0 where
-  pub count : length now ≡ length values
-  pub same : (c : ℕ) → at ≤ c → get_or now c [] ≡ get_or values c []
+    (now : List (List ℕ)) : Type 0 where
+  pub same : (c : ℕ) → (get_or now c [] ≡ get_or values c []) ⊎ (get_or now c [] ≡ [])
   pub left : (all : ℕ → List ℕ) (n : ℕ) → AreUnread all n first
       → ((c : ℕ) → c < n → get_or readers c 0 ≡ m → Begins (drop (get_or popped c 0) (all c)) (get_or values c []))
       → AreUnread all n unread
 
-pub keeping_on : (first : List Unread) (readers : List ℕ) (m : ℕ) (popped : List ℕ) (values : List (List ℕ)) (unread : List Unread)
-    (now : List (List ℕ)) (at : ℕ) → IsKeeping first readers m popped values unread now at
-    → IsKeeping first readers m popped values unread now (at + 1)
-keeping_on first readers m popped values unread now at k = record {
-  count = k.count;
-  same = λ c l. k.same c (omega arith);
-  left = k.left;
-}
-
 pub keeping_more : (first : List Unread) (readers : List ℕ) (m : ℕ) (popped : List ℕ) (values : List (List ℕ)) (unread : List Unread)
-    (now : List (List ℕ)) (at : ℕ) → IsKeeping first readers m popped values unread now at → get_or readers at 0 ≡ m
+    (now : List (List ℕ)) (at : ℕ) → IsKeeping first readers m popped values unread now → get_or readers at 0 ≡ m
     → (more : List Unread) (rest : List (List ℕ)) → more ≡ set unread at (record { behind = get_or popped at 0; values = get_or now at [] })
-    → rest ≡ set now at [] → IsKeeping first readers m popped values more rest (at + 1)
+    → rest ≡ set now at [] → IsKeeping first readers m popped values more rest
 keeping_more first readers m popped values unread now at k mine more rest e f = record {
-  count = ap length f ∙ (length-set now at [] ∙ k.count);
-  same = λ c l.
-      ap (λ (vs : List (List ℕ)). get_or vs c []) f
-      ∙ (get_or-set_other now at c [] [] (λ q. absurd (omega arith)) ∙ k.same c (omega arith));
+  same = λ c.
+      elim (eqb_tells c at) [
+        | inl y ↦ inr (ap (λ (vs : List (List ℕ)). get_or vs c []) f
+            ∙ subst (λ (i : ℕ). get_or (set now at []) i [] ≡ []) (sym y.1) (emptied now at))
+        | inr y ↦ subst (λ (vs : List ℕ). (vs ≡ get_or values c []) ⊎ (vs ≡ []))
+            (sym (ap (λ (vs : List (List ℕ)). get_or vs c []) f ∙ get_or-set_other now at c [] [] y.1)) (k.same c)
+      ];
   left = λ all n are next.
       subst (AreUnread all n) (sym e)
       (unread_set all n unread at _ (k.left all n are next)
-      (λ inside. subst (Begins (drop (get_or popped at 0) (all at))) (sym (k.same at (omega arith))) (next at inside mine)));
+      (λ inside. begin_or_none (drop (get_or popped at 0) (all at)) (next at inside mine) (k.same at)));
 }
+  where
+    emptied : (vs : List (List ℕ)) (i : ℕ) → get_or (set vs i []) i [] ≡ []
+    emptied [] i = get_or_past [] i [] (omega arith)
+    emptied (v ∷ vs) zero = refl
+    emptied (v ∷ vs) (suc i) = emptied vs i
+
+    begin_or_none : (all : List ℕ) → Begins all (get_or values at [])
+        → (get_or now at [] ≡ get_or values at []) ⊎ (get_or now at [] ≡ []) → Begins all (get_or now at [])
+    begin_or_none all begins (inl y) = subst (Begins all) (sym y) begins
+    begin_or_none all begins (inr y) = subst (Begins all) (sym y) (all, refl)
 
 -- ---- cores
 

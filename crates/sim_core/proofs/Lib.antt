@@ -32,6 +32,7 @@ pub mod Ahead
 pub mod Tasks
 pub mod Noting
 pub mod Posting
+pub mod Reading
 pub mod Sending
 pub mod Posted
 pub mod Lends

@@ -1,9 +1,9 @@
 -- What a run's counts, the log and the table tell of its mail is what the core tells.
-use Rattle.std.proofs.Common.{◌≡◌, refl, sym, ap, ap₂, ◌∙◌, ℕ, suc, ◌+◌, ◌<◌, ◌≤◌, Bool, true, false, not, cond, eqb, inl, inr}
-use Rattle.std.proofs.Common.{List, [], ◌∷◌, length, map, take, drop, get_or, set, slice_index, slice_index_or, slice_get, Some, arith}
-use Rattle.std.proofs.lemmas.List.{get_or_past, get_or-set_same, get_or-set_other, length-set}
+use Rattle.std.proofs.Common.{◌≡◌, refl, sym, ap, ap₂, ◌∙◌, ℕ, suc, ◌<◌, ◌≤◌, Bool, true, false, not, cond, eqb, inl, inr}
+use Rattle.std.proofs.Common.{List, [], ◌∷◌, length, map, take, drop, slice_index, slice_get, Some, arith}
+use Rattle.std.proofs.lemmas.List.{get_or_past}
 use Rattle.std.proofs.lemmas.Bool.Decides.{eqb_tells}
-use Rattle.std.proofs.lemmas.Bool.{cases_eq, cases_Bool, cond-true, cond-false, cases_lt, eq-eqb}
+use Rattle.std.proofs.lemmas.Bool.{cases_Bool, cond-true, cond-false, cases_lt, eq-eqb}
 use Rattle.flow_word.specs.declared.access.Access.{Access}
 use Rattle.flow_word.specs.declared.access.Side.{Side}
 use Rattle.flow_word.specs.declared.access.Side.TheVariants.{Pop, Push}
@@ -28,8 +28,7 @@ use Rattle.engine_view.specs.Answered.{outcome_by}
 use Rattle.engine_view.specs.Held.{Held, emitted_of, seen, queries_in, possible_by, flags_by, core_of, values_at}
 use Rattle.engine_view.specs.Shown.{IsSound, queries_before}
 use Rattle.run_ahead.specs.declared.mail.Mail.{Mail}
-use Rattle.fifo_table.specs.Channels.{Channel}
-use Rattle.sim_core.specs.Lent.{mailed, AreMailed}
+use Rattle.sim_core.specs.Lent.{AreMailed}
 use Rattle.sim_core.specs.Readers.{AreReaders}
 use Rattle.run_ahead.specs.Mails.{values_on}
 use Rattle.sim_core.specs.Marks.{IsRestBehind}
@@ -114,22 +113,6 @@ asked_same before (r ∷ rs) (a ∷ xs) e =
 
 eqb_not : (a b : ℕ) → (a ≡ b → ⊥) → eqb a b ≡ false
 eqb_not a b n = elim (eqb_tells a b) [ inl t ↦ absurd (n t.1) | inr t ↦ t.0 ]
-
--- one channel more is read
-pub mailed_more : (channels : List Channel) (readers : List ℕ) (m : ℕ) (popped : List ℕ) (values more : List (List ℕ)) (n : ℕ)
-    (words : List ℕ) → length values ≡ length readers → n < length readers
-    → ((c : ℕ) → c < n → slice_index_or values c [] ≡ mailed channels readers m popped c) → more ≡ set values n words
-    → words ≡ mailed channels readers m popped n
-    → (length more ≡ length readers) × ((c : ℕ) → c < n + 1 → slice_index_or more c [] ≡ mailed channels readers m popped c)
-mailed_more channels readers m popped values more n words count inside each e w = (
-  ap length e ∙ (length-set values n words ∙ count),
-  λ c l.
-      elim (cases_eq c n) [
-        | inl here ↦ ap (λ (xs : List (List ℕ)). get_or xs c []) e ∙ (ap (λ (i : ℕ). get_or (set values n words) i []) here
-            ∙ (get_or-set_same values n words [] (omega arith) ∙ (w ∙ ap (mailed channels readers m popped) (sym here))))
-        | inr other ↦ ap (λ (xs : List (List ℕ)). get_or xs c []) e ∙ (get_or-set_other values n c words [] other ∙ each c (omega arith))
-      ],
-)
 
 -- behind n steps of a core
 module _ (p : Plan) (f : FitsEngine p) (h : Held) (table : kinds_in h.channels ≡ kinds_of p) (s : IsSound (design p) h)

@@ -14,6 +14,7 @@ use Rattle.fifo_table.specs.declared.channel.TableChannel.{TableChannel}
 use Rattle.fifo_table.specs.declared.channel.TableChannel.TheVariants.{Source, Sink, Fifo}
 use Rattle.flow_design.specs.Words.{cut_to}
 use Rattle.lockstep_defs.specs.Machine.{width_of}
+use Rattle.lockstep_defs.specs.OwnRun.{Own}
 use Rattle.timing_bridge.specs.Designs.{design}
 use Rattle.module_interp.specs.declared.run.ModuleRun.{ModuleRun}
 use Rattle.module_interp.specs.OwnRests.{first_rest}
@@ -40,6 +41,15 @@ pub record AreFirstRuns (p : Plan) (runs : List (Option ModuleRun)) (many : ℕ)
   pub count : length runs ≡ many
   pub some : (m : ℕ) → m < many → is_none (slice_index_or runs m None) ≡ false
   pub each : (m : ℕ) (run : ModuleRun) → slice_index_or runs m None ≡ Some run → StandsAt p m (first_rest p m) run × (waits run ≡ false)
+
+-- each run that is there stands at some rest of its module's own run
+abbrev pub AreOlderRuns : Plan → List (Option ModuleRun) → Type 0
+AreOlderRuns p runs = (m : ℕ) (run : ModuleRun) → slice_index_or runs m None ≡ Some run → (o : Own) × StandsAt p m o run
+
+-- the runs that are left are where they were, in as many places
+pub record AreLeft (runs left : List (Option ModuleRun)) : Type 0 where
+  pub count : length left ≡ length runs
+  pub each : (m : ℕ) (run : ModuleRun) → slice_index_or left m None ≡ Some run → slice_index_or runs m None ≡ Some run
 
 -- a port, or none
 abbrev pub port_where : Bool → Side → ℕ → List Port

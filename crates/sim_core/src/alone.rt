@@ -24,7 +24,21 @@ pub fn run_alone(alloc: Global, plan: Plan) -> Result<Core, OutOfMemory>
     ensures verified { IfOk result (λ core. AllVerified (theory_of core)) }
     ensures own { IfOk result (λ core. AreOwn core) }
 {
-    let mut core = Core::new(alloc, plan)?;
+    finish_alone(Core::new(alloc, plan)?)
+}
+
+/// Does all that is left to do in a core of which no run is lent, and all of whose outcomes are verified, as in one in which nothing
+/// is emitted yet.
+///
+/// An error leaves nothing.
+pub fn finish_alone(mut core: Core) -> Result<Core, OutOfMemory>
+    requires own { AreOwn core }
+    requires verified { AllVerified (theory_of core) }
+    ensures plan { IfOk result (λ done. done.plan ≡ core.plan) }
+    ensures done { IfOk result (λ done. IsFinal (design done.plan) done.plan.cycles (theory_of done)) }
+    ensures verified { IfOk result (λ done. AllVerified (theory_of done)) }
+    ensures own { IfOk result (λ done. AreOwn done) }
+{
     finish::<Brand>(&mut core, Blank::new(1))?;
     Ok(core)
 }

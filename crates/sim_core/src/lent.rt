@@ -65,6 +65,7 @@ impl Core {
             &self.fifos,
             &self.log,
             &mut self.unread,
+            ports_of(&self.ports, owner),
             &self.readers,
             owner,
             run.queries(),
@@ -124,6 +125,7 @@ impl Core {
         keep_unread(
             alloc,
             &mut self.unread,
+            ports_of(&self.ports, owner),
             &self.readers,
             owner,
             run.popped(),

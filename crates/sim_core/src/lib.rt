@@ -29,7 +29,7 @@ mod visit;
 
 pub use access_log::LoggedAccess;
 pub use actions::{ActFault, Action, Cause};
-pub use alone::run_alone;
+pub use alone::{finish_alone, run_alone};
 pub use bursts::bursts_are_runs;
 pub use flow_design::Plan;
 pub use laws::every_order;

@@ -1,5 +1,6 @@
 //! How a core begins.
-ghost use Rattle.std.specs.Prelude.{◌≡◌, ℕ, ◌++◌, ◌<◌, [], true, false, None, map, length, replicate, IfOk, OnOk, slice_index_or};
+ghost use Rattle.std.specs.Prelude.{◌≡◌, ℕ, ◌++◌, ◌<◌, [], true, false, None, map, length, replicate, IfOk, IfSome, OnOk};
+ghost use Rattle.std.specs.Prelude.{slice_index_or, slice_set};
 ghost use Rattle.flow_word.specs.declared.access.Side.TheVariants.{Push};
 ghost use Rattle.sim_core.specs.Readers.{AreReaders, AreUsers};
 ghost use Rattle.flow_design.specs.StaticRules.{FitsEngine};
@@ -7,7 +8,11 @@ ghost use Rattle.flow_design.specs.Words.{cut_to};
 ghost use Rattle.event_timing.specs.Core.{opening_core};
 ghost use Rattle.event_timing.specs.Agreement.{AllVerified};
 ghost use Rattle.timing_bridge.specs.Designs.{design};
-ghost use Rattle.sim_core.specs.Opening.{kind_in, kinds_of, port_where, ports_at, ports_to, AreOwnPorts, AreFirstRuns};
+ghost use Rattle.lockstep_defs.specs.OwnRun.{Own};
+ghost use Rattle.module_interp.specs.OwnRests.{first_rest};
+ghost use Rattle.module_interp.specs.Runs.{StandsAt, waits};
+ghost use Rattle.sim_core.specs.Opening.{kind_in, kinds_of, port_where, ports_at, ports_to, AreOwnPorts};
+ghost use Rattle.sim_core.specs.Opening.{AreFirstRuns, AreLeft, AreOlderRuns};
 ghost use Rattle.sim_core.specs.Views.{theory_of};
 
 use crate::beside::find_beside;
@@ -17,7 +22,7 @@ use crate::unread::nothing_unread;
 use cycle_changes::Changes;
 use event_graph::{Candidate, Graph};
 use fifo_table::{FifoTable, TableChannel};
-use flow_design::{Advance, ChannelKind, Plan};
+use flow_design::{Advance, ChannelKind, Plan, copy_plan};
 use flow_word::{List, OutOfMemory, Port, Side, Width, Words, cut};
 use module_interp::ModuleRun;
 use query_log::QueryLog;
@@ -35,56 +40,119 @@ impl Core {
         ensures verified { IfOk result (λ core. AllVerified (theory_of core)) }
         ensures own { IfOk result (λ core. (m : ℕ) → m < length plan.design.modules → slice_index_or core.lent m true ≡ false) }
     {
-        let modules = plan.design.modules.as_slice().len() as u32;
-        let kinds = make_kinds(alloc, &plan)?;
-        let fifos = FifoTable::new(alloc, kinds.as_slice())?;
-        let graph = Graph::new(alloc, modules)?;
-        let log = QueryLog::new(alloc, modules)?;
-        let runs = first_runs(alloc, &plan, modules)?;
-        let ends = no_ends(alloc, modules)?;
-        let credits = vec![in alloc; 0; modules as usize]?;
-        let readers = find_users(alloc, &plan, Side::Pop)?;
-        let writers = find_users(alloc, &plan, Side::Push)?;
-        let ports = make_ports(alloc, &plan, readers.as_slice(), writers.as_slice())?;
-        let unread = nothing_unread(alloc, plan.design.channels.len())?;
-        let candidates = no_candidates(alloc, modules)?;
-        let beside = find_beside(alloc, &plan, &ports, readers.as_slice(), writers.as_slice())?;
-        Ok(Core {
-            plan,
-            graph,
-            fifos,
-            log,
-            ends,
-            runs,
-            credits,
-            ports,
-            readers,
-            unread,
-            beside,
-            asking: u64::MAX,
-            spare: List::new(alloc),
-            replies: List::new(alloc),
-            candidates,
-            changes: Changes::new(alloc),
-        })
+        let runs = first_runs(alloc, &plan, &mut Vec::new(alloc))?;
+        begin(alloc, plan, runs)
+    }
+
+    /// A core of the same plan in which nothing is emitted yet. The runs of the modules go over to it, so that their blocks are not
+    /// compiled again; of a module whose run is lent it has a new one. Of the core that is left only the plan counts.
+    ///
+    /// An error leaves the plan.
+    pub fn again(&mut self, alloc: Global) -> Result<Core, OutOfMemory>
+        ensures kept { self.new.plan ≡ self.old.plan }
+        ensures plan { IfOk result (λ core. core.plan ≡ self.old.plan) }
+        ensures opening { IfOk result (λ core. theory_of core ≡ opening_core (design self.old.plan)) }
+        ensures verified { IfOk result (λ core. AllVerified (theory_of core)) }
+        ensures own { IfOk result (λ core. (m : ℕ) → m < length self.old.plan.design.modules
+            → slice_index_or core.lent m true ≡ false) }
+    {
+        let plan = copy_plan(alloc, &self.plan)?;
+        let runs = first_runs(alloc, &plan, &mut self.runs)?;
+        begin(alloc, plan, runs)
     }
 }
 
-/// The runs of all modules, each at its first rest.
+/// A core of a plan in which nothing is emitted yet, with the runs of all modules at their first rests.
+fn begin(alloc: Global, plan: Plan, runs: Vec<Option<ModuleRun>>) -> Result<Core, OutOfMemory>
+    requires fits { FitsEngine plan }
+    requires runs { AreFirstRuns plan runs.items (length plan.design.modules) }
+    ensures plan { IfOk result (λ core. core.plan ≡ plan) }
+    ensures opening { IfOk result (λ core. theory_of core ≡ opening_core (design plan)) }
+    ensures verified { IfOk result (λ core. AllVerified (theory_of core)) }
+    ensures own { IfOk result (λ core. (m : ℕ) → m < length plan.design.modules → slice_index_or core.lent m true ≡ false) }
+{
+    let modules = plan.design.modules.as_slice().len() as u32;
+    let kinds = make_kinds(alloc, &plan)?;
+    let fifos = FifoTable::new(alloc, kinds.as_slice())?;
+    let graph = Graph::new(alloc, modules)?;
+    let log = QueryLog::new(alloc, modules)?;
+    let ends = no_ends(alloc, modules)?;
+    let credits = vec![in alloc; 0; modules as usize]?;
+    let readers = find_users(alloc, &plan, Side::Pop)?;
+    let writers = find_users(alloc, &plan, Side::Push)?;
+    let ports = make_ports(alloc, &plan, readers.as_slice(), writers.as_slice())?;
+    let unread = nothing_unread(alloc, plan.design.channels.len())?;
+    let candidates = no_candidates(alloc, modules)?;
+    let beside = find_beside(alloc, &plan, &ports, readers.as_slice(), writers.as_slice())?;
+    Ok(Core {
+        plan,
+        graph,
+        fifos,
+        log,
+        ends,
+        runs,
+        credits,
+        ports,
+        readers,
+        unread,
+        beside,
+        asking: u64::MAX,
+        spare: List::new(alloc),
+        replies: List::new(alloc),
+        candidates,
+        changes: Changes::new(alloc),
+    })
+}
+
+/// The runs of all modules, each at its first rest. Older ones go over to them, as far as they are there.
 fn first_runs(
     alloc: Global,
     plan: &Plan,
-    modules: u32,
+    older: &mut Vec<Option<ModuleRun>>,
 ) -> Result<Vec<Option<ModuleRun>>, OutOfMemory>
     requires fits { FitsEngine plan.now }
-    requires modules { modules ≡ length plan.now.design.modules }
-    ensures { IfOk result (λ runs. AreFirstRuns plan.now runs.items modules) }
+    requires older { AreOlderRuns plan.now older.old.items }
+    ensures first { IfOk result (λ runs. AreFirstRuns plan.now runs.items (length plan.now.design.modules)) }
+    ensures left { AreLeft older.old.items older.new.items }
 {
+    let modules = plan.design.modules.len() as u32;
     let mut runs = Vec::with_capacity(alloc, modules as usize)?;
     for number in 0..modules {
-        runs.push(Some(ModuleRun::new(alloc, plan, number)?))?;
+        let run = first_run(alloc, plan, number, take_run(older, number as usize))?;
+        runs.push(Some(run))?;
     }
     Ok(runs)
+}
+
+/// A module's run at its first rest: an older one of the module's, or else a new one.
+fn first_run(
+    alloc: Global,
+    plan: &Plan,
+    number: u32,
+    older: Option<ModuleRun>,
+) -> Result<ModuleRun, OutOfMemory>
+    requires fits { FitsEngine plan.now }
+    requires owner { number < length plan.now.design.modules }
+    requires older { IfSome older (λ run. (o : Own) × StandsAt plan.now number o run) }
+    ensures stands { IfOk result (λ run. StandsAt plan.now number (first_rest plan.now number) run) }
+    ensures waits { IfOk result (λ run. waits run ≡ false) }
+{
+    match older {
+        Some(run) => run.again(alloc),
+        None => ModuleRun::new(alloc, plan, number),
+    }
+}
+
+/// Takes out the run at a place, if one is there.
+fn take_run(runs: &mut Vec<Option<ModuleRun>>, at: usize) -> Option<ModuleRun>
+    ensures run { result ≡ slice_index_or runs.old.items at None }
+    ensures left { runs.new.items ≡ slice_set runs.old.items at None }
+{
+    if at < runs.len() {
+        runs[at].take()
+    } else {
+        None
+    }
 }
 
 /// So many modules that did not come to their end.

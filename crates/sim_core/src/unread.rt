@@ -1,10 +1,11 @@
 //! Values that were copied for the mail of a run, and came back unread.
-ghost use Rattle.std.specs.Prelude.{◌≡◌, ℕ, ◌<◌, [], length, drop, slice_index, slice_index_or, slice_set, IfOk};
+ghost use Rattle.std.specs.Prelude.{◌≡◌, ◌≢◌, ℕ, ◌<◌, [], length, drop, slice_index, slice_index_or, slice_set, true, false, IfOk};
 ghost use Rattle.std.specs.Prelude.{List as Items};
+ghost use Rattle.flow_word.specs.declared.access.Side.TheVariants.{Pop};
 ghost use Rattle.event_timing.specs.Views.{Begins};
 ghost use Rattle.sim_core.specs.Unread.{none_unread, unread_at, IsUnread, AreUnread};
 
-use flow_word::{List, OutOfMemory, Queue};
+use flow_word::{List, OutOfMemory, Port, Queue, Side};
 use std::alloc::Global;
 use std::mem;
 
@@ -106,10 +107,11 @@ fn put(unread: &mut List<Unread>, at: usize, behind: u64, values: Queue<u64>)
     }
 }
 
-/// Keeps what a run has left of its mail: of each channel that its module pops the values behind those that it popped.
+/// Keeps what a run has left of its mail: of each channel that its module pops at these ports the values behind those that it popped.
 pub(crate) fn keep_unread(
     alloc: Global,
     unread: &mut List<Unread>,
+    ports: &[Port],
     readers: &[u32],
     owner: u32,
     popped: &[u64],
@@ -120,10 +122,24 @@ pub(crate) fn keep_unread(
         → ((c : ℕ) → c < n → slice_index readers.now c ≡ owner → Begins (drop (slice_index popped.now c) (all c))
         (slice_index_or values.old c [])) → AreUnread all n unread.new }
 {
-    for at in 0..values.as_slice().len() {
-        if at < readers.len() && readers[at] == owner {
+    for port in ports {
+        let at = port.channel as usize;
+        if pops(port, readers, owner) && at < values.as_slice().len() {
             let left = take_values(alloc, values, at);
             put(unread, at, popped[at], left);
         }
+    }
+}
+
+/// Whether the module pops the channel at this port.
+pub(crate) fn pops(port: &Port, readers: &[u32], owner: u32) -> bool
+    ensures inside { result ≡ true → port.now.channel < length readers.now }
+    ensures mine { result ≡ true → slice_index readers.now port.now.channel ≡ owner }
+    ensures other { result ≡ false → port.now.side ≡ Pop → port.now.channel < length readers.now
+        → slice_index readers.now port.now.channel ≢ owner }
+{
+    match port.side {
+        Side::Pop => readers.get(port.channel as usize) == Some(&owner),
+        Side::Push => false,
     }
 }

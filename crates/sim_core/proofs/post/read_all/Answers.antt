@@ -1,37 +1,68 @@
-use Rattle.std.proofs.Common.{ℕ, List, [], eqb, inl, inr, sym, ap, ◌∙◌, ◌<◌, length, set, slice_index, arith}
+use Rattle.std.proofs.Common.{ℕ, List, sym, ap, subst, ◌∙◌, ◌+◌, length, set, get_or, Some, slice_get, ◌≡◌, arith}
 use Rattle.std.proofs.lemmas.List.{length-set}
-use Rattle.std.proofs.lemmas.Bool.{cases_Bool, cond-true, cond-false}
+use Rattle.std.proofs.lemmas.Option.{slice_get-get_or}
+use Rattle.flow_word.specs.declared.access.Port.{Port}
+use Rattle.flow_word.specs.declared.access.Side.TheVariants.{Pop}
 use Rattle.flow_design.proofs.Rings.{refilled}
 use Rattle.engine_view.specs.Held.{values_at}
-use Rattle.sim_core.proofs.Sending.{mailed_more}
+use Rattle.sim_core.specs.Lent.{IsReadingPorts}
+use Rattle.sim_core.specs.Unread.{AreUnread}
+use Rattle.sim_core.proofs.Reading.{reads_none, reads_more, reads_on, reads_all}
+use Rattle.sim_core.proofs.post.read_all.Goals.{then-pops+in_ok-read_channel, else-pops}
 use Rattle.sim_core.proofs.post.read_all.Goals as goal
+
+abbrev no_port : Port
+no_port = record { side = Pop; channel = 0 }
+
+pub loop-port-init : goal.loop-port-init
+loop-port-init c = record {
+  reading = reads_none c.args.fifos.now.channels c.args.readers.now c.args.owner c.args.popped.now c.args.ports.now c.args.values.now
+      c.requires.places c.requires.empty;
+  left = λ all n are. are;
+}
 
 pub read_channel-requires-clause-unread : goal.read_channel-requires-clause-unread
 read_channel-requires-clause-unread c =
-    c.loop-channel.invariant.left (values_at c.args.fifos.now.channels) (length c.args.fifos.now.channels) c.requires.unread
-    c.loop-channel.channel (let t = c.loop-channel-test.true in let n = c.len-channel-end.ensures in omega arith)
+    c.loop-port.invariant.left (values_at c.args.fifos.now.channels) (length c.args.fifos.now.channels) c.requires.unread _
+    (let r = c.requires.readers in let i = c.pops.ensures.inside c.if-pops.true in omega arith)
 
 pub returns-in_err-read_channel-clause-left : goal.returns-in_err-read_channel-clause-left
-returns-in_err-read_channel-clause-left c = λ all n are. c.read_channel.ensures.left all n (c.loop-channel.invariant.left all n are)
+returns-in_err-read_channel-clause-left c = λ all n are. c.read_channel.ensures.left all n (c.loop-port.invariant.left all n are)
 
-pub loop-channel-preserved : goal.loop-channel-preserved
-loop-channel-preserved c =
-    let at = c.loop-channel.channel in
-    let inside : at < length c.args.readers.now =
-    let t = c.loop-channel-test.true in let n = c.len-channel-end.ensures in let r = c.requires.readers in omega arith in
-    let slice = c.as_mut_slice.ensures in
-    let more = mailed_more c.args.fifos.now.channels c.args.readers.now c.args.owner c.args.popped.now c.loop-channel.values _ at
-    c.read_channel.new.values c.loop-channel.invariant.places inside c.loop-channel.invariant.each
-    (refilled c.loop-channel.values (set c.as_mut_slice.result.now at c.read_channel.new.values)
-    (length-set c.as_mut_slice.result.now at c.read_channel.new.values
-    ∙ ap (λ (xs : List (List ℕ)). length xs) c.as_mut_slice.ensures.value)
-    ∙ ap (λ (xs : List (List ℕ)). set xs at c.read_channel.new.values) c.as_mut_slice.ensures.value)
-    (elim (cases_Bool (eqb (slice_index c.args.readers.now at) c.args.owner)) [
-      | inl y ↦ c.in_ok-read_channel.ensures.mine y ∙ sym (cond-true _ _ [] y)
-      | inr n ↦ c.in_ok-read_channel.ensures.others n ∙ sym (cond-false _ _ [] n)
-    ]) in
-    record {
-      places = more.0;
-      each = more.1;
-      left = λ all n are. c.read_channel.ensures.left all n (c.loop-channel.invariant.left all n are);
-    }
+pub loop-port-preserved : goal.loop-port-preserved
+loop-port-preserved c =
+    let channels = c.args.fifos.now.channels in
+    let readers = c.args.readers.now in
+    let owner = c.args.owner in
+    let popped = c.args.popped.now in
+    let ports = c.args.ports.now in
+    let at = c.loop-port.port-index in
+    let port = get_or ports at no_port in
+    let here : slice_get ports at ≡ Some port = slice_get-get_or ports at no_port c.loop-port-test.true in
+    elim c.if-pops.branch [
+      | then-pops+in_ok-read_channel w ↦
+          let words = w.read_channel.new.values in
+          let slice = w.as_mut_slice.ensures in
+          record {
+            reading = reads_more channels readers owner popped ports c.loop-port.values c.if-pops.values at port words
+                c.loop-port.invariant.reading here (c.pops.ensures.inside w.if-pops.true) (c.pops.ensures.mine w.if-pops.true)
+                w.in_ok-read_channel.ensures.values
+                (w.values-is
+                ∙ (refilled c.loop-port.values (set w.as_mut_slice.result.now port.channel words)
+                (length-set w.as_mut_slice.result.now port.channel words ∙ ap (λ (xs : List (List ℕ)). length xs) slice.value)
+                ∙ ap (λ (xs : List (List ℕ)). set xs port.channel words) slice.value));
+            left = λ all n are. subst (AreUnread all n) (sym w.unread-is)
+                (w.read_channel.ensures.left all n (c.loop-port.invariant.left all n are));
+          }
+      | else-pops w ↦ record {
+          reading = subst (λ (vs : List (List ℕ)). IsReadingPorts channels readers owner popped ports vs (at + 1)) (sym w.values-is)
+              (reads_on channels readers owner popped ports c.loop-port.values at port c.loop-port.invariant.reading here
+              (c.pops.ensures.other w.if-pops.false));
+          left = λ all n are. subst (AreUnread all n) (sym w.unread-is) (c.loop-port.invariant.left all n are);
+        }
+    ]
+
+pub returns-clause-read : goal.returns-clause-read
+returns-clause-read c =
+    reads_all c.args.fifos.now.channels c.args.readers.now c.args.owner c.args.popped.now c.args.ports.now c.loop-port.values
+    c.loop-port.port-index c.loop-port.invariant.reading c.loop-port-test.false c.requires.ports

@@ -12,6 +12,7 @@ use Rattle.sim_core.specs.Views.{CoreView, theory_of}
 use Rattle.sim_core.proofs.Lending as lending
 use Rattle.sim_core.proofs.Marking.{table_count}
 use Rattle.sim_core.proofs.Leaving.{unread_here}
+use Rattle.sim_core.proofs.Ports.{all_pops}
 use Rattle.sim_core.proofs.Lends as lends
 use Rattle.sim_core.proofs.machine.Core.lend.Goals as goal
 
@@ -30,6 +31,16 @@ make_mail-requires-clause-popped c =
     sym (get_or_read c.self.inside.runs.items c.args.owner c.index.result.now inside c.index.ensures None) ∙ c.in-Some.is in
     lends.popped_count c.self.inside.plan s c.self.inside.ends.items c.self.inside.runs.items c.self.inside.credits.items k c.args.owner
     c.in-Some.run' here c.popped.result.now c.popped.ensures.count
+
+pub ports_of-requires : goal.ports_of-requires
+ports_of-requires c =
+    let a = rw (← c.self.view_is) at c.requires in let n = c.self.invariant.ports_are.count in omega arith
+
+pub make_mail-requires-clause-ports : goal.make_mail-requires-clause-ports
+make_mail-requires-clause-ports c =
+    all_pops c.self.inside.plan c.args.owner c.deref.result.now
+    (subst (AreReaders c.self.inside.plan) (sym c.deref.ensures.value) c.self.invariant.readers_are) c.ports_of.result.now
+    (c.ports_of.ensures ∙ c.self.invariant.ports_are.each c.args.owner (rw (← c.self.view_is) at c.requires))
 
 pub make_mail-requires-clause-unread : goal.make_mail-requires-clause-unread
 make_mail-requires-clause-unread c =

@@ -1,4 +1,4 @@
-use Rattle.sim_core.proofs.alone.run_alone.Given as goal
+use Rattle.sim_core.proofs.alone.finish_alone.Given as goal
 
 -- the counter's own number
 abbrev pub ghosts-finish : goal.ghosts-finish

@@ -7,21 +7,21 @@ use Rattle.event_timing.proofs.ActionBound.{none_assumed}
 use Rattle.timing_bridge.specs.Designs.{design}
 use Rattle.engine_view.specs.Held.{core_of}
 use Rattle.engine_view.specs.Stored.{stored, held_in}
-use Rattle.sim_core.specs.Opening.{kinds_of}
+use Rattle.sim_core.specs.Opening.{kinds_of, AreFirstRuns}
 use Rattle.sim_core.specs.Runs.{over_of}
 use Rattle.sim_core.proofs.Asking.{asking_all}
 use Rattle.sim_core.proofs.Beginning as beginning
-use Rattle.sim_core.proofs.machine.Core.new.Goals as goal
+use Rattle.sim_core.proofs.opening.begin.Goals as goal
 
 pub new-requires-clause-count : goal.new-requires-clause-count
 new-requires-clause-count c =
     let e = ap (λ (ys : List TableChannel). length ys) (c.as_slice-2.ensures ∙ c.in_ok-kinds.ensures) in
-    let n = beginning.kinds_length c.args.plan c.requires in
-    let k = c.requires.channel_count in
+    let n = beginning.kinds_length c.args.plan c.requires.fits in
+    let k = c.requires.fits.channel_count in
     omega arith
 
 pub new-requires-clause-kinds : goal.new-requires-clause-kinds
-new-requires-clause-kinds c = beginning.kinds_sound c.args.plan c.requires c.as_slice-2.result.now
+new-requires-clause-kinds c = beginning.kinds_sound c.args.plan c.requires.fits c.as_slice-2.result.now
     (c.as_slice-2.ensures ∙ c.in_ok-kinds.ensures)
 
 pub invariant_of-result : goal.invariant_of-result
@@ -31,16 +31,17 @@ invariant_of-result c =
     let over : over_of c.in_ok-ends.ends.items ≡ replicate n false = ap over_of c.in_ok-ends.ensures ∙ beginning.none_over n in
     let is = beginning.held_is n (kinds_of c.args.plan) (held_in s (over_of c.in_ok-ends.ends.items)) c.in_ok-graph.ensures
     (c.in_ok-fifos.ensures ∙ ap (map unused) (c.as_slice-2.ensures ∙ c.in_ok-kinds.ensures)) c.in_ok-log.ensures over in
+    let count = ap (λ (xs : List Module). length xs) c.as_slice.ensures in
     record {
-      core = beginning.core_begun c.args.plan c.requires n (ap (λ (xs : List Module). length xs) c.as_slice.ensures) s
-          c.in_ok-ends.ends.items c.in_ok-runs.runs.items c.in_ok-credits.credits.items is over
-          c.in_ok-runs.ensures (c.in_ok-credits.ensures.items_if_clones_equal (λ x e. e));
+      core = beginning.core_begun c.args.plan c.requires.fits n count s c.in_ok-ends.ends.items c.args.runs.items
+          c.in_ok-credits.credits.items is over (subst (AreFirstRuns c.args.plan c.args.runs.items) (sym count) c.requires.runs)
+          (c.in_ok-credits.ensures.items_if_clones_equal (λ x e. e));
       ports_are = c.in_ok-ports.ensures;
       readers_are = c.in_ok-readers.ensures;
       unread_are = c.in_ok-unread.ensures _ _;
       beside_are = c.in_ok-beside.ensures;
-      asking_are = asking_all c.args.plan c.requires _;
-      candidate_count = c.in_ok-candidates.ensures ∙ ap (λ (xs : List Module). length xs) c.as_slice.ensures;
+      asking_are = asking_all c.args.plan c.requires.fits _;
+      candidate_count = c.in_ok-candidates.ensures ∙ count;
     }
 
 pub returns-clause-opening : goal.returns-clause-opening
@@ -50,13 +51,12 @@ returns-clause-opening c =
     let over : over_of c.in_ok-ends.ends.items ≡ replicate n false = ap over_of c.in_ok-ends.ensures ∙ beginning.none_over n in
     let is = beginning.held_is n (kinds_of c.args.plan) (held_in s (over_of c.in_ok-ends.ends.items)) c.in_ok-graph.ensures
     (c.in_ok-fifos.ensures ∙ ap (map unused) (c.as_slice-2.ensures ∙ c.in_ok-kinds.ensures)) c.in_ok-log.ensures over in
-    ap (core_of (design c.args.plan)) (sym is) ∙ (beginning.begins c.args.plan c.requires n
+    ap (core_of (design c.args.plan)) (sym is) ∙ (beginning.begins c.args.plan c.requires.fits n
     (ap (λ (xs : List Module). length xs) c.as_slice.ensures)).0
 
 pub returns-clause-own : goal.returns-clause-own
 returns-clause-own c = λ m l.
-    let e = ap (λ (xs : List Module). length xs) c.as_slice.ensures in
-    beginning.not_lent c.args.plan c.in_ok-runs.runs.items (length c.as_slice.result.now) m c.in_ok-runs.ensures (omega arith)
+    beginning.not_lent c.args.plan c.args.runs.items (length c.args.plan.design.modules) m c.requires.runs l
 
 pub returns-clause-verified : goal.returns-clause-verified
 returns-clause-verified c = subst AllVerified (sym (returns-clause-opening c)) (none_assumed (design c.args.plan))

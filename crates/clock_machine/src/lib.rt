@@ -11,4 +11,6 @@ mod part;
 mod run;
 mod telling;
 
-pub use run::{clock_run, clock_run_without_events};
+pub use block_code::BlockCode;
+pub use opening::codes_of_all;
+pub use run::{clock_run, clock_run_by};

@@ -78,7 +78,7 @@ fn fill_channels(alloc: Global, plan: &Plan) -> Result<List<Queue<Element>>, Out
     Ok(contents)
 }
 
-/// The code of all blocks, module by module.
+/// The code of all blocks, module by module. An edit of a depth leaves it as it is.
 pub fn codes_of_all(alloc: Global, plan: &Plan) -> Result<List<List<BlockCode>>, OutOfMemory>
     requires fits { FitsEngine plan.now }
     ensures { IfOk result (AreCodes plan.now) }

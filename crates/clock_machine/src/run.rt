@@ -80,15 +80,20 @@ fn next_clock(
     Ok(())
 }
 
-/// The report of a plan, with its events where they are kept.
-fn run(alloc: Global, plan: &Plan, keep: bool) -> Result<Report, OutOfMemory>
+/// As `clock_run`, by the code of all blocks, which is made once for a plan and its edits: with its events, or with none, which take
+/// the most memory.
+pub fn clock_run_by(
+    alloc: Global,
+    plan: &Plan,
+    codes: &[List<BlockCode>],
+    keep: bool,
+) -> Result<Report, OutOfMemory>
     requires fits { FitsEngine plan.now }
+    requires codes { AreCodes plan.now codes.now }
     ensures { IfOk result (λ r. r ≡ record (report plan.now) { events = kept keep (report plan.now).events }) }
 {
     let modules = plan.design.modules.len();
     let mut state = open_all(alloc, plan)?;
-    let codes = codes_of_all(alloc, plan)?;
-    let codes = codes.as_slice();
     let mut scratch = new_scratch(alloc, modules)?;
     let mut events = List::new(alloc);
     let mut answers = no_answers(alloc, modules)?;
@@ -125,13 +130,6 @@ pub fn clock_run(alloc: Global, plan: &Plan) -> Result<Report, OutOfMemory>
     requires fits { FitsEngine plan.now }
     ensures { IfOk result (λ r. r ≡ report plan.now) }
 {
-    run(alloc, plan, true)
-}
-
-/// The report of a plan without its events, which take the most memory. All else is as in `clock_run`.
-pub fn clock_run_without_events(alloc: Global, plan: &Plan) -> Result<Report, OutOfMemory>
-    requires fits { FitsEngine plan.now }
-    ensures { IfOk result (λ r. r ≡ record (report plan.now) { events = [] }) }
-{
-    run(alloc, plan, false)
+    let codes = codes_of_all(alloc, plan)?;
+    clock_run_by(alloc, plan, codes.as_slice(), true)
 }

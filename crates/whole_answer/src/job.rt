@@ -13,6 +13,7 @@ use crate::laws::reports_without_events;
 use crate::simulator::clock_report;
 use crate::status::Status;
 use cli_words::Simulator;
+use clock_machine::codes_of_all;
 use depth_session::{AloneRunner, DepthSession, Runner, ThreadRunner};
 use edit_runs::{RunCount, edits_in_order};
 use flow_design::{Edit, Plan, Report, edit_plan};
@@ -92,7 +93,7 @@ fn engine_job<R: Threads + Wait + Sync, U: Runner>(
     })
 }
 
-/// The same by the lockstep machine, which goes through all clocks again.
+/// The same by the lockstep machine, which goes through all clocks again after each edit. Each block is compiled once.
 fn clock_job(
     alloc: Global,
     events: bool,
@@ -107,15 +108,17 @@ fn clock_job(
     edits_in_order();
     edited_plans_agree();
     reports_without_events();
+    let codes = codes_of_all(alloc, &plan)?;
+    let codes = codes.as_slice();
     let mut written = nothing_yet(alloc);
-    let outcome = clock_report(alloc, &plan, events)?;
+    let outcome = clock_report(alloc, &plan, codes, events)?;
     write_report(&mut written, &plan, &outcome, 0, events)?;
     let mut count = RunCount::new(outcome.answers);
     let mut number = 0;
     for edit in edits {
         edit_plan(&mut plan, edit);
         number += 1;
-        let outcome = clock_report(alloc, &plan, events)?;
+        let outcome = clock_report(alloc, &plan, codes, events)?;
         write_report(&mut written, &plan, &outcome, number, events)?;
         count.add(outcome.answers);
     }

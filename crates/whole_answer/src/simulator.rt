@@ -1,21 +1,28 @@
 //! The lockstep machine as a simulator.
 ghost use Rattle.std.specs.Prelude.{◌≡◌, IfOk};
 ghost use Rattle.flow_design.specs.StaticRules.{FitsEngine};
+ghost use Rattle.clock_machine.specs.Parts.{AreCodes};
 ghost use Rattle.engine_report.specs.Finished.{report_with};
 
-use clock_machine::{clock_run, clock_run_without_events};
+use clock_machine::{BlockCode, clock_run_by};
 use flow_design::{Plan, Report};
-use flow_word::OutOfMemory;
+use flow_word::{List, OutOfMemory};
 use std::alloc::Global;
 
-/// The report of a plan by the lockstep machine, with its events or with none.
-pub(crate) fn clock_report(alloc: Global, plan: &Plan, events: bool) -> Result<Report, OutOfMemory>
-    requires { FitsEngine plan.now }
+/// The report of a plan by the lockstep machine, by the code of its blocks: with its events, or with none.
+pub(crate) fn clock_report(
+    alloc: Global,
+    plan: &Plan,
+    codes: &[List<BlockCode>],
+    events: bool,
+) -> Result<Report, OutOfMemory>
+    requires fits { FitsEngine plan.now }
+    requires codes { AreCodes plan.now codes.now }
     ensures { IfOk result (λ outcome. outcome ≡ report_with events plan.now) }
 {
     if events {
-        clock_run(alloc, plan)
+        clock_run_by(alloc, plan, codes, true)
     } else {
-        clock_run_without_events(alloc, plan)
+        clock_run_by(alloc, plan, codes, false)
     }
 }

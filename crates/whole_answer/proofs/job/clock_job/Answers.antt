@@ -1,6 +1,8 @@
 use Rattle.std.proofs.Common.{◌≡◌, ◌∙◌, sym, subst, refl, ap, arith, ℕ, ◌+◌}
+use Rattle.flow_design.specs.declared.plan.Plan.{Plan}
 use Rattle.flow_design.specs.declared.report.Report.{Report}
 use Rattle.flow_design.specs.StaticRules.{FitsEngine}
+use Rattle.clock_machine.specs.Parts.{AreCodes}
 use Rattle.edit_runs.specs.Runs.{first_counts, next_counts}
 use Rattle.whole_answer.specs.Answer.{IsAnswer}
 use Rattle.whole_answer.specs.Going.{Told, IsGoing, told_of, HasAdded}
@@ -22,6 +24,7 @@ loop-edit-init c = record {
       (begins events p c.args.edits.now c.edits_in_order.ensures.none c.requires.fits
       (first_answer events p old new c.nothing_yet-written.ensures.status c.in_ok-write_report.ensures));
   number = refl;
+  codes = subst (AreCodes c.args.plan) (sym c.as_slice-codes.ensures) c.in_ok-codes.ensures;
 }
 
 pub edit_plan-requires : goal.edit_plan-requires
@@ -31,8 +34,12 @@ edit_plan-requires c =
     let fit = fits_there c.args.plan edits i c.loop-edit-test.true c.requires.edits_fit in
     still_fits c.args.events c.args.plan edits i c.loop-edit.plan (edit_at edits i) c.loop-edit.invariant.going.plan fit
 
-pub clock_report-requires-in-loop-edit : goal.clock_report-requires-in-loop-edit
-clock_report-requires-in-loop-edit c =
+pub clock_report-requires-in-loop-edit-clause-codes : goal.clock_report-requires-in-loop-edit-clause-codes
+clock_report-requires-in-loop-edit-clause-codes c =
+    subst (λ (q : Plan). AreCodes q c.loop-edit.codes.now) (sym c.edit_plan.ensures) c.loop-edit.invariant.codes
+
+pub clock_report-requires-in-loop-edit-clause-fits : goal.clock_report-requires-in-loop-edit-clause-fits
+clock_report-requires-in-loop-edit-clause-fits c =
     let edits = c.args.edits.now in
     let i = c.loop-edit.edit-index in
     let fit = fits_there c.args.plan edits i c.loop-edit-test.true c.requires.edits_fit in
@@ -74,6 +81,7 @@ loop-edit-preserved c =
           (goes_on events p edits i plan next (told_of c.loop-edit.written c.loop-edit.count) going is fits
           (subst (λ (t : Told). IsAnswer t.status) told added.answer));
       number = number;
+      codes = subst (λ (q : Plan). AreCodes q c.loop-edit.codes.now) (sym c.edit_plan.ensures) c.loop-edit.invariant.codes;
     }
 
 pub returns-clause-job : goal.returns-clause-job

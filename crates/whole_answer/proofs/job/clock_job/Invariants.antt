@@ -1,4 +1,5 @@
 use Rattle.std.proofs.Common.{◌≡◌}
+use Rattle.clock_machine.specs.Parts.{AreCodes}
 use Rattle.whole_answer.specs.Going.{IsGoing, told_of}
 use Rattle.whole_answer.proofs.job.clock_job.Given as goal
 
@@ -6,4 +7,5 @@ abbrev pub invariant-loop-edit : goal.invariant-loop-edit
 invariant-loop-edit l = record {
   going : IsGoing l.events l.fn.plan l.edits l.edit-index l.plan (told_of l.written l.count);
   number : l.number ≡ l.edit-index;
+  codes : AreCodes l.plan l.codes.now;
 }

@@ -3,7 +3,7 @@ use Rattle.lockstep_defs.specs.Lockstep.{history}
 use Rattle.lockstep_defs.specs.Report.{events_of}
 use Rattle.lockstep_defs.proofs.Exits.{IsAt}
 use Rattle.clock_machine.specs.Parts.{kept, AreFit}
-use Rattle.clock_machine.proofs.run.run.Given as goal
+use Rattle.clock_machine.proofs.run.clock_run_by.Given as goal
 
 abbrev pub invariant-loop-clock : goal.invariant-loop-clock
 invariant-loop-clock l = record {

@@ -13,7 +13,7 @@ use Rattle.lockstep_defs.proofs.Exits.{IsAt, first_at, next_at, settled_exit, cy
 use Rattle.clock_machine.specs.Parts.{part_of, kept, report_from}
 use Rattle.clock_machine.proofs.Fronts.{numbered_length}
 use Rattle.clock_machine.proofs.Kept.{kept-append, kept_report}
-use Rattle.clock_machine.proofs.run.run.Goals as goal
+use Rattle.clock_machine.proofs.run.clock_run_by.Goals as goal
 
 -- a report from the kept events, where the run ends
 kept_exit : (keep : Bool) (p : Plan) (v : Verdict) (st : ClockState) (all events : List EventLine) (answers : List (List Bool)) (r : Report)

@@ -19,7 +19,7 @@ use Rattle.lockstep_defs.proofs.Agrees.{not_ended}
 use Rattle.lockstep_defs.proofs.Settled.{same_stalls, some_alike}
 use Rattle.clock_machine.specs.declared.part.Part.{Part}
 use Rattle.module_move.specs.Sound.{IsStateSound}
-use Rattle.clock_machine.specs.Parts.{part_of, part_on, no_part, answered_as, AreFit}
+use Rattle.clock_machine.specs.Parts.{part_of, part_on, no_part, AreFit}
 
 by_moves : (p : Plan) (clock : ℕ) (contents : List (List Element)) (m : ℕ × ModuleState) (b : Bool) → moves p clock contents m ≡ b
     → part_of p clock contents m ≡ cond b (part_on p clock contents m (requests_of p m)) no_part
@@ -62,11 +62,11 @@ moving_part p clock contents m h k = by_moves p clock contents m true (rw (h, k)
 -- what a module's part holds once it is answered
 pub answered_part : (p : Plan) (clock : ℕ) (contents : List (List Element)) (m : ℕ × ModuleState) (asked : List Request) (part : Part)
     → is_over p.ops m.1 ≡ false → list_any (stalls p clock contents) asked ≡ false → asked ≡ requests_of p m
-    → part.moves ≡ true → part.noted ≡ notes_of (module_at p m.0) m.1 → part.replies ≡ map (reply p clock contents) asked
-    → part.answered ≡ map (answered_as p clock contents) asked → part ≡ part_of p clock contents m
-answered_part p clock contents m asked part running free is moving noted replies answered =
+    → part.moves ≡ true → part.noted ≡ notes_of (module_at p m.0) m.1 → part.requests ≡ asked
+    → part.replies ≡ map (reply p clock contents) asked → part ≡ part_of p clock contents m
+answered_part p clock contents m asked part running free is moving noted requests replies =
     let same : part ≡ part_on p clock contents m asked =
-    λ i. record { moves = moving i; noted = noted i; replies = replies i; answered = answered i } in
+    λ i. record { moves = moving i; noted = noted i; requests = requests i; replies = replies i } in
     same ∙ (ap (part_on p clock contents m) is
     ∙ sym (moving_part p clock contents m running (ap (list_any (stalls p clock contents)) (sym is) ∙ free)))
 

@@ -15,14 +15,17 @@ use Rattle.std.specs.List.{enumerate_from}
 use Rattle.std.proofs.Math.ListN.{set}
 use Rattle.std.proofs.lemmas.Bool.Decides.{eqb_tells}
 use Rattle.std.proofs.lemmas.Bool.{eqb-true, cases_lt, eq-eqb}
-use Rattle.std.proofs.lemmas.List.{map-append, get_or_past, append-nil, length-append, drop-drop, map_more, take_more, get_or_default}
+use Rattle.std.proofs.lemmas.List.{map-append, get_or_past, append-nil, length-append, drop-drop, take_more, get_or_default}
 use Rattle.std.proofs.lemmas.List.Concat.{flat_map-append}
+use Rattle.std.proofs.lemmas.List.Elements.{filter-append}
 use Rattle.lockstep_defs.specs.Machine.{is_yes, value_in}
 use Rattle.lockstep_defs.specs.Channels.{element_from, Exchange, moved_by, popped_value, pushed_value}
+use Rattle.lockstep_defs.specs.Report.{queries}
 use Rattle.lockstep_defs.proofs.Queue.{moved_by-append}
-use Rattle.clock_machine.specs.declared.part.Answered.{Answered}
+use Rattle.flow_design.specs.declared.state.Reply.{Reply}
+use Rattle.flow_design.specs.declared.state.Request.{Request}
 use Rattle.clock_machine.specs.declared.part.Part.{Part}
-use Rattle.clock_machine.specs.Parts.{exchange, exchanges_of, all_exchanges, after_pops, after_pushes}
+use Rattle.clock_machine.specs.Parts.{exchange, exchanges_of, all_exchanges, outcomes_in, after_pops, after_pushes}
 
 -- ---- a change of one channel
 
@@ -187,13 +190,26 @@ go_on after goes before now next xs ys e f =
 
 -- one operation of a part more
 pub one_more : (after : List Exchange → ℕ × List Element → List Element) → GoesOn after
-    → (before now next : List (List Element)) (items : List Answered) (i : ℕ) (d : Answered)
-    → i < length items → now ≡ map (after (map exchange (take i items))) (enumerate_from 0 before)
-    → next ≡ map (after (exchange (get_or items i d) ∷ [])) (enumerate_from 0 now)
-    → next ≡ map (after (map exchange (take (i + 1) items))) (enumerate_from 0 before)
-one_more after goes before now next items i d h e f =
-    rw (map_more exchange items i d h)
-    (go_on after goes before now next (map exchange (take i items)) (exchange (get_or items i d) ∷ []) e f)
+    → (before now next : List (List Element)) (so_far more : List (Request × Reply)) (x : Request × Reply)
+    → more ≡ so_far ++ x ∷ [] → now ≡ map (after (map exchange so_far)) (enumerate_from 0 before)
+    → next ≡ map (after (exchange x ∷ [])) (enumerate_from 0 now)
+    → next ≡ map (after (map exchange more)) (enumerate_from 0 before)
+one_more after goes before now next so_far more x is e f =
+    rw (is, map-append)
+    (go_on after goes before now next (map exchange so_far) (exchange x ∷ []) e f)
+
+-- what one query more tells
+pub outcomes_more : (before now next : List Bool) (so_far more : List (Request × Reply)) (x : Request × Reply) → more ≡ so_far ++ x ∷ []
+    → now ≡ before ++ outcomes_in (map exchange so_far) → next ≡ now ++ outcomes_in (exchange x ∷ [])
+    → next ≡ before ++ outcomes_in (map exchange more)
+outcomes_more before now next so_far more x is e f =
+    let told : outcomes_in (map exchange more) ≡ outcomes_in (map exchange so_far) ++ outcomes_in (exchange x ∷ []) =
+    ap (λ (xs : List (Request × Reply)). outcomes_in (map exchange xs)) is
+    ∙ (ap outcomes_in (map-append exchange so_far (x ∷ []))
+    ∙ (ap (map (λ (y : Exchange). is_yes y.reply)) (filter-append _ (map exchange so_far) (exchange x ∷ []))
+    ∙ map-append _ (queries (map exchange so_far)) (queries (exchange x ∷ [])))) in
+    f ∙ (ap (λ l. l ++ outcomes_in (exchange x ∷ [])) e
+    ∙ (append_assoc before (outcomes_in (map exchange so_far)) (outcomes_in (exchange x ∷ [])) ∙ ap (λ l. before ++ l) (sym told)))
 
 -- one part more
 pub part_more : (after : List Exchange → ℕ × List Element → List Element) → GoesOn after

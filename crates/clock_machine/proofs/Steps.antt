@@ -1,8 +1,8 @@
 -- The steps of a clock, by the modules' parts.
 use Rattle.flow_design.specs.declared.state.Element.{Element}
-use Rattle.std.proofs.Common.{◌≡◌, ℕ, suc, zero, ◌+◌, ◌<◌, ◌≢◌, List, [], ◌∷◌, ◌++◌, map, length, get_or, cond, not, Bool, true, false}
+use Rattle.std.proofs.Common.{◌≡◌, ℕ, suc, zero, ◌+◌, ◌<◌, ◌≢◌, List, [], ◌∷◌, ◌++◌, map, length, get_or, Bool, true, false}
 use Rattle.std.proofs.Common.{refl, sym, ◌∙◌, ap, subst, arith, add-zero, zero-add}
-use Rattle.std.specs.List.{enumerate_from, flat_map, filter}
+use Rattle.std.specs.List.{enumerate_from, flat_map, zip}
 use Rattle.std.proofs.lemmas.Bool.{false≢true, eq-eqb as same_place}
 use Rattle.std.proofs.lemmas.List.{append-nil}
 use Rattle.std.proofs.lemmas.List.Concat.{flat_map-append}
@@ -13,16 +13,14 @@ use Rattle.flow_design.specs.declared.state.ModuleState.{ModuleState}
 use Rattle.flow_design.specs.declared.state.Request.{Request}
 use Rattle.flow_word.specs.declared.access.Side.{Side}
 use Rattle.flow_word.specs.declared.access.Side.TheVariants.{Pop, Push}
-use Rattle.flow_word.specs.Kinds.{is_blocking}
 use Rattle.lockstep_defs.proofs.Queue.{moved-append, moved_by-append, moved-step}
-use Rattle.lockstep_defs.specs.Machine.{is_yes, nobody}
-use Rattle.lockstep_defs.specs.Channels.{HistoryStep, Exchange, moved_by, moved}
+use Rattle.lockstep_defs.specs.Machine.{nobody}
+use Rattle.lockstep_defs.specs.Channels.{HistoryStep, Exchange, reply, moved_by, moved}
 use Rattle.lockstep_defs.specs.Lockstep.{requests_of, moves, numbered, answered, step_with, step_of, steps_in, next_state, contents_after}
 use Rattle.lockstep_defs.specs.Lockstep.{clock_step}
-use Rattle.lockstep_defs.specs.Report.{steps_of, queries, outcomes, event_of, events_of}
-use Rattle.clock_machine.specs.declared.part.Answered.{Answered}
+use Rattle.lockstep_defs.specs.Report.{steps_of, outcomes, event_of, events_of}
 use Rattle.clock_machine.specs.declared.part.Part.{Part}
-use Rattle.clock_machine.specs.Parts.{exchange, answered_as, no_part, part_of, after_part, IsReady, exchanges_of, all_exchanges, steps_from}
+use Rattle.clock_machine.specs.Parts.{exchange, no_part, part_of, after_part, IsReady, exchanges_of, all_exchanges, steps_from}
 use Rattle.clock_machine.specs.Parts.{event_by, events_from, outcomes_in, after_pops, after_pushes}
 use Rattle.clock_machine.proofs.PartLemmas.{part_when_moving, part_when_still, moves_when}
 use Rattle.clock_machine.proofs.Fronts.{same_by_places, numbered_read}
@@ -31,7 +29,7 @@ use Rattle.clock_machine.proofs.Queues.{other_place, twice}
 -- ---- the steps themselves
 
 same_exchanges : (p : Plan) (clock : ℕ) (contents : List (List Element)) (asked : List Request)
-    → map exchange (map (answered_as p clock contents) asked) ≡ map (answered p clock contents) asked
+    → map exchange (zip asked (map (reply p clock contents) asked)) ≡ map (answered p clock contents) asked
 same_exchanges p clock contents [] = refl
 same_exchanges p clock contents (r ∷ asked) = ap (λ l. answered p clock contents r ∷ l) (same_exchanges p clock contents asked)
 
@@ -150,30 +148,42 @@ stepped p clock st next parts popped e f g h =
 
 -- ---- events and answers
 
-same_events : (clock n : ℕ) (xs : List Answered) → events_of (step_with clock n (map exchange xs)) ≡ map (event_by clock n) xs
-same_events clock n [] = refl
-same_events clock n (x ∷ xs) = append-nil _ ∙ ap (λ l. event_by clock n x ∷ l) (all_same xs)
+same_events : (p : Plan) (clock n : ℕ) (contents : List (List Element)) (asked : List Request)
+    → map (event_by clock n) asked ≡ events_of (step_with clock n (map (answered p clock contents) asked))
+same_events p clock n contents [] = refl
+same_events p clock n contents (r ∷ asked) = ap (λ l. event_by clock n r ∷ l) (all_same asked) ∙ sym (append-nil _)
   where
-    all_same : (ys : List Answered)
-        → map (event_of (record { clock = clock; «module» = n; exchanges = exchange x ∷ map exchange xs })) (map exchange ys)
-        ≡ map (event_by clock n) ys
+    all_same : (rs : List Request)
+        → map (event_by clock n) rs
+        ≡ map
+        (event_of (record { clock = clock; «module» = n; exchanges = answered p clock contents r ∷ map (answered p clock contents) asked }))
+        (map (answered p clock contents) rs)
     all_same [] = refl
-    all_same (y ∷ ys) = ap (λ l. event_by clock n y ∷ l) (all_same ys)
+    all_same (q ∷ rs) = ap (λ l. event_by clock n q ∷ l) (all_same rs)
 
-events_in_steps : (clock n : ℕ) (parts : List Part)
-    → events_of (flat_map (λ m. step_with clock m.0 (exchanges_of m.1)) (enumerate_from n parts))
-    ≡ flat_map (λ m. map (event_by clock m.0) m.1.answered) (enumerate_from n parts)
-events_in_steps clock n [] = refl
-events_in_steps clock n (part ∷ parts) =
-    flat_map-append _ (step_with clock n (exchanges_of part))
-    (flat_map (λ m. step_with clock m.0 (exchanges_of m.1)) (enumerate_from (n + 1) parts))
-    ∙ (ap (λ l. l ++ events_of (flat_map (λ m. step_with clock m.0 (exchanges_of m.1)) (enumerate_from (n + 1) parts)))
-    (same_events clock n part.answered)
-    ∙ ap (λ l. map (event_by clock n) part.answered ++ l) (events_in_steps clock (n + 1) parts))
+events_by_part : (p : Plan) (clock : ℕ) (contents : List (List Element)) (m : ℕ × ModuleState)
+    → map (event_by clock m.0) (part_of p clock contents m).requests ≡ events_of (step_of p clock contents m)
+events_by_part p clock contents m = by_test (moves p clock contents m) refl
+  where
+    by_test : (b : Bool) → moves p clock contents m ≡ b
+        → map (event_by clock m.0) (part_of p clock contents m).requests ≡ events_of (step_of p clock contents m)
+    by_test true h = rw (part_when_moving p clock contents m h, h) (same_events p clock m.0 contents (requests_of p m))
+    by_test false h = rw (part_when_still p clock contents m h, h) refl
+
+events_by_parts : (p : Plan) (clock : ℕ) (contents : List (List Element)) (n : ℕ) (states : List ModuleState)
+    → flat_map (λ m. map (event_by clock m.0) m.1.requests) (enumerate_from n (map (part_of p clock contents) (enumerate_from n states)))
+    ≡ events_of (flat_map (step_of p clock contents) (enumerate_from n states))
+events_by_parts p clock contents n [] = refl
+events_by_parts p clock contents n (s ∷ states) =
+    let here = events_by_part p clock contents (n, s) in
+    let rest = events_by_parts p clock contents (n + 1) states in
+    rw (here, rest)
+    (sym (flat_map-append _ (step_of p clock contents (n, s)) (flat_map (step_of p clock contents) (enumerate_from (n + 1) states))))
 
 pub events_told : (p : Plan) (clock : ℕ) (st : ClockState) (parts : List Part) → parts ≡ map (part_of p clock st.contents) (numbered st)
     → events_from clock parts ≡ events_of (steps_in p clock st)
-events_told p clock st parts e = sym (events_in_steps clock 0 parts) ∙ ap events_of (steps_told p clock st parts e)
+unfolding steps_in
+events_told p clock st parts e = ap (events_from clock) e ∙ events_by_parts p clock st.contents 0 st.modules
 
 own_step : (clock i : ℕ) (xs : List Exchange) → steps_of i (step_with clock i xs) ≡ step_with clock i xs
 own_step clock i [] = refl
@@ -210,26 +220,14 @@ own_steps clock i n (suc k) (part ∷ parts) e h =
     (other_step clock i n (exchanges_of part) (λ same. omega arith))
     ∙ own_steps clock i (n + 1) k parts (omega arith) (omega arith))
 
-same_outcomes : (xs : List Answered) → map (λ (x : Exchange). is_yes x.reply) (queries (map exchange xs)) ≡ outcomes_in xs
-same_outcomes [] = refl
-same_outcomes (x ∷ xs) = by_test (not (is_blocking x.request.kind)) (same_outcomes xs)
-  where
-    by_test : (b : Bool) → map (λ (x : Exchange). is_yes x.reply) (queries (map exchange xs)) ≡ outcomes_in xs
-        → map (λ (x : Exchange). is_yes x.reply) (cond b (exchange x ∷ queries (map exchange xs)) (queries (map exchange xs)))
-        ≡ map (λ (a : Answered). is_yes a.reply)
-        (cond b (x ∷ filter (λ (a : Answered). not (is_blocking a.request.kind)) xs)
-        (filter (λ (a : Answered). not (is_blocking a.request.kind)) xs))
-    by_test true rest = ap (λ l. is_yes x.reply ∷ l) rest
-    by_test false rest = rest
-
-outcomes_in_step : (clock i : ℕ) (xs : List Answered) → outcomes (step_with clock i (map exchange xs)) ≡ outcomes_in xs
+outcomes_in_step : (clock i : ℕ) (xs : List Exchange) → outcomes (step_with clock i xs) ≡ outcomes_in xs
 outcomes_in_step clock i [] = refl
-outcomes_in_step clock i (x ∷ xs) = append-nil _ ∙ same_outcomes (x ∷ xs)
+outcomes_in_step clock i (x ∷ xs) = append-nil _
 
 pub outcomes_told : (p : Plan) (clock : ℕ) (st : ClockState) (parts : List Part) (i : ℕ)
     → parts ≡ map (part_of p clock st.contents) (numbered st)
-    → i < length parts → outcomes_in (get_or parts i no_part).answered ≡ outcomes (steps_of i (steps_in p clock st))
+    → i < length parts → outcomes_in (exchanges_of (get_or parts i no_part)) ≡ outcomes (steps_of i (steps_in p clock st))
 outcomes_told p clock st parts i e h =
-    sym (outcomes_in_step clock i (get_or parts i no_part).answered)
+    sym (outcomes_in_step clock i (exchanges_of (get_or parts i no_part)))
     ∙ (ap outcomes (sym (own_steps clock i 0 i parts (zero-add i) h))
     ∙ ap (λ (steps : List HistoryStep). outcomes (steps_of i steps)) (steps_told p clock st parts e))

@@ -1,7 +1,7 @@
 -- What the modules do in a clock, as the program holds it.
-use Rattle.std.specs.Prelude.{◌+◌, ◌≡◌, ℕ, ◌≤◌, ◌<◌, Bool, true, false, not, if◌then◌else◌, List, [], ◌++◌, map, filter, flat_map, drop}
+use Rattle.std.specs.Prelude.{◌+◌, ◌≡◌, ℕ, ◌≤◌, ◌<◌, Bool, true, false, if◌then◌else◌, List, [], ◌++◌, map, flat_map, drop}
 use Rattle.std.specs.Prelude.{length, slice_index_or}
-use Rattle.std.specs.List.{enumerate_from}
+use Rattle.std.specs.List.{enumerate_from, zip}
 use Rattle.flow_design.specs.declared.plan.Plan.{Plan}
 use Rattle.flow_design.specs.declared.state.Element.{Element}
 use Rattle.flow_design.specs.Plans.{delay_at}
@@ -10,42 +10,37 @@ use Rattle.flow_design.specs.declared.report.Report.{Report}
 use Rattle.flow_design.specs.declared.report.Verdict.{Verdict}
 use Rattle.flow_design.specs.declared.state.ClockState.{ClockState}
 use Rattle.flow_design.specs.declared.state.ModuleState.{ModuleState}
+use Rattle.flow_design.specs.declared.state.Reply.{Reply}
 use Rattle.flow_design.specs.declared.state.Request.{Request}
 use Rattle.lockstep_defs.specs.Machine.{is_yes, is_over, move, nobody}
 use Rattle.flow_word.specs.declared.access.Side.TheVariants.{Pop, Push}
-use Rattle.flow_word.specs.Kinds.{is_blocking}
 use Rattle.lockstep_defs.specs.Channels.{element_from, HistoryStep, Exchange, reply, moved_by}
 use Rattle.lockstep_defs.specs.Lockstep.{module_at, requests_of, moves, step_with}
 use Rattle.lockstep_defs.specs.Verdict.{held}
-use Rattle.lockstep_defs.specs.Report.{outputs_in}
+use Rattle.lockstep_defs.specs.Report.{queries, outputs_in}
 use Rattle.module_move.specs.Sound.{IsRunnable}
 use Rattle.module_move.specs.Moves.{notes_of}
 use Rattle.block_code.specs.declared.code.BlockCode.{BlockCode}
 use Rattle.block_code.specs.Codes.{AreCodesOf}
-use Rattle.clock_machine.specs.declared.part.Answered.{Answered}
 use Rattle.clock_machine.specs.declared.part.Part.{Part}
 
 -- ---- a module's part in a clock
 
 -- an operation with its reply, as a step of the history has it
-abbrev pub exchange : Answered → Exchange
-exchange a = record { request = a.request; reply = a.reply }
-
--- a request with its reply, as a part has it
-abbrev pub answered_as : Plan → ℕ → List (List Element) → Request → Answered
-answered_as p clock contents r = record { request = r; reply = reply p clock contents r }
+abbrev pub exchange : Request × Reply → Exchange
+exchange x = record { request = x.0; reply = x.1 }
 
 -- the part of a module that does not move
 abbrev pub no_part : Part
-no_part = record { moves = false; noted = []; replies = []; answered = [] }
+no_part = record { moves = false; noted = []; requests = []; replies = [] }
 
 -- the part of a module that moves on these requests
 abbrev pub part_on : Plan → ℕ → List (List Element) → ℕ × ModuleState → List Request → Part
 part_on p clock contents m asked = record {
   moves = true;
   noted = notes_of (module_at p m.0) m.1;
+  requests = asked;
   replies = map (reply p clock contents) asked;
-  answered = map (answered_as p clock contents) asked;
 }
 
 -- a module's part in a clock, by the contents from before it
@@ -65,7 +60,7 @@ pub record IsReady (p : Plan) (m : ℕ × ModuleState) (part : Part) : Type 0 wh
 
 -- what a part does, in commit order
 abbrev pub exchanges_of : Part → List Exchange
-exchanges_of part = map exchange part.answered
+exchanges_of part = map exchange (zip part.requests part.replies)
 
 -- what all parts do, in order of modules
 abbrev pub all_exchanges : List Part → List Exchange
@@ -76,24 +71,24 @@ abbrev pub steps_from : ℕ → List Part → List HistoryStep
 steps_from clock parts = flat_map (λ m. step_with clock m.0 (exchanges_of m.1)) (enumerate_from 0 parts)
 
 -- the event of an operation that a module does in a clock
-abbrev pub event_by : ℕ → ℕ → Answered → EventLine
-event_by clock i a = record { «module» = i; kind = a.request.kind; channel = a.request.channel; cycle = clock }
+abbrev pub event_by : ℕ → ℕ → Request → EventLine
+event_by clock i r = record { «module» = i; kind = r.kind; channel = r.channel; cycle = clock }
 
 -- the events of a clock
 abbrev pub events_from : ℕ → List Part → List EventLine
-events_from clock parts = flat_map (λ m. map (event_by clock m.0) m.1.answered) (enumerate_from 0 parts)
+events_from clock parts = flat_map (λ m. map (event_by clock m.0) m.1.requests) (enumerate_from 0 parts)
 
 -- these events where events are kept, and none else
 abbrev pub kept : Bool → List EventLine → List EventLine
 kept keep events = if keep then events else []
 
 -- the outcomes of the queries among these operations
-abbrev pub outcomes_in : List Answered → List Bool
-outcomes_in xs = map (λ a. is_yes a.reply) (filter (λ a. not (is_blocking a.request.kind)) xs)
+abbrev pub outcomes_in : List Exchange → List Bool
+outcomes_in xs = map (λ x. is_yes x.reply) (queries xs)
 
--- a module's answers with those of its part behind them
+-- a module's answers, and after them those of its part
 abbrev pub answers_with : List Part → ℕ × List Bool → List Bool
-answers_with parts m = m.1 ++ outcomes_in (slice_index_or parts m.0 no_part).answered
+answers_with parts m = m.1 ++ outcomes_in (exchanges_of (slice_index_or parts m.0 no_part))
 
 -- ---- what the operations leave in the channels
 

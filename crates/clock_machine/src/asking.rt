@@ -1,19 +1,19 @@
 //! Each module's part in a clock, by the contents from before it.
-ghost use Rattle.std.specs.Prelude.{◌≡◌, ◌<◌, ◌≤◌, ◌^◌, IfOk, OnOk, length, map, ◌++◌, slice_index_or};
+ghost use Rattle.std.specs.Prelude.{◌≡◌, ◌<◌, ◌≤◌, ◌^◌, IfOk, OnOk, not, true, length, map, slice_index_or};
 ghost use Rattle.std.specs.List.{list_any};
 ghost use Rattle.flow_design.specs.StaticRules.{FitsEngine};
 ghost use Rattle.lockstep_defs.specs.Machine.{nobody, requests};
-ghost use Rattle.lockstep_defs.specs.Channels.{all_ready, reply};
+ghost use Rattle.lockstep_defs.specs.Channels.{all_ready, stalls, reply};
 ghost use Rattle.lockstep_defs.specs.Lockstep.{module_at, numbered, moves};
 ghost use Rattle.lockstep_defs.specs.Verdict.{is_settled, some_moves};
-ghost use Rattle.clock_machine.specs.Parts.{part_of, answered_as, AreFit, AreFitInTime, AreCodes};
+ghost use Rattle.clock_machine.specs.Parts.{part_of, AreFit, AreFitInTime, AreCodes};
 ghost use Rattle.module_move.specs.Sound.{IsStateSound};
 ghost use Rattle.module_move.specs.Moves.{notes_of};
 
-use crate::channels::{any_stalls, any_stalls_ever, reply_to};
-use crate::part::{Answered, Part, Scratch};
+use crate::channels::{any_stalls_ever, reply_to};
+use crate::part::{Part, Scratch};
 use block_code::{BlockCode, Noted};
-use flow_design::{ClockState, Element, Module, ModuleState, Plan, Request};
+use flow_design::{ClockState, Element, Module, ModuleState, Plan, Reply, Request};
 use flow_word::{List, OutOfMemory, Queue, Words};
 use module_move::{is_over, note};
 
@@ -70,29 +70,26 @@ pub fn note_one(
     Ok(())
 }
 
-/// Adds the replies to these requests to a part.
+/// Says whether none of these operations blocks and cannot be done. The list is then the replies to them.
 #[inline(always)]
 fn answer(
     plan: &Plan,
     clock: u64,
     contents: &[Queue<Element>],
     requests: &[Request],
-    part: &mut Part,
-) -> Result<(), OutOfMemory>
-    ensures replies { OnOk result (part.new.replies ≡ part.old.replies ++ map (reply plan.now clock contents.now) requests.now) }
-    ensures answered { OnOk result (part.new.answered ≡ part.old.answered ++ map (answered_as plan.now clock contents.now) requests.now) }
-    ensures moves { OnOk result (part.new.moves ≡ part.old.moves) }
-    ensures noted { OnOk result (part.new.noted ≡ part.old.noted) }
+    replies: &mut List<Reply>,
+) -> Result<bool, OutOfMemory>
+    ensures goes { IfOk result (λ goes. goes ≡ not (list_any (stalls plan.now clock contents.now) requests.now)) }
+    ensures replies { IfOk result (λ goes. goes ≡ true → replies.new ≡ map (reply plan.now clock contents.now) requests.now) }
 {
+    replies.truncate(0);
     for request in requests {
-        let reply = reply_to(plan, clock, contents, request);
-        part.replies.push(reply)?;
-        part.answered.push(Answered {
-            request: *request,
-            reply,
-        })?;
+        match reply_to(plan, clock, contents, request) {
+            None => return Ok(false),
+            Some(reply) => replies.push(reply)?,
+        }
     }
-    Ok(())
+    Ok(true)
 }
 
 /// The part of one module: no part where it is ended, spent or stalls, else what it has due, and the replies.
@@ -104,7 +101,6 @@ fn take_part(
     state: &ClockState,
     i: usize,
     words: &mut Words,
-    requests: &mut List<Request>,
     part: &mut Part,
 ) -> Result<(), OutOfMemory>
     requires fits { FitsEngine plan.now }
@@ -114,19 +110,26 @@ fn take_part(
     requires within { i < length state.now.modules }
     ensures { OnOk result (part.new ≡ part_of plan.now clock state.now.contents (i, slice_index_or state.now.modules i nobody)) }
 {
-    part.clear();
-    let contents = state.contents.as_slice();
     let module = state_at(state, i);
     if is_over(plan.ops, module) {
-        return Ok(());
-    }
-    note_one(plan, codes, i, module, words, &mut part.noted, requests)?;
-    if any_stalls(plan, clock, contents, requests.as_slice()) {
         part.clear();
         return Ok(());
     }
-    part.moves = true;
-    answer(plan, clock, contents, requests.as_slice(), part)?;
+    note_one(
+        plan,
+        codes,
+        i,
+        module,
+        words,
+        &mut part.noted,
+        &mut part.requests,
+    )?;
+    let contents = state.contents.as_slice();
+    let requests = part.requests.as_slice();
+    part.moves = answer(plan, clock, contents, requests, &mut part.replies)?;
+    if !part.moves {
+        part.clear();
+    }
     Ok(())
 }
 
@@ -137,7 +140,6 @@ fn take_parts(
     clock: u64,
     state: &ClockState,
     words: &mut Words,
-    requests: &mut List<Request>,
     parts: &mut [Part],
 ) -> Result<(), OutOfMemory>
     requires fits { FitsEngine plan.now }
@@ -148,7 +150,7 @@ fn take_parts(
     ensures { OnOk result (parts.new ≡ map (part_of plan.now clock state.now.contents) (numbered state.now)) }
 {
     for (i, part) in parts.iter_mut().enumerate() {
-        take_part(plan, codes, clock, state, i, words, requests, part)?;
+        take_part(plan, codes, clock, state, i, words, part)?;
     }
     Ok(())
 }
@@ -232,7 +234,6 @@ pub fn ask_all(
         clock,
         state,
         &mut scratch.words,
-        &mut scratch.requests,
         scratch.parts.as_mut_slice(),
     )?;
     if any_moves(scratch.parts.as_slice()) {

@@ -1,5 +1,5 @@
 //! What can be done on the channels as they stand.
-ghost use Rattle.std.specs.Prelude.{◌≡◌, length, slice_index, slice_index_or, []};
+ghost use Rattle.std.specs.Prelude.{◌≡◌, if◌then◌else◌, Some, None, length, slice_index, slice_index_or, []};
 ghost use Rattle.std.specs.List.{list_any};
 ghost use Rattle.flow_design.specs.Plans.{is_fifo, kind_at, delay_at};
 ghost use Rattle.lockstep_defs.specs.Channels.{contents_of, front, is_empty, all_ready, is_full, is_possible, stalls, reply};
@@ -20,22 +20,6 @@ fn held(contents: &[Queue<Element>], channel: u32) -> u64
     }
 }
 
-/// The value at a channel's front, or 0 where it holds none.
-#[inline(always)]
-fn front(contents: &[Queue<Element>], channel: u32) -> u64
-    ensures { result ≡ front (contents_of contents.now channel) }
-{
-    let channel = channel as usize;
-    if channel < contents.len() {
-        match contents[channel].front() {
-            Some(element) => element.value,
-            None => 0,
-        }
-    } else {
-        0
-    }
-}
-
 /// Whether a channel holds nothing that can be popped in this clock.
 #[inline(always)]
 fn is_empty(clock: u64, contents: &[Queue<Element>], channel: u32) -> bool
@@ -49,6 +33,22 @@ fn is_empty(clock: u64, contents: &[Queue<Element>], channel: u32) -> bool
         }
     } else {
         true
+    }
+}
+
+/// The value at a channel's front, where it can be popped in this clock.
+#[inline(always)]
+fn ready(clock: u64, contents: &[Queue<Element>], channel: u32) -> Option<u64>
+    ensures { result ≡ (if is_empty clock (contents_of contents.now channel) then None else Some (front (contents_of contents.now channel))) }
+{
+    let channel = channel as usize;
+    if channel < contents.len() {
+        match contents[channel].front() {
+            Some(element) if element.since <= clock => Some(element.value),
+            _ => None,
+        }
+    } else {
+        None
     }
 }
 
@@ -101,24 +101,8 @@ fn is_full(plan: &Plan, contents: &[Queue<Element>], channel: u32) -> bool
     is_fifo(plan, channel) && depth(plan, channel) <= held(contents, channel)
 }
 
-/// Whether a channel has an element to pop in this clock, or else a place to push.
-#[inline(always)]
-fn is_possible(
-    plan: &Plan,
-    clock: u64,
-    contents: &[Queue<Element>],
-    side: Side,
-    channel: u32,
-) -> bool
-    ensures { result ≡ is_possible plan.now clock contents.now side channel }
-{
-    match side {
-        Side::Pop => !is_empty(clock, contents, channel),
-        Side::Push => !is_full(plan, contents, channel),
-    }
-}
-
-/// Whether that were so if every element could be popped, which the clock does not matter to.
+/// Whether a channel would have an element to pop, or else a place to push, if every element could be popped. The clock does not
+/// matter.
 fn is_possible_ever(plan: &Plan, contents: &[Queue<Element>], side: Side, channel: u32) -> bool
     ensures { result ≡ is_possible plan.now 0 (all_ready contents.now) side channel }
 {
@@ -128,36 +112,12 @@ fn is_possible_ever(plan: &Plan, contents: &[Queue<Element>], side: Side, channe
     }
 }
 
-/// Whether an operation blocks and cannot be done.
-#[inline(always)]
-pub fn stalls(plan: &Plan, clock: u64, contents: &[Queue<Element>], request: &Request) -> bool
-    ensures { result ≡ stalls plan.now clock contents.now request.now }
-{
-    let kind = request.kind;
-    kind.is_blocking() && !is_possible(plan, clock, contents, kind.side(), request.channel)
-}
-
 /// Whether an operation blocks and could not be done even if every element could be popped.
 pub fn stalls_ever(plan: &Plan, contents: &[Queue<Element>], request: &Request) -> bool
     ensures { result ≡ stalls plan.now 0 (all_ready contents.now) request.now }
 {
     let kind = request.kind;
     kind.is_blocking() && !is_possible_ever(plan, contents, kind.side(), request.channel)
-}
-
-/// Whether one of these operations blocks and cannot be done.
-#[inline(always)]
-pub fn any_stalls(
-    plan: &Plan,
-    clock: u64,
-    contents: &[Queue<Element>],
-    requests: &[Request],
-) -> bool
-    ensures { result ≡ list_any (stalls plan.now clock contents.now) requests.now }
-{
-    requests
-        .iter()
-        .any(|request| stalls(plan, clock, contents, request))
 }
 
 /// Whether one of these operations blocks and could not be done even if every element could be popped.
@@ -169,27 +129,37 @@ pub fn any_stalls_ever(plan: &Plan, contents: &[Queue<Element>], requests: &[Req
         .any(|request| stalls_ever(plan, contents, request))
 }
 
-/// The reply to an operation whose module moves.
+/// The reply to an operation, or none where it blocks and cannot be done.
 #[tactic(auto, unfolding(lockstep_defs::specs::Channels::reply))]
 #[inline(always)]
-pub fn reply_to(plan: &Plan, clock: u64, contents: &[Queue<Element>], request: &Request) -> Reply
-    ensures { result ≡ reply plan.now clock contents.now request.now }
+pub fn reply_to(
+    plan: &Plan,
+    clock: u64,
+    contents: &[Queue<Element>],
+    request: &Request,
+) -> Option<Reply>
+    ensures { result ≡ (if stalls plan.now clock contents.now request.now
+        then None else Some (reply plan.now clock contents.now request.now)) }
 {
     let channel = request.channel;
-    let side = request.kind.side();
     match request.kind {
-        Kind::Read => Reply::Value(front(contents, channel)),
-        Kind::Write => Reply::Done,
-        Kind::TryRead => {
-            if is_possible(plan, clock, contents, side, channel) {
-                Reply::Took(front(contents, channel))
+        Kind::Read => match ready(clock, contents, channel) {
+            None => None,
+            Some(value) => Some(Reply::Value(value)),
+        },
+        Kind::Write => {
+            if is_full(plan, contents, channel) {
+                None
             } else {
-                Reply::Missed
+                Some(Reply::Done)
             }
         }
-        Kind::TryWrite => Reply::Flag(is_possible(plan, clock, contents, side, channel)),
-        Kind::Empty | Kind::Full => {
-            Reply::Flag(!is_possible(plan, clock, contents, side, channel))
-        }
+        Kind::TryRead => match ready(clock, contents, channel) {
+            None => Some(Reply::Missed),
+            Some(value) => Some(Reply::Took(value)),
+        },
+        Kind::TryWrite => Some(Reply::Flag(!is_full(plan, contents, channel))),
+        Kind::Empty => Some(Reply::Flag(is_empty(clock, contents, channel))),
+        Kind::Full => Some(Reply::Flag(is_full(plan, contents, channel))),
     }
 }

@@ -1,17 +1,19 @@
-//! What a clock leaves in the channels.
+//! What a clock leaves in the channels, and what it adds to the answers.
 ghost use Rattle.std.specs.Prelude.{◌≡◌, ◌==◌, if◌then◌else◌, [], ◌∷◌, ◌++◌, map, drop, length, OnOk};
 ghost use Rattle.std.specs.List.{enumerate_from};
 ghost use Rattle.std.specs.Prelude.{◌≤◌};
 ghost use Rattle.flow_design.specs.StaticRules.{FitsEngine};
 ghost use Rattle.lockstep_defs.specs.Machine.{is_yes, value_in};
 ghost use Rattle.lockstep_defs.specs.Channels.{popped_value, pushed_value};
-ghost use Rattle.clock_machine.specs.Parts.{exchange, exchanges_of, all_exchanges, after_pops, after_pushes};
+ghost use Rattle.clock_machine.specs.Parts.{exchange, exchanges_of, all_exchanges, outcomes_in, answers_with};
+ghost use Rattle.clock_machine.specs.Parts.{after_pops, after_pushes};
 
 use crate::channels::delay;
-use crate::part::{Answered, Part};
+use crate::part::Part;
+use crate::telling::tell_outcome;
 use block_code::is_yes;
-use flow_design::{Element, Plan, Reply};
-use flow_word::{Kind, OutOfMemory, Queue};
+use flow_design::{Element, Plan, Reply, Request};
+use flow_word::{Flags, Kind, OutOfMemory, Queue};
 
 /// Takes the front off a channel.
 #[inline(always)]
@@ -66,11 +68,11 @@ fn is_pushed(kind: Kind, reply: Reply, value: u64) -> bool
 
 /// Takes off what one operation pops.
 #[inline(always)]
-fn pop_one(contents: &mut [Queue<Element>], done: &Answered)
-    ensures { contents.new ≡ map (after_pops (exchange done.now ∷ [])) (enumerate_from 0 contents.old) }
+fn pop_one(contents: &mut [Queue<Element>], request: &Request, reply: Reply)
+    ensures { contents.new ≡ map (after_pops (exchange (request.now, reply) ∷ [])) (enumerate_from 0 contents.old) }
 {
-    if is_popped(done.request.kind, done.reply) {
-        pop_front(contents, done.request.channel);
+    if is_popped(request.kind, reply) {
+        pop_front(contents, request.channel);
     }
 }
 
@@ -80,14 +82,15 @@ fn push_one(
     plan: &Plan,
     clock: u64,
     contents: &mut [Queue<Element>],
-    done: &Answered,
+    request: &Request,
+    reply: Reply,
 ) -> Result<(), OutOfMemory>
     requires fits { FitsEngine plan.now }
     requires early { clock ≤ plan.now.cycles }
-    ensures { OnOk result (contents.new ≡ map (after_pushes plan.now clock (exchange done.now ∷ [])) (enumerate_from 0 contents.old)) }
+    ensures { OnOk result (contents.new
+        ≡ map (after_pushes plan.now clock (exchange (request.now, reply) ∷ [])) (enumerate_from 0 contents.old)) }
 {
-    let request = done.request;
-    if is_pushed(request.kind, done.reply, request.value) {
+    if is_pushed(request.kind, reply, request.value) {
         let since = clock + delay(plan, request.channel);
         let element = Element {
             value: request.value,
@@ -98,14 +101,22 @@ fn push_one(
     Ok(())
 }
 
-/// Takes off what a module pops.
+/// Takes off what a module pops, and adds the outcomes of its queries.
 #[inline(always)]
-fn pop_part(contents: &mut [Queue<Element>], part: &Part)
-    ensures { contents.new ≡ map (after_pops (exchanges_of part.now)) (enumerate_from 0 contents.old) }
+fn pop_part(
+    contents: &mut [Queue<Element>],
+    answers: &mut Flags,
+    part: &Part,
+) -> Result<(), OutOfMemory>
+    ensures contents { OnOk result (contents.new ≡ map (after_pops (exchanges_of part.now)) (enumerate_from 0 contents.old)) }
+    ensures answers { OnOk result (answers.new ≡ answers.old ++ outcomes_in (exchanges_of part.now)) }
 {
-    for done in part.answered.as_slice() {
-        pop_one(contents, done);
+    let replies = part.replies.as_slice();
+    for (request, reply) in part.requests.as_slice().iter().zip(replies) {
+        tell_outcome(answers, request, *reply)?;
+        pop_one(contents, request, *reply);
     }
+    Ok(())
 }
 
 /// Puts in what a module pushes.
@@ -120,19 +131,27 @@ fn push_part(
     requires early { clock ≤ plan.now.cycles }
     ensures { OnOk result (contents.new ≡ map (after_pushes plan.now clock (exchanges_of part.now)) (enumerate_from 0 contents.old)) }
 {
-    for done in part.answered.as_slice() {
-        push_one(plan, clock, contents, done)?;
+    let replies = part.replies.as_slice();
+    for (request, reply) in part.requests.as_slice().iter().zip(replies) {
+        push_one(plan, clock, contents, request, *reply)?;
     }
     Ok(())
 }
 
-/// Takes off what all modules pop.
-pub fn pop_all(contents: &mut [Queue<Element>], parts: &[Part])
-    ensures { contents.new ≡ map (after_pops (all_exchanges parts.now)) (enumerate_from 0 contents.old) }
+/// Takes off what all modules pop, and adds the outcomes of their queries to their answers.
+pub fn pop_all(
+    contents: &mut [Queue<Element>],
+    answers: &mut [Flags],
+    parts: &[Part],
+) -> Result<(), OutOfMemory>
+    requires count { length answers.old ≡ length parts.now }
+    ensures contents { OnOk result (contents.new ≡ map (after_pops (all_exchanges parts.now)) (enumerate_from 0 contents.old)) }
+    ensures answers { OnOk result (answers.new ≡ map (answers_with parts.now) (enumerate_from 0 answers.old)) }
 {
-    for part in parts {
-        pop_part(contents, part);
+    for (i, answers) in answers.iter_mut().enumerate() {
+        pop_part(contents, answers, &parts[i])?;
     }
+    Ok(())
 }
 
 /// Puts in what all modules push.

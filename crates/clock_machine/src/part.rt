@@ -7,23 +7,16 @@ use flow_design::{Reply, Request};
 use flow_word::{List, OutOfMemory, Words};
 use std::alloc::Global;
 
-/// A FIFO operation that is done in a clock: what was asked, and the reply.
-#[derive(Clone, Copy, Debug, PartialEq, Eq)]
-pub struct Answered {
-    pub request: Request,
-    pub reply: Reply,
-}
-
 /// A module's part in a clock. All lists are empty where the module does not move.
 #[derive(Drop)]
 pub struct Part {
     pub moves: bool,
     /// What is noted of the due operations, in commit order.
     pub noted: List<Noted>,
-    /// The replies to the FIFO operations among them.
+    /// The FIFO operations among them.
+    pub requests: List<Request>,
+    /// The replies to these, in their order.
     pub replies: List<Reply>,
-    /// The FIFO operations beside their replies.
-    pub answered: List<Answered>,
 }
 
 /// Room that is used anew in each clock.
@@ -45,8 +38,8 @@ impl Part {
         Part {
             moves: false,
             noted: List::new(alloc),
+            requests: List::new(alloc),
             replies: List::new(alloc),
-            answered: List::new(alloc),
         }
     }
 
@@ -56,8 +49,8 @@ impl Part {
     {
         self.moves = false;
         self.noted.truncate(0);
+        self.requests.truncate(0);
         self.replies.truncate(0);
-        self.answered.truncate(0);
     }
 }
 

@@ -3,7 +3,8 @@ ghost use Rattle.std.specs.Prelude.{◌≡◌, ℕ, ◌+◌, ◌<◌, ◌≤◌,
 ghost use Rattle.flow_design.specs.StaticRules.{FitsEngine};
 ghost use Rattle.lockstep_defs.specs.Lockstep.{numbered, steps_in, clock_step};
 ghost use Rattle.lockstep_defs.specs.Report.{steps_of, outcomes, events_of, report};
-ghost use Rattle.clock_machine.specs.Parts.{part_of, kept, AreFit, AreCodes};
+ghost use Rattle.std.specs.List.{enumerate_from};
+ghost use Rattle.clock_machine.specs.Parts.{part_of, answers_with, kept, AreFit, AreCodes};
 
 use crate::asking::ask_all;
 use crate::contents::{pop_all, push_all};
@@ -11,13 +12,14 @@ use crate::ending::{report_at, settled_report};
 use crate::moving::move_all;
 use crate::opening::{codes_of_all, no_answers, open_all};
 use crate::part::{Part, Scratch, new_scratch};
-use crate::telling::{tell_all_outcomes, tell_kept_events};
+use crate::telling::tell_kept_events;
 use block_code::BlockCode;
 use flow_design::{ClockState, EventLine, Plan, Report, Verdict};
 use flow_word::{Flags, List, OutOfMemory};
 use std::alloc::Global;
 
-/// One clock: the modules move by their parts, then all that they pop is taken off, and then all that they push is put in.
+/// One clock: the modules move by their parts, then all that they pop is taken off, which tells the outcomes of their queries, and
+/// then all that they push is put in.
 fn step(
     alloc: Global,
     plan: &Plan,
@@ -25,14 +27,17 @@ fn step(
     clock: u64,
     parts: &[Part],
     state: &mut ClockState,
+    answers: &mut [Flags],
 ) -> Result<(), OutOfMemory>
     requires fits { FitsEngine plan.now }
     requires codes { AreCodes plan.now codes.now }
     requires fit { AreFit plan.now clock state.old.modules }
     requires early { clock ≤ plan.now.cycles }
     requires parts { parts.now ≡ map (part_of plan.now clock state.old.contents) (numbered state.old) }
+    requires count { length answers.old ≡ length parts.now }
     ensures state { OnOk result (state.new ≡ clock_step plan.now clock state.old) }
     ensures fit { OnOk result (AreFit plan.now (clock + 1) state.new.modules) }
+    ensures answers { OnOk result (answers.new ≡ map (answers_with parts.now) (enumerate_from 0 answers.old)) }
 {
     move_all(
         alloc,
@@ -42,7 +47,7 @@ fn step(
         parts,
         state.modules.as_mut_slice(),
     )?;
-    pop_all(state.contents.as_mut_slice(), parts);
+    pop_all(state.contents.as_mut_slice(), answers, parts)?;
     push_all(plan, clock, state.contents.as_mut_slice(), parts)?;
     Ok(())
 }
@@ -75,8 +80,15 @@ fn next_clock(
 {
     let parts = scratch.parts.as_slice();
     tell_kept_events(keep, events, clock, parts)?;
-    tell_all_outcomes(answers.as_mut_slice(), parts)?;
-    step(alloc, plan, codes, clock, parts, state)?;
+    step(
+        alloc,
+        plan,
+        codes,
+        clock,
+        parts,
+        state,
+        answers.as_mut_slice(),
+    )?;
     Ok(())
 }
 

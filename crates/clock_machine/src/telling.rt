@@ -1,11 +1,10 @@
 //! What a clock adds to the events and answers.
-ghost use Rattle.std.specs.Prelude.{◌≡◌, ◌<◌, ◌^◌, ◌++◌, map, length, OnOk};
-ghost use Rattle.std.specs.List.{enumerate_from};
-ghost use Rattle.clock_machine.specs.Parts.{event_by, events_from, kept, outcomes_in, answers_with};
+ghost use Rattle.std.specs.Prelude.{◌≡◌, ◌<◌, ◌^◌, [], ◌∷◌, ◌++◌, map, length, OnOk};
+ghost use Rattle.clock_machine.specs.Parts.{exchange, event_by, events_from, kept, outcomes_in};
 
-use crate::part::{Answered, Part};
+use crate::part::Part;
 use block_code::is_yes;
-use flow_design::EventLine;
+use flow_design::{EventLine, Reply, Request};
 use flow_word::{Flags, List, OutOfMemory};
 
 /// Adds the events of one module's operations in a clock.
@@ -13,15 +12,15 @@ fn tell_events(
     events: &mut List<EventLine>,
     clock: u64,
     i: u32,
-    answered: &[Answered],
+    requests: &[Request],
 ) -> Result<(), OutOfMemory>
-    ensures { OnOk result (events.new ≡ events.old ++ map (event_by clock i) answered.now) }
+    ensures { OnOk result (events.new ≡ events.old ++ map (event_by clock i) requests.now) }
 {
-    for done in answered {
+    for request in requests {
         events.push(EventLine {
             module: i,
-            kind: done.request.kind,
-            channel: done.request.channel,
+            kind: request.kind,
+            channel: request.channel,
             cycle: clock,
         })?;
     }
@@ -38,7 +37,7 @@ fn tell_all_events(
     ensures { OnOk result (events.new ≡ events.old ++ events_from clock parts.now) }
 {
     for (i, part) in parts.iter().enumerate() {
-        tell_events(events, clock, i as u32, part.answered.as_slice())?;
+        tell_events(events, clock, i as u32, part.requests.as_slice())?;
     }
     Ok(())
 }
@@ -60,25 +59,13 @@ pub fn tell_kept_events(
     }
 }
 
-/// Adds the outcomes of the queries among one module's operations.
-fn tell_outcomes(answers: &mut Flags, answered: &[Answered]) -> Result<(), OutOfMemory>
-    ensures { OnOk result (answers.new ≡ answers.old ++ outcomes_in answered.now) }
+/// Adds the outcome of an operation if it is a query.
+#[inline(always)]
+pub fn tell_outcome(answers: &mut Flags, request: &Request, reply: Reply) -> Result<(), OutOfMemory>
+    ensures { OnOk result (answers.new ≡ answers.old ++ outcomes_in (exchange (request.now, reply) ∷ [])) }
 {
-    for done in answered {
-        if !done.request.kind.is_blocking() {
-            answers.push(is_yes(done.reply))?;
-        }
-    }
-    Ok(())
-}
-
-/// Adds the outcomes of a clock's queries to the answers of their modules.
-pub fn tell_all_outcomes(answers: &mut [Flags], parts: &[Part]) -> Result<(), OutOfMemory>
-    requires count { length answers.old ≡ length parts.now }
-    ensures { OnOk result (answers.new ≡ map (answers_with parts.now) (enumerate_from 0 answers.old)) }
-{
-    for (i, answers) in answers.iter_mut().enumerate() {
-        tell_outcomes(answers, parts[i].answered.as_slice())?;
+    if !request.kind.is_blocking() {
+        answers.push(is_yes(reply))?;
     }
     Ok(())
 }

@@ -26,7 +26,7 @@ returns-clause-state c =
     c.as_mut_slice.ensures.value c.in_ok-move_all.ensures.moved)
     (written_through (after_pops (all_exchanges c.args.parts.now)) c.args.state.now.contents c.as_mut_slice-2.result.now
     c.pop_all.new.contents
-    c.as_mut_slice-2.ensures.value c.pop_all.ensures)
+    c.as_mut_slice-2.ensures.value c.in_ok-pop_all.ensures.contents)
     (written_through (after_pushes c.args.plan.now c.args.clock (all_exchanges c.args.parts.now)) _ c.as_mut_slice-3.result.now
     c.push_all.new.contents
     c.as_mut_slice-3.ensures.value c.in_ok-push_all.ensures)

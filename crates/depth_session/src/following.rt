@@ -3,13 +3,17 @@ ghost use Rattle.std.specs.Prelude.{◌≡◌, ◌+◌, ◌<◌, ◌≤◌, IsOk
 ghost use Rattle.flow_design.specs.Plans.{EditFits, with_depth};
 ghost use Rattle.flow_design.specs.StaticRules.{FitsEngine};
 ghost use Rattle.lockstep_defs.specs.Report.{report};
+ghost use Rattle.event_timing.specs.Agreement.{AllVerified};
+ghost use Rattle.event_timing.specs.Core.{opening_core};
+ghost use Rattle.timing_bridge.specs.Designs.{design};
+ghost use Rattle.sim_core.specs.Views.{theory_of};
 ghost use Rattle.sim_core.specs.Drives.{AreOwn, Goes, HasDriven};
 ghost use Rattle.sim_core.specs.Records.{IsSoundCore, IsEditedOn, recorded_in};
 ghost use Rattle.depth_session.specs.Records.{RepeatsAnswers};
 ghost use Rattle.depth_session.specs.Settled.{IsSettled, HasGoneOn, HasRun, count_of, count_with};
 
 use crate::runner::Runner;
-use flow_design::{Edit, Plan, copy_plan};
+use flow_design::{Edit, Plan};
 use flow_word::{OutOfMemory, Steps};
 use sim_core::{Core, Guard, records_are_answers};
 use std::alloc::Global;
@@ -88,7 +92,8 @@ fn drive_on<L: Ledger>(core: &mut Core, steps: &mut Steps<L>) -> Result<Guard, O
     guard
 }
 
-/// Puts a core in place of this one that is simulated from the beginning.
+/// Puts a core in place of this one that is simulated from the beginning. The runs of the modules go over to it, so that no block is
+/// compiled again.
 fn run_again<R: Threads + Wait + Sync, U: Runner>(
     rt: &R,
     alloc: Global,
@@ -103,9 +108,31 @@ fn run_again<R: Threads + Wait + Sync, U: Runner>(
     ensures at_most { U.made runner.old < u64.MAX → U.made runner.new ≤ U.made runner.old + 1 }
     ensures stays { u64.MAX ≤ U.made runner.old → U.made runner.new ≡ U.made runner.old }
 {
-    let plan = copy_plan(alloc, core.plan())?;
-    *core = first_core(rt, alloc, plan, runner)?;
+    let opening = core.again(alloc)?;
+    *core = second_core(rt, alloc, opening, runner)?;
     Ok(())
+}
+
+/// A core of a plan that was simulated before, simulated once more. It has the answers of the plan's report.
+fn second_core<R: Threads + Wait + Sync, U: Runner>(
+    rt: &R,
+    alloc: Global,
+    opening: Core,
+    runner: &mut U,
+) -> Result<Core, OutOfMemory>
+    requires opening { theory_of opening ≡ opening_core (design opening.plan) }
+    requires verified { AllVerified (theory_of opening) }
+    requires own { AreOwn opening }
+    ensures plan { IfOk result (λ core. core.plan ≡ opening.plan) }
+    ensures settled { IfOk result (λ core. IsSettled core) }
+    ensures answers { IfOk result (λ core. recorded_in core.held.logs ≡ (report opening.plan).answers) }
+    ensures counted { U.made runner.old < u64.MAX → U.made runner.new ≡ U.made runner.old + 1 }
+    ensures stays { u64.MAX ≤ U.made runner.old → U.made runner.new ≡ U.made runner.old }
+{
+    records_are_answers();
+    let core = runner.run_again(rt, alloc, opening)?;
+    let _modules = core.modules();
+    Ok(core)
 }
 
 /// The core of a plan that is not edited yet. It has the answers of the plan's report.

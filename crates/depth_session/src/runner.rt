@@ -2,6 +2,7 @@
 ghost use Rattle.std.specs.Prelude.{◌≡◌, ℕ, ◌+◌, ◌<◌, ◌≤◌, Option, Some, None, option_copied, IfOk};
 ghost use Rattle.flow_design.specs.StaticRules.{FitsEngine};
 ghost use Rattle.event_timing.specs.Actions.{IsFinal};
+ghost use Rattle.event_timing.specs.Core.{opening_core};
 ghost use Rattle.event_timing.specs.Agreement.{AllVerified};
 ghost use Rattle.timing_bridge.specs.Designs.{design};
 ghost use Rattle.sim_core.specs.Views.{theory_of};
@@ -9,14 +10,14 @@ ghost use Rattle.sim_core.specs.Drives.{AreOwn};
 
 use flow_design::Plan;
 use flow_word::OutOfMemory;
-use run_threads::{FreeGate, Gate, run_threads};
-use sim_core::{Core, run_alone};
+use run_threads::{FreeGate, Gate, Light, run_core};
+use sim_core::{Core, finish_alone};
 use std::alloc::Global;
 use std::sync::Wait;
 use std::thread::Threads;
 use turn_history::histories_are_legal;
 
-/// The leave to count a run. `run_plan` alone makes one, so that nobody else counts.
+/// The leave to count a run. `run_plan` and `run_again` alone make one, so that nobody else counts.
 pub struct Asked {
     of: (),
 }
@@ -48,6 +49,14 @@ pub trait Runner {
     fn gate(&self) -> Option<&Self::Gate>
         ensures { option_copied result ≡ gate_of self.now };
 
+    /// The modules that have no thread in a run again, since the run before it found their bursts light.
+    fn light(&self) -> Light;
+
+    /// Keeps what a run found.
+    fn set_light(&mut self, light: Light)
+        ensures made { made self.new ≡ made self.old }
+        ensures gate { gate_of self.new ≡ gate_of self.old };
+
     /// Simulates a plan: a final core of it, of which no run is lent and no outcome is assumed. The run is counted, also
     /// where there is no memory for it.
     final fn run_plan<R: Threads + Wait + Sync>(
@@ -66,29 +75,82 @@ pub trait Runner {
         ensures gate { gate_of self.new ≡ gate_of self.old }
     {
         self.count_run(Asked { of: () });
-        match self.gate() {
-            Some(gate) => run_by_threads(rt, alloc, plan, gate),
-            None => run_alone(alloc, plan),
-        }
+        let core = Core::new(alloc, plan)?;
+        let (core, light) = simulate(rt, alloc, core, self.gate(), Light::none())?;
+        self.set_light(light);
+        Ok(core)
+    }
+
+    /// Simulates a plan once more, from a core of it in which nothing is emitted yet. The modules whose bursts were light in the run
+    /// before have no thread. The run is counted, also where there is no memory for it.
+    final fn run_again<R: Threads + Wait + Sync>(
+        &mut self,
+        rt: &R,
+        alloc: Global,
+        core: Core,
+    ) -> Result<Core, OutOfMemory>
+        requires opening { theory_of core ≡ opening_core (design core.plan) }
+        requires verified { AllVerified (theory_of core) }
+        requires own { AreOwn core }
+        ensures plan { IfOk result (λ done. done.plan ≡ core.plan) }
+        ensures done { IfOk result (λ done. IsFinal (design done.plan) done.plan.cycles (theory_of done)) }
+        ensures verified { IfOk result (λ done. AllVerified (theory_of done)) }
+        ensures own { IfOk result (λ done. AreOwn done) }
+        ensures counted { made self.old < u64.MAX → made self.new ≡ made self.old + 1 }
+        ensures stays { u64.MAX ≤ made self.old → made self.new ≡ made self.old }
+        ensures gate { gate_of self.new ≡ gate_of self.old }
+    {
+        self.count_run(Asked { of: () });
+        let (core, light) = simulate(rt, alloc, core, self.gate(), self.light())?;
+        self.set_light(light);
+        Ok(core)
     }
 }
 
-/// The core of a run with a thread for each module.
+/// Simulates from a core in which nothing is emitted yet: with a thread for each module that is not known to be light, or on the
+/// calling thread where there is no gate. What is known then of the modules comes with the core.
+fn simulate<R: Threads + Wait + Sync, G: Gate + Sync>(
+    rt: &R,
+    alloc: Global,
+    core: Core,
+    gate: Option<&G>,
+    light: Light,
+) -> Result<(Core, Light), OutOfMemory>
+    requires opening { theory_of core ≡ opening_core (design core.plan) }
+    requires verified { AllVerified (theory_of core) }
+    requires own { AreOwn core }
+    ensures plan { IfOk result (λ r. r.0.plan ≡ core.plan) }
+    ensures done { IfOk result (λ r. IsFinal (design r.0.plan) r.0.plan.cycles (theory_of r.0)) }
+    ensures verified { IfOk result (λ r. AllVerified (theory_of r.0)) }
+    ensures own { IfOk result (λ r. AreOwn r.0) }
+{
+    match gate {
+        Some(gate) => run_by_threads(rt, alloc, core, gate, light),
+        None => Ok((finish_alone(core)?, light)),
+    }
+}
+
+/// The same with threads.
 fn run_by_threads<R: Threads + Wait + Sync, G: Gate + Sync>(
     rt: &R,
     alloc: Global,
-    plan: Plan,
+    core: Core,
     gate: &G,
-) -> Result<Core, OutOfMemory>
-    requires { FitsEngine plan }
-    ensures plan { IfOk result (λ core. core.plan ≡ plan) }
-    ensures done { IfOk result (λ core. IsFinal (design core.plan) core.plan.cycles (theory_of core)) }
-    ensures verified { IfOk result (λ core. AllVerified (theory_of core)) }
-    ensures own { IfOk result (λ core. AreOwn core) }
+    light: Light,
+) -> Result<(Core, Light), OutOfMemory>
+    requires opening { theory_of core ≡ opening_core (design core.plan) }
+    requires own { AreOwn core }
+    ensures plan { IfOk result (λ r. r.0.plan ≡ core.plan) }
+    ensures done { IfOk result (λ r. IsFinal (design r.0.plan) r.0.plan.cycles (theory_of r.0)) }
+    ensures verified { IfOk result (λ r. AllVerified (theory_of r.0)) }
+    ensures own { IfOk result (λ r. AreOwn r.0) }
 {
     histories_are_legal();
-    let threaded = run_threads(rt, alloc, plan, gate)?;
-    Ok(threaded.core)
+    // The engine takes the core's plan.
+    let _modules = core.modules();
+    let mut light = light;
+    let threaded = run_core(rt, alloc, core, gate, &mut light)?;
+    Ok((threaded.core, light))
 }
 
 /// Simulates on one thread.
@@ -122,6 +184,12 @@ impl Runner for AloneRunner {
     fn gate(&self) -> Option<&FreeGate> {
         None
     }
+
+    fn light(&self) -> Light {
+        Light::none()
+    }
+
+    fn set_light(&mut self, _light: Light) {}
 }
 
 /// Simulates with a thread for each module.
@@ -131,6 +199,8 @@ pub struct ThreadRunner<'g, G> {
     gate: &'g G,
     /// How many runs it was asked for.
     runs: u64,
+    /// The modules whose bursts were light in the last run.
+    light: Light,
 }
 
 impl<'g, G: Gate + Sync> ThreadRunner<'g, G> {
@@ -139,7 +209,11 @@ impl<'g, G: Gate + Sync> ThreadRunner<'g, G> {
         ensures runs { result.runs ≡ 0 }
         ensures gate { result.gate.now ≡ gate.now }
     {
-        ThreadRunner { gate, runs: 0 }
+        ThreadRunner {
+            gate,
+            runs: 0,
+            light: Light::none(),
+        }
     }
 }
 
@@ -156,5 +230,13 @@ impl<'g, G: Gate + Sync> Runner for ThreadRunner<'g, G> {
 
     fn gate(&self) -> Option<&G> {
         Some(self.gate)
+    }
+
+    fn light(&self) -> Light {
+        self.light
+    }
+
+    fn set_light(&mut self, light: Light) {
+        self.light = light;
     }
 }

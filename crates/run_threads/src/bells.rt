@@ -7,10 +7,12 @@
 //! with the parker, and `park` returns at once. A token that is left from an earlier ring makes `park` return too early, and the bell
 //! is glanced at again.
 use crate::concern::{Concern, News};
+use crate::light::Light;
 use crate::readers::{find_poppers, find_readers};
 use crossbeam_utils::Backoff;
 use crossbeam_utils::sync::{Parker, Unparker};
 use flow_design::Design;
+use flow_design::limits::MODULES;
 use flow_word::OutOfMemory;
 use std::alloc::Global;
 use std::sync::Wait;
@@ -223,6 +225,11 @@ impl Bells {
     /// From now on the caller drives this module, whose thread was not started.
     pub fn keep(&self, which: u32) {
         self.unstarted.store(true, Ordering::SeqCst);
+        self.leave(which);
+    }
+
+    /// From now on the caller drives this module.
+    pub fn leave(&self, which: u32) {
         if let Some(place) = self.modules.get(which as usize) {
             place.handed_over.store(true, Ordering::SeqCst);
         }
@@ -230,9 +237,7 @@ impl Bells {
 
     /// From now on the caller drives this module, whose thread ends.
     pub fn hand_over(&self, which: u32) {
-        if let Some(place) = self.modules.get(which as usize) {
-            place.handed_over.store(true, Ordering::SeqCst);
-        }
+        self.leave(which);
         self.caller.tell(News::Returned);
     }
 
@@ -240,6 +245,27 @@ impl Bells {
     pub fn calls(&self, which: usize) -> bool {
         match self.modules.get(which) {
             Some(place) => place.handed_over.load(Ordering::SeqCst) && place.bell.calls(),
+            None => false,
+        }
+    }
+
+    /// The modules that the caller drives since their bursts are light, and not since their thread was not started.
+    pub fn light(&self) -> Light {
+        let mut light = Light::none();
+        for which in 0..MODULES as u32 {
+            if self.is_light(which) {
+                light = light.with(which);
+            }
+        }
+        light
+    }
+
+    /// Whether the module is one of them.
+    fn is_light(&self, which: u32) -> bool {
+        match self.modules.get(which as usize) {
+            Some(place) => {
+                place.handed_over.load(Ordering::SeqCst) && !place.undriven.load(Ordering::SeqCst)
+            }
             None => false,
         }
     }

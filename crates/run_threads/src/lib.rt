@@ -6,10 +6,12 @@ mod concern;
 mod drive;
 mod gate;
 mod lead;
+mod light;
 mod readers;
 mod run;
 mod start;
 
 pub use gate::{FreeGate, Gate};
-pub use run::{run_threads, run_threads_started};
+pub use light::Light;
+pub use run::{run_core, run_threads};
 pub use sim_hub::{Burst, HubTurn, Task, Threaded, work};

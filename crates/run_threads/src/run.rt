@@ -1,6 +1,10 @@
 //! Whole simulations with threads.
 ghost use Rattle.std.specs.Prelude.{◌≡◌, ◌≤◌, [], length, IfOk, vec_capacity};
 ghost use Rattle.flow_design.specs.StaticRules.{FitsEngine};
+ghost use Rattle.event_timing.specs.Core.{opening_core};
+ghost use Rattle.timing_bridge.specs.Designs.{design};
+ghost use Rattle.sim_core.specs.Views.{theory_of};
+ghost use Rattle.sim_core.specs.Drives.{AreOwn};
 ghost use Rattle.sim_hub.specs.Hubs.{IsOverAt, IsPerfOf, perf_view};
 ghost use Rattle.sim_hub.specs.Closings.{IsRun};
 ghost use Rattle.run_threads.specs.Leading.{HasGoneOn};
@@ -10,6 +14,7 @@ use crate::bells::Bells;
 use crate::drive::Seat;
 use crate::gate::Gate;
 use crate::lead::{gather, lead};
+use crate::light::Light;
 use crate::start::{Slot, seat_all, start_all};
 use crossbeam_utils::sync::Parker;
 use flow_design::Plan;
@@ -32,7 +37,7 @@ fn run_all<G: Gate + Sync, R: Threads + Wait + Sync>(
     parker: Parker,
     perf: PerfPass,
     seats: Vec<Seat>,
-    started: u32,
+    light: Light,
     slots: Vec<Slot>,
     passes: Vec<ModulePass>,
 ) -> (PerfPass, Vec<ModulePass>)
@@ -55,27 +60,29 @@ fn run_all<G: Gate + Sync, R: Threads + Wait + Sync>(
             ensures { IsPerfOf hub.entry.now result.0 × HasGoneOn (perf_view perf) (perf_view result.0)
                 × IsOverAt (perf_view result.0).seen × (length result.1.items ≡ length seats.items) × AreHere hub.entry.now result.1.items }
         {
-            let slots = start_all(scope, rt, alloc, hub, gate, bells, seats, started, slots);
+            let slots = start_all(scope, rt, alloc, hub, gate, bells, seats, light, slots);
             let (perf, slots) = lead(rt, alloc, hub, gate, bells, &parker, perf, slots);
             (perf, gather(rt, hub, slots, passes))
         },
     )
 }
 
-/// As `run_threads`, with threads for so many of the first modules alone. The caller drives the others.
-pub fn run_threads_started<G: Gate + Sync, R: Threads + Wait + Sync>(
+/// As `run_threads`, of a core in which nothing is emitted yet. The caller drives the modules whose bursts are known to be light; those
+/// that it drives at the end are known to be light then.
+///
+/// An error leaves what was known, and the core is gone.
+pub fn run_core<G: Gate + Sync, R: Threads + Wait + Sync>(
     rt: &R,
     alloc: Global,
-    plan: Plan,
+    core: Core,
     gate: &G,
-    started: u32,
+    light: &mut Light,
 ) -> Result<Threaded, OutOfMemory>
-    requires fits { FitsEngine plan }
-    requires started { started ≤ length plan.design.modules }
-    ensures run { IfOk result (λ threaded. IsRun plan threaded) }
+    requires opening { theory_of core ≡ opening_core (design core.plan) }
+    requires own { AreOwn core }
+    ensures run { IfOk result (λ threaded. IsRun core.plan threaded) }
 {
-    let (mut bells, parker) = Bells::new(alloc, &plan.design)?;
-    let core = Core::new(alloc, plan)?;
+    let (mut bells, parker) = Bells::new(alloc, &core.plan().design)?;
     let (hub, perf, modules) = Hub::new(alloc, core)?;
     let Ok(slots) = Vec::with_capacity(alloc, modules.len()) else {
         return Err(OutOfMemory);
@@ -85,10 +92,13 @@ pub fn run_threads_started<G: Gate + Sync, R: Threads + Wait + Sync>(
     };
     let seats = seat_all(alloc, &mut bells, modules)?;
     let (perf, modules) = run_all(
-        rt, alloc, &hub, gate, &bells, parker, perf, seats, started, slots, passes,
+        rt, alloc, &hub, gate, &bells, parker, perf, seats, *light, slots, passes,
     );
     match hub.close(perf, modules) {
-        Closed::Final(threaded) => Ok(threaded),
+        Closed::Final(threaded) => {
+            *light = bells.light();
+            Ok(threaded)
+        }
         Closed::Short => Err(OutOfMemory),
     }
 }
@@ -106,6 +116,6 @@ pub fn run_threads<G: Gate + Sync, R: Threads + Wait + Sync>(
     requires fits { FitsEngine plan }
     ensures run { IfOk result (λ threaded. IsRun plan threaded) }
 {
-    let started = plan.design.modules.as_slice().len() as u32;
-    run_threads_started(rt, alloc, plan, gate, started)
+    let core = Core::new(alloc, plan)?;
+    run_core(rt, alloc, core, gate, &mut Light::none())
 }

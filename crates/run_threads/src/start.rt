@@ -8,6 +8,7 @@ ghost use Rattle.run_threads.specs.Slots.{SlotIs, AreSlots, AreHere, passes_in};
 use crate::bells::Bells;
 use crate::drive::{Answered, Seat, drive};
 use crate::gate::Gate;
+use crate::light::Light;
 use flow_word::OutOfMemory;
 use sim_hub::{Hub, ModulePass};
 use std::alloc::Global;
@@ -88,7 +89,7 @@ fn start_one<'s, 'e, G: Gate + Sync, R: Threads + Wait + Sync>(
     }
 }
 
-/// Starts a thread for one of the first modules, and keeps another.
+/// Starts a module's thread, or leaves the module to the caller, where its bursts are light.
 fn place_one<'s, 'e, G: Gate + Sync, R: Threads + Wait + Sync>(
     scope: &'s Scope<'s, &'e ()>,
     rt: &'e R,
@@ -97,21 +98,22 @@ fn place_one<'s, 'e, G: Gate + Sync, R: Threads + Wait + Sync>(
     gate: &'e G,
     bells: &'e Bells,
     seat: Seat,
-    started: u32,
+    light: Light,
 ) -> Slot
     requires own { IsOfHub hub.now seat.pass }
     requires home { HasNoDeskOut (module_of seat.pass) (module_view seat.pass) }
     ensures { SlotIs hub.now (module_of seat.pass) result }
 {
-    if seat.pass.which() < started {
-        start_one(scope, rt, alloc, hub, gate, bells, seat)
-    } else {
-        bells.keep(seat.pass.which());
+    let which = seat.pass.which();
+    if light.has(which) {
+        bells.leave(which);
         Slot::Here(seat.pass)
+    } else {
+        start_one(scope, rt, alloc, hub, gate, bells, seat)
     }
 }
 
-/// Starts a thread for each of so many of the first modules, and keeps the others.
+/// Starts a thread for each module but those with light bursts, which the caller drives.
 pub fn start_all<'s, 'e, G: Gate + Sync, R: Threads + Wait + Sync>(
     scope: &'s Scope<'s, &'e ()>,
     rt: &'e R,
@@ -120,7 +122,7 @@ pub fn start_all<'s, 'e, G: Gate + Sync, R: Threads + Wait + Sync>(
     gate: &'e G,
     bells: &'e Bells,
     seats: Vec<Seat>,
-    started: u32,
+    light: Light,
     slots: Vec<Slot>,
 ) -> Vec<Slot>
     requires here { AreHere hub.now (passes_in seats.items) }
@@ -130,7 +132,7 @@ pub fn start_all<'s, 'e, G: Gate + Sync, R: Threads + Wait + Sync>(
 {
     let mut slots = slots;
     for seat in seats {
-        slots.push_reserved(place_one(scope, rt, alloc, hub, gate, bells, seat, started));
+        slots.push_reserved(place_one(scope, rt, alloc, hub, gate, bells, seat, light));
     }
     slots
 }

@@ -3,7 +3,8 @@ use crate::gates::{Gathering, Meeting, Notes, Slow};
 use clock_machine::clock_run;
 use flow_design::Report;
 use flow_gen::generate;
-use run_threads::{FreeGate, Gate, HubTurn, Threaded, run_threads, run_threads_started};
+use run_threads::{FreeGate, Gate, HubTurn, Light, Threaded, run_core, run_threads};
+use sim_core::Core;
 use std::alloc::Global;
 use std::process::Abort;
 use std::sync::atomic::{AtomicBool, AtomicU64, Ordering};
@@ -148,7 +149,7 @@ fn turns_are_bursts(rt: HostRuntime) -> Result<(), Fail> {
     Ok(())
 }
 
-/// With threads for so many of the first modules alone, a session is reported so.
+/// With threads for so many of the first modules alone, a session is reported so, and the caller drives the others.
 fn is_reported<R: Threads + Wait + Sync + AllocGlobal + Abort>(
     rt: &R,
     text: &[u8],
@@ -156,8 +157,11 @@ fn is_reported<R: Threads + Wait + Sync + AllocGlobal + Abort>(
     expected: &Report,
 ) -> Result<(), Fail> {
     let plan = read_plan(rt.alloc(), text)?;
-    assert!(rt; started as u64 <= plan.design.modules.len());
-    let threaded = run_threads_started(rt, rt.alloc(), plan, &FreeGate, started)?;
+    let modules = plan.design.modules.len() as u32;
+    let mut light = Light::from_module(started);
+    let core = Core::new(rt.alloc(), plan)?;
+    let threaded = run_core(rt, rt.alloc(), core, &FreeGate, &mut light)?;
+    assert!(rt; (started..modules).all(|which| light.has(which)));
     let report = threaded.core.final_report(rt.alloc(), true)?;
     assert!(rt; report.is_some_and(|found| found == *expected));
     Ok(())

@@ -11,7 +11,7 @@ returns-clause-plan g c = c.in_ok-threaded.ensures.run.plan_is
 
 pub returns-clause-done : goal.returns-clause-done
 returns-clause-done g c =
-    let p = c.args.plan in
+    let p = c.args.core.plan in
     let core = c.in_ok-threaded.threaded.core in
     let run = c.in_ok-threaded.ensures.run in
     subst (λ (q : Plan). IsFinal (design q) q.cycles (theory_of core)) (sym run.plan_is)
@@ -19,11 +19,12 @@ returns-clause-done g c =
 
 pub returns-clause-verified : goal.returns-clause-verified
 returns-clause-verified g c =
-    let p = c.args.plan in
+    let p = c.args.core.plan in
     let run = c.in_ok-threaded.ensures.run in
+    let fits = c.modules-modules.ensures.fits in
     let turns = run.stands.turns in
-    let legal = c.histories_are_legal.ensures.legal p c.requires turns run.at run.stands.standing in
-    subst AllVerified (sym run.core) (c.histories_are_legal.ensures.verified p c.requires turns run.at legal)
+    let legal = c.histories_are_legal.ensures.legal p fits turns run.at run.stands.standing in
+    subst AllVerified (sym run.core) (c.histories_are_legal.ensures.verified p fits turns run.at legal)
 
 pub returns-clause-own : goal.returns-clause-own
 returns-clause-own g c = c.in_ok-threaded.ensures.run.own

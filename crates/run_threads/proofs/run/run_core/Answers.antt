@@ -1,27 +1,19 @@
 use Rattle.std.proofs.Common.{◌≡◌, [], length, ap, sym, ◌∙◌, subst}
 use mathlib.Core.List.{IsPrefix}
 use Rattle.std.proofs.lemmas.List.{length-map}
-use Rattle.flow_design.specs.declared.plan.Plan.{Plan}
-use Rattle.event_timing.specs.Core.{opening_core}
-use Rattle.timing_bridge.specs.Designs.{design}
 use Rattle.turn_history.specs.Entries.{history_of}
-use Rattle.sim_core.specs.Views.{theory_of}
 use Rattle.sim_hub.specs.Hubs.{perf_view}
 use Rattle.sim_hub.specs.Closings.{IsRun, ClosedIs}
 use Rattle.run_threads.specs.declared.drive.Seat.{Seat}
 use Rattle.run_threads.specs.Slots.{AreHere}
 use Rattle.run_threads.proofs.Openings.{prefix_trans, one_plan}
 use Rattle.run_threads.proofs.Places.{new_here, here_own, here_home, here_each}
-use Rattle.run_threads.proofs.run.run_threads_started.Goals as goal
-
-pub new-requires-3-clause-opening : goal.new-requires-3-clause-opening
-new-requires-3-clause-opening g c =
-    subst (λ (p : Plan). theory_of c.in_ok-core.core ≡ opening_core (design p)) (sym c.in_ok-core.ensures.plan) c.in_ok-core.ensures.opening
+use Rattle.run_threads.proofs.run.run_core.Goals as goal
 
 pub run_all-perf-requires-clause-here : goal.run_all-perf-requires-clause-here
 run_all-perf-requires-clause-here g c κs within =
     subst (AreHere c.in_ok-hub.hub) (sym c.in_ok-seats.ensures)
-    (new_here c.in_ok-hub.hub c.in_ok-core.core.plan c.in_ok-hub.modules.items c.in_ok-hub.ensures.modules)
+    (new_here c.in_ok-hub.hub c.args.core.plan c.in_ok-hub.modules.items c.in_ok-hub.ensures.modules)
 
 pub close-requires-clause-own : goal.close-requires-clause-own
 close-requires-clause-own g c =
@@ -39,11 +31,11 @@ pub close-requires-clause-home : goal.close-requires-clause-home
 close-requires-clause-home g c = here_home c.in_ok-hub.hub c.run_all-perf.result.1.items c.run_all-perf.ensures.here
 
 pub returns-in-Final : goal.returns-in-Final
-returns-in-Final g c = let t = c.in-Final.threaded in let perf = c.run_all-perf.result.0 in let p = c.in_ok-core.core.plan in
+returns-in-Final g c = let t = c.in-Final.threaded in let perf = c.run_all-perf.result.0 in let p = c.args.core.plan in
     let closed = subst (λ r. ClosedIs perf c.run_all-perf.result.1.items r) c.in-Final.is c.close.ensures in
     let begins = prefix_trans (history_of p []) (perf_view perf).seen closed.0
     (subst (λ seen. IsPrefix seen (perf_view perf).seen) c.in_ok-hub.ensures.perf.1 c.run_all-perf.ensures.later.begins)
     closed.1.first in
     let same = one_plan p t.core.plan t.turns.items closed.0 begins closed.2.0 in
-    let plan : t.core.plan ≡ c.args.plan = sym same ∙ c.in_ok-core.ensures.plan in
+    let plan : t.core.plan ≡ c.args.core.plan = sym same in
     record { run = subst (λ q. IsRun q t) plan closed.2.1 }

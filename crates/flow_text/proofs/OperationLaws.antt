@@ -1,6 +1,7 @@
 -- What is kept of expressions and operations is the first test that they fail.
 use Rattle.std.proofs.Common.{◌≡◌, List, [], ◌∷◌, ◌++◌, map, Bool, true, false, cond, Option, None, Some, Result, Ok, refl, sym, ap, ◌∙◌}
-use Rattle.std.proofs.Common.{arith, Err, ◌<◌, ◌≤◌, length, ℕ, ◌-◌, ◌^◌, subst}
+use Rattle.std.proofs.Common.{arith, Err, ◌<◌, ◌≤◌, length, ℕ, ◌-◌, ◌^◌, subst, drop, get_or, take}
+use Rattle.std.proofs.Math.Seq.{take-length}
 use Rattle.std.specs.Prelude.{◌&&◌, not, option_map, if◌then◌else◌, nat_lt, nat_le}
 use Rattle.std.specs.List.{list_all}
 use Rattle.flow_design.specs.declared.expr.Expr.{Expr}
@@ -32,6 +33,22 @@ use Rattle.flow_grammar.specs.Numbers.{number_within}
 use Rattle.flow_grammar.specs.Places.{takes_operations}
 use Rattle.flow_design.specs.declared.expr.Op.TheVariants as op
 use Rattle.flow_text.specs.declared.operations.TwoNames.TheVariants as two
+
+-- tokens by the names in front of them, and the others
+pub one_front : {A : Type 0} (f : A → Token) (d : A) (xs : List A) (x : Token) → x ≡ f (get_or xs 0 d) → 1 ≤ length xs
+    → map f xs ≡ x ∷ map f (take (length xs - 1) (drop 1 xs))
+one_front f d [] x e h = absurd (omega arith)
+one_front f d (a ∷ xs) x e h =
+    let less : length (a ∷ xs) - 1 ≡ length xs = omega arith in
+    λ i. sym e i ∷ map f (sym (ap (λ (n : ℕ). take n xs) less ∙ take-length xs) i)
+
+pub two_front : {A : Type 0} (f : A → Token) (d e : A) (xs : List A) (x y : Token) → x ≡ f (get_or xs 0 d) → y ≡ f (get_or xs 1 e)
+    → 2 ≤ length xs → map f xs ≡ x ∷ y ∷ map f (take (length xs - 2) (drop 2 xs))
+two_front f d e [] x y p q h = absurd (omega arith)
+two_front f d e (a ∷ []) x y p q h = absurd (omega arith)
+two_front f d e (a ∷ b ∷ xs) x y p q h =
+    let less : length (a ∷ b ∷ xs) - 2 ≡ length xs = omega arith in
+    λ i. sym p i ∷ sym q i ∷ map f (sym (ap (λ (n : ℕ). take n xs) less ∙ take-length xs) i)
 
 and_assoc : (a b c : Bool) → a && (b && c) ≡ (a && b) && c
 and_assoc a b c = grind arith

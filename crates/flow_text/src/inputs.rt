@@ -9,7 +9,7 @@ ghost use Rattle.flow_text.specs.Inputs.{words_within, input_reading};
 ghost use Rattle.name_tables.specs.TablesOf.{accepted};
 ghost use Rattle.name_tables.specs.TableTests.{reading_by};
 
-use crate::ensure::Parsed;
+use crate::ensure::{Parsed, ensure, syntax};
 use flow_design::limits::INPUT_VALUES;
 use flow_design::{Name, Statement};
 use flow_grammar::{Code, LineFail, is_identifier, is_numeral, number_in};
@@ -58,19 +58,14 @@ fn given_input<'a>(
     ensures given { LineGives (λ s. s) result (input_reading tables.old name.now (Some words)) }
     ensures kept { IfOk result (λ s. tables.new ≡ accepted tables.old s) }
 {
-    if !tables.place.takes_inputs() {
-        return Err(LineFail::Fault(Code::Syntax));
-    }
-    if tables.inputs.has(name) {
-        return Err(LineFail::Fault(Code::DoubleName));
-    }
-    if !tables.sources.has(name) {
-        return Err(LineFail::Fault(Code::UnknownName));
-    }
+    syntax(tables.place.takes_inputs())?;
+    ensure(!tables.inputs.has(name), Code::DoubleName)?;
+    ensure(tables.sources.has(name), Code::UnknownName)?;
     let count = words.len();
-    if count > INPUT_VALUES || tables.input_values > INPUT_VALUES - count {
-        return Err(LineFail::Fault(Code::TooMany));
-    }
+    ensure(
+        count <= INPUT_VALUES && tables.input_values <= INPUT_VALUES - count,
+        Code::TooMany,
+    )?;
     tables.add_input(name, count)?;
     Ok(Statement::Input(Name::new(alloc, name)?, words))
 }
@@ -88,11 +83,8 @@ fn kept_input<'a>(
     match words {
         Some(words) => given_input(alloc, tables, name, words),
         None => {
-            if tables.place.takes_inputs() {
-                Err(LineFail::Fault(Code::BadNumber))
-            } else {
-                Err(LineFail::Fault(Code::Syntax))
-            }
+            syntax(tables.place.takes_inputs())?;
+            Err(LineFail::Fault(Code::BadNumber))
         }
     }
 }
@@ -111,12 +103,8 @@ fn new_input<'a>(
         (Input name.now (map number_of (map (λ t. t.now) values.now))))) }
     ensures kept { IfOk result (λ s. tables.new ≡ accepted tables.old s) }
 {
-    if !is_identifier(name) {
-        return Err(LineFail::Fault(Code::Syntax));
-    }
-    if !are_numerals(values) {
-        return Err(LineFail::Fault(Code::Syntax));
-    }
+    syntax(is_identifier(name))?;
+    syntax(are_numerals(values))?;
     let words = words_in(alloc, values)?;
     kept_input(alloc, tables, name, words)
 }

@@ -1,17 +1,17 @@
 //! The forms of operations.
-ghost use Rattle.std.specs.Prelude.{◌≡◌, map, ◌&&◌, option_map};
+ghost use Rattle.std.specs.Prelude.{◌≡◌, map, ◌&&◌};
 ghost use Rattle.flow_design.specs.declared.expr.Op.TheVariants as op;
 ghost use Rattle.flow_grammar.specs.Tokens.{is_name};
 ghost use Rattle.flow_grammar.specs.Operands as grammar;
 ghost use Rattle.flow_grammar.specs.Before.{is_among};
 ghost use Rattle.flow_grammar.specs.Trees.{trees_of};
-ghost use Rattle.flow_grammar.specs.Forms.{only_if, if_then, one_tree, two_trees, set_of, load_of, store_of, write_of, two_names};
+ghost use Rattle.flow_grammar.specs.Forms.{only_if, set_of, load_of, store_of, write_of, two_names};
 ghost use Rattle.flow_grammar.specs.Forms.{try_read_of, try_write_of};
 ghost use Rattle.flow_grammar.specs.Gives.{LineGives};
 ghost use Rattle.flow_text.specs.Operations.{tree_reading, trees_reading, op_reading, tree_kept, trees_kept, with_tree, store_op};
 ghost use Rattle.flow_text.specs.Operations.{op_of_names, is_variable};
 
-use crate::ensure::{Judged, Parsed};
+use crate::ensure::{Judged, Parsed, syntax};
 use flow_design::{Expr, Name, Op};
 use flow_grammar::{Code, Known, LineFail, Operand, is_identifier, one_operand, two_operands};
 use name_tables::Tables;
@@ -97,34 +97,18 @@ fn trees(
     Ok(both(tree_of(known, first), tree_of(true, second)))
 }
 
-/// An assignment to this variable.
-fn new_set(
-    alloc: Global,
-    tables: &Tables<'_>,
-    register: &[u8],
-    expression: &[&[u8]],
-) -> Parsed<Judged<Op<Name>>>
-    ensures { LineGives (λ o. o) result
-        (op_reading tables.now
-        (if_then (is_name register.now) (option_map (op.Set register.now) (one_tree (trees_of (map (λ t. t.now) expression.now)))))) }
-{
-    if !is_identifier(register) {
-        return Err(LineFail::Fault(Code::Syntax));
-    }
-    let known = tables.is_known(register);
-    let register = Name::new(alloc, register)?;
-    let tree = tree(alloc, tables, known, expression)?;
-    Ok(tree.map(|tree| Op::Set(register, tree)))
-}
-
 /// `set R E`, behind its verb.
 pub fn set(alloc: Global, tables: &Tables<'_>, tokens: &[&[u8]]) -> Parsed<Judged<Op<Name>>>
     ensures { LineGives (λ o. o) result (op_reading tables.now (set_of (map (λ t. t.now) tokens.now))) }
 {
-    match tokens {
-        [register, expression @ ..] => new_set(alloc, tables, *register, expression),
-        _ => Err(LineFail::Fault(Code::Syntax)),
-    }
+    let [register, expression @ ..] = tokens else {
+        return Err(LineFail::Fault(Code::Syntax));
+    };
+    syntax(is_identifier(register))?;
+    let known = tables.is_known(register);
+    let register = Name::new(alloc, *register)?;
+    let tree = tree(alloc, tables, known, expression)?;
+    Ok(tree.map(|tree| Op::Set(register, tree)))
 }
 
 /// Whether these are a variable and a memory.
@@ -134,99 +118,47 @@ fn knows_load(tables: &Tables<'_>, register: &[u8], memory: &[u8]) -> bool
     tables.is_known(register) && tables.memories.has(memory)
 }
 
-/// A load to this variable from this memory.
-fn new_load(
-    alloc: Global,
-    tables: &Tables<'_>,
-    register: &[u8],
-    memory: &[u8],
-    expression: &[&[u8]],
-) -> Parsed<Judged<Op<Name>>>
-    ensures { LineGives (λ o. o) result
-        (op_reading tables.now
-        (if_then (is_name register.now && is_name memory.now)
-        (option_map (op.Load register.now memory.now) (one_tree (trees_of (map (λ t. t.now) expression.now)))))) }
-{
-    if !is_identifier(register) || !is_identifier(memory) {
-        return Err(LineFail::Fault(Code::Syntax));
-    }
-    let known = knows_load(tables, register, memory);
-    let register = Name::new(alloc, register)?;
-    let memory = Name::new(alloc, memory)?;
-    let tree = tree(alloc, tables, known, expression)?;
-    Ok(tree.map(|tree| Op::Load(register, memory, tree)))
-}
-
 /// `load R M E`, behind its verb.
 pub fn load(alloc: Global, tables: &Tables<'_>, tokens: &[&[u8]]) -> Parsed<Judged<Op<Name>>>
     ensures { LineGives (λ o. o) result (op_reading tables.now (load_of (map (λ t. t.now) tokens.now))) }
 {
-    match tokens {
-        [register, memory, expression @ ..] => new_load(
-            alloc, tables, *register, *memory, expression,
-        ),
-        _ => Err(LineFail::Fault(Code::Syntax)),
-    }
-}
-
-/// A store to this memory.
-fn new_store(
-    alloc: Global,
-    tables: &Tables<'_>,
-    memory: &[u8],
-    expressions: &[&[u8]],
-) -> Parsed<Judged<Op<Name>>>
-    ensures { LineGives (λ o. o) result
-        (op_reading tables.now
-        (if_then (is_name memory.now) (two_trees (op.Store memory.now) (trees_of (map (λ t. t.now) expressions.now))))) }
-{
-    if !is_identifier(memory) {
+    let [register, memory, expression @ ..] = tokens else {
         return Err(LineFail::Fault(Code::Syntax));
-    }
-    let known = tables.memories.has(memory);
-    let memory = Name::new(alloc, memory)?;
-    let trees = trees(alloc, tables, known, expressions)?;
-    Ok(trees.map(|(place, value)| Op::Store(memory, place, value)))
+    };
+    syntax(is_identifier(register) && is_identifier(memory))?;
+    let known = knows_load(tables, register, memory);
+    let register = Name::new(alloc, *register)?;
+    let memory = Name::new(alloc, *memory)?;
+    let tree = tree(alloc, tables, known, expression)?;
+    Ok(tree.map(|tree| Op::Load(register, memory, tree)))
 }
 
 /// `store M E E`, behind its verb.
 pub fn store(alloc: Global, tables: &Tables<'_>, tokens: &[&[u8]]) -> Parsed<Judged<Op<Name>>>
     ensures { LineGives (λ o. o) result (op_reading tables.now (store_of (map (λ t. t.now) tokens.now))) }
 {
-    match tokens {
-        [memory, expressions @ ..] => new_store(alloc, tables, *memory, expressions),
-        _ => Err(LineFail::Fault(Code::Syntax)),
-    }
-}
-
-/// A write to this channel.
-fn new_write(
-    alloc: Global,
-    tables: &Tables<'_>,
-    channel: &[u8],
-    expression: &[&[u8]],
-) -> Parsed<Judged<Op<Name>>>
-    ensures { LineGives (λ o. o) result
-        (op_reading tables.now
-        (if_then (is_name channel.now) (option_map (op.Write channel.now) (one_tree (trees_of (map (λ t. t.now) expression.now)))))) }
-{
-    if !is_identifier(channel) {
+    let [memory, expressions @ ..] = tokens else {
         return Err(LineFail::Fault(Code::Syntax));
-    }
-    let known = tables.channels.has(channel);
-    let channel = Name::new(alloc, channel)?;
-    let tree = tree(alloc, tables, known, expression)?;
-    Ok(tree.map(|tree| Op::Write(channel, tree)))
+    };
+    syntax(is_identifier(memory))?;
+    let known = tables.memories.has(memory);
+    let memory = Name::new(alloc, *memory)?;
+    let trees = trees(alloc, tables, known, expressions)?;
+    Ok(trees.map(|(place, value)| Op::Store(memory, place, value)))
 }
 
 /// `write F E`, behind its verb.
 pub fn write(alloc: Global, tables: &Tables<'_>, tokens: &[&[u8]]) -> Parsed<Judged<Op<Name>>>
     ensures { LineGives (λ o. o) result (op_reading tables.now (write_of (map (λ t. t.now) tokens.now))) }
 {
-    match tokens {
-        [channel, expression @ ..] => new_write(alloc, tables, *channel, expression),
-        _ => Err(LineFail::Fault(Code::Syntax)),
-    }
+    let [channel, expression @ ..] = tokens else {
+        return Err(LineFail::Fault(Code::Syntax));
+    };
+    syntax(is_identifier(channel))?;
+    let known = tables.channels.has(channel);
+    let channel = Name::new(alloc, *channel)?;
+    let tree = tree(alloc, tables, known, expression)?;
+    Ok(tree.map(|tree| Op::Write(channel, tree)))
 }
 
 /// Whether these are a channel and a variable.
@@ -236,39 +168,19 @@ fn knows_outcome(tables: &Tables<'_>, channel: &[u8], outcome: &[u8]) -> bool
     tables.channels.has(channel) && tables.is_known(outcome)
 }
 
-/// A write to this channel where it is not full, with the outcome in this variable.
-fn new_try_write(
-    alloc: Global,
-    tables: &Tables<'_>,
-    channel: &[u8],
-    outcome: &[u8],
-    expression: &[&[u8]],
-) -> Parsed<Judged<Op<Name>>>
-    ensures { LineGives (λ o. o) result
-        (op_reading tables.now
-        (if_then (is_name channel.now && is_name outcome.now)
-        (option_map (op.TryWrite channel.now outcome.now) (one_tree (trees_of (map (λ t. t.now) expression.now)))))) }
-{
-    if !is_identifier(channel) || !is_identifier(outcome) {
-        return Err(LineFail::Fault(Code::Syntax));
-    }
-    let known = knows_outcome(tables, channel, outcome);
-    let channel = Name::new(alloc, channel)?;
-    let outcome = Name::new(alloc, outcome)?;
-    let tree = tree(alloc, tables, known, expression)?;
-    Ok(tree.map(|tree| Op::TryWrite(channel, outcome, tree)))
-}
-
 /// `trywrite F OK E`, behind its verb.
 pub fn try_write(alloc: Global, tables: &Tables<'_>, tokens: &[&[u8]]) -> Parsed<Judged<Op<Name>>>
     ensures { LineGives (λ o. o) result (op_reading tables.now (try_write_of (map (λ t. t.now) tokens.now))) }
 {
-    match tokens {
-        [channel, outcome, expression @ ..] => new_try_write(
-            alloc, tables, *channel, *outcome, expression,
-        ),
-        _ => Err(LineFail::Fault(Code::Syntax)),
-    }
+    let [channel, outcome, expression @ ..] = tokens else {
+        return Err(LineFail::Fault(Code::Syntax));
+    };
+    syntax(is_identifier(channel) && is_identifier(outcome))?;
+    let known = knows_outcome(tables, channel, outcome);
+    let channel = Name::new(alloc, *channel)?;
+    let outcome = Name::new(alloc, *outcome)?;
+    let tree = tree(alloc, tables, known, expression)?;
+    Ok(tree.map(|tree| Op::TryWrite(channel, outcome, tree)))
 }
 
 /// An operation on a channel and a variable alone.
@@ -302,9 +214,7 @@ fn new_two_names(
     ensures { LineGives (λ o. o) result
         (op_reading tables.now (only_if (is_name channel.now && is_name register.now) (op_of_names which channel.now register.now))) }
 {
-    if !is_identifier(channel) || !is_identifier(register) {
-        return Err(LineFail::Fault(Code::Syntax));
-    }
+    syntax(is_identifier(channel) && is_identifier(register))?;
     if !knows_outcome(tables, channel, register) {
         return Ok(Err(Code::UnknownName));
     }
@@ -341,9 +251,7 @@ fn new_try_read(
         (only_if (is_name channel.now && (is_name register.now && is_name outcome.now))
         (op.TryRead channel.now register.now outcome.now))) }
 {
-    if !is_identifier(channel) || !is_identifier(register) || !is_identifier(outcome) {
-        return Err(LineFail::Fault(Code::Syntax));
-    }
+    syntax(is_identifier(channel) && is_identifier(register) && is_identifier(outcome))?;
     let known = tables.channels.has(channel)
         && tables.is_known(register)
         && tables.is_known(outcome);

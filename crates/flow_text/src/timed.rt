@@ -12,7 +12,7 @@ ghost use Rattle.flow_grammar.specs.Places.{takes_operations};
 ghost use Rattle.flow_design.specs.declared.limits.TheConstants.{OPERATIONS};
 ghost use Rattle.name_tables.specs.TableTests.{reading_by};
 
-use crate::ensure::{Judged, Parsed, syntax};
+use crate::ensure::{Judged, Parsed, ensure, syntax};
 use crate::operations::{TwoNames, load, set, store, try_read, try_write, two_names, write};
 use flow_design::limits::OPERATIONS;
 use flow_design::{Name, Op, Statement};
@@ -85,12 +85,8 @@ fn refused(
     ensures given { (guard : Option NameValue) → LineGives (λ s. s) result (timed_reading tables.old offset guard known (Err code)) }
     ensures kept { IfOk result (λ s. tables.new ≡ accepted tables.old s) }
 {
-    if !tables.place.takes_operations() {
-        return Err(LineFail::Fault(Code::Syntax));
-    }
-    if offset.is_none() {
-        return Err(LineFail::Fault(Code::BadNumber));
-    }
+    syntax(tables.place.takes_operations())?;
+    ensure(offset.is_some(), Code::BadNumber)?;
     let code = first_code(known, tables.operations < OPERATIONS, code);
     Err(LineFail::Fault(code))
 }

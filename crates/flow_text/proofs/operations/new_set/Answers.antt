@@ -1,9 +1,0 @@
-use Rattle.std.proofs.Common.{map, arith}
-use Rattle.flow_grammar.specs.Trees.{trees_of}
-use Rattle.flow_text.proofs.OperationLaws.{set_reads}
-use Rattle.flow_text.proofs.operations.new_set.Goals as goal
-
-pub returns : goal.returns
-returns c =
-    let told = set_reads c.args.tables.now c.args.register.now (trees_of (map (λ t. t.now) c.args.expression.now)) in
-    grind (arith, told, c.map.ensures.cases)

@@ -1,0 +1,12 @@
+use Rattle.std.proofs.Common.{◌-◌, arith, drop, length, map, take}
+use Rattle.flow_grammar.specs.Trees.{trees_of}
+use Rattle.flow_text.proofs.OperationLaws.{one_front, store_reads}
+use Rattle.flow_text.proofs.operations.store.Goals as goal
+
+pub returns : goal.returns
+returns c =
+    let tokens = c.args.tokens.now in
+    let memory = c.in_ok-memory.memory in
+    let trees = trees_of (map (λ t. t.now) (take (length tokens - 1) (drop 1 tokens))) in
+    let told = store_reads c.args.tables.now memory trees in
+    rw (one_front (λ t. t.now) _ tokens memory c.in_ok-memory.ensures c.in-len1-up.len_at_least) (grind (arith, told, c.map.ensures.cases))

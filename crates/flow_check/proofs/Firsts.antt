@@ -92,34 +92,6 @@ in_least {A} {B} f (y ∷ xs) (suc j) x v at is = by (f y) refl (in_least f xs j
         moved (inl l) = inl (omega arith)
         moved (inr p) = let e : later.0 ≡ j = p.0 in inr (omega arith, p.1)
 
-pub where_some : {A : Type 0} (p : A → Bool) (xs : List A) (k : ℕ) → place_where p xs ≡ Some k
-    → (x : A) × (slice_get xs k ≡ Some x) × (p x ≡ true)
-where_some p [] k h = absurd cc
-where_some {A} p (x ∷ xs) k h = by (p x) refl h (where_some p xs)
-  where
-    by : (b : Bool) → p x ≡ b → cond b (Some 0) (option_map (λ j. j + 1) (place_where p xs)) ≡ Some k
-        → ((j : ℕ) → place_where p xs ≡ Some j → (y : A) × (slice_get xs j ≡ Some y) × (p y ≡ true))
-        → (y : A) × (slice_get (x ∷ xs) k ≡ Some y) × (p y ≡ true)
-    by true e q later = let at : 0 ≡ k = cc in (x, sym (ap (slice_get (x ∷ xs)) at), e)
-    by false e q later =
-        let r = mapped (λ (j : ℕ). j + 1) (place_where p xs) k q in
-        let at : suc r.0 ≡ k = omega (arith, r.2) in
-        let found = later r.0 r.1 in
-        (found.0, sym (ap (slice_get (x ∷ xs)) at) ∙ found.1, found.2)
-
-pub where_least : {A : Type 0} (p : A → Bool) (xs : List A) (j : ℕ) (x : A) → slice_get xs j ≡ Some x → p x ≡ true
-    → (k : ℕ) × (place_where p xs ≡ Some k) × (k ≤ j)
-where_least p [] j x at is = absurd cc
-where_least p (y ∷ xs) zero x at is =
-    let same : y ≡ x = cc in
-    (0, ap (λ b. cond b (Some 0) (option_map (λ j. j + 1) (place_where p xs))) (ap p same ∙ is), omega arith)
-where_least p (y ∷ xs) (suc j) x at is = by (p y) (where_least p xs j x at is)
-  where
-    by : (b : Bool) → (k : ℕ) × (place_where p xs ≡ Some k) × (k ≤ j)
-        → (k : ℕ) × (cond b (Some 0) (option_map (λ j. j + 1) (place_where p xs)) ≡ Some k) × (k ≤ suc j)
-    by true later = (0, refl, omega arith)
-    by false later = let l : later.0 ≤ j = later.2 in (later.0 + 1, ap (option_map (λ j. j + 1)) later.1, omega arith)
-
 pub behind_some : {A : Type 0} (fails : List A → A → Bool) (before xs : List A) (k : ℕ) → first_behind fails before xs ≡ Some k
     → (x : A) × (slice_get xs k ≡ Some x) × (fails (before ++ take k xs) x ≡ true)
 behind_some fails before [] k h = absurd cc
@@ -156,6 +128,21 @@ behind_least {A} fails before (y ∷ xs) (suc j) x at is =
         → (k : ℕ) × (cond b (Some 0) (option_map (λ j. j + 1) (first_behind fails (before ++ y ∷ []) xs)) ≡ Some k) × (k ≤ suc j)
     by true later = (0, refl, omega arith)
     by false later = let l : later.0 ≤ j = later.2 in (later.0 + 1, ap (option_map (λ j. j + 1)) later.1, omega arith)
+
+-- the place of the first that passes, as that of the first that fails behind those before it
+pub where_behind : {A : Type 0} (p : A → Bool) (before xs : List A) → place_where p xs ≡ first_behind (λ earlier. p) before xs
+where_behind p before [] = refl
+where_behind p before (x ∷ xs) =
+    ap (λ (o : Option ℕ). cond (p x) (Some 0) (option_map (λ j. j + 1) o)) (where_behind p (before ++ x ∷ []) xs)
+
+pub where_some : {A : Type 0} (p : A → Bool) (xs : List A) (k : ℕ) → place_where p xs ≡ Some k
+    → (x : A) × (slice_get xs k ≡ Some x) × (p x ≡ true)
+where_some p xs k h = behind_some (λ earlier. p) [] xs k (sym (where_behind p [] xs) ∙ h)
+
+pub where_least : {A : Type 0} (p : A → Bool) (xs : List A) (j : ℕ) (x : A) → slice_get xs j ≡ Some x → p x ≡ true
+    → (k : ℕ) × (place_where p xs ≡ Some k) × (k ≤ j)
+where_least p xs j x at is =
+    let least = behind_least (λ earlier. p) [] xs j x at is in (least.0, where_behind p [] xs ∙ least.1, least.2)
 
 -- ---- of a block
 

@@ -1,7 +1,7 @@
 -- A plan that was read breaks no rule of checking exactly where the engine takes it.
 use Rattle.std.proofs.Common.{◌≡◌, ℕ, zero, suc, ◌+◌, ◌%◌, ◌<◌, List, [], ◌∷◌, ◌++◌, length, take, get_or, Option, None, Some, IfSome}
 use Rattle.std.proofs.Common.{option_map, Bool, true, false, cond, refl, sym, ap, ◌∙◌, arith, true≢false, append_assoc, append-nil, subst}
-use Rattle.std.specs.Prelude.{◌&&◌, ◌==◌, nat_eq, nat_lt, IsTrue}
+use Rattle.std.specs.Prelude.{◌&&◌, ◌==◌, nat_eq, nat_lt, slice_get, IsTrue}
 use Rattle.std.specs.List.{AllPairs, enumerate_from}
 use Rattle.std.proofs.Math.Nat.{mod-eq_of_lt}
 use Rattle.std.proofs.lemmas.Bool.{and_parts, ltb-true, eqb-true, eq-eqb, not-false, and_from, lt-ltb, not_from_true, false_from_ne_true}
@@ -33,15 +33,21 @@ use Rattle.flow_check.specs.declared.item.Item.{Item}
 use Rattle.flow_check.specs.First.{sooner, first_in, first_behind, first_for, place_where}
 use Rattle.flow_check.specs.Rules.{leads_out, breaks_limits, lacks_users, has_users, is_served, phase, slot, same_slot, is_slot}
 use Rattle.flow_check.specs.Rules.{takes_again, clashes, is_bad_loop, is_too_late, lacks_port, is_on_wrong_side, spot, spot_in, in_module}
-use Rattle.flow_check.specs.Rules.{broken_by, checking_fault, Slot}
+use Rattle.flow_check.specs.Rules.{broken_by, rules, checking_fault, Slot}
+use Rattle.flow_check.proofs.Firsts.{where_behind}
 use Rattle.flow_check.specs.Read.{IsTimedRead, IsKindRead, IsNextRead, IsBlockRead, IsPlanRead}
 use Rattle.flow_grammar.specs.declared.fault.Code.TheVariants as code
 
 -- ---- where nothing is found
 
-pub none_for : {A B : Type 0} (f : A → Option B) (x : A) (xs : List A) → first_for f (x ∷ xs) ≡ None
-    → (f x ≡ None) × (first_for f xs ≡ None)
+none_for : {A B : Type 0} (f : A → Option B) (x : A) (xs : List A) → first_for f (x ∷ xs) ≡ None → (f x ≡ None) × (first_for f xs ≡ None)
 none_for f x xs h = (grind arith, grind arith)
+
+-- no item of the list gives anything
+none_of : {A B : Type 0} (f : A → Option B) (xs : List A) → first_for f xs ≡ None → (k : ℕ) (x : A) → slice_get xs k ≡ Some x → f x ≡ None
+none_of f [] h k x at = absurd cc
+none_of f (y ∷ xs) h zero x at = let same : y ≡ x = cc in ap f (sym same) ∙ (none_for f y xs h).0
+none_of f (y ∷ xs) h (suc k) x at = none_of f xs (none_for f y xs h).1 k x at
 
 pub none_mapped : {A B : Type 0} (f : A → B) (o : Option A) → option_map f o ≡ None → o ≡ None
 none_mapped f None h = refl
@@ -53,13 +59,6 @@ pub none_in : {A B : Type 0} (f : A → Option B) (xs : List A) → first_in f x
 none_in f [] h k d l = absurd (omega arith)
 none_in f (x ∷ xs) h zero d l = grind arith
 none_in f (x ∷ xs) h (suc k) d l = grind (arith, none_in f xs)
-
--- no item passes
-pub none_where : {A : Type 0} (p : A → Bool) (xs : List A) → place_where p xs ≡ None → (k : ℕ) (d : A) → k < length xs
-    → p (get_or xs k d) ≡ false
-none_where p [] h k d l = absurd (omega arith)
-none_where p (x ∷ xs) h zero d l = grind arith
-none_where p (x ∷ xs) h (suc k) d l = grind (arith, none_where p xs)
 
 -- none fails behind those before it
 pub none_behind : {A : Type 0} (fails : List A → A → Bool) (before xs : List A) → first_behind fails before xs ≡ None
@@ -76,6 +75,11 @@ none_behind {A} fails before (x ∷ xs) h k d l = by (fails before x) refl h (no
     by false e q later (suc k) l =
         ap (λ (l : List A). fails l (get_or xs k d)) (sym (append_assoc before (x ∷ []) (take k xs)))
         ∙ later (none_mapped (λ k. k + 1) (first_behind fails (before ++ x ∷ []) xs) q) k d (omega arith)
+
+-- no item passes
+none_where : {A : Type 0} (p : A → Bool) (xs : List A) → place_where p xs ≡ None → (k : ℕ) (d : A) → k < length xs
+    → p (get_or xs k d) ≡ false
+none_where p xs h = none_behind (λ earlier. p) [] xs (sym (where_behind p [] xs) ∙ h)
 
 -- a test gives nothing where it is false
 not_when : {A : Type 0} (b : Bool) (x : A) → cond b (Some x) None ≡ None → b ≡ false
@@ -242,41 +246,28 @@ other_rule rule never (m ∷ modules) = ap (λ (o : Option (ℕ × Spot)). soone
     by own (b ∷ blocks) = ap (λ (o : Option Spot). sooner o (first_in (spot rule own) blocks)) (never own b)
         ∙ ap (option_map (λ (p : ℕ × Spot). (p.0 + 1, p.1))) (by own blocks)
 
-each_rule : (plan : Plan) → option_map in_module (first_in (spot_in code.UnknownName) plan.design.modules) ≡ None
-    → option_map in_module (first_in (spot_in code.PortClash) plan.design.modules) ≡ None
-    → option_map in_module (first_in (spot_in code.BadLoop) plan.design.modules) ≡ None
-    → option_map in_module (first_in (spot_in code.BadOffset) plan.design.modules) ≡ None
-    → option_map in_module (first_in (spot_in code.WrongSide) plan.design.modules) ≡ None
-    → (rule : Code) → first_in (spot_in rule) plan.design.modules ≡ None
-each_rule plan a b c d e code.UnknownName = none_mapped in_module _ a
-each_rule plan a b c d e code.PortClash = none_mapped in_module _ b
-each_rule plan a b c d e code.BadLoop = none_mapped in_module _ c
-each_rule plan a b c d e code.BadOffset = none_mapped in_module _ d
-each_rule plan a b c d e code.WrongSide = none_mapped in_module _ e
-each_rule plan a b c d e rule = other_rule rule (λ m b. refl) plan.design.modules
+each_rule : (plan : Plan) → first_for (broken_by plan) rules ≡ None → (rule : Code) → first_in (spot_in rule) plan.design.modules ≡ None
+each_rule plan h code.UnknownName = none_mapped in_module _ (none_of (broken_by plan) rules h 0 code.UnknownName refl)
+each_rule plan h code.PortClash = none_mapped in_module _ (none_of (broken_by plan) rules h 3 code.PortClash refl)
+each_rule plan h code.BadLoop = none_mapped in_module _ (none_of (broken_by plan) rules h 4 code.BadLoop refl)
+each_rule plan h code.BadOffset = none_mapped in_module _ (none_of (broken_by plan) rules h 5 code.BadOffset refl)
+each_rule plan h code.WrongSide = none_mapped in_module _ (none_of (broken_by plan) rules h 6 code.WrongSide refl)
+each_rule plan h rule = other_rule rule (λ m b. refl) plan.design.modules
 
 pub fits : (plan : Plan) → IsPlanRead plan → checking_fault plan ≡ None → FitsEngine plan
 unfolding checking_fault
 fits plan read h =
-    let f : Code → Option Item = broken_by plan in
-    let one = none_for f code.UnknownName
-    (code.BadLimit ∷ code.Ends ∷ code.PortClash ∷ code.BadLoop ∷ code.BadOffset ∷ code.WrongSide ∷ []) h in
-    let two = none_for f code.BadLimit (code.Ends ∷ code.PortClash ∷ code.BadLoop ∷ code.BadOffset ∷ code.WrongSide ∷ []) one.1 in
-    let three = none_for f code.Ends (code.PortClash ∷ code.BadLoop ∷ code.BadOffset ∷ code.WrongSide ∷ []) two.1 in
-    let four = none_for f code.PortClash (code.BadLoop ∷ code.BadOffset ∷ code.WrongSide ∷ []) three.1 in
-    let five = none_for f code.BadLoop (code.BadOffset ∷ code.WrongSide ∷ []) four.1 in
-    let six = none_for f code.BadOffset (code.WrongSide ∷ []) five.1 in
-    let seven = none_for f code.WrongSide [] six.1 in
-    let each : (rule : Code) → first_in (spot_in rule) plan.design.modules ≡ None = each_rule plan one.0 four.0 five.0 six.0 seven.0 in
-    let limits : breaks_limits plan.cycles plan.ops ≡ false = not_when (breaks_limits plan.cycles plan.ops) _ two.0 in
+    let in_limits = none_of (broken_by plan) rules h 1 code.BadLimit refl in
+    let served = none_of (broken_by plan) rules h 2 code.Ends refl in
+    let limits : breaks_limits plan.cycles plan.ops ≡ false = not_when (breaks_limits plan.cycles plan.ops) _ in_limits in
     record {
       channel_count = read.channel_count;
       module_count = read.module_count;
       inputs = read.inputs;
       depths = read.depths;
       input_count = read.input_count;
-      channels = λ f there. channel_sound plan read (none_mapped _ _ three.0) f there;
-      modules = λ m dm lm. module_sound plan read each m dm lm;
+      channels = λ f there. channel_sound plan read (none_mapped _ _ served) f there;
+      modules = λ m dm lm. module_sound plan read (each_rule plan h) m dm lm;
       some_cycles = grind (arith, nat_tests);
       cycles = grind (arith, nat_tests);
       some_operations = grind (arith, nat_tests);
@@ -293,12 +284,6 @@ in_none f d [] h = refl
 in_none f d (x ∷ xs) h =
     let first = h 0 (omega arith) in let rest = in_none f d xs (λ k l. h (suc k) (omega arith)) in grind arith
 
-where_none : {A : Type 0} (p : A → Bool) (d : A) (xs : List A) → ((k : ℕ) → k < length xs → p (get_or xs k d) ≡ false)
-    → place_where p xs ≡ None
-where_none p d [] h = refl
-where_none p d (x ∷ xs) h =
-    let first = h 0 (omega arith) in let rest = where_none p d xs (λ k l. h (suc k) (omega arith)) in grind arith
-
 behind_none : {A : Type 0} (fails : List A → A → Bool) (d : A) (before xs : List A)
     → ((k : ℕ) → k < length xs → fails (before ++ take k xs) (get_or xs k d) ≡ false) → first_behind fails before xs ≡ None
 behind_none fails d before [] h = refl
@@ -307,6 +292,10 @@ behind_none {A} fails d before (x ∷ xs) h =
     (sym (ap (λ (l : List A). fails l x) (append-nil before)) ∙ h 0 (omega arith))
     ∙ ap (option_map (λ k. k + 1)) (behind_none fails d (before ++ x ∷ []) xs
     (λ k l. ap (λ (m : List A). fails m (get_or xs k d)) (append_assoc before (x ∷ []) (take k xs)) ∙ h (suc k) (omega arith)))
+
+where_none : {A : Type 0} (p : A → Bool) (d : A) (xs : List A) → ((k : ℕ) → k < length xs → p (get_or xs k d) ≡ false)
+    → place_where p xs ≡ None
+where_none p d xs h = where_behind p [] xs ∙ behind_none (λ earlier. p) d [] xs h
 
 -- ---- ports and slots
 

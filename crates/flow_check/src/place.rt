@@ -8,7 +8,7 @@ use flow_design::Statement;
 
 /// What stands before a statement: how many channels and modules of the session, how many blocks of its module and how many
 /// operations of its body.
-#[derive(Clone, Copy, Debug, PartialEq, Eq)]
+#[derive(Clone, Copy)]
 pub struct Counts {
     pub channels: u64,
     pub modules: u64,

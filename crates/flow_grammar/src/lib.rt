@@ -17,7 +17,7 @@ mod words;
 pub use fault::{Code, LineFail, ReadFail, TextFault};
 pub use keyword::{Keyword, Verb, keyword_in, verb_in};
 pub use laws::{keeps_rules, one_answer, read_is_written, versions_agree, written_is_read};
-pub use operand::Operand;
+pub use operand::{Operand, earlier_test};
 pub use operator::{Operator, operator_in};
 pub use place::Place;
 pub use prefix::{Known, one_operand, two_operands};

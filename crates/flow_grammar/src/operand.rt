@@ -1,6 +1,5 @@
 //! Expressions while they are read.
 ghost use Rattle.std.specs.Prelude.{◌≡◌, true, IfOk};
-ghost use Rattle.flow_design.specs.declared.expr.Expr.TheVariants.{Binary, Pick};
 ghost use Rattle.flow_grammar.specs.Operands.{sized, one, two, earlier, earlier_of, extend, widened, choose};
 ghost use Rattle.flow_grammar.specs.Tokens.{is_number, number_of};
 
@@ -22,9 +21,9 @@ pub enum Operand {
     Faulty(Code),
 }
 
-/// The earlier of two tests that an expression may fail.
+/// The earlier of two tests that expressions may fail.
 #[tactic(auto, unfolding(crate::specs::Operands::earlier))]
-fn earlier_test(a: Code, b: Code) -> Code
+pub fn earlier_test(a: Code, b: Code) -> Code
     ensures { result ≡ earlier a b }
 {
     match (a, b) {
@@ -35,6 +34,22 @@ fn earlier_test(a: Code, b: Code) -> Code
     }
 }
 
+/// An expression with so many nodes, so deep, where these are within the limits.
+fn sized(tree: Expr<Name>, nodes: u64, depth: u64) -> Operand
+    ensures { result ≡ sized tree nodes depth }
+{
+    if nodes <= EXPRESSION_NODES && depth <= EXPRESSION_DEPTH {
+        return Operand::Whole {
+            tree,
+            nodes: nodes as u32,
+            depth: depth as u32,
+        };
+    }
+    // A call: a drop at the end of the block is proved field by field, which takes much longer.
+    drop(tree);
+    Operand::Faulty(Code::TooMany)
+}
+
 /// An operator on one operand.
 #[tactic(auto, unfolding(crate::specs::Operands::one))]
 pub fn apply_one(alloc: Global, op: UnOp, a: Operand) -> Result<Operand, OutOfMemory>
@@ -43,15 +58,8 @@ pub fn apply_one(alloc: Global, op: UnOp, a: Operand) -> Result<Operand, OutOfMe
     match a {
         Operand::Faulty(code) => Ok(Operand::Faulty(code)),
         Operand::Whole { tree, nodes, depth } => {
-            if (nodes as u64) < EXPRESSION_NODES && (depth as u64) < EXPRESSION_DEPTH {
-                Ok(Operand::Whole {
-                    tree: Expr::Unary(op, Boxed::new(alloc, tree)?),
-                    nodes: nodes + 1,
-                    depth: depth + 1,
-                })
-            } else {
-                Ok(Operand::Faulty(Code::TooMany))
-            }
+            let tree = Expr::Unary(op, Boxed::new(alloc, tree)?);
+            Ok(sized(tree, nodes as u64 + 1, depth as u64 + 1))
         }
     }
 }
@@ -93,35 +101,11 @@ pub fn apply_two(alloc: Global, op: BinOp, a: Operand, b: Operand) -> Result<Ope
                 nodes: m,
                 depth: e,
             } => {
+                let tree = Expr::Binary(op, Boxed::new(alloc, a)?, Boxed::new(alloc, b)?);
                 let nodes = n as u64 + m as u64 + 1;
-                let depth = d.max(e) as u64 + 1;
-                binary(alloc, op, a, b, nodes, depth)
+                Ok(sized(tree, nodes, d.max(e) as u64 + 1))
             }
         },
-    }
-}
-
-/// An operator on two expressions, which has so many nodes and is so deep.
-fn binary(
-    alloc: Global,
-    op: BinOp,
-    a: Expr<Name>,
-    b: Expr<Name>,
-    nodes: u64,
-    depth: u64,
-) -> Result<Operand, OutOfMemory>
-    ensures { IfOk result (λ operand. operand ≡ sized (Binary op a b) nodes depth) }
-{
-    if nodes <= EXPRESSION_NODES && depth <= EXPRESSION_DEPTH {
-        Ok(Operand::Whole {
-            tree: Expr::Binary(op, Boxed::new(alloc, a)?, Boxed::new(alloc, b)?),
-            nodes: nodes as u32,
-            depth: depth as u32,
-        })
-    } else {
-        drop(a);
-        drop(b);
-        Ok(Operand::Faulty(Code::TooMany))
     }
 }
 
@@ -144,15 +128,8 @@ fn widen(alloc: Global, width: Width, a: Operand) -> Result<Operand, OutOfMemory
     match a {
         Operand::Faulty(code) => Ok(Operand::Faulty(code)),
         Operand::Whole { tree, nodes, depth } => {
-            if (nodes as u64) < EXPRESSION_NODES && (depth as u64) < EXPRESSION_DEPTH {
-                Ok(Operand::Whole {
-                    tree: Expr::Sext(width, Boxed::new(alloc, tree)?),
-                    nodes: nodes + 1,
-                    depth: depth + 1,
-                })
-            } else {
-                Ok(Operand::Faulty(Code::TooMany))
-            }
+            let tree = Expr::Sext(width, Boxed::new(alloc, tree)?);
+            Ok(sized(tree, nodes as u64 + 1, depth as u64 + 1))
         }
     }
 }
@@ -217,38 +194,11 @@ fn choose_of(
                 nodes: l,
                 depth: f,
             } => {
+                let (a, b) = (Boxed::new(alloc, a)?, Boxed::new(alloc, b)?);
+                let tree = Expr::Pick(a, b, Boxed::new(alloc, c)?);
                 let nodes = n as u64 + m as u64 + l as u64 + 1;
-                let depth = d.max(e.max(f)) as u64 + 1;
-                pick(alloc, a, b, c, nodes, depth)
+                Ok(sized(tree, nodes, d.max(e.max(f)) as u64 + 1))
             }
         },
-    }
-}
-
-/// A choice of three expressions, which has so many nodes and is so deep.
-fn pick(
-    alloc: Global,
-    a: Expr<Name>,
-    b: Expr<Name>,
-    c: Expr<Name>,
-    nodes: u64,
-    depth: u64,
-) -> Result<Operand, OutOfMemory>
-    ensures { IfOk result (λ operand. operand ≡ sized (Pick a b c) nodes depth) }
-{
-    if nodes <= EXPRESSION_NODES && depth <= EXPRESSION_DEPTH {
-        let a = Boxed::new(alloc, a)?;
-        let b = Boxed::new(alloc, b)?;
-        let c = Boxed::new(alloc, c)?;
-        Ok(Operand::Whole {
-            tree: Expr::Pick(a, b, c),
-            nodes: nodes as u32,
-            depth: depth as u32,
-        })
-    } else {
-        drop(a);
-        drop(b);
-        drop(c);
-        Ok(Operand::Faulty(Code::TooMany))
     }
 }

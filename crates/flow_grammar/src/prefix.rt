@@ -214,12 +214,9 @@ pub fn one_operand<K: Known>(
     ensures { LineGives (λ o. o) result
         (only_operand (option_map (map (kept (K.knows known.now))) (trees_of (map (λ t. t.now) tokens.now)))) }
 {
-    let Some(mut stack) = operands(alloc, known, tokens)? else {
-        return Err(LineFail::Fault(Code::Syntax));
-    };
-    let Some(operand) = stack.pop() else {
-        return Err(LineFail::Fault(Code::Syntax));
-    };
+    let found = operands(alloc, known, tokens)?;
+    let mut stack = found.ok_or(LineFail::Fault(Code::Syntax))?;
+    let operand = stack.pop().ok_or(LineFail::Fault(Code::Syntax))?;
     match stack.pop() {
         None => Ok(operand),
         Some(_) => Err(LineFail::Fault(Code::Syntax)),
@@ -235,15 +232,10 @@ pub fn two_operands<K: Known>(
     ensures { LineGives (λ o. o) result
         (both_operands (option_map (map (kept (K.knows known.now))) (trees_of (map (λ t. t.now) tokens.now)))) }
 {
-    let Some(mut stack) = operands(alloc, known, tokens)? else {
-        return Err(LineFail::Fault(Code::Syntax));
-    };
-    let Some(first) = stack.pop() else {
-        return Err(LineFail::Fault(Code::Syntax));
-    };
-    let Some(second) = stack.pop() else {
-        return Err(LineFail::Fault(Code::Syntax));
-    };
+    let found = operands(alloc, known, tokens)?;
+    let mut stack = found.ok_or(LineFail::Fault(Code::Syntax))?;
+    let first = stack.pop().ok_or(LineFail::Fault(Code::Syntax))?;
+    let second = stack.pop().ok_or(LineFail::Fault(Code::Syntax))?;
     match stack.pop() {
         None => Ok((first, second)),
         Some(_) => Err(LineFail::Fault(Code::Syntax)),

@@ -2,7 +2,6 @@
 ghost use Rattle.std.specs.Prelude.{◌≡◌, map, ◌&&◌};
 ghost use Rattle.flow_design.specs.declared.expr.Op.TheVariants as op;
 ghost use Rattle.flow_grammar.specs.Tokens.{is_name};
-ghost use Rattle.flow_grammar.specs.Operands as grammar;
 ghost use Rattle.flow_grammar.specs.Before.{is_among};
 ghost use Rattle.flow_grammar.specs.Trees.{trees_of};
 ghost use Rattle.flow_grammar.specs.Forms.{only_if, set_of, load_of, store_of, write_of, two_names};
@@ -13,22 +12,11 @@ ghost use Rattle.flow_text.specs.Operations.{op_of_names, is_variable};
 
 use crate::ensure::{Judged, Parsed, syntax};
 use flow_design::{Expr, Name, Op};
-use flow_grammar::{Code, Known, LineFail, Operand, is_identifier, one_operand, two_operands};
+use flow_grammar::{
+    Code, Known, LineFail, Operand, earlier_test, is_identifier, one_operand, two_operands,
+};
 use name_tables::Tables;
 use std::alloc::Global;
-
-/// The earlier of two tests that expressions may fail.
-#[tactic(auto, unfolding(flow_grammar::specs::Operands::earlier))]
-fn earlier_test(a: Code, b: Code) -> Code
-    ensures { result ≡ grammar.earlier a b }
-{
-    match (a, b) {
-        (Code::BadNumber, _) => Code::BadNumber,
-        (Code::UnknownName, Code::BadNumber) => Code::BadNumber,
-        (Code::UnknownName, _) => Code::UnknownName,
-        _ => b,
-    }
-}
 
 /// The expression of an operand beside names that are known or not, or the first test that fails.
 fn tree_of(known: bool, operand: Operand) -> Judged<Expr<Name>>

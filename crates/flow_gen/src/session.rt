@@ -34,7 +34,7 @@ pub fn generate_session(alloc: Global, seed: u64, modules: u64) -> Result<Sessio
 }
 
 /// A session in the making.
-#[derive(Debug, Drop)]
+#[derive(Drop)]
 struct Maker {
     alloc: Global,
     statements: List<Statement>,

@@ -1,5 +1,5 @@
 //! Lines of the command with their words.
-use cli_words::{Command, Options, Simulator, View, WordFault, read_words};
+use cli_words::{Command, Options, Simulator, Task, View, WordFault, read_words};
 use std::alloc::Global;
 use std::test::Fail;
 
@@ -33,32 +33,54 @@ fn accepted_and_refused(rt: HostRuntime) -> Result<(), Fail> {
     let accepted = [
         (
             "run --cycles=3",
-            Command::Simulate(Simulator::Threads, three),
+            Command::Of(Task::Simulate(Simulator::Threads, three)),
         ),
         (
             "--cycles 003 -- alone",
-            Command::Simulate(Simulator::Alone, three),
+            Command::Of(Task::Simulate(Simulator::Alone, three)),
         ),
         (
             "--ops 200000 clock --events --cycles=1000000000000000",
-            Command::Simulate(Simulator::Clock, all),
+            Command::Of(Task::Simulate(Simulator::Clock, all)),
         ),
-        ("check", Command::Check),
-        ("advise", Command::Advise(NOTHING)),
-        ("wave --cycles 3", Command::Show(View::Wave, three)),
-        ("log", Command::Show(View::Log, NOTHING)),
-        ("stalls", Command::Show(View::Stalls, NOTHING)),
+        ("check", Command::Of(Task::Check)),
+        ("advise", Command::Of(Task::Advise(NOTHING))),
+        (
+            "wave --cycles 3",
+            Command::Of(Task::Show(View::Wave, three)),
+        ),
+        ("log", Command::Of(Task::Show(View::Log, NOTHING))),
+        ("stalls", Command::Of(Task::Show(View::Stalls, NOTHING))),
         (
             "path --events --ops=200000 --cycles 1000000000000000",
-            Command::Show(View::Path, all),
+            Command::Of(Task::Show(View::Path, all)),
         ),
-        ("trace", Command::Show(View::Trace, NOTHING)),
-        ("size --cycles 3", Command::Size(three)),
-        ("order", Command::Order),
-        ("sweep 01 --cycles=3 64", Command::Sweep(1, 64, three)),
-        ("check --", Command::Check),
-        ("gen 0 2", Command::Gen(0, 2)),
-        ("-- gen 065535 64", Command::Gen(65_535, 64)),
+        ("trace", Command::Of(Task::Show(View::Trace, NOTHING))),
+        ("size --cycles 3", Command::Of(Task::Size(three))),
+        ("order", Command::Of(Task::Order)),
+        (
+            "sweep 01 --cycles=3 64",
+            Command::Of(Task::Sweep {
+                lo: 1,
+                hi: 64,
+                options: three,
+            }),
+        ),
+        ("check --", Command::Of(Task::Check)),
+        (
+            "gen 0 2",
+            Command::Gen {
+                seed: 0,
+                modules: 2,
+            },
+        ),
+        (
+            "-- gen 065535 64",
+            Command::Gen {
+                seed: 65_535,
+                modules: 64,
+            },
+        ),
     ];
     for (line, command) in accepted {
         assert_eq!(rt; read(alloc, line)?, Ok(command));

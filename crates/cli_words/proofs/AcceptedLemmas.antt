@@ -3,7 +3,8 @@ use Rattle.std.proofs.Common.{◌≡◌, ◌∙◌, List, [], ◌∷◌, ◌<◌
 use Rattle.std.proofs.Common.{arith, option_map, length-append, true≢false, is_some}
 use Rattle.std.specs.Prelude.{option_and_then}
 use Rattle.cli_words.specs.declared.Command.{Command}
-use Rattle.cli_words.specs.declared.Command.TheVariants.{Simulate, Check, Advise, Show, Order, Sweep, Size}
+use Rattle.cli_words.specs.declared.Command.TheVariants.{Of}
+use Rattle.cli_words.specs.declared.Task.TheVariants.{Simulate, Check, Advise, Show, Order, Sweep, Size}
 use Rattle.cli_words.specs.declared.rules.CommandName.{CommandName}
 use Rattle.cli_words.specs.declared.rules.CommandName.TheVariants as name
 use Rattle.cli_words.specs.CommandWords.{Key, Cycles, Ops, Said, Text, Word, End, Events, Takes, Has, Positional, Unknown, after_word}
@@ -41,7 +42,7 @@ sweep_fails said (lo ∷ []) bad = refl
 sweep_fails said (lo ∷ hi ∷ more ∷ rest) bad = refl
 sweep_fails said (lo ∷ hi ∷ []) bad =
     if_none said.events _
-    (ap (λ o. both (λ range x. Sweep range.0 range.1 x) (range_in lo hi) o) bad ∙ both_none _ (range_in lo hi))
+    (ap (λ o. both (λ range x. Of (Sweep range.0 range.1 x)) (range_in lo hi) o) bad ∙ both_none _ (range_in lo hi))
 
 alone_fails : (takes : Bool) (said : Said) (rest : List Text) → no_more rest (options_of said) ≡ None → options_alone takes said rest ≡ None
 alone_fails true said rest bad = bad
@@ -50,16 +51,16 @@ alone_fails false said rest bad = if_none said.events _ bad
 -- no command takes options whose values are out of bounds
 options_fail : (said : Said) (rest : List Text) → options_of said ≡ None → has_options said ≡ true
     → (n : CommandName) → command_named said rest n ≡ None
-options_fail said rest bad given name.Check = ap (λ b. cond b None (no_more rest (Some Check))) given
+options_fail said rest bad given name.Check = ap (λ b. cond b None (no_more rest (Some (Of Check)))) given
 options_fail said rest bad given name.Gen = ap (λ b. cond b None (gen_of rest)) given
-options_fail said rest bad given name.Order = ap (λ b. cond b None (no_more rest (Some Order))) given
+options_fail said rest bad given name.Order = ap (λ b. cond b None (no_more rest (Some (Of Order)))) given
 options_fail said rest bad given name.Sweep = sweep_fails said rest bad
 options_fail said rest bad given (name.Simulate by) =
-    ap (option_map (λ o. Simulate by o)) (alone_fails true said rest (no_more_none rest _ bad))
-options_fail said rest bad given name.Advise = ap (option_map (λ o. Advise o)) (alone_fails false said rest (no_more_none rest _ bad))
+    ap (option_map (λ o. Of (Simulate by o))) (alone_fails true said rest (no_more_none rest _ bad))
+options_fail said rest bad given name.Advise = ap (option_map (λ o. Of (Advise o))) (alone_fails false said rest (no_more_none rest _ bad))
 options_fail said rest bad given (name.Show view) =
-    ap (option_map (λ o. Show view o)) (alone_fails (tells_events view) said rest (no_more_none rest _ bad))
-options_fail said rest bad given name.Size = ap (option_map (λ o. Size o)) (alone_fails false said rest (no_more_none rest _ bad))
+    ap (option_map (λ o. Of (Show view o))) (alone_fails (tells_events view) said rest (no_more_none rest _ bad))
+options_fail said rest bad given name.Size = ap (option_map (λ o. Of (Size o))) (alone_fails false said rest (no_more_none rest _ bad))
 
 -- no command has three further positionals
 many_fail : (said : Said) (b c d : Text) (rest : List Text) (n : CommandName)
@@ -67,12 +68,12 @@ many_fail : (said : Said) (b c d : Text) (rest : List Text) (n : CommandName)
 many_fail said b c d rest (name.Simulate by) = refl
 many_fail said b c d rest name.Check = if_none (has_options said) None refl
 many_fail said b c d rest name.Gen = if_none (has_options said) None refl
-many_fail said b c d rest name.Advise = ap (option_map (λ o. Advise o)) (alone_fails false said (b ∷ c ∷ d ∷ rest) refl)
+many_fail said b c d rest name.Advise = ap (option_map (λ o. Of (Advise o))) (alone_fails false said (b ∷ c ∷ d ∷ rest) refl)
 many_fail said b c d rest (name.Show view) =
-    ap (option_map (λ o. Show view o)) (alone_fails (tells_events view) said (b ∷ c ∷ d ∷ rest) refl)
+    ap (option_map (λ o. Of (Show view o))) (alone_fails (tells_events view) said (b ∷ c ∷ d ∷ rest) refl)
 many_fail said b c d rest name.Order = if_none (has_options said) None refl
 many_fail said b c d rest name.Sweep = refl
-many_fail said b c d rest name.Size = ap (option_map (λ o. Size o)) (alone_fails false said (b ∷ c ∷ d ∷ rest) refl)
+many_fail said b c d rest name.Size = ap (option_map (λ o. Of (Size o))) (alone_fails false said (b ∷ c ∷ d ∷ rest) refl)
 
 -- where each command fails, none comes
 no_name : (said : Said) (rest : List Text) (o : Option CommandName)

@@ -62,9 +62,6 @@ no_defaults rows (a ∷ rs) e =
 abbrev completed : List Row → List Row
 completed rows = with_default rows events_filled
 
-other_rules : List Rule
-other_rules = drop 1 rules
-
 module _ (rows : List Row) where
   events_default : default_fault rows events_filled ≡ []
   events_default = same_both (has_row (codes "events") rows || false) []
@@ -93,9 +90,6 @@ first_is id o rows e = ap (option_and_then (λ (r : Row). slice_get r.values 0))
 abbrev no_row : Row
 no_row =
     record { id = codes "events"; values = codes "false" ∷ []; count = None; source = Some DefaultValue; reading = AsWritten }
-
-abbrev pub bare_final : Said → List Row → Type 0
-bare_final said rows = Final said rows
 
 final : (said : Said) (rows : List Row) → Rows said rows → Final said (completed rows)
 final said rows h = go said.events refl
@@ -137,9 +131,6 @@ pub data Agrees (words : List Text) : Type 0 where
   takes : (said : Said) → AtMostThree said → fault_of parser words ≡ [] → Final said (matches_of parser words)
       → accepted words ≡ command_of said → Agrees words
 
-abbrev start : Held
-start = nothing_held
-
 starts : Holds nothing nothing_held
 starts = record { skip = refl; settles = refl; rows = none_yet }
   where
@@ -162,21 +153,8 @@ agrees words u = go ((both_read words u).0 nothing nothing_held starts (omega ar
   where
     go : Ends (at idle 1 false nothing_held) words (said_from None nothing words) → Agrees words
     go (fails f none) =
-        refuses (λ e. let all = sym (fault_is words)
-        ∙ e in f (first_clear (fault_at (at idle 1 false nothing_held) words)
-        (or_else (settle_at (end_of (at idle 1 false nothing_held) words))
-        (or_else (defaults_fault (last words) rules) [])) all)
-        (first_clear (settle_at (end_of (at idle 1 false nothing_held) words))
-        (or_else (defaults_fault (last words) rules) [])
-        (second_clear (fault_at (at idle 1 false nothing_held) words)
-        (or_else (settle_at (end_of (at idle 1 false nothing_held) words))
-        (or_else (defaults_fault (last words) rules) [])) all))) none
+        refuses (λ e. let all = sym (fault_is words) ∙ e in f (first_clear _ _ all) (first_clear _ _ (second_clear _ _ all))) none
     go (passes said none held few same) =
         takes said few
-        (fault_is words ∙ clear (fault_at (at idle 1 false nothing_held) words)
-        (or_else (settle_at (end_of (at idle 1 false nothing_held) words))
-        (or_else (defaults_fault (last words) rules) [])) none
-        (clear (settle_at (end_of (at idle 1 false nothing_held) words))
-        (or_else (defaults_fault (last words) rules) []) held.settles
-        (clear (defaults_fault (last words) rules) [] (defaults_clear (last words)) refl)))
+        (fault_is words ∙ clear _ _ none (clear _ _ held.settles (clear _ _ (defaults_clear (last words)) refl)))
         (subst (Final said) (sym (completed_is (last words))) (final said (last words) held.rows)) same

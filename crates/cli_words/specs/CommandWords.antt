@@ -7,9 +7,11 @@ use Rattle.std.specs.Str.{bytes_eq}
 use Rattle.flow_word.specs.Number.{number_of}
 use Rattle.flow_word.specs.declared.number.NumberFault.{NumberFault}
 use Rattle.cli_words.specs.declared.Command.{Command}
-use Rattle.cli_words.specs.declared.Command.TheVariants.{Simulate, Check, Gen, Advise, Show, Order, Sweep, Size}
+use Rattle.cli_words.specs.declared.Command.TheVariants.{Of, Gen}
 use Rattle.cli_words.specs.declared.Options.{Options}
 use Rattle.cli_words.specs.declared.Simulator.TheVariants.{Threads, Alone, Clock}
+use Rattle.cli_words.specs.declared.Task.{Task}
+use Rattle.cli_words.specs.declared.Task.TheVariants.{Simulate, Check, Advise, Show, Order, Sweep, Size}
 use Rattle.cli_words.specs.declared.View.{View}
 use Rattle.cli_words.specs.declared.View.TheVariants.{Wave, Log, Stalls, Path, Trace}
 use Rattle.cli_words.specs.declared.rules.CommandName.{CommandName}
@@ -221,19 +223,19 @@ range_in lo hi = option_and_then (λ l. option_map (λ h. (l, h)) (number_in l 6
 -- `sweep` has two further positionals, the least depth and the greatest
 abbrev pub sweep_of : Said → List Text → Option Command
 sweep_of said (lo ∷ hi ∷ []) =
-    without_events said (both (λ range o. Sweep range.0 range.1 o) (range_in lo hi) (options_of said))
+    without_events said (both (λ range o. Of (Sweep range.0 range.1 o)) (range_in lo hi) (options_of said))
 sweep_of said _ = None
 
 -- the rule of each command, on what was said and on the positionals behind the name
 abbrev pub command_named : Said → List Text → CommandName → Option Command
-command_named said rest (name.Simulate by) = option_map (λ o. Simulate by o) (options_alone true said rest)
-command_named said rest name.Check = without_option said (no_more rest (Some Check))
+command_named said rest (name.Simulate by) = option_map (λ o. Of (Simulate by o)) (options_alone true said rest)
+command_named said rest name.Check = without_option said (no_more rest (Some (Of Check)))
 command_named said rest name.Gen = without_option said (gen_of rest)
-command_named said rest name.Advise = option_map (λ o. Advise o) (options_alone false said rest)
-command_named said rest (name.Show view) = option_map (λ o. Show view o) (options_alone (tells_events view) said rest)
-command_named said rest name.Order = without_option said (no_more rest (Some Order))
+command_named said rest name.Advise = option_map (λ o. Of (Advise o)) (options_alone false said rest)
+command_named said rest (name.Show view) = option_map (λ o. Of (Show view o)) (options_alone (tells_events view) said rest)
+command_named said rest name.Order = without_option said (no_more rest (Some (Of Order)))
 command_named said rest name.Sweep = sweep_of said rest
-command_named said rest name.Size = option_map (λ o. Size o) (options_alone false said rest)
+command_named said rest name.Size = option_map (λ o. Of (Size o)) (options_alone false said rest)
 
 -- the first positional is the command's name
 abbrev pub command_by : Said → List Text → Option Command
@@ -260,13 +262,17 @@ IsLimit high limit = IfSome limit (λ n. (1 ≤ n) × (n ≤ high))
 abbrev pub AreLimits : Options → Type 0
 AreLimits options = IsLimit (10 ^ 15) options.cycles × IsLimit 200_000 options.ops
 
+-- the numbers of a task are within their bounds
+abbrev pub IsSound : Task → Type 0
+IsSound (Simulate by options) = AreLimits options
+IsSound Check = Unit {0}
+IsSound (Advise options) = AreLimits options
+IsSound (Show view options) = AreLimits options
+IsSound Order = Unit {0}
+IsSound (Sweep lo hi options) = (1 ≤ lo) × (lo ≤ hi) × (hi ≤ 64) × AreLimits options
+IsSound (Size options) = AreLimits options
+
 -- the numbers of a command are within their bounds
 abbrev pub IsInRange : Command → Type 0
-IsInRange (Simulate by options) = AreLimits options
-IsInRange Check = Unit {0}
+IsInRange (Of task) = IsSound task
 IsInRange (Gen seed modules) = (seed ≤ 65_535) × (1 ≤ modules) × (modules ≤ 64)
-IsInRange (Advise options) = AreLimits options
-IsInRange (Show view options) = AreLimits options
-IsInRange Order = Unit {0}
-IsInRange (Sweep lo hi options) = (1 ≤ lo) × (lo ≤ hi) × (hi ≤ 64) × AreLimits options
-IsInRange (Size options) = AreLimits options

@@ -47,25 +47,32 @@ pub enum View {
     Trace,
 }
 
-/// What the words ask for.
+/// What is to be made of the session that is read.
 #[derive(Clone, Copy, Debug, PartialEq, Eq)]
-pub enum Command {
-    /// Simulate the session that is read, and each edit of it.
+pub enum Task {
+    /// Simulate it, and each edit of it.
     Simulate(Simulator, Options),
-    /// Write the session in its canonical form.
+    /// Write it in its canonical form.
     Check,
-    /// Simulate the session made from this seed, with so many modules.
-    Gen(u64, u64),
     /// Advise a depth for each FIFO with which none is ever full.
     Advise(Options),
-    /// Show this of the session's simulation.
+    /// Show this of its simulation.
     Show(View, Options),
     /// Tell which modules' pipelines equal plain loops.
     Order,
-    /// Simulate the session with all depths from the one to the other for its FIFOs.
-    Sweep(u64, u64, Options),
+    /// Simulate it with all depths from the one to the other for its FIFOs.
+    Sweep { lo: u64, hi: u64, options: Options },
     /// Find the smallest FIFOs that lose nothing.
     Size(Options),
+}
+
+/// What the words ask for.
+#[derive(Clone, Copy, Debug, PartialEq, Eq)]
+pub enum Command {
+    /// Make this of the session that is read.
+    Of(Task),
+    /// Simulate the session made from this seed, with so many modules.
+    Gen { seed: u64, modules: u64 },
 }
 
 /// Why there is no command.

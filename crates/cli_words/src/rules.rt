@@ -6,7 +6,7 @@ ghost use Rattle.cli_words.specs.CommandWords.{number_in, options_alone, options
 ghost use Rattle.cli_words.specs.Given.{rest_of, said_of, text_of};
 
 use crate::parser::Given;
-use crate::{Command, Options, Simulator, View};
+use crate::{Command, Options, Simulator, Task, View};
 use flow_word::read_number;
 
 const MOST_CYCLES: u64 = 1_000_000_000_000_000;
@@ -38,18 +38,21 @@ pub fn command_of(given: &Given<'_>) -> Option<Command>
     ensures range { IfSome result IsInRange }
 {
     match name_of(given.command?)? {
-        CommandName::Simulate(by) => Some(Command::Simulate(by, options_alone(given, true)?)),
-        CommandName::Check => bare(given, Command::Check),
+        CommandName::Simulate(by) => {
+            let options = options_alone(given, true)?;
+            Some(Command::Of(Task::Simulate(by, options)))
+        }
+        CommandName::Check => bare(given, Task::Check),
         CommandName::Gen if has_options(given) => None,
         CommandName::Gen => gen_of(given),
-        CommandName::Advise => Some(Command::Advise(options_alone(given, false)?)),
+        CommandName::Advise => Some(Command::Of(Task::Advise(options_alone(given, false)?))),
         CommandName::Show(view) => {
             let options = options_alone(given, tells_events(view))?;
-            Some(Command::Show(view, options))
+            Some(Command::Of(Task::Show(view, options)))
         }
-        CommandName::Order => bare(given, Command::Order),
+        CommandName::Order => bare(given, Task::Order),
         CommandName::Sweep => sweep_of(given),
-        CommandName::Size => Some(Command::Size(options_alone(given, false)?)),
+        CommandName::Size => Some(Command::Of(Task::Size(options_alone(given, false)?))),
     }
 }
 
@@ -81,15 +84,15 @@ fn has_options(given: &Given<'_>) -> bool
     given.events || given.cycles.is_some() || given.ops.is_some()
 }
 
-/// A command that takes no option and no further positional.
-fn bare(given: &Given<'_>, command: Command) -> Option<Command>
-    ensures command { result ≡ without_option (said_of given.now) (no_more (rest_of given.now) (Some command)) }
-    ensures same { IfSome result (λ found. found ≡ command) }
+/// A task of a command that takes no option and no further positional.
+fn bare(given: &Given<'_>, task: Task) -> Option<Command>
+    ensures command { result ≡ without_option (said_of given.now) (no_more (rest_of given.now) (Some (Command.Of task))) }
+    ensures same { IfSome result (λ found. found ≡ Command.Of task) }
 {
     if has_options(given) || given.second.is_some() {
         return None;
     }
-    Some(command)
+    Some(Command::Of(task))
 }
 
 /// The options of a command without further positionals, which takes `--events` or does not.
@@ -140,7 +143,7 @@ fn gen_of(given: &Given<'_>) -> Option<Command>
 {
     let seed = number(0, MOST_SEED, given.second?)?;
     let modules = number(1, MOST_MODULES, given.third?)?;
-    Some(Command::Gen(seed, modules))
+    Some(Command::Gen { seed, modules })
 }
 
 /// The least and the greatest depth, both given, and the limits.
@@ -153,7 +156,8 @@ fn sweep_of(given: &Given<'_>) -> Option<Command>
     }
     let lo = number(1, MOST_SWEPT, given.second?)?;
     let hi = number(lo, MOST_SWEPT, given.third?)?;
-    Some(Command::Sweep(lo, hi, options_of(given)?))
+    let options = options_of(given)?;
+    Some(Command::Of(Task::Sweep { lo, hi, options }))
 }
 
 /// The number that the digits write, if it lies in the bounds.

@@ -10,9 +10,8 @@ use Rattle.flow_grammar.specs.declared.fault.TextFault.{TextFault}
 use Rattle.flow_grammar.specs.Text.{Said, StandsFor, HasFault}
 use Rattle.flow_check.specs.Checked.{fault_of}
 use Rattle.cli_words.specs.declared.Command.{Command}
-use Rattle.cli_words.specs.declared.Command.TheVariants as command
-use Rattle.whole_answer.specs.declared.task.Task.{Task}
-use Rattle.whole_answer.specs.declared.task.Task.TheVariants.{Simulate, Print, Advise, Show, Order, Sweep, Size}
+use Rattle.cli_words.specs.declared.Command.TheVariants.{Of, Gen}
+use Rattle.cli_words.specs.declared.Task.{Task}
 use Rattle.whole_answer.specs.declared.status.Status.TheVariants.{ReadFault, Memory}
 use Rattle.whole_answer.specs.declared.answer.Answer.{Answer}
 use Rattle.whole_answer.specs.Made.{refused_words, refused, made, generated}
@@ -123,23 +122,11 @@ not_read whole old new finished = record { answered = λ i. absurd i; write = λ
 pub command_some : ((task : Task) (text : List ℕ) → (a : Answer) × AnswersText task text a)
     → (command : Option Command) (bytes : List ℕ) → (a : Answer) × AnswersCommand command bytes a
 command_some some None bytes = (refused_words, refl)
-command_some some (Some (command.Simulate by o)) bytes = some (Simulate by o) bytes
-command_some some (Some command.Check) bytes = some Print bytes
-command_some some (Some (command.Gen seed modules)) bytes = (generated seed modules, refl)
-command_some some (Some (command.Advise o)) bytes = some (Advise o) bytes
-command_some some (Some (command.Show view o)) bytes = some (Show view o) bytes
-command_some some (Some command.Order) bytes = some Order bytes
-command_some some (Some (command.Sweep lo hi o)) bytes = some (Sweep lo hi o) bytes
-command_some some (Some (command.Size o)) bytes = some (Size o) bytes
+command_some some (Some (Of task)) bytes = some task bytes
+command_some some (Some (Gen seed modules)) bytes = (generated seed modules, refl)
 
 pub command_only : ((task : Task) (text : List ℕ) (a b : Answer) → AnswersText task text a → AnswersText task text b → a ≡ b)
     → (command : Option Command) (bytes : List ℕ) (a b : Answer) → AnswersCommand command bytes a → AnswersCommand command bytes b → a ≡ b
 command_only only None bytes a b p q = p ∙ sym q
-command_only only (Some (command.Simulate by o)) bytes a b p q = only (Simulate by o) bytes a b p q
-command_only only (Some command.Check) bytes a b p q = only Print bytes a b p q
-command_only only (Some (command.Gen seed modules)) bytes a b p q = p ∙ sym q
-command_only only (Some (command.Advise o)) bytes a b p q = only (Advise o) bytes a b p q
-command_only only (Some (command.Show view o)) bytes a b p q = only (Show view o) bytes a b p q
-command_only only (Some command.Order) bytes a b p q = only Order bytes a b p q
-command_only only (Some (command.Sweep lo hi o)) bytes a b p q = only (Sweep lo hi o) bytes a b p q
-command_only only (Some (command.Size o)) bytes a b p q = only (Size o) bytes a b p q
+command_only only (Some (Of task)) bytes a b p q = only task bytes a b p q
+command_only only (Some (Gen seed modules)) bytes a b p q = p ∙ sym q

@@ -6,13 +6,12 @@ use Rattle.flow_design.specs.declared.session.Statement.{Statement}
 use Rattle.flow_grammar.specs.declared.fault.TextFault.{TextFault}
 use Rattle.flow_grammar.specs.Text.{StandsFor, HasFault}
 use Rattle.flow_check.specs.Checked.{fault_of}
-use Rattle.cli_words.specs.CommandWords.{accepted, AreLimits}
+use Rattle.cli_words.specs.CommandWords.{accepted}
 use Rattle.cli_words.specs.declared.Command.{Command}
-use Rattle.cli_words.specs.declared.Command.TheVariants as command
+use Rattle.cli_words.specs.declared.Command.TheVariants.{Of, Gen}
+use Rattle.cli_words.specs.declared.Task.{Task}
 use Rattle.whole_answer.specs.declared.answer.Answer.{Answer}
 use Rattle.whole_answer.specs.Made.{refused_words, refused, made, generated}
-use Rattle.whole_answer.specs.declared.task.Task.{Task}
-use Rattle.whole_answer.specs.declared.task.Task.TheVariants.{Simulate, Print, Advise, Show, Order, Sweep, Size}
 use Rattle.whole_answer.specs.declared.status.Status.{Status}
 use Rattle.whole_answer.specs.declared.status.Status.TheVariants.{ReadFault, WriteFault, Memory}
 
@@ -39,15 +38,9 @@ pub data AnswersText (task : Task) (text : List ℕ) (answer : Answer) : Type 0 
 -- the answer to a command, with these bytes as the input
 abbrev pub AnswersCommand : Option Command → List ℕ → Answer → Type 0
 AnswersCommand None bytes answer = answer ≡ refused_words
-AnswersCommand (Some (command.Simulate by o)) bytes answer = AnswersText (Simulate by o) bytes answer
-AnswersCommand (Some command.Check) bytes answer = AnswersText Print bytes answer
+AnswersCommand (Some (Of task)) bytes answer = AnswersText task bytes answer
 -- the session of the seed takes the place of the input
-AnswersCommand (Some (command.Gen seed modules)) bytes answer = answer ≡ generated seed modules
-AnswersCommand (Some (command.Advise o)) bytes answer = AnswersText (Advise o) bytes answer
-AnswersCommand (Some (command.Show view o)) bytes answer = AnswersText (Show view o) bytes answer
-AnswersCommand (Some command.Order) bytes answer = AnswersText Order bytes answer
-AnswersCommand (Some (command.Sweep lo hi o)) bytes answer = AnswersText (Sweep lo hi o) bytes answer
-AnswersCommand (Some (command.Size o)) bytes answer = AnswersText (Size o) bytes answer
+AnswersCommand (Some (Gen seed modules)) bytes answer = answer ≡ generated seed modules
 
 -- the answer to the words, with these bytes as the input
 abbrev pub Answers : List (List ℕ) → List ℕ → Answer → Type 0
@@ -56,20 +49,8 @@ Answers words = AnswersCommand (accepted words)
 -- whether a command takes input
 abbrev pub takes_input : Option Command → Bool
 takes_input None = false
-takes_input (Some (command.Gen seed modules)) = false
-takes_input (Some command) = true
-
--- ---- tasks
-
--- the numbers that a task gives are within their bounds
-abbrev pub IsSound : Task → Type 0
-IsSound (Simulate simulator o) = AreLimits o
-IsSound Print = Unit {0}
-IsSound (Advise o) = AreLimits o
-IsSound (Show view o) = AreLimits o
-IsSound Order = Unit {0}
-IsSound (Sweep lo hi o) = (1 ≤ lo) × (lo ≤ hi) × (hi ≤ 64) × AreLimits o
-IsSound (Size o) = AreLimits o
+takes_input (Some (Gen seed modules)) = false
+takes_input (Some (Of task)) = true
 
 -- ---- what a result tells
 

@@ -12,8 +12,8 @@ use Rattle.flow_print.specs.Canonical.{canonical_text}
 use Rattle.flow_gen.specs.Generated.{session}
 use Rattle.session_plan.specs.Plans.{plan_of, edits_of}
 use Rattle.cli_words.specs.declared.Options.{Options}
-use Rattle.whole_answer.specs.declared.task.Task.{Task}
-use Rattle.whole_answer.specs.declared.task.Task.TheVariants.{Simulate, Print, Advise, Show, Order, Sweep, Size}
+use Rattle.cli_words.specs.declared.Task.{Task}
+use Rattle.cli_words.specs.declared.Task.TheVariants.{Simulate, Check, Advise, Show, Order, Sweep, Size}
 use Rattle.whole_answer.specs.declared.answer.Answer.{Answer}
 use Rattle.whole_answer.specs.declared.status.Status.TheVariants.{Done, Words, Text}
 use Rattle.whole_answer.specs.Further.{advice, ordered, swept, sized}
@@ -93,7 +93,7 @@ summary seed modules p = record {
 abbrev pub made : Task → List Statement → Answer
 -- whatever simulates it
 made (Simulate by o) statements = simulated o statements
-made Print statements = canonical statements
+made Check statements = canonical statements
 made (Advise o) statements = advice (with_limits o (plan_of statements))
 made (Show view o) statements = shown view o.events (with_limits o (plan_of statements))
 made Order statements = ordered (plan_of statements).design

@@ -1,14 +1,13 @@
 //! The whole answer: what the words ask for is read, checked, run and printed.
 ghost use Rattle.std.specs.Prelude.{◌≡◌, ◌≢◌, ◌≤◌, [], false, map, string_bytes, IfOk, IfSome, Some};
 ghost use Rattle.sim_io.specs.Causes.{Rose};
-ghost use Rattle.cli_words.specs.CommandWords.{accepted, IsInRange};
+ghost use Rattle.cli_words.specs.CommandWords.{accepted, IsInRange, IsSound};
 ghost use Rattle.whole_answer.specs.Made.{refused_words, refused, generated, number_of};
-ghost use Rattle.whole_answer.specs.Answer.{Answers, AnswersCommand, AnswersText, takes_input, IsSound, IsAnswer};
+ghost use Rattle.whole_answer.specs.Answer.{Answers, AnswersCommand, AnswersText, takes_input, IsAnswer};
 
 use crate::making::{make, summarize};
 use crate::status::Status;
-use crate::task::Task;
-use cli_words::{Command, WordFault, read_words};
+use cli_words::{Command, Task, WordFault, read_words};
 use flow_check::check;
 use flow_design::limits;
 use flow_gen::generate_session;
@@ -100,22 +99,8 @@ fn obey<R: Threads + Wait + Sync, S: Source, G: Gate + Sync>(
     ensures reads_none { takes_input (Some command) ≡ false → result ≢ Err Unanswered.ReadFault }
 {
     match command {
-        Command::Simulate(by, options) => {
-            answer_source(rt, alloc, &Task::Simulate(by, options), source, gate)
-        }
-        Command::Check => answer_source(rt, alloc, &Task::Print, source, gate),
-        Command::Gen(seed, modules) => Ok(answer_generated(rt, alloc, seed, modules, gate)?),
-        Command::Advise(options) => {
-            answer_source(rt, alloc, &Task::Advise(options), source, gate)
-        }
-        Command::Show(view, options) => {
-            answer_source(rt, alloc, &Task::Show(view, options), source, gate)
-        }
-        Command::Order => answer_source(rt, alloc, &Task::Order, source, gate),
-        Command::Sweep(lo, hi, options) => {
-            answer_source(rt, alloc, &Task::Sweep(lo, hi, options), source, gate)
-        }
-        Command::Size(options) => answer_source(rt, alloc, &Task::Size(options), source, gate),
+        Command::Of(task) => answer_source(rt, alloc, &task, source, gate),
+        Command::Gen { seed, modules } => Ok(answer_generated(rt, alloc, seed, modules, gate)?),
     }
 }
 

@@ -8,7 +8,7 @@ ghost use Rattle.lockstep_defs.specs.Report.{report};
 ghost use Rattle.engine_report.specs.Finished.{report_with};
 ghost use Rattle.report_text.specs.ReportText.{report_text_of};
 ghost use Rattle.whole_answer.specs.Answer.{Answers, AnswersText};
-ghost use Rattle.whole_answer.specs.declared.task.Task.{Task as TaskOf};
+ghost use Rattle.cli_words.specs.declared.Task.{Task};
 
 use flow_grammar::one_answer as one_reading;
 use lockstep_defs::reports_name_their_plans;
@@ -23,8 +23,8 @@ pub fn one_answer()
 
 /// Each text has exactly one answer under each task.
 pub(crate) fn one_text_answer()
-    ensures some { (task : TaskOf) (text : List ℕ) → (a : Answer) × AnswersText task text a }
-    ensures no_other { (task : TaskOf) (text : List ℕ) (a b : Answer) → AnswersText task text a → AnswersText task text b → a ≡ b }
+    ensures some { (task : Task) (text : List ℕ) → (a : Answer) × AnswersText task text a }
+    ensures no_other { (task : Task) (text : List ℕ) (a b : Answer) → AnswersText task text a → AnswersText task text b → a ≡ b }
 {
     one_reading();
 }

@@ -13,7 +13,6 @@ mod simulator;
 mod sizing;
 mod status;
 mod sweeping;
-mod task;
 
 pub use laws::one_answer;
 pub use program::omnisim;

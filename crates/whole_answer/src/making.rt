@@ -4,10 +4,10 @@ ghost use Rattle.flow_design.specs.Plans.{EditFits};
 ghost use Rattle.flow_design.specs.StaticRules.{FitsEngine};
 ghost use Rattle.session_plan.specs.Plans.{plan_of, edits_of};
 ghost use Rattle.report_text.specs.Lines.{line, text_of_lines};
-ghost use Rattle.cli_words.specs.CommandWords.{AreLimits};
+ghost use Rattle.cli_words.specs.CommandWords.{AreLimits, IsSound};
 ghost use Rattle.whole_answer.specs.Job.{job};
 ghost use Rattle.whole_answer.specs.Made.{made, with_limits, canonical, summary, summary_lines, sum_tokens, values_in};
-ghost use Rattle.whole_answer.specs.Answer.{IsSound, IsAnswer};
+ghost use Rattle.whole_answer.specs.Answer.{IsAnswer};
 
 use crate::advising::advise_depths;
 use crate::answer::Answer;
@@ -17,8 +17,7 @@ use crate::showing::show;
 use crate::sizing::size_fifos;
 use crate::status::Status;
 use crate::sweeping::sweep_depths;
-use crate::task::Task;
-use cli_words::{Options, Simulator};
+use cli_words::{Options, Simulator, Task};
 use depth_session::{DepthSession, ThreadRunner};
 use flow_check::Checked;
 use flow_design::{Plan, Report, Session};
@@ -49,20 +48,16 @@ pub(crate) fn make<R: Threads + Wait + Sync, G: Gate + Sync>(
 {
     match task {
         Task::Simulate(by, options) => simulate(rt, alloc, *by, options, checked, gate),
-        Task::Print => print(alloc, session),
+        Task::Check => print(alloc, session),
         Task::Advise(options) => advise_depths(rt, alloc, limited(checked, options), gate),
         Task::Show(view, options) => {
             let plan = limited(checked, options);
             show(rt, alloc, *view, options.events, plan, gate)
         }
         Task::Order => order_modules(alloc, &checked.plan),
-        Task::Sweep(lo, hi, options) => sweep_depths(
-            rt,
-            alloc,
-            *lo,
-            *hi,
-            limited(checked, options),
-        ),
+        Task::Sweep { lo, hi, options } => {
+            sweep_depths(rt, alloc, *lo, *hi, limited(checked, options))
+        }
         Task::Size(options) => size_fifos(rt, alloc, &limited(checked, options), gate),
     }
 }

@@ -78,7 +78,7 @@ keeps before s rules =
       permitted = rules.permitted;
       ranged = one.0;
       fresh
-          = (and_parts (list_all (is_new (reverse before)) (parts s)) (is_first_input (reverse before) s) two.0).0;
+          = (and_parts _ _ two.0).0;
       known = three.0;
       room
           = four.0;
@@ -273,7 +273,7 @@ heard_later f names s after comes n h = comes n (by (f s))
 
 pub in_range : (least n most : ℕ) → nat_le least n && nat_le n most ≡ true → (least ≤ n) × (n ≤ most)
 in_range least n most h =
-    let parts = and_parts (nat_le least n) (nat_le n most) h in
+    let parts = and_parts _ _ h in
     (leb-true least n parts.0, leb-true n most parts.1)
 
 -- ---- sizes
@@ -395,7 +395,7 @@ module _ (earlier : List Statement) (names : List Name) (heard : Within (registe
 
   sound : (e : Expr Name) → Known (expr_parts e) → is_small e ≡ true → IsExpressionSound (length names) (numbered names e)
   sound e known small =
-      let both = and_parts (nat_le (nodes e) EXPRESSION_NODES) (nat_le (depth e) EXPRESSION_DEPTH) small in
+      let both = and_parts _ _ small in
       record {
         variables = reached e known;
         size = subst (λ (n : ℕ). n ≤ EXPRESSION_NODES) (sym (nodes_kept names e)) (leb-true (nodes e) EXPRESSION_NODES both.0);
@@ -438,24 +438,22 @@ module _ (earlier : List Statement) (scope : Scope) (heard : Within (registers e
   named : (f x : Name) → (is_among (channels earlier) f && (V x && true)) ≡ true
       → All IsPlace (number_of (places scope) x ∷ []) × (number_of scope.channels f < length scope.channels)
   named f x known =
-      let a = and_parts (is_among (channels earlier) f) (V x && true) known in
-      (one IsPlace _ (place x (and_parts (V x) true a.1).0), channel f a.0)
+      let a = and_parts _ _ known in
+      (one IsPlace _ (place x (and_parts _ _ a.1).0), channel f a.0)
 
   pub op_read : (o : Op Name) → list_all (is_known earlier) (op_parts o) ≡ true → has_small_trees o ≡ true
       → OpRead (length (places scope)) (length scope.memories) (length scope.channels) (operation scope o)
   op_read (op.Set x e) known small =
-      let a = and_parts (V x) (list_all (is_known earlier) (expr_parts e)) known in
+      let a = and_parts _ _ known in
       record { at = one IsPlace _ (place x a.0); expressions = one IsSound _ (tree e a.1 small); memory = tt; channel = tt }
   op_read (op.Load x m e) known small =
-      let a = and_parts (V x) (is_among (memories earlier) m && list_all (is_known earlier) (expr_parts e)) known in
-      let b = and_parts (is_among (memories earlier) m) (list_all (is_known earlier) (expr_parts e)) a.1 in
-      let m_there = number_below scope.memories m (heard_memories m b.0) in
+      let a = and_parts _ _ known in let b = and_parts _ _ a.1 in let m_there = number_below scope.memories m (heard_memories m b.0) in
       record { at = one IsPlace _ (place x a.0); expressions = one IsSound _ (tree e b.1 small); memory = m_there; channel = tt }
   op_read (op.Store m e f) known small =
-      let a = and_parts (is_among (memories earlier) m) (list_all (is_known earlier) (expr_parts e ++ expr_parts f)) known in
+      let a = and_parts _ _ known in
       let b = and_parts (list_all (is_known earlier) (expr_parts e)) (list_all (is_known earlier) (expr_parts f))
       (sym (list_all-append (is_known earlier) (expr_parts e) (expr_parts f)) ∙ a.1) in
-      let s = and_parts (is_small e) (is_small f) small in
+      let s = and_parts _ _ small in
       record {
         at = All-nil IsPlace;
         expressions = All-cons IsSound _ (numbered (places scope) f ∷ []) (tree e b.0 s.0)
@@ -466,17 +464,14 @@ module _ (earlier : List Statement) (scope : Scope) (heard : Within (registers e
   op_read (op.Read f x) known small =
       let n = named f x known in record { at = n.0; expressions = All-nil IsSound; memory = tt; channel = n.1 }
   op_read (op.Write f e) known small =
-      let a = and_parts (is_among (channels earlier) f) (list_all (is_known earlier) (expr_parts e)) known in
+      let a = and_parts _ _ known in
       record { at = All-nil IsPlace; expressions = one IsSound _ (tree e a.1 small); memory = tt; channel = channel f a.0 }
   op_read (op.TryRead f x ok) known small =
-      let a = and_parts (is_among (channels earlier) f) (V x && (V ok && true)) known in
-      let b = and_parts (V x) (V ok && true) a.1 in
-      let c = and_parts (V ok) true b.1 in
+      let a = and_parts _ _ known in let b = and_parts _ _ a.1 in let c = and_parts _ _ b.1 in
       let both = All-cons IsPlace _ (number_of (places scope) ok ∷ []) (place x b.0) (one IsPlace _ (place ok c.0)) in
       record { at = both; expressions = All-nil IsSound; memory = tt; channel = channel f a.0 }
   op_read (op.TryWrite f ok e) known small =
-      let a = and_parts (is_among (channels earlier) f) (V ok && list_all (is_known earlier) (expr_parts e)) known in
-      let b = and_parts (V ok) (list_all (is_known earlier) (expr_parts e)) a.1 in
+      let a = and_parts _ _ known in let b = and_parts _ _ a.1 in
       record { at = one IsPlace _ (place ok b.0); expressions = one IsSound _ (tree e b.1 small); memory = tt; channel = channel f a.0 }
   op_read (op.Empty f x) known small =
       let n = named f x known in record { at = n.0; expressions = All-nil IsSound; memory = tt; channel = n.1 }
@@ -587,11 +582,10 @@ at_read : (earlier : List Statement) (own : Scope) → Within (registers earlier
     → (offset : ℕ) (guard : Option Name) (o : Op Name) → Keeps earlier (s.At offset guard o)
     → TimedRead own (record { offset = offset; guard = option_map (number_of (places own)) guard; op = operation own o })
 at_read earlier own v m c offset None o keeps =
-    let small = and_parts (nat_lt (operations earlier) OPERATIONS) (has_small_trees o) keeps.room in
+    let small = and_parts _ _ keeps.room in
     (tt, op_read earlier own v m c o keeps.known small.1)
 at_read earlier own v m c offset (Some r) o keeps =
-    let small = and_parts (nat_lt (operations earlier) OPERATIONS) (has_small_trees o) keeps.room in
-    let both = and_parts (is_among (registers earlier ++ temps earlier) r) (list_all (is_known earlier) (op_parts o)) keeps.known in
+    let small = and_parts _ _ keeps.room in let both = and_parts _ _ keeps.known in
     (number_below (places own) r (v r both.0), op_read earlier own v m c o both.1 small.1)
 
 timed_more : (earlier : List Statement) (own : Scope) → Within (registers earlier ++ temps earlier) (places own)
@@ -625,7 +619,7 @@ next_more : (own : Scope) (earlier : List Statement) (x : Statement) → Keeps e
     → IsNextRead (length own.registers) (first_or next.Stop (cons_option (terminator own x) later))
 next_more own earlier (s.Goto b) keeps heard later h = tt
 next_more own earlier (s.Branch r b c) keeps heard later h =
-    let known = and_parts (is_among (registers earlier) r) true keeps.known in
+    let known = and_parts _ _ keeps.known in
     number_below own.registers r (heard r known.0)
 next_more own earlier s.Stop keeps heard later h = tt
 next_more own earlier x keeps heard later h = h
@@ -649,7 +643,7 @@ few_temps earlier x keeps h = absurd (true≢false (sym h))
 pub few_operations : (own : Scope) (earlier : List Statement) (x : Statement) → Keeps earlier x → is_some (timed own x) ≡ true
     → length (filter_map (timed own) (inside level.Blocks earlier)) < OPERATIONS
 few_operations own earlier (s.At offset guard o) keeps h =
-    let room = and_parts (nat_lt (operations earlier) OPERATIONS) (has_small_trees o) keeps.room in
+    let room = and_parts _ _ keeps.room in
     subst (λ (k : ℕ). k < OPERATIONS) (sym (counted is_operation (timed own) by (inside level.Blocks earlier))) (ltb-true _ _ room.0)
   where
     by : (y : Statement) → is_some (timed own y) ≡ is_operation y
@@ -660,19 +654,17 @@ few_operations own earlier x keeps h = absurd (true≢false (sym h))
 pub len_read : (earlier : List Statement) (head : Statement) → begins level.Blocks head ≡ true → Keeps earlier head → (1 ≤ len_of head)
     × (len_of head ≤ BLOCK_CLOCKS)
 len_read earlier (s.Block n len) b keeps =
-    let range = and_parts (nat_le 1 len && nat_le len BLOCK_CLOCKS) true keeps.ranged in
+    let range = and_parts _ _ keeps.ranged in
     in_range 1 len BLOCK_CLOCKS range.0
 len_read earlier (s.Loop n ii len again) b keeps =
-    let first = and_parts (nat_le 1 ii && nat_le ii BLOCK_CLOCKS) ((nat_le 1 len && nat_le len BLOCK_CLOCKS) && true) keeps.ranged in
-    let range = and_parts (nat_le 1 len && nat_le len BLOCK_CLOCKS) true first.1 in
+    let first = and_parts _ _ keeps.ranged in let range = and_parts _ _ first.1 in
     in_range 1 len BLOCK_CLOCKS range.0
 len_read earlier x b keeps = absurd (true≢false (sym b))
 
 pub kind_read : (scope : Scope) (earlier : List Statement) (head : Statement) → Keeps earlier head
     → Within (registers earlier) scope.registers → IsKindRead (length scope.registers) (kind_of scope head)
 kind_read scope earlier (s.Loop n ii len again) keeps heard =
-    let first = and_parts (nat_le 1 ii && nat_le ii BLOCK_CLOCKS) ((nat_le 1 len && nat_le len BLOCK_CLOCKS) && true) keeps.ranged in
-    let interval = in_range 1 ii BLOCK_CLOCKS first.0 in
-    let known = and_parts (is_among (registers earlier) again) true keeps.known in
+    let first = and_parts _ _ keeps.ranged in let interval = in_range 1 ii BLOCK_CLOCKS first.0 in
+    let known = and_parts _ _ keeps.known in
     (interval.0, number_below scope.registers again (heard again known.0))
 kind_read scope earlier x keeps heard = tt

@@ -301,7 +301,7 @@ where_none p d xs h = where_behind p [] xs ∙ behind_none (λ earlier. p) d [] 
 
 port_is : (a b : Port) → same_port a b ≡ true → a ≡ b
 port_is a b h =
-    let parts = and_parts (same_side a.side b.side) (nat_eq a.channel b.channel) h in
+    let parts = and_parts _ _ h in
     ap (λ (s : Side). record { side = s; channel = a.channel }) (side_is a.side b.side parts.0)
     ∙ ap (λ (n : ℕ). record { side = b.side; channel = n }) (eqb-true a.channel b.channel parts.1)
   where

@@ -226,9 +226,7 @@ block_named y = refl
 words_more : (earlier : List Statement) (x : Statement) → Keeps earlier x → (later : List Memory) → All IsMemorySound later
     → All IsMemorySound (cons_option (memory x) later)
 words_more earlier (s.Mem n w len) keeps later h =
-    let first = and_parts (nat_le 1 w && nat_le w 64) ((nat_le 1 len && nat_le len MEMORY_WORDS) && true) keeps.ranged in
-    let range = and_parts (nat_le 1 len && nat_le len MEMORY_WORDS) true first.1 in
-    let words = in_range 1 len MEMORY_WORDS range.0 in
+    let first = and_parts _ _ keeps.ranged in let range = and_parts _ _ first.1 in let words = in_range 1 len MEMORY_WORDS range.0 in
     All-cons IsMemorySound (record { width = w; len = len }) later (record { least = words.0; most = words.1 }) h
 words_more earlier x keeps later h = h
 
@@ -255,7 +253,7 @@ memories_long body = as_many (declared sort.Memories) memory by body
 
 name_read : (earlier : List Statement) (n : Name) → Keeps earlier (s.Module n) → IsTrue (is_name n)
 unfolding is_name_token
-name_read earlier n keeps = (and_parts (is_name n) true keeps.named).0
+name_read earlier n keeps = (and_parts _ _ keeps.named).0
 
 module_read : (names : List Name) (earlier : List Statement) (n : Name) (rest : List Statement) → Keeps earlier (s.Module n)
     → Follow (s.Module n ∷ earlier) rest
@@ -468,16 +466,13 @@ ChannelRead c = IsTrue (is_name c.name) × IsKindOf c.kind
 channel_more : (earlier : List Statement) (x : Statement) → Keeps earlier x → (later : List Channel) → All ChannelRead later
     → All ChannelRead (cons_option (channel x) later)
 unfolding is_name_token
-channel_more earlier (s.Source n w) keeps later h = All-cons ChannelRead _ later ((and_parts (is_name n) true keeps.named).0, tt) h
-channel_more earlier (s.Sink n w) keeps later h = All-cons ChannelRead _ later ((and_parts (is_name n) true keeps.named).0, tt) h
+channel_more earlier (s.Source n w) keeps later h = All-cons ChannelRead _ later ((and_parts _ _ keeps.named).0, tt) h
+channel_more earlier (s.Sink n w) keeps later h = All-cons ChannelRead _ later ((and_parts _ _ keeps.named).0, tt) h
 channel_more earlier (s.Fifo n w d l) keeps later h =
-    let first = and_parts (nat_le 1 w && nat_le w 64)
-    ((nat_le 1 d && nat_le d FIFO_DEPTH) && ((nat_le 1 l && nat_le l FIFO_DELAY) && true)) keeps.ranged in
-    let second = and_parts (nat_le 1 d && nat_le d FIFO_DEPTH) ((nat_le 1 l && nat_le l FIFO_DELAY) && true) first.1 in
-    let third = and_parts (nat_le 1 l && nat_le l FIFO_DELAY) true second.1 in
+    let first = and_parts _ _ keeps.ranged in let second = and_parts _ _ first.1 in let third = and_parts _ _ second.1 in
     let depth = in_range 1 d FIFO_DEPTH second.0 in
     let delay = in_range 1 l FIFO_DELAY third.0 in
-    All-cons ChannelRead _ later ((and_parts (is_name n) true keeps.named).0, (depth.0, depth.1, delay.0, delay.1)) h
+    All-cons ChannelRead _ later ((and_parts _ _ keeps.named).0, (depth.0, depth.1, delay.0, delay.1)) h
 channel_more earlier x keeps later h = h
 
 channels_read : (earlier rest : List Statement) → Follow earlier rest → All ChannelRead (filter_map channel rest)
@@ -591,7 +586,7 @@ no_later n earlier (x ∷ rest) follow h
         other false e = later
         other true e =
             let fresh : is_among (channels earlier) m ≡ false
-            = not-true (is_among (channels earlier) m) (and_parts (not (is_among (channels earlier) m)) true keeps.fresh).0 in
+            = not-true (is_among (channels earlier) m) (and_parts _ _ keeps.fresh).0 in
             absurd (true≢false (sym h ∙ ap (is_among (channels earlier)) ((bytes_eq-Decides n m).0 e) ∙ fresh))
     by y keeps later = later
 
@@ -651,9 +646,7 @@ edit_more : (statements earlier : List Statement) → Follow [] statements → H
     → (later : List Edit) → All (EditFits (plan_of statements)) later
     → All (EditFits (plan_of statements)) (cons_option (edit (channel_names statements) x) later)
 edit_more statements earlier follow heard (s.Depth n depth) keeps later h =
-    let known = and_parts (is_among (fifos earlier) n) true keeps.known in
-    let range = and_parts (nat_le 1 depth && nat_le depth FIFO_DEPTH) true keeps.ranged in
-    let within = in_range 1 depth FIFO_DEPTH range.0 in
+    let known = and_parts _ _ keeps.known in let range = and_parts _ _ keeps.ranged in let within = in_range 1 depth FIFO_DEPTH range.0 in
     All-cons (EditFits (plan_of statements)) _ later
     (edit_fits statements follow n depth (heard n known.0) within.0 within.1) h
 edit_more statements earlier follow heard x keeps later h = h

@@ -366,8 +366,7 @@ item_is : (i j : Item) → same_item i j ≡ true → i ≡ j
 item_is item.Limits item.Limits h = refl
 item_is (item.Channel f) (item.Channel g) h = ap item.Channel (eqb-true f g h)
 item_is (item.InModule m (b, a)) (item.InModule n (c, d)) h =
-    let first = and_parts (m == n) ((b == c) && same_spot a d) h in
-    let second = and_parts (b == c) (same_spot a d) first.1 in
+    let first = and_parts _ _ h in let second = and_parts _ _ first.1 in
     ap (λ (k : ℕ). item.InModule k (b, a)) (eqb-true m n first.0) ∙ ap (λ (k : ℕ). item.InModule n (k, a)) (eqb-true b c second.0)
     ∙ ap (λ (x : Spot). item.InModule n (c, x)) (spot_is a d second.1)
 item_is i j h = absurd (true≢false (sym h))

@@ -17,8 +17,7 @@ digit_is c h = grind (arith, nat_tests)
 all_digits_long : (token : List ℕ) → list_all is_ascii_digit token ≡ true → length token ≤ position_or_len is_no_digit token
 all_digits_long [] h = omega arith
 all_digits_long (c ∷ cs) h =
-    let p = and_parts (is_ascii_digit c) (list_all is_ascii_digit cs) h in
-    let rest = all_digits_long cs p.1 in
+    let p = and_parts _ _ h in let rest = all_digits_long cs p.1 in
     rw (digit_is c p.0) (omega arith)
 
 no_other : (token : List ℕ) → list_all is_ascii_digit token ≡ true → position is_no_digit token ≡ None

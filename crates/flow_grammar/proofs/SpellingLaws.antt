@@ -75,7 +75,7 @@ pub word_is : (t w : List ℕ) → is_word t w ≡ true → t ≡ w
 word_is [] [] h = refl
 word_is [] (y ∷ ys) h = absurd cc
 word_is (x ∷ xs) [] h = absurd cc
-word_is (x ∷ xs) (y ∷ ys) h = let p = and_parts (x == y) (is_word xs ys) h in λ i. eqb-true x y p.0 i ∷ word_is xs ys p.1 i
+word_is (x ∷ xs) (y ∷ ys) h = let p = and_parts _ _ h in λ i. eqb-true x y p.0 i ∷ word_is xs ys p.1 i
 
 -- ---- words
 
@@ -224,10 +224,6 @@ module _ (p q : Part → Bool) (words : (w : List ℕ) → p (Word w) ≡ q (Wor
 
 -- ---- tokens that spell an expression are read as that expression
 
-first_true : (a b : Bool) → a && b ≡ true → a ≡ true
-first_true true b h = refl
-first_true false b h = absurd cc
-
 -- the expression is read from the front of the tokens, and these are behind it
 pub record Reads (e : Expr (List ℕ)) (ts : List (List ℕ)) (ps : List Part) : Type 0 where
   pub rest : List (List ℕ)
@@ -275,7 +271,7 @@ letter_is_no_digit b h = grind (arith, nat_tests)
 name_is_no_number : (t : List ℕ) → is_name t ≡ true → is_number t ≡ false
 unfolding is_name is_number
 name_is_no_number [] h = refl
-name_is_no_number (b ∷ bs) h = rw (letter_is_no_digit b (first_true (is_ascii_alphabetic b || (b == 95)) _ h)) refl
+name_is_no_number (b ∷ bs) h = rw (letter_is_no_digit b (and_parts _ _ h).0) refl
 
 again_number : (n : ℕ) → Again (Number n)
 unfolding trees_of with_token
@@ -518,7 +514,7 @@ set_written k ts w = tt
 
 load_written : (k : Token) (ts : List Token) → k ≡ codes "load" → OpSpelled (k ∷ ts) (load_of ts)
 load_written k (r ∷ m ∷ us) w = op_one (is_name r && is_name m) (op.Load r m) us (k ∷ r ∷ m ∷ us)
-    (λ n e s. let p = and_parts (is_name r) (is_name m) n in (w, ((p.0, refl), ((p.1, refl), s))))
+    (λ n e s. let p = and_parts _ _ n in (w, ((p.0, refl), ((p.1, refl), s))))
 load_written k ts w = tt
 
 store_written : (k : Token) (ts : List Token) → k ≡ codes "store" → OpSpelled (k ∷ ts) (store_of ts)
@@ -529,7 +525,7 @@ names_written : (make : Token → Token → Op Name) (k : Token) (ts : List Toke
     → ((f r : Token) → is_name f ≡ true → is_name r ≡ true → Spelled (k ∷ f ∷ r ∷ []) (op_parts (make f r)))
     → OpSpelled (k ∷ ts) (two_names make ts)
 names_written make k (f ∷ r ∷ []) h =
-    op_only (is_name f && is_name r) (k ∷ f ∷ r ∷ []) (make f r) (λ n. let p = and_parts (is_name f) (is_name r) n in h f r p.0 p.1)
+    op_only (is_name f && is_name r) (k ∷ f ∷ r ∷ []) (make f r) (λ n. let p = and_parts _ _ n in h f r p.0 p.1)
 names_written make k ts h = tt
 
 write_written : (k : Token) (ts : List Token) → k ≡ codes "write" → OpSpelled (k ∷ ts) (write_of ts)
@@ -537,14 +533,13 @@ write_written k (f ∷ us) w = op_one (is_name f) (op.Write f) us (k ∷ f ∷ u
 write_written k ts w = tt
 
 try_read_written : (k : Token) (ts : List Token) → k ≡ codes "tryread" → OpSpelled (k ∷ ts) (try_read_of ts)
-try_read_written k (f ∷ r ∷ ok ∷ []) w = op_only (is_name f && (is_name r && is_name ok)) (k ∷ f ∷ r ∷ ok ∷ []) (op.TryRead f r ok)
-    (λ n. let p = and_parts (is_name f) (is_name r && is_name ok) n in
-    let q = and_parts (is_name r) (is_name ok) p.1 in (w, ((p.0, refl), ((q.0, refl), ((q.1, refl), tt)))))
+try_read_written k (f ∷ r ∷ ok ∷ []) w = op_only _ (k ∷ f ∷ r ∷ ok ∷ []) (op.TryRead f r ok)
+    (λ n. let p = and_parts _ _ n in let q = and_parts _ _ p.1 in (w, ((p.0, refl), ((q.0, refl), ((q.1, refl), tt)))))
 try_read_written k ts w = tt
 
 try_write_written : (k : Token) (ts : List Token) → k ≡ codes "trywrite" → OpSpelled (k ∷ ts) (try_write_of ts)
 try_write_written k (f ∷ ok ∷ us) w = op_one (is_name f && is_name ok) (op.TryWrite f ok) us (k ∷ f ∷ ok ∷ us)
-    (λ n e s. let p = and_parts (is_name f) (is_name ok) n in (w, ((p.0, refl), ((p.1, refl), s))))
+    (λ n e s. let p = and_parts _ _ n in (w, ((p.0, refl), ((p.1, refl), s))))
 try_write_written k ts w = tt
 
 form_written : (v : Verb) (k : Token) (ts : List Token) → k ≡ verb_word v → OpSpelled (k ∷ ts) (op_form_of v ts)
@@ -596,7 +591,7 @@ module _ (version : ℕ) where
       → IsWritten (k ∷ ts) (name_width make ts)
   width_written make k (n ∷ v ∷ []) h =
       only (is_name n && is_number v) (k ∷ n ∷ v ∷ []) (make n (number_of v))
-      (λ t. let p = and_parts (is_name n) (is_number v) t in h n v p.0 p.1)
+      (λ t. let p = and_parts _ _ t in h n v p.0 p.1)
   width_written make k ts h = tt
 
   name_written : (make : Token → Statement) (k : Token) (ts : List Token)
@@ -606,12 +601,10 @@ module _ (version : ℕ) where
 
   fifo_written : (k : Token) (ts : List Token) → k ≡ codes "fifo" → IsWritten (k ∷ ts) (fifo_of version ts)
   unfolding fifo_of
-  fifo_written k (n ∷ v ∷ []) w = only (is_name n && is_number v) (k ∷ n ∷ v ∷ []) (Fifo n (number_of v) default_depth default_delay)
-      (λ t. let p = and_parts (is_name n) (is_number v) t in inr (inr (refl, refl, (w, ((p.0, refl), ((p.1, refl), tt))))))
-  fifo_written k (n ∷ v ∷ d ∷ []) w =
-      only (is_name n && (is_number v && is_number d)) (k ∷ n ∷ v ∷ d ∷ []) (Fifo n (number_of v) (number_of d) default_delay)
-      (λ t. let p = and_parts (is_name n) (is_number v && is_number d) t in
-      let q = and_parts (is_number v) (is_number d) p.1 in
+  fifo_written k (n ∷ v ∷ []) w = only _ (k ∷ n ∷ v ∷ []) (Fifo n (number_of v) default_depth default_delay)
+      (λ t. let p = and_parts _ _ t in inr (inr (refl, refl, (w, ((p.0, refl), ((p.1, refl), tt))))))
+  fifo_written k (n ∷ v ∷ d ∷ []) w = only _ (k ∷ n ∷ v ∷ d ∷ []) (Fifo n (number_of v) (number_of d) default_delay)
+      (λ t. let p = and_parts _ _ t in let q = and_parts _ _ p.1 in
       inr (inl (refl, (w, ((p.0, refl), ((q.0, refl), ((q.1, refl), tt)))))))
   fifo_written k (n ∷ v ∷ d ∷ e ∷ []) w = go (has_delays version) refl
     where
@@ -624,43 +617,33 @@ module _ (version : ℕ) where
       go : (b : Bool) → has_delays version ≡ b → IsWritten (k ∷ n ∷ v ∷ d ∷ e ∷ []) (if_then b (only_if are_well statement))
       go false h = tt
       go true h = only are_well (k ∷ n ∷ v ∷ d ∷ e ∷ []) statement
-          (λ t. let p = and_parts (is_name n) (is_number v && (is_number d && is_number e)) t in
-          let q = and_parts (is_number v) (is_number d && is_number e) p.1 in
-          let r = and_parts (is_number d) (is_number e) q.1 in
+          (λ t. let p = and_parts _ _ t in let q = and_parts _ _ p.1 in let r = and_parts _ _ q.1 in
           inl (h, (w, ((p.0, refl), ((q.0, refl), ((r.0, refl), ((r.1, refl), tt)))))))
   fifo_written k ts w = tt
 
   mem_written : (k : Token) (ts : List Token) → k ≡ codes "mem" → IsWritten (k ∷ ts) (mem_of ts)
   unfolding mem_of
-  mem_written k (n ∷ v ∷ l ∷ []) w =
-      only (is_name n && (is_number v && is_number l)) (k ∷ n ∷ v ∷ l ∷ []) (Mem n (number_of v) (number_of l))
-      (λ t. let p = and_parts (is_name n) (is_number v && is_number l) t in
-      let q = and_parts (is_number v) (is_number l) p.1 in (w, ((p.0, refl), ((q.0, refl), ((q.1, refl), tt)))))
+  mem_written k (n ∷ v ∷ l ∷ []) w = only _ (k ∷ n ∷ v ∷ l ∷ []) (Mem n (number_of v) (number_of l))
+      (λ t. let p = and_parts _ _ t in let q = and_parts _ _ p.1 in (w, ((p.0, refl), ((q.0, refl), ((q.1, refl), tt)))))
   mem_written k ts w = tt
 
   loop_written : (k : Token) (ts : List Token) → k ≡ codes "loop" → IsWritten (k ∷ ts) (loop_of ts)
   unfolding loop_of
-  loop_written k (n ∷ i ∷ l ∷ x ∷ r ∷ []) w =
-      only (is_name n && (is_number i && (is_number l && (is_word x (codes "while") && is_name r)))) (k ∷ n ∷ i ∷ l ∷ x ∷ r ∷ [])
-      (Loop n (number_of i) (number_of l) r)
-      (λ t. let p = and_parts (is_name n) (is_number i && (is_number l && (is_word x (codes "while") && is_name r))) t in
-      let q = and_parts (is_number i) (is_number l && (is_word x (codes "while") && is_name r)) p.1 in
-      let o = and_parts (is_number l) (is_word x (codes "while") && is_name r) q.1 in
-      let z = and_parts (is_word x (codes "while")) (is_name r) o.1 in
+  loop_written k (n ∷ i ∷ l ∷ x ∷ r ∷ []) w = only _ (k ∷ n ∷ i ∷ l ∷ x ∷ r ∷ []) (Loop n (number_of i) (number_of l) r)
+      (λ t. let p = and_parts _ _ t in let q = and_parts _ _ p.1 in let o = and_parts _ _ q.1 in let z = and_parts _ _ o.1 in
       (w, ((p.0, refl), ((q.0, refl), ((o.0, refl), (word_is x (codes "while") z.0, ((z.1, refl), tt)))))))
   loop_written k ts w = tt
 
   branch_written : (k : Token) (ts : List Token) → k ≡ codes "branch" → IsWritten (k ∷ ts) (branch_of ts)
   unfolding branch_of
-  branch_written k (r ∷ b ∷ c ∷ []) w = only (is_name r && (is_name b && is_name c)) (k ∷ r ∷ b ∷ c ∷ []) (Branch r b c)
-      (λ t. let p = and_parts (is_name r) (is_name b && is_name c) t in
-      let q = and_parts (is_name b) (is_name c) p.1 in (w, ((p.0, refl), ((q.0, refl), ((q.1, refl), tt)))))
+  branch_written k (r ∷ b ∷ c ∷ []) w = only _ (k ∷ r ∷ b ∷ c ∷ []) (Branch r b c)
+      (λ t. let p = and_parts _ _ t in let q = and_parts _ _ p.1 in (w, ((p.0, refl), ((q.0, refl), ((q.1, refl), tt)))))
   branch_written k ts w = tt
 
   limits_written : (k : Token) (ts : List Token) → k ≡ codes "limits" → IsWritten (k ∷ ts) (limits_of ts)
   unfolding limits_of
   limits_written k (c ∷ o ∷ []) w = only (is_number c && is_number o) (k ∷ c ∷ o ∷ []) (Limits (number_of c) (number_of o))
-      (λ t. let p = and_parts (is_number c) (is_number o) t in (w, ((p.0, refl), ((p.1, refl), tt))))
+      (λ t. let p = and_parts _ _ t in (w, ((p.0, refl), ((p.1, refl), tt))))
   limits_written k ts w = tt
 
   bare_written : (s : Statement) (k : Token) (ts : List Token) → Writes version (k ∷ []) s → IsWritten (k ∷ ts) (bare s ts)
@@ -669,13 +652,13 @@ module _ (version : ℕ) where
 
   values_written : (ts : List Token) → list_all is_number ts ≡ true → Spelled ts (map plain (map number_of ts))
   values_written [] h = tt
-  values_written (t ∷ ts) h = let p = and_parts (is_number t) (list_all is_number ts) h in ((p.0, refl), values_written ts p.1)
+  values_written (t ∷ ts) h = let p = and_parts _ _ h in ((p.0, refl), values_written ts p.1)
 
   input_written : (k : Token) (ts : List Token) → k ≡ codes "input" → IsWritten (k ∷ ts) (input_of ts)
   unfolding input_of
   input_written k [] w = tt
   input_written k (n ∷ us) w = only (is_name n && list_all is_number us) (k ∷ n ∷ us) (Input n (map number_of us))
-      (λ t. let p = and_parts (is_name n) (list_all is_number us) t in (w, ((p.0, refl), values_written us p.1)))
+      (λ t. let p = and_parts _ _ t in (w, ((p.0, refl), values_written us p.1)))
 
   plain_written : (k off : Token) (ts : List Token) → k ≡ codes "at" → is_number off ≡ true
       → IsWritten (k ∷ off ∷ ts) (option_map (At (number_of off) None) (op_of ts))

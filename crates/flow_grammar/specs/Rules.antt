@@ -104,13 +104,19 @@ fits_version v s = true
 
 -- ---- the first rule that a statement breaks
 
+-- the code of the first of four tests that fails
+abbrev pub first_broken : Bool → Bool → Bool → Bool → Option Code
+first_broken ranged new known room =
+    if not ranged then Some BadNumber
+    else if not new then Some DoubleName
+    else if not known then Some UnknownName
+    else if not room then Some TooMany
+    else None
+
 unfoldable pub statement_fault : List Statement → Statement → Option Code
 statement_fault earlier s =
-    if not (list_all is_in_range (parts s)) then Some BadNumber
-    else if not (list_all (is_new earlier) (parts s) && is_first_input earlier s) then Some DoubleName
-    else if not (list_all (is_known earlier) (parts s)) then Some UnknownName
-    else if not (has_room earlier s) then Some TooMany
-    else None
+    first_broken (list_all is_in_range (parts s)) (list_all (is_new earlier) (parts s) && is_first_input earlier s)
+    (list_all (is_known earlier) (parts s)) (has_room earlier s)
 
 -- ---- sessions that keep the rules
 

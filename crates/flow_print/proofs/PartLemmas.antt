@@ -44,7 +44,7 @@ digit_behind : (ds : List ℕ) (b : ℕ) → list_all is_ascii_digit ds ≡ true
     → list_all is_ascii_digit (ds ++ b ∷ []) ≡ true
 digit_behind [] b h k = and_from (is_ascii_digit b) true k refl
 digit_behind (d ∷ ds) b h k =
-    let p = and_parts (is_ascii_digit d) (list_all is_ascii_digit ds) h in
+    let p = and_parts _ _ h in
     and_from (is_ascii_digit d) (list_all is_ascii_digit (ds ++ b ∷ [])) p.0 (digit_behind ds b p.1 k)
 
 last_digit : (n : ℕ) → n % 10 < 10
@@ -67,7 +67,7 @@ unfolding is_printed
 digits_printed [] h k = absurd (omega arith)
 digits_printed (b ∷ bs) h k =
     and_from (is_no_comment (b ∷ bs)) (list_all is_visible (b ∷ bs))
-    (no_hash b (and_parts (is_ascii_digit b) (list_all is_ascii_digit bs) k).0) (all_of is_ascii_digit is_visible digit_visible (b ∷ bs) k)
+    (no_hash b (and_parts _ _ k).0) (all_of is_ascii_digit is_visible digit_visible (b ∷ bs) k)
 
 number_printed : (n : ℕ) → n < 2 ^ 64 → is_printed (decimal n) ≡ true
 number_printed n h = digits_printed (decimal n) (decimal_nonempty n h) (digits_all n h)
@@ -91,10 +91,9 @@ name_printed : (t : Token) → is_name t ≡ true → is_printed t ≡ true
 unfolding is_name is_printed
 name_printed [] h = absurd cc
 name_printed (b ∷ bs) h =
-    let p = and_parts (begins_with_letter (b ∷ bs)) _ h in
-    let q = and_parts (list_all is_name_byte (b ∷ bs)) _ p.1 in
+    let p = and_parts _ _ h in let q = and_parts _ _ p.1 in
     and_from (is_no_comment (b ∷ bs)) (list_all is_visible (b ∷ bs))
-    (letter_no_hash b (and_parts (is_name_byte b) (list_all is_name_byte bs) q.0).0)
+    (letter_no_hash b (and_parts _ _ q.0).0)
     (all_of is_name_byte is_visible letter_visible (b ∷ bs) q.0)
 
 -- ---- parts
@@ -112,7 +111,7 @@ part_printed (New space name) f n r = (name_printed name n, (n, refl))
 part_printed (Use sort name) f n r = (name_printed name n, (n, refl))
 part_printed (Label name) f n r = (name_printed name n, (n, refl))
 part_printed (Num least most k) f n r =
-    let within = and_parts (nat_le least k) (nat_le k most) r in
+    let within = and_parts _ _ r in
     let upper : k ≤ most = leb-true k most within.1 in
     let bound : most < 2 ^ 64 = ltb-true most (2 ^ 64) f in
     let small : k < 2 ^ 64 = omega arith in
@@ -122,10 +121,7 @@ pub parts_printed : (ps : List Part) → list_all is_fit ps ≡ true → list_al
     → (list_all is_printed (map token_of ps) ≡ true) × Spelled (map token_of ps) ps
 parts_printed [] f n r = (refl, tt)
 parts_printed (p ∷ ps) f n r =
-    let f' = and_parts (is_fit p) (list_all is_fit ps) f in
-    let n' = and_parts (is_well_named p) (list_all is_well_named ps) n in
-    let r' = and_parts (is_in_range p) (list_all is_in_range ps) r in
-    let here = part_printed p f'.0 n'.0 r'.0 in
+    let f' = and_parts _ _ f in let n' = and_parts _ _ n in let r' = and_parts _ _ r in let here = part_printed p f'.0 n'.0 r'.0 in
     let rest = parts_printed ps f'.1 n'.1 r'.1 in
     (and_from (is_printed (token_of p)) (list_all is_printed (map token_of ps)) here.0 rest.0, (here.1, rest.1))
 

@@ -15,7 +15,7 @@ use Rattle.flow_grammar.specs.declared.fault.Code.{Code}
 use Rattle.flow_grammar.specs.declared.fault.Code.TheVariants.{Syntax, BadNumber, DoubleName, UnknownName, TooMany}
 use Rattle.flow_grammar.specs.declared.fault.LineFail.{LineFail}
 use Rattle.flow_grammar.specs.Before.{is_among}
-use Rattle.flow_grammar.specs.Rules.{is_in_range}
+use Rattle.flow_grammar.specs.Rules.{is_in_range, first_broken}
 use Rattle.flow_grammar.specs.Gives.{LineGives, judged}
 use Rattle.flow_grammar.specs.Numbers.{number_within}
 use Rattle.name_tables.specs.declared.tables.Tables.{Tables}
@@ -56,14 +56,6 @@ module _ (t : Tables) where
   plain_known [] = refl
   plain_known (n ∷ ns) = plain_known ns
 
-  abbrev input_fault : Bool → Bool → Bool → Bool → Option Code
-  input_fault ranged new known room =
-      if not ranged then Some BadNumber
-      else if not new then Some DoubleName
-      else if not known then Some UnknownName
-      else if not room then Some TooMany
-      else None
-
   abbrev words_if : Bool → List ℕ → Option (List ℕ)
   words_if b ns = if b then Some ns else None
 
@@ -74,7 +66,7 @@ module _ (t : Tables) where
 
   in_cases : (n : Name) (values : List ℕ) (h r d k m : Bool)
       → (if h then given_by d k m n (words_if r values) else Err Syntax)
-      ≡ judged (if h then input_fault r (true && not d) (k && true) m else Some Syntax) (Input n values)
+      ≡ judged (if h then first_broken r (true && not d) (k && true) m else Some Syntax) (Input n values)
   in_cases n values h r d k m = grind arith
 
   given_is : (n : Name) (words : Option (List ℕ)) (values : List ℕ) → words ≡ words_within values
@@ -103,7 +95,7 @@ module _ (t : Tables) where
       ∙ sym
       (λ i. judged
       (if takes_inputs t.place
-      then input_fault (plain_ranged values i) (plain_new values i && not (is_among t.inputs n))
+      then first_broken (plain_ranged values i) (plain_new values i && not (is_among t.inputs n))
       (is_among t.sources n && plain_known values i) (nat_le (t.input_values + length values) INPUT_VALUES) else Some Syntax)
       (Input n values))
 

@@ -11,7 +11,7 @@ use Rattle.flow_grammar.specs.declared.fault.Code.TheVariants.{BadNumber, Unknow
 use Rattle.flow_grammar.specs.declared.operand.Operand.{Operand}
 use Rattle.flow_grammar.specs.Parts.{Name, Part, expr_parts, op_parts}
 use Rattle.flow_grammar.specs.Before.{is_among}
-use Rattle.flow_grammar.specs.Rules.{is_in_range, is_small, has_small_trees}
+use Rattle.flow_grammar.specs.Rules.{is_in_range, is_small, has_small_trees, first_broken}
 use Rattle.flow_grammar.specs.Tokens.{is_name, Token}
 use Rattle.flow_grammar.specs.Forms.{one_tree, two_trees, if_then, guarded_of, op_of}
 use Rattle.flow_grammar.specs.Trees.{Trees}
@@ -256,17 +256,9 @@ module _ (t : Tables) where
   op_new (op.Empty f r) = refl
   op_new (op.Full f r) = refl
 
-  abbrev at_fault : Bool → Bool → Bool → Bool → Option Code
-  at_fault ranged new known room =
-      if not ranged then Some BadNumber
-      else if not new then Some DoubleName
-      else if not known then Some UnknownName
-      else if not room then Some TooMany
-      else None
-
   in_cases : (n : ℕ) (g : Option Name) (o : Op Name) (h rn r kg k m s : Bool)
       → timed_by h m (if rn then Some n else None) g kg (tested r k s o)
-      ≡ judged (if h then at_fault (rn && r) (true && true) (kg && k) (m && s) else Some Syntax) (At n g o)
+      ≡ judged (if h then first_broken (rn && r) (true && true) (kg && k) (m && s) else Some Syntax) (At n g o)
   in_cases n g o h rn r kg k m s = grind arith
 
   abbrev ranged_offset : ℕ → Bool
@@ -281,7 +273,7 @@ module _ (t : Tables) where
       ∙ ap
       (λ (b : Bool). judged
       (if takes_operations t.place
-      then at_fault (ranged_offset n && list_all is_in_range (op_parts o)) (b && true) (list_all (is_known t) (op_parts o))
+      then first_broken (ranged_offset n && list_all is_in_range (op_parts o)) (b && true) (list_all (is_known t) (op_parts o))
       (nat_lt t.operations OPERATIONS && has_small_trees o) else Some Syntax) (At n None o))
       (sym (op_new o))
   timed_is n (Some r) o =
@@ -290,7 +282,7 @@ module _ (t : Tables) where
       ∙ ap
       (λ (b : Bool). judged
       (if takes_operations t.place
-      then at_fault (ranged_offset n && list_all is_in_range (op_parts o)) (b && true)
+      then first_broken (ranged_offset n && list_all is_in_range (op_parts o)) (b && true)
       (is_variable t r && list_all (is_known t) (op_parts o)) (nat_lt t.operations OPERATIONS && has_small_trees o)
       else Some Syntax) (At n (Some r) o))
       (sym (op_new o))

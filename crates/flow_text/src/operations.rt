@@ -172,7 +172,7 @@ pub fn try_write(alloc: Global, tables: &Tables<'_>, tokens: &[&[u8]]) -> Parsed
 }
 
 /// An operation on a channel and a variable alone.
-#[derive(Clone, Copy, Debug, PartialEq, Eq)]
+#[derive(Clone, Copy)]
 pub enum TwoNames {
     Read,
     Empty,

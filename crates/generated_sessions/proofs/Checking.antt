@@ -112,9 +112,7 @@ faultless seed (suc n) some most =
     let ss : List Statement = session_of (drawn seed) (suc n) in
     let fits : AllFit ss = session_fits seed (suc n) in
     let names = and_parts _ _ (all_checked (drawn seed) n (omega arith)) in
-    let limits = and_parts _ _ names.1 in
-    let ends = and_parts _ _ limits.1 in
-    let ports = and_parts _ _ ends.1 in
+    let limits = and_parts _ _ names.1 in let ends = and_parts _ _ limits.1 in let ports = and_parts _ _ ends.1 in
     rw (
       none_of (broken_by (plan_of ss) code.UnknownName) names.0,
       none_of (broken_by (plan_of ss) code.BadLimit) limits.0,

@@ -116,7 +116,7 @@ is_small_by e s h f a b = and_from _ _ (le-leb (nodes e) EXPRESSION_NODES (omega
 setting : (r : Name) (e : Expr Name) (s h : ℕ) → IsFine e s h → s ≤ 5 → h ≤ 5 → Fits (At 0 None (Set r e))
 setting r e s h f a b = record {
   covers = λ q w p v.
-      let both = and_parts (q (Use AVariable r)) (list_all q variables) v in
+      let both = and_parts _ _ v in
       and_from _ _ (w _ refl) (and_from _ _ (p 0 (omega arith)) (and_from _ _ (w _ refl)
       (and_from _ _ both.0 (f.covers q w p both.1))));
   room = λ earlier place. and_from _ _ place (is_small_by e s h f a b);
@@ -128,7 +128,7 @@ setting r e s h f a b = record {
 writing : (output : Name) (e : Expr Name) (s h : ℕ) → IsFine e s h → s ≤ 5 → h ≤ 5 → Fits (At 1 None (Write output e))
 writing output e s h f a b = record {
   covers = λ q w p v.
-      let both = and_parts (q (Use AnyChannel output)) (list_all q variables) v in
+      let both = and_parts _ _ v in
       and_from _ _ (w _ refl) (and_from _ _ (p 1 (omega arith)) (and_from _ _ (w _ refl)
       (and_from _ _ both.0 (f.covers q w p both.1))));
   room = λ earlier place. and_from _ _ place (is_small_by e s h f a b);

@@ -29,12 +29,8 @@ keeps_rules : (before : List Statement) (s : Statement) → keeps (reverse befor
 unfolding statement_fault
 keeps_rules before s h f =
     let named = and_parts _ _ (and_parts _ _ h).1 in
-    let version = and_parts _ _ named.1 in
-    let follows = and_parts _ _ version.1 in
-    let new = and_parts _ _ follows.1 in
-    let first = and_parts _ _ new.1 in
-    let known = and_parts _ _ first.1 in
-    let ranges = f.ranges in
+    let version = and_parts _ _ named.1 in let follows = and_parts _ _ version.1 in let new = and_parts _ _ follows.1 in
+    let first = and_parts _ _ new.1 in let known = and_parts _ _ first.1 in let ranges = f.ranges in
     let all_new = and_from (list_all (is_new (reverse before)) (parts s)) (is_first_input (reverse before) s)
     (f.covers (is_new (reverse before)) (λ w short. refl) (λ n below. refl) new.0) first.0 in
     let all_known = f.covers (is_known (reverse before)) (λ w short. refl) (λ n below. refl) known.0 in
@@ -62,7 +58,7 @@ each_keeps before (t ∷ rest) h f (suc i) s e =
 
 token_short : (p : Part) → is_brief p ≡ true → is_in_range p ≡ true → length (token_of p) ≤ 64
 token_short (Num least most n) brief ranges =
-    let high : n ≤ most = leb-true n most (and_parts (nat_le least n) (nat_le n most) ranges).1 in
+    let high : n ≤ most = leb-true n most (and_parts _ _ ranges).1 in
     let wide : most ≤ 2 ^ 64 - 1 = leb-true most (2 ^ 64 - 1) brief in
     omega (arith, length-decimal-le 20 n (omega arith) (omega (arith, high, wide)) (omega (arith, high, wide)))
 token_short (Word w) brief ranges = leb-true _ 64 brief
@@ -77,8 +73,8 @@ tokens_short (p ∷ []) brief ranges = omega (arith, token_short p (and_parts _ 
 tokens_short (p ∷ r ∷ ps) brief ranges =
     let own = token_short p (and_parts _ _ brief).0 (and_parts _ _ ranges).0 in
     let later : length (join_with_byte 32 (map token_of (r ∷ ps))) ≤ 65 * length (r ∷ ps)
-    = tokens_short (r ∷ ps) (and_parts (is_brief p) (list_all is_brief (r ∷ ps)) brief).1
-    (and_parts (is_in_range p) (list_all is_in_range (r ∷ ps)) ranges).1 in
+    = tokens_short (r ∷ ps) (and_parts _ _ brief).1
+    (and_parts _ _ ranges).1 in
     omega (arith, own, later, length-append (token_of p) (32 ∷ join_with_byte 32 (map token_of (r ∷ ps))))
 
 -- no more parts are written under version 1
@@ -98,7 +94,7 @@ text_short : (earlier rest : List Statement) → follow earlier rest ≡ true �
 text_short earlier [] h f = omega arith
 text_short earlier (s ∷ rest) h f =
     let own = line_short earlier s (and_parts _ _ h).0 f.0 in
-    let later = text_short (s ∷ earlier) rest (and_parts (keeps earlier s) (follow (s ∷ earlier) rest) h).1 f.1 in
+    let later = text_short (s ∷ earlier) rest (and_parts _ _ h).1 f.1 in
     rw (flat_map-cons line (tokens_of 1 s) (map (tokens_of 1) rest), sum_by-cons (λ s. 65 * most_parts s + 1) s rest)
     (omega (arith, own, later, length-append (line (tokens_of 1 s)) (text_of_lines (map (tokens_of 1) rest))))
 
@@ -119,7 +115,7 @@ short seed zero some most = absurd (omega arith)
 short seed (suc n) some most =
     let ss : List Statement = session_of (drawn seed) (suc n) in
     let tests = and_parts (follow [] ss) _ (all_read (drawn seed) n (omega arith)) in
-    let few : sum_by (λ s. 65 * most_parts s + 1) ss ≤ TEXT_BYTES = leb-true _ TEXT_BYTES (and_parts (is_over ss) _ tests.1).1 in
+    let few : sum_by (λ s. 65 * most_parts s + 1) ss ≤ TEXT_BYTES = leb-true _ TEXT_BYTES (and_parts _ _ tests.1).1 in
     omega (arith, few, text_short [] ss tests.0 (session_fits seed (suc n)))
 
 pub stands : (seed modules : ℕ) → 1 ≤ modules → modules ≤ 64

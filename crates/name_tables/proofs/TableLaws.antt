@@ -3,8 +3,7 @@ use Rattle.std.proofs.Common.{◌≡◌, ℕ, ◌+◌, List, [], ◌∷◌, Bool
 use Rattle.std.specs.Prelude.{◌&&◌, not, if◌then◌else◌, count_by, sum_by, cond}
 use Rattle.std.specs.List.{list_all, filter_map}
 use Rattle.std.proofs.lemmas.List.Sums.{sum_by-cons, take_while-cons}
-use Rattle.flow_grammar.specs.declared.fault.Code.{Code}
-use Rattle.flow_grammar.specs.declared.fault.Code.TheVariants.{Syntax, BadNumber, DoubleName, UnknownName, TooMany}
+use Rattle.flow_grammar.specs.declared.fault.Code.TheVariants.{Syntax}
 use Rattle.flow_grammar.specs.Before.{version, in_module, in_body, is_no_module, is_no_block, register_name, memory_name, block_name}
 use Rattle.flow_grammar.specs.Before.{temp_name, channels, sources, fifos, modules, inputs, is_operation, input_count, is_edit}
 use Rattle.flow_grammar.specs.Before.{input_values, edits}
@@ -40,18 +39,10 @@ place_same : (s : Statement) (earlier : List Statement) → may_stand s (tables_
 unfolding tables_of may_follow
 place_same s earlier = refl
 
-abbrev first_broken : Bool → Bool → Bool → Bool → Option Code
-first_broken ranged new known room =
-    if not ranged then Some BadNumber
-    else if not new then Some DoubleName
-    else if not known then Some UnknownName
-    else if not room then Some TooMany
-    else None
-
 fault_same : (s : Statement) (earlier : List Statement) → fault_by (tables_of earlier) s ≡ statement_fault earlier s
 unfolding fault_by statement_fault
 fault_same s earlier =
-    λ i. first_broken (list_all rules.is_in_range (parts s))
+    λ i. rules.first_broken (list_all rules.is_in_range (parts s))
     (list_all (λ p. (part_same earlier p).0 i) (parts s) && (statement_same s earlier).0 i)
     (list_all (λ p. (part_same earlier p).1 i) (parts s)) ((statement_same s earlier).1 i)
 

@@ -8,10 +8,10 @@ use Rattle.flow_design.specs.declared.session.Statement.{Statement}
 use Rattle.flow_design.specs.declared.session.Statement.TheVariants.{Source, Sink, Fifo, Module, Reg, Mem, Block, Loop, Temp, At, Input}
 use Rattle.flow_design.specs.declared.session.Statement.TheVariants.{Depth}
 use Rattle.flow_grammar.specs.declared.fault.Code.{Code}
-use Rattle.flow_grammar.specs.declared.fault.Code.TheVariants.{Syntax, BadNumber, DoubleName, UnknownName, TooMany}
+use Rattle.flow_grammar.specs.declared.fault.Code.TheVariants.{Syntax}
 use Rattle.flow_grammar.specs.Places.{may_stand}
 use Rattle.flow_grammar.specs.Before.{is_among}
-use Rattle.flow_grammar.specs.Rules.{is_in_range, has_small_trees}
+use Rattle.flow_grammar.specs.Rules.{is_in_range, has_small_trees, first_broken}
 use Rattle.flow_grammar.specs.Parts.{Part, New, Use, Space, ChannelName, ModuleName, RegisterName, MemoryName, TempName, BlockName, Sort}
 use Rattle.flow_grammar.specs.Parts.{AnyChannel, ASource, AFifo, ARegister, AMemory, AVariable, parts}
 use Rattle.flow_grammar.specs.Gives.{judged}
@@ -69,11 +69,8 @@ has_room t s = true
 -- the first rule that a statement breaks
 unfoldable pub fault_by : Tables → Statement → Option Code
 fault_by t s =
-    if not (list_all is_in_range (parts s)) then Some BadNumber
-    else if not (list_all (is_new t) (parts s) && is_first_input t s) then Some DoubleName
-    else if not (list_all (is_known t) (parts s)) then Some UnknownName
-    else if not (has_room t s) then Some TooMany
-    else None
+    first_broken (list_all is_in_range (parts s)) (list_all (is_new t) (parts s) && is_first_input t s) (list_all (is_known t) (parts s))
+    (has_room t s)
 
 -- the first test that tokens fail that write this statement, or none
 abbrev pub form_fault_by : Tables → Option Statement → Option Code

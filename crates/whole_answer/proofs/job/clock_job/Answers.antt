@@ -1,7 +1,9 @@
-use Rattle.std.proofs.Common.{◌≡◌, ◌∙◌, sym, subst, refl, ap, arith, ℕ, ◌+◌}
+use Rattle.std.proofs.Common.{◌≡◌, ◌∙◌, sym, subst, refl, ap, arith, ℕ, ◌+◌, List}
 use Rattle.flow_design.specs.declared.plan.Plan.{Plan}
 use Rattle.flow_design.specs.declared.report.Report.{Report}
+use Rattle.flow_design.specs.Plans.{with_depth}
 use Rattle.flow_design.specs.StaticRules.{FitsEngine}
+use Rattle.block_code.specs.declared.code.BlockCode.{BlockCode}
 use Rattle.clock_machine.specs.Parts.{AreCodes}
 use Rattle.edit_runs.specs.Runs.{first_counts, next_counts}
 use Rattle.whole_answer.specs.Answer.{IsAnswer}
@@ -9,6 +11,10 @@ use Rattle.whole_answer.specs.Going.{Told, IsGoing, told_of, HasAdded}
 use Rattle.whole_answer.proofs.Reports.{begins, goes_on, still_fits, next_plan, ends, edit_at, fits_there, first_answer, first_written}
 use Rattle.whole_answer.proofs.Reports.{more_written}
 use Rattle.whole_answer.proofs.job.clock_job.Goals as goal
+
+-- an edit of a depth leaves the modules, and so their code
+codes_stay : (p : Plan) (codes : List (List BlockCode)) (channel depth : ℕ) → AreCodes p codes → AreCodes (with_depth p channel depth) codes
+codes_stay p codes channel depth k = record { count = k.count; each = k.each }
 
 pub loop-edit-init : goal.loop-edit-init
 loop-edit-init c = record {
@@ -36,7 +42,8 @@ edit_plan-requires c =
 
 pub clock_report-requires-in-loop-edit-clause-codes : goal.clock_report-requires-in-loop-edit-clause-codes
 clock_report-requires-in-loop-edit-clause-codes c =
-    subst (λ (q : Plan). AreCodes q c.loop-edit.codes.now) (sym c.edit_plan.ensures) c.loop-edit.invariant.codes
+    subst (λ (q : Plan). AreCodes q c.as_slice-codes.result.now) (sym c.edit_plan.ensures)
+    (codes_stay c.loop-edit.plan c.as_slice-codes.result.now _ _ c.loop-edit.invariant.codes)
 
 pub clock_report-requires-in-loop-edit-clause-fits : goal.clock_report-requires-in-loop-edit-clause-fits
 clock_report-requires-in-loop-edit-clause-fits c =
@@ -81,7 +88,8 @@ loop-edit-preserved c =
           (goes_on events p edits i plan next (told_of c.loop-edit.written c.loop-edit.count) going is fits
           (subst (λ (t : Told). IsAnswer t.status) told added.answer));
       number = number;
-      codes = subst (λ (q : Plan). AreCodes q c.loop-edit.codes.now) (sym c.edit_plan.ensures) c.loop-edit.invariant.codes;
+      codes = subst (λ (q : Plan). AreCodes q c.as_slice-codes.result.now) (sym c.edit_plan.ensures)
+          (codes_stay plan c.as_slice-codes.result.now _ _ c.loop-edit.invariant.codes);
     }
 
 pub returns-clause-job : goal.returns-clause-job

@@ -7,5 +7,5 @@ abbrev pub invariant-loop-edit : goal.invariant-loop-edit
 invariant-loop-edit l = record {
   going : IsGoing l.events l.fn.plan l.edits l.edit-index l.plan (told_of l.written l.count);
   number : l.number ≡ l.edit-index;
-  codes : AreCodes l.plan l.codes.now;
+  codes : AreCodes l.plan l.codes;
 }

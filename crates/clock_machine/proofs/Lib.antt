@@ -1,5 +1,5 @@
 pub mod Fronts
-pub mod Pairs
+pub mod Listed
 pub mod PartLemmas
 pub mod Queues
 pub mod Steps

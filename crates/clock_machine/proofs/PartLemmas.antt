@@ -1,25 +1,26 @@
 -- When a module has a part in a clock.
 use Rattle.flow_design.specs.declared.state.Element.{Element}
-use Rattle.std.proofs.Common.{◌≡◌, ℕ, ◌<◌, ◌≤◌, List, [], ◌∷◌, map, length, get_or, Bool, true, false, ◌&&◌, not, cond, refl, sym, ◌∙◌, ap}
+use Rattle.std.proofs.Common.{◌≡◌, ℕ, ◌<◌, ◌≤◌, List, [], ◌∷◌, ◌++◌, map, length, get_or, Bool, true, false, ◌&&◌, not, cond, refl, sym, ◌∙◌, ap}
 use Rattle.std.proofs.Common.{subst, arith, zero, suc}
 use Rattle.std.proofs.lemmas.Bool.{lt-ltb}
 use Rattle.std.specs.Prelude.{find, option_map, nat_lt, None}
-use Rattle.std.specs.List.{list_any, filter_map}
+use Rattle.std.specs.List.{list_any, filter_map, zip}
 use Rattle.flow_design.specs.declared.design.Module.{Module}
 use Rattle.flow_design.specs.declared.plan.Plan.{Plan}
 use Rattle.flow_design.specs.declared.state.ClockState.{ClockState}
 use Rattle.flow_design.specs.declared.state.ModuleState.{ModuleState}
+use Rattle.flow_design.specs.declared.state.Reply.{Reply}
 use Rattle.flow_design.specs.declared.state.Request.{Request}
 use Rattle.module_move.specs.Moves.{notes_of}
 use Rattle.lockstep_defs.specs.Machine.{is_over, nobody, requests}
-use Rattle.lockstep_defs.specs.Channels.{is_empty, contents_of, all_ready, stalls, reply}
-use Rattle.lockstep_defs.specs.Lockstep.{requests_of, moves, numbered, module_at}
+use Rattle.lockstep_defs.specs.Channels.{Exchange, is_empty, contents_of, all_ready, stalls, reply}
+use Rattle.lockstep_defs.specs.Lockstep.{requests_of, moves, answered, numbered, module_at}
 use Rattle.lockstep_defs.specs.Verdict.{some_moves, is_settled, held_at, held_by}
 use Rattle.lockstep_defs.proofs.Agrees.{not_ended}
 use Rattle.lockstep_defs.proofs.Settled.{same_stalls, some_alike}
 use Rattle.clock_machine.specs.declared.part.Part.{Part}
 use Rattle.module_move.specs.Sound.{IsStateSound}
-use Rattle.clock_machine.specs.Parts.{part_of, part_on, no_part, AreFit}
+use Rattle.clock_machine.specs.Parts.{part_of, part_on, no_part, outcomes_in, exchange, AreFit}
 
 by_moves : (p : Plan) (clock : ℕ) (contents : List (List Element)) (m : ℕ × ModuleState) (b : Bool) → moves p clock contents m ≡ b
     → part_of p clock contents m ≡ cond b (part_on p clock contents m (requests_of p m)) no_part
@@ -63,12 +64,29 @@ moving_part p clock contents m h k = by_moves p clock contents m true (rw (h, k)
 pub answered_part : (p : Plan) (clock : ℕ) (contents : List (List Element)) (m : ℕ × ModuleState) (asked : List Request) (part : Part)
     → is_over p.ops m.1 ≡ false → list_any (stalls p clock contents) asked ≡ false → asked ≡ requests_of p m
     → part.moves ≡ true → part.noted ≡ notes_of (module_at p m.0) m.1 → part.requests ≡ asked
-    → part.replies ≡ map (reply p clock contents) asked → part ≡ part_of p clock contents m
-answered_part p clock contents m asked part running free is moving noted requests replies =
+    → part.replies ≡ map (reply p clock contents) asked → part.outcomes ≡ outcomes_in (map (answered p clock contents) asked)
+    → part ≡ part_of p clock contents m
+answered_part p clock contents m asked part running free is moving noted requests replies outcomes =
     let same : part ≡ part_on p clock contents m asked =
-    λ i. record { moves = moving i; noted = noted i; requests = requests i; replies = replies i } in
+    λ i. record { moves = moving i; noted = noted i; requests = requests i; replies = replies i; outcomes = outcomes i } in
     same ∙ (ap (part_on p clock contents m) is
     ∙ sym (moving_part p clock contents m running (ap (list_any (stalls p clock contents)) (sym is) ∙ free)))
+
+-- the operations of a part that moves are those that were answered
+pub same_exchanges : (p : Plan) (clock : ℕ) (contents : List (List Element)) (asked : List Request)
+    → map exchange (zip asked (map (reply p clock contents) asked)) ≡ map (answered p clock contents) asked
+same_exchanges p clock contents [] = refl
+same_exchanges p clock contents (r ∷ asked) = ap (λ l. answered p clock contents r ∷ l) (same_exchanges p clock contents asked)
+
+-- what the operations of a part that moves give is added
+pub given : {Y : Type 0} (gives : List Exchange → List Y) (p : Plan) (clock : ℕ) (contents : List (List Element)) (asked : List Request)
+    (replies : List Reply) (goes : Bool) (before now : List Y) → goes ≡ true → replies ≡ map (reply p clock contents) asked
+    → now ≡ before ++ cond goes (gives (map (answered p clock contents) asked)) []
+    → now ≡ before ++ gives (map exchange (zip asked replies))
+given gives p clock contents asked replies goes before now does are e =
+    e ∙ (ap (λ b. before ++ cond b (gives (map (answered p clock contents) asked)) []) does
+    ∙ ap (λ xs. before ++ gives xs)
+    (sym (ap (λ (ys : List Reply). map exchange (zip asked ys)) are ∙ same_exchanges p clock contents asked)))
 
 pub part_moves : (p : Plan) (clock : ℕ) (contents : List (List Element)) (m : ℕ × ModuleState)
     → (part_of p clock contents m).moves ≡ moves p clock contents m

@@ -1,8 +1,8 @@
 -- The steps of a clock, by the modules' parts.
 use Rattle.flow_design.specs.declared.state.Element.{Element}
 use Rattle.std.proofs.Common.{◌≡◌, ℕ, suc, zero, ◌+◌, ◌<◌, ◌≢◌, List, [], ◌∷◌, ◌++◌, map, length, get_or, Bool, true, false}
-use Rattle.std.proofs.Common.{refl, sym, ◌∙◌, ap, subst, arith, add-zero, zero-add}
-use Rattle.std.specs.List.{enumerate_from, flat_map, zip}
+use Rattle.std.proofs.Common.{drop, eqb, refl, sym, ◌∙◌, ap, subst, arith, add-zero, zero-add}
+use Rattle.std.specs.List.{enumerate_from, flat_map, filter}
 use Rattle.std.proofs.lemmas.Bool.{false≢true, eq-eqb as same_place}
 use Rattle.std.proofs.lemmas.List.{append-nil}
 use Rattle.std.proofs.lemmas.List.Concat.{flat_map-append}
@@ -15,23 +15,21 @@ use Rattle.flow_word.specs.declared.access.Side.{Side}
 use Rattle.flow_word.specs.declared.access.Side.TheVariants.{Pop, Push}
 use Rattle.lockstep_defs.proofs.Queue.{moved-append, moved_by-append, moved-step}
 use Rattle.lockstep_defs.specs.Machine.{nobody}
-use Rattle.lockstep_defs.specs.Channels.{HistoryStep, Exchange, reply, moved_by, moved}
+use Rattle.lockstep_defs.specs.Channels.{HistoryStep, Exchange, element_from, moved_by, moved}
 use Rattle.lockstep_defs.specs.Lockstep.{requests_of, moves, numbered, answered, step_with, step_of, steps_in, next_state, contents_after}
 use Rattle.lockstep_defs.specs.Lockstep.{clock_step}
 use Rattle.lockstep_defs.specs.Report.{steps_of, outcomes, event_of, events_of}
 use Rattle.clock_machine.specs.declared.part.Part.{Part}
-use Rattle.clock_machine.specs.Parts.{exchange, no_part, part_of, after_part, IsReady, exchanges_of, all_exchanges, steps_from}
-use Rattle.clock_machine.specs.Parts.{event_by, events_from, outcomes_in, after_pops, after_pushes}
-use Rattle.clock_machine.proofs.PartLemmas.{part_when_moving, part_when_still, moves_when}
+use Rattle.clock_machine.specs.declared.part.Pushed.{Pushed}
+use Rattle.flow_design.specs.Plans.{delay_at}
+use Rattle.clock_machine.specs.Parts.{no_part, part_of, after_part, IsReady, exchanges_of, all_exchanges, steps_from}
+use Rattle.clock_machine.specs.Parts.{event_by, events_from, outcomes_in, popped, pushed, after_pops, after_pushes}
+use Rattle.clock_machine.proofs.Listed.{popped_at, pushed_at}
+use Rattle.clock_machine.proofs.PartLemmas.{part_when_moving, part_when_still, moves_when, same_exchanges}
 use Rattle.clock_machine.proofs.Fronts.{same_by_places, numbered_read}
 use Rattle.clock_machine.proofs.Queues.{other_place, twice}
 
 -- ---- the steps themselves
-
-same_exchanges : (p : Plan) (clock : ℕ) (contents : List (List Element)) (asked : List Request)
-    → map exchange (zip asked (map (reply p clock contents) asked)) ≡ map (answered p clock contents) asked
-same_exchanges p clock contents [] = refl
-same_exchanges p clock contents (r ∷ asked) = ap (λ l. answered p clock contents r ∷ l) (same_exchanges p clock contents asked)
 
 step_by_part : (p : Plan) (clock : ℕ) (contents : List (List Element)) (m : ℕ × ModuleState)
     → step_with clock m.0 (exchanges_of (part_of p clock contents m)) ≡ step_of p clock contents m
@@ -71,19 +69,32 @@ moved_in_steps side f clock n (part ∷ parts) =
     ∙ (ap (λ l. moved_by side f (exchanges_of part) ++ l) (moved_in_steps side f clock (n + 1) parts)
     ∙ sym (moved_by-append side f (exchanges_of part) (all_exchanges parts))))
 
+values_of : (on : ℕ → Element) (qs : List Pushed) → map (λ (q : Pushed). on q.value) qs ≡ map on (map (λ (q : Pushed). q.value) qs)
+values_of on [] = refl
+values_of on (q ∷ qs) = ap (λ l. on q.value ∷ l) (values_of on qs)
+
 after_clock : (p : Plan) (clock : ℕ) (parts : List Part) (m : ℕ × List Element)
-    → after_pushes p clock (all_exchanges parts) (m.0, after_pops (all_exchanges parts) m)
+    → after_pushes p clock (pushed (all_exchanges parts)) (m.0, after_pops (popped (all_exchanges parts)) m)
     ≡ contents_after p clock (steps_from clock parts) m
-after_clock p clock parts m = rw (moved_in_steps Pop m.0 clock 0 parts, moved_in_steps Push m.0 clock 0 parts) refl
+after_clock p clock parts m =
+    let xs = all_exchanges parts in
+    let on = element_from (clock + delay_at p m.0) in
+    let pops : drop (length (filter (λ (c : ℕ). eqb c m.0) (popped xs))) m.1 ≡ drop (length (moved Pop m.0 (steps_from clock parts))) m.1 =
+    ap (λ n. drop n m.1) (popped_at m.0 xs ∙ sym (ap length (moved_in_steps Pop m.0 clock 0 parts))) in
+    let pushes : map (λ (q : Pushed). on q.value) (filter (λ (q : Pushed). eqb q.channel m.0) (pushed xs))
+    ≡ map on (moved Push m.0 (steps_from clock parts)) =
+    values_of on (filter (λ (q : Pushed). eqb q.channel m.0) (pushed xs))
+    ∙ ap (map on) (pushed_at m.0 xs ∙ sym (moved_in_steps Push m.0 clock 0 parts)) in
+    λ i. pops i ++ pushes i
 
 -- first all pops, then all pushes
 contents_next : (p : Plan) (clock : ℕ) (parts : List Part) (before now next : List (List Element))
-    → now ≡ map (after_pops (all_exchanges parts)) (enumerate_from 0 before)
-    → next ≡ map (after_pushes p clock (all_exchanges parts)) (enumerate_from 0 now)
+    → now ≡ map (after_pops (popped (all_exchanges parts))) (enumerate_from 0 before)
+    → next ≡ map (after_pushes p clock (pushed (all_exchanges parts))) (enumerate_from 0 now)
     → next ≡ map (contents_after p clock (steps_from clock parts)) (enumerate_from 0 before)
 contents_next p clock parts before now next e f =
-    f ∙ (ap (λ (contents : List (List Element)). map (after_pushes p clock (all_exchanges parts)) (enumerate_from 0 contents)) e
-    ∙ twice (after_pushes p clock (all_exchanges parts)) (after_pops (all_exchanges parts))
+    f ∙ (ap (λ (contents : List (List Element)). map (after_pushes p clock (pushed (all_exchanges parts))) (enumerate_from 0 contents)) e
+    ∙ twice (after_pushes p clock (pushed (all_exchanges parts))) (after_pops (popped (all_exchanges parts)))
     (contents_after p clock (steps_from clock parts)) 0 before (after_clock p clock parts))
 
 -- ---- the next states
@@ -132,16 +143,19 @@ parts_ready p clock st parts e i h =
 
 -- ---- the clock step
 
-pub stepped : (p : Plan) (clock : ℕ) (st next : ClockState) (parts : List Part) (popped : List (List Element))
-    → parts ≡ map (part_of p clock st.contents) (numbered st)
+pub stepped : (p : Plan) (clock : ℕ) (st next : ClockState) (parts : List Part) (pops : List ℕ) (pushes : List Pushed)
+    (now : List (List Element)) → parts ≡ map (part_of p clock st.contents) (numbered st)
     → next.modules ≡ map (λ m. after_part p m (get_or parts m.0 no_part)) (enumerate_from 0 st.modules)
-    → popped ≡ map (after_pops (all_exchanges parts)) (enumerate_from 0 st.contents)
-    → next.contents ≡ map (after_pushes p clock (all_exchanges parts)) (enumerate_from 0 popped) → next ≡ clock_step p clock st
+    → pops ≡ popped (all_exchanges parts) → pushes ≡ pushed (all_exchanges parts)
+    → now ≡ map (after_pops pops) (enumerate_from 0 st.contents)
+    → next.contents ≡ map (after_pushes p clock pushes) (enumerate_from 0 now) → next ≡ clock_step p clock st
 unfolding clock_step
-stepped p clock st next parts popped e f g h =
+stepped p clock st next parts pops pushes now e f pops_are pushes_are g h =
     let states = states_next p clock st parts next.modules e f in
     let held : next.contents ≡ map (contents_after p clock (steps_in p clock st)) (enumerate_from 0 st.contents) =
-    contents_next p clock parts st.contents popped next.contents g h
+    contents_next p clock parts st.contents now next.contents
+    (g ∙ ap (λ (l : List ℕ). map (after_pops l) (enumerate_from 0 st.contents)) pops_are)
+    (h ∙ ap (λ (l : List Pushed). map (after_pushes p clock l) (enumerate_from 0 now)) pushes_are)
     ∙ ap (λ (steps : List HistoryStep). map (contents_after p clock steps) (enumerate_from 0 st.contents)) (steps_told p clock st parts e)
     in
     λ i. record { modules = states i; contents = held i }
@@ -224,10 +238,23 @@ outcomes_in_step : (clock i : ℕ) (xs : List Exchange) → outcomes (step_with 
 outcomes_in_step clock i [] = refl
 outcomes_in_step clock i (x ∷ xs) = append-nil _
 
+own_outcomes : (p : Plan) (clock : ℕ) (contents : List (List Element)) (m : ℕ × ModuleState)
+    → (part_of p clock contents m).outcomes ≡ outcomes_in (exchanges_of (part_of p clock contents m))
+own_outcomes p clock contents m = by_test (moves p clock contents m) refl
+  where
+    by_test : (b : Bool) → moves p clock contents m ≡ b
+        → (part_of p clock contents m).outcomes ≡ outcomes_in (exchanges_of (part_of p clock contents m))
+    by_test true h = rw (part_when_moving p clock contents m h) (ap outcomes_in (sym (same_exchanges p clock contents (requests_of p m))))
+    by_test false h = rw (part_when_still p clock contents m h) refl
+
 pub outcomes_told : (p : Plan) (clock : ℕ) (st : ClockState) (parts : List Part) (i : ℕ)
     → parts ≡ map (part_of p clock st.contents) (numbered st)
-    → i < length parts → outcomes_in (exchanges_of (get_or parts i no_part)) ≡ outcomes (steps_of i (steps_in p clock st))
-outcomes_told p clock st parts i e h =
-    sym (outcomes_in_step clock i (exchanges_of (get_or parts i no_part)))
+    → i < length parts → i < length st.modules → (get_or parts i no_part).outcomes ≡ outcomes (steps_of i (steps_in p clock st))
+outcomes_told p clock st parts i e h k =
+    let part = part_at p clock st parts i e k in
+    ap (λ (own : Part). own.outcomes) part
+    ∙ (own_outcomes p clock st.contents (i, get_or st.modules i nobody)
+    ∙ (ap (λ (own : Part). outcomes_in (exchanges_of own)) (sym part)
+    ∙ (sym (outcomes_in_step clock i (exchanges_of (get_or parts i no_part)))
     ∙ (ap outcomes (sym (own_steps clock i 0 i parts (zero-add i) h))
-    ∙ ap (λ (steps : List HistoryStep). outcomes (steps_of i steps)) (steps_told p clock st parts e))
+    ∙ ap (λ (steps : List HistoryStep). outcomes (steps_of i steps)) (steps_told p clock st parts e)))))

@@ -1,6 +1,6 @@
 -- What the modules do in a clock, as the program holds it.
-use Rattle.std.specs.Prelude.{◌+◌, ◌≡◌, ℕ, ◌≤◌, ◌<◌, Bool, true, false, if◌then◌else◌, List, [], ◌++◌, map, flat_map, drop}
-use Rattle.std.specs.Prelude.{length, slice_index_or}
+use Rattle.std.specs.Prelude.{◌+◌, ◌≡◌, ℕ, ◌≤◌, ◌<◌, Bool, true, false, if◌then◌else◌, List, [], ◌++◌, map, filter, flat_map, drop}
+use Rattle.std.specs.Prelude.{◌==◌, length, slice_index_or}
 use Rattle.std.specs.List.{enumerate_from, zip}
 use Rattle.flow_design.specs.declared.plan.Plan.{Plan}
 use Rattle.flow_design.specs.declared.state.Element.{Element}
@@ -14,8 +14,8 @@ use Rattle.flow_design.specs.declared.state.Reply.{Reply}
 use Rattle.flow_design.specs.declared.state.Request.{Request}
 use Rattle.lockstep_defs.specs.Machine.{is_yes, is_over, move, nobody}
 use Rattle.flow_word.specs.declared.access.Side.TheVariants.{Pop, Push}
-use Rattle.lockstep_defs.specs.Channels.{element_from, HistoryStep, Exchange, reply, moved_by}
-use Rattle.lockstep_defs.specs.Lockstep.{module_at, requests_of, moves, step_with}
+use Rattle.lockstep_defs.specs.Channels.{element_from, HistoryStep, Exchange, reply, moved_value}
+use Rattle.lockstep_defs.specs.Lockstep.{module_at, requests_of, moves, answered, step_with}
 use Rattle.lockstep_defs.specs.Verdict.{held}
 use Rattle.lockstep_defs.specs.Report.{queries, outputs_in}
 use Rattle.module_move.specs.Sound.{IsRunnable}
@@ -23,6 +23,7 @@ use Rattle.module_move.specs.Moves.{notes_of}
 use Rattle.block_code.specs.declared.code.BlockCode.{BlockCode}
 use Rattle.block_code.specs.Codes.{AreCodesOf}
 use Rattle.clock_machine.specs.declared.part.Part.{Part}
+use Rattle.clock_machine.specs.declared.part.Pushed.{Pushed}
 
 -- ---- a module's part in a clock
 
@@ -30,9 +31,13 @@ use Rattle.clock_machine.specs.declared.part.Part.{Part}
 abbrev pub exchange : Request × Reply → Exchange
 exchange x = record { request = x.0; reply = x.1 }
 
+-- the outcomes of the queries among these operations
+abbrev pub outcomes_in : List Exchange → List Bool
+outcomes_in xs = map (λ x. is_yes x.reply) (queries xs)
+
 -- the part of a module that does not move
 abbrev pub no_part : Part
-no_part = record { moves = false; noted = []; requests = []; replies = [] }
+no_part = record { moves = false; noted = []; requests = []; replies = []; outcomes = [] }
 
 -- the part of a module that moves on these requests
 abbrev pub part_on : Plan → ℕ → List (List Element) → ℕ × ModuleState → List Request → Part
@@ -41,6 +46,7 @@ part_on p clock contents m asked = record {
   noted = notes_of (module_at p m.0) m.1;
   requests = asked;
   replies = map (reply p clock contents) asked;
+  outcomes = outcomes_in (map (answered p clock contents) asked);
 }
 
 -- a module's part in a clock, by the contents from before it
@@ -82,23 +88,28 @@ events_from clock parts = flat_map (λ m. map (event_by clock m.0) m.1.requests)
 abbrev pub kept : Bool → List EventLine → List EventLine
 kept keep events = if keep then events else []
 
--- the outcomes of the queries among these operations
-abbrev pub outcomes_in : List Exchange → List Bool
-outcomes_in xs = map (λ x. is_yes x.reply) (queries xs)
-
 -- a module's answers, and after them those of its part
 abbrev pub answers_with : List Part → ℕ × List Bool → List Bool
-answers_with parts m = m.1 ++ outcomes_in (exchanges_of (slice_index_or parts m.0 no_part))
+answers_with parts m = m.1 ++ (slice_index_or parts m.0 no_part).outcomes
 
 -- ---- what the operations leave in the channels
 
--- a channel's contents when these operations have taken off what they pop
-abbrev pub after_pops : List Exchange → ℕ × List Element → List Element
-after_pops xs f = drop (length (moved_by Pop f.0 xs)) f.1
+-- the channels off which these operations pop, each as often as it is popped
+abbrev pub popped : List Exchange → List ℕ
+popped xs = flat_map (λ x. map (λ v. x.request.channel) (moved_value Pop x)) xs
 
--- a channel's contents when these operations of a clock have put in what they push
-abbrev pub after_pushes : Plan → ℕ → List Exchange → ℕ × List Element → List Element
-after_pushes p clock xs f = f.1 ++ map (element_from (clock + delay_at p f.0)) (moved_by Push f.0 xs)
+-- what these operations push
+abbrev pub pushed : List Exchange → List Pushed
+pushed xs = flat_map (λ x. map (λ v. record { channel = x.request.channel; value = v }) (moved_value Push x)) xs
+
+-- a channel's contents when these channels were popped
+abbrev pub after_pops : List ℕ → ℕ × List Element → List Element
+after_pops channels f = drop (length (filter (λ channel. channel == f.0) channels)) f.1
+
+-- a channel's contents when this was pushed in a clock
+abbrev pub after_pushes : Plan → ℕ → List Pushed → ℕ × List Element → List Element
+after_pushes p clock pushes f =
+    f.1 ++ map (λ q. element_from (clock + delay_at p f.0) q.value) (filter (λ q. q.channel == f.0) pushes)
 
 -- ---- states that can come up
 

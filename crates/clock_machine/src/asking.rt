@@ -1,20 +1,20 @@
 //! Each module's part in a clock, by the contents from before it.
-ghost use Rattle.std.specs.Prelude.{◌≡◌, ◌<◌, ◌≤◌, ◌^◌, IfOk, OnOk, not, true, length, map, slice_index_or};
+ghost use Rattle.std.specs.Prelude.{◌≡◌, ◌<◌, ◌≤◌, ◌^◌, IfOk, OnOk, not, true, [], ◌++◌, if◌then◌else◌, length, map, slice_index_or};
 ghost use Rattle.std.specs.List.{list_any};
 ghost use Rattle.flow_design.specs.StaticRules.{FitsEngine};
 ghost use Rattle.lockstep_defs.specs.Machine.{nobody, requests};
 ghost use Rattle.lockstep_defs.specs.Channels.{all_ready, stalls, reply};
-ghost use Rattle.lockstep_defs.specs.Lockstep.{module_at, numbered, moves};
+ghost use Rattle.lockstep_defs.specs.Lockstep.{module_at, numbered, moves, answered};
 ghost use Rattle.lockstep_defs.specs.Verdict.{is_settled, some_moves};
-ghost use Rattle.clock_machine.specs.Parts.{part_of, AreFit, AreFitInTime, AreCodes};
+ghost use Rattle.clock_machine.specs.Parts.{part_of, exchanges_of, all_exchanges, outcomes_in, popped, pushed, AreFit, AreFitInTime, AreCodes};
 ghost use Rattle.module_move.specs.Sound.{IsStateSound};
 ghost use Rattle.module_move.specs.Moves.{notes_of};
 
-use crate::channels::{any_stalls_ever, reply_to};
-use crate::part::{Part, Scratch};
+use crate::channels::{answer_one, any_stalls_ever};
+use crate::part::{Part, Pushed, Scratch};
 use block_code::{BlockCode, Noted};
 use flow_design::{ClockState, Element, Module, ModuleState, Plan, Reply, Request};
-use flow_word::{List, OutOfMemory, Queue, Words};
+use flow_word::{Flags, List, OutOfMemory, Queue, Words};
 use module_move::{is_over, note};
 
 /// Module number i of a plan.
@@ -70,7 +70,8 @@ pub fn note_one(
     Ok(())
 }
 
-/// Says whether none of these operations blocks and cannot be done. The list is then the replies to them.
+/// Says whether none of these operations blocks and cannot be done. Then the two lists are the replies to them and the outcomes of
+/// the queries among them, and what they pop and push is added.
 #[inline(always)]
 fn answer(
     plan: &Plan,
@@ -78,21 +79,38 @@ fn answer(
     contents: &[Queue<Element>],
     requests: &[Request],
     replies: &mut List<Reply>,
+    outcomes: &mut Flags,
+    pops: &mut List<u32>,
+    pushes: &mut List<Pushed>,
 ) -> Result<bool, OutOfMemory>
     ensures goes { IfOk result (λ goes. goes ≡ not (list_any (stalls plan.now clock contents.now) requests.now)) }
     ensures replies { IfOk result (λ goes. goes ≡ true → replies.new ≡ map (reply plan.now clock contents.now) requests.now) }
+    ensures outcomes { IfOk result (λ goes. goes ≡ true
+        → outcomes.new ≡ outcomes_in (map (answered plan.now clock contents.now) requests.now)) }
+    ensures pops { IfOk result (λ goes. pops.new
+        ≡ pops.old ++ (if goes then popped (map (answered plan.now clock contents.now) requests.now) else [])) }
+    ensures pushes { IfOk result (λ goes. pushes.new
+        ≡ pushes.old ++ (if goes then pushed (map (answered plan.now clock contents.now) requests.now) else [])) }
 {
+    let popped_before = pops.len();
+    let pushed_before = pushes.len();
     replies.truncate(0);
+    outcomes.truncate(0);
     for request in requests {
-        match reply_to(plan, clock, contents, request) {
-            None => return Ok(false),
+        match answer_one(plan, clock, contents, request, outcomes, pops, pushes)? {
+            None => {
+                pops.truncate(popped_before);
+                pushes.truncate(pushed_before);
+                return Ok(false);
+            }
             Some(reply) => replies.push(reply)?,
         }
     }
     Ok(true)
 }
 
-/// The part of one module: no part where it is ended, spent or stalls, else what it has due, and the replies.
+/// The part of one module: no part where it is ended, spent or stalls, else what it has due, and the replies. Adds what it pops and
+/// pushes.
 #[inline(always)]
 fn take_part(
     plan: &Plan,
@@ -101,6 +119,8 @@ fn take_part(
     state: &ClockState,
     i: usize,
     words: &mut Words,
+    pops: &mut List<u32>,
+    pushes: &mut List<Pushed>,
     part: &mut Part,
 ) -> Result<(), OutOfMemory>
     requires fits { FitsEngine plan.now }
@@ -108,7 +128,9 @@ fn take_part(
     requires fit { AreFit plan.now clock state.now.modules }
     requires early { clock ≤ plan.now.cycles }
     requires within { i < length state.now.modules }
-    ensures { OnOk result (part.new ≡ part_of plan.now clock state.now.contents (i, slice_index_or state.now.modules i nobody)) }
+    ensures part { OnOk result (part.new ≡ part_of plan.now clock state.now.contents (i, slice_index_or state.now.modules i nobody)) }
+    ensures pops { OnOk result (pops.new ≡ pops.old ++ popped (exchanges_of part.new)) }
+    ensures pushes { OnOk result (pushes.new ≡ pushes.old ++ pushed (exchanges_of part.new)) }
 {
     let module = state_at(state, i);
     if is_over(plan.ops, module) {
@@ -126,20 +148,31 @@ fn take_part(
     )?;
     let contents = state.contents.as_slice();
     let requests = part.requests.as_slice();
-    part.moves = answer(plan, clock, contents, requests, &mut part.replies)?;
+    part.moves = answer(
+        plan,
+        clock,
+        contents,
+        requests,
+        &mut part.replies,
+        &mut part.outcomes,
+        pops,
+        pushes,
+    )?;
     if !part.moves {
         part.clear();
     }
     Ok(())
 }
 
-/// The parts of all modules, in order.
+/// The parts of all modules, in order. Adds what they pop and push.
 fn take_parts(
     plan: &Plan,
     codes: &[List<BlockCode>],
     clock: u64,
     state: &ClockState,
     words: &mut Words,
+    pops: &mut List<u32>,
+    pushes: &mut List<Pushed>,
     parts: &mut [Part],
 ) -> Result<(), OutOfMemory>
     requires fits { FitsEngine plan.now }
@@ -147,10 +180,12 @@ fn take_parts(
     requires fit { AreFit plan.now clock state.now.modules }
     requires early { clock ≤ plan.now.cycles }
     requires count { length parts.old ≡ length state.now.modules }
-    ensures { OnOk result (parts.new ≡ map (part_of plan.now clock state.now.contents) (numbered state.now)) }
+    ensures parts { OnOk result (parts.new ≡ map (part_of plan.now clock state.now.contents) (numbered state.now)) }
+    ensures pops { OnOk result (pops.new ≡ pops.old ++ popped (all_exchanges parts.new)) }
+    ensures pushes { OnOk result (pushes.new ≡ pushes.old ++ pushed (all_exchanges parts.new)) }
 {
     for (i, part) in parts.iter_mut().enumerate() {
-        take_part(plan, codes, clock, state, i, words, part)?;
+        take_part(plan, codes, clock, state, i, words, pops, pushes, part)?;
     }
     Ok(())
 }
@@ -211,7 +246,7 @@ fn any_moves(parts: &[Part]) -> bool
     parts.iter().any(|part| part.moves)
 }
 
-/// Fills in the parts of all modules, and says whether the clock is settled: whether none moves, and none would if every
+/// Fills in the parts of all modules and what they pop and push, and says whether the clock is settled: whether none moves, and none would if every
 /// element could be popped.
 pub fn ask_all(
     plan: &Plan,
@@ -227,13 +262,19 @@ pub fn ask_all(
     requires count { length scratch.old.parts ≡ length state.now.modules }
     ensures settled { IfOk result (λ settled. settled ≡ is_settled plan.now clock state.now) }
     ensures parts { OnOk result (scratch.new.parts ≡ map (part_of plan.now clock state.now.contents) (numbered state.now)) }
+    ensures pops { OnOk result (scratch.new.pops ≡ popped (all_exchanges scratch.new.parts)) }
+    ensures pushes { OnOk result (scratch.new.pushes ≡ pushed (all_exchanges scratch.new.parts)) }
 {
+    scratch.pops.truncate(0);
+    scratch.pushes.truncate(0);
     take_parts(
         plan,
         codes,
         clock,
         state,
         &mut scratch.words,
+        &mut scratch.pops,
+        &mut scratch.pushes,
         scratch.parts.as_mut_slice(),
     )?;
     if any_moves(scratch.parts.as_slice()) {

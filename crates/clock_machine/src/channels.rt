@@ -1,11 +1,15 @@
 //! What can be done on the channels as they stand.
-ghost use Rattle.std.specs.Prelude.{◌≡◌, if◌then◌else◌, Some, None, length, slice_index, slice_index_or, []};
+ghost use Rattle.std.specs.Prelude.{◌≡◌, ◌++◌, ◌∷◌, true, false, is_some, IfOk, OnOk, if◌then◌else◌, Some, None, length, slice_index, slice_index_or, []};
 ghost use Rattle.std.specs.List.{list_any};
 ghost use Rattle.flow_design.specs.Plans.{is_fifo, kind_at, delay_at};
 ghost use Rattle.lockstep_defs.specs.Channels.{contents_of, front, is_empty, all_ready, is_full, is_possible, stalls, reply};
+ghost use Rattle.flow_design.specs.declared.state.Reply.TheVariants.{Flag};
+ghost use Rattle.lockstep_defs.specs.Lockstep.{answered};
+ghost use Rattle.clock_machine.specs.Parts.{outcomes_in, popped, pushed};
 
+use crate::part::Pushed;
 use flow_design::{ChannelKind, Element, Plan, Reply, Request};
-use flow_word::{Kind, Queue, Side};
+use flow_word::{Flags, Kind, List, OutOfMemory, Queue, Side};
 
 /// How many elements a channel holds.
 #[inline(always)]
@@ -129,37 +133,76 @@ pub fn any_stalls_ever(plan: &Plan, contents: &[Queue<Element>], requests: &[Req
         .any(|request| stalls_ever(plan, contents, request))
 }
 
-/// The reply to an operation, or none where it blocks and cannot be done.
+/// The reply with an outcome, which is added.
+#[inline(always)]
+fn flag(outcomes: &mut Flags, outcome: bool) -> Result<Option<Reply>, OutOfMemory>
+    ensures reply { IfOk result (λ reply. reply ≡ Some (Flag outcome)) }
+    ensures outcomes { OnOk result (outcomes.new ≡ outcomes.old ++ outcome ∷ []) }
+{
+    outcomes.push(outcome)?;
+    Ok(Some(Reply::Flag(outcome)))
+}
+
+/// The reply to an operation, or none where it blocks and cannot be done. Adds its outcome if it is a query, and what it pops and
+/// pushes.
 #[tactic(auto, unfolding(lockstep_defs::specs::Channels::reply))]
 #[inline(always)]
-pub fn reply_to(
+pub fn answer_one(
     plan: &Plan,
     clock: u64,
     contents: &[Queue<Element>],
     request: &Request,
-) -> Option<Reply>
-    ensures { result ≡ (if stalls plan.now clock contents.now request.now
-        then None else Some (reply plan.now clock contents.now request.now)) }
+    outcomes: &mut Flags,
+    pops: &mut List<u32>,
+    pushes: &mut List<Pushed>,
+) -> Result<Option<Reply>, OutOfMemory>
+    ensures reply { IfOk result (λ answer. answer
+        ≡ (if stalls plan.now clock contents.now request.now then None else Some (reply plan.now clock contents.now request.now))) }
+    ensures outcomes { IfOk result (λ answer. is_some answer ≡ true
+        → outcomes.new ≡ outcomes.old ++ outcomes_in (answered plan.now clock contents.now request.now ∷ [])) }
+    ensures pops { IfOk result (λ answer. is_some answer ≡ true
+        → pops.new ≡ pops.old ++ popped (answered plan.now clock contents.now request.now ∷ [])) }
+    ensures pushes { IfOk result (λ answer. is_some answer ≡ true
+        → pushes.new ≡ pushes.old ++ pushed (answered plan.now clock contents.now request.now ∷ [])) }
+    ensures none { IfOk result (λ answer. is_some answer ≡ false → pops.new ≡ pops.old) }
+    ensures nothing { IfOk result (λ answer. is_some answer ≡ false → pushes.new ≡ pushes.old) }
 {
     let channel = request.channel;
+    let value = request.value;
     match request.kind {
         Kind::Read => match ready(clock, contents, channel) {
-            None => None,
-            Some(value) => Some(Reply::Value(value)),
+            None => Ok(None),
+            Some(value) => {
+                pops.push(channel)?;
+                Ok(Some(Reply::Value(value)))
+            }
         },
         Kind::Write => {
             if is_full(plan, contents, channel) {
-                None
-            } else {
-                Some(Reply::Done)
+                return Ok(None);
             }
+            pushes.push(Pushed { channel, value })?;
+            Ok(Some(Reply::Done))
         }
         Kind::TryRead => match ready(clock, contents, channel) {
-            None => Some(Reply::Missed),
-            Some(value) => Some(Reply::Took(value)),
+            None => {
+                outcomes.push(false)?;
+                Ok(Some(Reply::Missed))
+            }
+            Some(value) => {
+                outcomes.push(true)?;
+                pops.push(channel)?;
+                Ok(Some(Reply::Took(value)))
+            }
         },
-        Kind::TryWrite => Some(Reply::Flag(!is_full(plan, contents, channel))),
-        Kind::Empty => Some(Reply::Flag(is_empty(clock, contents, channel))),
-        Kind::Full => Some(Reply::Flag(is_full(plan, contents, channel))),
+        Kind::TryWrite => {
+            let free = !is_full(plan, contents, channel);
+            if free {
+                pushes.push(Pushed { channel, value })?;
+            }
+            flag(outcomes, free)
+        }
+        Kind::Empty => flag(outcomes, is_empty(clock, contents, channel)),
+        Kind::Full => flag(outcomes, is_full(plan, contents, channel)),
     }
 }

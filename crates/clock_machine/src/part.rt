@@ -4,8 +4,15 @@ ghost use Rattle.clock_machine.specs.Parts.{no_part};
 
 use block_code::Noted;
 use flow_design::{Reply, Request};
-use flow_word::{List, OutOfMemory, Words};
+use flow_word::{Flags, List, OutOfMemory, Words};
 use std::alloc::Global;
+
+/// A value that is pushed on a channel in a clock.
+#[derive(Clone, Copy, Debug, PartialEq, Eq)]
+pub struct Pushed {
+    pub channel: u32,
+    pub value: u64,
+}
 
 /// A module's part in a clock. All lists are empty where the module does not move.
 #[derive(Drop)]
@@ -17,6 +24,8 @@ pub struct Part {
     pub requests: List<Request>,
     /// The replies to these, in their order.
     pub replies: List<Reply>,
+    /// The outcomes of the queries among them.
+    pub outcomes: Flags,
 }
 
 /// Room that is used anew in each clock.
@@ -24,6 +33,10 @@ pub struct Part {
 pub struct Scratch {
     /// One part per module.
     pub parts: List<Part>,
+    /// The channels that all modules pop in a clock, each as often as it is popped.
+    pub pops: List<u32>,
+    /// What all modules push in a clock.
+    pub pushes: List<Pushed>,
     pub noted: List<Noted>,
     pub requests: List<Request>,
     /// For the results of expressions.
@@ -40,6 +53,7 @@ impl Part {
             noted: List::new(alloc),
             requests: List::new(alloc),
             replies: List::new(alloc),
+            outcomes: List::new(alloc),
         }
     }
 
@@ -51,6 +65,7 @@ impl Part {
         self.noted.truncate(0);
         self.requests.truncate(0);
         self.replies.truncate(0);
+        self.outcomes.truncate(0);
     }
 }
 
@@ -64,6 +79,8 @@ pub fn new_scratch(alloc: Global, modules: u64) -> Result<Scratch, OutOfMemory>
     }
     Ok(Scratch {
         parts,
+        pops: List::new(alloc),
+        pushes: List::new(alloc),
         noted: List::new(alloc),
         requests: List::new(alloc),
         words: List::new(alloc),

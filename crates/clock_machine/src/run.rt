@@ -3,52 +3,54 @@ ghost use Rattle.std.specs.Prelude.{◌≡◌, ℕ, ◌+◌, ◌<◌, ◌≤◌,
 ghost use Rattle.flow_design.specs.StaticRules.{FitsEngine};
 ghost use Rattle.lockstep_defs.specs.Lockstep.{numbered, steps_in, clock_step};
 ghost use Rattle.lockstep_defs.specs.Report.{steps_of, outcomes, events_of, report};
-ghost use Rattle.std.specs.List.{enumerate_from};
-ghost use Rattle.clock_machine.specs.Parts.{part_of, answers_with, kept, AreFit, AreCodes};
+ghost use Rattle.clock_machine.specs.Parts.{part_of, all_exchanges, popped, pushed, kept, AreFit, AreCodes};
 
 use crate::asking::ask_all;
 use crate::contents::{pop_all, push_all};
 use crate::ending::{report_at, settled_report};
 use crate::moving::move_all;
 use crate::opening::{codes_of_all, no_answers, open_all};
-use crate::part::{Part, Scratch, new_scratch};
-use crate::telling::tell_kept_events;
+use crate::part::{Scratch, new_scratch};
+use crate::telling::{tell_all_outcomes, tell_kept_events};
 use block_code::BlockCode;
 use flow_design::{ClockState, EventLine, Plan, Report, Verdict};
 use flow_word::{Flags, List, OutOfMemory};
 use std::alloc::Global;
 
-/// One clock: the modules move by their parts, then all that they pop is taken off, which tells the outcomes of their queries, and
-/// then all that they push is put in.
+/// One clock: the modules move by their parts, then all that they pop is taken off, and then all that they push is put in.
 fn step(
     alloc: Global,
     plan: &Plan,
     codes: &[List<BlockCode>],
     clock: u64,
-    parts: &[Part],
+    scratch: &Scratch,
     state: &mut ClockState,
-    answers: &mut [Flags],
 ) -> Result<(), OutOfMemory>
     requires fits { FitsEngine plan.now }
     requires codes { AreCodes plan.now codes.now }
     requires fit { AreFit plan.now clock state.old.modules }
     requires early { clock ≤ plan.now.cycles }
-    requires parts { parts.now ≡ map (part_of plan.now clock state.old.contents) (numbered state.old) }
-    requires count { length answers.old ≡ length parts.now }
+    requires parts { scratch.now.parts ≡ map (part_of plan.now clock state.old.contents) (numbered state.old) }
+    requires pops { scratch.now.pops ≡ popped (all_exchanges scratch.now.parts) }
+    requires pushes { scratch.now.pushes ≡ pushed (all_exchanges scratch.now.parts) }
     ensures state { OnOk result (state.new ≡ clock_step plan.now clock state.old) }
     ensures fit { OnOk result (AreFit plan.now (clock + 1) state.new.modules) }
-    ensures answers { OnOk result (answers.new ≡ map (answers_with parts.now) (enumerate_from 0 answers.old)) }
 {
     move_all(
         alloc,
         plan,
         codes,
         clock,
-        parts,
+        scratch.parts.as_slice(),
         state.modules.as_mut_slice(),
     )?;
-    pop_all(state.contents.as_mut_slice(), answers, parts)?;
-    push_all(plan, clock, state.contents.as_mut_slice(), parts)?;
+    pop_all(state.contents.as_mut_slice(), scratch.pops.as_slice());
+    push_all(
+        plan,
+        clock,
+        state.contents.as_mut_slice(),
+        scratch.pushes.as_slice(),
+    )?;
     Ok(())
 }
 
@@ -59,7 +61,7 @@ fn next_clock(
     codes: &[List<BlockCode>],
     clock: u64,
     keep: bool,
-    scratch: &mut Scratch,
+    scratch: &Scratch,
     state: &mut ClockState,
     events: &mut List<EventLine>,
     answers: &mut List<Flags>,
@@ -68,11 +70,12 @@ fn next_clock(
     requires codes { AreCodes plan.now codes.now }
     requires fit { AreFit plan.now clock state.old.modules }
     requires early { clock ≤ plan.now.cycles }
-    requires parts { scratch.old.parts ≡ map (part_of plan.now clock state.old.contents) (numbered state.old) }
+    requires parts { scratch.now.parts ≡ map (part_of plan.now clock state.old.contents) (numbered state.old) }
+    requires pops { scratch.now.pops ≡ popped (all_exchanges scratch.now.parts) }
+    requires pushes { scratch.now.pushes ≡ pushed (all_exchanges scratch.now.parts) }
     requires count { length answers.old ≡ length plan.now.design.modules }
     ensures state { OnOk result (state.new ≡ clock_step plan.now clock state.old) }
     ensures fit { OnOk result (AreFit plan.now (clock + 1) state.new.modules) }
-    ensures parts { OnOk result (scratch.new.parts ≡ scratch.old.parts) }
     ensures events { OnOk result (events.new ≡ events.old ++ kept keep (events_of (steps_in plan.now clock state.old))) }
     ensures count { OnOk result (length answers.new ≡ length answers.old) }
     ensures answers { OnOk result ((i : ℕ) → i < length plan.now.design.modules
@@ -80,15 +83,8 @@ fn next_clock(
 {
     let parts = scratch.parts.as_slice();
     tell_kept_events(keep, events, clock, parts)?;
-    step(
-        alloc,
-        plan,
-        codes,
-        clock,
-        parts,
-        state,
-        answers.as_mut_slice(),
-    )?;
+    tell_all_outcomes(answers.as_mut_slice(), parts)?;
+    step(alloc, plan, codes, clock, scratch, state)?;
     Ok(())
 }
 
@@ -120,7 +116,7 @@ pub fn clock_run_by(
             codes,
             clock,
             keep,
-            &mut scratch,
+            &scratch,
             &mut state,
             &mut events,
             &mut answers,

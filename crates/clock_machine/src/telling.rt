@@ -1,10 +1,10 @@
 //! What a clock adds to the events and answers.
-ghost use Rattle.std.specs.Prelude.{◌≡◌, ◌<◌, ◌^◌, [], ◌∷◌, ◌++◌, map, length, OnOk};
-ghost use Rattle.clock_machine.specs.Parts.{exchange, event_by, events_from, kept, outcomes_in};
+ghost use Rattle.std.specs.Prelude.{◌≡◌, ◌<◌, ◌^◌, ◌++◌, map, length, OnOk};
+ghost use Rattle.std.specs.List.{enumerate_from};
+ghost use Rattle.clock_machine.specs.Parts.{event_by, events_from, kept, answers_with};
 
 use crate::part::Part;
-use block_code::is_yes;
-use flow_design::{EventLine, Reply, Request};
+use flow_design::{EventLine, Request};
 use flow_word::{Flags, List, OutOfMemory};
 
 /// Adds the events of one module's operations in a clock.
@@ -59,13 +59,24 @@ pub fn tell_kept_events(
     }
 }
 
-/// Adds the outcome of an operation if it is a query.
+/// Adds the outcomes of one module's queries in a clock.
 #[inline(always)]
-pub fn tell_outcome(answers: &mut Flags, request: &Request, reply: Reply) -> Result<(), OutOfMemory>
-    ensures { OnOk result (answers.new ≡ answers.old ++ outcomes_in (exchange (request.now, reply) ∷ [])) }
+fn tell_outcomes(answers: &mut Flags, outcomes: &[bool]) -> Result<(), OutOfMemory>
+    ensures { OnOk result (answers.new ≡ answers.old ++ outcomes.now) }
 {
-    if !request.kind.is_blocking() {
-        answers.push(is_yes(reply))?;
+    for outcome in outcomes {
+        answers.push(*outcome)?;
+    }
+    Ok(())
+}
+
+/// Adds the outcomes of a clock's queries to the answers of their modules.
+pub fn tell_all_outcomes(answers: &mut [Flags], parts: &[Part]) -> Result<(), OutOfMemory>
+    requires count { length answers.old ≡ length parts.now }
+    ensures { OnOk result (answers.new ≡ map (answers_with parts.now) (enumerate_from 0 answers.old)) }
+{
+    for (i, answers) in answers.iter_mut().enumerate() {
+        tell_outcomes(answers, parts[i].outcomes.as_slice())?;
     }
     Ok(())
 }

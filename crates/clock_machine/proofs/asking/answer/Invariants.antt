@@ -1,10 +1,17 @@
-use Rattle.std.proofs.Common.{◌≡◌, map, take, false}
+use Rattle.std.proofs.Common.{◌≡◌, ◌++◌, map, take, false}
 use Rattle.std.specs.List.{list_any}
 use Rattle.lockstep_defs.specs.Channels.{stalls, reply}
+use Rattle.lockstep_defs.specs.Lockstep.{answered}
+use Rattle.clock_machine.specs.Parts.{outcomes_in, popped, pushed}
 use Rattle.clock_machine.proofs.asking.answer.Given as goal
 
 abbrev pub invariant-loop-request : goal.invariant-loop-request
-invariant-loop-request l = record {
-  free : list_any (stalls l.plan l.clock l.contents) (take l.request-index l.requests) ≡ false;
-  replies : l.replies ≡ map (reply l.plan l.clock l.contents) (take l.request-index l.requests);
-}
+invariant-loop-request l =
+    let so_far = map (answered l.plan l.clock l.contents) (take l.request-index l.requests) in
+    record {
+      free : list_any (stalls l.plan l.clock l.contents) (take l.request-index l.requests) ≡ false;
+      replies : l.replies ≡ map (reply l.plan l.clock l.contents) (take l.request-index l.requests);
+      outcomes : l.outcomes ≡ outcomes_in so_far;
+      pops : l.pops ≡ l.initial.pops ++ popped so_far;
+      pushes : l.pushes ≡ l.initial.pushes ++ pushed so_far;
+    }

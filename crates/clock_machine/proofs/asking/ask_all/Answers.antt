@@ -19,12 +19,12 @@ pub returns-then-any_moves-clause-settled : goal.returns-then-any_moves-clause-s
 returns-then-any_moves-clause-settled c =
     sym (moving_unsettled c.args.plan.now c.args.clock c.args.state.now c.as_slice.result.now
     (parts_are c.args.plan.now c.args.clock c.args.state.now c.args.scratch.now.parts c.take_parts.new.parts c.as_slice.result.now
-    c.as_slice.ensures c.requires.count c.in_ok-take_parts.ensures)
+    c.as_slice.ensures c.requires.count c.in_ok-take_parts.ensures.parts)
     (sym c.any_moves.ensures ∙ c.if-any_moves.true))
 
 pub returns-clause-settled : goal.returns-clause-settled
 returns-clause-settled c =
     sym (still_settled c.args.plan.now c.args.clock c.args.state.now c.as_slice.result.now c.in_ok-moving.moving
     (parts_are c.args.plan.now c.args.clock c.args.state.now c.args.scratch.now.parts c.take_parts.new.parts c.as_slice.result.now
-    c.as_slice.ensures c.requires.count c.in_ok-take_parts.ensures)
+    c.as_slice.ensures c.requires.count c.in_ok-take_parts.ensures.parts)
     (sym c.any_moves.ensures ∙ c.if-any_moves.false) c.in_ok-moving.ensures)

@@ -4,15 +4,16 @@ use Rattle.lockstep_defs.specs.Machine.{is_over, nobody}
 use Rattle.lockstep_defs.specs.Channels.{stalls}
 use Rattle.lockstep_defs.specs.Lockstep.{module_at, requests_of}
 use Rattle.module_move.specs.Moves.{notes_of}
-use Rattle.clock_machine.proofs.PartLemmas.{over_part, stalled_part, asked_by, answered_part, sound_of}
+use Rattle.clock_machine.specs.Parts.{popped, pushed}
+use Rattle.clock_machine.proofs.PartLemmas.{over_part, stalled_part, asked_by, answered_part, given, sound_of}
 use Rattle.clock_machine.proofs.asking.take_part.Goals as goal
 
 flipped : (b c d : Bool) → c ≡ not b → c ≡ d → b ≡ not d
 flipped true c d h k = ap not (sym h ∙ k)
 flipped false c d h k = ap not (sym h ∙ k)
 
-pub returns-then-is_over : goal.returns-then-is_over
-returns-then-is_over c =
+pub returns-then-is_over-clause-part : goal.returns-then-is_over-clause-part
+returns-then-is_over-clause-part c =
     c.clear.ensures ∙ sym (over_part c.args.plan.now c.args.clock c.args.state.now.contents
     (c.args.i, get_or c.args.state.now.modules c.args.i nobody)
     (ap (is_over c.args.plan.now.ops) (sym c.state_at-module.ensures) ∙ (sym c.is_over.ensures ∙ c.if-is_over.true)))
@@ -23,8 +24,8 @@ note_one-requires-clause-sound c =
     c.requires.fit (omega arith)
     refl c.state_at-module.ensures (sym c.is_over.ensures ∙ c.if-is_over.false)
 
-pub returns-then-not-part : goal.returns-then-not-part
-returns-then-not-part c =
+pub returns-then-not-part-clause-part : goal.returns-then-not-part-clause-part
+returns-then-not-part-clause-part c =
     let asked = asked_by c.args.plan.now c.args.state.now c.args.i (module_at c.args.plan.now c.args.i) c.state_at-module.result.now
     c.note_one.new.asked
     refl c.state_at-module.ensures c.in_ok-note_one.ensures.asked in
@@ -38,8 +39,8 @@ returns-then-not-part c =
     ∙ sym (stalled_part c.args.plan.now c.args.clock c.args.state.now.contents
     (c.args.i, get_or c.args.state.now.modules c.args.i nobody) running stalled)
 
-pub returns-else-not-part : goal.returns-else-not-part
-returns-else-not-part c =
+pub returns-else-not-part-clause-part : goal.returns-else-not-part-clause-part
+returns-else-not-part-clause-part c =
     let asked = asked_by c.args.plan.now c.args.state.now c.args.i (module_at c.args.plan.now c.args.i) c.state_at-module.result.now
     c.note_one.new.asked
     refl c.state_at-module.ensures c.in_ok-note_one.ensures.asked in
@@ -53,3 +54,18 @@ returns-else-not-part c =
     (flipped _ c.in_ok-part.field-0 true c.in_ok-part.ensures.goes c.if-not-part.false))
     asked c.if-not-part.false noted refl
     (rw (← c.as_slice-contents.ensures, ← c.as_slice-requests.ensures) (c.in_ok-part.ensures.replies c.if-not-part.false))
+    (rw (← c.as_slice-contents.ensures, ← c.as_slice-requests.ensures) (c.in_ok-part.ensures.outcomes c.if-not-part.false))
+
+pub returns-else-not-part-clause-pops : goal.returns-else-not-part-clause-pops
+returns-else-not-part-clause-pops c =
+    rw (← c.as_slice-requests.ensures)
+    (given popped c.args.plan.now c.args.clock c.as_slice-contents.result.now c.as_slice-requests.result.now c.answer.new.replies
+    c.in_ok-part.field-0 c.args.pops.now c.answer.new.pops c.if-not-part.false (c.in_ok-part.ensures.replies c.if-not-part.false)
+    c.in_ok-part.ensures.pops)
+
+pub returns-else-not-part-clause-pushes : goal.returns-else-not-part-clause-pushes
+returns-else-not-part-clause-pushes c =
+    rw (← c.as_slice-requests.ensures)
+    (given pushed c.args.plan.now c.args.clock c.as_slice-contents.result.now c.as_slice-requests.result.now c.answer.new.replies
+    c.in_ok-part.field-0 c.args.pushes.now c.answer.new.pushes c.if-not-part.false (c.in_ok-part.ensures.replies c.if-not-part.false)
+    c.in_ok-part.ensures.pushes)

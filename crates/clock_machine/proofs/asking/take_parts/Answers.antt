@@ -1,16 +1,47 @@
-use Rattle.std.proofs.Common.{arith}
+use Rattle.std.proofs.Common.{◌≡◌, ℕ, ◌+◌, ◌<◌, ◌++◌, ◌∷◌, [], List, length, take, ap, ◌∙◌, arith}
+use Rattle.std.proofs.Math.ListN.{set}
+use Rattle.std.proofs.lemmas.List.{append-nil, take_all, take_more_set}
+use Rattle.std.proofs.lemmas.List.Concat.{flat_map-append}
 use Rattle.lockstep_defs.specs.Machine.{nobody}
-use Rattle.clock_machine.specs.Parts.{part_of}
+use Rattle.clock_machine.specs.declared.part.Part.{Part}
+use Rattle.clock_machine.specs.Parts.{part_of, exchanges_of, all_exchanges, popped, pushed}
 use Rattle.clock_machine.proofs.Fronts.{written_more, written_all}
+use Rattle.clock_machine.proofs.Listed.{added, popped_adds, pushed_adds}
 use Rattle.clock_machine.proofs.asking.take_parts.Goals as goal
+
+-- the operations of one part more
+part_more : (parts : List Part) (i : ℕ) (part : Part) → i < length parts
+    → all_exchanges (take (i + 1) (set parts i part)) ≡ all_exchanges (take i parts) ++ exchanges_of part
+part_more parts i part h =
+    ap all_exchanges (take_more_set parts i part h)
+    ∙ (flat_map-append exchanges_of (take i parts) (part ∷ []) ∙ ap (λ l. all_exchanges (take i parts) ++ l) (append-nil _))
 
 pub loop-i-preserved : goal.loop-i-preserved
 loop-i-preserved c =
-    written_more (part_of c.args.plan.now c.args.clock c.args.state.now.contents) c.args.state.now.modules c.loop-i.parts c.loop-i.i
-    c.take_part.new.part nobody
-    (omega arith) (omega arith) c.loop-i.invariant c.in_ok-take_part.ensures
+    let i = c.loop-i.i in
+    let more = part_more c.loop-i.parts i c.take_part.new.part (omega arith) in
+    let so_far = all_exchanges (take i c.loop-i.parts) in
+    let here = exchanges_of c.take_part.new.part in record {
+      parts = written_more (part_of c.args.plan.now c.args.clock c.args.state.now.contents) c.args.state.now.modules c.loop-i.parts i
+          c.take_part.new.part nobody
+          (omega arith) (omega arith) c.loop-i.invariant.parts c.in_ok-take_part.ensures.part;
+      pops = added popped popped_adds c.args.pops.now c.loop-i.pops c.take_part.new.pops so_far here _ more
+          c.loop-i.invariant.pops c.in_ok-take_part.ensures.pops;
+      pushes = added pushed pushed_adds c.args.pushes.now c.loop-i.pushes c.take_part.new.pushes so_far here _ more
+          c.loop-i.invariant.pushes c.in_ok-take_part.ensures.pushes;
+    }
 
-pub returns : goal.returns
-returns c =
+pub returns-clause-parts : goal.returns-clause-parts
+returns-clause-parts c =
     written_all (part_of c.args.plan.now c.args.clock c.args.state.now.contents) c.args.state.now.modules c.loop-i.parts c.loop-i.i
-    (omega arith) (omega arith) c.loop-i.invariant
+    (omega arith) (omega arith) c.loop-i.invariant.parts
+
+pub returns-clause-pops : goal.returns-clause-pops
+returns-clause-pops c =
+    c.loop-i.invariant.pops
+    ∙ ap (λ (ps : List Part). c.args.pops.now ++ popped (all_exchanges ps)) (take_all c.loop-i.i c.loop-i.parts (omega arith))
+
+pub returns-clause-pushes : goal.returns-clause-pushes
+returns-clause-pushes c =
+    c.loop-i.invariant.pushes
+    ∙ ap (λ (ps : List Part). c.args.pushes.now ++ pushed (all_exchanges ps)) (take_all c.loop-i.i c.loop-i.parts (omega arith))

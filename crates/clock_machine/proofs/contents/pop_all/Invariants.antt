@@ -1,11 +1,7 @@
-use Rattle.std.proofs.Common.{◌≡◌, ℕ, ◌≤◌, [], map, take, get_or}
+use Rattle.std.proofs.Common.{◌≡◌, map, take}
 use Rattle.std.specs.List.{enumerate_from}
-use Rattle.clock_machine.specs.Parts.{all_exchanges, answers_with, after_pops}
+use Rattle.clock_machine.specs.Parts.{after_pops}
 use Rattle.clock_machine.proofs.contents.pop_all.Given as goal
 
-abbrev pub invariant-loop-i : goal.invariant-loop-i
-invariant-loop-i l = record {
-  contents : l.contents ≡ map (after_pops (all_exchanges (take l.i l.parts))) (enumerate_from 0 l.initial.contents);
-  told : take l.i l.answers ≡ map (answers_with l.parts) (take l.i (enumerate_from 0 l.initial.answers));
-  rest : (k : ℕ) → l.i ≤ k → get_or l.answers k [] ≡ get_or l.initial.answers k [];
-}
+abbrev pub invariant-loop-channel : goal.invariant-loop-channel
+invariant-loop-channel l = l.contents ≡ map (after_pops (take l.channel-index l.pops)) (enumerate_from 0 l.initial.contents)

@@ -59,7 +59,7 @@ loop-clock-preserved c =
           ∙ (ap (λ (es : List EventLine). es ++ kept c.args.keep more) c.loop-clock.invariant.events
           ∙ (sym (kept-append c.args.keep before more) ∙ ap (kept c.args.keep) at.are_events));
       fit = c.in_ok-next_clock.ensures.fit;
-      parts = ap length c.in_ok-next_clock.ensures.parts ∙ (count ∙ c.loop-clock.invariant.fit.count);
+      parts = count ∙ c.loop-clock.invariant.fit.count;
     }
 
 pub returns-then-branch : goal.returns-then-branch

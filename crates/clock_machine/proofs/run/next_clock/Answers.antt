@@ -11,13 +11,13 @@ tell_kept_events-requires c =
     let same : length c.as_slice-parts.result.now ≡ length c.args.scratch.now.parts = ap length c.as_slice-parts.ensures in
     record { few = omega arith }
 
-pub step-requires-clause-count : goal.step-requires-clause-count
-step-requires-clause-count c =
+pub tell_all_outcomes-requires : goal.tell_all_outcomes-requires
+tell_all_outcomes-requires c =
     let count = numbered_length (part_of c.args.plan.now c.args.clock c.args.state.now.contents) c.args.state.now.modules
     c.args.scratch.now.parts c.requires.parts in
     let same : length c.as_slice-parts.result.now ≡ length c.args.scratch.now.parts = ap length c.as_slice-parts.ensures in
     let lent : length c.as_mut_slice.result.now ≡ length c.args.answers.now = ap length c.as_mut_slice.ensures.value in
-    omega arith
+    record { count = omega arith }
 
 pub returns-clause-events : goal.returns-clause-events
 returns-clause-events c =
@@ -33,9 +33,9 @@ returns-clause-answers c = λ i l.
     let same : length c.as_slice-parts.result.now ≡ length c.args.scratch.now.parts = ap length c.as_slice-parts.ensures in
     ap (λ (all : List (List Bool)). get_or all i [])
     (written_through (answers_with c.as_slice-parts.result.now) c.args.answers.now c.as_mut_slice.result.now
-    c.step.new.answers
-    c.as_mut_slice.ensures.value c.in_ok-step.ensures.answers)
+    c.tell_all_outcomes.new.answers
+    c.as_mut_slice.ensures.value c.in_ok-tell_all_outcomes.ensures)
     ∙ (numbered_read (answers_with c.as_slice-parts.result.now) c.args.answers.now i [] [] (omega arith)
     ∙ ap (λ (more : List Bool). get_or c.args.answers.now i [] ++ more)
     (outcomes_told c.args.plan.now c.args.clock c.args.state.now c.as_slice-parts.result.now i (c.as_slice-parts.ensures ∙ c.requires.parts)
-    (omega arith)))
+    (omega arith) (omega arith)))

@@ -1,0 +1,47 @@
+use Rattle.std.proofs.Common.{◌≡◌, ◌++◌, ◌∷◌, [], refl, sym, ap, ◌∙◌, Bool, true, false, cond, Option, Some, None, get_or, map, take}
+use Rattle.std.specs.Prelude.{is_some}
+use Rattle.std.specs.List.{list_any}
+use Rattle.std.proofs.lemmas.List.{take_more, map_more}
+use Rattle.std.proofs.lemmas.List.Folds.{list_any-append}
+use Rattle.flow_word.specs.declared.access.Kind.TheVariants.{Read}
+use Rattle.flow_design.specs.declared.state.Reply.{Reply}
+use Rattle.flow_design.specs.declared.state.Request.{Request}
+use Rattle.lockstep_defs.specs.Channels.{stalls, reply}
+use Rattle.lockstep_defs.specs.Lockstep.{answered}
+use Rattle.clock_machine.specs.Parts.{outcomes_in, popped, pushed}
+use Rattle.clock_machine.proofs.Listed.{added, outcomes_add, popped_adds, pushed_adds}
+use Rattle.clock_machine.proofs.asking.answer.Goals as goal
+
+-- an operation that has an answer does not stall, and the answer is its reply
+goes_on : (b : Bool) (a : Option Reply) (x y : Reply) → a ≡ cond b None (Some x) → a ≡ Some y → (b ≡ false) × (y ≡ x)
+goes_on true a x y e f = cc
+goes_on false a x y e f = (refl, cc)
+
+pub loop-request-preserved : goal.loop-request-preserved
+loop-request-preserved c =
+    let p = c.args.plan.now in
+    let contents = c.args.contents.now in
+    let i = c.loop-request.request-index in
+    let asked = c.args.requests.now in
+    let none : Request = record { kind = Read; channel = 0; value = 0 } in
+    let r = get_or asked i none in
+    let has = ap is_some c.in-Some.is in
+    let goes = goes_on (stalls p c.args.clock contents r) c.in_ok-answer_one.field-0 (reply p c.args.clock contents r) c.in-Some.reply
+    c.in_ok-answer_one.ensures.reply c.in-Some.is in
+    let so_far = map (answered p c.args.clock contents) (take i asked) in
+    let here = answered p c.args.clock contents r ∷ [] in
+    let more = map_more (answered p c.args.clock contents) asked i none c.loop-request-test.true in
+    let still : list_any (stalls p c.args.clock contents) (take i asked ++ r ∷ []) ≡ false =
+    list_any-append (stalls p c.args.clock contents) (take i asked) (r ∷ []) ∙ rw (c.loop-request.invariant.free, goes.0) refl in
+    record {
+      free = ap (list_any (stalls p c.args.clock contents)) (take_more asked i none c.loop-request-test.true) ∙ still;
+      replies = c.in_ok-push-in-Some.ensures.ok ∙ (ap (λ l. l ++ c.in-Some.reply ∷ []) c.loop-request.invariant.replies
+          ∙ (ap (λ (y : Reply). map (reply p c.args.clock contents) (take i asked) ++ y ∷ []) goes.1
+          ∙ sym (map_more (reply p c.args.clock contents) asked i none c.loop-request-test.true)));
+      outcomes = added outcomes_in outcomes_add [] c.loop-request.outcomes c.answer_one.new.outcomes so_far here _ more
+          c.loop-request.invariant.outcomes (c.in_ok-answer_one.ensures.outcomes has);
+      pops = added popped popped_adds c.args.pops.now c.loop-request.pops c.answer_one.new.pops so_far here _ more
+          c.loop-request.invariant.pops (c.in_ok-answer_one.ensures.pops has);
+      pushes = added pushed pushed_adds c.args.pushes.now c.loop-request.pushes c.answer_one.new.pushes so_far here _ more
+          c.loop-request.invariant.pushes (c.in_ok-answer_one.ensures.pushes has);
+    }

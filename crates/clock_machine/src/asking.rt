@@ -6,7 +6,8 @@ ghost use Rattle.lockstep_defs.specs.Machine.{nobody, requests};
 ghost use Rattle.lockstep_defs.specs.Channels.{all_ready, stalls, reply};
 ghost use Rattle.lockstep_defs.specs.Lockstep.{module_at, numbered, moves, answered};
 ghost use Rattle.lockstep_defs.specs.Verdict.{is_settled, some_moves};
-ghost use Rattle.clock_machine.specs.Parts.{part_of, exchanges_of, all_exchanges, outcomes_in, popped, pushed, AreFit, AreFitInTime, AreCodes};
+ghost use Rattle.clock_machine.specs.Parts.{part_of, exchanges_of, all_exchanges, outcomes_in, popped, pushed};
+ghost use Rattle.clock_machine.specs.Parts.{AreFit, AreFitInTime, AreCodes};
 ghost use Rattle.module_move.specs.Sound.{IsStateSound};
 ghost use Rattle.module_move.specs.Moves.{notes_of};
 
@@ -246,8 +247,8 @@ fn any_moves(parts: &[Part]) -> bool
     parts.iter().any(|part| part.moves)
 }
 
-/// Fills in the parts of all modules and what they pop and push, and says whether the clock is settled: whether none moves, and none would if every
-/// element could be popped.
+/// Fills in the parts of all modules and what they pop and push, and says whether the clock is settled: whether none moves, and
+/// none would if every element could be popped.
 pub fn ask_all(
     plan: &Plan,
     codes: &[List<BlockCode>],

@@ -1,5 +1,6 @@
 //! What can be done on the channels as they stand.
-ghost use Rattle.std.specs.Prelude.{◌≡◌, ◌++◌, ◌∷◌, true, false, is_some, IfOk, OnOk, if◌then◌else◌, Some, None, length, slice_index, slice_index_or, []};
+ghost use Rattle.std.specs.Prelude.{◌≡◌, ◌++◌, ◌∷◌, true, false, length, slice_index, slice_index_or, []};
+ghost use Rattle.std.specs.Prelude.{if◌then◌else◌, Some, None, is_some, IfOk, OnOk};
 ghost use Rattle.std.specs.List.{list_any};
 ghost use Rattle.flow_design.specs.Plans.{is_fifo, kind_at, delay_at};
 ghost use Rattle.lockstep_defs.specs.Channels.{contents_of, front, is_empty, all_ready, is_full, is_possible, stalls, reply};
@@ -43,7 +44,8 @@ fn is_empty(clock: u64, contents: &[Queue<Element>], channel: u32) -> bool
 /// The value at a channel's front, where it can be popped in this clock.
 #[inline(always)]
 fn ready(clock: u64, contents: &[Queue<Element>], channel: u32) -> Option<u64>
-    ensures { result ≡ (if is_empty clock (contents_of contents.now channel) then None else Some (front (contents_of contents.now channel))) }
+    ensures { result ≡ (if is_empty clock (contents_of contents.now channel)
+        then None else Some (front (contents_of contents.now channel))) }
 {
     let channel = channel as usize;
     if channel < contents.len() {
@@ -164,8 +166,8 @@ pub fn answer_one(
         → pops.new ≡ pops.old ++ popped (answered plan.now clock contents.now request.now ∷ [])) }
     ensures pushes { IfOk result (λ answer. is_some answer ≡ true
         → pushes.new ≡ pushes.old ++ pushed (answered plan.now clock contents.now request.now ∷ [])) }
-    ensures none { IfOk result (λ answer. is_some answer ≡ false → pops.new ≡ pops.old) }
-    ensures nothing { IfOk result (λ answer. is_some answer ≡ false → pushes.new ≡ pushes.old) }
+    ensures no_pop { IfOk result (λ answer. is_some answer ≡ false → pops.new ≡ pops.old) }
+    ensures no_push { IfOk result (λ answer. is_some answer ≡ false → pushes.new ≡ pushes.old) }
 {
     let channel = request.channel;
     let value = request.value;

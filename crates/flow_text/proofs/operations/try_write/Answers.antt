@@ -10,5 +10,6 @@ returns c =
     let outcome = c.in_ok-outcome.outcome in
     let trees = trees_of (map (λ t. t.now) (take (length tokens - 2) (drop 2 tokens))) in
     let told = try_write_reads c.args.tables.now channel outcome trees in
-    let split = two_front (λ t. t.now) _ _ tokens channel outcome c.in_ok-channel.ensures c.in_ok-outcome.ensures c.in-len2-up.len_at_least in
+    let split = two_front (λ t. t.now) _ _ tokens channel outcome c.in_ok-channel.ensures c.in_ok-outcome.ensures
+    c.in-len2-up.len_at_least in
     rw split (grind (arith, told, c.map.ensures.cases))

@@ -75,7 +75,7 @@ module _ (channels : List Channel) (readers : List ℕ) (m : ℕ) (popped : List
   }
     where
       none : (c : ℕ) → eqb (slice_index readers c) m ≡ false → slice_index_or values c [] ≡ mailed channels readers m popped c
-      none c z = elim (k.some c) [ | inl e ↦ e ∙ sym (cond-false _ _ [] z) | inr e ↦ e ]
+      none c z = elim (k.some c) [ inl e ↦ e ∙ sym (cond-false _ _ [] z) | inr e ↦ e ]
 
   -- all ports are passed
   pub reads_all : (values : List (List ℕ)) (at : ℕ) → IsReading values at → length ports ≤ at → HasAllPops readers m ports
@@ -87,6 +87,6 @@ module _ (channels : List Channel) (readers : List ℕ) (m : ℕ) (popped : List
           | inl y ↦
               let (i, there) = all c l y.1 in
               k.read i c (let within = slice_get_within ports i (record { side = Pop; channel = c }) there in omega arith) l there
-          | inr n ↦ elim (k.some c) [ | inl e ↦ e ∙ sym (cond-false _ _ [] n.0) | inr e ↦ e ]
+          | inr n ↦ elim (k.some c) [ inl e ↦ e ∙ sym (cond-false _ _ [] n.0) | inr e ↦ e ]
         ];
   }

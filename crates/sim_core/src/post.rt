@@ -166,6 +166,15 @@ pub(crate) fn make_mail(
     read_outcomes(log, owner, first, count_queries(accesses), &mut outcomes)?;
     let mut values = values;
     make_places(alloc, &mut values, readers.len() as u64)?;
-    read_all(alloc, fifos, unread, ports, readers, owner, popped, &mut values)?;
+    read_all(
+        alloc,
+        fifos,
+        unread,
+        ports,
+        readers,
+        owner,
+        popped,
+        &mut values,
+    )?;
     Ok(Mail { outcomes, values })
 }

@@ -55,11 +55,11 @@ loop-port-preserved c =
                 (w.read_channel.ensures.left all n (c.loop-port.invariant.left all n are));
           }
       | else-pops w ↦ record {
-          reading = subst (λ (vs : List (List ℕ)). IsReadingPorts channels readers owner popped ports vs (at + 1)) (sym w.values-is)
-              (reads_on channels readers owner popped ports c.loop-port.values at port c.loop-port.invariant.reading here
-              (c.pops.ensures.other w.if-pops.false));
-          left = λ all n are. subst (AreUnread all n) (sym w.unread-is) (c.loop-port.invariant.left all n are);
-        }
+        reading = subst (λ (vs : List (List ℕ)). IsReadingPorts channels readers owner popped ports vs (at + 1)) (sym w.values-is)
+            (reads_on channels readers owner popped ports c.loop-port.values at port c.loop-port.invariant.reading here
+            (c.pops.ensures.other w.if-pops.false));
+        left = λ all n are. subst (AreUnread all n) (sym w.unread-is) (c.loop-port.invariant.left all n are);
+      }
     ]
 
 pub returns-clause-read : goal.returns-clause-read

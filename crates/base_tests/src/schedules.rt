@@ -22,7 +22,10 @@ fn block_of_tests(
         ops.push(Timed {
             offset: *offset,
             guard: None,
-            op: Op::Empty(0, 0),
+            op: Op::Empty {
+                channel: 0,
+                target: 0,
+            },
         })?;
     }
     Ok(Block {

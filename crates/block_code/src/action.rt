@@ -60,32 +60,48 @@ pub(crate) fn action_of(
             let target = target_of(of, block, *place);
             Ok(Action::Set(target, operand_of(alloc, value)?))
         }
-        Op::Load(place, memory, address) => {
-            let target = target_of(of, block, *place);
+        Op::Load {
+            target,
+            memory,
+            address,
+        } => {
+            let target = target_of(of, block, *target);
             Ok(Action::Load(target, *memory, operand_of(alloc, address)?))
         }
-        Op::Store(memory, address, value) => {
+        Op::Store {
+            memory,
+            address,
+            value,
+        } => {
             let mask = memory_mask(of.memories.as_slice(), *memory);
             let address = operand_of(alloc, address)?;
             let value = operand_of(alloc, value)?;
             Ok(Action::Store(*memory, mask, address, value))
         }
-        Op::Read(channel, place) => Ok(Action::Read(*channel, target_of(of, block, *place))),
+        Op::Read { channel, target } => Ok(Action::Read(*channel, target_of(of, block, *target))),
         Op::Write(channel, value) => {
             let mask = channel_mask(channels, *channel);
             Ok(Action::Write(*channel, mask, operand_of(alloc, value)?))
         }
-        Op::TryRead(channel, place, ok) => {
-            let target = target_of(of, block, *place);
-            Ok(Action::TryRead(*channel, target, target_of(of, block, *ok)))
+        Op::TryRead {
+            channel,
+            target,
+            outcome,
+        } => {
+            let target = target_of(of, block, *target);
+            Ok(Action::TryRead(*channel, target, target_of(of, block, *outcome)))
         }
-        Op::TryWrite(channel, ok, value) => {
+        Op::TryWrite {
+            channel,
+            outcome,
+            value,
+        } => {
             let mask = channel_mask(channels, *channel);
-            let ok = target_of(of, block, *ok);
-            Ok(Action::TryWrite(*channel, mask, ok, operand_of(alloc, value)?))
+            let outcome = target_of(of, block, *outcome);
+            Ok(Action::TryWrite(*channel, mask, outcome, operand_of(alloc, value)?))
         }
-        Op::Empty(channel, place) => Ok(Action::Empty(*channel, target_of(of, block, *place))),
-        Op::Full(channel, place) => Ok(Action::Full(*channel, target_of(of, block, *place))),
+        Op::Empty { channel, target } => Ok(Action::Empty(*channel, target_of(of, block, *target))),
+        Op::Full { channel, target } => Ok(Action::Full(*channel, target_of(of, block, *target))),
     }
 }
 

@@ -67,7 +67,7 @@ pub fn delay(plan: &Plan, channel: u32) -> u64
     let channel = channel as usize;
     if channel < channels.len() {
         match channels[channel].kind {
-            ChannelKind::Fifo(_, delay) => delay,
+            ChannelKind::Fifo { delay, .. } => delay,
             ChannelKind::Source | ChannelKind::Sink => 1,
         }
     } else {

@@ -16,7 +16,7 @@ pub enum TableChannel {
     Sink,
     /// A queue of this depth, from 1 to 1,000,000, and this delay, from 1 to 1,000: an element can be popped so many
     /// clocks after its push.
-    Fifo(u64, u64),
+    Fifo { depth: u64, delay: u64 },
 }
 
 /// One push: the step that made it, and its value.
@@ -112,8 +112,8 @@ impl RoomyChannel {
         ensures { result ≡ lag_of self.now.kind side }
     {
         match (&self.kind, side) {
-            (TableChannel::Fifo(_, delay), Side::Pop) => *delay,
-            (TableChannel::Fifo(_, _), Side::Push) => 1,
+            (TableChannel::Fifo { delay, .. }, Side::Pop) => *delay,
+            (TableChannel::Fifo { .. }, Side::Push) => 1,
             (TableChannel::Source(_) | TableChannel::Sink, _) => 1,
         }
     }
@@ -124,9 +124,9 @@ impl RoomyChannel {
     {
         match (&self.kind, side) {
             (TableChannel::Source(inputs), Side::Pop) => inputs.len(),
-            (TableChannel::Fifo(depth, _), Side::Push) => *depth,
+            (TableChannel::Fifo { depth, .. }, Side::Push) => *depth,
             (TableChannel::Source(_), Side::Push) => 0,
-            (TableChannel::Fifo(_, _), Side::Pop) => 0,
+            (TableChannel::Fifo { .. }, Side::Pop) => 0,
             (TableChannel::Sink, _) => 0,
         }
     }
@@ -161,7 +161,7 @@ impl RoomyChannel {
     pub fn set_depth(&mut self, depth: u64)
         ensures { self.new ≡ record self.old { kind = deepened self.old.kind depth } }
     {
-        if let TableChannel::Fifo(current, _) = &mut self.kind {
+        if let TableChannel::Fifo { depth: current, .. } = &mut self.kind {
             *current = depth;
         }
     }
@@ -176,6 +176,9 @@ fn copied(alloc: Global, kind: &TableChannel) -> Result<TableChannel, OutOfMemor
             inputs.as_slice(),
         )?)),
         TableChannel::Sink => Ok(TableChannel::Sink),
-        TableChannel::Fifo(depth, delay) => Ok(TableChannel::Fifo(*depth, *delay)),
+        TableChannel::Fifo { depth, delay } => Ok(TableChannel::Fifo {
+            depth: *depth,
+            delay: *delay,
+        }),
     }
 }

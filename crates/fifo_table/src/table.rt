@@ -118,7 +118,7 @@ impl FifoTable {
         ensures { (result ≡ true) ↔ IsFifo (channel_at self.now.channels channel).kind }
     {
         match &self.channels[channel as usize].kind {
-            TableChannel::Fifo(..) => true,
+            TableChannel::Fifo { .. } => true,
             TableChannel::Source(_) | TableChannel::Sink => false,
         }
     }
@@ -149,7 +149,7 @@ impl FifoTable {
         let channel = &self.channels[channel as usize];
         match &channel.kind {
             TableChannel::Source(inputs) => inputs.as_slice().get((n - 1) as usize).copied(),
-            TableChannel::Sink | TableChannel::Fifo(..) => {
+            TableChannel::Sink | TableChannel::Fifo { .. } => {
                 channel.push(n - 1).map(|push| push.value)
             }
         }
@@ -231,7 +231,7 @@ impl FifoTable {
             TableChannel::Source(inputs) if n <= inputs.len() => Enabler::Free,
             TableChannel::Source(_) => Enabler::Never,
             TableChannel::Sink => Enabler::Missing,
-            TableChannel::Fifo(..) => emitted(channel.push(n - 1).map(|push| push.at)),
+            TableChannel::Fifo { .. } => emitted(channel.push(n - 1).map(|push| push.at)),
         }
     }
 
@@ -247,8 +247,8 @@ impl FifoTable {
         match &channel.kind {
             TableChannel::Source(_) => Enabler::Missing,
             TableChannel::Sink => Enabler::Free,
-            TableChannel::Fifo(depth, _) if n <= *depth => Enabler::Free,
-            TableChannel::Fifo(depth, _) => emitted(channel.pop(n - *depth - 1)),
+            TableChannel::Fifo { depth, .. } if n <= *depth => Enabler::Free,
+            TableChannel::Fifo { depth, .. } => emitted(channel.pop(n - *depth - 1)),
         }
     }
 
@@ -261,7 +261,7 @@ impl FifoTable {
         ensures most { result ≤ FIFO_DEPTH }
     {
         match &self.channels[channel as usize].kind {
-            TableChannel::Fifo(depth, _) => *depth,
+            TableChannel::Fifo { depth, .. } => *depth,
             TableChannel::Source(_) | TableChannel::Sink => 0,
         }
     }

@@ -38,14 +38,14 @@ fn behind(before: Counts, statement: &Statement) -> Counts
 {
     let mut after = before;
     match statement {
-        Statement::Source(_, _) | Statement::Sink(_, _) | Statement::Fifo(_, _, _, _) => {
+        Statement::Source(_, _) | Statement::Sink(_, _) | Statement::Fifo { .. } => {
             after.channels += 1;
         }
         Statement::Module(_) => {
             after.modules += 1;
             after.blocks = 0;
         }
-        Statement::Block(_, _) | Statement::Loop(_, _, _, _) => {
+        Statement::Block(_, _) | Statement::Loop { .. } => {
             after.blocks += 1;
             after.operations = 0;
         }
@@ -80,15 +80,15 @@ fn item_behind(before: Counts, statement: &Statement) -> Option<Item>
     ensures { result ≡ item_behind before statement.now }
 {
     match statement {
-        Statement::Limits(_, _) => Some(Item::Limits),
-        Statement::Source(_, _) | Statement::Sink(_, _) | Statement::Fifo(_, _, _, _) => {
+        Statement::Limits { .. } => Some(Item::Limits),
+        Statement::Source(_, _) | Statement::Sink(_, _) | Statement::Fifo { .. } => {
             Some(Item::Channel(before.channels))
         }
-        Statement::Block(_, _) | Statement::Loop(_, _, _, _) => {
+        Statement::Block(_, _) | Statement::Loop { .. } => {
             in_last_module(before, before.blocks, Spot::Head)
         }
         Statement::At(_, _, _) => in_last_block(before, Spot::Operation(before.operations)),
-        Statement::Goto(_) | Statement::Branch(_, _, _) | Statement::Stop => {
+        Statement::Goto(_) | Statement::Branch { .. } | Statement::Stop => {
             in_last_block(before, Spot::Terminator)
         }
         _ => None,

@@ -22,7 +22,7 @@ fn leads_out(blocks: u64, next: Next) -> bool
 {
     match next {
         Next::Goto(to) => to as u64 >= blocks,
-        Next::Branch(_, to, other) => to as u64 >= blocks || other as u64 >= blocks,
+        Next::Branch { first, second, .. } => first as u64 >= blocks || second as u64 >= blocks,
         Next::Stop => false,
     }
 }

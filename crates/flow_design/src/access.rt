@@ -11,13 +11,13 @@ impl Op<u32> {
         ensures { result ≡ access_of self.now }
     {
         match self {
-            Op::Set(_, _) | Op::Load(_, _, _) | Op::Store(_, _, _) => None,
-            Op::Read(channel, _) => Some((Kind::Read, *channel)),
+            Op::Set(_, _) | Op::Load { .. } | Op::Store { .. } => None,
+            Op::Read { channel, .. } => Some((Kind::Read, *channel)),
             Op::Write(channel, _) => Some((Kind::Write, *channel)),
-            Op::TryRead(channel, _, _) => Some((Kind::TryRead, *channel)),
-            Op::TryWrite(channel, _, _) => Some((Kind::TryWrite, *channel)),
-            Op::Empty(channel, _) => Some((Kind::Empty, *channel)),
-            Op::Full(channel, _) => Some((Kind::Full, *channel)),
+            Op::TryRead { channel, .. } => Some((Kind::TryRead, *channel)),
+            Op::TryWrite { channel, .. } => Some((Kind::TryWrite, *channel)),
+            Op::Empty { channel, .. } => Some((Kind::Empty, *channel)),
+            Op::Full { channel, .. } => Some((Kind::Full, *channel)),
         }
     }
 

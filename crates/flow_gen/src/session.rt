@@ -72,7 +72,13 @@ impl Maker {
         ensures { OnOk result (self.new.statements ≡ self.old.statements ++ fifo_behind k drawn) }
     {
         let depth = u64::from(drawn.depth);
-        self.statements.push(Statement::Fifo(fifo_name(self.alloc, k + 1)?, width(32), depth, 1))
+        let name = fifo_name(self.alloc, k + 1)?;
+        self.statements.push(Statement::Fifo {
+            name,
+            width: width(32),
+            depth,
+            delay: 1,
+        })
     }
 
     fn push_module(&mut self, modules: u64, k: u64, drawn: Drawn) -> Result<(), OutOfMemory>
@@ -103,8 +109,12 @@ impl Maker {
         self.statements
             .push(Statement::Reg(Name::new(self.alloc, b"e")?, width(1)))?;
         let (name, again) = (Name::new(self.alloc, b"l")?, Name::new(self.alloc, b"g")?);
-        self.statements
-            .push(Statement::Loop(name, interval, interval + 1, again))
+        self.statements.push(Statement::Loop {
+            name,
+            interval,
+            len: interval + 1,
+            again,
+        })
     }
 
     /// The operations at offset 0.
@@ -127,12 +137,18 @@ impl Maker {
         self.statements.push(Statement::At(
             0,
             None,
-            Op::Read(input, Name::new(self.alloc, b"x")?),
+            Op::Read {
+                channel: input,
+                target: Name::new(self.alloc, b"x")?,
+            },
         ))?;
         self.statements.push(Statement::At(
             0,
             None,
-            Op::Full(output, Name::new(self.alloc, b"e")?),
+            Op::Full {
+                channel: output,
+                target: Name::new(self.alloc, b"e")?,
+            },
         ))?;
         self.statements.push(Statement::At(0, None, Op::Set(Name::new(self.alloc, b"n")?, count)))?;
         self.statements.push(Statement::At(0, None, Op::Set(Name::new(self.alloc, b"g")?, again)))

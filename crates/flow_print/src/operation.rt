@@ -26,34 +26,50 @@ pub fn print_operation(text: &mut List<u8>, op: &Op<Name>) -> Result<(), OutOfMe
     ensures { OnOk result (text.new ≡ text.old ++ spaced_parts (op_parts op.now)) }
 {
     match op {
-        Op::Set(place, value) => {
-            push_two(text, Verb::Set.word(), place)?;
+        Op::Set(target, value) => {
+            push_two(text, Verb::Set.word(), target)?;
             print_expression(text, value)
         }
-        Op::Load(place, memory, address) => {
-            push_three(text, Verb::Load.word(), place, memory)?;
+        Op::Load {
+            target,
+            memory,
+            address,
+        } => {
+            push_three(text, Verb::Load.word(), target, memory)?;
             print_expression(text, address)
         }
-        Op::Store(memory, address, value) => {
+        Op::Store {
+            memory,
+            address,
+            value,
+        } => {
             push_two(text, Verb::Store.word(), memory)?;
             print_expression(text, address)?;
             print_expression(text, value)
         }
-        Op::Read(channel, place) => push_three(text, Verb::Read.word(), channel, place),
+        Op::Read { channel, target } => push_three(text, Verb::Read.word(), channel, target),
         Op::Write(channel, value) => {
             push_two(text, Verb::Write.word(), channel)?;
             print_expression(text, value)
         }
-        Op::TryRead(channel, place, done) => {
-            push_three(text, Verb::TryRead.word(), channel, place)?;
-            push_token(text, done.bytes())
+        Op::TryRead {
+            channel,
+            target,
+            outcome,
+        } => {
+            push_three(text, Verb::TryRead.word(), channel, target)?;
+            push_token(text, outcome.bytes())
         }
-        Op::TryWrite(channel, done, value) => {
-            push_three(text, Verb::TryWrite.word(), channel, done)?;
+        Op::TryWrite {
+            channel,
+            outcome,
+            value,
+        } => {
+            push_three(text, Verb::TryWrite.word(), channel, outcome)?;
             print_expression(text, value)
         }
-        Op::Empty(channel, place) => push_three(text, Verb::Empty.word(), channel, place),
-        Op::Full(channel, place) => push_three(text, Verb::Full.word(), channel, place),
+        Op::Empty { channel, target } => push_three(text, Verb::Empty.word(), channel, target),
+        Op::Full { channel, target } => push_three(text, Verb::Full.word(), channel, target),
     }
 }
 

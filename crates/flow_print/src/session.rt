@@ -52,7 +52,12 @@ fn print_statement(
             print_named(text, Keyword::Source, name, &[width.number()])
         }
         Statement::Sink(name, width) => print_named(text, Keyword::Sink, name, &[width.number()]),
-        Statement::Fifo(name, width, depth, delay) => {
+        Statement::Fifo {
+            name,
+            width,
+            depth,
+            delay,
+        } => {
             if has_delays(version) {
                 print_named(text, Keyword::Fifo, name, &[width.number(), *depth, *delay])
             } else {
@@ -65,19 +70,26 @@ fn print_statement(
             print_named(text, Keyword::Mem, name, &[width.number(), *len])
         }
         Statement::Block(name, len) => print_named(text, Keyword::Block, name, &[*len]),
-        Statement::Loop(name, interval, len, again) => {
-            print_loop(text, name, *interval, *len, again)
-        }
+        Statement::Loop {
+            name,
+            interval,
+            len,
+            again,
+        } => { print_loop(text, name, *interval, *len, again) }
         Statement::Temp(name, width) => print_named(text, Keyword::Temp, name, &[width.number()]),
         Statement::At(offset, guard, op) => print_timed(text, *offset, guard, op),
         Statement::Goto(block) => print_named(text, Keyword::Goto, block, &[]),
-        Statement::Branch(register, yes, no) => print_branch(text, register, yes, no),
+        Statement::Branch {
+            register,
+            first,
+            second,
+        } => print_branch(text, register, first, second),
         Statement::Stop => print_numbers(text, Keyword::Stop.word(), &[]),
         Statement::Input(source, values) => {
             print_named(text, Keyword::Input, source, values.as_slice())
         }
-        Statement::Limits(cycles, operations) => {
-            print_numbers(text, Keyword::Limits.word(), &[*cycles, *operations])
+        Statement::Limits { cycles, ops } => {
+            print_numbers(text, Keyword::Limits.word(), &[*cycles, *ops])
         }
         Statement::Depth(fifo, depth) => print_named(text, Keyword::Depth, fifo, &[*depth]),
         Statement::End => print_numbers(text, Keyword::End.word(), &[]),
@@ -126,15 +138,15 @@ fn print_loop(
 fn print_branch(
     text: &mut List<u8>,
     register: &Name,
-    yes: &Name,
-    no: &Name,
+    first: &Name,
+    second: &Name,
 ) -> Result<(), OutOfMemory>
-    ensures { OnOk result (text.new ≡ text.old ++ line (keyword_word Keyword.Branch ∷ register.now ∷ yes.now ∷ no.now ∷ [])) }
+    ensures { OnOk result (text.new ≡ text.old ++ line (keyword_word Keyword.Branch ∷ register.now ∷ first.now ∷ second.now ∷ [])) }
 {
     text.extend_from_slice(Keyword::Branch.word())?;
     push_token(text, register.bytes())?;
-    push_token(text, yes.bytes())?;
-    push_token(text, no.bytes())?;
+    push_token(text, first.bytes())?;
+    push_token(text, second.bytes())?;
     text.push(b'\n')
 }
 

@@ -75,7 +75,13 @@ fn new_fifo<'a>(
     ensure(!tables.channels.has(name), Code::DoubleName)?;
     ensure(tables.channels.has_room(CHANNELS), Code::TooMany)?;
     tables.add_fifo(name)?;
-    Ok(Statement::Fifo(Name::new(alloc, name)?, width, depth, delay))
+    let name = Name::new(alloc, name)?;
+    Ok(Statement::Fifo {
+        name,
+        width,
+        depth,
+        delay,
+    })
 }
 
 /// The FIFO of this name, width and depth, of delay 1.

@@ -57,7 +57,12 @@ pub fn branch<'a>(alloc: Global, tables: &mut Tables<'a>, tokens: &[&'a [u8]]) -
     tables.go_on(Place::AfterBody);
     let register = Name::new(alloc, *register)?;
     let first = Name::new(alloc, *first)?;
-    Ok(Statement::Branch(register, first, Name::new(alloc, *second)?))
+    let second = Name::new(alloc, *second)?;
+    Ok(Statement::Branch {
+        register,
+        first,
+        second,
+    })
 }
 
 /// `stop`, behind its keyword.
@@ -84,7 +89,7 @@ pub fn limits<'a>(tables: &mut Tables<'a>, tokens: &[&'a [u8]]) -> Parsed<Statem
     let cycles = number_in(cycles, 0, u64::MAX).ok_or(LineFail::Fault(Code::BadNumber))?;
     let ops = number_in(ops, 0, u64::MAX).ok_or(LineFail::Fault(Code::BadNumber))?;
     tables.go_on(Place::AmongEdits);
-    Ok(Statement::Limits(cycles, ops))
+    Ok(Statement::Limits { cycles, ops })
 }
 
 /// `depth N D`, behind its keyword.

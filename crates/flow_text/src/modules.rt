@@ -111,7 +111,13 @@ pub fn pipelined_loop<'a>(
     ensure(tables.blocks.has_room(BLOCKS), Code::TooMany)?;
     tables.add_block(*name)?;
     let name = Name::new(alloc, *name)?;
-    Ok(Statement::Loop(name, interval, len, Name::new(alloc, *register)?))
+    let again = Name::new(alloc, *register)?;
+    Ok(Statement::Loop {
+        name,
+        interval,
+        len,
+        again,
+    })
 }
 
 /// `temp N W`, behind its keyword.

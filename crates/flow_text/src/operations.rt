@@ -115,10 +115,14 @@ pub fn load(alloc: Global, tables: &Tables<'_>, tokens: &[&[u8]]) -> Parsed<Judg
     };
     syntax(is_identifier(register) && is_identifier(memory))?;
     let known = knows_load(tables, register, memory);
-    let register = Name::new(alloc, *register)?;
+    let target = Name::new(alloc, *register)?;
     let memory = Name::new(alloc, *memory)?;
     let tree = tree(alloc, tables, known, expression)?;
-    Ok(tree.map(|tree| Op::Load(register, memory, tree)))
+    Ok(tree.map(|address| Op::Load {
+        target,
+        memory,
+        address,
+    }))
 }
 
 /// `store M E E`, behind its verb.
@@ -132,7 +136,11 @@ pub fn store(alloc: Global, tables: &Tables<'_>, tokens: &[&[u8]]) -> Parsed<Jud
     let known = tables.memories.has(memory);
     let memory = Name::new(alloc, *memory)?;
     let trees = trees(alloc, tables, known, expressions)?;
-    Ok(trees.map(|(place, value)| Op::Store(memory, place, value)))
+    Ok(trees.map(|(address, value)| Op::Store {
+        memory,
+        address,
+        value,
+    }))
 }
 
 /// `write F E`, behind its verb.
@@ -168,7 +176,11 @@ pub fn try_write(alloc: Global, tables: &Tables<'_>, tokens: &[&[u8]]) -> Parsed
     let channel = Name::new(alloc, *channel)?;
     let outcome = Name::new(alloc, *outcome)?;
     let tree = tree(alloc, tables, known, expression)?;
-    Ok(tree.map(|tree| Op::TryWrite(channel, outcome, tree)))
+    Ok(tree.map(|value| Op::TryWrite {
+        channel,
+        outcome,
+        value,
+    }))
 }
 
 /// An operation on a channel and a variable alone.
@@ -180,13 +192,13 @@ pub enum TwoNames {
 }
 
 /// The operation on this channel and this variable.
-fn op_of_names(which: TwoNames, channel: Name, register: Name) -> Op<Name>
-    ensures { result ≡ op_of_names which channel register }
+fn op_of_names(which: TwoNames, channel: Name, target: Name) -> Op<Name>
+    ensures { result ≡ op_of_names which channel target }
 {
     match which {
-        TwoNames::Read => Op::Read(channel, register),
-        TwoNames::Empty => Op::Empty(channel, register),
-        TwoNames::Full => Op::Full(channel, register),
+        TwoNames::Read => Op::Read { channel, target },
+        TwoNames::Empty => Op::Empty { channel, target },
+        TwoNames::Full => Op::Full { channel, target },
     }
 }
 
@@ -247,8 +259,13 @@ fn new_try_read(
         return Ok(Err(Code::UnknownName));
     }
     let channel = Name::new(alloc, channel)?;
-    let register = Name::new(alloc, register)?;
-    Ok(Ok(Op::TryRead(channel, register, Name::new(alloc, outcome)?)))
+    let target = Name::new(alloc, register)?;
+    let outcome = Name::new(alloc, outcome)?;
+    Ok(Ok(Op::TryRead {
+        channel,
+        target,
+        outcome,
+    }))
 }
 
 /// `tryread F R OK`, behind its verb.

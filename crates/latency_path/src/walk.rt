@@ -106,7 +106,7 @@ fn delay_of(kind: ChannelKind) -> u64
     ensures { result ≡ delay_of kind }
 {
     match kind {
-        ChannelKind::Fifo(_, delay) => delay,
+        ChannelKind::Fifo { delay, .. } => delay,
         ChannelKind::Source | ChannelKind::Sink => 1,
     }
 }

@@ -26,7 +26,7 @@ fn holds_one<L: Ledger, R: Abort>(rt: &R, alloc: Global, blank: Blank) -> Result
             first_query: 0,
         },
     )?;
-    let mut fifos = FifoTable::new(alloc, &[TableChannel::Fifo(1, 4)])?;
+    let mut fifos = FifoTable::new(alloc, &[TableChannel::Fifo { depth: 1, delay: 4 }])?;
     fifos.add_push(0, Place { module: 0, step: 0 }, 7)?;
     assert_eq!(rt; first_touched(&graph, &fifos, 0, 2), None);
     let mut steps = Steps::<L>::new(blank);

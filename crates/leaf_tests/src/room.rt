@@ -9,7 +9,7 @@ use std::test::Fail;
 #[test]
 fn a_module_has_room_for_many_steps_at_once(rt: HostRuntime) -> Result<(), Fail> {
     let mut graph = Graph::new(rt.alloc(), 1)?;
-    let mut fifos = FifoTable::new(rt.alloc(), &[TableChannel::Fifo(2, 1)])?;
+    let mut fifos = FifoTable::new(rt.alloc(), &[TableChannel::Fifo { depth: 2, delay: 1 }])?;
     let mut log = QueryLog::new(rt.alloc(), 1)?;
     let mut credits = vec![in rt.alloc(); 0; 1]?;
     let ports = [Port {

@@ -9,7 +9,7 @@ fn accesses_are_enabled_by_ordinal_and_depth(rt: HostRuntime) -> Result<(), Fail
     let channels = [
         TableChannel::Source(inputs),
         TableChannel::Sink,
-        TableChannel::Fifo(2, 5),
+        TableChannel::Fifo { depth: 2, delay: 5 },
     ];
     let mut table = FifoTable::new(rt.alloc(), &channels)?;
     table.reserve(2, 2, 1)?;

@@ -102,9 +102,13 @@ fn finish(
     }
     match block.next {
         Next::Goto(to) => enter(alloc, of, to, state),
-        Next::Branch(register, to, other) => {
+        Next::Branch {
+            register,
+            first,
+            second,
+        } => {
             let value = word_at(state.registers.as_slice(), register);
-            enter(alloc, of, if value == 0 { other } else { to }, state)
+            enter(alloc, of, if value == 0 { second } else { first }, state)
         }
         Next::Stop => {
             state.ended = true;

@@ -17,8 +17,11 @@ fn query_of(blocks: &[Block]) -> Option<Order>
     ensures { result ≡ head (flat_map queries_of (enumerate_from 0 blocks.now)) }
 {
     for (number, block) in blocks.iter().enumerate() {
-        if let Some(op) = first_query(block.ops.as_slice()) {
-            return Some(Order::Query(number as u32, op));
+        if let Some(operation) = first_query(block.ops.as_slice()) {
+            return Some(Order::Query {
+                block: number as u32,
+                operation,
+            });
         }
     }
     None
@@ -38,13 +41,19 @@ fn loop_fault(
     requires operations { length ops.now < 2 ^ 32 }
     ensures { result ≡ head (faults_by channels «module».now number ops.now (BlockKind.Loop ii again)) }
 {
-    if let Some(op) = first_late(ops, ii, again) {
-        return Some(Order::Late(number, op));
+    if let Some(operation) = first_late(ops, ii, again) {
+        return Some(Order::Late {
+            block: number,
+            operation,
+        });
     }
     let registers = module.registers.len() as u32;
     let memories = module.memories.len() as u32;
     match first_wide(ops, ii, registers, memories, channels) {
-        Some(used) => Some(Order::Wide(number, used)),
+        Some(used) => Some(Order::Wide {
+            block: number,
+            used,
+        }),
         None => None,
     }
 }

@@ -17,9 +17,9 @@ pub enum Order {
     /// Its pipelined loops do what they would do with one iteration after the other.
     Serial,
     /// In this block this operation, counted from 0 in text order, is a query.
-    Query(u32, u32),
+    Query { block: u32, operation: u32 },
     /// In this loop this operation writes the loop's register at an offset of II or more.
-    Late(u32, u32),
+    Late { block: u32, operation: u32 },
     /// In this loop the last offset at which this thing is used is more than II behind the first, or II behind it and a write.
-    Wide(u32, Used),
+    Wide { block: u32, used: Used },
 }

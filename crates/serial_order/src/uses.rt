@@ -30,11 +30,12 @@ fn is_named(op: &Op<u32>, variable: u32) -> bool
     ensures { result ≡ is_named variable (expressions_of op.now) }
 {
     match op {
-        Op::Set(_, a) | Op::Load(_, _, a) | Op::Write(_, a) | Op::TryWrite(_, _, a) => {
-            names(a, variable)
-        }
-        Op::Store(_, a, b) => names(a, variable) || names(b, variable),
-        Op::Read(_, _) | Op::TryRead(_, _, _) | Op::Empty(_, _) | Op::Full(_, _) => false,
+        Op::Set(_, a)
+        | Op::Load { address: a, .. }
+        | Op::Write(_, a)
+        | Op::TryWrite { value: a, .. } => { names(a, variable) }
+        Op::Store { address, value, .. } => names(address, variable) || names(value, variable),
+        Op::Read { .. } | Op::TryRead { .. } | Op::Empty { .. } | Op::Full { .. } => false,
     }
 }
 
@@ -44,13 +45,17 @@ fn is_place(op: &Op<u32>, variable: u32) -> bool
 {
     match op {
         Op::Set(x, _)
-        | Op::Load(x, _, _)
-        | Op::Read(_, x)
-        | Op::TryWrite(_, x, _)
-        | Op::Empty(_, x)
-        | Op::Full(_, x) => *x == variable,
-        Op::TryRead(_, x, ok) => *x == variable || *ok == variable,
-        Op::Store(_, _, _) | Op::Write(_, _) => false,
+        | Op::Load { target: x, .. }
+        | Op::Read { target: x, .. }
+        | Op::TryWrite { outcome: x, .. }
+        | Op::Empty { target: x, .. }
+        | Op::Full { target: x, .. } => *x == variable,
+        Op::TryRead {
+            target,
+            outcome,
+            ..
+        } => *target == variable || *outcome == variable,
+        Op::Store { .. } | Op::Write(_, _) => false,
     }
 }
 
@@ -59,14 +64,14 @@ fn memory_of(op: &Op<u32>) -> Option<u32>
     ensures { result ≡ memory_of op.now }
 {
     match op {
-        Op::Load(_, memory, _) | Op::Store(memory, _, _) => Some(*memory),
+        Op::Load { memory, .. } | Op::Store { memory, .. } => Some(*memory),
         Op::Set(_, _)
-        | Op::Read(_, _)
+        | Op::Read { .. }
         | Op::Write(_, _)
-        | Op::TryRead(_, _, _)
-        | Op::TryWrite(_, _, _)
-        | Op::Empty(_, _)
-        | Op::Full(_, _) => None,
+        | Op::TryRead { .. }
+        | Op::TryWrite { .. }
+        | Op::Empty { .. }
+        | Op::Full { .. } => None,
     }
 }
 
@@ -75,7 +80,7 @@ fn stored_in(op: &Op<u32>) -> Option<u32>
     ensures { result ≡ stored_in op.now }
 {
     match op {
-        Op::Store(memory, _, _) => Some(*memory),
+        Op::Store { memory, .. } => Some(*memory),
         _ => None,
     }
 }

@@ -16,8 +16,20 @@ fn channel(alloc: Global, statement: &Statement) -> Result<Option<Channel>, OutO
     let (name, width, kind) = match statement {
         Statement::Source(name, width) => (name, *width, ChannelKind::Source),
         Statement::Sink(name, width) => (name, *width, ChannelKind::Sink),
-        Statement::Fifo(name, width, depth, delay) => {
-            (name, *width, ChannelKind::Fifo(*depth, *delay))
+        Statement::Fifo {
+            name,
+            width,
+            depth,
+            delay,
+        } => {
+            (
+                name,
+                *width,
+                ChannelKind::Fifo {
+                    depth: *depth,
+                    delay: *delay,
+                },
+            )
         }
         _ => return Ok(None),
     };
@@ -53,7 +65,7 @@ fn depth_in(kind: ChannelKind) -> u64
 {
     match kind {
         ChannelKind::Source | ChannelKind::Sink => 0,
-        ChannelKind::Fifo(depth, _) => depth,
+        ChannelKind::Fifo { depth, .. } => depth,
     }
 }
 
@@ -73,7 +85,7 @@ pub(crate) fn limits_of(statements: &[Statement]) -> (u64, u64)
     ensures { result ≡ limits_of statements.now }
 {
     for statement in statements {
-        if let Statement::Limits(cycles, ops) = statement {
+        if let Statement::Limits { cycles, ops } = statement {
             return (*cycles, *ops);
         }
     }

@@ -26,7 +26,7 @@ fn give(channel: &Channel, values: &[u64], out: &mut Words) -> Result<(), OutOfM
 {
     match channel.kind {
         ChannelKind::Source => push_cut(channel.width, values, out),
-        ChannelKind::Sink | ChannelKind::Fifo(_, _) => Ok(()),
+        ChannelKind::Sink | ChannelKind::Fifo { .. } => Ok(()),
     }
 }
 

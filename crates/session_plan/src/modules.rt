@@ -82,8 +82,12 @@ fn kind_of(own: &ModuleNames, head: &Statement) -> BlockKind
     ensures { result ≡ kind_of (scope_at [] own.now []) head.now }
 {
     match head {
-        Statement::Loop(_, ii, _, again) => BlockKind::Loop {
-            ii: *ii,
+        Statement::Loop {
+            interval,
+            again,
+            ..
+        } => BlockKind::Loop {
+            ii: *interval,
             again: own.registers.number(again.bytes()),
         },
         _ => BlockKind::Plain,
@@ -95,7 +99,7 @@ fn len_of(head: &Statement) -> u64
     ensures { result ≡ len_of head.now }
 {
     match head {
-        Statement::Block(_, len) | Statement::Loop(_, _, len, _) => *len,
+        Statement::Block(_, len) | Statement::Loop { len, .. } => *len,
         _ => 0,
     }
 }

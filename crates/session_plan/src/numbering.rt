@@ -69,40 +69,70 @@ fn operation(
     ensures { IfOk result (λ o. o ≡ operation (scope_at channels.now own.now temps.now) op.now) }
 {
     match op {
-        Op::Set(x, e) => Ok(Op::Set(place(own, temps, x), numbered(alloc, own, temps, e)?)),
-        Op::Load(x, m, e) => {
-            Ok(Op::Load(
-                place(own, temps, x),
-                own.memories.number(m.bytes()),
-                numbered(alloc, own, temps, e)?,
-            ))
-        }
-        Op::Store(m, e, f) => {
-            let address = numbered(alloc, own, temps, e)?;
-            let value = numbered(alloc, own, temps, f)?;
-            Ok(Op::Store(own.memories.number(m.bytes()), address, value))
-        }
-        Op::Read(f, x) => Ok(Op::Read(channels.number(f.bytes()), place(own, temps, x))),
-        Op::Write(f, e) => Ok(Op::Write(
-            channels.number(f.bytes()),
-            numbered(alloc, own, temps, e)?,
+        Op::Set(target, value) => Ok(Op::Set(
+            place(own, temps, target),
+            numbered(alloc, own, temps, value)?,
         )),
-        Op::TryRead(f, x, ok) => {
-            Ok(Op::TryRead(
-                channels.number(f.bytes()),
-                place(own, temps, x),
-                place(own, temps, ok),
-            ))
+        Op::Load {
+            target,
+            memory,
+            address,
+        } => {
+            Ok(Op::Load {
+                target: place(own, temps, target),
+                memory: own.memories.number(memory.bytes()),
+                address: numbered(alloc, own, temps, address)?,
+            })
         }
-        Op::TryWrite(f, ok, e) => {
-            Ok(Op::TryWrite(
-                channels.number(f.bytes()),
-                place(own, temps, ok),
-                numbered(alloc, own, temps, e)?,
-            ))
+        Op::Store {
+            memory,
+            address,
+            value,
+        } => {
+            Ok(Op::Store {
+                memory: own.memories.number(memory.bytes()),
+                address: numbered(alloc, own, temps, address)?,
+                value: numbered(alloc, own, temps, value)?,
+            })
         }
-        Op::Empty(f, x) => Ok(Op::Empty(channels.number(f.bytes()), place(own, temps, x))),
-        Op::Full(f, x) => Ok(Op::Full(channels.number(f.bytes()), place(own, temps, x))),
+        Op::Read { channel, target } => Ok(Op::Read {
+            channel: channels.number(channel.bytes()),
+            target: place(own, temps, target),
+        }),
+        Op::Write(channel, value) => Ok(Op::Write(
+            channels.number(channel.bytes()),
+            numbered(alloc, own, temps, value)?,
+        )),
+        Op::TryRead {
+            channel,
+            target,
+            outcome,
+        } => {
+            Ok(Op::TryRead {
+                channel: channels.number(channel.bytes()),
+                target: place(own, temps, target),
+                outcome: place(own, temps, outcome),
+            })
+        }
+        Op::TryWrite {
+            channel,
+            outcome,
+            value,
+        } => {
+            Ok(Op::TryWrite {
+                channel: channels.number(channel.bytes()),
+                outcome: place(own, temps, outcome),
+                value: numbered(alloc, own, temps, value)?,
+            })
+        }
+        Op::Empty { channel, target } => Ok(Op::Empty {
+            channel: channels.number(channel.bytes()),
+            target: place(own, temps, target),
+        }),
+        Op::Full { channel, target } => Ok(Op::Full {
+            channel: channels.number(channel.bytes()),
+            target: place(own, temps, target),
+        }),
     }
 }
 
@@ -144,12 +174,16 @@ pub(crate) fn terminator(own: &ModuleNames, statement: &Statement) -> Option<Nex
 {
     match statement {
         Statement::Goto(to) => Some(Next::Goto(own.blocks.number(to.bytes()))),
-        Statement::Branch(register, to, other) => {
-            Some(Next::Branch(
-                own.registers.number(register.bytes()),
-                own.blocks.number(to.bytes()),
-                own.blocks.number(other.bytes()),
-            ))
+        Statement::Branch {
+            register,
+            first,
+            second,
+        } => {
+            Some(Next::Branch {
+                register: own.registers.number(register.bytes()),
+                first: own.blocks.number(first.bytes()),
+                second: own.blocks.number(second.bytes()),
+            })
         }
         Statement::Stop => Some(Next::Stop),
         _ => None,

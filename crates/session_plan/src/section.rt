@@ -28,7 +28,7 @@ pub(crate) fn begins(level: Level, statement: &Statement) -> bool
 {
     match (level, statement) {
         (Level::Modules, Statement::Module(_)) => true,
-        (Level::Blocks, Statement::Block(_, _) | Statement::Loop(_, _, _, _)) => true,
+        (Level::Blocks, Statement::Block(_, _) | Statement::Loop { .. }) => true,
         _ => false,
     }
 }
@@ -52,11 +52,11 @@ pub(crate) fn declared<'a>(sort: Sort, statement: &'a Statement) -> Option<&'a [
     match (sort, statement) {
         (
             Sort::Channels,
-            Statement::Source(name, _) | Statement::Sink(name, _) | Statement::Fifo(name, _, _, _),
+            Statement::Source(name, _) | Statement::Sink(name, _) | Statement::Fifo { name, .. },
         ) => Some(name.bytes()),
         (Sort::Registers, Statement::Reg(name, _)) => Some(name.bytes()),
         (Sort::Memories, Statement::Mem(name, _, _)) => Some(name.bytes()),
-        (Sort::Blocks, Statement::Block(name, _) | Statement::Loop(name, _, _, _)) => {
+        (Sort::Blocks, Statement::Block(name, _) | Statement::Loop { name, .. }) => {
             Some(name.bytes())
         }
         (Sort::Temps, Statement::Temp(name, _)) => Some(name.bytes()),

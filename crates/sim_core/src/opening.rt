@@ -204,7 +204,10 @@ fn make_kind(alloc: Global, plan: &Plan, i: usize) -> Result<TableChannel, OutOf
             plan.inputs.as_slice()[i].as_slice(),
         )?)),
         ChannelKind::Sink => Ok(TableChannel::Sink),
-        ChannelKind::Fifo(_, delay) => Ok(TableChannel::Fifo(plan.depths.as_slice()[i], delay)),
+        ChannelKind::Fifo { delay, .. } => Ok(TableChannel::Fifo {
+            depth: plan.depths.as_slice()[i],
+            delay,
+        }),
     }
 }
 

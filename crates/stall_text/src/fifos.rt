@@ -44,7 +44,7 @@ pub(crate) fn print_fifos(
 {
     let depths = plan.depths.as_slice();
     for (at, channel) in plan.design.channels.as_slice().iter().enumerate() {
-        if let ChannelKind::Fifo(_, delay) = channel.kind {
+        if let ChannelKind::Fifo { delay, .. } = channel.kind {
             let popped = pops[at].clocks.as_slice();
             let pushed = pushes[at].clocks.as_slice();
             let filling = filling_of(alloc, depths[at], delay, popped, pushed, clock)?;

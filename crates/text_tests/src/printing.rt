@@ -9,7 +9,12 @@ use std::test::Fail;
 fn with_fifo(alloc: Global, version: u64, width: Width) -> Result<List<u8>, OutOfMemory> {
     let mut statements = List::new(alloc);
     statements.push(Statement::Flow(version))?;
-    statements.push(Statement::Fifo(Name::new(alloc, b"b")?, width, 2, 1))?;
+    statements.push(Statement::Fifo {
+        name: Name::new(alloc, b"b")?,
+        width,
+        depth: 2,
+        delay: 1,
+    })?;
     statements.push(Statement::End)?;
     print_session(alloc, &Session { statements })
 }

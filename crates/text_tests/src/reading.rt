@@ -29,7 +29,16 @@ fn plain_case(rt: HostRuntime) -> Result<(), Fail> {
     assert_eq!(rt; lines.as_slice(), [1, 4, 5, 6].as_slice());
     let short = matches!(
         session.statements.as_slice(),
-        [_, Statement::Fifo(.., 2, 1), _, _]
+        [
+            _,
+            Statement::Fifo {
+                depth: 2,
+                delay: 1,
+                ..
+            },
+            _,
+            _
+        ]
     );
     assert_eq!(rt; short, true);
     Ok(())

@@ -17,10 +17,10 @@ use worked_sessions::{LATER_STALL, REALISTIC_LINE, TWO_MODULES, read_plan};
 fn are_noted(turns: &[HubTurn], notes: &[(u32, u64)], owner: u32) -> bool {
     let mut rest = notes;
     for turn in turns {
-        if let HubTurn::Ran(pass, place, marks) = *turn {
-            if place == owner {
+        if let HubTurn::Ran { pass, module, runs } = *turn {
+            if module == owner {
                 let (next, left) = next_note(rest, owner);
-                if next != Some(marks) || pass != owner.wrapping_add(1) {
+                if next != Some(runs) || pass != owner.wrapping_add(1) {
                     return false;
                 }
                 rest = left;

@@ -12,7 +12,7 @@ pub enum Line {
     /// What follows changes in this clock.
     Time(u64),
     /// The FIFO of this number holds so many elements.
-    Change(u64, u64),
+    Change { fifo: u64, fill: u64 },
 }
 
 fn decimal_line(digits: &[u8]) -> Option<(u64, &[u8])>
@@ -50,7 +50,7 @@ fn change_in(bits: &[u8]) -> Option<(Line, &[u8])>
 {
     let (fill, code) = number_before(2, 0xffff_ffff, b' ', bits)?;
     let (fifo, behind) = code_in(code)?;
-    Some((Line::Change(fifo, fill), behind))
+    Some((Line::Change { fifo, fill }, behind))
 }
 
 /// The first line of a text, and what stands behind it.

@@ -73,7 +73,7 @@ fn step(asked: Asked, scan: Scan, line: Line) -> Option<Scan>
 {
     match line {
         Line::Time(clock) => time_step(scan, clock),
-        Line::Change(fifo, fill) => change_step(asked, scan, fifo, fill),
+        Line::Change { fifo, fill } => change_step(asked, scan, fifo, fill),
     }
 }
 

@@ -48,12 +48,12 @@ fn push_order(text: &mut List<u8>, order: Order) -> Result<(), OutOfMemory>
 {
     match order {
         Order::Serial => push_token(text, b"serial"),
-        Order::Query(block, op) => push_place(text, b"query", block, op),
-        Order::Late(block, op) => push_place(text, b"late", block, op),
-        Order::Wide(block, thing) => {
+        Order::Query { block, operation } => push_place(text, b"query", block, operation),
+        Order::Late { block, operation } => push_place(text, b"late", block, operation),
+        Order::Wide { block, used } => {
             push_token(text, b"wide")?;
             push_value(text, block as u64)?;
-            let (word, number) = used_words(thing);
+            let (word, number) = used_words(used);
             push_token(text, word)?;
             push_value(text, number as u64)
         }
@@ -61,12 +61,17 @@ fn push_order(text: &mut List<u8>, order: Order) -> Result<(), OutOfMemory>
 }
 
 /// Adds a word and the numbers of a block and of an operation.
-fn push_place(text: &mut List<u8>, word: &[u8], block: u32, op: u32) -> Result<(), OutOfMemory>
-    ensures { OnOk result (text.new ≡ text.old ++ flat_map (λ t. 32 ∷ t) (word.now ∷ decimal block ∷ decimal op ∷ [])) }
+fn push_place(
+    text: &mut List<u8>,
+    word: &[u8],
+    block: u32,
+    operation: u32,
+) -> Result<(), OutOfMemory>
+    ensures { OnOk result (text.new ≡ text.old ++ flat_map (λ t. 32 ∷ t) (word.now ∷ decimal block ∷ decimal operation ∷ [])) }
 {
     push_token(text, word)?;
     push_value(text, block as u64)?;
-    push_value(text, op as u64)
+    push_value(text, operation as u64)
 }
 
 /// The word for a kind of thing, and its number.

@@ -56,7 +56,10 @@ impl Ledger {
         let alloc = *self.turns.allocator();
         match self.core.lend(alloc, owner) {
             Ok(Some(task)) => {
-                self.turns.push_reserved(HubTurn::Lent(pass, owner));
+                self.turns.push_reserved(HubTurn::Lent {
+                    pass,
+                    module: owner,
+                });
                 self.out += 1;
                 (Desk::Run(task), true)
             }
@@ -92,7 +95,11 @@ impl Ledger {
         let made = burst.emitted.len();
         match self.core.take_back(owner, burst) {
             Ok(()) => {
-                self.turns.push_reserved(HubTurn::Ran(pass, owner, made));
+                self.turns.push_reserved(HubTurn::Ran {
+                    pass,
+                    module: owner,
+                    runs: made,
+                });
                 self.out -= 1;
                 true
             }

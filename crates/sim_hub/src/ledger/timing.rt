@@ -38,7 +38,10 @@ impl Ledger {
         }
         let count = act::<Brand>(&mut self.core, Blank::new(1));
         if count > 0 {
-            self.turns.push_reserved(HubTurn::Timed(0, count));
+            self.turns.push_reserved(HubTurn::Timed {
+                pass: 0,
+                actions: count,
+            });
             return (PerfAnswer::Did(count), true);
         }
         if self.core.is_final() {

@@ -165,8 +165,3 @@ sound_of p clock st i m s fit h e k running =
     subst (λ (of : Module). IsStateSound of s) (sym e)
     (subst (λ (now : ModuleState). IsStateSound (module_at p i) now) (sym k)
     ((fit.each i h).runnable (ap (λ (now : ModuleState). now.ended) (sym k) ∙ not_ended p.ops s running)))
-
--- its local clock is not ahead
-pub young_of : (p : Plan) (clock : ℕ) (st : ClockState) (i : ℕ) (s : ModuleState) → AreFit p clock st.modules → i < length st.modules
-    → s ≡ get_or st.modules i nobody → s.control.clock ≤ clock
-young_of p clock st i s fit h k = subst (λ (now : ModuleState). now.control.clock ≤ clock) (sym k) (fit.each i h).young

@@ -159,10 +159,3 @@ few : (k : ChannelKind) (inputs : List ℕ) (depth : ℕ) → AreEntriesSound k 
 few Source inputs depth h = omega arith
 few Sink inputs depth h = omega arith
 few (Fifo declared delay) inputs depth h = let (a, b, c, d, e) = h in e
-
-pub delay_few : (p : Plan) → FitsEngine p → (f : ℕ) → delay_at p f ≤ FIFO_DELAY
-delay_few p h f = ⊎_elim
-    (λ l. few (kind_at p f) (slice_index_or p.inputs f []) (slice_index p.depths f) (h.channels f l).entries)
-    (λ l. let one : delay_at p f ≡ 1 = ap (λ (ch : Channel). delay_of ch.kind) (get_or_past p.design.channels f no_channel l) in omega
-    (arith, one))
-    (cases_lt f (length p.design.channels))

@@ -19,18 +19,5 @@ values_more lanes pushes i d out next l here so now =
     ∙ (sym (append_assoc out ((get_or pushes i d).value ∷ [])
     (map (λ (e : Pushed). e.value) (take_while (λ e. is_some (cycle_of lanes e.at)) (drop (i + 1) pushes))))
     ∙ ap (λ xs. xs ++ map (λ (e : Pushed). e.value) (take_while (λ e. is_some (cycle_of lanes e.at)) (drop (i + 1) pushes))) (sym now)))
-
-pub values_end : (lanes : List Lane) (pushes : List Pushed) (i : ℕ) (out : List ℕ) → length pushes ≤ i
-    → timed_values lanes pushes ≡ out ++ timed_values lanes (drop i pushes) → out ≡ timed_values lanes pushes
 unfolding timed_values
-values_end lanes pushes i out l so =
-    sym (so ∙ (ap (λ xs. out ++ map (λ (e : Pushed). e.value) (take_while (λ e. is_some (cycle_of lanes e.at)) xs)) (drop_all i pushes l)
-    ∙ append-nil out))
-
-pub values_stop : (lanes : List Lane) (pushes : List Pushed) (i : ℕ) (d : Pushed) (out : List ℕ) → i < length pushes
-    → is_some (cycle_of lanes (get_or pushes i d).at) ≡ false
-    → timed_values lanes pushes ≡ out ++ timed_values lanes (drop i pushes) → out ≡ timed_values lanes pushes
 unfolding timed_values
-values_stop lanes pushes i d out l here so =
-    sym (so ∙ (ap (λ xs. out ++ map (λ (e : Pushed). e.value) xs) (front_ends (λ e. is_some (cycle_of lanes e.at)) pushes i d l here)
-    ∙ append-nil out))

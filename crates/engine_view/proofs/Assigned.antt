@@ -31,9 +31,6 @@ pub record IsAlike (g h : Held) : Type 0 where
   pub channels : g.channels ≡ h.channels
   pub logs : g.logs ≡ h.logs
 
-alike_step : (g h : Held) → IsAlike g h → (m k : ℕ) → step_of g m k ≡ step_of h m k
-alike_step g h a m k = rw (a.steps m) refl
-
 alike_replies : (g h : Held) → IsAlike g h → (m : ℕ) → replies_at g m ≡ replies_at h m
 alike_replies g h a m = fun_ext (λ k. rw (a.steps m, a.channels, a.logs) refl)
 

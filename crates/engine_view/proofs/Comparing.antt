@@ -57,10 +57,6 @@ flags_first : (a : Access) (xs : List Access) (outs : List Bool)
     → flags_by (a ∷ xs) outs ≡ flag_now a.kind (slice_get outs 0) ∷ flags_by xs (cond (is_blocking a.kind) outs (drop 1 outs))
 flags_first a xs outs = elim (cases_Bool (is_blocking a.kind)) [ inl e ↦ rw e refl | inr e ↦ rw e refl ]
 
-flags_length : (xs : List Access) (outs : List Bool) → length (flags_by xs outs) ≡ length xs
-flags_length [] outs = refl
-flags_length (a ∷ xs) outs = ap (λ (bs : List Bool). length bs) (flags_first a xs outs) ∙ ap suc (flags_length xs _)
-
 module _ (lanes : List Lane) (channels : List Channel) (c : ℕ) where
   found_append : (xs ys : List Access)
       → found_flags lanes channels c (xs ++ ys) ≡ found_flags lanes channels c xs ++ found_flags lanes channels c ys

@@ -97,11 +97,3 @@ module _ (lanes : List Lane) (channels : List Channel) (c m : ℕ) (xs : List Ac
           let n = length-append (log_at now.logs m).outcomes (u₀ ∷ []) in
           let same : (answered (log_at now.logs m) u₀).verified ≡ length (answered (log_at now.logs m) u₀).outcomes = omega arith in
           subst (λ (log : Log). log.verified ≡ length log.outcomes) (sym e) same
-
-pub writes_all : (lanes : List Lane) (channels : List Channel) (c m : ℕ) (xs : List Access) (old now : RoomedLogs) (i : ℕ)
-    → WritesOn lanes channels c m xs old now i → length xs ≤ i
-    → now.logs ≡ with_outcomes old.logs m (outcomes_of xs (found_flags lanes channels c xs))
-writes_all lanes channels c m xs old now i r l =
-    sym (outcomes_none now.logs m r.verified)
-    ∙ (ap (λ (ys : List Access). with_outcomes now.logs m (outcomes_of ys (found_flags lanes channels c ys))) (sym (drop_all i xs l))
-    ∙ r.logs)

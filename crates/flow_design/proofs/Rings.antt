@@ -137,16 +137,6 @@ window_more rows first count y from more =
       )
     ]))
 
--- where each row is one of them, they can be turned to the front
-pub window_turned : (rows : List (List ℕ)) (first : ℕ) → first ≤ length rows
-    → window 0 (length rows) (drop first rows ++ take first rows) ≡ window first (length rows) rows
-window_turned rows first from = grind (arith, common_steps)
-
--- and then have one more
-pub window_grown : (rows : List (List ℕ)) (first : ℕ) (y : List ℕ) → first ≤ length rows
-    → window 0 (length rows + 1) ((drop first rows ++ take first rows) ++ y ∷ []) ≡ window first (length rows) rows ++ y ∷ []
-window_grown rows first y from = grind (arith, common_steps)
-
 -- ---- what the calls leave
 
 pub kept_newest : (rows view : List (List ℕ)) (first count live len place : ℕ) → first ≤ length rows → count ≤ length rows → live < count

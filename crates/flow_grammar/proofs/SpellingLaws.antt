@@ -102,12 +102,6 @@ operator_is t o e = word_is t (operator_word o) (found_passes (λ (x : Operator)
 
 -- ---- tokens
 
-pub spelled_append : (ts us : List (List ℕ)) (ps qs : List Part) → Spelled ts ps → Spelled us qs → Spelled (ts ++ us) (ps ++ qs)
-spelled_append [] us [] qs s t = t
-spelled_append [] us (p ∷ ps) qs s t = absurd s
-spelled_append (x ∷ ts) us [] qs s t = absurd s
-spelled_append (x ∷ ts) us (p ∷ ps) qs s t = (s.0, spelled_append ts us ps qs s.1 t)
-
 -- what trees say of tokens
 Says : List (List ℕ) → Option Trees → Type 0
 Says ts None = Unit {0}

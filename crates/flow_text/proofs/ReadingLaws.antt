@@ -151,10 +151,6 @@ pub stops_here : (e : ReadFail) (text : List ℕ) (p : Progress) (n : ℕ) (left
 stops_here e text p n left behind rest line r l f h =
     stops e p.statements p.numbers n line (lines_left behind) (reading [] 0 (lines_of text)) h (let k = rw l at r.so_far in rw (← f) k)
 
--- no line more
-pub is_through : (text : List ℕ) (p : Progress) (n : ℕ) (left : Option (List ℕ)) → Reaches text p n left → left ≡ None → IsThrough text p n
-is_through text p n left r l = record { kept = r.kept; reads = (let k = rw l at r.so_far in k) }
-
 -- ---- the end
 
 over_at : (before : List Statement) → is_end (tables_of (reverse before)).place ≡ is_over before

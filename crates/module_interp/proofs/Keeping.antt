@@ -31,9 +31,6 @@ pub record IsFixed (x y : Path) : Type 0 where
   pub limit : y.limit ≡ x.limit
   pub codes : y.codes ≡ x.codes
 
-pub fixed : (x : Path) → IsFixed x x
-fixed x = record { channels = refl; of = refl; limit = refl; codes = refl }
-
 few : (n ops due : ℕ) → n < ops → ops ≤ 200000 → due ≤ 65536 → n + due + 2 < 2 ^ 32
 few n ops due h k l = omega arith
 

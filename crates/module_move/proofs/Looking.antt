@@ -47,10 +47,6 @@ passing_more {X} h parts b s place i n numbers test initial before now inside re
     ∙ (append_assoc initial (h (passing b s place (take i numbers))) (h (passing b s place (n ∷ [])))
     ∙ ap (λ (xs : List X). initial ++ xs) (sym both))))
 
-pub passing_all : (b : Block) (s : ModuleState) (place i : ℕ) (numbers : List ℕ) → length numbers ≤ i
-    → passing b s place (take i numbers) ≡ passing b s place numbers
-passing_all b s place i numbers all = ap (passing b s place) (take_all i numbers all)
-
 -- what the due operations give so far, and then what those of the iterations left give, is all
 abbrev pub IsAdding : {X : Type 0} → (List Due → List X) → Module → Block → ModuleState → List X → ℕ → ℕ → ℕ → ℕ → Type 0
 IsAdding h m b s out ii age left place =

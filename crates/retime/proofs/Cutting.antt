@@ -41,19 +41,6 @@ at_end q log l = ap (λ (n : ℕ). record log { verified = n }) (let e : min q l
 
 pub none_assumed : (lanes : List Lane) (old : List Log) → AreAssumed lanes old old 0
 none_assumed lanes old = record { count = refl; done = λ m l. absurd (omega arith); rest = λ m l. refl }
-
--- the next module's outcomes are assumed
-pub more_assumed : (lanes : List Lane) (old now next : List Log) (m : ℕ) → AreAssumed lanes old now m → length next ≡ length now
-    → log_at next m ≡ assumed lanes m (log_at now m) → ((n : ℕ) → (n ≡ m → ⊥) → log_at next n ≡ log_at now n)
-    → AreAssumed lanes old next (m + 1)
-more_assumed lanes old now next m a count here else = record {
-  count = count ∙ a.count;
-  done = λ n l. elim (eqb_tells n m) [
-    | inl e ↦ subst (λ (v : ℕ). log_at next v ≡ assumed lanes v (log_at old v)) (sym e.1)
-        (here ∙ ap (assumed lanes m) (a.rest m (omega arith)))
-    | inr e ↦ let f = e.1 in else n f ∙ a.done n (omega arith)
-  ];
-  rest = λ n l. else n (λ e. omega arith) ∙ a.rest n (omega arith);
 }
 
 -- where each of its steps has a cycle, all outcomes stay verified

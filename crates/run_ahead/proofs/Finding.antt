@@ -19,10 +19,6 @@ use Rattle.run_ahead.specs.Replies.{reply_now, put_first, put_before, has_value}
 use Rattle.run_ahead.specs.Mails.{values_on, next_value, told_by, replies_in, one_more, taken_after, none_taken, IsLeft}
 use Rattle.run_ahead.proofs.Parts.{some_is, first_parts}
 
-pub before_nil : (r : Option (List Reply)) → put_before [] r ≡ r
-before_nil None = refl
-before_nil (Some rs) = refl
-
 pub before_more : (qs : List Reply) (q : Reply) (r : Option (List Reply))
     → put_before qs (put_first (Some q) r) ≡ put_before (qs ++ q ∷ []) r
 before_more qs q None = refl
@@ -48,62 +44,7 @@ drop_past (x ∷ xs) (suc i) l = drop_past xs i (omega arith)
 pub record IsFinding (mail : Mail) (told₀ : ℕ) (taken : List ℕ) (xs : List Access) (replies : List Reply) (told i : ℕ) : Type 0 where
   pub found : replies_in mail told₀ taken xs ≡ put_before replies (replies_in mail told taken (drop i xs))
   pub number : told + queries_in (drop i xs) ≡ told₀ + queries_in xs
-
-pub finding_none : (mail : Mail) (told₀ : ℕ) (taken : List ℕ) (xs : List Access) → IsFinding mail told₀ taken xs [] told₀ 0
-finding_none mail told₀ taken xs = record { found = sym (before_nil (replies_in mail told₀ taken xs)); number = refl }
-
--- one reply more
-pub finding_more : (mail : Mail) (told₀ : ℕ) (taken : List ℕ) (xs : List Access) (replies : List Reply) (told i : ℕ) (a : Access)
-    (q : Reply) → IsFinding mail told₀ taken xs replies told i → drop i xs ≡ a ∷ drop (suc i) xs
-    → reply_now a.kind (slice_get mail.outcomes told) (next_value mail taken a.channel) ≡ Some q
-    → IsFinding mail told₀ taken xs (replies ++ q ∷ []) (told_by a.kind told) (suc i)
-finding_more mail told₀ taken xs replies told i a q f d e = record {
-  found = f.found ∙ (ap (λ (ys : List Access). put_before replies (replies_in mail told taken ys)) d
-      ∙ (ap (λ (r : Option Reply). put_before replies (put_first r (replies_in mail (told_by a.kind told) taken (drop (suc i) xs)))) e
-      ∙ before_more replies q (replies_in mail (told_by a.kind told) taken (drop (suc i) xs))));
-  number = elim (cases_Bool (is_blocking a.kind)) [
-    | inl k ↦ let y = f.number in let z : queries_in (a ∷ drop (suc i) xs) ≡ queries_in (drop (suc i) xs) = rw k refl in
-        let z2 = ap queries_in d in rw k (omega arith)
-    | inr k ↦ let y = f.number in let z : queries_in (a ∷ drop (suc i) xs) ≡ suc (queries_in (drop (suc i) xs)) = rw k refl in
-        let z2 = ap queries_in d in rw k (omega arith)
-  ];
 }
-
--- one that is not there
-pub finding_lost : (mail : Mail) (told₀ : ℕ) (taken : List ℕ) (xs : List Access) (replies : List Reply) (told i : ℕ) (a : Access)
-    → IsFinding mail told₀ taken xs replies told i → drop i xs ≡ a ∷ drop (suc i) xs
-    → reply_now a.kind (slice_get mail.outcomes told) (next_value mail taken a.channel) ≡ None → replies_in mail told₀ taken xs ≡ None
-finding_lost mail told₀ taken xs replies told i a f d e =
-    f.found ∙ (ap (λ (ys : List Access). put_before replies (replies_in mail told taken ys)) d
-    ∙ ap (λ (r : Option Reply). put_before replies (put_first r (replies_in mail (told_by a.kind told) taken (drop (suc i) xs)))) e)
-
--- all of them
-pub finding_all : (mail : Mail) (told₀ : ℕ) (taken : List ℕ) (xs : List Access) (replies : List Reply) (told i : ℕ)
-    → IsFinding mail told₀ taken xs replies told i → length xs ≤ i
-    → (replies_in mail told₀ taken xs ≡ Some replies) × (told ≡ told₀ + queries_in xs)
-finding_all mail told₀ taken xs replies told i f l =
-    let d = drop_past xs i l in
-    let y = f.number in
-    let z = ap queries_in d in (
-      f.found ∙ (ap (λ (ys : List Access). put_before replies (replies_in mail told taken ys)) d ∙ ap Some (append-nil replies)),
-      omega arith,
-    )
-
--- an outcome that was read is in the mail
-pub was_there : (mail : Mail) (told : ℕ) (k : Kind) (value : Option ℕ) (q : Reply)
-    → reply_now k (slice_get mail.outcomes told) value ≡ Some q → is_blocking k ≡ false → (o : Bool)
-    × (slice_get mail.outcomes told ≡ Some o)
-was_there mail told k value q e b = there k (slice_get mail.outcomes told) refl e b
-  where
-    there : (k : Kind) (o : Option Bool) → slice_get mail.outcomes told ≡ o → reply_now k o value ≡ Some q → is_blocking k ≡ false
-        → (y : Bool) × (slice_get mail.outcomes told ≡ Some y)
-    there k (Some y) s e b = (y, s)
-    there Read None s e b = cc
-    there Write None s e b = cc
-    there TryRead None s e b = cc
-    there TryWrite None s e b = cc
-    there Empty None s e b = cc
-    there Full None s e b = cc
 
 -- the replies fit
 fits_with : (k : Kind) (o : Option Bool) (v : Option ℕ) (q : Reply) → reply_now k o v ≡ Some q → fits_kind k q ≡ true
@@ -221,9 +162,6 @@ left_more whole left more taken c k os vs = record {
 pub record IsTaking (first : Mail) (xs : List Access) (qs : List Reply) (left : Mail) (i : ℕ) : Type 0 where
   pub before : (whole : Mail) (taken : List ℕ) → IsLeft whole taken first → (now : List ℕ)
       × (IsLeft whole now left × (taken_after now (drop i xs) (drop i qs) ≡ taken_after taken xs qs))
-
-pub taking_none : (mail : Mail) (xs : List Access) (qs : List Reply) → IsTaking mail xs qs mail 0
-taking_none mail xs qs = record { before = λ whole taken k. (taken, (k, refl)) }
 
 pub taking_more : (first : Mail) (xs : List Access) (qs : List Reply) (left more : Mail) (i : ℕ) (a : Access) (q : Reply)
     → IsTaking first xs qs left i → drop i xs ≡ a ∷ drop (suc i) xs → drop i qs ≡ q ∷ drop (suc i) qs

@@ -6,10 +6,6 @@ use Rattle.turn_history.specs.declared.entry.HubEntry.{HubEntry}
 use Rattle.turn_history.specs.declared.turn.HubTurn.{HubTurn}
 use Rattle.turn_history.specs.Entries.{history_of}
 
--- two histories that are one are of one plan
-first_plan : (p q : Plan) (ts us : List HubTurn) → history_of p ts ≡ history_of q us → p ≡ q
-first_plan p q ts us e = cc e
-
 pub prefix_trans : (xs ys zs : List HubEntry) → IsPrefix xs ys → IsPrefix ys zs → IsPrefix xs zs
 prefix_trans xs ys zs a b = (a.0 ++ b.0, sym (append_assoc xs a.0 b.0) ∙ (ap (λ (l : List HubEntry). l ++ b.0) a.1 ∙ b.1))
 

@@ -14,21 +14,9 @@ use Rattle.serial_order.specs.Orders.{head, numbers_where, queries_of, is_late, 
 use Rattle.serial_order.specs.Orders.{faults_of}
 use Rattle.serial_order.specs.Orders.{all_faults}
 
--- the numbers of the operations that pass, where the first is number n
-abbrev numbers_from : (Timed → Bool) → ℕ → List Timed → List ℕ
-numbers_from test n ts = map (λ t. t.0) (filter (λ t. test t.1) (enumerate_from n ts))
-
 -- none passes before number n
 abbrev pub NoneBefore : (Timed → Bool) → List Timed → ℕ → Type 0
 NoneBefore test ts n = head (numbers_where test ts) ≡ head (map (λ t. t.0) (filter (λ t. test t.1) (enumerate_from n (drop n ts))))
-
-pub passes_here : (test : Timed → Bool) (ts : List Timed) (n : ℕ) (t : Timed) → n < length ts → t ≡ get_or ts n t → test t ≡ true
-    → NoneBefore test ts n → head (numbers_where test ts) ≡ Some n
-passes_here test ts n t l at passes before = before ∙ rw (drop-cons ts n t l, ← at, passes) refl
-
-pub fails_here : (test : Timed → Bool) (ts : List Timed) (n : ℕ) (t : Timed) → n < length ts → t ≡ get_or ts n t → test t ≡ false
-    → NoneBefore test ts n → NoneBefore test ts (n + 1)
-fails_here test ts n t l at fails before = before ∙ rw (drop-cons ts n t l, ← at, fails, add-one) refl
 
 -- ---- the first of what the blocks have
 
@@ -40,10 +28,6 @@ head-append : {A : Type 0} (xs ys : List A) → head (xs ++ ys) ≡ option_or (h
 head-append [] ys = refl
 head-append (x ∷ xs) ys = refl
 
-pub head-queries : (number : ℕ) (ns : List ℕ) → head (map (Query number) ns) ≡ option_map (Query number) (head ns)
-head-queries number [] = refl
-head-queries number (n ∷ ns) = refl
-
 split_here : (of : ℕ × Block → List Order) (bs : List Block) (n : ℕ) (b : Block) → n < length bs → b ≡ get_or bs n b
     → Nothing of bs n
     → head (flat_map of (enumerate_from 0 bs))
@@ -54,10 +38,6 @@ split_here of bs n b l at before =
 pub something_here : (of : ℕ × Block → List Order) (bs : List Block) (n : ℕ) (b : Block) (o : Order) → n < length bs → b ≡ get_or bs n b
     → Nothing of bs n → head (of (n, b)) ≡ Some o → head (flat_map of (enumerate_from 0 bs)) ≡ Some o
 something_here of bs n b o l at before some = split_here of bs n b l at before ∙ rw some refl
-
-pub nothing_here : (of : ℕ × Block → List Order) (bs : List Block) (n : ℕ) (b : Block) → n < length bs → b ≡ get_or bs n b
-    → Nothing of bs n → head (of (n, b)) ≡ None → Nothing of bs (n + 1)
-nothing_here of bs n b l at before none = split_here of bs n b l at before ∙ rw none refl
 
 -- ---- the first fault of a loop
 
@@ -85,13 +65,6 @@ head-loop channels m number ii again ops =
       head-map (Wide number) (filter (is_wide ii ops) (things_of channels m)),
       head-filter (is_wide ii ops) (things_of channels m),
     ) refl
-
-pub head-all : (channels : ℕ) (m : Module)
-    → head (all_faults channels m)
-    ≡ option_or (head (flat_map queries_of (enumerate_from 0 m.blocks)))
-    (head (flat_map (faults_of channels m) (enumerate_from 0 m.blocks)))
-head-all channels m =
-    head-append (flat_map queries_of (enumerate_from 0 m.blocks)) (flat_map (faults_of channels m) (enumerate_from 0 m.blocks))
 
 pub loop_late : (channels : ℕ) (m : Module) (number ii again : ℕ) (ops : List Timed) (op : ℕ)
     → head (numbers_where (is_late ii again) ops) ≡ Some op

@@ -63,12 +63,6 @@ module _ (channels : List Channel) (xs : List Access) (outs : List Bool) (first 
       counted true = refl
       counted false = refl
 
-pub found_all : (channels : List Channel) (xs : List Access) (outs : List Bool) (first : ℕ) (rs : List Reply) (i n : ℕ)
-    → FindsOn channels xs outs first rs i n → length xs ≤ i
-    → replies_now channels xs (drop first outs) ≡ Some rs
-found_all channels xs outs first rs i n r l = r.found ∙ (ap (λ (ys : List Access). put_before rs (replies_now channels ys (drop n outs)))
-    (drop_all i xs l) ∙ ap Some (append-nil rs))
-
 -- ---- what it means
 
 -- each pop has its value

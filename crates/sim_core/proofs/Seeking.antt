@@ -51,8 +51,3 @@ module _ (channels : List Channel) (xs : List Access) (outs : List Bool) (first 
       counted : (b : Bool) → n + from_bool (not b) ≡ n + cond b 0 1
       counted true = refl
       counted false = refl
-
-pub sought_none : (channels : List Channel) (xs : List Access) (outs : List Bool) (first i n : ℕ) → SeeksOn channels xs outs first i n
-    → length xs ≤ i → first_missing channels xs (drop first outs) ≡ None
-sought_none channels xs outs first i n r l =
-    r.none ∙ ap (λ (ys : List Access). from i (first_missing channels ys (drop n outs))) (drop_all i xs l)

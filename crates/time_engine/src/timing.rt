@@ -1,5 +1,6 @@
 //! The cycle of a module's first step without one.
-ghost use Rattle.std.specs.Prelude.{◌≡◌, ℕ, List, All, ◌+◌, ◌^◌, ◌<◌, ◌≤◌, ◌↔◌, ◌∷◌, [], length, filter, not, cond, slice_get, slice_index, position};
+ghost use Rattle.std.specs.Prelude.{◌≡◌, ℕ, List, All, ◌+◌, ◌^◌, ◌<◌, ◌≤◌, ◌↔◌, ◌∷◌, [], length, filter, not, cond, slice_get, slice_index};
+ghost use Rattle.std.specs.Prelude.{position};
 ghost use Rattle.std.specs.Prelude.{unwrap_or, is_none, None, Some, IfSome, IfOk, OnOk, IfErr, IsSomeAnd};
 ghost use Rattle.std.specs.Option.{ForSome};
 ghost use Rattle.flow_word.specs.Kinds.{is_blocking};

@@ -56,10 +56,6 @@ pairs_of key (x ∷ xs) h (suc i) (suc j) d l m = pairs_of key xs h.1 i j d (ome
 
 -- ---- the changes of a clock
 
-record IsBelow (count n : ℕ) (c : Change) : Type 0 where
-  pub number : c.fifo < n
-  pub fits : c.fill < 2 ^ 32
-
 changes_below : (before now : List ℕ) → ((i : ℕ) → get_or now i 0 < 2 ^ 32) → (n : ℕ)
     → AllByRecursion (λ (c : Change). (c.fifo < n) × (c.fill < 2 ^ 32)) (changes_to before now n)
 changes_below before now few zero = tt

@@ -37,9 +37,6 @@ named_vars n x xs r h =
     ap (λ (d : List ℕ). codes "$var wire 32 f" ++ (d ++ 32 ∷ end)) (numeral_decimal n h)
     ∙ (ap (λ (t : List ℕ). codes "$var wire 32 f" ++ t) (sym (append_assoc (decimal n) (32 ∷ []) end)) ∙ sym (var_parts n x xs r))
 
-pub names_none : (n : ℕ) (text r : List ℕ) → text ≡ 36 ∷ 117 ∷ r → Names n text n r
-names_none n text r e = record { names = []; all = tt; counted = omega arith; is_text = e }
-
 pub names_more : (n : ℕ) (text name behind : List ℕ) (m : ℕ) (r : List ℕ) → n < 2 ^ 64 → IsTrue (is_name name)
     → text ≡ named n name behind → Names (n + 1) behind m r → Names n text m r
 names_more n text name behind m r l is e h = record {

@@ -84,13 +84,6 @@ pub of_each : {X : Type 0} (P : X → Type 0) (o : Option X) → ((x : X) → P 
 of_each P None h = tt
 of_each P (Some x) h = h x
 
--- what holds of the bytes that were read up to the end
-pub of_whole : (P : List ℕ → Type 0) (old new : Option (List ℕ)) (text : List ℕ) → Consumes old new text → IsAtEnd new → P text
-    → IfSome old P
-of_whole P None new text c e h = tt
-of_whole P (Some x) None text c e h = absurd c
-of_whole P (Some x) (Some y) text c e h = subst P (sym (c ∙ (ap (λ (l : List ℕ). text ++ l) e ∙ append-nil text))) h
-
 -- what holds of all bytes of which so many were taken
 pub of_long : (P : List ℕ → Type 0) (old new : Option (List ℕ)) (n : ℕ) → LosesCount old new n
     → ((bytes : List ℕ) → n ≤ length bytes → P bytes) → IfSome old P

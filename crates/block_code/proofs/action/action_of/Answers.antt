@@ -8,7 +8,7 @@ returns-in_ok-operand_of-in-Set c =
 
 pub returns-in_ok-operand_of-in-Load : goal.returns-in_ok-operand_of-in-Load
 returns-in_ok-operand_of-in-Load c =
-    rw c.in-Load.is (load_action c.args.channels.now c.args.of.now c.args.block.now c.target_of-target-in-Load.result c.in-Load.place
+    rw c.in-Load.is (load_action c.args.channels.now c.args.of.now c.args.block.now c.target_of-target-in-Load.result c.in-Load.target
     c.in-Load.memory c.in_ok-operand_of-in-Load.field-0 _ c.target_of-target-in-Load.ensures c.in_ok-operand_of-in-Load.ensures)
 
 pub returns-in_ok-value-in-Store : goal.returns-in_ok-value-in-Store
@@ -25,5 +25,5 @@ returns-in_ok-operand_of-in-Write c =
 pub returns-in_ok-operand_of-in-TryWrite : goal.returns-in_ok-operand_of-in-TryWrite
 returns-in_ok-operand_of-in-TryWrite c =
     rw c.in-TryWrite.is (try_write_action c.args.channels.now c.args.of.now c.args.block.now c.in-TryWrite.channel
-    c.channel_mask-mask-in-TryWrite.result c.target_of-ok.result c.in-TryWrite.ok c.in_ok-operand_of-in-TryWrite.field-0 _
-    c.channel_mask-mask-in-TryWrite.ensures c.target_of-ok.ensures c.in_ok-operand_of-in-TryWrite.ensures)
+    c.channel_mask-mask-in-TryWrite.result c.target_of-outcome.result c.in-TryWrite.outcome c.in_ok-operand_of-in-TryWrite.field-0 _
+    c.channel_mask-mask-in-TryWrite.ensures c.target_of-outcome.ensures c.in_ok-operand_of-in-TryWrite.ensures)

@@ -41,7 +41,6 @@ at_end q log l = ap (λ (n : ℕ). record log { verified = n }) (let e : min q l
 
 pub none_assumed : (lanes : List Lane) (old : List Log) → AreAssumed lanes old old 0
 none_assumed lanes old = record { count = refl; done = λ m l. absurd (omega arith); rest = λ m l. refl }
-}
 
 -- where each of its steps has a cycle, all outcomes stay verified
 pub all_timed : (lanes : List Lane) (now : List Log) (m : ℕ) → length (lane_at lanes m).cycles ≡ length (lane_at lanes m).steps

@@ -44,7 +44,6 @@ drop_past (x ∷ xs) (suc i) l = drop_past xs i (omega arith)
 pub record IsFinding (mail : Mail) (told₀ : ℕ) (taken : List ℕ) (xs : List Access) (replies : List Reply) (told i : ℕ) : Type 0 where
   pub found : replies_in mail told₀ taken xs ≡ put_before replies (replies_in mail told taken (drop i xs))
   pub number : told + queries_in (drop i xs) ≡ told₀ + queries_in xs
-}
 
 -- the replies fit
 fits_with : (k : Kind) (o : Option Bool) (v : Option ℕ) (q : Reply) → reply_now k o v ≡ Some q → fits_kind k q ≡ true

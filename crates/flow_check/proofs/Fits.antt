@@ -1,7 +1,7 @@
 -- A plan that was read breaks no rule of checking exactly where the engine takes it.
 use Rattle.std.proofs.Common.{◌≡◌, ℕ, zero, suc, ◌+◌, ◌%◌, ◌<◌, List, [], ◌∷◌, ◌++◌, length, take, get_or, Option, None, Some, IfSome}
 use Rattle.std.proofs.Common.{option_map, Bool, true, false, cond, refl, sym, ap, ◌∙◌, arith, true≢false, append_assoc, append-nil, subst}
-use Rattle.std.specs.Prelude.{◌&&◌, ◌==◌, nat_eq, nat_lt, slice_get, IsTrue}
+use Rattle.std.specs.Prelude.{◌&&◌, ◌==◌, nat_lt, slice_get, IsTrue}
 use Rattle.std.specs.List.{AllPairs, enumerate_from}
 use Rattle.std.proofs.Math.Nat.{mod-eq_of_lt}
 use Rattle.std.proofs.lemmas.Bool.{and_parts, ltb-true, eqb-true, eq-eqb, not-false, and_from, lt-ltb, not_from_true, false_from_ne_true}
@@ -9,14 +9,11 @@ use Rattle.std.proofs.lemmas.List.{get_or-take, length-take, get_or_default}
 use Rattle.std.proofs.lemmas.List.Folds.{list_any_at, list_any_none}
 use Rattle.std.proofs.lemmas.List.FromFn.{get_or-enumerate_from, length-enumerate_from}
 use Rattle.std.proofs.lemmas.Bool.Decides.{nat_tests}
-use Rattle.flow_word.specs.declared.access.Side.{Side}
 use Rattle.flow_word.specs.declared.access.Side.TheVariants.{Pop, Push}
-use Rattle.flow_word.specs.Kinds.{same_side}
 use Rattle.flow_word.specs.declared.access.Port.{Port}
 use Rattle.flow_design.specs.declared.design.BlockKind.{BlockKind}
 use Rattle.flow_design.specs.declared.design.BlockKind.TheVariants.{Plain, Loop}
 use Rattle.flow_design.specs.declared.design.Next.{Next}
-use Rattle.flow_design.specs.declared.design.Next.TheVariants.{Goto, Branch, Stop}
 use Rattle.flow_design.specs.declared.design.Timed.{Timed}
 use Rattle.flow_design.specs.declared.design.Block.{Block}
 use Rattle.flow_design.specs.declared.design.Module.{Module}
@@ -27,14 +24,14 @@ use Rattle.flow_design.specs.Plans.{no_channel, kind_at}
 use Rattle.flow_design.specs.StaticRules.{same_port, uses, IsTimedSound, IsKindSound, IsNextSound, Clashes, IsBlockSound, IsModuleSound}
 use Rattle.flow_design.specs.StaticRules.{IsChannelSound, FitsEngine}
 use Rattle.flow_grammar.specs.declared.fault.Code.{Code}
-use Rattle.flow_check.specs.declared.item.Spot.{Spot}
 use Rattle.flow_check.specs.declared.item.Spot.TheVariants.{Head, Operation, Terminator}
 use Rattle.flow_check.specs.declared.item.Item.{Item}
-use Rattle.flow_check.specs.First.{sooner, first_in, first_behind, first_for, place_where}
+use Rattle.flow_check.specs.First.{first_in, first_behind, first_for, place_where}
 use Rattle.flow_check.specs.Rules.{leads_out, breaks_limits, lacks_users, has_users, is_served, phase, slot, same_slot, is_slot}
 use Rattle.flow_check.specs.Rules.{takes_again, clashes, is_bad_loop, is_too_late, lacks_port, is_on_wrong_side, spot, spot_in, in_module}
 use Rattle.flow_check.specs.Rules.{broken_by, rules, checking_fault, Slot}
-use Rattle.flow_check.proofs.Firsts.{where_behind}
+use Rattle.flow_check.proofs.Firsts.{where_behind, behind_least}
+use Rattle.std.proofs.lemmas.Option.{none-some, slice_get-get_or}
 use Rattle.flow_check.specs.Read.{IsTimedRead, IsKindRead, IsNextRead, IsBlockRead, IsPlanRead}
 use Rattle.flow_grammar.specs.declared.fault.Code.TheVariants as code
 
@@ -42,6 +39,10 @@ use Rattle.flow_grammar.specs.declared.fault.Code.TheVariants as code
 
 none_for : {A B : Type 0} (f : A → Option B) (x : A) (xs : List A) → first_for f (x ∷ xs) ≡ None → (f x ≡ None) × (first_for f xs ≡ None)
 none_for f x xs h = (grind arith, grind arith)
+
+-- what stands where a number names no module
+no_module : Module
+no_module = record { name = []; registers = []; memories = []; blocks = [] }
 
 -- no item of the list gives anything
 none_of : {A B : Type 0} (f : A → Option B) (xs : List A) → first_for f xs ≡ None → (k : ℕ) (x : A) → slice_get xs k ≡ Some x → f x ≡ None
@@ -54,50 +55,37 @@ none_mapped f None h = refl
 none_mapped f (Some x) h = absurd cc
 
 -- every item gives nothing
-pub none_in : {A B : Type 0} (f : A → Option B) (xs : List A) → first_in f xs ≡ None → (k : ℕ) (d : A) → k < length xs
+none_in : {A B : Type 0} (f : A → Option B) (xs : List A) → first_in f xs ≡ None → (k : ℕ) (d : A) → k < length xs
     → f (get_or xs k d) ≡ None
 none_in f [] h k d l = absurd (omega arith)
 none_in f (x ∷ xs) h zero d l = grind arith
 none_in f (x ∷ xs) h (suc k) d l = grind (arith, none_in f xs)
 
+-- nothing is found where every item gives nothing
+in_none : {A B : Type 0} (f : A → Option B) (d : A) (xs : List A) → ((k : ℕ) → k < length xs → f (get_or xs k d) ≡ None)
+    → first_in f xs ≡ None
+in_none f d [] h = refl
+in_none f d (x ∷ xs) h =
+    let first = h 0 (omega arith) in let rest = in_none f d xs (λ k l. h (suc k) (omega arith)) in grind arith
+
 -- none fails behind those before it
-pub none_behind : {A : Type 0} (fails : List A → A → Bool) (before xs : List A) → first_behind fails before xs ≡ None
+none_behind : {A : Type 0} (fails : List A → A → Bool) (before xs : List A) → first_behind fails before xs ≡ None
     → (k : ℕ) (d : A) → k < length xs → fails (before ++ take k xs) (get_or xs k d) ≡ false
-none_behind fails before [] h k d l = absurd (omega arith)
-none_behind {A} fails before (x ∷ xs) h k d l = by (fails before x) refl h (none_behind fails (before ++ x ∷ []) xs) k l
-  where
-    by : (b : Bool) → fails before x ≡ b → cond b (Some 0) (option_map (λ k. k + 1) (first_behind fails (before ++ x ∷ []) xs)) ≡ None
-        → (first_behind fails (before ++ x ∷ []) xs ≡ None → (k : ℕ) (d : A) → k < length xs
-        → fails ((before ++ x ∷ []) ++ take k xs) (get_or xs k d) ≡ false)
-        → (k : ℕ) → k < suc (length xs) → fails (before ++ take k (x ∷ xs)) (get_or (x ∷ xs) k d) ≡ false
-    by true e q later k l = absurd cc
-    by false e q later zero l = ap (λ (l : List A). fails l x) (append-nil before) ∙ e
-    by false e q later (suc k) l =
-        ap (λ (l : List A). fails l (get_or xs k d)) (sym (append_assoc before (x ∷ []) (take k xs)))
-        ∙ later (none_mapped (λ k. k + 1) (first_behind fails (before ++ x ∷ []) xs) q) k d (omega arith)
+none_behind fails before xs h k d l = false_from_ne_true (fails (before ++ take k xs) (get_or xs k d)) (λ e.
+    none-some _ (sym h ∙ (behind_least fails before xs k (rw (slice_get-get_or xs k d l) e)).1))
 
 -- no item passes
 none_where : {A : Type 0} (p : A → Bool) (xs : List A) → place_where p xs ≡ None → (k : ℕ) (d : A) → k < length xs
     → p (get_or xs k d) ≡ false
 none_where p xs h = none_behind (λ earlier. p) [] xs (sym (where_behind p [] xs) ∙ h)
 
--- a test gives nothing where it is false
-not_when : {A : Type 0} (b : Bool) (x : A) → cond b (Some x) None ≡ None → b ≡ false
-not_when true x h = absurd cc
-not_when false x h = refl
-
 -- ---- ports
 
 same_port_itself : (a : Port) → same_port a a ≡ true
-same_port_itself a = by a.side
-  where
-    by : (s : Side) → same_side s s && nat_eq a.channel a.channel ≡ true
-    by Pop = eq-eqb a.channel a.channel refl
-    by Push = eq-eqb a.channel a.channel refl
+same_port_itself a = grind (arith, nat_tests)
 
 side_kept : (m : Module) (a : Option Port) → lacks_port m a ≡ false → IfSome a (λ p. IsTrue (uses p m))
-side_kept m None h = tt
-side_kept m (Some p) h = not-false (uses p m) h
+side_kept m a h = grind arith
 
 -- ---- blocks
 
@@ -109,9 +97,7 @@ kind_sound registers len (Loop ii again) read h =
 
 next_sound : (registers blocks : ℕ) (next : Next) → IsNextRead registers next → leads_out blocks next ≡ false
     → IsNextSound registers blocks next
-next_sound registers blocks (Goto n) read h = grind (arith, nat_tests)
-next_sound registers blocks (Branch r n o) read h = (read, grind (arith, nat_tests), grind (arith, nat_tests))
-next_sound registers blocks Stop read h = tt
+next_sound registers blocks next read h = grind (arith, nat_tests)
 
 -- offsets that are equal modulo the interval are equal phases
 same_phase : (len : ℕ) (kind : BlockKind) (a b : ℕ) → a < len → b < len → a % interval_of kind len ≡ b % interval_of kind len
@@ -188,14 +174,14 @@ module _ (plan : Plan) (read : IsPlanRead plan) (faultless : (rule : Code) → f
         least = was.least;
         most = was.most;
         kind = kind_sound (length own.registers) block.len block.kind was.kind
-            (not_when (is_bad_loop block.len block.kind) Head (none_at code.BadLoop m dm lm b db lb));
+            (let none = none_at code.BadLoop m dm lm b db lb in grind arith);
         temps = was.temps;
         count = was.count;
         operations = λ i d there. timed_sound m dm lm b db lb i d there;
         apart = apart block (none_mapped Operation _ (none_at code.PortClash m dm lm b db lb))
             (λ i d there. (timed_sound m dm lm b db lb i d there).offset);
         next = next_sound (length own.registers) (length own.blocks) block.next was.next
-            (not_when (leads_out (length own.blocks) block.next) Terminator (none_at code.UnknownName m dm lm b db lb));
+            (let none = none_at code.UnknownName m dm lm b db lb in grind arith);
       }
 
   module_sound : (m : ℕ) (dm : Module) → m < length plan.design.modules
@@ -234,32 +220,21 @@ channel_sound plan read h f there =
 
 -- ---- the whole
 
--- a rule that is not tried on blocks fails in none
-pub other_rule : (rule : Code) → ((m : Module) (b : Block) → spot rule m b ≡ None) → (modules : List Module)
-    → first_in (spot_in rule) modules ≡ None
-other_rule rule never [] = refl
-other_rule rule never (m ∷ modules) = ap (λ (o : Option (ℕ × Spot)). sooner o (first_in (spot_in rule) modules)) (by m m.blocks)
-    ∙ ap (option_map (λ (p : ℕ × (ℕ × Spot)). (p.0 + 1, p.1))) (other_rule rule never modules)
-  where
-    by : (own : Module) (blocks : List Block) → first_in (spot rule own) blocks ≡ None
-    by own [] = refl
-    by own (b ∷ blocks) = ap (λ (o : Option Spot). sooner o (first_in (spot rule own) blocks)) (never own b)
-        ∙ ap (option_map (λ (p : ℕ × Spot). (p.0 + 1, p.1))) (by own blocks)
-
 each_rule : (plan : Plan) → first_for (broken_by plan) rules ≡ None → (rule : Code) → first_in (spot_in rule) plan.design.modules ≡ None
 each_rule plan h code.UnknownName = none_mapped in_module _ (none_of (broken_by plan) rules h 0 code.UnknownName refl)
 each_rule plan h code.PortClash = none_mapped in_module _ (none_of (broken_by plan) rules h 3 code.PortClash refl)
 each_rule plan h code.BadLoop = none_mapped in_module _ (none_of (broken_by plan) rules h 4 code.BadLoop refl)
 each_rule plan h code.BadOffset = none_mapped in_module _ (none_of (broken_by plan) rules h 5 code.BadOffset refl)
 each_rule plan h code.WrongSide = none_mapped in_module _ (none_of (broken_by plan) rules h 6 code.WrongSide refl)
-each_rule plan h rule = other_rule rule (λ m b. refl) plan.design.modules
+each_rule plan h rule = in_none (spot_in rule) no_module plan.design.modules (λ m lm.
+    in_none (spot rule (get_or plan.design.modules m no_module)) no_block (get_or plan.design.modules m no_module).blocks (λ b lb. refl))
 
 pub fits : (plan : Plan) → IsPlanRead plan → checking_fault plan ≡ None → FitsEngine plan
 unfolding checking_fault
 fits plan read h =
     let in_limits = none_of (broken_by plan) rules h 1 code.BadLimit refl in
     let served = none_of (broken_by plan) rules h 2 code.Ends refl in
-    let limits : breaks_limits plan.cycles plan.ops ≡ false = not_when (breaks_limits plan.cycles plan.ops) _ in_limits in
+    let limits : breaks_limits plan.cycles plan.ops ≡ false = grind arith in
     record {
       channel_count = read.channel_count;
       module_count = read.module_count;
@@ -275,14 +250,6 @@ fits plan read h =
     }
 
 -- ---- a plan that the engine takes breaks no rule of checking
-
--- ---- nothing is found where every item gives nothing
-
-in_none : {A B : Type 0} (f : A → Option B) (d : A) (xs : List A) → ((k : ℕ) → k < length xs → f (get_or xs k d) ≡ None)
-    → first_in f xs ≡ None
-in_none f d [] h = refl
-in_none f d (x ∷ xs) h =
-    let first = h 0 (omega arith) in let rest = in_none f d xs (λ k l. h (suc k) (omega arith)) in grind arith
 
 behind_none : {A : Type 0} (fails : List A → A → Bool) (d : A) (before xs : List A)
     → ((k : ℕ) → k < length xs → fails (before ++ take k xs) (get_or xs k d) ≡ false) → first_behind fails before xs ≡ None
@@ -300,70 +267,53 @@ where_none p d xs h = where_behind p [] xs ∙ behind_none (λ earlier. p) d [] 
 -- ---- ports and slots
 
 port_is : (a b : Port) → same_port a b ≡ true → a ≡ b
-port_is a b h =
-    let parts = and_parts _ _ h in
-    ap (λ (s : Side). record { side = s; channel = a.channel }) (side_is a.side b.side parts.0)
-    ∙ ap (λ (n : ℕ). record { side = b.side; channel = n }) (eqb-true a.channel b.channel parts.1)
-  where
-    side_is : (s t : Side) → same_side s t ≡ true → s ≡ t
-    side_is Pop Pop h = refl
-    side_is Push Push h = refl
-    side_is Pop Push h = absurd (true≢false (sym h))
-    side_is Push Pop h = absurd (true≢false (sym h))
+port_is a b h = grind (arith, nat_tests)
 
 -- phases that are equal are offsets that are equal modulo the interval
 phase_mod : (len : ℕ) (kind : BlockKind) (a b : ℕ) → phase kind a ≡ phase kind b → a % interval_of kind len ≡ b % interval_of kind len
 phase_mod len Plain a b e = ap (λ (n : ℕ). n % len) e
 phase_mod len (Loop ii again) a b e = e
 
-clash_of : (b : Block) (t u : Timed) (o p : Option Port) → used_port t.op ≡ o → used_port u.op ≡ p
-    → (s : Slot) → option_map (λ a. (a, phase b.kind u.offset)) p ≡ Some s
-    → is_slot s (option_map (λ a. (a, phase b.kind t.offset)) o) ≡ true
-    → Clashes (interval b) t u
-clash_of b t u o None is_o is_p s e h = absurd cc
-clash_of b t u None (Some c) is_o is_p s e h = absurd (true≢false (sym h))
-clash_of b t u (Some a) (Some c) is_o is_p s e h =
-    let own : (c, phase b.kind u.offset) ≡ s = cc in
-    let parts = and_parts (same_port c a) (phase b.kind u.offset == phase b.kind t.offset)
-    (subst (λ (r : Slot). is_slot r (Some (a, phase b.kind t.offset)) ≡ true) (sym own) h) in
-    record {
-      port = c;
-      first = is_o ∙ ap Some (sym (port_is c a parts.0));
-      second = is_p;
-      offsets = phase_mod b.len b.kind t.offset u.offset (sym (eqb-true _ _ parts.1));
-    }
+clash_of : (b : Block) (t u : Timed) (s : Slot) → slot b.kind u ≡ Some s → is_slot s (slot b.kind t) ≡ true → Clashes (interval b) t u
+clash_of b t u s e h = by (used_port t.op) (used_port u.op) refl refl e h
+  where
+    by : (o p : Option Port) → used_port t.op ≡ o → used_port u.op ≡ p → option_map (λ a. (a, phase b.kind u.offset)) p ≡ Some s
+        → is_slot s (option_map (λ a. (a, phase b.kind t.offset)) o) ≡ true → Clashes (interval b) t u
+    by o None is_o is_p e h = absurd cc
+    by None (Some c) is_o is_p e h = absurd (true≢false (sym h))
+    by (Some a) (Some c) is_o is_p e h =
+        let own : (c, phase b.kind u.offset) ≡ s = cc in
+        let parts = and_parts (same_port c a) (phase b.kind u.offset == phase b.kind t.offset)
+        (subst (λ (r : Slot). is_slot r (Some (a, phase b.kind t.offset)) ≡ true) (sym own) h) in
+        record {
+          port = c;
+          first = is_o ∙ ap Some (sym (port_is c a parts.0));
+          second = is_p;
+          offsets = phase_mod b.len b.kind t.offset u.offset (sym (eqb-true _ _ parts.1));
+        }
 
 no_clash : (b : Block) (d : Timed) → AllPairs (λ t u. ¬ Clashes (interval b) t u) b.ops → (k : ℕ) → k < length b.ops
     → clashes b.kind (take k b.ops) (get_or b.ops k d) ≡ false
-no_clash b d apart k there = by (slot b.kind u) refl
+no_clash b d apart k there = by (slot b.kind (get_or b.ops k d)) refl
   where
-    u : Timed
-    u = get_or b.ops k d
-
-    by : (o : Option Slot) → slot b.kind u ≡ o → takes_again b.kind (take k b.ops) o ≡ false
+    by : (o : Option Slot) → slot b.kind (get_or b.ops k d) ≡ o → takes_again b.kind (take k b.ops) o ≡ false
     by None e = refl
     by (Some s) e = list_any_none (λ t. is_slot s (slot b.kind t)) (take k b.ops) (λ i c l.
         let before : i < k = omega (arith, length-take k b.ops) in
-        let same : get_or (take k b.ops) i c ≡ get_or b.ops i d
-        = get_or-take k b.ops i c before ∙ get_or_default b.ops i c d (omega arith) in
-        ap (λ (t : Timed). is_slot s (slot b.kind t)) same
-        ∙ false_from_ne_true (is_slot s (slot b.kind (get_or b.ops i d))) (λ taken.
-        apart i k d before there (clash_of b (get_or b.ops i d) u _ _ refl refl s e taken)))
+        rw (get_or-take k b.ops i c before ∙ get_or_default b.ops i c d (omega arith))
+        (false_from_ne_true (is_slot s (slot b.kind (get_or b.ops i d)))
+        (λ taken. apart i k d before there (clash_of b (get_or b.ops i d) (get_or b.ops k d) s e taken))))
 
 -- ---- blocks
 
 next_within : (registers blocks : ℕ) (next : Next) → IsNextSound registers blocks next → leads_out blocks next ≡ false
-next_within registers blocks (Goto n) sound = grind (arith, nat_tests)
-next_within registers blocks (Branch r n o) sound = grind (arith, nat_tests)
-next_within registers blocks Stop sound = refl
+next_within registers blocks next sound = grind (arith, nat_tests)
 
 loop_within : (registers len : ℕ) (kind : BlockKind) → IsKindSound registers len kind → is_bad_loop len kind ≡ false
-loop_within registers len Plain sound = refl
-loop_within registers len (Loop ii again) sound = grind (arith, nat_tests)
+loop_within registers len kind sound = grind (arith, nat_tests)
 
 port_kept : (m : Module) (o : Option Port) → IfSome o (λ a. IsTrue (uses a m)) → lacks_port m o ≡ false
-port_kept m None h = refl
-port_kept m (Some a) h = not_from_true (uses a m) h
+port_kept m o h = grind arith
 
 module _ (channels : ℕ) (m : Module) (b : Block) (sound : IsBlockSound channels m b) (d : Timed) where
   no_spot : (rule : Code) → spot rule m b ≡ None
@@ -379,10 +329,6 @@ module _ (channels : ℕ) (m : Module) (b : Block) (sound : IsBlockSound channel
   no_spot rule = refl
 
 -- ---- plans
-
--- what stands where a number names no module
-no_module : Module
-no_module = record { name = []; registers = []; memories = []; blocks = [] }
 
 module _ (plan : Plan) (fits : FitsEngine plan) where
   no_module_breaks : (rule : Code) → first_in (spot_in rule) plan.design.modules ≡ None

@@ -1,7 +1,7 @@
 -- What the rules of reading give of a plan and of its edits.
 use Rattle.std.proofs.Common.{◌≡◌, ℕ, ◌+◌, ◌<◌, ◌≤◌, List, [], ◌∷◌, ◌++◌, length, map, is_some, IfSome, Bool, true, false, cond, refl, sym}
-use Rattle.std.proofs.Common.{ap, subst, ◌∙◌, arith, length-append, suc, Option, Some, None, true≢false, append_assoc, append-nil, ◌==◌}
-use Rattle.std.proofs.Common.{sum_by, get_or, option_map, unwrap_or, not}
+use Rattle.std.proofs.Common.{ap, subst, ◌∙◌, arith, length-append, Option, Some, None, true≢false, append_assoc, append-nil, ◌==◌}
+use Rattle.std.proofs.Common.{sum_by, get_or}
 use Rattle.std.specs.List.{All, filter_map, cons_option, flat_map, enumerate_from}
 use Rattle.std.proofs.lemmas.List.Elements.{All-nil, All-cons}
 use Rattle.flow_word.specs.declared.access.Port.{Port}
@@ -15,30 +15,30 @@ use Rattle.flow_design.specs.declared.design.Module.{Module}
 use Rattle.flow_design.specs.Operations.{places_of, expressions_of, memory_of, port_of}
 use Rattle.flow_design.specs.StaticRules.{IsExpressionSound, IsMemorySound, AreEntriesSound}
 use Rattle.flow_grammar.specs.Before.{temp_name, is_among, channel_name, register_name, memory_name, block_name, blocks, in_module}
-use Rattle.flow_grammar.specs.Before.{input_count, input_values, module_name, channels, modules, fifo_name, fifos}
-use Rattle.session_plan.specs.Names.{Name, Scope, number_of, place_of}
+use Rattle.flow_grammar.specs.Before.{input_count, input_values, module_name, channels, modules, fifo_name}
+use Rattle.session_plan.specs.Names.{Name, Scope, number_of}
 use Rattle.session_plan.specs.Numbered.{timed, terminator}
 use Rattle.session_plan.specs.Plans.{first_or, kind_of, block, memory, scope_of, module_of, values_for, inputs_of, inputs_for, channel}
 use Rattle.session_plan.specs.Plans.{depth_in, channels_of, channel_names, plan_of, edit, edits_of}
 use Rattle.session_plan.specs.Sections.{begins, body_of, sections, declared, declared_width}
 use Rattle.flow_check.specs.Read.{IsTimedRead, IsKindRead, IsNextRead, IsBlockRead, IsModuleRead, IsPlanRead}
 use Rattle.flow_check.proofs.Bodies.{Keeps, Follow, Plain, plain_body, follow_body, inside, nothing_inside, grows, at_most, as_many, Heard}
-use Rattle.flow_check.proofs.Bodies.{heard_none, body_first, Grows, heard_more, heard_later, all_follow, temp_same, heard_all, Hears}
+use Rattle.flow_check.proofs.Bodies.{heard_none, Grows, Both, both_more, all_follow, temp_same, heard_all, Hears}
 use Rattle.flow_check.proofs.Bodies.{hears_more, hears_body, plain_later, TimedRead, ops_read, next_read, few_temps, few_operations}
 use Rattle.flow_check.proofs.Bodies.{len_read, kind_read, register_same, memory_same, heard_body, channel_same, in_range}
-use Rattle.std.specs.Prelude.{◌&&◌, nat_le, IsTrue, reverse, ◌||◌}
-use Rattle.std.proofs.lemmas.Bool.{and_parts, ltb-true, leb-true, eqb-true, not-true, or_right}
+use Rattle.std.specs.Prelude.{IsTrue, reverse, ◌||◌}
+use Rattle.std.proofs.lemmas.Bool.{and_parts, ltb-true, leb-true}
 use Rattle.std.proofs.lemmas.List.{length-map, reverse-append, get_or-map}
 use Rattle.flow_design.specs.declared.design.Memory.{Memory}
 use Rattle.flow_design.specs.Names.{is_name}
 use Rattle.flow_grammar.specs.Tokens.{is_name as is_name_token}
-use Rattle.flow_grammar.specs.declared.place.Place.{Place}
 use Rattle.flow_grammar.specs.declared.place.Place.TheVariants.{AmongRegisters, AtEnd}
 use Rattle.flow_grammar.specs.Places.{place, may_stand, may_follow}
 use Rattle.flow_grammar.specs.Rules.{is_over, KeepsReadingRules}
 use Rattle.session_plan.specs.declared.section.Level.{Level}
 use Rattle.std.proofs.lemmas.List.Concat.{flat_map-cons}
-use Rattle.std.proofs.lemmas.List.Sums.{sum_by-cons}
+use Rattle.std.proofs.lemmas.List.Sums.{sum_by-cons, take_while-cons}
+use Rattle.std.proofs.lemmas.Bool.Decides.{nat_tests}
 use Rattle.flow_design.specs.declared.session.Statement.TheVariants.{Input}
 use Rattle.flow_design.specs.declared.design.ChannelKind.{ChannelKind}
 use Rattle.flow_design.specs.declared.design.Channel.{Channel}
@@ -56,22 +56,11 @@ use Rattle.flow_design.specs.declared.design.ChannelKind.TheVariants as kind
 
 hears_own : (scope : Scope) (names : List Name) (earlier rest : List Statement) → Hears scope earlier rest
     → Hears (record scope { temps = names }) earlier rest
-hears_own scope names earlier rest h = record {
-  channels = h.channels;
-  channels_later = h.channels_later;
-  registers = h.registers;
-  registers_later = h.registers_later;
-  memories = h.memories;
-  memories_later = h.memories_later;
-}
+hears_own scope names earlier rest h = record { channels = h.channels; registers = h.registers; memories = h.memories }
 
 -- so many temps have names as have widths
 temps_long : (body : List Statement) → length (filter_map (declared sort.Temps) body) ≡ length (filter_map (declared_width sort.Temps) body)
-temps_long body = as_many (declared sort.Temps) (declared_width sort.Temps) by body
-  where
-    by : (x : Statement) → is_some (declared sort.Temps x) ≡ is_some (declared_width sort.Temps x)
-    by (s.Temp n w) = refl
-    by x = refl
+temps_long body = as_many _ _ (λ x. grind arith) body
 
 module _ (count : ℕ) (m : Module) (scope : Scope) (chans : length scope.channels ≡ count)
     (regs : length scope.registers ≡ length m.registers) (mems : length scope.memories ≡ length m.memories) where
@@ -104,11 +93,10 @@ module _ (count : ℕ) (m : Module) (scope : Scope) (chans : length scope.channe
       let follows : Follow e0 body = follow_body level.Blocks e0 rest follow in
       let no_modules : Plain level.Modules body = plain_later level.Modules level.Blocks rest pm in
       let no_blocks : Plain level.Blocks body = plain_body level.Blocks rest in
-      let start : Heard temp_name names (inside level.Blocks e0)
-      = subst (Heard temp_name names) (sym nothing) (heard_none temp_name names) in
       let ops : List Timed = filter_map (timed own) body in
       let all : All (TimedRead own) ops
-      = ops_read own e0 body follows no_modules no_blocks heard start (heard_all temp_name (declared sort.Temps) temp_same body) in
+      = ops_read own e0 body follows no_modules no_blocks heard
+      (rw nothing (heard_none temp_name names, heard_all temp_name (declared sort.Temps) temp_same body)) in
       let few : length names ≤ TEMPS
       = at_most (inside level.Blocks) (declared sort.Temps) TEMPS few_temps e0 body nothing follows (grows level.Blocks body no_blocks) in
       let fewer : length ops ≤ OPERATIONS
@@ -120,7 +108,7 @@ module _ (count : ℕ) (m : Module) (scope : Scope) (chans : length scope.channe
       record {
         least = len.0;
         most = len.1;
-        kind = subst (λ (n : ℕ). IsKindRead n (kind_of scope head)) regs (kind_read scope earlier head keeps hears.registers);
+        kind = subst (λ (n : ℕ). IsKindRead n (kind_of scope head)) regs (kind_read scope earlier head keeps hears.registers.0);
         temps = subst (λ (n : ℕ). n ≤ TEMPS) (temps_long body) few;
         count = fewer;
         operations = λ i d there. timed_read names (block scope (head, body)) (temps_long body) _ (all i d there);
@@ -157,31 +145,21 @@ over_behind earlier (x ∷ rest) h =
 
 ends : (statements : List Statement) → is_over statements ≡ true → place (reverse statements) ≡ AtEnd
 unfolding is_over
-ends statements h = by (place (reverse statements)) refl
-  where
-    by : (p : Place) → place (reverse statements) ≡ p → place (reverse statements) ≡ AtEnd
-    by AtEnd e = e
-    by p e = absurd (true≢false (sym (rw e at h)))
+ends statements h = grind arith
 
 pub all_over : (statements : List Statement) → is_over statements ≡ true → Over [] statements
 all_over statements h = over_behind [] statements (ap place (append-nil (reverse statements)) ∙ ends statements h)
 
 -- a module has a block
-pub some_block : (earlier rest : List Statement) → place earlier ≡ AmongRegisters → Follow earlier rest → Over earlier rest
+some_block : (earlier rest : List Statement) → place earlier ≡ AmongRegisters → Follow earlier rest → Over earlier rest
     → 1 ≤ length (sections level.Blocks (body_of level.Modules rest))
 unfolding may_follow
 some_block earlier [] here follow over = absurd cc
-some_block earlier (s.Reg n w ∷ rest) here follow over =
-    subst (λ (l : List Statement). 1 ≤ length (sections level.Blocks l)) (sym (body_first level.Modules (s.Reg n w) rest))
-    (some_block (s.Reg n w ∷ earlier) rest refl follow.1 over)
-some_block earlier (s.Mem n w len ∷ rest) here follow over =
-    subst (λ (l : List Statement). 1 ≤ length (sections level.Blocks l)) (sym (body_first level.Modules (s.Mem n w len) rest))
-    (some_block (s.Mem n w len ∷ earlier) rest refl follow.1 over)
-some_block earlier (s.Block n len ∷ rest) here follow over =
-    subst (λ (l : List Statement). 1 ≤ length (sections level.Blocks l)) (sym (body_first level.Modules (s.Block n len) rest)) (omega arith)
-some_block earlier (s.Loop n ii len again ∷ rest) here follow over =
-    subst (λ (l : List Statement). 1 ≤ length (sections level.Blocks l)) (sym (body_first level.Modules (s.Loop n ii len again) rest))
-    (omega arith)
+some_block earlier (s.Reg n w ∷ rest) here follow over = rw take_while-cons (some_block (s.Reg n w ∷ earlier) rest refl follow.1 over)
+some_block earlier (s.Mem n w len ∷ rest) here follow over
+    = rw take_while-cons (some_block (s.Mem n w len ∷ earlier) rest refl follow.1 over)
+some_block earlier (s.Block n len ∷ rest) here follow over = rw take_while-cons (omega arith)
+some_block earlier (s.Loop n ii len again ∷ rest) here follow over = rw take_while-cons (omega arith)
 some_block earlier (x ∷ rest) here follow over = absurd (true≢false (sym (sym (ap (may_stand x) here) ∙ follow.0.permitted)))
 
 -- ---- counts
@@ -189,13 +167,7 @@ some_block earlier (x ∷ rest) here follow over = absurd (true≢false (sym (sy
 pub sections_long : (l : Level) (name : Statement → Option Name) → ((x : Statement) → is_some (name x) ≡ begins l x) → (xs : List Statement)
     → length (sections l xs) ≡ length (filter_map name xs)
 sections_long l name same [] = refl
-sections_long l name same (x ∷ xs) = by (begins l x) (name x) (same x) (sections_long l name same xs)
-  where
-    by : (b : Bool) (o : Option Name) → is_some o ≡ b → length (sections l xs) ≡ length (filter_map name xs)
-        → length (cond b ((x, body_of l xs) ∷ sections l xs) (sections l xs)) ≡ length (cons_option o (filter_map name xs))
-    by true (Some n) e h = ap suc h
-    by false None e h = h
-    by b o e h = absurd cc
+sections_long l name same (x ∷ xs) = let one = same x in let later = sections_long l name same xs in grind arith
 
 few_registers : (earlier : List Statement) (x : Statement) → Keeps earlier x → is_some (declared sort.Registers x) ≡ true
     → length (filter_map (declared sort.Registers) (inside level.Modules earlier)) < REGISTERS
@@ -216,11 +188,6 @@ few_blocks earlier (s.Block n len) keeps h = ltb-true _ _ keeps.room
 few_blocks earlier (s.Loop n ii len again) keeps h = ltb-true _ _ keeps.room
 few_blocks earlier x keeps h = absurd (true≢false (sym h))
 
-block_named : (y : Statement) → is_some (block_name y) ≡ begins level.Blocks y
-block_named (s.Block m v) = refl
-block_named (s.Loop m v k r) = refl
-block_named y = refl
-
 -- ---- memories
 
 words_more : (earlier : List Statement) (x : Statement) → Keeps earlier x → (later : List Memory) → All IsMemorySound later
@@ -236,31 +203,19 @@ words_read earlier (x ∷ body) follow = words_more earlier x follow.0 (filter_m
 
 registers_long : (body : List Statement)
     → length (filter_map (declared sort.Registers) body) ≡ length (filter_map (declared_width sort.Registers) body)
-registers_long body = as_many (declared sort.Registers) (declared_width sort.Registers) by body
-  where
-    by : (x : Statement) → is_some (declared sort.Registers x) ≡ is_some (declared_width sort.Registers x)
-    by (s.Reg n w) = refl
-    by x = refl
+registers_long body = as_many _ _ (λ x. grind arith) body
 
 memories_long : (body : List Statement) → length (filter_map (declared sort.Memories) body) ≡ length (filter_map memory body)
-memories_long body = as_many (declared sort.Memories) memory by body
-  where
-    by : (x : Statement) → is_some (declared sort.Memories x) ≡ is_some (memory x)
-    by (s.Mem n w len) = refl
-    by x = refl
+memories_long body = as_many _ _ (λ x. grind arith) body
 
 -- ---- modules
 
-name_read : (earlier : List Statement) (n : Name) → Keeps earlier (s.Module n) → IsTrue (is_name n)
-unfolding is_name_token
-name_read earlier n keeps = (and_parts _ _ keeps.named).0
-
 module_read : (names : List Name) (earlier : List Statement) (n : Name) (rest : List Statement) → Keeps earlier (s.Module n)
     → Follow (s.Module n ∷ earlier) rest
-    → Over (s.Module n ∷ earlier) rest → Heard channel_name names earlier → Heard channel_name names (s.Module n ∷ rest)
+    → Over (s.Module n ∷ earlier) rest → Both channel_name names (s.Module n ∷ earlier) rest
     → IsModuleRead (length names) (module_of names (s.Module n, body_of level.Modules rest))
-unfolding module_of
-module_read names earlier n rest keeps follow over heard later =
+unfolding module_of is_name_token
+module_read names earlier n rest keeps follow over heard =
     let body : List Statement = body_of level.Modules rest in
     let e0 : List Statement = s.Module n ∷ earlier in
     let own : Scope = scope_of names body in
@@ -268,12 +223,9 @@ module_read names earlier n rest keeps follow over heard later =
     let follows : Follow e0 body = follow_body level.Modules e0 rest follow in
     let plain : Plain level.Modules body = plain_body level.Modules rest in
     let hears : Hears own e0 body = record {
-      channels = heard_more channel_name names (s.Module n) earlier rest heard later;
-      channels_later = heard_body channel_name names level.Modules rest (heard_later channel_name names (s.Module n) rest later);
-      registers = subst (Heard register_name own.registers) (sym nothing) (heard_none register_name own.registers);
-      registers_later = heard_all register_name (declared sort.Registers) register_same body;
-      memories = subst (Heard memory_name own.memories) (sym nothing) (heard_none memory_name own.memories);
-      memories_later = heard_all memory_name (declared sort.Memories) memory_same body;
+      channels = (heard.0, heard_body channel_name names level.Modules rest heard.1);
+      registers = (heard_none register_name own.registers, heard_all register_name (declared sort.Registers) register_same body);
+      memories = (heard_none memory_name own.memories, heard_all memory_name (declared sort.Memories) memory_same body);
     } in
     let m : Module = module_of names (s.Module n, body) in
     let grown : Grows (inside level.Modules) body = grows level.Modules body plain in
@@ -285,11 +237,11 @@ module_read names earlier n rest keeps follow over heard later =
     = at_most (inside level.Modules) block_name BLOCKS few_blocks e0 body nothing follows grown in
     let long_a = registers_long body in
     let long_b = memories_long body in
-    let long_c = sections_long level.Blocks block_name block_named body in
+    let long_c = sections_long level.Blocks block_name (λ y. grind arith) body in
     let long_d : length (map (block own) (sections level.Blocks body)) ≡ length (sections level.Blocks body) = simp length-map in
     let some : 1 ≤ length (sections level.Blocks body) = some_block e0 rest refl follow over in
     record {
-      name = name_read earlier n keeps;
+      name = (and_parts _ _ keeps.named).0;
       registers = omega arith;
       memories = omega arith;
       words = words_read e0 body follows;
@@ -299,21 +251,19 @@ module_read names earlier n rest keeps follow over heard later =
     }
 
 pub modules_read : (names : List Name) (earlier rest : List Statement) → Follow earlier rest → Over earlier rest
-    → Heard channel_name names earlier → Heard channel_name names rest
-    → All (IsModuleRead (length names)) (map (module_of names) (sections level.Modules rest))
-modules_read names earlier [] follow over heard later = All-nil (IsModuleRead (length names))
-modules_read names earlier (x ∷ rest) follow over heard later =
-    more x follow.0 follow.1 over later
-    (modules_read names (x ∷ earlier) rest follow.1 over (heard_more channel_name names x earlier rest heard later)
-    (heard_later channel_name names x rest later))
+    → Both channel_name names earlier rest → All (IsModuleRead (length names)) (map (module_of names) (sections level.Modules rest))
+modules_read names earlier [] follow over heard = All-nil (IsModuleRead (length names))
+modules_read names earlier (x ∷ rest) follow over heard =
+    let next = both_more channel_name names x earlier rest heard in
+    more x follow.0 follow.1 over next (modules_read names (x ∷ earlier) rest follow.1 over next)
   where
-    more : (x : Statement) → Keeps earlier x → Follow (x ∷ earlier) rest → Over (x ∷ earlier) rest → Heard channel_name names (x ∷ rest)
+    more : (x : Statement) → Keeps earlier x → Follow (x ∷ earlier) rest → Over (x ∷ earlier) rest → Both channel_name names (x ∷ earlier) rest
         → All (IsModuleRead (length names)) (map (module_of names) (sections level.Modules rest))
         → All (IsModuleRead (length names)) (map (module_of names) (sections level.Modules (x ∷ rest)))
-    more (s.Module n) keeps follow over later h =
+    more (s.Module n) keeps follow over heard h =
         All-cons (IsModuleRead (length names)) _ (map (module_of names) (sections level.Modules rest))
-        (module_read names earlier n rest keeps follow over heard later) h
-    more y keeps follow over later h = h
+        (module_read names earlier n rest keeps follow over heard) h
+    more y keeps follow over heard h = h
 
 -- ---- how many input values a session has
 
@@ -321,10 +271,6 @@ modules_read names earlier (x ∷ rest) follow over heard later =
 abbrev spread : {A : Type 0} → (ℕ → ℕ) → ℕ → List A → ℕ
 spread f a [] = 0
 spread f a (c ∷ cs) = f a + spread f (a + 1) cs
-
-spread_same : {A : Type 0} (f g : ℕ → ℕ) → ((i : ℕ) → f i ≡ g i) → (a : ℕ) (cs : List A) → spread f a cs ≡ spread g a cs
-spread_same f g h a [] = refl
-spread_same f g h a (c ∷ cs) = ap (λ (n : ℕ). n + spread f (a + 1) cs) (h a) ∙ ap (λ (n : ℕ). g a + n) (spread_same f g h (a + 1) cs)
 
 spread_add : {A : Type 0} (f g : ℕ → ℕ) (a : ℕ) (cs : List A) → spread (λ i. f i + g i) a cs ≡ spread f a cs + spread g a cs
 spread_add f g a [] = refl
@@ -342,20 +288,10 @@ spread_zero f a h (c ∷ cs) =
 given_once : {A : Type 0} (k : ℕ) (values : List ℕ) (a : ℕ) (cs : List A)
     → spread (λ i. length (cond (k == i) values [])) a cs ≤ length values
 given_once k values a [] = omega arith
-given_once {A} k values a (c ∷ cs) = by (k == a) refl (given_once k values (a + 1) cs)
-  where
-    by : (b : Bool) → (k == a) ≡ b → spread (λ i. length (cond (k == i) values [])) (a + 1) cs ≤ length values
-        → length (cond b values []) + spread (λ i. length (cond (k == i) values [])) (a + 1) cs ≤ length values
-    by false e later = omega arith
-    by true e later =
-        let same : k ≡ a = eqb-true k a e in
-        let none : spread (λ i. length (cond (k == i) values [])) (a + 1) cs ≡ 0
-        = spread_zero (λ i. length (cond (k == i) values [])) (a + 1) (λ i l. other i (k == i) refl l) cs in
-        omega arith
-      where
-        other : (i : ℕ) (d : Bool) → (k == i) ≡ d → a + 1 ≤ i → length (cond d values []) ≡ 0
-        other i true q l = let p : k ≡ i = eqb-true k i q in let r : k ≡ a = eqb-true k a e in absurd (omega arith)
-        other i false q l = refl
+given_once k values a (c ∷ cs) =
+    let later = given_once k values (a + 1) cs in
+    let none = λ (e : k ≡ a). spread_zero (λ i. length (cond (k == i) values [])) (a + 1) (λ i l. grind (arith, nat_tests)) cs in
+    grind (arith, nat_tests)
 
 one_statement : {A : Type 0} (names : List Name) (x : Statement) (a : ℕ) (cs : List A)
     → spread (λ i. length (values_for names i x)) a cs ≤ input_count x
@@ -373,13 +309,7 @@ all_statements names [] a cs = let e = spread_zero (λ i. length (flat_map (valu
 all_statements names (x ∷ rest) a cs =
     let one : spread (λ i. length (values_for names i x)) a cs ≤ input_count x = one_statement names x a cs in
     let later : spread (λ i. length (flat_map (values_for names i) rest)) a cs ≤ amount rest = all_statements names rest a cs in
-    let both : spread (λ i. length (flat_map (values_for names i) (x ∷ rest))) a cs
-    ≡ spread (λ i. length (values_for names i x)) a cs + spread (λ i. length (flat_map (values_for names i) rest)) a cs
-    = spread_same _ (λ i. length (values_for names i x) + length (flat_map (values_for names i) rest))
-    (λ i. ap length (flat_map-cons (values_for names i) x rest)
-    ∙ length-append (values_for names i x) (flat_map (values_for names i) rest)) a cs
-    ∙ spread_add (λ i. length (values_for names i x)) (λ i. length (flat_map (values_for names i) rest)) a cs in
-    omega arith
+    simp (flat_map-cons, length-append, spread_add) (omega arith)
 
 kept : (k : ChannelKind) (width : ℕ) (values : List ℕ) → length (inputs_of k width values) ≤ length values
 kept kind.Source width values = simp length-map (omega arith)
@@ -436,22 +366,12 @@ few_channels earlier (s.Fifo n w d l) keeps h = ltb-true _ _ keeps.room
 few_channels earlier x keeps h = absurd (true≢false (sym h))
 
 channels_long : (xs : List Statement) → length (channels_of xs) ≡ length (channels xs)
-channels_long xs = as_many channel channel_name by xs
-  where
-    by : (y : Statement) → is_some (channel y) ≡ is_some (channel_name y)
-    by (s.Source n w) = refl
-    by (s.Sink n w) = refl
-    by (s.Fifo n w d l) = refl
-    by y = refl
+channels_long xs = as_many _ _ (λ x. grind arith) xs
 
 few_modules : (earlier : List Statement) (x : Statement) → Keeps earlier x → is_some (module_name x) ≡ true
     → length (modules earlier) < MODULES
 few_modules earlier (s.Module n) keeps h = ltb-true _ _ keeps.room
 few_modules earlier x keeps h = absurd (true≢false (sym h))
-
-module_named : (y : Statement) → is_some (module_name y) ≡ begins level.Modules y
-module_named (s.Module n) = refl
-module_named y = refl
 
 -- ---- channels
 
@@ -496,7 +416,7 @@ plan_read statements rules =
     let b : length (modules statements) ≤ MODULES
     = at_most (λ l. l) module_name MODULES few_modules [] statements refl follow (grows_all statements) in
     let long_a : length cs ≡ length (channels statements) = channels_long statements in
-    let long_b = sections_long level.Modules module_name module_named statements in
+    let long_b = sections_long level.Modules module_name (λ y. grind arith) statements in
     let long_c : length (map (module_of names) (sections level.Modules statements)) ≡ length (sections level.Modules statements)
     = simp length-map in
     let long_d : length (map (inputs_for names statements) (enumerate_from 0 cs)) ≡ length cs = simp (length-map, length-enumerate_from) in
@@ -524,7 +444,7 @@ plan_read statements rules =
           (subst (AreEntriesSound c.kind (inputs_for names statements (f, c))) (sym deep)
           (entries c.kind c.width _ (read f no_channel there).1));
       modules = subst (λ (n : ℕ). All (IsModuleRead n) (map (module_of names) (sections level.Modules statements))) (names_long statements)
-          (modules_read names [] statements follow (all_over statements rules.over) (heard_none channel_name names) heard);
+          (modules_read names [] statements follow (all_over statements rules.over) (heard_none channel_name names, heard));
     }
 
 -- ---- the edits of a session that was read are those of FIFOs of its plan
@@ -539,56 +459,27 @@ first_kind n (c ∷ cs) = cond (bytes_eq n c.name) (Some c.kind) (first_kind n c
 
 -- it stands at the name's place
 kind_placed : (n : Name) (cs : List Channel) (k : ChannelKind) → first_kind n cs ≡ Some k
-    → (i : ℕ) × (place_of (map name cs) n ≡ Some i) × (i < length cs) × ((get_or cs i no_channel).kind ≡ k)
+    → (number_of (map name cs) n < length cs) × ((get_or cs (number_of (map name cs) n) no_channel).kind ≡ k)
 kind_placed n [] k h = absurd cc
-kind_placed n (c ∷ cs) k h = by (bytes_eq n c.name) (kind_placed n cs k) h
-  where
-    by : (b : Bool) → (first_kind n cs ≡ Some k → (i : ℕ) × (place_of (map name cs) n ≡ Some i) × (i < length cs)
-        × ((get_or cs i no_channel).kind ≡ k))
-        → cond b (Some c.kind) (first_kind n cs) ≡ Some k
-        → (i : ℕ) × (cond b (Some 0) (option_map (λ j. j + 1) (place_of (map name cs) n)) ≡ Some i) × (i < suc (length cs))
-        × ((get_or (c ∷ cs) i no_channel).kind ≡ k)
-    by true later q = (0, refl, omega arith, cc)
-    by false later q =
-        let p = later q in
-        let below : p.0 < length cs = p.2 in
-        (suc p.0, ap (option_map (λ j. j + 1)) p.1 ∙ ap Some (omega arith), omega arith, p.3)
+kind_placed n (c ∷ cs) k h = let later = kind_placed n cs k in grind arith
 
 names_are : (statements : List Statement) → channel_names statements ≡ map name (channels_of statements)
 names_are [] = refl
-names_are (x ∷ rest) = by x (names_are rest)
-  where
-    by : (y : Statement) → channel_names rest ≡ map name (channels_of rest)
-        → cons_option (declared sort.Channels y) (channel_names rest) ≡ map name (cons_option (channel y) (channels_of rest))
-    by (s.Source n w) e = ap (λ (l : List Name). n ∷ l) e
-    by (s.Sink n w) e = ap (λ (l : List Name). n ∷ l) e
-    by (s.Fifo n w d l) e = ap (λ (l : List Name). n ∷ l) e
-    by y e = e
+names_are (x ∷ rest) = let later = names_are rest in grind arith
 
 -- ---- a name stands for one channel
-
-still : (n : Name) (o : Option Name) (names : List Name) → is_among names n ≡ true → is_among (cons_option o names) n ≡ true
-still n None names h = h
-still n (Some m) names h = or_right (bytes_eq n m) (is_among names n) h
 
 -- no FIFO behind has the name of a channel before
 no_later : (n : Name) (earlier rest : List Statement) → Follow earlier rest → is_among (channels earlier) n ≡ true
     → is_among (filter_map fifo_name rest) n ≡ false
 no_later n earlier [] follow h = refl
-no_later n earlier (x ∷ rest) follow h
-    = by x follow.0 (no_later n (x ∷ earlier) rest follow.1 (still n (channel_name x) (channels earlier) h))
+no_later n earlier (x ∷ rest) follow h = by x follow.0 (no_later n (x ∷ earlier) rest follow.1)
   where
-    by : (y : Statement) → Keeps earlier y → is_among (filter_map fifo_name rest) n ≡ false
+    by : (y : Statement) → Keeps earlier y
+        → (is_among (channels (y ∷ earlier)) n ≡ true → is_among (filter_map fifo_name rest) n ≡ false)
         → is_among (cons_option (fifo_name y) (filter_map fifo_name rest)) n ≡ false
-    by (s.Fifo m w d l) keeps later = other (bytes_eq n m) refl
-      where
-        other : (b : Bool) → bytes_eq n m ≡ b → b || is_among (filter_map fifo_name rest) n ≡ false
-        other false e = later
-        other true e =
-            let fresh : is_among (channels earlier) m ≡ false
-            = not-true (is_among (channels earlier) m) (and_parts _ _ keeps.fresh).0 in
-            absurd (true≢false (sym h ∙ ap (is_among (channels earlier)) ((bytes_eq-Decides n m).0 e) ∙ fresh))
-    by y keeps later = later
+    by (s.Fifo m w d l) keeps later = let fresh = keeps.fresh in let same = bytes_eq-Decides n m in grind arith
+    by y keeps later = grind arith
 
 -- the first channel of a FIFO's name is a FIFO
 fifo_first : (n : Name) (earlier rest : List Statement) → Follow earlier rest → is_among (filter_map fifo_name rest) n ≡ true
@@ -626,20 +517,8 @@ edit_fits : (statements : List Statement) → Follow [] statements → (n : Name
 unfolding plan_of
 edit_fits statements follow n depth there least most =
     let found = fifo_first n [] statements follow there in
-    let placed = kind_placed n (channels_of statements) (kind.Fifo found.0 found.1) found.2 in
-    let e : place_of (channel_names statements) n ≡ Some placed.0 = ap (λ (l : List Name). place_of l n) (names_are statements)
-    ∙ placed.1 in
-    let number : number_of (channel_names statements) n ≡ placed.0
-    = ap (λ (o : Option ℕ). unwrap_or o (length (channel_names statements))) e in
-    let below : placed.0 < length (channels_of statements) = placed.2 in
-    let long : length (map (λ (c : Channel). depth_in c.kind) (channels_of statements)) ≡ length (channels_of statements)
-    = simp length-map in
-    record {
-      fifo = ap (λ (i : ℕ). is_fifo (get_or (channels_of statements) i no_channel).kind) number ∙ ap is_fifo placed.3;
-      entry = omega arith;
-      least = least;
-      most = most;
-    }
+    let placed = rw (← names_are statements) at (kind_placed n (channels_of statements) (kind.Fifo found.0 found.1) found.2) in
+    record { fifo = ap is_fifo placed.1; entry = simp length-map placed.0; least = least; most = most }
 
 edit_more : (statements earlier : List Statement) → Follow [] statements → Heard fifo_name (filter_map fifo_name statements) earlier
     → (x : Statement) → Keeps earlier x
@@ -652,18 +531,15 @@ edit_more statements earlier follow heard (s.Depth n depth) keeps later h =
 edit_more statements earlier follow heard x keeps later h = h
 
 edits_from : (statements earlier rest : List Statement) → Follow [] statements → Follow earlier rest
-    → Heard fifo_name (filter_map fifo_name statements) earlier
-    → Heard fifo_name (filter_map fifo_name statements) rest
+    → Both fifo_name (filter_map fifo_name statements) earlier rest
     → All (EditFits (plan_of statements)) (filter_map (edit (channel_names statements)) rest)
-edits_from statements earlier [] whole follow heard later = All-nil (EditFits (plan_of statements))
-edits_from statements earlier (x ∷ rest) whole follow heard later =
-    edit_more statements earlier whole heard x follow.0 (filter_map (edit (channel_names statements)) rest)
-    (edits_from statements (x ∷ earlier) rest whole follow.1
-    (heard_more fifo_name (filter_map fifo_name statements) x earlier rest heard later)
-    (heard_later fifo_name (filter_map fifo_name statements) x rest later))
+edits_from statements earlier [] whole follow heard = All-nil (EditFits (plan_of statements))
+edits_from statements earlier (x ∷ rest) whole follow heard =
+    edit_more statements earlier whole heard.0 x follow.0 (filter_map (edit (channel_names statements)) rest)
+    (edits_from statements (x ∷ earlier) rest whole follow.1 (both_more fifo_name (filter_map fifo_name statements) x earlier rest heard))
 
 pub edits_fit : (statements : List Statement) → KeepsReadingRules statements → All (EditFits (plan_of statements)) (edits_of statements)
 unfolding edits_of
 edits_fit statements rules =
     let follow : Follow [] statements = all_follow statements rules in
-    edits_from statements [] statements follow follow (heard_none fifo_name (filter_map fifo_name statements)) (λ n h. h)
+    edits_from statements [] statements follow follow (heard_none fifo_name (filter_map fifo_name statements), λ n h. h)

@@ -1,21 +1,19 @@
 -- The ports that modules use, and the slots that operations have taken.
-use Rattle.std.proofs.Common.{◌≡◌, ℕ, ◌+◌, ◌<◌, List, [], ◌∷◌, length, map, get_or, count_by, sum_by, Bool, false, cond, refl, sym, ap, ◌∙◌}
+use Rattle.std.proofs.Common.{◌≡◌, ℕ, ◌+◌, ◌<◌, List, [], ◌∷◌, length, map, get_or, count_by, Bool, false, cond, refl, sym, ap, ◌∙◌}
 use Rattle.std.proofs.Common.{arith, take, drop, Option, Some, option_map, true}
 use Rattle.std.proofs.lemmas.List.{get_or-map, length-map}
-use Rattle.std.proofs.lemmas.List.Sums.{sum_by-append}
+use Rattle.std.proofs.lemmas.List.Sums.{sum_by-cons}
 use Rattle.indexmap.specs.IndexSet.{IndexSet}
 use Rattle.flow_design.specs.declared.design.Module.{Module}
-use Rattle.flow_word.specs.declared.access.Side.TheVariants.{Pop, Push}
+use Rattle.flow_word.specs.declared.access.Side.TheVariants.{Pop}
 use Rattle.flow_word.specs.declared.access.Port.{Port}
-use Rattle.flow_design.specs.StaticRules.{uses, same_port}
+use Rattle.flow_design.specs.StaticRules.{uses}
 use Rattle.flow_check.specs.Ports.{has, HasPorts, HavePorts, has_slot}
 use Rattle.std.specs.Prelude.{◌||◌, ◌&&◌, ◌==◌}
 use Rattle.std.specs.List.{list_any}
 use Rattle.std.proofs.lemmas.Bool.Decides.{nat_tests}
 use Rattle.flow_design.specs.declared.design.BlockKind.{BlockKind}
 use Rattle.flow_design.specs.declared.design.Timed.{Timed}
-use Rattle.flow_word.specs.declared.access.Side.{Side}
-use Rattle.flow_word.specs.Kinds.{same_side}
 use Rattle.flow_word.specs.contracts.access.PortPartialEq.TheImpl.{ghosts}
 use Rattle.flow_check.specs.First.{first_behind}
 use Rattle.flow_check.specs.Rules.{Slot, slot, is_slot, same_slot, clashes}
@@ -38,9 +36,9 @@ module _ {S : Type 0} (all : List (IndexSet Port S)) (modules : List Module) (ha
 
 count_map : {A : Type 0} (p : A → Bool) (ys : List A) → count_by (λ b. b) (map p ys) ≡ count_by p ys
 count_map p [] = refl
-count_map {A} p (y ∷ ys) = sum_by-append (λ b. cond b 1 0) (p y ∷ []) (map p ys)
-    ∙ ap (λ n. sum_by (λ b. cond b 1 0) (p y ∷ []) + n) (count_map p ys)
-    ∙ sym (sum_by-append (λ z. cond (p z) 1 0) (y ∷ []) ys)
+count_map p (y ∷ ys) =
+    let one = sum_by-cons (λ b. cond b 1 0) (p y) (map p ys) in
+    let more = sum_by-cons (λ z. cond (p z) 1 0) y ys in let later = count_map p ys in grind arith
 
 -- how many of the sets have a port is how many of the modules use it
 pub count_users : {S : Type 0} (all : List (IndexSet Port S)) (modules : List Module) (a : Port) → HavePorts all modules
@@ -57,49 +55,22 @@ pub record AreTaken {S : Type 0} (kind : BlockKind) (ops : List Timed) (at : ℕ
 
 -- ---- equal ports and slots
 
-sides_turn : (a b : Side) → same_side a b ≡ same_side b a
-sides_turn Pop Pop = refl
-sides_turn Pop Push = refl
-sides_turn Push Pop = refl
-sides_turn Push Push = refl
-
-numbers_turn : (n m : ℕ) → (n == m) ≡ (m == n)
-numbers_turn n m = grind (arith, nat_tests)
-
-ports_turn : (a b : Port) → same_port a b ≡ same_port b a
-ports_turn a b = ap (λ (c : Bool). c && (a.channel == b.channel)) (sides_turn a.side b.side)
-    ∙ ap (λ (c : Bool). same_side b.side a.side && c) (numbers_turn a.channel b.channel)
-
 pub slots_turn : (s t : Slot) → same_slot s t ≡ same_slot t s
-slots_turn (a, n) (b, m) = ap (λ (c : Bool). c && (n == m)) (ports_turn a b) ∙ ap (λ (c : Bool). same_port b a && c) (numbers_turn n m)
+slots_turn s t = grind (arith, nat_tests)
 
 -- the test of a set's keys, which is the same
 abbrev pub plain : Slot → Slot → Bool
 plain s t = ghosts.eq s.0 t.0 && (s.1 == t.1)
 
-plain_port : (x y : Side) (n m : ℕ)
-    → ghosts.eq (record { side = x; channel = n }) (record { side = y; channel = m }) ≡ same_side x y && (n == m)
-plain_port Pop Pop n m = refl
-plain_port Pop Push n m = refl
-plain_port Push Pop n m = refl
-plain_port Push Push n m = refl
-
 plain_is : (s t : Slot) → plain s t ≡ same_slot s t
-plain_is (a, i) (b, j) = ap (λ (c : Bool). c && (i == j)) (plain_port a.side b.side a.channel b.channel)
+plain_is s t = grind (arith, nat_tests)
 
 -- a slot more among the keys of a set
 pub slot_more : (old new : List Slot) (own : Slot) (o : Option Slot) → o ≡ Some own
     → ((q : Slot) → list_any (plain q) new ≡ cond (plain own q) true (list_any (plain q) old))
     → (s : Slot) → list_any (same_slot s) new ≡ list_any (same_slot s) old || is_slot s o
 slot_more old new own o is more s =
-    (λ i. list_any (λ x. sym (plain_is s x) i) new) ∙ more s
-    ∙ ap (λ (b : Bool). cond b true (list_any (plain s) old)) (plain_is own s ∙ slots_turn own s)
-    ∙ (λ i. cond (same_slot s own) true (list_any (λ x. plain_is s x i) old))
-    ∙ by (same_slot s own) (list_any (same_slot s) old)
-    ∙ ap (λ (p : Option Slot). list_any (same_slot s) old || is_slot s p) (sym is)
-  where
-    by : (b c : Bool) → cond b true c ≡ c || b
-    by true true = refl
-    by true false = refl
-    by false true = refl
-    by false false = refl
+    let told : list_any (same_slot s) new ≡ cond (plain own s) true (list_any (same_slot s) old)
+    = (λ i. list_any (λ x. sym (plain_is s x) i) new) ∙ more s
+    ∙ (λ i. cond (plain own s) true (list_any (λ x. plain_is s x i) old)) in
+    let same = plain_is own s in let turned = slots_turn own s in grind arith

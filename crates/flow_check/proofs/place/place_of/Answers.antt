@@ -1,30 +1,9 @@
-use Rattle.std.proofs.Common.{◌≡◌, ◌∙◌, ◌≤◌, rules, ◌+◌, sym, ap, subst, get_or, false}
+use Rattle.std.proofs.Common.{◌≡◌, ◌∙◌, ◌+◌, sym, ap, subst, get_or, false}
 use Rattle.flow_design.specs.declared.session.Statement.{Statement}
 use Rattle.flow_check.specs.declared.place.Counts.{Counts}
 use Rattle.flow_check.specs.Places.{counts_more, item_behind, is_item}
-use Rattle.flow_check.proofs.Counting.{IsSought, few, sought_more}
+use Rattle.flow_check.proofs.Counting.{IsSought, sought_more}
 use Rattle.flow_check.proofs.place.place_of.Goals as goal
-
-pub behind-before-requires-clause-channels : goal.behind-before-requires-clause-channels
-behind-before-requires-clause-channels c =
-    let below : c.loop-at.before.channels ≤ c.loop-at.at
-    = (few c.args.statements.now c.args.item.now c.loop-at.at c.loop-at.before c.index-statements-at.result c.loop-at-test.true
-    c.loop-at.invariant).channels in
-    search rules
-
-pub behind-before-requires-clause-modules : goal.behind-before-requires-clause-modules
-behind-before-requires-clause-modules c =
-    let below : c.loop-at.before.modules ≤ c.loop-at.at
-    = (few c.args.statements.now c.args.item.now c.loop-at.at c.loop-at.before c.index-statements-at.result c.loop-at-test.true
-    c.loop-at.invariant).modules in
-    search rules
-
-pub behind-before-requires-clause-blocks : goal.behind-before-requires-clause-blocks
-behind-before-requires-clause-blocks c =
-    let below : c.loop-at.before.blocks ≤ c.loop-at.at
-    = (few c.args.statements.now c.args.item.now c.loop-at.at c.loop-at.before c.index-statements-at.result c.loop-at-test.true
-    c.loop-at.invariant).blocks in
-    search rules
 
 pub loop-at-preserved : goal.loop-at-preserved
 loop-at-preserved c =

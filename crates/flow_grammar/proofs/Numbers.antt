@@ -3,11 +3,11 @@ use Rattle.std.proofs.Common.{◌≡◌, ℕ, List, [], ◌∷◌, true, false, 
 use Rattle.std.specs.Prelude.{position}
 use Rattle.std.specs.Char.{is_ascii_digit}
 use Rattle.std.specs.List.{list_all, position_or_len}
-use Rattle.std.proofs.lemmas.Bool.{le-ltb, and_parts}
-use Rattle.std.proofs.Common.{inl, inr, length, cond}
+use Rattle.std.proofs.lemmas.Bool.{le-ltb}
+use Rattle.std.proofs.Common.{length, cond}
 use Rattle.std.specs.Prelude.{◌==◌}
 use Rattle.std.proofs.Common.{◌≤◌}
-use Rattle.std.proofs.lemmas.Bool.Decides.{nat_tests, eqb_tells}
+use Rattle.std.proofs.lemmas.Bool.Decides.{nat_tests}
 use Rattle.flow_word.specs.Number.{is_no_digit, number_of as number_read_of, fitting, word_of, judged}
 use Rattle.flow_grammar.specs.Tokens.{is_number, number_of}
 
@@ -16,9 +16,7 @@ digit_is c h = grind (arith, nat_tests)
 
 all_digits_long : (token : List ℕ) → list_all is_ascii_digit token ≡ true → length token ≤ position_or_len is_no_digit token
 all_digits_long [] h = omega arith
-all_digits_long (c ∷ cs) h =
-    let p = and_parts _ _ h in let rest = all_digits_long cs p.1 in
-    rw (digit_is c p.0) (omega arith)
+all_digits_long (c ∷ cs) h = let rest = all_digits_long cs in let digit = digit_is c in grind arith
 
 no_other : (token : List ℕ) → list_all is_ascii_digit token ≡ true → position is_no_digit token ≡ None
 no_other token h = rw (le-ltb _ _ (all_digits_long token h)) refl
@@ -31,5 +29,4 @@ number_read (c ∷ cs) h = ap (λ (o : Option ℕ). judged o (fitting (word_of (
 -- a token is a number where it is not empty and has digits alone
 pub number_tests : (token : List ℕ) → is_number token ≡ cond (length token == 0) false (list_all is_ascii_digit token)
 unfolding is_number
-number_tests [] = refl
-number_tests (c ∷ cs) = elim (eqb_tells (length (c ∷ cs)) 0) [ inl y ↦ absurd (omega (arith, y.1)) | inr n ↦ rw n.0 refl ]
+number_tests token = grind (arith, nat_tests)

@@ -55,9 +55,7 @@ at_end f known [] stack e = rw e refl
 at_end f known (x ∷ xs) stack e = at_end f known xs stack e
 
 pub did_take : (b : Bool) (new : List Operand) (found : Option (List Operand)) → b ≡ true → Takes b new found → found ≡ Some new
-did_take true new found e t = t
-did_take false new found e t = absurd cc
+did_take b new found e t = grind arith
 
 pub did_refuse : (b : Bool) (new : List Operand) (found : Option (List Operand)) → b ≡ false → Takes b new found → found ≡ None
-did_refuse false new found e t = t
-did_refuse true new found e t = absurd cc
+did_refuse b new found e t = grind arith

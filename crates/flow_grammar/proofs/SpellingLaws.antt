@@ -1,11 +1,11 @@
 -- Tokens write what is worked out from them, and that alone.
 use Rattle.std.proofs.Common.{◌≡◌, ℕ, List, [], ◌∷◌, ◌++◌, Bool, true, false, cond, Option, None, Some, refl, subst, append_assoc, ◌-◌, ◌^◌}
-use Rattle.std.proofs.Common.{sym, ◌∙◌, arith, zero, suc, map, ap, inl, inr}
-use Rattle.std.specs.Prelude.{codes, ◌==◌, ◌&&◌, ◌||◌, option_map, if◌then◌else◌}
+use Rattle.std.proofs.Common.{sym, ◌∙◌, arith, zero, suc, map, ap, inl, inr, true≢false}
+use Rattle.std.specs.Prelude.{codes, ◌==◌, ◌&&◌, ◌||◌, option_map}
 use Rattle.std.specs.List.{find, list_all}
 use Rattle.std.proofs.lemmas.List.Folds.{list_all-append}
 use Rattle.flow_grammar.proofs.Induction.{by_cases}
-use Rattle.flow_grammar.specs.Parts.{Word, Num, Use, AVariable, Part, expr_parts, layer_parts, Name, parts, bare_parts, depth_parts}
+use Rattle.flow_grammar.specs.Parts.{Word, New, Label, Num, Use, AVariable, Part, expr_parts, layer_parts, Name, parts, bare_parts, depth_parts}
 use Rattle.flow_grammar.specs.Parts.{fifo_parts, op_parts, guard_parts, plain, default_depth, default_delay}
 use Rattle.std.specs.Option.{option_and_then}
 use Rattle.flow_design.specs.declared.expr.Expr.{Expr}
@@ -16,12 +16,13 @@ use Rattle.flow_design.specs.declared.expr.UnOp.TheVariants.{Not}
 use Rattle.flow_design.specs.declared.expr.BinOp.{BinOp}
 use Rattle.flow_grammar.specs.declared.operator.Operator.{Operator}
 use Rattle.flow_grammar.specs.declared.operator.Operator.TheVariants.{One, Two, Extend, Choose}
-use Rattle.std.proofs.lemmas.Bool.{eqb-true, and_parts}
+use Rattle.std.proofs.lemmas.Bool.{eqb-true, eq-eqb, and_parts, and_from, or_cases}
+use Rattle.std.proofs.lemmas.Slice.Eq.{bytes_eq-Decides}
 use Rattle.flow_grammar.specs.Tokens.{is_word, is_number, is_name, number_of, Token}
 use Rattle.flow_grammar.specs.declared.keyword.Keyword.{Keyword}
 use Rattle.flow_grammar.specs.declared.keyword.Verb.{Verb}
 use Rattle.flow_grammar.specs.Keywords.{keyword_word, keywords, keyword_of, verb_word, verbs, verb_of}
-use Rattle.flow_grammar.specs.Operators.{operator_word, operators, operator_of, binary_word}
+use Rattle.flow_grammar.specs.Operators.{operator_word, operators, operator_of}
 use Rattle.flow_grammar.specs.Spelling.{Spelled, Spells, Writes}
 use Rattle.flow_grammar.specs.Trees.{Trees, trees_of, with_token, extended, applied_if}
 use Rattle.flow_grammar.proofs.Trees.{folded-Number, folded-Var, folded-Unary, folded-Binary, folded-Sext, folded-Pick}
@@ -34,8 +35,8 @@ use Rattle.flow_design.specs.declared.session.Statement.{Statement}
 use Rattle.flow_design.specs.declared.session.Statement.TheVariants.{Flow, Source, Sink, Fifo, Module, Reg, Mem, Block, Loop, Temp, At}
 use Rattle.flow_design.specs.declared.session.Statement.TheVariants.{Goto, Branch, Stop, Input, Limits, Depth, End}
 use Rattle.flow_grammar.specs.Forms.{statement_of, flow_of, fifo_of, mem_of, loop_of, at_of, branch_of, input_of, limits_of, op_of}
-use Rattle.flow_grammar.specs.Forms.{guarded_of, only_if, if_then, one_tree, two_trees, name_width, one_name, bare, form_of, form_if}
-use Rattle.flow_grammar.specs.Forms.{op_form_of, op_form_if, set_of, load_of, store_of, two_names, write_of, try_read_of, try_write_of}
+use Rattle.flow_grammar.specs.Forms.{guarded_of, form_of, form_if}
+use Rattle.flow_grammar.specs.Forms.{op_form_of, op_form_if}
 use Rattle.flow_grammar.specs.Before.{has_delays}
 use Rattle.flow_design.specs.declared.expr.Op.TheVariants as op
 use Rattle.flow_grammar.specs.declared.keyword.Keyword.TheVariants as keyword
@@ -72,21 +73,14 @@ unfolding expr_parts
 parts_Pick a b c = folded-Pick (List ℕ) (List Part) layer_parts a b c
 
 pub word_is : (t w : List ℕ) → is_word t w ≡ true → t ≡ w
-word_is [] [] h = refl
-word_is [] (y ∷ ys) h = absurd cc
-word_is (x ∷ xs) [] h = absurd cc
-word_is (x ∷ xs) (y ∷ ys) h = let p = and_parts _ _ h in λ i. eqb-true x y p.0 i ∷ word_is xs ys p.1 i
+word_is t w h = (bytes_eq-Decides t w).0 h
 
 -- ---- words
 
 -- what is found in a list passes the test
 found_passes : {X : Type 0} (p : X → Bool) (xs : List X) (x : X) → find p xs ≡ Some x → p x ≡ true
 found_passes p [] x e = absurd cc
-found_passes {X} p (y ∷ ys) x e = go (p y) refl (found_passes p ys x) e
-  where
-    go : (b : Bool) → p y ≡ b → (find p ys ≡ Some x → p x ≡ true) → cond b (Some y) (find p ys) ≡ Some x → p x ≡ true
-    go true h rest f = let same : y ≡ x = (cc) in subst (λ (z : X). p z ≡ true) same h
-    go false h rest f = rest f
+found_passes p (y ∷ xs) x e = let later = found_passes p xs x in grind arith
 
 pub keyword_is : (t : List ℕ) (k : Keyword) → keyword_of t ≡ Some k → t ≡ keyword_word k
 unfolding keyword_of
@@ -111,16 +105,7 @@ Says ts (Some es) = Spelled ts (all_parts es)
 number_top : (k : List ℕ) (behind : List (List ℕ)) (e : Expr (List ℕ)) (es : Trees) → is_number k ≡ true
     → trees_of (k ∷ behind) ≡ Some (e ∷ es) → e ≡ Number (number_of k)
 unfolding trees_of with_token
-number_top k behind e es h t = go (trees_of behind) t
-  where
-    go : (found : Option Trees)
-        → option_and_then
-        (λ (x : Trees). cond (is_number k) (Some (Number (number_of k) ∷ x))
-        (cond (is_name k) (Some (Var k ∷ x)) (applied_if (operator_of k) behind x))) found
-        ≡ Some (e ∷ es)
-        → e ≡ Number (number_of k)
-    go None f = absurd cc
-    go (Some x) f = let g = rw h at f in cc
+number_top k behind e es h t = grind arith
 
 says_extended : (t : List ℕ) (behind : List (List ℕ)) (es : Trees) → t ≡ codes "sext" → trees_of behind ≡ Some es
     → Spelled behind (all_parts es) → Says (t ∷ behind) (extended behind es)
@@ -230,28 +215,18 @@ Again e = (ts : List (List ℕ)) (ps : List Part) → Spelled ts (expr_parts e +
 abbrev operator_token : Operator → List ℕ → Type 0
 operator_token o t = (operator_of t ≡ Some o) × (is_number t ≡ false) × (is_name t ≡ false)
 
-two_token : (o : BinOp) → operator_token (Two o) (binary_word o)
+token_is : (o : Operator) → operator_token o (operator_word o)
 unfolding operator_of is_number is_name
-two_token Add = (refl, refl, refl)
-two_token o = (refl, refl, refl)
-
-one_token : operator_token (One Not) (codes "~")
-unfolding operator_of is_number is_name
-one_token = (refl, refl, refl)
-
-extend_token : operator_token Extend (codes "sext")
-unfolding operator_of is_number is_name
-extend_token = (refl, refl, refl)
-
-choose_token : operator_token Choose (codes "?:")
-unfolding operator_of is_number is_name
-choose_token = (refl, refl, refl)
+token_is (Two Add) = (refl, refl, refl)
+token_is (Two o) = (refl, refl, refl)
+token_is (One Not) = (refl, refl, refl)
+token_is o = (refl, refl, refl)
 
 -- an operator in front
-applies : (o : Operator) (t : List ℕ) (us : List (List ℕ)) (found : Trees) → operator_token o t → trees_of us ≡ Some found
-    → trees_of (t ∷ us) ≡ applied_if (Some o) us found
+applies : (o : Operator) (us : List (List ℕ)) (found : Trees) → trees_of us ≡ Some found
+    → trees_of (operator_word o ∷ us) ≡ applied_if (Some o) us found
 unfolding trees_of with_token
-applies o t us found k e = rw (e, k.1, k.2, k.0) refl
+applies o us found e = let k = token_is o in rw (e, k.1, k.2, k.0) refl
 
 -- a number in front
 numeral : (t : List ℕ) (us : List (List ℕ)) (found : Trees) → is_number t ≡ true → trees_of us ≡ Some found
@@ -290,7 +265,7 @@ again_unary Not a ih (t ∷ us) ps s =
       rest = r.rest;
       spelled = r.spelled;
       reads = λ es e. subst (λ (w : List ℕ). trees_of (w ∷ us) ≡ Some (Unary Not a ∷ es)) (sym q.0)
-          (applies (One Not) (codes "~") us (a ∷ es) one_token (r.reads es e));
+          (applies (One Not) us (a ∷ es) (r.reads es e));
     }
 
 again_binary : (o : BinOp) (a b : Expr (List ℕ)) → Again a → Again b → Again (Binary o a b)
@@ -303,7 +278,7 @@ again_binary o a b ia ib (t ∷ us) ps s =
       rest = rb.rest;
       spelled = rb.spelled;
       reads = λ es e. subst (λ (w : List ℕ). trees_of (w ∷ us) ≡ Some (Binary o a b ∷ es)) (sym q.0)
-          (applies (Two o) (binary_word o) us (a ∷ b ∷ es) (two_token o) (ra.reads (b ∷ es) (rb.reads es e)));
+          (applies (Two o) us (a ∷ b ∷ es) (ra.reads (b ∷ es) (rb.reads es e)));
     }
 
 again_pick : (a b c : Expr (List ℕ)) → Again a → Again b → Again c → Again (Pick a b c)
@@ -319,7 +294,7 @@ again_pick a b c ia ib ic (t ∷ us) ps s =
       rest = rc.rest;
       spelled = rc.spelled;
       reads = λ es e. subst (λ (w : List ℕ). trees_of (w ∷ us) ≡ Some (Pick a b c ∷ es)) (sym q.0)
-          (applies Choose (codes "?:") us (a ∷ b ∷ c ∷ es) choose_token (ra.reads (b ∷ c ∷ es) (rb.reads (c ∷ es) (rc.reads es e))));
+          (applies Choose us (a ∷ b ∷ c ∷ es) (ra.reads (b ∷ c ∷ es) (rb.reads (c ∷ es) (rc.reads es e))));
     }
 
 again_sext : (k : ℕ) (a : Expr (List ℕ)) → Again a → Again (Sext k a)
@@ -334,7 +309,7 @@ again_sext k a ih (t ∷ u ∷ vs) ps s =
       reads = λ es e.
           let number = numeral u vs (a ∷ es) q.1.0.0 (r.reads es e) in
           subst (λ (w : List ℕ). trees_of (w ∷ u ∷ vs) ≡ Some (Sext k a ∷ es)) (sym q.0)
-          (applies Extend (codes "sext") (u ∷ vs) (Number (number_of u) ∷ a ∷ es) extend_token number ∙ rw (q.1.0.0, q.1.0.1) refl);
+          (applies Extend (u ∷ vs) (Number (number_of u) ∷ a ∷ es) number ∙ rw (q.1.0.0, q.1.0.1) refl);
     }
 
 pub again : (e : Expr (List ℕ)) → Again e
@@ -469,258 +444,125 @@ module _ (version : ℕ) where
 
 -- ---- the statement that is worked out from tokens is one that they write
 
+-- the tokens spell the parts, as a test
+abbrev spells : Token → Part → Bool
+spells t (Word w) = is_word t w
+spells t (New space n) = is_name t && is_word t n
+spells t (Use sort n) = is_name t && is_word t n
+spells t (Label n) = is_name t && is_word t n
+spells t (Num least most n) = is_number t && (number_of t == n)
+
+abbrev spelled : List Token → List Part → Bool
+spelled [] [] = true
+spelled (t ∷ ts) (p ∷ ps) = spells t p && spelled ts ps
+spelled ts ps = false
+
+spells_is : (t : Token) (p : Part) → spells t p ≡ true → Spells t p
+spells_is t (Word w) h = word_is t w h
+spells_is t (Num least most n) h = let p = and_parts _ _ h in (p.0, eqb-true _ _ p.1)
+spells_is t (New space n) h = let p = and_parts _ _ h in (p.0, word_is t n p.1)
+spells_is t (Use sort n) h = let p = and_parts _ _ h in (p.0, word_is t n p.1)
+spells_is t (Label n) h = let p = and_parts _ _ h in (p.0, word_is t n p.1)
+
+spelled_is : (ts : List Token) (ps : List Part) → spelled ts ps ≡ true → Spelled ts ps
+spelled_is [] [] h = tt
+spelled_is (t ∷ ts) (p ∷ ps) h = let both = and_parts _ _ h in (spells_is t p both.0, spelled_is ts ps both.1)
+spelled_is ts ps h = absurd (true≢false (sym h))
+
+spelled_by : (ts : List Token) (ps : List Part) → Spelled ts ps → spelled ts ps ≡ true
+spelled_by [] [] h = refl
+spelled_by (t ∷ ts) (p ∷ ps) h = and_from (spells t p) (spelled ts ps) (by p h.0) (spelled_by ts ps h.1)
+  where
+    by : (p : Part) → Spells t p → spells t p ≡ true
+    by (Word w) s = (bytes_eq-Decides t w).1 s
+    by (Num least most n) s = and_from _ _ s.0 (eq-eqb _ _ s.1)
+    by (New space n) s = and_from _ _ s.0 ((bytes_eq-Decides t n).1 s.1)
+    by (Use sort n) s = and_from _ _ s.0 ((bytes_eq-Decides t n).1 s.1)
+    by (Label n) s = and_from _ _ s.0 ((bytes_eq-Decides t n).1 s.1)
+spelled_by ts ps h = absurd h
+
+same_word : (t : Token) → is_word t t ≡ true
+same_word t = (bytes_eq-Decides t t).1 refl
+
+one_told : (us : List Token) (e : Expr Name) → trees_of us ≡ Some (e ∷ []) → spelled us (expr_parts e) ≡ true
+one_told us e h = spelled_by us (expr_parts e) (rw (← append-nil (expr_parts e)) (trees_spelled us (e ∷ []) h))
+
+two_told : (us : List Token) (e f : Expr Name) → trees_of us ≡ Some (e ∷ f ∷ []) → spelled us (expr_parts e ++ expr_parts f) ≡ true
+two_told us e f h =
+    spelled_by us (expr_parts e ++ expr_parts f)
+    (subst (λ (ps : List Part). Spelled us (expr_parts e ++ ps)) (append-nil (expr_parts f)) (trees_spelled us (e ∷ f ∷ []) h))
+
 -- ---- operations
 
--- what is worked out is spelled, where it is anything
-abbrev OpSpelled : List Token → Option (Op Name) → Type 0
-OpSpelled ts None = Unit {0}
-OpSpelled ts (Some o) = Spelled ts (op_parts o)
+form_told : (v : Verb) (ts : List Token) (o : Op Name) → op_form_of v ts ≡ Some o → spelled (verb_word v ∷ ts) (op_parts o) ≡ true
+form_told verb.Store ts o h = grind (arith, same_word, two_told)
+form_told v ts o h = grind (arith, same_word, one_told)
 
-op_only : (test : Bool) (ts : List Token) (o : Op Name) → (test ≡ true → Spelled ts (op_parts o)) → OpSpelled ts (only_if test o)
-op_only true ts o h = h refl
-op_only false ts o h = tt
-
-op_one : (test : Bool) (make : Expr Name → Op Name) (us ts : List Token)
-    → (test ≡ true → (e : Expr Name) → Spelled us (expr_parts e) → Spelled ts (op_parts (make e)))
-    → OpSpelled ts (if_then test (option_map make (one_tree (trees_of us))))
-op_one false make us ts h = tt
-op_one true make us ts h = go (trees_of us) refl
-  where
-    go : (found : Option Trees) → trees_of us ≡ found → OpSpelled ts (option_map make (one_tree found))
-    go (Some (x ∷ [])) e = h refl x (let s = trees_spelled us (x ∷ []) e in rw (← append-nil (expr_parts x)) s)
-    go found e = tt
-
-op_two : (test : Bool) (make : Expr Name → Expr Name → Op Name) (us ts : List Token)
-    → (test ≡ true → (e f : Expr Name) → Spelled us (expr_parts e ++ expr_parts f) → Spelled ts (op_parts (make e f)))
-    → OpSpelled ts (if_then test (two_trees make (trees_of us)))
-op_two false make us ts h = tt
-op_two true make us ts h = go (trees_of us) refl
-  where
-    go : (found : Option Trees) → trees_of us ≡ found → OpSpelled ts (two_trees make found)
-    go (Some (x ∷ y ∷ [])) e =
-        h refl x y
-        (subst (λ (ps : List Part). Spelled us (expr_parts x ++ ps)) (append-nil (expr_parts y)) (trees_spelled us (x ∷ y ∷ []) e))
-    go found e = tt
-
-set_written : (k : Token) (ts : List Token) → k ≡ codes "set" → OpSpelled (k ∷ ts) (set_of ts)
-set_written k (r ∷ us) w = op_one (is_name r) (op.Set r) us (k ∷ r ∷ us) (λ n e s. (w, ((n, refl), s)))
-set_written k ts w = tt
-
-load_written : (k : Token) (ts : List Token) → k ≡ codes "load" → OpSpelled (k ∷ ts) (load_of ts)
-load_written k (r ∷ m ∷ us) w = op_one (is_name r && is_name m) (op.Load r m) us (k ∷ r ∷ m ∷ us)
-    (λ n e s. let p = and_parts _ _ n in (w, ((p.0, refl), ((p.1, refl), s))))
-load_written k ts w = tt
-
-store_written : (k : Token) (ts : List Token) → k ≡ codes "store" → OpSpelled (k ∷ ts) (store_of ts)
-store_written k (m ∷ us) w = op_two (is_name m) (op.Store m) us (k ∷ m ∷ us) (λ n e f s. (w, ((n, refl), s)))
-store_written k ts w = tt
-
-names_written : (make : Token → Token → Op Name) (k : Token) (ts : List Token)
-    → ((f r : Token) → is_name f ≡ true → is_name r ≡ true → Spelled (k ∷ f ∷ r ∷ []) (op_parts (make f r)))
-    → OpSpelled (k ∷ ts) (two_names make ts)
-names_written make k (f ∷ r ∷ []) h =
-    op_only (is_name f && is_name r) (k ∷ f ∷ r ∷ []) (make f r) (λ n. let p = and_parts _ _ n in h f r p.0 p.1)
-names_written make k ts h = tt
-
-write_written : (k : Token) (ts : List Token) → k ≡ codes "write" → OpSpelled (k ∷ ts) (write_of ts)
-write_written k (f ∷ us) w = op_one (is_name f) (op.Write f) us (k ∷ f ∷ us) (λ n e s. (w, ((n, refl), s)))
-write_written k ts w = tt
-
-try_read_written : (k : Token) (ts : List Token) → k ≡ codes "tryread" → OpSpelled (k ∷ ts) (try_read_of ts)
-try_read_written k (f ∷ r ∷ ok ∷ []) w = op_only _ (k ∷ f ∷ r ∷ ok ∷ []) (op.TryRead f r ok)
-    (λ n. let p = and_parts _ _ n in let q = and_parts _ _ p.1 in (w, ((p.0, refl), ((q.0, refl), ((q.1, refl), tt)))))
-try_read_written k ts w = tt
-
-try_write_written : (k : Token) (ts : List Token) → k ≡ codes "trywrite" → OpSpelled (k ∷ ts) (try_write_of ts)
-try_write_written k (f ∷ ok ∷ us) w = op_one (is_name f && is_name ok) (op.TryWrite f ok) us (k ∷ f ∷ ok ∷ us)
-    (λ n e s. let p = and_parts _ _ n in (w, ((p.0, refl), ((p.1, refl), s))))
-try_write_written k ts w = tt
-
-form_written : (v : Verb) (k : Token) (ts : List Token) → k ≡ verb_word v → OpSpelled (k ∷ ts) (op_form_of v ts)
-form_written verb.Set k ts w = set_written k ts w
-form_written verb.Load k ts w = load_written k ts w
-form_written verb.Store k ts w = store_written k ts w
-form_written verb.Read k ts w = names_written op.Read k ts (λ f r p q. (w, ((p, refl), ((q, refl), tt))))
-form_written verb.Write k ts w = write_written k ts w
-form_written verb.TryRead k ts w = try_read_written k ts w
-form_written verb.TryWrite k ts w = try_write_written k ts w
-form_written verb.Empty k ts w = names_written op.Empty k ts (λ f r p q. (w, ((p, refl), ((q, refl), tt))))
-form_written verb.Full k ts w = names_written op.Full k ts (λ f r p q. (w, ((p, refl), ((q, refl), tt))))
-
-op_written : (ts : List Token) → OpSpelled ts (op_of ts)
+op_told : (ts : List Token) (o : Op Name) → op_of ts ≡ Some o → spelled ts (op_parts o) ≡ true
 unfolding op_of
-op_written [] = tt
-op_written (k ∷ ts) = go (verb_of k) refl
+op_told [] o h = absurd cc
+op_told (k ∷ ts) o h = by (verb_of k) refl h
   where
-    go : (found : Option Verb) → verb_of k ≡ found → OpSpelled (k ∷ ts) (op_form_if found ts)
-    go None e = tt
-    go (Some v) e = form_written v k ts (verb_is k v e)
+    by : (found : Option Verb) → verb_of k ≡ found → op_form_if found ts ≡ Some o → spelled (k ∷ ts) (op_parts o) ≡ true
+    by None e q = absurd cc
+    by (Some v) e q = rw (verb_is k v e) (form_told v ts o q)
 
 -- ---- statements
 
+values_told : (ts : List Token) → list_all is_number ts ≡ true → spelled ts (map plain (map number_of ts)) ≡ true
+values_told [] h = refl
+values_told (t ∷ ts) h = let later = values_told ts in grind (arith, nat_tests)
+
 module _ (version : ℕ) where
-  abbrev IsWritten : List Token → Option Statement → Type 0
-  IsWritten ts None = Unit {0}
-  IsWritten ts (Some s) = Writes version ts s
+  -- the tokens write the statement, as a test
+  abbrev writes : List Token → Statement → Bool
+  writes ts (Fifo n w depth delay) =
+      (has_delays version && spelled ts (fifo_parts n w depth delay))
+      || (((delay == default_delay) && spelled ts (depth_parts n w depth))
+      || ((depth == default_depth) && ((delay == default_delay) && spelled ts (bare_parts n w))))
+  writes ts s = spelled ts (parts s)
 
-  branch : (k w : Token) (ts : List Token) (here rest : Option Statement) → (k ≡ w → IsWritten ts here) → IsWritten ts rest
-      → IsWritten ts (if is_word k w then here else rest)
-  branch k w ts here rest h r = go (is_word k w) refl
-    where
-      go : (b : Bool) → is_word k w ≡ b → IsWritten ts (cond b here rest)
-      go true e = h (word_is k w e)
-      go false e = r
+  writes_is : (ts : List Token) (s : Statement) → writes ts s ≡ true → Writes version ts s
+  writes_is ts (Fifo n w depth delay) h = elim (or_cases _ _ h) [
+    | inl a ↦ let p = and_parts _ _ a in inl (p.0, spelled_is ts _ p.1)
+    | inr b ↦ inr (elim (or_cases _ _ b) [
+      | inl c ↦ let p = and_parts _ _ c in inl (eqb-true _ _ p.0, spelled_is ts _ p.1)
+      | inr d ↦
+          let p = and_parts _ _ d in let q = and_parts _ _ p.1 in
+          inr (eqb-true _ _ p.0, eqb-true _ _ q.0, spelled_is ts _ q.1)
+    ])
+  ]
+  writes_is ts s h = spelled_is ts (parts s) h
 
-  only : (test : Bool) (ts : List Token) (s : Statement) → (test ≡ true → Writes version ts s) → IsWritten ts (only_if test s)
-  only true ts s h = h refl
-  only false ts s h = tt
-
-  flow_written : (k : Token) (ts : List Token) → k ≡ codes "flow" → IsWritten (k ∷ ts) (flow_of ts)
-  unfolding flow_of
-  flow_written k (n ∷ []) w = only (is_number n) (k ∷ n ∷ []) (Flow (number_of n)) (λ h. (w, ((h, refl), tt)))
-  flow_written k ts w = tt
-
-  width_written : (make : Token → ℕ → Statement) (k : Token) (ts : List Token)
-      → ((n v : Token) → is_name n ≡ true → is_number v ≡ true → Writes version (k ∷ n ∷ v ∷ []) (make n (number_of v)))
-      → IsWritten (k ∷ ts) (name_width make ts)
-  width_written make k (n ∷ v ∷ []) h =
-      only (is_name n && is_number v) (k ∷ n ∷ v ∷ []) (make n (number_of v))
-      (λ t. let p = and_parts _ _ t in h n v p.0 p.1)
-  width_written make k ts h = tt
-
-  name_written : (make : Token → Statement) (k : Token) (ts : List Token)
-      → ((n : Token) → is_name n ≡ true → Writes version (k ∷ n ∷ []) (make n)) → IsWritten (k ∷ ts) (one_name make ts)
-  name_written make k (n ∷ []) h = only (is_name n) (k ∷ n ∷ []) (make n) (h n)
-  name_written make k ts h = tt
-
-  fifo_written : (k : Token) (ts : List Token) → k ≡ codes "fifo" → IsWritten (k ∷ ts) (fifo_of version ts)
+  fifo_told : (ts : List Token) (s : Statement) → fifo_of version ts ≡ Some s → writes (keyword_word keyword.Fifo ∷ ts) s ≡ true
   unfolding fifo_of
-  fifo_written k (n ∷ v ∷ []) w = only _ (k ∷ n ∷ v ∷ []) (Fifo n (number_of v) default_depth default_delay)
-      (λ t. let p = and_parts _ _ t in inr (inr (refl, refl, (w, ((p.0, refl), ((p.1, refl), tt))))))
-  fifo_written k (n ∷ v ∷ d ∷ []) w = only _ (k ∷ n ∷ v ∷ d ∷ []) (Fifo n (number_of v) (number_of d) default_delay)
-      (λ t. let p = and_parts _ _ t in let q = and_parts _ _ p.1 in
-      inr (inl (refl, (w, ((p.0, refl), ((q.0, refl), ((q.1, refl), tt)))))))
-  fifo_written k (n ∷ v ∷ d ∷ e ∷ []) w = go (has_delays version) refl
-    where
-      statement : Statement
-      statement = Fifo n (number_of v) (number_of d) (number_of e)
+  fifo_told (n ∷ w ∷ []) s h = grind (arith, nat_tests, same_word)
+  fifo_told (n ∷ w ∷ d ∷ []) s h = grind (arith, nat_tests, same_word)
+  fifo_told (n ∷ w ∷ d ∷ e ∷ []) s h = grind (arith, nat_tests, same_word)
+  fifo_told ts s h = absurd cc
 
-      are_well : Bool
-      are_well = is_name n && (is_number v && (is_number d && is_number e))
-
-      go : (b : Bool) → has_delays version ≡ b → IsWritten (k ∷ n ∷ v ∷ d ∷ e ∷ []) (if_then b (only_if are_well statement))
-      go false h = tt
-      go true h = only are_well (k ∷ n ∷ v ∷ d ∷ e ∷ []) statement
-          (λ t. let p = and_parts _ _ t in let q = and_parts _ _ p.1 in let r = and_parts _ _ q.1 in
-          inl (h, (w, ((p.0, refl), ((q.0, refl), ((r.0, refl), ((r.1, refl), tt)))))))
-  fifo_written k ts w = tt
-
-  mem_written : (k : Token) (ts : List Token) → k ≡ codes "mem" → IsWritten (k ∷ ts) (mem_of ts)
-  unfolding mem_of
-  mem_written k (n ∷ v ∷ l ∷ []) w = only _ (k ∷ n ∷ v ∷ l ∷ []) (Mem n (number_of v) (number_of l))
-      (λ t. let p = and_parts _ _ t in let q = and_parts _ _ p.1 in (w, ((p.0, refl), ((q.0, refl), ((q.1, refl), tt)))))
-  mem_written k ts w = tt
-
-  loop_written : (k : Token) (ts : List Token) → k ≡ codes "loop" → IsWritten (k ∷ ts) (loop_of ts)
-  unfolding loop_of
-  loop_written k (n ∷ i ∷ l ∷ x ∷ r ∷ []) w = only _ (k ∷ n ∷ i ∷ l ∷ x ∷ r ∷ []) (Loop n (number_of i) (number_of l) r)
-      (λ t. let p = and_parts _ _ t in let q = and_parts _ _ p.1 in let o = and_parts _ _ q.1 in let z = and_parts _ _ o.1 in
-      (w, ((p.0, refl), ((q.0, refl), ((o.0, refl), (word_is x (codes "while") z.0, ((z.1, refl), tt)))))))
-  loop_written k ts w = tt
-
-  branch_written : (k : Token) (ts : List Token) → k ≡ codes "branch" → IsWritten (k ∷ ts) (branch_of ts)
-  unfolding branch_of
-  branch_written k (r ∷ b ∷ c ∷ []) w = only _ (k ∷ r ∷ b ∷ c ∷ []) (Branch r b c)
-      (λ t. let p = and_parts _ _ t in let q = and_parts _ _ p.1 in (w, ((p.0, refl), ((q.0, refl), ((q.1, refl), tt)))))
-  branch_written k ts w = tt
-
-  limits_written : (k : Token) (ts : List Token) → k ≡ codes "limits" → IsWritten (k ∷ ts) (limits_of ts)
-  unfolding limits_of
-  limits_written k (c ∷ o ∷ []) w = only (is_number c && is_number o) (k ∷ c ∷ o ∷ []) (Limits (number_of c) (number_of o))
-      (λ t. let p = and_parts _ _ t in (w, ((p.0, refl), ((p.1, refl), tt))))
-  limits_written k ts w = tt
-
-  bare_written : (s : Statement) (k : Token) (ts : List Token) → Writes version (k ∷ []) s → IsWritten (k ∷ ts) (bare s ts)
-  bare_written s k [] h = h
-  bare_written s k (u ∷ us) h = tt
-
-  values_written : (ts : List Token) → list_all is_number ts ≡ true → Spelled ts (map plain (map number_of ts))
-  values_written [] h = tt
-  values_written (t ∷ ts) h = let p = and_parts _ _ h in ((p.0, refl), values_written ts p.1)
-
-  input_written : (k : Token) (ts : List Token) → k ≡ codes "input" → IsWritten (k ∷ ts) (input_of ts)
-  unfolding input_of
-  input_written k [] w = tt
-  input_written k (n ∷ us) w = only (is_name n && list_all is_number us) (k ∷ n ∷ us) (Input n (map number_of us))
-      (λ t. let p = and_parts _ _ t in (w, ((p.0, refl), values_written us p.1)))
-
-  plain_written : (k off : Token) (ts : List Token) → k ≡ codes "at" → is_number off ≡ true
-      → IsWritten (k ∷ off ∷ ts) (option_map (At (number_of off) None) (op_of ts))
-  plain_written k off ts w n = go (op_of ts) (op_written ts)
-    where
-      go : (found : Option (Op Name)) → OpSpelled ts found → IsWritten (k ∷ off ∷ ts) (option_map (At (number_of off) None) found)
-      go None s = tt
-      go (Some o) s = (w, ((n, refl), s))
-
-  guard_written : (k off i r : Token) (ts : List Token) → k ≡ codes "at" → is_number off ≡ true → i ≡ codes "if"
-      → IsWritten (k ∷ off ∷ i ∷ r ∷ ts) (if_then (is_name r) (option_map (At (number_of off) (Some r)) (op_of ts)))
-  guard_written k off i r ts w n x = test (is_name r) refl
-    where
-      go : (found : Option (Op Name)) → is_name r ≡ true → OpSpelled ts found
-          → IsWritten (k ∷ off ∷ i ∷ r ∷ ts) (option_map (At (number_of off) (Some r)) found)
-      go None m s = tt
-      go (Some o) m s = (w, ((n, refl), (x, ((m, refl), s))))
-
-      test : (b : Bool) → is_name r ≡ b → IsWritten (k ∷ off ∷ i ∷ r ∷ ts) (if_then b (option_map (At (number_of off) (Some r)) (op_of ts)))
-      test true m = go (op_of ts) m (op_written ts)
-      test false m = tt
-
-  guarded_written : (k off : Token) (ts : List Token) → k ≡ codes "at" → is_number off ≡ true
-      → IsWritten (k ∷ off ∷ ts) (guarded_of (number_of off) ts)
-  guarded_written k off [] w n = plain_written k off [] w n
-  guarded_written k off (i ∷ []) w n = plain_written k off (i ∷ []) w n
-  guarded_written k off (i ∷ r ∷ ts) w n =
-      branch i (codes "if") (k ∷ off ∷ i ∷ r ∷ ts) _ _ (guard_written k off i r ts w n) (plain_written k off (i ∷ r ∷ ts) w n)
-
-  at_written : (k : Token) (ts : List Token) → k ≡ codes "at" → IsWritten (k ∷ ts) (at_of ts)
+  at_told : (ts : List Token) (s : Statement) → at_of ts ≡ Some s → writes (keyword_word keyword.At ∷ ts) s ≡ true
   unfolding at_of
-  at_written k [] w = tt
-  at_written k (off ∷ ts) w = go (is_number off) refl
-    where
-      go : (b : Bool) → is_number off ≡ b → IsWritten (k ∷ off ∷ ts) (if_then b (guarded_of (number_of off) ts))
-      go true n = guarded_written k off ts w n
-      go false n = tt
+  at_told [] s h = absurd cc
+  at_told (off ∷ i ∷ r ∷ ts) s h =
+      let first = op_told (i ∷ r ∷ ts) in let behind = op_told ts in grind (arith, nat_tests, same_word)
+  at_told (off ∷ ts) s h = let first = op_told ts in grind (arith, nat_tests, same_word)
 
-  statement_written : (keyword : Keyword) (k : Token) (ts : List Token) → k ≡ keyword_word keyword
-      → IsWritten (k ∷ ts) (form_of version keyword ts)
-  statement_written keyword.Flow k ts w = flow_written k ts w
-  statement_written keyword.Source k ts w = width_written Source k ts (λ n v p q. (w, ((p, refl), ((q, refl), tt))))
-  statement_written keyword.Sink k ts w = width_written Sink k ts (λ n v p q. (w, ((p, refl), ((q, refl), tt))))
-  statement_written keyword.Fifo k ts w = fifo_written k ts w
-  statement_written keyword.Module k ts w = name_written Module k ts (λ n p. (w, ((p, refl), tt)))
-  statement_written keyword.Reg k ts w = width_written Reg k ts (λ n v p q. (w, ((p, refl), ((q, refl), tt))))
-  statement_written keyword.Mem k ts w = mem_written k ts w
-  statement_written keyword.Block k ts w = width_written Block k ts (λ n v p q. (w, ((p, refl), ((q, refl), tt))))
-  statement_written keyword.Loop k ts w = loop_written k ts w
-  statement_written keyword.Temp k ts w = width_written Temp k ts (λ n v p q. (w, ((p, refl), ((q, refl), tt))))
-  statement_written keyword.At k ts w = at_written k ts w
-  statement_written keyword.Goto k ts w = name_written Goto k ts (λ n p. (w, ((p, refl), tt)))
-  statement_written keyword.Branch k ts w = branch_written k ts w
-  statement_written keyword.Stop k ts w = bare_written Stop k ts (w, tt)
-  statement_written keyword.Input k ts w = input_written k ts w
-  statement_written keyword.Limits k ts w = limits_written k ts w
-  statement_written keyword.Depth k ts w = width_written Depth k ts (λ n v p q. (w, ((p, refl), ((q, refl), tt))))
-  statement_written keyword.End k ts w = bare_written End k ts (w, tt)
-
-  written : (ts : List Token) → IsWritten ts (statement_of version ts)
-  unfolding statement_of
-  written [] = tt
-  written (k ∷ ts) = go (keyword_of k) refl
-    where
-      go : (found : Option Keyword) → keyword_of k ≡ found → IsWritten (k ∷ ts) (form_if version found ts)
-      go None e = tt
-      go (Some keyword) e = statement_written keyword k ts (keyword_is k keyword e)
+  told : (k : Keyword) (ts : List Token) (s : Statement) → form_of version k ts ≡ Some s → writes (keyword_word k ∷ ts) s ≡ true
+  unfolding flow_of mem_of loop_of branch_of input_of limits_of
+  told keyword.Fifo ts s h = fifo_told ts s h
+  told keyword.At ts s h = at_told ts s h
+  told keyword.Input ts s h = grind (arith, nat_tests, same_word, values_told)
+  told k ts s h = grind (arith, nat_tests, same_word)
 
   -- the statement that is worked out is written
   pub read_is_written : (ts : List Token) (s : Statement) → statement_of version ts ≡ Some s → Writes version ts s
-  read_is_written ts s e = subst (IsWritten ts) e (written ts)
+  unfolding statement_of
+  read_is_written [] s h = absurd cc
+  read_is_written (k ∷ ts) s h = by (keyword_of k) refl h
+    where
+      by : (found : Option Keyword) → keyword_of k ≡ found → form_if version found ts ≡ Some s → Writes version (k ∷ ts) s
+      by None e q = absurd cc
+      by (Some keyword) e q =
+          subst (λ (t : Token). Writes version (t ∷ ts) s) (sym (keyword_is k keyword e))
+          (writes_is (keyword_word keyword ∷ ts) s (told keyword ts s q))

@@ -5,33 +5,26 @@ use Rattle.std.specs.Prelude.{position, None, Some, unwrap_or, filter}
 use Rattle.std.specs.List.{slice_split, position_or_len, take_while}
 use Rattle.std.proofs.lemmas.List.Splits.{slice_split-cons_yes, slice_split-cons_no, slice_split_none, slice_split_first}
 use Rattle.std.proofs.lemmas.List.Sums.{fails_before_first, take_while-cons, prefix_len-le-length}
-use Rattle.std.proofs.lemmas.Bool.{cases_lt, lt-ltb, le-ltb}
-use Rattle.std.proofs.lemmas.Bool.Decides.{eqb_tells}
+use Rattle.std.proofs.lemmas.Bool.{cases_lt, lt-ltb}
+use Rattle.std.proofs.lemmas.Bool.Decides.{nat_tests}
 use Rattle.flow_grammar.specs.Tokens.{lines_of, is_line_feed, tokens_of, is_separator, is_filler, is_no_comment, is_filled}
 
 pub position-or_length : (p : ℕ → Bool) (xs : List ℕ) → unwrap_or (position p xs) (length xs) ≡ position_or_len p xs
-position-or_length p xs =
-    elim (cases_lt (position_or_len p xs) (length xs)) [
-      | inl lt ↦ rw (lt-ltb _ _ lt) refl
-      | inr le ↦ rw (le-ltb _ _ le) (omega (arith, prefix_len-le-length (λ x. not (p x)) xs))
-    ]
+position-or_length p xs = let most = prefix_len-le-length (λ x. not (p x)) xs in grind (arith, nat_tests)
+
+one_more : (n b : ℕ) (bs : List ℕ) → (drop (1 + n) (b ∷ bs) ≡ drop n bs) × (take (1 + n) (b ∷ bs) ≡ b ∷ take n bs)
+one_more n b bs = let e : 1 + n ≡ suc n = omega arith in rw e (refl, refl)
 
 -- a separator at the front changes nothing
 pub tokens-separator : (b : ℕ) (bs : List ℕ) → is_separator b ≡ true → tokens_of (b ∷ bs) ≡ tokens_of bs
 unfolding tokens_of
 tokens-separator b bs h = rw (slice_split-cons_yes is_separator b bs h) refl
 
-tokens-start_at : (b : ℕ) (bs : List ℕ) (sep : Bool) → is_separator b ≡ sep
-    → tokens_of (drop (position_or_len is_filler bs) bs) ≡ tokens_of bs
-    → tokens_of (drop (cond (not (not sep)) (1 + position_or_len is_filler bs) 0) (b ∷ bs)) ≡ tokens_of (b ∷ bs)
-tokens-start_at b bs true h e =
-    let k : 1 + position_or_len is_filler bs ≡ suc (position_or_len is_filler bs) = omega arith in rw k (e ∙ sym (tokens-separator b bs h))
-tokens-start_at b bs false h e = refl
-
 -- nor do the separators before the first token
 pub tokens-from_start : (line : List ℕ) → tokens_of (drop (position_or_len is_filler line) line) ≡ tokens_of line
 tokens-from_start [] = refl
-tokens-from_start (b ∷ bs) = tokens-start_at b bs (is_separator b) refl (tokens-from_start bs)
+tokens-from_start (b ∷ bs) = let later = tokens-from_start bs in let skips = tokens-separator b bs in
+    let more = one_more (position_or_len is_filler bs) b bs in grind arith
 
 -- a line that does not begin with a separator
 abbrev pub Begins : List ℕ → Type 0
@@ -58,31 +51,17 @@ tokens_among parts = take_while is_no_comment (filter is_filled parts)
 abbrev end_of : List ℕ → ℕ
 end_of line = position_or_len is_separator line
 
-cut_at : (b : ℕ) (bs : List ℕ) (sep : Bool) → is_separator b ≡ sep
-    → slice_split is_separator bs ≡ take (end_of bs) bs ∷ parts_behind (drop (end_of bs) bs)
-    → slice_split is_separator (b ∷ bs)
-    ≡ take (cond (not sep) (1 + end_of bs) 0) (b ∷ bs) ∷ parts_behind (drop (cond (not sep) (1 + end_of bs) 0) (b ∷ bs))
-unfolding parts_behind
-cut_at b bs true h e = slice_split-cons_yes is_separator b bs h
-cut_at b bs false h e = let k : 1 + end_of bs ≡ suc (end_of bs) = omega arith in rw (slice_split-cons_no is_separator b bs h, e, k) refl
-
 cut : (line : List ℕ) → slice_split is_separator line ≡ take (end_of line) line ∷ parts_behind (drop (end_of line) line)
 unfolding parts_behind
 cut [] = refl
-cut (b ∷ bs) = cut_at b bs (is_separator b) refl (cut bs)
-
-behind_at : (b : ℕ) (bs : List ℕ) (sep : Bool) → is_separator b ≡ sep
-    → tokens_of (drop (end_of bs) bs) ≡ tokens_among (parts_behind (drop (end_of bs) bs))
-    → tokens_of (drop (cond (not sep) (1 + end_of bs) 0) (b ∷ bs))
-    ≡ tokens_among (parts_behind (drop (cond (not sep) (1 + end_of bs) 0) (b ∷ bs)))
-unfolding parts_behind tokens_among tokens_of
-behind_at b bs true h e = tokens-separator b bs h
-behind_at b bs false h e = let k : 1 + end_of bs ≡ suc (end_of bs) = omega arith in rw k e
+cut (b ∷ bs) =
+    let later = cut bs in let splits = slice_split-cons_yes is_separator b bs in let goes_on = slice_split-cons_no is_separator b bs in
+    let more = one_more (end_of bs) b bs in grind arith
 
 behind : (line : List ℕ) → tokens_of (drop (end_of line) line) ≡ tokens_among (parts_behind (drop (end_of line) line))
 unfolding parts_behind tokens_among tokens_of
 behind [] = refl
-behind (b ∷ bs) = behind_at b bs (is_separator b) refl (behind bs)
+behind (b ∷ bs) = let later = behind bs in let skips = tokens-separator b bs in let more = one_more (end_of bs) b bs in grind arith
 
 -- what the front of a line says, where it begins with no separator
 pub tokens_from : List ℕ → List ℕ → List (List ℕ)
@@ -92,17 +71,10 @@ whole : (line : List ℕ) → tokens_of line ≡ tokens_among (take (end_of line
 unfolding tokens_of tokens_among
 whole line = ap tokens_among (cut line)
 
-joined : (token : List ℕ) (parts : List (List ℕ)) (filled : Bool) → is_filled token ≡ filled
-    → tokens_among (token ∷ parts) ≡ cond filled (cond (is_no_comment token) (token ∷ tokens_among parts) []) (tokens_among parts)
-unfolding tokens_among
-joined token parts true h = rw (h, take_while-cons is_no_comment token (filter is_filled parts)) refl
-joined token parts false h = rw h refl
-
 pub first_word : (line : List ℕ) → tokens_of line ≡ tokens_from (take (end_of line) line) (drop (end_of line) line)
-unfolding tokens_from
+unfolding tokens_from tokens_among
 first_word line =
-    rw (behind line)
-    (whole line ∙ joined (take (end_of line) line) (parts_behind (drop (end_of line) line)) (is_filled (take (end_of line) line)) refl)
+    let last = behind line in let all = whole line in let first = take_while-cons is_no_comment (take (end_of line) line) in grind arith
 
 pub first_end : (p : ℕ → Bool) (xs : List ℕ) → position_or_len p xs ≤ length xs
 first_end p xs = prefix_len-le-length (λ x. not (p x)) xs
@@ -129,14 +101,11 @@ no_token line (b ∷ bs) t e = absurd (omega arith)
 
 pub from_comment : (token rest : List ℕ) → (0 < length token) → get_or token 0 0 ≡ 35 → tokens_from token rest ≡ []
 unfolding tokens_from
-from_comment [] rest h e = absurd (omega arith)
-from_comment (b ∷ bs) rest h e = let k : b ≡ 35 = e in rw k refl
+from_comment token rest h e = grind (arith, nat_tests)
 
 pub from_token : (token rest : List ℕ) → (0 < length token) → (get_or token 0 0 ≡ 35 → ⊥) → tokens_from token rest ≡ token ∷ tokens_of rest
 unfolding tokens_from
-from_token [] rest h e = absurd (omega arith)
-from_token (b ∷ bs) rest h e =
-    elim (eqb_tells b 35) [ inl y ↦ absurd (e y.1) | inr n ↦ rw n.0 refl ]
+from_token token rest h e = grind (arith, nat_tests)
 
 -- a text without a line feed is one line
 pub one_line : (text : List ℕ) → position is_line_feed text ≡ None → lines_of text ≡ text ∷ []
@@ -149,9 +118,4 @@ one_line text h =
 -- the first line, and the lines behind its line feed
 pub first_of_lines : (text : List ℕ) (at : ℕ) → position is_line_feed text ≡ Some at
     → lines_of text ≡ take at text ∷ lines_of (drop (at + 1) text)
-first_of_lines text at h =
-    elim (cases_lt (position_or_len is_line_feed text) (length text)) [
-      | inl lt ↦ let e : position_or_len is_line_feed text ≡ at =
-          (let f = rw (lt-ltb _ _ lt) at h in cc) in rw (← e) (slice_split_first is_line_feed text 0 lt)
-      | inr le ↦ absurd (let f = rw (le-ltb _ _ le) at h in cc)
-    ]
+first_of_lines text at h = let first = slice_split_first is_line_feed text 0 in grind (arith, nat_tests)

@@ -1,7 +1,6 @@
 -- Trees, and what the reader keeps of them.
-use Rattle.std.proofs.Common.{◌≡◌, ℕ, List, [], ◌∷◌, map, Bool, true, false, cond, Option, None, Some, refl, sym, ap, ◌∙◌}
+use Rattle.std.proofs.Common.{◌≡◌, ℕ, List, ◌∷◌, map, Bool, Option, None, Some, sym, ap, ◌∙◌, arith}
 use Rattle.std.specs.Prelude.{option_map}
-use Rattle.std.specs.Option.{option_and_then}
 use Rattle.flow_design.specs.declared.expr.Expr.{Expr, fold-Expr, fold-roll-Expr}
 use Rattle.flow_design.specs.declared.expr.Expr.TheOpen.{Expr-F}
 use Rattle.flow_design.specs.declared.expr.Expr.TheVariants.{Number, Var, Unary, Binary, Sext, Pick, rolls-Number, rolls-Var, rolls-Unary}
@@ -9,12 +8,10 @@ use Rattle.flow_design.specs.declared.expr.Expr.TheVariants.{rolls-Binary, rolls
 use Rattle.flow_design.specs.declared.expr.UnOp.{UnOp}
 use Rattle.flow_design.specs.declared.expr.BinOp.{BinOp}
 use Rattle.flow_grammar.specs.declared.operator.Operator.{Operator}
-use Rattle.flow_grammar.specs.declared.operator.Operator.TheVariants.{One, Two, Extend, Choose}
 use Rattle.flow_grammar.specs.declared.operand.Operand.{Operand}
-use Rattle.flow_grammar.specs.Tokens.{is_number, is_name, number_of}
 use Rattle.flow_grammar.specs.Operators.{operator_of}
-use Rattle.flow_grammar.specs.Trees.{Trees, extended, applied_if, with_token, trees_of}
-use Rattle.flow_grammar.specs.Operands.{numbered, named, one, two, extend, choose, layer_seen, seen, extend_top, apply_if, take_token}
+use Rattle.flow_grammar.specs.Trees.{Trees, applied_if, with_token, trees_of}
+use Rattle.flow_grammar.specs.Operands.{numbered, named, one, two, extend, choose, layer_seen, seen, apply_if, take_token}
 
 -- a fold at each variant
 module _ (X A : Type 0) (step : Expr-F X A → A) where
@@ -70,63 +67,23 @@ module _ (known : List ℕ → Bool) where
   abbrev on_top : Trees → Operand → Option (List Operand)
   on_top trees o = Some (o ∷ map (seen known) trees)
 
-  extended_if : (k : List ℕ) (a : Expr (List ℕ)) (trees : Trees) (b : Bool)
-      → views (cond b (Some (Sext (number_of k) a ∷ trees)) None)
-      ≡ cond b (Some (extend (number_of k) (seen known a) ∷ map (seen known) trees)) None
-  extended_if k a trees true = ap (on_top trees) (seen_Sext (number_of k) a)
-  extended_if k a trees false = refl
-
-  seen_extended : (behind : List (List ℕ)) (trees : Trees) → views (extended behind trees) ≡ extend_top behind (map (seen known) trees)
-  seen_extended [] trees = refl
-  seen_extended (k ∷ behind) [] = refl
-  seen_extended (k ∷ behind) (number ∷ []) = refl
-  seen_extended (k ∷ behind) (number ∷ a ∷ trees) = extended_if k a trees (is_number k)
-
   seen_applied : (o : Option Operator) (behind : List (List ℕ)) (trees : Trees)
       → views (applied_if o behind trees) ≡ apply_if o behind (map (seen known) trees)
-  seen_applied None behind trees = refl
-  seen_applied (Some Extend) behind trees = seen_extended behind trees
-  seen_applied (Some (One o)) behind [] = refl
-  seen_applied (Some (One o)) behind (a ∷ trees) = ap (on_top trees) (seen_Unary o a)
-  seen_applied (Some (Two o)) behind [] = refl
-  seen_applied (Some (Two o)) behind (a ∷ []) = refl
-  seen_applied (Some (Two o)) behind (a ∷ b ∷ trees) = ap (on_top trees) (seen_Binary o a b)
-  seen_applied (Some Choose) behind [] = refl
-  seen_applied (Some Choose) behind (a ∷ []) = refl
-  seen_applied (Some Choose) behind (a ∷ b ∷ []) = refl
-  seen_applied (Some Choose) behind (a ∷ b ∷ c ∷ trees) = ap (on_top trees) (seen_Pick a b c)
-
-  token_if : (token : List ℕ) (behind : List (List ℕ)) (trees : Trees) (is_num is_nam : Bool)
-      → views (cond is_num (Some (Number (number_of token) ∷ trees))
-      (cond is_nam (Some (Var token ∷ trees)) (applied_if (operator_of token) behind trees)))
-      ≡ cond is_num (Some (numbered (number_of token) ∷ map (seen known) trees))
-      (cond is_nam (Some (named known token ∷ map (seen known) trees)) (apply_if (operator_of token) behind (map (seen known) trees)))
-  token_if token behind trees true b = ap (on_top trees) (seen_Number (number_of token))
-  token_if token behind trees false true = ap (on_top trees) (seen_Var token)
-  token_if token behind trees false false = seen_applied (operator_of token) behind trees
+  seen_applied o behind trees = grind (arith, seen_Unary, seen_Binary, seen_Sext, seen_Pick)
 
   pub seen_token : (token : List ℕ) (behind : List (List ℕ)) (trees : Trees)
       → views (with_token token behind trees) ≡ take_token known token behind (map (seen known) trees)
   unfolding with_token take_token
-  seen_token token behind trees = token_if token behind trees (is_number token) (is_name token)
+  seen_token token behind trees =
+      let applied = seen_applied (operator_of token) behind trees in grind (arith, seen_Number, seen_Var)
 
   -- one token more in front
   pub more_trees : (token : List ℕ) (behind : List (List ℕ)) (stack : List Operand) → Some stack ≡ views (trees_of behind)
       → take_token known token behind stack ≡ views (trees_of (token ∷ behind))
   unfolding trees_of
-  more_trees token behind stack e = go (trees_of behind) e
-    where
-      go : (found : Option Trees) → Some stack ≡ views found
-          → take_token known token behind stack ≡ views (option_and_then (with_token token behind) found)
-      go None h = absurd cc
-      go (Some trees) h =
-          let k : stack ≡ map (seen known) trees = cc in ap (take_token known token behind) k ∙ sym (seen_token token behind trees)
+  more_trees token behind stack e = grind (arith, seen_token)
 
   -- where no more is made of the tokens
   pub no_trees : (token : List ℕ) (behind : List (List ℕ)) (stack : List Operand) → Some stack ≡ views (trees_of behind)
       → take_token known token behind stack ≡ None → trees_of (token ∷ behind) ≡ None
-  no_trees token behind stack e h = go (trees_of (token ∷ behind)) (sym (more_trees token behind stack e) ∙ h)
-    where
-      go : (found : Option Trees) → views found ≡ None → found ≡ None
-      go None h = refl
-      go (Some trees) h = absurd cc
+  no_trees token behind stack e h = let more = more_trees token behind stack e in grind arith

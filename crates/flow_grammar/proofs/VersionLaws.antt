@@ -1,11 +1,11 @@
 -- The version is declared by the first statement, and what is written in version 1 is written in version 2 too.
-use Rattle.std.proofs.Common.{◌≡◌, ℕ, ◌+◌, List, [], ◌∷◌, ◌++◌, map, true, Option, None, Some, refl, sym, ap, subst, ◌∙◌, inl, inr}
-use Rattle.std.specs.Prelude.{reverse, unwrap_or}
+use Rattle.std.proofs.Common.{◌≡◌, ℕ, ◌+◌, List, [], ◌∷◌, ◌++◌, map, true, Option, None, Some, refl, sym, ap, subst, ◌∙◌, inl, inr, arith}
+use Rattle.std.specs.Prelude.{reverse}
 use Rattle.std.proofs.lemmas.List.{reverse-append}
 use Rattle.flow_design.specs.declared.session.Statement.{Statement}
 use Rattle.flow_design.specs.declared.session.Statement.TheVariants.{Flow, Fifo}
 use Rattle.flow_grammar.specs.Tokens.{Line, Token, lines_of, tokens_of}
-use Rattle.flow_grammar.specs.Before.{flow_number, version, has_delays}
+use Rattle.flow_grammar.specs.Before.{version, has_delays}
 use Rattle.flow_grammar.specs.Places.{place_after, takes_flow, may_follow}
 use Rattle.flow_grammar.specs.Parts.{parts}
 use Rattle.flow_grammar.specs.Spelling.{Spelled, Writes}
@@ -18,8 +18,7 @@ use Rattle.flow_grammar.proofs.TextLaws.{no_tokens, Words, InOrderFrom, ordered}
 -- ---- `flow` stands at the start alone
 
 no_flow_after : (s : Statement) → takes_flow (place_after s) ≡ true → ⊥
-no_flow_after (Flow n) h = cc
-no_flow_after s h = cc
+no_flow_after s h = grind arith
 
 -- behind other statements none declares a version
 pub no_flow_behind : (e : Statement) (earlier : List Statement) (v : ℕ) → may_follow (e ∷ earlier) (Flow v) ≡ true → ⊥
@@ -48,18 +47,7 @@ later_writes v w up ts s h = h
 
 delays_kept : (ys : List Statement) → has_delays (version (ys ++ Flow 1 ∷ [])) ≡ true → has_delays (version (ys ++ Flow 2 ∷ [])) ≡ true
 delays_kept [] h = refl
-delays_kept (y ∷ ys) h = go (flow_number y) (delays_kept ys) h
-  where
-    first : ℕ
-    first = version (ys ++ Flow 1 ∷ [])
-
-    second : ℕ
-    second = version (ys ++ Flow 2 ∷ [])
-
-    go : (o : Option ℕ) → (has_delays first ≡ true → has_delays second ≡ true) → has_delays (unwrap_or o first) ≡ true
-        → has_delays (unwrap_or o second) ≡ true
-    go None rest k = rest k
-    go (Some n) rest k = k
+delays_kept (y ∷ ys) h = let later = delays_kept ys in grind arith
 
 module _ (xs : List Statement) where
   abbrev first : ℕ
@@ -70,8 +58,8 @@ module _ (xs : List Statement) where
 
   up : has_delays first ≡ true → has_delays second ≡ true
   up h =
-      subst (λ (e : List Statement). has_delays (version e) ≡ true) (sym (reverse-append (Flow 2 ∷ []) xs))
-      (delays_kept (reverse xs) (subst (λ (e : List Statement). has_delays (version e) ≡ true) (reverse-append (Flow 1 ∷ []) xs) h))
+      let one = reverse-append (Flow 1 ∷ []) xs in let two = reverse-append (Flow 2 ∷ []) xs in
+      let kept = delays_kept (reverse xs) in grind arith
 
   no_word : (v : ℕ) (line : Line) (s : Statement) → tokens_of line ≡ [] → Writes v (tokens_of line) s → ⊥
   no_word v line s e w = no_tokens v s (written_is_read v [] s (subst (λ (ts : List Token). Writes v ts s) e w))

@@ -102,5 +102,4 @@ given_err words u e w (inr among) is = go (agrees words u)
 
 pub by_flag : (o : Option Text) (r : Bool) → (o ≡ Some (codes "true") → r ≡ true)
     → (o ≡ Some (codes "false") → r ≡ false) → (b : Bool) → o ≡ Some (bool_text b) → r ≡ b
-by_flag o r yes_text no_text true e = yes_text e
-by_flag o r yes_text no_text false e = no_text e
+by_flag o r yes_text no_text b e = grind arith

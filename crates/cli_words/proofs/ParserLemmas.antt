@@ -1,20 +1,19 @@
 -- The parser refuses what is not accepted, and has what was said of the words that it takes.
-use Rattle.std.proofs.Common.{◌≡◌, ◌∙◌, List, [], ◌∷◌, ◌++◌, ◌||◌, Option, Some, None, refl, sym, ap, subst, codes, true, false, Bool, cond}
+use Rattle.std.proofs.Common.{◌≡◌, ◌∙◌, List, [], ◌∷◌, ◌++◌, Option, Some, None, refl, sym, ap, subst, codes, true, false, Bool, cond}
 use Rattle.std.proofs.Common.{drop, fold, is_some, arith}
-use Rattle.std.specs.Prelude.{slice_get, option_and_then}
+use Rattle.std.specs.Prelude.{option_and_then}
 use Rattle.std.specs.List.{AllByRecursion, list_all}
 use Rattle.std.specs.Str.{IsUtf8, bytes_eq}
 use Rattle.clap.specs.Values.{bool_text}
-use Rattle.clap.specs.Walk.{Row, Rule, default_rows, reading_by, with_values, Held, first_of, has_row, idle, is_empty, more_values}
+use Rattle.clap.specs.Walk.{Row, Rule, with_values, first_of, has_row, idle, is_empty, more_values}
 use Rattle.clap.specs.Walk.{nothing_held, one_of, row_text, with_default}
 use Rattle.clap.specs.Simple.{built, matches_of}
 use Rattle.clap.specs.Kinds.{or_else}
-use Rattle.clap.specs.Faults.{default_fault, defaults_fault, fault_of, given_default_fault}
+use Rattle.clap.specs.Faults.{default_fault, defaults_fault, fault_of}
 use Rattle.clap.specs.declared.parser.matches.ValueSource.TheVariants.{DefaultValue}
 use Rattle.clap.specs.declared.builder.value_parser.Reading.TheVariants.{AsWritten}
 use Rattle.clap.proofs.FaultLemmas.{leaf_fault}
 use Rattle.clap.proofs.SimpleLemmas.{is_nil}
-use Rattle.clap.proofs.WalkLemmas.{both}
 use Rattle.cli_words.specs.Parser.{parser}
 use Rattle.cli_words.specs.CommandWords.{Said, Text, accepted, command_of, nothing, said_from}
 use Rattle.cli_words.proofs.RowLemmas.{AtEvents, Rows, Slot, has_row-row_at, id_of, missing, other, own, row, row_at, rules, text_said}
@@ -25,38 +24,22 @@ use Rattle.cli_words.proofs.ReadLemmas.{both_read}
 
 -- ---- defaults
 
-or_true : (b : Bool) → (b || true) ≡ true
-or_true true = refl
-or_true false = refl
-
-same_both : {X : Type 0} (b : Bool) (x : X) → cond b x x ≡ x
-same_both true x = refl
-same_both false x = refl
-
 abbrev has_none : Rule → Bool
 has_none a = is_empty a.defaults
 
 no_default_fault : (rows : List Row) (a : Rule) → has_none a ≡ true → default_fault rows a ≡ []
-no_default_fault rows a e =
-    ap (λ b. cond (has_row a.id rows || b) [] (given_default_fault a a.defaults)) e
-    ∙ ap (λ b. cond b [] (given_default_fault a a.defaults)) (or_true (has_row a.id rows))
+no_default_fault rows a e = grind arith
 
 no_default_row : (rows : List Row) (a : Rule) → has_none a ≡ true → with_default rows a ≡ rows
-no_default_row rows a e =
-    ap (λ ds. cond (has_row a.id rows) rows (default_rows a.id (reading_by a) ds rows)) (is_nil a.defaults e)
-    ∙ same_both (has_row a.id rows) rows
+no_default_row rows a e = rw (is_nil a.defaults e) (grind arith)
 
 no_defaults : (rows : List Row) (rs : List Rule) → list_all has_none rs ≡ true
     → (defaults_fault rows rs ≡ []) × (fold with_default rows rs ≡ rows)
 unfolding defaults_fault
 no_defaults rows [] e = (refl, refl)
 no_defaults rows (a ∷ rs) e =
-    let parts = both (has_none a) _ e in
-    let same = no_default_row rows a parts.0 in
-    let more = no_defaults rows rs parts.1 in (
-      clear _ _ (no_default_fault rows a parts.0) (ap (λ x. defaults_fault x rs) same ∙ more.0),
-      ap (λ x. fold with_default x rs) same ∙ more.1,
-    )
+    let own = no_default_row rows a in let clear = no_default_fault rows a in let later = no_defaults rows rs in
+    (grind arith, grind arith)
 
 -- the rows at the end: the flag has its default
 abbrev completed : List Row → List Row
@@ -64,7 +47,7 @@ completed rows = with_default rows events_filled
 
 module _ (rows : List Row) where
   events_default : default_fault rows events_filled ≡ []
-  events_default = same_both (has_row (codes "events") rows || false) []
+  events_default = grind arith
 
   defaults_clear : defaults_fault rows rules ≡ []
   unfolding defaults_fault
@@ -81,11 +64,7 @@ pub record Final (said : Said) (rows : List Row) : Type 0 where
 
 first_is : (id : Text) (o : Option Text) (rows : List Row) → row_at id rows ≡ value_row id o
     → first_of id rows ≡ o
-first_is id o rows e = ap (option_and_then (λ (r : Row). slice_get r.values 0)) e ∙ go o
-  where
-    go : (x : Option Text) → option_and_then (λ (r : Row). slice_get r.values 0) (value_row id x) ≡ x
-    go None = refl
-    go (Some t) = refl
+first_is id o rows e = grind arith
 
 abbrev no_row : Row
 no_row =

@@ -1,6 +1,6 @@
 -- The parser's walk over all the words says what the words say.
 use Rattle.std.proofs.Common.{◌≡◌, ◌∙◌, ℕ, List, [], ◌∷◌, ◌++◌, ◌≤◌, Option, Some, None, refl, sym, ap, subst, true, false, cond, length}
-use Rattle.std.proofs.Common.{arith, append-nil, append_assoc, length-append, suc, is_some}
+use Rattle.std.proofs.Common.{arith, append-nil, append_assoc, length-append, suc}
 use Rattle.std.specs.Prelude.{option_and_then}
 use Rattle.std.specs.List.{AllByRecursion}
 use Rattle.std.specs.Str.{IsUtf8}
@@ -11,10 +11,10 @@ use Rattle.clap.specs.declared.error.kind.ErrorKind.TheVariants as kind
 use Rattle.cli_words.specs.CommandWords.{Cycles, Key, Ops, Positional, Said, Text, Word, after_word, command_of, option_named, said_from}
 use Rattle.cli_words.specs.CommandWords.{with_events, with_option, with_positionals}
 use Rattle.cli_words.proofs.RowLemmas.{Rows, rules, top}
-use Rattle.cli_words.proofs.AcceptedLemmas.{Doomed, given, doomed_none, doomed_stays, hyphen}
-use Rattle.cli_words.proofs.AcceptedLemmas as doom
-use Rattle.cli_words.proofs.WalkSteps.{AtMostThree, Ends, fails, passes, Flagged, Holds, Named, flag, keyed, unnamed, Placed, placed, stray}
-use Rattle.cli_words.proofs.WalkSteps.{Used, repeated, unused, again, once, at, clear, events_filled, first_clear, flagging, named, placing}
+use Rattle.cli_words.proofs.AcceptedLemmas.{given, doomed_none, doomed_stays, hyphen, hyphen_dooms}
+use Rattle.std.proofs.lemmas.Bool.{or_right, lt-ltb}
+use Rattle.cli_words.proofs.WalkSteps.{AtMostThree, Ends, fails, passes, Holds, Named, flag, keyed, unnamed, Placed, placed, stray}
+use Rattle.cli_words.proofs.WalkSteps.{Used, repeated, unused, at, clear, events_filled, first_clear, flagging, named, placing}
 use Rattle.cli_words.proofs.WalkSteps.{rows_in, rule_at, second_clear, settle_at, some_kind, step_fails, step_passes, using}
 use Rattle.cli_words.proofs.WordLemmas.{IsPlain, View, after_ends, as_plain, awaiting, behind_end, between, dash, ends, has_flags}
 use Rattle.cli_words.proofs.WordLemmas.{hyphen_plain, long, long_refused, long_turn, long_turn_is, long_walk, long_walk_is, long_word_of}
@@ -41,8 +41,8 @@ trails (w ∷ ws) said h holds few =
     go (stray bad many) ih =
         step_fails _ w ws _ bad
         (doomed_none (with_positionals (w ∷ ws) said)
-        (doom.many
-        (omega (arith, length-append said.positionals (w ∷ []), length-append said.positionals (w ∷ ws)))))
+        (or_right _ _ (lt-ltb 3 (length (said.positionals ++ w ∷ ws))
+        (omega (arith, length-append said.positionals (w ∷ []), length-append said.positionals (w ∷ ws))))))
     go (placed now none is held few) ih =
         step_passes _ (at idle (suc (length (said.positionals ++ w ∷ []))) true now) w ws _ none is
         (subst (λ ps. Ends (at idle (suc (length (said.positionals ++ w ∷ []))) true now) ws
@@ -78,7 +78,7 @@ plain_step word rest said h holds few reads plain =
         → Ends (between said h) (word ∷ rest) (after_word Positional word rest said (rest_of rest))
     go (stray bad many) =
         step_fails _ word rest _ (λ e. bad (sym (turn_plain _ word h plain) ∙ e))
-        (doomed_stays rest None _ (doom.many many))
+        (doomed_stays rest None (with_positionals (word ∷ []) said) (or_right _ _ (lt-ltb _ _ many)))
     go (placed now none is held few) =
         step_passes _ (at idle (suc (length (said.positionals ++ word ∷ []))) false now) word rest _
         (turn_plain _ word h plain ∙ none) (walked_plain _ word h plain ∙ is)
@@ -114,6 +114,20 @@ module _ (word : Text) (rest : List Text) (said : Said) (h : Held) (holds : Hold
   turned Cycles t = refl
   turned Ops t = refl
 
+  -- an option that is used, by whatever it takes
+  used_here : (a : Rule) (values : List Text) (next : Option Said) → Used a values next said (rows_in h)
+      → turn_fault top [] (at idle p false h) word ≡ or_else (or_else (settle_at h) (use_fault false a values (rows_in h))) []
+      → walked rules [] (at idle p false h) word ≡ at idle p false (reacted rules a values h)
+      → here (option_and_then (rest_of rest None) next)
+  used_here a values next (repeated bad none) turn is =
+      step_fails _ word rest _ (λ e. bad (second_clear _ _ (first_clear _ _ (sym turn ∙ e))))
+      (ap (λ o. given (option_and_then (rest_of rest None) o)) none)
+  used_here a values next (unused now some none rows same) turn is =
+      step_passes _ (between said (reacted rules a values h)) word rest _
+      (turn ∙ clear _ _ (clear _ _ holds.settles none) refl) is
+      (subst (λ o. Ends (between said (reacted rules a values h)) rest (option_and_then (rest_of rest None) o)) (sym some)
+      (onward rest said few reads now (reacted rules a values h) same (record { skip = holds.skip; settles = refl; rows = rows })))
+
   went : (k : Key) (t : Text)
       → long_walk word p h (Some (rule_at k)) (Some t) ≡ at idle p false (reacted rules (rule_at k) (t ∷ []) h)
   went Cycles t = refl
@@ -122,38 +136,13 @@ module _ (word : Text) (rest : List Text) (said : Said) (h : Held) (holds : Hold
   -- `--cycles=V`
   attached : (k : Key) (t : Text) → Turns (Some (rule_at k)) (Some t) → Walks (Some (rule_at k)) (Some t)
       → here (option_and_then (rest_of rest None) (with_option k t said))
-  attached k t turn is = go (using k t said (rows_in h) holds.rows)
-    where
-      go : Used k t said (rows_in h)
-          → Ends (between said h) (word ∷ rest) (option_and_then (rest_of rest None) (with_option k t said))
-      go (repeated bad none) =
-          step_fails _ word rest _ (λ e. bad (second_clear _ _ (first_clear _ _ (sym (turn ∙ turned k t) ∙ e))))
-          (ap (λ o. given (option_and_then (rest_of rest None) o)) none)
-      go (unused now some none rows same) =
-          step_passes _ (between said (reacted rules (rule_at k) (t ∷ []) h)) word rest _
-          (turn ∙ turned k t ∙ clear _ _ (clear _ _ holds.settles none) refl) (is ∙ went k t)
-          (subst (λ o. Ends (between said (reacted rules (rule_at k) (t ∷ []) h)) rest
-          (option_and_then (rest_of rest None) o)) (sym some)
-          (onward rest said few reads now (reacted rules (rule_at k) (t ∷ []) h) same
-          (record { skip = holds.skip; settles = refl; rows = rows })))
+  attached k t turn is =
+      used_here (rule_at k) (t ∷ []) _ (using k t said (rows_in h) holds.rows) (turn ∙ turned k t) (is ∙ went k t)
 
   -- `--events`
   flagged : Turns (Some events_filled) None → Walks (Some events_filled) None
       → here (option_and_then (rest_of rest None) (with_events said))
-  flagged turn is = go (flagging said (rows_in h) holds.rows)
-    where
-      go : Flagged said (rows_in h)
-          → Ends (between said h) (word ∷ rest) (option_and_then (rest_of rest None) (with_events said))
-      go (again bad none) =
-          step_fails _ word rest _ (λ e. bad (second_clear _ _ (first_clear _ _ (sym turn ∙ e))))
-          (ap (λ o. given (option_and_then (rest_of rest None) o)) none)
-      go (once some none rows) =
-          step_passes _ (between said (reacted rules events_filled [] h)) word rest _
-          (turn ∙ clear _ _ (clear _ _ holds.settles none) refl) is
-          (subst (λ o. Ends (between said (reacted rules events_filled [] h)) rest
-          (option_and_then (rest_of rest None) o)) (sym some)
-          (onward rest said few reads (record said { events = true }) (reacted rules events_filled [] h) refl
-          (record { skip = holds.skip; settles = refl; rows = rows })))
+  flagged turn is = used_here events_filled [] _ (flagging said (rows_in h) holds.rows) turn is
 
   -- `--cycles`
   apart : Awaits rest → (k : Key) → Turns (Some (rule_at k)) None → Walks (Some (rule_at k)) None
@@ -221,21 +210,6 @@ read_word word rest u (short y ys ne e) reads awaits said h holds few =
     (short_refused y ys ne idle _ h (has_flags y ys (subst IsUtf8 e u)) holds.skip)
     (ap (λ w. given (after_word w (45 ∷ y ∷ ys) rest said (rest_of rest))) (short_unknown y ys ne)))
 
--- a value of one hyphen makes the option one that can give no command
-hyphen_dooms : (k : Key) (said now : Said) → with_option k hyphen said ≡ Some now → Doomed now
-hyphen_dooms Cycles said now e = go said.cycles e
-  where
-    go : (c : Option Text) → cond (is_some c) None (Some (record said { cycles = Some hyphen })) ≡ Some now
-        → Doomed now
-    go (Some x) f = absurd (doom.some_none now f)
-    go None f = subst Doomed (doom.some_eq _ _ f) (doom.cycles refl)
-hyphen_dooms Ops said now e = go said.ops e
-  where
-    go : (c : Option Text) → cond (is_some c) None (Some (record said { ops = Some hyphen })) ≡ Some now
-        → Doomed now
-    go (Some x) f = absurd (doom.some_none now f)
-    go None f = subst Doomed (doom.some_eq _ _ f) (doom.ops refl)
-
 -- what is said gives no command either way
 refused_anyway : (w : Walk) (rest : List Text) (o : Option Said) → given o ≡ None → Ends w rest o
     → Ends w rest None
@@ -262,7 +236,7 @@ module _ (word : Text) (rest : List Text) (u : AllByRecursion IsUtf8 rest) (k : 
   taken_rest : Ends (now_at (with_word k word rows skip)) rest (option_and_then (rest_of rest None) (with_option k word said))
   taken_rest = go (using k word said rows said_rows)
     where
-      go : Used k word said rows
+      go : Used (rule_at k) (word ∷ []) (with_option k word said) said rows
           → Ends (now_at (with_word k word rows skip)) rest (option_and_then (rest_of rest None) (with_option k word said))
       go (repeated bad none) =
           fails (stuck_idle _ (with_word k word rows skip) (λ e. bad (sym (settled_value k word rows skip) ∙ e)) zero_skip rest u)

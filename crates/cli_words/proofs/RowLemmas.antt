@@ -1,6 +1,6 @@
 -- What the rows of a parse are after each use of an option or a positional.
-use Rattle.std.proofs.Common.{◌≡◌, ◌∙◌, List, [], ◌∷◌, ◌++◌, ◌||◌, Option, Some, None, refl, sym, ap, codes, true, false, Bool}
-use Rattle.std.proofs.Common.{append-nil, cond, is_some, option_map, true≢false}
+use Rattle.std.proofs.Common.{◌≡◌, ◌∙◌, List, [], ◌∷◌, ◌++◌, Option, Some, None, refl, ap, codes, true, false, Bool}
+use Rattle.std.proofs.Common.{append-nil, cond, is_some, option_map, arith}
 use Rattle.std.specs.Prelude.{slice_get, find}
 use Rattle.std.specs.Str.{bytes_eq}
 use Rattle.clap.specs.Walk.{Rule, Row, Text, at_row, has_row, more_values, with_values, without}
@@ -32,26 +32,12 @@ row_at id rows = find (λ r. bytes_eq r.id id) rows
 
 pub has_row-row_at : (id : Text) (rows : List Row) → has_row id rows ≡ is_some (row_at id rows)
 has_row-row_at id [] = refl
-has_row-row_at id (r ∷ rs) = go (bytes_eq r.id id) (has_row-row_at id rs)
-  where
-    go : (b : Bool) → has_row id rs ≡ is_some (row_at id rs)
-        → (b || has_row id rs) ≡ is_some (cond b (Some r) (row_at id rs))
-    go true e = refl
-    go false e = e
-
-some_none : {X : Type 0} (x : X) → Some x ≡ None → ⊥
-some_none x e = true≢false (ap is_some e)
+has_row-row_at id (r ∷ rs) = let later = has_row-row_at id rs in grind arith
 
 pub missing : (id : Text) (change : Row → List Row) (more rows : List Row) → row_at id rows ≡ None
     → at_row id change more rows ≡ rows ++ more
 missing id change more [] e = refl
-missing id change more (r ∷ rs) e = go (bytes_eq r.id id) e (missing id change more rs)
-  where
-    go : (b : Bool) → cond b (Some r) (row_at id rs) ≡ None
-        → (row_at id rs ≡ None → at_row id change more rs ≡ rs ++ more)
-        → cond b (change r ++ rs) (r ∷ at_row id change more rs) ≡ r ∷ (rs ++ more)
-    go true h rec = absurd (some_none r h)
-    go false h rec = ap (λ t. r ∷ t) (rec h)
+missing id change more (r ∷ rs) e = let later = missing id change more rs in grind arith
 
 -- the use of an id that has no row adds one
 pub added : (id value : Text) (rows : List Row) → row_at id rows ≡ None
@@ -62,19 +48,13 @@ added id value rows e =
 
 pub other : (id : Text) (r : Row) (rows : List Row) → bytes_eq r.id id ≡ false
     → row_at id (rows ++ r ∷ []) ≡ row_at id rows
-other id r [] e = ap (λ b. cond b (Some r) None) e
-other id r (x ∷ xs) e = ap (cond (bytes_eq x.id id) (Some x)) (other id r xs e)
+other id r [] e = grind arith
+other id r (x ∷ xs) e = let later = other id r xs e in grind arith
 
 pub own : (id : Text) (r : Row) (rows : List Row) → bytes_eq r.id id ≡ true → row_at id rows ≡ None
     → row_at id (rows ++ r ∷ []) ≡ Some r
-own id r [] e none = ap (λ b. cond b (Some r) None) e
-own id r (x ∷ xs) e none = go (bytes_eq x.id id) none (own id r xs e)
-  where
-    go : (b : Bool) → cond b (Some x) (row_at id xs) ≡ None
-        → (row_at id xs ≡ None → row_at id (xs ++ r ∷ []) ≡ Some r)
-        → cond b (Some x) (row_at id (xs ++ r ∷ [])) ≡ Some r
-    go true h rec = absurd (some_none x h)
-    go false h rec = rec h
+own id r [] e none = grind arith
+own id r (x ∷ xs) e none = let later = own id r xs e in grind arith
 
 -- ---- all rows
 
@@ -111,54 +91,36 @@ abbrev pub SameBut : Slot → Said → Said → Type 0
 SameBut k said now = (j : Slot) → bytes_eq (id_of k) (id_of j) ≡ false → text_said now j ≡ text_said said j
 
 slot_is : (k j : Slot) → bytes_eq (id_of k) (id_of j) ≡ true → k ≡ j
-slot_is AtEvents AtEvents e = refl
-slot_is AtCycles AtCycles e = refl
-slot_is AtOps AtOps e = refl
-slot_is AtCommand AtCommand e = refl
-slot_is AtSecond AtSecond e = refl
-slot_is AtThird AtThird e = refl
-slot_is k j e = absurd cc
+slot_is k j e = grind arith
 
 -- a row for a slot for which nothing was said
 pub rows_more : (k : Slot) (v : Text) (said now : Said) (rows : List Row) → Rows said rows → text_said said k ≡ None
     → text_said now k ≡ Some v → SameBut k said now → Rows now (rows ++ row (id_of k) v ∷ [])
-rows_more k v said now rows h none some same j = go (bytes_eq (id_of k) (id_of j)) refl
-  where
-    go : (b : Bool) → bytes_eq (id_of k) (id_of j) ≡ b
-        → row_at (id_of j) (rows ++ row (id_of k) v ∷ []) ≡ value_row (id_of j) (text_said now j)
-    go false e = other (id_of j) (row (id_of k) v) rows e ∙ h j ∙ ap (value_row (id_of j)) (sym (same j e))
-    go true e =
-        let here : k ≡ j = slot_is k j e in
-        own (id_of j) (row (id_of k) v) rows e (h j ∙ ap (value_row (id_of j)) (sym (ap (text_said said) here) ∙ none))
-        ∙ ap (λ (i : Slot). Some (row (id_of i) v)) here
-        ∙ ap (value_row (id_of j)) (sym (sym (ap (text_said now) here) ∙ some))
+rows_more k v said now rows h none some same j =
+    let there = h j in let kept = same j in let is = slot_is k j in
+    let others = other (id_of j) (row (id_of k) v) rows in let mine = own (id_of j) (row (id_of k) v) rows in
+    grind arith
 
 -- ---- what each use leaves as it was
 
 pub events_same : (said : Said) → SameBut AtEvents said (record said { events = true })
-events_same said AtEvents e = absurd cc
-events_same said j e = refl
+events_same said j e = grind arith
 
 pub cycles_same : (said : Said) (v : Text) → SameBut AtCycles said (record said { cycles = Some v })
-cycles_same said v AtCycles e = absurd cc
-cycles_same said v j e = refl
+cycles_same said v j e = grind arith
 
 pub ops_same : (said : Said) (v : Text) → SameBut AtOps said (record said { ops = Some v })
-ops_same said v AtOps e = absurd cc
-ops_same said v j e = refl
+ops_same said v j e = grind arith
 
 module _ (events : Bool) (cycles ops : Option Text) where
   abbrev pub having : List Text → Said
   having ps = record { events = events; cycles = cycles; ops = ops; positionals = ps }
 
   pub first_same : (v : Text) → SameBut AtCommand (having []) (having (v ∷ []))
-  first_same v AtCommand e = absurd cc
-  first_same v j e = refl
+  first_same v j e = grind arith
 
   pub second_same : (a v : Text) → SameBut AtSecond (having (a ∷ [])) (having (a ∷ v ∷ []))
-  second_same a v AtSecond e = absurd cc
-  second_same a v j e = refl
+  second_same a v j e = grind arith
 
   pub third_same : (a b v : Text) → SameBut AtThird (having (a ∷ b ∷ [])) (having (a ∷ b ∷ v ∷ []))
-  third_same a b v AtThird e = absurd cc
-  third_same a b v j e = refl
+  third_same a b v j e = grind arith

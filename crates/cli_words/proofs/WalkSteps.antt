@@ -16,7 +16,7 @@ use Rattle.cli_words.specs.CommandWords.{Cycles, Key, Ops, Said, Text, Unknown, 
 use Rattle.cli_words.specs.CommandWords.{with_positionals, with_value, without_value}
 use Rattle.cli_words.proofs.RowLemmas.{AtCommand, AtCycles, AtEvents, AtOps, AtSecond, AtThird, Rows, added, cycles_same, events_same}
 use Rattle.cli_words.proofs.RowLemmas.{first_same, has_row-row_at, having as said_with, ops_same, row_at, rows_more, rules, second_same}
-use Rattle.cli_words.proofs.RowLemmas.{SameBut, Slot, id_of, text_said, third_same, top, value_row}
+use Rattle.cli_words.proofs.RowLemmas.{SameBut, Slot, id_of, row, text_said, third_same, top, value_row}
 use Rattle.cli_words.proofs.AcceptedLemmas.{given}
 
 -- ---- kinds of fault
@@ -25,12 +25,10 @@ pub some_kind : (k : ErrorKind) (ks : Kinds) → k ∷ ks ≡ [] → ⊥
 some_kind k ks e = cc
 
 pub first_clear : (a b : Kinds) → or_else a b ≡ [] → a ≡ []
-first_clear [] b e = refl
-first_clear (k ∷ ks) b e = e
+first_clear a b e = grind arith
 
 pub second_clear : (a b : Kinds) → or_else a b ≡ [] → b ≡ []
-second_clear [] b e = e
-second_clear (k ∷ ks) b e = absurd (some_kind k ks e)
+second_clear a b e = grind arith
 
 pub clear : (a b : Kinds) → a ≡ [] → b ≡ [] → or_else a b ≡ []
 clear a b e f = ap (λ x. or_else x b) e ∙ f
@@ -123,84 +121,48 @@ named n v = go (bytes_eq (codes "events") n) (bytes_eq (codes "cycles") n) (byte
 abbrev pub rows_in : Held → List Row
 rows_in h = settled_rows rules h.pending h.rows
 
--- the flag, where it was not given yet
-flag_passes : (rows : List Row) → has_row (codes "events") rows ≡ false
-    → use_fault false events_filled [] rows ≡ []
-flag_passes rows e = ap (λ b. or_else (cond (b && true) (kind.ArgumentConflict ∷ []) []) []) e
-
-flag_fails : (rows : List Row) → has_row (codes "events") rows ≡ true
-    → use_fault false events_filled [] rows ≡ [] → ⊥
-flag_fails rows e none =
-    some_kind _ _ (sym (ap (λ b. or_else (cond (b && true) (kind.ArgumentConflict ∷ []) []) []) e) ∙ none)
-
-value_passes : (k : Key) (v : Text) (rows : List Row) → has_row (rule_at k).id rows ≡ false
-    → use_fault false (rule_at k) (v ∷ []) rows ≡ []
-value_passes Cycles v rows e = ap (λ b. or_else (cond (b && true) (kind.ArgumentConflict ∷ []) []) []) e
-value_passes Ops v rows e = ap (λ b. or_else (cond (b && true) (kind.ArgumentConflict ∷ []) []) []) e
-
-value_fails : (k : Key) (v : Text) (rows : List Row) → has_row (rule_at k).id rows ≡ true
-    → use_fault false (rule_at k) (v ∷ []) rows ≡ [] → ⊥
-value_fails Cycles v rows e none =
-    some_kind _ _ (sym (ap (λ b. or_else (cond (b && true) (kind.ArgumentConflict ∷ []) []) []) e) ∙ none)
-value_fails Ops v rows e none =
-    some_kind _ _ (sym (ap (λ b. or_else (cond (b && true) (kind.ArgumentConflict ∷ []) []) []) e) ∙ none)
-
 -- an option with its value, used where the rows are these
-pub data Used (k : Key) (v : Text) (said : Said) (rows : List Row) : Type 0 where
-  repeated : (use_fault false (rule_at k) (v ∷ []) rows ≡ [] → ⊥) → with_option k v said ≡ None
-      → Used k v said rows
-  unused : (now : Said) → with_option k v said ≡ Some now → use_fault false (rule_at k) (v ∷ []) rows ≡ []
-      → Rows now (used (rule_at k) (v ∷ []) rows)
-      → now.positionals ≡ said.positionals → Used k v said rows
+-- what gives `next` is used over these rows, where it was not given yet
+pub data Used (a : Rule) (values : List Text) (next : Option Said) (said : Said) (rows : List Row) : Type 0 where
+  repeated : (use_fault false a values rows ≡ [] → ⊥) → next ≡ None → Used a values next said rows
+  unused : (now : Said) → next ≡ Some now → use_fault false a values rows ≡ [] → Rows now (used a values rows)
+      → now.positionals ≡ said.positionals → Used a values next said rows
 
-pub using : (k : Key) (v : Text) (said : Said) (rows : List Row) → Rows said rows → Used k v said rows
-using Cycles v said rows h = go said.cycles refl
+used_at : (a : Rule) (values : List Text) (k : Slot) (v : Text) (said now : Said) (rows : List Row) → Rows said rows
+    → SameBut k said now → text_said now k ≡ Some v → now.positionals ≡ said.positionals
+    → use_fault false a values rows ≡ cond (has_row (id_of k) rows) (kind.ArgumentConflict ∷ []) []
+    → used a values rows ≡ with_values (id_of k) AsWritten CommandLine (v ∷ []) (without (id_of k) rows)
+    → Used a values (cond (is_some (text_said said k)) None (Some now)) said rows
+used_at a values k v said now rows h same some positionals fault_is rows_are = go (text_said said k) refl
   where
-    go : (c : Option Text) → said.cycles ≡ c → Used Cycles v said rows
+    go : (o : Option Text) → text_said said k ≡ o → Used a values (cond (is_some o) None (Some now)) said rows
     go (Some x) e =
-        repeated (value_fails Cycles v rows
-        (has_no _ rows _ (h AtCycles ∙ ap (value_row (codes "cycles")) e)))
-        (ap (λ (c : Option Text). cond (is_some c) None (Some (record said { cycles = Some v }))) e)
+        let has = has_no (id_of k) rows (Some (row (id_of k) x)) (h k ∙ ap (value_row (id_of k)) e) in
+        repeated (λ none. absurd (grind arith)) refl
     go None e =
-        unused (record said { cycles = Some v })
-        (ap (λ (c : Option Text). cond (is_some c) None (Some (record said { cycles = Some v }))) e)
-        (value_passes Cycles v rows (has_no _ rows _ (h AtCycles ∙ ap (value_row (codes "cycles")) e)))
-        (subst (Rows (record said { cycles = Some v }))
-        (sym (added (codes "cycles") v rows (h AtCycles ∙ ap (value_row (codes "cycles")) e)))
-        (rows_more AtCycles v said (record said { cycles = Some v }) rows h e refl (cycles_same said v))) refl
-using Ops v said rows h = go said.ops refl
-  where
-    go : (c : Option Text) → said.ops ≡ c → Used Ops v said rows
-    go (Some x) e =
-        repeated (value_fails Ops v rows (has_no _ rows _ (h AtOps ∙ ap (value_row (codes "ops")) e)))
-        (ap (λ (c : Option Text). cond (is_some c) None (Some (record said { ops = Some v }))) e)
-    go None e =
-        unused (record said { ops = Some v })
-        (ap (λ (c : Option Text). cond (is_some c) None (Some (record said { ops = Some v }))) e)
-        (value_passes Ops v rows (has_no _ rows _ (h AtOps ∙ ap (value_row (codes "ops")) e)))
-        (subst (Rows (record said { ops = Some v }))
-        (sym (added (codes "ops") v rows (h AtOps ∙ ap (value_row (codes "ops")) e)))
-        (rows_more AtOps v said (record said { ops = Some v }) rows h e refl (ops_same said v))) refl
+        let absent = has_no (id_of k) rows None (h k ∙ ap (value_row (id_of k)) e) in
+        unused now refl (grind arith)
+        (subst (Rows now) (sym (rows_are ∙ added (id_of k) v rows (h k ∙ ap (value_row (id_of k)) e)))
+        (rows_more k v said now rows h e some same)) positionals
 
-pub data Flagged (said : Said) (rows : List Row) : Type 0 where
-  again : (use_fault false events_filled [] rows ≡ [] → ⊥) → with_events said ≡ None → Flagged said rows
-  once : with_events said ≡ Some (record said { events = true }) → use_fault false events_filled [] rows ≡ []
-      → Rows (record said { events = true }) (used events_filled [] rows) → Flagged said rows
+pub using : (k : Key) (v : Text) (said : Said) (rows : List Row) → Rows said rows
+    → Used (rule_at k) (v ∷ []) (with_option k v said) said rows
+using Cycles v said rows h =
+    used_at (rule_at Cycles) (v ∷ []) AtCycles v said (record said { cycles = Some v }) rows h (cycles_same said v) refl refl
+    (grind arith) refl
+using Ops v said rows h =
+    used_at (rule_at Ops) (v ∷ []) AtOps v said (record said { ops = Some v }) rows h (ops_same said v) refl refl (grind arith) refl
 
-pub flagging : (said : Said) (rows : List Row) → Rows said rows → Flagged said rows
-flagging said rows h = go said.events refl
+pub flagging : (said : Said) (rows : List Row) → Rows said rows → Used events_filled [] (with_events said) said rows
+flagging said rows h =
+    subst (λ (o : Option Said). Used events_filled [] o said rows) (by said.events)
+    (used_at events_filled [] AtEvents (codes "true") said (record said { events = true }) rows h (events_same said) refl refl
+    (grind arith) refl)
   where
-    go : (b : Bool) → said.events ≡ b → Flagged said rows
-    go true e =
-        again (flag_fails rows (has_no _ rows _ (h AtEvents ∙ ap (λ b. value_row (codes "events") (cond b (Some (codes "true")) None)) e)))
-        (ap (λ b. cond b None (Some (record said { events = true }))) e)
-    go false e =
-        let none : text_said said AtEvents ≡ None = ap (λ b. cond b (Some (codes "true")) None) e in
-        let no_row : row_at (codes "events") rows ≡ None = h AtEvents ∙ ap (value_row (codes "events")) none in
-        once (ap (λ b. cond b None (Some (record said { events = true }))) e)
-        (flag_passes rows (has_no _ rows _ no_row))
-        (subst (Rows (record said { events = true })) (sym (added (codes "events") (codes "true") rows no_row))
-        (rows_more AtEvents (codes "true") said (record said { events = true }) rows h none refl (events_same said)))
+    by : (b : Bool) → cond (is_some (cond b (Some (codes "true")) None)) None (Some (record said { events = true }))
+        ≡ cond b None (Some (record said { events = true }))
+    by true = refl
+    by false = refl
 
 -- ---- positionals
 

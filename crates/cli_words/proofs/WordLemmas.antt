@@ -1,27 +1,27 @@
 -- One word of the parser's walk, by what it looks like, and what is refused whatever follows.
-use Rattle.std.proofs.Common.{◌≡◌, ◌∙◌, ℕ, List, [], ◌∷◌, ◌+◌, ◌&&◌, ◌||◌, ◌==◌, Option, Some, None, refl, sym, ap, ap₂, subst, codes, true}
-use Rattle.std.proofs.Common.{false, Bool, cond, length, arith, suc, not, true≢false, is_some, eqb-true, ne_eqb, take, drop}
+use Rattle.std.proofs.Common.{◌≡◌, ◌∙◌, ℕ, List, [], ◌∷◌, ◌+◌, ◌&&◌, ◌==◌, Option, Some, None, refl, sym, ap, ap₂, subst, true}
+use Rattle.std.proofs.Common.{false, Bool, cond, length, arith, suc, not, is_some, eqb-true}
 use Rattle.std.specs.Prelude.{slice_get, option_and_then, encode_utf8_all}
 use Rattle.std.specs.List.{AllByRecursion, after_first, before_first}
 use Rattle.std.specs.Option.{option_map_or}
 use Rattle.std.specs.List.{prefix_len}
 use Rattle.std.specs.Char.{encode_utf8}
 use Rattle.std.proofs.lemmas.Str.{chars-encodes}
-use Rattle.std.proofs.lemmas.Bool.{eq-eqb}
+use Rattle.std.proofs.lemmas.Bool.Decides.{nat_tests}
 use Rattle.std.specs.Str.{bytes_eq, chars, IsUtf8}
-use Rattle.clap.specs.Lexer.{has_byte, long_of, long_of_rest, short_of, short_of_rest, strip_byte}
-use Rattle.clap.specs.Walk.{subcommand_met, is_pending, Held, Rule, Step, Waiting, Walk, after_flag, after_step, arg_by_index, arg_by_long}
-use Rattle.clap.specs.Walk.{idle, long_met, long_or_other, next, option, positional, takes_values, Row, plain_word, short_or_plain}
-use Rattle.clap.specs.Walk.{to_positional, trailing, value, walked, word_met}
+use Rattle.clap.specs.Lexer.{has_byte, long_of, long_of_rest, short_of}
+use Rattle.clap.specs.Walk.{subcommand_met, Held, Rule, Step, Waiting, Walk, after_flag, after_step, arg_by_index, arg_by_long}
+use Rattle.clap.specs.Walk.{idle, long_met, next, option, takes_values, Row, plain_word}
+use Rattle.clap.specs.Walk.{to_positional, value, walked, word_met}
 use Rattle.clap.specs.Kinds.{Kinds, or_else}
-use Rattle.clap.specs.Faults.{bundle_fault, bundle_step_fault, option_fault, flag_word_fault, flags_fault, long_fault, positional_fault}
+use Rattle.clap.specs.Faults.{bundle_fault, bundle_step_fault, option_fault, flag_word_fault, flags_fault, long_fault}
 use Rattle.clap.specs.Faults.{react_fault, step_fault, turn_fault, walk_fault, word_fault}
 use Rattle.clap.specs.declared.error.kind.ErrorKind.TheVariants as kind
-use Rattle.cli_words.specs.CommandWords.{Cycles, End, Key, Ops, Positional, Said, Text, Unknown, begins_with_hyphen, is_equals}
-use Rattle.cli_words.specs.CommandWords.{option_named, value_in, with_value, without_value, word_of}
+use Rattle.cli_words.specs.CommandWords.{Cycles, Key, Ops, Positional, Said, Text, Unknown, begins_with_hyphen, is_equals}
+use Rattle.cli_words.specs.CommandWords.{option_named, value_in, word_of}
 use Rattle.cli_words.proofs.RowLemmas.{rules, top}
 use Rattle.cli_words.proofs.AcceptedLemmas.{hyphen}
-use Rattle.cli_words.proofs.WalkSteps.{Fails, at, first_clear, slot, and_false, rule_at, settle_at, some_kind}
+use Rattle.cli_words.proofs.WalkSteps.{Fails, at, first_clear, and_false, rule_at, settle_at, some_kind}
 
 -- ---- where the walk stands between two words
 
@@ -58,15 +58,8 @@ view_second y (x ∷ xs) true e = long x xs (ap (λ c. 45 ∷ c ∷ x ∷ xs) (e
 view_second y ys false e = short y ys e refl
 
 view_first : (x : ℕ) (xs : Text) (b : Bool) → (x == 45) ≡ b → View (x ∷ xs)
-view_first x xs false e = as_plain e (record {
-  other = ap (λ b. b && bytes_eq xs (45 ∷ [])) e;
-  long = ap (λ b. option_and_then long_of_rest (option_and_then (strip_byte 45) (cond b (Some xs) None))) e;
-  short = ap (λ b. option_and_then short_of_rest (cond b (Some xs) None)) e;
-  kind =
-      ap (λ b. cond (not b || bytes_eq (codes "-") (x ∷ xs)) Positional
-      (cond (bytes_eq (codes "--") (x ∷ xs)) End
-      (option_named (before_first is_equals (x ∷ xs)) (value_in (x ∷ xs))))) e;
-})
+view_first x xs false e =
+    as_plain e (record { other = grind arith; long = grind arith; short = grind arith; kind = grind (arith, nat_tests) })
 view_first x [] true e = dash (ap (λ c. c ∷ []) (eqb-true x 45 e))
 view_first x (y ∷ ys) true e =
     subst (λ c. View (c ∷ y ∷ ys)) (sym (eqb-true x 45 e)) (view_second y ys (y == 45) refl)
@@ -94,40 +87,23 @@ has_flags y ys u = go (chars (y ∷ ys)) refl
         absurd (omega (arith, ap length short))
     go (c ∷ cs) e = (c, ap (λ t. slice_get t 0) e)
 
-before_more : (x : ℕ) (xs : Text) → (x == 61) ≡ false
-    → before_first is_equals (x ∷ xs) ≡ x ∷ before_first is_equals xs
+before_more : (x : ℕ) (xs : Text) → (x == 61) ≡ false → before_first is_equals (x ∷ xs) ≡ x ∷ before_first is_equals xs
 before_more x xs e =
-    ap (λ b. take (cond (not b) (1 + prefix_len (λ c. not (is_equals c)) xs) 0) (x ∷ xs)) e
-    ∙ (let more : 1 + prefix_len (λ c. not (is_equals c)) xs ≡ suc
-    (prefix_len (λ c. not (is_equals c)) xs) = omega arith in ap (λ k. take k (x ∷ xs)) more)
+    let more : 1 + prefix_len (λ c. not (is_equals c)) xs ≡ suc (prefix_len (λ c. not (is_equals c)) xs) = omega arith in
+    rw (e, more) refl
 
 after_more : (x : ℕ) (xs : Text) → (x == 61) ≡ false → after_first is_equals (x ∷ xs) ≡ after_first is_equals xs
 after_more x xs e =
-    ap (λ b. drop (cond (not b) (1 + prefix_len (λ c. not (is_equals c)) xs) 0 + 1) (x ∷ xs)) e
-    ∙ (let more : (1 + prefix_len (λ c. not (is_equals c)) xs) + 1 ≡ suc
-    (prefix_len (λ c. not (is_equals c)) xs + 1) = omega arith in ap (λ k. drop k (x ∷ xs)) more)
+    let more : 1 + prefix_len (λ c. not (is_equals c)) xs + 1 ≡ suc (prefix_len (λ c. not (is_equals c)) xs + 1) = omega arith in
+    rw (e, more) refl
 
-flip : (y : ℕ) → (y == 45) ≡ false → (45 == y) ≡ false
-flip y e = ne_eqb 45 y (λ h. true≢false (sym (eq-eqb y 45 (sym h)) ∙ e))
-
-no_option : (y : ℕ) (ys : Text) (b : Bool) (v : Option Text) → (45 == y) ≡ false → (y == 61) ≡ b
-    → option_named (45 ∷ before_first is_equals (y ∷ ys)) v ≡ Unknown
-no_option y ys true v e is =
-    ap (λ b. option_named
-    (45 ∷ take (cond (not b) (1 + prefix_len (λ c. not (is_equals c)) ys) 0) (y ∷ ys)) v) is
-no_option y ys false v e is =
-    ap (λ t. option_named (45 ∷ t) v) (before_more y ys is)
-    ∙ ap (λ b. cond (b && bytes_eq (codes "events") (before_first is_equals ys)) (without_value v)
-    (cond (b && bytes_eq (codes "cycles") (before_first is_equals ys)) (with_value Cycles v)
-    (cond (b && bytes_eq (codes "ops") (before_first is_equals ys)) (with_value Ops v) Unknown))) e
+no_option : (y : ℕ) (ys : Text) (v : Option Text) → (y == 45) ≡ false → option_named (45 ∷ before_first is_equals (y ∷ ys)) v ≡ Unknown
+no_option y ys v e = let more = before_more y ys in grind (arith, nat_tests)
 
 -- a short word is no option
 pub short_unknown : (y : ℕ) (ys : Text) → (y == 45) ≡ false → word_of (45 ∷ y ∷ ys) ≡ Unknown
 short_unknown y ys e =
-    ap (λ b. cond (b && bytes_eq [] ys) End
-    (option_named (before_first is_equals (45 ∷ y ∷ ys)) (value_in (45 ∷ y ∷ ys)))) (flip y e)
-    ∙ ap (λ n. option_named n (value_in (45 ∷ y ∷ ys))) (before_more 45 (y ∷ ys) refl)
-    ∙ no_option y ys (y == 61) _ (flip y e) refl
+    let first = before_more 45 (y ∷ ys) refl in let none = no_option y ys (value_in (45 ∷ y ∷ ys)) e in grind (arith, nat_tests)
 
 -- the name and the value of a long word
 abbrev pub name_in : ℕ → Text → Text
@@ -147,30 +123,21 @@ long_word_of x xs =
 
 module _ (p : ℕ) (word : Text) (h : Held) (plain : IsPlain word) where
   met_plain : word_met rules [] false idle p word h ≡ (h, value)
-  met_plain =
-      ap (λ b. cond b (h, trailing p) (long_or_other rules idle word (long_of word) h)) plain.other
-      ∙ ap (λ l. long_or_other rules idle word l h) plain.long
-      ∙ ap (λ s. short_or_plain rules idle word s h) plain.short
+  met_plain = rw (plain.other, plain.long, plain.short) refl
 
   fault_plain : flag_word_fault rules false (long_of word) word h ≡ []
-  fault_plain =
-      ap (λ l. flag_word_fault rules false l word h) plain.long
-      ∙ ap (λ s. option_map_or (λ flags. bundle_fault rules false flags h) s []) plain.short
+  fault_plain = rw (plain.long, plain.short) refl
 
   no_word_fault : word_fault top [] false idle word h ≡ []
-  no_word_fault =
-      ap (λ b. cond b [] (flag_word_fault rules false (long_of word) word h)) plain.other ∙ fault_plain
+  no_word_fault = rw (plain.other, plain.long, plain.short) refl
 
   pub turn_plain : turn_fault top [] (at idle p false h) word ≡ step_fault top p h value
-  turn_plain =
-      ap (λ (m : Held × Step). or_else (word_fault top [] false idle word h)
-      (step_fault top p m.0 m.1)) met_plain
-      ∙ ap (λ f. or_else f (step_fault top p h value)) no_word_fault
+  turn_plain = rw (met_plain, no_word_fault) refl
 
   pub walked_plain : walked rules [] (at idle p false h) word
       ≡ to_positional rules (arg_by_index rules p) word (at idle p false h) h
   unfolding walked
-  walked_plain = ap (λ (m : Held × Step). after_step rules word (at idle p false h) m.0 m.1) met_plain
+  walked_plain = rw met_plain refl
 
 -- an option takes a plain word
 abbrev pub waiting_for : Key → List Row → ℕ → Held
@@ -187,18 +154,10 @@ with_word key word rows skip = record { rows = rows; pending = Some ((rule_at ke
 module _ (key : Key) (p : ℕ) (word : Text) (rows : List Row) (skip : ℕ) (plain : IsPlain word) where
   taken_met : word_met rules [] false (option (rule_at key).id) p word (waiting_for key rows skip)
       ≡ plain_word rules (option (rule_at key).id) word (waiting_for key rows skip)
-  taken_met =
-      ap (λ b. cond b (waiting_for key rows skip, trailing p)
-      (long_or_other rules (option (rule_at key).id) word (long_of word)
-      (waiting_for key rows skip))) plain.other
-      ∙ ap (λ l. long_or_other rules (option (rule_at key).id) word l (waiting_for key rows skip)) plain.long
-      ∙ ap (λ s. short_or_plain rules (option (rule_at key).id) word s (waiting_for key rows skip)) plain.short
+  taken_met = rw (plain.other, plain.long, plain.short) refl
 
   taken_fault : word_fault top [] false (option (rule_at key).id) word (waiting_for key rows skip) ≡ []
-  taken_fault =
-      ap (λ b. cond b []
-      (flag_word_fault rules false (long_of word) word (waiting_for key rows skip))) plain.other
-      ∙ fault_plain p word (waiting_for key rows skip) plain
+  taken_fault = rw (plain.other, plain.long, plain.short) refl
 
 taken_word : (key : Key) (word : Text) (rows : List Row) (skip : ℕ)
     → plain_word rules (option (rule_at key).id) word (waiting_for key rows skip)
@@ -209,19 +168,13 @@ taken_word Ops word rows skip = refl
 pub turn_taken : (key : Key) (p : ℕ) (word : Text) (rows : List Row) (skip : ℕ) → IsPlain word
     → turn_fault top [] (at (option (rule_at key).id) p false (waiting_for key rows skip)) word ≡ []
 turn_taken key p word rows skip plain =
-    ap (λ (m : Held × Step). or_else
-    (word_fault top [] false (option (rule_at key).id) word (waiting_for key rows skip))
-    (step_fault top p m.0 m.1)) (taken_met key p word rows skip plain ∙ taken_word key word rows skip)
-    ∙ ap (λ f. or_else f []) (taken_fault key p word rows skip plain)
+    rw (taken_met key p word rows skip plain ∙ taken_word key word rows skip, taken_fault key p word rows skip plain) refl
 
 pub walked_taken : (key : Key) (p : ℕ) (word : Text) (rows : List Row) (skip : ℕ) → IsPlain word
     → walked rules [] (at (option (rule_at key).id) p false (waiting_for key rows skip)) word ≡ at idle p false
     (with_word key word rows skip)
 unfolding walked
-walked_taken key p word rows skip plain =
-    ap (λ (m : Held × Step). after_step rules word
-    (at (option (rule_at key).id) p false (waiting_for key rows skip)) m.0 m.1)
-    (taken_met key p word rows skip plain ∙ taken_word key word rows skip)
+walked_taken key p word rows skip plain = rw (taken_met key p word rows skip plain ∙ taken_word key word rows skip) refl
 
 -- ---- a word that begins with a hyphen
 
@@ -255,21 +208,16 @@ long_bad None v h bad e = some_kind _ _ e
 long_bad (Some a) v h bad e = go (takes_values a) v e
   where
     go : (b : Bool) (w : Option Text)
-        → cond b (option_fault rules false a w h) (cond (is_some w) (kind.TooManyValues ∷ []) (react_fault rules false a [] h))
-        ≡ []
-        → ⊥
-    go true (Some x) f = bad (first_clear _ _ f)
+        → cond b (option_fault rules false a w h) (cond (is_some w) (kind.TooManyValues ∷ []) (react_fault rules false a [] h)) ≡ [] → ⊥
     go true None f = bad f
     go false (Some x) f = some_kind _ _ f
-    go false None f = bad (first_clear _ _ f)
+    go b w f = bad (first_clear _ _ f)
 
 pub long_refused : (waiting : Waiting) (x : ℕ) (xs : Text) (p : ℕ) (h : Held) → (settle_at h ≡ [] → ⊥)
     → turn_fault top [] (at waiting p false h) (45 ∷ 45 ∷ x ∷ xs) ≡ [] → ⊥
 long_refused idle x xs p h bad e =
     long_bad (arg_by_long rules (name_in x xs)) (own_value x xs) h bad (first_clear _ _ e)
-long_refused (option id) x xs p h bad e =
-    long_bad (arg_by_long rules (name_in x xs)) (own_value x xs) h bad (first_clear _ _ e)
-long_refused positional x xs p h bad e =
+long_refused waiting x xs p h bad e =
     long_bad (arg_by_long rules (name_in x xs)) (own_value x xs) h bad (first_clear _ _ e)
 
 module _ (y : ℕ) (ys : Text) (ne : (y == 45) ≡ false) where
@@ -304,26 +252,12 @@ module _ (y : ℕ) (ys : Text) (ne : (y == 45) ≡ false) where
   pub short_refused : (waiting : Waiting) (p : ℕ) (h : Held) → HasFlags y ys → h.skip ≡ 0
       → turn_fault top [] (at waiting p false h) (45 ∷ y ∷ ys) ≡ [] → ⊥
   short_refused idle p h f none e = some_kind _ _ (sym (short_fault f h none) ∙ first_clear _ _ e)
-  short_refused (option id) p h f none e = some_kind _ _ (sym (short_fault f h none) ∙ first_clear _ _ e)
-  short_refused positional p h f none e = some_kind _ _ (sym (short_fault f h none) ∙ first_clear _ _ e)
+  short_refused waiting p h f none e = some_kind _ _ (sym (short_fault f h none) ∙ first_clear _ _ e)
 
 -- ---- what is pending is a fault
 
 step_bad : (p : ℕ) (h : Held) → (settle_at h ≡ [] → ⊥) → step_fault top p h value ≡ [] → ⊥
-step_bad p h bad e = go (1 == p) (2 == p) (3 == p) e
-  where
-    one : (i : ℕ) (id : Text) → positional_fault rules false (slot i id) h ≡ [] → ⊥
-    one i id f =
-        bad (sym (ap (λ b. cond b [] (settle_at h)) (and_false (is_pending (slot i id) h.pending))) ∙ f)
-
-    go : (a b c : Bool)
-        → option_map_or (λ r. positional_fault rules false r h)
-        (cond a (Some (slot 1 (codes "command"))) (cond b (Some (slot 2 (codes "second"))) (cond c (Some (slot 3 (codes "third"))) None)))
-        (kind.UnknownArgument ∷ []) ≡ [] → ⊥
-    go true b c f = one 1 (codes "command") f
-    go false true c f = one 2 (codes "second") f
-    go false false true f = one 3 (codes "third") f
-    go false false false f = some_kind _ _ f
+step_bad p h bad e = grind (arith, and_false)
 
 pub stuck_trailing : (waiting : Waiting) (p : ℕ) (h : Held) → (settle_at h ≡ [] → ⊥) → (words : List Text)
     → Fails (at waiting p true h) words
@@ -337,8 +271,7 @@ pub after_ends : (waiting : Waiting) (p : ℕ) (h : Held) → subcommand_met [] 
     → Fails (at waiting p false h) ((45 ∷ 45 ∷ []) ∷ rest)
 unfolding walk_fault walked
 after_ends idle p h none rest f = f
-after_ends (option id) p h none rest f = f
-after_ends positional p h none rest f = f
+after_ends waiting p h none rest f = f
 
 turn_fails : (w : Walk) (word : Text) (rest : List Text) → (turn_fault top [] w word ≡ [] → ⊥)
     → Fails w (word ∷ rest)

@@ -10,6 +10,7 @@ use Rattle.flow_grammar.specs.Forms.{only_if}
 use Rattle.std.specs.List.{list_all}
 use Rattle.std.proofs.lemmas.List.{append-nil}
 use Rattle.std.proofs.lemmas.Bool.{and_parts}
+use Rattle.std.proofs.lemmas.Bool.Decides.{nat_tests}
 use Rattle.flow_design.specs.declared.limits.TheConstants.{INPUT_VALUES}
 use Rattle.flow_grammar.specs.declared.fault.Code.{Code}
 use Rattle.flow_grammar.specs.declared.fault.Code.TheVariants.{Syntax, BadNumber, DoubleName, UnknownName, TooMany}
@@ -56,48 +57,10 @@ module _ (t : Tables) where
   plain_known [] = refl
   plain_known (n ∷ ns) = plain_known ns
 
-  abbrev words_if : Bool → List ℕ → Option (List ℕ)
-  words_if b ns = if b then Some ns else None
-
-  abbrev given_by : Bool → Bool → Bool → Name → Option (List ℕ) → Result Statement Code
-  given_by double known room n None = Err BadNumber
-  given_by double known room n (Some values) =
-      if double then Err DoubleName else if not known then Err UnknownName else if room then Ok (Input n values) else Err TooMany
-
-  in_cases : (n : Name) (values : List ℕ) (h r d k m : Bool)
-      → (if h then given_by d k m n (words_if r values) else Err Syntax)
-      ≡ judged (if h then first_broken r (true && not d) (k && true) m else Some Syntax) (Input n values)
-  in_cases n values h r d k m = grind arith
-
-  given_is : (n : Name) (words : Option (List ℕ)) (values : List ℕ) → words ≡ words_within values
-      → input_of_words t n words
-      ≡ given_by (is_among t.inputs n) (is_among t.sources n) (nat_le (t.input_values + length values) INPUT_VALUES) n words
-  given_is n None values h = refl
-  given_is n (Some ws) values h = go (list_all is_plain values) h
-    where
-      go : (b : Bool) → Some ws ≡ words_if b values
-          → input_of_words t n (Some ws)
-          ≡ given_by (is_among t.inputs n) (is_among t.sources n) (nat_le (t.input_values + length values) INPUT_VALUES) n (Some ws)
-      go true k =
-          let e : ws ≡ values = cc in
-          ap
-          (λ (x : List ℕ). given_by (is_among t.inputs n) (is_among t.sources n) (nat_le (t.input_values + length x) INPUT_VALUES) n
-          (Some ws))
-          e
-      go false k = absurd cc
-
   input_is : (n : Name) (values : List ℕ) → input_reading t n (words_within values) ≡ reading_by t (Some (Input n values))
   unfolding fault_by
   input_is n values =
-      (λ i. if takes_inputs t.place then given_is n (words_within values) values refl i else Err Syntax)
-      ∙ in_cases n values (takes_inputs t.place) (list_all is_plain values) (is_among t.inputs n) (is_among t.sources n)
-      (nat_le (t.input_values + length values) INPUT_VALUES)
-      ∙ sym
-      (λ i. judged
-      (if takes_inputs t.place
-      then first_broken (plain_ranged values i) (plain_new values i && not (is_among t.inputs n))
-      (is_among t.sources n && plain_known values i) (nat_le (t.input_values + length values) INPUT_VALUES) else Some Syntax)
-      (Input n values))
+      let ranged = plain_ranged values in let new = plain_new values in let known = plain_known values in grind arith
 
   fits : (b c : Bool) (s : Statement) → b ≡ true → c ≡ true → reading_by t (Some s) ≡ reading_by t (only_if (b && c) s)
   fits b c s h k = grind arith
@@ -132,8 +95,7 @@ module _ {A : Type 0} (f : A → List ℕ) where
   is_numeral all words x rest left e r = (and_parts (is_number (f x)) (list_all is_number (map f rest)) (rw e at r.numerals)).0
 
   is_within : (b : Bool) (n w : ℕ) → (if b then Some n else None) ≡ Some w → (b ≡ true) × (n ≡ w)
-  is_within true n w h = (refl, cc)
-  is_within b n w h = absurd cc
+  is_within b n w h = (grind arith, grind arith)
 
   pub next : (all : List A) (words words' : List ℕ) (x : A) (w : ℕ) (rest left : List A) → left ≡ x ∷ rest
       → number_within 0 (2 ^ 64 - 1) (number_of (f x)) ≡ Some w → words' ≡ words ++ w ∷ []
@@ -150,21 +112,13 @@ module _ {A : Type 0} (f : A → List ℕ) where
       }
 
   is_beyond : (b : Bool) (n : ℕ) → (if b then Some n else None) ≡ None → b ≡ false
-  is_beyond true n h = absurd cc
-  is_beyond false n h = refl
+  is_beyond b n h = grind arith
 
   pub beyond : (all : List A) (words : List ℕ) (x : A) (rest left : List A) → left ≡ x ∷ rest
       → number_within 0 (2 ^ 64 - 1) (number_of (f x)) ≡ None
       → Reading all words left → None ≡ words_within (numbers all)
-  beyond all words x rest left e h r =
-      let q = is_beyond (is_plain (number_of (f x))) (number_of (f x)) h in
-      let d : is_plain (number_of (f x)) && list_all is_plain (numbers rest) ≡ list_all is_plain (numbers all) = rw e at r.passed in
-      let z : list_all is_plain (numbers all) ≡ false = sym d ∙ ap (λ (b : Bool). b && list_all is_plain (numbers rest)) q in
-      ap (λ (b : Bool). if b then Some (numbers all) else None) (sym z)
+  beyond all words x rest left e h r = let passed = rw e at r.passed in grind arith
 
   pub done : (all : List A) (words : List ℕ) (left : List A) → left ≡ [] → Reading all words left → Some words ≡ words_within (numbers all)
   done all words left e r =
-      let s : words ++ [] ≡ numbers all = rw e at r.so_far in
-      let d : true ≡ list_all is_plain (numbers all) = rw e at r.passed in
-      let w : words ≡ numbers all = sym (append-nil words) ∙ s in
-      ap (λ (ws : List ℕ). Some ws) w ∙ ap (λ (b : Bool). if b then Some (numbers all) else None) d
+      let passed = rw e at r.passed in let so_far = rw (e, append-nil) at r.so_far in grind arith

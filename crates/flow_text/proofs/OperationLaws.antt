@@ -50,14 +50,6 @@ two_front f d e (a ∷ b ∷ xs) x y p q h =
     let less : length (a ∷ b ∷ xs) - 2 ≡ length xs = omega arith in
     λ i. sym p i ∷ sym q i ∷ map f (sym (ap (λ (n : ℕ). take n xs) less ∙ take-length xs) i)
 
-and_assoc : (a b c : Bool) → a && (b && c) ≡ (a && b) && c
-and_assoc a b c = grind arith
-
--- what is made of what passed three tests
-made_of : {A B : Type 0} (make : A → B) (ranged known small : Bool) (x : A)
-    → tested ranged known small (make x) ≡ with_tree make (tested ranged known small x)
-made_of make ranged known small x = grind arith
-
 module _ (t : Tables) where
   -- ---- the tests of an expression
 
@@ -119,100 +111,46 @@ module _ (t : Tables) where
 
   -- ---- operations with one expression
 
-  -- the operation fails the first test that its expression fails beside its own names
-  abbrev IsOne : Bool → (Expr Name → Op Name) → Type 0
-  IsOne known make = (e : Expr Name) → op_judged t (make e) ≡ tested (ranged e) (known && familiar e) (is_small e) (make e)
-
-  set_is : (r : Name) → IsOne (is_variable t r) (op.Set r)
-  unfolding op_judged
-  set_is r e = λ i. tested (ranged e) (is_variable t r && variables e i) (is_small e) (op.Set r e)
-
-  load_is : (r m : Name) → IsOne (is_variable t r && is_among t.memories m) (op.Load r m)
-  unfolding op_judged
-  load_is r m e =
-      (λ i. tested (ranged e) (is_variable t r && (is_among t.memories m && variables e i)) (is_small e) (op.Load r m e))
-      ∙ (λ i. tested (ranged e) (and_assoc (is_variable t r) (is_among t.memories m) (familiar e) i) (is_small e) (op.Load r m e))
-
-  write_is : (f : Name) → IsOne (is_among t.channels f) (op.Write f)
-  unfolding op_judged
-  write_is f e = λ i. tested (ranged e) (is_among t.channels f && variables e i) (is_small e) (op.Write f e)
-
-  try_write_is : (f ok : Name) → IsOne (is_among t.channels f && is_variable t ok) (op.TryWrite f ok)
-  unfolding op_judged
-  try_write_is f ok e =
-      (λ i. tested (ranged e) (is_among t.channels f && (is_variable t ok && variables e i)) (is_small e) (op.TryWrite f ok e))
-      ∙ (λ i. tested (ranged e) (and_assoc (is_among t.channels f) (is_variable t ok) (familiar e) i) (is_small e) (op.TryWrite f ok e))
-
-  one_made : (known : Bool) (make : Expr Name → Op Name) → IsOne known make → (trees : Option Trees)
-      → op_reading t (option_map make (one_tree trees)) ≡ made make (tree_reading t known trees)
-  unfolding tree_judged
-  one_made known make is (Some (e ∷ [])) =
-      ap (λ (x : Result (Op Name) Code). Ok x) (is e ∙ made_of make (ranged e) (known && familiar e) (is_small e) e)
-  one_made known make is trees = refl
-
   -- ---- the operation with two
 
-  store_is : (m : Name) (e f : Expr Name)
-      → op_judged t (op.Store m e f)
-      ≡ tested (ranged e && ranged f) (is_among t.memories m && (familiar e && familiar f)) (is_small e && is_small f) (op.Store m e f)
-  unfolding op_judged
-  store_is m e f =
-      λ i. tested (list_all-append is_in_range (expr_parts e) (expr_parts f) i) (is_among t.memories m && both i) (is_small e && is_small f)
-      (op.Store m e f)
-    where
-      both : list_all (is_known t) (expr_parts e ++ expr_parts f) ≡ familiar e && familiar f
-      both = list_all-append (is_known t) (expr_parts e) (expr_parts f) ∙ (λ i. variables e i && variables f i)
-
-  store_made : (m : Name) (trees : Option Trees)
-      → op_reading t (two_trees (op.Store m) trees) ≡ made (store_op m) (trees_reading t (is_among t.memories m) trees)
-  unfolding trees_judged
-  store_made m (Some (e ∷ f ∷ [])) =
-      ap (λ (x : Result (Op Name) Code). Ok x)
-      (store_is m e f
-      ∙ made_of (store_op m) (ranged e && ranged f) (is_among t.memories m && (familiar e && familiar f)) (is_small e && is_small f) (e, f))
-  store_made m trees = refl
-
   -- ---- what tokens give that write such operations
-
-  where_named : (test : Bool) (found : Option (Op Name)) (read : Result (Result (Op Name) Code) Code) → op_reading t found ≡ read
-      → op_reading t (if_then test found) ≡ cond test read (Err Syntax)
-  where_named test found read e = grind arith
 
   pub set_reads : (r : Name) (trees : Option Trees)
       → op_reading t (if_then (is_name r) (option_map (op.Set r) (one_tree trees)))
       ≡ cond (is_name r) (made (op.Set r) (tree_reading t (is_variable t r) trees)) (Err Syntax)
-  set_reads r trees = where_named (is_name r) _ _ (one_made (is_variable t r) (op.Set r) (set_is r) trees)
+  unfolding op_judged tree_judged
+  set_reads r trees = grind (arith, variables)
 
   pub load_reads : (r m : Name) (trees : Option Trees)
       → op_reading t (if_then (is_name r && is_name m) (option_map (op.Load r m) (one_tree trees)))
       ≡ cond (is_name r && is_name m) (made (op.Load r m) (tree_reading t (is_variable t r && is_among t.memories m) trees)) (Err Syntax)
-  load_reads r m trees =
-      where_named (is_name r && is_name m) _ _ (one_made (is_variable t r && is_among t.memories m) (op.Load r m) (load_is r m) trees)
+  unfolding op_judged tree_judged
+  load_reads r m trees = grind (arith, variables)
 
   pub write_reads : (f : Name) (trees : Option Trees)
       → op_reading t (if_then (is_name f) (option_map (op.Write f) (one_tree trees)))
       ≡ cond (is_name f) (made (op.Write f) (tree_reading t (is_among t.channels f) trees)) (Err Syntax)
-  write_reads f trees = where_named (is_name f) _ _ (one_made (is_among t.channels f) (op.Write f) (write_is f) trees)
+  unfolding op_judged tree_judged
+  write_reads f trees = grind (arith, variables)
 
   pub try_write_reads : (f ok : Name) (trees : Option Trees)
       → op_reading t (if_then (is_name f && is_name ok) (option_map (op.TryWrite f ok) (one_tree trees)))
       ≡ cond (is_name f && is_name ok) (made (op.TryWrite f ok) (tree_reading t (is_among t.channels f && is_variable t ok) trees))
       (Err Syntax)
-  try_write_reads f ok trees =
-      where_named (is_name f && is_name ok) _ _
-      (one_made (is_among t.channels f && is_variable t ok) (op.TryWrite f ok) (try_write_is f ok) trees)
+  unfolding op_judged tree_judged
+  try_write_reads f ok trees = grind (arith, variables)
 
   pub store_reads : (m : Name) (trees : Option Trees)
       → op_reading t (if_then (is_name m) (two_trees (op.Store m) trees))
       ≡ cond (is_name m) (made (store_op m) (trees_reading t (is_among t.memories m) trees)) (Err Syntax)
-  store_reads m trees = where_named (is_name m) _ _ (store_made m trees)
+  unfolding op_judged trees_judged
+  store_reads m trees = grind (arith, variables, list_all-append)
 
   -- ---- operations on names alone
 
   pub two_names_is : (which : TwoNames) (f r : Name)
       → op_judged t (op_of_names which f r) ≡ named_op (is_among t.channels f && is_variable t r) (op_of_names which f r)
   unfolding op_judged
-  two_names_is two.Read f r = grind arith
   two_names_is which f r = grind arith
 
   -- the read with an outcome
@@ -235,9 +173,6 @@ module _ (t : Tables) where
   abbrev NoneNew : List Part → Type 0
   NoneNew ps = list_all (is_new t) ps ≡ true
 
-  none_new_append : (xs ys : List Part) → NoneNew xs → NoneNew ys → NoneNew (xs ++ ys)
-  none_new_append xs ys h k = list_all-append (is_new t) xs ys ∙ (λ i. h i && k i)
-
   expr_new : (e : Expr Name) → NoneNew (expr_parts e)
   expr_new e = same_tests (is_new t) (λ p. true) (λ w. refl) (λ least most n. refl) (λ x. refl) e ∙ all_pass (expr_parts e)
     where
@@ -246,46 +181,13 @@ module _ (t : Tables) where
       all_pass (p ∷ ps) = all_pass ps
 
   op_new : (o : Op Name) → NoneNew (op_parts o)
-  op_new (op.Set r e) = expr_new e
-  op_new (op.Load r m e) = expr_new e
-  op_new (op.Store m e f) = none_new_append (expr_parts e) (expr_parts f) (expr_new e) (expr_new f)
-  op_new (op.Read f r) = refl
-  op_new (op.Write f e) = expr_new e
-  op_new (op.TryRead f r ok) = refl
-  op_new (op.TryWrite f ok e) = expr_new e
-  op_new (op.Empty f r) = refl
-  op_new (op.Full f r) = refl
-
-  in_cases : (n : ℕ) (g : Option Name) (o : Op Name) (h rn r kg k m s : Bool)
-      → timed_by h m (if rn then Some n else None) g kg (tested r k s o)
-      ≡ judged (if h then first_broken (rn && r) (true && true) (kg && k) (m && s) else Some Syntax) (At n g o)
-  in_cases n g o h rn r kg k m s = grind arith
-
-  abbrev ranged_offset : ℕ → Bool
-  ranged_offset n = nat_le 0 n && nat_le n (2 ^ 64 - 1)
+  op_new (op.Set r e) = grind (arith, expr_new, list_all-append)
+  op_new o = grind (arith, expr_new, list_all-append)
 
   timed_is : (n : ℕ) (g : Option Name) (o : Op Name)
       → timed_reading t (number_within 0 (2 ^ 64 - 1) n) g (guard_known t g) (op_judged t o) ≡ reading_by t (Some (At n g o))
   unfolding op_judged fault_by
-  timed_is n None o =
-      in_cases n None o (takes_operations t.place) (ranged_offset n) (list_all is_in_range (op_parts o)) true
-      (list_all (is_known t) (op_parts o)) (nat_lt t.operations OPERATIONS) (has_small_trees o)
-      ∙ ap
-      (λ (b : Bool). judged
-      (if takes_operations t.place
-      then first_broken (ranged_offset n && list_all is_in_range (op_parts o)) (b && true) (list_all (is_known t) (op_parts o))
-      (nat_lt t.operations OPERATIONS && has_small_trees o) else Some Syntax) (At n None o))
-      (sym (op_new o))
-  timed_is n (Some r) o =
-      in_cases n (Some r) o (takes_operations t.place) (ranged_offset n) (list_all is_in_range (op_parts o)) (is_variable t r)
-      (list_all (is_known t) (op_parts o)) (nat_lt t.operations OPERATIONS) (has_small_trees o)
-      ∙ ap
-      (λ (b : Bool). judged
-      (if takes_operations t.place
-      then first_broken (ranged_offset n && list_all is_in_range (op_parts o)) (b && true)
-      (is_variable t r && list_all (is_known t) (op_parts o)) (nat_lt t.operations OPERATIONS && has_small_trees o)
-      else Some Syntax) (At n (Some r) o))
-      (sym (op_new o))
+  timed_is n g o = let none = op_new o in grind arith
 
   at_read : (n : ℕ) (g : Option Name) (found : Option (Op Name)) (o : Result (Op Name) Code)
       → op_reading t found ≡ Ok o

@@ -28,15 +28,8 @@ use Rattle.flow_text.specs.Progress.{IsKept, IsOpening, IsAdded, with_front, IsT
 
 -- ---- a line by the tables
 
-said_judged : (c : Option Code) (s : Statement) → said_by (judged c s) ≡ judged c (Some s)
-said_judged None s = refl
-said_judged (Some c) s = refl
-
 said_same : (s : Option Statement) (earlier : List Statement) → said_by (reading_by (tables_of earlier) s) ≡ judged (form_fault earlier s) s
-said_same None earlier = refl
-said_same (Some s) earlier =
-    said_judged (form_fault_by (tables_of earlier) (Some s)) s
-    ∙ ap (λ (c : Option Code). judged c (Some s)) (form_fault_same (Some s) earlier)
+said_same s earlier = let same = form_fault_same s earlier in grind arith
 
 tokens_same : (tokens : List Token) (earlier : List Statement)
     → tokens_reading_by (tables_of earlier) tokens ≡ judged (tokens_fault earlier tokens) (statement_of (version earlier) tokens)
@@ -44,15 +37,9 @@ unfolding tokens_reading_by statement_of tables_of
 tokens_same [] earlier = refl
 tokens_same (x ∷ xs) earlier = said_same (statement_of (version earlier) (x ∷ xs)) earlier
 
-permitted_same : (permitted : Bool) (tokens : List Token) (earlier : List Statement)
-    → (if permitted then tokens_reading_by (tables_of earlier) tokens else Err NotAscii)
-    ≡ judged (if permitted then tokens_fault earlier tokens else Some NotAscii) (statement_of (version earlier) tokens)
-permitted_same true tokens earlier = tokens_same tokens earlier
-permitted_same false tokens earlier = refl
-
 pub line_same : (before : List Statement) (line : Line) → line_reading_by (tables_of (reverse before)) line ≡ line_reading before line
 unfolding line_reading_by line_reading line_fault statement_in
-line_same before line = permitted_same (list_all is_permitted line) (tokens_of line) (reverse before)
+line_same before line = let same = tokens_same (tokens_of line) (reverse before) in grind arith
 
 -- ---- the tables behind a line
 
@@ -88,8 +75,7 @@ pub record Reaches (text : List ℕ) (p : Progress) (n : ℕ) (left : Option (Li
   pub so_far : with_front p.statements p.numbers (reading p.statements n (lines_left left)) ≡ reading [] 0 (lines_of text)
 
 front_nil : (read : Result Read TextFault) → with_front [] [] read ≡ read
-front_nil (Ok r) = refl
-front_nil (Err e) = refl
+front_nil read = grind arith
 
 pub begins : (text : List ℕ) (p : Progress) → IsOpening p → Reaches text p 0 (Some text)
 begins text p o =
@@ -103,9 +89,7 @@ begins text p o =
 regroup : (statements : List Statement) (numbers : List ℕ) (n : ℕ) (statement : Option Statement) (read : Result Read TextFault)
     → with_front statements numbers (read >>= λ r. Ok (in_front n statement r))
     ≡ with_front (with_statement statements statement) (with_number numbers n statement) read
-regroup statements numbers n statement (Err f) = refl
-regroup statements numbers n None (Ok r) = refl
-regroup statements numbers n (Some s) (Ok r) = simp append_assoc
+regroup statements numbers n statement read = grind (arith, append_assoc)
 
 goes_on : (statements : List Statement) (numbers : List ℕ) (n : ℕ) (line : Line) (lines : List Line) (statement : Option Statement)
     (total : Result Read TextFault)
@@ -116,10 +100,8 @@ goes_on : (statements : List Statement) (numbers : List ℕ) (n : ℕ) (line : L
     ≡ total
 unfolding reading
 goes_on statements numbers n line lines statement total h so_far =
-    let one : with_front statements numbers (reading statements n (line ∷ lines))
-    ≡ with_front statements numbers
-    (reading (with_statement statements statement) (n + 1) lines >>= λ r. Ok (in_front (n + 1) statement r)) = rw h refl in
-    sym (regroup statements numbers (n + 1) statement (reading (with_statement statements statement) (n + 1) lines)) ∙ sym one ∙ so_far
+    let rest = reading (with_statement statements statement) (n + 1) lines in
+    sym (regroup statements numbers (n + 1) statement rest) ∙ (rw h at so_far)
 
 stops : (e : ReadFail) (statements : List Statement) (numbers : List ℕ) (n : ℕ) (line : Line) (lines : List Line)
     (total : Result Read TextFault)
@@ -127,9 +109,7 @@ stops : (e : ReadFail) (statements : List Statement) (numbers : List ℕ) (n : �
     → with_front statements numbers (reading statements n (line ∷ lines)) ≡ total → TextFails e total
 unfolding reading
 stops fails.OutOfMemory statements numbers n line lines total h so_far = tt
-stops (fails.Text fault) statements numbers n line lines total h so_far =
-    let one : with_front statements numbers (reading statements n (line ∷ lines)) ≡ Err fault = rw h refl in
-    sym so_far ∙ one
+stops (fails.Text fault) statements numbers n line lines total h so_far = sym (rw h at so_far)
 
 -- one line more
 pub next : (text : List ℕ) (p q : Progress) (n : ℕ) (left behind : Option (List ℕ)) (rest line : List ℕ)

@@ -1,7 +1,7 @@
 -- FIFOs without their delay or depth, and the values of an input.
-use Rattle.std.proofs.Common.{◌≡◌, ℕ, List, Bool, true, false, refl, arith, ◌+◌, ◌-◌, ◌^◌, [], ◌∷◌, ◌++◌, map, length, Option, None, Some}
-use Rattle.std.proofs.Common.{Result, Ok, Err, sym, ap, subst, ◌∙◌, append_assoc}
-use Rattle.std.specs.Prelude.{codes, ◌&&◌, not, if◌then◌else◌, nat_le}
+use Rattle.std.proofs.Common.{◌≡◌, ℕ, List, Bool, true, false, refl, arith, ◌-◌, ◌^◌, [], ◌∷◌, ◌++◌, map, Option, None, Some}
+use Rattle.std.proofs.Common.{Result, sym, ap, subst, ◌∙◌, append_assoc}
+use Rattle.std.specs.Prelude.{codes, ◌&&◌, if◌then◌else◌}
 use Rattle.flow_design.specs.declared.session.Statement.{Statement}
 use Rattle.flow_design.specs.declared.session.Statement.TheVariants.{Fifo, Input}
 use Rattle.flow_grammar.specs.Parts.{default_depth, default_delay, Name, plain}
@@ -10,19 +10,14 @@ use Rattle.flow_grammar.specs.Forms.{only_if}
 use Rattle.std.specs.List.{list_all}
 use Rattle.std.proofs.lemmas.List.{append-nil}
 use Rattle.std.proofs.lemmas.Bool.{and_parts}
-use Rattle.std.proofs.lemmas.Bool.Decides.{nat_tests}
-use Rattle.flow_design.specs.declared.limits.TheConstants.{INPUT_VALUES}
 use Rattle.flow_grammar.specs.declared.fault.Code.{Code}
-use Rattle.flow_grammar.specs.declared.fault.Code.TheVariants.{Syntax, BadNumber, DoubleName, UnknownName, TooMany}
 use Rattle.flow_grammar.specs.declared.fault.LineFail.{LineFail}
-use Rattle.flow_grammar.specs.Before.{is_among}
-use Rattle.flow_grammar.specs.Rules.{is_in_range, first_broken}
-use Rattle.flow_grammar.specs.Gives.{LineGives, judged}
+use Rattle.flow_grammar.specs.Rules.{is_in_range}
+use Rattle.flow_grammar.specs.Gives.{LineGives}
 use Rattle.flow_grammar.specs.Numbers.{number_within}
 use Rattle.name_tables.specs.declared.tables.Tables.{Tables}
-use Rattle.flow_grammar.specs.Places.{takes_inputs}
 use Rattle.name_tables.specs.TableTests.{is_new, is_known, fault_by, reading_by}
-use Rattle.flow_text.specs.Inputs.{is_plain, words_within, input_of_words, input_reading}
+use Rattle.flow_text.specs.Inputs.{is_plain, words_within, input_reading}
 
 module _ (n w : List ℕ) where
   -- the tests of a FIFO whose depth and delay are these tokens, and the FIFO

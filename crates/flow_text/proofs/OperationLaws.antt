@@ -1,38 +1,35 @@
 -- What is kept of expressions and operations is the first test that they fail.
-use Rattle.std.proofs.Common.{◌≡◌, List, [], ◌∷◌, ◌++◌, map, Bool, true, false, cond, Option, None, Some, Result, Ok, refl, sym, ap, ◌∙◌}
+use Rattle.std.proofs.Common.{◌≡◌, List, [], ◌∷◌, map, Bool, true, false, cond, Option, None, Some, Result, Ok, refl, sym, ap, ◌∙◌}
 use Rattle.std.proofs.Common.{arith, Err, ◌<◌, ◌≤◌, length, ℕ, ◌-◌, ◌^◌, subst, drop, get_or, take}
 use Rattle.std.proofs.Math.Seq.{take-length}
-use Rattle.std.specs.Prelude.{◌&&◌, not, option_map, if◌then◌else◌, nat_lt, nat_le}
+use Rattle.std.specs.Prelude.{◌&&◌, option_map}
 use Rattle.std.specs.List.{list_all}
 use Rattle.flow_design.specs.declared.expr.Expr.{Expr}
 use Rattle.flow_design.specs.declared.expr.Op.{Op}
 use Rattle.flow_grammar.specs.declared.fault.Code.{Code}
-use Rattle.flow_grammar.specs.declared.fault.Code.TheVariants.{BadNumber, UnknownName, TooMany, Syntax, DoubleName}
+use Rattle.flow_grammar.specs.declared.fault.Code.TheVariants.{Syntax}
 use Rattle.flow_grammar.specs.declared.operand.Operand.{Operand}
 use Rattle.flow_grammar.specs.Parts.{Name, Part, expr_parts, op_parts}
 use Rattle.flow_grammar.specs.Before.{is_among}
-use Rattle.flow_grammar.specs.Rules.{is_in_range, is_small, has_small_trees, first_broken}
+use Rattle.flow_grammar.specs.Rules.{is_in_range}
 use Rattle.flow_grammar.specs.Tokens.{is_name, Token}
 use Rattle.flow_grammar.specs.Forms.{one_tree, two_trees, if_then, guarded_of, op_of}
 use Rattle.flow_grammar.specs.Trees.{Trees}
 use Rattle.flow_grammar.specs.Operands.{kept, is_known_by, earlier}
-use Rattle.flow_grammar.specs.Gives.{only_operand, both_operands, LineGives, judged}
+use Rattle.flow_grammar.specs.Gives.{only_operand, both_operands, LineGives}
 use Rattle.flow_grammar.proofs.SpellingLaws.{same_tests}
 use Rattle.std.proofs.lemmas.List.Folds.{list_all-append}
 use Rattle.name_tables.specs.declared.tables.Tables.{Tables}
 use Rattle.name_tables.specs.TableTests.{is_known, is_new, fault_by, reading_by}
 use Rattle.flow_text.specs.declared.operations.TwoNames.{TwoNames}
-use Rattle.flow_text.specs.Operations.{tested, tree_judged, trees_judged, op_judged, tree_reading, trees_reading, op_reading, tree_kept}
-use Rattle.flow_text.specs.Operations.{trees_kept, made, with_tree, store_op, op_of_names, named_op, is_variable, timed_by, timed_reading}
+use Rattle.flow_text.specs.Operations.{tree_judged, trees_judged, op_judged, tree_reading, trees_reading, op_reading, tree_kept}
+use Rattle.flow_text.specs.Operations.{trees_kept, made, store_op, op_of_names, named_op, is_variable, timed_reading}
 use Rattle.flow_text.specs.Operations.{guard_known}
-use Rattle.flow_design.specs.declared.limits.TheConstants.{OPERATIONS}
 use Rattle.flow_design.specs.declared.session.Statement.{Statement}
 use Rattle.flow_design.specs.declared.session.Statement.TheVariants.{At}
 use Rattle.flow_grammar.specs.declared.fault.LineFail.{LineFail}
 use Rattle.flow_grammar.specs.Numbers.{number_within}
-use Rattle.flow_grammar.specs.Places.{takes_operations}
 use Rattle.flow_design.specs.declared.expr.Op.TheVariants as op
-use Rattle.flow_text.specs.declared.operations.TwoNames.TheVariants as two
 
 -- tokens by the names in front of them, and the others
 pub one_front : {A : Type 0} (f : A → Token) (d : A) (xs : List A) (x : Token) → x ≡ f (get_or xs 0 d) → 1 ≤ length xs

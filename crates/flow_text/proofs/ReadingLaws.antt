@@ -1,16 +1,14 @@
 -- Reading the lines one after the other, with the tables of the statements before each.
-use Rattle.std.proofs.Common.{◌≡◌, ℕ, ◌+◌, ◌≤◌, List, [], ◌∷◌, length, Option, None, Some, Result, Ok, Err, Bool, true, false, refl, sym}
+use Rattle.std.proofs.Common.{◌≡◌, ℕ, ◌+◌, ◌≤◌, List, [], ◌∷◌, length, Option, None, Some, Result, Ok, true, false, refl, sym}
 use Rattle.std.proofs.Common.{ap, subst, ◌∙◌, append_assoc, arith}
-use Rattle.std.specs.Prelude.{reverse, if◌then◌else◌}
-use Rattle.std.specs.List.{list_all}
+use Rattle.std.specs.Prelude.{reverse}
 use Rattle.std.proofs.lemmas.List.{append-nil, reverse-append}
 use Rattle.flow_design.specs.declared.session.Statement.{Statement}
 use Rattle.flow_grammar.specs.declared.fault.Code.{Code}
-use Rattle.flow_grammar.specs.declared.fault.Code.TheVariants.{NotAscii}
 use Rattle.flow_grammar.specs.declared.fault.TextFault.{TextFault}
 use Rattle.flow_grammar.specs.declared.fault.ReadFail.{ReadFail}
 use Rattle.flow_grammar.specs.declared.fault.ReadFail.TheVariants as fails
-use Rattle.flow_grammar.specs.Tokens.{Line, Token, lines_of, tokens_of, is_permitted}
+use Rattle.flow_grammar.specs.Tokens.{Line, Token, lines_of, tokens_of}
 use Rattle.flow_grammar.specs.Forms.{statement_of}
 use Rattle.flow_grammar.specs.Line.{form_fault, tokens_fault, statement_in, line_fault}
 use Rattle.flow_grammar.specs.Before.{version}
@@ -20,7 +18,7 @@ use Rattle.flow_grammar.specs.Gives.{◌>>=◌, Read, judged, reading, at_line, 
 use Rattle.flow_grammar.specs.Gives.{TextFails}
 use Rattle.name_tables.specs.declared.tables.Tables.{Tables}
 use Rattle.name_tables.specs.TablesOf.{tables_of}
-use Rattle.name_tables.specs.TableTests.{form_fault_by, reading_by}
+use Rattle.name_tables.specs.TableTests.{reading_by}
 use Rattle.name_tables.proofs.TableLaws.{form_fault_same, accepted_same}
 use Rattle.flow_text.specs.Lines.{said_by, tokens_reading_by, line_reading_by, accepted_if, lines_left, bytes_left}
 use Rattle.flow_text.specs.declared.progress.Progress.{Progress}

@@ -1,7 +1,7 @@
 -- The token of each part of a statement that keeps the rules is printed whole, and spells the part.
-use Rattle.std.proofs.Common.{◌≡◌, ℕ, ◌+◌, ◌<◌, ◌≤◌, ◌^◌, ◌%◌, List, [], ◌∷◌, ◌++◌, map, length, Bool, true, false, not, Option, None, Some}
-use Rattle.std.proofs.Common.{refl, sym, ◌∙◌, arith}
-use Rattle.std.specs.Prelude.{if◌then◌else◌, ◌==◌, nat_le, nat_lt}
+use Rattle.std.proofs.Common.{◌≡◌, ℕ, ◌+◌, ◌<◌, ◌≤◌, ◌^◌, ◌%◌, List, [], ◌∷◌, ◌++◌, map, length, Bool, true, not, Option}
+use Rattle.std.proofs.Common.{refl, ◌∙◌, arith}
+use Rattle.std.specs.Prelude.{◌==◌, nat_lt}
 use Rattle.std.specs.Char.{is_ascii_digit}
 use Rattle.std.specs.Fmt.{decimal}
 use Rattle.std.specs.List.{list_all}
@@ -17,13 +17,11 @@ use Rattle.flow_design.specs.declared.expr.BinOp.{BinOp}
 use Rattle.flow_design.specs.declared.expr.BinOp.TheVariants.{Add}
 use Rattle.flow_design.specs.declared.expr.Op.{Op}
 use Rattle.flow_design.specs.declared.expr.Op.TheVariants as op
-use Rattle.flow_design.specs.declared.limits.TheConstants.{FIFO_DELAY}
 use Rattle.flow_design.specs.declared.session.Statement.{Statement}
 use Rattle.flow_design.specs.declared.session.Statement.TheVariants.{Fifo, At, Input}
-use Rattle.flow_design.specs.Names.{is_name_byte, begins_with_letter}
-use Rattle.flow_grammar.specs.Tokens.{Token, is_filled, is_no_comment, is_number, is_name, number_of}
-use Rattle.flow_grammar.specs.Parts.{Name, Part, Word, New, Use, Label, Num, parts, op_parts, guard_parts, expr_parts, plain, depth_parts}
-use Rattle.flow_grammar.specs.Before.{has_delays}
+use Rattle.flow_design.specs.Names.{is_name_byte}
+use Rattle.flow_grammar.specs.Tokens.{Token, is_filled, is_number, is_name, number_of}
+use Rattle.flow_grammar.specs.Parts.{Name, Part, Word, New, Use, Label, Num, parts, op_parts, guard_parts, expr_parts, plain}
 use Rattle.flow_grammar.specs.Operators.{binary_word}
 use Rattle.flow_grammar.specs.Spelling.{Spells, Spelled}
 use Rattle.flow_grammar.specs.Rules.{is_well_named, is_in_range}
@@ -42,22 +40,15 @@ digit_visible b h = grind (arith, nat_tests)
 
 digit_behind : (ds : List ℕ) (b : ℕ) → list_all is_ascii_digit ds ≡ true → is_ascii_digit b ≡ true
     → list_all is_ascii_digit (ds ++ b ∷ []) ≡ true
-digit_behind [] b h k = and_from (is_ascii_digit b) true k refl
-digit_behind (d ∷ ds) b h k =
-    let p = and_parts _ _ h in
-    and_from (is_ascii_digit d) (list_all is_ascii_digit (ds ++ b ∷ [])) p.0 (digit_behind ds b p.1 k)
-
-last_digit : (n : ℕ) → n % 10 < 10
-last_digit n = omega arith
+digit_behind ds b h k = let both = list_all-append is_ascii_digit ds (b ∷ []) in grind arith
 
 digits_all : (n : ℕ) → n < 2 ^ 64 → list_all is_ascii_digit (decimal n) ≡ true
 digits_all n h = decimal_by_steps (λ _ ds. list_all is_ascii_digit ds ≡ true)
     (λ m l. and_from (is_ascii_digit (48 + m)) true (digit_is m l) refl)
-    (λ m ds l rest. digit_behind ds (48 + m % 10) rest (digit_is (m % 10) (last_digit m))) n h
+    (λ m ds l rest. digit_behind ds (48 + m % 10) rest (digit_is (m % 10) (omega arith))) n h
 
 filled_of : (t : Token) → 0 < length t → is_filled t ≡ true
-filled_of [] h = absurd (omega arith)
-filled_of (b ∷ bs) h = refl
+filled_of t h = grind arith
 
 no_hash : (b : ℕ) → is_ascii_digit b ≡ true → not (b == 35) ≡ true
 no_hash b h = grind (arith, nat_tests)
@@ -66,18 +57,16 @@ digits_printed : (t : Token) → 0 < length t → list_all is_ascii_digit t ≡ 
 unfolding is_printed
 digits_printed [] h k = absurd (omega arith)
 digits_printed (b ∷ bs) h k =
-    and_from (is_no_comment (b ∷ bs)) (list_all is_visible (b ∷ bs))
-    (no_hash b (and_parts _ _ k).0) (all_of is_ascii_digit is_visible digit_visible (b ∷ bs) k)
+    let visible = all_of is_ascii_digit is_visible digit_visible (b ∷ bs) k in let first = no_hash b in grind arith
 
 number_printed : (n : ℕ) → n < 2 ^ 64 → is_printed (decimal n) ≡ true
 number_printed n h = digits_printed (decimal n) (decimal_nonempty n h) (digits_all n h)
 
 number_spelled : (n : ℕ) → n < 2 ^ 64 → (is_number (decimal n) ≡ true) × (number_of (decimal n) ≡ n)
 unfolding is_number
-number_spelled n h = (
-  and_from (is_filled (decimal n)) (list_all is_ascii_digit (decimal n)) (filled_of (decimal n) (decimal_nonempty n h)) (digits_all n h),
-  (decimal_is_IsNumeral n h).1,
-)
+number_spelled n h =
+    let filled = filled_of (decimal n) (decimal_nonempty n h) in let digits = digits_all n h in
+    (grind arith, (decimal_is_IsNumeral n h).1)
 
 -- ---- names
 
@@ -91,10 +80,7 @@ name_printed : (t : Token) → is_name t ≡ true → is_printed t ≡ true
 unfolding is_name is_printed
 name_printed [] h = absurd cc
 name_printed (b ∷ bs) h =
-    let p = and_parts _ _ h in let q = and_parts _ _ p.1 in
-    and_from (is_no_comment (b ∷ bs)) (list_all is_visible (b ∷ bs))
-    (letter_no_hash b (and_parts _ _ q.0).0)
-    (all_of is_name_byte is_visible letter_visible (b ∷ bs) q.0)
+    let visible = all_of is_name_byte is_visible letter_visible (b ∷ bs) in let first = letter_no_hash b in grind arith
 
 -- ---- parts
 
@@ -121,9 +107,9 @@ pub parts_printed : (ps : List Part) → list_all is_fit ps ≡ true → list_al
     → (list_all is_printed (map token_of ps) ≡ true) × Spelled (map token_of ps) ps
 parts_printed [] f n r = (refl, tt)
 parts_printed (p ∷ ps) f n r =
-    let f' = and_parts _ _ f in let n' = and_parts _ _ n in let r' = and_parts _ _ r in let here = part_printed p f'.0 n'.0 r'.0 in
-    let rest = parts_printed ps f'.1 n'.1 r'.1 in
-    (and_from (is_printed (token_of p)) (list_all is_printed (map token_of ps)) here.0 rest.0, (here.1, rest.1))
+    let here = part_printed p (grind arith) (grind arith) (grind arith) in
+    let rest = parts_printed ps (grind arith) (grind arith) (grind arith) in
+    (and_from _ _ here.0 rest.0, (here.1, rest.1))
 
 fit_append : (ps qs : List Part) → list_all is_fit ps ≡ true → list_all is_fit qs ≡ true → list_all is_fit (ps ++ qs) ≡ true
 fit_append ps qs h k = list_all-append is_fit ps qs ∙ and_from (list_all is_fit ps) (list_all is_fit qs) h k
@@ -157,16 +143,11 @@ fit_expr = by_cases Name Fit (record {
 fit_op : (o : Op Name) → list_all is_fit (op_parts o) ≡ true
 unfolding is_printed
 fit_op (op.Set r e) = fit_expr e
-fit_op (op.Load r m e) = fit_expr e
-fit_op (op.Store m e f) = fit_append (expr_parts e) (expr_parts f) (fit_expr e) (fit_expr f)
-fit_op (op.Write f e) = fit_expr e
-fit_op (op.TryWrite f ok e) = fit_expr e
-fit_op o = refl
+fit_op o = grind (arith, fit_expr, list_all-append)
 
 fit_guard : (guard : Option Name) → list_all is_fit (guard_parts guard) ≡ true
 unfolding is_printed
-fit_guard None = refl
-fit_guard (Some r) = refl
+fit_guard guard = grind arith
 
 fit_values : (values : List ℕ) → list_all is_fit (map plain values) ≡ true
 fit_values [] = refl
@@ -176,23 +157,11 @@ fit_values (v ∷ values) = fit_values values
 module _ (version : ℕ) where
   pub fit_parts : (s : Statement) → list_all is_fit (written_parts version s) ≡ true
   unfolding is_printed
-  fit_parts (Fifo n w depth delay) = go (has_delays version)
-    where
-      go : (b : Bool) → list_all is_fit (if b then parts (Fifo n w depth delay) else depth_parts n w depth) ≡ true
-      go true = refl
-      go false = refl
+  fit_parts (Fifo n w depth delay) = grind arith
   fit_parts (At off guard o) = fit_append (guard_parts guard) (op_parts o) (fit_guard guard) (fit_op o)
   fit_parts (Input n values) = fit_values values
   fit_parts s = refl
 
   pub written_pass : (test : Part → Bool) (s : Statement) → list_all test (parts s) ≡ true → list_all test (written_parts version s) ≡ true
-  written_pass test (Fifo n w depth delay) h = go (has_delays version) h
-    where
-      go : (b : Bool) → list_all test (parts (Fifo n w depth delay)) ≡ true
-          → list_all test (if b then parts (Fifo n w depth delay) else depth_parts n w depth) ≡ true
-      go true k = k
-      go false k =
-          let last : List Part = Num 1 FIFO_DELAY delay ∷ [] in
-          (and_parts (list_all test (depth_parts n w depth)) (list_all test last)
-          (sym (list_all-append test (depth_parts n w depth) last) ∙ k)).0
+  written_pass test (Fifo n w depth delay) h = grind arith
   written_pass test s h = h

@@ -1,6 +1,6 @@
 -- The canonical text of a session that keeps the rules stands for that session.
-use Rattle.std.proofs.Common.{◌≡◌, ℕ, suc, ◌+◌, ◌≤◌, List, [], ◌∷◌, ◌++◌, map, length, take, Bool, true, false, cond, not, Option, None}
-use Rattle.std.proofs.Common.{Some, refl, sym, ap, subst, ◌∙◌, append_assoc, append-nil, inl, inr}
+use Rattle.std.proofs.Common.{◌≡◌, ℕ, suc, ◌+◌, ◌≤◌, List, [], ◌∷◌, ◌++◌, map, length, take, Bool, true, false, None}
+use Rattle.std.proofs.Common.{Some, refl, sym, ap, subst, ◌∙◌, append_assoc, append-nil, inl, inr, arith}
 use Rattle.std.specs.Prelude.{slice_get, reverse, ◌==◌, ◌||◌, if◌then◌else◌}
 use Rattle.std.proofs.lemmas.Bool.{eqb-true}
 use Rattle.std.proofs.lemmas.List.{reverse-append}
@@ -8,8 +8,6 @@ use Rattle.flow_design.specs.declared.limits.TheConstants.{TEXT_BYTES}
 use Rattle.flow_design.specs.declared.session.Statement.TheVariants.{Flow, Fifo}
 use Rattle.std.specs.List.{list_all, join_with_byte, range_with_len}
 use Rattle.flow_design.specs.declared.session.Statement.{Statement}
-use Rattle.flow_grammar.specs.declared.fault.Code.{Code}
-use Rattle.flow_grammar.specs.declared.fault.Code.TheVariants.{BadNumber}
 use Rattle.flow_grammar.specs.Tokens.{Line, Token, lines_of, tokens_of}
 use Rattle.flow_grammar.specs.Before.{version, has_delays}
 use Rattle.flow_grammar.specs.Places.{may_follow}
@@ -27,11 +25,7 @@ use Rattle.flow_print.proofs.PartLemmas.{parts_printed, fit_parts, written_pass}
 
 range_of : (earlier : List Statement) (s : Statement) → statement_fault earlier s ≡ None → list_all is_in_range (parts s) ≡ true
 unfolding statement_fault
-range_of earlier s h = go (list_all is_in_range (parts s)) _ h
-  where
-    go : (b : Bool) (rest : Option Code) → cond (not b) (Some BadNumber) rest ≡ None → b ≡ true
-    go true rest e = refl
-    go false rest e = absurd cc
+range_of earlier s h = grind arith
 
 -- a statement of the version is written by what is printed of it
 writes_printed : (v : ℕ) (ts : List Token) (s : Statement) → fits_version v s ≡ true → Spelled ts (written_parts v s) → Writes v ts s

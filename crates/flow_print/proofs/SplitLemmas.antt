@@ -1,11 +1,11 @@
 -- The lines and the tokens of texts that are put together from tokens without spaces.
-use Rattle.std.proofs.Common.{◌≡◌, ℕ, List, [], ◌∷◌, ◌++◌, map, Bool, true, false, not, refl, ap, ◌∙◌, append_assoc, arith}
+use Rattle.std.proofs.Common.{◌≡◌, ℕ, List, [], ◌∷◌, ◌++◌, map, Bool, true, not, refl, ap, ◌∙◌, append_assoc, arith}
 use Rattle.std.specs.Prelude.{◌&&◌, nat_le, filter, take_while}
-use Rattle.std.specs.List.{list_all, slice_split, join_with_byte, onto_first}
+use Rattle.std.specs.List.{list_all, slice_split, join_with_byte}
 use Rattle.std.proofs.lemmas.List.Folds.{list_all-append}
 use Rattle.std.proofs.lemmas.List.Splits.{slice_split-cons_yes, slice_split-cons_no}
 use Rattle.std.proofs.lemmas.List.Sums.{take_while-cons}
-use Rattle.std.proofs.lemmas.Bool.{and_parts, and_from}
+use Rattle.std.proofs.lemmas.Bool.{and_parts}
 use Rattle.std.proofs.lemmas.Bool.Decides.{nat_tests}
 use Rattle.flow_grammar.specs.Tokens.{Token, is_line_feed, is_separator, is_permitted, is_filled, is_no_comment, lines_of, tokens_of}
 use Rattle.report_text.specs.Lines.{text_of_lines}
@@ -16,35 +16,24 @@ module _ (p : ℕ → Bool) where
   abbrev pub is_other : ℕ → Bool
   is_other b = not (p b)
 
-  other_fails : (b : ℕ) → is_other b ≡ true → p b ≡ false
-  other_fails b h = go (p b) h
-    where
-      go : (x : Bool) → not x ≡ true → x ≡ false
-      go true e = absurd cc
-      go false e = refl
-
   -- the front up to the first byte that splits
   pub split_front : (w : List ℕ) (x : ℕ) (rest : List ℕ) → list_all is_other w ≡ true → p x ≡ true
       → slice_split p (w ++ x ∷ rest) ≡ w ∷ slice_split p rest
   split_front [] x rest h e = slice_split-cons_yes p x rest e
   split_front (b ∷ w) x rest h e =
-      let parts = and_parts (is_other b) (list_all is_other w) h in
-      slice_split-cons_no p b (w ++ x ∷ rest) (other_fails b parts.0) ∙ ap (onto_first b) (split_front w x rest parts.1 e)
+      let later = split_front w x rest in let more = slice_split-cons_no p b (w ++ x ∷ rest) in grind arith
 
   -- no byte that splits
   split_alone : (w : List ℕ) → list_all is_other w ≡ true → slice_split p w ≡ w ∷ []
   split_alone [] h = refl
-  split_alone (b ∷ w) h =
-      let parts = and_parts (is_other b) (list_all is_other w) h in
-      slice_split-cons_no p b w (other_fails b parts.0) ∙ ap (onto_first b) (split_alone w parts.1)
+  split_alone (b ∷ w) h = let later = split_alone w in let more = slice_split-cons_no p b w in grind arith
 
   -- what is joined by a byte that splits
   pub split_joined : (x : ℕ) → p x ≡ true → (t : List ℕ) (ts : List (List ℕ)) → list_all (list_all is_other) (t ∷ ts) ≡ true
       → slice_split p (join_with_byte x (t ∷ ts)) ≡ t ∷ ts
-  split_joined x e t [] h = split_alone t (and_parts (list_all is_other t) true h).0
+  split_joined x e t [] h = let alone = split_alone t in grind arith
   split_joined x e t (u ∷ us) h =
-      let parts = and_parts (list_all is_other t) (list_all (list_all is_other) (u ∷ us)) h in
-      split_front t x (join_with_byte x (u ∷ us)) parts.0 e ∙ ap (λ (r : List (List ℕ)). t ∷ r) (split_joined x e u us parts.1)
+      let later = split_joined x e u us in let front = split_front t x (join_with_byte x (u ∷ us)) in grind arith
 
 -- ---- tokens that are printed
 
@@ -57,8 +46,7 @@ is_printed t = is_filled t && (is_no_comment t && list_all is_visible t)
 
 pub all_of : (q r : ℕ → Bool) → ((b : ℕ) → q b ≡ true → r b ≡ true) → (bs : List ℕ) → list_all q bs ≡ true → list_all r bs ≡ true
 all_of q r step [] h = refl
-all_of q r step (b ∷ bs) h =
-    let parts = and_parts (q b) (list_all q bs) h in and_from (r b) (list_all r bs) (step b parts.0) (all_of q r step bs parts.1)
+all_of q r step (b ∷ bs) h = let here = step b in let later = all_of q r step bs in grind arith
 
 visible_separates : (b : ℕ) → is_visible b ≡ true → is_other is_separator b ≡ true
 visible_separates b h = grind (arith, nat_tests)
@@ -71,24 +59,19 @@ visible_permitted b h = grind (arith, nat_tests)
 
 token_bytes : (t : Token) → is_printed t ≡ true → list_all is_visible t ≡ true
 unfolding is_printed
-token_bytes t h =
-    (and_parts (is_no_comment t) (list_all is_visible t) (and_parts (is_filled t) (is_no_comment t && list_all is_visible t) h).1).1
+token_bytes t h = grind arith
 
 tokens_bytes : (r : ℕ → Bool) → ((b : ℕ) → is_visible b ≡ true → r b ≡ true) → (ts : List Token) → list_all is_printed ts ≡ true
     → list_all (list_all r) ts ≡ true
 tokens_bytes r step [] h = refl
 tokens_bytes r step (t ∷ ts) h =
-    let parts = and_parts (is_printed t) (list_all is_printed ts) h in
-    and_from (list_all r t) (list_all (list_all r) ts) (all_of is_visible r step t (token_bytes t parts.0)) (tokens_bytes r step ts parts.1)
+    let bytes = token_bytes t in let here = all_of is_visible r step t in let later = tokens_bytes r step ts in grind arith
 
 all_joined : (r : ℕ → Bool) → r 32 ≡ true → (ts : List Token) → list_all (list_all r) ts ≡ true → list_all r (join_with_byte 32 ts) ≡ true
 all_joined r e [] h = refl
-all_joined r e (t ∷ []) h = (and_parts (list_all r t) true h).0
+all_joined r e (t ∷ []) h = grind arith
 all_joined r e (t ∷ u ∷ us) h =
-    let parts = and_parts (list_all r t) (list_all (list_all r) (u ∷ us)) h in
-    list_all-append r t (32 ∷ join_with_byte 32 (u ∷ us))
-    ∙ and_from (list_all r t) (list_all r (32 ∷ join_with_byte 32 (u ∷ us))) parts.0
-    (and_from (r 32) (list_all r (join_with_byte 32 (u ∷ us))) e (all_joined r e (u ∷ us) parts.1))
+    let later = all_joined r e (u ∷ us) in let both = list_all-append r t (32 ∷ join_with_byte 32 (u ∷ us)) in grind arith
 
 -- the bytes of a line of printed tokens may stand in a line
 pub line_permitted : (ts : List Token) → list_all is_printed ts ≡ true → list_all is_permitted (join_with_byte 32 ts) ≡ true
@@ -98,18 +81,7 @@ no_comment : (ts : List Token) → list_all is_printed ts ≡ true → take_whil
 unfolding is_printed
 no_comment [] h = refl
 no_comment (t ∷ ts) h =
-    let parts = and_parts (is_printed t) (list_all is_printed ts) h in
-    let filled = and_parts (is_filled t) (is_no_comment t && list_all is_visible t) parts.0 in
-    let first = and_parts (is_no_comment t) (list_all is_visible t) filled.1 in
-    rw (filled.0, take_while-cons is_no_comment t (filter is_filled ts), first.0) (ap (λ (r : List Token). t ∷ r) (no_comment ts parts.1))
-
--- the tokens of a line of printed tokens are these
-pub line_tokens : (t : Token) (ts : List Token) → list_all is_printed (t ∷ ts) ≡ true → tokens_of (join_with_byte 32 (t ∷ ts)) ≡ t ∷ ts
-unfolding tokens_of
-line_tokens t ts h =
-    ap (λ (parts : List Token). take_while is_no_comment (filter is_filled parts))
-    (split_joined is_separator 32 refl t ts (tokens_bytes (is_other is_separator) visible_separates (t ∷ ts) h))
-    ∙ no_comment (t ∷ ts) h
+    let later = no_comment ts in let more = take_while-cons is_no_comment t (filter is_filled ts) in grind arith
 
 -- the lines of a text of lines, behind the last of which there is one without a byte
 pub text_lines : (tss : List (List Token)) → list_all (list_all is_printed) tss ≡ true
@@ -126,4 +98,7 @@ text_lines (ts ∷ tss) h =
 pub tokens_of_line : (ts : List Token) → list_all is_printed ts ≡ true → tokens_of (join_with_byte 32 ts) ≡ ts
 unfolding tokens_of
 tokens_of_line [] h = refl
-tokens_of_line (t ∷ ts) h = line_tokens t ts h
+tokens_of_line (t ∷ ts) h =
+    ap (λ (parts : List Token). take_while is_no_comment (filter is_filled parts))
+    (split_joined is_separator 32 refl t ts (tokens_bytes (is_other is_separator) visible_separates (t ∷ ts) h))
+    ∙ no_comment (t ∷ ts) h

@@ -1,11 +1,11 @@
 -- The session has no fault of checking.
-use Rattle.std.proofs.Common.{◌≡◌, ℕ, zero, suc, ◌*◌, ◌≤◌, List, [], ◌∷◌, map, Option, None, Some, option_map, Bool, true}
-use Rattle.std.proofs.Common.{false, not, cond, refl, ap, arith, is_some}
-use Rattle.std.specs.Prelude.{nat_lt, take_while}
+use Rattle.std.proofs.Common.{◌≡◌, ℕ, zero, suc, ◌≤◌, List, [], ◌∷◌, map, Option, None, option_map, Bool, true}
+use Rattle.std.proofs.Common.{not, refl, ap, arith, is_some}
+use Rattle.std.specs.Prelude.{take_while}
 use Rattle.std.specs.List.{AllByRecursion, filter_map}
-use Rattle.std.proofs.lemmas.Bool.{and_from, and_parts, le-leb, lt-ltb, not_from_true}
+use Rattle.std.proofs.lemmas.Bool.{and_parts, cond_both}
+use Rattle.std.proofs.lemmas.Bool.Decides.{nat_tests}
 use Rattle.std.proofs.lemmas.List.Sums.{take_while-cons}
-use Rattle.flow_design.specs.declared.limits.TheConstants.{LIVE_ITERATIONS}
 use Rattle.flow_design.specs.declared.session.Statement.{Statement}
 use Rattle.flow_design.specs.declared.session.Statement.TheVariants.{Block, Loop, At}
 use Rattle.flow_design.specs.declared.design.Module.{Module}
@@ -14,11 +14,11 @@ use Rattle.flow_grammar.specs.declared.fault.Code.TheVariants as code
 use Rattle.session_plan.specs.Names.{Scope}
 use Rattle.session_plan.specs.Numbered.{timed}
 use Rattle.session_plan.specs.Plans.{block, channel_names, len_of, module_of, plan_of, scope_of}
-use Rattle.session_plan.specs.Sections.{begins, body_of, declared, sections}
+use Rattle.session_plan.specs.Sections.{begins, declared, sections}
 use Rattle.session_plan.specs.declared.section.Level.{Level}
 use Rattle.session_plan.specs.declared.section.Level.TheVariants as level
 use Rattle.session_plan.specs.declared.section.Sort.TheVariants as sort
-use Rattle.flow_check.specs.declared.item.Spot.TheVariants.{Head, Operation}
+use Rattle.flow_check.specs.declared.item.Spot.TheVariants.{Operation}
 use Rattle.flow_check.specs.Checked.{at_line, fault_of}
 use Rattle.flow_check.specs.First.{first_in, place_where}
 use Rattle.flow_check.specs.Rules.{broken_by, checking_fault, in_module, is_too_late, spot, spot_in}
@@ -35,20 +35,14 @@ IsSection l x = (begins l x.0 ≡ true) × Fits x.0 × AllFit x.1
 
 body_fits : (begin : Statement → Bool) (ss : List Statement) → AllFit ss → AllFit (take_while begin ss)
 body_fits begin [] f = tt
-body_fits begin (s ∷ ss) f = rw (take_while-cons begin s ss) (go (begin s) (body_fits begin ss f.1))
-  where
-    go : (b : Bool) → AllFit (take_while begin ss) → AllFit (cond b (s ∷ take_while begin ss) [])
-    go true later = (f.0, later)
-    go false later = tt
+body_fits begin (s ∷ ss) f =
+    rw (take_while-cons begin s ss) (cond_both (begin s) _ _ AllFit (λ e. (f.0, body_fits begin ss f.1)) (λ e. tt))
 
 sections_fit : (l : Level) (ss : List Statement) → AllFit ss → AllByRecursion (IsSection l) (sections l ss)
 sections_fit l [] f = tt
-sections_fit l (s ∷ ss) f = go (begins l s) refl (sections_fit l ss f.1)
-  where
-    go : (b : Bool) → begins l s ≡ b → AllByRecursion (IsSection l) (sections l ss)
-        → AllByRecursion (IsSection l) (cond b ((s, body_of l ss) ∷ sections l ss) (sections l ss))
-    go true e later = ((e, f.0, body_fits (λ t. not (begins l t)) ss f.1), later)
-    go false e later = later
+sections_fit l (s ∷ ss) f =
+    let later = sections_fit l ss f.1 in
+    cond_both (begins l s) _ _ (AllByRecursion (IsSection l)) (λ e. ((e, f.0, body_fits (λ t. not (begins l t)) ss f.1), later)) (λ e. later)
 
 -- nothing is found where no section gives anything
 none_in : {A B : Type 0} (l : Level) (f : A → Option B) (g : Section → A) (xs : List Section)
@@ -63,9 +57,7 @@ none_in l f g (x ∷ xs) none h =
 
 loop_kept : (m : Module) (scope : Scope) (x : Section) → Fits x.0 → spot code.BadLoop m (block scope x) ≡ None
 unfolding block
-loop_kept m scope (Loop n ii len again, body) f =
-    ap (λ (b : Bool). cond b (Some Head) None) (not_from_true _ (and_from _ _ (le-leb ii len f.paced.1)
-    (le-leb len (LIVE_ITERATIONS * ii) f.paced.2)))
+loop_kept m scope (Loop n ii len again, body) f = let paced = f.paced in grind (arith, nat_tests)
 loop_kept m scope (s, body) f = refl
 
 long_enough : (s : Statement) → begins level.Blocks s ≡ true → IsPaced s → 2 ≤ len_of s
@@ -77,9 +69,7 @@ in_time : (scope : Scope) (len : ℕ) → 2 ≤ len → (body : List Statement) 
     → place_where (is_too_late len) (filter_map (timed scope) body) ≡ None
 in_time scope len least [] f = refl
 in_time scope len least (At off guard o ∷ body) f =
-    let early : nat_lt off len ≡ true = lt-ltb off len (omega (arith, f.0.paced)) in
-    let later = in_time scope len least body f.1 in
-    rw (early, later) refl
+    let early = f.0.paced in let later = in_time scope len least body f.1 in grind (arith, nat_tests)
 in_time scope len least (s ∷ body) f = in_time scope len least body f.1
 
 offsets_kept : (m : Module) (scope : Scope) (x : Section) → IsSection level.Blocks x → spot code.BadOffset m (block scope x) ≡ None
@@ -102,8 +92,7 @@ kept rule keeps ss f =
 -- ---- all rules
 
 none_of : {X : Type 0} (o : Option X) → not (is_some o) ≡ true → o ≡ None
-none_of None h = refl
-none_of (Some x) h = absurd cc
+none_of o h = grind arith
 
 pub faultless : (seed modules : ℕ) → 1 ≤ modules → modules ≤ 64 → checking_fault (plan_of (session seed modules)) ≡ None
 unfolding session checks checking_fault plan_of

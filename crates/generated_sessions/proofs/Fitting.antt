@@ -15,7 +15,7 @@ use Rattle.flow_design.specs.declared.expr.BinOp.{BinOp}
 use Rattle.flow_design.specs.declared.expr.BinOp.TheVariants.{Add, LtU}
 use Rattle.flow_design.specs.Words.{nodes, depth, layer_nodes, layer_depth}
 use Rattle.flow_grammar.specs.Operators.{binary_word}
-use Rattle.flow_grammar.specs.Parts.{Part, Word, Use, AnyChannel, AVariable, plain, parts, expr_parts}
+use Rattle.flow_grammar.specs.Parts.{Part, Word, Use, AVariable, plain, parts, expr_parts}
 use Rattle.flow_grammar.specs.Rules.{is_in_range, is_small, has_room}
 use Rattle.flow_grammar.proofs.SpellingLaws.{parts_Number, parts_Var, parts_Binary}
 use Rattle.flow_grammar.proofs.Trees.{folded-Number, folded-Var, folded-Binary}

@@ -1,7 +1,7 @@
 -- The text of the session stands for it: the session keeps the rules of reading, and the text is not too long.
 use Rattle.std.proofs.Common.{◌≡◌, ℕ, zero, suc, ◌+◌, ◌-◌, ◌*◌, ◌≤◌, ◌^◌, List, [], ◌∷◌, ◌++◌, length, map, take, Some}
 use Rattle.std.proofs.Common.{true, refl, sym, subst, append_assoc, append-nil, arith, length-append, slice_get, sum_by}
-use Rattle.std.specs.Prelude.{nat_le, reverse}
+use Rattle.std.specs.Prelude.{reverse}
 use Rattle.std.specs.List.{list_all, join_with_byte, range_with_len}
 use Rattle.std.proofs.lemmas.Bool.{and_from, and_parts, leb-true}
 use Rattle.std.proofs.lemmas.Fmt.{length-decimal-le}
@@ -10,9 +10,8 @@ use Rattle.std.proofs.lemmas.List.Concat.{flat_map-cons}
 use Rattle.std.proofs.lemmas.List.Sums.{sum_by-cons}
 use Rattle.flow_design.specs.declared.limits.TheConstants.{TEXT_BYTES}
 use Rattle.flow_design.specs.declared.session.Statement.{Statement}
-use Rattle.flow_design.specs.declared.session.Statement.TheVariants.{Fifo}
-use Rattle.flow_grammar.specs.Parts.{Part, Word, New, Use, Label, Num, parts}
-use Rattle.flow_grammar.specs.Rules.{is_well_named, is_first_input, is_in_range, is_new, is_known, is_over, statement_fault}
+use Rattle.flow_grammar.specs.Parts.{Part, Word, Num, parts}
+use Rattle.flow_grammar.specs.Rules.{is_well_named, is_first_input, is_in_range, is_new, is_known, statement_fault}
 use Rattle.flow_grammar.specs.Rules.{KeepsReadingRules, KeepsRules}
 use Rattle.flow_grammar.specs.Text.{StandsFor}
 use Rattle.report_text.specs.Lines.{line, text_of_lines}
@@ -62,9 +61,7 @@ token_short (Num least most n) brief ranges =
     let wide : most ≤ 2 ^ 64 - 1 = leb-true most (2 ^ 64 - 1) brief in
     omega (arith, length-decimal-le 20 n (omega arith) (omega (arith, high, wide)) (omega (arith, high, wide)))
 token_short (Word w) brief ranges = leb-true _ 64 brief
-token_short (New space n) brief ranges = leb-true _ 64 brief
-token_short (Use sort n) brief ranges = leb-true _ 64 brief
-token_short (Label n) brief ranges = leb-true _ 64 brief
+token_short p brief ranges = leb-true _ 64 brief
 
 tokens_short : (ps : List Part) → list_all is_brief ps ≡ true → list_all is_in_range ps ≡ true
     → length (join_with_byte 32 (map token_of ps)) ≤ 65 * length ps
@@ -79,8 +76,7 @@ tokens_short (p ∷ r ∷ ps) brief ranges =
 
 -- no more parts are written under version 1
 no_more : (s : Statement) → length (written_parts 1 s) ≤ length (parts s)
-no_more (Fifo n w depth delay) = omega arith
-no_more s = omega arith
+no_more s = grind arith
 
 line_short : (earlier : List Statement) (s : Statement) → keeps earlier s ≡ true → Fits s
     → length (line (tokens_of 1 s)) ≤ 65 * most_parts s + 1

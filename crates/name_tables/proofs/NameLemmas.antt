@@ -1,5 +1,5 @@
 -- A table of names by its keys, and names in joined tables.
-use Rattle.std.proofs.Common.{◌≡◌, ℕ, List, [], ◌∷◌, ◌++◌, map, Bool, false, cond, refl, sym, ap, ◌∙◌, nat_eq, arith}
+use Rattle.std.proofs.Common.{◌≡◌, ℕ, List, [], ◌∷◌, ◌++◌, map, Bool, false, refl, sym, ap, ◌∙◌, nat_eq, arith}
 use Rattle.std.proofs.lemmas.List.{map-append, reverse-append}
 use Rattle.std.specs.Prelude.{◌||◌, if◌then◌else◌, reverse}
 use Rattle.std.specs.List.{list_any}
@@ -37,7 +37,5 @@ module _ {A : Type 0} (f : A → List ℕ) where
   pub key_added : (keys new : List A) (k : A) (table : List (List ℕ)) → reverse (map f keys) ≡ table → is_among table (f k) ≡ false
       → new ≡ (if list_any (λ y. pointwise nat_eq (f k) (f y)) keys then keys else (keys ++ k ∷ [])) → reverse (map f new) ≡ f k ∷ table
   key_added keys new k table t absent e =
-      let no : list_any (λ y. pointwise nat_eq (f k) (f y)) keys ≡ false = key_among keys (f k) table t ∙ absent in
-      let same : new ≡ keys ++ k ∷ [] = e ∙ ap (λ (b : Bool). cond b keys (keys ++ k ∷ [])) no in
-      ap (λ (ks : List A). reverse (map f ks)) same ∙ ap reverse (map-append f keys (k ∷ [])) ∙ reverse-append (map f keys) (f k ∷ [])
-      ∙ ap (λ (ns : List (List ℕ)). f k ∷ ns) t
+      let known = key_among keys (f k) table t in let longer = map-append f keys (k ∷ []) in
+      let turned = reverse-append (map f keys) (f k ∷ []) in grind arith

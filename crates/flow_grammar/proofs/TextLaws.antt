@@ -13,11 +13,11 @@ use Rattle.flow_grammar.specs.Spelling.{Writes}
 use Rattle.flow_grammar.specs.Places.{may_follow}
 use Rattle.flow_grammar.specs.Rules.{statement_fault, is_over}
 use Rattle.flow_grammar.specs.Line.{form_fault, tokens_fault, statement_in, line_fault}
-use Rattle.flow_grammar.specs.Text.{StandsBehind, IsInOrder, IsNoStatement, BreaksRule, Fails, statements_among, numbers_among, AreInOrder}
+use Rattle.flow_grammar.specs.Text.{IsInOrder, IsNoStatement, BreaksRule, Fails, statements_among, numbers_among, AreInOrder}
 use Rattle.flow_grammar.specs.Text.{FailsFirst, HasNoEnd, StandsFor, HasFault, IsAnswer, Answers, session_of, Said}
 use Rattle.flow_grammar.proofs.SpellingLaws.{written_is_read, read_is_written}
 use Rattle.std.proofs.lemmas.List.{append-nil}
-use Rattle.std.proofs.lemmas.Bool.{cases_lt}
+use Rattle.std.proofs.lemmas.Bool.{cases_lt, cond_both}
 use Rattle.flow_design.specs.declared.limits.TheConstants.{TEXT_BYTES}
 use Rattle.flow_design.specs.declared.session.Session.{Session}
 use Rattle.flow_grammar.specs.declared.fault.TextFault.{TextFault}
@@ -38,42 +38,28 @@ module _ (before : List Statement) (line : Line) where
 
   -- ---- a line without a fault
 
-  sound_form : (o : Option Statement) → form_fault earlier o ≡ None → (s : Statement) × (o ≡ Some s) × StandsBehind before s
-  sound_form None h = absurd cc
-  sound_form (Some s) h = go (may_follow earlier s) refl h
-    where
-      go : (b : Bool) → may_follow earlier s ≡ b → cond b (statement_fault earlier s) (Some Syntax) ≡ None
-          → (x : Statement) × (Some s ≡ Some x) × StandsBehind before x
-      go true p f = (s, refl, record { permitted = p; faultless = f })
-      go false p f = absurd cc
-
-  sound_tokens : (ts : List Token) → tokens_of line ≡ ts → list_all is_permitted line ≡ true → tokens_fault earlier ts ≡ None
-      → IsInOrder before line (statement_of declared ts)
+  sound_tokens : (ts : List Token) → tokens_of line ≡ ts → (o : Option Statement) → statement_of declared ts ≡ o
+      → list_all is_permitted line ≡ true → tokens_fault earlier ts ≡ None → IsInOrder before line o
   unfolding statement_of
-  sound_tokens [] t b h = record { bytes = b; says = t; stands = tt }
-  sound_tokens (x ∷ xs) t b h =
-      let f = sound_form (statement_of declared (x ∷ xs)) h in
-      subst (λ (o : Option Statement). IsInOrder before line o) (sym f.1)
-      (record { bytes = b; says = rw t (read_is_written declared (x ∷ xs) f.0 f.1); stands = f.2 })
+  sound_tokens [] t None e b h = record { bytes = b; says = t; stands = tt }
+  sound_tokens [] t (Some s) e b h = absurd cc
+  sound_tokens (x ∷ xs) t None e b h = absurd (grind arith)
+  sound_tokens (x ∷ xs) t (Some s) e b h = record {
+    bytes = b;
+    says = rw t (read_is_written declared (x ∷ xs) s e);
+    stands = record { permitted = grind arith; faultless = grind arith };
+  }
 
   pub order_of_line : line_fault before line ≡ None → IsInOrder before line (statement_in before line)
   unfolding line_fault statement_in
-  order_of_line h = go (list_all is_permitted line) refl h
-    where
-      go : (b : Bool) → list_all is_permitted line ≡ b → cond b (tokens_fault earlier (tokens_of line)) (Some NotAscii) ≡ None
-          → IsInOrder before line (statement_of declared (tokens_of line))
-      go true b f = sound_tokens (tokens_of line) refl b f
-      go false b f = absurd cc
+  order_of_line h = sound_tokens (tokens_of line) refl (statement_of declared (tokens_of line)) refl (grind arith) (grind arith)
 
   pub line_of_order : (o : Option Statement) → IsInOrder before line o → (line_fault before line ≡ None) × (statement_in before line ≡ o)
   unfolding line_fault statement_in statement_of
   line_of_order None p = (rw (p.bytes, p.says) refl, rw p.says refl)
-  line_of_order (Some s) p = go (tokens_of line) refl (written_is_read declared (tokens_of line) s p.says)
-    where
-      go : (ts : List Token) → tokens_of line ≡ ts → statement_of declared (tokens_of line) ≡ Some s
-          → (line_fault before line ≡ None) × (statement_of declared (tokens_of line) ≡ Some s)
-      go [] t e = absurd (no_tokens declared s (rw t at e))
-      go (x ∷ xs) t e = let q = rw t at e in (rw (p.bytes, t, q, p.stands.permitted, p.stands.faultless) refl, e)
+  line_of_order (Some s) p =
+      let read = written_is_read declared (tokens_of line) s p.says in
+      let bytes = p.bytes in let permitted = p.stands.permitted in let faultless = p.stands.faultless in (grind arith, read)
 
   -- ---- a line with a fault
 
@@ -115,28 +101,22 @@ module _ (before : List Statement) (line : Line) where
 
   pub fails_of_line : (code : Code) → line_fault before line ≡ Some code → Fails before line code
   unfolding line_fault
-  fails_of_line code h = go (list_all is_permitted line) refl h
-    where
-      go : (b : Bool) → list_all is_permitted line ≡ b → cond b (tokens_fault earlier (tokens_of line)) (Some NotAscii) ≡ Some code
-          → Fails before line code
-      go true b f = inr (b, tokens_fails (tokens_of line) refl code f)
-      go false b f = inl (b, (cc))
+  fails_of_line code h =
+      cond_both (list_all is_permitted line) (tokens_fault earlier (tokens_of line)) (Some NotAscii)
+      (λ (o : Option Code). o ≡ Some code → Fails before line code) (λ b f. inr (b, tokens_fails (tokens_of line) refl code f))
+      (λ b f. inl (b, (cc))) h
 
   no_statement : (ts : List Token) → tokens_of line ≡ ts → IsNoStatement before line → tokens_fault earlier ts ≡ Some Syntax
   no_statement [] t p = absurd (p.some_token t)
-  no_statement (x ∷ xs) t p = go (statement_of declared (x ∷ xs)) refl
-    where
-      go : (o : Option Statement) → statement_of declared (x ∷ xs) ≡ o → form_fault earlier o ≡ Some Syntax
-      go None e = refl
-      go (Some s) e = let f = p.none s (rw t (read_is_written declared (x ∷ xs) s e)) in rw f refl
+  no_statement (x ∷ xs) t p =
+      let none = λ (s : Statement) (e : statement_of declared (x ∷ xs) ≡ Some s). p.none s (rw t (read_is_written declared (x ∷ xs) s e)) in
+      grind arith
 
   broken_rule : (ts : List Token) → tokens_of line ≡ ts → (code : Code) → BreaksRule before line code → tokens_fault earlier ts ≡ Some code
-  broken_rule [] t code p =
-      absurd (no_tokens declared p.statement (let q = written_is_read declared (tokens_of line) p.statement p.writes in rw t at q))
-  broken_rule (x ∷ xs) t code p =
-      let q = written_is_read declared (tokens_of line) p.statement p.writes in
-      let r = rw t at q in
-      rw (r, p.permitted) p.fault
+  unfolding statement_of
+  broken_rule ts t code p =
+      let read = rw t at (written_is_read declared (tokens_of line) p.statement p.writes) in
+      let permitted = p.permitted in let fault = p.fault in grind arith
 
   pub line_of_fails : (code : Code) → Fails before line code → line_fault before line ≡ Some code
   unfolding line_fault
@@ -240,13 +220,11 @@ module _ (front : List Statement) (n : ℕ) (line : Line) (lines : List Line) (s
 
   firsts : (o : Option Statement) (r : Read) (said : Words) → r.0 ≡ statements_among said
       → (in_front (n + 1) o r).0 ≡ statements_among (o ∷ said)
-  firsts None r said h = h
-  firsts (Some st) r said h = ap (λ (xs : List Statement). st ∷ xs) h
+  firsts o r said h = grind arith
 
   seconds : (o : Option Statement) (r : Read) (said : Words) → r.1 ≡ numbers_among (n + 1 + 1) said
       → (in_front (n + 1) o r).1 ≡ numbers_among (n + 1) (o ∷ said)
-  seconds None r said h = h
-  seconds (Some st) r said h = ap (λ (xs : List ℕ). (n + 1) ∷ xs) h
+  seconds o r said h = grind arith
 
   stands_more : (r : Read) → Stands next (n + 1) lines r → Stands front n (line ∷ lines) (in_front (n + 1) s r)
   unfolding InOrderFrom

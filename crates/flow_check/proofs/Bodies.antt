@@ -4,7 +4,7 @@ use Rattle.std.proofs.Common.{is_some, Bool, true, false, not, cond, refl, sym, 
 use Rattle.std.proofs.Common.{slice_get, IfSome, count_by, append-nil}
 use Rattle.std.specs.Prelude.{◌&&◌, reverse, nat_le}
 use Rattle.std.specs.List.{list_all, filter_map, cons_option, All}
-use Rattle.std.proofs.lemmas.Bool.{and_parts, leb-true, ltb-true}
+use Rattle.std.proofs.lemmas.Bool.{and_parts}
 use Rattle.std.proofs.lemmas.Bool.Decides.{nat_tests}
 use Rattle.std.proofs.lemmas.List.{reverse-append}
 use Rattle.std.proofs.lemmas.List.Folds.{list_any-append, list_all-append}
@@ -73,7 +73,8 @@ keeps before s rules = record {
 }
 
 following : (front statements : List Statement)
-    → ((i : ℕ) (s : Statement) → slice_get statements i ≡ Some s → KeepsRules (front ++ take i statements) s) → Follow (reverse front) statements
+    → ((i : ℕ) (s : Statement) → slice_get statements i ≡ Some s → KeepsRules (front ++ take i statements) s)
+    → Follow (reverse front) statements
 following front [] each = tt
 following front (s ∷ rest) each = (
   keeps front s (subst (λ (l : List Statement). KeepsRules l s) (append-nil front) (each 0 s refl)),
@@ -117,18 +118,12 @@ inside level.Blocks earlier = take_while is_no_block earlier
 
 pub no_beginning : (level : Level) (s : Statement) → begins level s ≡ false → (earlier : List Statement)
     → inside level (s ∷ earlier) ≡ s ∷ inside level earlier
-no_beginning level.Modules (Module n) h earlier = absurd (true≢false h)
-no_beginning level.Modules s h earlier = take_while-cons is_no_module s earlier
-no_beginning level.Blocks (Block n len) h earlier = absurd (true≢false h)
-no_beginning level.Blocks (Loop n ii len again) h earlier = absurd (true≢false h)
-no_beginning level.Blocks s h earlier = take_while-cons is_no_block s earlier
+no_beginning level s h earlier =
+    let own = take_while-cons is_no_module s earlier in let body = take_while-cons is_no_block s earlier in grind arith
 
 pub nothing_inside : (level : Level) (s : Statement) → begins level s ≡ true → (earlier : List Statement) → inside level (s ∷ earlier) ≡ []
-nothing_inside level.Modules (Module n) h earlier = refl
-nothing_inside level.Modules s h earlier = absurd (true≢false (sym h))
-nothing_inside level.Blocks (Block n len) h earlier = refl
-nothing_inside level.Blocks (Loop n ii len again) h earlier = refl
-nothing_inside level.Blocks s h earlier = absurd (true≢false (sym h))
+nothing_inside level s h earlier =
+    let own = take_while-cons is_no_module s earlier in let body = take_while-cons is_no_block s earlier in grind arith
 
 -- a part of the statements before, which grows with each of these
 abbrev pub Grows : (List Statement → List Statement) → List Statement → Type 0
@@ -213,9 +208,7 @@ both_more f names s before after h = (heard_more f names s before after h.0 h.1,
 -- ---- ranges
 
 pub in_range : (least n most : ℕ) → nat_le least n && nat_le n most ≡ true → (least ≤ n) × (n ≤ most)
-in_range least n most h =
-    let parts = and_parts _ _ h in
-    (leb-true least n parts.0, leb-true n most parts.1)
+in_range least n most h = (grind (arith, nat_tests), grind (arith, nat_tests))
 
 -- ---- sizes
 
@@ -383,22 +376,16 @@ module _ (earlier : List Statement) (scope : Scope) (heard : Within (registers e
 -- ---- the same names and counts, by either function
 
 pub register_same : (x : Statement) → register_name x ≡ declared sort.Registers x
-register_same (s.Reg n w) = refl
-register_same x = refl
+register_same x = grind arith
 
 pub memory_same : (x : Statement) → memory_name x ≡ declared sort.Memories x
-memory_same (s.Mem n w len) = refl
-memory_same x = refl
+memory_same x = grind arith
 
 pub temp_same : (x : Statement) → temp_name x ≡ declared sort.Temps x
-temp_same (s.Temp n w) = refl
-temp_same x = refl
+temp_same x = grind arith
 
 pub channel_same : (x : Statement) → channel_name x ≡ declared sort.Channels x
-channel_same (s.Source n w) = refl
-channel_same (s.Sink n w) = refl
-channel_same (s.Fifo n w d l) = refl
-channel_same x = refl
+channel_same x = grind arith
 
 -- where g declares what f does, all the names that f gives are heard
 pub heard_all : (f g : Statement → Option Name) → ((x : Statement) → f x ≡ g x) → (xs : List Statement) → Heard f (filter_map g xs) xs
@@ -506,31 +493,18 @@ next_read own earlier (x ∷ body) follow pm hears =
 
 pub few_temps : (earlier : List Statement) (x : Statement) → Keeps earlier x → is_some (declared sort.Temps x) ≡ true
     → length (filter_map (declared sort.Temps) (inside level.Blocks earlier)) < TEMPS
-few_temps earlier (s.Temp n w) keeps h =
-    subst (λ (f : Statement → Option Name). length (filter_map f (in_body earlier)) < TEMPS) (λ i x. temp_same x i)
-    (ltb-true _ _ keeps.room)
-few_temps earlier x keeps h = absurd (true≢false (sym h))
+few_temps earlier x keeps h =
+    let room = keeps.room in let long = as_many temp_name (declared sort.Temps) (λ y. ap is_some (temp_same y)) (in_body earlier) in
+    grind (arith, nat_tests)
 
 pub few_operations : (own : Scope) (earlier : List Statement) (x : Statement) → Keeps earlier x → is_some (timed own x) ≡ true
     → length (filter_map (timed own) (inside level.Blocks earlier)) < OPERATIONS
-few_operations own earlier (s.At offset guard o) keeps h =
-    let room = and_parts _ _ keeps.room in
-    subst (λ (k : ℕ). k < OPERATIONS) (sym (counted is_operation (timed own) by (inside level.Blocks earlier))) (ltb-true _ _ room.0)
-  where
-    by : (y : Statement) → is_some (timed own y) ≡ is_operation y
-    by (s.At m v p) = refl
-    by y = refl
-few_operations own earlier x keeps h = absurd (true≢false (sym h))
+few_operations own earlier x keeps h =
+    let room = keeps.room in let long = counted is_operation (timed own) (λ y. grind arith) (in_body earlier) in grind (arith, nat_tests)
 
 pub len_read : (earlier : List Statement) (head : Statement) → begins level.Blocks head ≡ true → Keeps earlier head → (1 ≤ len_of head)
     × (len_of head ≤ BLOCK_CLOCKS)
-len_read earlier (s.Block n len) b keeps =
-    let range = and_parts _ _ keeps.ranged in
-    in_range 1 len BLOCK_CLOCKS range.0
-len_read earlier (s.Loop n ii len again) b keeps =
-    let first = and_parts _ _ keeps.ranged in let range = and_parts _ _ first.1 in
-    in_range 1 len BLOCK_CLOCKS range.0
-len_read earlier x b keeps = absurd (true≢false (sym b))
+len_read earlier head b keeps = let ranged = keeps.ranged in (grind (arith, nat_tests), grind (arith, nat_tests))
 
 pub kind_read : (scope : Scope) (earlier : List Statement) (head : Statement) → Keeps earlier head
     → Within (registers earlier) scope.registers → IsKindRead (length scope.registers) (kind_of scope head)

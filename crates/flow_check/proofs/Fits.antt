@@ -1,10 +1,10 @@
 -- A plan that was read breaks no rule of checking exactly where the engine takes it.
 use Rattle.std.proofs.Common.{◌≡◌, ℕ, zero, suc, ◌+◌, ◌%◌, ◌<◌, List, [], ◌∷◌, ◌++◌, length, take, get_or, Option, None, Some, IfSome}
 use Rattle.std.proofs.Common.{option_map, Bool, true, false, cond, refl, sym, ap, ◌∙◌, arith, true≢false, append_assoc, append-nil, subst}
-use Rattle.std.specs.Prelude.{◌&&◌, ◌==◌, nat_lt, slice_get, IsTrue}
-use Rattle.std.specs.List.{AllPairs, enumerate_from}
+use Rattle.std.specs.Prelude.{◌==◌, nat_lt, slice_get, IsTrue}
+use Rattle.std.specs.List.{All, AllPairs, enumerate_from}
 use Rattle.std.proofs.Math.Nat.{mod-eq_of_lt}
-use Rattle.std.proofs.lemmas.Bool.{and_parts, ltb-true, eqb-true, eq-eqb, not-false, and_from, lt-ltb, not_from_true, false_from_ne_true}
+use Rattle.std.proofs.lemmas.Bool.{and_parts, eqb-true, eq-eqb, not-false, and_from, lt-ltb, not_from_true, false_from_ne_true}
 use Rattle.std.proofs.lemmas.List.{get_or-take, length-take, get_or_default}
 use Rattle.std.proofs.lemmas.List.Folds.{list_any_at, list_any_none}
 use Rattle.std.proofs.lemmas.List.FromFn.{get_or-enumerate_from, length-enumerate_from}
@@ -27,7 +27,7 @@ use Rattle.flow_grammar.specs.declared.fault.Code.{Code}
 use Rattle.flow_check.specs.declared.item.Spot.TheVariants.{Head, Operation, Terminator}
 use Rattle.flow_check.specs.declared.item.Item.{Item}
 use Rattle.flow_check.specs.First.{first_in, first_behind, first_for, place_where}
-use Rattle.flow_check.specs.Rules.{leads_out, breaks_limits, lacks_users, has_users, is_served, phase, slot, same_slot, is_slot}
+use Rattle.flow_check.specs.Rules.{leads_out, breaks_limits, lacks_users, has_users, is_served, phase, slot, is_slot}
 use Rattle.flow_check.specs.Rules.{takes_again, clashes, is_bad_loop, is_too_late, lacks_port, is_on_wrong_side, spot, spot_in, in_module}
 use Rattle.flow_check.specs.Rules.{broken_by, rules, checking_fault, Slot}
 use Rattle.flow_check.proofs.Firsts.{where_behind, behind_least}
@@ -111,21 +111,46 @@ apart : (b : Block) → first_behind (clashes b.kind) [] b.ops ≡ None
 apart b h early i j d before there clash =
     let t : Timed = get_or b.ops i d in
     let u : Timed = get_or b.ops j d in
-    let free : takes_again b.kind (take j b.ops) (slot b.kind u) ≡ false = none_behind (clashes b.kind) [] b.ops h j d there in
-    let first : slot b.kind t ≡ Some (clash.port, phase b.kind t.offset) = ap (option_map (λ a. (a, phase b.kind t.offset))) clash.first in
-    let second : slot b.kind u ≡ Some (clash.port, phase b.kind u.offset)
-    = ap (option_map (λ a. (a, phase b.kind u.offset))) clash.second in
-    let phases : phase b.kind u.offset ≡ phase b.kind t.offset
-    = sym (same_phase b.len b.kind t.offset u.offset (early i d (omega arith)) (early j d there) clash.offsets) in
-    let same : same_slot (clash.port, phase b.kind u.offset) (clash.port, phase b.kind t.offset) ≡ true
-    = ap (λ (x : Bool). x && (phase b.kind u.offset == phase b.kind t.offset)) (same_port_itself clash.port) ∙ eq-eqb _ _ phases in
-    let at_first : is_slot (clash.port, phase b.kind u.offset) (slot b.kind (get_or (take j b.ops) i d)) ≡ true
-    = ap (λ (x : Timed). is_slot (clash.port, phase b.kind u.offset) (slot b.kind x)) (get_or-take j b.ops i d before)
-    ∙ ap (is_slot (clash.port, phase b.kind u.offset)) first ∙ same in
-    let taken : takes_again b.kind (take j b.ops) (Some (clash.port, phase b.kind u.offset)) ≡ true
-    = list_any_at (λ x. is_slot (clash.port, phase b.kind u.offset) (slot b.kind x)) (take j b.ops) i d
-    (rw length-take (omega arith)) at_first in
-    true≢false (sym taken ∙ sym (ap (takes_again b.kind (take j b.ops)) second) ∙ free)
+    let free = none_behind (clashes b.kind) [] b.ops h j d there in
+    let phases = same_phase b.len b.kind t.offset u.offset (early i d (omega arith)) (early j d there) clash.offsets in
+    let first = clash.first in let second = clash.second in
+    let itself = same_port_itself clash.port in let kept = get_or-take j b.ops i d before in
+    let taken = list_any_at (λ x. is_slot (clash.port, phase b.kind u.offset) (slot b.kind x)) (take j b.ops) i d
+    (rw length-take (omega arith)) (grind (arith, nat_tests)) in
+    grind (arith, nat_tests)
+
+timed_sound : (channels : ℕ) (own : Module) (block : Block) (t : Timed) → IsTimedRead channels own block t
+    → is_too_late block.len t ≡ false → is_on_wrong_side own t ≡ false → IsTimedSound channels own block t
+timed_sound channels own block t was early right = record {
+  offset = grind (arith, nat_tests);
+  guard = was.guard;
+  operation = record {
+    places = was.places;
+    expressions = was.expressions;
+    memory = was.memory;
+    channel = was.channel;
+    side = side_kept own (port_of t.op) right;
+  };
+}
+
+block_sound : (channels : ℕ) (own : Module) (block : Block) → IsBlockRead channels own block → ((rule : Code) → spot rule own block ≡ None)
+    → IsBlockSound channels own block
+block_sound channels own block was none = record {
+  least = was.least;
+  most = was.most;
+  kind = kind_sound (length own.registers) block.len block.kind was.kind (let kept = none code.BadLoop in grind arith);
+  temps = was.temps;
+  count = was.count;
+  operations = each;
+  apart = apart block (none_mapped Operation _ (none code.PortClash)) (λ i d there. (each i d there).offset);
+  next = next_sound (length own.registers) (length own.blocks) block.next was.next (let kept = none code.UnknownName in grind arith);
+}
+  where
+    each : All (IsTimedSound channels own block) block.ops
+    each i d there =
+        timed_sound channels own block (get_or block.ops i d) (was.operations i d there)
+        (none_where (is_too_late block.len) block.ops (none_mapped Operation _ (none code.BadOffset)) i d there)
+        (none_where (is_on_wrong_side own) block.ops (none_mapped Operation _ (none code.WrongSide)) i d there)
 
 -- ---- modules and channels
 
@@ -136,53 +161,6 @@ module _ (plan : Plan) (read : IsPlanRead plan) (faultless : (rule : Code) → f
   none_at rule m dm lm b db lb =
       none_in (spot rule (get_or plan.design.modules m dm)) (get_or plan.design.modules m dm).blocks
       (none_in (spot_in rule) plan.design.modules (faultless rule) m dm lm) b db lb
-
-  timed_sound : (m : ℕ) (dm : Module) (lm : m < length plan.design.modules) (b : ℕ) (db : Block)
-      (lb : b < length (get_or plan.design.modules m dm).blocks)
-      → (i : ℕ) (d : Timed) → i < length (get_or (get_or plan.design.modules m dm).blocks b db).ops
-      → IsTimedSound (length plan.design.channels) (get_or plan.design.modules m dm) (get_or (get_or plan.design.modules m dm).blocks b db)
-      (get_or (get_or (get_or plan.design.modules m dm).blocks b db).ops i d)
-  timed_sound m dm lm b db lb i d there =
-      let own : Module = get_or plan.design.modules m dm in
-      let block : Block = get_or own.blocks b db in
-      let t : Timed = get_or block.ops i d in
-      let was : IsTimedRead (length plan.design.channels) own block t = ((read.modules m dm lm).blocks b db lb).operations i d there in
-      let early : is_too_late block.len t ≡ false
-      = none_where (is_too_late block.len) block.ops (none_mapped Operation _ (none_at code.BadOffset m dm lm b db lb)) i d there in
-      let right : is_on_wrong_side own t ≡ false
-      = none_where (is_on_wrong_side own) block.ops (none_mapped Operation _ (none_at code.WrongSide m dm lm b db lb)) i d there in
-      record {
-        offset = ltb-true t.offset block.len (not-false (nat_lt t.offset block.len) early);
-        guard = was.guard;
-        operation = record {
-          places = was.places;
-          expressions = was.expressions;
-          memory = was.memory;
-          channel = was.channel;
-          side = side_kept own (port_of t.op) right;
-        };
-      }
-
-  block_sound : (m : ℕ) (dm : Module) (lm : m < length plan.design.modules) (b : ℕ) (db : Block)
-      (lb : b < length (get_or plan.design.modules m dm).blocks)
-      → IsBlockSound (length plan.design.channels) (get_or plan.design.modules m dm) (get_or (get_or plan.design.modules m dm).blocks b db)
-  block_sound m dm lm b db lb =
-      let own : Module = get_or plan.design.modules m dm in
-      let block : Block = get_or own.blocks b db in
-      let was : IsBlockRead (length plan.design.channels) own block = (read.modules m dm lm).blocks b db lb in
-      record {
-        least = was.least;
-        most = was.most;
-        kind = kind_sound (length own.registers) block.len block.kind was.kind
-            (let none = none_at code.BadLoop m dm lm b db lb in grind arith);
-        temps = was.temps;
-        count = was.count;
-        operations = λ i d there. timed_sound m dm lm b db lb i d there;
-        apart = apart block (none_mapped Operation _ (none_at code.PortClash m dm lm b db lb))
-            (λ i d there. (timed_sound m dm lm b db lb i d there).offset);
-        next = next_sound (length own.registers) (length own.blocks) block.next was.next
-            (let none = none_at code.UnknownName m dm lm b db lb in grind arith);
-      }
 
   module_sound : (m : ℕ) (dm : Module) → m < length plan.design.modules
       → IsModuleSound (length plan.design.channels) (get_or plan.design.modules m dm)
@@ -195,7 +173,7 @@ module _ (plan : Plan) (read : IsPlanRead plan) (faultless : (rule : Code) → f
         words = was.words;
         some = was.some;
         count = was.count;
-        blocks = λ b db lb. block_sound m dm lm b db lb;
+        blocks = λ b db lb. block_sound _ _ _ (was.blocks b db lb) (λ rule. none_at rule m dm lm b db lb);
       }
 
 channel_sound : (plan : Plan) → IsPlanRead plan

@@ -1,6 +1,6 @@
 -- What the rules of reading give of a plan and of its edits.
 use Rattle.std.proofs.Common.{◌≡◌, ℕ, ◌+◌, ◌<◌, ◌≤◌, List, [], ◌∷◌, ◌++◌, length, map, is_some, IfSome, Bool, true, false, cond, refl, sym}
-use Rattle.std.proofs.Common.{ap, subst, ◌∙◌, arith, length-append, Option, Some, None, true≢false, append_assoc, append-nil, ◌==◌}
+use Rattle.std.proofs.Common.{ap, subst, ◌∙◌, arith, length-append, Option, Some, None, true≢false, append_assoc, append-nil}
 use Rattle.std.proofs.Common.{sum_by, get_or}
 use Rattle.std.specs.List.{All, filter_map, cons_option, flat_map, enumerate_from}
 use Rattle.std.proofs.lemmas.List.Elements.{All-nil, All-cons}
@@ -26,8 +26,8 @@ use Rattle.flow_check.proofs.Bodies.{Keeps, Follow, Plain, plain_body, follow_bo
 use Rattle.flow_check.proofs.Bodies.{heard_none, Grows, Both, both_more, all_follow, temp_same, heard_all, Hears}
 use Rattle.flow_check.proofs.Bodies.{hears_more, hears_body, plain_later, TimedRead, ops_read, next_read, few_temps, few_operations}
 use Rattle.flow_check.proofs.Bodies.{len_read, kind_read, register_same, memory_same, heard_body, channel_same, in_range}
-use Rattle.std.specs.Prelude.{IsTrue, reverse, ◌||◌}
-use Rattle.std.proofs.lemmas.Bool.{and_parts, ltb-true, leb-true}
+use Rattle.std.specs.Prelude.{IsTrue, reverse, ◌||◌, nat_le, if◌then◌else◌}
+use Rattle.std.proofs.lemmas.Bool.{and_parts}
 use Rattle.std.proofs.lemmas.List.{length-map, reverse-append, get_or-map}
 use Rattle.flow_design.specs.declared.design.Memory.{Memory}
 use Rattle.flow_design.specs.Names.{is_name}
@@ -171,22 +171,20 @@ sections_long l name same (x ∷ xs) = let one = same x in let later = sections_
 
 few_registers : (earlier : List Statement) (x : Statement) → Keeps earlier x → is_some (declared sort.Registers x) ≡ true
     → length (filter_map (declared sort.Registers) (inside level.Modules earlier)) < REGISTERS
-few_registers earlier (s.Reg n w) keeps h =
-    subst (λ (f : Statement → Option Name). length (filter_map f (in_module earlier)) < REGISTERS) (λ i x. register_same x i)
-    (ltb-true _ _ keeps.room)
-few_registers earlier x keeps h = absurd (true≢false (sym h))
+few_registers earlier x keeps h =
+    let room = keeps.room in
+    let long = as_many register_name (declared sort.Registers) (λ y. ap is_some (register_same y)) (in_module earlier) in
+    grind (arith, nat_tests)
 
 few_memories : (earlier : List Statement) (x : Statement) → Keeps earlier x → is_some (declared sort.Memories x) ≡ true
     → length (filter_map (declared sort.Memories) (inside level.Modules earlier)) < MEMORIES
-few_memories earlier (s.Mem n w len) keeps h =
-    subst (λ (f : Statement → Option Name). length (filter_map f (in_module earlier)) < MEMORIES) (λ i x. memory_same x i)
-    (ltb-true _ _ keeps.room)
-few_memories earlier x keeps h = absurd (true≢false (sym h))
+few_memories earlier x keeps h =
+    let room = keeps.room in
+    let long = as_many memory_name (declared sort.Memories) (λ y. ap is_some (memory_same y)) (in_module earlier) in
+    grind (arith, nat_tests)
 
 few_blocks : (earlier : List Statement) (x : Statement) → Keeps earlier x → is_some (block_name x) ≡ true → length (blocks earlier) < BLOCKS
-few_blocks earlier (s.Block n len) keeps h = ltb-true _ _ keeps.room
-few_blocks earlier (s.Loop n ii len again) keeps h = ltb-true _ _ keeps.room
-few_blocks earlier x keeps h = absurd (true≢false (sym h))
+few_blocks earlier x keeps h = let room = keeps.room in grind (arith, nat_tests)
 
 -- ---- memories
 
@@ -257,8 +255,8 @@ modules_read names earlier (x ∷ rest) follow over heard =
     let next = both_more channel_name names x earlier rest heard in
     more x follow.0 follow.1 over next (modules_read names (x ∷ earlier) rest follow.1 over next)
   where
-    more : (x : Statement) → Keeps earlier x → Follow (x ∷ earlier) rest → Over (x ∷ earlier) rest → Both channel_name names (x ∷ earlier) rest
-        → All (IsModuleRead (length names)) (map (module_of names) (sections level.Modules rest))
+    more : (x : Statement) → Keeps earlier x → Follow (x ∷ earlier) rest → Over (x ∷ earlier) rest
+        → Both channel_name names (x ∷ earlier) rest → All (IsModuleRead (length names)) (map (module_of names) (sections level.Modules rest))
         → All (IsModuleRead (length names)) (map (module_of names) (sections level.Modules (x ∷ rest)))
     more (s.Module n) keeps follow over heard h =
         All-cons (IsModuleRead (length names)) _ (map (module_of names) (sections level.Modules rest))
@@ -267,88 +265,43 @@ modules_read names earlier (x ∷ rest) follow over heard =
 
 -- ---- how many input values a session has
 
--- the sum of f over the numbers from a on, one for each item
-abbrev spread : {A : Type 0} → (ℕ → ℕ) → ℕ → List A → ℕ
-spread f a [] = 0
-spread f a (c ∷ cs) = f a + spread f (a + 1) cs
+-- the values that are given for the channels from number a on
+abbrev given_from : List Name → ℕ → Statement → ℕ
+given_from names a (Input n values) = if nat_le a (number_of names n) then length values else 0
+given_from names a x = 0
 
-spread_add : {A : Type 0} (f g : ℕ → ℕ) (a : ℕ) (cs : List A) → spread (λ i. f i + g i) a cs ≡ spread f a cs + spread g a cs
-spread_add f g a [] = refl
-spread_add f g a (c ∷ cs) = let e : spread (λ i. f i + g i) (a + 1) cs ≡ spread f (a + 1) cs + spread g (a + 1) cs
-    = spread_add f g (a + 1) cs in omega arith
+abbrev amount : List Name → ℕ → List Statement → ℕ
+amount names a [] = 0
+amount names a (x ∷ rest) = given_from names a x + amount names a rest
 
-spread_zero : {A : Type 0} (f : ℕ → ℕ) (a : ℕ) → ((i : ℕ) → a ≤ i → f i ≡ 0) → (cs : List A) → spread f a cs ≡ 0
-spread_zero f a h [] = refl
-spread_zero f a h (c ∷ cs) =
-    let e : spread f (a + 1) cs ≡ 0 = spread_zero f (a + 1) (λ i l. h i (omega arith)) cs in
-    let z : f a ≡ 0 = h a (omega arith) in
-    omega arith
-
--- what one number gives, is given once at most
-given_once : {A : Type 0} (k : ℕ) (values : List ℕ) (a : ℕ) (cs : List A)
-    → spread (λ i. length (cond (k == i) values [])) a cs ≤ length values
-given_once k values a [] = omega arith
-given_once k values a (c ∷ cs) =
-    let later = given_once k values (a + 1) cs in
-    let none = λ (e : k ≡ a). spread_zero (λ i. length (cond (k == i) values [])) (a + 1) (λ i l. grind (arith, nat_tests)) cs in
-    grind (arith, nat_tests)
-
-one_statement : {A : Type 0} (names : List Name) (x : Statement) (a : ℕ) (cs : List A)
-    → spread (λ i. length (values_for names i x)) a cs ≤ input_count x
-one_statement names (Input n values) a cs = given_once (number_of names n) values a cs
-one_statement names x a cs = let e = spread_zero (λ i. length (values_for names i x)) a (λ i l. refl) cs in omega arith
-
--- the values of all statements
-abbrev pub amount : List Statement → ℕ
-amount [] = 0
-amount (x ∷ rest) = input_count x + amount rest
-
-all_statements : {A : Type 0} (names : List Name) (statements : List Statement) (a : ℕ) (cs : List A)
-    → spread (λ i. length (flat_map (values_for names i) statements)) a cs ≤ amount statements
-all_statements names [] a cs = let e = spread_zero (λ i. length (flat_map (values_for names i) [])) a (λ i l. refl) cs in omega arith
-all_statements names (x ∷ rest) a cs =
-    let one : spread (λ i. length (values_for names i x)) a cs ≤ input_count x = one_statement names x a cs in
-    let later : spread (λ i. length (flat_map (values_for names i) rest)) a cs ≤ amount rest = all_statements names rest a cs in
-    simp (flat_map-cons, length-append, spread_add) (omega arith)
+-- one channel takes what is given for it alone
+one_taken : (names : List Name) (a : ℕ) (statements : List Statement)
+    → length (flat_map (values_for names a) statements) + amount names (a + 1) statements ≤ amount names a statements
+one_taken names a [] = omega arith
+one_taken names a (x ∷ rest) =
+    let later = one_taken names a rest in let own = flat_map-cons (values_for names a) x rest in
+    let long = length-append (values_for names a x) (flat_map (values_for names a) rest) in grind (arith, nat_tests)
 
 kept : (k : ChannelKind) (width : ℕ) (values : List ℕ) → length (inputs_of k width values) ≤ length values
 kept kind.Source width values = simp length-map (omega arith)
 kept k width values = omega arith
 
-pub taken_most : (names : List Name) (statements : List Statement) (a : ℕ) (cs : List Channel)
-    → sum_by length (map (inputs_for names statements) (enumerate_from a cs)) ≤ spread
-    (λ i. length (flat_map (values_for names i) statements)) a cs
+taken_most : (names : List Name) (statements : List Statement) (a : ℕ) (cs : List Channel)
+    → sum_by length (map (inputs_for names statements) (enumerate_from a cs)) ≤ amount names a statements
 taken_most names statements a [] = omega arith
 taken_most names statements a (c ∷ cs) =
-    let e : sum_by length (map (inputs_for names statements) (enumerate_from a (c ∷ cs)))
-    ≡ length (inputs_for names statements (a, c)) + sum_by length (map (inputs_for names statements) (enumerate_from (a + 1) cs))
-    = sum_by-cons length (inputs_for names statements (a, c)) (map (inputs_for names statements) (enumerate_from (a + 1) cs)) in
-    let later = taken_most names statements (a + 1) cs in
-    let own : length (inputs_for names statements (a, c)) ≤ length (flat_map (values_for names a) statements)
-    = kept c.kind c.width (flat_map (values_for names a) statements) in
-    omega arith
-
-pub taken_within : (names : List Name) (statements : List Statement) (cs : List Channel)
-    → sum_by length (map (inputs_for names statements) (enumerate_from 0 cs)) ≤ amount statements
-taken_within names statements cs =
-    let a = taken_most names statements 0 cs in
-    let b = all_statements names statements 0 cs in
+    let more = sum_by-cons length (inputs_for names statements (a, c)) (map (inputs_for names statements) (enumerate_from (a + 1) cs)) in
+    let later = taken_most names statements (a + 1) cs in let one = one_taken names a statements in
+    let own = kept c.kind c.width (flat_map (values_for names a) statements) in
     omega arith
 
 -- at most 100,000
-few : (earlier : List Statement) (x : Statement) → Keeps earlier x → input_values earlier ≤ INPUT_VALUES
-    → input_values earlier + input_count x ≤ INPUT_VALUES
-few earlier (Input n values) keeps h = leb-true (input_values earlier + length values) INPUT_VALUES keeps.room
-few earlier x keeps h = omega arith
-
-pub amount_most : (earlier rest : List Statement) → Follow earlier rest → input_values earlier ≤ INPUT_VALUES
-    → input_values earlier + amount rest ≤ INPUT_VALUES
-amount_most earlier [] follow h = omega arith
-amount_most earlier (x ∷ rest) follow h =
-    let e : input_values (x ∷ earlier) ≡ input_count x + input_values earlier = sum_by-cons input_count x earlier in
-    let now : input_values earlier + input_count x ≤ INPUT_VALUES = few earlier x follow.0 h in
-    let later : input_values (x ∷ earlier) + amount rest ≤ INPUT_VALUES = amount_most (x ∷ earlier) rest follow.1 (omega arith) in
-    omega arith
+amount_most : (names : List Name) (earlier rest : List Statement) → Follow earlier rest → input_values earlier ≤ INPUT_VALUES
+    → input_values earlier + amount names 0 rest ≤ INPUT_VALUES
+amount_most names earlier [] follow h = omega arith
+amount_most names earlier (x ∷ rest) follow h =
+    let more = sum_by-cons input_count x earlier in let room = follow.0.room in
+    let later = amount_most names (x ∷ earlier) rest follow.1 in grind (arith, nat_tests)
 
 -- ---- what the rules of reading give of a plan and of its edits
 
@@ -360,18 +313,14 @@ grows_all (x ∷ rest) = (λ earlier. refl, grows_all rest)
 
 few_channels : (earlier : List Statement) (x : Statement) → Keeps earlier x → is_some (channel_name x) ≡ true
     → length (channels earlier) < CHANNELS
-few_channels earlier (s.Source n w) keeps h = ltb-true _ _ keeps.room
-few_channels earlier (s.Sink n w) keeps h = ltb-true _ _ keeps.room
-few_channels earlier (s.Fifo n w d l) keeps h = ltb-true _ _ keeps.room
-few_channels earlier x keeps h = absurd (true≢false (sym h))
+few_channels earlier x keeps h = let room = keeps.room in grind (arith, nat_tests)
 
 channels_long : (xs : List Statement) → length (channels_of xs) ≡ length (channels xs)
 channels_long xs = as_many _ _ (λ x. grind arith) xs
 
 few_modules : (earlier : List Statement) (x : Statement) → Keeps earlier x → is_some (module_name x) ≡ true
     → length (modules earlier) < MODULES
-few_modules earlier (s.Module n) keeps h = ltb-true _ _ keeps.room
-few_modules earlier x keeps h = absurd (true≢false (sym h))
+few_modules earlier x keeps h = let room = keeps.room in grind (arith, nat_tests)
 
 -- ---- channels
 
@@ -422,8 +371,8 @@ plan_read statements rules =
     let long_d : length (map (inputs_for names statements) (enumerate_from 0 cs)) ≡ length cs = simp (length-map, length-enumerate_from) in
     let long_e : length (map (λ (c : Channel). depth_in c.kind) cs) ≡ length cs = simp length-map in
     let read : All ChannelRead cs = channels_read [] statements follow in
-    let most = amount_most [] statements follow (omega arith) in
-    let took = taken_within names statements cs in
+    let most = amount_most names [] statements follow (omega arith) in
+    let took = taken_most names statements 0 cs in
     let heard : Heard channel_name names statements = heard_all channel_name (declared sort.Channels) channel_same statements in
     record {
       channel_count = omega arith;

@@ -192,7 +192,8 @@ module_stands names earlier (st ∷ rest) k n c own blk a is at block_at h =
         let same : module_of names (s.Module x, body) ≡ own = cc in
         let blocks : slice_get (map (block (scope_of names body)) (sections level.Blocks body)) c ≡ Some blk
         = ap (λ (o : Module). slice_get o.blocks c) same ∙ block_at in
-        behind earlier rest (s.Module x) (item.InModule n (c, a)) (in_front level.Modules (s.Module x ∷ earlier) rest (item.InModule n (c, a))
+        behind earlier rest (s.Module x) (item.InModule n (c, a))
+        (in_front level.Modules (s.Module x ∷ earlier) rest (item.InModule n (c, a))
         (block_stands (scope_of names body) n (length own.blocks) (s.Module x ∷ earlier) body c c blk a
         (plain_body level.Modules rest) (grind arith) (grind arith) blocks h))
     by (s.Module x) e (suc k) is more q = behind earlier rest (s.Module x) (item.InModule n (c, a)) (more k (grind arith) q)

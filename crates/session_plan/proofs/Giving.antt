@@ -1,13 +1,12 @@
 -- The inputs that the statements so far have given.
 use Rattle.std.proofs.Common.{◌≡◌, ℕ, ◌<◌, List, [], ◌∷◌, ◌++◌, length, map, get_or}
-use Rattle.std.proofs.Common.{refl, sym, ap, ◌∙◌, arith, append-nil}
+use Rattle.std.proofs.Common.{sym, ap, ◌∙◌, arith, append-nil}
 use Rattle.std.proofs.lemmas.List.{map-append, get_or-map, ext_get_or, length-map}
 use Rattle.std.proofs.lemmas.List.FromFn.{get_or-enumerate_from, length-enumerate_from}
 use Rattle.std.proofs.lemmas.Grind.{flat_map-append}
 use Rattle.std.specs.List.{flat_map, enumerate_from}
 use Rattle.flow_design.specs.declared.session.Statement.{Statement}
 use Rattle.flow_design.specs.declared.design.ChannelKind.{ChannelKind}
-use Rattle.flow_design.specs.declared.design.ChannelKind.TheVariants.{Source, Sink, Fifo}
 use Rattle.flow_design.specs.declared.design.Channel.{Channel}
 use Rattle.flow_design.specs.Plans.{no_channel}
 use Rattle.flow_design.specs.Words.{cut_to}
@@ -20,9 +19,7 @@ taken channels f values = inputs_of (get_or channels f no_channel).kind (get_or 
 
 pub inputs_append : (kind : ChannelKind) (width : ℕ) (a b : List ℕ)
     → inputs_of kind width (a ++ b) ≡ inputs_of kind width a ++ inputs_of kind width b
-inputs_append Source width a b = map-append (cut_to width) a b
-inputs_append Sink width a b = refl
-inputs_append (Fifo d l) width a b = refl
+inputs_append kind width a b = let cut = map-append (cut_to width) a b in grind arith
 
 -- each channel has what these statements give it
 pub record AreGiven (names : List Name) (channels : List Channel) (statements : List Statement) (inputs : List (List ℕ)) : Type 0 where
@@ -36,12 +33,11 @@ pub given_more : (names : List Name) (channels : List Channel) (before : List St
     → AreGiven names channels (before ++ s ∷ []) new
 given_more names channels before s old new given long added = record {
   long = long ∙ given.long;
-  each = λ f there. added f there
-      ∙ ap (λ (l : List ℕ). l ++ taken channels f (values_for names f s)) (given.each f there)
-      ∙ sym (inputs_append (get_or channels f no_channel).kind (get_or channels f no_channel).width (flat_map (values_for names f) before)
-      (values_for names f s))
-      ∙ ap (λ (l : List ℕ). taken channels f (flat_map (values_for names f) before ++ l)) (sym (append-nil (values_for names f s)))
-      ∙ ap (taken channels f) (sym (flat_map-append (values_for names f) before (s ∷ [])));
+  each = λ f there.
+      let c = get_or channels f no_channel in
+      added f there ∙ ap (λ (l : List ℕ). l ++ taken channels f (values_for names f s)) (given.each f there)
+      ∙ sym (simp (flat_map-append, append-nil)
+      (inputs_append c.kind c.width (flat_map (values_for names f) before) (values_for names f s)));
 }
 
 -- all of them

@@ -1,9 +1,9 @@
-use Rattle.std.proofs.Common.{rules, ◌≡◌, ◌∙◌, ◌++◌, ◌∷◌, [], sym, ap, List, ℕ, map, length, Some, None, Option, arith, Bor, cond}
+use Rattle.std.proofs.Common.{rules, ◌≡◌, ◌++◌, ◌∷◌, [], ap, List, map, length, Some, None, arith, Bor, cond}
 use Rattle.std.proofs.Common.{length-append}
 use Rattle.std.specs.Option.{option_or}
 use Rattle.std.specs.Str.{bytes_eq}
 use Rattle.std.proofs.lemmas.List.{length-map, map-append}
-use Rattle.session_plan.specs.Names.{Name, place_of}
+use Rattle.session_plan.specs.Names.{Name}
 use Rattle.session_plan.specs.NameTables.{number_at}
 use Rattle.session_plan.proofs.NameLemmas.{place_behind}
 use Rattle.session_plan.proofs.names.Names.add.Goals as goal
@@ -15,15 +15,13 @@ pub invariant_of-self-else-is_err : goal.invariant_of-self-else-is_err
 invariant_of-self-else-is_err c =
     let all : List (Bor Name) = c.self.inside.all in
     let pushed : c.push.new.self ≡ all ++ c.args.name ∷ [] = search rules in
-    let number : c.len-number.result ≡ length (map view all) = search (rules, length-map) in
+    let long : length (map view all) ≡ length all = simp length-map in
+    let longer = map-append view all (c.args.name ∷ []) in
     let told : (n : Name) → number_at c.note.new.numbers n
     ≡ option_or (number_at c.self.inside.numbers n) (cond (bytes_eq n c.args.name.now) (Some c.len-number.result) None)
     = search rules in (
       omega (arith, ap length pushed, length-append all (c.args.name ∷ [])),
-      λ n. told n
-          ∙ ap (λ (o : Option ℕ). option_or o (cond (bytes_eq n c.args.name.now) (Some c.len-number.result) None)) (c.self.invariant.1 n)
-          ∙ ap (λ (i : ℕ). option_or (place_of (map view all) n) (cond (bytes_eq n c.args.name.now) (Some i) None)) number
-          ∙ sym (place_behind (map view all) c.args.name.now n)
-          ∙ ap (λ (names : List Name). place_of names n) (sym (map-append view all (c.args.name ∷ [])))
-          ∙ ap (λ (l : List (Bor Name)). place_of (map view l) n) (sym pushed),
+      λ n.
+          let known = c.self.invariant.1 n in let more = told n in
+          let placed = place_behind (map view all) c.args.name.now n in grind (arith, c.len-number.ensures),
     )

@@ -42,6 +42,7 @@ struct Maker {
 
 impl Maker {
     /// The FIFOs behind the first modules, so many.
+    #[tactic(auto, using(crate::proofs::Steps::pushing))]
     fn push_fifos(&mut self, seed: u64, fifos: u64) -> Result<(), OutOfMemory>
         requires seed { seed ≤ 65_535 }
         requires most { fifos ≤ MODULES }
@@ -55,6 +56,7 @@ impl Maker {
     }
 
     /// The modules, one behind the other.
+    #[tactic(auto, using(crate::proofs::Steps::pushing))]
     fn push_modules(&mut self, seed: u64, modules: u64) -> Result<(), OutOfMemory>
         requires seed { seed ≤ 65_535 }
         requires most { modules ≤ MODULES }

@@ -1,5 +1,6 @@
 -- What can give no command, whatever words follow.
-use Rattle.std.proofs.Common.{◌≡◌, List, [], ◌∷◌, ◌||◌, Option, Some, None, refl, true, false, subst, Bool, cond, length, arith, length-append, is_some}
+use Rattle.std.proofs.Common.{◌≡◌, List, [], ◌∷◌, ◌||◌, Option, Some, None, refl, true, false, subst, Bool, cond, length}
+use Rattle.std.proofs.Common.{arith, length-append, is_some}
 use Rattle.std.specs.Prelude.{option_and_then, nat_lt, not}
 use Rattle.std.proofs.lemmas.Bool.Decides.{nat_tests}
 use Rattle.cli_words.specs.declared.Command.{Command}

@@ -187,28 +187,22 @@ end_step rest said h holds few =
 -- a word where nothing waits
 read_word : (word : Text) (rest : List Text) → IsUtf8 word → View word → Reads rest → Awaits rest
     → Reads (word ∷ rest)
-read_word word rest u (as_plain b is) reads awaits said h holds few =
+read_word _ rest u (as_plain word b is) reads awaits said h holds few =
     subst (λ w. Ends (between said h) (word ∷ rest) (after_word w word rest said (rest_of rest))) (sym is.kind)
     (plain_step word rest said h holds few reads is)
-read_word word rest u (dash e) reads awaits said h holds few =
-    subst (λ w. Ends (between said h) (w ∷ rest) (said_from None said (w ∷ rest))) (sym e)
-    (plain_step hyphen rest said h holds few reads hyphen_plain)
-read_word word rest u (ends e) reads awaits said h holds few =
-    subst (λ w. Ends (between said h) (w ∷ rest) (said_from None said (w ∷ rest))) (sym e)
-    (end_step rest said h holds few)
-read_word word rest u (long x xs e) reads awaits said h holds few =
-    subst (λ w. Ends (between said h) (w ∷ rest) (said_from None said (w ∷ rest))) (sym e)
-    (subst (λ w. Ends (between said h) ((45 ∷ 45 ∷ x ∷ xs) ∷ rest)
+read_word word rest u dash reads awaits said h holds few = plain_step hyphen rest said h holds few reads hyphen_plain
+read_word word rest u ends reads awaits said h holds few = end_step rest said h holds few
+read_word word rest u (long x xs) reads awaits said h holds few =
+    subst (λ w. Ends (between said h) ((45 ∷ 45 ∷ x ∷ xs) ∷ rest)
     (after_word w (45 ∷ 45 ∷ x ∷ xs) rest said (rest_of rest))) (sym (long_word_of x xs))
     (long_step (45 ∷ 45 ∷ x ∷ xs) rest said h holds few reads awaits (own_value x xs)
     (arg_by_long rules (name_in x xs)) (option_named (45 ∷ 45 ∷ name_in x xs) (own_value x xs))
     (named (name_in x xs) (own_value x xs)) (long_turn_is x xs (suc (length said.positionals)) h)
-    (long_walk_is x xs (suc (length said.positionals)) h)))
-read_word word rest u (short y ys ne e) reads awaits said h holds few =
-    subst (λ w. Ends (between said h) (w ∷ rest) (said_from None said (w ∷ rest))) (sym e)
-    (step_fails _ (45 ∷ y ∷ ys) rest _
-    (short_refused y ys ne idle _ h (has_flags y ys (subst IsUtf8 e u)) holds.skip)
-    (ap (λ w. given (after_word w (45 ∷ y ∷ ys) rest said (rest_of rest))) (short_unknown y ys ne)))
+    (long_walk_is x xs (suc (length said.positionals)) h))
+read_word word rest u (short y ys ne) reads awaits said h holds few =
+    step_fails _ (45 ∷ y ∷ ys) rest _
+    (short_refused y ys ne idle _ h (has_flags y ys u) holds.skip)
+    (ap (λ w. given (after_word w (45 ∷ y ∷ ys) rest said (rest_of rest))) (short_unknown y ys ne))
 
 -- what is said gives no command either way
 refused_anyway : (w : Walk) (rest : List Text) (o : Option Said) → given o ≡ None → Ends w rest o
@@ -273,28 +267,22 @@ no_value Ops rows skip e = some_kind _ _ e
 
 await_word : (word : Text) (rest : List Text) → IsUtf8 word → AllByRecursion IsUtf8 rest → View word
     → Reads rest → Awaits (word ∷ rest)
-await_word word rest u us (as_plain b is) reads k said rows skip zero_skip said_rows few =
+await_word _ rest u us (as_plain word b is) reads k said rows skip zero_skip said_rows few =
     subst (λ x. Ends (awaiting k said rows skip) (word ∷ rest)
     (cond x None (option_and_then (rest_of rest None) (with_option k word said)))) (sym b)
     (taken word rest us k said rows skip zero_skip said_rows few reads _ is
     (taken_rest word rest us k said rows skip zero_skip said_rows few reads))
-await_word word rest u us (dash e) reads k said rows skip zero_skip said_rows few =
-    subst (λ w. Ends (awaiting k said rows skip) (w ∷ rest) (said_from (Some k) said (w ∷ rest))) (sym e)
-    (taken hyphen rest us k said rows skip zero_skip said_rows few reads None hyphen_plain
-    (taken_dash hyphen rest us k said rows skip zero_skip said_rows few reads refl))
-await_word word rest u us (ends e) reads k said rows skip zero_skip said_rows few =
-    subst (λ w. Ends (awaiting k said rows skip) (w ∷ rest) (said_from (Some k) said (w ∷ rest))) (sym e)
-    (fails (after_ends (option (rule_at k).id) _ _ refl rest
-    (stuck_trailing _ _ _ (no_value k rows skip) rest)) refl)
-await_word word rest u us (long x xs e) reads k said rows skip zero_skip said_rows few =
-    subst (λ w. Ends (awaiting k said rows skip) (w ∷ rest) (said_from (Some k) said (w ∷ rest))) (sym e)
-    (step_fails _ (45 ∷ 45 ∷ x ∷ xs) rest None
-    (long_refused (option (rule_at k).id) x xs (suc (length said.positionals)) (waiting_for k rows skip)
-    (no_value k rows skip)) refl)
-await_word word rest u us (short y ys ne e) reads k said rows skip zero_skip said_rows few =
-    subst (λ w. Ends (awaiting k said rows skip) (w ∷ rest) (said_from (Some k) said (w ∷ rest))) (sym e)
-    (step_fails _ (45 ∷ y ∷ ys) rest None
-    (short_refused y ys ne (option (rule_at k).id) _ _ (has_flags y ys (subst IsUtf8 e u)) zero_skip) refl)
+await_word word rest u us dash reads k said rows skip zero_skip said_rows few =
+    taken hyphen rest us k said rows skip zero_skip said_rows few reads None hyphen_plain
+    (taken_dash hyphen rest us k said rows skip zero_skip said_rows few reads refl)
+await_word word rest u us ends reads k said rows skip zero_skip said_rows few =
+    fails (after_ends (option (rule_at k).id) _ _ refl rest (stuck_trailing _ _ _ (no_value k rows skip) rest)) refl
+await_word word rest u us (long x xs) reads k said rows skip zero_skip said_rows few =
+    step_fails _ (45 ∷ 45 ∷ x ∷ xs) rest None
+    (long_refused (option (rule_at k).id) x xs (suc (length said.positionals)) (waiting_for k rows skip) (no_value k rows skip)) refl
+await_word word rest u us (short y ys ne) reads k said rows skip zero_skip said_rows few =
+    step_fails _ (45 ∷ y ∷ ys) rest None
+    (short_refused y ys ne (option (rule_at k).id) _ _ (has_flags y ys u) zero_skip) refl
 
 pub both_read : (words : List Text) → AllByRecursion IsUtf8 words → Reads words × Awaits words
 unfolding walk_fault

@@ -45,27 +45,26 @@ pub record IsPlain (word : Text) : Type 0 where
 abbrev HasFlags : ℕ → Text → Type 0
 HasFlags y ys = (x : ℕ) × (slice_get (chars (y ∷ ys)) 0 ≡ Some x)
 
-pub data View (word : Text) : Type 0 where
-  as_plain : begins_with_hyphen word ≡ false → IsPlain word → View word
-  dash : word ≡ hyphen → View word
-  ends : word ≡ 45 ∷ 45 ∷ [] → View word
-  long : (x : ℕ) (xs : Text) → word ≡ 45 ∷ 45 ∷ x ∷ xs → View word
-  short : (y : ℕ) (ys : Text) → (y == 45) ≡ false → word ≡ 45 ∷ y ∷ ys → View word
+pub data View : Text → Type 0 where
+  as_plain : (word : Text) → begins_with_hyphen word ≡ false → IsPlain word → View word
+  dash : View hyphen
+  ends : View (45 ∷ 45 ∷ [])
+  long : (x : ℕ) (xs : Text) → View (45 ∷ 45 ∷ x ∷ xs)
+  short : (y : ℕ) (ys : Text) → (y == 45) ≡ false → View (45 ∷ y ∷ ys)
 
 view_second : (y : ℕ) (ys : Text) (b : Bool) → (y == 45) ≡ b → View (45 ∷ y ∷ ys)
-view_second y [] true e = ends (ap (λ c. 45 ∷ c ∷ []) (eqb-true y 45 e))
-view_second y (x ∷ xs) true e = long x xs (ap (λ c. 45 ∷ c ∷ x ∷ xs) (eqb-true y 45 e))
-view_second y ys false e = short y ys e refl
+view_second y [] true e = subst (λ c. View (45 ∷ c ∷ [])) (sym (eqb-true y 45 e)) ends
+view_second y (x ∷ xs) true e = subst (λ c. View (45 ∷ c ∷ x ∷ xs)) (sym (eqb-true y 45 e)) (long x xs)
+view_second y ys false e = short y ys e
 
 view_first : (x : ℕ) (xs : Text) (b : Bool) → (x == 45) ≡ b → View (x ∷ xs)
-view_first x xs false e =
-    as_plain e (record { other = grind arith; long = grind arith; short = grind arith; kind = grind (arith, nat_tests) })
-view_first x [] true e = dash (ap (λ c. c ∷ []) (eqb-true x 45 e))
-view_first x (y ∷ ys) true e =
-    subst (λ c. View (c ∷ y ∷ ys)) (sym (eqb-true x 45 e)) (view_second y ys (y == 45) refl)
+view_first x xs false e = as_plain (x ∷ xs) e
+    (record { other = grind arith; long = grind arith; short = grind arith; kind = grind (arith, nat_tests) })
+view_first x [] true e = subst (λ c. View (c ∷ [])) (sym (eqb-true x 45 e)) dash
+view_first x (y ∷ ys) true e = subst (λ c. View (c ∷ y ∷ ys)) (sym (eqb-true x 45 e)) (view_second y ys (y == 45) refl)
 
 pub view : (word : Text) → View word
-view [] = as_plain refl (record { other = refl; long = refl; short = refl; kind = refl })
+view [] = as_plain [] refl (record { other = refl; long = refl; short = refl; kind = refl })
 view (x ∷ xs) = view_first x xs (x == 45) refl
 
 -- a lone hyphen is plain
@@ -283,18 +282,14 @@ hyphen_word : (waiting : Waiting) (p : ℕ) (h : Held) → (settle_at h ≡ [] �
     → subcommand_met [] waiting (45 ∷ 45 ∷ []) ≡ None → h.skip ≡ 0 → (word : Text) (rest : List Text)
     → IsUtf8 word → View word
     → (IsPlain word → Fails (at waiting p false h) (word ∷ rest)) → Fails (at waiting p false h) (word ∷ rest)
-hyphen_word waiting p h bad none skip word rest u (as_plain b is) otherwise = otherwise is
-hyphen_word waiting p h bad none skip word rest u (dash e) otherwise =
-    otherwise (subst IsPlain (sym e) hyphen_plain)
-hyphen_word waiting p h bad none skip word rest u (ends e) otherwise =
-    subst (λ w. Fails (at waiting p false h) (w ∷ rest)) (sym e)
-    (after_ends waiting p h none rest (stuck_trailing waiting p h bad rest))
-hyphen_word waiting p h bad none skip word rest u (long x xs e) otherwise =
-    subst (λ w. Fails (at waiting p false h) (w ∷ rest)) (sym e)
-    (turn_fails _ _ rest (long_refused waiting x xs p h bad))
-hyphen_word waiting p h bad none skip word rest u (short y ys ne e) otherwise =
-    subst (λ w. Fails (at waiting p false h) (w ∷ rest)) (sym e)
-    (turn_fails _ _ rest (short_refused y ys ne waiting p h (has_flags y ys (subst IsUtf8 e u)) skip))
+hyphen_word waiting p h bad none skip _ rest u (as_plain word b is) otherwise = otherwise is
+hyphen_word waiting p h bad none skip word rest u dash otherwise = otherwise hyphen_plain
+hyphen_word waiting p h bad none skip word rest u ends otherwise =
+    after_ends waiting p h none rest (stuck_trailing waiting p h bad rest)
+hyphen_word waiting p h bad none skip word rest u (long x xs) otherwise =
+    turn_fails _ _ rest (long_refused waiting x xs p h bad)
+hyphen_word waiting p h bad none skip word rest u (short y ys ne) otherwise =
+    turn_fails _ _ rest (short_refused y ys ne waiting p h (has_flags y ys u) skip)
 
 pub stuck_idle : (p : ℕ) (h : Held) → (settle_at h ≡ [] → ⊥) → h.skip ≡ 0 → (words : List Text)
     → AllByRecursion IsUtf8 words → Fails (at idle p false h) words

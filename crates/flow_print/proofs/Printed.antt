@@ -5,13 +5,9 @@ use Rattle.std.proofs.lemmas.Grind.{flat_map-append}
 use Rattle.std.specs.Prelude.{codes}
 use Rattle.std.specs.Fmt.{decimal}
 use Rattle.std.specs.List.{join_with_byte}
-use Rattle.flow_design.specs.declared.expr.Expr.{Expr, Number, Var, Unary, Binary, Sext, Pick}
-use Rattle.flow_design.specs.declared.expr.UnOp.TheVariants.{Not}
-use Rattle.flow_design.specs.declared.expr.BinOp.{BinOp}
 use Rattle.flow_design.specs.declared.session.Statement.{Statement}
 use Rattle.flow_design.specs.declared.session.Statement.TheVariants.{Input}
-use Rattle.flow_grammar.specs.Parts.{Part, Name, plain, expr_parts, parts}
-use Rattle.flow_grammar.specs.Operators.{binary_word}
+use Rattle.flow_grammar.specs.Parts.{Part, plain, parts}
 use Rattle.flow_grammar.proofs.SpellingLaws.{parts_Number, parts_Var, parts_Unary, parts_Binary, parts_Sext, parts_Pick}
 use Rattle.report_text.specs.Lines.{line, text_of_lines}
 use Rattle.report_text.proofs.LineLemmas.{lines_more}
@@ -23,39 +19,8 @@ pub spaced_append : (ps qs : List Part) → spaced_parts (ps ++ qs) ≡ spaced_p
 unfolding spaced_parts
 spaced_append ps qs = flat_map-append (λ p. 32 ∷ token_of p) ps qs
 
--- ---- expressions
-
-pub spaced_Number : (n : ℕ) → spaced_parts (expr_parts (Number n)) ≡ 32 ∷ decimal n
-unfolding spaced_parts
-spaced_Number n = rw (parts_Number n) (append-nil (32 ∷ decimal n))
-
-pub spaced_Var : (x : Name) → spaced_parts (expr_parts (Var x)) ≡ 32 ∷ x
-unfolding spaced_parts
-spaced_Var x = rw (parts_Var x) (append-nil (32 ∷ x))
-
-pub spaced_Unary : (a : Expr Name) → spaced_parts (expr_parts (Unary Not a)) ≡ 32 ∷ codes "~" ++ spaced_parts (expr_parts a)
-unfolding spaced_parts
-spaced_Unary a = rw (parts_Unary Not a) refl
-
-pub spaced_Binary : (o : BinOp) (a b : Expr Name) → spaced_parts (expr_parts (Binary o a b))
-    ≡ 32 ∷ binary_word o ++ (spaced_parts (expr_parts a) ++ spaced_parts (expr_parts b))
-unfolding spaced_parts
-spaced_Binary o a b = rw (parts_Binary o a b) (ap (λ x. 32 ∷ binary_word o ++ x) (spaced_append (expr_parts a) (expr_parts b)))
-
-pub spaced_Sext : (k : ℕ) (a : Expr Name)
-    → spaced_parts (expr_parts (Sext k a)) ≡ 32 ∷ codes "sext" ++ (32 ∷ decimal k ++ spaced_parts (expr_parts a))
-unfolding spaced_parts
-spaced_Sext k a = rw (parts_Sext k a) refl
-
-pub spaced_Pick : (a b c : Expr Name) → spaced_parts (expr_parts (Pick a b c))
-    ≡ 32 ∷ codes "?:" ++ (spaced_parts (expr_parts a) ++ (spaced_parts (expr_parts b) ++ spaced_parts (expr_parts c)))
-unfolding spaced_parts
-spaced_Pick a b c =
-    rw (parts_Pick a b c) (ap (λ x. 32 ∷ codes "?:" ++ x) (spaced_append (expr_parts a) (expr_parts b ++ expr_parts c)
-    ∙ ap (λ x. spaced_parts (expr_parts a) ++ x) (spaced_append (expr_parts b) (expr_parts c))))
-
--- all cases, for the search
-pub ruleset spaced_expressions = (spaced_Number, spaced_Var, spaced_Unary, spaced_Binary, spaced_Sext, spaced_Pick, append_assoc)
+-- all cases of expressions, for the search
+pub ruleset spaced_expressions = (parts_Number, parts_Var, parts_Unary, parts_Binary, parts_Sext, parts_Pick, spaced_append, append_assoc, append-nil)
 
 -- ---- lines
 

@@ -24,10 +24,9 @@ use Rattle.session_plan.specs.declared.section.Level.{Level}
 use Rattle.std.proofs.lemmas.List.Elements.{All-nil, All-cons}
 use Rattle.flow_design.specs.declared.limits.TheConstants.{TEMPS, OPERATIONS, BLOCK_CLOCKS}
 use Rattle.flow_design.specs.declared.expr.Expr.{Expr}
-use Rattle.flow_design.specs.declared.expr.Expr.TheVariants.{Number, Var, Unary, Binary, Sext, Pick}
+use Rattle.flow_design.specs.declared.expr.Expr.TheVariants.{Unary}
 use Rattle.flow_design.specs.declared.expr.UnOp.{UnOp}
 use Rattle.flow_design.specs.declared.expr.UnOp.TheVariants.{Not}
-use Rattle.flow_design.specs.declared.expr.BinOp.{BinOp}
 use Rattle.flow_design.specs.declared.expr.Op.{Op}
 use Rattle.flow_design.specs.Words.{reach, nodes, depth}
 use Rattle.flow_design.specs.Operations.{places_of, expressions_of, memory_of, port_of}
@@ -213,26 +212,16 @@ in_range least n most h = (grind (arith, nat_tests), grind (arith, nat_tests))
 -- ---- sizes
 
 module _ (names : List Name) where
-  nodes_kept : (e : Expr Name) → nodes (numbered names e) ≡ nodes e
-  unfolding nodes
-  nodes_kept = by_cases Name (λ e. nodes (numbered names e) ≡ nodes e) (record {
-    number = λ n. simp (numbered_number, folded-Number);
-    var = λ x. simp (numbered_var, folded-Var);
-    unary = λ o a h. simp (numbered_unary, folded-Unary, h);
-    binary = λ o a b h k. simp (numbered_binary, folded-Binary, h, k);
-    sext = λ w a h. simp (numbered_sext, folded-Sext, h);
-    pick = λ a b c h k l. simp (numbered_pick, folded-Pick, h, k, l);
-  })
-
-  depth_kept : (e : Expr Name) → depth (numbered names e) ≡ depth e
-  unfolding depth
-  depth_kept = by_cases Name (λ e. depth (numbered names e) ≡ depth e) (record {
-    number = λ n. simp (numbered_number, folded-Number);
-    var = λ x. simp (numbered_var, folded-Var);
-    unary = λ o a h. simp (numbered_unary, folded-Unary, h);
-    binary = λ o a b h k. simp (numbered_binary, folded-Binary, h, k);
-    sext = λ w a h. simp (numbered_sext, folded-Sext, h);
-    pick = λ a b c h k l. simp (numbered_pick, folded-Pick, h, k, l);
+  sizes_kept : (e : Expr Name) → (nodes (numbered names e) ≡ nodes e) × (depth (numbered names e) ≡ depth e)
+  unfolding nodes depth
+  sizes_kept = by_cases Name (λ e. (nodes (numbered names e) ≡ nodes e) × (depth (numbered names e) ≡ depth e)) (record {
+    number = λ n. (simp (numbered_number, folded-Number), simp (numbered_number, folded-Number));
+    var = λ x. (simp (numbered_var, folded-Var), simp (numbered_var, folded-Var));
+    unary = λ o a h. (simp (numbered_unary, folded-Unary, h.0), simp (numbered_unary, folded-Unary, h.1));
+    binary = λ o a b h k. (simp (numbered_binary, folded-Binary, h.0, k.0), simp (numbered_binary, folded-Binary, h.1, k.1));
+    sext = λ w a h. (simp (numbered_sext, folded-Sext, h.0), simp (numbered_sext, folded-Sext, h.1));
+    pick = λ a b c h k l.
+        (simp (numbered_pick, folded-Pick, h.0, k.0, l.0), simp (numbered_pick, folded-Pick, h.1, k.1, l.1));
   })
 
 -- ---- names that are known
@@ -255,45 +244,27 @@ module _ (earlier : List Statement) (names : List Name) (heard : Within (registe
   unfolding reach
   reach_unary Not a h known = simp (numbered_unary, folded-Unary) (h (rw parts_Unary at known))
 
-  reach_binary : (o : BinOp) (a b : Expr Name) → Reaches a → Reaches b → Reaches (Binary o a b)
-  unfolding reach
-  reach_binary o a b h k known =
-      let both = halves (expr_parts a) (expr_parts b) (rw parts_Binary at known) in
-      let one = h both.0 in let two = k both.1 in
-      simp (numbered_binary, folded-Binary) (omega arith)
-
-  reach_pick : (a b c : Expr Name) → Reaches a → Reaches b → Reaches c → Reaches (Pick a b c)
-  unfolding reach
-  reach_pick a b c h k l known =
-      let first = halves (expr_parts a) (expr_parts b ++ expr_parts c) (rw parts_Pick at known) in
-      let later = halves (expr_parts b) (expr_parts c) first.1 in
-      let one = h first.0 in let two = k later.0 in let three = l later.1 in
-      simp (numbered_pick, folded-Pick) (omega arith)
-
-  reach_var : (x : Name) → Reaches (Var x)
-  unfolding reach
-  reach_var x known =
-      let below = variable_below x (and_parts _ true (rw parts_Var at known)).0 in
-      simp (numbered_var, folded-Var) (omega arith)
-
-  reach_number : (n : ℕ) → Reaches (Number n)
-  unfolding reach
-  reach_number n known = simp (numbered_number, folded-Number) (omega arith)
-
-  reach_sext : (w : ℕ) (a : Expr Name) → Reaches a → Reaches (Sext w a)
-  unfolding reach
-  reach_sext w a h known = simp (numbered_sext, folded-Sext) (h (rw parts_Sext at known))
-
   reached : (e : Expr Name) → Reaches e
-  reached = by_cases Name Reaches
-      (record { number = reach_number; var = reach_var; unary = reach_unary; binary = reach_binary; sext = reach_sext; pick = reach_pick })
+  unfolding reach
+  reached = by_cases Name Reaches (record {
+    number = λ n known. simp (numbered_number, folded-Number) (omega arith);
+    var = λ x known.
+        let below = variable_below x (and_parts _ true (rw parts_Var at known)).0 in simp (numbered_var, folded-Var) (omega arith);
+    unary = reach_unary;
+    binary = λ o a b h k known.
+        let both = halves (expr_parts a) (expr_parts b) (rw parts_Binary at known) in
+        let one = h both.0 in let two = k both.1 in simp (numbered_binary, folded-Binary) (omega arith);
+    sext = λ w a h known. simp (numbered_sext, folded-Sext) (h (rw parts_Sext at known));
+    pick = λ a b c h k l known.
+        let first = halves (expr_parts a) (expr_parts b ++ expr_parts c) (rw parts_Pick at known) in
+        let later = halves (expr_parts b) (expr_parts c) first.1 in
+        let one = h first.0 in let two = k later.0 in let three = l later.1 in simp (numbered_pick, folded-Pick) (omega arith);
+  })
 
   sound : (e : Expr Name) → Known (expr_parts e) → is_small e ≡ true → IsExpressionSound (length names) (numbered names e)
-  sound e known small = record {
-    variables = reached e known;
-    size = rw nodes_kept (grind (arith, nat_tests));
-    height = rw depth_kept (grind (arith, nat_tests));
-  }
+  sound e known small =
+      let sizes = sizes_kept names e in
+      record { variables = reached e known; size = grind (arith, nat_tests); height = grind (arith, nat_tests) }
 
 -- ---- operations
 

@@ -256,7 +256,8 @@ modules_read names earlier (x ∷ rest) follow over heard =
     more x follow.0 follow.1 over next (modules_read names (x ∷ earlier) rest follow.1 over next)
   where
     more : (x : Statement) → Keeps earlier x → Follow (x ∷ earlier) rest → Over (x ∷ earlier) rest
-        → Both channel_name names (x ∷ earlier) rest → All (IsModuleRead (length names)) (map (module_of names) (sections level.Modules rest))
+        → Both channel_name names (x ∷ earlier) rest
+        → All (IsModuleRead (length names)) (map (module_of names) (sections level.Modules rest))
         → All (IsModuleRead (length names)) (map (module_of names) (sections level.Modules (x ∷ rest)))
     more (s.Module n) keeps follow over heard h =
         All-cons (IsModuleRead (length names)) _ (map (module_of names) (sections level.Modules rest))

@@ -13,8 +13,7 @@ use Rattle.flow_design.specs.Words.{nodes, depth}
 use Rattle.flow_grammar.specs.Rules.{is_in_range}
 use Rattle.flow_grammar.specs.Operands.{seen, kept, is_known_by}
 use Rattle.flow_grammar.proofs.Induction.{by_cases}
-use Rattle.flow_grammar.proofs.Trees.{folded-Number, folded-Var, folded-Unary, folded-Binary, folded-Sext, folded-Pick, seen_Number}
-use Rattle.flow_grammar.proofs.Trees.{seen_Var, seen_Unary, seen_Binary, seen_Sext, seen_Pick}
+use Rattle.flow_grammar.proofs.Trees.{folded-Number, folded-Var, folded-Unary, folded-Binary, folded-Sext, folded-Pick}
 use Rattle.flow_grammar.proofs.SpellingLaws.{parts_Number, parts_Var, parts_Unary, parts_Binary, parts_Sext, parts_Pick}
 use Rattle.flow_grammar.proofs.Verdicts.{verdict, verdict_one, verdict_two, verdict_sext, verdict_pick}
 
@@ -32,18 +31,18 @@ module _ (known : List ℕ → Bool) where
   Told e = seen known e ≡ verdict (ranged e) (familiar e) e (nodes e) (depth e)
 
   told_unary : (o : UnOp) (a : Expr (List ℕ)) → Told a → Told (Unary o a)
-  unfolding nodes depth
-  told_unary Not a h = simp (seen_Unary, h, verdict_one, parts_Unary, folded-Unary)
+  unfolding nodes depth seen
+  told_unary Not a h = simp (folded-Unary, h, verdict_one, parts_Unary)
 
   told : (e : Expr (List ℕ)) → Told e
-  unfolding nodes depth
+  unfolding nodes depth seen
   told = by_cases (List ℕ) Told (record {
-    number = λ n. simp (seen_Number, parts_Number, folded-Number, word_test);
-    var = λ x. simp (seen_Var, parts_Var, folded-Var) (grind arith);
+    number = λ n. simp (parts_Number, folded-Number, word_test);
+    var = λ x. simp (parts_Var, folded-Var) (grind arith);
     unary = told_unary;
-    binary = λ o a b h k. simp (seen_Binary, h, k, verdict_two, parts_Binary, folded-Binary, list_all-append);
-    sext = λ k a h. simp (seen_Sext, h, verdict_sext, parts_Sext, folded-Sext);
-    pick = λ a b c h k l. simp (seen_Pick, h, k, l, verdict_pick, parts_Pick, folded-Pick, list_all-append);
+    binary = λ o a b h k. simp (folded-Binary, h, k, verdict_two, parts_Binary, list_all-append);
+    sext = λ k a h. simp (folded-Sext, h, verdict_sext, parts_Sext);
+    pick = λ a b c h k l. simp (folded-Pick, h, k, l, verdict_pick, parts_Pick, list_all-append);
   })
 
   pub kept_of : (e : Expr (List ℕ)) → seen known e ≡ kept known e

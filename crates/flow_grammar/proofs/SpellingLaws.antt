@@ -430,8 +430,8 @@ module _ (version : ℕ) where
       let told = spelled_by ts (drop 1 (bare_parts n w)) h.2.1 in
       rw h.2.0 (grind (arith, nat_tests, word_cases))
 
-  at_read : (ts : List Token) (off : ℕ) (guard : Option Name) (o : Op Name) → spelled ts (plain off ∷ guard_parts guard ++ op_parts o) ≡ true
-      → at_of ts ≡ Some (At off guard o)
+  at_read : (ts : List Token) (off : ℕ) (guard : Option Name) (o : Op Name)
+      → spelled ts (plain off ∷ guard_parts guard ++ op_parts o) ≡ true → at_of ts ≡ Some (At off guard o)
   unfolding at_of
   at_read (t ∷ ts) off None o h = grind (arith, nat_tests, op_read, no_guard)
   at_read (t ∷ i ∷ r ∷ ts) off (Some x) o h = let behind = op_read ts o in grind (arith, nat_tests, word_cases)

@@ -11,7 +11,7 @@ use Rattle.flow_grammar.specs.declared.operator.Operator.{Operator}
 use Rattle.flow_grammar.specs.declared.operand.Operand.{Operand}
 use Rattle.flow_grammar.specs.Operators.{operator_of}
 use Rattle.flow_grammar.specs.Trees.{Trees, applied_if, with_token, trees_of}
-use Rattle.flow_grammar.specs.Operands.{numbered, named, one, two, extend, choose, layer_seen, seen, apply_if, take_token}
+use Rattle.flow_grammar.specs.Operands.{layer_seen, seen, apply_if, take_token}
 
 -- a fold at each variant
 module _ (X A : Type 0) (step : Expr-F X A → A) where
@@ -40,42 +40,26 @@ module _ (known : List ℕ → Bool) where
   abbrev pub views : Option Trees → Option (List Operand)
   views found = option_map (map (seen known)) found
 
-  pub seen_Number : (n : ℕ) → seen known (Number n) ≡ numbered n
-  unfolding seen
-  seen_Number n = folded-Number (List ℕ) Operand (layer_seen known) n
-
-  pub seen_Var : (x : List ℕ) → seen known (Var x) ≡ named known x
-  unfolding seen
-  seen_Var x = folded-Var (List ℕ) Operand (layer_seen known) x
-
-  pub seen_Unary : (o : UnOp) (a : Expr (List ℕ)) → seen known (Unary o a) ≡ one o (seen known a)
-  unfolding seen
-  seen_Unary o a = folded-Unary (List ℕ) Operand (layer_seen known) o a
-
-  pub seen_Binary : (o : BinOp) (a b : Expr (List ℕ)) → seen known (Binary o a b) ≡ two o (seen known a) (seen known b)
-  unfolding seen
-  seen_Binary o a b = folded-Binary (List ℕ) Operand (layer_seen known) o a b
-
-  pub seen_Sext : (k : ℕ) (a : Expr (List ℕ)) → seen known (Sext k a) ≡ extend k (seen known a)
-  unfolding seen
-  seen_Sext k a = folded-Sext (List ℕ) Operand (layer_seen known) k a
-
-  pub seen_Pick : (a b c : Expr (List ℕ)) → seen known (Pick a b c) ≡ choose (seen known a) (seen known b) (seen known c)
-  unfolding seen
-  seen_Pick a b c = folded-Pick (List ℕ) Operand (layer_seen known) a b c
-
   abbrev on_top : Trees → Operand → Option (List Operand)
   on_top trees o = Some (o ∷ map (seen known) trees)
 
   seen_applied : (o : Option Operator) (behind : List (List ℕ)) (trees : Trees)
       → views (applied_if o behind trees) ≡ apply_if o behind (map (seen known) trees)
-  seen_applied o behind trees = grind (arith, seen_Unary, seen_Binary, seen_Sext, seen_Pick)
+  unfolding seen
+  seen_applied o behind trees = grind (
+    arith,
+    folded-Unary (List ℕ) Operand (layer_seen known),
+    folded-Binary (List ℕ) Operand (layer_seen known),
+    folded-Sext (List ℕ) Operand (layer_seen known),
+    folded-Pick (List ℕ) Operand (layer_seen known),
+  )
 
   pub seen_token : (token : List ℕ) (behind : List (List ℕ)) (trees : Trees)
       → views (with_token token behind trees) ≡ take_token known token behind (map (seen known) trees)
-  unfolding with_token take_token
+  unfolding seen with_token take_token
   seen_token token behind trees =
-      let applied = seen_applied (operator_of token) behind trees in grind (arith, seen_Number, seen_Var)
+      let applied = seen_applied (operator_of token) behind trees in
+      grind (arith, folded-Number (List ℕ) Operand (layer_seen known), folded-Var (List ℕ) Operand (layer_seen known))
 
   -- one token more in front
   pub more_trees : (token : List ℕ) (behind : List (List ℕ)) (stack : List Operand) → Some stack ≡ views (trees_of behind)

@@ -20,7 +20,8 @@ unfolding spaced_parts
 spaced_append ps qs = flat_map-append (λ p. 32 ∷ token_of p) ps qs
 
 -- all cases of expressions, for the search
-pub ruleset spaced_expressions = (parts_Number, parts_Var, parts_Unary, parts_Binary, parts_Sext, parts_Pick, spaced_append, append_assoc, append-nil)
+pub ruleset spaced_expressions =
+    (parts_Number, parts_Var, parts_Unary, parts_Binary, parts_Sext, parts_Pick, spaced_append, append_assoc, append-nil)
 
 -- ---- lines
 

@@ -42,7 +42,8 @@ sections_fit : (l : Level) (ss : List Statement) → AllFit ss → AllByRecursio
 sections_fit l [] f = tt
 sections_fit l (s ∷ ss) f =
     let later = sections_fit l ss f.1 in
-    cond_both (begins l s) _ _ (AllByRecursion (IsSection l)) (λ e. ((e, f.0, body_fits (λ t. not (begins l t)) ss f.1), later)) (λ e. later)
+    cond_both (begins l s) _ _ (AllByRecursion (IsSection l))
+    (λ e. ((e, f.0, body_fits (λ t. not (begins l t)) ss f.1), later)) (λ e. later)
 
 -- nothing is found where no section gives anything
 none_in : {A B : Type 0} (l : Level) (f : A → Option B) (g : Section → A) (xs : List Section)

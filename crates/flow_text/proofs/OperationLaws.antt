@@ -91,20 +91,11 @@ module _ (t : Tables) where
 
   pub tree_of_operand : (known : Bool) (trees : Option Trees) (o : Operand) → only_operand (found_in trees) ≡ Ok o
       → tree_reading t known trees ≡ Ok (tree_kept known o)
-  tree_of_operand known (Some (e ∷ [])) o h =
-      let same : kept_of e ≡ o = (cc) in
-      ap (λ (x : Result (Expr Name) Code). Ok x) (sym (tree_is known e) ∙ ap (tree_kept known) same)
-  tree_of_operand known trees o h = absurd cc
+  tree_of_operand known trees o h = grind (arith, tree_is)
 
   pub trees_of_operands : (known : Bool) (trees : Option Trees) (o p : Operand) → both_operands (found_in trees) ≡ Ok (o, p)
       → trees_reading t known trees ≡ Ok (trees_kept (tree_kept known o) (tree_kept true p))
-  trees_of_operands known (Some (e ∷ f ∷ [])) o p h =
-      let pair : (kept_of e, kept_of f) ≡ (o, p) = (cc) in
-      let first : kept_of e ≡ o = ap (λ (x : Operand × Operand). x.0) pair in
-      let second : kept_of f ≡ p = ap (λ (x : Operand × Operand). x.1) pair in
-      ap (λ (x : Result (Expr Name × Expr Name) Code). Ok x)
-      (sym (trees_are known e f) ∙ (λ i. trees_kept (tree_kept known (first i)) (tree_kept true (second i))))
-  trees_of_operands known trees o p h = absurd cc
+  trees_of_operands known trees o p h = grind (arith, trees_are)
 
   -- ---- operations with one expression
 

@@ -51,8 +51,7 @@ none_of f (y ∷ xs) h zero x at = let same : y ≡ x = cc in ap f (sym same) �
 none_of f (y ∷ xs) h (suc k) x at = none_of f xs (none_for f y xs h).1 k x at
 
 pub none_mapped : {A B : Type 0} (f : A → B) (o : Option A) → option_map f o ≡ None → o ≡ None
-none_mapped f None h = refl
-none_mapped f (Some x) h = absurd cc
+none_mapped f o h = grind arith
 
 -- every item gives nothing
 none_in : {A B : Type 0} (f : A → Option B) (xs : List A) → first_in f xs ≡ None → (k : ℕ) (d : A) → k < length xs

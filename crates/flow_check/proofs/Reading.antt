@@ -23,10 +23,11 @@ use Rattle.session_plan.specs.Plans.{depth_in, channels_of, channel_names, plan_
 use Rattle.session_plan.specs.Sections.{begins, body_of, sections, declared, declared_width}
 use Rattle.flow_check.specs.Read.{IsTimedRead, IsKindRead, IsNextRead, IsBlockRead, IsModuleRead, IsPlanRead}
 use Rattle.flow_check.proofs.Bodies.{Keeps, Follow, Plain, plain_body, follow_body, inside, nothing_inside, grows, at_most, as_many, Heard}
+use Rattle.flow_check.specs.Broken.{passes}
 use Rattle.flow_check.proofs.Bodies.{heard_none, Grows, Both, both_more, all_follow, temp_same, heard_all, Hears}
 use Rattle.flow_check.proofs.Bodies.{hears_more, hears_body, plain_later, TimedRead, ops_read, next_read, few_temps, few_operations}
 use Rattle.flow_check.proofs.Bodies.{len_read, kind_read, register_same, memory_same, heard_body, channel_same, in_range}
-use Rattle.std.specs.Prelude.{IsTrue, reverse, ◌||◌, nat_le, if◌then◌else◌}
+use Rattle.std.specs.Prelude.{IsTrue, reverse, nat_le, if◌then◌else◌}
 use Rattle.std.proofs.lemmas.Bool.{and_parts}
 use Rattle.std.proofs.lemmas.List.{length-map, reverse-append, get_or-map}
 use Rattle.flow_design.specs.declared.design.Memory.{Memory}
@@ -408,10 +409,10 @@ first_kind n [] = None
 first_kind n (c ∷ cs) = cond (bytes_eq n c.name) (Some c.kind) (first_kind n cs)
 
 -- it stands at the name's place
-kind_placed : (n : Name) (cs : List Channel) (k : ChannelKind) → first_kind n cs ≡ Some k
-    → (number_of (map name cs) n < length cs) × ((get_or cs (number_of (map name cs) n) no_channel).kind ≡ k)
-kind_placed n [] k h = absurd cc
-kind_placed n (c ∷ cs) k h = let later = kind_placed n cs k in grind arith
+kind_placed : (n : Name) (cs : List Channel) → passes is_fifo (first_kind n cs) ≡ true
+    → (number_of (map name cs) n < length cs) × (is_fifo (get_or cs (number_of (map name cs) n) no_channel).kind ≡ true)
+kind_placed n [] h = absurd (true≢false (sym h))
+kind_placed n (c ∷ cs) h = let later = kind_placed n cs in (grind arith, grind arith)
 
 names_are : (statements : List Statement) → channel_names statements ≡ map name (channels_of statements)
 names_are [] = refl
@@ -423,41 +424,15 @@ names_are (x ∷ rest) = let later = names_are rest in grind arith
 no_later : (n : Name) (earlier rest : List Statement) → Follow earlier rest → is_among (channels earlier) n ≡ true
     → is_among (filter_map fifo_name rest) n ≡ false
 no_later n earlier [] follow h = refl
-no_later n earlier (x ∷ rest) follow h = by x follow.0 (no_later n (x ∷ earlier) rest follow.1)
-  where
-    by : (y : Statement) → Keeps earlier y
-        → (is_among (channels (y ∷ earlier)) n ≡ true → is_among (filter_map fifo_name rest) n ≡ false)
-        → is_among (cons_option (fifo_name y) (filter_map fifo_name rest)) n ≡ false
-    by (s.Fifo m w d l) keeps later = let fresh = keeps.fresh in let same = bytes_eq-Decides n m in grind arith
-    by y keeps later = grind arith
+no_later n earlier (x ∷ rest) follow h =
+    let fresh = follow.0.fresh in let later = no_later n (x ∷ earlier) rest follow.1 in grind (arith, bytes_eq-Decides)
 
 -- the first channel of a FIFO's name is a FIFO
 fifo_first : (n : Name) (earlier rest : List Statement) → Follow earlier rest → is_among (filter_map fifo_name rest) n ≡ true
-    → (d l : ℕ) × (first_kind n (filter_map channel rest) ≡ Some (kind.Fifo d l))
+    → passes is_fifo (first_kind n (filter_map channel rest)) ≡ true
 fifo_first n earlier [] follow h = absurd (true≢false (sym h))
-fifo_first n earlier (x ∷ rest) follow h = by x (λ q. no_later n (x ∷ earlier) rest follow.1 q) (fifo_first n (x ∷ earlier) rest follow.1) h
-  where
-    behind : (b : Bool) (k : ChannelKind) → (b || is_among (channels earlier) n ≡ true → is_among (filter_map fifo_name rest) n ≡ false)
-        → is_among (filter_map fifo_name rest) n ≡ true
-        → (is_among (filter_map fifo_name rest) n ≡ true → (d l : ℕ) × (first_kind n (filter_map channel rest) ≡ Some (kind.Fifo d l)))
-        → (d l : ℕ) × (cond b (Some k) (first_kind n (filter_map channel rest)) ≡ Some (kind.Fifo d l))
-    behind true k none q later = absurd (true≢false (sym q ∙ none refl))
-    behind false k none q later = later q
-
-    by : (y : Statement) → (is_among (cons_option (channel_name y) (channels earlier)) n ≡ true
-        → is_among (filter_map fifo_name rest) n ≡ false)
-        → (is_among (filter_map fifo_name rest) n ≡ true → (d l : ℕ) × (first_kind n (filter_map channel rest) ≡ Some (kind.Fifo d l)))
-        → is_among (cons_option (fifo_name y) (filter_map fifo_name rest)) n ≡ true
-        → (d l : ℕ) × (first_kind n (cons_option (channel y) (filter_map channel rest)) ≡ Some (kind.Fifo d l))
-    by (s.Fifo m w d l) none later q = one (bytes_eq n m) q
-      where
-        one : (b : Bool) → b || is_among (filter_map fifo_name rest) n ≡ true → (e k : ℕ)
-            × (cond b (Some (kind.Fifo d l)) (first_kind n (filter_map channel rest)) ≡ Some (kind.Fifo e k))
-        one true p = (d, l, refl)
-        one false p = later p
-    by (s.Source m w) none later q = behind (bytes_eq n m) kind.Source none q later
-    by (s.Sink m w) none later q = behind (bytes_eq n m) kind.Sink none q later
-    by y none later q = later q
+fifo_first n earlier (x ∷ rest) follow h =
+    let none = no_later n (x ∷ earlier) rest follow.1 in let later = fifo_first n (x ∷ earlier) rest follow.1 in grind arith
 
 -- ---- edits
 
@@ -466,9 +441,8 @@ edit_fits : (statements : List Statement) → Follow [] statements → (n : Name
     → EditFits (plan_of statements) (record { channel = number_of (channel_names statements) n; depth = depth })
 unfolding plan_of
 edit_fits statements follow n depth there least most =
-    let found = fifo_first n [] statements follow there in
-    let placed = rw (← names_are statements) at (kind_placed n (channels_of statements) (kind.Fifo found.0 found.1) found.2) in
-    record { fifo = ap is_fifo placed.1; entry = simp length-map placed.0; least = least; most = most }
+    let placed = rw (← names_are statements) at (kind_placed n (channels_of statements) (fifo_first n [] statements follow there)) in
+    record { fifo = placed.1; entry = simp length-map placed.0; least = least; most = most }
 
 edit_more : (statements earlier : List Statement) → Follow [] statements → Heard fifo_name (filter_map fifo_name statements) earlier
     → (x : Statement) → Keeps earlier x

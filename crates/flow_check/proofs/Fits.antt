@@ -4,12 +4,11 @@ use Rattle.std.proofs.Common.{option_map, Bool, true, false, cond, refl, sym, ap
 use Rattle.std.specs.Prelude.{◌==◌, nat_lt, slice_get, IsTrue}
 use Rattle.std.specs.List.{All, AllPairs, enumerate_from}
 use Rattle.std.proofs.Math.Nat.{mod-eq_of_lt}
-use Rattle.std.proofs.lemmas.Bool.{and_parts, eqb-true, eq-eqb, not-false, and_from, lt-ltb, not_from_true, false_from_ne_true}
+use Rattle.std.proofs.lemmas.Bool.{and_parts, eqb-true, eq-eqb, and_from, lt-ltb, not_from_true, false_from_ne_true}
 use Rattle.std.proofs.lemmas.List.{get_or-take, length-take, get_or_default}
 use Rattle.std.proofs.lemmas.List.Folds.{list_any_at, list_any_none}
-use Rattle.std.proofs.lemmas.List.FromFn.{get_or-enumerate_from, length-enumerate_from}
+use Rattle.std.proofs.lemmas.List.FromFn.{length-enumerate_from}
 use Rattle.std.proofs.lemmas.Bool.Decides.{nat_tests}
-use Rattle.flow_word.specs.declared.access.Side.TheVariants.{Pop, Push}
 use Rattle.flow_word.specs.declared.access.Port.{Port}
 use Rattle.flow_design.specs.declared.design.BlockKind.{BlockKind}
 use Rattle.flow_design.specs.declared.design.BlockKind.TheVariants.{Plain, Loop}
@@ -23,11 +22,12 @@ use Rattle.flow_design.specs.Operations.{port_of, used_port}
 use Rattle.flow_design.specs.Plans.{no_channel, kind_at}
 use Rattle.flow_design.specs.StaticRules.{same_port, uses, IsTimedSound, IsKindSound, IsNextSound, Clashes, IsBlockSound, IsModuleSound}
 use Rattle.flow_design.specs.StaticRules.{IsChannelSound, FitsEngine}
+use Rattle.session_plan.proofs.Giving.{numbered_at}
 use Rattle.flow_grammar.specs.declared.fault.Code.{Code}
 use Rattle.flow_check.specs.declared.item.Spot.TheVariants.{Head, Operation, Terminator}
 use Rattle.flow_check.specs.declared.item.Item.{Item}
 use Rattle.flow_check.specs.First.{first_in, first_behind, first_for, place_where}
-use Rattle.flow_check.specs.Rules.{leads_out, breaks_limits, lacks_users, has_users, is_served, phase, slot, is_slot}
+use Rattle.flow_check.specs.Rules.{leads_out, breaks_limits, lacks_users, is_served, phase, slot, is_slot}
 use Rattle.flow_check.specs.Rules.{takes_again, clashes, is_bad_loop, is_too_late, lacks_port, is_on_wrong_side, spot, spot_in, in_module}
 use Rattle.flow_check.specs.Rules.{broken_by, rules, checking_fault, Slot}
 use Rattle.flow_check.proofs.Firsts.{where_behind, behind_least}
@@ -179,19 +179,13 @@ channel_sound : (plan : Plan) → IsPlanRead plan
     → place_where (lacks_users plan.design.modules) (enumerate_from 0 plan.design.channels) ≡ None
     → (f : ℕ) → f < length plan.design.channels → IsChannelSound plan f
 channel_sound plan read h f there =
-    let at : (get_or (enumerate_from 0 plan.design.channels) f (0, no_channel)) ≡ (0 + f, get_or plan.design.channels f no_channel)
-    = get_or-enumerate_from 0 plan.design.channels f (0, no_channel) there in
-    let kept : lacks_users plan.design.modules (f, get_or plan.design.channels f no_channel) ≡ false
-    = sym (ap (lacks_users plan.design.modules) (at ∙ ap (λ (k : ℕ). (k, get_or plan.design.channels f no_channel)) (omega arith)))
-    ∙ none_where (lacks_users plan.design.modules) (enumerate_from 0 plan.design.channels) h f (0, no_channel)
+    let at = numbered_at plan.design.channels no_channel f there in
+    let kept = none_where (lacks_users plan.design.modules) (enumerate_from 0 plan.design.channels) h f (0, no_channel)
     (rw length-enumerate_from there) in
-    let modules : List Module = plan.design.modules in
-    let both = and_parts (has_users modules f (kind_at plan f) Pop) (has_users modules f (kind_at plan f) Push)
-    (not-false (is_served modules f (kind_at plan f)) kept) in
     record {
       name = read.names f there;
-      popping = eqb-true _ _ both.0;
-      pushing = eqb-true _ _ both.1;
+      popping = grind (arith, nat_tests);
+      pushing = grind (arith, nat_tests);
       entries = read.entries f there;
     }
 
@@ -321,10 +315,7 @@ module _ (plan : Plan) (fits : FitsEngine plan) where
   all_served = where_none (lacks_users plan.design.modules) (0, no_channel) (enumerate_from 0 plan.design.channels) (λ f l.
       let there : f < length plan.design.channels = omega (arith, length-enumerate_from 0 plan.design.channels) in
       let sound = fits.channels f there in
-      let at : get_or (enumerate_from 0 plan.design.channels) f (0, no_channel) ≡ (f, get_or plan.design.channels f no_channel)
-      = get_or-enumerate_from 0 plan.design.channels f (0, no_channel) there
-      ∙ ap (λ (k : ℕ). (k, get_or plan.design.channels f no_channel)) (omega arith) in
-      ap (lacks_users plan.design.modules) at
+      ap (lacks_users plan.design.modules) (numbered_at plan.design.channels no_channel f there)
       ∙ not_from_true (is_served plan.design.modules f (kind_at plan f))
       (and_from _ _ (eq-eqb _ _ sound.popping) (eq-eqb _ _ sound.pushing)))
 

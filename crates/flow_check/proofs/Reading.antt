@@ -43,9 +43,10 @@ use Rattle.std.proofs.lemmas.Bool.Decides.{nat_tests}
 use Rattle.flow_design.specs.declared.session.Statement.TheVariants.{Input}
 use Rattle.flow_design.specs.declared.design.ChannelKind.{ChannelKind}
 use Rattle.flow_design.specs.declared.design.Channel.{Channel}
-use Rattle.std.proofs.lemmas.List.FromFn.{get_or-enumerate_from, length-enumerate_from}
+use Rattle.std.proofs.lemmas.List.FromFn.{length-enumerate_from}
 use Rattle.flow_design.specs.Plans.{no_channel, is_fifo, EditFits}
 use Rattle.session_plan.proofs.Counts.{names_long}
+use Rattle.session_plan.proofs.Giving.{numbered_at}
 use Rattle.std.specs.Str.{bytes_eq}
 use Rattle.std.proofs.lemmas.Slice.Eq.{bytes_eq-Decides}
 use Rattle.flow_design.specs.declared.plan.Edit.{Edit}
@@ -387,8 +388,7 @@ plan_read statements rules =
           let c : Channel = get_or cs f no_channel in
           let at : get_or (map (inputs_for names statements) (enumerate_from 0 cs)) f [] ≡ inputs_for names statements (f, c)
           = get_or-map (inputs_for names statements) (enumerate_from 0 cs) f (0, no_channel) [] (rw length-enumerate_from there)
-          ∙ ap (inputs_for names statements) (get_or-enumerate_from 0 cs f (0, no_channel) there)
-          ∙ ap (λ (k : ℕ). inputs_for names statements (k, c)) (omega arith) in
+          ∙ ap (inputs_for names statements) (numbered_at cs no_channel f there) in
           let deep : get_or (map (λ (d : Channel). depth_in d.kind) cs) f 0 ≡ depth_in c.kind
           = get_or-map (λ (d : Channel). depth_in d.kind) cs f no_channel 0 there in
           subst (λ (l : List ℕ). AreEntriesSound c.kind l (get_or (map (λ (d : Channel). depth_in d.kind) cs) f 0)) (sym at)

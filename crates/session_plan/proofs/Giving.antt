@@ -40,6 +40,9 @@ given_more names channels before s old new given long added = record {
       (inputs_append c.kind c.width (flat_map (values_for names f) before) (values_for names f s)));
 }
 
+pub numbered_at : {A : Type 0} (xs : List A) (d : A) (i : ℕ) → i < length xs → get_or (enumerate_from 0 xs) i (0, d) ≡ (i, get_or xs i d)
+numbered_at xs d i there = get_or-enumerate_from 0 xs i (0, d) there ∙ ap (λ (k : ℕ). (k, get_or xs i d)) (omega arith)
+
 -- all of them
 pub given_all : (names : List Name) (channels : List Channel) (statements : List Statement) (inputs : List (List ℕ))
     → AreGiven names channels statements inputs → inputs ≡ map (inputs_for names statements) (enumerate_from 0 channels)
@@ -50,5 +53,4 @@ given_all names channels statements inputs given =
     let below : f < length channels = omega (arith, given.long) in
     given.each f below
     ∙ sym (get_or-map g (enumerate_from 0 channels) f (0, no_channel) [] (rw length-enumerate_from below)
-    ∙ ap g (get_or-enumerate_from 0 channels f (0, no_channel) below)
-    ∙ ap (λ (k : ℕ). g (k, get_or channels f no_channel)) (omega arith)))
+    ∙ ap g (numbered_at channels no_channel f below)))

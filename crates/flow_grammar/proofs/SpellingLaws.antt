@@ -24,7 +24,7 @@ use Rattle.flow_grammar.specs.declared.keyword.Verb.{Verb}
 use Rattle.flow_grammar.specs.Keywords.{keyword_word, keywords, keyword_of, verb_word, verbs, verb_of}
 use Rattle.flow_grammar.specs.Operators.{operator_word, operators, operator_of}
 use Rattle.flow_grammar.specs.Spelling.{Spelled, Spells, Writes, WritesFifo}
-use Rattle.flow_grammar.specs.Trees.{Trees, trees_of, with_token, extended, applied_if}
+use Rattle.flow_grammar.specs.Trees.{Trees, trees_of, with_token, applied, applied_if}
 use Rattle.flow_grammar.proofs.Trees.{folded-Number, folded-Var, folded-Unary, folded-Binary, folded-Sext, folded-Pick}
 use Rattle.std.specs.Char.{is_ascii_digit, is_ascii_alphabetic}
 use Rattle.std.proofs.lemmas.Bool.Decides.{nat_tests}
@@ -96,82 +96,11 @@ operator_is t o e = word_is t (operator_word o) (found_passes (λ (x : Operator)
 
 -- ---- tokens
 
--- what trees say of tokens
-Says : List (List ℕ) → Option Trees → Type 0
-Says ts None = Unit {0}
-Says ts (Some es) = Spelled ts (all_parts es)
-
 -- a number in front is a tree of its own
 number_top : (k : List ℕ) (behind : List (List ℕ)) (e : Expr (List ℕ)) (es : Trees) → is_number k ≡ true
     → trees_of (k ∷ behind) ≡ Some (e ∷ es) → e ≡ Number (number_of k)
 unfolding trees_of with_token
 number_top k behind e es h t = grind arith
-
-says_extended : (t : List ℕ) (behind : List (List ℕ)) (es : Trees) → t ≡ codes "sext" → trees_of behind ≡ Some es
-    → Spelled behind (all_parts es) → Says (t ∷ behind) (extended behind es)
-unfolding Says
-says_extended t [] es w e s = tt
-says_extended t (k ∷ behind) [] w e s = tt
-says_extended t (k ∷ behind) (number ∷ []) w e s = tt
-says_extended t (k ∷ behind) (number ∷ a ∷ es) w e s = go (is_number k) refl
-  where
-    go : (b : Bool) → is_number k ≡ b → Says (t ∷ k ∷ behind) (cond b (Some (Sext (number_of k) a ∷ es)) None)
-    go false h = tt
-    go true h =
-        let n : number ≡ Number (number_of k) = number_top k behind number (a ∷ es) h e in
-        let s' : Spelled (k ∷ behind) (expr_parts (Number (number_of k)) ++ all_parts (a ∷ es)) =
-        subst (λ (x : Expr (List ℕ)). Spelled (k ∷ behind) (expr_parts x ++ all_parts (a ∷ es))) n s in
-        let q = rw (parts_Number (number_of k)) at s' in
-        rw (parts_Sext (number_of k) a) (w, ((h, refl), q.1))
-
-says_applied : (t : List ℕ) (behind : List (List ℕ)) (o : Option Operator) (es : Trees) → operator_of t ≡ o → trees_of behind ≡ Some es
-    → Spelled behind (all_parts es) → Says (t ∷ behind) (applied_if o behind es)
-unfolding Says
-says_applied t behind None es w e s = tt
-says_applied t behind (Some (One Not)) [] w e s = tt
-says_applied t behind (Some (One Not)) (a ∷ es) w e s = rw (parts_Unary Not a) (operator_is t (One Not) w, s)
-says_applied t behind (Some (Two o)) [] w e s = tt
-says_applied t behind (Some (Two o)) (a ∷ []) w e s = tt
-says_applied t behind (Some (Two o)) (a ∷ b ∷ es) w e s =
-    rw (parts_Binary o a b, append_assoc (expr_parts a) (expr_parts b) (all_parts es)) (operator_is t (Two o) w, s)
-says_applied t behind (Some Extend) es w e s = says_extended t behind es (operator_is t Extend w) e s
-says_applied t behind (Some Choose) [] w e s = tt
-says_applied t behind (Some Choose) (a ∷ []) w e s = tt
-says_applied t behind (Some Choose) (a ∷ b ∷ []) w e s = tt
-says_applied t behind (Some Choose) (a ∷ b ∷ c ∷ es) w e s =
-    rw (
-      parts_Pick a b c,
-      append_assoc (expr_parts a) (expr_parts b ++ expr_parts c) (all_parts es),
-      append_assoc (expr_parts b) (expr_parts c)
-          (all_parts es),
-    )
-    (operator_is t Choose w, s)
-
-says_token : (t : List ℕ) (behind : List (List ℕ)) (es : Trees) → trees_of behind ≡ Some es → Spelled behind (all_parts es)
-    → Says (t ∷ behind) (with_token t behind es)
-unfolding Says with_token
-says_token t behind es e s = go (is_number t) (is_name t) refl refl
-  where
-    go : (a b : Bool) → is_number t ≡ a → is_name t ≡ b
-        → Says (t ∷ behind) (cond a (Some (Number (number_of t) ∷ es)) (cond b (Some (Var t ∷ es)) (applied_if (operator_of t) behind es)))
-    go true b h k = rw (parts_Number (number_of t)) ((h, refl), s)
-    go false true h k = rw (parts_Var t) ((k, refl), s)
-    go false false h k = says_applied t behind (operator_of t) es refl e s
-
-says : (ts : List (List ℕ)) → Says ts (trees_of ts)
-unfolding Says trees_of
-says [] = tt
-says (t ∷ behind) = go (trees_of behind) refl (says behind)
-  where
-    go : (found : Option Trees) → trees_of behind ≡ found → Says behind found
-        → Says (t ∷ behind) (option_and_then (with_token t behind) found)
-    go None h s = tt
-    go (Some es) h s = says_token t behind es h s
-
--- what trees_of gives is spelled by the tokens
-pub trees_spelled : (ts : List (List ℕ)) (es : Trees) → trees_of ts ≡ Some es → Spelled ts (all_parts es)
-unfolding Says
-trees_spelled ts es e = subst (Says ts) e (says ts)
 
 -- ---- tests of the parts of an expression
 
@@ -452,13 +381,47 @@ module _ (version : ℕ) where
 
 -- ---- the statement that is worked out from tokens is one that they write
 
+applied_told : (t : Token) (behind : List Token) (o : Operator) (found es : Trees) → trees_of behind ≡ Some found
+    → spelled behind (all_parts found) ≡ true → is_word t (operator_word o) ≡ true → applied o behind found ≡ Some es
+    → spelled (t ∷ behind) (all_parts es) ≡ true
+applied_told t behind (One Not) found es e s w h = grind (arith, parts_Unary)
+applied_told t behind (Two o) found es e s w h = grind (arith, parts_Binary, append_assoc)
+applied_told t behind Choose found es e s w h = grind (arith, parts_Pick, append_assoc)
+applied_told t (k ∷ behind) Extend (number ∷ a ∷ rest) es e s w h =
+    let top = number_top k behind number (a ∷ rest) in grind (arith, nat_tests, parts_Number, parts_Sext)
+applied_told t behind Extend found es e s w h = absurd cc
+
+token_told : (t : Token) (behind : List Token) (found es : Trees) → trees_of behind ≡ Some found
+    → spelled behind (all_parts found) ≡ true → with_token t behind found ≡ Some es → spelled (t ∷ behind) (all_parts es) ≡ true
+unfolding with_token
+token_told t behind found es e s h = by (operator_of t) refl h
+  where
+    by : (o : Option Operator) → operator_of t ≡ o
+        → cond (is_number t) (Some (Number (number_of t) ∷ found))
+        (cond (is_name t) (Some (Var t ∷ found)) (applied_if o behind found)) ≡ Some es
+        → spelled (t ∷ behind) (all_parts es) ≡ true
+    by None is q = grind (arith, nat_tests, parts_Number, parts_Var, same_word)
+    by (Some o) is q =
+        let applied = applied_told t behind o found es e s ((bytes_eq-Decides t (operator_word o)).1 (operator_is t o is)) in
+        grind (arith, nat_tests, parts_Number, parts_Var, same_word)
+
+trees_told : (ts : List Token) (es : Trees) → trees_of ts ≡ Some es → spelled ts (all_parts es) ≡ true
+unfolding trees_of
+trees_told [] es e = grind arith
+trees_told (t ∷ behind) es e = by (trees_of behind) refl (trees_told behind) e
+  where
+    by : (found : Option Trees) → trees_of behind ≡ found
+        → ((xs : Trees) → trees_of behind ≡ Some xs → spelled behind (all_parts xs) ≡ true)
+        → option_and_then (with_token t behind) found ≡ Some es → spelled (t ∷ behind) (all_parts es) ≡ true
+    by None is later q = absurd cc
+    by (Some found) is later q = token_told t behind found es is (later found is) q
+
 one_told : (us : List Token) (e : Expr Name) → trees_of us ≡ Some (e ∷ []) → spelled us (expr_parts e) ≡ true
-one_told us e h = spelled_by us (expr_parts e) (rw (← append-nil (expr_parts e)) (trees_spelled us (e ∷ []) h))
+one_told us e h = rw (← append-nil (expr_parts e)) (trees_told us (e ∷ []) h)
 
 two_told : (us : List Token) (e f : Expr Name) → trees_of us ≡ Some (e ∷ f ∷ []) → spelled us (expr_parts e ++ expr_parts f) ≡ true
 two_told us e f h =
-    spelled_by us (expr_parts e ++ expr_parts f)
-    (subst (λ (ps : List Part). Spelled us (expr_parts e ++ ps)) (append-nil (expr_parts f)) (trees_spelled us (e ∷ f ∷ []) h))
+    subst (λ (ps : List Part). spelled us (expr_parts e ++ ps) ≡ true) (append-nil (expr_parts f)) (trees_told us (e ∷ f ∷ []) h)
 
 -- ---- operations
 

@@ -132,140 +132,6 @@ module _ (p q : Part → Bool) (words : (w : List ℕ) → p (Word w) ≡ q (Wor
 
 -- ---- tokens that spell an expression are read as that expression
 
--- the expression is read from the front of the tokens, and these are behind it
-pub record Reads (e : Expr (List ℕ)) (ts : List (List ℕ)) (ps : List Part) : Type 0 where
-  pub rest : List (List ℕ)
-  pub spelled : Spelled rest ps
-  pub reads : (es : Trees) → trees_of rest ≡ Some es → trees_of ts ≡ Some (e ∷ es)
-
-abbrev Again : Expr (List ℕ) → Type 0
-Again e = (ts : List (List ℕ)) (ps : List Part) → Spelled ts (expr_parts e ++ ps) → Reads e ts ps
-
-abbrev operator_token : Operator → List ℕ → Type 0
-operator_token o t = (operator_of t ≡ Some o) × (is_number t ≡ false) × (is_name t ≡ false)
-
-token_is : (o : Operator) → operator_token o (operator_word o)
-unfolding operator_of is_number is_name
-token_is (Two Add) = (refl, refl, refl)
-token_is (Two o) = (refl, refl, refl)
-token_is (One Not) = (refl, refl, refl)
-token_is o = (refl, refl, refl)
-
--- an operator in front
-applies : (o : Operator) (us : List (List ℕ)) (found : Trees) → trees_of us ≡ Some found
-    → trees_of (operator_word o ∷ us) ≡ applied_if (Some o) us found
-unfolding trees_of with_token
-applies o us found e = let k = token_is o in rw (e, k.1, k.2, k.0) refl
-
--- a number in front
-numeral : (t : List ℕ) (us : List (List ℕ)) (found : Trees) → is_number t ≡ true → trees_of us ≡ Some found
-    → trees_of (t ∷ us) ≡ Some (Number (number_of t) ∷ found)
-unfolding trees_of with_token
-numeral t us found h e = rw (e, h) refl
-
-letter_is_no_digit : (b : ℕ) → is_ascii_alphabetic b || (b == 95) ≡ true → is_ascii_digit b ≡ false
-letter_is_no_digit b h = grind (arith, nat_tests)
-
-name_is_no_number : (t : List ℕ) → is_name t ≡ true → is_number t ≡ false
-unfolding is_name is_number
-name_is_no_number [] h = refl
-name_is_no_number (b ∷ bs) h = rw (letter_is_no_digit b (and_parts _ _ h).0) refl
-
-again_number : (n : ℕ) → Again (Number n)
-unfolding trees_of with_token
-again_number n [] ps s = absurd (let q = rw (parts_Number n) at s in q)
-again_number n (t ∷ us) ps s =
-    let q = rw (parts_Number n) at s in
-    record { rest = us; spelled = q.1; reads = λ es e. rw (e, q.0.0, q.0.1) refl }
-
-again_var : (x : List ℕ) → Again (Var x)
-unfolding trees_of with_token
-again_var x [] ps s = absurd (let q = rw (parts_Var x) at s in q)
-again_var x (t ∷ us) ps s =
-    let q = rw (parts_Var x) at s in
-    record { rest = us; spelled = q.1; reads = λ es e. rw (e, name_is_no_number t q.0.0, q.0.0, q.0.1) refl }
-
-again_unary : (o : UnOp) (a : Expr (List ℕ)) → Again a → Again (Unary o a)
-again_unary Not a ih [] ps s = absurd (let q = rw (parts_Unary Not a) at s in q)
-again_unary Not a ih (t ∷ us) ps s =
-    let q = rw (parts_Unary Not a) at s in
-    let r = ih us ps q.1 in
-    record {
-      rest = r.rest;
-      spelled = r.spelled;
-      reads = λ es e. subst (λ (w : List ℕ). trees_of (w ∷ us) ≡ Some (Unary Not a ∷ es)) (sym q.0)
-          (applies (One Not) us (a ∷ es) (r.reads es e));
-    }
-
-again_binary : (o : BinOp) (a b : Expr (List ℕ)) → Again a → Again b → Again (Binary o a b)
-again_binary o a b ia ib [] ps s = absurd (let q = rw (parts_Binary o a b) at s in q)
-again_binary o a b ia ib (t ∷ us) ps s =
-    let q = rw (parts_Binary o a b, append_assoc (expr_parts a) (expr_parts b) ps) at s in
-    let ra = ia us (expr_parts b ++ ps) q.1 in
-    let rb = ib ra.rest ps ra.spelled in
-    record {
-      rest = rb.rest;
-      spelled = rb.spelled;
-      reads = λ es e. subst (λ (w : List ℕ). trees_of (w ∷ us) ≡ Some (Binary o a b ∷ es)) (sym q.0)
-          (applies (Two o) us (a ∷ b ∷ es) (ra.reads (b ∷ es) (rb.reads es e)));
-    }
-
-again_pick : (a b c : Expr (List ℕ)) → Again a → Again b → Again c → Again (Pick a b c)
-again_pick a b c ia ib ic [] ps s = absurd (let q = rw (parts_Pick a b c) at s in q)
-again_pick a b c ia ib ic (t ∷ us) ps s =
-    let q =
-    rw (parts_Pick a b c, append_assoc (expr_parts a) (expr_parts b ++ expr_parts c) ps, append_assoc (expr_parts b) (expr_parts c) ps) at s
-    in
-    let ra = ia us (expr_parts b ++ (expr_parts c ++ ps)) q.1 in
-    let rb = ib ra.rest (expr_parts c ++ ps) ra.spelled in
-    let rc = ic rb.rest ps rb.spelled in
-    record {
-      rest = rc.rest;
-      spelled = rc.spelled;
-      reads = λ es e. subst (λ (w : List ℕ). trees_of (w ∷ us) ≡ Some (Pick a b c ∷ es)) (sym q.0)
-          (applies Choose us (a ∷ b ∷ c ∷ es) (ra.reads (b ∷ c ∷ es) (rb.reads (c ∷ es) (rc.reads es e))));
-    }
-
-again_sext : (k : ℕ) (a : Expr (List ℕ)) → Again a → Again (Sext k a)
-again_sext k a ih [] ps s = absurd (let q = rw (parts_Sext k a) at s in q)
-again_sext k a ih (t ∷ []) ps s = absurd (let q = rw (parts_Sext k a) at s in q.1)
-again_sext k a ih (t ∷ u ∷ vs) ps s =
-    let q = rw (parts_Sext k a) at s in
-    let r = ih vs ps q.1.1 in
-    record {
-      rest = r.rest;
-      spelled = r.spelled;
-      reads = λ es e.
-          let number = numeral u vs (a ∷ es) q.1.0.0 (r.reads es e) in
-          subst (λ (w : List ℕ). trees_of (w ∷ u ∷ vs) ≡ Some (Sext k a ∷ es)) (sym q.0)
-          (applies Extend (u ∷ vs) (Number (number_of u) ∷ a ∷ es) number ∙ rw (q.1.0.0, q.1.0.1) refl);
-    }
-
-pub again : (e : Expr (List ℕ)) → Again e
-again =
-    by_cases (List ℕ) Again
-    (record { number = again_number; var = again_var; unary = again_unary; binary = again_binary; sext = again_sext; pick = again_pick })
-
-none_left : (ts : List (List ℕ)) → Spelled ts [] → ts ≡ []
-none_left [] s = refl
-none_left (t ∷ ts) s = absurd s
-
-trees_of_none : (ts : List (List ℕ)) → Spelled ts [] → trees_of ts ≡ Some []
-unfolding trees_of
-trees_of_none ts s = rw (none_left ts s) refl
-
-pub one_again : (e : Expr (List ℕ)) (ts : List (List ℕ)) → Spelled ts (expr_parts e) → trees_of ts ≡ Some (e ∷ [])
-one_again e ts s =
-    let r = again e ts [] (rw (append-nil (expr_parts e)) s) in
-    r.reads [] (trees_of_none r.rest r.spelled)
-
-pub two_again : (e f : Expr (List ℕ)) (ts : List (List ℕ)) → Spelled ts (expr_parts e ++ expr_parts f) → trees_of ts ≡ Some (e ∷ f ∷ [])
-two_again e f ts s =
-    let r = again e ts (expr_parts f) s in
-    r.reads (f ∷ []) (one_again f r.rest r.spelled)
-
--- ---- tokens that write a statement are read as that statement
-
 -- the tokens spell the parts, as a test
 abbrev spells : Token → Part → Bool
 spells t (Word w) = is_word t w
@@ -306,6 +172,34 @@ spelled_by ts ps h = absurd h
 same_word : (t : Token) → is_word t t ≡ true
 same_word t = (bytes_eq-Decides t t).1 refl
 
+abbrev operator_token : Operator → List ℕ → Type 0
+operator_token o t = (operator_of t ≡ Some o) × (is_number t ≡ false) × (is_name t ≡ false)
+
+token_is : (o : Operator) → operator_token o (operator_word o)
+unfolding operator_of is_number is_name
+token_is (Two Add) = (refl, refl, refl)
+token_is (Two o) = (refl, refl, refl)
+token_is (One Not) = (refl, refl, refl)
+token_is o = (refl, refl, refl)
+
+letter_is_no_digit : (b : ℕ) → is_ascii_alphabetic b || (b == 95) ≡ true → is_ascii_digit b ≡ false
+letter_is_no_digit b h = grind (arith, nat_tests)
+
+name_is_no_number : (t : List ℕ) → is_name t ≡ true → is_number t ≡ false
+unfolding is_name is_number
+name_is_no_number [] h = refl
+name_is_no_number (b ∷ bs) h = rw (letter_is_no_digit b (and_parts _ _ h).0) refl
+
+none_spelled : (e : Expr Name) (ps : List Part) → spelled [] (expr_parts e ++ ps) ≡ false
+none_spelled = by_cases Name (λ e. (ps : List Part) → spelled [] (expr_parts e ++ ps) ≡ false) (record {
+  number = λ n ps. grind (arith, parts_Number);
+  var = λ x ps. grind (arith, parts_Var);
+  unary = λ o a h ps. grind (arith, parts_Unary);
+  binary = λ o a b h k ps. grind (arith, parts_Binary);
+  sext = λ w a h ps. grind (arith, parts_Sext);
+  pick = λ a b c h k l ps. grind (arith, parts_Pick);
+})
+
 -- what a test decides
 decided : {P : Type 0} (b : Bool) → (b ≡ true → P) → (b ≡ false) ⊎ P
 decided true f = inr (f refl)
@@ -314,14 +208,49 @@ decided false f = inl refl
 word_cases : (t w : Token) → (is_word t w ≡ false) ⊎ (t ≡ w)
 word_cases t w = decided (is_word t w) (word_is t w)
 
+sext_read : (t : Token) (ts : List Token) (k : ℕ) (a : Expr Name) (es : Trees)
+    → (spelled ts (all_parts (Number k ∷ a ∷ es)) ≡ true → trees_of ts ≡ Some (Number k ∷ a ∷ es))
+    → spelled (t ∷ ts) (expr_parts (Sext k a) ++ all_parts es) ≡ true → trees_of (t ∷ ts) ≡ Some (Sext k a ∷ es)
+unfolding trees_of with_token
+sext_read t [] k a es later q = absurd (grind (arith, parts_Sext))
+sext_read t (u ∷ ts) k a es later q =
+    let told = rw parts_Sext at q in
+    let found = later (grind (arith, parts_Number)) in
+    let is : t ≡ codes "sext" = word_is t (codes "sext") (grind arith) in
+    let number : is_number u ≡ true = grind arith in
+    let value : number_of u ≡ k = grind (arith, nat_tests) in
+    let token = token_is Extend in
+    rw (is, found, token.1, token.2, token.0, number, value) refl
+
+trees_read : (ts : List Token) (es : Trees) → spelled ts (all_parts es) ≡ true → trees_of ts ≡ Some es
+unfolding trees_of with_token
+trees_read [] [] h = refl
+trees_read [] (e ∷ es) h = absurd (true≢false (sym h ∙ none_spelled e (all_parts es)))
+trees_read (t ∷ ts) [] h = absurd (true≢false (sym h))
+trees_read (t ∷ ts) (e ∷ es) h =
+    by_cases Name (λ x. spelled (t ∷ ts) (expr_parts x ++ all_parts es) ≡ true → trees_of (t ∷ ts) ≡ Some (x ∷ es)) (record {
+      number = λ n q. let later = trees_read ts es in grind (arith, nat_tests, parts_Number);
+      var = λ x q. let later = trees_read ts es in let other = name_is_no_number t in grind (arith, word_cases, parts_Var);
+      unary = λ o a i q.
+          let later = trees_read ts (a ∷ es) in let token = token_is (One o) in grind (arith, word_cases, parts_Unary);
+      binary = λ o a b i j q.
+          let later = trees_read ts (a ∷ b ∷ es) in let token = token_is (Two o) in
+          grind (arith, word_cases, parts_Binary, append_assoc);
+      sext = λ k a i q. sext_read t ts k a es (trees_read ts (Number k ∷ a ∷ es)) q;
+      pick = λ a b c i j k q.
+          let later = trees_read ts (a ∷ b ∷ c ∷ es) in let token = token_is Choose in
+          grind (arith, word_cases, parts_Pick, append_assoc);
+    }) e h
+
+-- ---- tokens that write a statement are read as that statement
+
 -- ---- operations
 
 one_read : (us : List Token) (e : Expr Name) → (spelled us (expr_parts e) ≡ false) ⊎ (trees_of us ≡ Some (e ∷ []))
-one_read us e = decided (spelled us (expr_parts e)) (λ h. one_again e us (spelled_is us (expr_parts e) h))
+one_read us e = decided (spelled us (expr_parts e)) (λ h. trees_read us (e ∷ []) (rw append-nil h))
 
 two_read : (us : List Token) (e f : Expr Name) → (spelled us (expr_parts e ++ expr_parts f) ≡ false) ⊎ (trees_of us ≡ Some (e ∷ f ∷ []))
-two_read us e f = decided (spelled us (expr_parts e ++ expr_parts f))
-    (λ h. two_again e f us (spelled_is us (expr_parts e ++ expr_parts f) h))
+two_read us e f = decided (spelled us (expr_parts e ++ expr_parts f)) (λ h. trees_read us (e ∷ f ∷ []) (rw append-nil h))
 
 op_read : (ts : List Token) (o : Op Name) → spelled ts (op_parts o) ≡ true → op_of ts ≡ Some o
 unfolding op_of verb_of

@@ -46,7 +46,7 @@ pub parts_Unary : (o : UnOp) (a : Expr (List ℕ)) → expr_parts (Unary o a) �
 unfolding expr_parts
 parts_Unary o a = folded-Unary (List ℕ) (List Part) layer_parts o a
 
--- what trees_of gives is spelled by the tokens
+-- the parts of trees, one after the other
 abbrev all_parts : Trees → List Part
 all_parts [] = []
 all_parts (e ∷ es) = expr_parts e ++ all_parts es

@@ -40,9 +40,6 @@ module _ (known : List ℕ → Bool) where
   abbrev pub views : Option Trees → Option (List Operand)
   views found = option_map (map (seen known)) found
 
-  abbrev on_top : Trees → Operand → Option (List Operand)
-  on_top trees o = Some (o ∷ map (seen known) trees)
-
   seen_applied : (o : Option Operator) (behind : List (List ℕ)) (trees : Trees)
       → views (applied_if o behind trees) ≡ apply_if o behind (map (seen known) trees)
   unfolding seen

@@ -1,5 +1,5 @@
 -- FIFOs without their delay or depth, and the values of an input.
-use Rattle.std.proofs.Common.{◌≡◌, ℕ, List, Bool, true, false, refl, arith, ◌-◌, ◌^◌, [], ◌∷◌, ◌++◌, map, Option, None, Some}
+use Rattle.std.proofs.Common.{◌≡◌, ℕ, List, Bool, true, refl, arith, ◌-◌, ◌^◌, [], ◌∷◌, ◌++◌, map, Option, None, Some}
 use Rattle.std.proofs.Common.{Result, sym, ap, subst, ◌∙◌, append_assoc}
 use Rattle.std.specs.Prelude.{codes, ◌&&◌, if◌then◌else◌}
 use Rattle.flow_design.specs.declared.session.Statement.{Statement}
@@ -105,9 +105,6 @@ module _ {A : Type 0} (f : A → List ℕ) where
             ∙ ap (λ (n : ℕ). words ++ n ∷ numbers rest) (sym q.1) ∙ s;
         passed = ap (λ (b : Bool). b && list_all is_plain (numbers rest)) (sym q.0) ∙ d;
       }
-
-  is_beyond : (b : Bool) (n : ℕ) → (if b then Some n else None) ≡ None → b ≡ false
-  is_beyond b n h = grind arith
 
   pub beyond : (all : List A) (words : List ℕ) (x : A) (rest left : List A) → left ≡ x ∷ rest
       → number_within 0 (2 ^ 64 - 1) (number_of (f x)) ≡ None

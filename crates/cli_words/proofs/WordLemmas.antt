@@ -124,9 +124,6 @@ module _ (p : ℕ) (word : Text) (h : Held) (plain : IsPlain word) where
   met_plain : word_met rules [] false idle p word h ≡ (h, value)
   met_plain = rw (plain.other, plain.long, plain.short) refl
 
-  fault_plain : flag_word_fault rules false (long_of word) word h ≡ []
-  fault_plain = rw (plain.long, plain.short) refl
-
   no_word_fault : word_fault top [] false idle word h ≡ []
   no_word_fault = rw (plain.other, plain.long, plain.short) refl
 

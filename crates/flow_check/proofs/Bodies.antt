@@ -164,7 +164,7 @@ as_many f g same (x ∷ xs) = let one = same x in let later = as_many f g same x
 
 -- ---- names
 
--- and a number below their count
+-- the number of a name that is among these is below their count
 pub number_below : (names : List Name) (n : Name) → is_among names n ≡ true → number_of names n < length names
 number_below [] n h = absurd cc
 number_below (m ∷ names) n h = let later = number_below names n in grind arith

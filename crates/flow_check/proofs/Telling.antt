@@ -218,9 +218,6 @@ exists statements rule i h = absurd (grind arith)
 
 -- ---- equal items
 
-item_is : (i j : Item) → same_item i j ≡ true → i ≡ j
-item_is i j h = grind (arith, nat_tests)
-
 item_itself : (i : Item) → same_item i i ≡ true
 item_itself i = grind (arith, nat_tests)
 

@@ -1,5 +1,5 @@
 //! Each module's part in a clock, by the contents from before it.
-ghost use Rattle.std.specs.Prelude.{◌≡◌, ◌<◌, ◌≤◌, ◌^◌, IfOk, OnOk, not, true, [], ◌++◌, if◌then◌else◌, length, map, slice_index_or};
+ghost use Rattle.std.specs.Prelude.{◌≡◌, ◌<◌, ◌≤◌, ◌^◌, IfOk, OnOk, not, true, false, [], ◌++◌, if◌then◌else◌, length, map, slice_index_or};
 ghost use Rattle.std.specs.List.{list_any};
 ghost use Rattle.flow_design.specs.StaticRules.{FitsEngine};
 ghost use Rattle.lockstep_defs.specs.Machine.{nobody, requests};
@@ -8,6 +8,7 @@ ghost use Rattle.lockstep_defs.specs.Lockstep.{module_at, numbered, moves, answe
 ghost use Rattle.lockstep_defs.specs.Verdict.{is_settled, some_moves};
 ghost use Rattle.clock_machine.specs.Parts.{part_of, exchanges_of, all_exchanges, outcomes_in, popped, pushed};
 ghost use Rattle.clock_machine.specs.Parts.{AreFit, AreFitInTime, AreCodes};
+ghost use Rattle.clock_machine.specs.Quiet.{AreQuiet};
 ghost use Rattle.module_move.specs.Sound.{IsStateSound};
 ghost use Rattle.module_move.specs.Moves.{notes_of};
 
@@ -81,6 +82,7 @@ fn answer(
     requests: &[Request],
     replies: &mut List<Reply>,
     outcomes: &mut Flags,
+    queried: &mut bool,
     pops: &mut List<u32>,
     pushes: &mut List<Pushed>,
 ) -> Result<bool, OutOfMemory>
@@ -88,6 +90,8 @@ fn answer(
     ensures replies { IfOk result (λ goes. goes ≡ true → replies.new ≡ map (reply plan.now clock contents.now) requests.now) }
     ensures outcomes { IfOk result (λ goes. goes ≡ true
         → outcomes.new ≡ outcomes_in (map (answered plan.now clock contents.now) requests.now)) }
+    ensures quiet { IfOk result (λ goes. goes ≡ true → queried.new ≡ false → outcomes.new ≡ []) }
+    ensures queried { OnOk result (queried.new ≡ false → queried.old ≡ false) }
     ensures pops { IfOk result (λ goes. pops.new
         ≡ pops.old ++ (if goes then popped (map (answered plan.now clock contents.now) requests.now) else [])) }
     ensures pushes { IfOk result (λ goes. pushes.new
@@ -98,7 +102,9 @@ fn answer(
     replies.truncate(0);
     outcomes.truncate(0);
     for request in requests {
-        match answer_one(plan, clock, contents, request, outcomes, pops, pushes)? {
+        match answer_one(
+            plan, clock, contents, request, outcomes, queried, pops, pushes,
+        )? {
             None => {
                 pops.truncate(popped_before);
                 pushes.truncate(pushed_before);
@@ -120,6 +126,7 @@ fn take_part(
     state: &ClockState,
     i: usize,
     words: &mut Words,
+    queried: &mut bool,
     pops: &mut List<u32>,
     pushes: &mut List<Pushed>,
     part: &mut Part,
@@ -130,6 +137,8 @@ fn take_part(
     requires early { clock ≤ plan.now.cycles }
     requires within { i < length state.now.modules }
     ensures part { OnOk result (part.new ≡ part_of plan.now clock state.now.contents (i, slice_index_or state.now.modules i nobody)) }
+    ensures quiet { OnOk result (queried.new ≡ false → part.new.outcomes ≡ []) }
+    ensures queried { OnOk result (queried.new ≡ false → queried.old ≡ false) }
     ensures pops { OnOk result (pops.new ≡ pops.old ++ popped (exchanges_of part.new)) }
     ensures pushes { OnOk result (pushes.new ≡ pushes.old ++ pushed (exchanges_of part.new)) }
 {
@@ -156,6 +165,7 @@ fn take_part(
         requests,
         &mut part.replies,
         &mut part.outcomes,
+        queried,
         pops,
         pushes,
     )?;
@@ -172,6 +182,7 @@ fn take_parts(
     clock: u64,
     state: &ClockState,
     words: &mut Words,
+    queried: &mut bool,
     pops: &mut List<u32>,
     pushes: &mut List<Pushed>,
     parts: &mut [Part],
@@ -182,11 +193,14 @@ fn take_parts(
     requires early { clock ≤ plan.now.cycles }
     requires count { length parts.old ≡ length state.now.modules }
     ensures parts { OnOk result (parts.new ≡ map (part_of plan.now clock state.now.contents) (numbered state.now)) }
+    ensures quiet { OnOk result (queried.new ≡ false → AreQuiet parts.new) }
     ensures pops { OnOk result (pops.new ≡ pops.old ++ popped (all_exchanges parts.new)) }
     ensures pushes { OnOk result (pushes.new ≡ pushes.old ++ pushed (all_exchanges parts.new)) }
 {
     for (i, part) in parts.iter_mut().enumerate() {
-        take_part(plan, codes, clock, state, i, words, pops, pushes, part)?;
+        take_part(
+            plan, codes, clock, state, i, words, queried, pops, pushes, part,
+        )?;
     }
     Ok(())
 }
@@ -263,17 +277,20 @@ pub fn ask_all(
     requires count { length scratch.old.parts ≡ length state.now.modules }
     ensures settled { IfOk result (λ settled. settled ≡ is_settled plan.now clock state.now) }
     ensures parts { OnOk result (scratch.new.parts ≡ map (part_of plan.now clock state.now.contents) (numbered state.now)) }
+    ensures quiet { OnOk result (scratch.new.queried ≡ false → AreQuiet scratch.new.parts) }
     ensures pops { OnOk result (scratch.new.pops ≡ popped (all_exchanges scratch.new.parts)) }
     ensures pushes { OnOk result (scratch.new.pushes ≡ pushed (all_exchanges scratch.new.parts)) }
 {
     scratch.pops.truncate(0);
     scratch.pushes.truncate(0);
+    scratch.queried = false;
     take_parts(
         plan,
         codes,
         clock,
         state,
         &mut scratch.words,
+        &mut scratch.queried,
         &mut scratch.pops,
         &mut scratch.pushes,
         scratch.parts.as_mut_slice(),

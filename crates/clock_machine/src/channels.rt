@@ -135,18 +135,33 @@ pub fn any_stalls_ever(plan: &Plan, contents: &[Queue<Element>], requests: &[Req
         .any(|request| stalls_ever(plan, contents, request))
 }
 
+/// Adds an outcome.
+#[inline(always)]
+fn tell(outcomes: &mut Flags, queried: &mut bool, outcome: bool) -> Result<(), OutOfMemory>
+    ensures outcomes { OnOk result (outcomes.new ≡ outcomes.old ++ outcome ∷ []) }
+    ensures queried { queried.new ≡ true }
+{
+    *queried = true;
+    outcomes.push(outcome)
+}
+
 /// The reply with an outcome, which is added.
 #[inline(always)]
-fn flag(outcomes: &mut Flags, outcome: bool) -> Result<Option<Reply>, OutOfMemory>
+fn flag(
+    outcomes: &mut Flags,
+    queried: &mut bool,
+    outcome: bool,
+) -> Result<Option<Reply>, OutOfMemory>
     ensures reply { IfOk result (λ reply. reply ≡ Some (Flag outcome)) }
     ensures outcomes { OnOk result (outcomes.new ≡ outcomes.old ++ outcome ∷ []) }
+    ensures queried { queried.new ≡ true }
 {
-    outcomes.push(outcome)?;
+    tell(outcomes, queried, outcome)?;
     Ok(Some(Reply::Flag(outcome)))
 }
 
-/// The reply to an operation, or none where it blocks and cannot be done. Adds its outcome if it is a query, and what it pops and
-/// pushes.
+/// The reply to an operation, or none where it blocks and cannot be done. Adds its outcome if it is a query, which is then noted, and
+/// what it pops and pushes.
 #[tactic(auto, unfolding(lockstep_defs::specs::Channels::reply))]
 #[inline(always)]
 pub fn answer_one(
@@ -155,6 +170,7 @@ pub fn answer_one(
     contents: &[Queue<Element>],
     request: &Request,
     outcomes: &mut Flags,
+    queried: &mut bool,
     pops: &mut List<u32>,
     pushes: &mut List<Pushed>,
 ) -> Result<Option<Reply>, OutOfMemory>
@@ -166,6 +182,8 @@ pub fn answer_one(
         → pops.new ≡ pops.old ++ popped (answered plan.now clock contents.now request.now ∷ [])) }
     ensures pushes { IfOk result (λ answer. is_some answer ≡ true
         → pushes.new ≡ pushes.old ++ pushed (answered plan.now clock contents.now request.now ∷ [])) }
+    ensures quiet { IfOk result (λ answer. queried.new ≡ false → outcomes.new ≡ outcomes.old) }
+    ensures queried { IfOk result (λ answer. queried.new ≡ false → queried.old ≡ false) }
     ensures no_pop { IfOk result (λ answer. is_some answer ≡ false → pops.new ≡ pops.old) }
     ensures no_push { IfOk result (λ answer. is_some answer ≡ false → pushes.new ≡ pushes.old) }
 {
@@ -188,11 +206,11 @@ pub fn answer_one(
         }
         Kind::TryRead => match ready(clock, contents, channel) {
             None => {
-                outcomes.push(false)?;
+                tell(outcomes, queried, false)?;
                 Ok(Some(Reply::Missed))
             }
             Some(value) => {
-                outcomes.push(true)?;
+                tell(outcomes, queried, true)?;
                 pops.push(channel)?;
                 Ok(Some(Reply::Took(value)))
             }
@@ -202,9 +220,9 @@ pub fn answer_one(
             if free {
                 pushes.push(Pushed { channel, value })?;
             }
-            flag(outcomes, free)
+            flag(outcomes, queried, free)
         }
-        Kind::Empty => flag(outcomes, is_empty(clock, contents, channel)),
-        Kind::Full => flag(outcomes, is_full(plan, contents, channel)),
+        Kind::Empty => flag(outcomes, queried, is_empty(clock, contents, channel)),
+        Kind::Full => flag(outcomes, queried, is_full(plan, contents, channel)),
     }
 }

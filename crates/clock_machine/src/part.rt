@@ -37,6 +37,8 @@ pub struct Scratch {
     pub pops: List<u32>,
     /// What all modules push in a clock.
     pub pushes: List<Pushed>,
+    /// Whether a module has a query in a clock.
+    pub queried: bool,
     pub noted: List<Noted>,
     pub requests: List<Request>,
     /// For the results of expressions.
@@ -81,6 +83,7 @@ pub fn new_scratch(alloc: Global, modules: u64) -> Result<Scratch, OutOfMemory>
         parts,
         pops: List::new(alloc),
         pushes: List::new(alloc),
+        queried: false,
         noted: List::new(alloc),
         requests: List::new(alloc),
         words: List::new(alloc),

@@ -1,9 +1,10 @@
 //! The whole run, clock by clock.
-ghost use Rattle.std.specs.Prelude.{◌≡◌, ℕ, ◌+◌, ◌<◌, ◌≤◌, [], ◌++◌, map, length, slice_index_or, IfOk, OnOk};
+ghost use Rattle.std.specs.Prelude.{◌≡◌, ℕ, ◌+◌, ◌<◌, ◌≤◌, false, [], ◌++◌, map, length, slice_index_or, IfOk, OnOk};
 ghost use Rattle.flow_design.specs.StaticRules.{FitsEngine};
 ghost use Rattle.lockstep_defs.specs.Lockstep.{numbered, steps_in, clock_step};
 ghost use Rattle.lockstep_defs.specs.Report.{steps_of, outcomes, events_of, report};
 ghost use Rattle.clock_machine.specs.Parts.{part_of, all_exchanges, popped, pushed, kept, AreFit, AreCodes};
+ghost use Rattle.clock_machine.specs.Quiet.{AreQuiet};
 
 use crate::asking::ask_all;
 use crate::contents::{pop_all, push_all};
@@ -11,7 +12,7 @@ use crate::ending::{report_at, settled_report};
 use crate::moving::move_all;
 use crate::opening::{codes_of_all, no_answers, open_all};
 use crate::part::{Scratch, new_scratch};
-use crate::telling::{tell_all_outcomes, tell_kept_events};
+use crate::telling::{tell_kept_events, tell_queried};
 use block_code::BlockCode;
 use flow_design::{ClockState, EventLine, Plan, Report, Verdict};
 use flow_word::{Flags, List, OutOfMemory};
@@ -71,6 +72,7 @@ fn next_clock(
     requires fit { AreFit plan.now clock state.old.modules }
     requires early { clock ≤ plan.now.cycles }
     requires parts { scratch.now.parts ≡ map (part_of plan.now clock state.old.contents) (numbered state.old) }
+    requires quiet { scratch.now.queried ≡ false → AreQuiet scratch.now.parts }
     requires pops { scratch.now.pops ≡ popped (all_exchanges scratch.now.parts) }
     requires pushes { scratch.now.pushes ≡ pushed (all_exchanges scratch.now.parts) }
     requires count { length answers.old ≡ length plan.now.design.modules }
@@ -83,7 +85,7 @@ fn next_clock(
 {
     let parts = scratch.parts.as_slice();
     tell_kept_events(keep, events, clock, parts)?;
-    tell_all_outcomes(answers.as_mut_slice(), parts)?;
+    tell_queried(scratch.queried, answers.as_mut_slice(), parts)?;
     step(alloc, plan, codes, clock, scratch, state)?;
     Ok(())
 }

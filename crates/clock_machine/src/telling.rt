@@ -1,7 +1,8 @@
 //! What a clock adds to the events and answers.
-ghost use Rattle.std.specs.Prelude.{◌≡◌, ◌<◌, ◌^◌, ◌++◌, map, length, OnOk};
+ghost use Rattle.std.specs.Prelude.{◌≡◌, ◌<◌, ◌^◌, ◌++◌, false, map, length, OnOk};
 ghost use Rattle.std.specs.List.{enumerate_from};
 ghost use Rattle.clock_machine.specs.Parts.{event_by, events_from, kept, answers_with};
+ghost use Rattle.clock_machine.specs.Quiet.{AreQuiet};
 
 use crate::part::Part;
 use flow_design::{EventLine, Request};
@@ -71,7 +72,7 @@ fn tell_outcomes(answers: &mut Flags, outcomes: &[bool]) -> Result<(), OutOfMemo
 }
 
 /// Adds the outcomes of a clock's queries to the answers of their modules.
-pub fn tell_all_outcomes(answers: &mut [Flags], parts: &[Part]) -> Result<(), OutOfMemory>
+fn tell_all_outcomes(answers: &mut [Flags], parts: &[Part]) -> Result<(), OutOfMemory>
     requires count { length answers.old ≡ length parts.now }
     ensures { OnOk result (answers.new ≡ map (answers_with parts.now) (enumerate_from 0 answers.old)) }
 {
@@ -79,4 +80,17 @@ pub fn tell_all_outcomes(answers: &mut [Flags], parts: &[Part]) -> Result<(), Ou
         tell_outcomes(answers, parts[i].outcomes.as_slice())?;
     }
     Ok(())
+}
+
+/// Adds the outcomes of a clock's queries to the answers of their modules, if there are queries.
+pub fn tell_queried(queried: bool, answers: &mut [Flags], parts: &[Part]) -> Result<(), OutOfMemory>
+    requires count { length answers.old ≡ length parts.now }
+    requires quiet { queried ≡ false → AreQuiet parts.now }
+    ensures { OnOk result (answers.new ≡ map (answers_with parts.now) (enumerate_from 0 answers.old)) }
+{
+    if queried {
+        tell_all_outcomes(answers, parts)
+    } else {
+        Ok(())
+    }
 }

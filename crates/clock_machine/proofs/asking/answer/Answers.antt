@@ -40,6 +40,8 @@ loop-request-preserved c =
           ∙ sym (map_more (reply p c.args.clock contents) asked i none c.loop-request-test.true)));
       outcomes = added outcomes_in outcomes_add [] c.loop-request.outcomes c.answer_one.new.outcomes so_far here _ more
           c.loop-request.invariant.outcomes (c.in_ok-answer_one.ensures.outcomes has);
+      quiet = λ e. c.in_ok-answer_one.ensures.quiet e ∙ c.loop-request.invariant.quiet (c.in_ok-answer_one.ensures.queried e);
+      queried = λ e. c.loop-request.invariant.queried (c.in_ok-answer_one.ensures.queried e);
       pops = added popped popped_adds c.args.pops.now c.loop-request.pops c.answer_one.new.pops so_far here _ more
           c.loop-request.invariant.pops (c.in_ok-answer_one.ensures.pops has);
       pushes = added pushed pushed_adds c.args.pushes.now c.loop-request.pushes c.answer_one.new.pushes so_far here _ more

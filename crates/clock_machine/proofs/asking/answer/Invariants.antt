@@ -1,4 +1,4 @@
-use Rattle.std.proofs.Common.{◌≡◌, ◌++◌, map, take, false}
+use Rattle.std.proofs.Common.{◌≡◌, ◌++◌, [], map, take, false}
 use Rattle.std.specs.List.{list_any}
 use Rattle.lockstep_defs.specs.Channels.{stalls, reply}
 use Rattle.lockstep_defs.specs.Lockstep.{answered}
@@ -12,6 +12,8 @@ invariant-loop-request l =
       free : list_any (stalls l.plan l.clock l.contents) (take l.request-index l.requests) ≡ false;
       replies : l.replies ≡ map (reply l.plan l.clock l.contents) (take l.request-index l.requests);
       outcomes : l.outcomes ≡ outcomes_in so_far;
+      quiet : l.queried ≡ false → l.outcomes ≡ [];
+      queried : l.queried ≡ false → l.initial.queried ≡ false;
       pops : l.pops ≡ l.initial.pops ++ popped so_far;
       pushes : l.pushes ≡ l.initial.pushes ++ pushed so_far;
     }

@@ -4,8 +4,8 @@ use Rattle.std.proofs.lemmas.List.{append-nil, take_all, take_more_set}
 use Rattle.std.proofs.lemmas.List.Concat.{flat_map-append}
 use Rattle.lockstep_defs.specs.Machine.{nobody}
 use Rattle.clock_machine.specs.declared.part.Part.{Part}
-use Rattle.clock_machine.specs.Parts.{part_of, exchanges_of, all_exchanges, popped, pushed}
-use Rattle.clock_machine.proofs.Fronts.{written_more, written_all}
+use Rattle.clock_machine.specs.Parts.{part_of, exchanges_of, all_exchanges, no_part, popped, pushed}
+use Rattle.clock_machine.proofs.Fronts.{written_more, written_all, held_more}
 use Rattle.clock_machine.proofs.Listed.{added, popped_adds, pushed_adds}
 use Rattle.clock_machine.proofs.asking.take_parts.Goals as goal
 
@@ -25,6 +25,8 @@ loop-i-preserved c =
       parts = written_more (part_of c.args.plan.now c.args.clock c.args.state.now.contents) c.args.state.now.modules c.loop-i.parts i
           c.take_part.new.part nobody
           (omega arith) (omega arith) c.loop-i.invariant.parts c.in_ok-take_part.ensures.part;
+      quiet = λ e. held_more (λ (k : ℕ) (part : Part). part.outcomes ≡ []) c.loop-i.parts i c.take_part.new.part no_part (omega arith)
+          (c.loop-i.invariant.quiet (c.in_ok-take_part.ensures.queried e)) (c.in_ok-take_part.ensures.quiet e);
       pops = added popped popped_adds c.args.pops.now c.loop-i.pops c.take_part.new.pops so_far here _ more
           c.loop-i.invariant.pops c.in_ok-take_part.ensures.pops;
       pushes = added pushed pushed_adds c.args.pushes.now c.loop-i.pushes c.take_part.new.pushes so_far here _ more

@@ -84,7 +84,7 @@ pub rest_more : {X : Type 0} (from to : List X) (i : ℕ) (y d : X) → ((k : �
     → (k : ℕ) → i + 1 ≤ k → get_or (set to i y) k d ≡ get_or from k d
 rest_more from to i y d h k l = get_or-set_other to i k y d (λ same. omega arith) ∙ h k (omega arith)
 
-below_or_at : (k i : ℕ) → k < i + 1 → (k < i) ⊎ (k ≡ i)
+pub below_or_at : (k i : ℕ) → k < i + 1 → (k < i) ⊎ (k ≡ i)
 below_or_at k i l = ⊎_elim (λ h. inl h) (λ h. inr (omega arith)) (cases_lt k i)
 
 -- a fact of each place so far, also at the place that was written

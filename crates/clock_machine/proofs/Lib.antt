@@ -3,4 +3,5 @@ pub mod Listed
 pub mod PartLemmas
 pub mod Queues
 pub mod Steps
+pub mod StallLemmas
 pub mod Kept

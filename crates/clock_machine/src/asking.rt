@@ -9,15 +9,17 @@ ghost use Rattle.lockstep_defs.specs.Verdict.{is_settled, some_moves};
 ghost use Rattle.clock_machine.specs.Parts.{part_of, exchanges_of, all_exchanges, outcomes_in, popped, pushed};
 ghost use Rattle.clock_machine.specs.Parts.{AreFit, AreFitInTime, AreCodes};
 ghost use Rattle.clock_machine.specs.Quiet.{AreQuiet};
+ghost use Rattle.clock_machine.specs.Stalls.{IsKnown, AreKnown, AreStill};
 ghost use Rattle.module_move.specs.Sound.{IsStateSound};
 ghost use Rattle.module_move.specs.Moves.{notes_of};
 
 use crate::channels::{answer_one, any_stalls_ever};
-use crate::part::{Part, Pushed, Scratch};
+use crate::part::{Part, Pushed, Scratch, Stalled};
 use block_code::{BlockCode, Noted};
 use flow_design::{ClockState, Element, Module, ModuleState, Plan, Reply, Request};
 use flow_word::{Flags, List, OutOfMemory, Queue, Words};
 use module_move::{is_over, note};
+use std::mem::swap;
 
 /// Module number i of a plan.
 #[inline(always)]
@@ -72,6 +74,45 @@ pub fn note_one(
     Ok(())
 }
 
+/// As `note_one`, into a part: of a module that has stalled, what was noted then is taken over.
+#[inline(always)]
+fn note_part(
+    plan: &Plan,
+    codes: &[List<BlockCode>],
+    i: usize,
+    state: &ModuleState,
+    words: &mut Words,
+    stalled: &mut Stalled,
+    part: &mut Part,
+) -> Result<(), OutOfMemory>
+    requires fits { FitsEngine plan.now }
+    requires codes { AreCodes plan.now codes.now }
+    requires within { i < length plan.now.design.modules }
+    requires sound { IsStateSound (module_at plan.now i) state.now }
+    requires small { state.now.control.clock < 2 ^ 60 }
+    requires known { IsKnown plan.now (i, state.now) stalled.old }
+    ensures noted { OnOk result (part.new.noted ≡ notes_of (module_at plan.now i) state.now) }
+    ensures asked { OnOk result (part.new.requests ≡ requests plan.now.design.channels (module_at plan.now i) state.now) }
+    ensures unknown { OnOk result (stalled.new.known ≡ false) }
+{
+    if stalled.known {
+        stalled.known = false;
+        swap(&mut part.noted, &mut stalled.noted);
+        swap(&mut part.requests, &mut stalled.requests);
+        return Ok(());
+    }
+    note_one(
+        plan,
+        codes,
+        i,
+        state,
+        words,
+        &mut part.noted,
+        &mut part.requests,
+    )?;
+    Ok(())
+}
+
 /// Says whether none of these operations blocks and cannot be done. Then the two lists are the replies to them and the outcomes of
 /// the queries among them, and what they pop and push is added.
 #[inline(always)]
@@ -117,7 +158,7 @@ fn answer(
 }
 
 /// The part of one module: no part where it is ended, spent or stalls, else what it has due, and the replies. Adds what it pops and
-/// pushes.
+/// pushes. What was noted of a module that stalls is kept.
 #[inline(always)]
 fn take_part(
     plan: &Plan,
@@ -129,6 +170,7 @@ fn take_part(
     queried: &mut bool,
     pops: &mut List<u32>,
     pushes: &mut List<Pushed>,
+    stalled: &mut Stalled,
     part: &mut Part,
 ) -> Result<(), OutOfMemory>
     requires fits { FitsEngine plan.now }
@@ -136,26 +178,21 @@ fn take_part(
     requires fit { AreFit plan.now clock state.now.modules }
     requires early { clock ≤ plan.now.cycles }
     requires within { i < length state.now.modules }
+    requires known { IsKnown plan.now (i, slice_index_or state.now.modules i nobody) stalled.old }
     ensures part { OnOk result (part.new ≡ part_of plan.now clock state.now.contents (i, slice_index_or state.now.modules i nobody)) }
     ensures quiet { OnOk result (queried.new ≡ false → part.new.outcomes ≡ []) }
     ensures queried { OnOk result (queried.new ≡ false → queried.old ≡ false) }
     ensures pops { OnOk result (pops.new ≡ pops.old ++ popped (exchanges_of part.new)) }
     ensures pushes { OnOk result (pushes.new ≡ pushes.old ++ pushed (exchanges_of part.new)) }
+    ensures known { OnOk result (IsKnown plan.now (i, slice_index_or state.now.modules i nobody) stalled.new) }
+    ensures still { OnOk result (stalled.new.known ≡ true → part.new.moves ≡ false) }
 {
     let module = state_at(state, i);
     if is_over(plan.ops, module) {
         part.clear();
         return Ok(());
     }
-    note_one(
-        plan,
-        codes,
-        i,
-        module,
-        words,
-        &mut part.noted,
-        &mut part.requests,
-    )?;
+    note_part(plan, codes, i, module, words, stalled, part)?;
     let contents = state.contents.as_slice();
     let requests = part.requests.as_slice();
     part.moves = answer(
@@ -170,7 +207,7 @@ fn take_part(
         pushes,
     )?;
     if !part.moves {
-        part.clear();
+        stalled.keep(part);
     }
     Ok(())
 }
@@ -185,6 +222,7 @@ fn take_parts(
     queried: &mut bool,
     pops: &mut List<u32>,
     pushes: &mut List<Pushed>,
+    stalls: &mut [Stalled],
     parts: &mut [Part],
 ) -> Result<(), OutOfMemory>
     requires fits { FitsEngine plan.now }
@@ -192,14 +230,19 @@ fn take_parts(
     requires fit { AreFit plan.now clock state.now.modules }
     requires early { clock ≤ plan.now.cycles }
     requires count { length parts.old ≡ length state.now.modules }
+    requires stalls { length stalls.old ≡ length state.now.modules }
+    requires known { AreKnown plan.now state.now.modules stalls.old }
     ensures parts { OnOk result (parts.new ≡ map (part_of plan.now clock state.now.contents) (numbered state.now)) }
     ensures quiet { OnOk result (queried.new ≡ false → AreQuiet parts.new) }
     ensures pops { OnOk result (pops.new ≡ pops.old ++ popped (all_exchanges parts.new)) }
     ensures pushes { OnOk result (pushes.new ≡ pushes.old ++ pushed (all_exchanges parts.new)) }
+    ensures known { OnOk result (AreKnown plan.now state.now.modules stalls.new) }
+    ensures still { OnOk result (AreStill parts.new stalls.new) }
 {
     for (i, part) in parts.iter_mut().enumerate() {
+        let stalled = &mut stalls[i];
         take_part(
-            plan, codes, clock, state, i, words, queried, pops, pushes, part,
+            plan, codes, clock, state, i, words, queried, pops, pushes, stalled, part,
         )?;
     }
     Ok(())
@@ -275,11 +318,16 @@ pub fn ask_all(
     requires fit { AreFit plan.now clock state.now.modules }
     requires early { clock ≤ plan.now.cycles }
     requires count { length scratch.old.parts ≡ length state.now.modules }
+    requires stalls { length scratch.old.stalls ≡ length state.now.modules }
+    requires known { AreKnown plan.now state.now.modules scratch.old.stalls }
     ensures settled { IfOk result (λ settled. settled ≡ is_settled plan.now clock state.now) }
     ensures parts { OnOk result (scratch.new.parts ≡ map (part_of plan.now clock state.now.contents) (numbered state.now)) }
     ensures quiet { OnOk result (scratch.new.queried ≡ false → AreQuiet scratch.new.parts) }
     ensures pops { OnOk result (scratch.new.pops ≡ popped (all_exchanges scratch.new.parts)) }
     ensures pushes { OnOk result (scratch.new.pushes ≡ pushed (all_exchanges scratch.new.parts)) }
+    ensures stalls { OnOk result (length scratch.new.stalls ≡ length state.now.modules) }
+    ensures known { OnOk result (AreKnown plan.now state.now.modules scratch.new.stalls) }
+    ensures still { OnOk result (AreStill scratch.new.parts scratch.new.stalls) }
 {
     scratch.pops.truncate(0);
     scratch.pushes.truncate(0);
@@ -293,6 +341,7 @@ pub fn ask_all(
         &mut scratch.queried,
         &mut scratch.pops,
         &mut scratch.pushes,
+        scratch.stalls.as_mut_slice(),
         scratch.parts.as_mut_slice(),
     )?;
     if any_moves(scratch.parts.as_slice()) {

@@ -1,11 +1,13 @@
 //! What a module does in a clock.
-ghost use Rattle.std.specs.Prelude.{◌≡◌, IfOk, length};
+ghost use Rattle.std.specs.Prelude.{◌≡◌, IfOk, length, replicate};
 ghost use Rattle.clock_machine.specs.Parts.{no_part};
+ghost use Rattle.clock_machine.specs.Stalls.{no_stall, stalled_on};
 
 use block_code::Noted;
 use flow_design::{Reply, Request};
 use flow_word::{Flags, List, OutOfMemory, Words};
 use std::alloc::Global;
+use std::mem::swap;
 
 /// A value that is pushed on a channel in a clock.
 #[derive(Clone, Copy, Debug, PartialEq, Eq)]
@@ -28,11 +30,24 @@ pub struct Part {
     pub outcomes: Flags,
 }
 
-/// Room that is used anew in each clock.
+/// What was noted of a module when it stalled. It holds until the module moves, since its state stays the same.
+#[derive(Drop)]
+pub struct Stalled {
+    /// Whether the module has stalled since it moved.
+    pub known: bool,
+    /// What is noted of the due operations, in commit order.
+    pub noted: List<Noted>,
+    /// The FIFO operations among them.
+    pub requests: List<Request>,
+}
+
+/// Room that is used anew in each clock, and what stays known of the modules that stall.
 #[derive(Drop)]
 pub struct Scratch {
     /// One part per module.
     pub parts: List<Part>,
+    /// What is known of each module from earlier clocks.
+    pub stalls: List<Stalled>,
     /// The channels that all modules pop in a clock, each as often as it is popped.
     pub pops: List<u32>,
     /// What all modules push in a clock.
@@ -71,16 +86,54 @@ impl Part {
     }
 }
 
+impl Stalled {
+    /// Nothing known, which takes no memory.
+    pub fn new(alloc: Global) -> Stalled
+        ensures { result ≡ no_stall }
+    {
+        Stalled {
+            known: false,
+            noted: List::new(alloc),
+            requests: List::new(alloc),
+        }
+    }
+
+    /// Keeps what a part holds of a module that stalls, and takes all out of the part.
+    pub fn keep(&mut self, part: &mut Part)
+        ensures stalled { self.new ≡ stalled_on part.old.noted part.old.requests }
+        ensures part { part.new ≡ no_part }
+    {
+        self.known = true;
+        swap(&mut self.noted, &mut part.noted);
+        swap(&mut self.requests, &mut part.requests);
+        part.clear();
+    }
+}
+
+/// Nothing known of so many modules.
+fn no_stalls(alloc: Global, modules: u64) -> Result<List<Stalled>, OutOfMemory>
+    ensures { IfOk result (λ stalls. stalls ≡ replicate modules no_stall) }
+{
+    let mut stalls = List::new(alloc);
+    for _ in 0..modules {
+        stalls.push(Stalled::new(alloc))?;
+    }
+    Ok(stalls)
+}
+
 /// Room for so many modules.
 pub fn new_scratch(alloc: Global, modules: u64) -> Result<Scratch, OutOfMemory>
-    ensures { IfOk result (λ scratch. length scratch.parts ≡ modules) }
+    ensures parts { IfOk result (λ scratch. length scratch.parts ≡ modules) }
+    ensures stalls { IfOk result (λ scratch. scratch.stalls ≡ replicate modules no_stall) }
 {
+    let stalls = no_stalls(alloc, modules)?;
     let mut parts = List::new(alloc);
     for _ in 0..modules {
         parts.push(Part::new(alloc))?;
     }
     Ok(Scratch {
         parts,
+        stalls,
         pops: List::new(alloc),
         pushes: List::new(alloc),
         queried: false,

@@ -1,11 +1,14 @@
-use Rattle.std.proofs.Common.{◌≡◌, ℕ, ◌+◌, ◌<◌, ◌++◌, ◌∷◌, [], List, length, take, ap, ◌∙◌, arith}
+use Rattle.std.proofs.Common.{◌≡◌, ℕ, ◌+◌, ◌<◌, ◌++◌, ◌∷◌, [], List, length, take, get_or, ap, ◌∙◌, arith}
 use Rattle.std.proofs.Math.ListN.{set}
 use Rattle.std.proofs.lemmas.List.{append-nil, take_all, take_more_set}
 use Rattle.std.proofs.lemmas.List.Concat.{flat_map-append}
 use Rattle.lockstep_defs.specs.Machine.{nobody}
 use Rattle.clock_machine.specs.declared.part.Part.{Part}
+use Rattle.clock_machine.specs.declared.part.Stalled.{Stalled}
 use Rattle.clock_machine.specs.Parts.{part_of, exchanges_of, all_exchanges, no_part, popped, pushed}
 use Rattle.clock_machine.proofs.Fronts.{written_more, written_all, held_more}
+use Rattle.clock_machine.specs.Stalls.{IsKnown, no_stall}
+use Rattle.clock_machine.proofs.StallLemmas.{known_more, still_more}
 use Rattle.clock_machine.proofs.Listed.{added, popped_adds, pushed_adds}
 use Rattle.clock_machine.proofs.asking.take_parts.Goals as goal
 
@@ -27,6 +30,10 @@ loop-i-preserved c =
           (omega arith) (omega arith) c.loop-i.invariant.parts c.in_ok-take_part.ensures.part;
       quiet = λ e. held_more (λ (k : ℕ) (part : Part). part.outcomes ≡ []) c.loop-i.parts i c.take_part.new.part no_part (omega arith)
           (c.loop-i.invariant.quiet (c.in_ok-take_part.ensures.queried e)) (c.in_ok-take_part.ensures.quiet e);
+      known = known_more (λ (k : ℕ) (stalled : Stalled). IsKnown c.args.plan.now (k, get_or c.args.state.now.modules k nobody) stalled)
+          c.loop-i.stalls i c.take_part.new.stalled no_stall (omega arith) c.loop-i.invariant.known c.in_ok-take_part.ensures.known;
+      still = still_more c.loop-i.parts c.loop-i.stalls i c.take_part.new.part c.take_part.new.stalled (omega arith) (omega arith)
+          c.loop-i.invariant.still c.in_ok-take_part.ensures.still;
       pops = added popped popped_adds c.args.pops.now c.loop-i.pops c.take_part.new.pops so_far here _ more
           c.loop-i.invariant.pops c.in_ok-take_part.ensures.pops;
       pushes = added pushed pushed_adds c.args.pushes.now c.loop-i.pushes c.take_part.new.pushes so_far here _ more

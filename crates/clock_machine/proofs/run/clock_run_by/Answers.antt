@@ -12,6 +12,8 @@ use Rattle.lockstep_defs.specs.Verdict.{settled_verdict}
 use Rattle.lockstep_defs.proofs.Exits.{IsAt, first_at, next_at, settled_exit, cycles_exit}
 use Rattle.clock_machine.specs.Parts.{part_of, kept, report_from}
 use Rattle.clock_machine.proofs.Fronts.{numbered_length}
+use Rattle.clock_machine.specs.Stalls.{no_stall}
+use Rattle.clock_machine.proofs.StallLemmas.{known_first, known_next}
 use Rattle.clock_machine.proofs.Kept.{kept-append, kept_report}
 use Rattle.clock_machine.proofs.run.clock_run_by.Goals as goal
 
@@ -34,7 +36,9 @@ loop-clock-init c =
       at = subst (λ (events : List EventLine). IsAt p 0 c.in_ok-state.state events c.in_ok-answers.answers) at.are_events at;
       events = c.new-events.ensures ∙ (none c.args.keep ∙ ap (kept c.args.keep) at.are_events);
       fit = c.in_ok-state.ensures.fit;
-      parts = c.in_ok-scratch.ensures ∙ count;
+      stalls = ap length c.in_ok-scratch.ensures.stalls ∙ (length-replicate c.len-modules.result no_stall ∙ count);
+      known = known_first p c.in_ok-state.state.modules c.len-modules.result c.in_ok-scratch.scratch.stalls c.in_ok-scratch.ensures.stalls;
+      parts = c.in_ok-scratch.ensures.parts ∙ count;
     }
   where
     none : (keep : Bool) → [] ≡ kept keep []
@@ -59,6 +63,10 @@ loop-clock-preserved c =
           ∙ (ap (λ (es : List EventLine). es ++ kept c.args.keep more) c.loop-clock.invariant.events
           ∙ (sym (kept-append c.args.keep before more) ∙ ap (kept c.args.keep) at.are_events));
       fit = c.in_ok-next_clock.ensures.fit;
+      stalls = c.in_ok-ask_all.ensures.stalls ∙ c.loop-clock.invariant.fit.count;
+      known = known_next p clock st c.next_clock.new.state c.ask_all.new.scratch.parts c.ask_all.new.scratch.stalls
+          c.in_ok-ask_all.ensures.parts c.in_ok-next_clock.ensures.state c.in_ok-ask_all.ensures.stalls c.in_ok-ask_all.ensures.known
+          c.in_ok-ask_all.ensures.still;
       parts = count ∙ c.loop-clock.invariant.fit.count;
     }
 

@@ -33,7 +33,8 @@ known_more P xs i y d within all now k h =
     (cases_lt i k)) (cases_lt k i)
 
 -- no part so far that is known moves
-pub still_more : (parts : List Part) (stalls : List Stalled) (i : ℕ) (part : Part) (stalled : Stalled) → i < length parts → i < length stalls
+pub still_more : (parts : List Part) (stalls : List Stalled) (i : ℕ) (part : Part) (stalled : Stalled) → i < length parts
+    → i < length stalls
     → ((k : ℕ) → k < i → (get_or stalls k no_stall).known ≡ true → (get_or parts k no_part).moves ≡ false)
     → (stalled.known ≡ true → part.moves ≡ false)
     → (k : ℕ) → k < i + 1 → (get_or (set stalls i stalled) k no_stall).known ≡ true → (get_or (set parts i part) k no_part).moves ≡ false
@@ -52,7 +53,8 @@ pub known_first : (p : Plan) (states : List ModuleState) (n : ℕ) (stalls : Lis
 known_first p states n stalls e i h =
     let within : i < n = omega (arith, ap length e, length-replicate n no_stall) in
     let none : (get_or stalls i no_stall).known ≡ false =
-    ap (λ (x : Stalled). x.known) (ap (λ (xs : List Stalled). get_or xs i no_stall) e ∙ get_or-replicate n i no_stall no_stall within) in record {
+    ap (λ (x : Stalled). x.known) (ap (λ (xs : List Stalled). get_or xs i no_stall) e
+    ∙ get_or-replicate n i no_stall no_stall within) in record {
       noted = λ is. absurd (false≢true (sym none ∙ is));
       requests = λ is. absurd (false≢true (sym none ∙ is));
     }
@@ -70,10 +72,12 @@ known_next p clock st next parts stalls are is count known still i h =
     let within : i < length st.modules = omega arith in
     let m : ℕ × ModuleState = (i, get_or st.modules i nobody) in
     let after : get_or next.modules i nobody ≡ next_state p clock st.contents m =
-    ap (λ (s : ClockState). get_or s.modules i nobody) is ∙ numbered_read (next_state p clock st.contents) st.modules i nobody nobody within in
+    ap (λ (s : ClockState). get_or s.modules i nobody) is
+    ∙ numbered_read (next_state p clock st.contents) st.modules i nobody nobody within in
     let rests : (get_or stalls i no_stall).known ≡ true → get_or next.modules i nobody ≡ m.1 =
     λ e. after ∙ unmoved p clock st.contents m
-    (sym (part_moves p clock st.contents m) ∙ (sym (ap (λ (x : Part). x.moves) (part_at p clock st parts i are within)) ∙ still i h e)) in record {
+    (sym (part_moves p clock st.contents m)
+    ∙ (sym (ap (λ (x : Part). x.moves) (part_at p clock st parts i are within)) ∙ still i h e)) in record {
       noted = λ e. (known i h).noted e ∙ ap (notes_of (module_at p i)) (sym (rests e));
       requests = λ e. (known i h).requests e ∙ ap (λ (s : ModuleState). requests_of p (i, s)) (sym (rests e));
     }

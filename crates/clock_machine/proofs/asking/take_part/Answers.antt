@@ -49,7 +49,8 @@ pub returns-then-not-part-clause-known : goal.returns-then-not-part-clause-known
 returns-then-not-part-clause-known c =
     let asked = asked_by c.args.plan.now c.args.state.now c.args.i (module_at c.args.plan.now c.args.i) c.state_at-module.result.now
     c.note_part.new.part.requests refl c.state_at-module.ensures c.in_ok-note_part.ensures.asked in
-    let noted : c.note_part.new.part.noted ≡ notes_of (module_at c.args.plan.now c.args.i) (get_or c.args.state.now.modules c.args.i nobody) =
+    let noted : c.note_part.new.part.noted
+    ≡ notes_of (module_at c.args.plan.now c.args.i) (get_or c.args.state.now.modules c.args.i nobody) =
     rw (← c.state_at-module.ensures) c.in_ok-note_part.ensures.noted in
     subst (IsKnown c.args.plan.now (c.args.i, get_or c.args.state.now.modules c.args.i nobody)) (sym c.keep.ensures.stalled)
     (record { noted = λ e. noted; requests = λ e. asked })
@@ -61,7 +62,8 @@ returns-else-not-part-clause-part c =
     refl c.state_at-module.ensures c.in_ok-note_part.ensures.asked in
     let running : is_over c.args.plan.now.ops (get_or c.args.state.now.modules c.args.i nobody) ≡ false =
     ap (is_over c.args.plan.now.ops) (sym c.state_at-module.ensures) ∙ (sym c.is_over.ensures ∙ c.if-is_over.false) in
-    let noted : c.note_part.new.part.noted ≡ notes_of (module_at c.args.plan.now c.args.i) (get_or c.args.state.now.modules c.args.i nobody) =
+    let noted : c.note_part.new.part.noted
+    ≡ notes_of (module_at c.args.plan.now c.args.i) (get_or c.args.state.now.modules c.args.i nobody) =
     rw (← c.state_at-module.ensures) c.in_ok-note_part.ensures.noted in
     answered_part c.args.plan.now c.args.clock c.args.state.now.contents (c.args.i, get_or c.args.state.now.modules c.args.i nobody)
     c.note_part.new.part.requests _ running

@@ -1,9 +1,12 @@
 -- The code of a tree, from that of its parts.
 use Rattle.std.proofs.Common.{◌≡◌, refl, sym, ◌∙◌, ap, subst, arith, ℕ, ◌≤◌, ◌%◌, ◌^◌, ◌==◌, cond, List, [], ◌∷◌, ◌++◌, length}
+use Rattle.std.proofs.Common.{add_comm, mul_comm}
 use Rattle.std.proofs.lemmas.List.{append_assoc}
+use Rattle.std.proofs.lemmas.Nat.{and_comm, or_comm, xor_comm}
 use Rattle.flow_design.specs.declared.expr.Expr.{Expr, Number, Var, Unary, Binary, Sext, Pick}
 use Rattle.flow_design.specs.declared.expr.UnOp.{UnOp}
 use Rattle.flow_design.specs.declared.expr.BinOp.{BinOp}
+use Rattle.flow_design.specs.declared.expr.BinOp.TheVariants.{Add, Mul, And, Or, Xor}
 use Rattle.flow_design.specs.Words.{unary, binary, extended, variable, value, reach}
 use Rattle.flow_design.proofs.Values.{value_number, value_var, value_unary, value_binary, value_sext, value_pick}
 use Rattle.block_code.specs.declared.flat.Argument.{Argument}
@@ -63,7 +66,37 @@ var_var_code op at other code = record {
   sound = λ places wide all. all;
 }
 
-pub ruleset the_pairs = (var_number_code, var_var_code)
+pub number_var_code : (op : BinOp) (at n : ℕ) (code : List Instruction) → ((a b : ℕ) → binary op a b ≡ binary op b a)
+    → IsCodeOf code code (arg.VarNumber op at n) (Binary op (Number n) (Var at))
+number_var_code op at n code either = record {
+  more = [];
+  grown = none_more code;
+  values = λ registers temps. either (variable registers temps at) n ∙ sym (value_binary registers temps op (Number n) (Var at)
+      ∙ (ap (λ (v : ℕ). binary op v (value registers temps (Var at))) (value_number registers temps n)
+      ∙ ap (λ (v : ℕ). binary op n v) (value_var registers temps at)));
+  there = λ places wide. var_below at places (binary_second op (Number n) (Var at) places wide);
+  sound = λ places wide all. all;
+}
+
+pub ruleset the_pairs = (var_number_code, var_var_code, number_var_code)
+
+-- operators that give the same for two words in either order
+pub sums : (op : BinOp) (a b : ℕ) → op ≡ Add → binary op a b ≡ binary op b a
+sums op a b e = rw e (ap (λ (n : ℕ). n % 2 ^ 64) (add_comm a b))
+
+pub products : (op : BinOp) (a b : ℕ) → op ≡ Mul → binary op a b ≡ binary op b a
+products op a b e = rw e (ap (λ (n : ℕ). n % 2 ^ 64) (mul_comm a b))
+
+pub meets : (op : BinOp) (a b : ℕ) → op ≡ And → binary op a b ≡ binary op b a
+meets op a b e = rw e (and_comm a b)
+
+pub joins : (op : BinOp) (a b : ℕ) → op ≡ Or → binary op a b ≡ binary op b a
+joins op a b e = rw e (or_comm a b)
+
+pub differences : (op : BinOp) (a b : ℕ) → op ≡ Xor → binary op a b ≡ binary op b a
+differences op a b e = rw e (xor_comm a b)
+
+pub ruleset the_commuting = (sums, products, meets, joins, differences)
 
 -- an instruction behind code that grew
 behind : (before more middle after : List Instruction) (i : Instruction) → middle ≡ before ++ more → after ≡ middle ++ i ∷ []

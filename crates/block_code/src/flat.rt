@@ -1,8 +1,8 @@
 //! Expressions as flat code.
-ghost use Rattle.std.specs.Prelude.{◌≡◌, ℕ, ◌+◌, ◌<◌, ◌≤◌, ◌++◌, [], List as Items, length, take, drop, ◌∷◌, All, IfOk, IfSome, OnOk};
+ghost use Rattle.std.specs.Prelude.{◌≡◌, ℕ, ◌+◌, ◌<◌, ◌≤◌, ◌++◌, [], List as Items, length, take, drop, true, ◌∷◌, All, IfOk, IfSome, OnOk};
 ghost use Rattle.std.specs.Prelude.{slice_index, slice_set};
 ghost use Rattle.flow_design.specs.declared.expr.Expr.{Binary as BinaryOf};
-ghost use Rattle.flow_design.specs.Words.{value, reach};
+ghost use Rattle.flow_design.specs.Words.{binary, value, reach};
 ghost use Rattle.block_code.specs.declared.flat.Instruction.{Instruction as InstructionOf};
 ghost use Rattle.block_code.specs.declared.flat.Argument.TheVariants.{Result as ResultAt};
 ghost use Rattle.block_code.specs.Flat.{argument_value, result_of, ran, IsArgumentSound, IsInstructionSound, AreSound, IsCodeOf};
@@ -114,7 +114,19 @@ fn add(instruction: Instruction, code: &mut List<Instruction>) -> Result<Argumen
     Ok(Argument::Result(at))
 }
 
-/// An operator on a register or temp and a leaf as an argument, if it is that.
+/// Whether an operator is one of those that compute with bits or sums and give the same for two words in either order.
+#[tactic(auto, using(crate::proofs::Trees::the_commuting))]
+fn commutes(op: BinOp) -> bool
+    ensures { result ≡ true → (a b : ℕ) → binary op a b ≡ binary op b a }
+{
+    match op {
+        BinOp::Add | BinOp::Mul | BinOp::And | BinOp::Or | BinOp::Xor => true,
+        BinOp::Sub | BinOp::Shl | BinOp::Shr | BinOp::Div | BinOp::Rem => false,
+        BinOp::Eq | BinOp::Ne | BinOp::LtU | BinOp::LtS => false,
+    }
+}
+
+/// An operator on two leaves, one of them a register or temp, as an argument, if it is that.
 #[tactic(auto, using(crate::proofs::Trees::the_pairs))]
 fn pair(op: BinOp, a: &Expr<u32>, b: &Expr<u32>) -> Option<Argument>
     ensures { IfSome result (λ arg. (code : Items InstructionOf) → IsCodeOf code code arg (BinaryOf op a.now b.now)) }
@@ -123,6 +135,10 @@ fn pair(op: BinOp, a: &Expr<u32>, b: &Expr<u32>) -> Option<Argument>
         Expr::Var(at) => match b {
             Expr::Number(number) => Some(Argument::VarNumber(op, *at, *number)),
             Expr::Var(other) => Some(Argument::VarVar(op, *at, *other)),
+            _ => None,
+        },
+        Expr::Number(number) => match b {
+            Expr::Var(at) if commutes(op) => Some(Argument::VarNumber(op, *at, *number)),
             _ => None,
         },
         _ => None,

@@ -2,7 +2,7 @@
 ghost use Rattle.std.specs.Prelude.{ℕ, ◌≡◌, ◌+◌, ◌^◌, ◌≤◌, ◌<◌, if◌then◌else◌, length, slice_index, All, IfOk};
 ghost use Rattle.std.specs.List.Sorted.{IsNonDecreasing};
 ghost use Rattle.flow_design.specs.declared.design.Block.{Block as BlockOf};
-ghost use Rattle.flow_design.specs.Module.{due_at, live_count};
+ghost use Rattle.flow_design.specs.Module.{due_at, interval, live_count};
 ghost use Rattle.block_schedule.specs.Schedules.{KeepsLimits, AreSpans, IsScheduleOf, IsSooner, IsSpan};
 ghost use Rattle.block_schedule.specs.Work.{StandsIn, IsNextDue};
 
@@ -55,6 +55,14 @@ impl Schedule {
             numbers: numbers_of(alloc, &entries)?,
             spans,
         })
+    }
+
+    /// The local clocks between the starts of two iterations.
+    #[inline(always)]
+    pub fn interval(&self) -> u64
+        ensures { (block : BlockOf) → IsScheduleOf block self.now → result ≡ interval block }
+    {
+        self.interval
     }
 
     /// The numbers of the block's operations at an offset, in text order.

@@ -11,9 +11,7 @@ ghost use Rattle.block_code.specs.Notes.{noted_for};
 ghost use Rattle.module_move.specs.Moves.{passing, notes_of};
 ghost use Rattle.module_move.specs.Sound.{IsStateSound, IsDueSound};
 
-use crate::standing::block_of;
 use block_code::{Action, BlockCode, Noted, Prepared, prepare, temps_of};
-use block_schedule::interval;
 use flow_design::{Channel, Due, Module, ModuleState, Request};
 use flow_expr::variable;
 use flow_word::{List, OutOfMemory, Words};
@@ -73,7 +71,7 @@ fn note_due(
     ensures noted { OnOk result (noted.new ≡ notes_of of.now state.now) }
     ensures asked { OnOk result (asked.new ≡ requests channels.now of.now state.now) }
 {
-    let step = interval(block_of(of, state));
+    let step = code.schedule.interval();
     let newest_age = state.control.clock - state.control.newest;
     let mut left = state.temps.len();
     let mut place = 0u32;
@@ -117,6 +115,9 @@ fn note_iteration(
         (passing (block_of of.now state.now) state.now place numbers.now)) }
     ensures room { OnOk result (length scratch.new ≡ length scratch.old) }
 {
+    if numbers.is_empty() {
+        return Ok(());
+    }
     let temps = temps_of(state, place);
     for number in numbers {
         let due = Due {

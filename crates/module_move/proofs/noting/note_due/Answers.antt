@@ -17,16 +17,11 @@ pub loop-left-init : goal.loop-left-init
 loop-left-init c =
     let m = c.args.of.now in
     let s = c.args.state.now in
+    let step : c.interval-step.result ≡ interval (block_of m s) = c.interval-step.ensures (block_of m s) c.requires.code.schedule in
     record {
-      noted = rw (c.truncate.ensures, c.interval-step.ensures, c.len-left.ensures, c.block_of.ensures, c.requires.sound.state.places.temps)
+      noted = rw (c.truncate.ensures, step, c.len-left.ensures, c.requires.sound.state.places.temps)
           (ap (map (noted_for (block_of m s) s)) (sym (due_is m s)));
-      asked = rw (
-        c.truncate-2.ensures,
-        c.interval-step.ensures,
-        c.len-left.ensures,
-        c.block_of.ensures,
-        c.requires.sound.state.places.temps,
-      )
+      asked = rw (c.truncate-2.ensures, step, c.len-left.ensures, c.requires.sound.state.places.temps)
           (ap (filter_map (request_for c.args.channels.now m s)) (sym (due_is m s)));
       places = rw c.len-left.ensures (zero-add (length s.temps) ∙ c.requires.sound.state.places.temps);
       room = c.requires.room;
@@ -41,7 +36,7 @@ overflow_add-newest_age c =
     let block = block_sound (length c.args.channels.now) m s.control.block c.requires.module sound.state.block in
     let live : s.control.clock - s.control.newest < b.len =
     omega (arith, sound.state.control.has_started, sound.state.young sound.running) in
-    let step : c.interval-step.result ≡ interval b = c.interval-step.ensures ∙ ap interval c.block_of.ensures in
+    let step : c.interval-step.result ≡ interval b = c.interval-step.ensures b c.requires.code.schedule in
     let age = older_age b s.control (c.loop-left.left - 1) live (omega (arith, c.loop-left.invariant.places)) in
     let product : (c.loop-left.left - 1) * c.interval-step.result ≡ (c.loop-left.left - 1) * interval b =
     ap (λ (n : ℕ). (c.loop-left.left - 1) * n) step in
@@ -56,7 +51,7 @@ overflow_mul-left c =
     let block = block_sound (length c.args.channels.now) m s.control.block c.requires.module sound.state.block in
     let live : s.control.clock - s.control.newest < b.len =
     omega (arith, sound.state.control.has_started, sound.state.young sound.running) in
-    let step : c.interval-step.result ≡ interval b = c.interval-step.ensures ∙ ap interval c.block_of.ensures in
+    let step : c.interval-step.result ≡ interval b = c.interval-step.ensures b c.requires.code.schedule in
     let age = older_age b s.control (c.loop-left.left - 1) live (omega (arith, c.loop-left.invariant.places)) in
     let product : (c.loop-left.left - 1) * c.interval-step.result ≡ (c.loop-left.left - 1) * interval b =
     ap (λ (n : ℕ). (c.loop-left.left - 1) * n) step in

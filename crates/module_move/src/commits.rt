@@ -49,6 +49,9 @@ fn carry_out_next(
         carry_out(action, noted, Reply::Done, state);
         return answered;
     }
+    if let Action::Write(_, _, _) = action {
+        return answered_after(replies, answered);
+    }
     carry_out(action, noted, reply_at(replies, answered), state);
     answered_after(replies, answered)
 }

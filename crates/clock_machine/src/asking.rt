@@ -1,5 +1,5 @@
 //! Each module's part in a clock, by the contents from before it.
-ghost use Rattle.std.specs.Prelude.{◌≡◌, ◌<◌, ◌≤◌, ◌^◌, IfOk, OnOk, not, true, false, [], ◌++◌, if◌then◌else◌, length, map, slice_index_or};
+ghost use Rattle.std.specs.Prelude.{◌≡◌, ◌<◌, ◌≤◌, ◌^◌, IfOk, OnOk, not, ◌&&◌, true, false, [], ◌++◌, if◌then◌else◌, length, map, slice_index_or};
 ghost use Rattle.std.specs.List.{list_any};
 ghost use Rattle.flow_design.specs.StaticRules.{FitsEngine};
 ghost use Rattle.lockstep_defs.specs.Machine.{nobody, requests};
@@ -13,7 +13,7 @@ ghost use Rattle.clock_machine.specs.Stalls.{IsKnown, AreKnown, AreStill};
 ghost use Rattle.module_move.specs.Sound.{IsStateSound};
 ghost use Rattle.module_move.specs.Moves.{notes_of};
 
-use crate::channels::{answer_one, any_stalls_ever};
+use crate::channels::{answer_one, any_stalls, any_stalls_ever};
 use crate::part::{Part, Pushed, Scratch, Stalled};
 use block_code::{BlockCode, Noted};
 use flow_design::{ClockState, Element, Module, ModuleState, Plan, Reply, Request};
@@ -72,6 +72,13 @@ pub fn note_one(
         asked,
     )?;
     Ok(())
+}
+
+/// Whether it is known of a module that it stalls, and it still does in this clock.
+fn still_stalls(plan: &Plan, clock: u64, contents: &[Queue<Element>], stalled: &Stalled) -> bool
+    ensures { result ≡ (stalled.now.known && list_any (stalls plan.now clock contents.now) stalled.now.requests) }
+{
+    stalled.known && any_stalls(plan, clock, contents, stalled.requests.as_slice())
 }
 
 /// As `note_one`, into a part: of a module that has stalled, what was noted then is taken over.
@@ -192,8 +199,12 @@ fn take_part(
         part.clear();
         return Ok(());
     }
-    note_part(plan, codes, i, module, words, stalled, part)?;
     let contents = state.contents.as_slice();
+    if still_stalls(plan, clock, contents, stalled) {
+        part.clear();
+        return Ok(());
+    }
+    note_part(plan, codes, i, module, words, stalled, part)?;
     let requests = part.requests.as_slice();
     part.moves = answer(
         plan,

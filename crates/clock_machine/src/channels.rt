@@ -107,6 +107,46 @@ fn is_full(plan: &Plan, contents: &[Queue<Element>], channel: u32) -> bool
     is_fifo(plan, channel) && depth(plan, channel) <= held(contents, channel)
 }
 
+/// Whether a channel has an element to pop in this clock, or else a place to push.
+#[inline(always)]
+fn is_possible(
+    plan: &Plan,
+    clock: u64,
+    contents: &[Queue<Element>],
+    side: Side,
+    channel: u32,
+) -> bool
+    ensures { result ≡ is_possible plan.now clock contents.now side channel }
+{
+    match side {
+        Side::Pop => !is_empty(clock, contents, channel),
+        Side::Push => !is_full(plan, contents, channel),
+    }
+}
+
+/// Whether an operation blocks and cannot be done in this clock.
+#[inline(always)]
+fn stalls(plan: &Plan, clock: u64, contents: &[Queue<Element>], request: &Request) -> bool
+    ensures { result ≡ stalls plan.now clock contents.now request.now }
+{
+    let kind = request.kind;
+    kind.is_blocking() && !is_possible(plan, clock, contents, kind.side(), request.channel)
+}
+
+/// Whether one of these operations blocks and cannot be done in this clock.
+pub fn any_stalls(
+    plan: &Plan,
+    clock: u64,
+    contents: &[Queue<Element>],
+    requests: &[Request],
+) -> bool
+    ensures { result ≡ list_any (stalls plan.now clock contents.now) requests.now }
+{
+    requests
+        .iter()
+        .any(|request| stalls(plan, clock, contents, request))
+}
+
 /// Whether a channel would have an element to pop, or else a place to push, if every element could be popped. The clock does not
 /// matter.
 fn is_possible_ever(plan: &Plan, contents: &[Queue<Element>], side: Side, channel: u32) -> bool

@@ -1,4 +1,4 @@
-use Rattle.std.proofs.Common.{arith, refl, sym, ap, subst, not, ◌∙◌, ◌≡◌, Bool, true, false, get_or}
+use Rattle.std.proofs.Common.{arith, refl, sym, ap, subst, not, ◌∙◌, ◌≡◌, Bool, ◌&&◌, ℕ, true, false, get_or}
 use Rattle.std.specs.List.{list_any}
 use Rattle.lockstep_defs.specs.Machine.{is_over, nobody}
 use Rattle.lockstep_defs.specs.Channels.{stalls}
@@ -19,6 +19,20 @@ returns-then-is_over-clause-part c =
     c.clear.ensures ∙ sym (over_part c.args.plan.now c.args.clock c.args.state.now.contents
     (c.args.i, get_or c.args.state.now.modules c.args.i nobody)
     (ap (is_over c.args.plan.now.ops) (sym c.state_at-module.ensures) ∙ (sym c.is_over.ensures ∙ c.if-is_over.true)))
+
+both : (b d : Bool) → (b && d) ≡ true → (b ≡ true) × (d ≡ true)
+both true d h = (refl, h)
+both false d h = cc
+
+pub returns-then-still_stalls-clause-part : goal.returns-then-still_stalls-clause-part
+returns-then-still_stalls-clause-part c =
+    let m : ℕ × ModuleState = (c.args.i, get_or c.args.state.now.modules c.args.i nobody) in
+    let running : is_over c.args.plan.now.ops m.1 ≡ false =
+    ap (is_over c.args.plan.now.ops) (sym c.state_at-module.ensures) ∙ (sym c.is_over.ensures ∙ c.if-is_over.false) in
+    let known = both c.args.stalled.now.known _ (sym c.still_stalls.ensures ∙ c.if-still_stalls.true) in
+    let stalled : list_any (stalls c.args.plan.now c.args.clock c.args.state.now.contents) (requests_of c.args.plan.now m) ≡ true =
+    rw (← c.requires.known.requests known.0, ← c.as_slice-contents.ensures) known.1 in
+    c.clear-then-still_stalls.ensures ∙ sym (stalled_part c.args.plan.now c.args.clock c.args.state.now.contents m running stalled)
 
 pub note_part-requires-clause-sound : goal.note_part-requires-clause-sound
 note_part-requires-clause-sound c =

@@ -104,7 +104,7 @@ fn depth(plan: &Plan, channel: u32) -> u64
 fn is_full(plan: &Plan, contents: &[Queue<Element>], channel: u32) -> bool
     ensures { result ≡ is_full plan.now channel (contents_of contents.now channel) }
 {
-    is_fifo(plan, channel) && depth(plan, channel) <= held(contents, channel)
+    depth(plan, channel) <= held(contents, channel) && is_fifo(plan, channel)
 }
 
 /// Whether a channel has an element to pop in this clock, or else a place to push.

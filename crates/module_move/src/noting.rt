@@ -37,7 +37,8 @@ pub fn note(
     ensures few { OnOk result (length noted.new ≤ LIVE_ITERATIONS * OPERATIONS) }
 {
     make_room(scratch, code.room)?;
-    note_due(channels, of, code, state, scratch, noted, asked)?;
+    let room = scratch.as_mut_slice();
+    note_due(channels, of, code, state, room, noted, asked)?;
     Ok(())
 }
 
@@ -59,7 +60,7 @@ fn note_due(
     of: &Module,
     code: &BlockCode,
     state: &ModuleState,
-    scratch: &mut Words,
+    scratch: &mut [u64],
     noted: &mut List<Noted>,
     asked: &mut List<Request>,
 ) -> Result<(), OutOfMemory>
@@ -97,7 +98,7 @@ fn note_iteration(
     state: &ModuleState,
     place: u32,
     numbers: &[u32],
-    scratch: &mut Words,
+    scratch: &mut [u64],
     noted: &mut List<Noted>,
     asked: &mut List<Request>,
 ) -> Result<(), OutOfMemory>
@@ -164,7 +165,7 @@ fn note_if(
     state: &ModuleState,
     due: Due,
     temps: &[u64],
-    scratch: &mut Words,
+    scratch: &mut [u64],
     noted: &mut List<Noted>,
     asked: &mut List<Request>,
 ) -> Result<(), OutOfMemory>
@@ -184,7 +185,7 @@ fn note_if(
     if passes {
         let op = due.op;
         let iteration = due.iteration;
-        match prepare(action, state, iteration, temps, scratch.as_mut_slice()) {
+        match prepare(action, state, iteration, temps, scratch) {
             Prepared::Writes(value, address) => noted.push(Noted {
                 op,
                 iteration,

@@ -114,7 +114,7 @@ fn add(instruction: Instruction, code: &mut List<Instruction>) -> Result<Argumen
     Ok(Argument::Result(at))
 }
 
-/// Whether an operator is one of those that compute with bits or sums and give the same for two words in either order.
+/// Whether an operator is a sum, a product or one on bits, which give the same for two words in either order.
 #[tactic(auto, using(crate::proofs::Trees::the_commuting))]
 fn commutes(op: BinOp) -> bool
     ensures { result ≡ true → (a b : ℕ) → binary op a b ≡ binary op b a }

@@ -9,7 +9,7 @@ use Rattle.flow_word.specs.declared.access.Step.{Step}
 use Rattle.event_graph.specs.declared.steps.Head.{Head}
 use Rattle.event_graph.specs.declared.steps.Spot.{Spot}
 use Rattle.event_graph.specs.declared.steps.Spot.TheVariants.{One, Two, Whole}
-use Rattle.event_graph.specs.Packed.{opened, opened_by, IsInside, KeepsInside}
+use Rattle.event_graph.specs.Packed.{opened, opened_by, IsFew, IsInside, KeepsInside}
 
 still_opened : (heads : List Head) (accesses accesses' : List Access) (others others' : List Step)
     → All (λ (head : Head). IsInside accesses others head.spot) heads → KeepsInside accesses others accesses' others'
@@ -48,3 +48,10 @@ kept_more accesses items accesses' others more head inside = rw more (by_spot he
     by_spot gap first_query (Two at) inside =
         (omega (arith, length-append accesses items), rw (few_stay 2 at accesses items inside) refl)
     by_spot gap first_query (Whole at) inside = (inside, refl)
+
+-- few accesses that stand at a spot are those of the step there
+pub opened_few : (accesses items : List Access) (others : List Step) (gap first_query : ℕ) (spot : Spot) → IsFew accesses spot items
+    → opened_by accesses others gap first_query spot ≡ record { gap = gap; accesses = items; first_query = first_query }
+opened_few accesses items others gap first_query (One at) (inside, are) = rw are refl
+opened_few accesses items others gap first_query (Two at) (inside, are) = rw are refl
+opened_few accesses items others gap first_query (Whole at) none = absurd none

@@ -1,5 +1,5 @@
 -- Steps as they are kept, and what they mean.
-use Rattle.std.specs.Prelude.{◌≡◌, ℕ, ◌+◌, ◌*◌, ◌<◌, ◌≤◌, ◌^◌, List, [], length, take, drop, slice_index_or, All}
+use Rattle.std.specs.Prelude.{◌≡◌, ◌⊎◌, ℕ, ◌+◌, ◌*◌, ◌<◌, ◌≤◌, ◌^◌, List, [], length, take, drop, slice_index_or, All}
 use Rattle.flow_word.specs.Room.{Roomed}
 use Rattle.flow_word.specs.declared.access.Access.{Access}
 use Rattle.flow_word.specs.declared.access.Step.{Step}
@@ -26,6 +26,12 @@ opened_by accesses others gap first_query (Whole at) = slice_index_or others at 
 
 abbrev pub opened : List Access → List Step → Head → Step
 opened accesses others head = opened_by accesses others head.gap head.first_query head.spot
+
+-- the step has one access or two, and its numbers fit 32 bits
+pub record IsFewStep (step : Step) : Type 0 where
+  pub some : (length step.accesses ≡ 1) ⊎ (length step.accesses ≡ 2)
+  pub gap : step.gap < 2 ^ 32
+  pub first_query : step.first_query < 2 ^ 32
 
 -- something stands at the spot
 abbrev pub IsInside : List Access → List Step → Spot → Type 0

@@ -8,7 +8,7 @@ ghost use Rattle.event_graph.specs.Lanes.{with_cycle, with_put, timed_below, if_
 ghost use Rattle.std.specs.Prelude.{slice_set};
 ghost use Rattle.std.specs.List.Sorted.{IsStrictlyIncreasing};
 ghost use Rattle.event_graph.specs.Lanes.{cycle_of as cycle_at};
-ghost use Rattle.event_graph.specs.Packed.{whole};
+ghost use Rattle.event_graph.specs.Packed.{whole, IsFewStep};
 ghost use Rattle.flow_word.specs.declared.access.Place.{Place};
 
 use crate::lane::RoomyLane;
@@ -85,6 +85,23 @@ impl Graph {
         ensures sound { All IsSoundLane self.new.lanes }
     {
         self.lanes[owner as usize].push_step(step)
+    }
+
+    /// The same with a copy of a step of one access or two, whose numbers fit 32 bits.
+    #[inline(always)]
+    pub fn push_few(&mut self, owner: u32, step: &StepView<'_>) -> Result<(), OutOfMemory>
+        requires owner { owner < length self.old.lanes }
+        requires few { IsFewStep (whole step.now) }
+        requires sound { IsSoundStep (whole step.now) }
+        requires apart { 0 < length (lane_at self.old.lanes owner).steps → 1 ≤ step.now.gap }
+        ensures ok { OnOk result (self.new.lanes ≡ with_step self.old.lanes owner (whole step.now)) }
+        ensures err { OnErr result (self.new.lanes ≡ self.old.lanes) }
+        ensures succeeds { 0 < slice_index self.old.rooms owner → IsOk result }
+        ensures own_room { slice_index self.old.rooms owner ≤ slice_index self.new.rooms owner + 1 }
+        ensures other_rooms { (k : ℕ) → k ≢ owner → slice_index self.old.rooms k ≤ slice_index self.new.rooms k }
+        ensures sound { All IsSoundLane self.new.lanes }
+    {
+        self.lanes[owner as usize].push_few(step)
     }
 
     /// How many modules there are.

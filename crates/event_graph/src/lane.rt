@@ -4,7 +4,7 @@ ghost use Rattle.std.specs.Option.{ForSome};
 ghost use Rattle.std.specs.List.Sorted.{IsStrictlyIncreasing};
 ghost use Rattle.event_graph.specs.Lanes.{no_lane, last_cycle, cycle_bound, IsSoundStep, IsSoundLane, longer, timed, timed_below};
 ghost use Rattle.event_graph.specs.Lanes.{put_in};
-ghost use Rattle.event_graph.specs.Packed.{whole};
+ghost use Rattle.event_graph.specs.Packed.{whole, IsFewStep};
 
 use crate::steps::StepList;
 use crate::view::StepView;
@@ -107,6 +107,24 @@ impl RoomyLane {
         let waiting = self.steps.len() as usize - self.cycles.len();
         self.cycles.reserve(waiting + 1)?;
         self.steps.push(step)?;
+        Ok(())
+    }
+
+    /// The same with a copy of a step of one access or two, whose numbers fit 32 bits.
+    #[inline(always)]
+    pub fn push_few(&mut self, step: &StepView<'_>) -> Result<(), OutOfMemory>
+        requires few { IsFewStep (whole step.now) }
+        requires sound { IsSoundStep (whole step.now) }
+        requires apart { 0 < length self.old.lane.steps → 1 ≤ step.now.gap }
+        ensures ok { OnOk result (self.new.lane ≡ longer self.old.lane (whole step.now)) }
+        ensures err { OnErr result (self.new.lane ≡ self.old.lane) }
+        ensures succeeds { 0 < self.old.room → IsOk result }
+        ensures room { self.old.room ≤ self.new.room + 1 }
+        ensures lane_sound { IsSoundLane self.new.lane }
+    {
+        let waiting = self.steps.len() as usize - self.cycles.len();
+        self.cycles.reserve(waiting + 1)?;
+        self.steps.push_few(step)?;
         Ok(())
     }
 

@@ -1,6 +1,6 @@
 //! The steps of a lane, each in as few bytes as it needs.
 ghost use Rattle.std.specs.Prelude.{◌≡◌, ◌+◌, ◌<◌, ◌≤◌, ◌^◌, [], ◌∷◌, ◌++◌, length, slice_get, Some, ◌⊎◌, IsOk, OnOk, OnErr};
-ghost use Rattle.event_graph.specs.Packed.{whole, opened, IsFew, IsInside, KeepsInside};
+ghost use Rattle.event_graph.specs.Packed.{whole, opened, opened_by, IsFew, IsFewStep, IsInside, KeepsInside};
 
 use crate::view::{AccessesView, StepView};
 use flow_word::{Access, OutOfMemory, RoomyList, Step};
@@ -131,6 +131,26 @@ impl StepList {
     {
         self.reserve(1)?;
         let head = keep(&mut self.accesses, &mut self.others, step);
+        self.heads.push(head)?;
+        self.room -= 1;
+        Ok(())
+    }
+
+    /// The same with a copy of a step of one access or two, whose numbers fit 32 bits.
+    #[inline(always)]
+    pub fn push_few(&mut self, step: &StepView<'_>) -> Result<(), OutOfMemory>
+        requires few { IsFewStep (whole step.now) }
+        ensures ok { OnOk result (self.new.items ≡ self.old.items ++ whole step.now ∷ []) }
+        ensures err { OnErr result (self.new.items ≡ self.old.items) }
+        ensures succeeds { 0 < self.old.room → IsOk result }
+        ensures room { self.old.room ≤ self.new.room + 1 }
+    {
+        self.reserve(1)?;
+        let head = Head {
+            gap: step.gap as u32,
+            first_query: step.first_query as u32,
+            spot: keep_few(&mut self.accesses, step.accesses.as_slice()),
+        };
         self.heads.push(head)?;
         self.room -= 1;
         Ok(())

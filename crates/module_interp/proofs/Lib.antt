@@ -6,6 +6,7 @@ pub mod Counting
 pub mod Feeding
 pub mod Idle
 pub mod Keeping
+pub mod Listing
 pub mod Opening
 pub mod Rests
 pub mod Standing

@@ -1,6 +1,6 @@
 //! The run of a module.
 ghost use Rattle.std.specs.Prelude.{◌≡◌, ℕ, ◌<◌, ◌^◌, true, false, if◌then◌else◌, [], map, List as Items, length, slice_index, IsFalse};
-ghost use Rattle.std.specs.Prelude.{◌↔◌, All, IfOk, OnErr};
+ghost use Rattle.std.specs.Prelude.{◌≤◌, ◌↔◌, All, IfOk, IfSome, IsNone, OnErr, OnOk};
 ghost use Rattle.flow_word.specs.declared.access.Side.TheVariants.{Pop};
 ghost use Rattle.flow_design.specs.StaticRules.{FitsEngine};
 ghost use Rattle.flow_design.specs.declared.plan.Plan.{Plan as PlanOf};
@@ -8,8 +8,8 @@ ghost use Rattle.lockstep_defs.specs.Channels.{Exchange, moved_by};
 ghost use Rattle.lockstep_defs.specs.Report.{queries};
 ghost use Rattle.lockstep_defs.specs.OwnRun.{Own, access_of};
 ghost use Rattle.module_interp.specs.OwnRests.{done_in, first_rest, next_rest, accesses_at, mark_at, all_fit};
-ghost use Rattle.module_interp.specs.Paths.{IsTallyOf};
-ghost use Rattle.module_interp.specs.Runs.{waits, is_step, IsSoundMark, StandsAt};
+ghost use Rattle.module_interp.specs.Paths.{IsAtStep, IsTallyOf};
+ghost use Rattle.module_interp.specs.Runs.{waits, is_step, given, listed, IsFew, IsSoundMark, StandsAt};
 
 use crate::making::{first_path, go_to_start};
 use crate::path::{Path, Stage};
@@ -18,6 +18,9 @@ use flow_design::{Advance, Plan, Reply, Request};
 use flow_word::{Access, Accesses, List, OutOfMemory, Step};
 use module_move::is_over;
 use std::alloc::Global;
+
+/// What is below this fits 32 bits.
+const MOST: u64 = 0x1_0000_0000;
 
 /// A module's own run, ahead of time: from one local clock with a due FIFO operation to the next, on the replies that it
 /// is fed.
@@ -116,9 +119,26 @@ impl ModuleRun {
 
     /// How many queries the run has made, in the steps that have their replies.
     pub fn queries(&self) -> u64
-        ensures { (p : PlanOf) (i : ℕ) (o : Own) → StandsAt p i o self.now → result ≡ length (queries (done_in o.steps)) }
+        ensures made { (p : PlanOf) (i : ℕ) (o : Own) → StandsAt p i o self.now → result ≡ length (queries (done_in o.steps)) }
+        ensures listed { result ≡ (listed self.now).first_query }
     {
         self.tally.queries
+    }
+
+    /// How many local clocks the step that waits is behind the one before it.
+    #[inline(always)]
+    pub fn gap(&self) -> u64
+        ensures { result ≡ (listed self.now).gap }
+    {
+        self.path.since
+    }
+
+    /// The accesses of the step that was listed last.
+    #[inline(always)]
+    pub fn listed(&self) -> &[Access]
+        ensures { result.now ≡ (listed self.now).accesses }
+    {
+        self.accesses.as_slice()
     }
 
     /// How many operations were done in its moves so far.
@@ -141,14 +161,84 @@ impl ModuleRun {
         ensures sound { IfOk result (λ mark. (p : PlanOf) (i : ℕ) (o : Own) → StandsAt p i o self.old → IsSoundMark (length o.steps) mark) }
         ensures as_before { OnErr result (waits self.new ≡ false) }
     {
+        if let Some(end) = self.come()? {
+            return Ok(end);
+        }
+        let mark = self.give()?;
+        Ok(mark)
+    }
+
+    /// The same, but a step of one access or two whose numbers fit 32 bits is not given: none stands for it, and `gap`,
+    /// `listed` and `queries` tell it.
+    #[inline(always)]
+    pub fn advance_few(&mut self) -> Result<Option<Advance>, OutOfMemory>
+        requires stands { (p : PlanOf) × ((i : ℕ) × ((o : Own) × StandsAt p i o self.old)) }
+        requires answered { waits self.old ≡ false }
+        ensures stands { (p : PlanOf) (i : ℕ) (o : Own) → StandsAt p i o self.old → StandsAt p i o self.new }
+        ensures mark { IfOk result (λ mark. (p : PlanOf) (i : ℕ) (o : Own) → StandsAt p i o self.old
+            → given self.new mark ≡ mark_at p i o) }
+        ensures waits { IfOk result (λ mark. waits self.new ≡ is_step (given self.new mark)) }
+        ensures sound { IfOk result (λ mark. (p : PlanOf) (i : ℕ) (o : Own) → StandsAt p i o self.old
+            → IsSoundMark (length o.steps) (given self.new mark)) }
+        ensures few { IfOk result (λ mark. IsNone mark → IsFew (listed self.new)) }
+        ensures as_before { OnErr result (waits self.new ≡ false) }
+    {
+        if let Some(end) = self.come()? {
+            return Ok(Some(end));
+        }
+        if self.rests_at_few() {
+            self.list()?;
+            return Ok(None);
+        }
+        let mark = self.give()?;
+        Ok(Some(mark))
+    }
+
+    /// Comes to the next local clock with a due FIFO operation, of which it gives nothing yet, or gives the end of the run.
+    #[inline(always)]
+    fn come(&mut self) -> Result<Option<Advance>, OutOfMemory>
+        requires stands { (p : PlanOf) × ((i : ℕ) × ((o : Own) × StandsAt p i o self.old)) }
+        requires answered { waits self.old ≡ false }
+        ensures stands { (p : PlanOf) (i : ℕ) (o : Own) → StandsAt p i o self.old → StandsAt p i o self.new }
+        ensures answered { waits self.new ≡ false }
+        ensures step { IfOk result (λ end. IsNone end → IsAtStep self.new.path.value) }
+        ensures end { IfOk result (λ end. IfSome end (λ mark. (p : PlanOf) (i : ℕ) (o : Own) → StandsAt p i o self.old
+            → mark ≡ mark_at p i o)) }
+        ensures no_step { IfOk result (λ end. IfSome end (λ mark. is_step mark ≡ false)) }
+    {
         let path = self.path.as_mut();
         path.come_to_rest()?;
         if path.state.ended {
-            return Ok(Advance::Ended(path.since));
+            return Ok(Some(Advance::Ended(path.since)));
         }
         if is_over(path.limit, &path.state) {
-            return Ok(Advance::Spent(path.since));
+            return Ok(Some(Advance::Spent(path.since)));
         }
+        Ok(None)
+    }
+
+    /// Whether the step to which it came has one access or two, and its numbers fit 32 bits.
+    #[inline(always)]
+    fn rests_at_few(&self) -> bool
+        ensures most { result ≡ true → length self.now.path.value.asked ≤ 2 }
+        ensures gap { result ≡ true → self.now.path.value.since < 2 ^ 32 }
+        ensures queries { result ≡ true → self.now.tally.queries < 2 ^ 32 }
+    {
+        self.path.asked.len() <= 2 && self.path.since < MOST && self.tally.queries < MOST
+    }
+
+    /// Gives the step to which it came, which then waits for replies.
+    fn give(&mut self) -> Result<Advance, OutOfMemory>
+        requires stands { (p : PlanOf) × ((i : ℕ) × ((o : Own) × StandsAt p i o self.old)) }
+        requires step { IsAtStep self.old.path.value }
+        ensures stands { (p : PlanOf) (i : ℕ) (o : Own) → StandsAt p i o self.old → StandsAt p i o self.new }
+        ensures mark { IfOk result (λ mark. (p : PlanOf) (i : ℕ) (o : Own) → StandsAt p i o self.old → mark ≡ mark_at p i o) }
+        ensures waits { IfOk result (λ mark. waits self.new ≡ is_step mark) }
+        ensures sound { IfOk result (λ mark. (p : PlanOf) (i : ℕ) (o : Own) → StandsAt p i o self.old
+            → IsSoundMark (length o.steps) mark) }
+        ensures as_before { OnErr result (waits self.new ≡ false) }
+    {
+        let path = self.path.as_mut();
         let accesses = list_accesses(
             path.alloc,
             &self.tally,
@@ -161,6 +251,28 @@ impl ModuleRun {
             accesses,
             first_query: self.tally.queries,
         }))
+    }
+
+    /// Lists the accesses of the step to which it came, which then waits for replies.
+    #[inline(always)]
+    fn list(&mut self) -> Result<(), OutOfMemory>
+        requires stands { (p : PlanOf) × ((i : ℕ) × ((o : Own) × StandsAt p i o self.old)) }
+        requires step { IsAtStep self.old.path.value }
+        ensures stands { (p : PlanOf) (i : ℕ) (o : Own) → StandsAt p i o self.old → StandsAt p i o self.new }
+        ensures mark { OnOk result ((p : PlanOf) (i : ℕ) (o : Own) → StandsAt p i o self.old
+            → Advance.Step (listed self.new) ≡ mark_at p i o) }
+        ensures waits { OnOk result (waits self.new ≡ true) }
+        ensures sound { OnOk result ((p : PlanOf) (i : ℕ) (o : Own) → StandsAt p i o self.old
+            → IsSoundMark (length o.steps) (Advance.Step (listed self.new))) }
+        ensures count { OnOk result (length self.new.accesses ≡ length self.old.path.value.asked) }
+        ensures gap { OnOk result (self.new.path.value.since ≡ self.old.path.value.since) }
+        ensures queries { OnOk result (self.new.tally.queries ≡ self.old.tally.queries) }
+        ensures as_before { OnErr result (waits self.new ≡ false) }
+    {
+        let path = self.path.as_mut();
+        keep_accesses(&self.tally, path.asked.as_slice(), &mut self.accesses)?;
+        path.stage = Stage::Asked;
+        Ok(())
     }
 
     /// Commits the step that waits, on its replies. It takes no memory: whether the loop goes on and whether the block ends is
@@ -202,4 +314,25 @@ fn list_accesses(
         kept.push(access)?;
     }
     Ok(accesses)
+}
+
+/// Lists the accesses of these requests. What the list held before is gone.
+#[inline(always)]
+fn keep_accesses(
+    tally: &Tally,
+    asked: &[Request],
+    kept: &mut List<Access>,
+) -> Result<(), OutOfMemory>
+    requires tally { (channels : ℕ)
+        × ((before : Items Exchange) × (IsTallyOf channels before tally.now
+        × ((length before < 2 ^ 40) × All (λ r. r.channel < channels) asked.now))) }
+    ensures kept { OnOk result ((channels : ℕ) (before : Items Exchange) → IsTallyOf channels before tally.now
+        → All (λ r. r.channel < channels) asked.now → kept.new ≡ map (access_of before) asked.now) }
+    ensures count { OnOk result (length kept.new ≡ length asked.now) }
+{
+    kept.truncate(0);
+    for request in asked {
+        kept.push(tally.access(*request))?;
+    }
+    Ok(())
 }

@@ -1,0 +1,68 @@
+-- The accesses of the step at which a run rests, listed.
+use Rattle.std.specs.Box.{with_value}
+use Rattle.std.specs.Prelude.{All}
+use Rattle.std.proofs.Common.{◌≡◌, ℕ, ◌^◌, ◌<◌, ◌∙◌, List, map, length, refl, sym, ap, subst, arith}
+use Rattle.flow_word.specs.declared.access.Access.{Access}
+use Rattle.flow_design.specs.declared.plan.Plan.{Plan}
+use Rattle.flow_design.specs.declared.state.Advance.TheVariants.{Step}
+use Rattle.flow_design.specs.declared.state.Request.{Request}
+use Rattle.lockstep_defs.specs.Channels.{Exchange}
+use Rattle.lockstep_defs.specs.OwnRun.{Own, access_of}
+use Rattle.module_interp.specs.declared.path.Path.{Path}
+use Rattle.module_interp.specs.declared.path.Stage.TheVariants.{Asked}
+use Rattle.module_interp.specs.declared.run.ModuleRun.{ModuleRun}
+use Rattle.module_interp.specs.declared.tally.Tally.{Tally}
+use Rattle.module_interp.specs.OwnRests.{done_in, mark_at}
+use Rattle.module_interp.specs.Paths.{KeepsRest, IsAtStep, IsTallyOf}
+use Rattle.module_interp.specs.Runs.{StandsAt, IsSoundMark}
+use Rattle.module_interp.proofs.Advancing.{kept_on, CanList, can_list, stands_asked}
+use Rattle.module_interp.proofs.Sound.{sound_mark, small_step}
+use Rattle.module_interp.proofs.Standing.{step_rest, step_mark, accesses_are}
+use Rattle.module_interp.proofs.Tallies.{queries_few}
+
+-- what lists the accesses of these requests
+abbrev pub Lists : List Access → Tally → List Request → Type 0
+Lists accesses tally asked = (channels : ℕ) (before : List Exchange) → IsTallyOf channels before tally
+    → All (λ (r : Request). r.channel < channels) asked → accesses ≡ map (access_of before) asked
+
+-- the path in the box of a run that rests at a step
+module _ (p : Plan) (i : ℕ) (o : Own) (r : ModuleRun) (s : StandsAt p i o r) (y : Path) (is : y ≡ r.path.value) (h : IsAtStep r.path.value)
+    (asked : List Request) (are : asked ≡ y.asked) where
+  rests : IsAtStep y
+  rests = subst IsAtStep (sym is) h
+
+  keeps : KeepsRest r.path.value y
+  keeps = kept_on r.path.value y y is (λ q j n l. l)
+
+  can : CanList p o y
+  can = can_list p i o r y keeps s rests
+
+  pub few_before : length (done_in o.steps) < 2 ^ 40
+  few_before = can.few
+
+  pub all_inside : All (λ (q : Request). q.channel < length p.design.channels) asked
+  all_inside = subst (All (λ (q : Request). q.channel < length p.design.channels)) (sym are) can.all
+
+  module _ (accesses : List Access) (lists : Lists accesses r.tally asked) where
+    made : accesses ≡ map (access_of (done_in o.steps)) y.asked
+    made = lists (length p.design.channels) (done_in o.steps) s.tally all_inside ∙ ap (map (access_of (done_in o.steps))) are
+
+    abbrev new : ModuleRun
+    new = record { path = with_value r.path (record y { stage = Asked }); tally = r.tally; accesses = accesses }
+
+    pub listed_stands : StandsAt p i o new
+    listed_stands = stands_asked p i o r y accesses keeps s rests made
+
+    pub listed_mark : Step (record { gap = y.since; accesses = accesses; first_query = r.tally.queries }) ≡ mark_at p i o
+    listed_mark =
+        let l = keeps p i o s.leads in
+        let rest = step_rest p i o y l rests in
+        step_mark p i o y accesses r.tally.queries l rest rests.alive (accesses_are p i o y accesses l rest rests.asked made)
+        s.tally.queries_are
+
+    pub listed_sound : IsSoundMark (length o.steps) (Step (record { gap = y.since; accesses = accesses; first_query = r.tally.queries }))
+    listed_sound =
+        let (few, done) = small_step p i o new listed_stands refl in
+        let queries = s.tally.queries_are in
+        let less = queries_few (done_in o.steps) in
+        sound_mark p i o r _ s listed_mark (record { few = few; first_query = omega arith })

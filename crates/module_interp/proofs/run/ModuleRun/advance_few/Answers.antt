@@ -1,0 +1,32 @@
+use Rattle.module_interp.proofs.Sound.{sound_mark, small_end}
+use Rattle.module_interp.proofs.run.ModuleRun.advance_few.Goals as goal
+
+pub returns-in-Some-clause-sound : goal.returns-in-Some-clause-sound
+returns-in-Some-clause-sound c p i o s =
+    let end = rw c.in-Some.is at c.in_ok-end.ensures.end in
+    let no_step = rw c.in-Some.is at c.in_ok-end.ensures.no_step in
+    sound_mark p i o c.args.self.now c.in-Some.end s (end p i o s) (small_end c.in-Some.end no_step)
+
+pub returns-in_err-list-clause-stands : goal.returns-in_err-list-clause-stands
+returns-in_err-list-clause-stands c p i o s = c.list.ensures.stands p i o (c.come.ensures.stands p i o s)
+
+pub returns-then-rests_at_few-clause-stands : goal.returns-then-rests_at_few-clause-stands
+returns-then-rests_at_few-clause-stands c p i o s = c.list.ensures.stands p i o (c.come.ensures.stands p i o s)
+
+pub returns-then-rests_at_few-clause-mark : goal.returns-then-rests_at_few-clause-mark
+returns-then-rests_at_few-clause-mark c p i o s = c.in_ok-list.ensures.mark p i o (c.come.ensures.stands p i o s)
+
+pub returns-then-rests_at_few-clause-sound : goal.returns-then-rests_at_few-clause-sound
+returns-then-rests_at_few-clause-sound c p i o s = c.in_ok-list.ensures.sound p i o (c.come.ensures.stands p i o s)
+
+pub returns-in_err-mark-clause-stands : goal.returns-in_err-mark-clause-stands
+returns-in_err-mark-clause-stands c p i o s = c.give.ensures.stands p i o (c.come.ensures.stands p i o s)
+
+pub returns-clause-stands : goal.returns-clause-stands
+returns-clause-stands c p i o s = c.give.ensures.stands p i o (c.come.ensures.stands p i o s)
+
+pub returns-clause-mark : goal.returns-clause-mark
+returns-clause-mark c p i o s = c.in_ok-mark.ensures.mark p i o (c.come.ensures.stands p i o s)
+
+pub returns-clause-sound : goal.returns-clause-sound
+returns-clause-sound c p i o s = c.in_ok-mark.ensures.sound p i o (c.come.ensures.stands p i o s)

@@ -1,0 +1,26 @@
+use Rattle.std.proofs.Common.{length, ◌∙◌}
+use Rattle.module_interp.specs.OwnRests.{done_in}
+use Rattle.module_interp.proofs.Listing.{few_before, all_inside, listed_stands, listed_mark, listed_sound}
+use Rattle.module_interp.proofs.run.ModuleRun.give.Goals as goal
+
+pub list_accesses-requires : goal.list_accesses-requires
+list_accesses-requires c =
+    let (p, (i, (o, s))) = c.requires.stands in
+    let few = few_before p i o c.args.self.now s _ c.as_mut-path.ensures.value c.requires.step _ c.as_slice.ensures in
+    let all = all_inside p i o c.args.self.now s _ c.as_mut-path.ensures.value c.requires.step _ c.as_slice.ensures in
+    record { tally = (length p.design.channels, (done_in o.steps, (s.tally, (few, all)))) }
+
+pub returns-clause-stands : goal.returns-clause-stands
+returns-clause-stands c p i o s =
+    listed_stands p i o c.args.self.now s _ c.as_mut-path.ensures.value c.requires.step _ c.as_slice.ensures c.list_accesses.new.kept
+    (λ n before tally all. c.in_ok-accesses.ensures.kept ∙ c.in_ok-accesses.ensures.given n before tally all)
+
+pub returns-clause-mark : goal.returns-clause-mark
+returns-clause-mark c p i o s =
+    listed_mark p i o c.args.self.now s _ c.as_mut-path.ensures.value c.requires.step _ c.as_slice.ensures c.in_ok-accesses.accesses
+    c.in_ok-accesses.ensures.given
+
+pub returns-clause-sound : goal.returns-clause-sound
+returns-clause-sound c p i o s =
+    listed_sound p i o c.args.self.now s _ c.as_mut-path.ensures.value c.requires.step _ c.as_slice.ensures c.in_ok-accesses.accesses
+    c.in_ok-accesses.ensures.given

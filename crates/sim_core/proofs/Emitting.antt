@@ -1,7 +1,9 @@
 -- A Run's next mark, emitted.
-use Rattle.std.proofs.Common.{◌≡◌, refl, sym, ap, subst, ℕ, ◌+◌, ◌-◌, ◌^◌, ◌<◌, ◌≤◌, Bool, true, false}
+use Rattle.std.proofs.Common.{◌≡◌, refl, sym, ap, subst, ◌∙◌, ℕ, ◌+◌, ◌-◌, ◌^◌, ◌<◌, ◌≤◌, ◌⊎◌, inl, inr, Bool, true, false}
 use Rattle.std.proofs.Common.{List, length, get_or, set, Option, Some, arith}
 use Rattle.std.proofs.lemmas.Bool.{both_ways}
+use Rattle.std.proofs.lemmas.Bool.Decides.{eqb_tells}
+use Rattle.flow_word.specs.declared.access.Access.{Access}
 use Rattle.flow_word.specs.declared.access.Step.{Step as StepOf}
 use Rattle.flow_design.specs.declared.plan.Plan.{Plan}
 use Rattle.flow_design.specs.declared.state.ModuleState.{ModuleState}
@@ -9,10 +11,12 @@ use Rattle.flow_design.specs.declared.state.Advance.{Advance}
 use Rattle.flow_design.specs.declared.state.Advance.TheVariants.{Step, Ended, Spent}
 use Rattle.flow_design.specs.declared.state.Reply.{Reply}
 use Rattle.event_graph.specs.Lanes.{gap_bound, with_step}
+use Rattle.event_graph.specs.Packed.{IsFewStep}
 use Rattle.lockstep_defs.specs.OwnRun.{Own}
 use Rattle.module_interp.specs.declared.run.ModuleRun.{ModuleRun}
 use Rattle.module_interp.specs.OwnRests.{next_rest, mark_at}
-use Rattle.module_interp.specs.Runs.{StandsAt, waits, is_step, gap_of, IsSmallStep}
+use Rattle.module_interp.specs.Runs.{StandsAt, waits, is_step, gap_of, listed, IsFew, IsSmallStep, IsSoundMark}
+use Rattle.module_interp.proofs.Gaps.{least_gap}
 use Rattle.event_timing.specs.Machines.{Design}
 use Rattle.event_timing.specs.Core.{Core}
 use Rattle.event_timing.specs.Actions.{Acts, MayRun}
@@ -24,6 +28,8 @@ use Rattle.engine_view.specs.Taking.{kinds_in, taken_all}
 use Rattle.engine_view.specs.Rooms.{AreApart, HasRoomFor, IsRoomy, UsesRoom, query_bound}
 use Rattle.engine_view.specs.Stored.{Stored, held_in}
 use Rattle.sim_core.specs.Runs.{IsRunOf, IsCore, rest_behind, lent_of, over_of}
+use Rattle.sim_core.specs.Returned.{most_queries, IsNextMark}
+use Rattle.sim_core.proofs.Returning as returning
 use Rattle.sim_core.proofs.Staying.{behind_same}
 use Rattle.sim_core.proofs.Emission.{IsReady}
 use Rattle.sim_core.proofs.Emission as emission
@@ -43,6 +49,25 @@ pub not_a_step : (a : Advance) → ((t : StepOf) → a ≡ Step t → ⊥) → i
 not_a_step (Step t) f = absurd (f t refl)
 not_a_step (Ended n) f = refl
 not_a_step (Spent n) f = refl
+
+-- ---- the step that was listed
+
+pub as_listed : (run : ModuleRun) (gap : ℕ) (accesses : List Access) (first : ℕ) → gap ≡ (listed run).gap
+    → accesses ≡ (listed run).accesses → first ≡ (listed run).first_query
+    → Step (record { gap = gap; accesses = accesses; first_query = first }) ≡ Step (listed run)
+as_listed run gap accesses first e f g = rw (e, f, g) refl
+
+one_or_two : (n : ℕ) → 1 ≤ n → n ≤ 2 → (n ≡ 1) ⊎ (n ≡ 2)
+one_or_two n some most = elim (eqb_tells n 1) [ inl e ↦ inl e.1 | inr e ↦ let other = e.1 in inr (omega arith) ]
+
+pub as_few : (run : ModuleRun) (gap : ℕ) (accesses : List Access) (first : ℕ) → gap ≡ (listed run).gap
+    → accesses ≡ (listed run).accesses → first ≡ (listed run).first_query → IsFew (listed run)
+    → IsFewStep (record { gap = gap; accesses = accesses; first_query = first })
+as_few run gap accesses first e f g few = rw (e, f, g) (record {
+  some = one_or_two (length run.accesses) few.some few.most;
+  gap = few.gap;
+  first_query = few.first_query;
+})
 
 -- with more room it is so as before
 pub ready_roomed : (p : Plan) (s t : Stored) (ends : List (Option Advance)) (runs : List (Option ModuleRun)) (credits others : List ℕ)
@@ -179,3 +204,32 @@ module _ (p : Plan) (s : Stored) (ends : List (Option Advance)) (runs : List (Op
 
     pub end_core : IsCore p s ends_now runs credits
     end_core = emission.end_core p s ends runs credits m may_run end mark over short
+
+  -- ---- either
+
+  -- the mark to which the run comes is the module's next
+  pub is_next : (mark : Advance) → mark ≡ mark_at p m rest → IsSoundMark (length rest.steps) mark → 2 ≤ get_or credits m 0
+      → most_queries ≤ get_or s.log.rooms m 0 → IsNextMark p s ends runs credits m mark
+  is_next mark is sound places outcomes = record {
+    room = record { core = r.core; lent = r.lent; places = places; outcomes = outcomes };
+    may = may;
+    is = is;
+    sound = sound;
+  }
+
+  -- and where the core has done that Run, the run is there
+  pub run_after : (mark : Advance) → IsNextMark p s ends runs credits m mark → (new : ModuleRun)
+      → ((q : Plan) (j : ℕ) (o : Own) → StandsAt q j o run → StandsAt q j o new) → waits new ≡ is_step mark
+      → (y : Core ModuleState) → Acts d p.cycles x (Run m) y → IsRunOf p y m new
+  run_after (Step t) n new go w y (there, to) =
+      let is = returning.mark_step p s ends runs credits m (Step t) n t refl in
+      let short = returning.short_rest p s ends runs credits m (Step t) n in
+      let small = returning.small_step p s ends runs credits m (Step t) n t refl in
+      subst (λ (z : Core ModuleState). IsRunOf p z m new) ((step_acts t is short small (least_gap p m)).1 ∙ sym to)
+      (step_run t is short small (least_gap p m) new go w)
+  run_after (Ended e) n new go w y (there, to) =
+      subst (λ (z : Core ModuleState). IsRunOf p z m new) ((end_acts (Ended e) n.is refl n.sound.short).1 ∙ sym to)
+      (end_run (Ended e) n.is refl n.sound.short new go w)
+  run_after (Spent e) n new go w y (there, to) =
+      subst (λ (z : Core ModuleState). IsRunOf p z m new) ((end_acts (Spent e) n.is refl n.sound.short).1 ∙ sym to)
+      (end_run (Spent e) n.is refl n.sound.short new go w)

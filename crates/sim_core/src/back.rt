@@ -6,13 +6,14 @@ ghost use Rattle.event_timing.specs.Actions.Action.{Run};
 ghost use Rattle.timing_bridge.specs.Designs.{design};
 ghost use Rattle.module_interp.specs.declared.run.ModuleRun.{ModuleRun};
 ghost use Rattle.engine_view.specs.Stored.{stored};
+ghost use Rattle.event_graph.specs.Packed.{whole, IsFewStep};
 ghost use Rattle.run_ahead.specs.declared.mail.Task.{Task as TaskOf};
 ghost use Rattle.sim_core.specs.Runs.{IsCore};
 ghost use Rattle.sim_core.specs.Tasks.{IsTaskLeft};
 ghost use Rattle.sim_core.specs.Returned.{core_in, IsNextMark, AreReturned};
 
-use engine_view::emit_step;
-use event_graph::Graph;
+use engine_view::{emit_few, emit_step};
+use event_graph::{Graph, StepView};
 use fifo_table::FifoTable;
 use flow_design::Advance;
 use flow_word::List;
@@ -28,7 +29,7 @@ fn take_mark(marks: &mut List<Advance>, at: u64) -> Advance
 }
 
 /// Emits a module's next mark. There is room for it.
-fn record_mark(
+pub(crate) fn record_mark(
     graph: &mut Graph,
     fifos: &mut FifoTable,
     log: &QueryLog,
@@ -59,6 +60,32 @@ fn record_mark(
             ends[owner as usize] = Some(end);
         }
     }
+}
+
+/// Emits a module's next mark, which is this step. There is room for it.
+#[inline(always)]
+pub(crate) fn record_few(
+    graph: &mut Graph,
+    fifos: &mut FifoTable,
+    log: &QueryLog,
+    credits: &mut Vec<u64>,
+    owner: u32,
+    step: &StepView<'_>,
+)
+    requires owner { owner < length graph.old.lanes }
+    requires few { IsFewStep (whole step.now) }
+    requires next { (p : PlanOf) × ((ends : Items (Maybe Advance)) × ((runs : Items (Maybe ModuleRun))
+        × IsNextMark p (stored graph.old fifos.old log.now) ends runs credits.old.items owner (Advance.Step (whole step.now)))) }
+    ensures core { (p : PlanOf) (ends : Items (Maybe Advance)) (runs : Items (Maybe ModuleRun))
+        → IsNextMark p (stored graph.old fifos.old log.now) ends runs credits.old.items owner (Advance.Step (whole step.now))
+        → IsCore p (stored graph.new fifos.new log.now) ends runs credits.new.items }
+    ensures acts { (p : PlanOf) (ends : Items (Maybe Advance)) (runs : Items (Maybe ModuleRun))
+        → IsNextMark p (stored graph.old fifos.old log.now) ends runs credits.old.items owner (Advance.Step (whole step.now))
+        → Acts (design p) p.cycles (core_in p (stored graph.old fifos.old log.now) ends) (Run owner)
+        (core_in p (stored graph.new fifos.new log.now) ends) }
+{
+    credits[owner as usize] -= 2;
+    emit_few(graph, fifos, log, owner, step);
 }
 
 /// Emits a module's next marks. There is room for them. What is left of the list doesn't matter.

@@ -8,14 +8,15 @@ ghost use Rattle.sim_core.specs.Views.{theory_of};
 ghost use Rattle.sim_core.specs.Runs.{IsRunOf};
 
 use crate::actions::Action;
+use crate::back::{record_few, record_mark};
 use crate::machine::Core;
 use crate::opening::ports_of;
 use crate::replies::find_replies;
-use engine_view::{bit_of, emit_step, make_room};
-use event_graph::Place;
+use engine_view::{bit_of, make_room};
+use event_graph::{AccessesView, Place, StepView};
 use flow_design::limits::{LIVE_ITERATIONS, OPERATIONS};
 use flow_word::OutOfMemory;
-use module_interp::{Advance, ModuleRun, gaps_are_short};
+use module_interp::ModuleRun;
 
 impl Core {
     /// Commits the replies to a module's newest step, and emits its next mark, where that is permitted. The module's run is
@@ -142,7 +143,6 @@ impl Core {
         ensures plan { self.new.plan ≡ self.old.plan }
         ensures lent { self.new.lent ≡ self.old.lent }
     {
-        gaps_are_short();
         self.asking |= bit_of(owner);
         // No step makes more queries.
         let queries = LIVE_ITERATIONS * OPERATIONS;
@@ -155,14 +155,33 @@ impl Core {
             ports_of(&self.ports, owner),
             queries,
         )?;
-        match run.advance()? {
-            Advance::Step(step) => {
-                self.credits[owner as usize] -= 2;
-                emit_step(&mut self.graph, &mut self.fifos, &self.log, owner, step);
+        match run.advance_few()? {
+            None => {
+                let step = StepView {
+                    gap: run.gap(),
+                    accesses: AccessesView::new(run.listed()),
+                    first_query: run.queries(),
+                };
+                record_few(
+                    &mut self.graph,
+                    &mut self.fifos,
+                    &self.log,
+                    &mut self.credits,
+                    owner,
+                    &step,
+                );
                 Ok(())
             }
-            end => {
-                self.ends[owner as usize] = Some(end);
+            Some(mark) => {
+                record_mark(
+                    &mut self.graph,
+                    &mut self.fifos,
+                    &self.log,
+                    &mut self.credits,
+                    &mut self.ends,
+                    owner,
+                    mark,
+                );
                 Ok(())
             }
         }

@@ -6,7 +6,7 @@ ghost use Rattle.sim_core.specs.Runs.{IsRunOf};
 ghost use Rattle.sim_core.specs.Views.{theory_of};
 ghost use Rattle.sim_core.specs.Drives.{Goes, GoesOn, HasTimed, HasVisited};
 
-use crate::actions::Action;
+use crate::beside::asks;
 use crate::machine::Core;
 use engine_view::{Timing, bit_of};
 use flow_word::{OutOfMemory, Steps};
@@ -61,7 +61,7 @@ impl Core {
         ensures no_memory { OnErr result ((n : ℕ) → Goes self.old n self.new n) }
         ensures permitted { OnErr result (MayRun (design self.new.plan) (theory_of self.new) owner) }
     {
-        if self.permits(Action::Run(owner)).is_err() {
+        if self.is_over(owner) {
             return Ok(None);
         }
         let Some(mut run) = self.runs[owner as usize].take() else {
@@ -146,6 +146,9 @@ impl Core {
     {
         // The core agrees with its plan.
         let _count = self.modules();
+        if !asks(self.asking, owner) {
+            return Visit::Idle;
+        }
         match self.time(owner, steps) {
             Timing::Assigned(_) => Visit::Acted(self.bits_beside(owner)),
             Timing::Answered(_) => Visit::Acted(self.bits_beside(owner) | bit_of(owner)),

@@ -1,17 +1,13 @@
-use Rattle.std.proofs.Common.{◌≡◌, refl, sym, ap, subst, ◌∙◌, length, arith}
-use Rattle.std.proofs.lemmas.List.{get_or_read}
-use Rattle.flow_design.specs.declared.state.Advance.TheVariants.{Step}
-use Rattle.module_interp.specs.OwnRests.{mark_at}
-use Rattle.module_interp.specs.Runs.{is_step, IsSoundMark}
+use Rattle.std.proofs.Common.{◌≡◌, refl, sym, subst, ◌∙◌, length, arith}
+use Rattle.module_interp.specs.Runs.{IsSoundMark}
 use Rattle.engine_view.specs.Held.{emitted_of, core_of}
 use Rattle.engine_view.specs.Stored.{stored, held_in}
-use Rattle.engine_view.proofs.Roomy.{few_queries}
 use Rattle.timing_bridge.specs.Designs.{design}
 use Rattle.sim_core.specs.Runs.{over_of, rest_behind}
 use Rattle.sim_core.proofs.Asking.{asking_kept, asking_emitted}
+use Rattle.sim_core.proofs.Emitting.{as_listed, as_few}
 use Rattle.sim_core.proofs.Emitting as emitting
 use Rattle.event_timing.specs.Actions.Action.{Run}
-use Rattle.sim_core.proofs.Returning as returning
 use Rattle.sim_core.proofs.Leaving as unread
 use Rattle.sim_core.proofs.Lending as lending
 use Rattle.sim_core.proofs.Marking.{table_count}
@@ -76,8 +72,8 @@ returns-in_err-make_room-clause-run c =
     c.requires.answered (rw (← c.self.view_is) at c.requires.lives) in
     rw (← c.self.view_is) r.run_is
 
-pub invariant_of-self-in_err-end : goal.invariant_of-self-in_err-end
-invariant_of-self-in_err-end c =
+pub invariant_of-self-in_err-advance_few : goal.invariant_of-self-in_err-advance_few
+invariant_of-self-in_err-advance_few c =
     let k = c.self.invariant.core in
     let p = c.self.inside.plan in
     let ends = c.self.inside.ends.items in
@@ -103,8 +99,8 @@ invariant_of-self-in_err-end c =
       candidate_count = c.self.invariant.candidate_count;
     }
 
-pub returns-in_err-end-clause-run : goal.returns-in_err-end-clause-run
-returns-in_err-end-clause-run c =
+pub returns-in_err-advance_few-clause-run : goal.returns-in_err-advance_few-clause-run
+returns-in_err-advance_few-clause-run c =
     let k = c.self.invariant.core in
     let p = c.self.inside.plan in
     let ends = c.self.inside.ends.items in
@@ -121,40 +117,11 @@ returns-in_err-end-clause-run c =
     c.make_room.ensures.credits room
     (rw (← c.self.view_is) at c.requires.owner) (rw (← c.self.view_is) at c.requires.taken) (rw (← c.self.view_is) at c.requires.run)
     c.requires.answered (rw (← c.self.view_is) at c.requires.lives) in
-    rw (← c.self.view_is) (emitting.run_kept p t ends c.self.inside.runs.items others c.args.owner c.args.run.now r c.advance.new.self
-    c.advance.ensures.stands c.in_err-end.ensures.as_before)
+    rw (← c.self.view_is) (emitting.run_kept p t ends c.self.inside.runs.items others c.args.owner c.args.run.now r c.advance_few.new.self
+    c.advance_few.ensures.stands c.in_err-advance_few.ensures.as_before)
 
-pub emit_step-requires-clause-sound : goal.emit_step-requires-clause-sound
-emit_step-requires-clause-sound c =
-    let k = c.self.invariant.core in
-    let p = c.self.inside.plan in
-    let ends = c.self.inside.ends.items in
-    let s = stored c.self.inside.graph c.self.inside.fifos c.self.inside.log in
-    let t = stored c.make_room.new.graph c.make_room.new.fifos c.make_room.new.log in
-    let others = c.make_room.new.credits.items in
-    let same : held_in t (over_of ends) ≡ held_in s (over_of ends) = lending.held_same s t (over_of ends) c.make_room.ensures.lanes
-    c.make_room.ensures.channels c.make_room.ensures.logs in
-    let ports = all_there p c.args.owner (length c.self.inside.fifos.channels) c.ports_of.result.now
-    (table_count p c.self.inside.fifos.channels k.table)
-    (c.ports_of.ensures ∙ c.self.invariant.ports_are.each c.args.owner (rw (← c.self.view_is) at c.requires.owner)) in
-    let room = c.make_room.ensures.room (design p) (over_of ends) ports k.room in
-    let r = emitting.ready_roomed p s t ends c.self.inside.runs.items c.self.inside.credits.items others c.args.owner c.args.run.now k same
-    c.make_room.ensures.credits room
-    (rw (← c.self.view_is) at c.requires.owner) (rw (← c.self.view_is) at c.requires.taken) (rw (← c.self.view_is) at c.requires.run)
-    c.requires.answered (rw (← c.self.view_is) at c.requires.lives) in
-    let stands = emitting.stands p t ends c.self.inside.runs.items others c.args.owner c.args.run.now r in
-    let rest = rest_behind p (core_of (design p) (held_in t (over_of ends))) c.args.owner
-    (emitted_of (held_in t (over_of ends)) c.args.owner) in
-    let is = c.in_ok-end.ensures.mark p c.args.owner rest stands in
-    let sound = c.in_ok-end.ensures.sound p c.args.owner rest stands in
-    let mark : mark_at p c.args.owner rest ≡ Step c.in-Step.step = sym is ∙ c.in-Step.is in
-    let sound_step = subst (IsSoundMark (length rest.steps)) c.in-Step.is sound in
-    let short = c.gaps_are_short.ensures.most p c.args.owner rest c.args.run.now stands in
-    (emitting.step_is p t ends c.self.inside.runs.items others c.args.owner c.args.run.now r c.in-Step.step mark short sound_step.small
-    (c.gaps_are_short.ensures.least p c.args.owner)).sound
-
-pub emit_step-requires-clause-after : goal.emit_step-requires-clause-after
-emit_step-requires-clause-after c =
+pub record_few-requires-clause-next : goal.record_few-requires-clause-next
+record_few-requires-clause-next c =
     let k = c.self.invariant.core in
     let p = c.self.inside.plan in
     let ends = c.self.inside.ends.items in
@@ -174,34 +141,17 @@ emit_step-requires-clause-after c =
     let stands = emitting.stands p t ends c.self.inside.runs.items others c.args.owner c.args.run.now r in
     let rest = rest_behind p (core_of (design p) (held_in t (over_of ends))) c.args.owner
     (emitted_of (held_in t (over_of ends)) c.args.owner) in
-    let is = c.in_ok-end.ensures.mark p c.args.owner rest stands in
-    let sound = c.in_ok-end.ensures.sound p c.args.owner rest stands in
-    let mark : mark_at p c.args.owner rest ≡ Step c.in-Step.step = sym is ∙ c.in-Step.is in
-    let sound_step = subst (IsSoundMark (length rest.steps)) c.in-Step.is sound in
-    let short = c.gaps_are_short.ensures.most p c.args.owner rest c.args.run.now stands in
-    (emitting.step_is p t ends c.self.inside.runs.items others c.args.owner c.args.run.now r c.in-Step.step mark short sound_step.small
-    (c.gaps_are_short.ensures.least p c.args.owner)).apart
+    let same_step = as_listed c.advance_few.new.self _ _ _ c.gap.ensures (c.new.ensures ∙ c.listed.ensures) c.queries.ensures.listed in
+    let marked = rw c.in-None.is at c.in_ok-advance_few.ensures.mark in
+    let is = same_step ∙ marked p c.args.owner rest stands in
+    let sound = subst (IsSoundMark (length rest.steps)) (sym same_step)
+    ((rw c.in-None.is at c.in_ok-advance_few.ensures.sound) p c.args.owner rest stands) in
+    let next = emitting.is_next p t ends c.self.inside.runs.items others c.args.owner c.args.run.now r _
+    is sound c.in_ok-make_room.ensures.credit c.in_ok-make_room.ensures.queries in
+    (p, (ends, (c.self.inside.runs.items, next)))
 
-pub emit_step-requires-clause-lane_room : goal.emit_step-requires-clause-lane_room
-emit_step-requires-clause-lane_room c =
-    let k = c.self.invariant.core in
-    let p = c.self.inside.plan in
-    let ends = c.self.inside.ends.items in
-    let s = stored c.self.inside.graph c.self.inside.fifos c.self.inside.log in
-    let t = stored c.make_room.new.graph c.make_room.new.fifos c.make_room.new.log in
-    let others = c.make_room.new.credits.items in
-    let same : held_in t (over_of ends) ≡ held_in s (over_of ends) = lending.held_same s t (over_of ends) c.make_room.ensures.lanes
-    c.make_room.ensures.channels c.make_room.ensures.logs in
-    let ports = all_there p c.args.owner (length c.self.inside.fifos.channels) c.ports_of.result.now
-    (table_count p c.self.inside.fifos.channels k.table)
-    (c.ports_of.ensures ∙ c.self.invariant.ports_are.each c.args.owner (rw (← c.self.view_is) at c.requires.owner)) in
-    let room = c.make_room.ensures.room (design p) (over_of ends) ports k.room in
-    let lane = room.steps c.args.owner in
-    let rich = c.in_ok-make_room.ensures.credit in
-    omega arith
-
-pub emit_step-requires-clause-inside : goal.emit_step-requires-clause-inside
-emit_step-requires-clause-inside c =
+pub invariant_of-self-in-None : goal.invariant_of-self-in-None
+invariant_of-self-in-None c =
     let k = c.self.invariant.core in
     let p = c.self.inside.plan in
     let ends = c.self.inside.ends.items in
@@ -221,191 +171,18 @@ emit_step-requires-clause-inside c =
     let stands = emitting.stands p t ends c.self.inside.runs.items others c.args.owner c.args.run.now r in
     let rest = rest_behind p (core_of (design p) (held_in t (over_of ends))) c.args.owner
     (emitted_of (held_in t (over_of ends)) c.args.owner) in
-    let is = c.in_ok-end.ensures.mark p c.args.owner rest stands in
-    let sound = c.in_ok-end.ensures.sound p c.args.owner rest stands in
-    let mark : mark_at p c.args.owner rest ≡ Step c.in-Step.step = sym is ∙ c.in-Step.is in
-    let sound_step = subst (IsSoundMark (length rest.steps)) c.in-Step.is sound in
-    let short = c.gaps_are_short.ensures.most p c.args.owner rest c.args.run.now stands in
-    (emitting.step_is p t ends c.self.inside.runs.items others c.args.owner c.args.run.now r c.in-Step.step mark short sound_step.small
-    (c.gaps_are_short.ensures.least p c.args.owner)).inside
-
-pub emit_step-requires-clause-apart : goal.emit_step-requires-clause-apart
-emit_step-requires-clause-apart c =
-    let k = c.self.invariant.core in
-    let p = c.self.inside.plan in
-    let ends = c.self.inside.ends.items in
-    let s = stored c.self.inside.graph c.self.inside.fifos c.self.inside.log in
-    let t = stored c.make_room.new.graph c.make_room.new.fifos c.make_room.new.log in
-    let others = c.make_room.new.credits.items in
-    let same : held_in t (over_of ends) ≡ held_in s (over_of ends) = lending.held_same s t (over_of ends) c.make_room.ensures.lanes
-    c.make_room.ensures.channels c.make_room.ensures.logs in
-    let ports = all_there p c.args.owner (length c.self.inside.fifos.channels) c.ports_of.result.now
-    (table_count p c.self.inside.fifos.channels k.table)
-    (c.ports_of.ensures ∙ c.self.invariant.ports_are.each c.args.owner (rw (← c.self.view_is) at c.requires.owner)) in
-    let room = c.make_room.ensures.room (design p) (over_of ends) ports k.room in
-    let r = emitting.ready_roomed p s t ends c.self.inside.runs.items c.self.inside.credits.items others c.args.owner c.args.run.now k same
-    c.make_room.ensures.credits room
-    (rw (← c.self.view_is) at c.requires.owner) (rw (← c.self.view_is) at c.requires.taken) (rw (← c.self.view_is) at c.requires.run)
-    c.requires.answered (rw (← c.self.view_is) at c.requires.lives) in
-    let stands = emitting.stands p t ends c.self.inside.runs.items others c.args.owner c.args.run.now r in
-    let rest = rest_behind p (core_of (design p) (held_in t (over_of ends))) c.args.owner
-    (emitted_of (held_in t (over_of ends)) c.args.owner) in
-    let is = c.in_ok-end.ensures.mark p c.args.owner rest stands in
-    let sound = c.in_ok-end.ensures.sound p c.args.owner rest stands in
-    let mark : mark_at p c.args.owner rest ≡ Step c.in-Step.step = sym is ∙ c.in-Step.is in
-    let sound_step = subst (IsSoundMark (length rest.steps)) c.in-Step.is sound in
-    let short = c.gaps_are_short.ensures.most p c.args.owner rest c.args.run.now stands in
-    emitting.step_apart p t ends c.self.inside.runs.items others c.args.owner c.args.run.now r c.in-Step.step mark short sound_step.small
-    (c.gaps_are_short.ensures.least p c.args.owner)
-
-pub emit_step-requires-clause-room : goal.emit_step-requires-clause-room
-emit_step-requires-clause-room c =
-    let k = c.self.invariant.core in
-    let p = c.self.inside.plan in
-    let ends = c.self.inside.ends.items in
-    let s = stored c.self.inside.graph c.self.inside.fifos c.self.inside.log in
-    let t = stored c.make_room.new.graph c.make_room.new.fifos c.make_room.new.log in
-    let others = c.make_room.new.credits.items in
-    let same : held_in t (over_of ends) ≡ held_in s (over_of ends) = lending.held_same s t (over_of ends) c.make_room.ensures.lanes
-    c.make_room.ensures.channels c.make_room.ensures.logs in
-    let ports = all_there p c.args.owner (length c.self.inside.fifos.channels) c.ports_of.result.now
-    (table_count p c.self.inside.fifos.channels k.table)
-    (c.ports_of.ensures ∙ c.self.invariant.ports_are.each c.args.owner (rw (← c.self.view_is) at c.requires.owner)) in
-    let room = c.make_room.ensures.room (design p) (over_of ends) ports k.room in
-    let r = emitting.ready_roomed p s t ends c.self.inside.runs.items c.self.inside.credits.items others c.args.owner c.args.run.now k same
-    c.make_room.ensures.credits room
-    (rw (← c.self.view_is) at c.requires.owner) (rw (← c.self.view_is) at c.requires.taken) (rw (← c.self.view_is) at c.requires.run)
-    c.requires.answered (rw (← c.self.view_is) at c.requires.lives) in
-    let stands = emitting.stands p t ends c.self.inside.runs.items others c.args.owner c.args.run.now r in
-    let rest = rest_behind p (core_of (design p) (held_in t (over_of ends))) c.args.owner
-    (emitted_of (held_in t (over_of ends)) c.args.owner) in
-    let is = c.in_ok-end.ensures.mark p c.args.owner rest stands in
-    let sound = c.in_ok-end.ensures.sound p c.args.owner rest stands in
-    let mark : mark_at p c.args.owner rest ≡ Step c.in-Step.step = sym is ∙ c.in-Step.is in
-    let sound_step = subst (IsSoundMark (length rest.steps)) c.in-Step.is sound in
-    let short = c.gaps_are_short.ensures.most p c.args.owner rest c.args.run.now stands in
-    emitting.step_room p t ends c.self.inside.runs.items others c.args.owner c.args.run.now r c.in-Step.step mark short sound_step.small
-    (c.gaps_are_short.ensures.least p c.args.owner) c.in_ok-make_room.ensures.credit
-
-pub emit_step-requires-clause-few : goal.emit_step-requires-clause-few
-emit_step-requires-clause-few c =
-    let k = c.self.invariant.core in
-    let p = c.self.inside.plan in
-    let ends = c.self.inside.ends.items in
-    let s = stored c.self.inside.graph c.self.inside.fifos c.self.inside.log in
-    let t = stored c.make_room.new.graph c.make_room.new.fifos c.make_room.new.log in
-    let others = c.make_room.new.credits.items in
-    let same : held_in t (over_of ends) ≡ held_in s (over_of ends) = lending.held_same s t (over_of ends) c.make_room.ensures.lanes
-    c.make_room.ensures.channels c.make_room.ensures.logs in
-    let ports = all_there p c.args.owner (length c.self.inside.fifos.channels) c.ports_of.result.now
-    (table_count p c.self.inside.fifos.channels k.table)
-    (c.ports_of.ensures ∙ c.self.invariant.ports_are.each c.args.owner (rw (← c.self.view_is) at c.requires.owner)) in
-    let room = c.make_room.ensures.room (design p) (over_of ends) ports k.room in
-    let r = emitting.ready_roomed p s t ends c.self.inside.runs.items c.self.inside.credits.items others c.args.owner c.args.run.now k same
-    c.make_room.ensures.credits room
-    (rw (← c.self.view_is) at c.requires.owner) (rw (← c.self.view_is) at c.requires.taken) (rw (← c.self.view_is) at c.requires.run)
-    c.requires.answered (rw (← c.self.view_is) at c.requires.lives) in
-    let stands = emitting.stands p t ends c.self.inside.runs.items others c.args.owner c.args.run.now r in
-    let rest = rest_behind p (core_of (design p) (held_in t (over_of ends))) c.args.owner
-    (emitted_of (held_in t (over_of ends)) c.args.owner) in
-    let is = c.in_ok-end.ensures.mark p c.args.owner rest stands in
-    let sound = c.in_ok-end.ensures.sound p c.args.owner rest stands in
-    let mark : mark_at p c.args.owner rest ≡ Step c.in-Step.step = sym is ∙ c.in-Step.is in
-    let sound_step = subst (IsSoundMark (length rest.steps)) c.in-Step.is sound in
-    let short = c.gaps_are_short.ensures.most p c.args.owner rest c.args.run.now stands in
-    let few = sound_step.small.first_query in
-    omega arith
-
-pub invariant_of-self-in-Step : goal.invariant_of-self-in-Step
-invariant_of-self-in-Step c =
-    let k = c.self.invariant.core in
-    let p = c.self.inside.plan in
-    let ends = c.self.inside.ends.items in
-    let s = stored c.self.inside.graph c.self.inside.fifos c.self.inside.log in
-    let t = stored c.make_room.new.graph c.make_room.new.fifos c.make_room.new.log in
-    let others = c.make_room.new.credits.items in
-    let same : held_in t (over_of ends) ≡ held_in s (over_of ends) = lending.held_same s t (over_of ends) c.make_room.ensures.lanes
-    c.make_room.ensures.channels c.make_room.ensures.logs in
-    let ports = all_there p c.args.owner (length c.self.inside.fifos.channels) c.ports_of.result.now
-    (table_count p c.self.inside.fifos.channels k.table)
-    (c.ports_of.ensures ∙ c.self.invariant.ports_are.each c.args.owner (rw (← c.self.view_is) at c.requires.owner)) in
-    let room = c.make_room.ensures.room (design p) (over_of ends) ports k.room in
-    let r = emitting.ready_roomed p s t ends c.self.inside.runs.items c.self.inside.credits.items others c.args.owner c.args.run.now k same
-    c.make_room.ensures.credits room
-    (rw (← c.self.view_is) at c.requires.owner) (rw (← c.self.view_is) at c.requires.taken) (rw (← c.self.view_is) at c.requires.run)
-    c.requires.answered (rw (← c.self.view_is) at c.requires.lives) in
-    let stands = emitting.stands p t ends c.self.inside.runs.items others c.args.owner c.args.run.now r in
-    let rest = rest_behind p (core_of (design p) (held_in t (over_of ends))) c.args.owner
-    (emitted_of (held_in t (over_of ends)) c.args.owner) in
-    let is = c.in_ok-end.ensures.mark p c.args.owner rest stands in
-    let sound = c.in_ok-end.ensures.sound p c.args.owner rest stands in
-    let mark : mark_at p c.args.owner rest ≡ Step c.in-Step.step = sym is ∙ c.in-Step.is in
-    let sound_step = subst (IsSoundMark (length rest.steps)) c.in-Step.is sound in
-    let short = c.gaps_are_short.ensures.most p c.args.owner rest c.args.run.now stands in
-    let u = stored c.emit_step.new.graph c.emit_step.new.fifos c.make_room.new.log in
-    let held_is = emitting.held_more t u (over_of ends) c.args.owner c.in-Step.step c.emit_step.ensures.lanes c.emit_step.ensures.channels
-    refl in
-    let few = few_queries c.in-Step.step.accesses in
-    let most = sound_step.small.few in
-    let first = sound_step.small.first_query in
-    let queries = c.in_ok-make_room.ensures.queries in
-    let after = emitting.step_core p t ends c.self.inside.runs.items others c.args.owner c.args.run.now r c.in-Step.step mark short
-    sound_step.small (c.gaps_are_short.ensures.least p c.args.owner) u held_is c.emit_step.ensures.kinds
-    c.in_ok-make_room.ensures.credit c.emit_step.ensures.room refl (omega arith) (omega arith) in
-    let count = k.counted in
-    let lanes = k.sound.lanes in
-    let owner = rw (← c.self.view_is) at c.requires.owner in
-    let credits = c.make_room.ensures.credits in
-    let read = get_or_read others c.args.owner c.index_mut.result.now (omega arith) c.index_mut.ensures.value 0 in
+    let same_step = as_listed c.advance_few.new.self _ _ _ c.gap.ensures (c.new.ensures ∙ c.listed.ensures) c.queries.ensures.listed in
+    let marked = rw c.in-None.is at c.in_ok-advance_few.ensures.mark in
+    let is = same_step ∙ marked p c.args.owner rest stands in
+    let sound = subst (IsSoundMark (length rest.steps)) (sym same_step)
+    ((rw c.in-None.is at c.in_ok-advance_few.ensures.sound) p c.args.owner rest stands) in
+    let next = emitting.is_next p t ends c.self.inside.runs.items others c.args.owner c.args.run.now r _
+    is sound c.in_ok-make_room.ensures.credit c.in_ok-make_room.ensures.queries in
     let roomed = lending.core_roomed p s ends c.self.inside.runs.items c.self.inside.credits.items others t k same
     c.make_room.ensures.credits room in
-    let acts = returning.acts_in p (held_in t (over_of ends)) (held_in u (over_of ends)) _ c.args.owner held_is
-    (emitting.step_acts p t ends c.self.inside.runs.items others c.args.owner c.args.run.now r c.in-Step.step mark short
-    sound_step.small (c.gaps_are_short.ensures.least p c.args.owner)) in
+    let acts = c.record_few.ensures.acts p ends c.self.inside.runs.items next in
     record {
-      core = rw read after;
-      ports_are = c.self.invariant.ports_are;
-      readers_are = c.self.invariant.readers_are;
-      unread_are = unread.unread_acted p t ends c.self.inside.runs.items others roomed c.self.inside.unread
-          (unread.unread_same p (held_in s (over_of ends)) (held_in t (over_of ends)) c.self.inside.unread same c.self.invariant.unread_are)
-          (Run c.args.owner) (core_of (design p) (held_in u (over_of ends))) acts;
-      beside_are = c.self.invariant.beside_are;
-      asking_are = asking_emitted p (held_in s (over_of ends)) (held_in t (over_of ends)) same roomed.fits roomed.agreed
-          c.self.inside.asking c.self.invariant.asking_are c.args.owner c.bit_of.result c.bit_of.ensures _ acts;
-      candidate_count = c.self.invariant.candidate_count;
-    }
-
-pub invariant_of-self-in_default : goal.invariant_of-self-in_default
-invariant_of-self-in_default c =
-    let k = c.self.invariant.core in
-    let p = c.self.inside.plan in
-    let ends = c.self.inside.ends.items in
-    let s = stored c.self.inside.graph c.self.inside.fifos c.self.inside.log in
-    let t = stored c.make_room.new.graph c.make_room.new.fifos c.make_room.new.log in
-    let others = c.make_room.new.credits.items in
-    let same : held_in t (over_of ends) ≡ held_in s (over_of ends) = lending.held_same s t (over_of ends) c.make_room.ensures.lanes
-    c.make_room.ensures.channels c.make_room.ensures.logs in
-    let ports = all_there p c.args.owner (length c.self.inside.fifos.channels) c.ports_of.result.now
-    (table_count p c.self.inside.fifos.channels k.table)
-    (c.ports_of.ensures ∙ c.self.invariant.ports_are.each c.args.owner (rw (← c.self.view_is) at c.requires.owner)) in
-    let room = c.make_room.ensures.room (design p) (over_of ends) ports k.room in
-    let r = emitting.ready_roomed p s t ends c.self.inside.runs.items c.self.inside.credits.items others c.args.owner c.args.run.now k same
-    c.make_room.ensures.credits room
-    (rw (← c.self.view_is) at c.requires.owner) (rw (← c.self.view_is) at c.requires.taken) (rw (← c.self.view_is) at c.requires.run)
-    c.requires.answered (rw (← c.self.view_is) at c.requires.lives) in
-    let stands = emitting.stands p t ends c.self.inside.runs.items others c.args.owner c.args.run.now r in
-    let rest = rest_behind p (core_of (design p) (held_in t (over_of ends))) c.args.owner
-    (emitted_of (held_in t (over_of ends)) c.args.owner) in
-    let is = c.in_ok-end.ensures.mark p c.args.owner rest stands in
-    let sound = c.in_ok-end.ensures.sound p c.args.owner rest stands in
-    let no_step = emitting.not_a_step c.in_ok-end.end c.in_default.not-Step in
-    let roomed = lending.core_roomed p s ends c.self.inside.runs.items c.self.inside.credits.items others t k same
-    c.make_room.ensures.credits room in
-    let acts = emitting.end_acts p t ends c.self.inside.runs.items others c.args.owner c.args.run.now r c.in_ok-end.end is no_step
-    sound.short in
-    record {
-      core = emitting.end_core p t ends c.self.inside.runs.items others c.args.owner c.args.run.now r c.in_ok-end.end is no_step
-          sound.short;
+      core = c.record_few.ensures.core p ends c.self.inside.runs.items next;
       ports_are = c.self.invariant.ports_are;
       readers_are = c.self.invariant.readers_are;
       unread_are = unread.unread_acted p t ends c.self.inside.runs.items others roomed c.self.inside.unread
@@ -417,8 +194,8 @@ invariant_of-self-in_default c =
       candidate_count = c.self.invariant.candidate_count;
     }
 
-pub returns-in-Step-clause-acts : goal.returns-in-Step-clause-acts
-returns-in-Step-clause-acts c =
+pub returns-in-None-clause-acts : goal.returns-in-None-clause-acts
+returns-in-None-clause-acts c =
     let k = c.self.invariant.core in
     let p = c.self.inside.plan in
     let ends = c.self.inside.ends.items in
@@ -438,21 +215,19 @@ returns-in-Step-clause-acts c =
     let stands = emitting.stands p t ends c.self.inside.runs.items others c.args.owner c.args.run.now r in
     let rest = rest_behind p (core_of (design p) (held_in t (over_of ends))) c.args.owner
     (emitted_of (held_in t (over_of ends)) c.args.owner) in
-    let is = c.in_ok-end.ensures.mark p c.args.owner rest stands in
-    let sound = c.in_ok-end.ensures.sound p c.args.owner rest stands in
-    let mark : mark_at p c.args.owner rest ≡ Step c.in-Step.step = sym is ∙ c.in-Step.is in
-    let sound_step = subst (IsSoundMark (length rest.steps)) c.in-Step.is sound in
-    let short = c.gaps_are_short.ensures.most p c.args.owner rest c.args.run.now stands in
-    let u = stored c.emit_step.new.graph c.emit_step.new.fifos c.make_room.new.log in
-    let held_is = emitting.held_more t u (over_of ends) c.args.owner c.in-Step.step c.emit_step.ensures.lanes c.emit_step.ensures.channels
-    refl in
+    let same_step = as_listed c.advance_few.new.self _ _ _ c.gap.ensures (c.new.ensures ∙ c.listed.ensures) c.queries.ensures.listed in
+    let marked = rw c.in-None.is at c.in_ok-advance_few.ensures.mark in
+    let is = same_step ∙ marked p c.args.owner rest stands in
+    let sound = subst (IsSoundMark (length rest.steps)) (sym same_step)
+    ((rw c.in-None.is at c.in_ok-advance_few.ensures.sound) p c.args.owner rest stands) in
+    let next = emitting.is_next p t ends c.self.inside.runs.items others c.args.owner c.args.run.now r _
+    is sound c.in_ok-make_room.ensures.credit c.in_ok-make_room.ensures.queries in
+    let acts = c.record_few.ensures.acts p ends c.self.inside.runs.items next in
     lending.acts_at c.args.self.now _ c.args.owner _ c.self.view_is (emitting.acts_between p (held_in s (over_of ends))
-    (held_in t (over_of ends)) _ (held_in u (over_of ends)) c.args.owner same held_is
-    (emitting.step_acts p t ends c.self.inside.runs.items others c.args.owner c.args.run.now r c.in-Step.step mark short
-    sound_step.small (c.gaps_are_short.ensures.least p c.args.owner)))
+    (held_in t (over_of ends)) _ _ c.args.owner same refl acts)
 
-pub returns-in-Step-clause-run : goal.returns-in-Step-clause-run
-returns-in-Step-clause-run c =
+pub returns-in-None-clause-run : goal.returns-in-None-clause-run
+returns-in-None-clause-run c =
     let k = c.self.invariant.core in
     let p = c.self.inside.plan in
     let ends = c.self.inside.ends.items in
@@ -472,21 +247,19 @@ returns-in-Step-clause-run c =
     let stands = emitting.stands p t ends c.self.inside.runs.items others c.args.owner c.args.run.now r in
     let rest = rest_behind p (core_of (design p) (held_in t (over_of ends))) c.args.owner
     (emitted_of (held_in t (over_of ends)) c.args.owner) in
-    let is = c.in_ok-end.ensures.mark p c.args.owner rest stands in
-    let sound = c.in_ok-end.ensures.sound p c.args.owner rest stands in
-    let mark : mark_at p c.args.owner rest ≡ Step c.in-Step.step = sym is ∙ c.in-Step.is in
-    let sound_step = subst (IsSoundMark (length rest.steps)) c.in-Step.is sound in
-    let short = c.gaps_are_short.ensures.most p c.args.owner rest c.args.run.now stands in
-    let u = stored c.emit_step.new.graph c.emit_step.new.fifos c.make_room.new.log in
-    let held_is = emitting.held_more t u (over_of ends) c.args.owner c.in-Step.step c.emit_step.ensures.lanes c.emit_step.ensures.channels
-    refl in
-    rw (← c.self.view_is) (emitting.run_between p _ (held_in u (over_of ends)) c.args.owner c.advance.new.self held_is
-    (emitting.step_run p t ends c.self.inside.runs.items others c.args.owner c.args.run.now r c.in-Step.step mark short sound_step.small
-    (c.gaps_are_short.ensures.least p c.args.owner) c.advance.new.self c.advance.ensures.stands
-    (c.in_ok-end.ensures.waits ∙ ap is_step c.in-Step.is)))
+    let same_step = as_listed c.advance_few.new.self _ _ _ c.gap.ensures (c.new.ensures ∙ c.listed.ensures) c.queries.ensures.listed in
+    let marked = rw c.in-None.is at c.in_ok-advance_few.ensures.mark in
+    let is = same_step ∙ marked p c.args.owner rest stands in
+    let sound = subst (IsSoundMark (length rest.steps)) (sym same_step)
+    ((rw c.in-None.is at c.in_ok-advance_few.ensures.sound) p c.args.owner rest stands) in
+    let next = emitting.is_next p t ends c.self.inside.runs.items others c.args.owner c.args.run.now r _
+    is sound c.in_ok-make_room.ensures.credit c.in_ok-make_room.ensures.queries in
+    let acts = c.record_few.ensures.acts p ends c.self.inside.runs.items next in
+    rw (← c.self.view_is) (emitting.run_after p t ends c.self.inside.runs.items others c.args.owner c.args.run.now r _ next
+    c.advance_few.new.self c.advance_few.ensures.stands (rw c.in-None.is at c.in_ok-advance_few.ensures.waits) _ acts)
 
-pub returns-in_default-clause-acts : goal.returns-in_default-clause-acts
-returns-in_default-clause-acts c =
+pub record_mark-requires-clause-next : goal.record_mark-requires-clause-next
+record_mark-requires-clause-next c =
     let k = c.self.invariant.core in
     let p = c.self.inside.plan in
     let ends = c.self.inside.ends.items in
@@ -506,15 +279,84 @@ returns-in_default-clause-acts c =
     let stands = emitting.stands p t ends c.self.inside.runs.items others c.args.owner c.args.run.now r in
     let rest = rest_behind p (core_of (design p) (held_in t (over_of ends))) c.args.owner
     (emitted_of (held_in t (over_of ends)) c.args.owner) in
-    let is = c.in_ok-end.ensures.mark p c.args.owner rest stands in
-    let sound = c.in_ok-end.ensures.sound p c.args.owner rest stands in
-    let no_step = emitting.not_a_step c.in_ok-end.end c.in_default.not-Step in
+    let is = (rw c.in-Some.is at c.in_ok-advance_few.ensures.mark) p c.args.owner rest stands in
+    let sound = (rw c.in-Some.is at c.in_ok-advance_few.ensures.sound) p c.args.owner rest stands in
+    let next = emitting.is_next p t ends c.self.inside.runs.items others c.args.owner c.args.run.now r c.in-Some.mark
+    is sound c.in_ok-make_room.ensures.credit c.in_ok-make_room.ensures.queries in
+    (p, (c.self.inside.runs.items, next))
+
+pub invariant_of-self-in-Some : goal.invariant_of-self-in-Some
+invariant_of-self-in-Some c =
+    let k = c.self.invariant.core in
+    let p = c.self.inside.plan in
+    let ends = c.self.inside.ends.items in
+    let s = stored c.self.inside.graph c.self.inside.fifos c.self.inside.log in
+    let t = stored c.make_room.new.graph c.make_room.new.fifos c.make_room.new.log in
+    let others = c.make_room.new.credits.items in
+    let same : held_in t (over_of ends) ≡ held_in s (over_of ends) = lending.held_same s t (over_of ends) c.make_room.ensures.lanes
+    c.make_room.ensures.channels c.make_room.ensures.logs in
+    let ports = all_there p c.args.owner (length c.self.inside.fifos.channels) c.ports_of.result.now
+    (table_count p c.self.inside.fifos.channels k.table)
+    (c.ports_of.ensures ∙ c.self.invariant.ports_are.each c.args.owner (rw (← c.self.view_is) at c.requires.owner)) in
+    let room = c.make_room.ensures.room (design p) (over_of ends) ports k.room in
+    let r = emitting.ready_roomed p s t ends c.self.inside.runs.items c.self.inside.credits.items others c.args.owner c.args.run.now k same
+    c.make_room.ensures.credits room
+    (rw (← c.self.view_is) at c.requires.owner) (rw (← c.self.view_is) at c.requires.taken) (rw (← c.self.view_is) at c.requires.run)
+    c.requires.answered (rw (← c.self.view_is) at c.requires.lives) in
+    let stands = emitting.stands p t ends c.self.inside.runs.items others c.args.owner c.args.run.now r in
+    let rest = rest_behind p (core_of (design p) (held_in t (over_of ends))) c.args.owner
+    (emitted_of (held_in t (over_of ends)) c.args.owner) in
+    let is = (rw c.in-Some.is at c.in_ok-advance_few.ensures.mark) p c.args.owner rest stands in
+    let sound = (rw c.in-Some.is at c.in_ok-advance_few.ensures.sound) p c.args.owner rest stands in
+    let next = emitting.is_next p t ends c.self.inside.runs.items others c.args.owner c.args.run.now r c.in-Some.mark
+    is sound c.in_ok-make_room.ensures.credit c.in_ok-make_room.ensures.queries in
+    let roomed = lending.core_roomed p s ends c.self.inside.runs.items c.self.inside.credits.items others t k same
+    c.make_room.ensures.credits room in
+    let acts = c.record_mark.ensures.acts p c.self.inside.runs.items next in
+    record {
+      core = c.record_mark.ensures.core p c.self.inside.runs.items next;
+      ports_are = c.self.invariant.ports_are;
+      readers_are = c.self.invariant.readers_are;
+      unread_are = unread.unread_acted p t ends c.self.inside.runs.items others roomed c.self.inside.unread
+          (unread.unread_same p (held_in s (over_of ends)) (held_in t (over_of ends)) c.self.inside.unread same c.self.invariant.unread_are)
+          (Run c.args.owner) _ acts;
+      beside_are = c.self.invariant.beside_are;
+      asking_are = asking_emitted p (held_in s (over_of ends)) (held_in t (over_of ends)) same roomed.fits roomed.agreed
+          c.self.inside.asking c.self.invariant.asking_are c.args.owner c.bit_of.result c.bit_of.ensures _ acts;
+      candidate_count = c.self.invariant.candidate_count;
+    }
+
+pub returns-in-Some-clause-acts : goal.returns-in-Some-clause-acts
+returns-in-Some-clause-acts c =
+    let k = c.self.invariant.core in
+    let p = c.self.inside.plan in
+    let ends = c.self.inside.ends.items in
+    let s = stored c.self.inside.graph c.self.inside.fifos c.self.inside.log in
+    let t = stored c.make_room.new.graph c.make_room.new.fifos c.make_room.new.log in
+    let others = c.make_room.new.credits.items in
+    let same : held_in t (over_of ends) ≡ held_in s (over_of ends) = lending.held_same s t (over_of ends) c.make_room.ensures.lanes
+    c.make_room.ensures.channels c.make_room.ensures.logs in
+    let ports = all_there p c.args.owner (length c.self.inside.fifos.channels) c.ports_of.result.now
+    (table_count p c.self.inside.fifos.channels k.table)
+    (c.ports_of.ensures ∙ c.self.invariant.ports_are.each c.args.owner (rw (← c.self.view_is) at c.requires.owner)) in
+    let room = c.make_room.ensures.room (design p) (over_of ends) ports k.room in
+    let r = emitting.ready_roomed p s t ends c.self.inside.runs.items c.self.inside.credits.items others c.args.owner c.args.run.now k same
+    c.make_room.ensures.credits room
+    (rw (← c.self.view_is) at c.requires.owner) (rw (← c.self.view_is) at c.requires.taken) (rw (← c.self.view_is) at c.requires.run)
+    c.requires.answered (rw (← c.self.view_is) at c.requires.lives) in
+    let stands = emitting.stands p t ends c.self.inside.runs.items others c.args.owner c.args.run.now r in
+    let rest = rest_behind p (core_of (design p) (held_in t (over_of ends))) c.args.owner
+    (emitted_of (held_in t (over_of ends)) c.args.owner) in
+    let is = (rw c.in-Some.is at c.in_ok-advance_few.ensures.mark) p c.args.owner rest stands in
+    let sound = (rw c.in-Some.is at c.in_ok-advance_few.ensures.sound) p c.args.owner rest stands in
+    let next = emitting.is_next p t ends c.self.inside.runs.items others c.args.owner c.args.run.now r c.in-Some.mark
+    is sound c.in_ok-make_room.ensures.credit c.in_ok-make_room.ensures.queries in
+    let acts = c.record_mark.ensures.acts p c.self.inside.runs.items next in
     lending.acts_at c.args.self.now _ c.args.owner _ c.self.view_is (emitting.acts_between p (held_in s (over_of ends))
-    (held_in t (over_of ends)) _ _ c.args.owner same refl (emitting.end_acts p t ends c.self.inside.runs.items others c.args.owner
-    c.args.run.now r c.in_ok-end.end is no_step sound.short))
+    (held_in t (over_of ends)) _ _ c.args.owner same refl acts)
 
-pub returns-in_default-clause-run : goal.returns-in_default-clause-run
-returns-in_default-clause-run c =
+pub returns-in-Some-clause-run : goal.returns-in-Some-clause-run
+returns-in-Some-clause-run c =
     let k = c.self.invariant.core in
     let p = c.self.inside.plan in
     let ends = c.self.inside.ends.items in
@@ -534,8 +376,15 @@ returns-in_default-clause-run c =
     let stands = emitting.stands p t ends c.self.inside.runs.items others c.args.owner c.args.run.now r in
     let rest = rest_behind p (core_of (design p) (held_in t (over_of ends))) c.args.owner
     (emitted_of (held_in t (over_of ends)) c.args.owner) in
-    let is = c.in_ok-end.ensures.mark p c.args.owner rest stands in
-    let sound = c.in_ok-end.ensures.sound p c.args.owner rest stands in
-    let no_step = emitting.not_a_step c.in_ok-end.end c.in_default.not-Step in
-    rw (← c.self.view_is) (emitting.end_run p t ends c.self.inside.runs.items others c.args.owner c.args.run.now r c.in_ok-end.end is
-    no_step sound.short c.advance.new.self c.advance.ensures.stands (c.in_ok-end.ensures.waits ∙ no_step))
+    let is = (rw c.in-Some.is at c.in_ok-advance_few.ensures.mark) p c.args.owner rest stands in
+    let sound = (rw c.in-Some.is at c.in_ok-advance_few.ensures.sound) p c.args.owner rest stands in
+    let next = emitting.is_next p t ends c.self.inside.runs.items others c.args.owner c.args.run.now r c.in-Some.mark
+    is sound c.in_ok-make_room.ensures.credit c.in_ok-make_room.ensures.queries in
+    let acts = c.record_mark.ensures.acts p c.self.inside.runs.items next in
+    rw (← c.self.view_is) (emitting.run_after p t ends c.self.inside.runs.items others c.args.owner c.args.run.now r _ next
+    c.advance_few.new.self c.advance_few.ensures.stands (rw c.in-Some.is at c.in_ok-advance_few.ensures.waits) _ acts)
+
+pub record_few-requires-clause-few : goal.record_few-requires-clause-few
+record_few-requires-clause-few c =
+    as_few c.advance_few.new.self _ _ _ c.gap.ensures (c.new.ensures ∙ c.listed.ensures) c.queries.ensures.listed
+    ((rw c.in-None.is at c.in_ok-advance_few.ensures.few) refl)

@@ -101,7 +101,7 @@ returns-clause-task c =
       may = subst (λ (v : CoreView). MayRun (design v.plan) (theory_of v) c.args.owner) (sym c.self.view_is) may;
       here = here;
       readers_are = subst (AreReaders p) (sym c.deref.ensures.value) c.self.invariant.readers_are;
-      first_is = c.queries.ensures;
+      first_is = c.queries.ensures.made;
       popped_are = c.popped.ensures.each;
       accesses_are = c.waiting.ensures.accesses;
     } in

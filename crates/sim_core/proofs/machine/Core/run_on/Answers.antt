@@ -1,4 +1,5 @@
 use Rattle.std.proofs.Common.{◌≡◌, sym, ap, subst, ◌∙◌, ◌<◌, Some, None, length, slice_index_or, arith}
+use Rattle.std.proofs.lemmas.Bool.{both_ways}
 use Rattle.std.proofs.lemmas.List.{get_or_read}
 use Rattle.flow_design.specs.declared.plan.Plan.{Plan}
 use Rattle.module_interp.specs.declared.run.ModuleRun.{ModuleRun}
@@ -9,6 +10,9 @@ use Rattle.sim_core.specs.Views.{CoreView}
 use Rattle.sim_core.specs.Runs.{over_of, IsRunOf}
 use Rattle.sim_core.proofs.Lending as lending
 use Rattle.sim_core.proofs.machine.Core.run_on.Goals as goal
+
+pub returns-then-is_over-clause-none : goal.returns-then-is_over-clause-none
+returns-then-is_over-clause-none c = λ e may. both_ways _ may.lives (sym c.is_over.ensures ∙ c.if-is_over.true)
 
 pub invariant_of-self-2 : goal.invariant_of-self-2
 invariant_of-self-2 c =

@@ -18,6 +18,7 @@ const CREDIT: u64 = 512;
 ///
 /// `ports` are those at which the module stands, and `queries` is how many queries a step of it may have. All else
 /// stays, also after want of memory.
+#[inline(always)]
 pub fn make_room(
     graph: &mut Graph,
     fifos: &mut FifoTable,
@@ -54,6 +55,7 @@ pub fn make_room(
 ///
 /// `ports` are those at which the module stands, and `queries` is how many queries the last of the steps may have. All else
 /// stays, also after want of memory.
+#[inline(always)]
 pub fn make_room_for(
     graph: &mut Graph,
     fifos: &mut FifoTable,

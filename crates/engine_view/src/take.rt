@@ -17,6 +17,7 @@ use time_engine::query_count;
 
 /// Adds the pushes and pops of a step: where it is only emitted those of the accesses that block, and later those of the
 /// queries that were possible by their recorded outcomes. There is room for them.
+#[inline(always)]
 pub fn take_all(
     fifos: &mut FifoTable,
     log: &QueryLog,
@@ -47,6 +48,7 @@ pub fn take_all(
 }
 
 /// Whether the access is done now.
+#[inline(always)]
 fn is_done(log: &QueryLog, owner: u32, number: u64, kind: Kind, later: bool) -> bool
     requires { owner < length log.now.logs }
     ensures { result ≡ cond (is_blocking kind) (not later) (later && possible_by kind (outcome_of log.now.logs owner number)) }
@@ -70,6 +72,7 @@ pub fn was_possible(log: &QueryLog, owner: u32, number: u64, kind: Kind) -> bool
 }
 
 /// Adds the push or the pop of an access that takes, where it is done.
+#[inline(always)]
 fn take_if(fifos: &mut FifoTable, at: Place, access: &Access, done: bool)
     requires access { IsAccess fifos.old.channels access.now }
     requires step { at.step < 2 ^ 32 }
@@ -85,6 +88,7 @@ fn take_if(fifos: &mut FifoTable, at: Place, access: &Access, done: bool)
 }
 
 /// Adds the push or the pop of an access. There is room for it.
+#[inline(always)]
 fn add(fifos: &mut FifoTable, at: Place, access: &Access)
     requires access { IsAccess fifos.old.channels access.now }
     requires step { at.step < 2 ^ 32 }

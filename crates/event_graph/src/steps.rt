@@ -103,6 +103,7 @@ impl StepList {
     }
 
     /// Makes room for so many more steps. The room never falls.
+    #[inline(always)]
     pub fn reserve(&mut self, more: u64) -> Result<(), OutOfMemory>
         ensures items { self.new.items ≡ self.old.items }
         ensures room { OnOk result (more ≤ self.new.room) }
@@ -201,6 +202,7 @@ fn keep(accesses: &mut RoomyList<Access>, others: &mut RoomyList<Step>, step: St
 }
 
 /// Adds one access or two. There is room for them.
+#[inline(always)]
 fn keep_few(accesses: &mut RoomyList<Access>, items: &[Access]) -> Spot
     requires few { (length items.now ≡ 1) ⊎ (length items.now ≡ 2) }
     requires room { 2 ≤ accesses.old.room }

@@ -4,9 +4,9 @@ use Rattle.std.proofs.Common.{drop, add-one, get_or, set, refl, sym, ap, arith, 
 use Rattle.std.specs.Prelude.{flat_map, replicate}
 use Rattle.std.specs.Int.{from_bool}
 use Rattle.std.proofs.lemmas.Bool.{cond_both, eq-eqb, ne_eqb, cases_eq}
-use Rattle.std.proofs.lemmas.List.{length-set, get_or-set_same, get_or-set_other, flat_map_more, length-replicate, get_or-replicate}
+use Rattle.std.proofs.lemmas.List.{length-set, get_or-set_same, get_or-set_other, set-get_or, flat_map_more, length-replicate, get_or-replicate}
 use Rattle.std.proofs.lemmas.List.Elements.{filter-append}
-use Rattle.flow_word.specs.Kinds.{is_blocking}
+use Rattle.flow_word.specs.Kinds.{is_blocking, side_of}
 use Rattle.flow_word.specs.declared.access.Side.{Side}
 use Rattle.flow_word.specs.declared.access.Side.TheVariants.{Pop, Push}
 use Rattle.flow_word.specs.declared.access.Kind.{Kind}
@@ -82,6 +82,38 @@ tally_more n before x t u h inside popped pushed asks = record {
   pushed_are = counts_more Push n before x t.pushed u.pushed h.pushed_count inside h.pushed_are pushed;
   queries_are = asks ∙ (ap (λ (k : ℕ). k + from_bool (not (is_blocking x.request.kind))) h.queries_are ∙ sym (queries_push before x));
 }
+
+-- an operation that stands at the one side moves nothing at the other
+none_popped : (k : Kind) (done : Bool) (v : ℕ) → side_of k ≡ Push → length (popped_value k done v) ≡ 0
+none_popped Read done v e = cc
+none_popped Write done v e = refl
+none_popped TryRead done v e = cc
+none_popped TryWrite done v e = refl
+none_popped Empty done v e = cc
+none_popped Full done v e = refl
+
+none_pushed : (k : Kind) (done : Bool) (v : ℕ) → side_of k ≡ Pop → length (pushed_value k done v) ≡ 0
+none_pushed Read done v e = refl
+none_pushed Write done v e = cc
+none_pushed TryRead done v e = refl
+none_pushed TryWrite done v e = cc
+none_pushed Empty done v e = refl
+none_pushed Full done v e = cc
+
+same_count : (counts : List ℕ) (at more : ℕ) → more ≡ 0 → counts ≡ set counts at (get_or counts at 0 + more)
+same_count counts at more none =
+    let e : get_or counts at 0 + more ≡ get_or counts at 0 = omega arith in
+    sym (ap (λ (n : ℕ). set counts at n) e ∙ set-get_or counts at 0)
+
+pub popped_same : (x : Exchange) (counts : List ℕ) → side_of x.request.kind ≡ Push
+    → counts ≡ set counts x.request.channel (get_or counts x.request.channel 0 + length (moved_value Pop x))
+popped_same x counts push =
+    same_count counts x.request.channel _ (none_popped x.request.kind (is_yes x.reply) (value_in x.reply) push)
+
+pub pushed_same : (x : Exchange) (counts : List ℕ) → side_of x.request.kind ≡ Pop
+    → counts ≡ set counts x.request.channel (get_or counts x.request.channel 0 + length (moved_value Push x))
+pushed_same x counts pop =
+    same_count counts x.request.channel _ (none_pushed x.request.kind (is_yes x.reply) x.request.value pop)
 
 -- ---- bounds
 

@@ -228,6 +228,7 @@ impl ModuleRun {
     }
 
     /// Gives the step to which it came, which then waits for replies.
+    #[inline(never)]
     fn give(&mut self) -> Result<Advance, OutOfMemory>
         requires stands { (p : PlanOf) × ((i : ℕ) × ((o : Own) × StandsAt p i o self.old)) }
         requires step { IsAtStep self.old.path.value }

@@ -4,7 +4,8 @@ ghost use Rattle.std.specs.Prelude.{replicate, IfOk};
 ghost use Rattle.std.specs.Int.{from_bool};
 ghost use Rattle.flow_word.specs.Kinds.{side_of, is_blocking};
 ghost use Rattle.lockstep_defs.specs.Machine.{is_yes};
-ghost use Rattle.lockstep_defs.specs.Channels.{Exchange, moved_by, popped_value, pushed_value};
+ghost use Rattle.flow_word.specs.declared.access.Side.TheVariants.{Pop, Push};
+ghost use Rattle.lockstep_defs.specs.Channels.{Exchange, moved_by, moved_value, popped_value, pushed_value};
 ghost use Rattle.lockstep_defs.specs.OwnRun.{access_of, paired};
 ghost use Rattle.module_interp.specs.Paths.{IsTallyOf};
 
@@ -97,17 +98,34 @@ impl Tally {
         ensures { (channels : ℕ) (before : Items Exchange) → IsTallyOf channels before self.old → request.channel < channels
             → IsTallyOf channels (before ++ record { request = request; reply = reply } ∷ []) self.new }
     {
-        add_at(
-            &mut self.popped,
-            request.channel,
-            popped(request.kind, reply),
-        );
-        add_at(
-            &mut self.pushed,
-            request.channel,
-            pushed(request.kind, reply),
-        );
+        self.count_moved(request, reply);
         self.queries += asked(request.kind);
+    }
+
+    /// Counts what it popped, or pushed.
+    #[inline(always)]
+    fn count_moved(&mut self, request: Request, reply: Reply)
+        requires tally { (channels : ℕ)
+            × ((before : Items Exchange) × (IsTallyOf channels before self.old
+            × ((length before < 2 ^ 40) × (request.channel < channels)))) }
+        ensures popped { self.new.popped ≡ slice_set self.old.popped request.channel (slice_index self.old.popped request.channel
+            + length (moved_value Pop (record { request = request; reply = reply }))) }
+        ensures pushed { self.new.pushed ≡ slice_set self.old.pushed request.channel (slice_index self.old.pushed request.channel
+            + length (moved_value Push (record { request = request; reply = reply }))) }
+        ensures queries { self.new.queries ≡ self.old.queries }
+    {
+        match request.kind.side() {
+            Side::Pop => add_at(
+                &mut self.popped,
+                request.channel,
+                popped(request.kind, reply),
+            ),
+            Side::Push => add_at(
+                &mut self.pushed,
+                request.channel,
+                pushed(request.kind, reply),
+            ),
+        }
     }
 }
 

@@ -29,6 +29,7 @@ fn take_mark(marks: &mut List<Advance>, at: u64) -> Advance
 }
 
 /// Emits a module's next mark. There is room for it.
+#[inline(never)]
 pub(crate) fn record_mark(
     graph: &mut Graph,
     fifos: &mut FifoTable,

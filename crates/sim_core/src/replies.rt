@@ -32,14 +32,37 @@ pub fn find_replies(
     replies.truncate(0);
     let mut number = first_query;
     for access in accesses {
-        let outcome = log.outcome(owner, number);
-        let Some(reply) = reply_now(fifos, access, outcome) else {
+        let Some(reply) = reply_in(fifos, log, owner, number, access) else {
             return Ok(false);
         };
         replies.push(reply)?;
         number += !access.kind.is_blocking() as u64;
     }
     Ok(true)
+}
+
+/// The reply to an access, whose query, where it is one, has this number.
+#[inline(always)]
+fn reply_in(
+    fifos: &FifoTable,
+    log: &QueryLog,
+    owner: u32,
+    number: u64,
+    access: &Access,
+) -> Option<Reply>
+    requires owner { owner < length log.now.logs }
+    requires access { IsAccess fifos.now.channels access.now }
+    ensures { result ≡ reply_of access.now.kind (outcome_of log.now.logs owner number) (value_now fifos.now.channels access.now) }
+{
+    match access.kind {
+        Kind::Read => fifos
+            .value(access.channel, access.ordinal)
+            .map(Reply::Value),
+        Kind::Write => Some(Reply::Done),
+        Kind::TryRead | Kind::TryWrite | Kind::Empty | Kind::Full => {
+            reply_now(fifos, access, log.outcome(owner, number))
+        }
+    }
 }
 
 /// The reply to an access, by its query's outcome.

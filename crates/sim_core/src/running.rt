@@ -43,6 +43,7 @@ impl Core {
     }
 
     /// The same with the module's run, which is out of the core.
+    #[inline(always)]
     pub(crate) fn run_with(&mut self, owner: u32, run: &mut ModuleRun) -> Result<bool, OutOfMemory>
         requires owner { owner < length self.old.plan.design.modules }
         requires taken { slice_index_or self.old.lent owner true ≡ true }
@@ -66,6 +67,7 @@ impl Core {
     }
 
     /// The same, but memory may be wanted where it is not permitted too.
+    #[inline(always)]
     fn try_with(&mut self, owner: u32, run: &mut ModuleRun) -> Result<bool, OutOfMemory>
         requires owner { owner < length self.old.plan.design.modules }
         requires taken { slice_index_or self.old.lent owner true ≡ true }
@@ -99,6 +101,7 @@ impl Core {
 
     /// Feeds a module's run, where it waits, with the replies to the module's newest step, where all are there. Whether it
     /// waits no more.
+    #[inline(always)]
     fn feed(&mut self, owner: u32, run: &mut ModuleRun) -> Result<bool, OutOfMemory>
         requires owner { owner < length self.old.plan.design.modules }
         requires run { IsRunOf self.old.plan (theory_of self.old) owner run.old }
@@ -130,6 +133,7 @@ impl Core {
     }
 
     /// Brings a module's run, which doesn't wait and is out of the core, to its next mark, and emits that.
+    #[inline(always)]
     fn emit_next(&mut self, owner: u32, run: &mut ModuleRun) -> Result<(), OutOfMemory>
         requires owner { owner < length self.old.plan.design.modules }
         requires taken { slice_index_or self.old.lent owner true ≡ true }

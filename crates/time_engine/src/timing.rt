@@ -120,6 +120,7 @@ pub fn latest(graph: &Graph, fifos: &FifoTable, accesses: &[Access], clock: u64)
 }
 
 /// The same, and how many of the accesses are queries.
+#[inline(always)]
 fn latest_and_queries(
     graph: &Graph,
     fifos: &FifoTable,
@@ -148,6 +149,7 @@ fn latest_and_queries(
 }
 
 /// The later of a clock and of the one from which the access, if it blocks, is possible. None where it waits.
+#[inline(always)]
 fn later(graph: &Graph, fifos: &FifoTable, access: &Access, clock: u64) -> Option<u64>
     requires access { IsAccess fifos.now.channels access.now }
     requires places { HasPlaces graph.now.lanes fifos.now.channels }

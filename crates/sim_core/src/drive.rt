@@ -30,11 +30,13 @@ impl Core {
         let mut idle = 0;
         // A bit for each of the first 64 modules of which something may have changed.
         let mut hints = 0;
+        // Those of which all was done.
+        let mut done = 0;
         loop {
             if idle < count {
                 match self.visit(at, steps)? {
                     Visit::Acted(woken) => {
-                        hints |= woken;
+                        hints |= woken & !done;
                         idle = 0;
                         match next_of(hints, at, count) {
                             Some(next) => {
@@ -45,17 +47,20 @@ impl Core {
                         }
                     }
                     Visit::Differs(query) => return Ok(Guard::Differs(query)),
-                    Visit::Idle => match next_of(hints, at, count) {
-                        Some(next) => {
-                            idle = 0;
-                            at = next;
-                            hints = without(hints, next);
+                    Visit::Idle => {
+                        done |= self.bit_if_done(at);
+                        match next_of(hints, at, count) {
+                            Some(next) => {
+                                idle = 0;
+                                at = next;
+                                hints = without(hints, next);
+                            }
+                            None => {
+                                idle += 1;
+                                at = if at + 1 < count { at + 1 } else { 0 };
+                            }
                         }
-                        None => {
-                            idle += 1;
-                            at = if at + 1 < count { at + 1 } else { 0 };
-                        }
-                    },
+                    }
                 }
             } else {
                 match self.answer_least() {
@@ -67,6 +72,17 @@ impl Core {
                     }
                 }
             }
+        }
+    }
+
+    /// The bit of a module that is over and each of whose steps has its cycle. None of another.
+    fn bit_if_done(&self, owner: u32) -> u64
+        requires { owner < length self.now.plan.design.modules }
+    {
+        if self.is_over(owner) && self.graph.frontier(owner) == self.graph.len(owner) {
+            bit_of(owner)
+        } else {
+            0
         }
     }
 }

@@ -90,12 +90,24 @@ impl Core {
             return Ok(None);
         };
         for _ in 1..STRETCH {
+            if self.has_asked(owner, run) {
+                return Ok(Some(woken));
+            }
             match self.run_once(owner, run)? {
                 Some(more) => woken |= more,
                 None => return Ok(Some(woken)),
             }
         }
         Ok(Some(woken | bit_of(owner)))
+    }
+
+    /// Whether a module's newest step has a query, and no outcome of it is there.
+    #[inline(always)]
+    fn has_asked(&self, owner: u32, run: &ModuleRun) -> bool
+        requires { owner < length self.now.plan.design.modules }
+    {
+        run.queries() >= self.log.len(owner)
+            && run.listed().iter().any(|access| !access.kind.is_blocking())
     }
 
     /// One of them.
@@ -140,6 +152,7 @@ impl Core {
     }
 
     /// One of them.
+    #[inline(always)]
     fn time_once<L: Ledger>(&mut self, owner: u32, steps: &mut Steps<L>) -> Visit
         requires { owner < length self.old.plan.design.modules }
         ensures { HasTimed result self.old steps.old owner self.new steps.new }

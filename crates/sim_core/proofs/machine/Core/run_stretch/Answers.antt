@@ -11,6 +11,15 @@ on_err : {A E : Type 0} {P : Type 0} (r : Result A E) → P → OnErr r P
 on_err {A} {E} {P} (Ok a) p = tt
 on_err {A} {E} {P} (Err e) p = p
 
+pub has_asked-requires : goal.has_asked-requires
+has_asked-requires c = subst (λ (p : Plan). c.args.owner < length p.design.modules) (sym (c.loop.invariant.0 0).goes.plan) c.requires.owner
+
+pub returns-then-has_asked-clause-plan : goal.returns-then-has_asked-clause-plan
+returns-then-has_asked-clause-plan c = (c.loop.invariant.0 0).goes.plan
+
+pub returns-then-has_asked-clause-lent : goal.returns-then-has_asked-clause-lent
+returns-then-has_asked-clause-lent c = (c.loop.invariant.0 0).goes.lent
+
 pub returns-in_err-woken-clause-no_memory : goal.returns-in_err-woken-clause-no_memory
 returns-in_err-woken-clause-no_memory c =
     on_err c.from_residual.result (λ (n : ℕ). subst (λ (w : CoreView). Goes c.args.self.now n w n) (sym c.in_err-woken.ensures.no_memory)

@@ -1,29 +1,70 @@
 -- The accesses of the step at which a run rests, listed.
 use Rattle.std.specs.Box.{with_value}
 use Rattle.std.specs.Prelude.{All}
-use Rattle.std.proofs.Common.{◌≡◌, ℕ, ◌^◌, ◌<◌, ◌∙◌, List, map, length, refl, sym, ap, subst, arith}
+use Rattle.std.proofs.Common.{◌≡◌, ◌⊎◌, inl, inr, true, false, ℕ, ◌^◌, ◌<◌, ◌∙◌, List, map, length, refl, sym, ap, subst, arith, Result, Ok, Err, OnErr}
 use Rattle.flow_word.specs.declared.access.Access.{Access}
 use Rattle.flow_design.specs.declared.plan.Plan.{Plan}
-use Rattle.flow_design.specs.declared.state.Advance.TheVariants.{Step}
+use Rattle.flow_design.specs.declared.state.Advance.TheVariants.{Step, Ended, Spent}
 use Rattle.flow_design.specs.declared.state.Request.{Request}
 use Rattle.lockstep_defs.specs.Channels.{Exchange}
+use Rattle.lockstep_defs.specs.Machine.{is_over}
 use Rattle.lockstep_defs.specs.OwnRun.{Own, access_of}
 use Rattle.module_interp.specs.declared.path.Path.{Path}
-use Rattle.module_interp.specs.declared.path.Stage.TheVariants.{Asked}
+use Rattle.module_interp.specs.declared.path.Stage.TheVariants.{Begun, Asked}
 use Rattle.module_interp.specs.declared.run.ModuleRun.{ModuleRun}
 use Rattle.module_interp.specs.declared.tally.Tally.{Tally}
 use Rattle.module_interp.specs.OwnRests.{done_in, mark_at}
-use Rattle.module_interp.specs.Paths.{KeepsRest, IsAtStep, IsTallyOf}
-use Rattle.module_interp.specs.Runs.{StandsAt, IsSoundMark}
-use Rattle.module_interp.proofs.Advancing.{kept_on, CanList, can_list, stands_asked}
+use Rattle.module_interp.specs.Paths.{KeepsRest, LeadsTo, IsAtStep, IsAtEnd, IsTallyOf}
+use Rattle.module_interp.specs.Runs.{is_asked, StandsAt, IsSoundMark}
+use Rattle.module_interp.proofs.Advancing.{kept_on, stands_on, rest_of, at_step, CanList, can_list, stands_asked}
 use Rattle.module_interp.proofs.Sound.{sound_mark, small_step}
-use Rattle.module_interp.proofs.Standing.{step_rest, step_mark, accesses_are}
+use Rattle.module_interp.proofs.Standing.{step_rest, ended_mark, spent_mark, step_mark, accesses_are}
 use Rattle.module_interp.proofs.Tallies.{queries_few}
 
 -- what lists the accesses of these requests
 abbrev pub Lists : List Access → Tally → List Request → Type 0
 Lists accesses tally asked = (channels : ℕ) (before : List Exchange) → IsTallyOf channels before tally
     → All (λ (r : Request). r.channel < channels) asked → accesses ≡ map (access_of before) asked
+
+pub on_err : {A E : Type 0} {P : Type 0} (r : Result A E) → P → OnErr r P
+on_err {A} {E} {P} (Ok a) h = tt
+on_err {A} {E} {P} (Err e) h = h
+
+-- ---- at a rest
+
+abbrev pub Rests : Path → Type 0
+Rests y = IsAtStep y ⊎ IsAtEnd y
+
+has_begun : (y : Path) → Rests y → y.stage ≡ Begun
+has_begun y (inl h) = h.begun
+has_begun y (inr h) = h.begun
+
+-- the path in the box of a run that rests, and is not over
+pub alive_step : (x y : Path) → y ≡ x → Rests x → is_over y.limit y.state ≡ false → IsAtStep x
+alive_step x y is h alive = at_step x h (subst (λ (z : Path). is_over z.limit z.state ≡ false) is alive)
+
+pub rest_unasked : (r : ModuleRun) (y : Path) → y ≡ r.path.value → Rests r.path.value → is_asked y.stage ≡ false
+rest_unasked r y is h = rw is (rw (has_begun r.path.value h) refl)
+
+module _ (p : Plan) (i : ℕ) (o : Own) (r : ModuleRun) (s : StandsAt p i o r) (y : Path) (is : y ≡ r.path.value) (h : Rests r.path.value) where
+  rests_here : Rests y
+  rests_here = subst Rests (sym is) h
+
+  leads_here : LeadsTo p i o y
+  leads_here = subst (LeadsTo p i o) (sym is) s.leads
+
+  pub rest_stands : (accesses : List Access) → StandsAt p i o (record { path = with_value r.path y; tally = r.tally; accesses = accesses })
+  rest_stands accesses =
+      stands_on p i o r y accesses (kept_on r.path.value y y is (λ q j n l. l))
+      (λ e. let b = has_begun y rests_here in let c : Begun ≡ Asked = sym b ∙ e in cc) s
+
+  pub rest_ended : y.state.ended ≡ true → Ended y.since ≡ mark_at p i o
+  rest_ended ended = ended_mark p i o y (rest_of p i o y leads_here rests_here) ended
+
+  pub rest_spent : y.state.ended ≡ false → is_over y.limit y.state ≡ true → Spent y.since ≡ mark_at p i o
+  rest_spent alive over = spent_mark p i o y leads_here (rest_of p i o y leads_here rests_here) alive over
+
+-- ---- at a step
 
 -- the path in the box of a run that rests at a step
 module _ (p : Plan) (i : ℕ) (o : Own) (r : ModuleRun) (s : StandsAt p i o r) (y : Path) (is : y ≡ r.path.value) (h : IsAtStep r.path.value)

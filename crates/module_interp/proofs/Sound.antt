@@ -11,7 +11,7 @@ use Rattle.flow_word.specs.Kinds.{is_blocking}
 use Rattle.flow_design.specs.declared.limits.TheConstants.{LIVE_ITERATIONS, OPERATIONS}
 use Rattle.flow_design.specs.declared.plan.Plan.{Plan}
 use Rattle.flow_design.specs.declared.state.Advance.{Advance}
-use Rattle.flow_design.specs.declared.state.Advance.TheVariants.{Step, Ended, Spent}
+use Rattle.flow_design.specs.declared.state.Advance.TheVariants.{Ended, Spent}
 use Rattle.flow_design.specs.declared.state.ModuleState.{ModuleState}
 use Rattle.flow_design.specs.declared.state.Request.{Request}
 use Rattle.flow_design.specs.Module.{block_of}
@@ -28,7 +28,7 @@ use Rattle.module_move.proofs.Readiness.{few_due}
 use Rattle.module_interp.specs.declared.path.Stage.TheVariants.{Asked}
 use Rattle.module_interp.specs.declared.run.ModuleRun.{ModuleRun}
 use Rattle.module_interp.specs.OwnRests.{requests_at, done_in, accesses_at, mark_at}
-use Rattle.module_interp.specs.Runs.{is_step, IsSmall, IsSoundMark, gap_of, StandsAt}
+use Rattle.module_interp.specs.Runs.{IsSmall, IsSoundMark, gap_of, StandsAt}
 use Rattle.module_interp.proofs.Feeding.{fewer_requests, waits_at}
 use Rattle.module_interp.proofs.Gaps.{short_gap}
 use Rattle.module_interp.proofs.Timing.{module_sound}
@@ -46,11 +46,6 @@ sound_mark p i o r mark s is small =
     let gap : gap_of mark ≡ o.since = ap gap_of is ∙ gap_at p i o in
     let short = short_gap p i o r s in
     record { small = small; short = omega arith; behind = λ some. let later = s.behind some in omega arith }
-
-pub small_end : (mark : Advance) → is_step mark ≡ false → IsSmall mark
-small_end (Step s) e = cc
-small_end (Ended n) e = tt
-small_end (Spent n) e = tt
 
 -- ---- steps
 

@@ -1,5 +1,5 @@
 -- A run as callers see it: it stands at a rest of the module's own run, and waits for replies or not.
-use Rattle.std.specs.Prelude.{ℕ, ◌≡◌, ◌*◌, ◌^◌, ◌<◌, ◌≤◌, Bool, true, false, length, Option, None, Some}
+use Rattle.std.specs.Prelude.{ℕ, ◌≡◌, ◌*◌, ◌^◌, ◌<◌, ◌≤◌, Bool, true, false, length}
 use Rattle.flow_word.specs.declared.access.Step.{Step as StepOf}
 use Rattle.flow_design.specs.declared.limits.TheConstants.{LIVE_ITERATIONS, OPERATIONS}
 use Rattle.flow_design.specs.declared.plan.Plan.{Plan}
@@ -31,11 +31,6 @@ is_step (Spent g) = false
 -- the step whose accesses were listed last
 abbrev pub listed : ModuleRun → StepOf
 listed r = record { gap = r.path.value.since; accesses = r.accesses; first_query = r.tally.queries }
-
--- a mark; none stands for that step
-abbrev pub given : ModuleRun → Option Advance → Advance
-given r None = Step (listed r)
-given r (Some mark) = mark
 
 -- the step has one access or two, and its numbers fit 32 bits
 pub record IsFew (s : StepOf) : Type 0 where

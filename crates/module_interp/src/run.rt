@@ -1,6 +1,6 @@
 //! The run of a module.
 ghost use Rattle.std.specs.Prelude.{◌≡◌, ℕ, ◌<◌, ◌^◌, true, false, if◌then◌else◌, [], map, List as Items, length, slice_index, IsFalse};
-ghost use Rattle.std.specs.Prelude.{◌≤◌, ◌↔◌, All, IfOk, IfSome, IsNone, OnErr, OnOk};
+ghost use Rattle.std.specs.Prelude.{◌≤◌, ◌↔◌, ◌⊎◌, All, IfOk, OnErr, OnOk};
 ghost use Rattle.flow_word.specs.declared.access.Side.TheVariants.{Pop};
 ghost use Rattle.flow_design.specs.StaticRules.{FitsEngine};
 ghost use Rattle.flow_design.specs.declared.plan.Plan.{Plan as PlanOf};
@@ -8,8 +8,9 @@ ghost use Rattle.lockstep_defs.specs.Channels.{Exchange, moved_by};
 ghost use Rattle.lockstep_defs.specs.Report.{queries};
 ghost use Rattle.lockstep_defs.specs.OwnRun.{Own, access_of};
 ghost use Rattle.module_interp.specs.OwnRests.{done_in, first_rest, next_rest, accesses_at, mark_at, all_fit};
-ghost use Rattle.module_interp.specs.Paths.{IsAtStep, IsTallyOf};
-ghost use Rattle.module_interp.specs.Runs.{waits, is_step, given, listed, IsFew, IsSoundMark, StandsAt};
+ghost use Rattle.lockstep_defs.specs.Machine.{is_over as over_by};
+ghost use Rattle.module_interp.specs.Paths.{IsAtStep, IsAtEnd, IsTallyOf};
+ghost use Rattle.module_interp.specs.Runs.{waits, is_step, listed, IsFew, IsSoundMark, StandsAt};
 
 use crate::making::{first_path, go_to_start};
 use crate::path::{Path, Stage};
@@ -161,77 +162,67 @@ impl ModuleRun {
         ensures sound { IfOk result (λ mark. (p : PlanOf) (i : ℕ) (o : Own) → StandsAt p i o self.old → IsSoundMark (length o.steps) mark) }
         ensures as_before { OnErr result (waits self.new ≡ false) }
     {
-        if let Some(end) = self.come()? {
-            return Ok(end);
-        }
+        self.come()?;
         let mark = self.give()?;
         Ok(mark)
     }
 
-    /// The same, but a step of one access or two whose numbers fit 32 bits is not given: none stands for it, and `gap`,
-    /// `listed` and `queries` tell it.
+    /// The same, but no mark is given. Whether it came to a step of one access or two whose numbers fit 32 bits: this then waits
+    /// for replies, and `gap`, `listed` and `queries` tell it. Any other mark is still to be given.
     #[inline(always)]
-    pub fn advance_few(&mut self) -> Result<Option<Advance>, OutOfMemory>
+    pub fn advance_few(&mut self) -> Result<bool, OutOfMemory>
         requires stands { (p : PlanOf) × ((i : ℕ) × ((o : Own) × StandsAt p i o self.old)) }
         requires answered { waits self.old ≡ false }
         ensures stands { (p : PlanOf) (i : ℕ) (o : Own) → StandsAt p i o self.old → StandsAt p i o self.new }
-        ensures mark { IfOk result (λ mark. (p : PlanOf) (i : ℕ) (o : Own) → StandsAt p i o self.old
-            → given self.new mark ≡ mark_at p i o) }
-        ensures waits { IfOk result (λ mark. waits self.new ≡ is_step (given self.new mark)) }
-        ensures sound { IfOk result (λ mark. (p : PlanOf) (i : ℕ) (o : Own) → StandsAt p i o self.old
-            → IsSoundMark (length o.steps) (given self.new mark)) }
-        ensures few { IfOk result (λ mark. IsNone mark → IsFew (listed self.new)) }
+        ensures waits { IfOk result (λ few. waits self.new ≡ few) }
+        ensures few { IfOk result (λ few. few ≡ true → IsFew (listed self.new)) }
+        ensures mark { IfOk result (λ few. few ≡ true → (p : PlanOf) (i : ℕ) (o : Own) → StandsAt p i o self.old
+            → Advance.Step (listed self.new) ≡ mark_at p i o) }
+        ensures sound { IfOk result (λ few. few ≡ true → (p : PlanOf) (i : ℕ) (o : Own) → StandsAt p i o self.old
+            → IsSoundMark (length o.steps) (Advance.Step (listed self.new))) }
+        ensures rests { IfOk result (λ few. few ≡ false → IsAtStep self.new.path.value ⊎ IsAtEnd self.new.path.value) }
         ensures as_before { OnErr result (waits self.new ≡ false) }
     {
-        if let Some(end) = self.come()? {
-            return Ok(Some(end));
-        }
+        self.come()?;
         if self.rests_at_few() {
             self.list()?;
-            return Ok(None);
+            return Ok(true);
         }
-        let mark = self.give()?;
-        Ok(Some(mark))
+        Ok(false)
     }
 
-    /// Comes to the next local clock with a due FIFO operation, of which it gives nothing yet, or gives the end of the run.
+    /// Comes to the next local clock with a due FIFO operation, or to the end of the run, of which it gives nothing yet.
     #[inline(always)]
-    fn come(&mut self) -> Result<Option<Advance>, OutOfMemory>
+    fn come(&mut self) -> Result<(), OutOfMemory>
         requires stands { (p : PlanOf) × ((i : ℕ) × ((o : Own) × StandsAt p i o self.old)) }
         requires answered { waits self.old ≡ false }
         ensures stands { (p : PlanOf) (i : ℕ) (o : Own) → StandsAt p i o self.old → StandsAt p i o self.new }
         ensures answered { waits self.new ≡ false }
-        ensures step { IfOk result (λ end. IsNone end → IsAtStep self.new.path.value) }
-        ensures end { IfOk result (λ end. IfSome end (λ mark. (p : PlanOf) (i : ℕ) (o : Own) → StandsAt p i o self.old
-            → mark ≡ mark_at p i o)) }
-        ensures no_step { IfOk result (λ end. IfSome end (λ mark. is_step mark ≡ false)) }
+        ensures rests { OnOk result (IsAtStep self.new.path.value ⊎ IsAtEnd self.new.path.value) }
     {
-        let path = self.path.as_mut();
-        path.come_to_rest()?;
-        if path.state.ended {
-            return Ok(Some(Advance::Ended(path.since)));
-        }
-        if is_over(path.limit, &path.state) {
-            return Ok(Some(Advance::Spent(path.since)));
-        }
-        Ok(None)
+        self.path.as_mut().come_to_rest()?;
+        Ok(())
     }
 
-    /// Whether the step to which it came has one access or two, and its numbers fit 32 bits.
+    /// Whether it came to a step of one access or two, and its numbers fit 32 bits.
     #[inline(always)]
     fn rests_at_few(&self) -> bool
+        ensures alive { result ≡ true → over_by self.now.path.value.limit self.now.path.value.state ≡ false }
         ensures most { result ≡ true → length self.now.path.value.asked ≤ 2 }
         ensures gap { result ≡ true → self.now.path.value.since < 2 ^ 32 }
         ensures queries { result ≡ true → self.now.tally.queries < 2 ^ 32 }
     {
-        self.path.asked.len() <= 2 && self.path.since < MOST && self.tally.queries < MOST
+        !is_over(self.path.limit, &self.path.state)
+            && self.path.asked.len() <= 2
+            && self.path.since < MOST
+            && self.tally.queries < MOST
     }
 
-    /// Gives the step to which it came, which then waits for replies.
+    /// Gives the mark of what it came to: a step, which then waits for replies, or the end.
     #[inline(never)]
-    fn give(&mut self) -> Result<Advance, OutOfMemory>
+    pub fn give(&mut self) -> Result<Advance, OutOfMemory>
         requires stands { (p : PlanOf) × ((i : ℕ) × ((o : Own) × StandsAt p i o self.old)) }
-        requires step { IsAtStep self.old.path.value }
+        requires rests { IsAtStep self.old.path.value ⊎ IsAtEnd self.old.path.value }
         ensures stands { (p : PlanOf) (i : ℕ) (o : Own) → StandsAt p i o self.old → StandsAt p i o self.new }
         ensures mark { IfOk result (λ mark. (p : PlanOf) (i : ℕ) (o : Own) → StandsAt p i o self.old → mark ≡ mark_at p i o) }
         ensures waits { IfOk result (λ mark. waits self.new ≡ is_step mark) }
@@ -240,6 +231,12 @@ impl ModuleRun {
         ensures as_before { OnErr result (waits self.new ≡ false) }
     {
         let path = self.path.as_mut();
+        if path.state.ended {
+            return Ok(Advance::Ended(path.since));
+        }
+        if is_over(path.limit, &path.state) {
+            return Ok(Advance::Spent(path.since));
+        }
         let accesses = list_accesses(
             path.alloc,
             &self.tally,

@@ -159,35 +159,32 @@ impl Core {
             ports_of(&self.ports, owner),
             queries,
         )?;
-        match run.advance_few()? {
-            None => {
-                let step = StepView {
-                    gap: run.gap(),
-                    accesses: AccessesView::new(run.listed()),
-                    first_query: run.queries(),
-                };
-                record_few(
-                    &mut self.graph,
-                    &mut self.fifos,
-                    &self.log,
-                    &mut self.credits,
-                    owner,
-                    &step,
-                );
-                Ok(())
-            }
-            Some(mark) => {
-                record_mark(
-                    &mut self.graph,
-                    &mut self.fifos,
-                    &self.log,
-                    &mut self.credits,
-                    &mut self.ends,
-                    owner,
-                    mark,
-                );
-                Ok(())
-            }
+        if run.advance_few()? {
+            let step = StepView {
+                gap: run.gap(),
+                accesses: AccessesView::new(run.listed()),
+                first_query: run.queries(),
+            };
+            record_few(
+                &mut self.graph,
+                &mut self.fifos,
+                &self.log,
+                &mut self.credits,
+                owner,
+                &step,
+            );
+            return Ok(());
         }
+        let mark = run.give()?;
+        record_mark(
+            &mut self.graph,
+            &mut self.fifos,
+            &self.log,
+            &mut self.credits,
+            &mut self.ends,
+            owner,
+            mark,
+        );
+        Ok(())
     }
 }

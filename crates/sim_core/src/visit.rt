@@ -152,7 +152,6 @@ impl Core {
     }
 
     /// One of them.
-    #[inline(always)]
     fn time_once<L: Ledger>(&mut self, owner: u32, steps: &mut Steps<L>) -> Visit
         requires { owner < length self.old.plan.design.modules }
         ensures { HasTimed result self.old steps.old owner self.new steps.new }

@@ -1,11 +1,4 @@
-use Rattle.module_interp.proofs.Sound.{sound_mark, small_end}
 use Rattle.module_interp.proofs.run.ModuleRun.advance.Goals as goal
-
-pub returns-in-Some-clause-sound : goal.returns-in-Some-clause-sound
-returns-in-Some-clause-sound c p i o s =
-    let end = rw c.in-Some.is at c.in_ok-end.ensures.end in
-    let no_step = rw c.in-Some.is at c.in_ok-end.ensures.no_step in
-    sound_mark p i o c.args.self.now c.in-Some.end s (end p i o s) (small_end c.in-Some.end no_step)
 
 pub returns-in_err-mark-clause-stands : goal.returns-in_err-mark-clause-stands
 returns-in_err-mark-clause-stands c p i o s = c.give.ensures.stands p i o (c.come.ensures.stands p i o s)

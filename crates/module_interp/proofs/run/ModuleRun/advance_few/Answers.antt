@@ -1,11 +1,21 @@
-use Rattle.module_interp.proofs.Sound.{sound_mark, small_end}
+use Rattle.std.proofs.Common.{arith}
+use Rattle.module_interp.proofs.Advancing.{at_step}
 use Rattle.module_interp.proofs.run.ModuleRun.advance_few.Goals as goal
 
-pub returns-in-Some-clause-sound : goal.returns-in-Some-clause-sound
-returns-in-Some-clause-sound c p i o s =
-    let end = rw c.in-Some.is at c.in_ok-end.ensures.end in
-    let no_step = rw c.in-Some.is at c.in_ok-end.ensures.no_step in
-    sound_mark p i o c.args.self.now c.in-Some.end s (end p i o s) (small_end c.in-Some.end no_step)
+pub list-requires-clause-step : goal.list-requires-clause-step
+list-requires-clause-step c = at_step _ c.in_ok-come.ensures.rests (c.rests_at_few.ensures.alive c.if-rests_at_few.true)
+
+pub returns-then-rests_at_few-clause-few : goal.returns-then-rests_at_few-clause-few
+returns-then-rests_at_few-clause-few c = λ e.
+    let step = at_step _ c.in_ok-come.ensures.rests (c.rests_at_few.ensures.alive c.if-rests_at_few.true) in
+    let some = step.some in
+    let most = c.rests_at_few.ensures.most c.if-rests_at_few.true in
+    let gap = c.rests_at_few.ensures.gap c.if-rests_at_few.true in
+    let queries = c.rests_at_few.ensures.queries c.if-rests_at_few.true in
+    let count = c.in_ok-list.ensures.count in
+    let same_gap = c.in_ok-list.ensures.gap in
+    let same_queries = c.in_ok-list.ensures.queries in
+    record { some = omega arith; most = omega arith; gap = omega arith; first_query = omega arith }
 
 pub returns-in_err-list-clause-stands : goal.returns-in_err-list-clause-stands
 returns-in_err-list-clause-stands c p i o s = c.list.ensures.stands p i o (c.come.ensures.stands p i o s)
@@ -14,19 +24,7 @@ pub returns-then-rests_at_few-clause-stands : goal.returns-then-rests_at_few-cla
 returns-then-rests_at_few-clause-stands c p i o s = c.list.ensures.stands p i o (c.come.ensures.stands p i o s)
 
 pub returns-then-rests_at_few-clause-mark : goal.returns-then-rests_at_few-clause-mark
-returns-then-rests_at_few-clause-mark c p i o s = c.in_ok-list.ensures.mark p i o (c.come.ensures.stands p i o s)
+returns-then-rests_at_few-clause-mark c = λ e p i o s. c.in_ok-list.ensures.mark p i o (c.come.ensures.stands p i o s)
 
 pub returns-then-rests_at_few-clause-sound : goal.returns-then-rests_at_few-clause-sound
-returns-then-rests_at_few-clause-sound c p i o s = c.in_ok-list.ensures.sound p i o (c.come.ensures.stands p i o s)
-
-pub returns-in_err-mark-clause-stands : goal.returns-in_err-mark-clause-stands
-returns-in_err-mark-clause-stands c p i o s = c.give.ensures.stands p i o (c.come.ensures.stands p i o s)
-
-pub returns-clause-stands : goal.returns-clause-stands
-returns-clause-stands c p i o s = c.give.ensures.stands p i o (c.come.ensures.stands p i o s)
-
-pub returns-clause-mark : goal.returns-clause-mark
-returns-clause-mark c p i o s = c.in_ok-mark.ensures.mark p i o (c.come.ensures.stands p i o s)
-
-pub returns-clause-sound : goal.returns-clause-sound
-returns-clause-sound c p i o s = c.in_ok-mark.ensures.sound p i o (c.come.ensures.stands p i o s)
+returns-then-rests_at_few-clause-sound c = λ e p i o s. c.in_ok-list.ensures.sound p i o (c.come.ensures.stands p i o s)

@@ -1,26 +1,73 @@
-use Rattle.std.proofs.Common.{length, ◌∙◌}
+use Rattle.std.proofs.Common.{length, sym, ◌∙◌}
 use Rattle.module_interp.specs.OwnRests.{done_in}
 use Rattle.module_interp.proofs.Listing.{few_before, all_inside, listed_stands, listed_mark, listed_sound}
+use Rattle.module_interp.proofs.Listing as listing
+use Rattle.module_interp.proofs.Sound.{sound_mark}
 use Rattle.module_interp.proofs.run.ModuleRun.give.Goals as goal
+
+pub returns-then-path-clause-stands : goal.returns-then-path-clause-stands
+returns-then-path-clause-stands c p i o s =
+    listing.rest_stands p i o c.args.self.now s _ c.as_mut-path.ensures.value c.requires.rests _
+
+pub returns-then-path-clause-mark : goal.returns-then-path-clause-mark
+returns-then-path-clause-mark c p i o s =
+    listing.rest_ended p i o c.args.self.now s _ c.as_mut-path.ensures.value c.requires.rests c.if-path.true
+
+pub returns-then-path-clause-waits : goal.returns-then-path-clause-waits
+returns-then-path-clause-waits c = listing.rest_unasked c.args.self.now _ c.as_mut-path.ensures.value c.requires.rests
+
+pub returns-then-path-clause-sound : goal.returns-then-path-clause-sound
+returns-then-path-clause-sound c p i o s = sound_mark p i o c.args.self.now _ s (returns-then-path-clause-mark c p i o s) tt
+
+pub returns-then-is_over-clause-stands : goal.returns-then-is_over-clause-stands
+returns-then-is_over-clause-stands c p i o s =
+    listing.rest_stands p i o c.args.self.now s _ c.as_mut-path.ensures.value c.requires.rests _
+
+pub returns-then-is_over-clause-mark : goal.returns-then-is_over-clause-mark
+returns-then-is_over-clause-mark c p i o s =
+    listing.rest_spent p i o c.args.self.now s _ c.as_mut-path.ensures.value c.requires.rests c.if-path.false
+    (sym c.is_over.ensures ∙ c.if-is_over.true)
+
+pub returns-then-is_over-clause-waits : goal.returns-then-is_over-clause-waits
+returns-then-is_over-clause-waits c = listing.rest_unasked c.args.self.now _ c.as_mut-path.ensures.value c.requires.rests
+
+pub returns-then-is_over-clause-sound : goal.returns-then-is_over-clause-sound
+returns-then-is_over-clause-sound c p i o s = sound_mark p i o c.args.self.now _ s (returns-then-is_over-clause-mark c p i o s) tt
 
 pub list_accesses-requires : goal.list_accesses-requires
 list_accesses-requires c =
     let (p, (i, (o, s))) = c.requires.stands in
-    let few = few_before p i o c.args.self.now s _ c.as_mut-path.ensures.value c.requires.step _ c.as_slice.ensures in
-    let all = all_inside p i o c.args.self.now s _ c.as_mut-path.ensures.value c.requires.step _ c.as_slice.ensures in
+    let step = listing.alive_step c.args.self.now.path.value _ c.as_mut-path.ensures.value c.requires.rests
+    (sym c.is_over.ensures ∙ c.if-is_over.false) in
+    let few = few_before p i o c.args.self.now s _ c.as_mut-path.ensures.value step _ c.as_slice.ensures in
+    let all = all_inside p i o c.args.self.now s _ c.as_mut-path.ensures.value step _ c.as_slice.ensures in
     record { tally = (length p.design.channels, (done_in o.steps, (s.tally, (few, all)))) }
+
+pub returns-in_err-accesses-clause-stands : goal.returns-in_err-accesses-clause-stands
+returns-in_err-accesses-clause-stands c p i o s =
+    listing.rest_stands p i o c.args.self.now s _ c.as_mut-path.ensures.value c.requires.rests _
+
+pub returns-in_err-accesses-clause-as_before : goal.returns-in_err-accesses-clause-as_before
+returns-in_err-accesses-clause-as_before c =
+    listing.on_err c.from_residual.result (listing.rest_unasked c.args.self.now _ c.as_mut-path.ensures.value c.requires.rests)
 
 pub returns-clause-stands : goal.returns-clause-stands
 returns-clause-stands c p i o s =
-    listed_stands p i o c.args.self.now s _ c.as_mut-path.ensures.value c.requires.step _ c.as_slice.ensures c.list_accesses.new.kept
+    let step = listing.alive_step c.args.self.now.path.value _ c.as_mut-path.ensures.value c.requires.rests
+    (sym c.is_over.ensures ∙ c.if-is_over.false) in
+    listed_stands p i o c.args.self.now s _ c.as_mut-path.ensures.value step _ c.as_slice.ensures c.list_accesses.new.kept
     (λ n before tally all. c.in_ok-accesses.ensures.kept ∙ c.in_ok-accesses.ensures.given n before tally all)
 
 pub returns-clause-mark : goal.returns-clause-mark
 returns-clause-mark c p i o s =
-    listed_mark p i o c.args.self.now s _ c.as_mut-path.ensures.value c.requires.step _ c.as_slice.ensures c.in_ok-accesses.accesses
+    let step = listing.alive_step c.args.self.now.path.value _ c.as_mut-path.ensures.value c.requires.rests
+    (sym c.is_over.ensures ∙ c.if-is_over.false) in
+    listed_mark p i o c.args.self.now s _ c.as_mut-path.ensures.value step _ c.as_slice.ensures c.in_ok-accesses.accesses
     c.in_ok-accesses.ensures.given
 
 pub returns-clause-sound : goal.returns-clause-sound
 returns-clause-sound c p i o s =
-    listed_sound p i o c.args.self.now s _ c.as_mut-path.ensures.value c.requires.step _ c.as_slice.ensures c.in_ok-accesses.accesses
+    let step = listing.alive_step c.args.self.now.path.value _ c.as_mut-path.ensures.value c.requires.rests
+    (sym c.is_over.ensures ∙ c.if-is_over.false) in
+    listed_sound p i o c.args.self.now s _ c.as_mut-path.ensures.value step _ c.as_slice.ensures c.in_ok-accesses.accesses
     c.in_ok-accesses.ensures.given

@@ -99,6 +99,33 @@ invariant_of-self-in_err-advance_few c =
       candidate_count = c.self.invariant.candidate_count;
     }
 
+pub invariant_of-self-in_err-mark : goal.invariant_of-self-in_err-mark
+invariant_of-self-in_err-mark c =
+    let k = c.self.invariant.core in
+    let p = c.self.inside.plan in
+    let ends = c.self.inside.ends.items in
+    let s = stored c.self.inside.graph c.self.inside.fifos c.self.inside.log in
+    let t = stored c.make_room.new.graph c.make_room.new.fifos c.make_room.new.log in
+    let others = c.make_room.new.credits.items in
+    let same : held_in t (over_of ends) ≡ held_in s (over_of ends) = lending.held_same s t (over_of ends) c.make_room.ensures.lanes
+    c.make_room.ensures.channels c.make_room.ensures.logs in
+    let ports = all_there p c.args.owner (length c.self.inside.fifos.channels) c.ports_of.result.now
+    (table_count p c.self.inside.fifos.channels k.table)
+    (c.ports_of.ensures ∙ c.self.invariant.ports_are.each c.args.owner (rw (← c.self.view_is) at c.requires.owner)) in
+    let room = c.make_room.ensures.room (design p) (over_of ends) ports k.room in
+    record {
+      core = lending.core_roomed p s ends c.self.inside.runs.items c.self.inside.credits.items others t k same
+          c.make_room.ensures.credits room;
+      ports_are = c.self.invariant.ports_are;
+      readers_are = c.self.invariant.readers_are;
+      unread_are = unread.unread_same p (held_in s (over_of ends)) (held_in t (over_of ends)) c.self.inside.unread same
+          c.self.invariant.unread_are;
+      beside_are = c.self.invariant.beside_are;
+      asking_are = asking_kept p (held_in s (over_of ends)) (held_in t (over_of ends)) same k.fits c.self.inside.asking
+          c.self.invariant.asking_are c.bit_of.result;
+      candidate_count = c.self.invariant.candidate_count;
+    }
+
 pub returns-in_err-advance_few-clause-run : goal.returns-in_err-advance_few-clause-run
 returns-in_err-advance_few-clause-run c =
     let k = c.self.invariant.core in
@@ -119,6 +146,27 @@ returns-in_err-advance_few-clause-run c =
     c.requires.answered (rw (← c.self.view_is) at c.requires.lives) in
     rw (← c.self.view_is) (emitting.run_kept p t ends c.self.inside.runs.items others c.args.owner c.args.run.now r c.advance_few.new.self
     c.advance_few.ensures.stands c.in_err-advance_few.ensures.as_before)
+
+pub returns-in_err-mark-clause-run : goal.returns-in_err-mark-clause-run
+returns-in_err-mark-clause-run c =
+    let k = c.self.invariant.core in
+    let p = c.self.inside.plan in
+    let ends = c.self.inside.ends.items in
+    let s = stored c.self.inside.graph c.self.inside.fifos c.self.inside.log in
+    let t = stored c.make_room.new.graph c.make_room.new.fifos c.make_room.new.log in
+    let others = c.make_room.new.credits.items in
+    let same : held_in t (over_of ends) ≡ held_in s (over_of ends) = lending.held_same s t (over_of ends) c.make_room.ensures.lanes
+    c.make_room.ensures.channels c.make_room.ensures.logs in
+    let ports = all_there p c.args.owner (length c.self.inside.fifos.channels) c.ports_of.result.now
+    (table_count p c.self.inside.fifos.channels k.table)
+    (c.ports_of.ensures ∙ c.self.invariant.ports_are.each c.args.owner (rw (← c.self.view_is) at c.requires.owner)) in
+    let room = c.make_room.ensures.room (design p) (over_of ends) ports k.room in
+    let r = emitting.ready_roomed p s t ends c.self.inside.runs.items c.self.inside.credits.items others c.args.owner c.args.run.now k same
+    c.make_room.ensures.credits room
+    (rw (← c.self.view_is) at c.requires.owner) (rw (← c.self.view_is) at c.requires.taken) (rw (← c.self.view_is) at c.requires.run)
+    c.requires.answered (rw (← c.self.view_is) at c.requires.lives) in
+    rw (← c.self.view_is) (emitting.run_kept p t ends c.self.inside.runs.items others c.args.owner c.args.run.now r c.give.new.self
+    (λ q j o stand. c.give.ensures.stands q j o (c.advance_few.ensures.stands q j o stand)) c.in_err-mark.ensures.as_before)
 
 pub record_few-requires-clause-next : goal.record_few-requires-clause-next
 record_few-requires-clause-next c =
@@ -142,16 +190,15 @@ record_few-requires-clause-next c =
     let rest = rest_behind p (core_of (design p) (held_in t (over_of ends))) c.args.owner
     (emitted_of (held_in t (over_of ends)) c.args.owner) in
     let same_step = as_listed c.advance_few.new.self _ _ _ c.gap.ensures (c.new.ensures ∙ c.listed.ensures) c.queries.ensures.listed in
-    let marked = rw c.in-None.is at c.in_ok-advance_few.ensures.mark in
-    let is = same_step ∙ marked p c.args.owner rest stands in
+    let is = same_step ∙ c.in_ok-advance_few.ensures.mark c.if-branch.true p c.args.owner rest stands in
     let sound = subst (IsSoundMark (length rest.steps)) (sym same_step)
-    ((rw c.in-None.is at c.in_ok-advance_few.ensures.sound) p c.args.owner rest stands) in
+    (c.in_ok-advance_few.ensures.sound c.if-branch.true p c.args.owner rest stands) in
     let next = emitting.is_next p t ends c.self.inside.runs.items others c.args.owner c.args.run.now r _
     is sound c.in_ok-make_room.ensures.credit c.in_ok-make_room.ensures.queries in
     (p, (ends, (c.self.inside.runs.items, next)))
 
-pub invariant_of-self-in-None : goal.invariant_of-self-in-None
-invariant_of-self-in-None c =
+pub invariant_of-self-then-branch : goal.invariant_of-self-then-branch
+invariant_of-self-then-branch c =
     let k = c.self.invariant.core in
     let p = c.self.inside.plan in
     let ends = c.self.inside.ends.items in
@@ -172,10 +219,9 @@ invariant_of-self-in-None c =
     let rest = rest_behind p (core_of (design p) (held_in t (over_of ends))) c.args.owner
     (emitted_of (held_in t (over_of ends)) c.args.owner) in
     let same_step = as_listed c.advance_few.new.self _ _ _ c.gap.ensures (c.new.ensures ∙ c.listed.ensures) c.queries.ensures.listed in
-    let marked = rw c.in-None.is at c.in_ok-advance_few.ensures.mark in
-    let is = same_step ∙ marked p c.args.owner rest stands in
+    let is = same_step ∙ c.in_ok-advance_few.ensures.mark c.if-branch.true p c.args.owner rest stands in
     let sound = subst (IsSoundMark (length rest.steps)) (sym same_step)
-    ((rw c.in-None.is at c.in_ok-advance_few.ensures.sound) p c.args.owner rest stands) in
+    (c.in_ok-advance_few.ensures.sound c.if-branch.true p c.args.owner rest stands) in
     let next = emitting.is_next p t ends c.self.inside.runs.items others c.args.owner c.args.run.now r _
     is sound c.in_ok-make_room.ensures.credit c.in_ok-make_room.ensures.queries in
     let roomed = lending.core_roomed p s ends c.self.inside.runs.items c.self.inside.credits.items others t k same
@@ -194,8 +240,8 @@ invariant_of-self-in-None c =
       candidate_count = c.self.invariant.candidate_count;
     }
 
-pub returns-in-None-clause-acts : goal.returns-in-None-clause-acts
-returns-in-None-clause-acts c =
+pub returns-then-branch-clause-acts : goal.returns-then-branch-clause-acts
+returns-then-branch-clause-acts c =
     let k = c.self.invariant.core in
     let p = c.self.inside.plan in
     let ends = c.self.inside.ends.items in
@@ -216,18 +262,17 @@ returns-in-None-clause-acts c =
     let rest = rest_behind p (core_of (design p) (held_in t (over_of ends))) c.args.owner
     (emitted_of (held_in t (over_of ends)) c.args.owner) in
     let same_step = as_listed c.advance_few.new.self _ _ _ c.gap.ensures (c.new.ensures ∙ c.listed.ensures) c.queries.ensures.listed in
-    let marked = rw c.in-None.is at c.in_ok-advance_few.ensures.mark in
-    let is = same_step ∙ marked p c.args.owner rest stands in
+    let is = same_step ∙ c.in_ok-advance_few.ensures.mark c.if-branch.true p c.args.owner rest stands in
     let sound = subst (IsSoundMark (length rest.steps)) (sym same_step)
-    ((rw c.in-None.is at c.in_ok-advance_few.ensures.sound) p c.args.owner rest stands) in
+    (c.in_ok-advance_few.ensures.sound c.if-branch.true p c.args.owner rest stands) in
     let next = emitting.is_next p t ends c.self.inside.runs.items others c.args.owner c.args.run.now r _
     is sound c.in_ok-make_room.ensures.credit c.in_ok-make_room.ensures.queries in
     let acts = c.record_few.ensures.acts p ends c.self.inside.runs.items next in
     lending.acts_at c.args.self.now _ c.args.owner _ c.self.view_is (emitting.acts_between p (held_in s (over_of ends))
     (held_in t (over_of ends)) _ _ c.args.owner same refl acts)
 
-pub returns-in-None-clause-run : goal.returns-in-None-clause-run
-returns-in-None-clause-run c =
+pub returns-then-branch-clause-run : goal.returns-then-branch-clause-run
+returns-then-branch-clause-run c =
     let k = c.self.invariant.core in
     let p = c.self.inside.plan in
     let ends = c.self.inside.ends.items in
@@ -248,15 +293,37 @@ returns-in-None-clause-run c =
     let rest = rest_behind p (core_of (design p) (held_in t (over_of ends))) c.args.owner
     (emitted_of (held_in t (over_of ends)) c.args.owner) in
     let same_step = as_listed c.advance_few.new.self _ _ _ c.gap.ensures (c.new.ensures ∙ c.listed.ensures) c.queries.ensures.listed in
-    let marked = rw c.in-None.is at c.in_ok-advance_few.ensures.mark in
-    let is = same_step ∙ marked p c.args.owner rest stands in
+    let is = same_step ∙ c.in_ok-advance_few.ensures.mark c.if-branch.true p c.args.owner rest stands in
     let sound = subst (IsSoundMark (length rest.steps)) (sym same_step)
-    ((rw c.in-None.is at c.in_ok-advance_few.ensures.sound) p c.args.owner rest stands) in
+    (c.in_ok-advance_few.ensures.sound c.if-branch.true p c.args.owner rest stands) in
     let next = emitting.is_next p t ends c.self.inside.runs.items others c.args.owner c.args.run.now r _
     is sound c.in_ok-make_room.ensures.credit c.in_ok-make_room.ensures.queries in
     let acts = c.record_few.ensures.acts p ends c.self.inside.runs.items next in
     rw (← c.self.view_is) (emitting.run_after p t ends c.self.inside.runs.items others c.args.owner c.args.run.now r _ next
-    c.advance_few.new.self c.advance_few.ensures.stands (rw c.in-None.is at c.in_ok-advance_few.ensures.waits) _ acts)
+    c.advance_few.new.self c.advance_few.ensures.stands (c.in_ok-advance_few.ensures.waits ∙ c.if-branch.true) _ acts)
+
+pub give-requires-clause-stands : goal.give-requires-clause-stands
+give-requires-clause-stands c =
+    let k = c.self.invariant.core in
+    let p = c.self.inside.plan in
+    let ends = c.self.inside.ends.items in
+    let s = stored c.self.inside.graph c.self.inside.fifos c.self.inside.log in
+    let t = stored c.make_room.new.graph c.make_room.new.fifos c.make_room.new.log in
+    let others = c.make_room.new.credits.items in
+    let same : held_in t (over_of ends) ≡ held_in s (over_of ends) = lending.held_same s t (over_of ends) c.make_room.ensures.lanes
+    c.make_room.ensures.channels c.make_room.ensures.logs in
+    let ports = all_there p c.args.owner (length c.self.inside.fifos.channels) c.ports_of.result.now
+    (table_count p c.self.inside.fifos.channels k.table)
+    (c.ports_of.ensures ∙ c.self.invariant.ports_are.each c.args.owner (rw (← c.self.view_is) at c.requires.owner)) in
+    let room = c.make_room.ensures.room (design p) (over_of ends) ports k.room in
+    let r = emitting.ready_roomed p s t ends c.self.inside.runs.items c.self.inside.credits.items others c.args.owner c.args.run.now k same
+    c.make_room.ensures.credits room
+    (rw (← c.self.view_is) at c.requires.owner) (rw (← c.self.view_is) at c.requires.taken) (rw (← c.self.view_is) at c.requires.run)
+    c.requires.answered (rw (← c.self.view_is) at c.requires.lives) in
+    let stands = emitting.stands p t ends c.self.inside.runs.items others c.args.owner c.args.run.now r in
+    let rest = rest_behind p (core_of (design p) (held_in t (over_of ends))) c.args.owner
+    (emitted_of (held_in t (over_of ends)) c.args.owner) in
+    (p, (c.args.owner, (rest, c.advance_few.ensures.stands p c.args.owner rest stands)))
 
 pub record_mark-requires-clause-next : goal.record_mark-requires-clause-next
 record_mark-requires-clause-next c =
@@ -279,14 +346,14 @@ record_mark-requires-clause-next c =
     let stands = emitting.stands p t ends c.self.inside.runs.items others c.args.owner c.args.run.now r in
     let rest = rest_behind p (core_of (design p) (held_in t (over_of ends))) c.args.owner
     (emitted_of (held_in t (over_of ends)) c.args.owner) in
-    let is = (rw c.in-Some.is at c.in_ok-advance_few.ensures.mark) p c.args.owner rest stands in
-    let sound = (rw c.in-Some.is at c.in_ok-advance_few.ensures.sound) p c.args.owner rest stands in
-    let next = emitting.is_next p t ends c.self.inside.runs.items others c.args.owner c.args.run.now r c.in-Some.mark
+    let is = c.in_ok-mark.ensures.mark p c.args.owner rest (c.advance_few.ensures.stands p c.args.owner rest stands) in
+    let sound = c.in_ok-mark.ensures.sound p c.args.owner rest (c.advance_few.ensures.stands p c.args.owner rest stands) in
+    let next = emitting.is_next p t ends c.self.inside.runs.items others c.args.owner c.args.run.now r c.in_ok-mark.mark
     is sound c.in_ok-make_room.ensures.credit c.in_ok-make_room.ensures.queries in
     (p, (c.self.inside.runs.items, next))
 
-pub invariant_of-self-in-Some : goal.invariant_of-self-in-Some
-invariant_of-self-in-Some c =
+pub invariant_of-self-2 : goal.invariant_of-self-2
+invariant_of-self-2 c =
     let k = c.self.invariant.core in
     let p = c.self.inside.plan in
     let ends = c.self.inside.ends.items in
@@ -306,9 +373,9 @@ invariant_of-self-in-Some c =
     let stands = emitting.stands p t ends c.self.inside.runs.items others c.args.owner c.args.run.now r in
     let rest = rest_behind p (core_of (design p) (held_in t (over_of ends))) c.args.owner
     (emitted_of (held_in t (over_of ends)) c.args.owner) in
-    let is = (rw c.in-Some.is at c.in_ok-advance_few.ensures.mark) p c.args.owner rest stands in
-    let sound = (rw c.in-Some.is at c.in_ok-advance_few.ensures.sound) p c.args.owner rest stands in
-    let next = emitting.is_next p t ends c.self.inside.runs.items others c.args.owner c.args.run.now r c.in-Some.mark
+    let is = c.in_ok-mark.ensures.mark p c.args.owner rest (c.advance_few.ensures.stands p c.args.owner rest stands) in
+    let sound = c.in_ok-mark.ensures.sound p c.args.owner rest (c.advance_few.ensures.stands p c.args.owner rest stands) in
+    let next = emitting.is_next p t ends c.self.inside.runs.items others c.args.owner c.args.run.now r c.in_ok-mark.mark
     is sound c.in_ok-make_room.ensures.credit c.in_ok-make_room.ensures.queries in
     let roomed = lending.core_roomed p s ends c.self.inside.runs.items c.self.inside.credits.items others t k same
     c.make_room.ensures.credits room in
@@ -326,8 +393,8 @@ invariant_of-self-in-Some c =
       candidate_count = c.self.invariant.candidate_count;
     }
 
-pub returns-in-Some-clause-acts : goal.returns-in-Some-clause-acts
-returns-in-Some-clause-acts c =
+pub returns-clause-acts : goal.returns-clause-acts
+returns-clause-acts c =
     let k = c.self.invariant.core in
     let p = c.self.inside.plan in
     let ends = c.self.inside.ends.items in
@@ -347,16 +414,16 @@ returns-in-Some-clause-acts c =
     let stands = emitting.stands p t ends c.self.inside.runs.items others c.args.owner c.args.run.now r in
     let rest = rest_behind p (core_of (design p) (held_in t (over_of ends))) c.args.owner
     (emitted_of (held_in t (over_of ends)) c.args.owner) in
-    let is = (rw c.in-Some.is at c.in_ok-advance_few.ensures.mark) p c.args.owner rest stands in
-    let sound = (rw c.in-Some.is at c.in_ok-advance_few.ensures.sound) p c.args.owner rest stands in
-    let next = emitting.is_next p t ends c.self.inside.runs.items others c.args.owner c.args.run.now r c.in-Some.mark
+    let is = c.in_ok-mark.ensures.mark p c.args.owner rest (c.advance_few.ensures.stands p c.args.owner rest stands) in
+    let sound = c.in_ok-mark.ensures.sound p c.args.owner rest (c.advance_few.ensures.stands p c.args.owner rest stands) in
+    let next = emitting.is_next p t ends c.self.inside.runs.items others c.args.owner c.args.run.now r c.in_ok-mark.mark
     is sound c.in_ok-make_room.ensures.credit c.in_ok-make_room.ensures.queries in
     let acts = c.record_mark.ensures.acts p c.self.inside.runs.items next in
     lending.acts_at c.args.self.now _ c.args.owner _ c.self.view_is (emitting.acts_between p (held_in s (over_of ends))
     (held_in t (over_of ends)) _ _ c.args.owner same refl acts)
 
-pub returns-in-Some-clause-run : goal.returns-in-Some-clause-run
-returns-in-Some-clause-run c =
+pub returns-clause-run : goal.returns-clause-run
+returns-clause-run c =
     let k = c.self.invariant.core in
     let p = c.self.inside.plan in
     let ends = c.self.inside.ends.items in
@@ -376,15 +443,16 @@ returns-in-Some-clause-run c =
     let stands = emitting.stands p t ends c.self.inside.runs.items others c.args.owner c.args.run.now r in
     let rest = rest_behind p (core_of (design p) (held_in t (over_of ends))) c.args.owner
     (emitted_of (held_in t (over_of ends)) c.args.owner) in
-    let is = (rw c.in-Some.is at c.in_ok-advance_few.ensures.mark) p c.args.owner rest stands in
-    let sound = (rw c.in-Some.is at c.in_ok-advance_few.ensures.sound) p c.args.owner rest stands in
-    let next = emitting.is_next p t ends c.self.inside.runs.items others c.args.owner c.args.run.now r c.in-Some.mark
+    let is = c.in_ok-mark.ensures.mark p c.args.owner rest (c.advance_few.ensures.stands p c.args.owner rest stands) in
+    let sound = c.in_ok-mark.ensures.sound p c.args.owner rest (c.advance_few.ensures.stands p c.args.owner rest stands) in
+    let next = emitting.is_next p t ends c.self.inside.runs.items others c.args.owner c.args.run.now r c.in_ok-mark.mark
     is sound c.in_ok-make_room.ensures.credit c.in_ok-make_room.ensures.queries in
     let acts = c.record_mark.ensures.acts p c.self.inside.runs.items next in
     rw (← c.self.view_is) (emitting.run_after p t ends c.self.inside.runs.items others c.args.owner c.args.run.now r _ next
-    c.advance_few.new.self c.advance_few.ensures.stands (rw c.in-Some.is at c.in_ok-advance_few.ensures.waits) _ acts)
+    c.give.new.self
+    (λ q j o stand. c.give.ensures.stands q j o (c.advance_few.ensures.stands q j o stand)) c.in_ok-mark.ensures.waits _ acts)
 
 pub record_few-requires-clause-few : goal.record_few-requires-clause-few
 record_few-requires-clause-few c =
     as_few c.advance_few.new.self _ _ _ c.gap.ensures (c.new.ensures ∙ c.listed.ensures) c.queries.ensures.listed
-    ((rw c.in-None.is at c.in_ok-advance_few.ensures.few) refl)
+    (c.in_ok-advance_few.ensures.few c.if-branch.true)

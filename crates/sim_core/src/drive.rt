@@ -79,7 +79,7 @@ impl Core {
     fn bit_if_done(&self, owner: u32) -> u64
         requires { owner < length self.now.plan.design.modules }
     {
-        if self.is_over(owner) && self.graph.frontier(owner) == self.graph.len(owner) {
+        if self.is_over(owner) && self.is_timed(owner) {
             bit_of(owner)
         } else {
             0

@@ -101,13 +101,16 @@ impl Core {
         Ok(Some(woken | bit_of(owner)))
     }
 
-    /// Whether a module's newest step has a query, and no outcome of it is there.
+    /// Whether a module's newest step ends with a query, and no outcome of it is there.
     #[inline(always)]
     fn has_asked(&self, owner: u32, run: &ModuleRun) -> bool
         requires { owner < length self.now.plan.design.modules }
     {
         run.queries() >= self.log.len(owner)
-            && run.listed().iter().any(|access| !access.kind.is_blocking())
+            && run
+                .listed()
+                .last()
+                .is_some_and(|access| !access.kind.is_blocking())
     }
 
     /// One of them.
@@ -143,12 +146,23 @@ impl Core {
             other => return other,
         };
         for _ in 1..STRETCH {
+            if self.is_timed(owner) {
+                return Visit::Acted(woken);
+            }
             match self.time_once(owner, steps) {
                 Visit::Acted(more) => woken |= more,
                 Visit::Differs(_) | Visit::Idle => return Visit::Acted(woken),
             }
         }
         Visit::Acted(woken | bit_of(owner))
+    }
+
+    /// Whether each step of a module has its cycle.
+    #[inline(always)]
+    pub(crate) fn is_timed(&self, owner: u32) -> bool
+        requires { owner < length self.now.plan.design.modules }
+    {
+        self.graph.frontier(owner) == self.graph.len(owner)
     }
 
     /// One of them.

@@ -1,16 +1,16 @@
 -- Outcomes more in a log, with the pushes and pops that they decide, are the theory's Answer, and what is held stays sound.
-use Rattle.std.proofs.Common.{◌≡◌, refl, sym, ap, ap₂, subst, ◌∙◌, ℕ, zero, suc, ◌+◌, ◌<◌, ◌≤◌, ◌⊎◌, Bool, true, false, not, cond, eqb, ltb}
+use Rattle.std.proofs.Common.{◌≡◌, refl, sym, ap, ap₂, subst, ◌∙◌, ℕ, zero, suc, ◌+◌, ◌<◌, ◌≤◌, ◌⊎◌, Bool, true, false, cond, ltb}
 use Rattle.std.proofs.Common.{◌&&◌, List, [], ◌∷◌, ◌++◌, length, map, drop, get_or, arith, inl, inr, append-nil, append_assoc}
 use Rattle.std.proofs.Common.{length-append, drop_of_length-le}
-use Rattle.std.specs.Prelude.{All, slice_get, Some}
-use Rattle.flow_word.specs.Kinds.{is_blocking, side_of, same_side}
+use Rattle.std.specs.Prelude.{All, Some}
+use Rattle.flow_word.specs.Kinds.{is_blocking, side_of}
 use Rattle.flow_word.specs.declared.access.Side.{Side}
 use Rattle.flow_word.specs.declared.access.Side.TheVariants.{Push}
 use Rattle.flow_word.specs.declared.access.Kind.{Kind}
-use Rattle.std.proofs.lemmas.Bool.{leb-true, and_left, or_right, or_left, cases_lt, cases_Bool, and_parts, lt-ltb, le-ltb, le-leb}
+use Rattle.std.proofs.lemmas.Bool.{and_left, cases_lt, and_parts, lt-ltb, le-ltb}
 use Rattle.std.proofs.lemmas.Bool.{both_ways}
-use Rattle.std.proofs.lemmas.Bool.Decides.{eqb_tells}
-use Rattle.std.proofs.lemmas.List.{length-set, get_or-set_same, get_or-set_other, get_or_past}
+use Rattle.std.proofs.lemmas.Bool.Decides.{eqb_tells, nat_tests}
+use Rattle.std.proofs.lemmas.List.{length-set, get_or-set_same, get_or-set_other, get_or_past, drop-append-le, length-drop}
 use Rattle.std.proofs.lemmas.List.Elements.{All-set, All-weaker}
 use Rattle.flow_word.specs.declared.access.Access.{Access}
 use Rattle.flow_word.specs.declared.access.Step.{Step}
@@ -38,7 +38,6 @@ use Rattle.engine_view.specs.Shown.{Shows, IsSound, AreTaken, IsTakenAt, AreWhol
 use Rattle.engine_view.specs.Emitted.{done_at_once, place_of}
 use Rattle.engine_view.proofs.Taking.{copies, channel_after, all_length, all_channel, kind_after, places_after, values_on, values_after}
 use Rattle.engine_view.proofs.Assigned.{put_at_is}
-use Rattle.query_resolve.specs.Decisions.{late_outcome}
 use Rattle.event_timing.specs.Machines.{Access as Asked, takers, takes_at}
 use Rattle.event_timing.specs.Actions.{after_answer, new_flags}
 use Rattle.event_timing.proofs.Answering.{answer_marks}
@@ -61,62 +60,24 @@ AreFlags (a ∷ xs) [] = ⊥
 AreFlags (a ∷ xs) (b ∷ bs) = (is_blocking a.kind ≡ true → b ≡ true) × AreFlags xs bs
 
 possible_again : (k : Kind) (b : Bool) → possible_by k (Some (outcome_by k b)) ≡ b
-possible_again k b =
-    elim (cases_Bool (late_outcome k)) [
-      | inl e ↦ rw e (twice b)
-      | inr e ↦ rw e refl
-    ]
-  where
-    twice : (b : Bool) → not (not b) ≡ b
-    twice true = refl
-    twice false = refl
+possible_again k b = grind arith
 
 -- the outcomes tell the flags
 flags_again : (xs : List Access) (bs : List Bool) → AreFlags xs bs → flags_by xs (outcomes_of xs bs) ≡ bs
 flags_again [] [] f = refl
-flags_again [] (b ∷ bs) f = absurd f
-flags_again (a ∷ xs) [] f = absurd f
-flags_again (a ∷ xs) (b ∷ bs) (f, fs) =
-    elim (cases_Bool (is_blocking a.kind)) [
-      | inl e ↦ rw (e, f e) (ap (λ (q : List Bool). true ∷ q) (flags_again xs bs fs))
-      | inr e ↦ rw (e, possible_again a.kind b) (ap (λ (q : List Bool). b ∷ q) (flags_again xs bs fs))
-    ]
+flags_again (a ∷ xs) (b ∷ bs) (f, fs) = let later = flags_again xs bs fs in let same = possible_again a.kind b in grind arith
+flags_again xs bs f = absurd f
 
 outcomes_length : (xs : List Access) (bs : List Bool) → AreFlags xs bs → length (outcomes_of xs bs) ≡ queries_in xs
 outcomes_length [] [] f = refl
-outcomes_length [] (b ∷ bs) f = absurd f
-outcomes_length (a ∷ xs) [] f = absurd f
-outcomes_length (a ∷ xs) (b ∷ bs) (f, fs) =
-    elim (cases_Bool (is_blocking a.kind)) [
-      | inl e ↦ rw e (outcomes_length xs bs fs)
-      | inr e ↦ rw e (ap (λ (n : ℕ). suc n) (outcomes_length xs bs fs))
-    ]
+outcomes_length (a ∷ xs) (b ∷ bs) (f, fs) = let later = outcomes_length xs bs fs in grind arith
+outcomes_length xs bs f = absurd f
 
 -- what stands behind a step's own outcomes tells nothing of it
 flags_front : (xs : List Access) (ys zs : List Bool) → queries_in xs ≤ length ys → flags_by xs (ys ++ zs) ≡ flags_by xs ys
 flags_front [] ys zs l = refl
-flags_front (a ∷ xs) ys zs l =
-    elim (cases_Bool (is_blocking a.kind)) [
-      | inl e ↦ rw e (ap (λ (q : List Bool). true ∷ q) (flags_front xs ys zs (rw e at l)))
-      | inr e ↦ rw e (front a xs ys zs (rw e at l) (flags_front xs))
-    ]
-  where
-    front : (a : Access) (xs : List Access) (ys zs : List Bool) → suc (queries_in xs) ≤ length ys
-        → ((ys zs : List Bool) → queries_in xs ≤ length ys → flags_by xs (ys ++ zs) ≡ flags_by xs ys)
-        → possible_by a.kind (slice_get (ys ++ zs) 0) ∷ flags_by xs (drop 1 (ys ++ zs)) ≡ possible_by a.kind (slice_get ys 0) ∷ flags_by xs
-        (drop 1 ys)
-    front a xs [] zs l f = absurd (omega arith)
-    front a xs (y ∷ ys) zs l f = ap (λ (q : List Bool). possible_by a.kind (Some y) ∷ q) (f ys zs (omega arith))
-
-drop_front : (n : ℕ) (ys zs : List Bool) → n ≤ length ys → drop n (ys ++ zs) ≡ drop n ys ++ zs
-drop_front zero ys zs l = refl
-drop_front (suc n) [] zs l = absurd (omega arith)
-drop_front (suc n) (y ∷ ys) zs l = drop_front n ys zs (omega arith)
-
-drop_length : (n : ℕ) (ys : List Bool) → length (drop n ys) + n ≡ length ys ⊎ (length ys < n)
-drop_length zero ys = inl (omega arith)
-drop_length (suc n) [] = inr (omega arith)
-drop_length (suc n) (y ∷ ys) = elim (drop_length n ys) [ inl e ↦ inl (omega arith) | inr e ↦ inr (omega arith) ]
+flags_front (a ∷ xs) [] zs l = let later = flags_front xs [] zs in grind arith
+flags_front (a ∷ xs) (y ∷ ys) zs l = let here = flags_front xs (y ∷ ys) zs in let later = flags_front xs ys zs in grind arith
 
 -- ---- what is taken at once, and late
 
@@ -124,90 +85,26 @@ takes_parts : (side : Side) (c : ℕ) (xs : List Access) (bs : List Bool) → Ar
     → takes_in side c (map seen xs) (bare_replies bs) ≡ takes_in side c (map seen xs) (bare_replies (done_at_once xs)) + takes_in side c
     (map seen xs) (bare_replies (done_late xs bs))
 takes_parts side c [] [] f = refl
-takes_parts side c [] (b ∷ bs) f = absurd f
-takes_parts side c (a ∷ xs) [] f = absurd f
-takes_parts side c (a ∷ xs) (b ∷ bs) (f, fs) =
-    let rest = takes_parts side c xs bs fs in
-    let one = one_part (same_side (side_of a.kind) side && eqb a.channel c) (seen a).takes (is_blocking a.kind) b f in
-    omega arith
-  where
-    one_part : (e t k b : Bool) → (k ≡ true → b ≡ true)
-        → cond {A = ℕ} (t && (b && e)) 1 0 ≡ cond (t && (k && e)) 1 0 + cond (t && ((not k && b) && e)) 1 0
-    one_part e t true false f = let q = f refl in cc
-    one_part true true true true f = refl
-    one_part true false true true f = refl
-    one_part false true true true f = refl
-    one_part false false true true f = refl
-    one_part true true false true f = refl
-    one_part true false false true f = refl
-    one_part false true false true f = refl
-    one_part false false false true f = refl
-    one_part true true false false f = refl
-    one_part true false false false f = refl
-    one_part false true false false f = refl
-    one_part false false false false f = refl
+takes_parts side c (a ∷ xs) (b ∷ bs) (f, fs) = let later = takes_parts side c xs bs fs in grind arith
+takes_parts side c xs bs f = absurd f
 
 none_takes : (c : ℕ) (xs : List Access) (bs : List Bool) → takers Push c (map seen xs) ≡ 0
     → values_in c (map seen xs) (bare_replies bs) ≡ []
 none_takes c [] bs e = refl
 none_takes c (a ∷ xs) [] e = refl
-none_takes c (a ∷ xs) (b ∷ bs) e =
-    elim (cases_Bool (takes_at Push c (seen a))) [
-      | inl t ↦ let e' = rw t at e in absurd (omega arith)
-      | inr t ↦
-          let e' = rw t at e in
-          let z : takers Push c (map seen xs) ≡ 0 = omega arith in
-          let n : theory.took Push c (seen a) (record { possible = b; front = 0 }) ≡ false =
-          off (seen a).takes b (same_side (side_of a.kind) Push && eqb a.channel c) t in
-          rw (n, none_takes c xs bs z) refl
-    ]
-  where
-    off : (t b e : Bool) → (t && e) ≡ false → (t && (b && e)) ≡ false
-    off true true e q = q
-    off true false e q = refl
-    off false b e q = refl
+none_takes c (a ∷ xs) (b ∷ bs) e = let later = none_takes c xs bs in grind arith
 
 values_parts : (c : ℕ) (xs : List Access) (bs : List Bool) → AreFlags xs bs → takers Push c (map seen xs) ≤ 1
     → values_in c (map seen xs) (bare_replies bs) ≡ values_in c (map seen xs) (bare_replies (done_at_once xs)) ++ values_in c (map seen xs)
     (bare_replies (done_late xs bs))
 values_parts c [] [] f l = refl
-values_parts c [] (b ∷ bs) f l = absurd f
-values_parts c (a ∷ xs) [] f l = absurd f
 values_parts c (a ∷ xs) (b ∷ bs) (f, fs) l =
-    elim (cases_Bool (takes_at Push c (seen a))) [
-      | inl t ↦
-          let l' = rw t at l in
-          let z : takers Push c (map seen xs) ≡ 0 = omega arith in
-          rw (none_takes c xs bs z, none_takes c xs (done_at_once xs) z, none_takes c xs (done_late xs bs) z)
-          (one_value (seen a).takes (is_blocking a.kind) b (same_side (side_of a.kind) Push && eqb a.channel c) a.value f)
-      | inr t ↦
-          let l' = rw t at l in
-          none_value (seen a).takes (is_blocking a.kind) b (same_side (side_of a.kind) Push && eqb a.channel c) a.value t _ _ _
-          (values_parts c xs bs fs (omega arith))
-    ]
-  where
-    one_value : (t k b e : Bool) (v : ℕ) → (k ≡ true → b ≡ true)
-        → cond (t && (b && e)) (v ∷ []) [] ++ [] ≡ (cond (t && (k && e)) (v ∷ []) [] ++ []) ++ (cond (t && ((not k && b) && e)) (v ∷ []) []
-        ++ [])
-    one_value t true false e v f = let q = f refl in cc
-    one_value true true true true v f = refl
-    one_value true true true false v f = refl
-    one_value false true true e v f = refl
-    one_value true false true true v f = refl
-    one_value true false true false v f = refl
-    one_value false false true e v f = refl
-    one_value true false false e v f = refl
-    one_value false false false e v f = refl
-
-    none_value : (t k b e : Bool) (v : ℕ) → (t && e) ≡ false → (p q r : List ℕ) → p ≡ q ++ r
-        → cond (t && (b && e)) (v ∷ []) [] ++ p ≡ (cond (t && (k && e)) (v ∷ []) [] ++ q) ++ (cond (t && ((not k && b) && e)) (v ∷ []) []
-        ++ r)
-    none_value true k b true v z p q r y = cc
-    none_value true true true false v z p q r y = y
-    none_value true true false false v z p q r y = y
-    none_value true false true false v z p q r y = y
-    none_value true false false false v z p q r y = y
-    none_value false k b e v z p q r y = y
+    let later = values_parts c xs bs fs in
+    let none = none_takes c xs bs in
+    let at_once = none_takes c xs (done_at_once xs) in
+    let late = none_takes c xs (done_late xs bs) in
+    grind arith
+values_parts c xs bs f l = absurd f
 
 -- ---- what is held
 
@@ -226,14 +123,10 @@ unfolding queries_before
 queries_zero h m = refl
 
 pub among_is : (t : Step) (n : ℕ) → are_among t n ≡ true → (queries_in t.accesses ≡ 0) ⊎ (t.first_query + queries_in t.accesses ≤ n)
-among_is t n e =
-    elim (eqb_tells (queries_in t.accesses) 0) [
-      | inl q ↦ inl q.1
-      | inr q ↦ let e' = rw q.0 at e in inr (leb-true (t.first_query + queries_in t.accesses) n e')
-    ]
+among_is t n e = grind (arith, nat_tests)
 
 pub among_if : (t : Step) (n : ℕ) → t.first_query + queries_in t.accesses ≤ n → are_among t n ≡ true
-among_if t n l = or_right (eqb (queries_in t.accesses) 0) _ (le-leb (t.first_query + queries_in t.accesses) n l)
+among_if t n l = grind (arith, nat_tests)
 
 -- the queries of steps that are all among so many are no more
 pub all_among : (h : Held) (m n q : ℕ) → ((k : ℕ) → k < n → (step_of h m k).first_query ≡ queries_before h m k)
@@ -243,14 +136,11 @@ all_among h m (suc n) q f g =
     let rest = all_among h m n q (λ k l. f k (omega arith)) (λ k l. g k (omega arith)) in
     let step = queries_step h m n in
     let first = f n (omega arith) in
-    elim (among_is (step_of h m n) q (g n (omega arith))) [
-      | inl e ↦ omega arith
-      | inr e ↦ omega arith
-    ]
+    elim (among_is (step_of h m n) q (g n (omega arith))) [ inl e ↦ omega arith | inr e ↦ omega arith ]
 
 flags_fit : (know : theory.Access → Known) (c : ℕ) (xs : List Access) → AreFlags xs (flags_at know c (map seen xs))
 flags_fit know c [] = tt
-flags_fit know c (a ∷ xs) = ((λ e. or_left (is_blocking a.kind) _ e), flags_fit know c xs)
+flags_fit know c (a ∷ xs) = (grind arith, flags_fit know c xs)
 
 module _ {S : Type 0} (d : Design S) (i : IsDesign d) (h : Held) (m c : ℕ) (inside : m < length h.lanes) (s : IsSound d h)
     (b : AreOwnMarks d (core_of d h))
@@ -611,7 +501,7 @@ module _ {S : Type 0} (d : Design S) (i : IsDesign d) (h : Held) (m c : ℕ) (in
       let u = recorded_most in
       let l = recorded_least in
       ap (λ (q : Log). flags_by t.accesses (drop t.first_query q.outcomes)) log_now
-      ∙ (ap (flags_by t.accesses) (drop_front t.first_query old_log.outcomes new (omega arith)
+      ∙ (ap (flags_by t.accesses) (drop-append-le t.first_query old_log.outcomes new (omega arith)
       ∙ ap (λ (q : List Bool). q ++ new) (drop_of_length-le old_log.outcomes (omega arith))) ∙ flags_again t.accesses fs flags_ok)
 
   flags_earlier : (k : ℕ) → k < k₀ → flags_of g m k ≡ flags_of h m k
@@ -620,12 +510,10 @@ module _ {S : Type 0} (d : Design S) (i : IsDesign d) (h : Held) (m c : ℕ) (in
       let step = queries_step h m k in
       let up = queries_mono h m (suc k) k₀ l in
       let least = recorded_least in
-      let inside' : (step_of h m k).first_query ≤ length old_log.outcomes = omega arith in
-      let enough : queries_in (step_of h m k).accesses ≤ length (drop (step_of h m k).first_query old_log.outcomes) =
-      elim (drop_length (step_of h m k).first_query old_log.outcomes) [ inl e ↦ omega arith | inr e ↦ omega arith ] in
+      let rest = length-drop (step_of h m k).first_query old_log.outcomes in
       ap (λ (q : Log). flags_by (step_of h m k).accesses (drop (step_of h m k).first_query q.outcomes)) log_now
-      ∙ (ap (flags_by (step_of h m k).accesses) (drop_front (step_of h m k).first_query old_log.outcomes new inside')
-      ∙ flags_front (step_of h m k).accesses (drop (step_of h m k).first_query old_log.outcomes) new enough)
+      ∙ (ap (flags_by (step_of h m k).accesses) (drop-append-le (step_of h m k).first_query old_log.outcomes new (omega arith))
+      ∙ flags_front (step_of h m k).accesses (drop (step_of h m k).first_query old_log.outcomes) new (omega arith))
 
   flags_past : (k : ℕ) → k₀ < k → flags_of g m k ≡ flags_of h m k
   flags_past k l =

@@ -1,13 +1,13 @@
 -- Outcomes more in a log, with the pushes and pops that they decide, are the theory's Answer, and what is held stays sound.
-use Rattle.std.proofs.Common.{◌≡◌, refl, sym, ap, ap₂, subst, ◌∙◌, ℕ, zero, suc, ◌+◌, ◌<◌, ◌≤◌, ◌⊎◌, Bool, true, false, cond, ltb}
-use Rattle.std.proofs.Common.{◌&&◌, List, [], ◌∷◌, ◌++◌, length, map, drop, get_or, arith, inl, inr, append-nil, append_assoc}
+use Rattle.std.proofs.Common.{◌≡◌, refl, sym, ap, subst, ◌∙◌, ℕ, zero, suc, ◌+◌, ◌<◌, ◌≤◌, ◌⊎◌, Bool, true, false, cond, ltb}
+use Rattle.std.proofs.Common.{eqb, cond, List, [], ◌∷◌, ◌++◌, length, map, drop, get_or, arith, inl, inr, append-nil, append_assoc}
 use Rattle.std.proofs.Common.{length-append, drop_of_length-le}
 use Rattle.std.specs.Prelude.{All, Some}
 use Rattle.flow_word.specs.Kinds.{is_blocking, side_of}
 use Rattle.flow_word.specs.declared.access.Side.{Side}
 use Rattle.flow_word.specs.declared.access.Side.TheVariants.{Push}
 use Rattle.flow_word.specs.declared.access.Kind.{Kind}
-use Rattle.std.proofs.lemmas.Bool.{and_left, cases_lt, and_parts, lt-ltb, le-ltb}
+use Rattle.std.proofs.lemmas.Bool.{cases_lt, and_parts, le-ltb}
 use Rattle.std.proofs.lemmas.Bool.{both_ways}
 use Rattle.std.proofs.lemmas.Bool.Decides.{eqb_tells, nat_tests}
 use Rattle.std.proofs.lemmas.List.{length-set, get_or-set_same, get_or-set_other, get_or_past, drop-append-le, length-drop}
@@ -17,15 +17,15 @@ use Rattle.flow_word.specs.declared.access.Step.{Step}
 use Rattle.flow_word.specs.declared.access.Place.{Place}
 use Rattle.event_graph.specs.Lanes.{Lane, lane_at}
 use Rattle.fifo_table.specs.declared.channel.TableChannel.{TableChannel}
-use Rattle.fifo_table.specs.declared.channel.TableChannel.TheVariants.{Source, Sink, Fifo}
-use Rattle.fifo_table.specs.Channels.{Channel, channel_at, values_of, places_of, lag_of}
+use Rattle.fifo_table.specs.declared.channel.TableChannel.TheVariants.{Source}
+use Rattle.fifo_table.specs.Channels.{Channel, channel_at, places_of, lag_of}
 use Rattle.query_log.specs.Logs.{IsSoundLog, Log, all_answered, log_at, no_log}
 use Rattle.fifo_table.specs.Channels.{HasSide}
 use Rattle.time_engine.specs.Conditions.{IsAccess, HasAccesses}
 use Rattle.event_timing.specs.Machines as theory
 use Rattle.event_timing.specs.Machines.{Design, IsDesign, Each, Reply, ready, takes_in, values_in}
 use Rattle.event_timing.specs.Views.{own, pushed_in}
-use Rattle.event_timing.specs.Core.{Core, core_accesses, core_tally, core_values, bare_replies, no_outcomes}
+use Rattle.event_timing.specs.Core.{Core, core_accesses, core_tally, core_values, bare_replies}
 use Rattle.event_timing.specs.Agreement.{AreOwnMarks}
 use Rattle.event_timing.specs.Actions.{put_at}
 use Rattle.event_timing.proofs.Assigning.{put_at_same, put_at_other}
@@ -37,6 +37,7 @@ use Rattle.engine_view.specs.Held.{replies_at, core_of}
 use Rattle.engine_view.specs.Shown.{Shows, IsSound, AreTaken, IsTakenAt, AreWhole, IsKind, queries_before}
 use Rattle.engine_view.specs.Emitted.{done_at_once, place_of}
 use Rattle.engine_view.proofs.Taking.{copies, channel_after, all_length, all_channel, kind_after, places_after, values_on, values_after}
+use Rattle.engine_view.proofs.Taking.{values_longer}
 use Rattle.engine_view.proofs.Assigned.{put_at_is}
 use Rattle.event_timing.specs.Machines.{Access as Asked, takers, takes_at}
 use Rattle.event_timing.specs.Actions.{after_answer, new_flags}
@@ -170,18 +171,14 @@ module _ {S : Type 0} (d : Design S) (i : IsDesign d) (h : Held) (m c : ℕ) (in
 
   -- the step is the module's newest
   pub last : suc k₀ ≡ emitted_of h m
-  last =
-      elim (cases_lt (suc k₀) (emitted_of h m)) [
-        | inl q ↦ absurd (both_ways _ fresh (b.replied m k₀ q))
-        | inr q ↦ omega arith
-      ]
+  last = let replied = b.replied m k₀ in grind arith
 
   flags_ok : AreFlags t.accesses fs
   flags_ok = subst (AreFlags t.accesses) (ap (flags_at (known_of d (view d x) m) c) (sym (s.accesses m k₀ less)))
       (flags_fit (known_of d (view d x) m) c t.accesses)
 
   flags_before : x.flags m k₀ ≡ done_at_once t.accesses
-  flags_before = b.unanswered m k₀ less fresh ∙ (ap no_outcomes (s.accesses m k₀ less) ∙ no_outcomes_is t.accesses)
+  flags_before = let at_first = b.unanswered m k₀ less fresh in let same = no_outcomes_is t.accesses in rw (at_first, s.accesses m k₀ less) same
 
   flags_now : z.flags m k₀ ≡ fs
   flags_now = put_at_same x.flags m k₀ fs
@@ -203,14 +200,14 @@ module _ {S : Type 0} (d : Design S) (i : IsDesign d) (h : Held) (m c : ℕ) (in
   tally_now : (side : Side) (ch : ℕ) → core_tally d z m side ch (suc k₀) ≡ core_tally d x m side ch (suc k₀) + late side ch
   unfolding late
   tally_now side ch =
-      let new = tally_more (core_accesses d z m) (λ j. bare_replies (z.flags m j)) side ch k₀ in
-      let old = tally_more (core_accesses d x m) (λ j. bare_replies (x.flags m j)) side ch k₀ in
-      let same = tally_old m side ch k₀ (λ e. omega arith) in
-      let now = ap₂ (λ (a : List theory.Access) (v : List Bool). takes_in side ch a (bare_replies v)) (s.accesses m k₀ less) flags_now in
-      let before = ap₂ (λ (a : List theory.Access) (v : List Bool). takes_in side ch a (bare_replies v)) (s.accesses m k₀ less)
-      flags_before in
+      let now = tally_more (core_accesses d z m) (λ j. bare_replies (z.flags m j)) side ch k₀ in
+      let before = tally_more (core_accesses d x m) (λ j. bare_replies (x.flags m j)) side ch k₀ in
+      let old = tally_old m side ch k₀ (λ e. omega arith) in
+      let accesses = s.accesses m k₀ less in
       let parts = takes_parts side ch t.accesses fs flags_ok in
-      omega arith
+      let flags = flags_now in
+      let flags' = flags_before in
+      grind arith
 
   owned : Each (λ a. d.owner a.side a.channel ≡ m) (map seen t.accesses)
   owned = subst (Each (λ a. d.owner a.side a.channel ≡ m)) (s.accesses m k₀ less) (i.owned m (x.state m k₀))
@@ -222,12 +219,10 @@ module _ {S : Type 0} (d : Design S) (i : IsDesign d) (h : Held) (m c : ℕ) (in
   total : (w : ℕ) (side : Side) (ch : ℕ) → ((w ≡ m → ⊥) → late side ch ≡ 0)
       → core_tally d z w side ch (emitted_of h w) ≡ core_tally d x w side ch (emitted_of h w) + late side ch
   total w side ch none =
-      elim (eqb_tells w m) [
-        | inl q ↦ subst (λ (v : ℕ). core_tally d z v side ch (emitted_of h v) ≡ core_tally d x v side ch (emitted_of h v) + late side ch)
-            (sym q.1)
-            (subst (λ (v : ℕ). core_tally d z m side ch v ≡ core_tally d x m side ch v + late side ch) last (tally_now side ch))
-        | inr q ↦ let e = none q.1 in let same = tally_old w side ch (emitted_of h w) (λ e. absurd (q.1 e)) in omega arith
-      ]
+      let here = tally_now side ch in
+      let newest = last in
+      let same = tally_old w side ch (emitted_of h w) in
+      grind arith
 
   -- ---- the table
 
@@ -254,14 +249,10 @@ module _ {S : Type 0} (d : Design S) (i : IsDesign d) (h : Held) (m c : ℕ) (in
   tally_up : (w : ℕ) (side : Side) (ch k : ℕ) → ((w ≡ m → ⊥) → late side ch ≡ 0) → k ≤ emitted_of h w
       → core_tally d x w side ch k ≤ core_tally d z w side ch k
   tally_up w side ch k none l =
-      elim (cases_lt k (emitted_of h w)) [
-        | inl q ↦ let same = tally_old w side ch k (λ e. let e' = ap (λ (v : ℕ). emitted_of h v) e in let z' = last in omega arith) in
-            omega arith
-        | inr q ↦
-            let e : k ≡ emitted_of h w = omega arith in
-            let up = total w side ch none in
-            subst (λ (v : ℕ). core_tally d x w side ch v ≤ core_tally d z w side ch v) (sym e) (omega arith)
-      ]
+      let newest = last in
+      let up = total w side ch none in
+      let same = tally_old w side ch k in
+      grind arith
 
   old_taken : (side : Side) (ch j : ℕ) (y : Place) → IsTakenAt d x side ch j y → IsTakenAt d z side ch j y
   old_taken side ch j y o = record {
@@ -294,14 +285,9 @@ module _ {S : Type 0} (d : Design S) (i : IsDesign d) (h : Held) (m c : ℕ) (in
       → core_tally d x w side ch (emitted_of h w) ≤ j
       → j < core_tally d x w side ch (emitted_of h w) + late side ch → IsTakenAt d z side ch j at
   new_for w side ch o none p j l u =
-      elim (eqb_tells w m) [
-        | inl q ↦
-            new_at side ch (sym o ∙ q.1) j (subst (λ (v : ℕ). core_tally d x m side ch v ≤ j) (sym last)
-            (subst (λ (v : ℕ). core_tally d x v side ch (emitted_of h v) ≤ j) q.1 l))
-            (subst (λ (v : ℕ). j < core_tally d x m side ch v + late side ch) (sym last)
-            (subst (λ (v : ℕ). j < core_tally d x v side ch (emitted_of h v) + late side ch) q.1 u))
-        | inr q ↦ let e = none q.1 in absurd (omega arith)
-      ]
+      let newest = last in
+      let here = new_at side ch in
+      grind arith
 
   taken_now : (side : Side) (ch : ℕ) → AreTaken d x side ch (places_of side (channel_at h.channels ch))
       → AreTaken d z side ch (places_of side (channel_at g.channels ch))
@@ -332,15 +318,15 @@ module _ {S : Type 0} (d : Design S) (i : IsDesign d) (h : Held) (m c : ℕ) (in
   pushed_now : (ch : ℕ) → pushed_by z ch m (suc k₀) ≡ pushed_by x ch m (suc k₀) ++ late_values ch
   unfolding late_values
   pushed_now ch =
-      pushed_in_more ch (core_accesses d z m) (λ j. bare_replies (z.flags m j)) k₀
-      ∙ (ap₂ (λ (a v : List ℕ). a ++ v) (pushed_old m ch k₀ (λ e. omega arith))
-      (ap₂ (λ (a : List theory.Access) (v : List Bool). values_in ch a (bare_replies v)) (s.accesses m k₀ less) flags_now
-      ∙ values_parts ch t.accesses fs flags_ok (single_t ch))
-      ∙ (sym (append_assoc (pushed_by x ch m k₀) _ _)
-      ∙ ap (λ (a : List ℕ). a ++ values_in ch (map seen t.accesses) (bare_replies (done_late t.accesses fs)))
-      (ap (λ (a : List ℕ). pushed_by x ch m k₀ ++ a)
-      (sym (ap₂ (λ (a : List theory.Access) (v : List Bool). values_in ch a (bare_replies v)) (s.accesses m k₀ less) flags_before))
-      ∙ sym (pushed_in_more ch (core_accesses d x m) (λ j. bare_replies (x.flags m j)) k₀))))
+      let now = pushed_in_more ch (core_accesses d z m) (λ j. bare_replies (z.flags m j)) k₀ in
+      let before = pushed_in_more ch (core_accesses d x m) (λ j. bare_replies (x.flags m j)) k₀ in
+      let old = pushed_old m ch k₀ (λ e. omega arith) in
+      let accesses = s.accesses m k₀ less in
+      let parts = values_parts ch t.accesses fs flags_ok (single_t ch) in
+      let joined = append_assoc (pushed_by x ch m k₀) in
+      let flags = flags_now in
+      let flags' = flags_before in
+      grind arith
 
   no_late_values : (ch : ℕ) → (d.owner Push ch ≡ m → ⊥) → late_values ch ≡ []
   unfolding late_values
@@ -357,32 +343,18 @@ module _ {S : Type 0} (d : Design S) (i : IsDesign d) (h : Held) (m c : ℕ) (in
   pushed_total : (w ch : ℕ) → ((w ≡ m → ⊥) → late_values ch ≡ [])
       → pushed_by z ch w (emitted_of h w) ≡ pushed_by x ch w (emitted_of h w) ++ late_values ch
   pushed_total w ch none =
-      elim (eqb_tells w m) [
-        | inl q ↦
-            subst (λ (v : ℕ). pushed_by z ch v (emitted_of h v) ≡ pushed_by x ch v (emitted_of h v) ++ late_values ch) (sym q.1)
-            (subst (λ (v : ℕ). pushed_by z ch m v ≡ pushed_by x ch m v ++ late_values ch) last (pushed_now ch))
-        | inr q ↦ pushed_old w ch (emitted_of h w) (λ e. absurd (q.1 e))
-            ∙ (sym (append-nil _) ∙ ap (λ (a : List ℕ). pushed_by x ch w (emitted_of h w) ++ a) (sym (none q.1)))
-      ]
+      let newest = last in
+      let here = pushed_now ch in
+      let same = pushed_old w ch (emitted_of h w) in
+      let whole = append-nil (pushed_by x ch w (emitted_of h w)) in
+      grind arith
 
   values_now : (ch : ℕ) → values_at h.channels ch ≡ core_values d x ch → values_at g.channels ch ≡ core_values d z ch
-  values_now ch o = by_kind (channel_at h.channels ch).kind refl
+  values_now ch o =
+      values_longer (channel_at g.channels ch) (channel_at h.channels ch) (late_values ch) (kind_now ch) (pushed_values ch) (source_now ch)
       ∙ (ap (λ (a : List ℕ). a ++ late_values ch) o
       ∙ (append_assoc (d.inputs ch) _ _
       ∙ ap (λ (a : List ℕ). d.inputs ch ++ a) (sym (pushed_total (d.owner Push ch) ch (no_late_values ch)))))
-    where
-      by_kind : (kind : TableChannel) → (channel_at h.channels ch).kind ≡ kind
-          → values_at g.channels ch ≡ values_at h.channels ch ++ late_values ch
-      by_kind (Source inputs) k =
-          ap₂ values_of (kind_now ch ∙ k) refl ∙ (sym (append-nil inputs)
-          ∙ ap₂ (λ (a v : List ℕ). a ++ v) (sym (ap (λ (q : TableChannel). values_of q (channel_at h.channels ch).pushes) k))
-          (sym (source_now ch inputs k)))
-      by_kind Sink k = ap₂ values_of (kind_now ch ∙ k) refl
-          ∙ (pushed_values ch ∙ ap (λ (a : List ℕ). a ++ late_values ch)
-          (sym (ap (λ (q : TableChannel). values_of q (channel_at h.channels ch).pushes) k)))
-      by_kind (Fifo depth delay) k = ap₂ values_of (kind_now ch ∙ k) refl
-          ∙ (pushed_values ch ∙ ap (λ (a : List ℕ). a ++ late_values ch)
-          (sym (ap (λ (q : TableChannel). values_of q (channel_at h.channels ch).pushes) k)))
 
   -- ---- outcomes
 
@@ -416,22 +388,15 @@ module _ {S : Type 0} (d : Design S) (i : IsDesign d) (h : Held) (m c : ℕ) (in
       (λ k l. (and_parts (ltb k (emitted_of h m)) (are_among (step_of h m k) old_log.verified) (earlier k l)).1)
 
   pub recorded_most : length old_log.outcomes ≤ queries_before h m k₀
-  recorded_most = by_whole (s.recorded m m_logs)
-    where
-      not_all : (queries_before h m (suc k₀) ≤ length old_log.outcomes) → ⊥
-      not_all l =
-          let step = queries_step h m k₀ in
-          let first = first_is k₀ less in
-          let yes = ap₂ (λ (a e : Bool). a && e) (lt-ltb k₀ (emitted_of h m) less) (among_if t (length old_log.outcomes) (omega arith)) in
-          both_ways _ fresh yes
-
-      by_whole : AreWhole h m (length old_log.outcomes) → length old_log.outcomes ≤ queries_before h m k₀
-      by_whole w =
-          let e = w.all in
-          elim (cases_lt k₀ w.steps) [
-            | inl q ↦ absurd (not_all (let up = queries_mono h m (suc k₀) w.steps q in omega arith))
-            | inr q ↦ let up = queries_mono h m w.steps k₀ q in omega arith
-          ]
+  recorded_most =
+      let whole = s.recorded m m_logs in
+      let all = whole.all in
+      let step = queries_step h m k₀ in
+      let first = first_is k₀ less in
+      let among = among_if t (length old_log.outcomes) in
+      let up = queries_mono h m (suc k₀) whole.steps in
+      let up' = queries_mono h m whole.steps k₀ in
+      grind (arith, nat_tests)
 
   pub new_length : length (old_log.outcomes ++ new) ≡ queries_before h m (suc k₀)
   new_length =
@@ -446,63 +411,42 @@ module _ {S : Type 0} (d : Design S) (i : IsDesign d) (h : Held) (m c : ℕ) (in
   same_queries n k = steps_only g h (λ j. refl) n k
 
   whole_now : (n q r : ℕ) → (n ≡ m → r ≡ queries_before h m (suc k₀)) → ((n ≡ m → ⊥) → r ≡ q) → AreWhole h n q → AreWhole g n r
-  whole_now n q r here else w =
-      elim (eqb_tells n m) [
-        | inl e ↦ subst (λ (v : ℕ). AreWhole g v r) (sym e.1) (record {
-          steps = suc k₀;
-          within = less;
-          all = here e.1
-              ∙ sym (same_queries m (suc k₀));
-        })
-        | inr e ↦ record { steps = w.steps; within = w.within; all = else e.1 ∙ (w.all ∙ sym (same_queries n w.steps)) }
-      ]
+  whole_now n q r here else w = record {
+    steps = cond (eqb n m) (suc k₀) w.steps;
+    within = let in_old = w.within in grind (arith, nat_tests);
+    all = let in_old = w.all in let same = same_queries n in grind (arith, nat_tests);
+  }
 
   has_if : (k q : ℕ) → k ≤ k₀ → queries_before h m (suc k₀) ≤ q → has_all h m k q ≡ true
   has_if k q l u =
       let up = queries_mono h m (suc k) (suc k₀) (omega arith) in
       let step = queries_step h m k in
       let first = first_is k (omega arith) in
-      ap₂ (λ (a e : Bool). a && e) (lt-ltb k (emitted_of h m) (omega arith)) (among_if (step_of h m k) q (omega arith))
+      let among = among_if (step_of h m k) q (omega arith) in
+      grind (arith, nat_tests)
 
   has_not : (k q : ℕ) → k₀ < k → has_all h m k q ≡ false
-  has_not k q l = and_left (ltb k (emitted_of h m)) _ (le-ltb k (emitted_of h m) (let e = last in omega arith))
+  has_not k q l = let newest = last in grind (arith, nat_tests)
 
   -- where so many queries are recorded, or verified, the step and those before it have theirs
   has_now : (n k q r : ℕ) (y : ℕ → ℕ → Bool) → (n ≡ m → r ≡ queries_before h m (suc k₀)) → ((n ≡ m → ⊥) → r ≡ q) → has_all h n k q ≡ y n k
       → (n ≡ m → k < k₀ → y n k ≡ true)
       → has_all g n k r ≡ put_at y m k₀ true n k
   has_now n k q r y here else is before =
-      put_at_is y m k₀ n k true (has_all g n k r)
-      (λ e f. subst (λ (v : ℕ). has_all h v k r ≡ true) (sym e) (has_if k r (omega arith) (let w = here e in omega arith)))
-      (λ f. elsewhere f)
-    where
-      at_m : n ≡ m → (k ≡ k₀ → ⊥) → has_all h n k r ≡ y n k
-      at_m e f =
-          elim (cases_lt k k₀) [
-            | inl l ↦ subst (λ (v : ℕ). has_all h v k r ≡ true) (sym e) (has_if k r (omega arith) (let w = here e in omega arith))
-                ∙ sym (before e l)
-            | inr l ↦
-                let l' : k₀ < k = elim (eqb_tells k k₀) [ inl p ↦ absurd (f p.1) | inr p ↦ let w = p.1 in omega arith ] in
-                subst (λ (v : ℕ). has_all h v k r ≡ has_all h v k q) (sym e) (has_not k r l' ∙ sym (has_not k q l')) ∙ is
-          ]
-
-      elsewhere : (n ≡ m → k ≡ k₀ → ⊥) → has_all g n k r ≡ y n k
-      elsewhere f =
-          elim (eqb_tells n m) [
-            | inl e ↦ at_m e.1 (λ p. f e.1 p)
-            | inr e ↦ ap (has_all h n k) (else e.1) ∙ is
-          ]
+      let newest = last in
+      let all = has_if k r in
+      let none = has_not k in
+      put_at_is y m k₀ n k true (has_all g n k r) (λ e f. grind arith) (λ f. grind (arith, nat_tests))
 
   -- ---- flags
 
   pub flags_here : flags_of g m k₀ ≡ fs
   flags_here =
       let first = first_is k₀ less in
-      let u = recorded_most in
-      let l = recorded_least in
-      ap (λ (q : Log). flags_by t.accesses (drop t.first_query q.outcomes)) log_now
-      ∙ (ap (flags_by t.accesses) (drop-append-le t.first_query old_log.outcomes new (omega arith)
-      ∙ ap (λ (q : List Bool). q ++ new) (drop_of_length-le old_log.outcomes (omega arith))) ∙ flags_again t.accesses fs flags_ok)
+      let most = recorded_most in
+      let least = recorded_least in
+      let none : drop t.first_query old_log.outcomes ≡ [] = drop_of_length-le old_log.outcomes (omega arith) in
+      rw (log_now, drop-append-le t.first_query old_log.outcomes new (omega arith), none) (flags_again t.accesses fs flags_ok)
 
   flags_earlier : (k : ℕ) → k < k₀ → flags_of g m k ≡ flags_of h m k
   flags_earlier k l =

@@ -1,11 +1,10 @@
 -- A step more in a lane, with its pushes and pops in the table, is the theory's Run, and what is held stays sound.
-use Rattle.std.proofs.Common.{◌≡◌, refl, sym, ap, ap₂, subst, ◌∙◌, ℕ, zero, suc, ◌+◌, ◌-◌, ◌<◌, ◌≤◌, Bool, true, false, not, cond, eqb, ltb}
+use Rattle.std.proofs.Common.{◌≡◌, refl, sym, ap, ap₂, subst, ◌∙◌, ℕ, zero, suc, ◌+◌, ◌-◌, ◌<◌, ◌≤◌, Bool, false, not, cond, eqb, ltb}
 use Rattle.std.proofs.Common.{◌&&◌, List, [], ◌∷◌, ◌++◌, length, map, drop, get_or, arith, inl, inr, append-nil, append_assoc}
 use Rattle.std.proofs.Common.{length-append, drop_of_length-le}
 use Rattle.std.specs.Prelude.{All}
-use Rattle.std.proofs.lemmas.Bool.{cases_lt, cases_Bool, cond-false, and_parts, false_from_ne_true, eqb-true, lt-ltb, le-ltb, lt-leb}
-use Rattle.std.proofs.lemmas.Bool.{ne_eqb}
-use Rattle.std.proofs.lemmas.Bool.Decides.{eqb_tells}
+use Rattle.std.proofs.lemmas.Bool.{cases_lt, cond-false, and_parts, false_from_ne_true, eqb-true, lt-ltb, le-ltb}
+use Rattle.std.proofs.lemmas.Bool.Decides.{eqb_tells, nat_tests}
 use Rattle.std.proofs.lemmas.List.{length-set, get_or-set_same, get_or-set_other, get_or_push, get_or_append_left, get_or-append-add}
 use Rattle.std.proofs.lemmas.List.Elements.{All-head, All-tail, All-set, All-push, All-weaker}
 use Rattle.flow_word.specs.Kinds.{is_blocking, side_of, same_side}
@@ -17,8 +16,8 @@ use Rattle.flow_word.specs.declared.access.Place.{Place}
 use Rattle.event_graph.specs.Lanes.{Lane, IsSoundLane, no_lane, lane_at, longer, with_step}
 use Rattle.event_graph.proofs.Growth.{longer_sound}
 use Rattle.fifo_table.specs.declared.channel.TableChannel.{TableChannel}
-use Rattle.fifo_table.specs.declared.channel.TableChannel.TheVariants.{Source, Sink, Fifo}
-use Rattle.fifo_table.specs.Channels.{Channel, channel_at, values_of, lag_of, places_of}
+use Rattle.fifo_table.specs.declared.channel.TableChannel.TheVariants.{Source}
+use Rattle.fifo_table.specs.Channels.{Channel, channel_at, lag_of, places_of}
 use Rattle.query_log.specs.Logs.{log_at}
 use Rattle.fifo_table.specs.Channels.{HasSide}
 use Rattle.time_engine.specs.Conditions.{IsAccess, HasAccesses}
@@ -38,6 +37,7 @@ use Rattle.engine_view.specs.Held.{replies_at, waited, core_of}
 use Rattle.engine_view.specs.Shown.{Shows, IsSound, AreTaken, IsTakenAt, AreWhole, IsKind, queries_before}
 use Rattle.engine_view.specs.Emitted.{done_at_once, place_of, with_emitted, IsNextStep}
 use Rattle.engine_view.proofs.Taking.{copies, channel_after, all_length, all_channel, kind_after, places_after, values_on, values_after}
+use Rattle.engine_view.proofs.Taking.{values_longer}
 use Rattle.engine_view.proofs.Assigned.{put_at_is}
 use Rattle.engine_view.proofs.Placing.{places_from}
 use Rattle.engine_view.proofs.Reading.{IsRead, read_sound}
@@ -54,16 +54,13 @@ lane_other lanes m n t apart = get_or-set_other lanes m n (longer (lane_at lanes
 cycles_stay : (lanes : List Lane) (m n : ℕ) (t : Step) → m < length lanes
     → (lane_at (with_step lanes m t) n).cycles ≡ (lane_at lanes n).cycles
 cycles_stay lanes m n t inside =
-    elim (eqb_tells n m) [
-      | inl at ↦ rw (at.1, get_or-set_same lanes m (longer (lane_at lanes m) t) no_lane inside) refl
-      | inr apart ↦ rw (lane_other lanes m n t apart.1) refl
-    ]
+    let same = get_or-set_same lanes m (longer (lane_at lanes m) t) no_lane inside in let other = lane_other lanes m n t in grind arith
 
 push_other : {X : Type 0} (xs : List X) (y e : X) (k : ℕ) → (k ≡ length xs → ⊥) → get_or (xs ++ y ∷ []) k e ≡ get_or xs k e
 push_other [] y e zero f = absurd (f refl)
 push_other [] y e (suc k) f = refl
 push_other (x ∷ xs) y e zero f = refl
-push_other (x ∷ xs) y e (suc k) f = push_other xs y e k (λ q. f (ap (λ z. suc z) q))
+push_other (x ∷ xs) y e (suc k) f = push_other xs y e k (λ q. f (omega arith))
 
 module _ {S : Type 0} (d : Design S) (i : IsDesign d) (h : Held) (m : ℕ) (t : Step) (inside : m < length h.lanes) where
   abbrev g : Held
@@ -77,10 +74,10 @@ module _ {S : Type 0} (d : Design S) (i : IsDesign d) (h : Held) (m : ℕ) (t : 
 
   pub elsewhere : (n k : ℕ) → (n ≡ m → k ≡ e → ⊥) → step_of g n k ≡ step_of h n k
   elsewhere n k f =
-      elim (eqb_tells n m) [
-        | inl at ↦ rw (at.1, steps_there h.lanes m t inside) (push_other (lane_at h.lanes m).steps t no_step k (λ q. f at.1 q))
-        | inr apart ↦ rw (lane_other h.lanes m n t apart.1) refl
-      ]
+      let here = steps_there h.lanes m t inside in
+      let same = push_other (lane_at h.lanes m).steps t no_step k in
+      let other = lane_other h.lanes m n t in
+      grind arith
 
   before : (n k : ℕ) → k < emitted_of h n → step_of g n k ≡ step_of h n k
   before n k l = elsewhere n k (λ p q. let l' = rw p at l in omega arith)
@@ -92,11 +89,7 @@ module _ {S : Type 0} (d : Design S) (i : IsDesign d) (h : Held) (m : ℕ) (t : 
   no_more n apart = rw (lane_other h.lanes m n t apart) refl
 
   emitted_is : (n : ℕ) → emitted_of g n ≡ put (λ j. emitted_of h j) m (suc e) n
-  emitted_is n =
-      elim (eqb_tells n m) [
-        | inl at ↦ rw (at.0, at.1) more
-        | inr apart ↦ rw apart.0 (no_more n apart.1)
-      ]
+  emitted_is n = let here = more in let other = no_more n in grind (arith, nat_tests)
 
   pub queries_same : (n k : ℕ) → k ≤ emitted_of h n → queries_before g n k ≡ queries_before h n k
   unfolding queries_before
@@ -111,25 +104,17 @@ no_outcomes_is (a ∷ xs) = ap (λ (bs : List Bool). is_blocking a.kind ∷ bs) 
 
 no_flags : (xs : List Access) → flags_by xs [] ≡ done_at_once xs
 no_flags [] = refl
-no_flags (a ∷ xs) =
-    elim (cases_Bool (is_blocking a.kind)) [
-      | inl b ↦ rw b (ap (λ (bs : List Bool). true ∷ bs) (no_flags xs))
-      | inr b ↦ rw b (ap (λ (bs : List Bool). false ∷ bs) (no_flags xs))
-    ]
+no_flags (a ∷ xs) = let later = no_flags xs in grind arith
 
 pub has_query_is : (xs : List Access) → has_query (map seen xs) ≡ not (eqb (queries_in xs) 0)
 has_query_is [] = refl
-has_query_is (a ∷ xs) =
-    elim (cases_Bool (is_blocking a.kind)) [
-      | inl b ↦ rw b (has_query_is xs)
-      | inr b ↦ rw (b, ne_eqb (suc (queries_in xs)) 0 (λ e. omega arith)) refl
-    ]
+has_query_is (a ∷ xs) = let later = has_query_is xs in grind (arith, nat_tests)
 
 -- ---- queries
 
 pub queries_mono : (h : Held) (m a b : ℕ) → a ≤ b → queries_before h m a ≤ queries_before h m b
 unfolding queries_before
-queries_mono h m a zero l = let e : a ≡ 0 = omega arith in rw e (omega arith)
+queries_mono h m a zero l = grind arith
 queries_mono h m a (suc b) l =
     elim (cases_lt a (suc b)) [
       | inl q ↦ omega (arith, queries_mono h m a b (omega arith))
@@ -137,18 +122,10 @@ queries_mono h m a (suc b) l =
     ]
 
 among_few : (t : Step) (n : ℕ) → n ≤ t.first_query → are_among t n ≡ not (not (eqb (queries_in t.accesses) 0))
-among_few t n l =
-    elim (eqb_tells (queries_in t.accesses) 0) [
-      | inl e ↦ rw e.0 refl
-      | inr e ↦ let f = e.1 in rw (e.0, lt-leb (t.first_query + queries_in t.accesses) n (omega arith)) refl
-    ]
+among_few t n l = grind (arith, nat_tests)
 
 below_more : (k e f : ℕ) → f ≡ suc e → (k ≡ e → ⊥) → ltb k f ≡ ltb k e
-below_more k e f is apart =
-    elim (cases_lt k e) [
-      | inl l ↦ rw (lt-ltb k e l) (lt-ltb k f (omega arith))
-      | inr l ↦ rw (le-ltb k e l) (le-ltb k f (elim (eqb_tells k e) [ inl q ↦ absurd (apart q.1) | inr q ↦ let n = q.1 in omega arith ]))
-    ]
+below_more k e f is apart = grind (arith, nat_tests)
 
 -- nobody but the owner takes
 pub not_owner : {S : Type 0} → (d : Design S) (m : ℕ) (side : Side) (c : ℕ) (xs : List theory.Access) (bs : List Bool)
@@ -314,14 +291,11 @@ module _ {S : Type 0} (d : Design S) (i : IsDesign d) (h : Held) (m : ℕ) (t : 
   total : (w : ℕ) (side : Side) (c : ℕ) → ((w ≡ m → ⊥) → new_taken side c ≡ 0)
       → core_tally d z w side c (z.emitted w) ≡ core_tally d x w side c (emitted_of h w) + new_taken side c
   total w side c none =
-      elim (eqb_tells w m) [
-        | inl q ↦
-            subst (λ (v : ℕ). core_tally d z v side c (z.emitted v) ≡ core_tally d x v side c (emitted_of h v) + new_taken side c) (sym q.1)
-            (ap (core_tally d z m side c) emitted_now ∙ tally_new side c)
-        | inr q ↦
-            let e = none q.1 in
-            ap (core_tally d z w side c) (emitted_other w q.1) ∙ (tally_old w side c (emitted_of h w) (omega arith) ∙ omega arith)
-      ]
+      let here = tally_new side c in
+      let now = emitted_now in
+      let same = tally_old w side c (emitted_of h w) in
+      let other = emitted_other w in
+      grind arith
 
   new_at : (side : Side) (c : ℕ) → d.owner side c ≡ m → (j : ℕ) → core_tally d x m side c k₀ ≤ j
       → j < core_tally d x m side c k₀ + new_taken side c → IsTakenAt d z side c j at
@@ -338,13 +312,7 @@ module _ {S : Type 0} (d : Design S) (i : IsDesign d) (h : Held) (m : ℕ) (t : 
   new_for : (w : ℕ) (side : Side) (c : ℕ) → w ≡ d.owner side c → ((w ≡ m → ⊥) → new_taken side c ≡ 0) → 0 < new_taken side c → (j : ℕ)
       → core_tally d x w side c (emitted_of h w) ≤ j
       → j < core_tally d x w side c (emitted_of h w) + new_taken side c → IsTakenAt d z side c j at
-  new_for w side c o none p j l u =
-      elim (eqb_tells w m) [
-        | inl q ↦
-            new_at side c (sym o ∙ q.1) j (subst (λ (v : ℕ). core_tally d x v side c (emitted_of h v) ≤ j) q.1 l)
-            (subst (λ (v : ℕ). j < core_tally d x v side c (emitted_of h v) + new_taken side c) q.1 u)
-        | inr q ↦ let e = none q.1 in absurd (omega arith)
-      ]
+  new_for w side c o none p j l u = let here = new_at side c in grind arith
 
   taken_now : (side : Side) (c : ℕ) → AreTaken d x side c (places_of side (channel_at h.channels c))
       → AreTaken d z side c (places_of side (channel_at (with_emitted h m t).channels c))
@@ -386,37 +354,22 @@ module _ {S : Type 0} (d : Design S) (i : IsDesign d) (h : Held) (m : ℕ) (t : 
   pushed_total : (w c : ℕ) → ((w ≡ m → ⊥) → new_values c ≡ [])
       → pushed_by z c w (z.emitted w) ≡ pushed_by x c w (emitted_of h w) ++ new_values c
   pushed_total w c none =
-      elim (eqb_tells w m) [
-        | inl q ↦
-            subst (λ (v : ℕ). pushed_by z c v (z.emitted v) ≡ pushed_by x c v (emitted_of h v) ++ new_values c) (sym q.1)
-            (ap (pushed_by z c m) emitted_now ∙ pushed_new c)
-        | inr q ↦
-            ap (pushed_by z c w) (emitted_other w q.1) ∙ (pushed_old w c (emitted_of h w) (omega arith)
-            ∙ (sym (append-nil _) ∙ ap (λ (vs : List ℕ). pushed_by x c w (emitted_of h w) ++ vs) (sym (none q.1))))
-      ]
+      let here = pushed_new c in
+      let now = emitted_now in
+      let same = pushed_old w c (emitted_of h w) in
+      let other = emitted_other w in
+      let whole = append-nil (pushed_by x c w (emitted_of h w)) in
+      grind arith
 
   values_more : (c : ℕ) → core_values d z c ≡ core_values d x c ++ new_values c
   values_more c =
-      ap (λ (vs : List ℕ). d.inputs c ++ vs) (pushed_total (d.owner Push c) c (no_new c)) ∙ sym (append_assoc (d.inputs c) _ _)
-    where
-      no_new : (c : ℕ) → (d.owner Push c ≡ m → ⊥) → new_values c ≡ []
-      no_new c f = no_values_now c f
+      ap (λ (vs : List ℕ). d.inputs c ++ vs) (pushed_total (d.owner Push c) c (no_values_now c)) ∙ sym (append_assoc (d.inputs c) _ _)
 
   values_now : (c : ℕ) → values_at h.channels c ≡ core_values d x c → values_at (with_emitted h m t).channels c ≡ core_values d z c
-  values_now c o = by_kind (channel_at h.channels c).kind refl ∙ (ap (λ (vs : List ℕ). vs ++ new_values c) o ∙ sym (values_more c))
-    where
-      by_kind : (kind : TableChannel) → (channel_at h.channels c).kind ≡ kind
-          → values_at (with_emitted h m t).channels c ≡ values_at h.channels c ++ new_values c
-      by_kind (Source inputs) k =
-          ap₂ values_of (kind_now c ∙ k) refl ∙ (sym (append-nil inputs)
-          ∙ ap₂ (λ (a b : List ℕ). a ++ b) (sym (ap (λ (q : TableChannel). values_of q (channel_at h.channels c).pushes) k))
-          (sym (source_now c inputs k)))
-      by_kind Sink k = ap₂ values_of (kind_now c ∙ k) refl
-          ∙ (pushed_values c ∙ ap (λ (vs : List ℕ). vs ++ new_values c)
-          (sym (ap (λ (q : TableChannel). values_of q (channel_at h.channels c).pushes) k)))
-      by_kind (Fifo depth delay) k = ap₂ values_of (kind_now c ∙ k) refl
-          ∙ (pushed_values c ∙ ap (λ (vs : List ℕ). vs ++ new_values c)
-          (sym (ap (λ (q : TableChannel). values_of q (channel_at h.channels c).pushes) k)))
+  values_now c o =
+      values_longer (channel_at (with_emitted h m t).channels c) (channel_at h.channels c) (new_values c) (kind_now c) (pushed_values c)
+      (source_now c)
+      ∙ (ap (λ (vs : List ℕ). vs ++ new_values c) o ∙ sym (values_more c))
 
   -- ---- it is shown
 

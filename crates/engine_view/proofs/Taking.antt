@@ -1,10 +1,9 @@
 -- What the table has behind the accesses of a step.
-use Rattle.std.proofs.Common.{◌≡◌, refl, sym, ap, ◌∙◌, ℕ, zero, suc, ◌+◌, ◌<◌, Bool, true, false, cond, eqb, ◌&&◌, List, [], ◌∷◌, ◌++◌}
-use Rattle.std.proofs.Common.{length, map, set, arith, inl, inr, append-nil, append_assoc}
+use Rattle.std.proofs.Common.{◌≡◌, refl, sym, ap, ◌∙◌, ℕ, zero, suc, ◌+◌, ◌<◌, Bool, cond, eqb, ◌&&◌, List, [], ◌∷◌, ◌++◌}
+use Rattle.std.proofs.Common.{length, map, set, arith, append-nil, append_assoc}
 use Rattle.std.specs.Prelude.{All}
 use Rattle.std.proofs.Math.Seq.{map-set_same}
-use Rattle.std.proofs.lemmas.Bool.{cases_Bool}
-use Rattle.std.proofs.lemmas.Bool.Decides.{eqb_tells}
+use Rattle.std.proofs.lemmas.Bool.Decides.{nat_tests}
 use Rattle.std.proofs.lemmas.List.{length-set, get_or-set_same, get_or-set_other, map-append}
 use Rattle.std.proofs.lemmas.List.Elements.{All-head, All-tail}
 use Rattle.flow_word.specs.Kinds.{is_taking, side_of, same_side}
@@ -13,8 +12,8 @@ use Rattle.flow_word.specs.declared.access.Side.{Side}
 use Rattle.flow_word.specs.declared.access.Access.{Access}
 use Rattle.flow_word.specs.declared.access.Place.{Place}
 use Rattle.fifo_table.specs.declared.channel.Pushed.{Pushed}
-use Rattle.fifo_table.specs.declared.channel.TableChannel.TheVariants.{Sink}
-use Rattle.fifo_table.specs.Channels.{Channel, channel_at, unused, push_of, places_of}
+use Rattle.fifo_table.specs.declared.channel.TableChannel.TheVariants.{Sink, Source}
+use Rattle.fifo_table.specs.Channels.{Channel, channel_at, unused, push_of, places_of, values_of}
 use Rattle.event_timing.specs.Machines.{takes_in, values_in}
 use Rattle.event_timing.specs.Core.{bare_replies}
 use Rattle.engine_view.specs.Held.{seen}
@@ -36,11 +35,7 @@ abbrev after_one : Place → List Channel → Access → Bool → List Channel
 after_one at channels a b = cond (is_taking a.kind && b) (taken_by (side_of a.kind) at channels a) channels
 
 one_length : (at : Place) (channels : List Channel) (a : Access) (b : Bool) → length (after_one at channels a b) ≡ length channels
-one_length at channels a b =
-    elim (cases_Bool (is_taking a.kind && b)) [
-      | inl e ↦ rw (e, by_is (side_of a.kind) at channels a) (length-set channels a.channel _)
-      | inr e ↦ rw e refl
-    ]
+one_length at channels a b = grind (arith, by_is, length-set {A = Channel})
 
 -- the channel of this number behind one access
 abbrev channel_behind : Place → Access → Bool → ℕ → Channel → Channel
@@ -49,28 +44,21 @@ channel_behind at a b c channel = cond (is_taking a.kind && b && eqb a.channel c
 one_channel : (at : Place) (channels : List Channel) (a : Access) (b : Bool) (c : ℕ) → a.channel < length channels
     → channel_at (after_one at channels a b) c ≡ channel_behind at a b c (channel_at channels c)
 one_channel at channels a b c inside =
-    elim (cases_Bool (is_taking a.kind && b)) [
-      | inl e ↦
-          elim (eqb_tells a.channel c) [
-            | inl same ↦ rw (e, same.0, by_is (side_of a.kind) at channels a, ← same.1) (get_or-set_same channels a.channel _ (unused Sink)
-                inside)
-            | inr apart ↦ rw (e, apart.0, by_is (side_of a.kind) at channels a) (get_or-set_other channels a.channel c _ (unused Sink)
-                (λ q. apart.1 (sym q)))
-          ]
-      | inr e ↦ rw e refl
-    ]
+    let same = get_or-set_same channels a.channel (grown (side_of a.kind) at a (channel_at channels a.channel)) (unused Sink) inside in
+    let other = get_or-set_other channels a.channel c (grown (side_of a.kind) at a (channel_at channels a.channel)) (unused Sink) in
+    grind (arith, by_is, nat_tests)
+
+grown_kind : (side : Side) (at : Place) (a : Access) (channel : Channel) → (grown side at a channel).kind ≡ channel.kind
+grown_kind Pop at a channel = refl
+grown_kind Push at a channel = refl
 
 one_kinds : (side : Side) (at : Place) (channels : List Channel) (a : Access) → kinds_in (taken_by side at channels a) ≡ kinds_in channels
-one_kinds Pop at channels a = map-set_same (λ (q : Channel). q.kind) channels a.channel _ (unused Sink) refl
-one_kinds Push at channels a = map-set_same (λ (q : Channel). q.kind) channels a.channel _ (unused Sink) refl
+one_kinds side at channels a =
+    rw (by_is side at channels a) (map-set_same (λ (q : Channel). q.kind) channels a.channel _ (unused Sink) (grown_kind side at a _))
 
 -- each channel is what it was
 pub kinds_behind : (at : Place) (channels : List Channel) (a : Access) (b : Bool) → kinds_in (after_one at channels a b) ≡ kinds_in channels
-kinds_behind at channels a b =
-    elim (cases_Bool (is_taking a.kind && b)) [
-      | inl e ↦ rw e (one_kinds (side_of a.kind) at channels a)
-      | inr e ↦ rw e refl
-    ]
+kinds_behind at channels a b = let same = one_kinds (side_of a.kind) at channels a in grind arith
 
 -- ---- all accesses
 
@@ -106,15 +94,7 @@ copies zero at = []
 copies (suc n) at = at ∷ copies n at
 
 kind_behind : (at : Place) (a : Access) (b : Bool) (c : ℕ) (channel : Channel) → (channel_behind at a b c channel).kind ≡ channel.kind
-kind_behind at a b c channel =
-    elim (cases_Bool (is_taking a.kind && b && eqb a.channel c)) [
-      | inl e ↦ rw e (grown_kind (side_of a.kind) at a channel)
-      | inr e ↦ rw e refl
-    ]
-  where
-    grown_kind : (side : Side) (at : Place) (a : Access) (channel : Channel) → (grown side at a channel).kind ≡ channel.kind
-    grown_kind Pop at a channel = refl
-    grown_kind Push at a channel = refl
+kind_behind at a b c channel = grind arith
 
 pub kind_after : (at : Place) (c : ℕ) (channel : Channel) (xs : List Access) (bs : List Bool)
     → (channel_after at c channel xs bs).kind ≡ channel.kind
@@ -126,25 +106,11 @@ kind_after at c channel (a ∷ xs) (b ∷ bs) = kind_after at c (channel_behind 
 places_behind : (side s : Side) (t b e : Bool) (at : Place) (a : Access) (channel : Channel)
     → places_of side (cond (t && b && e) (grown s at a channel) channel) ≡ places_of side channel
     ++ copies (cond (t && (b && (same_side s side && e))) 1 0) at
-places_behind Pop Pop true true true at a channel = refl
-places_behind Pop Pop true true false at a channel = sym (append-nil channel.pops)
-places_behind Pop Pop true false e at a channel = sym (append-nil channel.pops)
-places_behind Pop Pop false b e at a channel = sym (append-nil channel.pops)
-places_behind Pop Push true true true at a channel = sym (append-nil channel.pops)
-places_behind Pop Push true true false at a channel = sym (append-nil channel.pops)
-places_behind Pop Push true false e at a channel = sym (append-nil channel.pops)
-places_behind Pop Push false b e at a channel = sym (append-nil channel.pops)
-places_behind Push Pop true true true at a channel = sym (append-nil (places_of Push channel))
-places_behind Push Pop true true false at a channel = sym (append-nil (places_of Push channel))
-places_behind Push Pop true false e at a channel = sym (append-nil (places_of Push channel))
-places_behind Push Pop false b e at a channel = sym (append-nil (places_of Push channel))
-places_behind Push Push true true true at a channel = map-append (λ (p : Pushed). p.at) channel.pushes (push_of at a.value ∷ [])
-places_behind Push Push true true false at a channel = sym (append-nil (places_of Push channel))
-places_behind Push Push true false e at a channel = sym (append-nil (places_of Push channel))
-places_behind Push Push false b e at a channel = sym (append-nil (places_of Push channel))
+places_behind side s t b e at a channel =
+    let pushes = map-append (λ (p : Pushed). p.at) channel.pushes (push_of at a.value ∷ []) in grind (arith, append-nil {A = Place})
 
 copies_more : (m n : ℕ) (at : Place) → copies m at ++ copies n at ≡ copies (m + n) at
-copies_more zero n at = ap (λ (k : ℕ). copies k at) (omega arith)
+copies_more zero n at = grind arith
 copies_more (suc m) n at = let e : suc m + n ≡ suc (m + n) = omega arith in rw e (ap (λ (ps : List Place). at ∷ ps) (copies_more m n at))
 
 -- of all of them: as often as they take at this side, as the theory counts
@@ -154,11 +120,10 @@ pub places_after : (side : Side) (at : Place) (c : ℕ) (channel : Channel) (xs 
 places_after side at c channel [] bs = sym (append-nil (places_of side channel))
 places_after side at c channel (a ∷ xs) [] = sym (append-nil (places_of side channel))
 places_after side at c channel (a ∷ xs) (b ∷ bs) =
-    places_after side at c (channel_behind at a b c channel) xs bs
-    ∙ (ap (λ (ps : List Place). ps ++ copies (takes_in side c (map seen xs) (bare_replies bs)) at)
-    (places_behind side (side_of a.kind) (is_taking a.kind) b (eqb a.channel c) at a channel)
-    ∙ (append_assoc (places_of side channel) _ _
-    ∙ ap (λ (ps : List Place). places_of side channel ++ ps) (copies_more _ (takes_in side c (map seen xs) (bare_replies bs)) at)))
+    let later = places_after side at c (channel_behind at a b c channel) xs bs in
+    let here = places_behind side (side_of a.kind) (is_taking a.kind) b (eqb a.channel c) at a channel in
+    let all = takes_in side c (map seen xs) (bare_replies bs) in
+    grind (arith, append_assoc {A = Place}, copies_more)
 
 -- ---- values
 
@@ -168,21 +133,20 @@ values_on channel = map (λ (p : Pushed). p.value) channel.pushes
 values_behind : (s : Side) (t b e : Bool) (at : Place) (a : Access) (channel : Channel)
     → values_on (cond (t && b && e) (grown s at a channel) channel) ≡ values_on channel ++ cond (t && (b && (same_side s Push && e)))
     (a.value ∷ []) []
-values_behind Pop true true true at a channel = sym (append-nil (values_on channel))
-values_behind Pop true true false at a channel = sym (append-nil (values_on channel))
-values_behind Pop true false e at a channel = sym (append-nil (values_on channel))
-values_behind Pop false b e at a channel = sym (append-nil (values_on channel))
-values_behind Push true true true at a channel = map-append (λ (p : Pushed). p.value) channel.pushes (push_of at a.value ∷ [])
-values_behind Push true true false at a channel = sym (append-nil (values_on channel))
-values_behind Push true false e at a channel = sym (append-nil (values_on channel))
-values_behind Push false b e at a channel = sym (append-nil (values_on channel))
+values_behind s t b e at a channel =
+    let pushes = map-append (λ (p : Pushed). p.value) channel.pushes (push_of at a.value ∷ []) in grind (arith, append-nil {A = ℕ})
 
 pub values_after : (at : Place) (c : ℕ) (channel : Channel) (xs : List Access) (bs : List Bool)
     → values_on (channel_after at c channel xs bs) ≡ values_on channel ++ values_in c (map seen xs) (bare_replies bs)
 values_after at c channel [] bs = sym (append-nil (values_on channel))
 values_after at c channel (a ∷ xs) [] = sym (append-nil (values_on channel))
 values_after at c channel (a ∷ xs) (b ∷ bs) =
-    values_after at c (channel_behind at a b c channel) xs bs
-    ∙ (ap (λ (vs : List ℕ). vs ++ values_in c (map seen xs) (bare_replies bs)) (values_behind (side_of a.kind) (is_taking a.kind) b
-    (eqb a.channel c) at a channel)
-    ∙ append_assoc (values_on channel) _ _)
+    let later = values_after at c (channel_behind at a b c channel) xs bs in
+    let here = values_behind (side_of a.kind) (is_taking a.kind) b (eqb a.channel c) at a channel in
+    grind (arith, append_assoc {A = ℕ})
+
+-- a source's values stay, and any other channel's are those that are pushed
+pub values_longer : (now before : Channel) (late : List ℕ) → now.kind ≡ before.kind → values_on now ≡ values_on before ++ late
+    → ((inputs : List ℕ) → before.kind ≡ Source inputs → late ≡ [])
+    → values_of now.kind now.pushes ≡ values_of before.kind before.pushes ++ late
+values_longer now before late kind pushed none = let whole = append-nil {A = ℕ} in grind arith

@@ -1,7 +1,7 @@
 -- Outcomes more in a log, with the pushes and pops that they decide, are the theory's Answer, and what is held stays sound.
 use Rattle.std.proofs.Common.{◌≡◌, refl, sym, ap, subst, ◌∙◌, ℕ, zero, suc, ◌+◌, ◌<◌, ◌≤◌, ◌⊎◌, Bool, true, false, cond, ltb}
 use Rattle.std.proofs.Common.{eqb, cond, List, [], ◌∷◌, ◌++◌, length, map, drop, get_or, arith, inl, inr, append-nil, append_assoc}
-use Rattle.std.proofs.Common.{length-append, drop_of_length-le}
+use Rattle.std.proofs.Common.{replicate, length-append, drop_of_length-le}
 use Rattle.std.specs.Prelude.{All, Some}
 use Rattle.flow_word.specs.Kinds.{is_blocking, side_of}
 use Rattle.flow_word.specs.declared.access.Side.{Side}
@@ -36,7 +36,7 @@ use Rattle.engine_view.specs.Held.{Held, step_of, no_step, emitted_of, seen, que
 use Rattle.engine_view.specs.Held.{replies_at, core_of}
 use Rattle.engine_view.specs.Shown.{Shows, IsSound, AreTaken, IsTakenAt, AreWhole, IsKind, queries_before}
 use Rattle.engine_view.specs.Emitted.{done_at_once, place_of}
-use Rattle.engine_view.proofs.Taking.{copies, channel_after, all_length, all_channel, kind_after, places_after, values_on, values_after}
+use Rattle.engine_view.proofs.Taking.{channel_after, all_length, all_channel, kind_after, places_after, values_on, values_after}
 use Rattle.engine_view.proofs.Taking.{values_longer}
 use Rattle.engine_view.proofs.Assigned.{put_at_is}
 use Rattle.event_timing.specs.Machines.{Access as Asked, takers, takes_at}
@@ -241,7 +241,7 @@ module _ {S : Type 0} (d : Design S) (i : IsDesign d) (h : Held) (m c : ℕ) (in
   count_now = all_length at h.channels t.accesses (done_late t.accesses fs)
 
   places_now : (side : Side) (ch : ℕ) → places_of side (channel_at g.channels ch) ≡ places_of side (channel_at h.channels ch)
-      ++ copies (late side ch) at
+      ++ replicate (late side ch) at
   unfolding late
   places_now side ch = ap (places_of side) (channel_now ch) ∙ places_after side at ch (channel_at h.channels ch) t.accesses
       (done_late t.accesses fs)

@@ -1,13 +1,13 @@
 -- A step more in a lane, with its pushes and pops in the table, is the theory's Run, and what is held stays sound.
 use Rattle.std.proofs.Common.{◌≡◌, refl, sym, ap, ap₂, subst, ◌∙◌, ℕ, zero, suc, ◌+◌, ◌-◌, ◌<◌, ◌≤◌, Bool, false, not, cond, eqb, ltb}
 use Rattle.std.proofs.Common.{◌&&◌, List, [], ◌∷◌, ◌++◌, length, map, drop, get_or, arith, inl, inr, append-nil, append_assoc}
-use Rattle.std.proofs.Common.{length-append, drop_of_length-le}
+use Rattle.std.proofs.Common.{replicate, length-append, drop_of_length-le}
 use Rattle.std.specs.Prelude.{All}
-use Rattle.std.proofs.lemmas.Bool.{cases_lt, cond-false, and_parts, false_from_ne_true, eqb-true, lt-ltb, le-ltb}
+use Rattle.std.proofs.lemmas.Bool.{cases_lt, cond-false, lt-ltb, le-ltb}
 use Rattle.std.proofs.lemmas.Bool.Decides.{eqb_tells, nat_tests}
-use Rattle.std.proofs.lemmas.List.{length-set, get_or-set_same, get_or-set_other, get_or_push, get_or_append_left, get_or-append-add}
+use Rattle.std.proofs.lemmas.List.{length-replicate, get_or-replicate, length-set, get_or-set_same, get_or-set_other, get_or_push, get_or_append_left, get_or-append-add}
 use Rattle.std.proofs.lemmas.List.Elements.{All-head, All-tail, All-set, All-push, All-weaker}
-use Rattle.flow_word.specs.Kinds.{is_blocking, side_of, same_side}
+use Rattle.flow_word.specs.Kinds.{is_blocking, side_of}
 use Rattle.flow_word.specs.declared.access.Side.{Side}
 use Rattle.flow_word.specs.declared.access.Side.TheVariants.{Push}
 use Rattle.flow_word.specs.declared.access.Access.{Access}
@@ -36,7 +36,7 @@ use Rattle.engine_view.specs.Held.{Held, step_of, no_step, emitted_of, seen, que
 use Rattle.engine_view.specs.Held.{replies_at, waited, core_of}
 use Rattle.engine_view.specs.Shown.{Shows, IsSound, AreTaken, IsTakenAt, AreWhole, IsKind, queries_before}
 use Rattle.engine_view.specs.Emitted.{done_at_once, place_of, with_emitted, IsNextStep}
-use Rattle.engine_view.proofs.Taking.{copies, channel_after, all_length, all_channel, kind_after, places_after, values_on, values_after}
+use Rattle.engine_view.proofs.Taking.{channel_after, all_length, all_channel, kind_after, places_after, values_on, values_after}
 use Rattle.engine_view.proofs.Taking.{values_longer}
 use Rattle.engine_view.proofs.Assigned.{put_at_is}
 use Rattle.engine_view.proofs.Placing.{places_from}
@@ -134,12 +134,7 @@ pub not_owner : {S : Type 0} → (d : Design S) (m : ℕ) (side : Side) (c : ℕ
 not_owner {S} d m side c [] bs o f = refl
 not_owner {S} d m side c (a ∷ xs) [] o f = refl
 not_owner {S} d m side c (a ∷ xs) (b ∷ bs) (o, os) f =
-    let none : theory.took side c a (record { possible = b; front = 0 }) ≡ false =
-    false_from_ne_true _ (λ w.
-    let w1 = (and_parts b (same_side a.side side && eqb a.channel c) (and_parts a.takes _ w).1).1 in
-    let (w2, w3) = and_parts (same_side a.side side) (eqb a.channel c) w1 in
-    f (ap₂ d.owner (sym (same_side_is a.side side w2)) (sym (eqb-true a.channel c w3)) ∙ o)) in
-    rw (none, not_owner d m side c xs bs os f) refl
+    let later = not_owner d m side c xs bs os f in let same = same_side_is a.side side in grind (arith, nat_tests)
 
 pub no_values : {S : Type 0} → (d : Design S) (m : ℕ) (c : ℕ) (xs : List theory.Access) (bs : List Bool)
     → Each (λ a. d.owner a.side a.channel ≡ m) xs → (d.owner Push c ≡ m → ⊥)
@@ -147,12 +142,7 @@ pub no_values : {S : Type 0} → (d : Design S) (m : ℕ) (c : ℕ) (xs : List t
 no_values {S} d m c [] bs o f = refl
 no_values {S} d m c (a ∷ xs) [] o f = refl
 no_values {S} d m c (a ∷ xs) (b ∷ bs) (o, os) f =
-    let none : theory.took Push c a (record { possible = b; front = 0 }) ≡ false =
-    false_from_ne_true _ (λ w.
-    let w1 = (and_parts b (same_side a.side Push && eqb a.channel c) (and_parts a.takes _ w).1).1 in
-    let (w2, w3) = and_parts (same_side a.side Push) (eqb a.channel c) w1 in
-    f (ap₂ d.owner (sym (same_side_is a.side Push w2)) (sym (eqb-true a.channel c w3)) ∙ o)) in
-    rw (none, no_values d m c xs bs os f) refl
+    let later = no_values d m c xs bs os f in let same = same_side_is a.side Push in grind (arith, nat_tests)
 
 -- nobody pushes on a source
 pub source_values : (channels : List Channel) (c : ℕ) (inputs : List ℕ) → (channel_at channels c).kind ≡ Source inputs
@@ -161,14 +151,10 @@ pub source_values : (channels : List Channel) (c : ℕ) (inputs : List ℕ) → 
 source_values channels c inputs k [] bs all = refl
 source_values channels c inputs k (a ∷ xs) [] all = refl
 source_values channels c inputs k (a ∷ xs) (b ∷ bs) all =
-    let none : theory.took Push c (seen a) (record { possible = b; front = 0 }) ≡ false =
-    false_from_ne_true _ (λ w.
-    let w1 = (and_parts b (same_side (side_of a.kind) Push && eqb a.channel c) (and_parts (seen a).takes _ w).1).1 in
-    let (w2, w3) = and_parts (same_side (side_of a.kind) Push) (eqb a.channel c) w1 in
+    let later = source_values channels c inputs k xs bs (All-tail (IsAccess channels) a xs all) in
     let side = (All-head (IsAccess channels) a xs all).side in
-    let side' = rw (same_side_is (side_of a.kind) Push w2, eqb-true a.channel c w3, k) at side in
-    side' tt) in
-    rw (none, source_values channels c inputs k xs bs (All-tail (IsAccess channels) a xs all)) refl
+    let same = same_side_is (side_of a.kind) Push in
+    grind (arith, nat_tests)
 
 -- the places of what is taken, with some copies of one more
 pub longer_taken : {S : Type 0} → (d : Design S) (z : Core S) (side : Side) (c n T : ℕ) (places : List Place) (at : Place)
@@ -176,30 +162,22 @@ pub longer_taken : {S : Type 0} → (d : Design S) (z : Core S) (side : Side) (c
     → ((j : ℕ) (y : Place) → j < length places → IsTakenAt d z side c j (get_or places j y))
     → core_tally d z (d.owner side c) side c (z.emitted (d.owner side c)) ≡ T + n
     → (0 < n → (j : ℕ) → T ≤ j → j < T + n → IsTakenAt d z side c j at)
-    → AreTaken d z side c (places ++ copies n at)
+    → AreTaken d z side c (places ++ replicate n at)
 longer_taken {S} d z side c n T places at count old total new = record {
-  count = omega (arith, length-append places (copies n at), copies_length n at);
+  count = omega (arith, length-append places (replicate n at), length-replicate n at);
   each = λ j y l.
+      let both = length-append places (replicate n at) in
+      let copies = length-replicate n at in
       elim (cases_lt j (length places)) [
-        | inl q ↦ rw (get_or_append_left places (copies n at) y j q) (old j y q)
+        | inl q ↦ rw (get_or_append_left places (replicate n at) y j q) (old j y q)
         | inr q ↦
-            let n' = length-append places (copies n at) in
-            let n'' = copies_length n at in
-            let z' : j ≡ length places + (j - length places) = omega arith in
-            subst (IsTakenAt d z side c j) (sym (ap (λ (p : ℕ). get_or (places ++ copies n at) p y) z'
-            ∙ (get_or-append-add places (copies n at) (j - length places) y ∙ copies_at n at (j - length places) y (omega arith))))
-            (new (omega arith) j (omega arith) (omega arith))
+            let after : j ≡ length places + (j - length places) = omega arith in
+            let is : get_or (places ++ replicate n at) j y ≡ at = ap (λ (p : ℕ). get_or (places ++ replicate n at) p y) after
+            ∙ (get_or-append-add places (replicate n at) (j - length places) y
+            ∙ get_or-replicate n (j - length places) at y (omega arith)) in
+            rw is (new (omega arith) j (omega arith) (omega arith))
       ];
 }
-  where
-    copies_length : (n : ℕ) (at : Place) → length (copies n at) ≡ n
-    copies_length zero at = refl
-    copies_length (suc n) at = ap (λ k. suc k) (copies_length n at)
-
-    copies_at : (n : ℕ) (at : Place) (j : ℕ) (y : Place) → j < n → get_or (copies n at) j y ≡ at
-    copies_at zero at j y l = absurd (omega arith)
-    copies_at (suc n) at zero y l = refl
-    copies_at (suc n) at (suc j) y l = copies_at n at j y (omega arith)
 
 module _ {S : Type 0} (d : Design S) (i : IsDesign d) (h : Held) (m : ℕ) (t : Step) (inside : m < length h.lanes) (s : IsSound d h)
     (next : IsNextStep d h m t) where
@@ -222,7 +200,7 @@ module _ {S : Type 0} (d : Design S) (i : IsDesign d) (h : Held) (m : ℕ) (t : 
   bs = done_at_once t.accesses
 
   flags_now : z.flags m k₀ ≡ bs
-  flags_now = put_at_same x.flags m k₀ (no_outcomes (d.accesses m now)) ∙ (ap no_outcomes next.accesses ∙ no_outcomes_is t.accesses)
+  flags_now = let at_once = no_outcomes_is t.accesses in rw (put_at_same x.flags m k₀ (no_outcomes (d.accesses m now)), next.accesses) at_once
 
   accesses_now : core_accesses d z m k₀ ≡ map seen t.accesses
   accesses_now = ap (d.accesses m) (put_at_same x.state m k₀ now) ∙ next.accesses
@@ -269,7 +247,7 @@ module _ {S : Type 0} (d : Design S) (i : IsDesign d) (h : Held) (m : ℕ) (t : 
   kind_now c = ap (λ (q : Channel). q.kind) (channel_now c) ∙ kind_after at c (channel_at h.channels c) t.accesses bs
 
   places_now : (side : Side) (c : ℕ)
-      → places_of side (channel_at (with_emitted h m t).channels c) ≡ places_of side (channel_at h.channels c) ++ copies (new_taken side c)
+      → places_of side (channel_at (with_emitted h m t).channels c) ≡ places_of side (channel_at h.channels c) ++ replicate (new_taken side c)
       at
   unfolding new_taken
   places_now side c = ap (places_of side) (channel_now c) ∙ places_after side at c (channel_at h.channels c) t.accesses bs
@@ -376,22 +354,11 @@ module _ {S : Type 0} (d : Design S) (i : IsDesign d) (h : Held) (m : ℕ) (t : 
   step_now : (n k : ℕ) (P : Step → Type 0) → k < z.emitted n → (k < emitted_of h n → P (step_of h n k)) → (n ≡ m → k ≡ k₀ → P t)
       → P (step_of (with_emitted h m t) n k)
   step_now n k P l old new =
-      elim (eqb_tells n m) [
-        | inl q ↦ subst (λ (v : ℕ). P (step_of (with_emitted h m t) v k)) (sym q.1) (here q.1)
-        | inr q ↦ let e = emitted_other n q.1 in subst P (sym (elsewhere d i h m t inside n k (λ p r. q.1 p))) (old (omega arith))
-      ]
-    where
-      here : n ≡ m → P (step_of (with_emitted h m t) m k)
-      here p =
-          elim (eqb_tells k k₀) [
-            | inl r ↦ subst (λ (v : ℕ). P (step_of (with_emitted h m t) m v)) (sym r.1) (subst P (sym (there d i h m t inside)) (new p r.1))
-            | inr r ↦
-                let l' : k < z.emitted m = subst (λ (v : ℕ). k < z.emitted v) p l in
-                let e = emitted_now in
-                let l'' : k < emitted_of h m = omega arith in
-                subst P (sym (elsewhere d i h m t inside m k (λ a b. r.1 b)))
-                (subst (λ (v : ℕ). P (step_of h v k)) p (old (subst (λ (v : ℕ). k < emitted_of h v) (sym p) l'')))
-          ]
+      let now = emitted_now in
+      let other = emitted_other n in
+      let here = there d i h m t inside in
+      let same = elsewhere d i h m t inside n k in
+      grind arith
 
   lanes_now : All IsSoundLane (with_step h.lanes m t)
   lanes_now =

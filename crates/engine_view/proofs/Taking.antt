@@ -1,10 +1,10 @@
 -- What the table has behind the accesses of a step.
-use Rattle.std.proofs.Common.{◌≡◌, refl, sym, ap, ◌∙◌, ℕ, zero, suc, ◌+◌, ◌<◌, Bool, cond, eqb, ◌&&◌, List, [], ◌∷◌, ◌++◌}
-use Rattle.std.proofs.Common.{length, map, set, arith, append-nil, append_assoc}
+use Rattle.std.proofs.Common.{◌≡◌, refl, sym, ap, ◌∙◌, ℕ, ◌<◌, Bool, cond, eqb, ◌&&◌, List, [], ◌∷◌, ◌++◌}
+use Rattle.std.proofs.Common.{replicate, length, map, set, arith, append-nil, append_assoc}
 use Rattle.std.specs.Prelude.{All}
 use Rattle.std.proofs.Math.Seq.{map-set_same}
 use Rattle.std.proofs.lemmas.Bool.Decides.{nat_tests}
-use Rattle.std.proofs.lemmas.List.{length-set, get_or-set_same, get_or-set_other, map-append}
+use Rattle.std.proofs.lemmas.List.{replicate-append-replicate, length-set, get_or-set_same, get_or-set_other, map-append}
 use Rattle.std.proofs.lemmas.List.Elements.{All-head, All-tail}
 use Rattle.flow_word.specs.Kinds.{is_taking, side_of, same_side}
 use Rattle.flow_word.specs.declared.access.Side.TheVariants.{Pop, Push}
@@ -88,11 +88,6 @@ all_channel at channels (a ∷ xs) (b ∷ bs) c inside =
 
 -- ---- what it has more
 
--- so many times the place
-abbrev pub copies : ℕ → Place → List Place
-copies zero at = []
-copies (suc n) at = at ∷ copies n at
-
 kind_behind : (at : Place) (a : Access) (b : Bool) (c : ℕ) (channel : Channel) → (channel_behind at a b c channel).kind ≡ channel.kind
 kind_behind at a b c channel = grind arith
 
@@ -105,17 +100,13 @@ kind_after at c channel (a ∷ xs) (b ∷ bs) = kind_after at c (channel_behind 
 -- of one access: the place once more where it takes at this side
 places_behind : (side s : Side) (t b e : Bool) (at : Place) (a : Access) (channel : Channel)
     → places_of side (cond (t && b && e) (grown s at a channel) channel) ≡ places_of side channel
-    ++ copies (cond (t && (b && (same_side s side && e))) 1 0) at
+    ++ replicate (cond (t && (b && (same_side s side && e))) 1 0) at
 places_behind side s t b e at a channel =
     let pushes = map-append (λ (p : Pushed). p.at) channel.pushes (push_of at a.value ∷ []) in grind (arith, append-nil {A = Place})
 
-copies_more : (m n : ℕ) (at : Place) → copies m at ++ copies n at ≡ copies (m + n) at
-copies_more zero n at = grind arith
-copies_more (suc m) n at = let e : suc m + n ≡ suc (m + n) = omega arith in rw e (ap (λ (ps : List Place). at ∷ ps) (copies_more m n at))
-
 -- of all of them: as often as they take at this side, as the theory counts
 pub places_after : (side : Side) (at : Place) (c : ℕ) (channel : Channel) (xs : List Access) (bs : List Bool)
-    → places_of side (channel_after at c channel xs bs) ≡ places_of side channel ++ copies (takes_in side c (map seen xs) (bare_replies bs))
+    → places_of side (channel_after at c channel xs bs) ≡ places_of side channel ++ replicate (takes_in side c (map seen xs) (bare_replies bs))
     at
 places_after side at c channel [] bs = sym (append-nil (places_of side channel))
 places_after side at c channel (a ∷ xs) [] = sym (append-nil (places_of side channel))
@@ -123,7 +114,7 @@ places_after side at c channel (a ∷ xs) (b ∷ bs) =
     let later = places_after side at c (channel_behind at a b c channel) xs bs in
     let here = places_behind side (side_of a.kind) (is_taking a.kind) b (eqb a.channel c) at a channel in
     let all = takes_in side c (map seen xs) (bare_replies bs) in
-    grind (arith, append_assoc {A = Place}, copies_more)
+    grind (arith, append_assoc {A = Place}, replicate-append-replicate {A = Place})
 
 -- ---- values
 

@@ -7,24 +7,22 @@ use Rattle.flow_word.specs.Kinds.{is_blocking, side_of}
 use Rattle.flow_word.specs.declared.access.Side.{Side}
 use Rattle.flow_word.specs.declared.access.Side.TheVariants.{Push}
 use Rattle.flow_word.specs.declared.access.Kind.{Kind}
-use Rattle.std.proofs.lemmas.Bool.{cases_lt, and_parts, le-ltb}
+use Rattle.std.proofs.lemmas.Bool.{and_parts, le-ltb}
 use Rattle.std.proofs.lemmas.Bool.{both_ways}
-use Rattle.std.proofs.lemmas.Bool.Decides.{eqb_tells, nat_tests}
+use Rattle.std.proofs.lemmas.Bool.Decides.{nat_tests}
 use Rattle.std.proofs.lemmas.List.{length-set, get_or-set_same, get_or-set_other, get_or_past, drop-append-le, length-drop}
 use Rattle.std.proofs.lemmas.List.Elements.{All-set, All-weaker}
 use Rattle.flow_word.specs.declared.access.Access.{Access}
 use Rattle.flow_word.specs.declared.access.Step.{Step}
 use Rattle.flow_word.specs.declared.access.Place.{Place}
-use Rattle.event_graph.specs.Lanes.{Lane, lane_at}
-use Rattle.fifo_table.specs.declared.channel.TableChannel.{TableChannel}
+use Rattle.event_graph.specs.Lanes.{lane_at}
 use Rattle.fifo_table.specs.declared.channel.TableChannel.TheVariants.{Source}
-use Rattle.fifo_table.specs.Channels.{Channel, channel_at, places_of, lag_of}
+use Rattle.fifo_table.specs.Channels.{Channel, channel_at, places_of}
 use Rattle.query_log.specs.Logs.{IsSoundLog, Log, all_answered, log_at, no_log}
-use Rattle.fifo_table.specs.Channels.{HasSide}
 use Rattle.time_engine.specs.Conditions.{IsAccess, HasAccesses}
 use Rattle.event_timing.specs.Machines as theory
 use Rattle.event_timing.specs.Machines.{Design, IsDesign, Each, Reply, ready, takes_in, values_in}
-use Rattle.event_timing.specs.Views.{own, pushed_in}
+use Rattle.event_timing.specs.Views.{pushed_in}
 use Rattle.event_timing.specs.Core.{Core, core_accesses, core_tally, core_values, bare_replies}
 use Rattle.event_timing.specs.Agreement.{AreOwnMarks}
 use Rattle.event_timing.specs.Actions.{put_at}
@@ -33,8 +31,8 @@ use Rattle.event_timing.proofs.Fronts.{tally_same, pushed_same}
 use Rattle.event_timing.proofs.OwnRuns.{tally_more, tally_mono}
 use Rattle.event_timing.proofs.Values.{pushed_in_more}
 use Rattle.engine_view.specs.Held.{Held, step_of, no_step, emitted_of, seen, queries_in, flags_by, flags_of, are_among, has_all, values_at}
-use Rattle.engine_view.specs.Held.{replies_at, core_of}
-use Rattle.engine_view.specs.Shown.{Shows, IsSound, AreTaken, IsTakenAt, AreWhole, IsKind, queries_before}
+use Rattle.engine_view.specs.Held.{core_of}
+use Rattle.engine_view.specs.Shown.{Shows, IsSound, AreTaken, IsTakenAt, AreWhole, queries_before}
 use Rattle.engine_view.specs.Emitted.{done_at_once, place_of}
 use Rattle.engine_view.proofs.Taking.{channel_after, all_length, all_channel, kind_after, places_after, values_on, values_after}
 use Rattle.engine_view.proofs.Taking.{values_longer}
@@ -216,12 +214,13 @@ module _ {S : Type 0} (d : Design S) (i : IsDesign d) (h : Held) (m c : ℕ) (in
   unfolding late
   none_late side ch f = not_owner d m side ch (map seen t.accesses) (done_late t.accesses fs) owned f
 
-  total : (w : ℕ) (side : Side) (ch : ℕ) → ((w ≡ m → ⊥) → late side ch ≡ 0)
-      → core_tally d z w side ch (emitted_of h w) ≡ core_tally d x w side ch (emitted_of h w) + late side ch
-  total w side ch none =
+  total : (side : Side) (ch : ℕ) → core_tally d z (d.owner side ch) side ch (emitted_of h (d.owner side ch))
+      ≡ core_tally d x (d.owner side ch) side ch (emitted_of h (d.owner side ch)) + late side ch
+  total side ch =
+      let none = none_late side ch in
       let here = tally_now side ch in
       let newest = last in
-      let same = tally_old w side ch (emitted_of h w) in
+      let same = tally_old (d.owner side ch) side ch (emitted_of h (d.owner side ch)) in
       grind arith
 
   -- ---- the table
@@ -246,57 +245,38 @@ module _ {S : Type 0} (d : Design S) (i : IsDesign d) (h : Held) (m c : ℕ) (in
   places_now side ch = ap (places_of side) (channel_now ch) ∙ places_after side at ch (channel_at h.channels ch) t.accesses
       (done_late t.accesses fs)
 
-  tally_up : (w : ℕ) (side : Side) (ch k : ℕ) → ((w ≡ m → ⊥) → late side ch ≡ 0) → k ≤ emitted_of h w
-      → core_tally d x w side ch k ≤ core_tally d z w side ch k
-  tally_up w side ch k none l =
+  tally_up : (side : Side) (ch k : ℕ) → k ≤ emitted_of h (d.owner side ch)
+      → core_tally d x (d.owner side ch) side ch k ≤ core_tally d z (d.owner side ch) side ch k
+  tally_up side ch k l =
       let newest = last in
-      let up = total w side ch none in
-      let same = tally_old w side ch k in
+      let up = total side ch in
+      let same = tally_old (d.owner side ch) side ch k in
       grind arith
 
   old_taken : (side : Side) (ch j : ℕ) (y : Place) → IsTakenAt d x side ch j y → IsTakenAt d z side ch j y
-  old_taken side ch j y o = record {
-    owner = o.owner;
-    emitted = o.emitted;
-    from =
-        let f = o.from in
-        let l = o.emitted in
-        let e = tally_old (d.owner side ch) side ch y.step (λ q. let e' = ap (λ (v : ℕ). emitted_of h v) q in let z' = last in
-        omega arith) in
-        omega arith;
-    to = let f = o.to in let l = o.emitted in let up = tally_up (d.owner side ch) side ch (suc y.step) (none_late side ch) (omega arith) in
-        omega arith;
-  }
+  old_taken side ch j y o =
+      let newest = last in
+      let same = tally_old (d.owner side ch) side ch y.step in
+      let up = tally_up side ch (suc y.step) in
+      record { owner = o.owner; emitted = o.emitted; from = grind arith; to = grind arith }
 
-  new_at : (side : Side) (ch : ℕ) → d.owner side ch ≡ m → (j : ℕ) → core_tally d x m side ch (suc k₀) ≤ j
-      → j < core_tally d x m side ch (suc k₀) + late side ch → IsTakenAt d z side ch j at
-  new_at side ch o j l u =
+  new_for : (side : Side) (ch : ℕ) → 0 < late side ch → (j : ℕ) → core_tally d x (d.owner side ch) side ch (emitted_of h (d.owner side ch)) ≤ j
+      → j < core_tally d x (d.owner side ch) side ch (emitted_of h (d.owner side ch)) + late side ch → IsTakenAt d z side ch j at
+  new_for side ch p j l u =
+      let none = none_late side ch in
+      let newest = last in
       let now = tally_now side ch in
       let old = tally_old m side ch k₀ (λ e. omega arith) in
       let up = tally_mono (core_accesses d x m) (λ q. bare_replies (x.flags m q)) side ch k₀ (suc k₀) (omega arith) in
-      record {
-        owner = sym o;
-        emitted = subst (λ (v : ℕ). k₀ < emitted_of h v) (sym o) less;
-        from = subst (λ (v : ℕ). core_tally d z v side ch k₀ ≤ j) (sym o) (omega arith);
-        to = subst (λ (v : ℕ). j < core_tally d z v side ch (suc k₀)) (sym o) (omega arith);
-      }
-
-  new_for : (w : ℕ) (side : Side) (ch : ℕ) → w ≡ d.owner side ch → ((w ≡ m → ⊥) → late side ch ≡ 0) → 0 < late side ch → (j : ℕ)
-      → core_tally d x w side ch (emitted_of h w) ≤ j
-      → j < core_tally d x w side ch (emitted_of h w) + late side ch → IsTakenAt d z side ch j at
-  new_for w side ch o none p j l u =
-      let newest = last in
-      let here = new_at side ch in
-      grind arith
+      record { owner = grind arith; emitted = grind arith; from = grind arith; to = grind arith }
 
   taken_now : (side : Side) (ch : ℕ) → AreTaken d x side ch (places_of side (channel_at h.channels ch))
       → AreTaken d z side ch (places_of side (channel_at g.channels ch))
   taken_now side ch o =
-      subst (AreTaken d z side ch) (sym (places_now side ch))
+      rw (places_now side ch)
       (longer_taken d z side ch (late side ch) (core_tally d x (d.owner side ch) side ch (emitted_of h (d.owner side ch)))
       (places_of side (channel_at h.channels ch)) at
-      o.count (λ j y l. old_taken side ch j _ (o.each j y l)) (total (d.owner side ch) side ch (none_late side ch))
-      (new_for (d.owner side ch) side ch refl (none_late side ch)))
+      o.count (λ j y l. old_taken side ch j _ (o.each j y l)) (total side ch) (new_for side ch))
 
   -- ---- values
 
@@ -340,13 +320,14 @@ module _ {S : Type 0} (d : Design S) (i : IsDesign d) (h : Held) (m c : ℕ) (in
   unfolding late_values
   pushed_values ch = ap values_on (channel_now ch) ∙ values_after at ch (channel_at h.channels ch) t.accesses (done_late t.accesses fs)
 
-  pushed_total : (w ch : ℕ) → ((w ≡ m → ⊥) → late_values ch ≡ [])
-      → pushed_by z ch w (emitted_of h w) ≡ pushed_by x ch w (emitted_of h w) ++ late_values ch
-  pushed_total w ch none =
+  pushed_total : (ch : ℕ) → pushed_by z ch (d.owner Push ch) (emitted_of h (d.owner Push ch))
+      ≡ pushed_by x ch (d.owner Push ch) (emitted_of h (d.owner Push ch)) ++ late_values ch
+  pushed_total ch =
+      let none = no_late_values ch in
       let newest = last in
       let here = pushed_now ch in
-      let same = pushed_old w ch (emitted_of h w) in
-      let whole = append-nil (pushed_by x ch w (emitted_of h w)) in
+      let same = pushed_old (d.owner Push ch) ch (emitted_of h (d.owner Push ch)) in
+      let whole = append-nil (pushed_by x ch (d.owner Push ch) (emitted_of h (d.owner Push ch))) in
       grind arith
 
   values_now : (ch : ℕ) → values_at h.channels ch ≡ core_values d x ch → values_at g.channels ch ≡ core_values d z ch
@@ -354,7 +335,7 @@ module _ {S : Type 0} (d : Design S) (i : IsDesign d) (h : Held) (m c : ℕ) (in
       values_longer (channel_at g.channels ch) (channel_at h.channels ch) (late_values ch) (kind_now ch) (pushed_values ch) (source_now ch)
       ∙ (ap (λ (a : List ℕ). a ++ late_values ch) o
       ∙ (append_assoc (d.inputs ch) _ _
-      ∙ ap (λ (a : List ℕ). d.inputs ch ++ a) (sym (pushed_total (d.owner Push ch) ch (no_late_values ch)))))
+      ∙ ap (λ (a : List ℕ). d.inputs ch ++ a) (sym (pushed_total ch))))
 
   -- ---- outcomes
 
@@ -455,27 +436,20 @@ module _ {S : Type 0} (d : Design S) (i : IsDesign d) (h : Held) (m c : ℕ) (in
       let up = queries_mono h m (suc k) k₀ l in
       let least = recorded_least in
       let rest = length-drop (step_of h m k).first_query old_log.outcomes in
-      ap (λ (q : Log). flags_by (step_of h m k).accesses (drop (step_of h m k).first_query q.outcomes)) log_now
-      ∙ (ap (flags_by (step_of h m k).accesses) (drop-append-le (step_of h m k).first_query old_log.outcomes new (omega arith))
-      ∙ flags_front (step_of h m k).accesses (drop (step_of h m k).first_query old_log.outcomes) new (omega arith))
+      rw (log_now, drop-append-le (step_of h m k).first_query old_log.outcomes new (omega arith))
+      (flags_front (step_of h m k).accesses (drop (step_of h m k).first_query old_log.outcomes) new (omega arith))
 
   flags_past : (k : ℕ) → k₀ < k → flags_of g m k ≡ flags_of h m k
   flags_past k l =
       let none : step_of h m k ≡ no_step = get_or_past (lane_at h.lanes m).steps k no_step (let e = last in omega arith) in
-      ap (λ (q : Step). flags_by q.accesses (drop q.first_query (log_at g.logs m).outcomes)) none
-      ∙ sym (ap (λ (q : Step). flags_by q.accesses (drop q.first_query old_log.outcomes)) none)
+      rw none refl
 
   flags_rest : (n k : ℕ) → (n ≡ m → k ≡ k₀ → ⊥) → flags_of g n k ≡ flags_of h n k
   flags_rest n k f =
-      elim (eqb_tells n m) [
-        | inl e ↦
-            subst (λ (v : ℕ). flags_of g v k ≡ flags_of h v k) (sym e.1)
-            (elim (cases_lt k k₀) [
-              | inl l ↦ flags_earlier k l
-              | inr l ↦ flags_past k (elim (eqb_tells k k₀) [ inl p ↦ absurd (f e.1 p.1) | inr p ↦ let w = p.1 in omega arith ])
-            ])
-        | inr e ↦ ap (λ (q : Log). flags_by (step_of h n k).accesses (drop (step_of h n k).first_query q.outcomes)) (log_else n e.1)
-      ]
+      let before = flags_earlier k in
+      let past = flags_past k in
+      let other = log_else n in
+      grind arith
 
   -- ---- it is shown, and read off
 
@@ -483,69 +457,60 @@ module _ {S : Type 0} (d : Design S) (i : IsDesign d) (h : Held) (m c : ℕ) (in
   access_kept a p = record {
     channel = let e = count_now in let l = p.channel in omega arith;
     ordinal = p.ordinal;
-    side = subst (λ (q : TableChannel). HasSide q (side_of a.kind)) (sym (kind_now a.channel)) p.side;
+    side = rw (kind_now a.channel) p.side;
   }
 
   inside_now : HasAccesses h.lanes g.channels
-  inside_now =
-      All-weaker (λ (lane : Lane). All (λ (step : Step). All (IsAccess h.channels) step.accesses) lane.steps)
-      (λ (lane : Lane). All (λ (step : Step). All (IsAccess g.channels) step.accesses) lane.steps)
-      (λ lane. All-weaker (λ (step : Step). All (IsAccess h.channels) step.accesses)
-      (λ (step : Step). All (IsAccess g.channels) step.accesses) (λ step. All-weaker (IsAccess h.channels) (IsAccess g.channels) access_kept
-      step.accesses) lane.steps)
-      h.lanes s.inside
+  inside_now = λ n e l k y u j z v. access_kept _ (s.inside n e l k y u j z v)
 
   log_length : (n : ℕ) → n ≡ m → length (log_at g.logs n).outcomes ≡ queries_before h m (suc k₀)
-  log_length n e = ap (λ (v : ℕ). length (log_at g.logs v).outcomes) e ∙ (ap (λ (q : Log). length q.outcomes) log_now ∙ new_length)
+  log_length n e = rw (e, log_now) new_length
 
   log_verified : (n : ℕ) → n ≡ m → (log_at g.logs n).verified ≡ queries_before h m (suc k₀)
-  log_verified n e = ap (λ (v : ℕ). (log_at g.logs v).verified) e ∙ (ap (λ (q : Log). q.verified) log_now ∙ new_length)
+  log_verified n e = rw (e, log_now) new_length
 
   taken_shown : (side : Side) (ch : ℕ) → ch < length g.channels → AreTaken d z side ch (places_of side (channel_at g.channels ch))
   taken_shown side ch l = let e = count_now in taken_now side ch (s.taken side ch (omega arith))
 
   shown : Shows d g z
-  shown = record {
-    lanes = s.lanes;
-    logs = length-set h.logs m (all_answered old_log new) ∙ s.logs;
-    overs = s.overs;
-    sound_lanes = s.sound_lanes;
-    sound_logs = All-set IsSoundLog h.logs m (all_answered old_log new) (omega arith) s.sound_logs;
-    inside = inside_now;
-    places = places_from d g z (λ n. refl) taken_shown;
-    accesses = s.accesses;
-    ordinals = λ n k l j e q. s.ordinals n k l j e q
-        ∙ ap (λ (v : ℕ). suc v) (sym (tally_old n (side_of (get_or (step_of h n k).accesses j e).kind)
-        (get_or (step_of h n k).accesses j e).channel k
-        (λ r. let r' = ap (λ (v : ℕ). emitted_of h v) r in let w = last in omega arith)));
-    first_query = λ n k l. s.first_query n k l ∙ sym (same_queries n k);
-    kinds = λ ch l. let e = count_now in subst (IsKind d ch) (sym (kind_now ch)) (s.kinds ch (omega arith));
-    lags = λ side ch l. let e = count_now in s.lags side ch (omega arith) ∙ ap (λ (q : TableChannel). lag_of q side) (sym (kind_now ch));
-    taken = taken_shown;
-    values = λ ch l. let e = count_now in values_now ch (s.values ch (omega arith));
-    recorded = λ n l. whole_now n (length (log_at h.logs n).outcomes) (length (log_at g.logs n).outcomes) (log_length n)
-        (λ f. ap (λ (q : Log). length q.outcomes) (log_else n f)) (s.recorded n (let e = length-set h.logs m (all_answered old_log new) in
-        omega arith));
-    verified = λ n l. whole_now n (log_at h.logs n).verified (log_at g.logs n).verified (log_verified n)
-        (λ f. ap (λ (q : Log). q.verified) (log_else n f)) (s.verified n (let e = length-set h.logs m (all_answered old_log new) in
-        omega arith));
-  }
+  shown =
+      let channels = count_now in
+      let logs = length-set h.logs m (all_answered old_log new) in
+      record {
+        lanes = s.lanes;
+        logs = logs ∙ s.logs;
+        overs = s.overs;
+        sound_lanes = s.sound_lanes;
+        sound_logs = All-set IsSoundLog h.logs m (all_answered old_log new) (omega arith) s.sound_logs;
+        inside = inside_now;
+        places = places_from d g z (λ n. refl) taken_shown;
+        accesses = s.accesses;
+        ordinals = λ n k l j e q. s.ordinals n k l j e q
+            ∙ ap (λ (v : ℕ). suc v) (sym (tally_old n (side_of (get_or (step_of h n k).accesses j e).kind)
+            (get_or (step_of h n k).accesses j e).channel k
+            (λ r. let r' = ap (λ (v : ℕ). emitted_of h v) r in let w = last in omega arith)));
+        first_query = λ n k l. s.first_query n k l ∙ sym (same_queries n k);
+        kinds = λ ch l. rw (kind_now ch) (s.kinds ch (omega arith));
+        lags = λ side ch l. rw (kind_now ch) (s.lags side ch (omega arith));
+        taken = taken_shown;
+        values = λ ch l. values_now ch (s.values ch (omega arith));
+        recorded = λ n l. whole_now n (length (log_at h.logs n).outcomes) (length (log_at g.logs n).outcomes) (log_length n)
+            (λ f. rw (log_else n f) refl) (s.recorded n (omega arith));
+        verified = λ n l. whole_now n (log_at h.logs n).verified (log_at g.logs n).verified (log_verified n)
+            (λ f. rw (log_else n f) refl) (s.verified n (omega arith));
+      }
 
   read : IsRead d g z
   read = record {
     emitted = λ n. refl;
     over = λ n. refl;
-    past = λ n k l. sym (ap (λ (v : Bool). cond v (ready d n (own d n (replies_at h n) k)) (d.opening n)) (le-ltb k (emitted_of h n) l));
+    past = λ n k l. rw (le-ltb k (emitted_of h n) l) refl;
     wait = λ n k. refl;
-    flags = λ n k. put_at_is x.flags m k₀ n k fs (flags_of g n k)
-        (λ e f. subst (λ (v : ℕ). flags_of g v k ≡ fs) (sym e) (subst (λ (v : ℕ). flags_of g m v ≡ fs) (sym f) flags_here))
-        (λ f. flags_rest n k f);
+    flags = λ n k. put_at_is x.flags m k₀ n k fs (flags_of g n k) (λ e f. rw (e, f) flags_here) (flags_rest n k);
     answered = λ n k. has_now n k (length (log_at h.logs n).outcomes) (length (log_at g.logs n).outcomes) x.answered (log_length n)
-        (λ f. ap (λ (q : Log). length q.outcomes) (log_else n f)) refl
-        (λ e l. subst (λ (v : ℕ). x.answered v k ≡ true) (sym e) (b.replied m k (let w = last in omega arith)));
+        (λ f. rw (log_else n f) refl) refl (λ e l. rw e (b.replied m k (let w = last in omega arith)));
     verified = λ n k. has_now n k (log_at h.logs n).verified (log_at g.logs n).verified x.verified (log_verified n)
-        (λ f. ap (λ (q : Log). q.verified) (log_else n f)) refl
-        (λ e l. subst (λ (v : ℕ). x.verified v k ≡ true) (sym e) (earlier k l));
+        (λ f. rw (log_else n f) refl) refl (λ e l. rw e (earlier k l));
     timed = λ n. refl;
     cycle = λ n k. refl;
   }

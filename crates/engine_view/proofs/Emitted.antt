@@ -1,10 +1,10 @@
 -- A step more in a lane, with its pushes and pops in the table, is the theory's Run, and what is held stays sound.
-use Rattle.std.proofs.Common.{◌≡◌, refl, sym, ap, ap₂, subst, ◌∙◌, ℕ, zero, suc, ◌+◌, ◌-◌, ◌<◌, ◌≤◌, Bool, false, not, cond, eqb, ltb}
-use Rattle.std.proofs.Common.{◌&&◌, List, [], ◌∷◌, ◌++◌, length, map, drop, get_or, arith, inl, inr, append-nil, append_assoc}
+use Rattle.std.proofs.Common.{◌≡◌, refl, sym, ap, ap₂, subst, ◌∙◌, ℕ, zero, suc, ◌+◌, ◌-◌, ◌<◌, ◌≤◌, Bool, false, not, eqb, ltb}
+use Rattle.std.proofs.Common.{List, [], ◌∷◌, ◌++◌, length, map, drop, get_or, arith, inl, inr, append-nil, append_assoc}
 use Rattle.std.proofs.Common.{replicate, length-append, drop_of_length-le}
 use Rattle.std.specs.Prelude.{All}
-use Rattle.std.proofs.lemmas.Bool.{cases_lt, cond-false, lt-ltb, le-ltb}
-use Rattle.std.proofs.lemmas.Bool.Decides.{eqb_tells, nat_tests}
+use Rattle.std.proofs.lemmas.Bool.{cases_lt, cond-false}
+use Rattle.std.proofs.lemmas.Bool.Decides.{nat_tests}
 use Rattle.std.proofs.lemmas.List.{length-replicate, get_or-replicate, length-set, get_or-set_same, get_or-set_other, get_or_push, get_or_append_left, get_or-append-add}
 use Rattle.std.proofs.lemmas.List.Elements.{All-head, All-tail, All-set, All-push, All-weaker}
 use Rattle.flow_word.specs.Kinds.{is_blocking, side_of}
@@ -19,11 +19,10 @@ use Rattle.fifo_table.specs.declared.channel.TableChannel.{TableChannel}
 use Rattle.fifo_table.specs.declared.channel.TableChannel.TheVariants.{Source}
 use Rattle.fifo_table.specs.Channels.{Channel, channel_at, lag_of, places_of}
 use Rattle.query_log.specs.Logs.{log_at}
-use Rattle.fifo_table.specs.Channels.{HasSide}
 use Rattle.time_engine.specs.Conditions.{IsAccess, HasAccesses}
 use Rattle.event_timing.specs.Machines as theory
 use Rattle.event_timing.specs.Machines.{Design, IsDesign, Each, Reply, ready, takes_in, values_in}
-use Rattle.event_timing.specs.Views.{own, pushed_in}
+use Rattle.event_timing.specs.Views.{pushed_in}
 use Rattle.event_timing.specs.Core.{Core, core_accesses, core_tally, core_values, bare_replies, has_query, no_outcomes}
 use Rattle.event_timing.specs.Agreement.{AreOwnMarks}
 use Rattle.event_timing.specs.Actions.{put, put_at, newest, emit_step, after_run, MayRun}
@@ -33,7 +32,7 @@ use Rattle.event_timing.proofs.Fronts.{tally_same, pushed_same}
 use Rattle.event_timing.proofs.OwnRuns.{tally_more, same_side_is}
 use Rattle.event_timing.proofs.Values.{pushed_in_more}
 use Rattle.engine_view.specs.Held.{Held, step_of, no_step, emitted_of, seen, queries_in, flags_by, flags_of, are_among, has_all, values_at}
-use Rattle.engine_view.specs.Held.{replies_at, waited, core_of}
+use Rattle.engine_view.specs.Held.{waited, core_of}
 use Rattle.engine_view.specs.Shown.{Shows, IsSound, AreTaken, IsTakenAt, AreWhole, IsKind, queries_before}
 use Rattle.engine_view.specs.Emitted.{done_at_once, place_of, with_emitted, IsNextStep}
 use Rattle.engine_view.proofs.Taking.{channel_after, all_length, all_channel, kind_after, places_after, values_on, values_after}
@@ -266,40 +265,33 @@ module _ {S : Type 0} (d : Design S) (i : IsDesign d) (h : Held) (m : ℕ) (t : 
   emitted_other : (w : ℕ) → (w ≡ m → ⊥) → z.emitted w ≡ emitted_of h w
   emitted_other w f = put_other x.emitted m (suc k₀) w f
 
-  total : (w : ℕ) (side : Side) (c : ℕ) → ((w ≡ m → ⊥) → new_taken side c ≡ 0)
-      → core_tally d z w side c (z.emitted w) ≡ core_tally d x w side c (emitted_of h w) + new_taken side c
-  total w side c none =
+  total : (side : Side) (c : ℕ) → core_tally d z (d.owner side c) side c (z.emitted (d.owner side c))
+      ≡ core_tally d x (d.owner side c) side c (emitted_of h (d.owner side c)) + new_taken side c
+  total side c =
+      let none = none_new side c in
       let here = tally_new side c in
       let now = emitted_now in
-      let same = tally_old w side c (emitted_of h w) in
-      let other = emitted_other w in
+      let same = tally_old (d.owner side c) side c (emitted_of h (d.owner side c)) in
+      let other = emitted_other (d.owner side c) in
       grind arith
 
-  new_at : (side : Side) (c : ℕ) → d.owner side c ≡ m → (j : ℕ) → core_tally d x m side c k₀ ≤ j
-      → j < core_tally d x m side c k₀ + new_taken side c → IsTakenAt d z side c j at
-  new_at side c o j l u =
+  new_for : (side : Side) (c : ℕ) → 0 < new_taken side c → (j : ℕ)
+      → core_tally d x (d.owner side c) side c (emitted_of h (d.owner side c)) ≤ j
+      → j < core_tally d x (d.owner side c) side c (emitted_of h (d.owner side c)) + new_taken side c → IsTakenAt d z side c j at
+  new_for side c p j l u =
+      let none = none_new side c in
       let old = tally_old m side c k₀ (omega arith) in
       let new = tally_new side c in
-      record {
-        owner = sym o;
-        emitted = subst (λ (v : ℕ). k₀ < z.emitted v) (sym o) (let e = emitted_now in omega arith);
-        from = subst (λ (v : ℕ). core_tally d z v side c k₀ ≤ j) (sym o) (omega arith);
-        to = subst (λ (v : ℕ). j < core_tally d z v side c (suc k₀)) (sym o) (omega arith);
-      }
-
-  new_for : (w : ℕ) (side : Side) (c : ℕ) → w ≡ d.owner side c → ((w ≡ m → ⊥) → new_taken side c ≡ 0) → 0 < new_taken side c → (j : ℕ)
-      → core_tally d x w side c (emitted_of h w) ≤ j
-      → j < core_tally d x w side c (emitted_of h w) + new_taken side c → IsTakenAt d z side c j at
-  new_for w side c o none p j l u = let here = new_at side c in grind arith
+      let now = emitted_now in
+      record { owner = grind arith; emitted = grind arith; from = grind arith; to = grind arith }
 
   taken_now : (side : Side) (c : ℕ) → AreTaken d x side c (places_of side (channel_at h.channels c))
       → AreTaken d z side c (places_of side (channel_at (with_emitted h m t).channels c))
   taken_now side c o =
-      subst (AreTaken d z side c) (sym (places_now side c))
+      rw (places_now side c)
       (longer_taken d z side c (new_taken side c) (core_tally d x (d.owner side c) side c (emitted_of h (d.owner side c)))
       (places_of side (channel_at h.channels c)) at
-      o.count (λ j y l. old_taken side c j _ (o.each j y l)) (total (d.owner side c) side c (none_new side c))
-      (new_for (d.owner side c) side c refl (none_new side c)))
+      o.count (λ j y l. old_taken side c j _ (o.each j y l)) (total side c) (new_for side c))
 
   -- ---- values
 
@@ -309,10 +301,7 @@ module _ {S : Type 0} (d : Design S) (i : IsDesign d) (h : Held) (m : ℕ) (t : 
   pushed_new : (c : ℕ) → pushed_in c (core_accesses d z m) (λ j. bare_replies (z.flags m j)) (suc k₀) ≡ pushed_in c (core_accesses d x m)
       (λ j. bare_replies (x.flags m j)) k₀ ++ new_values c
   unfolding new_values
-  pushed_new c =
-      pushed_in_more c (core_accesses d z m) (λ j. bare_replies (z.flags m j)) k₀
-      ∙ ap₂ (λ (a b : List ℕ). a ++ b) (pushed_old m c k₀ (omega arith))
-      (ap₂ (λ (as' : List theory.Access) (fs : List Bool). values_in c as' (bare_replies fs)) accesses_now flags_now)
+  pushed_new c = rw (pushed_in_more c (core_accesses d z m) (λ j. bare_replies (z.flags m j)) k₀, pushed_old m c k₀ (omega arith), accesses_now, flags_now) refl
 
   abbrev pushed_by : Core S → ℕ → ℕ → ℕ → List ℕ
   pushed_by y c w k = pushed_in c (core_accesses d y w) (λ j. bare_replies (y.flags w j)) k
@@ -329,19 +318,20 @@ module _ {S : Type 0} (d : Design S) (i : IsDesign d) (h : Held) (m : ℕ) (t : 
   unfolding new_values
   pushed_values c = ap values_on (channel_now c) ∙ values_after at c (channel_at h.channels c) t.accesses bs
 
-  pushed_total : (w c : ℕ) → ((w ≡ m → ⊥) → new_values c ≡ [])
-      → pushed_by z c w (z.emitted w) ≡ pushed_by x c w (emitted_of h w) ++ new_values c
-  pushed_total w c none =
+  pushed_total : (c : ℕ)
+      → pushed_by z c (d.owner Push c) (z.emitted (d.owner Push c)) ≡ pushed_by x c (d.owner Push c) (emitted_of h (d.owner Push c))
+      ++ new_values c
+  pushed_total c =
+      let none = no_values_now c in
       let here = pushed_new c in
       let now = emitted_now in
-      let same = pushed_old w c (emitted_of h w) in
-      let other = emitted_other w in
-      let whole = append-nil (pushed_by x c w (emitted_of h w)) in
+      let same = pushed_old (d.owner Push c) c (emitted_of h (d.owner Push c)) in
+      let other = emitted_other (d.owner Push c) in
+      let whole = append-nil (pushed_by x c (d.owner Push c) (emitted_of h (d.owner Push c))) in
       grind arith
 
   values_more : (c : ℕ) → core_values d z c ≡ core_values d x c ++ new_values c
-  values_more c =
-      ap (λ (vs : List ℕ). d.inputs c ++ vs) (pushed_total (d.owner Push c) c (no_values_now c)) ∙ sym (append_assoc (d.inputs c) _ _)
+  values_more c = ap (λ (vs : List ℕ). d.inputs c ++ vs) (pushed_total c) ∙ sym (append_assoc (d.inputs c) _ _)
 
   values_now : (c : ℕ) → values_at h.channels c ≡ core_values d x c → values_at (with_emitted h m t).channels c ≡ core_values d z c
   values_now c o =
@@ -371,25 +361,18 @@ module _ {S : Type 0} (d : Design S) (i : IsDesign d) (h : Held) (m : ℕ) (t : 
   access_kept a p = record {
     channel = let e = all_length at h.channels t.accesses bs in let l = p.channel in omega arith;
     ordinal = p.ordinal;
-    side = subst (λ (q : TableChannel). HasSide q (side_of a.kind)) (sym (kind_now a.channel)) p.side;
+    side = rw (kind_now a.channel) p.side;
   }
-
-  accesses_kept : (xs : List Access) → All (IsAccess h.channels) xs → All (IsAccess (with_emitted h m t).channels) xs
-  accesses_kept xs p = All-weaker (IsAccess h.channels) (IsAccess (with_emitted h m t).channels) access_kept xs p
 
   abbrev InLane : List Channel → Lane → Type 0
   InLane channels lane = All (λ (step : Step). All (IsAccess channels) step.accesses) lane.steps
-
-  lane_kept : (lane : Lane) → InLane h.channels lane → InLane (with_emitted h m t).channels lane
-  lane_kept lane p = All-weaker (λ (step : Step). All (IsAccess h.channels) step.accesses)
-      (λ (step : Step). All (IsAccess (with_emitted h m t).channels) step.accesses) (λ step. accesses_kept step.accesses) lane.steps p
 
   inside_now : HasAccesses (with_step h.lanes m t) (with_emitted h m t).channels
   inside_now =
       All-set (InLane (with_emitted h m t).channels) h.lanes m (longer (lane_at h.lanes m) t)
       (All-push (λ (step : Step). All (IsAccess (with_emitted h m t).channels) step.accesses) (lane_at h.lanes m).steps t
-      (lane_kept (lane_at h.lanes m) (s.inside m no_lane inside)) (accesses_kept t.accesses next.inside))
-      (All-weaker (InLane h.channels) (InLane (with_emitted h m t).channels) lane_kept h.lanes s.inside)
+      (λ k y u j z v. access_kept _ (s.inside m no_lane inside k y u j z v)) (λ j z v. access_kept _ (next.inside j z v)))
+      (λ n e l k y u j z v. access_kept _ (s.inside n e l k y u j z v))
 
   emitted_same : (n : ℕ) → emitted_of (with_emitted h m t) n ≡ z.emitted n
   emitted_same n = emitted_is d i h m t inside n
@@ -405,16 +388,13 @@ module _ {S : Type 0} (d : Design S) (i : IsDesign d) (h : Held) (m : ℕ) (t : 
   first_query_now n k l =
       step_now n k (λ (p : Step). p.first_query ≡ queries_before (with_emitted h m t) n k) l
       (λ q. s.first_query n k q ∙ sym (queries_same d i h m t inside n k (omega arith)))
-      (λ p r. subst (λ (v : ℕ). t.first_query ≡ queries_before (with_emitted h m t) v k) (sym p)
-      (subst (λ (v : ℕ). t.first_query ≡ queries_before (with_emitted h m t) m v) (sym r) (next.first_query
-      ∙ sym (queries_same d i h m t inside m k₀ (omega arith)))))
+      (λ p r. rw (p, r, queries_same d i h m t inside m k₀ (omega arith)) next.first_query)
 
   accesses_shown : (n k : ℕ) → k < z.emitted n → core_accesses d z n k ≡ map seen (step_of (with_emitted h m t) n k).accesses
   accesses_shown n k l =
       step_now n k (λ (p : Step). core_accesses d z n k ≡ map seen p.accesses) l
       (λ q. ap (d.accesses n) (old_at x.state x m now n k q) ∙ s.accesses n k q)
-      (λ p r. subst (λ (v : ℕ). core_accesses d z v k ≡ map seen t.accesses) (sym p)
-      (subst (λ (v : ℕ). core_accesses d z m v ≡ map seen t.accesses) (sym r) accesses_now))
+      (λ p r. rw (p, r) accesses_now)
 
   abbrev AreOrdinals : Core S → ℕ → ℕ → List Access → Type 0
   AreOrdinals y n k xs = All (λ (a : Access). a.ordinal ≡ suc (core_tally d y n (side_of a.kind) a.channel k)) xs
@@ -427,8 +407,7 @@ module _ {S : Type 0} (d : Design S) (i : IsDesign d) (h : Held) (m : ℕ) (t : 
   ordinals_shown n k l =
       step_now n k (λ (p : Step). AreOrdinals z n k p.accesses) l
       (λ q. ordinals_kept n k (step_of h n k).accesses (omega arith) (s.ordinals n k q))
-      (λ p r. subst (λ (v : ℕ). AreOrdinals z v k t.accesses) (sym p) (subst (λ (v : ℕ). AreOrdinals z m v t.accesses) (sym r)
-      (ordinals_kept m k₀ t.accesses (omega arith) next.ordinals)))
+      (λ p r. rw (p, r) (ordinals_kept m k₀ t.accesses (omega arith) next.ordinals))
 
   taken_shown : (side : Side) (c : ℕ) → c < length (with_emitted h m t).channels
       → AreTaken d z side c (places_of side (channel_at (with_emitted h m t).channels c))
@@ -470,31 +449,18 @@ module _ {S : Type 0} (d : Design S) (i : IsDesign d) (h : Held) (m : ℕ) (t : 
       few_recorded (log_at h.logs m).verified (s.verified m (let a = s.logs in let b = s.lanes in omega arith)) in omega arith
 
   not_among : (n : ℕ) → n ≤ t.first_query → are_among t n ≡ not (has_query (d.accesses m now))
-  not_among n l =
-      among_few t n l ∙ sym (ap (λ (xs : List theory.Access). not (has_query xs)) next.accesses ∙ ap not (has_query_is t.accesses))
+  not_among n l = rw (next.accesses, has_query_is t.accesses) (among_few t n l)
 
-  has_now : (n k q : ℕ) (old : Bool) → old ≡ has_all h n k q → (n ≡ m → q ≤ t.first_query)
+  has_now : (n k q : ℕ) → (n ≡ m → q ≤ t.first_query)
       → has_all (with_emitted h m t) n k q ≡ put_at (λ a b. has_all h a b q) m k₀ (not (has_query (d.accesses m now))) n k
-  has_now n k q old o few =
+  has_now n k q few =
+      let longer = more d i h m t inside in
+      let as_long = no_more d i h m t inside n in
+      let here = there d i h m t inside in
+      let same = elsewhere d i h m t inside n k in
+      let none = not_among q in
       put_at_is (λ a b. has_all h a b q) m k₀ n k (not (has_query (d.accesses m now))) (has_all (with_emitted h m t) n k q)
-      (λ e f. rw (e, f) (has_here (few e)))
-      (λ f. has_else f)
-    where
-      has_here : q ≤ t.first_query → has_all (with_emitted h m t) m k₀ q ≡ not (has_query (d.accesses m now))
-      has_here l =
-          let e = more d i h m t inside in
-          ap₂ (λ (a b : Bool). a && b) (lt-ltb k₀ (emitted_of (with_emitted h m t) m) (omega arith))
-          (ap (λ (p : Step). are_among p q) (there d i h m t inside) ∙ not_among q l)
-
-      below : (n ≡ m → k ≡ k₀ → ⊥) → ltb k (emitted_of (with_emitted h m t) n) ≡ ltb k (emitted_of h n)
-      below f =
-          elim (eqb_tells n m) [
-            | inl q ↦ rw q.1 (below_more k k₀ (emitted_of (with_emitted h m t) m) (more d i h m t inside) (λ r. f q.1 r))
-            | inr q ↦ ap (ltb k) (no_more d i h m t inside n q.1)
-          ]
-
-      has_else : (n ≡ m → k ≡ k₀ → ⊥) → has_all (with_emitted h m t) n k q ≡ has_all h n k q
-      has_else f = ap₂ (λ (a b : Bool). a && b) (below f) (ap (λ (p : Step). are_among p q) (elsewhere d i h m t inside n k f))
+      (λ e f. grind (arith, nat_tests)) (λ f. grind (arith, nat_tests))
 
   read : IsRead d (with_emitted h m t) z
   read = record {
@@ -502,40 +468,26 @@ module _ {S : Type 0} (d : Design S) (i : IsDesign d) (h : Held) (m : ℕ) (t : 
     over = λ n. refl;
     past = λ n k l. past n k l;
     wait = λ n k. put_at_is x.wait m k₀ n k (d.quiet m (newest d x m)) (waited k (step_of (with_emitted h m t) n k).gap)
-        (λ e f. subst (λ (v : ℕ). waited k (step_of (with_emitted h m t) v k).gap ≡ d.quiet m (newest d x m)) (sym e)
-        (subst (λ (v : ℕ). waited v (step_of (with_emitted h m t) m v).gap ≡ d.quiet m (newest d x m)) (sym f)
-        (ap (λ (p : Step). waited k₀ p.gap) (there d i h m t inside) ∙ next.gap)))
-        (λ f. ap (λ (p : Step). waited k p.gap) (elsewhere d i h m t inside n k f));
+        (λ e f. rw (e, f, there d i h m t inside) next.gap) (λ f. rw (elsewhere d i h m t inside n k f) refl);
     flags = λ n k. put_at_is x.flags m k₀ n k (no_outcomes (d.accesses m now)) (flags_of (with_emitted h m t) n k)
-        (λ e f. subst (λ (v : ℕ). flags_of (with_emitted h m t) v k ≡ no_outcomes (d.accesses m now)) (sym e)
-        (subst (λ (v : ℕ). flags_of (with_emitted h m t) m v ≡ no_outcomes (d.accesses m now)) (sym f) flags_here))
-        (λ f. ap (λ (p : Step). flags_by p.accesses (drop p.first_query (log_at h.logs n).outcomes)) (elsewhere d i h m t inside n k f));
-    answered = λ n k. answered n k;
-    verified = λ n k. verified n k;
-    timed = λ n. ap length (cycles_stay h.lanes m n t inside);
-    cycle = λ n k. ap (λ (cs : List ℕ). get_or cs k 0) (cycles_stay h.lanes m n t inside);
+        (λ e f. rw (e, f) flags_here) (λ f. rw (elsewhere d i h m t inside n k f) refl);
+    answered = λ n k. has_now n k (length (log_at h.logs n).outcomes) (λ e. rw e recorded_few);
+    verified = λ n k. has_now n k (log_at h.logs n).verified (λ e. rw e verified_few);
+    timed = λ n. rw (cycles_stay h.lanes m n t inside) refl;
+    cycle = λ n k. rw (cycles_stay h.lanes m n t inside) refl;
   }
     where
       past : (n k : ℕ) → z.emitted n ≤ k → d.opening n ≡ z.state n k
       past n k l =
           let up = emit_up x m n in
-          sym (put_at_other x.state m k₀ now n k (λ e f. let l' : z.emitted m ≤ k = subst (λ (v : ℕ). z.emitted v ≤ k) e l in let same =
-          emitted_now in omega arith)
-          ∙ ap (λ (b : Bool). cond b (ready d n (own d n (replies_at h n) k)) (d.opening n)) (le-ltb k (emitted_of h n) (omega arith)))
+          let newest = emitted_now in
+          let other = put_at_other x.state m k₀ now n k in
+          grind (arith, nat_tests)
 
       flags_here : flags_of (with_emitted h m t) m k₀ ≡ no_outcomes (d.accesses m now)
       flags_here =
-          ap (λ (p : Step). flags_by p.accesses (drop p.first_query (log_at h.logs m).outcomes)) (there d i h m t inside)
-          ∙ (ap (flags_by t.accesses) (drop_of_length-le (log_at h.logs m).outcomes recorded_few)
-          ∙ (no_flags t.accesses ∙ sym (ap no_outcomes next.accesses ∙ no_outcomes_is t.accesses)))
-
-      answered : (n k : ℕ) → has_all (with_emitted h m t) n k (length (log_at h.logs n).outcomes) ≡ z.answered n k
-      answered n k = has_now n k (length (log_at h.logs n).outcomes) _ refl
-          (λ e. subst (λ (v : ℕ). length (log_at h.logs v).outcomes ≤ t.first_query) (sym e) recorded_few)
-
-      verified : (n k : ℕ) → has_all (with_emitted h m t) n k (log_at h.logs n).verified ≡ z.verified n k
-      verified n k = has_now n k (log_at h.logs n).verified _ refl (λ e. subst (λ (v : ℕ). (log_at h.logs v).verified ≤ t.first_query)
-          (sym e) verified_few)
+          let none : drop t.first_query (log_at h.logs m).outcomes ≡ [] = drop_of_length-le (log_at h.logs m).outcomes recorded_few in
+          rw (there d i h m t inside, none, next.accesses, no_flags t.accesses) (sym (no_outcomes_is t.accesses))
 
   -- the core that is read off is the one behind the theory's Run, and it is sound
   pub emitted_core : AreOwnMarks d x → MayRun d x m → d.is_over m now ≡ false → (core_of d (with_emitted h m t) ≡ after_run d x m)

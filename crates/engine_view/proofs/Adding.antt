@@ -1,20 +1,18 @@
 -- The loop that adds a step's pushes and pops.
-use Rattle.std.proofs.Common.{◌≡◌, refl, sym, ap, ap₂, subst, ◌∙◌, ℕ, zero, suc, ◌+◌, ◌<◌, ◌≤◌, ◌⊎◌, inl, inr, Bool, true, false, cond, not}
-use Rattle.std.proofs.Common.{◌&&◌, List, [], ◌∷◌, length, drop, get_or, arith}
+use Rattle.std.proofs.Common.{◌≡◌, refl, sym, ap, subst, ◌∙◌, ℕ, zero, suc, ◌+◌, ◌<◌, ◌≤◌, ◌⊎◌, inl, inr, Bool, true, false, cond, not}
+use Rattle.std.proofs.Common.{eqb, ◌&&◌, List, [], ◌∷◌, length, drop, get_or, arith}
 use Rattle.std.specs.Prelude.{All, slice_get}
-use Rattle.std.proofs.lemmas.Bool.{cases_Bool, both_ways}
-use Rattle.std.proofs.lemmas.Bool.Decides.{eqb_tells}
+use Rattle.std.proofs.lemmas.Bool.{cases_Bool}
+use Rattle.std.proofs.lemmas.Bool.Decides.{nat_tests}
 use Rattle.std.proofs.lemmas.List.{drop_more, drop_all, drop-drop}
 use Rattle.std.proofs.lemmas.List.Elements.{All-head, All-tail, All-weaker}
-use Rattle.flow_word.specs.Kinds.{is_blocking, is_taking, side_of}
+use Rattle.flow_word.specs.Kinds.{is_blocking, is_taking, same_side, side_of}
 use Rattle.flow_word.specs.declared.access.Side.{Side}
 use Rattle.flow_word.specs.declared.access.Side.TheVariants.{Pop, Push}
 use Rattle.flow_word.specs.declared.access.Access.{Access}
 use Rattle.flow_word.specs.declared.access.Place.{Place}
-use Rattle.fifo_table.specs.declared.channel.TableChannel.{TableChannel}
 use Rattle.fifo_table.specs.Channels.{Channel, channel_at}
 use Rattle.fifo_table.specs.Roomed.{RoomedChannels}
-use Rattle.fifo_table.specs.Channels.{HasSide}
 use Rattle.time_engine.specs.Conditions.{IsAccess}
 use Rattle.engine_view.specs.Held.{possible_by, flags_by}
 use Rattle.engine_view.specs.Emitted.{done_at_once}
@@ -44,7 +42,7 @@ get_drop {X} (suc n) [] = refl
 get_drop {X} (suc n) (x ∷ xs) = get_drop n xs
 
 pub drop_next : {X : Type 0} → (b : Bool) (n : ℕ) (xs : List X) → cond b (drop n xs) (drop 1 (drop n xs)) ≡ drop (n + cond b 0 1) xs
-drop_next {X} true n xs = ap (λ (k : ℕ). drop k xs) (omega arith)
+drop_next {X} true n xs = grind arith
 drop_next {X} false n xs = drop-drop 1 n xs
 
 pub takes_init : (at : Place) (late : Bool) (xs : List Access) (outs : List Bool) (first : ℕ) (t : RoomedChannels)
@@ -65,18 +63,13 @@ takes_init at late xs outs first t inside apart rooms = record {
 one_kept : (at : Place) (channels : List Channel) (a : Access) (b : Bool) (y : Access) → a.channel < length channels → IsAccess channels y
     → IsAccess (cond (is_taking a.kind && b) (taken_by (side_of a.kind) at channels a) channels) y
 one_kept at channels a b y inside k =
-    let inside' : All (λ (q : Access). q.channel < length channels) (a ∷ []) = one_all in
+    let inside' : All (λ (q : Access). q.channel < length channels) (a ∷ []) = λ j e l. let first : j ≡ 0 = omega arith in rw first inside in
     record {
       channel = let e = all_length at channels (a ∷ []) (b ∷ []) in let l = k.channel in omega arith;
       ordinal = k.ordinal;
-      side = subst (λ (q : TableChannel). HasSide q (side_of y.kind))
-          (sym (ap (λ (q : Channel). q.kind) (all_channel at channels (a ∷ []) (b ∷ []) y.channel inside')
-          ∙ kind_after at y.channel (channel_at channels y.channel) (a ∷ []) (b ∷ []))) k.side;
+      side = rw (all_channel at channels (a ∷ []) (b ∷ []) y.channel inside', kind_after at y.channel (channel_at channels y.channel)
+          (a ∷ []) (b ∷ [])) k.side;
     }
-  where
-    one_all : All (λ (q : Access). q.channel < length channels) (a ∷ [])
-    one_all zero e l = inside
-    one_all (suc j) e l = absurd (omega arith)
 
 pub same_or : (a b : Side) → (a ≡ b) ⊎ (a ≡ b → ⊥)
 same_or Pop Pop = inl refl
@@ -118,13 +111,11 @@ module _ (at : Place) (late : Bool) (xs : List Access) (outs : List Bool) (first
       (done_by late (drop (i + 1) xs) (drop (n + cond (is_blocking a.kind) 0 1) outs))
       ≡ taken_all at old.channels xs (done_by late xs (drop first outs))
   channels_now =
-      ap₂ (λ (cs : List Channel) (os : List Bool). taken_all at cs (drop (i + 1) xs) (done_by late (drop (i + 1) xs) os)) (channels
-      ∙ ap (λ (b : Bool). cond (is_taking a.kind && b) (taken_by (side_of a.kind) at now.channels a) now.channels) flag)
-      (sym (drop_next (is_blocking a.kind) n outs))
-      ∙ (sym (ap (λ (ys : List Access). taken_all at now.channels ys (done_by late ys (drop n outs))) line) ∙ r.channels)
-    where
-      flag : done ≡ cond (is_blocking a.kind) (not late) (late && possible_by a.kind (slice_get (drop n outs) 0))
-      flag = is ∙ ap (λ o. cond (is_blocking a.kind) (not late) (late && possible_by a.kind o)) (sym (get_drop n outs))
+      let flag = get_drop n outs in
+      let rest = drop_next (is_blocking a.kind) n outs in
+      let before = r.channels in
+      let whole = line in
+      grind arith
 
   pub takes_step : TakesOn at late xs outs first old next (i + 1) (n + cond (is_blocking a.kind) 0 1)
   takes_step = record {
@@ -160,19 +151,10 @@ module _ (at : Place) (late : Bool) (xs : List Access) (outs : List Bool) (first
           )
 
       by_side : (side : Side) (c : ℕ) → (TakesAt side c a → ⊥) ⊎ TakesAt side c a
-      by_side side c =
-          elim (cases_Bool (is_taking a.kind)) [
-            | inl t ↦
-                elim (same_or side (side_of a.kind)) [
-                  | inl e ↦ elim (eqb_tells c a.channel) [
-                    | inl q ↦ inr (record { taking = t; same_side = e; same_channel = q.1 })
-                    | inr q ↦
-                        inl (λ k. q.1 k.same_channel)
-                  ]
-                  | inr f ↦ inl (λ k. f k.same_side)
-                ]
-            | inr t ↦ inl (λ k. both_ways _ t k.taking)
-          ]
+      by_side side c = elim (cases_Bool (is_taking a.kind && (same_side side (side_of a.kind) && eqb c a.channel))) [
+        | inl e ↦ inr (grind (arith, nat_tests))
+        | inr e ↦ inl (λ k. grind (arith, nat_tests))
+      ]
 
       one_now : (side : Side) (c : ℕ) → (room_of old side c ≤ room_of now side c) ⊎ ((room_of old side c ≤ room_of now side c + 1)
           × All (λ (q : Access). TakesAt side c q → ⊥) (drop i xs))
@@ -215,16 +197,8 @@ takes_end at late xs outs first old now i n r l = (
 
 pub done_first : (xs : List Access) (outs : List Bool) → done_by false xs outs ≡ done_at_once xs
 done_first [] outs = refl
-done_first (a ∷ xs) outs =
-    elim (cases_Bool (is_blocking a.kind)) [
-      | inl e ↦ rw e (ap (λ (bs : List Bool). true ∷ bs) (done_first xs outs))
-      | inr e ↦ rw e (ap (λ (bs : List Bool). false ∷ bs) (done_first xs (drop 1 outs)))
-    ]
+done_first (a ∷ xs) outs = let here = done_first xs outs in let later = done_first xs (drop 1 outs) in grind arith
 
 pub done_later : (xs : List Access) (outs : List Bool) → done_by true xs outs ≡ done_late xs (flags_by xs outs)
 done_later [] outs = refl
-done_later (a ∷ xs) outs =
-    elim (cases_Bool (is_blocking a.kind)) [
-      | inl e ↦ rw e (rw e (ap (λ (bs : List Bool). false ∷ bs) (done_later xs outs)))
-      | inr e ↦ rw e (rw e (ap (λ (bs : List Bool). possible_by a.kind (slice_get outs 0) ∷ bs) (done_later xs (drop 1 outs))))
-    ]
+done_later (a ∷ xs) outs = let here = done_later xs outs in let later = done_later xs (drop 1 outs) in grind arith

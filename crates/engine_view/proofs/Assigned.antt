@@ -1,8 +1,8 @@
 -- A step's cycle more is the theory's Assign, and what is held stays sound.
-use Rattle.std.proofs.Common.{◌≡◌, refl, sym, ap, subst, ◌∙◌, ℕ, zero, suc, ◌<◌, List, [], ◌∷◌, ◌++◌, length, get_or, arith, inl, inr}
+use Rattle.std.proofs.Common.{◌≡◌, refl, sym, ap, subst, ◌∙◌, ℕ, zero, suc, ◌<◌, List, [], ◌∷◌, ◌++◌, length, get_or, arith}
 use Rattle.std.specs.Prelude.{All}
 use mathlib.Core.Path.{fun_ext}
-use Rattle.std.proofs.lemmas.Bool.Decides.{eqb_tells}
+use Rattle.std.proofs.lemmas.Bool.Decides.{nat_tests}
 use Rattle.std.proofs.lemmas.List.{length-set, get_or-set_same, get_or-set_other, length-append, get_or_push}
 use Rattle.event_graph.specs.Lanes.{Lane, IsSoundLane, no_lane, lane_at, timed, with_cycle}
 use Rattle.time_engine.proofs.Given.{accesses_stay, places_stay, steps_stay}
@@ -45,23 +45,11 @@ alike_state {S} d g h a m k = rw (alike_replies g h a m, a.steps m) refl
 -- ---- the core
 
 pub put_is : {A : Type 0} (f : ℕ → A) (m n : ℕ) (y z : A) → (n ≡ m → z ≡ y) → ((n ≡ m → ⊥) → z ≡ f n) → z ≡ put f m y n
-put_is f m n y z e g =
-    elim (eqb_tells n m) [
-      | inl at ↦ rw at.0 (e at.1)
-      | inr apart ↦ rw apart.0 (g apart.1)
-    ]
+put_is f m n y z e g = grind (arith, nat_tests)
 
 pub put_at_is : {A : Type 0} (f : ℕ → ℕ → A) (m k n j : ℕ) (y z : A) → (n ≡ m → j ≡ k → z ≡ y) → ((n ≡ m → j ≡ k → ⊥) → z ≡ f n j)
     → z ≡ put_at f m k y n j
-put_at_is f m k n j y z e g =
-    elim (eqb_tells n m) [
-      | inl at ↦
-          elim (eqb_tells j k) [
-            | inl at' ↦ rw (at.0, at'.0) (e at.1 at'.1)
-            | inr apart ↦ rw (at.0, apart.0) (g (λ p q. apart.1 q))
-          ]
-      | inr apart ↦ rw apart.0 (g (λ p q. apart.1 p))
-    ]
+put_at_is f m k n j y z e g = grind (arith, nat_tests)
 
 pub timed_alike : (h : Held) (m c : ℕ) → m < length h.lanes → IsAlike (with_timed h m c) h
 timed_alike h m c inside = record { steps = λ n. steps_stay h.lanes m c n inside; channels = refl; logs = refl }
@@ -100,10 +88,10 @@ assigned_core {S} d h m c inside =
     other : (n k : ℕ) → (n ≡ m → k ≡ length (lane_at h.lanes m).cycles → ⊥)
         → get_or (lane_at (with_cycle h.lanes m c) n).cycles k 0 ≡ get_or (lane_at h.lanes n).cycles k 0
     other n k f =
-        elim (eqb_tells n m) [
-          | inl at ↦ rw (at.1, cycles_there h.lanes m c inside) (get_push_below (lane_at h.lanes m).cycles c k (λ e. f at.1 e))
-          | inr apart ↦ rw (cycles_other h.lanes m c n inside apart.1) refl
-        ]
+        let there = cycles_there h.lanes m c inside in
+        let below = get_push_below (lane_at h.lanes m).cycles c k in
+        let same = cycles_other h.lanes m c n inside in
+        grind arith
 
 -- ---- soundness
 

@@ -1,9 +1,9 @@
 -- The determined cycle of a step, access by access, is the theory's.
-use Rattle.std.proofs.Common.{◌≡◌, refl, sym, ap₂, subst, drop, ◌∙◌, ℕ, zero, suc, ◌+◌, ◌-◌, ◌<◌, ◌≤◌, ◌⊎◌, max, Bool, true, false, cond}
-use Rattle.std.proofs.Common.{ltb, List, [], ◌∷◌, length, map, get_or, Option, None, Some, is_some, is_none, arith, inl, inr, unwrap_or}
+use Rattle.std.proofs.Common.{◌≡◌, refl, sym, ap₂, subst, drop, ◌∙◌, ℕ, zero, suc, ◌+◌, ◌-◌, ◌<◌, ◌≤◌, ◌⊎◌, max, Bool, true, false}
+use Rattle.std.proofs.Common.{List, [], ◌∷◌, length, map, get_or, Option, None, Some, is_some, is_none, arith, inl, inr, unwrap_or}
 use Rattle.std.proofs.Common.{position}
+use Rattle.std.proofs.lemmas.Bool.Decides.{nat_tests}
 use Rattle.std.specs.Prelude.{All, option_and_then}
-use Rattle.std.specs.List.{position_or_len}
 use Rattle.std.proofs.lemmas.Bool.{cases_lt, cases_Bool, lt-ltb, le-ltb}
 use Rattle.std.proofs.lemmas.Option.{slice_get-get_or, slice_get_past}
 use Rattle.std.proofs.lemmas.List.{get_or_past}
@@ -24,7 +24,7 @@ use Rattle.event_timing.specs.Machines.{Design, IsDesign}
 use Rattle.event_timing.specs.Views.{from, first_accesses}
 use Rattle.event_timing.specs.Core.{Core, view}
 use Rattle.event_timing.specs.Enablers.{Known, known_of, both, bound, reach, to_clock, candidate}
-use Rattle.event_timing.specs.Enablers.Known.{From, Never, Unknown}
+use Rattle.event_timing.specs.Enablers.Known.{From}
 use Rattle.event_timing.proofs.Candidate.{bound_blocks, bound_free}
 use Rattle.engine_view.specs.Held.{Held, step_of, no_step, seen, core_of, waited}
 use Rattle.engine_view.specs.Shown.{IsSound}
@@ -57,33 +57,17 @@ IsBound lanes channels xs b =
     ⊎ ((is_some (position (is_waiting lanes channels) xs) ≡ true) × ((t : ℕ) → to_clock t b ≡ None))
 
 position_head : {X : Type 0} (p : X → Bool) (x : X) (xs : List X) → p x ≡ true → is_some (position p (x ∷ xs)) ≡ true
-position_head p x xs e = rw (e, lt-ltb 0 (suc (length xs)) (omega arith)) refl
-
-skipped : (n l : ℕ) → cond (ltb n l) (Some n) None ≡ None → cond (ltb (1 + n) (suc l)) (Some (1 + n)) None ≡ None
-skipped n l e =
-    elim (cases_lt n l) [
-      | inl less ↦ let e' = rw (lt-ltb n l less) at e in cc
-      | inr more ↦ rw (le-ltb (1 + n) (suc l) (omega arith)) refl
-    ]
-
-kept : (n l : ℕ) → is_some (cond (ltb n l) (Some n) None) ≡ true → is_some (cond (ltb (1 + n) (suc l)) (Some (1 + n)) None) ≡ true
-kept n l e =
-    elim (cases_lt n l) [
-      | inl less ↦ rw (lt-ltb (1 + n) (suc l) (omega arith)) refl
-      | inr more ↦ let e' = rw (le-ltb n l more) at e in cc
-    ]
+position_head p x xs e = grind (arith, nat_tests)
 
 pub position_none : {X : Type 0} (p : X → Bool) (x : X) (xs : List X) → p x ≡ false → position p xs ≡ None → position p (x ∷ xs) ≡ None
-position_none p x xs e n = rw e (skipped (position_or_len p xs) (length xs) n)
+position_none p x xs e n = grind (arith, nat_tests)
 
 position_some : {X : Type 0} (p : X → Bool) (x : X) (xs : List X) → p x ≡ false → is_some (position p xs) ≡ true
     → is_some (position p (x ∷ xs)) ≡ true
-position_some p x xs e n = rw e (kept (position_or_len p xs) (length xs) n)
+position_some p x xs e n = grind (arith, nat_tests)
 
 both_none : (u : ℕ) (b : Known) → ((t : ℕ) → to_clock t b ≡ None) → (t : ℕ) → to_clock t (both (From u) b) ≡ None
-both_none u (From v) f t = absurd (let e = f 0 in cc)
-both_none u Never f t = refl
-both_none u Unknown f t = refl
+both_none u b f t = let first = f 0 in grind arith
 
 waiting_query : (lanes : List Lane) (channels : List Channel) (a : Access) → is_blocking a.kind ≡ false
     → is_waiting lanes channels a ≡ false
@@ -167,11 +151,7 @@ candidate_some {S} d x m l = rw (lt-ltb (x.timed m) (x.emitted m) l) refl
 pub unless : (lanes : List Lane) (channels : List Channel) (xs : List Access) (b : Known) (t : ℕ) → IsBound lanes channels xs b
     → cycle_unless (position (is_waiting lanes channels) xs) (latest (t ∷ clocks_of lanes channels xs)) ≡ to_clock t b
 unless lanes channels xs b t (inl (h1, h2)) = rw (h1, h2, latest_more t (clocks_of lanes channels xs)) refl
-unless lanes channels xs b t (inr (h1, h2)) = waits (position (is_waiting lanes channels) xs) h1 ∙ sym (h2 t)
-  where
-    waits : (o : Option ℕ) → is_some o ≡ true → cycle_unless o (latest (t ∷ clocks_of lanes channels xs)) ≡ None
-    waits None e = cc
-    waits (Some i) e = refl
+unless lanes channels xs b t (inr (h1, h2)) = let none = h2 t in grind arith
 
 -- the clock in which the module comes to the step
 arrives : (lane : Lane) (n gap : ℕ) → n ≡ length lane.cycles → (0 < n → 1 ≤ gap)
@@ -191,10 +171,10 @@ gap_apart (s ∷ steps) all (suc k) e p l = all k e (omega arith)
 pub lane_apart : (lanes : List Lane) → All IsSoundLane lanes → (m k : ℕ) → k < length (lane_at lanes m).steps → 0 < k
     → 1 ≤ (get_or (lane_at lanes m).steps k no_step).gap
 lane_apart lanes all m k l p =
-    elim (cases_lt m (length lanes)) [
-      | inl inside ↦ let here = all m no_lane inside in gap_apart (lane_at lanes m).steps here.apart k no_step p l
-      | inr past ↦ let none : length (lane_at lanes m).steps ≡ 0 = rw (get_or_past lanes m no_lane past) refl in absurd (omega arith)
-    ]
+    let past = get_or_past lanes m no_lane in
+    let inside : m < length lanes = grind arith in
+    let here = all m no_lane inside in
+    gap_apart (lane_at lanes m).steps here.apart k no_step p l
 
 -- the cycle of a module's first step without one is the theory's
 pub candidate_is : {S : Type 0} → (d : Design S) → IsDesign d → (h : Held) → IsSound d h → (m : ℕ)

@@ -1,6 +1,6 @@
 -- The loop that compares a step's outcomes.
-use Rattle.std.proofs.Common.{◌≡◌, refl, sym, ap, ap₂, ◌∙◌, ℕ, zero, suc, ◌+◌, ◌<◌, ◌≤◌, Bool, true, cond, ◌||◌, List, [], ◌∷◌, ◌++◌}
-use Rattle.std.proofs.Common.{length, take, drop, get_or, arith, append_assoc, inl, inr, Option, Some}
+use Rattle.std.proofs.Common.{◌≡◌, refl, sym, ap, ◌∙◌, ℕ, zero, suc, ◌+◌, ◌<◌, ◌≤◌, Bool, true, cond, ◌||◌, List, [], ◌∷◌, ◌++◌}
+use Rattle.std.proofs.Common.{length, take, drop, get_or, arith, append_assoc, inl, inr, Some}
 use Rattle.std.specs.Prelude.{slice_get}
 use Rattle.std.proofs.lemmas.Bool.{cases_Bool}
 use Rattle.std.proofs.lemmas.List.{drop_more, drop_all, take_more}
@@ -41,21 +41,21 @@ front {X} (a ∷ as') bs (suc i) l = front as' bs i (omega arith)
 
 queries_append : (xs ys : List Access) → queries_in (xs ++ ys) ≡ queries_in xs + queries_in ys
 queries_append [] ys = omega arith
-queries_append (a ∷ xs) ys = elim (cases_Bool (is_blocking a.kind)) [
-  | inl e ↦ rw e (queries_append xs ys)
-  | inr e ↦
-      rw e (omega (arith, queries_append xs ys))
-]
+queries_append (a ∷ xs) ys = let later = queries_append xs ys in grind arith
 
 queries_one : (a : Access) → queries_in (a ∷ []) ≡ cond (is_blocking a.kind) 0 1
-queries_one a = elim (cases_Bool (is_blocking a.kind)) [ inl e ↦ rw e refl | inr e ↦ rw e refl ]
+queries_one a = grind arith
 
 pub queries_cons : (a : Access) (xs : List Access) → queries_in (a ∷ xs) ≡ cond (is_blocking a.kind) 0 1 + queries_in xs
-queries_cons a xs = queries_append (a ∷ []) xs ∙ ap (λ (n : ℕ). n + queries_in xs) (queries_one a)
+queries_cons a xs = grind arith
 
 flags_first : (a : Access) (xs : List Access) (outs : List Bool)
     → flags_by (a ∷ xs) outs ≡ flag_now a.kind (slice_get outs 0) ∷ flags_by xs (cond (is_blocking a.kind) outs (drop 1 outs))
-flags_first a xs outs = elim (cases_Bool (is_blocking a.kind)) [ inl e ↦ rw e refl | inr e ↦ rw e refl ]
+flags_first a xs outs = grind arith
+
+flags_length : (xs : List Access) (outs : List Bool) → length (flags_by xs outs) ≡ length xs
+flags_length [] outs = refl
+flags_length (a ∷ xs) outs = let here = flags_length xs outs in let later = flags_length xs (drop 1 outs) in grind arith
 
 module _ (lanes : List Lane) (channels : List Channel) (c : ℕ) where
   found_append : (xs ys : List Access)
@@ -88,12 +88,7 @@ module _ (lanes : List Lane) (channels : List Channel) (c : ℕ) where
     found = found_flags lanes channels c (take i xs)
 
     here : i < length xs → flags_by xs (drop first outs) ≡ found ++ flag_now a.kind (slice_get outs n) ∷ rest
-    here l =
-        r.alike
-        ∙ (ap (λ (ys : List Access). found ++ flags_by ys (drop n outs)) (drop_more xs i d l)
-        ∙ (ap (λ (bs : List Bool). found ++ bs) (flags_first a (drop (i + 1) xs) (drop n outs))
-        ∙ ap₂ (λ (o : Option Bool) (os : List Bool). found ++ flag_now a.kind o ∷ flags_by (drop (i + 1) xs) os) (get_drop n outs)
-        (drop_next (is_blocking a.kind) n outs)))
+    here l = rw (r.alike, drop_more xs i d l, flags_first a (drop (i + 1) xs) (drop n outs), get_drop n outs, drop_next (is_blocking a.kind) n outs) refl
 
     there : i < length xs → found_flags lanes channels c xs ≡ found ++ flag_found lanes channels c a ∷ found_flags lanes channels c
         (drop (i + 1) xs)
@@ -107,18 +102,8 @@ module _ (lanes : List Lane) (channels : List Channel) (c : ℕ) where
           let o = queries_one a in
           let w = r.numbered in
           omega arith;
-      alike =
-          here l
-          ∙ (ap (λ (b : Bool). found ++ b ∷ rest) e
-          ∙ (sym (append_assoc found (flag_found lanes channels c a ∷ []) rest)
-          ∙ (ap (λ (bs : List Bool). bs ++ rest) (sym (ap (found_flags lanes channels c) (take_more xs i d l)
-          ∙ found_append (take i xs) (a ∷ [])))
-          ∙ ap (λ (k : ℕ). found_flags lanes channels c (take (i + 1) xs) ++ flags_by (drop (i + 1) xs) (drop (n + k) outs)) (sym s))));
-      within = let w = r.within in elim (cases_Bool (is_blocking a.kind)) [
-        | inl f ↦ let s' = s ∙ ap (λ (b : Bool). cond {A = ℕ} b 0 1) f in
-            omega arith
-        | inr f ↦ let s' = s ∙ ap (λ (b : Bool). cond {A = ℕ} b 0 1) f in omega arith
-      ];
+      alike = rw (s, take_more xs i d l, found_append (take i xs) (a ∷ []), here l, e) (sym (append_assoc found (flag_found lanes channels c a ∷ []) rest));
+      within = let w = r.within in grind arith;
     }
 
     pub compares_all : length xs ≤ i → flags_by xs (drop first outs) ≡ found_flags lanes channels c xs

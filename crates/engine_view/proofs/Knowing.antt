@@ -43,6 +43,12 @@ place_none a r side ch n i l = later (place a r side ch n i) (place_says a r sid
     later None g = refl
     later (Some j) (g1, g2, g3) = absurd (omega (arith, tally_mono a r side ch (suc j) n g1))
 
+-- what an event tells, where its place is this one or none
+event_known : (lanes : List Lane) (l : ℕ) (o : Option Place) (e : Option ℕ) → ((p : Place) → o ≡ Some p → cycle_of lanes p ≡ e)
+    → (o ≡ None → e ≡ None)
+    → as_known (known_by lanes l (event_at o)) ≡ as_known (from_cycle l e)
+event_known lanes l o e f g = grind arith
+
 from_none : (cycle : ℕ → ℕ) (l : ℕ) (o : Option ℕ) → o ≡ None → from_step cycle l o ≡ Unknown
 from_none cycle l o e = rw e refl
 
@@ -101,11 +107,7 @@ event_is {S} d h x t y w side ch l j places taken =
 -- ---- what is sound
 
 lane_within : (lanes : List Lane) → All IsSoundLane lanes → (m : ℕ) → length (lane_at lanes m).cycles ≤ length (lane_at lanes m).steps
-lane_within lanes all m =
-    elim (cases_lt m (length lanes)) [
-      | inl inside ↦ let here = all m no_lane inside in here.prefix
-      | inr past ↦ rw (get_or_past lanes m no_lane past) (omega arith)
-    ]
+lane_within lanes all m = let here = all m no_lane in let past = get_or_past lanes m no_lane in grind arith
 
 pub timed_within : {S : Type 0} → (d : Design S) (h : Held) → IsSound d h → (m : ℕ)
     → length (lane_at h.lanes m).cycles ≤ length (lane_at h.lanes m).steps
@@ -115,10 +117,7 @@ timed_within {S} d h y m = lane_within h.lanes y.sound_lanes m
 lane_inside : (lanes : List Lane) (channels : List Channel) → HasAccesses lanes channels → (m k : ℕ) → k < length (lane_at lanes m).steps
     → All (IsAccess channels) (slice_index_or (lane_at lanes m).steps k no_step).accesses
 lane_inside lanes channels all m k l =
-    elim (cases_lt m (length lanes)) [
-      | inl inside ↦ all m no_lane inside k no_step l
-      | inr past ↦ let none : length (lane_at lanes m).steps ≡ 0 = rw (get_or_past lanes m no_lane past) refl in absurd (omega arith)
-    ]
+    let past = get_or_past lanes m no_lane in let inside : m < length lanes = grind arith in all m no_lane inside k no_step l
 
 pub shown_inside : {S : Type 0} → (d : Design S) (h : Held) (x : Core S) → Shows d h x → (m k : ℕ) → k < emitted_of h m
     → All (IsAccess h.channels) (step_of h m k).accesses
@@ -181,9 +180,7 @@ by_side : (lanes : List Lane) (channels : List Channel) (a : Access) (n : ℕ) �
     ≡ known_by lanes (lag_of (channel_at channels a.channel).kind (side_of a.kind)) (enabler_by (channel_at channels a.channel).kind
     (side_of a.kind) (channel_at channels a.channel) n)
 unfolding when_possible enabler_at lag
-by_side lanes channels a n e =
-    ap (λ (o : ℕ). known_by lanes (lag_of (channel_at channels a.channel).kind (side_of a.kind))
-    (enabler_by (channel_at channels a.channel).kind (side_of a.kind) (channel_at channels a.channel) o)) e
+by_side lanes channels a n e = rw e refl
 
 side_known : {S : Type 0} → (d : Design S) → IsDesign d → (h : Held) → IsSound d h → (a : Access) → IsAccess h.channels a → (n : ℕ)
     → a.ordinal ≡ suc n

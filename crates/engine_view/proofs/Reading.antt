@@ -1,10 +1,10 @@
 -- A core that is shown by what is held, and whose marks are those of its modules' own runs, is the one that is read off.
-use Rattle.std.proofs.Common.{◌≡◌, refl, sym, ap, ap₂, ◌∙◌, ℕ, zero, suc, ◌-◌, ◌<◌, ◌≤◌, Bool, false, cond, ◌&&◌, List, [], ◌∷◌, length}
-use Rattle.std.proofs.Common.{map, get_or, arith, inl, inr}
+use Rattle.std.proofs.Common.{◌≡◌, refl, sym, ap, ap₂, ◌∙◌, ℕ, zero, suc, ◌-◌, ◌<◌, ◌≤◌, Bool, false, cond, List, [], ◌∷◌, length}
+use Rattle.std.proofs.Common.{map, get_or, arith}
+use Rattle.std.proofs.lemmas.Bool.Decides.{nat_tests}
 use Rattle.std.specs.Prelude.{All}
-use Rattle.std.proofs.lemmas.Bool.{cases_lt, cases_Bool, and_parts, lt-ltb, le-ltb}
 use Rattle.std.proofs.lemmas.List.Elements.{All-head, All-tail}
-use Rattle.flow_word.specs.Kinds.{side_of, same_side, is_taking}
+use Rattle.flow_word.specs.Kinds.{side_of}
 use Rattle.flow_word.specs.declared.access.Side.{Side}
 use Rattle.flow_word.specs.declared.access.Side.TheVariants.{Pop}
 use Rattle.flow_word.specs.declared.access.Side.TheVariants.{Pop}
@@ -27,15 +27,7 @@ use Rattle.engine_view.proofs.Knowing.{shown_inside}
 
 front_is : (a : Access) (b : Bool) (t n : ℕ) (xs ys : List ℕ) → (side_of a.kind ≡ Pop → n ≡ suc t) → xs ≡ ys
     → cond (pops_now (seen a) b) (get_or xs (n - 1) 0) 0 ≡ cond (pops_now (seen a) b) (get_or ys t 0) 0
-front_is a b t n xs ys o e =
-    elim (cases_Bool (pops_now (seen a) b)) [
-      | inl y ↦
-          let p = (and_parts (same_side (side_of a.kind) Pop) b (and_parts (is_taking a.kind) (same_side (side_of a.kind) Pop && b)
-          y).1).0 in
-          let z : n - 1 ≡ t = omega (arith, o (same_side_is (side_of a.kind) Pop p)) in
-          rw (y, e, z) refl
-      | inr y ↦ rw y refl
-    ]
+front_is a b t n xs ys o e = let pop = same_side_is (side_of a.kind) Pop in grind arith
 
 replies_are : (channels : List Channel) (V : ℕ → List ℕ) (t : Side → ℕ → ℕ) (xs : List Access) (bs : List Bool)
     → All (λ (a : Access). a.ordinal ≡ suc (t (side_of a.kind) a.channel)) xs
@@ -66,8 +58,7 @@ reply_is {S} d h x s n m k l f =
 own_same : {S : Type 0} → (d : Design S) (m n : ℕ) (r q : ℕ → List Reply) → ((k : ℕ) → k < n → r k ≡ q k) → own d m r n ≡ own d m q n
 own_same {S} d m zero r q e = own_0 d m r ∙ sym (own_0 d m q)
 own_same {S} d m (suc n) r q e =
-    own_more d m r n ∙ (ap₂ (λ (s : S) (rs : List Reply). d.move m (ready d m s) rs) (own_same d m n r q (λ k l. e k (omega arith)))
-    (e n (omega arith)) ∙ sym (own_more d m q n))
+    rw (own_more d m r n, own_more d m q n, own_same d m n r q (λ k l. e k (omega arith)), e n (omega arith)) refl
 
 -- ---- the core
 
@@ -99,13 +90,13 @@ read_back {S} d h x b s r =
   where
     state : (m k : ℕ) → (core_of d h).state m k ≡ x.state m k
     state m k =
-        elim (cases_lt k (x.emitted m)) [
-          | inl l ↦
-              let same = own_same d m k (replies_at h m) (core_reply d x m) (λ j q. reply_is d h x s r.emitted m j (omega arith)
-              (r.flags m j)) in
-              rw (r.emitted m, lt-ltb k (x.emitted m) l) (ap (ready d m) same ∙ sym (b.own_step m k l))
-          | inr l ↦ rw (r.emitted m, le-ltb k (x.emitted m) l) (r.past m k l)
-        ]
+        let same = own_same d m k (replies_at h m) (core_reply d x m) in
+        let each = reply_is d h x s r.emitted m in
+        let emitted = r.emitted m in
+        let flags = r.flags m in
+        let own = b.own_step m k in
+        let past = r.past m k in
+        grind (arith, nat_tests)
 
 -- and so what is held is sound
 pub read_sound : {S : Type 0} → (d : Design S) (h : Held) (x : Core S) → AreOwnMarks d x → Shows d h x → IsRead d h x

@@ -1,9 +1,9 @@
 -- An Answer with no recorded outcomes: what the code needs, and what it leaves.
-use Rattle.std.proofs.Common.{◌≡◌, refl, sym, ap, subst, ◌∙◌, ℕ, suc, ◌+◌, ◌-◌, ◌<◌, ◌≤◌, inl, inr, Bool, true, cond, List, length, drop}
-use Rattle.std.proofs.Common.{get_or, map, arith, eqb, ◌||◌, ap₂}
+use Rattle.std.proofs.Common.{◌≡◌, refl, sym, ap, subst, ◌∙◌, ℕ, suc, ◌+◌, ◌-◌, ◌<◌, ◌≤◌, Bool, true, cond, List, length, drop}
+use Rattle.std.proofs.Common.{get_or, map, arith, eqb, ap₂}
 use Rattle.std.specs.Prelude.{All, slice_get, Some}
-use Rattle.std.proofs.lemmas.Bool.{or_right, ne_eqb}
-use Rattle.std.proofs.lemmas.Bool.Decides.{eqb_tells}
+use Rattle.std.proofs.lemmas.Bool.{or_right}
+use Rattle.std.proofs.lemmas.Bool.Decides.{nat_tests}
 use Rattle.std.proofs.lemmas.Option.{get_or_from_slice_get}
 use Rattle.flow_word.specs.declared.access.Side.{Side}
 use Rattle.flow_word.specs.declared.access.Access.{Access}
@@ -79,17 +79,14 @@ module _ {S : Type 0} (d : Design S) (h : Held) (m c : ℕ) (f : IsFresh d h m) 
 
   waits_one : pending x m ≡ 1
   unfolding pending
-  waits_one =
-      let same : emitted_of h m - 1 ≡ k₀ = let n = newest in omega arith in
-      ap (λ (b : Bool). cond b 0 1) (ap₂ (λ (a b : Bool). a || b) (ne_eqb (emitted_of h m) 0 (λ e. let n = newest in omega arith))
-      (ap (x.answered m) same ∙ f.fresh))
+  waits_one = let n = newest in let fresh = f.fresh in grind (arith, nat_tests)
 
   module _ (lanes : List ℕ) (table : RoomedChannels) (logs credits : List ℕ) (r : HasRoom d h lanes table logs credits) where
     pub fresh_room : HasRoomFor table t.accesses
     fresh_room = room_for d h lanes table logs credits r m t.accesses (let n = waits_one in omega arith) fresh_inside owned
 
     queries_are : queries_before h m (emitted_of h m) ≡ queries_before h m k₀ + queries_in t.accesses
-    queries_are = ap (queries_before h m) (sym newest) ∙ queries_step h m k₀
+    queries_are = rw (sym newest) (queries_step h m k₀)
 
     pub fresh_log_room : queries_in t.accesses ≤ get_or logs m 0
     fresh_log_room =
@@ -108,8 +105,7 @@ module _ {S : Type 0} (d : Design S) (h : Held) (m c : ℕ) (f : IsFresh d h m) 
       (f.unsure.kept.earlier m)
 
   pub fresh_logs : with_outcomes h.logs m (outcomes_of t.accesses (found_flags h.lanes h.channels c t.accesses)) ≡ g.logs
-  fresh_logs = ap (λ (bs : List Bool). with_outcomes h.logs m (outcomes_of t.accesses bs))
-      (sym (flags_are d f.unsure.design h f.unsure.kept.sound m c f.unsure.less))
+  fresh_logs = rw (flags_are d f.unsure.design h f.unsure.kept.sound m c f.unsure.less) refl
 
   pub fresh_channels : taken_all (place_of m k₀) h.channels t.accesses
       (done_by true t.accesses (drop t.first_query (log_at g.logs m).outcomes)) ≡ g.channels
@@ -135,33 +131,28 @@ module _ {S : Type 0} (d : Design S) (h : Held) (m c : ℕ) (f : IsFresh d h m) 
         ends_now side ch (r.ends side ch (omega arith));
     steps = r.steps;
     outcomes = λ n.
-        elim (eqb_tells n m) [
-          | inl e ↦ subst (λ (k : ℕ). queries_before g k (emitted_of h k) ≤ get_or logs' k 0 + length (log_at g.logs k).outcomes) (sym e.1)
-              all_new
-          | inr e ↦
-              let a = r.outcomes n in
-              let b = other_logs n e.1 in
-              let q = same_queries d f.unsure.design h m c f.unsure.inside f.unsure.kept.sound f.unsure.kept.marks f.unsure.less f.fresh
-              (f.unsure.kept.earlier m) n (emitted_of h n) in
-              let o : length (log_at g.logs n).outcomes ≡ length (log_at h.logs n).outcomes =
-              ap (λ (log : Log). length log.outcomes) (log_else d f.unsure.design h m c f.unsure.inside f.unsure.kept.sound
-              f.unsure.kept.marks f.unsure.less f.fresh (f.unsure.kept.earlier m) n e.1) in
-              omega arith
-        ];
+        let before = r.outcomes n in
+        let more = other_logs n in
+        let same = same_queries d f.unsure.design h m c f.unsure.inside f.unsure.kept.sound f.unsure.kept.marks f.unsure.less f.fresh
+        (f.unsure.kept.earlier m) n (emitted_of h n) in
+        let kept = log_else d f.unsure.design h m c f.unsure.inside f.unsure.kept.sound f.unsure.kept.marks f.unsure.less f.fresh
+        (f.unsure.kept.earlier m) n in
+        let all = all_new in
+        grind arith;
     few = λ n. let a = r.few n in let q = same_queries d f.unsure.design h m c f.unsure.inside f.unsure.kept.sound f.unsure.kept.marks
         f.unsure.less f.fresh (f.unsure.kept.earlier m) n (emitted_of h n) in omega arith;
   }
     where
       all_new : queries_before g m (emitted_of h m) ≤ get_or logs' m 0 + length (log_at g.logs m).outcomes
       all_new =
-          let q = same_queries d f.unsure.design h m c f.unsure.inside f.unsure.kept.sound f.unsure.kept.marks f.unsure.less f.fresh
+          let same = same_queries d f.unsure.design h m c f.unsure.inside f.unsure.kept.sound f.unsure.kept.marks f.unsure.less f.fresh
           (f.unsure.kept.earlier m) m (emitted_of h m) in
-          let n : queries_before h m (emitted_of h m) ≡ queries_before h m (suc k₀) = ap (queries_before h m) (sym newest) in
-          let o : length (log_at g.logs m).outcomes ≡ queries_before h m (suc k₀) =
-          ap (λ (log : Log). length log.outcomes) (log_now d f.unsure.design h m c f.unsure.inside f.unsure.kept.sound f.unsure.kept.marks
-          f.unsure.less f.fresh (f.unsure.kept.earlier m)) ∙ new_length d f.unsure.design h m c f.unsure.inside f.unsure.kept.sound
-          f.unsure.kept.marks f.unsure.less f.fresh (f.unsure.kept.earlier m) in
-          omega arith
+          let now = log_now d f.unsure.design h m c f.unsure.inside f.unsure.kept.sound f.unsure.kept.marks f.unsure.less f.fresh
+          (f.unsure.kept.earlier m) in
+          let long = new_length d f.unsure.design h m c f.unsure.inside f.unsure.kept.sound f.unsure.kept.marks f.unsure.less f.fresh
+          (f.unsure.kept.earlier m) in
+          let n = newest in
+          grind arith
 
       pending_other : (n : ℕ) → (n ≡ m → ⊥) → pending (core_of d g) n ≡ pending x n
       pending_other n e = pending_same (core_of d g) x n refl (λ k. ap (λ (y : Core S). y.answered n k) fresh_core.0
@@ -170,22 +161,17 @@ module _ {S : Type 0} (d : Design S) (h : Held) (m c : ℕ) (f : IsFresh d h m) 
       ends_now : (side : Side) (ch : ℕ) → get_or credits (d.owner side ch) 0 + pending x (d.owner side ch) ≤ room_of table side ch
           → get_or credits (d.owner side ch) 0 + pending (core_of d g) (d.owner side ch) ≤ room_of table' side ch
       ends_now side ch before =
-          elim (eqb_tells (d.owner side ch) m) [
-            | inl e ↦
-                let was : pending x (d.owner side ch) ≡ 1 = ap (pending x) e.1 ∙ waits_one in
-                let now : pending (core_of d g) (d.owner side ch) ≡ 0 = ap (pending (core_of d g)) e.1 ∙ waits_none in
-                let less = one side ch in
-                omega arith
-            | inr e ↦
-                let still = pending_other (d.owner side ch) e.1 in
-                let kept = others side ch (free_side d m t.accesses owned side ch e.1) in
-                omega arith
-          ]
+          let was = waits_one in
+          let now = waits_none in
+          let less = one side ch in
+          let still = pending_other (d.owner side ch) in
+          let kept = others side ch in
+          let free = free_side d m t.accesses owned side ch in
+          grind arith
 
 pub first_is : (h : Held) (m n : ℕ) (step : Step) → n ≡ length (lane_at h.lanes m).cycles
     → slice_get (lane_at h.lanes m).steps n ≡ Some step → step_of h m (length (lane_at h.lanes m).cycles) ≡ step
-first_is h m n step e there = get_or_from_slice_get (lane_at h.lanes m).steps (length (lane_at h.lanes m).cycles) step no_step
-    (subst (λ (k : ℕ). slice_get (lane_at h.lanes m).steps k ≡ Some step) e there)
+first_is h m n step e there = get_or_from_slice_get (lane_at h.lanes m).steps (length (lane_at h.lanes m).cycles) step no_step (rw e at there)
 
 channels_from : {S : Type 0} → (d : Design S) (h : Held) (m c : ℕ) (f : IsFresh d h m) (n : ℕ) (step : Step) (xs : List Access)
     (logs : List Log) (channels : List Channel)
@@ -193,14 +179,7 @@ channels_from : {S : Type 0} → (d : Design S) (h : Held) (m c : ℕ) (f : IsFr
     → logs ≡ (with_answered h m (length (lane_at h.lanes m).cycles) (new_flags d (core_of d h) m c)).logs
     → channels ≡ taken_all (place_of m n) h.channels xs (done_by true xs (drop step.first_query (log_at logs m).outcomes))
     → channels ≡ (with_answered h m (length (lane_at h.lanes m).cycles) (new_flags d (core_of d h) m c)).channels
-channels_from {S} d h m c f n step xs logs channels en es ea el e =
-    let k = length (lane_at h.lanes m).cycles in
-    let F : ℕ → List Access → ℕ → List Log
-    → List Channel = λ n as' q ls. taken_all (place_of m n) h.channels as' (done_by true as' (drop q (log_at ls m).outcomes)) in
-    e ∙ (ap (λ (n : ℕ). F n xs step.first_query logs) en
-    ∙ (ap (λ (as' : List Access). F k as' step.first_query logs) (ea ∙ ap (λ (t : Step). t.accesses) (sym es))
-    ∙ (ap (λ (q : ℕ). F k (step_of h m k).accesses q logs) (ap (λ (t : Step). t.first_query) (sym es))
-    ∙ (ap (λ (ls : List Log). F k (step_of h m k).accesses (step_of h m k).first_query ls) el ∙ fresh_channels d h m c f))))
+channels_from {S} d h m c f n step xs logs channels en es ea el e = e ∙ rw (en, ea, sym es, el) (fresh_channels d h m c f)
 
 -- what is held behind the loops that add the outcomes and what they decide
 pub behind_is : {S : Type 0} → (d : Design S) (h : Held) (m c : ℕ) (f : IsFresh d h m) (n : ℕ) (step : Step) (xs ys : List Access)
@@ -210,10 +189,7 @@ pub behind_is : {S : Type 0} → (d : Design S) (h : Held) (m c : ℕ) (f : IsFr
     → channels ≡ taken_all (place_of m n) h.channels ys (done_by true ys (drop step.first_query (log_at logs m).outcomes))
     → held h.lanes channels logs h.over ≡ with_answered h m (first_of h m) (new_flags d (core_of d h) m c)
 behind_is {S} d h m c f n step xs ys logs channels en es ex ey el ec =
+    let same : logs ≡ (with_answered h m (first_of h m) (new_flags d (core_of d h) m c)).logs =
+    el ∙ rw (ex, sym es) (fresh_logs d h m c f) in
     ap₂ (λ (cs : List Channel) (ls : List Log). held h.lanes cs ls h.over) (channels_from d h m c f n step ys logs channels en es ey same
     ec) same
-  where
-    same : logs ≡ (with_answered h m (first_of h m) (new_flags d (core_of d h) m c)).logs
-    same =
-        el ∙ (ap (λ (as' : List Access). with_outcomes h.logs m (outcomes_of as' (found_flags h.lanes h.channels c as')))
-        (ex ∙ sym (ap (λ (t : Step). t.accesses) es)) ∙ fresh_logs d h m c f)

@@ -1,19 +1,16 @@
 -- Room stays while modules act.
-use Rattle.std.proofs.Common.{◌≡◌, refl, sym, ap, ap₂, subst, ◌∙◌, ℕ, zero, suc, ◌+◌, ◌-◌, ◌*◌, ◌<◌, ◌≤◌, inl, inr, Bool, true, false, cond}
-use Rattle.std.proofs.Common.{List, [], ◌∷◌, length, map, get_or, set, arith, eqb, ◌||◌}
+use Rattle.std.proofs.Common.{◌≡◌, refl, sym, ap, subst, ◌∙◌, ℕ, zero, suc, ◌+◌, ◌-◌, ◌*◌, ◌<◌, ◌≤◌, Bool, true, false}
+use Rattle.std.proofs.Common.{List, [], ◌∷◌, length, map, get_or, set, arith}
 use Rattle.std.specs.Prelude.{All}
-use Rattle.std.proofs.lemmas.Bool.{cases_Bool, cases_lt, eq-eqb}
-use Rattle.std.proofs.lemmas.Bool.Decides.{eqb_tells}
+use Rattle.std.proofs.lemmas.Bool.Decides.{nat_tests}
 use Rattle.std.proofs.lemmas.List.{get_or-set_same, get_or-set_other}
-use Rattle.flow_word.specs.Kinds.{is_blocking, side_of, same_side}
+use Rattle.flow_word.specs.Kinds.{side_of, same_side}
 use Rattle.flow_word.specs.declared.access.Side.{Side}
-use Rattle.flow_word.specs.declared.access.Side.TheVariants.{Pop, Push}
 use Rattle.flow_word.specs.declared.access.Access.{Access}
 use Rattle.flow_word.specs.declared.access.Step.{Step}
 use Rattle.fifo_table.specs.Roomed.{RoomedChannels}
-use Rattle.event_graph.specs.Lanes.{Lane}
 use Rattle.fifo_table.specs.Channels.{Channel}
-use Rattle.query_log.specs.Logs.{Log, log_at}
+use Rattle.query_log.specs.Logs.{log_at}
 use Rattle.time_engine.specs.Conditions.{IsAccess}
 use Rattle.event_timing.specs.Machines as theory
 use Rattle.event_timing.specs.Machines.{Design, IsDesign, Each, ready, takers, takes_at}
@@ -29,16 +26,15 @@ use Rattle.engine_view.specs.Rooms.{query_bound, room_of, TakesAt, AreApart, Has
 use Rattle.engine_view.proofs.Taking.{all_length}
 use Rattle.engine_view.proofs.Emitted.{there, queries_same, emitted_core}
 use Rattle.engine_view.proofs.Answered.{queries_step, queries_zero, all_among}
-use Rattle.std.proofs.lemmas.Bool.{and_parts, cond-false}
+use Rattle.std.proofs.lemmas.Bool.{cond-false}
 
 -- ---- accesses of a step
 
 side_is : (p : Side) → same_side p p ≡ true
-side_is Pop = refl
-side_is Push = refl
+side_is p = grind arith
 
 pub takes_seen : (side : Side) (c : ℕ) (a : Access) → TakesAt side c a → takes_at side c (seen a) ≡ true
-takes_seen side c a k = rw (k.same_side, k.same_channel, k.taking, side_is (side_of a.kind), eq-eqb a.channel a.channel refl) refl
+takes_seen side c a k = let same = side_is (side_of a.kind) in grind (arith, nat_tests)
 
 some_taker : (side : Side) (c : ℕ) (xs : List Access) (j : ℕ) (e : Access) → j < length xs → TakesAt side c (get_or xs j e)
     → 1 ≤ takers side c (map seen xs)
@@ -69,7 +65,7 @@ pub free_side : {S : Type 0} → (d : Design S) (m : ℕ) (xs : List Access) →
     → (side : Side) (c : ℕ) → (d.owner side c ≡ m → ⊥)
     → All (λ (a : Access). TakesAt side c a → ⊥) xs
 free_side {S} d m xs p side c f j e l k =
-    f (ap₂ (λ (s : Side) (n : ℕ). d.owner s n) k.same_side k.same_channel ∙ each_at (λ a. d.owner a.side a.channel ≡ m) xs p j e l)
+    let own = each_at (λ a. d.owner a.side a.channel ≡ m) xs p j e l in f (rw (k.same_side, k.same_channel) own)
 
 pub room_for : {S : Type 0} → (d : Design S) (h : Held) (lanes : List ℕ) (table : RoomedChannels) (logs credits : List ℕ)
     → HasRoom d h lanes table logs credits → (m : ℕ) (xs : List Access)
@@ -79,44 +75,30 @@ room_for {S} d h lanes table logs credits r m xs some inside owned j e l t =
     let a = get_or xs j e in
     let k = inside j e l in
     let own = each_at (λ a. d.owner a.side a.channel ≡ m) xs owned j e l in
-    let room = subst (λ (n : ℕ). get_or credits n 0 + pending (core_of d h) n ≤ room_of table (side_of a.kind) a.channel) own
-    (r.ends (side_of a.kind) a.channel k.channel) in
+    let room = rw own at (r.ends (side_of a.kind) a.channel k.channel) in
     omega arith
 
 pub few_queries : (xs : List Access) → queries_in xs ≤ length xs
 few_queries [] = omega arith
-few_queries (a ∷ xs) =
-    let l = few_queries xs in
-    elim (cases_Bool (is_blocking a.kind)) [ inl e ↦ rw e (omega arith) | inr e ↦ rw e (omega arith) ]
+few_queries (a ∷ xs) = let later = few_queries xs in grind arith
 
 pub pending_most : {S : Type 0} → (x : Core S) (m : ℕ) → pending x m ≤ 1
 unfolding pending
-pending_most {S} x m = elim (cases_Bool (eqb (x.emitted m) 0 || x.answered m (x.emitted m - 1))) [
-  | inl e ↦ rw e (omega arith)
-  | inr e ↦
-      rw e (omega arith)
-]
+pending_most {S} x m = grind arith
 
 pub pending_same : {S : Type 0} → (x y : Core S) (m : ℕ) → x.emitted m ≡ y.emitted m → ((k : ℕ) → x.answered m k ≡ y.answered m k)
     → pending x m ≡ pending y m
 unfolding pending
-pending_same {S} x y m e f =
-    ap (λ (b : Bool). cond (eqb (x.emitted m) 0 || b) 0 1) (f (x.emitted m - 1))
-    ∙ ap (λ (n : ℕ). cond (eqb n 0 || y.answered m (n - 1)) 0 1) e
+pending_same {S} x y m e f = rw (f (x.emitted m - 1), e) refl
 
 -- a module that may run has all outcomes of its queries
 pub all_there : {S : Type 0} → (d : Design S) (h : Held) → IsSound d h → AreOwnMarks d (core_of d h) → (m : ℕ) → MayRun d (core_of d h) m
     → queries_before h m (emitted_of h m) ≤ length (log_at h.logs m).outcomes
 all_there {S} d h s b m r =
-    all_among h m (emitted_of h m) (length (log_at h.logs m).outcomes) (λ k l. s.first_query m k l)
-    (λ k l. (and_parts _ (are_among (step_of h m k) (length (log_at h.logs m).outcomes)) (there_at k l)).1)
+    all_among h m (emitted_of h m) (length (log_at h.logs m).outcomes) (λ k l. s.first_query m k l) (λ k l. there_at k l)
   where
-    there_at : (k : ℕ) → k < emitted_of h m → (core_of d h).answered m k ≡ true
-    there_at k l =
-        elim (cases_lt (suc k) (emitted_of h m)) [
-          | inl q ↦ b.replied m k q
-          | inr q ↦ r.answered k (omega arith)
-        ]
+    there_at : (k : ℕ) → k < emitted_of h m → are_among (step_of h m k) (length (log_at h.logs m).outcomes) ≡ true
+    there_at k l = let replied = b.replied m k in let answered = r.answered k in grind (arith, nat_tests)
 
 -- ---- a step more
 
@@ -159,66 +141,48 @@ module _ {S : Type 0} (d : Design S) (i : IsDesign d) (h : Held) (m : ℕ) (t : 
 
   queries_now : queries_before g m (emitted_of g m) ≡ queries_before h m (emitted_of h m) + queries_in t.accesses
   queries_now =
-      ap (queries_before g m) emitted_same
-      ∙ (queries_step g m (emitted_of h m) ∙ ap₂ (λ (u v : ℕ). u + v) (queries_same d i h m t inside m (emitted_of h m) (omega arith))
-      (ap (λ (q : Step). queries_in q.accesses) (there d i h m t inside)))
+      let same = queries_same d i h m t inside m (emitted_of h m) (omega arith) in
+      rw (emitted_same, queries_step g m (emitted_of h m), there d i h m t inside, same) refl
 
   queries_else : (n : ℕ) → (n ≡ m → ⊥) → queries_before g n (emitted_of g n) ≡ queries_before h n (emitted_of h n)
-  queries_else n f = ap (queries_before g n) (emitted_else n f) ∙ queries_same d i h m t inside n (emitted_of h n) (omega arith)
+  queries_else n f = rw (emitted_else n f) (queries_same d i h m t inside n (emitted_of h n) (omega arith))
 
   pub room_emitted : (lanes lanes' : List ℕ) (table table' : RoomedChannels) (logs credits : List ℕ) → HasRoom d h lanes table logs credits
       → m < length credits → 2 ≤ get_or credits m 0
       → UsesRoom m t.accesses lanes lanes' table table' → queries_in t.accesses ≤ get_or logs m 0
       → t.first_query + queries_in t.accesses < query_bound
       → HasRoom d g lanes' table' logs (set credits m (get_or credits m 0 - 2))
-  room_emitted lanes lanes' table table' logs credits old known rich used log_room few = record {
-    ends = λ side c l. let e = all_length (place_of m (emitted_of h m)) h.channels t.accesses (done_at_once t.accesses) in
-        ends_now side c (omega arith);
-    steps = λ n.
-        elim (eqb_tells n m) [
-          | inl e ↦ subst (λ (k : ℕ). get_or (set credits m (get_or credits m 0 - 2)) k 0 ≤ 2 * get_or lanes' k 0) (sym e.1)
-              (rw mine (let l = old.steps m in let k = used.lane in omega arith))
-          | inr e ↦ rw (rest n e.1) (let l = old.steps n in let k = used.other_lanes n e.1 in omega arith)
-        ];
-    outcomes = λ n.
-        elim (eqb_tells n m) [
-          | inl e ↦ subst (λ (k : ℕ). queries_before g k (emitted_of g k) ≤ get_or logs k 0 + length (log_at h.logs k).outcomes) (sym e.1)
-              (rw queries_now (let q = all_there d h s b m r in omega arith))
-          | inr e ↦ rw (queries_else n e.1) (old.outcomes n)
-        ];
-    few = λ n.
-        elim (eqb_tells n m) [
-          | inl e ↦ subst (λ (k : ℕ). queries_before g k (emitted_of g k) < query_bound) (sym e.1)
-              (rw queries_now (let q = next.first_query in omega arith))
-          | inr e ↦ rw (queries_else n e.1) (old.few n)
-        ];
-  }
+  room_emitted lanes lanes' table table' logs credits old known rich used log_room few =
+      let mine = get_or-set_same credits m (get_or credits m 0 - 2) 0 known in
+      let rest = λ (n : ℕ). get_or-set_other credits m n (get_or credits m 0 - 2) 0 in
+      let first = next.first_query in
+      let all = all_there d h s b m r in
+      record {
+        ends = λ side c l. let e = all_length (place_of m (emitted_of h m)) h.channels t.accesses (done_at_once t.accesses) in
+            ends_now side c (omega arith);
+        steps = λ n.
+            let before = old.steps n in
+            let here = used.lane in
+            let there = used.other_lanes n in
+            let else = rest n in
+            grind arith;
+        outcomes = λ n. let before = old.outcomes n in let now = queries_now in let else = queries_else n in grind arith;
+        few = λ n. let before = old.few n in let now = queries_now in let else = queries_else n in grind arith;
+      }
     where
-      mine : get_or (set credits m (get_or credits m 0 - 2)) m 0 ≡ get_or credits m 0 - 2
-      mine = get_or-set_same credits m (get_or credits m 0 - 2) 0 known
-
-      rest : (n : ℕ) → (n ≡ m → ⊥) → get_or (set credits m (get_or credits m 0 - 2)) n 0 ≡ get_or credits n 0
-      rest n f = get_or-set_other credits m n (get_or credits m 0 - 2) 0 f
-
       ends_now : (side : Side) (c : ℕ) → c < length h.channels
           → get_or (set credits m (get_or credits m 0 - 2)) (d.owner side c) 0 + pending (core_of d g) (d.owner side c) ≤ room_of table'
           side c
       ends_now side c l =
           let before = old.ends side c l in
-          elim (eqb_tells (d.owner side c) m) [
-            | inl e ↦
-                let mine' : get_or (set credits m (get_or credits m 0 - 2)) (d.owner side c) 0 ≡ get_or credits m 0 - 2 =
-                ap (λ (k : ℕ). get_or (set credits m (get_or credits m 0 - 2)) k 0) e.1 ∙ mine in
-                let same : get_or credits (d.owner side c) 0 ≡ get_or credits m 0 = ap (λ (k : ℕ). get_or credits k 0) e.1 in
-                let most = pending_most (core_of d g) (d.owner side c) in
-                let less = used.one side c in
-                omega arith
-            | inr e ↦
-                let same = rest (d.owner side c) e.1 in
-                let still = pending_other (d.owner side c) e.1 in
-                let kept = used.others side c (free_side d m t.accesses (owned_next d i h m t next) side c e.1) in
-                omega arith
-          ]
+          let mine = get_or-set_same credits m (get_or credits m 0 - 2) 0 known in
+          let rest = get_or-set_other credits m (d.owner side c) (get_or credits m 0 - 2) 0 in
+          let most = pending_most (core_of d g) (d.owner side c) in
+          let less = used.one side c in
+          let still = pending_other (d.owner side c) in
+          let kept = used.others side c in
+          let free = free_side d m t.accesses (owned_next d i h m t next) side c in
+          grind arith
 
 -- ---- room that is made
 
@@ -245,17 +209,15 @@ room_lent {S} d h lanes table logs credits m n r inside lane sides = record {
   ends = λ side c l.
       let before = r.ends side c l in
       let most = pending_most (core_of d h) (d.owner side c) in
-      elim (eqb_tells (d.owner side c) m) [
-        | inl e ↦ let room = sides side c l e.1 in let now : get_or (set credits m n) (d.owner side c) 0 ≡ n =
-            ap (λ (k : ℕ). get_or (set credits m n) k 0) e.1 ∙ get_or-set_same credits m n 0 inside in omega arith
-        | inr e ↦ let now = get_or-set_other credits m (d.owner side c) n 0 e.1 in omega arith
-      ];
+      let room = sides side c l in
+      let here = get_or-set_same credits m n 0 inside in
+      let other = get_or-set_other credits m (d.owner side c) n 0 in
+      grind arith;
   steps = λ k.
-      elim (eqb_tells k m) [
-        | inl e ↦ subst (λ (v : ℕ). get_or (set credits m n) v 0 ≤ 2 * get_or lanes v 0) (sym e.1)
-            (rw (get_or-set_same credits m n 0 inside) lane)
-        | inr e ↦ rw (get_or-set_other credits m k n 0 e.1) (r.steps k)
-      ];
+      let before = r.steps k in
+      let here = get_or-set_same credits m n 0 inside in
+      let other = get_or-set_other credits m k n 0 in
+      grind arith;
   outcomes = r.outcomes;
   few = r.few;
 }
@@ -277,7 +239,7 @@ room_same {S} d h g lanes lanes' table logs credits r count still same log f = r
 -- nothing is emitted, and nothing waits
 pub pending_none : {S : Type 0} → (x : Core S) (m : ℕ) → x.emitted m ≡ 0 → pending x m ≡ 0
 unfolding pending
-pending_none {S} x m e = ap (λ (n : ℕ). cond (eqb n 0 || x.answered m (n - 1)) 0 1) e
+pending_none {S} x m e = rw e refl
 
 -- so at first there is room enough
 pub room_opening : {S : Type 0} → (d : Design S) (h : Held) (lanes : List ℕ) (table : RoomedChannels) (logs credits : List ℕ)
@@ -303,10 +265,6 @@ pub roomy_kept : {S : Type 0} → (d : Design S) (s t : Stored) (over : List Boo
     → ((side : Side) (c : ℕ) → room_of s.table side c ≤ room_of t.table side c)
     → ((k : ℕ) → get_or s.log.rooms k 0 ≤ get_or t.log.rooms k 0) → IsRoomy d s over credits → IsRoomy d t over credits
 roomy_kept {S} d s t over credits el ec eo f g q r =
-    subst (λ (ls : List Lane). HasRoom d (held ls t.table.channels t.log.logs over) t.graph.rooms
-    t.table t.log.rooms credits) (sym el)
-    (subst (λ (cs : List Channel). HasRoom d (held s.graph.lanes cs t.log.logs over) t.graph.rooms
-    t.table t.log.rooms credits) (sym ec)
-    (subst (λ (os : List Log). HasRoom d (held s.graph.lanes s.table.channels os over)
-    t.graph.rooms t.table t.log.rooms credits) (sym eo)
-    (room_kept d (held_in s over) s.graph.rooms t.graph.rooms s.table t.table s.log.rooms t.log.rooms credits r f g q)))
+    rw (el, eo)
+    (subst (λ (cs : List Channel). HasRoom d (held s.graph.lanes cs s.log.logs over) t.graph.rooms t.table t.log.rooms credits) (sym ec)
+    (room_kept d (held_in s over) s.graph.rooms t.graph.rooms s.table t.table s.log.rooms t.log.rooms credits r f g q))

@@ -1,12 +1,12 @@
 -- The loop that adds a step's outcomes.
-use Rattle.std.proofs.Common.{◌≡◌, refl, sym, ap, subst, ◌∙◌, ℕ, ◌+◌, ◌<◌, ◌≤◌, Bool, true, false, cond, ◌||◌, List, [], ◌∷◌, length, drop}
+use Rattle.std.proofs.Common.{◌≡◌, sym, ap, ◌∙◌, ℕ, ◌+◌, ◌<◌, ◌≤◌, Bool, true, false, cond, ◌||◌, List, [], ◌∷◌, length, drop}
 use Rattle.std.proofs.Common.{get_or, arith, length-append}
 use Rattle.std.proofs.lemmas.List.{drop_more, drop_all, length-set, get_or-set_same}
 use Rattle.flow_word.specs.Kinds.{is_blocking}
 use Rattle.flow_word.specs.declared.access.Access.{Access}
 use Rattle.event_graph.specs.Lanes.{Lane}
 use Rattle.fifo_table.specs.Channels.{Channel}
-use Rattle.query_log.specs.Logs.{Log, RoomedLogs, no_log, log_at, answered, with_outcome, with_outcomes}
+use Rattle.query_log.specs.Logs.{RoomedLogs, no_log, log_at, answered, with_outcome, with_outcomes}
 use Rattle.query_log.proofs.Adding.{outcomes_more, outcomes_none}
 use Rattle.time_engine.specs.Possible.{when_possible}
 use Rattle.event_timing.specs.Enablers.{answer}
@@ -43,20 +43,14 @@ module _ (lanes : List Lane) (channels : List Channel) (c m : ℕ) (xs : List Ac
       → outcomes_of (drop i xs) (found_flags lanes channels c (drop i xs)) ≡ cond b late (found ∷ late)
   first b e =
       ap (λ (ys : List Access). outcomes_of ys (found_flags lanes channels c ys)) (drop_more xs i d l)
-      ∙ ap (λ (q : Bool). cond q late (outcome_by a.kind (q || answer (as_known (when_possible lanes channels a)) c) ∷ late)) e
-      ∙ by b
+      ∙ by (is_blocking a.kind) b e
     where
-      by : (b : Bool) → cond b late (outcome_by a.kind (b || answer (as_known (when_possible lanes channels a)) c) ∷ late) ≡ cond b late
-          (found ∷ late)
-      by true = refl
-      by false = refl
+      by : (q b : Bool) → q ≡ b
+          → cond q late (outcome_by a.kind (q || answer (as_known (when_possible lanes channels a)) c) ∷ late) ≡ cond b late (found ∷ late)
+      by q b e = grind arith
 
   queries_first : (b : Bool) → is_blocking a.kind ≡ b → queries_in (drop i xs) ≡ cond b 0 1 + queries_in rest
-  queries_first b e = ap queries_in (drop_more xs i d l) ∙ one b e
-    where
-      one : (b : Bool) → is_blocking a.kind ≡ b → queries_in (a ∷ rest) ≡ cond b 0 1 + queries_in rest
-      one true e = rw e (omega arith)
-      one false e = rw e (omega arith)
+  queries_first b e = let one = drop_more xs i d l in grind arith
 
   pub writes_not : is_blocking a.kind ≡ true → WritesOn lanes channels c m xs old now (i + 1)
   writes_not e =
@@ -78,22 +72,22 @@ module _ (lanes : List Lane) (channels : List Channel) (c m : ℕ) (xs : List Ac
       → ((k : ℕ) → (k ≡ m → ⊥) → get_or now.rooms k 0 ≤ get_or next.rooms k 0) → WritesOn lanes channels c m xs old next (i + 1)
   writes_one next u₀ e is logs own others =
       let q = queries_first false e in
+      let here = get_or-set_same now.logs m (answered (log_at now.logs m) u₀) no_log r.inside in
+      let many = length-set now.logs m (answered (log_at now.logs m) u₀) in
+      let longer = length-append (log_at now.logs m).outcomes (u₀ ∷ []) in
       record {
-        logs = ap (λ (ls : List Log). with_outcomes ls m late) logs
-            ∙ (outcomes_more now.logs m u₀ late r.inside ∙ (ap (λ (y : Bool). with_outcomes now.logs m (y ∷ late)) is
-            ∙ (ap (with_outcomes now.logs m) (sym (first false e)) ∙ r.logs)));
-        inside = let n = ap (λ (ls : List Log). length ls) logs in let k = length-set now.logs m (answered (log_at now.logs m) u₀) in
-            let w = r.inside in omega arith;
-        verified = whole (ap (λ (ls : List Log). log_at ls m) logs ∙ get_or-set_same now.logs m (answered (log_at now.logs m) u₀) no_log
-            r.inside);
+        logs = rw (logs, outcomes_more now.logs m u₀ late r.inside, is, ← (first false e)) r.logs;
+        inside = rw (logs, many) r.inside;
+        verified = rw (logs, here) (let v = r.verified in omega arith);
         room = let k = r.room in omega arith;
         own_room = let k = r.own_room in omega arith;
         other_rooms = λ k f. let w = r.other_rooms k f in let v = others k f in omega arith;
       }
-    where
-      whole : log_at next.logs m ≡ answered (log_at now.logs m) u₀ → (log_at next.logs m).verified ≡ length (log_at next.logs m).outcomes
-      whole e =
-          let v = r.verified in
-          let n = length-append (log_at now.logs m).outcomes (u₀ ∷ []) in
-          let same : (answered (log_at now.logs m) u₀).verified ≡ length (answered (log_at now.logs m) u₀).outcomes = omega arith in
-          subst (λ (log : Log). log.verified ≡ length log.outcomes) (sym e) same
+
+pub writes_all : (lanes : List Lane) (channels : List Channel) (c m : ℕ) (xs : List Access) (old now : RoomedLogs) (i : ℕ)
+    → WritesOn lanes channels c m xs old now i → length xs ≤ i
+    → now.logs ≡ with_outcomes old.logs m (outcomes_of xs (found_flags lanes channels c xs))
+writes_all lanes channels c m xs old now i r l =
+    sym (outcomes_none now.logs m r.verified)
+    ∙ (ap (λ (ys : List Access). with_outcomes now.logs m (outcomes_of ys (found_flags lanes channels c ys))) (sym (drop_all i xs l))
+    ∙ r.logs)

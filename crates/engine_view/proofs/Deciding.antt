@@ -1,9 +1,8 @@
 -- What is decided of queries, by the graph and the table, is what the theory answers.
-use Rattle.std.proofs.Common.{◌≡◌, refl, sym, ap, ap₂, ◌∙◌, ℕ, ◌<◌, Bool, true, false, ◌&&◌, ◌||◌, List, [], ◌∷◌, length, map}
+use Rattle.std.proofs.Common.{arith, ◌≡◌, refl, ap, ◌∙◌, ℕ, ◌<◌, true, false, List, [], ◌∷◌, length, map}
+use Rattle.std.proofs.lemmas.Bool.Decides.{nat_tests}
 use Rattle.std.specs.Prelude.{◌↔◌, All}
-use Rattle.std.proofs.lemmas.Bool.{le-leb, lt-leb, leb-true, leb-false}
 use Rattle.std.proofs.lemmas.List.Elements.{All-head, All-tail}
-use Rattle.flow_word.specs.Kinds.{is_blocking}
 use Rattle.flow_word.specs.declared.access.Access.{Access}
 use Rattle.event_graph.specs.Lanes.{Lane, lane_at}
 use Rattle.fifo_table.specs.Channels.{Channel}
@@ -23,37 +22,29 @@ use Rattle.engine_view.specs.Known.{as_known, found_flags, are_decided}
 use Rattle.engine_view.proofs.Knowing.{access_known}
 
 pub possible_is : (k : of_code.Known) (c : ℕ) → IsPossible k c ↔ (answer (as_known k) c ≡ true)
-possible_is (code.From u) c = ((λ l. le-leb u c l), (λ e. leb-true u c e))
-possible_is code.Never c = ((λ l. absurd l), (λ e. cc))
-possible_is code.Unknown c = ((λ l. absurd l), (λ e. cc))
+possible_is k c = (grind (arith, nat_tests), grind (arith, nat_tests))
 
 pub impossible_is : (k : of_code.Known) (c : ℕ) → IsImpossible k c ↔ ((is_decided (as_known k) ≡ true) × (answer (as_known k) c ≡ false))
-impossible_is (code.From u) c = ((λ l. (refl, lt-leb u c l)), (λ e. leb-false u c e.1))
-impossible_is code.Never c = ((λ l. (refl, refl)), (λ e. tt))
-impossible_is code.Unknown c = ((λ l. absurd l), (λ e. cc))
+impossible_is k c = (grind (arith, nat_tests), grind (arith, nat_tests))
 
 pub undecided_is : (k : of_code.Known) → (k ≡ code.Unknown) ↔ (is_decided (as_known k) ≡ false)
-undecided_is (code.From u) = ((λ l. cc), (λ e. cc))
-undecided_is code.Never = ((λ l. cc), (λ e. cc))
-undecided_is code.Unknown = ((λ l. refl), (λ e. refl))
+undecided_is k = (grind arith, grind arith)
 
 pub flags_found : (lanes : List Lane) (channels : List Channel) (know : theory.Access → Known) (c : ℕ) (xs : List Access)
     → All (λ (a : Access). as_known (when_possible lanes channels a) ≡ know (seen a)) xs
     → flags_at know c (map seen xs) ≡ found_flags lanes channels c xs
 flags_found lanes channels know c [] all = refl
 flags_found lanes channels know c (a ∷ xs) all =
-    ap₂ (λ (k : Known) (bs : List Bool). (is_blocking a.kind || answer k c) ∷ bs)
-    (sym (All-head (λ (a : Access). as_known (when_possible lanes channels a) ≡ know (seen a)) a xs all))
-    (flags_found lanes channels know c xs (All-tail (λ (a : Access). as_known (when_possible lanes channels a) ≡ know (seen a)) a xs all))
+    rw (← (All-head (λ (a : Access). as_known (when_possible lanes channels a) ≡ know (seen a)) a xs all),
+    flags_found lanes channels know c xs (All-tail (λ (a : Access). as_known (when_possible lanes channels a) ≡ know (seen a)) a xs all)) refl
 
 decided_found : (lanes : List Lane) (channels : List Channel) (know : theory.Access → Known) (xs : List Access)
     → All (λ (a : Access). as_known (when_possible lanes channels a) ≡ know (seen a)) xs
     → all_decided know (map seen xs) ≡ are_decided lanes channels xs
 decided_found lanes channels know [] all = refl
 decided_found lanes channels know (a ∷ xs) all =
-    ap₂ (λ (k : Known) (b : Bool). (is_blocking a.kind || is_decided k) && b)
-    (sym (All-head (λ (a : Access). as_known (when_possible lanes channels a) ≡ know (seen a)) a xs all))
-    (decided_found lanes channels know xs (All-tail (λ (a : Access). as_known (when_possible lanes channels a) ≡ know (seen a)) a xs all))
+    rw (← (All-head (λ (a : Access). as_known (when_possible lanes channels a) ≡ know (seen a)) a xs all),
+    decided_found lanes channels know xs (All-tail (λ (a : Access). as_known (when_possible lanes channels a) ≡ know (seen a)) a xs all)) refl
 
 -- what is found for a module's first step without a cycle, and whether all is decided
 pub flags_are : {S : Type 0} → (d : Design S) → IsDesign d → (h : Held) → IsSound d h → (m c : ℕ)

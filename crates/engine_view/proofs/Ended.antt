@@ -1,14 +1,13 @@
 -- An end (or spent) mark is the theory's Run of a module that is over.
-use Rattle.std.proofs.Common.{◌≡◌, refl, sym, ap, subst, ◌∙◌, ℕ, ◌<◌, Bool, true, false, cond, length, get_or, set}
+use Rattle.std.proofs.Common.{◌≡◌, refl, sym, subst, ◌∙◌, ℕ, ◌<◌, true, false, length, get_or, set}
 use Rattle.std.proofs.lemmas.Bool.{cond-true, le-ltb}
 use Rattle.std.proofs.lemmas.List.{length-set, get_or-set_same, get_or-set_other}
 use Rattle.event_timing.specs.Machines.{Design, ready}
-use Rattle.event_timing.specs.Views.{own}
 use Rattle.event_timing.specs.Core.{Core}
 use Rattle.event_timing.specs.Agreement.{AreOwnMarks}
 use Rattle.event_timing.specs.Actions.{newest, emit_over, after_run, MayRun}
 use Rattle.event_timing.proofs.Running.{run_marks}
-use Rattle.engine_view.specs.Held.{Held, emitted_of, replies_at, core_of}
+use Rattle.engine_view.specs.Held.{Held, emitted_of, core_of}
 use Rattle.engine_view.specs.Shown.{Shows, IsSound}
 use Rattle.engine_view.specs.Emitted.{with_over}
 use Rattle.engine_view.proofs.Assigned.{put_is, IsAlike, alike_queries, whole_kept}
@@ -52,9 +51,8 @@ module _ {S : Type 0} (d : Design S) (h : Held) (m : ℕ) (inside : m < length h
   over_read = record {
     emitted = λ n. refl;
     over = λ n. put_is x.over m n true (get_or (set h.over m true) n false)
-        (λ e. subst (λ (v : ℕ). get_or (set h.over m true) v false ≡ true) (sym e) (get_or-set_same h.over m true false inside))
-        (λ f. get_or-set_other h.over m n true false f);
-    past = λ n k l. sym (ap (λ (v : Bool). cond v (ready d n (own d n (replies_at h n) k)) (d.opening n)) (le-ltb k (emitted_of h n) l));
+        (λ e. rw e (get_or-set_same h.over m true false inside)) (λ f. get_or-set_other h.over m n true false f);
+    past = λ n k l. rw (le-ltb k (emitted_of h n) l) refl;
     wait = λ n k. refl;
     flags = λ n k. refl;
     answered = λ n k. refl;

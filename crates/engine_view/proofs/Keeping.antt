@@ -1,22 +1,22 @@
 -- What is held stays kept, whatever the theory does to its core.
-use Rattle.std.proofs.Common.{◌≡◌, refl, sym, subst, ◌∙◌, ℕ, suc, ◌<◌, ◌≤◌, get_or, Bool, true, false, not, cond, ltb, ap, ◌||◌, List}
-use Rattle.std.proofs.Common.{length, arith, inl, inr}
+use Rattle.std.proofs.Common.{◌≡◌, refl, sym, subst, ◌∙◌, ℕ, ◌<◌, ◌≤◌, get_or, Bool, true, false, not, ap, List}
+use Rattle.std.proofs.Common.{length, arith}
 use Rattle.std.specs.Prelude.{All}
-use Rattle.std.proofs.lemmas.Bool.{cases_lt, cond-true, cond-false, and_from, or_left, lt-ltb}
-use Rattle.std.proofs.lemmas.Bool.Decides.{eqb_tells}
+use Rattle.std.proofs.lemmas.Bool.{cond-true, cond-false}
+use Rattle.std.proofs.lemmas.Bool.Decides.{nat_tests}
 use Rattle.std.proofs.Math.ListN.{get_or-map}
 use Rattle.std.proofs.lemmas.List.{length-set}
 use Rattle.flow_word.specs.declared.access.Side.{Side}
 use Rattle.flow_word.specs.declared.access.Step.{Step}
-use Rattle.event_graph.specs.Lanes.{Lane, IsSoundLane, no_lane, lane_at, timed_below, with_cycle}
+use Rattle.event_graph.specs.Lanes.{IsSoundLane, no_lane, lane_at, timed_below, with_cycle}
 use Rattle.fifo_table.specs.declared.channel.TableChannel.{TableChannel}
 use Rattle.fifo_table.specs.Channels.{Channel, IsFifo, channel_at}
 use Rattle.fifo_table.specs.Roomed.{RoomedChannels}
 use Rattle.event_timing.specs.Machines.{Design, IsDesign, ready}
-use Rattle.event_timing.specs.Core.{Core, core_accesses, has_query, opening_core}
+use Rattle.event_timing.specs.Core.{Core, has_query, opening_core}
 use Rattle.event_timing.specs.Agreement.{AreOwnMarks}
 use Rattle.event_timing.specs.Actions.{MayRun, newest, emit_over, emit_step, after_run, after_assign}
-use Rattle.event_timing.specs.Edits.{edited, kept, after_edit}
+use Rattle.event_timing.specs.Edits.{edited, after_edit}
 use Rattle.event_timing.proofs.Assigning.{assign_marks, put_at_other}
 use Rattle.event_timing.proofs.Editing.{edit_marks, kept_le}
 use Rattle.event_timing.proofs.Running.{run_marks}
@@ -71,9 +71,11 @@ module _ {S : Type 0} (d : Design S) (h : Held) (k : IsKept d h) where
     where
       before : AreVerified (emit_step d x m (newest d x m))
       before n j l =
-          put_at_other x.verified m (x.emitted m) (not (has_query (d.accesses m (ready d m (newest d x m))))) n j
-          (λ e q. let w = timed_within d h k.sound m in let l' = subst (λ (v : ℕ). j < x.timed v) e l in omega arith)
-          ∙ k.earlier n j l
+          let within = timed_within d h k.sound in
+          let other = put_at_other x.verified m (x.emitted m) (not (has_query (d.accesses m (ready d m (newest d x m))))) n j in
+          let earlier = k.earlier n j l in
+          let here = within m in
+          grind arith
 
   pub over_now : (m : ℕ) → m < length h.over → MayRun d x m → d.is_over m (ready d m (newest d x m)) ≡ true
       → IsNow d (with_over h m) (after_run d x m)
@@ -90,18 +92,9 @@ module _ {S : Type 0} (d : Design S) (h : Held) (k : IsKept d h) where
     where
       before : AreVerified (after_assign x m c)
       before j p u =
-          elim (eqb_tells j m) [
-            | inl s ↦
-                let w' : (after_assign x m c).timed j ≡ suc (x.timed m) = ap (λ (b : Bool). cond {A = ℕ} b (suc (x.timed m)) (x.timed j))
-                s.0 in
-                subst (λ (n : ℕ). x.verified n p ≡ true) (sym s.1) (elim (cases_lt p (x.timed m)) [
-                  | inl t ↦ k.earlier m p t
-                  | inr t ↦ subst (λ (n : ℕ). x.verified m n ≡ true) (let r : x.timed m ≡ p = omega arith in r) verified
-                ])
-            | inr s ↦
-                let w' : (after_assign x m c).timed j ≡ x.timed j = ap (λ (b : Bool). cond {A = ℕ} b (suc (x.timed m)) (x.timed j)) s.0 in
-                k.earlier j p (omega arith)
-          ]
+          let earlier = k.earlier j p in
+          let here = k.earlier m p in
+          grind (arith, nat_tests)
 
   pub cut_now : (fifo depth t : ℕ) → fifo < length h.channels → IsFifo (channel_at h.channels fifo).kind → (g : Held)
       → IsCut d h g fifo depth t
@@ -112,9 +105,9 @@ module _ {S : Type 0} (d : Design S) (h : Held) (k : IsKept d h) where
     where
       before : AreVerified (after_edit d x t)
       before m j l =
-          and_from (x.verified m j) (ltb j (kept (x.cycle m) t (x.timed m)) || not (has_query (core_accesses d x m j)))
-          (k.earlier m j (let w = kept_le (x.cycle m) t (x.timed m) in omega arith)) (or_left (ltb j (kept (x.cycle m) t (x.timed m))) _
-          (lt-ltb j _ l))
+          let most = kept_le (x.cycle m) t (x.timed m) in
+          let earlier = k.earlier m j in
+          grind (arith, nat_tests)
 
 -- ---- room behind an edit
 
@@ -138,11 +131,10 @@ room_cut {S} d h k fifo depth t inside is_fifo g cut lanes lanes' table table' l
 }
   where
     steps_is : (m : ℕ) → (lane_at g.lanes m).steps ≡ (lane_at h.lanes m).steps
-    steps_is m = ap (λ (ls : List Lane). (lane_at ls m).steps) cut.lanes
-        ∙ ap (λ (l : Lane). l.steps) (get_or-map (timed_below t) h.lanes m no_lane)
+    steps_is m = rw (cut.lanes, get_or-map (timed_below t) h.lanes m no_lane) refl
 
     queries : (m : ℕ) → queries_before g m (emitted_of g m) ≡ queries_before h m (emitted_of h m)
-    queries m = steps_only g h steps_is m (emitted_of g m) ∙ ap (λ (ss : List Step). queries_before h m (length ss)) (steps_is m)
+    queries m = rw (steps_is m) (steps_only g h steps_is m (emitted_of h m))
 
     still : (m : ℕ) → pending (core_of (edited d fifo depth) g) m ≡ pending (core_of d h) m
     still m =

@@ -1,17 +1,16 @@
 -- What is held at first is the theory's opening core.
-use Rattle.std.proofs.Common.{◌≡◌, refl, sym, ap, subst, ◌∙◌, ℕ, zero, suc, false, ltb, List, [], ◌++◌, length, get_or, replicate, arith}
-use Rattle.std.proofs.Common.{inl, inr, append-nil}
+use Rattle.std.proofs.Common.{◌≡◌, refl, sym, ap, ◌∙◌, ℕ, zero, suc, false, ltb, List, [], ◌++◌, length, get_or, replicate, arith}
+use Rattle.std.proofs.Common.{append-nil}
 use Rattle.std.specs.Prelude.{All}
-use Rattle.std.proofs.lemmas.Bool.{cases_lt, and_left, le-ltb}
+use Rattle.std.proofs.lemmas.Bool.{and_left, le-ltb}
 use Rattle.std.proofs.lemmas.List.{get_or_past, get_or-map, length-map, length-replicate}
 use Rattle.std.proofs.lemmas.List.Elements.{All-replicate}
 use Rattle.flow_word.specs.declared.access.Side.{Side}
-use Rattle.flow_word.specs.declared.access.Side.TheVariants.{Pop, Push}
 use Rattle.flow_word.specs.declared.access.Place.{Place}
 use Rattle.event_graph.specs.Lanes.{Lane, IsSoundLane, no_lane, lane_at}
 use Rattle.fifo_table.specs.declared.channel.TableChannel.{TableChannel}
 use Rattle.fifo_table.specs.declared.channel.TableChannel.TheVariants.{Sink}
-use Rattle.fifo_table.specs.Channels.{Channel, channel_at, unused, values_of, places_of, lag_of}
+use Rattle.fifo_table.specs.Channels.{Channel, channel_at, unused, values_of, places_of}
 use Rattle.query_log.specs.Logs.{IsSoundLog, Log, log_at, no_log}
 use Rattle.time_engine.specs.Conditions.{IsAccess}
 use Rattle.event_timing.specs.Machines.{Design}
@@ -20,7 +19,7 @@ use Rattle.event_timing.specs.Agreement.{AreOwnMarks}
 use Rattle.event_timing.proofs.OwnRuns.{tally_0}
 use Rattle.event_timing.proofs.Values.{pushed_in_0}
 use Rattle.engine_view.specs.Held.{Held, emitted_of, waited, core_of}
-use Rattle.engine_view.specs.Shown.{Shows, IsSound, IsKind, AreTaken, AreWhole, queries_before}
+use Rattle.engine_view.specs.Shown.{Shows, IsSound, AreTaken, AreWhole, queries_before}
 use Rattle.engine_view.specs.Opened.{opening_held, AreKinds}
 use Rattle.engine_view.proofs.Placing.{places_from}
 use Rattle.engine_view.proofs.Reading.{IsRead, read_sound}
@@ -31,8 +30,7 @@ copy_at (suc n) zero x = refl
 copy_at (suc n) (suc k) x = copy_at n k x
 
 waits_0 : (k : ℕ) → waited k 0 ≡ 0
-waits_0 zero = refl
-waits_0 (suc k) = omega arith
+waits_0 k = grind arith
 
 sound_none : IsSoundLane no_lane
 sound_none = record {
@@ -57,15 +55,15 @@ module _ {S : Type 0} (d : Design S) (n : ℕ) (kinds : List TableChannel) (modu
   log_is m = copy_at n m no_log
 
   none_emitted : (m : ℕ) → emitted_of h m ≡ 0
-  none_emitted m = ap (λ (l : Lane). length l.steps) (lane_is m)
+  none_emitted m = rw (lane_is m) refl
 
   channel_is : (c : ℕ) → channel_at h.channels c ≡ unused (get_or kinds c Sink)
   channel_is c =
-      elim (cases_lt c (length kinds)) [
-        | inl l ↦ get_or-map unused kinds c Sink (unused Sink) l
-        | inr l ↦ get_or_past h.channels c (unused Sink) (let e = length-map kinds unused in omega arith)
-            ∙ ap unused (sym (get_or_past kinds c Sink l))
-      ]
+      let there = get_or-map unused kinds c Sink (unused Sink) in
+      let many = length-map kinds unused in
+      let past = get_or_past h.channels c (unused Sink) in
+      let none = get_or_past kinds c Sink in
+      grind arith
 
   none_taken : (side : Side) (c : ℕ) (places : List Place) → places ≡ [] → AreTaken d x side c places
   none_taken side c places e = record {
@@ -78,11 +76,7 @@ module _ {S : Type 0} (d : Design S) (n : ℕ) (kinds : List TableChannel) (modu
   whole m q e = record { steps = 0; within = omega arith; all = e }
 
   no_places : (side : Side) (c : ℕ) → places_of side (channel_at h.channels c) ≡ []
-  no_places side c = ap (places_of side) (channel_is c) ∙ unused_has_none side (get_or kinds c Sink)
-    where
-      unused_has_none : (side : Side) (k : TableChannel) → places_of side (unused k) ≡ []
-      unused_has_none Pop k = refl
-      unused_has_none Push k = refl
+  no_places side c = let is = channel_is c in grind arith
 
   opening_shown : Shows d h x
   opening_shown = record {
@@ -97,10 +91,8 @@ module _ {S : Type 0} (d : Design S) (n : ℕ) (kinds : List TableChannel) (modu
     accesses = λ m k l. absurd (omega arith);
     ordinals = λ m k l. absurd (omega arith);
     first_query = λ m k l. absurd (omega arith);
-    kinds = λ c l. let e = length-map kinds unused in subst (IsKind d c) (sym (ap (λ (q : Channel). q.kind) (channel_is c)))
-        (fit.each c (omega arith));
-    lags = λ side c l. let e = length-map kinds unused in subst (λ (q : TableChannel). d.lag side c ≡ lag_of q side)
-        (sym (ap (λ (q : Channel). q.kind) (channel_is c))) (fit.lags side c (omega arith));
+    kinds = λ c l. let e = length-map kinds unused in rw (channel_is c) (fit.each c (omega arith));
+    lags = λ side c l. let e = length-map kinds unused in rw (channel_is c) (fit.lags side c (omega arith));
     taken = λ side c l. none_taken side c _ (no_places side c);
     values = λ c l. let e = length-map kinds unused in
         ap (λ (q : Channel). values_of q.kind q.pushes) (channel_is c)

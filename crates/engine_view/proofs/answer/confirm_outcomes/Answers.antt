@@ -23,7 +23,6 @@ compare_outcomes-requires-clause-owner c =
     let (d, over, credits, i, k, r) = c.requires.core in
     let h = held_in s over in
     let f = unsure_in s c.args.owner c.requires.unsure d over i k in
-    let step = first_is h c.args.owner c.frontier.result (whole c.step-step.result) c.frontier.ensures.count c.step-step.ensures.step in
     confirming.again_owner d h c.args.owner c.args.cycle f
 
 pub compare_outcomes-requires-clause-inside : goal.compare_outcomes-requires-clause-inside
@@ -39,11 +38,7 @@ compare_outcomes-requires-clause-inside c =
 
 pub compare_outcomes-requires-clause-places : goal.compare_outcomes-requires-clause-places
 compare_outcomes-requires-clause-places c =
-    let s = stored c.args.graph.now c.args.fifos.now c.args.log.now in
     let (d, over, credits, i, k, r) = c.requires.core in
-    let h = held_in s over in
-    let f = unsure_in s c.args.owner c.requires.unsure d over i k in
-    let step = first_is h c.args.owner c.frontier.result (whole c.step-step.result) c.frontier.ensures.count c.step-step.ensures.step in
     k.sound.places
 
 pub compare_outcomes-requires-clause-few : goal.compare_outcomes-requires-clause-few
@@ -65,7 +60,6 @@ verify_up_to-requires-clause-owner c =
     let (d, over, credits, i, k, r) = c.requires.core in
     let h = held_in s over in
     let f = unsure_in s c.args.owner c.requires.unsure d over i k in
-    let step = first_is h c.args.owner c.frontier.result (whole c.step-step.result) c.frontier.ensures.count c.step-step.ensures.step in
     confirming.again_owner d h c.args.owner c.args.cycle f
 
 pub verify_up_to-requires-clause-recorded : goal.verify_up_to-requires-clause-recorded

@@ -22,8 +22,6 @@ write_outcomes-requires-clause-verified c =
     let (d, over, credits, i, k, r) = c.requires.core in
     let h = held_in s over in
     let f = fresh_in s c.args.owner c.requires.unsure d over i k c.requires.fresh in
-    let step = resolving.first_is h c.args.owner c.frontier.result (whole c.step-step.result) c.frontier.ensures.count
-    c.step-step.ensures.step in
     resolving.fresh_verified d h c.args.owner c.args.cycle f
 
 pub write_outcomes-requires-clause-inside : goal.write_outcomes-requires-clause-inside
@@ -40,12 +38,7 @@ write_outcomes-requires-clause-inside c =
 
 pub write_outcomes-requires-clause-places : goal.write_outcomes-requires-clause-places
 write_outcomes-requires-clause-places c =
-    let s = stored c.args.graph.now c.args.fifos.now c.args.log.now in
     let (d, over, credits, i, k, r) = c.requires.core in
-    let h = held_in s over in
-    let f = fresh_in s c.args.owner c.requires.unsure d over i k c.requires.fresh in
-    let step = resolving.first_is h c.args.owner c.frontier.result (whole c.step-step.result) c.frontier.ensures.count
-    c.step-step.ensures.step in
     k.sound.places
 
 pub write_outcomes-requires-clause-owner : goal.write_outcomes-requires-clause-owner
@@ -54,8 +47,6 @@ write_outcomes-requires-clause-owner c =
     let (d, over, credits, i, k, r) = c.requires.core in
     let h = held_in s over in
     let f = fresh_in s c.args.owner c.requires.unsure d over i k c.requires.fresh in
-    let step = resolving.first_is h c.args.owner c.frontier.result (whole c.step-step.result) c.frontier.ensures.count
-    c.step-step.ensures.step in
     resolving.fresh_owner d h c.args.owner c.args.cycle f
 
 pub write_outcomes-requires-clause-room : goal.write_outcomes-requires-clause-room

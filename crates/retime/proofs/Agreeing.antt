@@ -1,12 +1,11 @@
 -- An edit of a final core that agrees with its history.
-use Rattle.std.proofs.Common.{◌≡◌, sym, ap, ◌∙◌, ℕ, ◌≤◌, inl, inr, Bool, List, get_or, arith}
-use Rattle.std.specs.Prelude.{slice_get}
+use Rattle.std.proofs.Common.{◌≡◌, sym, ◌∙◌, ℕ, ◌≤◌, inl, inr, get_or, arith}
 use Rattle.std.proofs.lemmas.Option.{slice_get_within, get_or_from_slice_get}
 use Rattle.flow_word.specs.declared.access.Place.{Place}
 use Rattle.flow_word.specs.declared.access.Side.TheVariants.{Push}
 use Rattle.event_graph.specs.Lanes.{lane_at}
 use Rattle.fifo_table.specs.Channels.{channel_at, depth_of, places_of}
-use Rattle.event_timing.specs.Machines.{Design, IsDesign}
+use Rattle.event_timing.specs.Machines.{Design}
 use Rattle.event_timing.specs.Histories.{Trace, IsHistory}
 use Rattle.event_timing.specs.Core.{Core}
 use Rattle.event_timing.specs.Agreement.{IsAgreed}

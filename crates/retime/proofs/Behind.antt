@@ -1,7 +1,6 @@
 -- What is held behind an edit agrees with the history of the edited design.
-use Rattle.std.proofs.Common.{◌≡◌, sym, ap, ◌∙◌, ℕ, ◌<◌, Bool, List, [], length, get_or, arith}
+use Rattle.std.proofs.Common.{◌≡◌, sym, ℕ, ◌<◌, Bool, List, [], length, get_or, arith}
 use Rattle.std.proofs.Math.ListN.{get_or-map}
-use Rattle.flow_word.specs.declared.access.Step.{Step}
 use Rattle.flow_design.specs.declared.state.ModuleState.{ModuleState}
 use Rattle.event_graph.specs.Lanes.{Lane, no_lane, lane_at}
 use Rattle.query_log.specs.Logs.{log_at}
@@ -53,7 +52,7 @@ module _ (d : Design ModuleState) (y z : Trace ModuleState) (limit : ℕ) (over 
   steps_at lanes m = get_or-map (λ (l : Lane). l.steps) lanes m no_lane
 
   same_steps : (m : ℕ) → (lane_at new.graph.lanes m).steps ≡ (lane_at old.graph.lanes m).steps
-  same_steps m = sym (steps_at new.graph.lanes m) ∙ (ap (λ (l : List (List Step)). get_or l m []) e.steps ∙ steps_at old.graph.lanes m)
+  same_steps m = rw (sym (steps_at new.graph.lanes m), e.steps) (steps_at old.graph.lanes m)
 
   pub outcomes_behind : (m : ℕ) → m < length old.log.logs → OutcomesGrow (log_at old.log.logs m) (log_at new.log.logs m)
   outcomes_behind m l =

@@ -1,5 +1,5 @@
 -- How many cycles and steps there are behind a turn, and behind a cut.
-use Rattle.std.proofs.Common.{◌≡◌, refl, sym, ap, ◌∙◌, ℕ, suc, ◌+◌, ◌<◌, ◌≤◌, List, [], ◌∷◌, length, map, arith}
+use Rattle.std.proofs.Common.{◌≡◌, refl, ap, ℕ, suc, ◌+◌, ◌<◌, ◌≤◌, List, [], ◌∷◌, length, map, arith}
 use Rattle.std.specs.Prelude.{All}
 use Rattle.std.specs.List.{sum_by}
 use Rattle.std.proofs.Math.Seq.{map-set_same}
@@ -8,17 +8,15 @@ use Rattle.std.proofs.lemmas.List.Sums.{sum_by-set, sum_by-cons}
 use Rattle.flow_word.specs.declared.access.Step.{Step}
 use Rattle.event_graph.specs.Lanes.{Lane, IsSoundLane, no_lane, lane_at, timed, timed_below}
 use Rattle.engine_view.specs.declared.turn.Timing.{Timing}
-use Rattle.engine_view.specs.declared.turn.Timing.TheVariants.{Assigned, Answered, Differs, Nothing}
+use Rattle.engine_view.specs.declared.turn.Timing.TheVariants.{Assigned}
 use Rattle.engine_view.specs.Turns.{lanes_behind, ticks_of}
 use Rattle.retime.specs.Rounds.{only_steps, cycles_in, steps_in}
 
 -- ---- behind a turn
 
 pub steps_behind : (t : Timing) (m : ℕ) (old new : List Lane) → new ≡ lanes_behind t m old → only_steps new ≡ only_steps old
-steps_behind (Assigned c) m old new e = ap only_steps e ∙ map-set_same (λ (l : Lane). l.steps) old m (timed (lane_at old m) c) no_lane refl
-steps_behind (Answered c) m old new e = ap only_steps e
-steps_behind (Differs q) m old new e = ap only_steps e
-steps_behind Nothing m old new e = ap only_steps e
+steps_behind (Assigned c) m old new e = rw e (map-set_same (λ (l : Lane). l.steps) old m (timed (lane_at old m) c) no_lane refl)
+steps_behind t m old new e = rw e refl
 
 cycles_behind : (t : Timing) (m : ℕ) (lanes : List Lane) → m < length lanes
     → cycles_in (lanes_behind t m lanes) ≡ cycles_in lanes + ticks_of t
@@ -26,9 +24,7 @@ cycles_behind (Assigned c) m lanes l =
     let all = sum_by-set (λ (q : Lane). length q.cycles) lanes m (timed (lane_at lanes m) c) no_lane l in
     let one = length-append (lane_at lanes m).cycles (c ∷ []) in
     omega arith
-cycles_behind (Answered c) m lanes l = omega arith
-cycles_behind (Differs q) m lanes l = omega arith
-cycles_behind Nothing m lanes l = omega arith
+cycles_behind t m lanes l = omega arith
 
 -- each tick is a cycle more
 pub ticks_behind : (t : Timing) (m : ℕ) (old new : List Lane) (before after : ℕ) → m < length old → new ≡ lanes_behind t m old
@@ -60,13 +56,14 @@ cycles_within (l ∷ lanes) s =
 steps_by : (lanes : List Lane) → steps_in lanes ≡ sum_by (λ (q : List Step). length q) (only_steps lanes)
 steps_by [] = refl
 steps_by (l ∷ lanes) =
-    sum_by-cons (λ (q : Lane). length q.steps) l lanes
-    ∙ (ap (λ (n : ℕ). length l.steps + n) (steps_by lanes) ∙ sym (sum_by-cons (λ (q : List Step). length q) l.steps (only_steps lanes)))
+    let one = sum_by-cons (λ (q : Lane). length q.steps) l lanes in
+    let same = sum_by-cons (λ (q : List Step). length q) l.steps (only_steps lanes) in
+    let later = steps_by lanes in
+    omega arith
 
 pub few_cycles : (old new : List Lane) → All IsSoundLane new → only_steps new ≡ only_steps old → (after before kept : ℕ)
     → after + kept ≡ before + cycles_in new → after + kept ≤ before + steps_in old
 few_cycles old new s e after before kept t =
-    let w = cycles_within new s in
-    let same : steps_in new ≡ steps_in old = steps_by new ∙ (ap (λ (q : List (List Step)). sum_by (λ (r : List Step). length r) q) e
-    ∙ sym (steps_by old)) in
+    let within = cycles_within new s in
+    let same : steps_in new ≡ steps_in old = rw (steps_by new, steps_by old, e) refl in
     omega arith

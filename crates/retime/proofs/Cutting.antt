@@ -1,9 +1,9 @@
 -- The cut from which a retiming begins is the theory's core behind the edit, with room as before.
-use Rattle.std.proofs.Common.{◌≡◌, refl, sym, ap, ap₂, subst, ◌∙◌, ℕ, ◌+◌, ◌<◌, ◌≤◌, min, inl, inr, Bool, true, not, ltb, ◌&&◌, ◌||◌, List}
+use Rattle.std.proofs.Common.{◌≡◌, refl, sym, ap, subst, ◌∙◌, ℕ, ◌+◌, ◌<◌, ◌≤◌, min, inl, inr, Bool, true, List}
 use Rattle.std.proofs.Common.{[], length, map, get_or, arith}
 use Rattle.std.specs.Prelude.{All}
-use Rattle.std.proofs.lemmas.Bool.{cases_lt, lt-ltb}
-use Rattle.std.proofs.lemmas.Bool.Decides.{eqb_tells}
+use Rattle.std.proofs.lemmas.Bool.{cases_lt}
+use Rattle.std.proofs.lemmas.Bool.Decides.{nat_tests}
 use Rattle.std.proofs.lemmas.List.{get_or_past, get_or_default, length-set, length-map}
 use Rattle.std.proofs.Math.ListN.{get_or-map}
 use Rattle.flow_word.specs.declared.access.Step.{Step}
@@ -15,11 +15,11 @@ use Rattle.fifo_table.specs.Channels.{Channel, IsFifo, channel_at, with_depth}
 use Rattle.query_log.specs.Logs.{Log, IsSoundLog, no_log, log_at}
 use Rattle.outcome_guard.specs.declared.guard.Guard.{Guard}
 use Rattle.event_timing.specs.Machines.{Design, IsDesign}
-use Rattle.event_timing.specs.Core.{Core, core_accesses, has_query}
+use Rattle.event_timing.specs.Core.{Core}
 use Rattle.event_timing.specs.Edits.{edited, after_edit, kept}
 use Rattle.event_timing.specs.Agreement.{AreOwnMarks}
 use Rattle.event_timing.proofs.Editing.{edit_design, edit_marks, kept_le}
-use Rattle.engine_view.specs.Held.{Held, no_step, emitted_of, are_among, has_all, core_of}
+use Rattle.engine_view.specs.Held.{Held, no_step, emitted_of, has_all, core_of}
 use Rattle.engine_view.specs.Shown.{queries_before}
 use Rattle.engine_view.specs.Edited.{IsCut}
 use Rattle.engine_view.specs.Rooms.{IsRoomy, room_of}
@@ -37,17 +37,26 @@ use Rattle.retime.proofs.Filling.{rising_of}
 -- ---- one module's outcomes after the other
 
 at_end : (q : ℕ) (log : Log) → log.verified ≤ q → record log { verified = min q log.verified } ≡ log
-at_end q log l = ap (λ (n : ℕ). record log { verified = n }) (let e : min q log.verified ≡ log.verified = omega arith in e)
+at_end q log l = let e : min q log.verified ≡ log.verified = omega arith in rw e refl
 
 pub none_assumed : (lanes : List Lane) (old : List Log) → AreAssumed lanes old old 0
 none_assumed lanes old = record { count = refl; done = λ m l. absurd (omega arith); rest = λ m l. refl }
+
+-- the next module's outcomes are assumed
+pub more_assumed : (lanes : List Lane) (old now next : List Log) (m : ℕ) → AreAssumed lanes old now m → length next ≡ length now
+    → log_at next m ≡ assumed lanes m (log_at now m) → ((n : ℕ) → (n ≡ m → ⊥) → log_at next n ≡ log_at now n)
+    → AreAssumed lanes old next (m + 1)
+more_assumed lanes old now next m a count here else = record {
+  count = count ∙ a.count;
+  done = λ n l. let other = else n in let before = a.done n in let same = a.rest m (omega arith) in grind arith;
+  rest = λ n l. else n (λ e. omega arith) ∙ a.rest n (omega arith);
+}
 
 -- where each of its steps has a cycle, all outcomes stay verified
 pub all_timed : (lanes : List Lane) (now : List Log) (m : ℕ) → length (lane_at lanes m).cycles ≡ length (lane_at lanes m).steps
     → (log_at now m).verified ≤ queries_before (only_lanes lanes) m (length (lane_at lanes m).steps)
     → log_at now m ≡ assumed lanes m (log_at now m)
-all_timed lanes now m e l = sym (at_end (timed_queries lanes m) (log_at now m)
-    (subst (λ (k : ℕ). (log_at now m).verified ≤ queries_before (only_lanes lanes) m k) (sym e) l))
+all_timed lanes now m e l = sym (at_end (timed_queries lanes m) (log_at now m) (rw (sym e) at l))
 
 -- ---- what the cut leaves
 
@@ -69,30 +78,23 @@ module _ (s t : Stored) (fifo depth clock : ℕ) (cut : IsCutBack s t fifo depth
   g = held_in t []
 
   lane_is : (m : ℕ) → lane_at t.graph.lanes m ≡ timed_below clock (lane_at s.graph.lanes m)
-  lane_is m = ap (λ (l : List Lane). lane_at l m) cut.lanes ∙ get_or-map (timed_below clock) s.graph.lanes m no_lane
+  lane_is m = rw cut.lanes (get_or-map (timed_below clock) s.graph.lanes m no_lane)
 
   steps_is : (m : ℕ) → (lane_at t.graph.lanes m).steps ≡ (lane_at s.graph.lanes m).steps
-  steps_is m = ap (λ (l : Lane). l.steps) (lane_is m)
+  steps_is m = rw (lane_is m) refl
 
   emitted_same : (m : ℕ) → emitted_of g m ≡ emitted_of h m
-  emitted_same m = ap (λ (l : List Step). length l) (steps_is m)
+  emitted_same m = rw (steps_is m) refl
 
   outcomes_is : (m : ℕ) → (log_at t.log.logs m).outcomes ≡ (log_at s.log.logs m).outcomes
-  outcomes_is m =
-      elim (cases_lt m (length s.log.logs)) [
-        | inl l ↦ ap (λ (q : Log). q.outcomes) (cut.logs.done m l)
-        | inr l ↦ ap (λ (q : Log). q.outcomes) (cut.logs.rest m l)
-      ]
+  outcomes_is m = let done = cut.logs.done m in let rest = cut.logs.rest m in grind arith
 
   verified_is : (m : ℕ) → (log_at t.log.logs m).verified ≡ min (timed_queries t.graph.lanes m) (log_at s.log.logs m).verified
   verified_is m =
-      elim (cases_lt m (length s.log.logs)) [
-        | inl l ↦ ap (λ (q : Log). q.verified) (cut.logs.done m l)
-        | inr l ↦
-            let none : (log_at s.log.logs m).verified ≡ 0 = ap (λ (q : Log). q.verified) (get_or_past s.log.logs m no_log l) in
-            let same = ap (λ (q : Log). q.verified) (cut.logs.rest m l) in
-            omega arith
-      ]
+      let done = cut.logs.done m in
+      let rest = cut.logs.rest m in
+      let none = get_or_past s.log.logs m no_log in
+      grind arith
 
   logs_now : All IsSoundLog s.log.logs → All IsSoundLog t.log.logs
   logs_now sound k d l =
@@ -109,8 +111,7 @@ module _ (s t : Stored) (fifo depth clock : ℕ) (cut : IsCutBack s t fifo depth
     x = core_of d (held_in s over)
 
     kept_is : (m : ℕ) → length (lane_at t.graph.lanes m).cycles ≡ kept (x.cycle m) clock (x.timed m)
-    kept_is m = ap (λ (q : Lane). length q.cycles) (lane_is m)
-        ∙ timed_kept clock (lane_at s.graph.lanes m).cycles (rising_of s.graph.lanes k.sound.sound_lanes m)
+    kept_is m = rw (lane_is m) (timed_kept clock (lane_at s.graph.lanes m).cycles (rising_of s.graph.lanes k.sound.sound_lanes m))
 
     queries_are : (m : ℕ) → timed_queries t.graph.lanes m ≡ queries_before (held_in s over) m (kept (x.cycle m) clock (x.timed m))
     queries_are m =
@@ -129,15 +130,11 @@ module _ (s t : Stored) (fifo depth clock : ℕ) (cut : IsCutBack s t fifo depth
       verified = λ m. verified_is m ∙ ap (λ (n : ℕ). min n (log_at s.log.logs m).verified) (queries_are m);
     }
 
-    both : (a b c : Bool) → a ≡ true → b ≡ true → (a && (b || c)) ≡ true
-    both a b c e f = rw (e, f) refl
-
     still_verified : (m n : ℕ) → n < (after_edit d x clock).timed m → (after_edit d x clock).verified m n ≡ true
     still_verified m n l =
         let most = kept_le (x.cycle m) clock (x.timed m) in
-        both (x.verified m n) (ltb n (kept (x.cycle m) clock (x.timed m))) (not (has_query (core_accesses d x m n)))
-        (k.earlier m n (omega arith))
-        (lt-ltb n (kept (x.cycle m) clock (x.timed m)) l)
+        let earlier = k.earlier m n in
+        grind (arith, nat_tests)
 
     -- of each design of which there was a core, there is the theory's core behind the edit
     pub cut_core : (core_of (edited d fifo depth) (held_in t over) ≡ after_edit d x clock) × IsKept (edited d fifo depth) (held_in t over)
@@ -153,16 +150,14 @@ module _ (s t : Stored) (fifo depth clock : ℕ) (cut : IsCutBack s t fifo depth
 
     all_same : (m j : ℕ) → has_all (held_in t over) m j (length (log_at t.log.logs m).outcomes)
         ≡ has_all (held_in s over) m j (length (log_at s.log.logs m).outcomes)
-    all_same m j =
-        ap₂ (λ (q : List Step) (o : List Bool). ltb j (length q) && are_among (get_or q j no_step) (length o)) (steps_is m) (outcomes_is m)
+    all_same m j = rw (steps_is m, outcomes_is m) refl
 
     table_room : (side : Side) (c : ℕ) → room_of t.table side c ≡ room_of s.table side c
-    table_room Pop c = ap (λ (q : List ℕ). get_or q c 0) cut.pop_rooms
-    table_room Push c = ap (λ (q : List ℕ). get_or q c 0) cut.push_rooms
+    table_room Pop c = rw cut.pop_rooms refl
+    table_room Push c = rw cut.push_rooms refl
 
     queries_same : (m : ℕ) → queries_before (held_in t over) m (emitted_of g m) ≡ queries_before (held_in s over) m (emitted_of h m)
-    queries_same m = steps_only (held_in t over) (held_in s over) steps_is m (emitted_of g m)
-        ∙ ap (queries_before (held_in s over) m) (emitted_same m)
+    queries_same m = rw (emitted_same m) (steps_only (held_in t over) (held_in s over) steps_is m (emitted_of h m))
 
     pub cut_room : (credits : List ℕ) → IsRoomy d s over credits → IsRoomy (edited d fifo depth) t over credits
     cut_room credits r = record {

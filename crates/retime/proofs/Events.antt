@@ -1,33 +1,29 @@
 -- The cycle of a push or a pop, by what it enables.
-use Rattle.std.proofs.Common.{◌≡◌, refl, ap, ◌∙◌, ℕ, ◌+◌, ◌-◌, ◌≤◌, Bool, Option, None, Some, cond, List, arith}
+use Rattle.std.proofs.Common.{◌≡◌, ap, ◌∙◌, ℕ, ◌+◌, ◌-◌, ◌≤◌, Option, List, arith}
 use Rattle.std.specs.Prelude.{slice_get, option_and_then}
 use Rattle.std.proofs.lemmas.Bool.{lt-leb}
 use Rattle.flow_word.specs.declared.access.Place.{Place}
 use Rattle.flow_word.specs.declared.access.Side.{Side}
 use Rattle.flow_word.specs.declared.access.Side.TheVariants.{Pop, Push}
-use Rattle.fifo_table.specs.declared.enabler.Enabler.TheVariants as enabler
 use Rattle.fifo_table.specs.declared.channel.TableChannel.{TableChannel}
-use Rattle.fifo_table.specs.declared.channel.TableChannel.TheVariants.{Source, Sink, Fifo}
+use Rattle.fifo_table.specs.declared.channel.TableChannel.TheVariants.{Fifo}
 use Rattle.fifo_table.specs.Channels.{Channel, IsFifo, HasSide, depth_of, places_of}
 use Rattle.fifo_table.specs.Enablers.{enabler_of, enabler_by, event_at}
 use Rattle.event_graph.specs.Lanes.{Lane, cycle_of}
 use Rattle.retime.specs.Touched.{clock_at, clock_by}
 
 pub fifo_has_side : (kind : TableChannel) (side : Side) → IsFifo kind → HasSide kind side
-fifo_has_side (Source inputs) side f = absurd f
-fifo_has_side Sink side f = absurd f
 fifo_has_side (Fifo depth delay) Pop f = λ e. e
 fifo_has_side (Fifo depth delay) Push f = λ e. e
+fifo_has_side kind side f = absurd f
 
 of_event : (lanes : List Lane) (o : Option Place) → clock_by lanes (event_at o) ≡ option_and_then (cycle_of lanes) o
-of_event lanes None = refl
-of_event lanes (Some place) = refl
+of_event lanes o = grind arith
 
 by_push : (lanes : List Lane) (kind : TableChannel) (channel : Channel) (n : ℕ) → IsFifo kind
     → clock_by lanes (enabler_by kind Pop channel n) ≡ clock_at lanes (places_of Push channel) (n - 1)
-by_push lanes (Source inputs) channel n f = absurd f
-by_push lanes Sink channel n f = absurd f
 by_push lanes (Fifo depth delay) channel n f = of_event lanes (slice_get (places_of Push channel) (n - 1))
+by_push lanes kind channel n f = absurd f
 
 -- the n-th pop waits for the n-th push
 pub push_clock : (lanes : List Lane) (channel : Channel) (n : ℕ) → IsFifo channel.kind
@@ -36,13 +32,11 @@ push_clock lanes channel n f = by_push lanes channel.kind channel n f
 
 by_pop : (lanes : List Lane) (kind : TableChannel) (channel : Channel) (n : ℕ) → IsFifo kind → 1 ≤ n
     → clock_by lanes (enabler_by kind Push channel (depth_of kind + n)) ≡ clock_at lanes (places_of Pop channel) (n - 1)
-by_pop lanes (Source inputs) channel n f l = absurd f
-by_pop lanes Sink channel n f l = absurd f
 by_pop lanes (Fifo depth delay) channel n f l =
-    ap (λ (b : Bool). clock_by lanes (cond b enabler.Free (event_at (slice_get channel.pops ((depth + n) - depth - 1)))))
-    (lt-leb (depth + n) depth (omega arith))
-    ∙ (ap (λ (i : ℕ). clock_by lanes (event_at (slice_get channel.pops i))) (omega arith)
-    ∙ of_event lanes (slice_get channel.pops (n - 1)))
+    let waits = lt-leb (depth + n) depth (omega arith) in
+    let place : (depth + n) - depth - 1 ≡ n - 1 = omega arith in
+    rw (waits, place) (of_event lanes (slice_get channel.pops (n - 1)))
+by_pop lanes kind channel n f l = absurd f
 
 -- the push with so many more before it than there are places waits for the n-th pop
 pub pop_clock : (lanes : List Lane) (channel : Channel) (n : ℕ) → IsFifo channel.kind → 1 ≤ n

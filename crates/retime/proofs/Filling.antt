@@ -1,9 +1,10 @@
 -- When a FIFO first holds so many elements, by the cycles of its pushes and pops.
-use Rattle.std.proofs.Common.{◌≡◌, refl, sym, ap, subst, ◌∙◌, ℕ, zero, suc, ◌+◌, ◌-◌, ◌<◌, ◌≤◌, ◌⊎◌, inl, inr, min, true, false, List, []}
+use Rattle.std.proofs.Common.{◌≡◌, refl, sym, ap, subst, ◌∙◌, ℕ, zero, suc, ◌+◌, ◌-◌, ◌<◌, ◌≤◌, inl, inr, min, true, false, List, []}
 use Rattle.std.proofs.Common.{◌∷◌, length, get_or, Option, None, Some, arith}
-use Rattle.std.specs.Prelude.{All, slice_get, option_and_then}
+use Rattle.std.proofs.lemmas.Bool.Decides.{nat_tests}
+use Rattle.std.specs.Prelude.{All, slice_get}
 use Rattle.std.specs.List.Sorted.{IsStrictlyIncreasing}
-use Rattle.std.proofs.lemmas.Bool.{cases_lt, cases_Bool, lt-ltb, ltb-true, both_ways}
+use Rattle.std.proofs.lemmas.Bool.{cases_lt, cases_Bool, ltb-true, both_ways}
 use Rattle.std.proofs.lemmas.List.{get_or_past}
 use Rattle.std.proofs.lemmas.List.Kept.{AllPairs-from_increasing}
 use Rattle.std.proofs.lemmas.Option.{slice_get_within, slice_get-get_or, get_or_from_slice_get, slice_get_past}
@@ -23,17 +24,13 @@ IsRising lanes places = (i j v : ℕ) → i < j → clock_at lanes places j ≡ 
 
 pub clock_of : (lanes : List Lane) (places : List Place) (i : ℕ) (e : Place) → i < length places
     → clock_at lanes places i ≡ cycle_of lanes (get_or places i e)
-clock_of lanes places i e l = ap (λ (o : Option Place). option_and_then (cycle_of lanes) o) (slice_get-get_or places i e l)
+clock_of lanes places i e l = rw (slice_get-get_or places i e l) refl
 
 clock_past : (lanes : List Lane) (places : List Place) (i : ℕ) → length places ≤ i → clock_at lanes places i ≡ None
-clock_past lanes places i l = ap (λ (o : Option Place). option_and_then (cycle_of lanes) o) (slice_get_past places i l)
+clock_past lanes places i l = rw (slice_get_past places i l) refl
 
 pub clock_within : (lanes : List Lane) (places : List Place) (i v : ℕ) → clock_at lanes places i ≡ Some v → i < length places
-clock_within lanes places i v e =
-    elim (cases_lt i (length places)) [
-      | inl l ↦ l
-      | inr l ↦ let n = clock_past lanes places i l in cc
-    ]
+clock_within lanes places i v e = let none = clock_past lanes places i in grind arith
 
 pub rising_of : (lanes : List Lane) → All IsSoundLane lanes → (m : ℕ) → IsStrictlyIncreasing (lane_at lanes m).cycles
 rising_of lanes sound m =
@@ -73,8 +70,7 @@ rising_tail lanes p places r i j v l e = r (suc i) (suc j) v (omega arith) e
 -- ---- how many are before a clock
 
 some_before : (c : ℕ) (o : Option ℕ) (v : ℕ) → o ≡ Some v → v < c → is_before c o ≡ true
-some_before c None v e l = cc
-some_before c (Some u) v e l = lt-ltb u c (let s : u ≡ v = cc in omega arith)
+some_before c o v e l = grind (arith, nat_tests)
 
 before_some : (c : ℕ) (o : Option ℕ) → is_before c o ≡ true → (v : ℕ) × (o ≡ Some v) × (v < c)
 before_some c None b = cc
@@ -103,28 +99,20 @@ before_more lanes (p ∷ places) c r (suc i) v e l =
 pub before_less : (lanes : List Lane) (places : List Place) (c : ℕ) → IsRising lanes places → (i : ℕ) → i < timed_before lanes places c
     → (v : ℕ) × (clock_at lanes places i ≡ Some v) × (v < c)
 before_less lanes [] c r i l = absurd (omega arith)
-before_less lanes (p ∷ places) c r i l = cases (λ j u. before_less lanes places c (rising_tail lanes p places r) j u)
-    (cases_Bool (is_before c (cycle_of lanes p))) i l
-  where
-    at : ((j : ℕ) → j < timed_before lanes places c → (v : ℕ) × (clock_at lanes places j ≡ Some v) × (v < c)) → (i : ℕ)
-        → is_before c (cycle_of lanes p) ≡ true → i < timed_before lanes (p ∷ places) c
-        → (v : ℕ) × (clock_at lanes (p ∷ places) i ≡ Some v) × (v < c)
-    at more zero b l = before_some c (cycle_of lanes p) b
-    at more (suc i) b l = let n = counted lanes p places c b in more i (omega arith)
-
-    none : ((j : ℕ) → j < timed_before lanes places c → (v : ℕ) × (clock_at lanes places j ≡ Some v) × (v < c)) → (i : ℕ)
-        → is_before c (cycle_of lanes p) ≡ false → i < timed_before lanes (p ∷ places) c → ⊥
-    none more i b l =
-        let n = skipped lanes p places c b in
-        let (v, is, less) = more i (omega arith) in
-        let (u, was, before) = r 0 (suc i) v (omega arith) is in
-        both_ways _ b (some_before c (cycle_of lanes p) u was (omega arith))
-
-    cases : ((j : ℕ) → j < timed_before lanes places c → (v : ℕ) × (clock_at lanes places j ≡ Some v) × (v < c))
-        → ((is_before c (cycle_of lanes p) ≡ true) ⊎ (is_before c (cycle_of lanes p) ≡ false)) → (i : ℕ)
-        → i < timed_before lanes (p ∷ places) c → (v : ℕ) × (clock_at lanes (p ∷ places) i ≡ Some v) × (v < c)
-    cases more (inl b) i l = at more i b l
-    cases more (inr b) i l = absurd (none more i b l)
+before_less lanes (p ∷ places) c r zero l =
+    elim (cases_Bool (is_before c (cycle_of lanes p))) [
+      | inl b ↦ before_some c (cycle_of lanes p) b
+      | inr b ↦
+          let n = skipped lanes p places c b in
+          let (v, is, less) = before_less lanes places c (rising_tail lanes p places r) 0 (omega arith) in
+          let (u, was, before) = r 0 1 v (omega arith) is in
+          absurd (both_ways _ b (some_before c (cycle_of lanes p) u was (omega arith)))
+    ]
+before_less lanes (p ∷ places) c r (suc i) l =
+    let one = counted lanes p places c in
+    let none = skipped lanes p places c in
+    let within : i < timed_before lanes places c = grind arith in
+    before_less lanes places c (rising_tail lanes p places r) i within
 
 -- ---- the pushes in order of their ordinals
 
@@ -156,39 +144,20 @@ module _ (lanes : List Lane) (channel : Channel) (pushes : IsRising lanes (place
   -- so it does where the push of ordinal n has no cycle
   pub no_push : (n : ℕ) → 1 ≤ n → IsFullBefore lanes channel full n → clock_at lanes (places_of Push channel) (n - 1) ≡ None → (c : ℕ)
       → timed_before lanes (places_of Push channel) c < n
-  no_push n l inv none c =
-      elim (cases_lt (timed_before lanes (places_of Push channel) c) n) [
-        | inl u ↦ u
-        | inr u ↦
-            let (v, is, less) = before_less lanes (places_of Push channel) c pushes (n - 1) (omega arith) in
-            let s : Some v ≡ None = sym is ∙ none in
-            cc
-      ]
+  no_push n l inv none c = let before = before_less lanes (places_of Push channel) c pushes (n - 1) in grind arith
 
   -- before the clock behind a push there are fewer pushes than its ordinal, and in it as many
   fewer : (n v c : ℕ) → 1 ≤ n → clock_at lanes (places_of Push channel) (n - 1) ≡ Some v → c ≤ v
       → timed_before lanes (places_of Push channel) c < n
-  fewer n v c l e le =
-      elim (cases_lt (timed_before lanes (places_of Push channel) c) n) [
-        | inl u ↦ u
-        | inr u ↦
-            let (w, is, less) = before_less lanes (places_of Push channel) c pushes (n - 1) (omega arith) in
-            let s = same_clock _ w v is e in
-            absurd (omega arith)
-      ]
+  fewer n v c l e le = let before = before_less lanes (places_of Push channel) c pushes (n - 1) in grind arith
 
   as_many : (n v : ℕ) → 1 ≤ n → clock_at lanes (places_of Push channel) (n - 1) ≡ Some v
       → timed_before lanes (places_of Push channel) (v + 1) ≡ n
   as_many n v l e =
       let m = before_more lanes (places_of Push channel) (v + 1) pushes (n - 1) v e (omega arith) in
-      elim (cases_lt n (timed_before lanes (places_of Push channel) (v + 1))) [
-        | inl u ↦
-            let (w, is, less) = before_less lanes (places_of Push channel) (v + 1) pushes n u in
-            let (y, at, under) = pushes (n - 1) n w (omega arith) is in
-            let s = same_clock _ y v at e in
-            absurd (omega arith)
-        | inr u ↦ omega arith
-      ]
+      let past = before_less lanes (places_of Push channel) (v + 1) pushes n in
+      let rises = pushes (n - 1) n in
+      grind arith
 
   -- where that pop was not before the push nor in its clock, the FIFO holds so many in the clock behind it
   pub holds : (n v : ℕ) → full ≤ n → IsFullBefore lanes channel full n → clock_at lanes (places_of Push channel) (n - 1) ≡ Some v
@@ -269,16 +238,12 @@ cycle_least xs r (suc i) v e =
 
 below_bound : (lanes : List Lane) → All IsSoundLane lanes → (m i v : ℕ) → slice_get (lane_at lanes m).cycles i ≡ Some v → v < cycle_bound
 below_bound lanes sound m i v e =
-    elim (cases_lt m (length lanes)) [
-      | inl l ↦
-          let here = sound m no_lane l in
-          subst (λ (q : ℕ). q < cycle_bound) (get_or_from_slice_get (lane_at lanes m).cycles i v 0 e)
-          (here.below i 0 (slice_get_within (lane_at lanes m).cycles i v e))
-      | inr l ↦
-          let f : slice_get no_lane.cycles i ≡ Some v = subst (λ (q : Lane). slice_get q.cycles i ≡ Some v) (get_or_past lanes m no_lane l)
-          e in
-          cc
-    ]
+    let within = slice_get_within (lane_at lanes m).cycles i v e in
+    let past = get_or_past lanes m no_lane in
+    let inside : m < length lanes = grind arith in
+    let below = (sound m no_lane inside).below i 0 within in
+    let is = get_or_from_slice_get (lane_at lanes m).cycles i v 0 e in
+    omega arith
 
 pub few_clocks : (lanes : List Lane) (places : List Place) → All IsSoundLane lanes → AreInOrder places → (i v : ℕ)
     → clock_at lanes places i ≡ Some v → i < cycle_bound

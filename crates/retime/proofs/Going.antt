@@ -1,13 +1,11 @@
 -- Going round the modules as long as something is permitted.
-use Rattle.std.proofs.Common.{◌≡◌, refl, sym, ap, subst, ◌∙◌, ℕ, ◌+◌, ◌-◌, ◌*◌, ◌^◌, ◌<◌, ◌≤◌, ◌⊎◌, inl, inr, Bool, cond, ltb, List, []}
+use Rattle.std.proofs.Common.{◌≡◌, refl, sym, ap, ◌∙◌, ℕ, ◌+◌, ◌-◌, ◌*◌, ◌^◌, ◌<◌, ◌≤◌, ◌⊎◌, inl, inr, List, []}
 use Rattle.std.proofs.Common.{◌∷◌, ◌++◌, length, None, Some, arith, mul-le-mul_right}
 use Rattle.std.proofs.lemmas.Bool.{cases_lt}
-use Rattle.std.proofs.lemmas.Bool.Decides.{eqb_tells}
 use Rattle.std.proofs.lemmas.List.{get_or_past, length-map}
-use Rattle.event_graph.specs.Lanes.{Lane, no_lane, lane_at}
+use Rattle.event_graph.specs.Lanes.{Lane, no_lane}
 use Rattle.event_timing.specs.Machines.{Design}
-use Rattle.event_timing.specs.Views.{first_accesses}
-use Rattle.event_timing.specs.Enablers.{candidate, to_clock, reach, bound, known_of}
+use Rattle.event_timing.specs.Enablers.{candidate}
 use Rattle.event_timing.specs.Core.{Core, view}
 use Rattle.event_timing.specs.Actions.{Action, Acts, ActsAll}
 use Rattle.event_timing.specs.Actions.Action.{Run, Assign, Answer, Earliest}
@@ -22,7 +20,7 @@ use Rattle.retime.specs.Rounds.{AreTimings, HasGone, only_steps, cycles_in, IsVi
 
 acts_more : {S : Type 0} → (d : Design S) (limit : ℕ) (x : Core S) (actions : List Action) (y z : Core S) (a : Action)
     → ActsAll d limit x actions y → Acts d limit y a z → ActsAll d limit x (actions ++ a ∷ []) z
-acts_more {S} d limit x [] y z a e s = (z, subst (λ (w : Core S). Acts d limit w a z) e s, refl)
+acts_more {S} d limit x [] y z a e s = (z, rw (← e) s, refl)
 acts_more {S} d limit x (b ∷ more) y z a (w, t, r) s = (w, t, acts_more d limit w more y z a r s)
 
 timings_more : (actions : List Action) (a : Action) → AreTimings actions → AreTimings (a ∷ []) → AreTimings (actions ++ a ∷ [])
@@ -72,12 +70,8 @@ begun limit first ticks count core e = record {
   inside = λ l. l;
   acts = λ d over i k. record { actions = []; timings = tt; all = refl; kept = k };
   room = λ credits d over i k r. r;
-  none_left = λ m l visited. absurd (no_visit m l visited);
+  none_left = λ m l visited. absurd (grind arith);
 }
-  where
-    no_visit : (m : ℕ) → m < count → IsVisited count 0 0 m → ⊥
-    no_visit m i (inl (l, u)) = absurd (omega arith)
-    no_visit m i (inr (l, u)) = absurd (omega arith)
 
 module _ (limit : ℕ) (first now next : Stored) (before ticks later count at idle : ℕ)
     (r : IsGoingRound limit first now before ticks count at idle)
@@ -97,27 +91,22 @@ module _ (limit : ℕ) (first now next : Stored) (before ticks later count at id
     inside = r.inside;
     acts = leads_more first now next limit a t r.acts leads;
     room = room_more first now next (λ d over i k. (r.acts d over i k).kept) r.room room;
-    none_left = λ m l visited. absurd (no_visit m l visited);
+    none_left = λ m l visited. absurd (let inside = r.inside in grind arith);
   }
-    where
-      no_visit : (m : ℕ) → m < count → IsVisited count at 0 m → ⊥
-      no_visit m i (inl (l, u)) = absurd (omega arith)
-      no_visit m i (inr (l, u)) = let v = r.inside (omega arith) in absurd (omega arith)
 
   -- nothing was done, and the round stands where it stood
   waited : next ≡ now → IsGoingRound limit first next before later count at idle
   waited same = record {
-    core = subst IsSomeCore (sym same) r.core;
-    counted = r.counted ∙ ap (λ (s : Stored). length s.graph.lanes) (sym same);
-    steps = ap (λ (s : Stored). only_steps s.graph.lanes) same ∙ r.steps;
-    kinds = ap (λ (s : Stored). kinds_in s.table.channels) same ∙ r.kinds;
+    core = rw same r.core;
+    counted = rw same r.counted;
+    steps = rw same r.steps;
+    kinds = rw same r.kinds;
     ticked = let e = r.ticked in omega arith;
     within = r.within;
     inside = r.inside;
-    acts = subst (HasGone limit first) (sym same) r.acts;
-    room = subst (KeepsRoom first) (sym same) r.room;
-    none_left = subst (λ (s : Stored). (m : ℕ) → m < count → IsVisited count at idle m
-        → OfEach s (λ d over. IsIdle d limit (core_of d (held_in s over)) m)) (sym same) r.none_left;
+    acts = rw same r.acts;
+    room = rw same r.room;
+    none_left = rw same r.none_left;
   }
 
   -- nothing was done, and another module has its turn
@@ -134,26 +123,14 @@ module _ (limit : ℕ) (first now next : Stored) (before ticks later count at id
         inside = λ z. l;
         acts = w.acts;
         room = w.room;
-        none_left = λ m u visited. absurd (no_visit m u visited);
+        none_left = λ m u visited. absurd (grind arith);
       }
-    where
-      no_visit : (m : ℕ) → m < count → IsVisited count to 0 m → ⊥
-      no_visit m i (inl (l, u)) = absurd (omega arith)
-      no_visit m i (inr (l, u)) = absurd (omega arith)
 
   abbrev pub IsNextOf : ℕ → Type 0
   IsNextOf to = ((at + 1 < count) × (to ≡ at + 1)) ⊎ ((count ≤ at + 1) × (to ≡ 0))
 
   visit : idle < count → (to m : ℕ) → m < count → IsNextOf to → IsVisited count to (idle + 1) m → (m ≡ at) ⊎ IsVisited count at idle m
-  visit less to m i (inl (l, e)) (inl (p, q)) = elim (eqb_tells m at) [
-    | inl y ↦ inl y.1
-    | inr y ↦ let n = y.1 in inr (inl (omega arith, omega arith))
-  ]
-  visit less to m i (inl (l, e)) (inr (p, q)) = inr (inr (omega arith, omega arith))
-  visit less to m i (inr (l, e)) (inl (p, q)) = absurd (omega arith)
-  visit less to m i (inr (l, e)) (inr (p, q)) =
-      let u = r.inside (omega arith) in
-      elim (eqb_tells m at) [ inl y ↦ inl y.1 | inr y ↦ let n = y.1 in inr (inl (omega arith, omega arith)) ]
+  visit less to m i t visited = let inside = r.inside in grind arith
 
   -- nothing was done at the module whose turn it was
   pub stayed : idle < count → next ≡ now → OfEach now (λ d over. IsIdle d limit (core_of d (held_in now over)) at) → (to : ℕ) → IsNextOf to
@@ -167,32 +144,22 @@ module _ (limit : ℕ) (first now next : Stored) (before ticks later count at id
         kinds = w.kinds;
         ticked = w.ticked;
         within = omega arith;
-        inside = λ z. below t;
+        inside = λ z. grind arith;
         acts = w.acts;
         room = w.room;
-        none_left = subst (λ (s : Stored). (m : ℕ) → m < count → IsVisited count to (idle + 1) m
-            → OfEach s (λ d over. IsIdle d limit (core_of d (held_in s over)) m)) (sym same)
-            (λ m l visited. left_of m l (visit less to m l t visited));
+        none_left = rw same (λ m l visited. left_of m l (visit less to m l t visited));
       }
     where
-      below : IsNextOf to → to < count
-      below (inl (l, e)) = omega arith
-      below (inr (l, e)) = omega arith
-
       left_of : (m : ℕ) → m < count → (m ≡ at) ⊎ IsVisited count at idle m
           → OfEach now (λ d over. IsIdle d limit (core_of d (held_in now over)) m)
-      left_of m l (inl e) = subst (λ (v : ℕ). OfEach now (λ d over. IsIdle d limit (core_of d (held_in now over)) v)) (sym e) none
+      left_of m l (inl e) = rw e none
       left_of m l (inr v) = r.none_left m l v
 
 -- ---- the end
 
 nobody : {S : Type 0} → (d : Design S) (h : Held) (m : ℕ) → length h.lanes ≤ m → candidate d (view d (core_of d h)) m ≡ None
 unfolding candidate
-nobody {S} d h m l =
-    let none : lane_at h.lanes m ≡ no_lane = get_or_past h.lanes m no_lane l in
-    ap (λ (b : Bool). cond b (to_clock (reach (view d (core_of d h)) m)
-    (bound (known_of d (view d (core_of d h)) m) (first_accesses (view d (core_of d h)) m))) None)
-    (ap (λ (q : Lane). ltb (length q.cycles) (length q.steps)) none)
+nobody {S} d h m l = rw (get_or_past h.lanes m no_lane l) refl
 
 idle_outside : {S : Type 0} → (d : Design S) (limit : ℕ) (h : Held) (m : ℕ) → length h.lanes ≤ m → IsIdle d limit (core_of d h) m
 idle_outside {S} d limit h m l = record {
@@ -205,11 +172,9 @@ pub all_visited : (limit : ℕ) (first now : Stored) (before ticks count at idle
     → IsGoingRound limit first now before ticks count at idle → count ≤ idle
     → OfEach now (λ d over. (m : ℕ) → IsIdle d limit (core_of d (held_in now over)) m)
 all_visited limit first now before ticks count at idle r l d over y k m =
+    let inside = r.inside in
     elim (cases_lt m count) [
-      | inl u ↦ elim (cases_lt m at) [
-        | inl q ↦ let v = r.inside (omega arith) in r.none_left m u (inl (q, omega arith)) d over y k
-        | inr q ↦ r.none_left m u (inr (q, omega arith)) d over y k
-      ]
+      | inl u ↦ r.none_left m u (grind arith) d over y k
       | inr u ↦ idle_outside d limit (held_in now over) m (let e = r.counted in omega arith)
     ]
 
@@ -227,3 +192,17 @@ still_went now next count idle hints other l f =
   where
     falls : (a b most x y : ℕ) → a + 1 ≤ b → x < most → a * most + x < b * most + y
     falls a b most x y l u = let m : (a + 1) * most ≤ b * most = mul-le-mul_right most l in omega arith
+
+pub still_jumped : (now next : Stored) (count idle hints other : ℕ) → next ≡ now → other < hints
+    → still next count 0 other < still now count idle hints
+still_jumped now next count idle hints other e l = rw e (falls (left now * (2 ^ 64 * (count + 1))))
+  where
+    falls : (a : ℕ) → a + (other * (count + 1) + (count - 0)) < a + (hints * (count + 1) + (count - idle))
+    falls a = let m : (other + 1) * (count + 1) ≤ hints * (count + 1) = mul-le-mul_right (count + 1) (omega arith) in omega arith
+
+pub still_stayed : (now next : Stored) (count idle hints : ℕ) → next ≡ now → idle < count
+    → still next count (idle + 1) hints < still now count idle hints
+still_stayed now next count idle hints e l = rw e (falls (left now * (2 ^ 64 * (count + 1))) (hints * (count + 1)))
+  where
+    falls : (a b : ℕ) → a + (b + (count - (idle + 1))) < a + (b + (count - idle))
+    falls a b = omega arith

@@ -1,6 +1,6 @@
 -- Records only grow while cycles are given and queries answered.
-use Rattle.std.proofs.Common.{◌≡◌, refl, sym, subst, ◌∙◌, ℕ, ◌⊎◌, inl, inr, true, false, List, [], ◌∷◌, arith}
-use Rattle.std.proofs.lemmas.Bool.{cases_lt, cases_Bool, both_ways}
+use Rattle.std.proofs.Common.{◌≡◌, refl, sym, ◌∙◌, ℕ, ◌⊎◌, inl, inr, true, false, List, [], ◌∷◌, arith}
+use Rattle.std.proofs.lemmas.Bool.{cases_Bool}
 use Rattle.std.proofs.lemmas.Bool.Decides.{eqb_tells}
 use Rattle.event_timing.specs.Machines.{Design, IsDesign}
 use Rattle.event_timing.specs.Histories.{Trace, IsHistory}
@@ -46,14 +46,7 @@ module _ {S : Type 0} (d : Design S) (y : Trace S) (limit : ℕ) (x : Core S) (g
 
     -- what holds of the step that is answered, and of each other as before, holds of each
     at_each : (P : ℕ → ℕ → Type 0) → P n k₀ → ((m k : ℕ) → (m ≡ n → k ≡ k₀ → ⊥) → P m k) → (m k : ℕ) → P m k
-    at_each P here else m k =
-        elim (eqb_tells m n) [
-          | inl p ↦ elim (eqb_tells k k₀) [
-            | inl q ↦ subst (λ (v : ℕ). P v k) (sym p.1) (subst (P n) (sym q.1) here)
-            | inr q ↦ else m k (λ e. q.1)
-          ]
-          | inr p ↦ else m k (λ e f. p.1 e)
-        ]
+    at_each P here else m k = let other = else m k in grind arith
 
     answered_now : (m k : ℕ) → x.answered m k ≡ true → z.answered m k ≡ true
     answered_now =
@@ -80,20 +73,18 @@ module _ {S : Type 0} (d : Design S) (y : Trace S) (limit : ℕ) (x : Core S) (g
     -- else it is the module's newest step, and all before it is verified
     all_verified : x.answered n k₀ ≡ false → AreVerified z n
     all_verified fresh k l e =
-        elim (cases_lt k k₀) [
-          | inl u ↦ verified_now n k (g.time.verified_then n k u)
-          | inr u ↦ elim (cases_lt k₀ k) [
-            | inl v ↦ absurd (both_ways _ fresh (g.marks.replied n k₀ (omega arith)))
-            | inr v ↦ subst (λ (j : ℕ). z.verified n j ≡ true) (let r : k₀ ≡ k = omega arith in r) (put_at_same x.verified n k₀ true)
-          ]
-        ]
+        let before = verified_now n k in
+        let was = g.time.verified_then n k in
+        let replied = g.marks.replied n k₀ in
+        let now = put_at_same x.verified n k₀ true in
+        grind arith
 
     ends_now : (m : ℕ) → ((k : ℕ) → z.answered m k ≡ x.answered m k) ⊎ AreVerified z m
     ends_now m =
         elim (cases_Bool (x.answered n k₀)) [
           | inl there ↦ inl (none_added there m)
           | inr fresh ↦ elim (eqb_tells m n) [
-            | inl p ↦ inr (subst (AreVerified z) (sym p.1) (all_verified fresh))
+            | inl p ↦ inr (rw p.1 (all_verified fresh))
             | inr p ↦ inl (λ k. put_at_other x.answered n k₀ true m k (λ e f. p.1 e))
           ]
         ]
@@ -103,19 +94,18 @@ module _ {S : Type 0} (d : Design S) (y : Trace S) (limit : ℕ) (x : Core S) (g
 
 pub answered_or_not : {S : Type 0} → (d : Design S) (y : Trace S) (limit : ℕ) (x w : Core S) → IsAgreed d y limit x → (n c m : ℕ)
     → (IsSame d x n c × (w ≡ after_answer d x n c)) ⊎ ((IsSame d x n c → ⊥) × (w ≡ x)) → RecordGrows x w m
-answered_or_not {S} d y limit x w g n c m (inl (same, e)) = subst (λ (v : Core S). RecordGrows x v m) (sym e)
-    (answer_grows d y limit x g n c same m)
-answered_or_not {S} d y limit x w g n c m (inr (other, e)) = subst (λ (v : Core S). RecordGrows x v m) (sym e) (grows_not x m)
+answered_or_not {S} d y limit x w g n c m (inl (same, e)) = rw e (answer_grows d y limit x g n c same m)
+answered_or_not {S} d y limit x w g n c m (inr (other, e)) = rw e (grows_not x m)
 
 -- a list of actions
 pub records_grow : {S : Type 0} → (d : Design S) (y : Trace S) → IsDesign d → IsHistory d y → (limit : ℕ) (x : Core S)
     → IsAgreed d y limit x
     → (actions : List Action) → AreTimings actions → (z : Core S) → ActsAll d limit x actions z → (m : ℕ) → RecordGrows x z m
-records_grow {S} d y i w limit x g [] t z e m = subst (λ (v : Core S). RecordGrows x v m) (sym e) (grows_not x m)
+records_grow {S} d y i w limit x g [] t z e m = rw e (grows_not x m)
 records_grow {S} d y i w limit x g (Run n ∷ rest) t z e m = absurd t
 records_grow {S} d y i w limit x g (Earliest n ∷ rest) t z e m = absurd t
 records_grow {S} d y i w limit x g (Assign n ∷ rest) t z (v, (c, may, is), more) m =
-    grows_more x v z m (subst (λ (u : Core S). RecordGrows x u m) (sym is) (timed_grows x n c m))
+    grows_more x v z m (rw is (timed_grows x n c m))
     (records_grow d y i w limit v (acts_agree d y i w limit x g (Assign n) v (c, may, is)) rest t z more m)
 records_grow {S} d y i w limit x g (Answer n ∷ rest) t z (v, (c, may, is), more) m =
     grows_more x v z m (answered_or_not d y limit x v g n c m is)

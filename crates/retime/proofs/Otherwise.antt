@@ -1,28 +1,27 @@
 -- A query that is found to be another is another in the history.
-use Rattle.std.proofs.Common.{◌≡◌, refl, sym, ap, ap₂, subst, ◌∙◌, ℕ, zero, suc, ◌+◌, ◌<◌, ◌≤◌, inl, inr, Bool, true, false, ltb}
-use Rattle.std.proofs.Common.{List, [], ◌∷◌, length, map, take, drop, Option, Some, None, arith, length-drop}
+use Rattle.std.proofs.Common.{◌≡◌, refl, sym, ap, ap₂, ◌∙◌, ℕ, zero, suc, ◌+◌, ◌<◌, Bool, false}
+use Rattle.std.proofs.Common.{List, [], ◌∷◌, length, map, take, drop, Option, Some, arith}
+use Rattle.std.proofs.lemmas.Bool.Decides.{nat_tests}
 use Rattle.std.specs.Prelude.{All, slice_get}
-use Rattle.std.proofs.lemmas.Bool.{and_parts, cases_Bool}
 use Rattle.std.proofs.lemmas.Option.{get_or_from_slice_get, slice_get_within, slice_get-get_or}
 use Rattle.flow_word.specs.Kinds.{is_blocking, side_of}
 use Rattle.flow_word.specs.declared.access.Access.{Access}
 use Rattle.flow_word.specs.declared.access.Kind.{Kind}
-use Rattle.query_log.specs.Logs.{log_at, outcome_of}
+use Rattle.query_log.specs.Logs.{log_at}
 use Rattle.query_log.specs.declared.query.Query.{Query}
 use Rattle.event_timing.specs.Machines as theory
 use Rattle.event_timing.specs.Machines.{Design, IsDesign}
 use Rattle.event_timing.specs.Histories.{Trace, IsHistory, is_possible}
-use Rattle.event_timing.specs.Core.{Core, core_accesses, core_tally, view}
+use Rattle.event_timing.specs.Core.{Core, core_tally, view}
 use Rattle.event_timing.specs.Actions.{new_flags}
 use Rattle.event_timing.specs.Agreement.{IsAgreed, possible_all}
 use Rattle.event_timing.proofs.Agreement.{answer_found}
 use Rattle.event_timing.proofs.Answering.{first_emitted}
 use Rattle.event_timing.proofs.Candidate.{candidate_done, candidate_steps}
 use Rattle.event_timing.proofs.Fronts.{agrees}
-use Rattle.engine_view.specs.Held.{Held, step_of, emitted_of, seen, queries_in, possible_by, flags_by, flags_of, are_among, core_of}
+use Rattle.engine_view.specs.Held.{Held, step_of, emitted_of, seen, queries_in, possible_by, flags_by, core_of}
 use Rattle.engine_view.specs.Shown.{IsSound, queries_before}
 use Rattle.engine_view.specs.Turns.{IsDifferent, first_of}
-use Rattle.engine_view.proofs.Answered.{among_is}
 use Rattle.retime.specs.Edits.{IsOtherInHistory}
 
 -- ---- lists
@@ -33,7 +32,7 @@ get_drop (suc n) j [] = refl
 get_drop (suc n) j (o ∷ os) = let z : suc n + j ≡ suc (n + j) = omega arith in rw z (get_drop n j os)
 
 all_at : {A : Type 0} (P : A → Type 0) (xs : List A) (i : ℕ) (a : A) → All P xs → slice_get xs i ≡ Some a → P a
-all_at {A} P xs i a f e = subst P (get_or_from_slice_get xs i a a e) (f i a (slice_get_within xs i a e))
+all_at {A} P xs i a f e = rw (get_or_from_slice_get xs i a a e) at (f i a (slice_get_within xs i a e))
 
 -- ---- the queries of a step
 
@@ -41,39 +40,26 @@ all_at {A} P xs i a f e = subst P (get_or_from_slice_get xs i a a e) (f i a (sli
 among_queries : (xs : List Access) (place : ℕ) (a : Access) → slice_get xs place ≡ Some a → is_blocking a.kind ≡ false
     → queries_in (take place xs) < queries_in xs
 among_queries [] place a at q = cc
-among_queries (x ∷ xs) zero a at q =
-    let same : x ≡ a = cc in
-    let asks : is_blocking x.kind ≡ false = ap (λ (b : Access). is_blocking b.kind) same ∙ q in
-    rw asks (omega arith)
-among_queries (x ∷ xs) (suc place) a at q =
-    let rest = among_queries xs place a at q in
-    elim (cases_Bool (is_blocking x.kind)) [ inl e ↦ rw e rest | inr e ↦ rw e (omega (arith, rest)) ]
+among_queries (x ∷ xs) zero a at q = grind arith
+among_queries (x ∷ xs) (suc place) a at q = let later = among_queries xs place a at q in grind arith
 
 -- its flag is told by the outcome of its number
 flag_at : (xs : List Access) (os : List Bool) (place : ℕ) (a : Access) → slice_get xs place ≡ Some a → is_blocking a.kind ≡ false
     → slice_get (flags_by xs os) place ≡ Some (possible_by a.kind (slice_get os (queries_in (take place xs))))
 flag_at [] os place a at q = cc
-flag_at (x ∷ xs) os zero a at q =
-    let same : x ≡ a = cc in
-    let asks : is_blocking x.kind ≡ false = ap (λ (b : Access). is_blocking b.kind) same ∙ q in
-    rw asks (ap (λ (b : Access). Some (possible_by b.kind (slice_get os 0))) same)
+flag_at (x ∷ xs) os zero a at q = grind arith
 flag_at (x ∷ xs) os (suc place) a at q =
-    elim (cases_Bool (is_blocking x.kind)) [
-      | inl e ↦ rw e (flag_at xs os place a at q)
-      | inr e ↦ rw e (flag_at xs (drop 1 os) place a at q ∙ ap (λ (o : Option Bool). Some (possible_by a.kind o)) (next os _))
-    ]
-  where
-    next : (os : List Bool) (j : ℕ) → slice_get (drop 1 os) j ≡ slice_get os (suc j)
-    next [] j = refl
-    next (o ∷ os) j = refl
+    let here = flag_at xs os place a at q in
+    let later = flag_at xs (drop 1 os) place a at q in
+    let next = get_drop 1 (queries_in (take place xs)) os in
+    grind arith
 
 -- and the history tells whether it is possible
 possible_at : {S : Type 0} (d : Design S) (y : Trace S) (c : ℕ) (xs : List Access) (place : ℕ) (a : Access)
     → slice_get xs place ≡ Some a
     → slice_get (possible_all d y c (map seen xs)) place ≡ Some (is_possible d y c (side_of a.kind) a.channel)
 possible_at {S} d y c [] place a at = cc
-possible_at {S} d y c (x ∷ xs) zero a at =
-    let same : x ≡ a = cc in ap (λ (b : Access). Some (is_possible d y c (side_of b.kind) b.channel)) same
+possible_at {S} d y c (x ∷ xs) zero a at = grind arith
 possible_at {S} d y c (x ∷ xs) (suc place) a at = possible_at d y c xs place a at
 
 -- ---- the query that differs
@@ -115,11 +101,10 @@ module _ {S : Type 0} (d : Design S) (y : Trace S) (i : IsDesign d) (w : IsHisto
   -- its outcome is recorded
   there : q.number < length outcomes
   there =
-      let step = step_of h q.module k in
-      let has = and_parts (ltb k (emitted_of h q.module)) (are_among step (length outcomes)) n.found.recorded in
       let few = among_queries accesses place access n.found.other.is n.found.other.query in
       let is = n.found.other.number in
-      elim (among_is step (length outcomes) has.1) [ inl none ↦ omega arith | inr all ↦ omega arith ]
+      let recorded = n.found.recorded in
+      grind (arith, nat_tests)
 
   outcome : (b : Bool) × (slice_get outcomes q.number ≡ Some b)
   outcome = (_, slice_get-get_or outcomes q.number false there)

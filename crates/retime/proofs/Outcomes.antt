@@ -1,10 +1,9 @@
 -- What the growth of a record means for the list of outcomes.
-use Rattle.std.proofs.Common.{◌≡◌, refl, sym, ap, ap₂, subst, ◌∙◌, ℕ, zero, suc, ◌+◌, ◌<◌, ◌≤◌, ◌⊎◌, inl, inr, Bool, true, false, not, cond}
-use Rattle.std.proofs.Common.{ltb, ◌&&◌, List, [], ◌∷◌, ◌++◌, length, take, drop, get_or, arith, append-nil}
+use Rattle.std.proofs.Common.{◌≡◌, refl, sym, ap, ap₂, subst, ◌∙◌, ℕ, zero, suc, ◌+◌, ◌<◌, ◌≤◌, ◌⊎◌, inl, inr, Bool, true, not, cond}
+use Rattle.std.proofs.Common.{ltb, ◌&&◌, List, [], ◌∷◌, ◌++◌, length, take, drop, arith, append-nil}
 use Rattle.std.proofs.Math.Seq.{take-add, take-length}
-use Rattle.std.proofs.lemmas.Bool.{cases_Bool, and_parts, lt-ltb}
+use Rattle.std.proofs.lemmas.Bool.{and_parts, lt-ltb}
 use Rattle.std.proofs.lemmas.List.{length-append, length-drop, take-append-drop}
-use Rattle.flow_word.specs.Kinds.{is_blocking}
 use Rattle.flow_word.specs.declared.access.Access.{Access}
 use Rattle.flow_word.specs.declared.access.Step.{Step}
 use Rattle.event_graph.specs.Lanes.{lane_at}
@@ -12,7 +11,7 @@ use Rattle.query_log.specs.Logs.{Log, no_log, log_at}
 use Rattle.query_resolve.specs.Decisions.{late_outcome}
 use Rattle.event_timing.specs.Machines.{Design}
 use Rattle.event_timing.specs.Edits.{after_edit}
-use Rattle.engine_view.specs.Held.{Held, step_of, no_step, emitted_of, queries_in, flags_by, are_among, has_all, core_of}
+use Rattle.engine_view.specs.Held.{Held, step_of, emitted_of, queries_in, flags_by, are_among, has_all, core_of}
 use Rattle.engine_view.specs.Shown.{IsSound, queries_before}
 use Rattle.engine_view.proofs.Answered.{queries_step, queries_zero, among_is, among_if, all_among}
 use Rattle.engine_view.proofs.Emitted.{queries_mono}
@@ -21,30 +20,7 @@ use Rattle.retime.specs.Edits.{AreVerified, RecordGrows, OutcomesGrow}
 -- ---- the flags of accesses tell the outcomes of their queries
 
 same_outcome : (late x y : Bool) → cond late (not x) x ≡ cond late (not y) y → x ≡ y
-same_outcome true true true e = refl
-same_outcome true true false e = cc
-same_outcome true false true e = cc
-same_outcome true false false e = refl
-same_outcome false x y e = e
-
-flags_blocks : (a : Access) (xs : List Access) (os : List Bool) → is_blocking a.kind ≡ true → flags_by (a ∷ xs) os ≡ true ∷ flags_by xs os
-flags_blocks a xs os e = rw e refl
-
-flags_asks : (a : Access) (xs : List Access) (o : Bool) (os : List Bool) → is_blocking a.kind ≡ false
-    → flags_by (a ∷ xs) (o ∷ os) ≡ cond (late_outcome a.kind) (not o) o ∷ flags_by xs os
-flags_asks a xs o os e = rw e refl
-
-count_blocks : (a : Access) (xs : List Access) → is_blocking a.kind ≡ true → queries_in (a ∷ xs) ≡ queries_in xs
-count_blocks a xs e = rw e refl
-
-count_asks : (a : Access) (xs : List Access) → is_blocking a.kind ≡ false → queries_in (a ∷ xs) ≡ suc (queries_in xs)
-count_asks a xs e = rw e refl
-
-heads : (x y : Bool) (xs ys : List Bool) → x ∷ xs ≡ y ∷ ys → x ≡ y
-heads x y xs ys e = cc
-
-tails : (x y : Bool) (xs ys : List Bool) → x ∷ xs ≡ y ∷ ys → xs ≡ ys
-tails x y xs ys e = cc
+same_outcome late x y e = grind arith
 
 -- outcomes of which the accesses have the same flags are the same
 abbrev IsTold : List Access → Type 0
@@ -53,24 +29,13 @@ IsTold xs = (os ps : List Bool) → queries_in xs ≤ length os → queries_in x
 
 pub told_by_flags : (xs : List Access) → IsTold xs
 told_by_flags [] os ps l u e = refl
-told_by_flags (a ∷ xs) os ps l u e =
-    elim (cases_Bool (is_blocking a.kind)) [
-      | inl b ↦
-          let q = count_blocks a xs b in
-          let rest = tails true true _ _ (sym (flags_blocks a xs os b) ∙ (e ∙ flags_blocks a xs ps b)) in
-          ap (λ (n : ℕ). take n os) q ∙ (told_by_flags xs os ps (omega arith) (omega arith) rest ∙ sym (ap (λ (n : ℕ). take n ps) q))
-      | inr b ↦ asks (λ os ps l u e. told_by_flags xs os ps l u e) (count_asks a xs b) b os ps l u e
-    ]
-  where
-    asks : IsTold xs → queries_in (a ∷ xs) ≡ suc (queries_in xs) → is_blocking a.kind ≡ false → IsTold (a ∷ xs)
-    asks told q b [] ps l u e = absurd (omega arith)
-    asks told q b (o ∷ os) [] l u e = absurd (omega arith)
-    asks told q b (o ∷ os) (p ∷ ps) l u e =
-        let both = sym (flags_asks a xs o os b) ∙ (e ∙ flags_asks a xs p ps b) in
-        let here = same_outcome (late_outcome a.kind) o p (heads _ _ _ _ both) in
-        let rest = told os ps (omega arith) (omega arith) (tails _ _ _ _ both) in
-        ap (λ (n : ℕ). take n (o ∷ os)) q ∙ (ap₂ (λ (v : Bool) (vs : List Bool). v ∷ vs) here rest
-        ∙ sym (ap (λ (n : ℕ). take n (p ∷ ps)) q))
+told_by_flags (a ∷ xs) [] ps l u e = let here = told_by_flags xs [] ps in grind arith
+told_by_flags (a ∷ xs) (o ∷ os) [] l u e = let here = told_by_flags xs (o ∷ os) [] in grind arith
+told_by_flags (a ∷ xs) (o ∷ os) (p ∷ ps) l u e =
+    let here = told_by_flags xs (o ∷ os) (p ∷ ps) in
+    let later = told_by_flags xs os ps in
+    let first = same_outcome (late_outcome a.kind) o p in
+    grind arith
 
 -- ---- of all steps
 
@@ -84,18 +49,15 @@ module _ {S : Type 0} (d e : Design S) (h g : Held) (t m : ℕ) (sh : IsSound d 
   now = log_at g.logs m
 
   step_is : (k : ℕ) → step_of g m k ≡ step_of h m k
-  step_is k = ap (λ (l : List Step). get_or l k no_step) steps
+  step_is k = rw steps refl
 
   emitted_is : emitted_of g m ≡ emitted_of h m
-  emitted_is = ap (λ (l : List Step). length l) steps
+  emitted_is = rw steps refl
 
   -- the first steps whose outcomes are all recorded have the same ones
   alike : (n : ℕ) → n ≤ emitted_of h m → queries_before h m n ≤ length old.outcomes
       → (queries_before h m n ≤ length now.outcomes) × (take (queries_before h m n) now.outcomes ≡ take (queries_before h m n) old.outcomes)
-  alike zero l u = (
-    let z = queries_zero h m in omega arith,
-    ap (λ (n : ℕ). take n now.outcomes) (queries_zero h m) ∙ sym (ap (λ (n : ℕ). take n old.outcomes) (queries_zero h m)),
-  )
+  alike zero l u = let none = queries_zero h m in (grind arith, rw none refl)
   alike (suc n) l u =
       let step = queries_step h m n in
       let first = sh.first_query m n (omega arith) in
@@ -105,29 +67,20 @@ module _ {S : Type 0} (d e : Design S) (h g : Held) (t m : ℕ) (sh : IsSound d 
       let there = among_if (step_of h m n) (length old.outcomes) (omega arith) in
       let had : has_all h m n (length old.outcomes) ≡ true = ap₂ (λ (a b : Bool). a && b) (lt-ltb n (emitted_of h m) (omega arith)) there in
       let has = (and_parts (ltb n (emitted_of g m)) (are_among (step_of g m n) (length now.outcomes)) (r.answered n had)).1 in
-      let among = among_is (step_of h m n) (length now.outcomes)
-      (subst (λ (s : Step). are_among s (length now.outcomes) ≡ true) (step_is n) has) in
+      let among = among_is (step_of h m n) (length now.outcomes) (rw (step_is n) at has) in
       let enough : q + c ≤ length now.outcomes = elim among [ inl z ↦ omega arith | inr z ↦ omega arith ] in
       let flags : flags_by (step_of h m n).accesses (drop q now.outcomes) ≡ flags_by (step_of h m n).accesses (drop q old.outcomes) =
-      sym (ap (λ (k : ℕ). flags_by (step_of h m n).accesses (drop k now.outcomes)) first)
-      ∙ (sym (ap (λ (s : Step). flags_by s.accesses (drop s.first_query now.outcomes)) (step_is n))
-      ∙ (r.flags n had ∙ ap (λ (k : ℕ). flags_by (step_of h m n).accesses (drop k old.outcomes)) first)) in
+      rw (step_is n, first) at (r.flags n had) in
       let d1 = length-drop q now.outcomes in
       let d2 = length-drop q old.outcomes in
-      let here = told_by_flags (step_of h m n).accesses (drop q now.outcomes) (drop q old.outcomes) (omega arith) (omega arith) flags in (
-        omega arith,
-        ap (λ (k : ℕ). take k now.outcomes) step ∙ (take-add q c now.outcomes
-            ∙ (ap₂ (λ (x y : List Bool). x ++ y) same here ∙ (sym (take-add q c old.outcomes)
-            ∙ sym (ap (λ (k : ℕ). take k old.outcomes) step)))),
-      )
+      let here = told_by_flags (step_of h m n).accesses (drop q now.outcomes) (drop q old.outcomes) (omega arith) (omega arith) flags in
+      (omega arith, rw (step, take-add q c now.outcomes, take-add q c old.outcomes, same, here) refl)
 
   front : (length old.outcomes ≤ length now.outcomes) × (take (length old.outcomes) now.outcomes ≡ old.outcomes)
   front =
       let w = sh.recorded m in_h in
-      let (most, same) = alike w.steps w.within (let a = w.all in omega arith) in (
-        let a = w.all in omega arith,
-        ap (λ (k : ℕ). take k now.outcomes) w.all ∙ (same ∙ (sym (ap (λ (k : ℕ). take k old.outcomes) w.all) ∙ take-length old.outcomes)),
-      )
+      let (most, same) = alike w.steps w.within (let a = w.all in omega arith) in
+      (let a = w.all in omega arith, rw (w.all, same, ← w.all) (take-length old.outcomes))
 
   begins : now.outcomes ≡ old.outcomes ++ drop (length old.outcomes) now.outcomes
   begins = sym (take-append-drop (length old.outcomes) now.outcomes)

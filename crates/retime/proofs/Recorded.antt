@@ -1,8 +1,8 @@
 -- In a final core, verified outcomes are those of the steps with a cycle.
-use Rattle.std.proofs.Common.{◌≡◌, sym, ap, ap₂, subst, ◌∙◌, ℕ, zero, suc, ◌<◌, ◌≤◌, Bool, true, false, not, eqb, ltb, ◌&&◌, length, arith}
+use Rattle.std.proofs.Common.{◌≡◌, ℕ, zero, suc, ◌<◌, ◌≤◌, true, false, ltb, length, arith}
 use Rattle.std.proofs.Common.{inl, inr}
-use Rattle.std.proofs.lemmas.Bool.{cases_lt, cases_Bool, lt-ltb, both_ways, and_parts}
-use Rattle.std.proofs.lemmas.Bool.Decides.{eqb_tells}
+use Rattle.std.proofs.lemmas.Bool.{cases_lt, cases_Bool, and_parts}
+use Rattle.std.proofs.lemmas.Bool.Decides.{nat_tests}
 use Rattle.query_log.specs.Logs.{log_at}
 use Rattle.event_timing.specs.Machines.{Design}
 use Rattle.event_timing.specs.Histories.{Trace}
@@ -13,7 +13,7 @@ use Rattle.engine_view.specs.Held.{Held, step_of, emitted_of, queries_in, are_am
 use Rattle.engine_view.specs.Shown.{queries_before}
 use Rattle.engine_view.specs.Turns.{first_of}
 use Rattle.engine_view.proofs.Emitted.{queries_mono, has_query_is}
-use Rattle.engine_view.proofs.Answered.{queries_step, among_if, all_among}
+use Rattle.engine_view.proofs.Answered.{queries_step, all_among}
 use Rattle.retime.specs.Edits.{IsFinalOf}
 
 module _ {S : Type 0} (d : Design S) (y : Trace S) (limit : ℕ) (h : Held) (f : IsFinalOf d y limit h) (m : ℕ) (inside : m < length h.logs)
@@ -23,12 +23,9 @@ module _ {S : Type 0} (d : Design S) (y : Trace S) (limit : ℕ) (h : Held) (f :
 
     none_in : (k : ℕ) → k < emitted_of h m → has_query (core_accesses d x m k) ≡ false → queries_in (step_of h m k).accesses ≡ 0
     none_in k l none =
-        let e : not (eqb (queries_in (step_of h m k).accesses) 0) ≡ false = sym (has_query_is (step_of h m k).accesses)
-        ∙ (ap has_query (sym (f.sound.accesses m k l)) ∙ none) in
-        elim (eqb_tells (queries_in (step_of h m k).accesses) 0) [
-          | inl q ↦ q.1
-          | inr q ↦ let f : not (eqb (queries_in (step_of h m k).accesses) 0) ≡ true = ap not q.0 in absurd (both_ways _ e f)
-        ]
+        let query = has_query_is (step_of h m k).accesses in
+        let accesses = f.sound.accesses m k l in
+        grind (arith, nat_tests)
 
     -- the first step without a cycle has no verified query
     first_plain : first_of h m < emitted_of h m → x.verified m (first_of h m) ≡ true
@@ -48,7 +45,7 @@ module _ {S : Type 0} (d : Design S) (y : Trace S) (limit : ℕ) (h : Held) (f :
     verified_there k l u =
         let step = queries_step h m k in
         let first = f.sound.first_query m k l in
-        ap₂ (λ (a b : Bool). a && b) (lt-ltb k (emitted_of h m) l) (among_if (step_of h m k) (log_at h.logs m).verified (omega arith))
+        grind (arith, nat_tests)
 
     no_more : (n k : ℕ) → n ≤ emitted_of h m → queries_before h m n ≤ (log_at h.logs m).verified → first_of h m ≤ k → k < n
         → queries_in (step_of h m k).accesses ≡ 0
@@ -56,21 +53,19 @@ module _ {S : Type 0} (d : Design S) (y : Trace S) (limit : ℕ) (h : Held) (f :
         let v = verified_there k (omega arith) (let up = queries_mono h m (suc k) n b in omega arith) in
         elim (cases_lt (first_of h m) k) [
           | inl q ↦ none_in k (omega arith) (f.agreed.time.later_plain m k q (omega arith) v)
-          | inr q ↦
-              let e : k ≡ first_of h m = omega arith in
-              none_in k (omega arith) (subst (λ (j : ℕ). has_query (core_accesses d x m j) ≡ false) (sym e)
-              (first_plain (omega arith) (subst (λ (j : ℕ). x.verified m j ≡ true) e v)))
+          | inr q ↦ let e : first_of h m ≡ k = omega arith in
+              none_in k (omega arith) (rw e at (first_plain (omega arith) (rw (← e) at v)))
         ]
 
     no_growth : (n k : ℕ) → n ≤ emitted_of h m → queries_before h m n ≤ (log_at h.logs m).verified → k ≤ n
         → queries_before h m k ≤ queries_before h m (first_of h m)
     no_growth n zero l u b = queries_mono h m 0 (first_of h m) (omega arith)
     no_growth n (suc k) l u b =
-        elim (cases_lt k (first_of h m)) [
-          | inl q ↦ queries_mono h m (suc k) (first_of h m) q
-          | inr q ↦ let e = no_more n k l u q b in let step = queries_step h m k in let before = no_growth n k l u
-              (omega arith) in omega arith
-        ]
+        let up = queries_mono h m (suc k) (first_of h m) in
+        let none = no_more n k l u in
+        let step = queries_step h m k in
+        let before = no_growth n k l u (omega arith) in
+        grind arith
 
     timed_among : queries_before h m (first_of h m) ≤ (log_at h.logs m).verified
     timed_among =

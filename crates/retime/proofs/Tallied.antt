@@ -1,5 +1,5 @@
 -- What the table holds by the cycles that were given is what the theory says.
-use Rattle.std.proofs.Common.{◌≡◌, sym, ap, ap₂, subst, ◌∙◌, ℕ, zero, suc, ◌-◌, ◌<◌, ◌≤◌, min, inl, inr, Bool, true, false, List, [], ◌∷◌}
+use Rattle.std.proofs.Common.{refl, ◌≡◌, sym, ap, ap₂, ◌∙◌, ℕ, zero, suc, ◌-◌, ◌<◌, ◌≤◌, min, inl, inr, Bool, true, false, List, [], ◌∷◌}
 use Rattle.std.proofs.Common.{length, filter, get_or, arith}
 use Rattle.std.specs.Prelude.{slice_get}
 use Rattle.std.proofs.lemmas.Bool.{cases_lt, lt-ltb, le-ltb}
@@ -10,7 +10,7 @@ use Rattle.flow_word.specs.declared.access.Side.{Side}
 use Rattle.flow_word.specs.declared.access.Side.TheVariants.{Pop, Push}
 use Rattle.event_graph.specs.Lanes.{lane_at, cycle_of}
 use Rattle.fifo_table.specs.declared.channel.TableChannel.{TableChannel}
-use Rattle.fifo_table.specs.declared.channel.TableChannel.TheVariants.{Source, Sink, Fifo}
+use Rattle.fifo_table.specs.declared.channel.TableChannel.TheVariants.{Fifo}
 use Rattle.fifo_table.specs.Channels.{IsFifo, channel_at, depth_of, places_of}
 use Rattle.event_timing.specs.Machines.{Design, IsDesign}
 use Rattle.event_timing.specs.Core.{Core, core_accesses, core_tally, bare_replies}
@@ -37,7 +37,7 @@ front_counts p (x ∷ xs) zero l on off = rw (off 0 x (omega arith) (omega arith
 front_counts p (x ∷ xs) (suc n) l on off =
     let rest = front_counts p xs n (omega arith) (λ i e u. on (suc i) e (omega arith))
     (λ i e u v. off (suc i) e (omega arith) (omega arith)) in
-    rw (on 0 x (omega arith)) (ap (λ (k : ℕ). suc k) rest)
+    rw (on 0 x (omega arith), rest) refl
 
 module _ {S : Type 0} (d : Design S) (h : Held) (shown : IsSound d h) where
   abbrev x : Core S
@@ -50,24 +50,21 @@ module _ {S : Type 0} (d : Design S) (h : Held) (shown : IsSound d h) where
   stays : (m s c : ℕ) → s < kept (x.cycle m) c (x.timed m) → is_before c (slice_get (lane_at h.lanes m).cycles s) ≡ true
   stays m s c l =
       let n = kept_le (x.cycle m) c (x.timed m) in
-      let b = kept_below (x.cycle m) c (x.timed m) (rises m) s l in
-      ap (is_before c) (slice_get-get_or (lane_at h.lanes m).cycles s 0 (omega arith)) ∙ lt-ltb (x.cycle m s) c b
+      let below = kept_below (x.cycle m) c (x.timed m) (rises m) s l in
+      rw (slice_get-get_or (lane_at h.lanes m).cycles s 0 (omega arith)) (lt-ltb (x.cycle m s) c below)
 
   goes : (m s c : ℕ) → kept (x.cycle m) c (x.timed m) ≤ s → is_before c (slice_get (lane_at h.lanes m).cycles s) ≡ false
   goes m s c l =
       elim (cases_lt s (x.timed m)) [
         | inl u ↦
+            let least = kept_ge (x.cycle m) c (suc s) (x.timed m) u in
+            let rise = λ (k : ℕ). rises m k s in
             let late : c ≤ x.cycle m s = elim (cases_lt (x.cycle m s) c) [
-              | inl b ↦ let g = kept_ge (x.cycle m) c (suc s) (x.timed m) u
-                  (λ k w. elim (cases_lt k s) [
-                    | inl r ↦ let y = rises m k s r
-                        u in omega arith
-                    | inr r ↦ let e : s ≡ k = omega arith in subst (λ (q : ℕ). x.cycle m q < c) e b
-                  ]) in absurd (omega arith)
+              | inl b ↦ let all = least (λ k w. let less = rise k in grind arith) in absurd (omega arith)
               | inr b ↦ b
             ] in
-            ap (is_before c) (slice_get-get_or (lane_at h.lanes m).cycles s 0 u) ∙ le-ltb (x.cycle m s) c late
-        | inr u ↦ ap (is_before c) (slice_get_past (lane_at h.lanes m).cycles s u)
+            rw (slice_get-get_or (lane_at h.lanes m).cycles s 0 u) (le-ltb (x.cycle m s) c late)
+        | inr u ↦ rw (slice_get_past (lane_at h.lanes m).cycles s u) refl
       ]
 
   most : (side : Side) (c : ℕ) (places : List Place) → AreTaken d x side c places → (t : ℕ)
@@ -86,27 +83,20 @@ module _ {S : Type 0} (d : Design S) (h : Held) (shown : IsSound d h) where
   counts_are side c places taken t =
       let m = d.owner side c in
       let k = kept (x.cycle m) t (x.timed m) in
+      let up = tally_mono (core_accesses d x m) (λ j. bare_replies (x.flags m j)) side c in
       front_counts (λ (p : Place). is_before t (cycle_of h.lanes p)) places (core_tally d x m side c k) (most side c places taken t)
       (λ i e l.
       let at = taken.each i e (let w = most side c places taken t in omega arith) in
-      let f = at.from in
-      let s = (get_or places i e).step in
-      let less : s < k = elim (cases_lt s k) [
-        | inl u ↦ u
-        | inr u ↦ let y = tally_mono (core_accesses d x m)
-            (λ j. bare_replies (x.flags m j)) side c k s u in absurd (omega arith)
-      ] in
-      subst (λ (w : ℕ). is_before t (slice_get (lane_at h.lanes w).cycles s) ≡ true) (sym at.owner) (stays m s t less))
+      let from = at.from in
+      let beyond = up k (get_or places i e).step in
+      let less : (get_or places i e).step < k = grind arith in
+      rw at.owner (stays m (get_or places i e).step t less))
       (λ i e l u.
       let at = taken.each i e u in
-      let f = at.to in
-      let s = (get_or places i e).step in
-      let past : k ≤ s = elim (cases_lt s k) [
-        | inl v ↦ let y = tally_mono (core_accesses d x m) (λ j. bare_replies (x.flags m j)) side c
-            (suc s) k v in absurd (omega arith)
-        | inr v ↦ v
-      ] in
-      subst (λ (w : ℕ). is_before t (slice_get (lane_at h.lanes w).cycles s) ≡ false) (sym at.owner) (goes m s t past))
+      let to = at.to in
+      let within = up (suc (get_or places i e).step) k in
+      let past : k ≤ (get_or places i e).step = grind arith in
+      rw at.owner (goes m (get_or places i e).step t past))
 
   -- their steps rise, since a step takes at most one
   pub in_order : IsDesign d → (side : Side) (c : ℕ) (places : List Place) → AreTaken d x side c places → AreInOrder places
@@ -120,14 +110,9 @@ module _ {S : Type 0} (d : Design S) (h : Held) (shown : IsSound d h) where
       let r = (get_or places j e).step in
       let one = y.single side m (x.state m s) c in
       let few = takes_takers side c (core_accesses d x m s) (bare_replies (x.flags m s)) in
-      let step = tally_more (core_accesses d x m) (λ k. bare_replies (x.flags m k)) side c s in (
-        a.owner ∙ sym b.owner,
-        elim (cases_lt s r) [
-          | inl v ↦ v
-          | inr v ↦ let up = tally_mono (core_accesses d x m) (λ k. bare_replies (x.flags m k)) side c (suc r) (suc s)
-              (omega arith) in absurd (omega arith)
-        ],
-      )
+      let step = tally_more (core_accesses d x m) (λ k. bare_replies (x.flags m k)) side c s in
+      let up = tally_mono (core_accesses d x m) (λ k. bare_replies (x.flags m k)) side c (suc r) (suc s) in
+      (a.owner ∙ sym b.owner, grind arith)
 
 module _ {S : Type 0} (d : Design S) (h : Held) (s : IsSound d h) (c : ℕ) (inside : c < length h.channels) where
   pub places_in_order : IsDesign d → (side : Side) → AreInOrder (places_of side (channel_at h.channels c))
@@ -141,9 +126,8 @@ module _ {S : Type 0} (d : Design S) (h : Held) (s : IsSound d h) (c : ℕ) (ins
   held_is t = ap₂ (λ (a b : ℕ). a - b) (count_is Push t) (count_is Pop t)
 
   start_of : (kind : TableChannel) → IsFifo kind → IsKind d c kind → d.start Push c ≡ depth_of kind
-  start_of (Source inputs) f k = absurd f
-  start_of Sink f k = absurd f
   start_of (Fifo depth delay) f (unlimited, start, none, open_sides) = start
+  start_of kind f k = absurd f
 
   pub start_is : IsFifo (channel_at h.channels c).kind → d.start Push c ≡ depth_of (channel_at h.channels c).kind
   start_is f = start_of (channel_at h.channels c).kind f (s.kinds c inside)

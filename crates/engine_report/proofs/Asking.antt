@@ -1,5 +1,5 @@
 -- What a module asks is what its step holds.
-use Rattle.std.proofs.Common.{◌≡◌, refl, sym, ap, ◌∙◌, Bool, true, false, List, [], ◌∷◌, map}
+use Rattle.std.proofs.Common.{arith, ◌≡◌, ap, Bool, true, false, List, ◌∷◌, map}
 use Rattle.flow_word.specs.declared.access.Access.{Access}
 use Rattle.flow_word.specs.declared.access.Kind.{Kind}
 use Rattle.flow_word.specs.declared.access.Kind.TheVariants.{Read, Write, TryRead, TryWrite, Empty, Full}
@@ -23,48 +23,24 @@ abbrev pub kind_in : theory.Access → Kind
 kind_in a = kind_by a.side a.blocks a.takes
 
 pub kind_seen : (a : Access) → kind_in (seen a) ≡ a.kind
-kind_seen a = by a.kind
-  where
-    by : (k : Kind) → kind_in (seen (record { kind = k; channel = 0; ordinal = 0; value = 0 })) ≡ k
-    by Read = refl
-    by Write = refl
-    by TryRead = refl
-    by TryWrite = refl
-    by Empty = refl
-    by Full = refl
+kind_seen a = grind arith
 
 kind_asked : (r : Request) → kind_in (bridge.seen r) ≡ r.kind
-kind_asked r = by r.kind
-  where
-    by : (k : Kind) → kind_in (bridge.seen (record { kind = k; channel = 0; value = 0 })) ≡ k
-    by Read = refl
-    by Write = refl
-    by TryRead = refl
-    by TryWrite = refl
-    by Empty = refl
-    by Full = refl
+kind_asked r = grind arith
 
 -- they are of the same kind
 pub same_kind : (r : Request) (a : Access) → bridge.seen r ≡ seen a → r.kind ≡ a.kind
-same_kind r a e = sym (kind_asked r) ∙ (ap kind_in e ∙ kind_seen a)
+same_kind r a e = let asked = kind_asked r in let there = kind_seen a in cc
 
 pub same_channel : (r : Request) (a : Access) → bridge.seen r ≡ seen a → r.channel ≡ a.channel
 same_channel r a e = ap (λ (t : theory.Access). t.channel) e
 
 -- ---- lists
 
-abbrev head_of : theory.Access → List theory.Access → theory.Access
-head_of e [] = e
-head_of e (x ∷ xs) = x
-
-abbrev tail_of : List theory.Access → List theory.Access
-tail_of [] = []
-tail_of (x ∷ xs) = xs
-
 pub first_same : (r : Request) (rs : List Request) (a : Access) (xs : List Access) → map bridge.seen (r ∷ rs) ≡ map seen (a ∷ xs)
     → bridge.seen r ≡ seen a
-first_same r rs a xs e = ap (head_of (seen a)) e
+first_same r rs a xs e = cc
 
 pub rest_same : (r : Request) (rs : List Request) (a : Access) (xs : List Access) → map bridge.seen (r ∷ rs) ≡ map seen (a ∷ xs)
     → map bridge.seen rs ≡ map seen xs
-rest_same r rs a xs e = ap tail_of e
+rest_same r rs a xs e = cc

@@ -1,5 +1,5 @@
 -- How the modules stand is how the theory's core tells it, and so is the verdict.
-use Rattle.std.proofs.Common.{◌≡◌, refl, sym, ap, ◌∙◌, ℕ, zero, suc, ◌+◌, ◌-◌, ◌<◌, ◌≤◌, max, Bool, true, false, ◌||◌, cond, List, [], ◌∷◌}
+use Rattle.std.proofs.Common.{◌++◌, ◌≡◌, refl, sym, ap, ◌∙◌, ℕ, zero, suc, ◌+◌, ◌-◌, ◌<◌, ◌≤◌, max, Bool, true, false, ◌||◌, cond, List, [], ◌∷◌}
 use Rattle.std.proofs.Common.{map, length, get_or, drop, None, Some, Option, arith, inl, inr}
 use Rattle.std.specs.Prelude.{All, is_some, unwrap_or, nat_lt}
 use Rattle.std.specs.List.{range_with_len, list_any}
@@ -52,7 +52,7 @@ abbrev standing_with : ℕ → Bool → Bool → Bool → Standing
 standing_with stop ended spent determined = record { stop = stop; ended = ended; spent = spent; determined = determined }
 
 standings_same : {a b : ℕ} {c d e f g h : Bool} → a ≡ b → c ≡ d → e ≡ f → g ≡ h → standing_with a c e g ≡ standing_with b d f h
-standings_same x y z w = λ i. standing_with (x i) (y i) (z i) (w i)
+standings_same x y z w = cc
 
 -- ---- the clock in which it stops
 
@@ -68,8 +68,7 @@ last_from cycles lane e (suc k) l =
     rw (z, slice_get-get_or lane.cycles k 0 inside) (omega (arith, same))
 
 pub waited_is : (n gap : ℕ) → (0 < n → 1 ≤ gap) → clocks_of_steps n + waited n gap ≡ gap
-waited_is zero gap g = omega arith
-waited_is (suc n) gap g = let l = g (omega arith) in omega arith
+waited_is n gap g = grind arith
 
 pub apart_at : (steps : List StepOf) → All (λ (s : StepOf). 1 ≤ s.gap) (drop 1 steps) → (k : ℕ) (e : StepOf) → 0 < k → k < length steps
     → 1 ≤ (get_or steps k e).gap
@@ -137,15 +136,10 @@ end_there p h ends f i inside more =
     let same = f.marks.over in
     let few : i < length ends = let a = f.sound.lanes in let b = f.sound.overs in omega
     (arith, ap length same, length-map ends (λ (o : Option Advance). is_some o)) in
-    mark_there (end_at ends i) (sym (ap (λ (os : List Bool). get_or os i false) same
-    ∙ get_or-map (λ (o : Option Advance). is_some o) ends i None false few) ∙ over)
+    mark_there (end_at ends i) (rw (same, get_or-map (λ (o : Option Advance). is_some o) ends i None false few) at over)
 
 spent_not_ended : (p : Plan) (s : ModuleState) → machine.is_spent p.ops s ≡ true → s.ended ≡ false
-spent_not_ended p s e = by s.ended (machine.is_spent p.ops s) e (λ q. rw q refl)
-  where
-    by : (a b : Bool) → b ≡ true → (a ≡ true → b ≡ false) → a ≡ false
-    by true b e g = let z = g refl in cc
-    by false b e g = refl
+spent_not_ended p s e = grind arith
 
 ended_not_spent : (p : Plan) (s : ModuleState) → s.ended ≡ true → machine.is_spent p.ops s ≡ false
 ended_not_spent p s e = rw e refl
@@ -208,20 +202,18 @@ standing_is p h ends f i inside =
 
 any_mapped : {X Y : Type 0} (q : X → Bool) (g : Y → X) (ys : List Y) → list_any q (map g ys) ≡ list_any (λ y. q (g y)) ys
 any_mapped q g [] = refl
-any_mapped q g (y ∷ ys) = ap (λ (b : Bool). q (g y) || b) (any_mapped q g ys)
-
-max_comm : (a b : ℕ) → max a b ≡ max b a
-max_comm a b = omega arith
+any_mapped q g (y ∷ ys) = let later = any_mapped q g ys in grind arith
 
 last_is : (p : Plan) (x : Core ModuleState) (n : ℕ) → last_stop (map (standing_in p x) (range_with_len 0 n)) ≡ theory.last_stop p x n
 last_is p x zero = refl
 last_is p x (suc n) =
-    let z : suc n ≡ n + 1 = omega arith in
-    ap (λ (k : ℕ). last_stop (map (standing_in p x) (range_with_len 0 k))) z
-    ∙ (ap (λ (ks : List ℕ). last_stop (map (standing_in p x) ks)) (range_last n)
-    ∙ (ap last_stop (map-append (standing_in p x) (range_with_len 0 n) (n ∷ []))
-    ∙ (fold-append (λ (clock : ℕ) (s : Standing). max clock s.stop) 0 (map (standing_in p x) (range_with_len 0 n)) (standing_in p x n ∷ [])
-    ∙ (ap (λ (c : ℕ). max c (stop (design p) x n)) (last_is p x n) ∙ max_comm (theory.last_stop p x n) (stop (design p) x n)))))
+    let next : suc n ≡ n + 1 = omega arith in
+    let range : range_with_len 0 (suc n) ≡ range_with_len 0 n ++ n ∷ [] = ap (range_with_len 0) next ∙ range_last n in
+    let mapped = map-append (standing_in p x) (range_with_len 0 n) (n ∷ []) in
+    let folded = fold-append (λ (clock : ℕ) (s : Standing). max clock s.stop) 0 (map (standing_in p x) (range_with_len 0 n))
+    (standing_in p x n ∷ []) in
+    let later = last_is p x n in
+    ap (λ (ks : List ℕ). last_stop (map (standing_in p x) ks)) range ∙ (ap last_stop mapped ∙ (folded ∙ omega arith))
 
 abbrev decide : ℕ → Bool → Bool → Bool → ℕ → Verdict
 decide limit determined ended spent last = cond (determined || nat_lt limit last) (Cycles limit)

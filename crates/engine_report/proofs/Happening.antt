@@ -1,5 +1,5 @@
 -- The events are those of the theory's steps.
-use Rattle.std.proofs.Common.{◌≡◌, refl, sym, ap₂, subst, ◌∙◌, ℕ, zero, suc, ◌+◌, ◌<◌, List, [], ◌∷◌, ◌++◌, map, length, drop, arith}
+use Rattle.std.proofs.Common.{◌≡◌, refl, subst, ◌∙◌, ℕ, zero, suc, ◌+◌, ◌<◌, List, [], ◌∷◌, map, length, drop, arith}
 use Rattle.std.specs.Prelude.{All, IsPermutation}
 use Rattle.std.specs.List.{range_with_len, flat_map}
 use Rattle.std.proofs.lemmas.List.FromFn.{length-map-range_with_len, get_or-map-range_with_len}
@@ -35,12 +35,10 @@ event_with i cycle kind channel = record { «module» = i; kind = kind; channel 
 told_events : (s : HistoryStep) (rs : List Request) (xs : List Access) (ys : List Reply) → map bridge.seen rs ≡ map seen xs
     → map (machine.event_of s) (paired rs ys) ≡ map (event_of s.module s.clock) xs
 told_events s [] [] ys e = refl
-told_events s [] (a ∷ xs) ys e = cc
-told_events s (r ∷ rs) [] ys e = cc
 told_events s (r ∷ rs) (a ∷ xs) ys e =
     let one = first_same r rs a xs e in
-    ap₂ (λ (y : EventLine) (l : List EventLine). y ∷ l) (ap₂ (event_with s.module s.clock) (same_kind r a one) (same_channel r a one))
-    (told_events s rs xs (drop 1 ys) (rest_same r rs a xs e))
+    rw (same_kind r a one, same_channel r a one, told_events s rs xs (drop 1 ys) (rest_same r rs a xs e)) refl
+told_events s rs xs ys e = absurd cc
 
 -- a place of a timed step
 pub record IsTimed (h : Held) (place : ℕ × ℕ) : Type 0 where
@@ -61,8 +59,7 @@ all_events : (p : Plan) (h : Held) → IsSound (design p) h → (places : List (
     → flat_map (events_at h.lanes) places ≡ events_of (steps_at p (core_of (design p) h) places)
 all_events p h s [] all = refl
 all_events p h s (a ∷ places) all =
-    ap₂ (λ (xs ys : List EventLine). xs ++ ys) (sym (step_events p h s a (All-head (IsTimed h) a places all)))
-    (all_events p h s places (All-tail (IsTimed h) a places all))
+    rw (step_events p h s a (All-head (IsTimed h) a places all), all_events p h s places (All-tail (IsTimed h) a places all)) refl
 
 -- ---- all steps
 
@@ -71,7 +68,7 @@ places_timed h i = λ j d l.
     let n = length (lane_at h.lanes i).cycles in
     let less : j < n = omega (arith, length-map-range_with_len {X = ℕ × ℕ} (λ (k : ℕ). (i, k)) 0 n) in
     let z : 0 + j ≡ j = omega arith in
-    subst (IsTimed h) (sym (get_or-map-range_with_len {X = ℕ × ℕ} (λ (k : ℕ). (i, k)) 0 n j j d less z)) (record { less = less })
+    rw (get_or-map-range_with_len {X = ℕ × ℕ} (λ (k : ℕ). (i, k)) 0 n j j d less z) (record { less = less })
 
 pub all_timed : (h : Held) (a n : ℕ) → All (IsTimed h)
     (flat_map (λ i. map (λ k. (i, k)) (range_with_len 0 (length (lane_at h.lanes i).cycles))) (range_with_len a n))

@@ -1,6 +1,5 @@
 -- The outcomes of a module's steps with a cycle, off the log.
-use Rattle.std.proofs.Common.{◌≡◌, sym, ap, ◌∙◌, ℕ, List, length, take, None, Some, min, arith, inl, inr}
-use Rattle.std.proofs.lemmas.Bool.{cases_lt}
+use Rattle.std.proofs.Common.{◌≡◌, sym, ap, ◌∙◌, ℕ, List, length, take, None, Some, min, arith}
 use Rattle.std.proofs.lemmas.List.{take_all}
 use Rattle.flow_word.specs.declared.access.Step.{Step}
 use Rattle.event_graph.specs.Lanes.{Lane, lane_at}
@@ -14,11 +13,7 @@ unfolding timed_outcomes
 all_there lanes logs i e = sym (ap (outcomes_before (log_at logs i).outcomes) e)
 
 take_min : {X : Type 0} (n k : ℕ) (xs : List X) → k ≡ min (length xs) n → take k xs ≡ take n xs
-take_min n k xs e =
-    elim (cases_lt n (length xs)) [
-      | inl less ↦ let same : k ≡ n = omega arith in ap (λ (j : ℕ). take j xs) same
-      | inr more ↦ let all : k ≡ length xs = omega arith in take_all k xs (omega arith) ∙ sym (take_all n xs more)
-    ]
+take_min n k xs e = let all = take_all n xs in let whole = take_all k xs in grind arith
 
 pub front_of : (lanes : List Lane) (logs : List Log) (i : ℕ) (step : Step) → open_step (lane_at lanes i) ≡ Some step
     → take step.first_query (log_at logs i).outcomes ≡ timed_outcomes lanes logs i

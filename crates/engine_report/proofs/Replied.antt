@@ -3,17 +3,15 @@ use Rattle.std.proofs.Common.{◌≡◌, refl, sym, ap, ap₂, ◌∙◌, ℕ, z
 use Rattle.std.proofs.Common.{map, length, take, drop, get_or, Some, arith, inl, inr, append-nil}
 use Rattle.std.specs.List.{range_with_len}
 use Rattle.std.proofs.Math.Seq.{take-add}
-use Rattle.std.proofs.lemmas.Bool.{cases_lt, cases_Bool, and_parts}
+use Rattle.std.proofs.lemmas.Bool.{cases_lt, and_parts}
 use Rattle.std.proofs.lemmas.List.{map-append, take_all, length-drop}
 use Rattle.std.proofs.lemmas.List.Concat.{flat_map-append}
 use Rattle.std.proofs.lemmas.Option.{slice_get-get_or, slice_get_past}
 use Rattle.flow_word.specs.declared.access.Access.{Access}
 use Rattle.flow_word.specs.declared.access.Kind.{Kind}
-use Rattle.flow_word.specs.declared.access.Kind.TheVariants.{Read, Write, TryRead, TryWrite, Empty, Full}
 use Rattle.flow_word.specs.Kinds.{is_blocking}
 use Rattle.flow_word.specs.declared.access.Side.TheVariants.{Pop}
 use Rattle.flow_design.specs.declared.plan.Plan.{Plan}
-use Rattle.flow_design.specs.declared.state.Reply.{Reply}
 use Rattle.flow_design.specs.declared.state.Request.{Request}
 use Rattle.lockstep_defs.specs.Machine.{is_yes}
 use Rattle.lockstep_defs.specs.Channels.{HistoryStep, Exchange, reply_by}
@@ -40,70 +38,31 @@ use Rattle.flow_word.proofs.Ranges.{range_last}
 
 -- a query is told its outcome
 told_outcome : (k : Kind) (o : Bool) (front : ℕ) → is_blocking k ≡ false → is_yes (reply_by k (possible_by k (Some o)) front) ≡ o
-told_outcome Read o front e = cc
-told_outcome Write o front e = cc
-told_outcome TryRead true front e = refl
-told_outcome TryRead false front e = refl
-told_outcome TryWrite o front e = refl
-told_outcome Empty true front e = refl
-told_outcome Empty false front e = refl
-told_outcome Full true front e = refl
-told_outcome Full false front e = refl
+told_outcome k o front e = grind arith
 
 abbrev outcomes_in : List Exchange → List Bool
 outcomes_in xs = map (λ (x : Exchange). is_yes x.reply) (queries xs)
-
-blocked : (r : Request) (y : Reply) (xs : List Exchange) → is_blocking r.kind ≡ true
-    → outcomes_in (record { request = r; reply = y } ∷ xs) ≡ outcomes_in xs
-blocked r y xs e = rw e refl
-
-asked : (r : Request) (y : Reply) (xs : List Exchange) → is_blocking r.kind ≡ false
-    → outcomes_in (record { request = r; reply = y } ∷ xs) ≡ is_yes y ∷ outcomes_in xs
-asked r y xs e = rw e refl
 
 -- the outcomes of accesses are the first of a list
 abbrev AreFirst : (ℕ → List ℕ) → (ℕ → ℕ) → List Request → List Access → List Bool → Type 0
 AreFirst V t rs xs outs = outcomes_in (paired rs (told_all rs (replies_of V t (map seen xs) (flags_by xs outs)))) ≡ take
     (queries_in xs) outs
 
-one_asked : (V : ℕ → List ℕ) (t : ℕ → ℕ) (r : Request) (rs : List Request) (a : Access) (xs : List Access) (outs : List Bool)
-    → is_blocking a.kind ≡ false → r.kind ≡ a.kind
-    → ((os : List Bool) → queries_in xs ≤ length os → AreFirst V t rs xs os) → queries_in (a ∷ xs) ≤ length outs
-    → AreFirst V t (r ∷ rs) (a ∷ xs) outs
-one_asked V t r rs a xs [] b kind later l = let n : queries_in (a ∷ xs) ≡ suc (queries_in xs) = rw b refl in absurd (omega arith)
-one_asked V t r rs a xs (o ∷ outs) b kind later l =
-    let n : queries_in (a ∷ xs) ≡ suc (queries_in xs) = rw b refl in
-    let here : is_blocking r.kind ≡ false = ap is_blocking kind ∙ b in
-    let found = cond (pops_now (seen a) (possible_by a.kind (Some o))) (get_or (V a.channel) (t a.channel) 0) 0 in
-    rw (n, b) (asked r (reply_by r.kind (possible_by a.kind (Some o)) found)
-    (paired rs (told_all rs (replies_of V t (map seen xs) (flags_by xs outs)))) here
-    ∙ ap₂ (λ (y : Bool) (l : List Bool). y ∷ l)
-    (ap (λ (k : Kind). is_yes (reply_by k (possible_by a.kind (Some o)) found)) kind ∙ told_outcome a.kind o found b)
-    (later outs (omega arith)))
-
-one_blocked : (V : ℕ → List ℕ) (t : ℕ → ℕ) (r : Request) (rs : List Request) (a : Access) (xs : List Access) (outs : List Bool)
-    → is_blocking a.kind ≡ true → r.kind ≡ a.kind
-    → ((os : List Bool) → queries_in xs ≤ length os → AreFirst V t rs xs os) → queries_in (a ∷ xs) ≤ length outs
-    → AreFirst V t (r ∷ rs) (a ∷ xs) outs
-one_blocked V t r rs a xs outs b kind later l =
-    let n : queries_in (a ∷ xs) ≡ queries_in xs = rw b refl in
-    let here : is_blocking r.kind ≡ true = ap is_blocking kind ∙ b in
-    let found = cond (pops_now (seen a) true) (get_or (V a.channel) (t a.channel) 0) 0 in
-    rw (n, b) (blocked r (reply_by r.kind true found) (paired rs (told_all rs (replies_of V t (map seen xs) (flags_by xs outs)))) here
-    ∙ later outs (omega arith))
-
 step_outcomes : (V : ℕ → List ℕ) (t : ℕ → ℕ) (rs : List Request) (xs : List Access) → map bridge.seen rs ≡ map seen xs → (outs : List Bool)
     → queries_in xs ≤ length outs → AreFirst V t rs xs outs
 step_outcomes V t [] [] e outs l = refl
-step_outcomes V t [] (a ∷ xs) e outs l = cc
-step_outcomes V t (r ∷ rs) [] e outs l = cc
-step_outcomes V t (r ∷ rs) (a ∷ xs) e outs l =
+step_outcomes V t (r ∷ rs) (a ∷ xs) e [] l =
     let kind = same_kind r a (first_same r rs a xs e) in
-    let later = step_outcomes V t rs xs (rest_same r rs a xs e) in
-    elim (cases_Bool (is_blocking a.kind)) [
-      | inl b ↦ one_blocked V t r rs a xs outs b kind later l
-      | inr b ↦ one_asked V t r rs a xs outs b kind later l
-    ]
+    let here = step_outcomes V t rs xs (rest_same r rs a xs e) [] in
+    grind arith
+step_outcomes V t (r ∷ rs) (a ∷ xs) e (o ∷ outs) l =
+    let kind = same_kind r a (first_same r rs a xs e) in
+    let here = step_outcomes V t rs xs (rest_same r rs a xs e) (o ∷ outs) in
+    let later = step_outcomes V t rs xs (rest_same r rs a xs e) outs in
+    let found = cond (pops_now (seen a) (possible_by a.kind (Some o))) (get_or (V a.channel) (t a.channel) 0) 0 in
+    let own = told_outcome a.kind o found in
+    grind arith
+step_outcomes V t rs xs e outs l = absurd cc
 
 -- ---- of all timed steps
 
@@ -117,10 +76,8 @@ recorded p h s verified i k l inside =
     let step = step_of h i k in
     let among = (and_parts (ltb k (emitted_of h i)) (are_among step log.verified) (verified i k l)).1 in
     let sound = s.sound_logs i no_log inside in
-    elim (among_is step log.verified among) [
-      | inl none ↦ omega arith
-      | inr few ↦ omega (arith, length-drop step.first_query log.outcomes)
-    ]
+    let rest = length-drop step.first_query log.outcomes in
+    elim (among_is step log.verified among) [ inl none ↦ omega arith | inr few ↦ omega arith ]
 
 step_of_core : (p : Plan) (h : Held) → IsSound (design p) h → (i k : ℕ) → k < emitted_of h i
     → queries_in (step_of h i k).accesses ≤ length (drop (step_of h i k).first_query (log_at h.logs i).outcomes)
@@ -140,7 +97,7 @@ pub front : (p : Plan) (h : Held) → IsSound (design p) h
     → ((m k : ℕ) → k < (core_of (design p) h).timed m → (core_of (design p) h).verified m k ≡ true)
     → (i k : ℕ) → k ≤ length (lane_at h.lanes i).cycles → i < length h.logs
     → outcomes (map (core_step p (core_of (design p) h) i) (range_with_len 0 k)) ≡ take (queries_before h i k) (log_at h.logs i).outcomes
-front p h s verified i zero l inside = sym (ap (λ (n : ℕ). take n (log_at h.logs i).outcomes) (queries_zero h i))
+front p h s verified i zero l inside = rw (queries_zero h i) refl
 front p h s verified i (suc k) l inside =
     let x = core_of (design p) h in
     let outs = (log_at h.logs i).outcomes in

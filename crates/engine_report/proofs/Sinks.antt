@@ -1,24 +1,21 @@
 -- What the sinks hold is what the theory's core tells.
-use Rattle.std.proofs.Common.{◌≡◌, refl, sym, ap, ◌∙◌, ℕ, zero, suc, ◌<◌, ◌≤◌, Bool, true, false, cond, List, [], ◌∷◌, ◌++◌, map, length}
-use Rattle.std.proofs.Common.{take, get_or, arith, inl, inr, length-append}
+use Rattle.std.proofs.Common.{◌≡◌, refl, sym, ap, ◌∙◌, ℕ, zero, suc, ◌<◌, ◌≤◌, Bool, true, false, List, [], ◌∷◌, ◌++◌, map, length}
+use Rattle.std.proofs.Common.{take, get_or, arith, length-append}
 use Rattle.std.specs.Prelude.{is_some}
 use Rattle.std.specs.List.{take_while}
 use Rattle.std.proofs.Math.Seq.{take-append_seam}
-use Rattle.std.proofs.lemmas.Bool.{cases_lt}
 use Rattle.std.proofs.lemmas.List.{length-map, get_or-map, take-map}
 use Rattle.std.proofs.lemmas.List.Sums.{take_while-cons}
 use Rattle.std.proofs.lemmas.Option.{slice_get-get_or, slice_get_past}
-use Rattle.flow_word.specs.declared.access.Place.{Place}
 use Rattle.flow_word.specs.declared.access.Side.TheVariants.{Push}
 use Rattle.flow_design.specs.declared.design.ChannelKind.{ChannelKind}
-use Rattle.flow_design.specs.declared.design.ChannelKind.TheVariants as plan
 use Rattle.flow_design.specs.declared.plan.Plan.{Plan}
 use Rattle.flow_design.specs.Plans.{is_fifo, is_sink, kind_at}
 use Rattle.lockstep_defs.specs.Report.{sinks}
 use Rattle.event_graph.specs.Lanes.{lane_at, cycle_of}
 use Rattle.fifo_table.specs.declared.channel.Pushed.{Pushed}
 use Rattle.fifo_table.specs.declared.channel.TableChannel.{TableChannel}
-use Rattle.fifo_table.specs.declared.channel.TableChannel.TheVariants.{Source, Sink, Fifo}
+use Rattle.fifo_table.specs.declared.channel.TableChannel.TheVariants.{Source}
 use Rattle.fifo_table.specs.Channels.{channel_at, values_of}
 use Rattle.event_timing.specs.Machines.{Reply}
 use Rattle.event_timing.specs.Views.{pushed_in}
@@ -28,7 +25,7 @@ use Rattle.event_timing.proofs.Values.{length_pushed_in, pushed_in_mono}
 use Rattle.timing_bridge.specs.Designs.{design, is_source}
 use Rattle.timing_bridge.specs.CoreReports.{pusher, sink_values}
 use Rattle.engine_view.specs.Held.{Held, emitted_of, core_of}
-use Rattle.engine_view.specs.Shown.{IsSound, IsKind, AreTaken}
+use Rattle.engine_view.specs.Shown.{IsSound, IsKind, AreTaken, IsTakenAt}
 use Rattle.engine_view.proofs.Knowing.{timed_within}
 use Rattle.engine_report.specs.Read.{timed_values, outputs_of}
 use Rattle.engine_report.proofs.Same.{kept_same}
@@ -37,13 +34,12 @@ use Rattle.engine_report.proofs.Same.{kept_same}
 
 front_is : {X : Type 0} (p : X → Bool) (xs : List X) (n : ℕ) → n ≤ length xs → ((i : ℕ) (d : X) → i < n → p (get_or xs i d) ≡ true)
     → ((i : ℕ) (d : X) → n ≤ i → i < length xs → p (get_or xs i d) ≡ false) → take_while p xs ≡ take n xs
-front_is p [] zero l front rest = refl
-front_is p [] (suc n) l front rest = absurd (omega arith)
-front_is p (x ∷ xs) zero l front rest = take_while-cons p x xs ∙ rw (rest 0 x (omega arith) (omega arith)) refl
+front_is p [] n l front rest = grind arith
+front_is p (x ∷ xs) zero l front rest = rw (take_while-cons p x xs, rest 0 x (omega arith) (omega arith)) refl
 front_is {X} p (x ∷ xs) (suc n) l front rest =
-    take_while-cons p x xs ∙ (ap (λ (b : Bool). cond b (x ∷ take_while p xs) []) (front 0 x (omega arith))
-    ∙ ap (λ (ys : List X). x ∷ ys) (front_is p xs n (omega arith) (λ i d q. front (suc i) d (omega arith))
-    (λ i d q r. rest (suc i) d (omega arith) (omega arith))))
+    let later = front_is p xs n (omega arith) (λ i d q. front (suc i) d (omega arith))
+    (λ i d q r. rest (suc i) d (omega arith) (omega arith)) in
+    rw (take_while-cons p x xs, front 0 x (omega arith), later) refl
 
 -- ---- the pushes of a channel
 
@@ -56,22 +52,13 @@ push_timed p h f pushes taken i d l front =
     let x = core_of (design p) h in
     let m = pusher p f in
     let n = length (lane_at h.lanes m).cycles in
-    let t = taken.each i d.at (omega (arith, length-map pushes (λ (e : Pushed). e.at))) in
-    let same = get_or-map (λ (e : Pushed). e.at) pushes i d d.at l in
     let at = (get_or pushes i d).at in
-    let owner : at.module ≡ m = sym (ap (λ (q : Place). q.module) same) ∙ t.owner in
-    let step = ap (λ (q : Place). q.step) same in
+    let t : IsTakenAt (design p) x Push f i at = rw (get_or-map (λ (e : Pushed). e.at) pushes i d d.at l) at
+    (taken.each i d.at (omega (arith, length-map pushes (λ (e : Pushed). e.at)))) in
     let from = t.from in
-    let less : at.step < n =
-    elim (cases_lt at.step n) [
-      | inl w ↦ w
-      | inr w ↦
-          let mono = tally_mono (core_accesses (design p) x m) (λ j. bare_replies (x.flags m j)) Push f n
-          (get_or (map (λ (e : Pushed). e.at) pushes) i d.at).step (omega arith) in
-          absurd (omega arith)
-    ] in
-    let there = slice_get-get_or (lane_at h.lanes m).cycles at.step 0 less in
-    rw (owner, there) refl
+    let mono = tally_mono (core_accesses (design p) x m) (λ j. bare_replies (x.flags m j)) Push f n at.step in
+    let less : at.step < n = grind arith in
+    rw (t.owner, slice_get-get_or (lane_at h.lanes m).cycles at.step 0 less) refl
 
 push_late : (p : Plan) (h : Held) (f : ℕ) (pushes : List Pushed)
     → AreTaken (design p) (core_of (design p) h) Push f (map (λ (e : Pushed). e.at) pushes) → (i : ℕ) (d : Pushed) → i < length pushes
@@ -81,22 +68,13 @@ push_late p h f pushes taken i d l late =
     let x = core_of (design p) h in
     let m = pusher p f in
     let n = length (lane_at h.lanes m).cycles in
-    let t = taken.each i d.at (omega (arith, length-map pushes (λ (e : Pushed). e.at))) in
-    let same = get_or-map (λ (e : Pushed). e.at) pushes i d d.at l in
     let at = (get_or pushes i d).at in
-    let owner : at.module ≡ m = sym (ap (λ (q : Place). q.module) same) ∙ t.owner in
-    let step = ap (λ (q : Place). q.step) same in
+    let t : IsTakenAt (design p) x Push f i at = rw (get_or-map (λ (e : Pushed). e.at) pushes i d d.at l) at
+    (taken.each i d.at (omega (arith, length-map pushes (λ (e : Pushed). e.at)))) in
     let to = t.to in
-    let more : n ≤ at.step =
-    elim (cases_lt at.step n) [
-      | inr w ↦ w
-      | inl w ↦
-          let mono = tally_mono (core_accesses (design p) x m) (λ j. bare_replies (x.flags m j)) Push f
-          (suc (get_or (map (λ (e : Pushed). e.at) pushes) i d.at).step) n (omega arith) in
-          absurd (omega arith)
-    ] in
-    let none = slice_get_past (lane_at h.lanes m).cycles at.step more in
-    rw (owner, none) refl
+    let mono = tally_mono (core_accesses (design p) x m) (λ j. bare_replies (x.flags m j)) Push f (suc at.step) n in
+    let more : n ≤ at.step = grind arith in
+    rw (t.owner, slice_get_past (lane_at h.lanes m).cycles at.step more) refl
 
 -- ---- a sink
 
@@ -139,16 +117,12 @@ sink_by p h s f pushes taken values =
     ∙ ap (λ (xs : List ℕ). xs ++ pushed_in f a r n) (sym none)))))
 
 sink_kind : (k : ChannelKind) → is_sink k ≡ true → (is_fifo k ≡ false) × (is_source k ≡ false)
-sink_kind plan.Source e = cc
-sink_kind plan.Sink e = (refl, refl)
-sink_kind (plan.Fifo depth delay) e = cc
+sink_kind k e = (grind arith, grind arith)
 
 sink_pushes : (p : Plan) (f : ℕ) → is_sink (kind_at p f) ≡ true → (k : TableChannel) → IsKind (design p) f k → (pushes : List Pushed)
     → values_of k pushes ≡ map (λ (e : Pushed). e.value) pushes
-sink_pushes p f e (Source inputs) (k1, k2) pushes = let z = (sink_kind (kind_at p f) e).1 in let q : is_source
-    (kind_at p f) ≡ true = k2 in cc
-sink_pushes p f e Sink k pushes = refl
-sink_pushes p f e (Fifo depth delay) k pushes = refl
+sink_pushes p f e (Source inputs) (k1, k2) pushes = let sink = (sink_kind (kind_at p f) e).1 in grind arith
+sink_pushes p f e kind k pushes = refl
 
 sink_is : (p : Plan) (h : Held) → IsSound (design p) h → (f : ℕ) → f < length h.channels → is_sink (kind_at p f) ≡ true
     → timed_values h.lanes (channel_at h.channels f).pushes ≡ sink_values p (core_of (design p) h) f

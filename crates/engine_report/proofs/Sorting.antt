@@ -1,14 +1,14 @@
 -- The steps with a cycle are sorted by their keys.
-use Rattle.std.proofs.Common.{◌≡◌, refl, sym, ap, ap₂, subst, ◌∙◌, ℕ, zero, suc, ◌+◌, ◌<◌, ◌≤◌, Bool, true, false, ◌&&◌, ◌||◌, ◌⊎◌, List}
-use Rattle.std.proofs.Common.{◌++◌, map, length, get_or, arith, inl, inr}
-use Rattle.std.specs.Prelude.{All, IsPermutation, nat_lt, ◌==◌}
+use Rattle.std.proofs.Common.{◌≡◌, refl, sym, ap, subst, ◌∙◌, ℕ, zero, suc, ◌+◌, ◌<◌, ◌≤◌, true, false, List}
+use Rattle.std.proofs.Common.{map, length, get_or, arith}
+use Rattle.std.proofs.lemmas.Bool.Decides.{nat_tests}
+use Rattle.std.specs.Prelude.{All, IsPermutation}
 use Rattle.std.specs.List.Sorted.{IsSorted}
 use Rattle.std.specs.List.{range_with_len, flat_map}
 use Rattle.std.specs.Ordering.{is_lt, nat_cmp, ordering_then}
 use Rattle.std.specs.Cmp.{nat_cmp_is}
 use Rattle.std.specs.declared.cmp.Ordering.{Ordering}
 use Rattle.std.specs.declared.cmp.Ordering.TheVariants.{Less, Equal}
-use Rattle.std.proofs.lemmas.Bool.{ltb-true, eqb-true, and_parts, cases_Bool, both_ways}
 use Rattle.std.proofs.lemmas.List.{length-map, get_or-map, map-append}
 use Rattle.std.proofs.lemmas.Simd.{map-map}
 use Rattle.std.proofs.lemmas.List.FromFn.{length-map-range_with_len, get_or-map-range_with_len}
@@ -16,7 +16,7 @@ use Rattle.std.proofs.lemmas.List.Elements.{All-append}
 use Rattle.std.proofs.lemmas.List.Sorted.{IsPermutation-map, All-permutation}
 use Rattle.event_graph.specs.Lanes.{Lane, lane_at, no_lane, IsSoundLane}
 use Rattle.engine_report.specs.declared.events.TimedStep.{TimedStep}
-use Rattle.engine_report.specs.Read.{cycle_at, is_before}
+use Rattle.engine_report.specs.Read.{is_before}
 use Rattle.engine_report.specs.Keys.{key_of, keys_of, place_of, HasKey, AreSortedKeys}
 
 -- by cycle, then by module, then by number
@@ -32,7 +32,7 @@ has_keys lanes sound i inside = λ k d l.
     let z : 0 + k ≡ k = omega arith in
     let is = get_or-map-range_with_len (key_of lanes i) 0 n k k d less z in
     let prefix = (sound i no_lane inside).prefix in
-    subst (HasKey lanes) (sym is) (record { there = record { owner = inside; step = omega arith }; cycle = refl })
+    rw is (record { there = record { owner = inside; step = omega arith }; cycle = refl })
 
 all_keys : (lanes : List Lane) → All IsSoundLane lanes → (a n : ℕ) → a + n ≤ length lanes
     → All (HasKey lanes) (flat_map (keys_of lanes) (range_with_len a n))
@@ -48,9 +48,8 @@ places_in : (lanes : List Lane) (a n : ℕ)
     (λ i. map (λ k. (i, k)) (range_with_len 0 (length (lane_at lanes i).cycles))) (range_with_len a n)
 places_in lanes a zero = refl
 places_in lanes a (suc n) =
-    map-append place_of (keys_of lanes a) (flat_map (keys_of lanes) (range_with_len (a + 1) n))
-    ∙ ap₂ (λ (x y : List (ℕ × ℕ)). x ++ y) (map-map place_of (key_of lanes a) (range_with_len 0 (length (lane_at lanes a).cycles)))
-    (places_in lanes (a + 1) n)
+    rw (map-append place_of (keys_of lanes a) (flat_map (keys_of lanes) (range_with_len (a + 1) n)), places_in lanes (a + 1) n,
+    map-map place_of (key_of lanes a) (range_with_len 0 (length (lane_at lanes a).cycles))) refl
 
 -- ---- the order
 
@@ -60,34 +59,19 @@ less_is x y l = sym (nat_cmp_is x y Less l)
 equal_is : (x y : ℕ) → x ≡ y → nat_cmp x y ≡ Equal
 equal_is x y e = sym (nat_cmp_is x y Equal e)
 
-either : (x y : Bool) → (x || y) ≡ true → (x ≡ true) ⊎ (y ≡ true)
-either true y e = inl refl
-either false y e = inr e
-
 before_less : (lanes : List Lane) (a b : TimedStep) → HasKey lanes a → HasKey lanes b → is_before lanes (place_of a) (place_of b) ≡ true
     → is_lt (key_cmp a b) ≡ true
 before_less lanes a b ka kb e =
-    elim (either (nat_lt (cycle_at lanes (place_of a)) (cycle_at lanes (place_of b)))
-    (cycle_at lanes (place_of a) == cycle_at lanes (place_of b) && nat_lt a.module b.module) e) [
-      | inl less ↦
-          let l = ltb-true (cycle_at lanes (place_of a)) (cycle_at lanes (place_of b)) less in
-          let p = ka.cycle in let q = kb.cycle in
-          rw (less_is a.cycle b.cycle (omega arith)) refl
-      | inr same ↦
-          let (one, two) = and_parts (cycle_at lanes (place_of a) == cycle_at lanes (place_of b)) (nat_lt a.module b.module) same in
-          let l = ltb-true a.module b.module two in
-          let e = eqb-true (cycle_at lanes (place_of a)) (cycle_at lanes (place_of b)) one in
-          let p = ka.cycle in let q = kb.cycle in
-          rw (equal_is a.cycle b.cycle (omega arith), less_is a.module b.module l) refl
-    ]
+    let at_a = ka.cycle in
+    let at_b = kb.cycle in
+    let earlier = less_is a.cycle b.cycle in
+    let together = equal_is a.cycle b.cycle in
+    let first = less_is a.module b.module in
+    grind (arith, nat_tests)
 
 not_before : (lanes : List Lane) (a b : TimedStep) → HasKey lanes a → HasKey lanes b → is_lt (key_cmp a b) ≡ false
     → is_before lanes (place_of a) (place_of b) ≡ false
-not_before lanes a b ka kb e =
-    elim (cases_Bool (is_before lanes (place_of a) (place_of b))) [
-      | inl before ↦ absurd (both_ways (is_lt (key_cmp a b)) e (before_less lanes a b ka kb before))
-      | inr after ↦ after
-    ]
+not_before lanes a b ka kb e = let before = before_less lanes a b ka kb in grind arith
 
 pub sorted_keys : (lanes : List Lane) (old new : List TimedStep) → All IsSoundLane lanes
     → old ≡ flat_map (keys_of lanes) (range_with_len 0 (length lanes)) → IsPermutation old new → IsSorted key_cmp new

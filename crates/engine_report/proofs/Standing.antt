@@ -1,48 +1,32 @@
 -- How modules stand, by the graph and the end marks.
-use Rattle.std.proofs.Common.{◌≡◌, refl, sym, ap, ap₂, ◌∙◌, ℕ, ◌+◌, ◌≤◌, Bool, true, false, List, ◌∷◌, length, None, Some, Option}
+use Rattle.std.proofs.Common.{arith, ◌≡◌, refl, ap, ℕ, ◌+◌, ◌≤◌, Bool, true, false, List, length, None, Some, Option}
 use Rattle.std.specs.Prelude.{is_some, unwrap_or, option_and_then, IsSomeAnd}
 use Rattle.std.proofs.lemmas.Option.{slice_get_past}
 use Rattle.flow_word.specs.declared.access.Step.{Step}
 use Rattle.flow_design.specs.declared.state.Advance.{Advance}
 use Rattle.event_graph.specs.Lanes.{Lane, lane_at, last_cycle}
 use Rattle.fifo_table.specs.Channels.{Channel}
-use Rattle.time_engine.specs.Cycles.{open_step, first_waiting, cycle_unless, clocks_of, latest, arrival, determined}
-use Rattle.engine_report.specs.Standings.{end_at, standing_behind, standing_by, standing_at}
+use Rattle.time_engine.specs.Cycles.{open_step, first_waiting, determined}
+use Rattle.engine_report.specs.Standings.{end_at, standing_behind, standing_at}
 
 -- ---- determined steps
 
-some_is : {X : Type 0} (o : Option X) (x : X) → o ≡ Some x → true ≡ is_some o
-some_is None x e = cc
-some_is (Some y) x e = refl
-
 none_is : {X : Type 0} (o : Option X) → o ≡ None → false ≡ is_some o
-none_is None e = refl
-none_is (Some y) e = cc
+none_is o e = grind arith
 
 pub told_at : (lanes : List Lane) (channels : List Channel) (owner c : ℕ) → determined lanes channels owner ≡ Some c
     → true ≡ is_some (determined lanes channels owner)
-told_at lanes channels owner c e = some_is (determined lanes channels owner) c e
-
-and_some : (o : Option ℕ) (limit : ℕ) → IsSomeAnd o (λ cycle. limit ≤ cycle) → true ≡ is_some o
-and_some None limit h = absurd h
-and_some (Some c) limit h = refl
+told_at lanes channels owner c e = rw e refl
 
 pub told_beyond : (lanes : List Lane) (channels : List Channel) (owner limit : ℕ)
     → IsSomeAnd (determined lanes channels owner) (λ cycle. limit ≤ cycle)
     → true ≡ is_some (determined lanes channels owner)
-told_beyond lanes channels owner limit h = and_some (determined lanes channels owner) limit h
-
-none_by : {X Y : Type 0} (o : Option X) (f : X → Option Y) → ((x : X) → f x ≡ None) → option_and_then f o ≡ None
-none_by None f h = refl
-none_by (Some x) f h = h x
+told_beyond lanes channels owner limit h = grind arith
 
 pub told_waits : (lanes : List Lane) (channels : List Channel) (owner i : ℕ) → first_waiting lanes channels owner ≡ Some i
     → false ≡ is_some (determined lanes channels owner)
 unfolding determined
-told_waits lanes channels owner i e =
-    let clock = λ (step : Step). latest (arrival (lane_at lanes owner) step ∷ clocks_of lanes channels step.accesses) in
-    none_is _ (none_by (open_step (lane_at lanes owner)) (λ step. cycle_unless (first_waiting lanes channels owner) (clock step))
-    (λ step. ap (λ (w : Option ℕ). cycle_unless w (clock step)) e))
+told_waits lanes channels owner i e = grind arith
 
 pub told_nothing : (lanes : List Lane) (channels : List Channel) (owner : ℕ) → open_step (lane_at lanes owner) ≡ None
     → false ≡ is_some (determined lanes channels owner)
@@ -59,14 +43,11 @@ pub stands_behind : (lanes : List Lane) (channels : List Channel) (ends : List (
     → last ≡ unwrap_or (last_cycle (lane_at lanes owner)) 0 → end ≡ end_at ends owner
     → standing_behind last end ≡ standing_at lanes channels ends owner
 unfolding standing_at
-stands_behind lanes channels ends owner last end none l e =
-    ap₂ standing_behind l e ∙ sym (ap (standing_by lanes channels (end_at ends owner) owner) none)
+stands_behind lanes channels ends owner last end none l e = rw (none, l, e) refl
 
 pub stands_before : (lanes : List Lane) (channels : List Channel) (ends : List (Option Advance)) (owner last : ℕ) (step : Step) (now : Bool)
     → open_step (lane_at lanes owner) ≡ Some step
     → last ≡ unwrap_or (last_cycle (lane_at lanes owner)) 0 → now ≡ is_some (determined lanes channels owner)
     → record { stop = last + step.gap; ended = false; spent = false; determined = now } ≡ standing_at lanes channels ends owner
 unfolding standing_at
-stands_before lanes channels ends owner last step now there l d =
-    ap₂ (λ (a : ℕ) (b : Bool). record { stop = a + step.gap; ended = false; spent = false; determined = b }) l d
-    ∙ sym (ap (standing_by lanes channels (end_at ends owner) owner) there)
+stands_before lanes channels ends owner last step now there l d = rw (there, l, d) refl

@@ -1,16 +1,12 @@
 -- The held modules are the theory's.
-use Rattle.std.proofs.Common.{◌≡◌, refl, sym, ap, ap₂, ◌∙◌, ℕ, Bool, not, ◌&&◌, List, [], ◌∷◌, map, length, None, Some, inl, inr}
+use Rattle.std.proofs.Common.{arith, ◌≡◌, refl, sym, ap, ◌∙◌, ℕ, not, List, [], ◌∷◌, map, length, None, Some, inl, inr}
 use Rattle.std.specs.Prelude.{All, option_map, is_none, nat_lt}
 use Rattle.std.specs.List.{find, filter_map, range_with_len}
-use Rattle.std.proofs.lemmas.Bool.{cases_lt, cases_Bool, lt-ltb, le-ltb, cond-true, cond-false}
+use Rattle.std.proofs.lemmas.Bool.{cases_lt, lt-ltb, le-ltb, cond-true, cond-false}
 use Rattle.std.proofs.lemmas.Option.{slice_get-get_or, slice_get_past}
 use Rattle.std.proofs.lemmas.List.Elements.{All-head, All-tail}
 use Rattle.flow_word.specs.declared.access.Access.{Access}
-use Rattle.flow_word.specs.declared.access.Kind.{Kind}
-use Rattle.flow_word.specs.declared.access.Side.TheVariants.{Push}
-use Rattle.flow_word.specs.Kinds.{side_of, same_side, is_blocking}
 use Rattle.flow_design.specs.declared.plan.Plan.{Plan}
-use Rattle.flow_design.specs.declared.report.Held.{Held}
 use Rattle.flow_design.specs.declared.report.Verdict.{Verdict}
 use Rattle.flow_design.specs.declared.report.Verdict.TheVariants.{Done, Deadlock, Cycles, Ops}
 use Rattle.flow_design.specs.declared.state.Request.{Request}
@@ -18,12 +14,11 @@ use Rattle.lockstep_defs.specs.Lockstep.{requests_of}
 use Rattle.lockstep_defs.specs.Verdict as machine
 use Rattle.event_graph.specs.Lanes.{lane_at}
 use Rattle.time_engine.specs.declared.known.Known as of_code
-use Rattle.time_engine.specs.declared.known.Known.TheVariants as code
 use Rattle.time_engine.specs.Possible.{when_possible}
 use Rattle.time_engine.specs.Cycles.{open_step, is_waiting, known_clock}
 use Rattle.event_timing.specs.Machines.{IsDesign}
 use Rattle.event_timing.specs.Core.{view}
-use Rattle.event_timing.specs.Enablers.{Known, known_of}
+use Rattle.event_timing.specs.Enablers.{known_of}
 use Rattle.timing_bridge.specs.Designs.{design}
 use Rattle.timing_bridge.specs.Designs as bridge
 use Rattle.timing_bridge.specs.CoreReports.{is_from, is_stuck, core_held_by, core_held}
@@ -38,25 +33,19 @@ use Rattle.engine_report.proofs.Holding.{none_held, some_held}
 use Rattle.engine_report.proofs.Same.{found_same}
 
 no_clock : (k : of_code.Known) → is_none (known_clock k) ≡ not (is_from (as_known k))
-no_clock (code.From u) = refl
-no_clock code.Never = refl
-no_clock code.Unknown = refl
+no_clock k = grind arith
 
 -- the access waits where the request is stuck
 waits_same : (p : Plan) (h : view.Held) (i : ℕ) (r : Request) (a : Access) → bridge.seen r ≡ seen a
     → as_known (when_possible h.lanes h.channels a) ≡ known_of (design p) (view (design p) (core_of (design p) h)) i (seen a)
     → is_waiting h.lanes h.channels a ≡ is_stuck p (core_of (design p) h) i r
 waits_same p h i r a e known =
-    let d = design p in
-    let v = view d (core_of d h) in
-    ap₂ (λ (k : Kind) (b : Bool). is_blocking k && b) (sym (same_kind r a e))
-    (no_clock (when_possible h.lanes h.channels a) ∙ ap (λ (k : Known). not (is_from k)) (known ∙ ap (known_of d v i) (sym e)))
+    let kind = same_kind r a e in
+    let none = no_clock (when_possible h.lanes h.channels a) in
+    grind arith
 
 held_same : (i : ℕ) (r : Request) (a : Access) → bridge.seen r ≡ seen a → held_at i a ≡ machine.held_at i r
-held_same i r a e = ap₂ (held_with i) (sym (same_kind r a e)) (sym (same_channel r a e))
-  where
-    held_with : ℕ → Kind → ℕ → Held
-    held_with i k c = record { «module» = i; full = same_side Push (side_of k); channel = c }
+held_same i r a e = rw (same_kind r a e, same_channel r a e) refl
 
 first_held : (p : Plan) (h : view.Held) (i : ℕ) (rs : List Request) (xs : List Access) → map bridge.seen rs ≡ map seen xs
     → All (λ (a : Access). as_known (when_possible h.lanes h.channels a) ≡ known_of (design p) (view (design p) (core_of (design p) h)) i
@@ -64,21 +53,15 @@ first_held : (p : Plan) (h : view.Held) (i : ℕ) (rs : List Request) (xs : List
     → option_map (held_at i) (find (is_waiting h.lanes h.channels) xs) ≡ option_map (machine.held_at i)
     (find (is_stuck p (core_of (design p) h) i) rs)
 first_held p h i [] [] e all = refl
-first_held p h i [] (a ∷ xs) e all = cc
-first_held p h i (r ∷ rs) [] e all = cc
 first_held p h i (r ∷ rs) (a ∷ xs) e all =
     let P = λ (a : Access). as_known (when_possible h.lanes h.channels a) ≡ known_of (design p) (view (design p) (core_of (design p) h)) i
     (seen a) in
     let one = first_same r rs a xs e in
     let waits = waits_same p h i r a one (All-head P a xs all) in
     let rest = first_held p h i rs xs (rest_same r rs a xs e) (All-tail P a xs all) in
-    elim (cases_Bool (is_stuck p (core_of (design p) h) i r)) [
-      | inl stuck ↦ ap (option_map (held_at i)) (cond-true _ (Some a) (find (is_waiting h.lanes h.channels) xs) (waits ∙ stuck))
-          ∙ (ap (λ (o : Held). Some o) (held_same i r a one)
-          ∙ sym (ap (option_map (machine.held_at i)) (cond-true _ (Some r) (find (is_stuck p (core_of (design p) h) i) rs) stuck)))
-      | inr free ↦ ap (option_map (held_at i)) (cond-false _ (Some a) (find (is_waiting h.lanes h.channels) xs) (waits ∙ free))
-          ∙ (rest ∙ sym (ap (option_map (machine.held_at i)) (cond-false _ (Some r) (find (is_stuck p (core_of (design p) h) i) rs) free)))
-    ]
+    let same = held_same i r a one in
+    grind arith
+first_held p h i rs xs e all = absurd cc
 
 module_held : (p : Plan) → IsDesign (design p) → (h : view.Held) → IsSound (design p) h → (i : ℕ)
     → held_by h.lanes h.channels i ≡ core_held_by p (core_of (design p) h) i

@@ -19,10 +19,12 @@ use Rattle.run_ahead.specs.Replies.{reply_now, put_first, put_before, has_value}
 use Rattle.run_ahead.specs.Mails.{values_on, next_value, told_by, replies_in, one_more, taken_after, none_taken, IsLeft}
 use Rattle.run_ahead.proofs.Parts.{some_is, first_parts}
 
+pub before_nil : (r : Option (List Reply)) → put_before [] r ≡ r
+before_nil r = grind arith
+
 pub before_more : (qs : List Reply) (q : Reply) (r : Option (List Reply))
     → put_before qs (put_first (Some q) r) ≡ put_before (qs ++ q ∷ []) r
-before_more qs q None = refl
-before_more qs q (Some rs) = ap Some (sym (append_assoc qs (q ∷ []) rs))
+before_more qs q r = let whole = append_assoc qs (q ∷ []) in grind arith
 
 pub drop_at : {X : Type 0} → (xs : List X) (i : ℕ) (d : X) → i < length xs → drop i xs ≡ get_or xs i d ∷ drop (suc i) xs
 drop_at [] i d l = absurd (omega arith)
@@ -45,33 +47,55 @@ pub record IsFinding (mail : Mail) (told₀ : ℕ) (taken : List ℕ) (xs : List
   pub found : replies_in mail told₀ taken xs ≡ put_before replies (replies_in mail told taken (drop i xs))
   pub number : told + queries_in (drop i xs) ≡ told₀ + queries_in xs
 
+pub finding_none : (mail : Mail) (told₀ : ℕ) (taken : List ℕ) (xs : List Access) → IsFinding mail told₀ taken xs [] told₀ 0
+finding_none mail told₀ taken xs = record { found = sym (before_nil (replies_in mail told₀ taken xs)); number = refl }
+
+-- one reply more
+pub finding_more : (mail : Mail) (told₀ : ℕ) (taken : List ℕ) (xs : List Access) (replies : List Reply) (told i : ℕ) (a : Access)
+    (q : Reply) → IsFinding mail told₀ taken xs replies told i → drop i xs ≡ a ∷ drop (suc i) xs
+    → reply_now a.kind (slice_get mail.outcomes told) (next_value mail taken a.channel) ≡ Some q
+    → IsFinding mail told₀ taken xs (replies ++ q ∷ []) (told_by a.kind told) (suc i)
+finding_more mail told₀ taken xs replies told i a q f d e = record {
+  found = f.found ∙ rw (d, e) (before_more replies q (replies_in mail (told_by a.kind told) taken (drop (suc i) xs)));
+  number = let before = f.number in grind arith;
+}
+
+-- one that is not there
+pub finding_lost : (mail : Mail) (told₀ : ℕ) (taken : List ℕ) (xs : List Access) (replies : List Reply) (told i : ℕ) (a : Access)
+    → IsFinding mail told₀ taken xs replies told i → drop i xs ≡ a ∷ drop (suc i) xs
+    → reply_now a.kind (slice_get mail.outcomes told) (next_value mail taken a.channel) ≡ None → replies_in mail told₀ taken xs ≡ None
+finding_lost mail told₀ taken xs replies told i a f d e = f.found ∙ rw (d, e) refl
+
+-- all of them
+pub finding_all : (mail : Mail) (told₀ : ℕ) (taken : List ℕ) (xs : List Access) (replies : List Reply) (told i : ℕ)
+    → IsFinding mail told₀ taken xs replies told i → length xs ≤ i
+    → (replies_in mail told₀ taken xs ≡ Some replies) × (told ≡ told₀ + queries_in xs)
+finding_all mail told₀ taken xs replies told i f l =
+    let d = drop_past xs i l in
+    let before = f.number in
+    (f.found ∙ rw (d, append-nil replies) refl, grind arith)
+
+-- an outcome that was read is in the mail
+pub was_there : (mail : Mail) (told : ℕ) (k : Kind) (value : Option ℕ) (q : Reply)
+    → reply_now k (slice_get mail.outcomes told) value ≡ Some q → is_blocking k ≡ false → (o : Bool)
+    × (slice_get mail.outcomes told ≡ Some o)
+was_there mail told k value q e b = there (slice_get mail.outcomes told) refl
+  where
+    there : (o : Option Bool) → slice_get mail.outcomes told ≡ o → (y : Bool) × (slice_get mail.outcomes told ≡ Some y)
+    there (Some y) s = (y, s)
+    there None s = absurd (grind arith)
+
 -- the replies fit
 fits_with : (k : Kind) (o : Option Bool) (v : Option ℕ) (q : Reply) → reply_now k o v ≡ Some q → fits_kind k q ≡ true
-fits_with Read o None q e = cc
-fits_with Read o (Some v) q e = ap (fits_kind Read) (sym (some_is (Value v) q e))
-fits_with Write o v q e = ap (fits_kind Write) (sym (some_is Done q e))
-fits_with TryRead None v q e = cc
-fits_with TryRead (Some false) v q e = ap (fits_kind TryRead) (sym (some_is Missed q e))
-fits_with TryRead (Some true) None q e = cc
-fits_with TryRead (Some true) (Some v) q e = ap (fits_kind TryRead) (sym (some_is (Took v) q e))
-fits_with TryWrite None v q e = cc
-fits_with TryWrite (Some b) v q e = ap (fits_kind TryWrite) (sym (some_is (Flag b) q e))
-fits_with Empty None v q e = cc
-fits_with Empty (Some b) v q e = ap (fits_kind Empty) (sym (some_is (Flag b) q e))
-fits_with Full None v q e = cc
-fits_with Full (Some b) v q e = ap (fits_kind Full) (sym (some_is (Flag b) q e))
+fits_with k o v q e = grind arith
 
 pub replies_fit : (mail : Mail) (told : ℕ) (taken : List ℕ) (xs : List Access) (qs : List Reply) → replies_in mail told taken xs ≡ Some qs
     → all_fit xs qs ≡ true
-replies_fit mail told taken [] qs e = let z : qs ≡ [] = none qs e in rw z refl
-  where
-    none : (qs : List Reply) → Some [] ≡ Some qs → qs ≡ []
-    none qs e = cc
+replies_fit mail told taken [] qs e = grind arith
 replies_fit mail told taken (a ∷ xs) qs e =
     let (q, (qs', (e1, (e2, e3)))) = first_parts (reply_now a.kind (slice_get mail.outcomes told) (next_value mail taken a.channel))
     (replies_in mail (told_by a.kind told) taken xs) qs e in
-    ap (all_fit (a ∷ xs)) e3
-    ∙ ap₂ (λ (b c : Bool). b && c) (fits_with a.kind (slice_get mail.outcomes told) (next_value mail taken a.channel) q e1)
+    rw (e3, fits_with a.kind (slice_get mail.outcomes told) (next_value mail taken a.channel) q e1)
     (replies_fit mail (told_by a.kind told) taken xs qs' e2)
 
 -- ---- what is left
@@ -103,25 +127,21 @@ left_none mail = record {
   outcomes = refl;
   count = refl;
   room = length-replicate (length mail.values) 0;
-  values = λ c. ap (λ (n : ℕ). drop n (values_on mail c)) (sym (none_at (length mail.values) c));
+  values = λ c. rw (none_at (length mail.values) c) refl;
 }
 
 -- the next value of what is left is that of the whole
 next_left : (whole left : Mail) (taken : List ℕ) (c : ℕ) → IsLeft whole taken left
     → next_value whole taken c ≡ next_value left (none_taken left) c
 next_left whole left taken c k =
-    sym (get_drop (values_on whole c) (get_or taken c 0))
-    ∙ (ap (λ (xs : List ℕ). slice_get xs 0) (sym (k.values c))
-    ∙ ap (slice_get (values_on left c)) (sym (none_at (length left.values) c)))
+    rw (none_at (length left.values) c, k.values c) (sym (get_drop (values_on whole c) (get_or taken c 0)))
 
 -- so are the replies
 pub replies_left : (whole left : Mail) (taken : List ℕ) → IsLeft whole taken left → (told : ℕ) (xs : List Access)
     → replies_in whole told taken xs ≡ replies_in left told (none_taken left) xs
 replies_left whole left taken k told [] = refl
 replies_left whole left taken k told (a ∷ xs) =
-    ap₂ put_first
-    (ap₂ (reply_now a.kind) (ap (λ (os : List Bool). slice_get os told) (sym k.outcomes)) (next_left whole left taken a.channel k))
-    (replies_left whole left taken k (told_by a.kind told) xs)
+    rw (next_left whole left taken a.channel k, replies_left whole left taken k (told_by a.kind told) xs, k.outcomes) refl
 
 -- one value of a channel was taken
 pub left_more : (whole left more : Mail) (taken : List ℕ) (c : ℕ) → IsLeft whole taken left → more.outcomes ≡ left.outcomes
@@ -132,29 +152,23 @@ left_more whole left more taken c k os vs = record {
   room = length-set taken c (suc (get_or taken c 0)) ∙ k.room;
   values = λ n.
       elim (eqb_tells n c) [
-        | inl e ↦ subst (λ (i : ℕ). values_on more i ≡ drop (get_or (one_more taken c) i 0) (values_on whole i)) (sym e.1) here
-        | inr e ↦
-            ap (λ (xs : List (List ℕ)). get_or xs n []) vs
-            ∙ (get_or-set_other left.values c n (drop 1 (values_on left c)) [] e.1
-            ∙ (k.values n ∙ ap (λ (i : ℕ). drop i (values_on whole n))
-            (sym (get_or-set_other taken c n (suc (get_or taken c 0)) 0 e.1))))
+        | inl e ↦ rw e.1 here
+        | inr e ↦ rw (vs, get_or-set_other left.values c n (drop 1 (values_on left c)) [] e.1,
+            get_or-set_other taken c n (suc (get_or taken c 0)) 0 e.1) (k.values n)
       ];
 }
   where
     here : values_on more c ≡ drop (get_or (one_more taken c) c 0) (values_on whole c)
     here =
+        let room = k.room in
+        let count = k.count in
         elim (cases_lt c (length left.values)) [
-          | inl l ↦
-              ap (λ (xs : List (List ℕ)). get_or xs c []) vs
-              ∙ (get_or-set_same left.values c (drop 1 (values_on left c)) [] l
-              ∙ (ap (drop 1) (k.values c) ∙ (drop_more (values_on whole c) (get_or taken c 0)
-              ∙ ap (λ (i : ℕ). drop i (values_on whole c))
-              (sym (get_or-set_same taken c (suc (get_or taken c 0)) 0 (let a = k.count in let b = k.room in omega arith))))))
+          | inl l ↦ rw (vs, get_or-set_same left.values c (drop 1 (values_on left c)) [] l, k.values c,
+              get_or-set_same taken c (suc (get_or taken c 0)) 0 (omega arith)) (drop_more (values_on whole c) (get_or taken c 0))
           | inr l ↦
-              get_or_past more.values c []
-              (let a = ap length vs ∙ length-set left.values c (drop 1 (values_on left c)) in omega arith)
-              ∙ sym (ap (drop (get_or (one_more taken c) c 0)) (get_or_past whole.values c [] (let a = k.count in omega arith))
-              ∙ drop_none (get_or (one_more taken c) c 0))
+              let longer = length-set left.values c (drop 1 (values_on left c)) in
+              rw (vs, get_or_past (set left.values c (drop 1 (values_on left c))) c [] (omega arith),
+              get_or_past whole.values c [] (omega arith)) (sym (drop_none (get_or (one_more taken c) c 0)))
         ]
 
 -- a loop has taken the values of the first replies
@@ -168,14 +182,8 @@ pub taking_more : (first : Mail) (xs : List Access) (qs : List Reply) (left more
     → more.values ≡ set left.values a.channel (drop 1 (values_on left a.channel)) → IsTaking first xs qs more (suc i)
 taking_more first xs qs left more i a q k d e h os vs = record {
   before = λ whole taken l.
-      let (now, (is, same)) = k.before whole taken l in (
-        one_more now a.channel,
-        (
-          left_more whole left more now a.channel is os vs,
-          sym (ap₂ (taken_after now) d e ∙ ap (λ (u : List ℕ). taken_after u (drop (suc i) xs) (drop (suc i) qs))
-              (cond-true (has_value q) (one_more now a.channel) now h)) ∙ same,
-        ),
-      );
+      let (now, (is, same)) = k.before whole taken l in
+      (one_more now a.channel, (left_more whole left more now a.channel is os vs, rw (d, e, h) at same));
 }
 
 pub taking_on : (first : Mail) (xs : List Access) (qs : List Reply) (left more : Mail) (i : ℕ) (a : Access) (q : Reply)
@@ -183,30 +191,19 @@ pub taking_on : (first : Mail) (xs : List Access) (qs : List Reply) (left more :
     → has_value q ≡ false → more ≡ left → IsTaking first xs qs more (suc i)
 taking_on first xs qs left more i a q k d e h same_mail = record {
   before = λ whole taken l.
-      let (now, (is, same)) = k.before whole taken l in (
-        now,
-        (
-          subst (IsLeft whole now) (sym same_mail) is,
-          sym (ap₂ (taken_after now) d e ∙ ap (λ (u : List ℕ). taken_after u (drop (suc i) xs) (drop (suc i) qs))
-              (cond-false (has_value q) (one_more now a.channel) now h)) ∙ same,
-        ),
-      );
+      let (now, (is, same)) = k.before whole taken l in
+      (now, (rw same_mail is, rw (d, e, h) at same));
 }
 
 pub taking_all : (first : Mail) (xs : List Access) (qs : List Reply) (left : Mail) (i : ℕ) → IsTaking first xs qs left i → length xs ≤ i
     → (whole : Mail) (taken : List ℕ) → IsLeft whole taken first → IsLeft whole (taken_after taken xs qs) left
 taking_all first xs qs left i k l whole taken m =
-    let (now, (is, same)) = k.before whole taken m in
-    subst (λ (u : List ℕ). IsLeft whole u left) (sym (ap (λ (ys : List Access). taken_after now ys (drop i qs)) (drop_past xs i l))
-    ∙ same) is
+    let (now, (is, same)) = k.before whole taken m in rw (rw (drop_past xs i l) at same) at is
 
 pub replies_length : (mail : Mail) (told : ℕ) (taken : List ℕ) (xs : List Access) (qs : List Reply)
     → replies_in mail told taken xs ≡ Some qs → length qs ≡ length xs
-replies_length mail told taken [] qs e = let z : qs ≡ [] = none qs e in rw z refl
-  where
-    none : (qs : List Reply) → Some [] ≡ Some qs → qs ≡ []
-    none qs e = cc
+replies_length mail told taken [] qs e = grind arith
 replies_length mail told taken (a ∷ xs) qs e =
     let (q, (qs', (e1, (e2, e3)))) = first_parts (reply_now a.kind (slice_get mail.outcomes told) (next_value mail taken a.channel))
     (replies_in mail (told_by a.kind told) taken xs) qs e in
-    ap length e3 ∙ ap (λ (n : ℕ). suc n) (replies_length mail (told_by a.kind told) taken xs qs' e2)
+    rw (e3, replies_length mail (told_by a.kind told) taken xs qs' e2) refl

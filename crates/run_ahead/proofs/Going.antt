@@ -29,8 +29,7 @@ module _ (p : Plan) (i : ℕ) (mail : Mail) (o : Own) (told₀ : ℕ) (taken₀ 
   pub stop_short : (marks' : List Advance) (run' : ModuleRun) → StandsAt p i s.at run' → waits run' ≡ false → marks' ≡ marks
       → GoesOn p i mail true (task_of run' left) o told₀ taken₀ marks'
   stop_short marks' run' t w e =
-      subst (GoesOn p i mail true (task_of run' left) o told₀ taken₀) (append-nil marks ∙ sym e)
-      (s.follows true (task_of run' left) [] (record { stands = t; goes = w; left = s.is_left }, refl))
+      rw (e, ← (append-nil marks)) (s.follows true (task_of run' left) [] (record { stands = t; goes = w; left = s.is_left }, refl))
 
   module _ (marks' : List Advance) (run' : ModuleRun) (t : StandsAt p i s.at run') (step : Bool) (e : IsEmitted run run' marks marks' step)
     where
@@ -40,8 +39,7 @@ module _ (p : Plan) (i : ℕ) (mail : Mail) (o : Own) (told₀ : ℕ) (taken₀ 
           (λ o' told' taken'. GoesOn p i mail short last o' told' taken' more)
           → GoesOn p i mail short last o told₀ taken₀ (marks' ++ more)
       past short last more g =
-          subst (GoesOn p i mail short last o told₀ taken₀) (sym (append_assoc marks (e.mark ∷ []) more)
-          ∙ ap (λ (xs : List Advance). xs ++ more) (sym e.added))
+          rw (e.added, append_assoc marks (e.mark ∷ []) more)
           (s.follows short last (e.mark ∷ more) (e.is p i s.at s.stands, e.sound p i s.at s.stands, g))
 
       pub stop_over : step ≡ false → GoesOn p i mail false (task_of run' left) o told₀ taken₀ marks'
@@ -99,16 +97,7 @@ pub begin_waiting : (p : Plan) (i : ℕ) (o : Own) (mail : Mail) (short : Bool) 
     → (short ≡ false → replies_in mail 0 (none_taken mail) (accesses_at p i o) ≡ None)
     → IsBurstFrom (waits run) p i o mail (burst_of last [] short)
 begin_waiting p i o mail short run last s w l m missing =
-    subst (λ (b : Bool). IsBurstFrom b p i o mail (burst_of last [] short)) (sym w)
-    (inl (
-      refl,
-      record {
-        stands = subst (StandsAt p i o) (sym l) s;
-        waits = ap waits l ∙ w;
-        missing = missing;
-        left = subst (IsLeft mail (none_taken mail)) (sym m) (left_none mail);
-      },
-    ))
+    rw w (inl (refl, record { stands = rw l s; waits = rw l w; missing = missing; left = rw m (left_none mail) }))
 
 -- it has its replies, and goes on
 pub begin_fed : (p : Plan) (i : ℕ) (o : Own) (mail : Mail) (short : Bool) (run fed : ModuleRun) (last : Task) (now : ℕ) (left : Mail)
@@ -116,19 +105,9 @@ pub begin_fed : (p : Plan) (i : ℕ) (o : Own) (mail : Mail) (short : Bool) (run
     → (f : IsFed p i o mail 0 (none_taken mail) fed now left)
     → GoesOn p i mail short last (next_rest p i o f.replies) now (taken_after (none_taken mail) (accesses_at p i o) f.replies) marks
     → IsBurstFrom (waits run) p i o mail (burst_of last marks short)
-begin_fed p i o mail short run fed last now left marks w f g =
-    subst (λ (b : Bool). IsBurstFrom b p i o mail (burst_of last marks short)) (sym w)
-    (inr (
-      f.replies,
-      (
-        f.found,
-        subst (λ (n : ℕ). GoesOn p i mail short last (next_rest p i o f.replies) n
-            (taken_after (none_taken mail) (accesses_at p i o) f.replies) marks) f.number g,
-      ),
-    ))
+begin_fed p i o mail short run fed last now left marks w f g = rw w (inr (f.replies, (f.found, rw f.number at g)))
 
 pub begin_going : (p : Plan) (i : ℕ) (o : Own) (mail : Mail) (short : Bool) (run : ModuleRun) (last : Task) (marks : List Advance)
     → waits run ≡ false → GoesOn p i mail short last o 0 (none_taken mail) marks
     → IsBurstFrom (waits run) p i o mail (burst_of last marks short)
-begin_going p i o mail short run last marks w g =
-    subst (λ (b : Bool). IsBurstFrom b p i o mail (burst_of last marks short)) (sym w) g
+begin_going p i o mail short run last marks w g = rw w g

@@ -1,5 +1,5 @@
 -- Parts of replies, and counts of values.
-use Rattle.std.proofs.Common.{◌≡◌, refl, sym, ◌∙◌, ℕ, suc, Bool, true, false, cond, List, [], ◌∷◌, length, Option, Some, None}
+use Rattle.std.proofs.Common.{arith, ◌≡◌, refl, sym, ◌∙◌, ℕ, suc, Bool, true, false, cond, List, [], ◌∷◌, length, Option, Some, None}
 use Rattle.std.proofs.Common.{slice_index_or}
 use Rattle.std.proofs.lemmas.List.{length-set}
 use Rattle.flow_word.specs.declared.access.Access.{Access}
@@ -14,11 +14,10 @@ pub first_parts : (a : Option Reply) (b : Option (List Reply)) (qs : List Reply)
     → (q : Reply) × ((rs : List Reply) × ((a ≡ Some q) × ((b ≡ Some rs) × (qs ≡ q ∷ rs))))
 first_parts None b qs e = cc
 first_parts (Some q) None qs e = cc
-first_parts (Some q) (Some rs) qs e = (q, (rs, (refl, (refl, sym (some_is (q ∷ rs) qs e)))))
+first_parts (Some q) (Some rs) qs e = (q, (rs, (refl, (refl, cc))))
 
 pub more_length : (u : List ℕ) (c : ℕ) (h : Bool) → length (cond h (one_more u c) u) ≡ length u
-more_length u c true = length-set u c (suc (slice_index_or u c 0))
-more_length u c false = refl
+more_length u c h = let longer = length-set u c (suc (slice_index_or u c 0)) in grind arith
 
 pub after_length : (xs : List Access) (qs : List Reply) (u : List ℕ) → length (taken_after u xs qs) ≡ length u
 after_length [] qs u = refl

@@ -1,23 +1,20 @@
 -- Reading a mail, access by access.
-use Rattle.std.proofs.Common.{◌≡◌, refl, sym, ap, ap₂, ◌∙◌, ℕ, zero, suc, ◌+◌, ◌<◌, ◌≤◌, Bool, true, false, ◌&&◌, List, [], ◌∷◌, ◌++◌}
+use Rattle.std.proofs.Common.{◌≡◌, refl, sym, ap, ◌∙◌, ℕ, zero, suc, ◌+◌, ◌<◌, ◌≤◌, Bool, true, false, List, [], ◌∷◌, ◌++◌}
 use Rattle.std.proofs.Common.{length, drop, get_or, set, replicate, Option, Some}
 use Rattle.std.proofs.Common.{None, slice_get, inl, inr, arith, append_assoc, append-nil}
-use Rattle.std.proofs.Common.{subst}
-use Rattle.std.proofs.lemmas.Bool.{cases_Bool, cases_lt, cond-true, cond-false}
+use Rattle.std.proofs.lemmas.Bool.{cases_lt}
 use Rattle.std.proofs.lemmas.Bool.Decides.{eqb_tells}
 use Rattle.std.proofs.lemmas.List.{length-replicate, length-set, get_or-set_same, get_or-set_other, get_or_past}
 use Rattle.flow_word.specs.declared.access.Access.{Access}
 use Rattle.flow_word.specs.declared.access.Kind.{Kind}
-use Rattle.flow_word.specs.declared.access.Kind.TheVariants.{Read, Write, TryRead, TryWrite, Empty, Full}
 use Rattle.flow_design.specs.declared.state.Reply.{Reply}
-use Rattle.flow_design.specs.declared.state.Reply.TheVariants.{Done, Value, Flag, Took, Missed}
 use Rattle.flow_word.specs.Kinds.{is_blocking}
 use Rattle.module_interp.specs.OwnRests.{fits_kind, all_fit}
 use Rattle.engine_view.specs.Held.{queries_in}
 use Rattle.run_ahead.specs.declared.mail.Mail.{Mail}
 use Rattle.run_ahead.specs.Replies.{reply_now, put_first, put_before, has_value}
 use Rattle.run_ahead.specs.Mails.{values_on, next_value, told_by, replies_in, one_more, taken_after, none_taken, IsLeft}
-use Rattle.run_ahead.proofs.Parts.{some_is, first_parts}
+use Rattle.run_ahead.proofs.Parts.{first_parts}
 
 pub before_nil : (r : Option (List Reply)) → put_before [] r ≡ r
 before_nil r = grind arith
@@ -141,7 +138,7 @@ pub replies_left : (whole left : Mail) (taken : List ℕ) → IsLeft whole taken
     → replies_in whole told taken xs ≡ replies_in left told (none_taken left) xs
 replies_left whole left taken k told [] = refl
 replies_left whole left taken k told (a ∷ xs) =
-    rw (next_left whole left taken a.channel k, replies_left whole left taken k (told_by a.kind told) xs, k.outcomes) refl
+    rw (next_left whole left taken a.channel k, replies_left whole left taken k (told_by a.kind told) xs, ← k.outcomes) refl
 
 -- one value of a channel was taken
 pub left_more : (whole left more : Mail) (taken : List ℕ) (c : ℕ) → IsLeft whole taken left → more.outcomes ≡ left.outcomes
@@ -183,7 +180,7 @@ pub taking_more : (first : Mail) (xs : List Access) (qs : List Reply) (left more
 taking_more first xs qs left more i a q k d e h os vs = record {
   before = λ whole taken l.
       let (now, (is, same)) = k.before whole taken l in
-      (one_more now a.channel, (left_more whole left more now a.channel is os vs, rw (d, e, h) at same));
+      (one_more now a.channel, (left_more whole left more now a.channel is os vs, grind arith));
 }
 
 pub taking_on : (first : Mail) (xs : List Access) (qs : List Reply) (left more : Mail) (i : ℕ) (a : Access) (q : Reply)
@@ -192,7 +189,7 @@ pub taking_on : (first : Mail) (xs : List Access) (qs : List Reply) (left more :
 taking_on first xs qs left more i a q k d e h same_mail = record {
   before = λ whole taken l.
       let (now, (is, same)) = k.before whole taken l in
-      (now, (rw same_mail is, rw (d, e, h) at same));
+      (now, (rw same_mail is, grind arith));
 }
 
 pub taking_all : (first : Mail) (xs : List Access) (qs : List Reply) (left : Mail) (i : ℕ) → IsTaking first xs qs left i → length xs ≤ i

@@ -4,7 +4,10 @@ use Rattle.std.proofs.Common.{length, drop, get_or, set, replicate, Option, Some
 use Rattle.std.proofs.Common.{None, slice_get, inl, inr, arith, append_assoc, append-nil}
 use Rattle.std.proofs.lemmas.Bool.{cases_lt}
 use Rattle.std.proofs.lemmas.Bool.Decides.{eqb_tells}
-use Rattle.std.proofs.lemmas.List.{length-replicate, length-set, get_or-set_same, get_or-set_other, get_or_past}
+use Rattle.std.proofs.Math.Seq.{drop-nil}
+use Rattle.engine_view.proofs.Opened.{copy_at}
+use Rattle.engine_view.proofs.Adding.{get_drop}
+use Rattle.std.proofs.lemmas.List.{drop_all, drop-drop, length-replicate, length-set, get_or-set_same, get_or-set_other, get_or_past}
 use Rattle.flow_word.specs.declared.access.Access.{Access}
 use Rattle.flow_word.specs.declared.access.Kind.{Kind}
 use Rattle.flow_design.specs.declared.state.Reply.{Reply}
@@ -23,21 +26,10 @@ pub before_more : (qs : List Reply) (q : Reply) (r : Option (List Reply))
     → put_before qs (put_first (Some q) r) ≡ put_before (qs ++ q ∷ []) r
 before_more qs q r = let whole = append_assoc qs (q ∷ []) in grind arith
 
-pub drop_at : {X : Type 0} → (xs : List X) (i : ℕ) (d : X) → i < length xs → drop i xs ≡ get_or xs i d ∷ drop (suc i) xs
-drop_at [] i d l = absurd (omega arith)
-drop_at (x ∷ xs) zero d l = refl
-drop_at (x ∷ xs) (suc i) d l = drop_at xs i d (omega arith)
-
 pub drop_next : {X : Type 0} → (xs : List X) (i : ℕ) → i < length xs → (x : X) × (drop i xs ≡ x ∷ drop (suc i) xs)
 drop_next [] i l = absurd (omega arith)
 drop_next (x ∷ xs) zero l = (x, refl)
 drop_next (x ∷ xs) (suc i) l = drop_next xs i (omega arith)
-
-pub drop_past : {X : Type 0} → (xs : List X) (i : ℕ) → length xs ≤ i → drop i xs ≡ []
-drop_past [] zero l = refl
-drop_past [] (suc i) l = refl
-drop_past (x ∷ xs) zero l = absurd (omega arith)
-drop_past (x ∷ xs) (suc i) l = drop_past xs i (omega arith)
 
 -- what is to be read behind these replies
 pub record IsFinding (mail : Mail) (told₀ : ℕ) (taken : List ℕ) (xs : List Access) (replies : List Reply) (told i : ℕ) : Type 0 where
@@ -68,7 +60,7 @@ pub finding_all : (mail : Mail) (told₀ : ℕ) (taken : List ℕ) (xs : List Ac
     → IsFinding mail told₀ taken xs replies told i → length xs ≤ i
     → (replies_in mail told₀ taken xs ≡ Some replies) × (told ≡ told₀ + queries_in xs)
 finding_all mail told₀ taken xs replies told i f l =
-    let d = drop_past xs i l in
+    let d = drop_all i xs l in
     let before = f.number in
     (f.found ∙ rw (d, append-nil replies) refl, grind arith)
 
@@ -98,25 +90,13 @@ replies_fit mail told taken (a ∷ xs) qs e =
 -- ---- what is left
 
 pub none_at : (n c : ℕ) → ◌≡◌ {A = ℕ} (get_or (replicate n 0) c 0) 0
-none_at zero zero = refl
-none_at zero (suc c) = refl
-none_at (suc n) zero = refl
-none_at (suc n) (suc c) = none_at n c
-
-get_drop : (xs : List ℕ) (n : ℕ) → slice_get (drop n xs) 0 ≡ slice_get xs n
-get_drop xs zero = refl
-get_drop [] (suc n) = refl
-get_drop (x ∷ xs) (suc n) = get_drop xs n
+none_at n c = copy_at n c 0
 
 drop_more : (xs : List ℕ) (n : ℕ) → drop 1 (drop n xs) ≡ drop (suc n) xs
-drop_more [] zero = refl
-drop_more [] (suc n) = refl
-drop_more (x ∷ xs) zero = refl
-drop_more (x ∷ xs) (suc n) = drop_more xs n
+drop_more xs n = let next : n + 1 ≡ suc n = omega arith in rw next at (drop-drop 1 n xs)
 
 pub drop_none : (n : ℕ) → ◌≡◌ {A = List ℕ} (drop n []) []
-drop_none zero = refl
-drop_none (suc n) = refl
+drop_none n = drop-nil n
 
 -- nothing was taken
 pub left_none : (mail : Mail) → IsLeft mail (none_taken mail) mail
@@ -131,7 +111,7 @@ left_none mail = record {
 next_left : (whole left : Mail) (taken : List ℕ) (c : ℕ) → IsLeft whole taken left
     → next_value whole taken c ≡ next_value left (none_taken left) c
 next_left whole left taken c k =
-    rw (none_at (length left.values) c, k.values c) (sym (get_drop (values_on whole c) (get_or taken c 0)))
+    rw (none_at (length left.values) c, k.values c) (sym (get_drop (get_or taken c 0) (values_on whole c)))
 
 -- so are the replies
 pub replies_left : (whole left : Mail) (taken : List ℕ) → IsLeft whole taken left → (told : ℕ) (xs : List Access)
@@ -195,7 +175,7 @@ taking_on first xs qs left more i a q k d e h same_mail = record {
 pub taking_all : (first : Mail) (xs : List Access) (qs : List Reply) (left : Mail) (i : ℕ) → IsTaking first xs qs left i → length xs ≤ i
     → (whole : Mail) (taken : List ℕ) → IsLeft whole taken first → IsLeft whole (taken_after taken xs qs) left
 taking_all first xs qs left i k l whole taken m =
-    let (now, (is, same)) = k.before whole taken m in rw (rw (drop_past xs i l) at same) at is
+    let (now, (is, same)) = k.before whole taken m in rw (rw (drop_all i xs l) at same) at is
 
 pub replies_length : (mail : Mail) (told : ℕ) (taken : List ℕ) (xs : List Access) (qs : List Reply)
     → replies_in mail told taken xs ≡ Some qs → length qs ≡ length xs

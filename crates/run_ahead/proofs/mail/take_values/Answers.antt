@@ -1,6 +1,7 @@
 use Rattle.std.proofs.Common.{◌≡◌, ap, subst, suc, ℕ, ◌+◌, sym, ◌∙◌, ◌<◌, length, arith}
 use Rattle.run_ahead.specs.declared.mail.Mail.{Mail}
-use Rattle.run_ahead.proofs.Finding.{IsTaking, taking_more, taking_on, taking_all, drop_at, drop_next}
+use Rattle.run_ahead.proofs.Finding.{IsTaking, taking_more, taking_on, taking_all, drop_next}
+use Rattle.std.proofs.Math.Seq.{drop-cons}
 use Rattle.run_ahead.proofs.mail.take_values.Goals.{then-takes, else-takes}
 use Rattle.run_ahead.proofs.mail.take_values.Goals as goal
 
@@ -15,13 +16,13 @@ loop-at-preserved c =
     subst (λ (n : ℕ). IsTaking first xs qs c.if-takes.mail n) z
     (elim c.if-takes.branch [
       | then-takes w ↦
-          taking_more first xs qs c.loop-at.mail c.if-takes.mail i _ _ c.loop-at.invariant (drop_at xs i _ c.loop-at-test.true)
-          (drop_at qs i _ l) (sym c.takes.ensures ∙ w.if-takes.true)
+          taking_more first xs qs c.loop-at.mail c.if-takes.mail i _ _ c.loop-at.invariant (drop-cons xs i _ c.loop-at-test.true)
+          (drop-cons qs i _ l) (sym c.takes.ensures ∙ w.if-takes.true)
           (ap (λ (m : Mail). m.outcomes) w.mail-is ∙ w.take_value.ensures.outcomes)
           (ap (λ (m : Mail). m.values) w.mail-is ∙ w.take_value.ensures.values)
       | else-takes w ↦
           let (a, here) = drop_next xs i c.loop-at-test.true in
-          taking_on first xs qs c.loop-at.mail c.if-takes.mail i a _ c.loop-at.invariant here (drop_at qs i _ l) (sym c.takes.ensures
+          taking_on first xs qs c.loop-at.mail c.if-takes.mail i a _ c.loop-at.invariant here (drop-cons qs i _ l) (sym c.takes.ensures
           ∙ w.if-takes.false) w.mail-is
     ])
 

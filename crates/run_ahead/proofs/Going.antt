@@ -1,5 +1,5 @@
 -- How a burst goes on, mark by mark.
-use Rattle.std.proofs.Common.{◌≡◌, refl, sym, ap, subst, ◌∙◌, ℕ, Bool, true, false, List, [], ◌∷◌, ◌++◌}
+use Rattle.std.proofs.Common.{◌≡◌, refl, ◌∙◌, ℕ, Bool, true, false, List, [], ◌∷◌, ◌++◌}
 use Rattle.std.proofs.Common.{None, inl, inr, append_assoc, append-nil}
 use Rattle.flow_design.specs.declared.plan.Plan.{Plan}
 use Rattle.flow_design.specs.declared.state.Advance.{Advance}
@@ -44,28 +44,17 @@ module _ (p : Plan) (i : ℕ) (mail : Mail) (o : Own) (told₀ : ℕ) (taken₀ 
 
       pub stop_over : step ≡ false → GoesOn p i mail false (task_of run' left) o told₀ taken₀ marks'
       stop_over k =
-          subst (GoesOn p i mail false (task_of run' left) o told₀ taken₀) (append-nil marks')
-          (past false (task_of run' left) []
-          (subst (λ (b : Bool). IsPast b p i mail false (task_of run' left) s.at told s.taken_now []
-          (λ o' told' taken'. GoesOn p i mail false (task_of run' left) o' told' taken' [])) (sym (e.kind ∙ k))
-          (refl, record { stands = t; goes = e.waits ∙ k; left = s.is_left })))
+          rw (← (append-nil marks'))
+          (past false (task_of run' left) [] (rw (e.kind, k) (refl, record { stands = t; goes = e.waits ∙ k; left = s.is_left })))
 
       pub stop_waiting : step ≡ true → (short : Bool) (last : Task) → last.run ≡ run' → last.mail ≡ left
           → (short ≡ false → replies_in mail told s.taken_now (accesses_at p i s.at) ≡ None)
           → GoesOn p i mail short last o told₀ taken₀ marks'
       stop_waiting k short last l m missing =
-          subst (GoesOn p i mail short last o told₀ taken₀) (append-nil marks')
-          (past short last []
-          (subst (λ (b : Bool). IsPast b p i mail short last s.at told s.taken_now []
-          (λ o' told' taken'. GoesOn p i mail short last o' told' taken' [])) (sym (e.kind ∙ k))
-          (inl (
+          rw (← (append-nil marks'))
+          (past short last [] (rw (e.kind, k) (inl (
             refl,
-            record {
-              stands = subst (StandsAt p i s.at) (sym l) t;
-              waits = ap waits l ∙ (e.waits ∙ k);
-              missing = missing;
-              left = subst (IsLeft mail s.taken_now) (sym m) s.is_left;
-            },
+            record { stands = rw l t; waits = rw l (e.waits ∙ k); missing = missing; left = rw m s.is_left },
           ))))
 
       pub go_more : step ≡ true → (last : ModuleRun) (now : ℕ) (rest : Mail) → IsFed p i s.at mail told s.taken_now last now rest
@@ -75,18 +64,7 @@ module _ (p : Plan) (i : ℕ) (mail : Mail) (o : Own) (told₀ : ℕ) (taken₀ 
         taken_now = taken_after s.taken_now (accesses_at p i s.at) f.replies;
         stands = f.stands;
         is_left = f.left;
-        follows = λ short q more g.
-            past short q more
-            (subst (λ (b : Bool). IsPast b p i mail short q s.at told s.taken_now more
-            (λ o' told' taken'. GoesOn p i mail short q o' told' taken' more)) (sym (e.kind ∙ k))
-            (inr (
-              f.replies,
-              (
-                f.found,
-                subst (λ (n : ℕ). GoesOn p i mail short q (next_rest p i s.at f.replies) n
-                    (taken_after s.taken_now (accesses_at p i s.at) f.replies) more) f.number g,
-              ),
-            )));
+        follows = λ short q more g. past short q more (rw (e.kind, k) (inr (f.replies, (f.found, rw f.number at g))));
       }
 
 -- ---- the beginning

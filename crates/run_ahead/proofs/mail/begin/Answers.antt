@@ -1,9 +1,8 @@
-use Rattle.std.proofs.Common.{ℕ, sym, ap, subst, ◌∙◌, true, false, List}
-use Rattle.flow_design.specs.declared.state.Advance.{Advance}
+use Rattle.std.proofs.Common.{sym, ap, ◌∙◌, true, false}
 use Rattle.module_interp.specs.OwnRests.{next_rest, accesses_at}
-use Rattle.module_interp.specs.Runs.{StandsAt, waits}
-use Rattle.run_ahead.specs.Mails.{GoesOn, IsLeft, IsBurstFrom, none_taken, taken_after}
-use Rattle.run_ahead.specs.Working.{burst_of, task_of}
+use Rattle.module_interp.specs.Runs.{waits}
+use Rattle.run_ahead.specs.Mails.{none_taken, taken_after}
+use Rattle.run_ahead.specs.Working.{task_of}
 use Rattle.run_ahead.proofs.Finding.{left_none}
 use Rattle.run_ahead.proofs.Going.{begin_waiting, begin_fed, begin_going}
 use Rattle.run_ahead.proofs.mail.begin.Goals.{then-is_waiting+in-Ok-true, else-is_waiting}
@@ -15,8 +14,8 @@ go_on-requires-clause-stands c =
     elim c.if-is_waiting.branch [
       | then-is_waiting+in-Ok-true w ↦
           let f = w.in-Ok-true.ensures.fed w.in-Ok-true.field-0-test p i o s c.args.mail.now _ (left_none c.args.mail.now) in
-          (p, (i, (next_rest p i o f.replies, subst (StandsAt p i (next_rest p i o f.replies)) (sym w.run-is) f.stands)))
-      | else-is_waiting w ↦ (p, (i, (o, subst (StandsAt p i o) (sym w.run-is) s)))
+          (p, (i, (next_rest p i o f.replies, rw w.run-is f.stands)))
+      | else-is_waiting w ↦ (p, (i, (o, rw w.run-is s)))
     ]
 
 pub go_on-requires-clause-goes : goal.go_on-requires-clause-goes
@@ -36,26 +35,21 @@ returns c = λ p i o s.
           let f = w.in-Ok-true.ensures.fed w.in-Ok-true.field-0-test p i o s whole none (left_none whole) in
           let waiting = sym c.is_waiting.ensures ∙ w.if-is_waiting.true in
           let taken = taken_after none (accesses_at p i o) f.replies in
-          let on = c.go_on.ensures p i (next_rest p i o f.replies) (subst (StandsAt p i (next_rest p i o f.replies)) (sym w.run-is)
-          f.stands) whole taken (subst (IsLeft whole taken) (sym w.mail-is) f.left) in
+          let on = c.go_on.ensures p i (next_rest p i o f.replies) (rw w.run-is f.stands) whole taken (rw w.mail-is f.left) in
           begin_fed p i o whole c.go_on.result c.args.run.now w.answer.new.run (task_of c.go_on.new.run c.go_on.new.mail) w.answer.new.told
           w.answer.new.mail c.go_on.new.marks waiting f
-          (subst (λ (n : ℕ). GoesOn p i whole c.go_on.result (task_of c.go_on.new.run c.go_on.new.mail) (next_rest p i o f.replies) n taken
-          c.go_on.new.marks) w.told-is on)
+          (rw w.told-is at on)
       | else-is_waiting w ↦
           let going = (sym c.is_waiting.ensures ∙ w.if-is_waiting.false) in
-          let on = c.go_on.ensures p i o (subst (StandsAt p i o) (sym w.run-is) s) whole none
-          (subst (IsLeft whole none) (sym w.mail-is) (left_none whole)) in
+          let on = c.go_on.ensures p i o (rw w.run-is s) whole none (rw w.mail-is (left_none whole)) in
           begin_going p i o whole c.go_on.result c.args.run.now (task_of c.go_on.new.run c.go_on.new.mail) c.go_on.new.marks going
-          (subst (λ (n : ℕ). GoesOn p i whole c.go_on.result (task_of c.go_on.new.run c.go_on.new.mail) o n none c.go_on.new.marks)
-          w.told-is on)
+          (rw w.told-is at on)
     ]
 
 pub returns-in-Ok-false : goal.returns-in-Ok-false
 returns-in-Ok-false c = λ p i o s.
     let same = c.in-Ok-false.ensures.waiting c.in-Ok-false.field-0-test in
-    subst (λ (marks : List Advance). IsBurstFrom (waits c.args.run.now) p i o c.args.mail.now
-    (burst_of (task_of c.answer.new.run c.answer.new.mail) marks false)) (sym c.requires.none)
+    rw c.requires.none
     (begin_waiting p i o c.args.mail.now false c.args.run.now (task_of c.answer.new.run c.answer.new.mail) s
     (sym c.is_waiting.ensures ∙ c.if-is_waiting.true) same.0 same.1
     (λ e. c.in-Ok-false.ensures.missing c.in-Ok-false.field-0-test p i o s c.args.mail.now _ (left_none c.args.mail.now)))
@@ -63,7 +57,6 @@ returns-in-Ok-false c = λ p i o s.
 pub returns-in-Err : goal.returns-in-Err
 returns-in-Err c = λ p i o s.
     let same = c.in-Err.ensures.err in
-    subst (λ (marks : List Advance). IsBurstFrom (waits c.args.run.now) p i o c.args.mail.now
-    (burst_of (task_of c.answer.new.run c.answer.new.mail) marks true)) (sym c.requires.none)
+    rw c.requires.none
     (begin_waiting p i o c.args.mail.now true c.args.run.now (task_of c.answer.new.run c.answer.new.mail) s
     (sym c.is_waiting.ensures ∙ c.if-is_waiting.true) same.0 same.1 (λ e. cc))

@@ -1,6 +1,5 @@
-use Rattle.std.proofs.Common.{refl, sym, subst, List}
-use Rattle.flow_design.specs.declared.state.Advance.{Advance}
-use Rattle.run_ahead.specs.Working.{IsSoFar, task_of}
+use Rattle.std.proofs.Common.{refl}
+use Rattle.run_ahead.specs.Working.{task_of}
 use Rattle.run_ahead.proofs.Finding.{left_none}
 use Rattle.run_ahead.proofs.Going.{so_far_none, stop_short, stop_over, stop_waiting, go_more}
 use Rattle.run_ahead.proofs.mail.go_on.Goals as goal
@@ -68,7 +67,6 @@ returns-in-Ok-false c = λ p i o s mail taken k.
 pub loop-left-init : goal.loop-left-init
 loop-left-init c = record {
   so_far = λ p i o s mail taken k.
-      subst (λ (marks : List Advance). IsSoFar p i mail o c.args.told.now taken marks c.args.run.now c.args.told.now c.args.mail.now)
-      (sym c.requires.none) (so_far_none p i mail o c.args.told.now taken c.args.run.now c.args.mail.now s k);
+      rw c.requires.none (so_far_none p i mail o c.args.told.now taken c.args.run.now c.args.mail.now s k);
   goes = c.requires.goes;
 }

@@ -1,14 +1,11 @@
-use Rattle.std.proofs.Common.{◌≡◌, refl, sym, ap, subst, ◌∙◌, ℕ, List, length, arith}
-use Rattle.std.specs.Prelude.{All}
+use Rattle.std.proofs.Common.{◌≡◌, refl, sym, ap, ◌∙◌, List, length, arith}
 use Rattle.std.proofs.lemmas.List.{get_or-set_other}
 use Rattle.flow_word.specs.declared.access.Access.{Access}
 use Rattle.flow_word.specs.declared.access.Step.{Step}
 use Rattle.query_log.specs.Logs.{no_log}
-use Rattle.time_engine.specs.Conditions.{IsAccess}
-use Rattle.engine_view.specs.Held.{Held, step_of, queries_in}
+use Rattle.engine_view.specs.Held.{step_of, queries_in}
 use Rattle.engine_view.specs.Stored.{stored, held_in}
-use Rattle.engine_view.specs.Rooms.{HasRoom}
-use Rattle.engine_view.specs.Turns.{IsAnswered, first_of}
+use Rattle.engine_view.specs.Turns.{first_of}
 use Rattle.engine_view.proofs.Unsure.{answered_on}
 use Rattle.engine_view.proofs.Roomy.{few_queries}
 use Rattle.engine_view.proofs.Resolving.{first_is}
@@ -34,7 +31,7 @@ compare_outcomes-requires-clause-inside c =
     let step = first_is h c.args.owner c.frontier.result (whole c.step-step.result) c.frontier.ensures.count c.step-step.ensures.step in
     let xs : (step_of h c.args.owner (first_of h c.args.owner)).accesses ≡ c.as_slice-accesses.result.now =
     ap (λ (t : Step). t.accesses) step ∙ sym c.as_slice-accesses.ensures in
-    subst (All (IsAccess c.args.fifos.now.channels)) xs (confirming.again_inside d h c.args.owner c.args.cycle f)
+    rw xs at (confirming.again_inside d h c.args.owner c.args.cycle f)
 
 pub compare_outcomes-requires-clause-places : goal.compare_outcomes-requires-clause-places
 compare_outcomes-requires-clause-places c =
@@ -108,7 +105,7 @@ returns-in-Same-clause-answered c = λ d over i k.
     (whole c.step-step.result).first_query (sym xs) (sym first) (c.in-Same.ensures.same refl) in
     let behind = confirming.again_behind d h c.args.owner c.args.cycle f there again _ c.verify_up_to.new.self.logs
     (let count = c.count_queries.ensures.count ∙ ap queries_in (sym xs) in omega arith) c.verify_up_to.ensures.logs in
-    subst (IsAnswered d h c.args.owner c.args.cycle) (sym behind)
+    rw behind
     (answered_on d h c.args.owner c.args.cycle _ f (λ e. again) (confirming.again_core d h c.args.owner c.args.cycle f there again))
 
 pub returns-in-Same-clause-room : goal.returns-in-Same-clause-room
@@ -125,10 +122,8 @@ returns-in-Same-clause-room c = λ credits d over i k r.
     (whole c.step-step.result).first_query (sym xs) (sym first) (c.in-Same.ensures.same refl) in
     let behind = confirming.again_behind d h c.args.owner c.args.cycle f there again _ c.verify_up_to.new.self.logs
     (let count = c.count_queries.ensures.count ∙ ap queries_in (sym xs) in omega arith) c.verify_up_to.ensures.logs in
-    subst (λ (q : Held). HasRoom d q s.graph.rooms s.table c.verify_up_to.new.self.rooms credits) (sym behind)
-    (subst (λ (rooms : List ℕ). HasRoom d (confirming.g d h c.args.owner c.args.cycle f there again) s.graph.rooms s.table rooms credits)
-    (sym c.verify_up_to.ensures.rooms) (confirming.room_again d h c.args.owner c.args.cycle f there again s.graph.rooms s.table s.log.rooms
-    credits r))
+    rw (behind, c.verify_up_to.ensures.rooms)
+    (confirming.room_again d h c.args.owner c.args.cycle f there again s.graph.rooms s.table s.log.rooms credits r)
 
 pub returns-in-Same-clause-others : goal.returns-in-Same-clause-others
 returns-in-Same-clause-others c = λ m apart. rw c.verify_up_to.ensures.logs (get_or-set_other c.args.log.now.logs c.args.owner m _ no_log

@@ -1,15 +1,12 @@
-use Rattle.std.proofs.Common.{◌≡◌, ◌≤◌, sym, ap, subst, ◌∙◌, List, length, get_or, arith}
-use Rattle.std.specs.Prelude.{All}
+use Rattle.std.proofs.Common.{◌≡◌, sym, ap, ◌∙◌, List, length, arith}
 use Rattle.std.proofs.lemmas.Bool.{both_ways}
 use Rattle.std.proofs.lemmas.List.{get_or-set_other}
 use Rattle.flow_word.specs.declared.access.Access.{Access}
 use Rattle.flow_word.specs.declared.access.Step.{Step}
 use Rattle.query_log.specs.Logs.{no_log}
-use Rattle.time_engine.specs.Conditions.{IsAccess}
-use Rattle.engine_view.specs.Held.{Held, step_of, queries_in}
+use Rattle.engine_view.specs.Held.{step_of}
 use Rattle.engine_view.specs.Stored.{stored, held_in}
-use Rattle.engine_view.specs.Rooms.{AreApart, HasRoomFor, HasRoom, TakesAt}
-use Rattle.engine_view.specs.Turns.{IsAnswered, first_of}
+use Rattle.engine_view.specs.Turns.{first_of}
 use Rattle.engine_view.proofs.Unsure.{answered_on}
 use Rattle.engine_view.proofs.Confirming.{fresh_in}
 use Rattle.engine_view.proofs.Resolving as resolving
@@ -34,7 +31,7 @@ write_outcomes-requires-clause-inside c =
     c.step-step.ensures.step in
     let xs : (step_of h c.args.owner (first_of h c.args.owner)).accesses ≡ c.as_slice.result.now = ap (λ (t : Step). t.accesses) step
     ∙ sym c.as_slice.ensures in
-    subst (All (IsAccess c.args.fifos.now.channels)) xs (resolving.fresh_inside d h c.args.owner c.args.cycle f)
+    rw xs at (resolving.fresh_inside d h c.args.owner c.args.cycle f)
 
 pub write_outcomes-requires-clause-places : goal.write_outcomes-requires-clause-places
 write_outcomes-requires-clause-places c =
@@ -59,7 +56,7 @@ write_outcomes-requires-clause-room c =
     c.step-step.ensures.step in
     let xs : (step_of h c.args.owner (first_of h c.args.owner)).accesses ≡ c.as_slice.result.now = ap (λ (t : Step). t.accesses) step
     ∙ sym c.as_slice.ensures in
-    subst (λ (as' : List Access). queries_in as' ≤ get_or c.args.log.now.rooms c.args.owner 0) xs
+    rw xs at
     (resolving.fresh_log_room d h c.args.owner c.args.cycle f c.args.graph.now.rooms c.args.fifos.now c.args.log.now.rooms credits r)
 
 pub take_all-requires-clause-inside : goal.take_all-requires-clause-inside
@@ -72,7 +69,7 @@ take_all-requires-clause-inside c =
     c.step-step.ensures.step in
     let xs : (step_of h c.args.owner (first_of h c.args.owner)).accesses ≡ c.as_slice-2.result.now = ap (λ (t : Step). t.accesses) step
     ∙ sym c.as_slice-2.ensures in
-    subst (All (IsAccess c.args.fifos.now.channels)) xs (resolving.fresh_inside d h c.args.owner c.args.cycle f)
+    rw xs at (resolving.fresh_inside d h c.args.owner c.args.cycle f)
 
 pub take_all-requires-clause-apart : goal.take_all-requires-clause-apart
 take_all-requires-clause-apart c =
@@ -84,7 +81,7 @@ take_all-requires-clause-apart c =
     c.step-step.ensures.step in
     let xs : (step_of h c.args.owner (first_of h c.args.owner)).accesses ≡ c.as_slice-2.result.now = ap (λ (t : Step). t.accesses) step
     ∙ sym c.as_slice-2.ensures in
-    subst AreApart xs (resolving.fresh_apart d h c.args.owner c.args.cycle f)
+    rw xs at (resolving.fresh_apart d h c.args.owner c.args.cycle f)
 
 pub take_all-requires-clause-room : goal.take_all-requires-clause-room
 take_all-requires-clause-room c =
@@ -96,7 +93,7 @@ take_all-requires-clause-room c =
     c.step-step.ensures.step in
     let xs : (step_of h c.args.owner (first_of h c.args.owner)).accesses ≡ c.as_slice-2.result.now = ap (λ (t : Step). t.accesses) step
     ∙ sym c.as_slice-2.ensures in
-    subst (HasRoomFor c.args.fifos.now) xs (resolving.fresh_room d h c.args.owner c.args.cycle f c.args.graph.now.rooms c.args.fifos.now
+    rw xs at (resolving.fresh_room d h c.args.owner c.args.cycle f c.args.graph.now.rooms c.args.fifos.now
     c.args.log.now.rooms credits r)
 
 pub take_all-requires-clause-few : goal.take_all-requires-clause-few
@@ -123,7 +120,7 @@ returns-clause-answered c = λ d over i k.
     let behind = resolving.behind_is d h c.args.owner c.args.cycle f c.frontier.result (whole c.step-step.result) c.as_slice.result.now
     c.as_slice-2.result.now c.write_outcomes.new.log.logs c.take_all.new.fifos.channels c.frontier.ensures.count step c.as_slice.ensures
     c.as_slice-2.ensures c.write_outcomes.ensures.logs c.take_all.ensures.channels in
-    subst (IsAnswered d h c.args.owner c.args.cycle) (sym behind)
+    rw behind
     (answered_on d h c.args.owner c.args.cycle _ f.unsure (λ e. absurd (both_ways _ f.fresh e))
     (resolving.fresh_core d h c.args.owner c.args.cycle f))
 
@@ -139,10 +136,10 @@ returns-clause-room c = λ credits d over i k r.
     let behind = resolving.behind_is d h c.args.owner c.args.cycle f c.frontier.result (whole c.step-step.result) c.as_slice.result.now
     c.as_slice-2.result.now c.write_outcomes.new.log.logs c.take_all.new.fifos.channels c.frontier.ensures.count step c.as_slice.ensures
     c.as_slice-2.ensures c.write_outcomes.ensures.logs c.take_all.ensures.channels in
-    subst (λ (q : Held). HasRoom d q s.graph.rooms c.take_all.new.fifos c.write_outcomes.new.log.rooms credits) (sym behind)
+    rw behind
     (resolving.room_answered d h c.args.owner c.args.cycle f s.graph.rooms s.table c.take_all.new.fifos s.log.rooms
     c.write_outcomes.new.log.rooms credits r c.take_all.ensures.one
-    (λ side ch q. c.take_all.ensures.others side ch (subst (All (λ (a : Access). TakesAt side ch a → ⊥)) xs q))
+    (λ side ch q. c.take_all.ensures.others side ch (rw xs at q))
     c.write_outcomes.ensures.other_rooms)
 
 pub returns-clause-others : goal.returns-clause-others

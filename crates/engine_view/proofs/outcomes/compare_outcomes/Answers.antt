@@ -1,46 +1,30 @@
-use Rattle.std.proofs.Common.{◌≡◌, refl, ap, subst, get_or, drop}
+use Rattle.std.proofs.Common.{◌≡◌, refl, get_or}
 use Rattle.flow_word.specs.declared.access.Access.{Access}
 use Rattle.flow_word.specs.declared.access.Kind.TheVariants.{Read}
-use Rattle.outcome_guard.specs.declared.guard.Guard.{Guard}
-use Rattle.outcome_guard.specs.declared.guard.Guard.TheVariants.{Same, Differs}
 use Rattle.query_log.specs.Logs.{log_at}
 use Rattle.query_log.specs.declared.query.Query.{Query}
-use Rattle.engine_view.specs.Held.{flags_by}
-use Rattle.engine_view.specs.Known.{found_flags}
-use Rattle.engine_view.specs.Turns.{IsOther}
 use Rattle.engine_view.proofs.Comparing.{compares_more, compares_not}
 use Rattle.engine_view.proofs.outcomes.compare_outcomes.Goals as goal
 
 abbrev no_access : Access
 no_access = record { kind = Read; channel = 0; ordinal = 0; value = 0 }
 
-query_is : (p q : Query) → Differs p ≡ Differs q → p ≡ q
-query_is p q e = ap by e
-  where
-    by : Guard → Query
-    by Same = p
-    by (Differs r) = r
-
 pub returns-then-not-is_alike-clause-differs : goal.returns-then-not-is_alike-clause-differs
 returns-then-not-is_alike-clause-differs c = λ q e.
-    let other = compares_not c.args.graph.now.lanes c.args.fifos.now.channels c.args.cycle c.args.accesses.now
-    (log_at c.args.log.now.logs c.args.owner).outcomes c.args.first_query c.loop-access.access-index c.loop-access.number no_access
-    c.loop-access.invariant c.args.owner
-    (record {
+    let access = get_or c.args.accesses.now c.loop-access.access-index no_access in
+    let query : Query = record {
       «module» = c.args.owner;
       number = c.loop-access.number;
-      kind =
-          (get_or c.args.accesses.now c.loop-access.access-index no_access).kind;
-      channel =
-          (get_or c.args.accesses.now c.loop-access.access-index no_access).channel;
-      ordinal =
-          (get_or c.args.accesses.now c.loop-access.access-index no_access).ordinal;
-    })
-    c.loop-access-test.true (λ s. let z = c.if-not-is_alike.ensures.1 s in cc) refl refl refl refl refl in
-    subst (λ (p : Query). IsOther
-    (flags_by c.args.accesses.now (drop c.args.first_query (log_at c.args.log.now.logs c.args.owner).outcomes))
-    (found_flags c.args.graph.now.lanes c.args.fifos.now.channels c.args.cycle c.args.accesses.now) c.args.accesses.now c.args.owner
-    c.args.first_query p) (query_is _ q e) other
+      kind = access.kind;
+      channel = access.channel;
+      ordinal = access.ordinal;
+    } in
+    let other = compares_not c.args.graph.now.lanes c.args.fifos.now.channels c.args.cycle c.args.accesses.now
+    (log_at c.args.log.now.logs c.args.owner).outcomes c.args.first_query c.loop-access.access-index c.loop-access.number no_access
+    c.loop-access.invariant c.args.owner query c.loop-access-test.true (λ s. let z = c.if-not-is_alike.ensures.1 s in cc) refl refl refl
+    refl refl in
+    let same : query ≡ q = cc in
+    rw same at other
 
 pub loop-access-preserved : goal.loop-access-preserved
 loop-access-preserved c =

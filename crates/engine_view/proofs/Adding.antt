@@ -83,11 +83,11 @@ module _ (at : Place) (late : Bool) (xs : List Access) (outs : List Bool) (first
   here = drop_more xs i d l
 
   pub access_here : IsAccess now.channels (get_or xs i d)
-  access_here = All-head (IsAccess now.channels) (get_or xs i d) (drop (i + 1) xs) (subst (All (IsAccess now.channels)) here r.inside)
+  access_here = All-head (IsAccess now.channels) (get_or xs i d) (drop (i + 1) xs) (rw here at r.inside)
 
   pub room_here : is_taking (get_or xs i d).kind ≡ true → 0 < room_of now (side_of (get_or xs i d).kind) (get_or xs i d).channel
   room_here = All-head (λ (q : Access). is_taking q.kind ≡ true → 0 < room_of now (side_of q.kind) q.channel) (get_or xs i d)
-      (drop (i + 1) xs) (subst (HasRoomFor now) here r.rooms)
+      (drop (i + 1) xs) (rw here at r.rooms)
 
 module _ (at : Place) (late : Bool) (xs : List Access) (outs : List Bool) (first : ℕ) (old now next : RoomedChannels) (i n : ℕ) (d : Access)
     (done : Bool)
@@ -122,15 +122,15 @@ module _ (at : Place) (late : Bool) (xs : List Access) (outs : List Bool) (first
     channels = channels_now;
     kinds = ap kinds_in channels ∙ (kinds_behind at now.channels a done ∙ r.kinds);
     within = let w = r.within in elim (cases_Bool (is_blocking a.kind)) [ inl e ↦ rw e (omega arith) | inr e ↦ rw e (omega arith) ];
-    inside = subst (λ (cs : List Channel). All (IsAccess cs) (drop (i + 1) xs)) (sym channels)
+    inside = rw channels
         (All-weaker (IsAccess now.channels) _ (λ y k. one_kept at now.channels a done y (access_here at late xs outs first old now i n d r
         l).channel k) (drop (i + 1) xs)
-        (All-tail (IsAccess now.channels) a (drop (i + 1) xs) (subst (All (IsAccess now.channels)) line r.inside)));
+        (All-tail (IsAccess now.channels) a (drop (i + 1) xs) (rw line at r.inside)));
     apart = apart_here.1;
     rooms = λ j e q t.
         let b = get_or (drop (i + 1) xs) j e in
         let room = All-tail (λ (z : Access). is_taking z.kind ≡ true → 0 < room_of now (side_of z.kind) z.channel) a (drop (i + 1) xs)
-        (subst (HasRoomFor now) line r.rooms) j e q t in
+        (rw line at r.rooms) j e q t in
         let kept = others (side_of b.kind) b.channel
         (λ k. apart_here.0 j e q k.taking (record { taking = t; same_side = sym k.same_side; same_channel = sym k.same_channel })) in
         omega arith;

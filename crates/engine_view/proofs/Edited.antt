@@ -67,14 +67,10 @@ front_is t [] r = record {
 front_is t (x ∷ xs) r =
     let tail = front_is t xs (λ i j d l h. r (suc i) (suc j) d (omega arith) (omega arith)) in
     elim (cases_lt x t) [
-      | inl l ↦ subst (IsFront t (x ∷ xs)) (sym (kept_head l)) (longer l tail)
-      | inr l ↦ subst (IsFront t (x ∷ xs)) (sym (dropped l (λ k u. r 0 (suc k) 0 (omega arith) (omega arith))))
-          (none l (λ k u. r 0 (suc k) 0 (omega arith) (omega arith)))
+      | inl l ↦ let first : nat_lt x t ≡ true = lt-ltb x t l in rw first (longer l tail)
+      | inr l ↦ let later = λ (k : ℕ) (u : k < length xs). r 0 (suc k) 0 (omega arith) (omega arith) in rw (dropped l later) (none l later)
     ]
   where
-    kept_head : x < t → below_t t (x ∷ xs) ≡ x ∷ below_t t xs
-    kept_head l = let e : nat_lt x t ≡ true = lt-ltb x t l in rw e refl
-
     dropped : t ≤ x → ((k : ℕ) → k < length xs → x < get_or xs k 0) → below_t t (x ∷ xs) ≡ []
     dropped l later =
         let e : nat_lt x t ≡ false = le-ltb x t l in

@@ -425,9 +425,8 @@ module _ {S : Type 0} (d : Design S) (i : IsDesign d) (h : Held) (m : ℕ) (t : 
     accesses = accesses_shown;
     ordinals = ordinals_shown;
     first_query = first_query_now;
-    kinds = λ c l. let e = all_length at h.channels t.accesses bs in subst (IsKind d c) (sym (kind_now c)) (s.kinds c (omega arith));
-    lags = λ side c l. let e = all_length at h.channels t.accesses bs in s.lags side c (omega arith)
-        ∙ ap (λ (q : TableChannel). lag_of q side) (sym (kind_now c));
+    kinds = λ c l. let e = all_length at h.channels t.accesses bs in rw (kind_now c) (s.kinds c (omega arith));
+    lags = λ side c l. let e = all_length at h.channels t.accesses bs in rw (kind_now c) (s.lags side c (omega arith));
     taken = taken_shown;
     values = λ c l. let e = all_length at h.channels t.accesses bs in values_now c (s.values c (omega arith));
     recorded = λ n l. whole_now n _ (s.recorded n l);

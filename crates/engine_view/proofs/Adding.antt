@@ -121,7 +121,7 @@ module _ (at : Place) (late : Bool) (xs : List Access) (outs : List Bool) (first
   takes_step = record {
     channels = channels_now;
     kinds = ap kinds_in channels ∙ (kinds_behind at now.channels a done ∙ r.kinds);
-    within = let w = r.within in elim (cases_Bool (is_blocking a.kind)) [ inl e ↦ rw e (omega arith) | inr e ↦ rw e (omega arith) ];
+    within = let w = r.within in grind arith;
     inside = rw channels
         (All-weaker (IsAccess now.channels) _ (λ y k. one_kept at now.channels a done y (access_here at late xs outs first old now i n d r
         l).channel k) (drop (i + 1) xs)
@@ -144,10 +144,9 @@ module _ (at : Place) (late : Bool) (xs : List Access) (outs : List Bool) (first
       tail_free : (side : Side) (c : ℕ) → All (λ (q : Access). TakesAt side c q → ⊥) (drop i xs)
           → (TakesAt side c a → ⊥) × All (λ (q : Access). TakesAt side c q → ⊥) (drop (i + 1) xs)
       tail_free side c f =
-          let f' = subst (All (λ (q : Access). TakesAt side c q → ⊥)) line f in (
-            All-head (λ (q : Access). TakesAt side c q → ⊥) a (drop (i + 1) xs) f',
-            All-tail (λ (q : Access). TakesAt side c q
-                → ⊥) a (drop (i + 1) xs) f',
+          let free : All (λ (q : Access). TakesAt side c q → ⊥) (a ∷ drop (i + 1) xs) = rw line at f in (
+            All-head (λ (q : Access). TakesAt side c q → ⊥) a (drop (i + 1) xs) free,
+            All-tail (λ (q : Access). TakesAt side c q → ⊥) a (drop (i + 1) xs) free,
           )
 
       by_side : (side : Side) (c : ℕ) → (TakesAt side c a → ⊥) ⊎ TakesAt side c a

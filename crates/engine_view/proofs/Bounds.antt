@@ -111,9 +111,9 @@ bound_is lanes channels know (a ∷ xs) all =
     let rest = bound_is lanes channels know xs (All-tail (λ (a : Access). as_known (when_possible lanes channels a) ≡ know (seen a)) a xs
     all) in
     elim (cases_Bool (is_blocking a.kind)) [
-      | inl e ↦ subst (IsBound lanes channels (a ∷ xs)) (sym (bound_blocks know (seen a) (map seen xs) e))
+      | inl e ↦ rw (bound_blocks know (seen a) (map seen xs) e)
           (bound_more lanes channels know a xs (when_possible lanes channels a) e refl (sym here) rest)
-      | inr e ↦ subst (IsBound lanes channels (a ∷ xs)) (sym (bound_free know (seen a) (map seen xs) e))
+      | inr e ↦ rw (bound_free know (seen a) (map seen xs) e)
           (bound_query lanes channels know a xs e (bound know (map seen xs)) rest)
     ]
   where
@@ -121,11 +121,7 @@ bound_is lanes channels know (a ∷ xs) all =
         → is_blocking a.kind ≡ false
         → (b : Known) → IsBound lanes channels xs b → IsBound lanes channels (a ∷ xs) b
     bound_query lanes channels know a xs e b (inl (h1, h2)) =
-        inl (
-          position_none (is_waiting lanes channels) a xs (waiting_query lanes channels a e) h1,
-          rw (clocks_query lanes channels a xs e)
-              h2,
-        )
+        inl (position_none (is_waiting lanes channels) a xs (waiting_query lanes channels a e) h1, rw (clocks_query lanes channels a xs e) h2)
     bound_query lanes channels know a xs e b (inr (h1, h2)) =
         inr (position_some (is_waiting lanes channels) a xs (waiting_query lanes channels a e) h1, h2)
 

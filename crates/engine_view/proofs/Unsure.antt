@@ -47,13 +47,9 @@ answered_on {S} d h m c g u same read = record {
     before : (j p : ℕ) → p < first_of h j → (after_answer d (core_of d h) m c).verified j p ≡ true
     before j p l =
         let x = core_of d h in
-        elim (eqb_tells j m) [
-          | inl s ↦
-              put_at_other x.verified m (first_of h m) true j p (λ a b. let b' = b in let l' = subst (λ (n : ℕ). p < first_of h n) s.1 l in
-              omega arith)
-              ∙ u.kept.earlier j p l
-          | inr s ↦ put_at_other x.verified m (first_of h m) true j p (λ a b. s.1 a) ∙ u.kept.earlier j p l
-        ]
+        let other = put_at_other x.verified m (first_of h m) true j p in
+        let earlier = u.kept.earlier j p l in
+        grind arith
 
 -- and behind them the step is verified
 pub verified_now : {S : Type 0} → (d : Design S) (h : Held) (m c : ℕ) (g : Held) → IsAnswered d h m c g

@@ -48,8 +48,11 @@ places_in : (lanes : List Lane) (a n : ℕ)
     (λ i. map (λ k. (i, k)) (range_with_len 0 (length (lane_at lanes i).cycles))) (range_with_len a n)
 places_in lanes a zero = refl
 places_in lanes a (suc n) =
-    rw (map-append place_of (keys_of lanes a) (flat_map (keys_of lanes) (range_with_len (a + 1) n)), places_in lanes (a + 1) n,
-    map-map place_of (key_of lanes a) (range_with_len 0 (length (lane_at lanes a).cycles))) refl
+    rw (
+      map-append place_of (keys_of lanes a) (flat_map (keys_of lanes) (range_with_len (a + 1) n)),
+      places_in lanes (a + 1) n,
+      map-map place_of (key_of lanes a) (range_with_len 0 (length (lane_at lanes a).cycles)),
+    ) refl
 
 -- ---- the order
 

@@ -67,8 +67,11 @@ one_kept at channels a b y inside k =
     record {
       channel = let e = all_length at channels (a ∷ []) (b ∷ []) in let l = k.channel in omega arith;
       ordinal = k.ordinal;
-      side = rw (all_channel at channels (a ∷ []) (b ∷ []) y.channel inside', kind_after at y.channel (channel_at channels y.channel)
-          (a ∷ []) (b ∷ [])) k.side;
+      side = rw (
+        all_channel at channels (a ∷ []) (b ∷ []) y.channel inside',
+        kind_after at y.channel (channel_at channels y.channel)
+            (a ∷ []) (b ∷ []),
+      ) k.side;
     }
 
 pub same_or : (a b : Side) → (a ≡ b) ⊎ (a ≡ b → ⊥)

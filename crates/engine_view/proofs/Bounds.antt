@@ -1,5 +1,5 @@
 -- The determined cycle of a step, access by access, is the theory's.
-use Rattle.std.proofs.Common.{◌≡◌, refl, sym, ap₂, subst, drop, ◌∙◌, ℕ, zero, suc, ◌+◌, ◌-◌, ◌<◌, ◌≤◌, ◌⊎◌, max, Bool, true, false}
+use Rattle.std.proofs.Common.{◌≡◌, refl, sym, ap₂, drop, ◌∙◌, ℕ, zero, suc, ◌+◌, ◌-◌, ◌<◌, ◌≤◌, ◌⊎◌, max, Bool, true, false}
 use Rattle.std.proofs.Common.{List, [], ◌∷◌, length, map, get_or, Option, None, Some, is_some, is_none, arith, inl, inr, unwrap_or}
 use Rattle.std.proofs.Common.{position}
 use Rattle.std.proofs.lemmas.Bool.Decides.{nat_tests}

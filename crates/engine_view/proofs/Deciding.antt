@@ -35,16 +35,20 @@ pub flags_found : (lanes : List Lane) (channels : List Channel) (know : theory.A
     → flags_at know c (map seen xs) ≡ found_flags lanes channels c xs
 flags_found lanes channels know c [] all = refl
 flags_found lanes channels know c (a ∷ xs) all =
-    rw (← (All-head (λ (a : Access). as_known (when_possible lanes channels a) ≡ know (seen a)) a xs all),
-    flags_found lanes channels know c xs (All-tail (λ (a : Access). as_known (when_possible lanes channels a) ≡ know (seen a)) a xs all)) refl
+    rw (
+      ← (All-head (λ (a : Access). as_known (when_possible lanes channels a) ≡ know (seen a)) a xs all),
+      flags_found lanes channels know c xs (All-tail (λ (a : Access). as_known (when_possible lanes channels a) ≡ know (seen a)) a xs all),
+    ) refl
 
 decided_found : (lanes : List Lane) (channels : List Channel) (know : theory.Access → Known) (xs : List Access)
     → All (λ (a : Access). as_known (when_possible lanes channels a) ≡ know (seen a)) xs
     → all_decided know (map seen xs) ≡ are_decided lanes channels xs
 decided_found lanes channels know [] all = refl
 decided_found lanes channels know (a ∷ xs) all =
-    rw (← (All-head (λ (a : Access). as_known (when_possible lanes channels a) ≡ know (seen a)) a xs all),
-    decided_found lanes channels know xs (All-tail (λ (a : Access). as_known (when_possible lanes channels a) ≡ know (seen a)) a xs all)) refl
+    rw (
+      ← (All-head (λ (a : Access). as_known (when_possible lanes channels a) ≡ know (seen a)) a xs all),
+      decided_found lanes channels know xs (All-tail (λ (a : Access). as_known (when_possible lanes channels a) ≡ know (seen a)) a xs all),
+    ) refl
 
 -- what is found for a module's first step without a cycle, and whether all is decided
 pub flags_are : {S : Type 0} → (d : Design S) → IsDesign d → (h : Held) → IsSound d h → (m c : ℕ)

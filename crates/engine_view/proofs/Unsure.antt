@@ -1,7 +1,6 @@
 -- A module's first step without a cycle whose queries are not all verified.
-use Rattle.std.proofs.Common.{◌≡◌, ap, ap₂, subst, ◌∙◌, ℕ, ◌<◌, ltb, Bool, true, false, ◌&&◌, length, arith, inl, inr}
+use Rattle.std.proofs.Common.{◌≡◌, ap, ap₂, ◌∙◌, ℕ, ◌<◌, ltb, Bool, true, false, ◌&&◌, length, arith}
 use Rattle.std.proofs.lemmas.Bool.{lt-ltb, and_parts}
-use Rattle.std.proofs.lemmas.Bool.Decides.{eqb_tells}
 use Rattle.query_log.specs.Logs.{log_at}
 use Rattle.event_timing.specs.Machines.{Design, IsDesign}
 use Rattle.event_timing.specs.Core.{Core}

@@ -130,8 +130,11 @@ left_more whole left more taken c k os vs = record {
   values = λ n.
       elim (eqb_tells n c) [
         | inl e ↦ rw e.1 here
-        | inr e ↦ rw (vs, get_or-set_other left.values c n (drop 1 (values_on left c)) [] e.1,
-            get_or-set_other taken c n (suc (get_or taken c 0)) 0 e.1) (k.values n)
+        | inr e ↦ rw (
+          vs,
+          get_or-set_other left.values c n (drop 1 (values_on left c)) [] e.1,
+          get_or-set_other taken c n (suc (get_or taken c 0)) 0 e.1,
+        ) (k.values n)
       ];
 }
   where
@@ -140,12 +143,19 @@ left_more whole left more taken c k os vs = record {
         let room = k.room in
         let count = k.count in
         elim (cases_lt c (length left.values)) [
-          | inl l ↦ rw (vs, get_or-set_same left.values c (drop 1 (values_on left c)) [] l, k.values c,
-              get_or-set_same taken c (suc (get_or taken c 0)) 0 (omega arith)) (drop_more (values_on whole c) (get_or taken c 0))
+          | inl l ↦ rw (
+            vs,
+            get_or-set_same left.values c (drop 1 (values_on left c)) [] l,
+            k.values c,
+            get_or-set_same taken c (suc (get_or taken c 0)) 0 (omega arith),
+          ) (drop_more (values_on whole c) (get_or taken c 0))
           | inr l ↦
               let longer = length-set left.values c (drop 1 (values_on left c)) in
-              rw (vs, get_or_past (set left.values c (drop 1 (values_on left c))) c [] (omega arith),
-              get_or_past whole.values c [] (omega arith)) (sym (drop_none (get_or (one_more taken c) c 0)))
+              rw (
+                vs,
+                get_or_past (set left.values c (drop 1 (values_on left c))) c [] (omega arith),
+                get_or_past whole.values c [] (omega arith),
+              ) (sym (drop_none (get_or (one_more taken c) c 0)))
         ]
 
 -- a loop has taken the values of the first replies

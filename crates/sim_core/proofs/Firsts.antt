@@ -1,9 +1,9 @@
 -- The first item of a list that passes a test, and the first cause of several.
-use Rattle.std.proofs.Common.{◌≡◌, refl, sym, ap, ◌∙◌, ℕ, zero, suc, ◌+◌, ◌<◌, inl, inr, Bool, true, false, cond, ltb}
+use Rattle.std.proofs.Common.{◌≡◌, refl, sym, ap, ◌∙◌, ℕ, zero, suc, ◌+◌, ◌<◌, Bool, true, false, cond}
 use Rattle.std.proofs.Common.{List, [], ◌∷◌, ◌++◌, length, map, get_or, Option, None, Some, arith}
 use Rattle.std.specs.Prelude.{All, position, option_map}
-use Rattle.std.specs.List.{position_or_len, range_with_len}
-use Rattle.std.proofs.lemmas.Bool.{cases_Bool, cases_lt, lt-ltb, le-ltb}
+use Rattle.std.specs.List.{range_with_len}
+use Rattle.std.proofs.lemmas.Bool.Decides.{nat_tests}
 use Rattle.std.proofs.lemmas.List.Elements.{All-head, All-tail}
 use Rattle.std.proofs.lemmas.List.FromFn.{length-range_with_len, get_or-range_with_len}
 use Rattle.time_engine.proofs.First.{position_found, position_none}
@@ -13,47 +13,25 @@ use Rattle.sim_core.specs.Causes.{first_some}
 
 pub position_more : {X : Type 0} (p : X → Bool) (x : X) (xs : List X)
     → position p (x ∷ xs) ≡ cond (p x) (Some 0) (option_map (λ (n : ℕ). 1 + n) (position p xs))
-position_more {X} p x xs =
-    elim (cases_Bool (p x)) [
-      | inl e ↦ rw (e, lt-ltb 0 (suc (length xs)) (omega arith)) refl
-      | inr e ↦ rw e (next (position_or_len p xs) (length xs))
-    ]
-  where
-    next : (n l : ℕ) → cond (ltb (1 + n) (suc l)) (Some (1 + n)) None ≡ option_map (λ (k : ℕ). 1 + k) (cond (ltb n l) (Some n) None)
-    next n l =
-        elim (cases_lt n l) [
-          | inl less ↦ rw (lt-ltb n l less, lt-ltb (1 + n) (suc l) (omega arith)) refl
-          | inr more ↦ rw (le-ltb n l more, le-ltb (1 + n) (suc l) (omega arith)) refl
-        ]
+position_more p x xs = grind (arith, nat_tests)
 
 pub position_seen : {X Y : Type 0} (p : Y → Bool) (q : X → Bool) (f : X → Y) (xs : List X) → All (λ (x : X). p (f x) ≡ q x) xs
     → position p (map f xs) ≡ position q xs
 position_seen {X} {Y} p q f [] all = refl
 position_seen {X} {Y} p q f (x ∷ xs) all =
-    position_more p (f x) (map f xs)
-    ∙ (rw (All-head (λ (y : X). p (f y) ≡ q y) x xs all, position_seen p q f xs (All-tail (λ (y : X). p (f y) ≡ q y) x xs all)) refl
-    ∙ sym (position_more q x xs))
+    let head = All-head (λ (y : X). p (f y) ≡ q y) x xs all in
+    let rest = position_seen p q f xs (All-tail (λ (y : X). p (f y) ≡ q y) x xs all) in
+    grind (arith, position_more p (f x) (map f xs), position_more q x xs)
 
 pub nothing_passes : {X : Type 0} (p : X → Bool) (xs : List X) → All (λ (x : X). p x ≡ false) xs → position p xs ≡ None
 nothing_passes {X} p xs all = position_none p xs (length xs) refl (λ k e l. all k e l)
 
 -- none passes the head, and none the rest
 pub head_fails : {X : Type 0} (p : X → Bool) (x : X) (xs : List X) → position p (x ∷ xs) ≡ None → p x ≡ false
-head_fails {X} p x xs e =
-    elim (cases_Bool (p x)) [
-      | inl q ↦ let z = sym (position_more p x xs) ∙ e in let y = rw q at z in cc
-      | inr q ↦ q
-    ]
+head_fails p x xs e = grind (arith, position_more p x xs)
 
 pub tail_fails : {X : Type 0} (p : X → Bool) (x : X) (xs : List X) → position p (x ∷ xs) ≡ None → position p xs ≡ None
-tail_fails {X} p x xs e =
-    let z = sym (position_more p x xs) ∙ e in
-    let y = rw (head_fails p x xs e) at z in
-    none_of (position p xs) y
-  where
-    none_of : (o : Option ℕ) → option_map (λ (k : ℕ). 1 + k) o ≡ None → o ≡ None
-    none_of None e = refl
-    none_of (Some n) e = cc
+tail_fails p x xs e = grind (arith, position_more p x xs)
 
 -- ---- the first module that passes
 

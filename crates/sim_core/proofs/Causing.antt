@@ -125,7 +125,8 @@ module _ {S : Type 0} (d : Design S) (limit : ℕ) (x : Core S) (m : ℕ) where
   assign_permitted plain e =
       let (c, n) = cycle_known (grind arith) in
       let emitted = first_emitted d x m c n.at in
-      (c, record { determined = n; verified = none_unverified (x.verified m (x.timed m)) xs (grind arith) (plain.verified m (x.timed m) emitted) })
+      let plainly = plain.verified m (x.timed m) emitted in
+      (c, record { determined = n; verified = none_unverified (x.verified m (x.timed m)) xs (grind arith) plainly })
 
   pub assign_no_cause : (c : ℕ) → MayAssign d limit x m c → cause_of d limit x (Assign m) ≡ None
   assign_no_cause c may =
@@ -186,7 +187,7 @@ module _ {S : Type 0} (d : Design S) (limit : ℕ) (x : Core S) (m : ℕ) where
       subst (λ (i : ℕ). (has_query (core_accesses d x m i) ≡ true → x.answered m i ≡ true) × (values_there d x m i ≡ true)) same
       (none_lacks (λ ch. length (core_values d x ch)) (λ ch. core_tally d x m Pop ch j) (x.answered m j) (core_accesses d x m j) (x.flags
       m j)
-      (fit j refl) (firsts.no_item _ _ e))
+      (fit j refl) (grind arith))
 
   none_waits : (n : ℕ) → ((k : ℕ) → suc k ≡ n → x.answered m k ≡ true) → ((k : ℕ) → suc k ≡ n → values_there d x m k ≡ true)
       → waiting d x m n ≡ None
@@ -225,9 +226,11 @@ module _ {S : Type 0} (d : Design S) (limit : ℕ) (x : Core S) (inside : IsInsi
       record {
         no_run = λ n may. let busy = none n may.inside in let runs = (run_decided d x n).1 may in grind arith;
         no_assign = λ n c may.
-            let busy = none n (determined_inside n c may.determined.at) in let assigns = (assign_decided d limit x n).1 (c, may) in grind arith;
+            let busy = none n (determined_inside n c may.determined.at) in
+            let assigns = (assign_decided d limit x n).1 (c, may) in grind arith;
         no_answer = λ n c may.
-            let busy = none n (determined_inside n c may.determined.at) in let answers = (answer_decided d limit x n).1 (c, may) in grind arith;
+            let busy = none n (determined_inside n c may.determined.at) in
+            let answers = (answer_decided d limit x n).1 (c, may) in grind arith;
       }
 
   pub quiet_none : IsQuiet d limit x → first_module d (is_busy d limit x) ≡ None

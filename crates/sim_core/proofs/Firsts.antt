@@ -1,13 +1,12 @@
--- The first item of a list that passes a test, and the first cause of several.
+-- The first item of a list that passes a test.
 use Rattle.std.proofs.Common.{◌≡◌, refl, sym, ap, ◌∙◌, ℕ, zero, suc, ◌+◌, ◌<◌, Bool, true, false, cond}
-use Rattle.std.proofs.Common.{List, [], ◌∷◌, ◌++◌, length, map, get_or, Option, None, Some, arith}
+use Rattle.std.proofs.Common.{List, [], ◌∷◌, length, map, get_or, None, Some, arith}
 use Rattle.std.specs.Prelude.{All, position, option_map}
 use Rattle.std.specs.List.{range_with_len}
 use Rattle.std.proofs.lemmas.Bool.Decides.{nat_tests}
 use Rattle.std.proofs.lemmas.List.Elements.{All-head, All-tail}
 use Rattle.std.proofs.lemmas.List.FromFn.{length-range_with_len, get_or-range_with_len}
 use Rattle.time_engine.proofs.First.{position_found, position_none}
-use Rattle.sim_core.specs.Causes.{first_some}
 
 -- ---- the first that passes
 
@@ -60,47 +59,3 @@ no_module_passes test n e k l =
     each [] e k l = absurd (omega arith)
     each (x ∷ xs) e zero l = head_fails test x xs e
     each (x ∷ xs) e (suc k) l = each xs (tail_fails test x xs e) k (omega arith)
-
--- ---- the first cause
-
-pub first_kept : {A : Type 0} (xs ys : List (Option A)) (a : A) → first_some xs ≡ Some a → first_some (xs ++ ys) ≡ Some a
-first_kept {A} [] ys a e = cc
-first_kept {A} (None ∷ xs) ys a e = first_kept xs ys a e
-first_kept {A} (Some b ∷ xs) ys a e = e
-
-pub first_beyond : {A : Type 0} (xs ys : List (Option A)) → first_some xs ≡ None → first_some (xs ++ ys) ≡ first_some ys
-first_beyond {A} [] ys e = refl
-first_beyond {A} (None ∷ xs) ys e = first_beyond xs ys e
-first_beyond {A} (Some b ∷ xs) ys e = cc
-
-pub none_before : {A : Type 0} (xs ys : List (Option A)) → first_some (xs ++ ys) ≡ None → first_some xs ≡ None
-none_before {A} [] ys e = refl
-none_before {A} (None ∷ xs) ys e = none_before xs ys e
-none_before {A} (Some b ∷ xs) ys e = cc
-
-pub none_here : {A : Type 0} (o : Option A) (rest : List (Option A)) → first_some (o ∷ rest) ≡ None → o ≡ None
-none_here {A} None rest e = refl
-none_here {A} (Some a) rest e = cc
-
-pub none_behind : {A : Type 0} (o : Option A) (rest : List (Option A)) → first_some (o ∷ rest) ≡ None → first_some rest ≡ None
-none_behind {A} None rest e = e
-none_behind {A} (Some a) rest e = cc
-
-pub here_first : {A : Type 0} (o : Option A) (a : A) (rest : List (Option A)) → o ≡ Some a → first_some (o ∷ rest) ≡ Some a
-here_first {A} None a rest e = cc
-here_first {A} (Some b) a rest e = e
-
-pub behind_first : {A : Type 0} (o : Option A) (rest : List (Option A)) → o ≡ None → first_some (o ∷ rest) ≡ first_some rest
-behind_first {A} None rest e = refl
-behind_first {A} (Some b) rest e = cc
-
-pub none_item : {A B : Type 0} (f : A → B) (o : Option A) → o ≡ None → option_map f o ≡ None
-none_item {A} {B} f None e = refl
-none_item {A} {B} f (Some a) e = cc
-
-pub some_item : {A B : Type 0} (f : A → B) (o : Option A) (a : A) → o ≡ Some a → option_map f o ≡ Some (f a)
-some_item {A} {B} f o a e = ap (option_map f) e
-
-pub no_item : {A B : Type 0} (f : A → B) (o : Option A) → option_map f o ≡ None → o ≡ None
-no_item {A} {B} f None e = refl
-no_item {A} {B} f (Some a) e = cc

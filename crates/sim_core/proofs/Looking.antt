@@ -5,28 +5,26 @@ use Rattle.std.proofs.Common.{◌&&◌, ◌||◌, List, [], ◌∷◌, length, m
 use Rattle.std.proofs.Common.{length-drop}
 use Rattle.std.specs.Prelude.{All, position, option_map, slice_get}
 use Rattle.std.specs.List.{zip}
-use Rattle.std.proofs.lemmas.Bool.{cases_Bool, cases_lt, both_ways, and_from, and_parts, lt-ltb, le-ltb}
+use Rattle.std.proofs.lemmas.Bool.{cases_lt, both_ways, and_from, and_parts, lt-ltb}
 use Rattle.std.proofs.lemmas.Option.{slice_get-get_or, slice_get_past}
-use Rattle.std.proofs.lemmas.Bool.Decides.{eqb_tells}
+use Rattle.std.proofs.lemmas.Bool.Decides.{eqb_tells, nat_tests}
 use Rattle.std.proofs.lemmas.List.Elements.{All-head, All-tail}
 use Rattle.flow_word.specs.Kinds.{side_of, is_blocking, is_taking, same_side}
 use Rattle.flow_word.specs.declared.access.Access.{Access}
 use Rattle.flow_word.specs.declared.access.Kind.{Kind}
-use Rattle.flow_word.specs.declared.access.Kind.TheVariants.{Read, Write, TryRead, TryWrite, Empty, Full}
+use Rattle.flow_word.specs.declared.access.Kind.TheVariants.{Read, Write}
 use Rattle.flow_word.specs.declared.access.Side.{Side}
 use Rattle.flow_word.specs.declared.access.Side.TheVariants.{Pop}
 use Rattle.flow_word.specs.declared.access.Step.{Step}
 use Rattle.event_graph.specs.Lanes.{no_lane}
 use Rattle.fifo_table.specs.Channels.{Channel}
 use Rattle.query_log.specs.Logs.{log_at}
-use Rattle.time_engine.specs.declared.known.Known as of_code
-use Rattle.time_engine.specs.declared.known.Known.TheVariants as code
 use Rattle.time_engine.specs.Possible.{when_possible}
-use Rattle.time_engine.specs.Cycles.{is_waiting, known_clock}
+use Rattle.time_engine.specs.Cycles.{is_waiting}
 use Rattle.event_timing.specs.Machines as theory
 use Rattle.event_timing.specs.Machines.{Design, IsDesign}
 use Rattle.event_timing.specs.Views.{first_accesses}
-use Rattle.event_timing.specs.Enablers.{Known, known_of, is_decided}
+use Rattle.event_timing.specs.Enablers.{Known, known_of}
 use Rattle.event_timing.specs.Core.{Core, core_accesses, core_tally, core_values, has_query, view}
 use Rattle.engine_view.specs.Held.{Held, no_step, step_of, emitted_of, seen, queries_in, flags_by, flag_now, are_among, core_of}
 use Rattle.engine_view.specs.Known.{as_known}
@@ -38,7 +36,7 @@ use Rattle.engine_view.proofs.Answered.{queries_step, among_is, among_if}
 use Rattle.run_ahead.specs.Replies.{reply_now}
 use Rattle.sim_core.specs.Found.{value_now}
 use Rattle.sim_core.specs.Missing.{asks, is_open_query, first_missing}
-use Rattle.sim_core.specs.Causes.{first_lacking, has_clock, is_held, is_undecided, is_unverified, lacks_reply}
+use Rattle.sim_core.specs.Causes.{first_lacking, is_held, is_undecided, is_unverified, lacks_reply}
 use Rattle.sim_core.proofs.Causing.{ArePlain, lacks}
 use Rattle.sim_core.proofs.Finding.{flags_first}
 use Rattle.sim_core.proofs.Firsts as firsts
@@ -61,21 +59,15 @@ module _ {S : Type 0} (d : Design S) (i : IsDesign d) (h : Held) (s : IsSound d 
 
   pub held_is : position (is_held know) (first_accesses (view d x) m) ≡ position (is_waiting h.lanes h.channels) taken
   held_is =
-      ap (λ (ys : List theory.Access). position (is_held know) ys) (s.accesses m (first_of h m) less)
-      ∙ firsts.position_seen (is_held know) (is_waiting h.lanes h.channels) seen taken
-      (λ k e l. ap (λ (q : Known). is_blocking (get_or taken k e).kind && not (has_clock q)) (sym (known k e l))
-      ∙ ap (λ (b : Bool). is_blocking (get_or taken k e).kind && b) (clock (when_possible h.lanes h.channels (get_or taken k e))))
-    where
-      clock : (q : of_code.Known) → not (has_clock (as_known q)) ≡ is_none (known_clock q)
-      clock (code.From u) = refl
-      clock code.Never = refl
-      clock code.Unknown = refl
+      let accesses = s.accesses m (first_of h m) less in
+      rw accesses (firsts.position_seen (is_held know) (is_waiting h.lanes h.channels) seen taken
+      (λ k e l. let same = known k e l in grind arith))
 
   pub undecided_is : position (is_undecided know) (first_accesses (view d x) m) ≡ position (is_open_query h.lanes h.channels) taken
   undecided_is =
-      ap (λ (ys : List theory.Access). position (is_undecided know) ys) (s.accesses m (first_of h m) less)
-      ∙ firsts.position_seen (is_undecided know) (is_open_query h.lanes h.channels) seen taken
-      (λ k e l. ap (λ (q : Known). asks (get_or taken k e) && not (is_decided q)) (sym (known k e l)))
+      let accesses = s.accesses m (first_of h m) less in
+      rw accesses (firsts.position_seen (is_undecided know) (is_open_query h.lanes h.channels) seen taken
+      (λ k e l. let same = known k e l in grind arith))
 
 -- ---- outcomes of whole steps
 
@@ -92,28 +84,12 @@ whole_step h m k n l first w less =
 
 no_queries : (xs : List Access) → queries_in xs ≡ 0 → All (λ (a : Access). asks a ≡ false) xs
 no_queries [] e k f l = absurd (omega arith)
-no_queries (a ∷ xs) e zero f l =
-    elim (cases_Bool (is_blocking a.kind)) [
-      | inl b ↦ ap not b
-      | inr b ↦
-          let n : 0 ≡ 1 + queries_in xs = sym e ∙ (queries_first a xs ∙ ap (λ (c : Bool). cond {A = ℕ} c 0 1 + queries_in xs) b) in
-          absurd (omega arith)
-    ]
-no_queries (a ∷ xs) e (suc k) f l =
-    let n = sym (queries_first a xs) ∙ e in
-    no_queries xs (omega arith) k f (omega arith)
+no_queries (a ∷ xs) e zero f l = let more = queries_first a xs in grind arith
+no_queries (a ∷ xs) e (suc k) f l = let more = queries_first a xs in no_queries xs (grind arith) k f (omega arith)
 
 plain_step : (xs : List Access) → has_query (map seen xs) ≡ false → queries_in xs ≡ 0
 plain_step [] e = refl
-plain_step (a ∷ xs) e =
-    let (b, rest) = neither (is_blocking a.kind) (has_query (map seen xs)) e in
-    let n : queries_in (a ∷ xs) ≡ 0 + queries_in xs = queries_first a xs ∙ ap (λ (c : Bool). cond {A = ℕ} c 0 1 + queries_in xs) b in
-    let z = plain_step xs rest in
-    omega arith
-  where
-    neither : (b q : Bool) → (not b || q) ≡ false → (b ≡ true) × (q ≡ false)
-    neither true q e = (refl, e)
-    neither false q e = cc
+plain_step (a ∷ xs) e = let more = queries_first a xs in let later = plain_step xs in grind arith
 
 module _ {S : Type 0} (d : Design S) (h : Held) (s : IsSound d h) where
   -- a step without a query has all its outcomes
@@ -146,11 +122,7 @@ module _ {S : Type 0} (d : Design S) (h : Held) (s : IsSound d h) where
         (and_from (ltb k (emitted_of h m)) (are_among mine (log_at h.logs m).verified) (lt-ltb k (emitted_of h m) l)
         (among_if mine (log_at h.logs m).verified all)) in
         firsts.nothing_passes (is_unverified (core_of d h) m) (first_accesses (view d (core_of d h)) m)
-        (λ j e q. ap (λ (b : Bool). not (get_or (first_accesses (view d (core_of d h)) m) j e).blocks && not b) v ∙ blank (_))
-      where
-        blank : (b : Bool) → (b && false) ≡ false
-        blank true = refl
-        blank false = refl
+        (λ j e q. grind arith)
 
     pub unverified_is : first_of h m ≡ k → (log_at h.logs m).verified ≤ mine.first_query
         → position (is_unverified (core_of d h) m) (first_accesses (view d (core_of d h)) m) ≡ position asks mine.accesses
@@ -173,13 +145,7 @@ module _ {S : Type 0} (d : Design S) (h : Held) (s : IsSound d h) where
             ]
 
         same : (a : Access) → (v ≡ true → asks a ≡ false) → (asks a && not v) ≡ asks a
-        same a f = by_cases v (asks a) f
-          where
-            by_cases : (v b : Bool) → (v ≡ true → b ≡ false) → (b && not v) ≡ b
-            by_cases true true f = let z = f refl in cc
-            by_cases true false f = refl
-            by_cases false true f = refl
-            by_cases false false f = refl
+        same a f = grind arith
 
 -- ---- the replies to the newest step
 
@@ -187,27 +153,10 @@ lacks_is : (k : Kind) (o : Option Bool) (v : Option ℕ) (w u : Bool) → (is_bl
     → (side_of k ≡ Pop → is_none v ≡ not u)
     → is_none (reply_now k o v) ≡ ((not (is_blocking k) && not w) || ((is_taking k && (same_side (side_of k) Pop && flag_now k o)) && not
     u))
-lacks_is Read o None w u f g = g refl
-lacks_is Read o (Some v) w u f g = g refl
-lacks_is Write o v w u f g = refl
-lacks_is TryRead None v true u f g = let z = f refl in cc
-lacks_is TryRead None v false u f g = refl
-lacks_is TryRead (Some b) v false u f g = let z = f refl in cc
-lacks_is TryRead (Some true) None true u f g = g refl
-lacks_is TryRead (Some true) (Some v) true u f g = g refl
-lacks_is TryRead (Some false) v true u f g = refl
-lacks_is TryWrite None v true u f g = let z = f refl in cc
-lacks_is TryWrite None v false u f g = refl
-lacks_is TryWrite (Some b) v true u f g = refl
-lacks_is TryWrite (Some b) v false u f g = let z = f refl in cc
-lacks_is Empty None v true u f g = let z = f refl in cc
-lacks_is Empty None v false u f g = refl
-lacks_is Empty (Some b) v true u f g = refl
-lacks_is Empty (Some b) v false u f g = let z = f refl in cc
-lacks_is Full None v true u f g = let z = f refl in cc
-lacks_is Full None v false u f g = refl
-lacks_is Full (Some b) v true u f g = refl
-lacks_is Full (Some b) v false u f g = let z = f refl in cc
+lacks_is Read o v w u f g = grind arith
+lacks_is Write o v w u f g = grind arith
+lacks_is k None v w u f g = grind arith
+lacks_is k (Some b) v w u f g = grind arith
 
 -- of a pop: its value is there where so many were popped before and so many were pushed
 abbrev HasValue : List Channel → (ℕ → ℕ) → (ℕ → ℕ) → Access → Type 0
@@ -249,11 +198,7 @@ missing_is channels s t w (a ∷ xs) os all f g =
     shorter (o ∷ os) false e = absurd (omega arith)
 
 value_there : (xs : List ℕ) (n : ℕ) → is_none (slice_get xs n) ≡ not (ltb n (length xs))
-value_there xs n =
-    elim (cases_lt n (length xs)) [
-      | inl l ↦ rw (slice_get-get_or xs n 0 l, lt-ltb n (length xs) l) refl
-      | inr l ↦ rw (slice_get_past xs n l, le-ltb n (length xs) l) refl
-    ]
+value_there xs n = grind (arith, nat_tests, slice_get-get_or xs n 0, slice_get_past xs n)
 
 module _ {S : Type 0} (d : Design S) (h : Held) (s : IsSound d h) (m k : ℕ) (l : k < emitted_of h m) (inside : m < length h.logs)
     (module_inside : m < length h.lanes) where

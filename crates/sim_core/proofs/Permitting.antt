@@ -1,8 +1,9 @@
 -- What the calls that ask for a cause find, of a core of a plan.
-use Rattle.std.proofs.Common.{◌≡◌, refl, sym, ap, subst, ◌∙◌, ℕ, suc, ◌+◌, ◌-◌, ◌^◌, ◌<◌, ◌≤◌, inl, inr, Bool, true, false, not, List, []}
+use Rattle.std.proofs.Common.{◌≡◌, refl, sym, ap, subst, ◌∙◌, ℕ, suc, ◌+◌, ◌-◌, ◌^◌, ◌<◌, ◌≤◌, inl, inr, Bool, true, false, List}
 use Rattle.std.proofs.Common.{length, drop, Option, None, Some, is_none, arith}
 use Rattle.std.specs.Prelude.{◌||◌, position, option_map, option_and_then, slice_get, IsSomeAnd, Result, Ok, Err, OnOk, IfErr, is_ok}
-use Rattle.std.proofs.lemmas.Bool.{cases_lt, le-ltb, le-leb}
+use Rattle.std.proofs.lemmas.Bool.Decides.{nat_tests}
+use Rattle.std.proofs.lemmas.Bool.{cases_lt}
 use Rattle.std.proofs.lemmas.Option.{slice_get-get_or, slice_get_past, slice_get_within, get_or_from_slice_get}
 use Rattle.flow_word.specs.declared.access.Step.{Step}
 use Rattle.flow_design.specs.declared.plan.Plan.{Plan}
@@ -33,13 +34,12 @@ use Rattle.sim_core.specs.declared.actions.Action.{Action}
 use Rattle.sim_core.specs.declared.actions.Action.TheVariants.{Run, Assign, Answer, Earliest}
 use Rattle.sim_core.specs.declared.actions.Cause.{Cause}
 use Rattle.sim_core.specs.declared.actions.Cause.TheVariants as cause
-use Rattle.sim_core.specs.Causes.{IsPermitted, at_limit, cause_if, cause_of, cycle_causes, first_place, first_some, is_late}
-use Rattle.sim_core.specs.Causes.{is_undecided, is_unverified, module_of, no_step, undetermined, waiting}
+use Rattle.sim_core.specs.Causes.{IsPermitted, cause_of, cycle_causes, first_place, first_some}
+use Rattle.sim_core.specs.Causes.{is_undecided, is_unverified, module_of, waiting}
 use Rattle.sim_core.specs.Missing.{asks, first_missing, is_open_query}
 use Rattle.sim_core.specs.Runs.{IsCore, over_of}
 use Rattle.sim_core.specs.Views.{CoreView, theory_of}
 use Rattle.sim_core.proofs.Causing as causing
-use Rattle.sim_core.proofs.Firsts as firsts
 use Rattle.sim_core.proofs.Looking as looking
 
 module _ (p : Plan) (s : Stored) (ends : List (Option Advance)) (runs : List (Option ModuleRun)) (credits : List ℕ)
@@ -80,18 +80,10 @@ module _ (p : Plan) (s : Stored) (ends : List (Option Advance)) (runs : List (Op
 
     pub next_nothing : open_step (lane_at h.lanes m) ≡ None → first_some (cycle_causes d p.cycles x m) ≡ Some (cause.NoStep m)
     next_nothing e =
-        firsts.here_first (no_step x m) (cause.NoStep m) _ (cause_of_true _ (ap not (le-ltb (first_of h m) (emitted_of h m) past)))
-      where
-        cause_of_true : (b : Bool) → b ≡ true → cause_if b (cause.NoStep m) ≡ Some (cause.NoStep m)
-        cause_of_true true e = refl
-        cause_of_true false e = cc
-
-        past : emitted_of h m ≤ first_of h m
-        past =
-            elim (cases_lt (first_of h m) (emitted_of h m)) [
-              | inl l ↦ let some = slice_get-get_or (lane_at h.lanes m).steps (first_of h m) empty_step l in let z = sym some ∙ e in cc
-              | inr l ↦ l
-            ]
+        elim (cases_lt (first_of h m) (emitted_of h m)) [
+          | inl l ↦ let some = slice_get-get_or (lane_at h.lanes m).steps (first_of h m) empty_step l in let z = sym some ∙ e in cc
+          | inr l ↦ grind (arith, nat_tests)
+        ]
 
     waits_there : (i : ℕ) → first_waiting h.lanes h.channels m ≡ Some i
         → (first_of h m < emitted_of h m)
@@ -110,9 +102,8 @@ module _ (p : Plan) (s : Stored) (ends : List (Option Advance)) (runs : List (Op
         → first_some (cycle_causes d p.cycles x m) ≡ Some (cause.Undetermined (first_place x m) i)
     next_waits i e =
         let (l, at) = waits_there i e in
-        firsts.behind_first (no_step x m) _ (causing.step_there d p.cycles x m l)
-        ∙ firsts.here_first (undetermined d x m) (cause.Undetermined (first_place x m) i) _
-        (firsts.some_item (cause.Undetermined (first_place x m)) _ i (looking.held_is d is_design h k.sound m l ∙ at))
+        let step = causing.step_there d p.cycles x m l in
+        let held = looking.held_is d is_design h k.sound m l in grind arith
 
     found_at : (c : ℕ) → determined h.lanes h.channels m ≡ Some c → candidate d (view d x) m ≡ Some c
     found_at c e = sym (candidate_is d is_design h k.sound m) ∙ e
@@ -122,15 +113,8 @@ module _ (p : Plan) (s : Stored) (ends : List (Option Advance)) (runs : List (Op
     next_beyond None e f = absurd f
     next_beyond (Some c) e l =
         let at = found_at c (sym e) in
-        firsts.behind_first (no_step x m) _ (causing.step_there d p.cycles x m (first_emitted d x m c at))
-        ∙ (firsts.behind_first (undetermined d x m) _
-        (firsts.none_item (cause.Undetermined (first_place x m)) _ (causing.held_none d p.cycles x m c at))
-        ∙ firsts.here_first (at_limit d p.cycles x m) (cause.AtLimit (first_place x m)) []
-        (late _ (ap (is_late p.cycles) at ∙ le-leb p.cycles c l)))
-      where
-        late : (b : Bool) → b ≡ true → cause_if b (cause.AtLimit (first_place x m)) ≡ Some (cause.AtLimit (first_place x m))
-        late true e = refl
-        late false e = cc
+        let step = causing.step_there d p.cycles x m (first_emitted d x m c at) in
+        let held = causing.held_none d p.cycles x m c at in grind (arith, nat_tests)
 
     pub next_at : (c : ℕ) → determined h.lanes h.channels m ≡ Some c → c < p.cycles → IsDetermined d p.cycles x m c
     next_at c e l = record { at = found_at c e; below = l }
@@ -230,8 +214,7 @@ module _ (v : CoreView) (f : Decides v) where
       → OnOk r (cause_of (design v.plan) v.plan.cycles (theory_of v) a ≡ None)
       → IfErr r (λ c. cause_of (design v.plan) v.plan.cycles (theory_of v) a ≡ Some c) → is_ok r ≡ t
   says {A} a l t there back (Ok u) n e = sym (there (f.0 a l n))
-  says {A} a l true there back (Err c) n e = absurd (f.1 a c e (back refl))
-  says {A} a l false there back (Err c) n e = refl
+  says {A} a l t there back (Err c) n e = let refused = f.1 a c e in grind arith
 
   module _ {A : Type 0} (m : ℕ) (l : m < length v.plan.design.modules) (r : Result A Cause) where
     pub run_says : OnOk r (cause_of (design v.plan) v.plan.cycles (theory_of v) (Run m) ≡ None)
@@ -256,15 +239,10 @@ module _ (v : CoreView) (f : Decides v) where
         says (Answer m) l (may_answer (design v.plan) v.plan.cycles (theory_of v) m) t.1 t.0 r n e
 
 pub first_true : (a b c : Bool) → a ≡ true → true ≡ (a || (b || c))
-first_true true b c e = refl
-first_true false b c e = cc
+first_true a b c e = cc
 
 pub second_true : (a b c : Bool) → a ≡ false → b ≡ true → true ≡ (a || (b || c))
-second_true true b c e f = refl
-second_true false true c e f = refl
-second_true false false c e f = cc
+second_true a b c e f = grind arith
 
 pub third_is : (a b c : Bool) → a ≡ false → b ≡ false → c ≡ (a || (b || c))
-third_is true b c e f = cc
-third_is false true c e f = cc
-third_is false false c e f = refl
+third_is a b c e f = grind arith

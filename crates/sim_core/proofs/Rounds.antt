@@ -2,8 +2,7 @@
 use Rattle.std.proofs.Common.{◌≡◌, refl, sym, ap, subst, ◌∙◌, ℕ, suc, ◌+◌, ◌-◌, ◌*◌, ◌^◌, ◌<◌, ◌≤◌, ◌⊎◌, inl, inr, true, false, Some}
 use Rattle.std.proofs.Common.{get_or, List, [], ◌∷◌, ◌++◌, length, arith, mul-le-mul_right}
 use Rattle.std.specs.Prelude.{slice_get}
-use Rattle.std.proofs.lemmas.Bool.{cases_lt, both_ways}
-use Rattle.std.proofs.lemmas.Bool.Decides.{eqb_tells}
+use Rattle.std.proofs.lemmas.Bool.{both_ways}
 use Rattle.flow_design.specs.declared.plan.Plan.{Plan}
 use Rattle.flow_design.specs.StaticRules.{FitsEngine}
 use Rattle.query_log.specs.declared.query.Query.{Query}
@@ -16,7 +15,6 @@ use Rattle.event_timing.specs.Agreement.{IsAgreed, AllVerified}
 use Rattle.event_timing.specs.Work.{work}
 use Rattle.event_timing.proofs.Agreement.{all_agree}
 use Rattle.event_timing.proofs.Assigning.{put_same}
-use Rattle.event_timing.proofs.Answering.{first_emitted}
 use Rattle.event_timing.proofs.Running.{run_cases}
 use Rattle.event_timing.proofs.ActionBound.{more_work, most_work, never_found, all_rise}
 use Rattle.timing_bridge.specs.Designs.{design, lockstep_run}
@@ -25,6 +23,7 @@ use Rattle.timing_bridge.proofs.History.{plan_is_design, run_is_history}
 use Rattle.engine_view.specs.declared.turn.Timing.TheVariants as turn
 use Rattle.engine_view.specs.Turns.{IsDifferent, IsFoundOther}
 use Rattle.outcome_guard.specs.declared.guard.Guard.TheVariants as guard
+use Rattle.sim_core.proofs.Causing.{determined_inside}
 use Rattle.sim_core.specs.Views.{CoreView, theory_of}
 use Rattle.sim_core.specs.Turns.{IsStill, IsEarliestOther, HasTurned, HasAnsweredLeast}
 use Rattle.sim_core.specs.declared.visit.Visit.{Visit}
@@ -82,10 +81,7 @@ acts_join {S} d limit x y z (a ∷ more) behind (w, t, r) b = (w, t, acts_join d
 
 given_join : (front behind : List Action) → given (front ++ behind) ≡ given front + given behind
 given_join [] behind = omega arith
-given_join (Run m ∷ rest) behind = given_join rest behind
-given_join (Assign m ∷ rest) behind = let e = given_join rest behind in omega arith
-given_join (Answer m ∷ rest) behind = given_join rest behind
-given_join (Earliest m ∷ rest) behind = given_join rest behind
+given_join (a ∷ rest) behind = let e = given_join rest behind in grind arith
 
 pub goes_join : (first now next : CoreView) (before ticks later : ℕ) → Goes first before now ticks → Goes now ticks next later
     → Goes first before next later
@@ -112,10 +108,8 @@ on_join first now next before ticks later g o = record {
 -- behind what was done, whatever the timing was
 pub timed_behind : (u v w : CoreView) (x b a m : ℕ) (visit : Visit) → GoesOn u x v b → HasTimed visit v b m w a → GoesOn u x w a
 timed_behind u v w x b a m (Acted bits) g t = on_join u v w x b a g t
-timed_behind u v w x b a m (Differs q) g (e, t, o) =
-    subst (λ (z : CoreView). GoesOn u x z a) (sym e) (subst (λ (k : ℕ). GoesOn u x v k) (sym t) g)
-timed_behind u v w x b a m Idle g (e, t, o) =
-    subst (λ (z : CoreView). GoesOn u x z a) (sym e) (subst (λ (k : ℕ). GoesOn u x v k) (sym t) g)
+timed_behind u v w x b a m (Differs q) g (e, t, o) = rw (e, t) g
+timed_behind u v w x b a m Idle g (e, t, o) = rw (e, t) g
 
 -- where no Run is permitted, a timing is a visit
 pub timed_is_visit : (v w : CoreView) (b a m : ℕ) (visit : Visit) → (MayRun (design v.plan) (theory_of v) m → ⊥)
@@ -129,8 +123,7 @@ goes_same v before = record { actions = []; all = refl; ticked = omega arith; pl
 
 pub goes_at : (first now next : CoreView) (before ticks later : ℕ) → Goes first before now ticks → next ≡ now → later ≡ ticks
     → Goes first before next later
-goes_at first now next before ticks later g e t = subst (λ (w : CoreView). Goes first before w later) (sym e)
-    (subst (Goes first before now) (sym t) g)
+goes_at first now next before ticks later g e t = rw (e, t) g
 
 -- ---- what stays by actions
 
@@ -167,32 +160,22 @@ abbrev pub IsNextOf : ℕ → ℕ → ℕ → Type 0
 IsNextOf count at to = ((at + 1 < count) × (to ≡ at + 1)) ⊎ ((count ≤ at + 1) × (to ≡ 0))
 
 pub next_inside : (count at to : ℕ) → at < count → IsNextOf count at to → to < count
-next_inside count at to u (inl (l, e)) = omega arith
-next_inside count at to u (inr (l, e)) = omega arith
+next_inside count at to u next = grind arith
 
 -- one that is visited then was so before, or it is the one whose turn it was
 pub visited_before : (count at idle to m : ℕ) → at < count → idle < count → m < count → IsNextOf count at to
     → IsVisited count to (idle + 1) m → (m ≡ at) ⊎ IsVisited count at idle m
-visited_before count at idle to m u less i (inl (p, q)) (inl (l, e)) = elim (eqb_tells m at) [
-  | inl y ↦ inl y.1
-  | inr y ↦ let n = y.1 in inr (inl (omega arith, omega arith))
-]
-visited_before count at idle to m u less i (inl (p, q)) (inr (l, e)) = inr (inr (omega arith, omega arith))
-visited_before count at idle to m u less i (inr (p, q)) (inl (l, e)) = absurd (omega arith)
-visited_before count at idle to m u less i (inr (p, q)) (inr (l, e)) =
-    elim (eqb_tells m at) [ inl y ↦ inl y.1 | inr y ↦ let n = y.1 in inr (inl (omega arith, omega arith)) ]
+visited_before count at idle to m u less i (inl (l, e)) visited = grind arith
+visited_before count at idle to m u less i (inr (l, e)) visited = grind arith
 
 -- where all were visited, each was
 pub all_visited : (count at idle n : ℕ) → (0 < count → at < count) → count ≤ idle → n < count → IsVisited count at idle n
-all_visited count at idle n inside l u = elim (cases_lt n at) [
-  | inl q ↦ inl (q, let v = inside (omega arith) in omega arith)
-  | inr q ↦ inr (q, omega arith)
-]
+all_visited count at idle n inside l u = grind arith
 
 -- behind an action at a module, or a jump, none was
 pub none_visited : (count at m : ℕ) → (0 < count → at < count) → m < count → IsVisited count at 0 m → ⊥
-none_visited count at m inside i (inl (l, e)) = absurd (omega arith)
-none_visited count at m inside i (inr (l, e)) = let u = inside (omega arith) in absurd (omega arith)
+none_visited count at m inside i (inl (l, e)) = omega arith
+none_visited count at m inside i (inr (l, e)) = let u = inside (omega arith) in omega arith
 
 -- ---- a round
 
@@ -234,7 +217,7 @@ module _ (first now next : CoreView) (before ticks later count at idle : ℕ) (r
   -- nothing was done, and another module is next
   pub jumped : next ≡ now → later ≡ ticks → (to : ℕ) → to < count → IsGoingRound first next before later count to 0
   jumped same ticked to u =
-      subst (λ (w : CoreView). IsGoingRound first w before later count to 0) (sym same) (record {
+      rw same (record {
         goes = goes_at first now now before ticks later r.goes refl ticked;
         agreed = r.agreed;
         fits = r.fits;
@@ -249,7 +232,7 @@ module _ (first now next : CoreView) (before ticks later count at idle : ℕ) (r
   pub stayed : idle < count → next ≡ now → later ≡ ticks → IsStill now at → (to : ℕ) → IsNextOf count at to
       → IsGoingRound first next before later count to (idle + 1)
   stayed less same ticked none to t =
-      subst (λ (w : CoreView). IsGoingRound first w before later count to (idle + 1)) (sym same) (record {
+      rw same (record {
         goes = goes_at first now now before ticks later r.goes refl ticked;
         agreed = r.agreed;
         fits = r.fits;
@@ -257,12 +240,12 @@ module _ (first now next : CoreView) (before ticks later count at idle : ℕ) (r
         counted = r.counted;
         within = omega arith;
         inside = λ z. next_inside count at to (r.inside z) t;
-        none_left = λ m l visited. left_of m (visited_before count at idle to m (r.inside (omega arith)) less l t visited) l;
+        none_left = λ m l visited.
+            elim (visited_before count at idle to m (r.inside (omega arith)) less l t visited) [
+              | inl e ↦ rw e none
+              | inr v ↦ r.none_left m l v
+            ];
       })
-    where
-      left_of : (m : ℕ) → (m ≡ at) ⊎ IsVisited count at idle m → m < count → IsStill now m
-      left_of m (inl e) l = subst (IsStill now) (sym e) none
-      left_of m (inr v) l = r.none_left m l v
 
   -- where all were visited nothing is left but an Earliest
   pub all_quiet : count ≤ idle → IsQuiet (design now.plan) now.plan.cycles (theory_of now)
@@ -277,13 +260,8 @@ module _ (first now next : CoreView) (before ticks later count at idle : ℕ) (r
 
       there : (n c : ℕ) → candidate (design now.plan) (view (design now.plan) (theory_of now)) n ≡ Some c → n < count
       there n c e =
-          elim (cases_lt n count) [
-            | inl u ↦ u
-            | inr u ↦
-                let none = agreed_now.marks.inside n (let e = r.counted in omega arith) in
-                let some = first_emitted (design now.plan) (theory_of now) n c e in
-                absurd (omega arith)
-          ]
+          let l = determined_inside (design now.plan) now.plan.cycles (theory_of now) agreed_now.marks.inside n c e in
+          let same = r.counted in omega arith
 
   -- where no outcome is assumed, none is found to be another
   pub never_differs : AllVerified (theory_of first) → (m : ℕ) (q : Query) → IsDifferent (design now.plan) now.plan.cycles now.held m q → ⊥
@@ -317,12 +295,7 @@ pub to_do_less : (now next : CoreView) (ticks later : ℕ) → GoesOn now ticks 
 to_do_less now next ticks later o agreed fits =
     let most = most_work (design next.plan) (lockstep_run next.plan) next.plan.cycles (theory_of next) agreed next.plan.ops
     (plan_is_bounded next.plan fits) in
-    let e = o.goes.plan in
-    let rise : work (design now.plan) (theory_of now) < work (design next.plan) (theory_of next) = subst
-    (λ (q : Plan). work (design now.plan) (theory_of now) < work (design q) (theory_of next)) (sym e) o.risen in
-    let same : length next.plan.design.modules * (3 * next.plan.ops + 1) ≡ length now.plan.design.modules *
-    (3 * now.plan.ops + 1) = ap (λ (q : Plan). length q.design.modules * (3 * q.ops + 1)) e in
-    omega arith
+    let plan = o.goes.plan in let rise = o.risen in grind arith
 
 module _ (first now next : CoreView) (before ticks later count at idle : ℕ) (r : IsGoingRound first now before ticks count at idle)
     (hints other : ℕ) where
@@ -335,16 +308,14 @@ module _ (first now next : CoreView) (before ticks later count at idle : ℕ) (r
 
   pub jumped_on : next ≡ now → other < hints → still_to_do next count 0 other < still_to_do now count idle hints
   jumped_on e l =
-      subst (λ (v : CoreView). still_to_do v count 0 other < still_to_do now count idle hints) (sym e)
-      (let f = fewer other hints count idle l in add (to_do now * (2 ^ 64 * (count + 1))) _ _ f)
+      rw e (let f = fewer other hints count idle l in add (to_do now * (2 ^ 64 * (count + 1))) _ _ f)
     where
       add : (a x y : ℕ) → x < y → a + x < a + y
       add a x y u = omega arith
 
   pub stayed_on : next ≡ now → idle < count → still_to_do next count (idle + 1) hints < still_to_do now count idle hints
   stayed_on e l =
-      subst (λ (v : CoreView). still_to_do v count (idle + 1) hints < still_to_do now count idle hints) (sym e)
-      (add (to_do now * (2 ^ 64 * (count + 1))) (hints * (count + 1)))
+      rw e (add (to_do now * (2 ^ 64 * (count + 1))) (hints * (count + 1)))
     where
       add : (a b : ℕ) → a + (b + (count - (idle + 1))) < a + (b + (count - idle))
       add a b = omega arith

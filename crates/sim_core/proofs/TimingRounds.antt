@@ -26,7 +26,7 @@ use Rattle.std.proofs.Common.{
   mul-le-mul_right,
 }
 use Rattle.std.specs.Prelude.{Result, Ok, Err, IfOk, IfErr, is_ok}
-use Rattle.std.proofs.lemmas.Bool.{cases_Bool, cases_lt}
+use Rattle.std.proofs.lemmas.Bool.{cases_Bool}
 use Rattle.flow_design.specs.declared.plan.Plan.{Plan}
 use Rattle.flow_design.specs.declared.state.ModuleState.{ModuleState}
 use Rattle.flow_design.specs.StaticRules.{FitsEngine}
@@ -34,13 +34,12 @@ use Rattle.event_timing.specs.Machines.{Design}
 use Rattle.event_timing.specs.Enablers.{known_of, all_decided}
 use Rattle.event_timing.specs.Views.{first_accesses}
 use Rattle.event_timing.specs.Core.{Core, view}
-use Rattle.event_timing.specs.Actions.{MayRun, MayEarliest, IsDetermined, IsQuiet, IsFinal}
+use Rattle.event_timing.specs.Actions.{MayRun, IsDetermined, IsQuiet, IsFinal}
 use Rattle.event_timing.specs.Agreement.{IsAgreed, AllVerified}
 use Rattle.event_timing.specs.Permitted.{IsInside}
 use Rattle.event_timing.specs.Work.{work}
 use Rattle.event_timing.proofs.ActionBound.{most_work}
 use Rattle.event_timing.proofs.Agreement.{final_closed}
-use Rattle.event_timing.proofs.Answering.{first_emitted}
 use Rattle.query_log.specs.declared.query.Query.{Query}
 use Rattle.outcome_guard.specs.declared.guard.Guard.TheVariants as guard
 use Rattle.timing_bridge.specs.Designs.{design, lockstep_run}
@@ -56,12 +55,12 @@ use Rattle.engine_view.specs.declared.turn.Timing.TheVariants as turn
 use Rattle.engine_view.specs.Turns.{is_progress, ticks_of}
 use Rattle.sim_core.specs.Views.{CoreView, theory_of}
 use Rattle.sim_core.specs.Turns.{HasTurned, HasAnsweredLeast, IsFirstEarliest}
-use Rattle.sim_core.specs.Drives.{IsVisited}
 use Rattle.sim_core.specs.Timings.{IsUntimable, IsTimed, IsTimingRound, HasMore}
 use Rattle.sim_core.specs.declared.actions.Action.TheVariants.{Run}
 use Rattle.sim_core.specs.declared.actions.Cause.{Cause}
 use Rattle.sim_core.specs.Causes.{IsPermitted, cycle_causes, first_some}
 use Rattle.sim_core.proofs.Causing as causing
+use Rattle.sim_core.proofs.Causing.{determined_inside}
 use Rattle.sim_core.proofs.Rounds as rounds
 use Rattle.sim_core.proofs.Rounds.{IsNextOf, to_do}
 
@@ -98,12 +97,12 @@ module _ (v w : CoreView) (m before : ℕ) (plan : w.plan ≡ v.plan) (lent : w.
       (idle_is (design v.plan) v.plan.cycles (theory_of v) m idle.no_assign idle.no_answer, same, omega arith)
 
 pub progressed : (r : Timing) → ((c : ℕ) × (r ≡ turn.Assigned c)) ⊎ ((c : ℕ) × (r ≡ turn.Answered c)) → is_progress r ≡ true
-progressed r (inl (c, e)) = ap is_progress e
-progressed r (inr (c, e)) = ap is_progress e
+progressed r (inl (c, e)) = cc
+progressed r (inr (c, e)) = cc
 
 pub rested : (r : Timing) → ((q : Query) × (r ≡ turn.Differs q)) ⊎ (r ≡ turn.Nothing) → is_progress r ≡ false
-rested r (inl (q, e)) = ap is_progress e
-rested r (inr e) = ap is_progress e
+rested r (inl (q, e)) = cc
+rested r (inr e) = cc
 
 -- ---- the rounds
 
@@ -202,7 +201,7 @@ module _ (first now next : CoreView) (before ticks later count at idle done : �
   pub stayed : idle < count → next ≡ now → later ≡ ticks → IsUntimable now at → (to : ℕ) → IsNextOf count at to
       → IsTimingRound first next before later count to (idle + 1) done
   stayed less same ticked none to t =
-      subst (λ (w : CoreView). IsTimingRound first w before later count to (idle + 1) done) (sym same) (record {
+      rw same (record {
         goes = rounds.goes_at first now now before ticks later r.goes refl ticked;
         agreed = r.agreed;
         fits = r.fits;
@@ -211,15 +210,15 @@ module _ (first now next : CoreView) (before ticks later count at idle done : �
         within = omega arith;
         at_most = let u = rounds.next_inside count at to (r.inside (omega arith)) t in omega arith;
         inside = λ z. rounds.next_inside count at to (r.inside z) t;
-        none_left = λ m l visited. left_of m (rounds.visited_before count at idle to m (r.inside (omega arith)) less l t visited) l;
+        none_left = λ m l visited.
+            elim (rounds.visited_before count at idle to m (r.inside (omega arith)) less l t visited) [
+              | inl e ↦ rw e none
+              | inr v ↦ r.none_left m l v
+            ];
         rounds = λ more. r.rounds more ∙ from_next more t;
         few = r.few;
       })
     where
-      left_of : (m : ℕ) → (m ≡ at) ⊎ IsVisited count at idle m → m < count → IsUntimable now m
-      left_of m (inl e) l = subst (IsUntimable now) (sym e) none
-      left_of m (inr v) l = r.none_left m l v
-
       idle_here : may_time d limit (theory_of now) at ≡ false
       idle_here = subst (λ (q : Plan). may_time (design q) q.cycles (theory_of now) at ≡ false) r.goes.plan none
 
@@ -273,8 +272,7 @@ module _ (first now next : CoreView) (before ticks later count at idle done : �
 
   pub stayed_on : idle < count → next ≡ now → timings_left next count (idle + 1) < timings_left now count idle
   stayed_on less same =
-      subst (λ (v : CoreView). timings_left v count (idle + 1) < timings_left now count idle) (sym same)
-      (let rest : count - (idle + 1) < count - idle = omega arith in omega arith)
+      rw same (let rest : count - (idle + 1) < count - idle = omega arith in omega arith)
 
 -- ---- the Earliest behind them
 
@@ -287,18 +285,9 @@ module _ (v w : CoreView) (agreed : IsAgreed (design v.plan) (lockstep_run v.pla
       → earliest_of (design v.plan) v.plan.cycles (theory_of v) ≡ Some (theory_of w)
   least_is m ((c, may, inl (same, is)), changed) first =
       let inside = agreed.marks.inside in
-      earliest_found (design v.plan) v.plan.cycles (theory_of v) inside m c (below inside c may) may first ∙ ap Some (sym is)
-    where
-      below : IsInside (design v.plan) (theory_of v) → (c : ℕ) → MayEarliest (design v.plan) v.plan.cycles (theory_of v) m c
-          → m < length v.plan.design.modules
-      below inside c may =
-          elim (cases_lt m (length v.plan.design.modules)) [
-            | inl l ↦ l
-            | inr l ↦
-                let none = inside m l in
-                let some = first_emitted (design v.plan) (theory_of v) m c may.open_step.determined.at in
-                absurd (omega arith)
-          ]
+      let at = may.open_step.determined.at in
+      let below = determined_inside (design v.plan) v.plan.cycles (theory_of v) inside m c at in
+      earliest_found (design v.plan) v.plan.cycles (theory_of v) inside m c below may first ∙ ap Some (sym is)
   least_is m ((c, may, inr (other, is)), changed) first = absurd (changed is)
 
   pub least_verified : (m : ℕ) → FitsEngine v.plan → w.plan ≡ v.plan → w.lent ≡ v.lent → AllVerified (theory_of v)
@@ -326,13 +315,7 @@ module _ (v : CoreView) (inside : IsInside (design v.plan) (theory_of v)) where
     where
       stopped : (n c : ℕ) → IsDetermined (design v.plan) v.plan.cycles x n c → ⊥
       stopped n c at =
-          elim (cases_lt n (length v.plan.design.modules)) [
-            | inl l ↦ none n l (inr (c, at))
-            | inr l ↦
-                let zero = inside n l in
-                let some = first_emitted (design v.plan) x n c at.at in
-                absurd (omega arith)
-          ]
+          none n (determined_inside (design v.plan) v.plan.cycles x inside n c at.at) (inr (c, at))
 
 -- and where one has, something is
 pub not_final : (v : CoreView) (m : ℕ) → HasMore v m → IsFinal (design v.plan) v.plan.cycles (theory_of v) → ⊥

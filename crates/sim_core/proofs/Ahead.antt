@@ -144,9 +144,7 @@ module _ (p : Plan) (f : FitsEngine p) (z : Core ModuleState) (b : AreOwnMarks (
 -- ---- the mark of a rest
 
 mark_is : (a b : Bool) (n : ℕ) (s : StepOf) → is_step (cond a (Ended n) (cond b (Spent n) (Step s))) ≡ not (a || b)
-mark_is true b n s = refl
-mark_is false true n s = refl
-mark_is false false n s = refl
+mark_is a b n s = grind arith
 
 over_of_mark : (p : Plan) (m : ℕ) (o : Own) → is_step (mark_at p m o) ≡ not (is_over p.ops o.state)
 unfolding is_over
@@ -186,18 +184,10 @@ module _ (p : Plan) (f : FitsEngine p) (z : Core ModuleState) (b : AreOwnMarks (
   is_last = (design p).is_over m (ready (design p) m (newest (design p) z m))
 
   pub over_behind : is_step (mark_at p m o) ≡ false → after ≡ emit_over z m
-  over_behind e = cond-true is_last (emit_over z m) (emit (design p) z m) (not_false is_last (sym over_is ∙ e))
-    where
-      not_false : (a : Bool) → not a ≡ false → a ≡ true
-      not_false true e = refl
-      not_false false e = cc
+  over_behind e = let same = over_is in grind arith
 
   pub step_behind : is_step (mark_at p m o) ≡ true → after ≡ emit (design p) z m
-  step_behind e = cond-false is_last (emit_over z m) (emit (design p) z m) (not_true is_last (sym over_is ∙ e))
-    where
-      not_true : (a : Bool) → not a ≡ true → a ≡ false
-      not_true true e = cc
-      not_true false e = refl
+  step_behind e = let same = over_is in grind arith
 
   -- the step that the Run emits
   step_there : Waits p (emit (design p) z m) m mail o told taken
@@ -238,13 +228,13 @@ module _ (p : Plan) (f : FitsEngine p) (z : Core ModuleState) (b : AreOwnMarks (
           ]
 
   pub waits_behind : is_step (mark_at p m o) ≡ true → Waits p after m mail o told taken
-  waits_behind e = subst (λ (y : Core ModuleState). Waits p y m mail o told taken) (sym (step_behind e)) step_there
+  waits_behind e = rw (step_behind e) step_there
 
   pub run_grows : Grows (design p) z after
   run_grows =
       elim (cases_Bool (is_step (mark_at p m o))) [
-        | inl e ↦ subst (Grows (design p) z) (sym (step_behind e)) (emit_grows (design p) z m)
-        | inr e ↦ subst (Grows (design p) z) (sym (over_behind e)) (over_grows p z m)
+        | inl e ↦ rw (step_behind e) (emit_grows (design p) z m)
+        | inr e ↦ rw (over_behind e) (over_grows p z m)
       ]
 
 -- ---- where a run stands
@@ -341,10 +331,7 @@ run_on p f z b m mail short last o told taken (mark ∷ more) g (e, sound, past)
   where
     ended : after_run (design p) z m ≡ emit_over z m → (more ≡ []) × IsGoing p m mail last o taken
         → Ran p (after_run (design p) z m) m (length more) last
-    ended e (n, s) =
-        subst (λ (y : Core ModuleState). Ran p y m (length more) last) (sym e)
-        (subst (λ (xs : List Advance). Ran p (emit_over z m) m (length xs) last) (sym n)
-        (ran_none p (emit_over z m) m last (over_stands p z m mail o told taken last g s)))
+    ended e (n, s) = rw (e, n) (ran_none p (emit_over z m) m last (over_stands p z m mail o told taken last g s))
 
     behind : ((o' : Own) (told' : ℕ) (taken' : List ℕ) → Goes p (after_run (design p) z m) m mail o' told' taken'
         → GoesOn p m mail short last o' told' taken' more → Ran p (after_run (design p) z m) m (length more) last)
@@ -352,8 +339,7 @@ run_on p f z b m mail short last o told taken (mark ∷ more) g (e, sound, past)
         (λ o' told' taken'. GoesOn p m mail short last o' told' taken' more)
         → Ran p (after_run (design p) z m) m (length more) last
     behind again w (inl (n, s)) =
-        subst (λ (xs : List Advance). Ran p (after_run (design p) z m) m (length xs) last) (sym n)
-        (ran_none p (after_run (design p) z m) m last (waiting_stands p (after_run (design p) z m) m mail o told taken short last w s))
+        rw n (ran_none p (after_run (design p) z m) m last (waiting_stands p (after_run (design p) z m) m mail o told taken short last w s))
     behind again w (inr (qs, (r, next))) =
         again (next_rest p m o qs) (told + queries_in (accesses_at p m o)) (taken_after taken (accesses_at p m o) qs)
         (goes_on p f (after_run (design p) z m) (run_marks (design p) z b m g.may) m mail o told taken w qs r) next

@@ -1,6 +1,6 @@
 -- A run that waits is fed with the replies that are found for its newest step.
-use Rattle.std.proofs.Common.{◌≡◌, refl, sym, ap, ap₂, subst, ◌∙◌, ℕ, suc, ◌+◌, ◌-◌, ◌<◌, ◌≤◌, inl, inr, Bool, true, false, cond, not, ltb}
-use Rattle.std.proofs.Common.{◌&&◌, ◌||◌, List, [], ◌∷◌, length, map, drop, get_or, arith, length-drop}
+use Rattle.std.proofs.Common.{◌≡◌, refl, sym, ap, subst, ◌∙◌, ℕ, suc, ◌+◌, ◌-◌, ◌<◌, ◌≤◌, inl, inr, Bool, true, false, cond, ltb}
+use Rattle.std.proofs.Common.{◌&&◌, List, [], ◌∷◌, length, map, drop, get_or, arith, length-drop}
 use Rattle.std.specs.Prelude.{All, Option, Some, None, slice_get}
 use Rattle.std.proofs.lemmas.Option.{get_or_from_slice_get}
 use Rattle.flow_word.specs.declared.access.Step.{Step}
@@ -23,14 +23,14 @@ use Rattle.lockstep_defs.specs.Channels.{Exchange, reply_by}
 use Rattle.lockstep_defs.specs.Lockstep.{requests_of}
 use Rattle.lockstep_defs.specs.OwnRun.{Own, access_of}
 use Rattle.module_interp.specs.declared.run.ModuleRun.{ModuleRun}
-use Rattle.module_interp.specs.OwnRests.{done_in, next_rest, accesses_at, fits_kind, all_fit}
+use Rattle.module_interp.specs.OwnRests.{done_in, next_rest, accesses_at, all_fit}
 use Rattle.module_interp.specs.Runs.{StandsAt, waits}
 use Rattle.flow_word.specs.Kinds.{side_of, is_blocking, is_taking, same_side}
 use Rattle.flow_word.specs.declared.access.Side.{Side}
 use Rattle.flow_word.specs.declared.access.Side.TheVariants.{Pop, Push}
 use Rattle.event_timing.specs.Machines as theory
 use Rattle.event_timing.specs.Machines.{is_some_access}
-use Rattle.event_timing.specs.Core.{Core, core_values, core_tally, values_there, all_below, pops_now}
+use Rattle.event_timing.specs.Core.{Core, core_values, core_tally, values_there, all_below}
 use Rattle.event_timing.specs.Actions.{MayRun}
 use Rattle.event_timing.specs.Agreement.{AreOwnMarks, FlagsFit}
 use Rattle.timing_bridge.specs.Designs as bridge
@@ -61,34 +61,13 @@ kind_by Pop false false = Empty
 kind_by Push false false = Full
 
 pub kind_is : (k : Kind) → kind_by (side_of k) (is_blocking k) (is_taking k) ≡ k
-kind_is Read = refl
-kind_is Write = refl
-kind_is TryRead = refl
-kind_is TryWrite = refl
-kind_is Empty = refl
-kind_is Full = refl
-
-no_access : theory.Access
-no_access = record { side = Pop; blocks = false; takes = false; channel = 0; value = 0 }
-
-pub heads : (x y : theory.Access) (xs ys : List theory.Access) → x ∷ xs ≡ y ∷ ys → x ≡ y
-heads x y xs ys e = ap (λ (zs : List theory.Access). get_or zs 0 no_access) e
-
-pub tails : (x y : theory.Access) (xs ys : List theory.Access) → x ∷ xs ≡ y ∷ ys → xs ≡ ys
-tails x y xs ys e = ap (λ (zs : List theory.Access). drop 1 zs) e
+kind_is k = grind arith
 
 -- ---- replies
 
 told_one : (k : Kind) (b : Bool) (v : ℕ) → (is_blocking k ≡ true → b ≡ true)
     → reply_by k b (cond (is_taking k && (same_side (side_of k) Pop && b)) v 0) ≡ reply_by k b v
-told_one Read true v f = refl
-told_one Read false v f = let e = f refl in cc
-told_one Write b v f = refl
-told_one TryRead true v f = refl
-told_one TryRead false v f = refl
-told_one TryWrite b v f = refl
-told_one Empty b v f = refl
-told_one Full b v f = refl
+told_one k b v f = grind arith
 
 told_found : (channels : List Channel) (rs : List Request) (xs : List Access) (bs : List Bool) → map bridge.seen rs ≡ map seen xs
     → FlagsFit (map seen xs) bs
@@ -98,11 +77,9 @@ told_found channels [] (a ∷ xs) bs e f = cc
 told_found channels (r ∷ rs) [] bs e f = cc
 told_found channels (r ∷ rs) (a ∷ xs) [] e f = absurd f
 told_found channels (r ∷ rs) (a ∷ xs) (b ∷ bs) e (f, fs) =
-    ap₂ (λ (q : Reply) (qs : List Reply). q ∷ qs)
-    (ap (λ (k : Kind). reply_by k b (cond (pops_now (seen a) b) (get_or (values_at channels a.channel) (a.ordinal - 1) 0) 0))
-    (same_kind r a (heads _ _ _ _ e))
-    ∙ told_one a.kind b (get_or (values_at channels a.channel) (a.ordinal - 1) 0) f)
-    (told_found channels rs xs bs (tails _ _ _ _ e) fs)
+    let kind = same_kind r a cc in
+    let one = told_one a.kind b (get_or (values_at channels a.channel) (a.ordinal - 1) 0) f in
+    let later = told_found channels rs xs bs (cc) fs in cc
 
 fit_same : (before : List Exchange) (rs : List Request) (xs : List Access) (qs : List Reply) → map bridge.seen rs ≡ map seen xs
     → all_fit (map (access_of before) rs) qs ≡ all_fit xs qs
@@ -111,8 +88,7 @@ fit_same before [] (a ∷ xs) qs e = cc
 fit_same before (r ∷ rs) [] qs e = cc
 fit_same before (r ∷ rs) (a ∷ xs) [] e = refl
 fit_same before (r ∷ rs) (a ∷ xs) (q ∷ qs) e =
-    ap₂ (λ (b c : Bool). b && c) (ap (λ (k : Kind). fits_kind k q) (same_kind r a (heads _ _ _ _ e)))
-    (fit_same before rs xs qs (tails _ _ _ _ e))
+    let kind = same_kind r a cc in let later = fit_same before rs xs qs cc in cc
 
 pub as_many : (xs : List Access) (bs : List Bool) → FlagsFit (map seen xs) bs → AreAsMany xs bs
 as_many [] [] f = tt
@@ -128,31 +104,18 @@ there_same : (channels : List Channel) (V : ℕ → List ℕ) (t : Side → ℕ 
 there_same channels V t [] bs o v = refl
 there_same channels V t (a ∷ xs) [] o v = refl
 there_same channels V t (a ∷ xs) (b ∷ bs) o v =
-    ap₂ (λ (p q : Bool). p && q)
-    (here (side_of a.kind) refl)
-    (there_same channels V t xs bs (All-tail (λ (a : Access). a.ordinal ≡ suc (t (side_of a.kind) a.channel)) a xs o)
-    (All-tail (λ (a : Access). values_at channels a.channel ≡ V a.channel) a xs v))
+    let mine = All-head (λ (a : Access). a.ordinal ≡ suc (t (side_of a.kind) a.channel)) a xs o in
+    let values = All-head (λ (a : Access). values_at channels a.channel ≡ V a.channel) a xs v in
+    let later = there_same channels V t xs bs (All-tail (λ (a : Access). a.ordinal ≡ suc (t (side_of a.kind) a.channel)) a xs o)
+    (All-tail (λ (a : Access). values_at channels a.channel ≡ V a.channel) a xs v) in
+    by (side_of a.kind) refl mine values later
   where
-    mine : a.ordinal ≡ suc (t (side_of a.kind) a.channel)
-    mine = All-head (λ (a : Access). a.ordinal ≡ suc (t (side_of a.kind) a.channel)) a xs o
-
-    values : values_at channels a.channel ≡ V a.channel
-    values = All-head (λ (a : Access). values_at channels a.channel ≡ V a.channel) a xs v
-
-    here : (side : Side) → side_of a.kind ≡ side
-        → (not (pops_now (seen a) b) || ltb (t Pop a.channel) (length (V a.channel))) ≡ (not (pops_now (seen a) b) || ltb (a.ordinal - 1)
-        (length (values_at channels a.channel)))
-    here Pop e =
-        let n : a.ordinal ≡ suc (t Pop a.channel) = mine ∙ ap (λ (s : Side). suc (t s a.channel)) e in
-        let z : t Pop a.channel ≡ a.ordinal - 1 = omega arith in
-        ap₂ (λ (k : ℕ) (vs : List ℕ). not (pops_now (seen a) b) || ltb k (length vs)) z (sym values)
-    here Push e =
-        let no : pops_now (seen a) b ≡ false = ap (λ (s : Side). is_taking a.kind && (same_side s Pop && b)) e ∙ none (is_taking a.kind) in
-        or_left _ _ (ap not no) ∙ sym (or_left _ _ (ap not no))
-      where
-        none : (q : Bool) → (q && false) ≡ false
-        none true = refl
-        none false = refl
+    by : (side : Side) → side_of a.kind ≡ side → a.ordinal ≡ suc (t (side_of a.kind) a.channel)
+        → values_at channels a.channel ≡ V a.channel
+        → all_below (λ c. length (V c)) (t Pop) (map seen xs) bs ≡ values_now channels xs bs
+        → all_below (λ c. length (V c)) (t Pop) (map seen (a ∷ xs)) (b ∷ bs) ≡ values_now channels (a ∷ xs) (b ∷ bs)
+    by Pop e mine values later = grind arith
+    by Push e mine values later = grind arith
 
 -- ---- a step
 

@@ -1,17 +1,16 @@
 -- The replies that are found for a step, and what their being there means.
-use Rattle.std.proofs.Common.{◌≡◌, refl, sym, ap, ap₂, subst, ◌∙◌, ℕ, zero, suc, ◌+◌, ◌-◌, ◌<◌, ◌≤◌, ◌⊎◌, inl, inr, Bool, true, false, cond}
+use Rattle.std.proofs.Common.{◌≡◌, refl, sym, ap, ap₂, subst, ◌∙◌, ℕ, ◌+◌, ◌-◌, ◌<◌, ◌≤◌, ◌⊎◌, inl, inr, Bool, true, false, cond}
 use Rattle.std.proofs.Common.{not, ltb, ◌&&◌, ◌||◌, List, [], ◌∷◌, ◌++◌, length, drop, get_or, Option, Some, None, is_some, arith}
 use Rattle.std.proofs.Common.{append-nil, append_assoc}
 use Rattle.std.specs.Prelude.{slice_get, unwrap_or}
 use Rattle.std.specs.Int.{from_bool}
-use Rattle.std.proofs.lemmas.Bool.{cases_Bool, and_from, and_parts, or_left, or_right, lt-ltb, ltb-true}
+use Rattle.std.proofs.lemmas.Bool.{cases_Bool, and_from, and_parts}
 use Rattle.std.proofs.lemmas.List.{drop_more, drop_all}
-use Rattle.std.proofs.lemmas.Option.{unwrap_or-slice_get}
+use Rattle.std.proofs.lemmas.Option.{unwrap_or-slice_get, slice_get-get_or, slice_get_past}
+use Rattle.std.proofs.lemmas.Bool.Decides.{nat_tests}
 use Rattle.flow_word.specs.declared.access.Access.{Access}
 use Rattle.flow_word.specs.declared.access.Kind.{Kind}
-use Rattle.flow_word.specs.declared.access.Kind.TheVariants.{Read, Write, TryRead, TryWrite, Empty, Full}
 use Rattle.flow_design.specs.declared.state.Reply.{Reply}
-use Rattle.flow_design.specs.declared.state.Reply.TheVariants.{Done, Value, Flag, Took, Missed}
 use Rattle.fifo_table.specs.Channels.{Channel}
 use Rattle.lockstep_defs.specs.Channels.{reply_by}
 use Rattle.flow_word.specs.Kinds.{side_of, is_blocking, is_taking, same_side}
@@ -29,7 +28,7 @@ use Rattle.engine_view.proofs.Comparing.{queries_cons}
 
 put_more : (rs : List Reply) (r : Reply) (q : Option (List Reply)) → put_before rs (put_first (Some r) q) ≡ put_before (rs ++ r ∷ []) q
 put_more rs r None = refl
-put_more rs r (Some qs) = ap Some (sym (append_assoc rs (r ∷ []) qs))
+put_more rs r (Some qs) = rw append_assoc refl
 
 module _ (channels : List Channel) (xs : List Access) (outs : List Bool) (first : ℕ) (rs : List Reply) (i n : ℕ) (d : Access)
     (r : FindsOn channels xs outs first rs i n) (l : i < length xs) where
@@ -84,37 +83,11 @@ record IsReply (k : Kind) (o : Option Bool) (v : Option ℕ) (r : Reply) : Type 
   value : needs k (flag_now k o) ≡ true → is_some v ≡ true
 
 reply_is_there : (k : Kind) (o : Option Bool) (v : Option ℕ) (r : Reply) → reply_now k o v ≡ Some r → IsReply k o v r
-reply_is_there Read o None r e = cc
-reply_is_there Read o (Some v) r e = record { is = sym (some_is (Value v) r e); outcome = λ f. cc; value = λ f. refl }
-reply_is_there Write o v r e = record { is = sym (some_is Done r e); outcome = λ f. cc; value = λ f. cc }
-reply_is_there TryRead None v r e = cc
-reply_is_there TryRead (Some true) None r e = cc
-reply_is_there TryRead (Some true) (Some v) r e = record { is = sym (some_is (Took v) r e); outcome = λ f. refl; value = λ f. refl }
-reply_is_there TryRead (Some false) v r e = record { is = sym (some_is Missed r e); outcome = λ f. refl; value = λ f. cc }
-reply_is_there TryWrite None v r e = cc
-reply_is_there TryWrite (Some b) v r e = record { is = sym (some_is (Flag b) r e); outcome = λ f. refl; value = λ f. cc }
-reply_is_there Empty None v r e = cc
-reply_is_there Empty (Some true) v r e = record { is = sym (some_is (Flag true) r e); outcome = λ f. refl; value = λ f. cc }
-reply_is_there Empty (Some false) v r e = record { is = sym (some_is (Flag false) r e); outcome = λ f. refl; value = λ f. cc }
-reply_is_there Full None v r e = cc
-reply_is_there Full (Some true) v r e = record { is = sym (some_is (Flag true) r e); outcome = λ f. refl; value = λ f. cc }
-reply_is_there Full (Some false) v r e = record { is = sym (some_is (Flag false) r e); outcome = λ f. refl; value = λ f. cc }
+reply_is_there k o v r e = record { is = grind arith; outcome = λ f. grind arith; value = λ f. grind arith }
 
 no_reply : (k : Kind) (o : Option Bool) (v : Option ℕ) → reply_now k o v ≡ None → (is_blocking k ≡ false → is_some o ≡ true)
     → (needs k (flag_now k o) ≡ true → is_some v ≡ true) → ⊥
-no_reply Read o None e f g = let z = g refl in cc
-no_reply Read o (Some v) e f g = cc
-no_reply Write o v e f g = cc
-no_reply TryRead None v e f g = let z = f refl in cc
-no_reply TryRead (Some true) None e f g = let z = g refl in cc
-no_reply TryRead (Some true) (Some v) e f g = cc
-no_reply TryRead (Some false) v e f g = cc
-no_reply TryWrite None v e f g = let z = f refl in cc
-no_reply TryWrite (Some b) v e f g = cc
-no_reply Empty None v e f g = let z = f refl in cc
-no_reply Empty (Some b) v e f g = cc
-no_reply Full None v e f g = let z = f refl in cc
-no_reply Full (Some b) v e f g = cc
+no_reply k o v e f g = grind arith
 
 record IsPut (r : Option Reply) (q : Option (List Reply)) (rs : List Reply) : Type 0 where
   first : Reply
@@ -140,17 +113,10 @@ pub record AreFound (channels : List Channel) (xs : List Access) (os : List Bool
 
 pub flags_first : (a : Access) (xs : List Access) (os : List Bool) → flags_by (a ∷ xs) os ≡ flag_now a.kind (slice_get os 0) ∷ flags_by xs
     (cond (is_blocking a.kind) os (drop 1 os))
-flags_first a xs os = elim (cases_Bool (is_blocking a.kind)) [ inl e ↦ rw e refl | inr e ↦ rw e refl ]
+flags_first a xs os = grind arith
 
-there_is : (xs : List ℕ) (n : ℕ) → is_some (slice_get xs n) ≡ true → n < length xs
-there_is [] n e = cc
-there_is (x ∷ xs) zero e = omega arith
-there_is (x ∷ xs) (suc n) e = let l = there_is xs n e in omega arith
-
-some_there : (xs : List ℕ) (n : ℕ) → n < length xs → is_some (slice_get xs n) ≡ true
-some_there [] n l = absurd (omega arith)
-some_there (x ∷ xs) zero l = refl
-some_there (x ∷ xs) (suc n) l = some_there xs n (omega arith)
+some_there : (xs : List ℕ) (n : ℕ) → is_some (slice_get xs n) ≡ ltb n (length xs)
+some_there xs n = grind (arith, nat_tests, slice_get-get_or xs n 0, slice_get_past xs n)
 
 pub are_found : (channels : List Channel) (xs : List Access) (os : List Bool) (rs : List Reply) → replies_now channels xs os ≡ Some rs
     → AreFound channels xs os rs
@@ -171,18 +137,12 @@ are_found channels (a ∷ xs) os rs e =
   where
     count : (os : List Bool) (b : Bool) → queries_in xs ≤ length (cond b os (drop 1 os)) → (b ≡ false → is_some (slice_get os 0) ≡ true)
         → cond b 0 1 + queries_in xs ≤ length os
-    count os true l f = omega arith
-    count [] false l f = let z = f refl in cc
-    count (o ∷ os) false l f = omega arith
+    count [] b l f = grind arith
+    count (o ∷ os) b l f = grind arith
 
     value_there : (needs a.kind (flag_now a.kind (slice_get os 0)) ≡ true → is_some (value_now channels a) ≡ true)
         → (not (pops_now (seen a) (flag_now a.kind (slice_get os 0))) || ltb (a.ordinal - 1) (length (values_at channels a.channel))) ≡ true
-    value_there f =
-        elim (cases_Bool (needs a.kind (flag_now a.kind (slice_get os 0)))) [
-          | inl q ↦ or_right _ _ (lt-ltb (a.ordinal - 1) (length (values_at channels a.channel))
-              (there_is (values_at channels a.channel) (a.ordinal - 1) (f q)))
-          | inr q ↦ or_left _ _ (ap not q)
-        ]
+    value_there f = let there = some_there (values_at channels a.channel) (a.ordinal - 1) in grind arith
 
 pub not_found : (channels : List Channel) (xs : List Access) (os : List Bool) → replies_now channels xs os ≡ None
     → queries_in xs ≤ length os → values_now channels xs (flags_by xs os) ≡ true → ⊥
@@ -203,14 +163,10 @@ not_found channels (a ∷ xs) os e l t =
     outcome (o ∷ os) b l = refl
 
     fewer : (os : List Bool) (b : Bool) → cond b 0 1 + queries_in xs ≤ length os → queries_in xs ≤ length (cond b os (drop 1 os))
-    fewer os true l = omega arith
-    fewer [] false l = absurd (omega arith)
-    fewer (o ∷ os) false l = omega arith
+    fewer [] b l = grind arith
+    fewer (o ∷ os) b l = grind arith
 
     value : needs a.kind (flag_now a.kind (slice_get os 0)) ≡ true → (not (pops_now (seen a) (flag_now a.kind (slice_get os 0))) || ltb
         (a.ordinal - 1) (length (values_at channels a.channel))) ≡ true
         → is_some (value_now channels a) ≡ true
-    value n m =
-        let m' : (not true || ltb (a.ordinal - 1) (length (values_at channels a.channel))) ≡ true = subst
-        (λ (b : Bool). (not b || ltb (a.ordinal - 1) (length (values_at channels a.channel))) ≡ true) n m in
-        some_there (values_at channels a.channel) (a.ordinal - 1) (ltb-true (a.ordinal - 1) (length (values_at channels a.channel)) m')
+    value n m = let there = some_there (values_at channels a.channel) (a.ordinal - 1) in grind arith

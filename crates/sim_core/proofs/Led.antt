@@ -36,18 +36,14 @@ use Rattle.sim_core.specs.Views.{CoreView, theory_of}
 use Rattle.sim_core.specs.Drives.{Goes, IsDiffering}
 use Rattle.sim_core.specs.Edits.{IsAsBefore, IsRetimed, IsChanged}
 use Rattle.sim_core.specs.Records.{IsEditedOn, HasOtherAnswer}
+use Rattle.sim_core.proofs.Causing.{determined_inside}
+use Rattle.sim_core.proofs.Rounds.{acts_join}
 use Rattle.sim_core.proofs.Cut.{cut_of, cut_stays}
 use Rattle.sim_core.proofs.Logged.{answered_back, outcomes_on}
 use Rattle.sim_core.proofs.Otherwise.{AreOtherAt, other_answer}
 use Rattle.sim_core.proofs.RecordsGrow.{all_recorded}
 use Rattle.sim_core.proofs.SameSteps.{same_steps, same_flags, same_answered, all_asked}
 use Rattle.sim_core.proofs.Unadded.{IsUnadded, unadded_no_run}
-
-acts_both : {S : Type 0} → (d : Design S) (limit : ℕ) (x : Core S) (actions more : List Action) (y z : Core S)
-    → ActsAll d limit x actions y
-    → ActsAll d limit y more z → ActsAll d limit x (actions ++ more) z
-acts_both {S} d limit x [] more y z a b = subst (λ (w : Core S). ActsAll d limit w more z) a b
-acts_both {S} d limit x (c ∷ actions) more y z (w, s, a) b = (w, s, acts_both d limit w actions more y z a b)
 
 -- a module with a step is one of the lanes
 within_lanes : (h : Held) (m k : ℕ) → k < emitted_of h m → length h.logs ≡ length h.lanes → m < length h.logs
@@ -151,7 +147,7 @@ module _ (v : CoreView) (e : Edit) (w : CoreView) (t : IsEditedOn v e w) where
       let agreed = subst (λ (q : Plan). IsAgreed (design q) (lockstep_run q) q.cycles cut) (sym plan)
       (cut_of v.plan t.from.fits e t.fits v.held t.from.sound t.from.agreed t.final r.clock r.from) in
       let all = subst (λ (q : Plan). ActsAll (design q) q.cycles cut (r.leads.actions ++ t.goes.actions) (theory_of w)) (sym t.goes.plan)
-      (acts_both (design t.middle.plan) t.middle.plan.cycles cut r.leads.actions t.goes.actions (theory_of t.middle) (theory_of w)
+      (acts_join (design t.middle.plan) t.middle.plan.cycles cut (theory_of t.middle) (theory_of w) r.leads.actions t.goes.actions
       r.leads.all t.goes.all) in
       record {
         core = cut;
@@ -251,14 +247,8 @@ module _ (v : CoreView) (e : Edit) (w : CoreView) (t : IsEditedOn v e w) where
 
     inside : m < length w.held.logs
     inside =
-        elim (cases_lt m (length w.held.logs)) [
-          | inl l ↦ l
-          | inr l ↦
-              let a = t.to.sound.logs in
-              let none = t.to.agreed.marks.inside m (omega arith) in
-              let some = emitted in
-              absurd (omega arith)
-        ]
+        let own = determined_inside (design w.plan) w.plan.cycles x t.to.agreed.marks.inside m c at in
+        let same = t.to.sound.logs in omega arith
 
     other : AreOtherAt q.number (log_at w.held.logs m).outcomes (get_or (report w.plan).answers m [])
     other =

@@ -1,18 +1,15 @@
 -- The outcomes in the log, where a core came from another.
 use Rattle.std.proofs.Common.{◌≡◌, refl, sym, ap, ap₂, ◌∙◌, ℕ, zero, suc, ◌+◌, ◌<◌, ◌≤◌, ◌⊎◌, inl, inr, Bool, true, not}
 use Rattle.std.proofs.Common.{eqb, leb, ltb, ◌&&◌, ◌||◌, List, [], ◌∷◌, ◌++◌, length, map, take, drop, arith, append-nil}
-use Rattle.std.specs.Prelude.{slice_get}
 use Rattle.std.proofs.Math.Seq.{take-add, take-length}
-use Rattle.std.proofs.lemmas.Bool.{cases_Bool, and_parts, lt-ltb}
+use Rattle.std.proofs.lemmas.Bool.{and_parts, lt-ltb}
 use Rattle.std.proofs.lemmas.Bool.Decides.{eqb_tells}
 use Rattle.std.proofs.lemmas.List.{length-append, length-drop, take-append-drop}
-use Rattle.flow_word.specs.Kinds.{is_blocking}
 use Rattle.flow_word.specs.declared.access.Access.{Access}
-use Rattle.event_timing.specs.Machines as theory
 use Rattle.event_timing.specs.Machines.{Design}
 use Rattle.event_timing.specs.Core.{core_accesses, has_query}
 use Rattle.query_log.specs.Logs.{Log, no_log, log_at}
-use Rattle.engine_view.specs.Held.{Held, step_of, emitted_of, seen, queries_in, possible_by, flags_by, are_among, has_all, core_of}
+use Rattle.engine_view.specs.Held.{Held, step_of, emitted_of, seen, queries_in, flags_by, are_among, has_all, core_of}
 use Rattle.engine_view.specs.Shown.{IsSound, AreWhole, queries_before}
 use Rattle.engine_view.proofs.Answered.{queries_step, queries_zero, among_is, among_if, all_among}
 use Rattle.engine_view.proofs.Emitted.{queries_mono, has_query_is}
@@ -26,37 +23,20 @@ use Rattle.sim_core.proofs.RecordsGrow.{NoneAdded, AreSure}
 alike_kind : (a b : Access) → seen a ≡ seen b → a.kind ≡ b.kind
 alike_kind a b e = sym (kind_seen a) ∙ (ap kind_in e ∙ kind_seen b)
 
-abbrev head_or : theory.Access → List theory.Access → theory.Access
-head_or e [] = e
-head_or e (x ∷ xs) = x
-
-abbrev rest_of : List theory.Access → List theory.Access
-rest_of [] = []
-rest_of (x ∷ xs) = xs
-
 pub queries_alike : (as' bs : List Access) → map seen as' ≡ map seen bs → queries_in as' ≡ queries_in bs
 queries_alike [] [] e = refl
 queries_alike [] (b ∷ bs) e = cc
 queries_alike (a ∷ as') [] e = cc
 queries_alike (a ∷ as') (b ∷ bs) e =
-    let kind = alike_kind a b (ap (head_or (seen a)) e) in
-    let rest = queries_alike as' bs (ap rest_of e) in
-    elim (cases_Bool (is_blocking b.kind)) [
-      | inl q ↦ rw (ap is_blocking kind ∙ q, q) rest
-      | inr q ↦ rw (ap is_blocking kind ∙ q, q) (ap suc rest)
-    ]
+    let kind = alike_kind a b cc in let rest = queries_alike as' bs cc in grind arith
 
 flags_alike : (as' bs : List Access) (os : List Bool) → map seen as' ≡ map seen bs → flags_by as' os ≡ flags_by bs os
 flags_alike [] [] os e = refl
 flags_alike [] (b ∷ bs) os e = cc
 flags_alike (a ∷ as') [] os e = cc
 flags_alike (a ∷ as') (b ∷ bs) os e =
-    let kind = alike_kind a b (ap (head_or (seen a)) e) in
-    let rest = λ (ps : List Bool). flags_alike as' bs ps (ap rest_of e) in
-    elim (cases_Bool (is_blocking b.kind)) [
-      | inl q ↦ rw (ap is_blocking kind ∙ q, q) (ap (λ (l : List Bool). true ∷ l) (rest os))
-      | inr q ↦ rw (ap is_blocking kind ∙ q, q, kind) (ap (λ (l : List Bool). possible_by b.kind (slice_get os 0) ∷ l) (rest (drop 1 os)))
-    ]
+    let kind = alike_kind a b cc in
+    let now = flags_alike as' bs os cc in let later = flags_alike as' bs (drop 1 os) cc in grind arith
 
 -- ---- the log of a core
 

@@ -1,11 +1,12 @@
 -- The replies that are read off a mail are those that the core tells.
-use Rattle.std.proofs.Common.{◌≡◌, refl, sym, ap, ap₂, subst, ◌∙◌, ℕ, zero, suc, ◌+◌, ◌<◌, Bool, true, false, not, cond, eqb, ltb, ◌&&◌}
+use Rattle.std.proofs.Common.{length-drop, ◌≡◌, refl, sym, ap, ap₂, subst, ◌∙◌, ℕ, zero, suc, ◌+◌, ◌<◌, Bool, true, false, not, cond, eqb, ltb, ◌&&◌}
 use Rattle.std.proofs.Common.{◌||◌, List, [], ◌∷◌, length, map, drop, get_or, Option, Some, None, slice_get, slice_index_or, inl, inr}
 use Rattle.std.proofs.Common.{arith}
-use Rattle.std.proofs.lemmas.Bool.{cases_Bool, and_from, lt-ltb}
+use Rattle.std.proofs.lemmas.Bool.Decides.{nat_tests}
+use Rattle.std.proofs.lemmas.Bool.{cases_Bool, and_from}
 use Rattle.std.proofs.lemmas.Bool.Decides.{eqb_tells}
 use Rattle.std.proofs.lemmas.List.{get_or-set_same, get_or-set_other}
-use Rattle.std.proofs.lemmas.Option.{slice_get_within, get_or_from_slice_get}
+use Rattle.std.proofs.lemmas.Option.{slice_get_within, slice_get_past, get_or_from_slice_get}
 use Rattle.flow_word.specs.declared.access.Kind.{Kind}
 use Rattle.flow_word.specs.declared.access.Kind.TheVariants.{Read, Write, TryRead, TryWrite, Empty, Full}
 use Rattle.flow_design.specs.declared.state.Reply.{Reply}
@@ -41,48 +42,9 @@ record IsFound (k : Kind) (b : Bool) (value : Option ℕ) (front : ℕ) (q : Rep
 found_one : (k : Kind) (b : Bool) (outcome : Option Bool) (value : Option ℕ) (front : ℕ) (q : Reply) → (is_blocking k ≡ true → b ≡ true)
     → (is_blocking k ≡ false → outcome ≡ Some (outcome_by k b)) → ((v : ℕ) → value ≡ Some v → front ≡ v)
     → reply_now k outcome value ≡ Some q → IsFound k b value front q
-found_one Read true outcome None front q f o w e = cc
-found_one Read true outcome (Some v) front q f o w e = record {
-  is = sym (some_is (Value v) q e)
-      ∙ ap Value (sym (w v refl));
-  took = ap has_value (sym (some_is (Value v) q e));
-  there = λ z. (v, refl);
-}
-found_one Read false outcome value front q f o w e = let z = f refl in cc
-found_one Write b outcome value front q f o w e = record {
-  is = sym (some_is Done q e);
-  took = ap has_value (sym (some_is Done q e));
-  there = λ z. cc;
-}
-found_one TryRead true None value front q f o w e = cc
-found_one TryRead true (Some false) value front q f o w e = let z = o refl in cc
-found_one TryRead true (Some true) None front q f o w e = cc
-found_one TryRead true (Some true) (Some v) front q f o w e = record {
-  is = sym (some_is (Took v) q e)
-      ∙ ap Took (sym (w v refl));
-  took = ap has_value (sym (some_is (Took v) q e));
-  there = λ z. (v, refl);
-}
-found_one TryRead false None value front q f o w e = cc
-found_one TryRead false (Some true) value front q f o w e = let z = o refl in cc
-found_one TryRead false (Some false) value front q f o w e = record {
-  is = sym (some_is Missed q e);
-  took = ap has_value
-      (sym (some_is Missed q e));
-  there = λ z. cc;
-}
-found_one TryWrite b None value front q f o w e = cc
-found_one TryWrite b (Some c) value front q f o w e =
-    let z = some_is c b (o refl) in
-    record { is = sym (some_is (Flag c) q e) ∙ ap Flag z; took = ap has_value (sym (some_is (Flag c) q e)); there = λ y. cc }
-found_one Empty b None value front q f o w e = cc
-found_one Empty b (Some c) value front q f o w e =
-    let z = some_is c (not b) (o refl) in
-    record { is = sym (some_is (Flag c) q e) ∙ ap Flag z; took = ap has_value (sym (some_is (Flag c) q e)); there = λ y. cc }
-found_one Full b None value front q f o w e = cc
-found_one Full b (Some c) value front q f o w e =
-    let z = some_is c (not b) (o refl) in
-    record { is = sym (some_is (Flag c) q e) ∙ ap Flag z; took = ap has_value (sym (some_is (Flag c) q e)); there = λ y. cc }
+found_one k b outcome None front q f o w e = record { is = grind arith; took = grind arith; there = λ z. grind arith }
+found_one k b outcome (Some v) front q f o w e =
+    let same = w v refl in record { is = grind arith; took = grind arith; there = λ z. (v, refl) }
 
 -- ---- lists
 
@@ -95,22 +57,10 @@ drop_head (x ∷ xs) zero y ys e = (cc, cc)
 drop_head (x ∷ xs) (suc n) y ys e = drop_head xs n y ys e
 
 pub drop_none : {X : Type 0} → (xs : List X) (n : ℕ) → drop n xs ≡ [] → slice_get xs n ≡ None
-drop_none [] zero e = refl
-drop_none [] (suc n) e = refl
-drop_none (x ∷ xs) zero e = cc
-drop_none (x ∷ xs) (suc n) e = drop_none xs n e
+drop_none {X} xs n e = slice_get_past xs n (let none = ap (λ (ys : List X). length ys) e in let long = length-drop n xs in omega arith)
 
 took_is : (k : Kind) (b e : Bool) → (is_taking k && (b && (same_side (side_of k) Pop && e))) ≡ (pops_one k b && e)
-took_is Read true e = refl
-took_is Read false e = refl
-took_is Write true e = refl
-took_is Write false e = refl
-took_is TryRead true e = refl
-took_is TryRead false e = refl
-took_is TryWrite true e = refl
-took_is TryWrite false e = refl
-took_is Empty b e = refl
-took_is Full b e = refl
+took_is k b e = grind arith
 
 more_at : (u : List ℕ) (c f : ℕ) (h : Bool) → (h ≡ true → c < length u)
     → slice_index_or (cond h (one_more u c) u) f 0 ≡ slice_index_or u f 0 + cond {A = ℕ} (h && eqb c f) 1 0
@@ -140,13 +90,10 @@ go_on : (mail : Mail) (before : List Exchange) (told : ℕ) (r : Request) (rs : 
     × (told + queries_in (map (access_of before) (r ∷ rs)) ≡ told_by r.kind told + queries_in (map (access_of before) rs)))
 go_on mail before told r rs b bs e =
     elim (cases_Bool (is_blocking r.kind)) [
-      | inl k ↦ let e' : drop told mail.outcomes ≡ outcomes_in rs bs = e
-          ∙ ap (λ (z : Bool). cond z (outcomes_in rs bs) (outcome_by r.kind b ∷ outcomes_in rs bs)) k in
-          (λ z. let y = sym k ∙ z in cc, (ap (λ (z : Bool). drop (cond z told (suc told)) mail.outcomes) k ∙ e', rw k refl))
-      | inr k ↦ let e' : drop told mail.outcomes ≡ outcome_by r.kind b ∷ outcomes_in rs bs = e
-          ∙ ap (λ (z : Bool). cond z (outcomes_in rs bs) (outcome_by r.kind b ∷ outcomes_in rs bs)) k in
-          let (h1, h2) = drop_head mail.outcomes told (outcome_by r.kind b) (outcomes_in rs bs) e' in
-          (λ z. h1, (ap (λ (z : Bool). drop (cond z told (suc told)) mail.outcomes) k ∙ h2, rw k (omega arith)))
+      | inl k ↦ (λ z. grind arith, (grind arith, grind arith))
+      | inr k ↦
+          let (h1, h2) = drop_head mail.outcomes told (outcome_by r.kind b) (outcomes_in rs bs) (grind arith) in
+          (λ z. h1, (grind arith, grind arith))
     ]
 
 module _ (mail : Mail) (taken : List ℕ) (before : List Exchange) (V : ℕ → List ℕ) (t : ℕ → ℕ)
@@ -188,11 +135,8 @@ module _ (mail : Mail) (taken : List ℕ) (before : List Exchange) (V : ℕ → 
       below g =
           elim (cases_Bool (pops_one r.kind b)) [
             | inr k ↦ rw k refl
-            | inl k ↦ let (v, y) = g k in rw (
-              k,
-              lt-ltb (t r.channel) (length (V r.channel))
-                  (slice_get_within (V r.channel) (t r.channel) v (window r.channel v y)),
-            ) refl
+            | inl k ↦ let (v, y) = g k in
+                let within = slice_get_within (V r.channel) (t r.channel) v (window r.channel v y) in grind (arith, nat_tests)
           ]
 
       counted : (q : Reply) (qs' : List Reply) → has_value q ≡ pops_one r.kind b
@@ -216,12 +160,7 @@ module _ (mail : Mail) (taken : List ℕ) (before : List Exchange) (V : ℕ → 
 -- ---- steps without outcomes
 
 none_found : (k : Kind) (value : Option ℕ) → is_blocking k ≡ false → reply_now k None value ≡ None
-none_found Read value e = cc
-none_found Write value e = cc
-none_found TryRead value e = refl
-none_found TryWrite value e = refl
-none_found Empty value e = refl
-none_found Full value e = refl
+none_found k value e = grind arith
 
 -- where no outcome is left and all replies are found, there is no query
 pub no_query : (mail : Mail) (told : ℕ) (taken : List ℕ) (before : List Exchange) (rs : List Request) (qs : List Reply)
@@ -232,26 +171,16 @@ no_query mail told taken before (r ∷ rs) qs o e =
     let (q, (qs', (e1, (e2, e3)))) = first_parts (reply_now r.kind (slice_get mail.outcomes told) (next_value mail taken r.channel))
     (replies_in mail (told_by r.kind told) taken (map (access_of before) rs)) qs e in
     elim (cases_Bool (is_blocking r.kind)) [
-      | inl k ↦
-          let e4 : replies_in mail told taken (map (access_of before) rs) ≡ Some qs' = subst
-          (λ (z : Bool). replies_in mail (cond z told (suc told)) taken (map (access_of before) rs) ≡ Some qs') k e2 in
-          ap (λ (z : Bool). not z || has_query (map seen rs)) (k) ∙ no_query mail told taken before rs qs' o e4
+      | inl k ↦ let later = no_query mail told taken before rs qs' o (grind arith) in grind arith
       | inr k ↦
-          let e5 : reply_now r.kind None (next_value mail taken r.channel) ≡ Some q = subst
-          (λ (z : Option Bool). reply_now r.kind z (next_value mail taken r.channel) ≡ Some q) (drop_none mail.outcomes told o) e1 in
-          let z = sym (none_found r.kind (next_value mail taken r.channel) k) ∙ e5 in cc
+          let none = none_found r.kind (next_value mail taken r.channel) k in
+          let gone = drop_none mail.outcomes told o in absurd cc
     ]
 
 pub no_outcomes_of : (rs : List Request) (bs : List Bool) → has_query (map seen rs) ≡ false → outcomes_in rs bs ≡ []
 no_outcomes_of [] bs e = refl
 no_outcomes_of (r ∷ rs) [] e = refl
-no_outcomes_of (r ∷ rs) (b ∷ bs) e =
-    elim (cases_Bool (is_blocking r.kind)) [
-      | inl k ↦
-          let e' : has_query (map seen rs) ≡ false = sym (ap (λ (z : Bool). not z || has_query (map seen rs)) (k)) ∙ e in
-          ap (λ (z : Bool). cond z (outcomes_in rs bs) (outcome_by r.kind b ∷ outcomes_in rs bs)) k ∙ no_outcomes_of rs bs e'
-      | inr k ↦ let z = sym (ap (λ (z : Bool). not z || has_query (map seen rs)) (k)) ∙ e in cc
-    ]
+no_outcomes_of (r ∷ rs) (b ∷ bs) e = let later = no_outcomes_of rs bs in grind arith
 
 -- a value is there of channels of the mail alone
 pub value_inside : (xs : List (List ℕ)) (c i v : ℕ) → slice_get (get_or xs c []) i ≡ Some v → c < length xs

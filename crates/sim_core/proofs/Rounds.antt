@@ -74,9 +74,9 @@ module _ (v w : CoreView) (m before : ℕ) (plan : w.plan ≡ v.plan) (lent : w.
 
 -- ---- lists of actions
 
-acts_join : {S : Type 0} → (d : Design S) (limit : ℕ) (x y z : Core S) (front behind : List Action) → ActsAll d limit x front y
+pub acts_join : {S : Type 0} → (d : Design S) (limit : ℕ) (x y z : Core S) (front behind : List Action) → ActsAll d limit x front y
     → ActsAll d limit y behind z → ActsAll d limit x (front ++ behind) z
-acts_join {S} d limit x y z [] behind e b = subst (λ (w : Core S). ActsAll d limit w behind z) e b
+acts_join {S} d limit x y z [] behind e b = rw (← e) b
 acts_join {S} d limit x y z (a ∷ more) behind (w, t, r) b = (w, t, acts_join d limit w y z more behind r b)
 
 given_join : (front behind : List Action) → given (front ++ behind) ≡ given front + given behind

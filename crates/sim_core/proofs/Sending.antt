@@ -1,14 +1,11 @@
 -- What a run's counts, the log and the table tell of its mail is what the core tells.
-use Rattle.std.proofs.Common.{◌≡◌, refl, sym, ap, ap₂, ◌∙◌, ℕ, suc, ◌<◌, ◌≤◌, Bool, true, false, not, cond, eqb, inl, inr}
-use Rattle.std.proofs.Common.{List, [], ◌∷◌, length, map, take, drop, slice_index, slice_get, Some, arith}
+use Rattle.std.proofs.Common.{◌≡◌, refl, sym, ap, ap₂, ◌∙◌, ℕ, suc, ◌<◌, ◌≤◌, Bool, false, not, cond, eqb, inl, inr}
+use Rattle.std.proofs.Common.{List, [], ◌∷◌, length, map, take, drop, slice_index, arith}
 use Rattle.std.proofs.lemmas.List.{get_or_past}
-use Rattle.std.proofs.lemmas.Bool.Decides.{eqb_tells}
+use Rattle.std.proofs.lemmas.Bool.Decides.{nat_tests}
 use Rattle.std.proofs.lemmas.Bool.{cases_Bool, cond-true, cond-false, cases_lt, eq-eqb}
 use Rattle.flow_word.specs.declared.access.Access.{Access}
-use Rattle.flow_word.specs.declared.access.Side.{Side}
-use Rattle.flow_word.specs.declared.access.Side.TheVariants.{Pop, Push}
-use Rattle.flow_word.specs.declared.access.Kind.{Kind}
-use Rattle.flow_word.specs.declared.access.Kind.TheVariants.{Read, Write, TryRead, TryWrite, Empty, Full}
+use Rattle.flow_word.specs.declared.access.Side.TheVariants.{Pop}
 use Rattle.flow_design.specs.declared.plan.Plan.{Plan}
 use Rattle.flow_design.specs.declared.state.Request.{Request}
 use Rattle.flow_design.specs.StaticRules.{FitsEngine}
@@ -18,14 +15,12 @@ use Rattle.lockstep_defs.specs.Report.{queries}
 use Rattle.module_interp.specs.OwnRests.{done_in}
 use Rattle.query_resolve.specs.Decisions.{late_outcome}
 use Rattle.flow_word.specs.Kinds.{is_blocking}
-use Rattle.event_timing.specs.Machines as theory
 use Rattle.event_timing.specs.Core.{core_tally}
 use Rattle.event_timing.specs.Agreement.{AreOwnMarks}
 use Rattle.timing_bridge.specs.Designs.{design}
 use Rattle.timing_bridge.specs.Designs as bridge
 use Rattle.timing_bridge.proofs.Ordinals.{ordinals}
-use Rattle.engine_view.specs.Answered.{outcome_by}
-use Rattle.engine_view.specs.Held.{Held, emitted_of, seen, queries_in, possible_by, flags_by, core_of, values_at}
+use Rattle.engine_view.specs.Held.{Held, emitted_of, seen, queries_in, flags_by, core_of, values_at}
 use Rattle.engine_view.specs.Shown.{IsSound, queries_before}
 use Rattle.run_ahead.specs.declared.mail.Mail.{Mail}
 use Rattle.sim_core.specs.Lent.{AreMailed}
@@ -39,27 +34,11 @@ use Rattle.sim_core.specs.Tasks.{outcomes_in, values_behind}
 use Rattle.sim_core.proofs.Marking.{moved_before, queries_done, table_count}
 use Rattle.sim_core.proofs.Resting.{rest_is}
 use Rattle.engine_report.proofs.Asking.{same_kind}
-use Rattle.sim_core.proofs.Fed.{heads, tails}
-
--- ---- kinds
-
-abbrev kind_by : Side → Bool → Bool → Kind
-kind_by Pop true t = Read
-kind_by Push true t = Write
-kind_by Pop false true = TryRead
-kind_by Push false true = TryWrite
-kind_by Pop false false = Empty
-kind_by Push false false = Full
-
-no_access : theory.Access
-no_access = record { side = Pop; blocks = false; takes = false; channel = 0; value = 0 }
 
 -- ---- outcomes
 
 turned : (late o : Bool) → cond late (not (cond late (not o) o)) (cond late (not o) o) ≡ o
-turned true true = refl
-turned true false = refl
-turned false o = refl
+turned late o = grind arith
 
 asked : (r : Request) (rs : List Request) (a : Access) (xs : List Access) (os : List Bool) → r.kind ≡ a.kind → is_blocking a.kind ≡ false
     → suc (queries_in xs) ≤ length os
@@ -67,12 +46,7 @@ asked : (r : Request) (rs : List Request) (a : Access) (xs : List Access) (os : 
     → take (suc (queries_in xs)) os ≡ outcomes_in (r ∷ rs) (flags_by (a ∷ xs) os)
 asked r rs a xs [] e k l more = absurd (omega arith)
 asked r rs a xs (o ∷ os) e k l more =
-    ap₂ (λ (b : Bool) (bs : List Bool). b ∷ bs) (sym (ap (λ (z : Kind). outcome_by z (possible_by a.kind (Some o))) e
-    ∙ turned (late_outcome a.kind) o)) (more os (omega arith))
-    ∙ (sym (cond-false (is_blocking r.kind) (outcomes_in rs (flags_by xs os))
-    (outcome_by r.kind (possible_by a.kind (Some o)) ∷ outcomes_in rs (flags_by xs os)) (ap is_blocking e ∙ k))
-    ∙ ap (outcomes_in (r ∷ rs)) (sym (cond-false (is_blocking a.kind) (true ∷ flags_by xs (o ∷ os))
-    (possible_by a.kind (Some o) ∷ flags_by xs os) k)))
+    let later = more os (omega arith) in let same = turned (late_outcome a.kind) o in grind arith
 
 -- the outcomes from a step's first query on are those by its flags, where all are recorded
 pub outcomes_read : (rs : List Request) (xs : List Access) (os : List Bool) → map bridge.seen rs ≡ map seen xs → queries_in xs ≤ length os
@@ -81,19 +55,11 @@ outcomes_read [] [] os e l = refl
 outcomes_read [] (a ∷ xs) os e l = cc
 outcomes_read (r ∷ rs) [] os e l = cc
 outcomes_read (r ∷ rs) (a ∷ xs) os e l =
+    let kind = same_kind r a cc in
     elim (cases_Bool (is_blocking a.kind)) [
-      | inl k ↦
-          let q : queries_in (a ∷ xs) ≡ queries_in xs = rw k refl in
-          ap (λ (n : ℕ). take n os) q
-          ∙ (outcomes_read rs xs os (tails _ _ _ _ e) (omega arith)
-          ∙ (sym (cond-true (is_blocking r.kind) (outcomes_in rs (flags_by xs os))
-          (outcome_by r.kind true ∷ outcomes_in rs (flags_by xs os)) (ap is_blocking (same_kind r a (heads _ _ _ _ e)) ∙ k))
-          ∙ ap (outcomes_in (r ∷ rs)) (sym (cond-true (is_blocking a.kind) (true ∷ flags_by xs os)
-          (possible_by a.kind (slice_get os 0) ∷ flags_by xs (drop 1 os)) k))))
-      | inr k ↦
-          let q : queries_in (a ∷ xs) ≡ suc (queries_in xs) = rw k refl in
-          ap (λ (n : ℕ). take n os) q ∙ asked r rs a xs os (same_kind r a (heads _ _ _ _ e)) k (omega arith)
-          (λ os' y. outcomes_read rs xs os' (tails _ _ _ _ e) y)
+      | inl k ↦ let later = outcomes_read rs xs os (cc) (grind arith) in grind arith
+      | inr k ↦ let enough : suc (queries_in xs) ≤ length os = grind arith in
+          let first = asked r rs a xs os kind k enough (λ os' y. outcomes_read rs xs os' (cc) y) in grind arith
     ]
 
 -- ---- counts
@@ -104,15 +70,10 @@ asked_same before [] [] e = refl
 asked_same before [] (a ∷ xs) e = cc
 asked_same before (r ∷ rs) [] e = cc
 asked_same before (r ∷ rs) (a ∷ xs) e =
-    let kind = same_kind r a (heads _ _ _ _ e) in
-    let more = asked_same before rs xs (tails _ _ _ _ e) in
-    elim (cases_Bool (is_blocking a.kind)) [
-      | inl k ↦ let y : is_blocking r.kind ≡ true = ap is_blocking kind ∙ k in rw k (rw y more)
-      | inr k ↦ let y : is_blocking r.kind ≡ false = ap is_blocking kind ∙ k in rw k (rw y (ap (λ (n : ℕ). suc n) more))
-    ]
+    let kind = same_kind r a cc in let more = asked_same before rs xs cc in grind arith
 
 eqb_not : (a b : ℕ) → (a ≡ b → ⊥) → eqb a b ≡ false
-eqb_not a b n = elim (eqb_tells a b) [ inl t ↦ absurd (n t.1) | inr t ↦ t.0 ]
+eqb_not a b n = grind (arith, nat_tests)
 
 -- behind n steps of a core
 module _ (p : Plan) (f : FitsEngine p) (h : Held) (table : kinds_in h.channels ≡ kinds_of p) (s : IsSound (design p) h)

@@ -2,12 +2,13 @@
 use Rattle.std.proofs.Common.{◌≡◌, refl, sym, ap, ap₂, subst, ◌∙◌, ℕ, ◌+◌, ◌-◌, ◌<◌, Bool, true, false, not, cond, ltb}
 use Rattle.std.proofs.Common.{◌&&◌, ◌||◌, List, [], ◌∷◌, length, map, drop, get_or, Some, slice_get, slice_index_or, inl}
 use Rattle.std.proofs.Common.{inr, arith}
+use Rattle.std.proofs.lemmas.Bool.Decides.{nat_tests}
 use Rattle.std.proofs.lemmas.Bool.{cases_Bool, cond-true, cond-false, lt-ltb, le-ltb, cases_lt, cases_eq, and_parts, ltb-true}
 use Rattle.std.proofs.lemmas.List.{length-replicate, get_or_past}
 use Rattle.std.specs.List.{AllByRecursion}
 use Rattle.std.proofs.lemmas.Option.{slice_get-get_or}
 use Rattle.flow_word.specs.declared.access.Side.{Side}
-use Rattle.flow_word.specs.declared.access.Side.TheVariants.{Pop, Push}
+use Rattle.flow_word.specs.declared.access.Side.TheVariants.{Pop}
 use Rattle.flow_word.specs.Kinds.{same_side, side_of, is_taking}
 use Rattle.flow_design.specs.declared.plan.Plan.{Plan}
 use Rattle.flow_design.specs.declared.state.Advance.{Advance}
@@ -60,8 +61,7 @@ task_for p x m task t = record {
     values = λ c.
         elim (cases_eq ((design p).owner Pop c) m) [
           | inl e ↦ mine c e
-          | inr e ↦ subst (Begins (values_behind p x m (committed x m task.run) c)) (sym (t.others c e))
-              (values_behind p x m (committed x m task.run) c, refl)
+          | inr e ↦ rw (t.others c e) (values_behind p x m (committed x m task.run) c, refl)
         ];
   };
 }
@@ -70,8 +70,8 @@ task_for p x m task t = record {
     mine c e =
         let all = values_behind p x m (committed x m task.run) c in
         elim (cases_lt c (length p.design.channels)) [
-          | inl l ↦ subst (Begins all) (sym (t.popped c l e)) (begins_self all)
-          | inr l ↦ subst (Begins all) (sym (get_or_past task.mail.values c [] (let n = t.count in omega arith))) (all, refl)
+          | inl l ↦ rw (t.popped c l e) (begins_self all)
+          | inr l ↦ rw (get_or_past task.mail.values c [] (let n = t.count in omega arith)) (all, refl)
         ]
 
 -- it stays one while others act
@@ -109,17 +109,8 @@ task_stays p x z b m beside task t =
     outcomes_same k =
         elim (cases_lt k (x.emitted m)) [
           | inl l ↦
-              cond-true (ltb k (z.emitted m)) (outcomes_in (requests_of p (m, z.state m k)) (z.flags m k)) []
-              (lt-ltb k (z.emitted m) (omega arith))
-              ∙ (ap₂ (λ (s : ModuleState) (bs : List Bool). outcomes_in (requests_of p (m, s)) bs) (g.state_same m k l)
-              (g.flags_same m k l (answered k l))
-              ∙ sym (cond-true (ltb k (x.emitted m)) (outcomes_in (requests_of p (m, x.state m k)) (x.flags m k)) []
-              (lt-ltb k (x.emitted m) l)))
-          | inr l ↦
-              cond-false (ltb k (z.emitted m)) (outcomes_in (requests_of p (m, z.state m k)) (z.flags m k)) []
-              (le-ltb k (z.emitted m) (omega arith))
-              ∙ sym (cond-false (ltb k (x.emitted m)) (outcomes_in (requests_of p (m, x.state m k)) (x.flags m k)) []
-              (le-ltb k (x.emitted m) l))
+              let states = g.state_same m k l in let flags = g.flags_same m k l (answered k l) in grind (arith, nat_tests)
+          | inr l ↦ grind (arith, nat_tests)
         ]
       where
         answered : (j : ℕ) → j < x.emitted m → x.answered m j ≡ true
@@ -185,10 +176,8 @@ burst_runs p f x b m task burst t i =
     from_step : Waits p x m task.mail (rest_of p x m task) 0 (none_taken task.mail)
         → IsBurstFrom true p m (rest_of p x m task) task.mail burst → Ran p x m (length burst.emitted) (task_left burst)
     from_step w (inl (n, s)) =
-        subst (λ (xs : List Advance). Ran p x m (length xs) (task_left burst)) (sym n)
-        (ran_none p x m (task_left burst) (waiting_stands p x m task.mail (rest_of p x m task) 0 (none_taken task.mail) burst.short
-        (task_left burst) w
-        s))
+        rw n (ran_none p x m (task_left burst) (waiting_stands p x m task.mail (rest_of p x m task) 0 (none_taken task.mail) burst.short
+        (task_left burst) w s))
     from_step w (inr (qs, (e, next))) =
         run_on p f x b m task.mail burst.short (task_left burst) (next_rest p m (rest_of p x m task) qs)
         (0 + queries_in (accesses_at p m (rest_of p x m task))) (taken_after (none_taken task.mail)
@@ -220,9 +209,7 @@ values_there_in p x m k mail taken t (r ∷ rs) (b ∷ bs) (o, os) e (s, ss) h =
     )
   where
     pops_side : (a : Bool) (s : Side) (c : Bool) → (a && (same_side s Pop && c)) ≡ true → s ≡ Pop
-    pops_side true Pop c e = refl
-    pops_side true Push c e = cc
-    pops_side false s c e = cc
+    pops_side a s c e = grind arith
 
 -- all replies to the step that waits are in the mail of a task
 pub task_answers : (p : Plan) → FitsEngine p → (x : Core ModuleState) → AreOwnMarks (design p) x → (m : ℕ) (task : Task)

@@ -1,18 +1,17 @@
 -- What the calls over a graph, a table and a log do to a core: cycles and answers.
-use Rattle.std.proofs.Common.{◌≡◌, refl, sym, ap, ap₂, subst, ◌∙◌, ℕ, zero, suc, ◌+◌, ◌-◌, ◌*◌, ◌<◌, ◌≤◌, inl, inr, Bool, true, false, cond}
-use Rattle.std.proofs.Common.{ltb, ◌&&◌, List, [], ◌∷◌, length, get_or, set, Option, None, Some, arith}
-use Rattle.std.proofs.lemmas.Bool.{cases_Bool, cases_lt, both_ways, lt-ltb}
+use Rattle.std.proofs.Common.{◌≡◌, refl, sym, ap, ap₂, subst, ◌∙◌, ℕ, zero, suc, ◌+◌, ◌-◌, ◌*◌, ◌<◌, inl, inr, Bool, true, false, cond}
+use Rattle.std.proofs.Common.{ltb, ◌&&◌, List, [], length, get_or, set, Option, None, Some, arith}
+use Rattle.std.proofs.lemmas.Bool.{cases_Bool, both_ways, lt-ltb}
 use Rattle.std.proofs.lemmas.List.{get_or_past, get_or-set_same, get_or-set_other}
-use Rattle.std.proofs.lemmas.Bool.Decides.{eqb_tells}
+use Rattle.std.proofs.lemmas.Bool.Decides.{eqb_tells, nat_tests}
 use Rattle.fifo_table.specs.Channels.{Channel}
-use Rattle.std.proofs.lemmas.Option.{get_or_from_slice_get}
+use Rattle.std.proofs.lemmas.Option.{get_or_from_slice_get, slice_get-get_or, slice_get_within}
 use Rattle.std.specs.Prelude.{slice_get, ◌↔◌}
-use Rattle.flow_word.specs.declared.access.Step.{Step}
 use Rattle.flow_design.specs.declared.plan.Plan.{Plan}
 use Rattle.flow_design.specs.declared.state.Advance.{Advance}
 use Rattle.flow_design.specs.declared.state.ModuleState.{ModuleState}
 use Rattle.module_interp.specs.declared.run.ModuleRun.{ModuleRun}
-use Rattle.event_graph.specs.Lanes.{Lane, lane_at, no_lane}
+use Rattle.event_graph.specs.Lanes.{Lane, lane_at}
 use Rattle.event_graph.specs.declared.candidate.Candidate.{Candidate}
 use Rattle.event_graph.specs.declared.candidate.Candidate.TheVariants.{At, Nothing}
 use Rattle.query_log.specs.Logs.{log_at}
@@ -44,6 +43,7 @@ use Rattle.sim_core.specs.Views.{CoreView}
 use Rattle.sim_core.specs.Runs.{AreUnreadIn, IsCore, over_of}
 use Rattle.sim_core.specs.Turns.{HasTurned, HasAnsweredLeast}
 use Rattle.sim_core.specs.Candidates.{AreCandidates}
+use Rattle.sim_core.proofs.Causing.{determined_inside}
 use Rattle.sim_core.proofs.Keeping.{core_acted, kept_of}
 use Rattle.sim_core.specs.declared.unread.Unread.{Unread}
 use Rattle.sim_core.proofs.Leaving.{unread_acted}
@@ -57,24 +57,7 @@ left_by {S} x m = 2 * (x.emitted m - x.timed m) + cond {A = ℕ} (ltb (x.timed m
 left_is : {S : Type 0} (d : Design S) (h : Held) (m : ℕ) → left_of h m ≡ left_by (core_of d h) m
 unfolding left_of left_by
 left_is {S} d h m =
-    elim (cases_lt (first_of h m) (emitted_of h m)) [
-      | inl l ↦ ap (λ (n : ℕ). 2 * (emitted_of h m - first_of h m) + n)
-          (there (ltb (first_of h m) (emitted_of h m)) _ (lt-ltb (first_of h m) (emitted_of h m) l))
-      | inr l ↦
-          let none : step_of h m (first_of h m) ≡ no_step = get_or_past (lane_at h.lanes m).steps (first_of h m) no_step l in
-          let all : are_among (step_of h m (first_of h m)) (log_at h.logs m).verified ≡ true = ap
-          (λ (t : Step). are_among t (log_at h.logs m).verified) none in
-          ap (λ (n : ℕ). 2 * (emitted_of h m - first_of h m) + n) (past (ltb (first_of h m) (emitted_of h m)) _ all)
-    ]
-  where
-    there : (a b : Bool) → a ≡ true → cond {A = ℕ} b 0 1 ≡ cond {A = ℕ} a (cond {A = ℕ} (a && b) 0 1) 0
-    there true b e = refl
-    there false b e = cc
-
-    past : (a b : Bool) → b ≡ true → cond {A = ℕ} b 0 1 ≡ cond {A = ℕ} a (cond {A = ℕ} (a && b) 0 1) 0
-    past true true e = refl
-    past false true e = refl
-    past a false e = cc
+    let past = get_or_past (lane_at h.lanes m).steps (first_of h m) no_step in grind (arith, nat_tests)
 
 sum_same : (f g : ℕ → ℕ) (n : ℕ) → ((m : ℕ) → f m ≡ g m) → sum_to f n ≡ sum_to g n
 unfolding sum_to
@@ -115,7 +98,7 @@ module _ (p : Plan) (s t : Stored) (ends : List (Option Advance)) (runs : List (
   some_core = (d, over, credits, is_design, kept, k.room)
 
   same_core : t ≡ s → IsCore p t ends runs credits
-  same_core e = subst (λ (u : Stored). IsCore p u ends runs credits) (sym e) k
+  same_core e = rw e k
 
   -- the lists that the view has
   abbrev seen : Stored → List Bool → CoreView
@@ -140,8 +123,8 @@ module _ (p : Plan) (s t : Stored) (ends : List (Option Advance)) (runs : List (
       unread_acted p s ends runs credits k unread are (Assign m) (core_of d (held_in t over)) (done d over is_design kept).1.acts
   unread_timed m (Answered c) unread done are =
       unread_acted p s ends runs credits k unread are (Answer m) (core_of d (held_in t over)) (done d over is_design kept).1.acts
-  unread_timed m (Differs q) unread (e, f) are = subst (λ (u : Stored). AreUnreadIn p u ends unread) (sym e) are
-  unread_timed m turn.Nothing unread (e, f) are = subst (λ (u : Stored). AreUnreadIn p u ends unread) (sym e) are
+  unread_timed m (Differs q) unread (e, f) are = rw e are
+  unread_timed m turn.Nothing unread (e, f) are = rw e are
 
   pub turned : (m : ℕ) (r : Timing) (lent : List Bool) → HasTimed r p.cycles m s t
       → ((c : ℕ) → r ≡ Answered c → core_of d (held_in t over) ≡ core_of d (held_in s over) → ⊥) → HasTurned r (seen s lent) m (seen t lent)
@@ -163,14 +146,7 @@ module _ (p : Plan) (s t : Stored) (ends : List (Option Advance)) (runs : List (
 
   emitted_there : (m c : ℕ) → candidate d (view d x) m ≡ Some c → m < length h.lanes
   emitted_there m c e =
-      elim (cases_lt m (length h.lanes)) [
-        | inl l ↦ l
-        | inr l ↦
-            let none : lane_at h.lanes m ≡ no_lane = get_or_past h.lanes m no_lane l in
-            let zero : emitted_of h m ≡ 0 = ap (λ (q : Lane). length q.steps) none in
-            let first = first_emitted d x m c e in
-            absurd (omega arith)
-      ]
+      let inside = determined_inside d p.cycles x k.agreed.marks.inside m c e in let same = k.sound.lanes in omega arith
 
   module _ (quiet : IsQuiet d p.cycles x) where
     open_at : (m c : ℕ) → candidate d (view d x) m ≡ Some c → c < p.cycles → IsOpen d p.cycles x m c
@@ -203,30 +179,16 @@ module _ (p : Plan) (s t : Stored) (ends : List (Option Advance)) (runs : List (
       pub final_if : ((m : ℕ) (c : Candidate) → m < length candidates → cycle_of (get_or candidates m c) ≡ None) → IsFinal d p.cycles x
       final_if none = record { quiet = quiet; no_earliest = λ n e may. none_open none n e may.open_step }
 
-      there : (cs : List Candidate) (n e : ℕ) → n < length cs → get_or cs n Nothing ≡ At e → slice_get cs n ≡ Some (At e)
-      there [] n e l q = absurd (omega arith)
-      there (a ∷ cs) zero e l q = ap Some q
-      there (a ∷ cs) (suc n) e l q = there cs n e (omega arith) q
-
       -- the candidate of an open step
       open_there : (n e : ℕ) → IsOpen d p.cycles x n e → slice_get candidates n ≡ Some (At e)
       open_there n e o =
           let inside = emitted_there n e o.determined.at in
-          there candidates n e (omega arith)
-          ((all n e inside).1 (candidate_is d is_design h k.sound n ∙ o.determined.at, o.determined.below))
+          slice_get-get_or candidates n Nothing (omega arith)
+          ∙ ap Some ((all n e inside).1 (candidate_is d is_design h k.sound n ∙ o.determined.at, o.determined.below))
 
       module _ (m c : ℕ) (first : IsEarliest candidates m c) where
         least_inside : m < length h.lanes
-        least_inside =
-            elim (cases_lt m (length candidates)) [
-              | inl l ↦ omega arith
-              | inr l ↦ let none = first.here in absurd (past candidates m l none)
-            ]
-          where
-            past : (cs : List Candidate) (n : ℕ) → length cs ≤ n → slice_get cs n ≡ Some (At c) → ⊥
-            past [] n l e = cc
-            past (a ∷ cs) zero l e = absurd (omega arith)
-            past (a ∷ cs) (suc n) l e = past cs n (omega arith) e
+        least_inside = let within = slice_get_within candidates m (At c) first.here in omega arith
 
         here_is : (candidate d (view d x) m ≡ Some c) × (c < p.cycles)
         here_is = at_of m c first.here least_inside
@@ -260,8 +222,7 @@ module _ (p : Plan) (s t : Stored) (ends : List (Option Advance)) (runs : List (
     }
       where
         among_false : (a b : Bool) → a ≡ true → (a && b) ≡ false → b ≡ false
-        among_false true b e f = f
-        among_false false b e f = cc
+        among_false a b e f = cc
 
     pub core_answered : (g : Guard) → HasAnswered g m c s t → KeepsRoom s t → kinds_in t.table.channels ≡ kinds_in s.table.channels
         → IsCore p t ends runs credits
@@ -276,7 +237,7 @@ module _ (p : Plan) (s t : Stored) (ends : List (Option Advance)) (runs : List (
     unread_answered guard.Same unread done are =
         let a = done d over is_design kept in
         unread_acted p s ends runs credits k unread are (Earliest m) (core_of d (held_in t over)) (c, may, inl (a.same, a.now.core))
-    unread_answered (guard.Differs q) unread (e, f) are = subst (λ (u : Stored). AreUnreadIn p u ends unread) (sym e) are
+    unread_answered (guard.Differs q) unread (e, f) are = rw e are
 
     pub open_answered : (g : Guard) (lent : List Bool) → HasAnswered g m c s t → HasAnsweredLeast (Some (m, g)) (seen s lent) (seen t lent)
     open_answered guard.Same lent done =
@@ -298,13 +259,6 @@ pub candidates_more : (lanes : List Lane) (channels : List Channel) (limit n : �
     → AreCandidates lanes channels limit (n + 1) (set candidates n a)
 candidates_more lanes channels limit n candidates a inside all now m cycle l =
     elim (eqb_tells m n) [
-      | inl e ↦
-          subst (λ (k : ℕ). (get_or (set candidates n a) k Nothing ≡ At cycle) ↔
-          ((determined lanes channels k ≡ Some cycle) × (cycle < limit))) (sym e.1)
-          (subst (λ (c : Candidate). (c ≡ At cycle) ↔ ((determined lanes channels n ≡ Some cycle) × (cycle < limit)))
-          (sym (get_or-set_same candidates n a Nothing inside)) (now cycle))
-      | inr e ↦
-          let f = e.1 in
-          subst (λ (c : Candidate). (c ≡ At cycle) ↔ ((determined lanes channels m ≡ Some cycle) × (cycle < limit)))
-          (sym (get_or-set_other candidates n m a Nothing e.1)) (all m cycle (omega arith))
+      | inl e ↦ rw (e.1, get_or-set_same candidates n a Nothing inside) (now cycle)
+      | inr e ↦ let f = e.1 in rw (get_or-set_other candidates n m a Nothing e.1) (all m cycle (omega arith))
     ]

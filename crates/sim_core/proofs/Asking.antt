@@ -88,8 +88,7 @@ across_more p ports at bits are port here other bit is own i q l there n low e =
           let same : i ≡ at = omega arith in
           let port_is : port ≡ q = some_is port q (sym here ∙ ap (slice_get ports) (sym same) ∙ there) in
           let n_is : other ≡ n = is ∙ ap (λ (a : Port). (design p).owner (other_side a.side) a.channel) port_is ∙ e in
-          right_hinted bits bit n
-          (subst (λ (b : ℕ). IsHinted b n) (sym own) (subst (λ (k : ℕ). IsHinted (bit_of k) n) (sym n_is) (own_bit n low)))
+          right_hinted bits bit n (rw (own, n_is) (own_bit n low))
     ]
 
 module _ (p : Plan) (fits : FitsEngine p) (m : ℕ) (inside : m < length p.design.modules) where
@@ -167,19 +166,18 @@ module _ (p : Plan) (fits : FitsEngine p) (x : Core ModuleState) (asking : ℕ) 
 
       asking_assigned : (y : Core ModuleState) → Acts (design p) p.cycles x (Assign m) y → AreAsking p y now
       asking_assigned y (c, may, is) =
-          subst (λ (z : Core ModuleState). AreAsking p z now) ((assigned_is (design p) p.cycles x m c may).1 ∙ sym is) asking_after_one
+          rw (is, ← (assigned_is (design p) p.cycles x m c may).1) asking_after_one
 
       asking_answered : (y : Core ModuleState) → Acts (design p) p.cycles x (Answer m) y → AreAsking p y now
       asking_answered y (c, may, inl (same, is)) =
-          subst (λ (z : Core ModuleState). AreAsking p z now) ((answered_is (design p) p.cycles x m c may).1 ∙ sym is) asking_after_one
-      asking_answered y (c, may, inr (different, is)) = subst (λ (z : Core ModuleState). AreAsking p z now) (sym is) asking_still
+          rw (is, ← (answered_is (design p) p.cycles x m c may).1) asking_after_one
+      asking_answered y (c, may, inr (different, is)) = rw is asking_still
 
     asking_idle : IsIdle (design p) p.cycles x m → AreAsking p x now
     asking_idle idle n l none =
         let modules = fits.module_count in
         elim (cases_eq n m) [
-          | inl e ↦ subst (λ (k : ℕ). may_time (design p) p.cycles x k ≡ false) (sym e)
-              (idle_is (design p) p.cycles x m idle.no_assign idle.no_answer)
+          | inl e ↦ rw e (idle_is (design p) p.cycles x m idle.no_assign idle.no_answer)
           | inr other ↦ are n l (others n (omega arith) other none)
         ]
 
@@ -187,8 +185,7 @@ module _ (p : Plan) (fits : FitsEngine p) (x : Core ModuleState) (asking : ℕ) 
 pub asking_kept : (p : Plan) (g h : Held) → h ≡ g → FitsEngine p → (asking : ℕ) → AreAsking p (core_of (design p) g) asking → (bits : ℕ)
     → AreAsking p (core_of (design p) h) (bit_or asking bits)
 asking_kept p g h same fits asking are bits =
-    subst (λ (q : Held). AreAsking p (core_of (design p) q) (bit_or asking bits)) (sym same)
-    (asking_more p fits (core_of (design p) g) asking are bits)
+    rw same (asking_more p fits (core_of (design p) g) asking are bits)
 
 -- and behind Runs of a module
 pub asking_returned : (p : Plan) (g h : Held) → h ≡ g → FitsEngine p
@@ -196,9 +193,7 @@ pub asking_returned : (p : Plan) (g h : Held) → h ≡ g → FitsEngine p
     → (asking : ℕ) → AreAsking p (core_of (design p) g) asking → (m bit : ℕ) → bit ≡ bit_of m → (count : ℕ) (y : Core ModuleState)
     → ActsAll (design p) p.cycles (core_of (design p) h) (runs count m) y → AreAsking p y (bit_or asking bit)
 asking_returned p g h same fits agreed asking are m bit is count y acts =
-    subst (λ (b : ℕ). AreAsking p y (bit_or asking b)) (sym is)
-    (asking_ran p fits (core_of (design p) h) asking (subst (λ (q : Held). AreAsking p (core_of (design p) q) asking) (sym same) are)
-    agreed m count y acts)
+    rw is (asking_ran p fits (core_of (design p) h) asking (rw same are) agreed m count y acts)
 
 pub asking_emitted : (p : Plan) (g h : Held) → h ≡ g → FitsEngine p
     → IsAgreed (design p) (lockstep_run p) p.cycles (core_of (design p) h)
@@ -228,15 +223,13 @@ module _ (v w : CoreView) (fits : FitsEngine v.plan) (asking : ℕ) (are : AreAs
   asking_turned (turn.Answered c) (done, changed) kept own spread =
       asking_answered v.plan fits (theory_of v) asking are beside besides m inside now others (own refl) (spread refl) (theory_of w) done
   asking_turned (turn.Differs q) (same, different) kept own spread =
-      subst (λ (u : CoreView). AreAsking v.plan (theory_of u) now) (sym same)
-      (λ n l none. let modules = fits.module_count in
+      rw same (λ n l none. let modules = fits.module_count in
       are n l (elim (cases_eq n m) [
-        | inl e ↦ subst (IsUnhinted asking) (sym e) (kept (λ e. cc) (subst (IsUnhinted now) e none))
+        | inl e ↦ rw e (kept (λ e. cc) (rw (← e) none))
         | inr other ↦ others n (omega arith) other none
       ]))
   asking_turned turn.Nothing (same, idle) kept own spread =
-      subst (λ (u : CoreView). AreAsking v.plan (theory_of u) now) (sym same)
-      (asking_idle v.plan fits (theory_of v) asking are beside besides m inside now others idle)
+      rw same (asking_idle v.plan fits (theory_of v) asking are beside besides m inside now others idle)
 
 -- where nothing was due, an Earliest at a module leaves nothing due but of itself and of those that share a channel with it
 module _ (v w : CoreView) (fits : FitsEngine v.plan) (beside : List ℕ) (besides : AreBeside v.plan beside) (m : ℕ)
@@ -265,7 +258,7 @@ module _ (v w : CoreView) (fits : FitsEngine v.plan) (beside : List ℕ) (beside
   pub asking_least : (g : Guard) → HasAnsweredLeast (Some (m, g)) v w
       → AreAsking v.plan (theory_of w) (bit_or (slice_index beside m) bit)
   asking_least guard.Same ((e, found, inl (same, there)), changed) =
-      subst (λ (y : Core ModuleState). AreAsking v.plan y (bit_or (slice_index beside m) bit)) (sym there) (asking_open e found)
+      rw there (asking_open e found)
   asking_least guard.Same ((e, found, inr (other, there)), changed) = absurd (changed there)
   asking_least (guard.Differs q) (same, found) =
-      subst (λ (u : CoreView). AreAsking v.plan (theory_of u) (bit_or (slice_index beside m) bit)) (sym same) (λ n l none. none_due n)
+      rw same (λ n l none. none_due n)

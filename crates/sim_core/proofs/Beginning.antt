@@ -19,7 +19,7 @@ use Rattle.module_interp.specs.Chains.{rest_at}
 use Rattle.flow_design.specs.declared.design.ChannelKind.{ChannelKind}
 use Rattle.flow_design.specs.declared.design.ChannelKind.TheVariants as plan
 use Rattle.flow_design.specs.StaticRules.{FitsEngine, AreEntriesSound}
-use Rattle.flow_design.specs.Plans.{is_fifo, kind_at, delay_of}
+use Rattle.flow_design.specs.Plans.{is_fifo, kind_at}
 use Rattle.flow_design.specs.Words.{cut_to}
 use Rattle.lockstep_defs.specs.Machine.{width_of}
 use Rattle.lockstep_defs.specs.OwnRun.{Own}
@@ -46,7 +46,6 @@ use Rattle.engine_view.proofs.Roomy.{room_opening}
 use Rattle.sim_core.specs.Runs.{IsCore, IsRunOf, rest_behind, lent_of, over_of}
 use Rattle.sim_core.proofs.Keeping.{over_at}
 use Rattle.sim_core.specs.Opening.{kind_by, kind_in, kinds_of, source_values, AreFirstRuns, AreLeft, AreOlderRuns}
-use Rattle.flow_word.proofs.Ranges.{some_is}
 
 pub runs_none : (p : Plan) → AreFirstRuns p [] 0
 runs_none p = record { count = refl; some = λ m l. absurd (omega arith); each = λ m run e. cc }
@@ -78,15 +77,12 @@ runs_more p runs next n run r e stands quiet = record {
           | inr l ↦
               elim (cases_lt n m) [
                 | inl u ↦
-                    let z = get_or_past (runs ++ Some run ∷ []) m None (let k = length-append runs (Some run ∷ []) in omega arith) in
-                    let y = sym z ∙ there in cc
+                    let none = get_or_past (runs ++ Some run ∷ []) m None (let k = length-append runs (Some run ∷ []) in omega arith) in
+                    absurd cc
                 | inr u ↦
                     let same : m ≡ n = omega arith in
-                    let at : get_or (runs ++ Some run ∷ []) m None ≡ Some run = ap (λ (k : ℕ). get_or (runs ++ Some run ∷ []) k None)
-                    (same ∙ sym c) ∙ get_or-append_seam runs (Some run) [] None in
-                    let is : run ≡ other = some_is run other (sym at ∙ there) in
-                    subst (λ (q : ModuleRun). StandsAt p m (first_rest p m) q × (waits q ≡ false)) is
-                    (subst (λ (k : ℕ). StandsAt p k (first_rest p k) run × (waits run ≡ false)) (sym same) (stands, quiet))
+                    let last = get_or-append_seam runs (Some run) [] None in
+                    let is : run ≡ other = grind arith in rw (same, ← is) (stands, quiet)
               ]
         ]
 
@@ -108,8 +104,7 @@ left_without runs left next m l e = record {
       let at : get_or (set left m None) n None ≡ Some run = ap (λ (q : List (Option ModuleRun)). get_or q n None) (sym e) ∙ there in
       elim (eqb_tells n m) [
         | inl u ↦
-            let none : get_or (set left m None) n None ≡ None = ap (λ (k : ℕ). get_or (set left m None) k None) u.1 ∙ gone left m in
-            let both = sym none ∙ at in cc
+            let none = gone left m in let same = u.1 in absurd cc
         | inr u ↦ l.each n run (sym (get_or-set_other left m n None None u.1) ∙ at)
       ];
 }
@@ -191,12 +186,8 @@ module _ (p : Plan) (fits : FitsEngine p) where
 
     lag_is : (side : Side) (k : ChannelKind) → kind_at p c ≡ k → lag_in p side c ≡ lag_of
         (kind_by k (source_values p c) (slice_index p.depths c)) side
-    lag_is Pop plan.Source e = ap delay_of e
-    lag_is Pop plan.Sink e = ap delay_of e
-    lag_is Pop (plan.Fifo declared delay) e = ap delay_of e
-    lag_is Push plan.Source e = refl
-    lag_is Push plan.Sink e = refl
-    lag_is Push (plan.Fifo declared delay) e = refl
+    lag_is Pop k e = grind arith
+    lag_is Push k e = grind arith
 
     sound_is : (k : ChannelKind) → kind_at p c ≡ k → IsSoundKind (kind_by k (source_values p c) (slice_index p.depths c))
     sound_is plan.Source e = tt

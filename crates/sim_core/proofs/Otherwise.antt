@@ -1,14 +1,14 @@
 -- A query that is found to be another makes the report's answers differ from the recorded ones.
-use Rattle.std.proofs.Common.{◌≡◌, ◌≢◌, refl, sym, ap, subst, ◌∙◌, ℕ, zero, suc, ◌+◌, ◌<◌, ◌≤◌, inl, inr, Bool, true, false}
-use Rattle.std.proofs.Common.{List, [], ◌∷◌, ◌++◌, length, map, take, drop, get_or, Option, Some, None, arith}
+use Rattle.std.proofs.Common.{◌≡◌, ◌≢◌, refl, sym, ap, ◌∙◌, ℕ, zero, suc, ◌+◌, ◌<◌, ◌≤◌, inl, inr, Bool, true, false}
+use Rattle.std.proofs.Common.{List, [], ◌∷◌, ◌++◌, length, map, take, drop, get_or, Some, arith}
 use Rattle.std.proofs.Common.{append-nil}
 use Rattle.std.specs.Prelude.{slice_get}
-use Rattle.std.proofs.lemmas.Bool.{cases_Bool, both_ways}
+use Rattle.std.proofs.lemmas.Bool.{cases_Bool}
+use Rattle.std.proofs.lemmas.Option.{slice_get_within}
 use Rattle.std.proofs.lemmas.List.{length-drop, length-map, length-take, take-append-drop}
 use Rattle.flow_word.specs.Kinds.{is_blocking}
 use Rattle.flow_word.specs.declared.access.Access.{Access}
 use Rattle.flow_word.specs.declared.access.Kind.{Kind}
-use Rattle.flow_word.specs.declared.access.Kind.TheVariants.{Read, Write, TryRead, TryWrite, Empty, Full}
 use Rattle.flow_design.specs.declared.plan.Plan.{Plan}
 use Rattle.flow_design.specs.declared.state.ModuleState.{ModuleState}
 use Rattle.flow_design.specs.declared.state.Request.{Request}
@@ -29,23 +29,14 @@ use Rattle.timing_bridge.specs.Outcomes.{outcome_of, outcomes_by, first_requests
 use Rattle.engine_view.specs.Held.{Held, step_of, emitted_of, seen, queries_in, possible_by, flags_by, core_of}
 use Rattle.engine_view.specs.Shown.{IsSound, queries_before}
 use Rattle.engine_view.specs.Turns.{IsFoundOther, first_of}
-use Rattle.engine_report.proofs.Asking.{same_kind, first_same, rest_same}
+use Rattle.engine_report.proofs.Asking.{same_kind}
 use Rattle.sim_core.proofs.Reported.{answers_next, next_recorded}
 
 -- ---- the outcomes of a step
 
 -- what is possible tells the outcome, and the other way round
 possible_back : (k : Kind) (b : Bool) → is_blocking k ≡ false → possible_by k (Some (outcome_of k b)) ≡ b
-possible_back Read b e = cc
-possible_back Write b e = cc
-possible_back TryRead true e = refl
-possible_back TryRead false e = refl
-possible_back TryWrite true e = refl
-possible_back TryWrite false e = refl
-possible_back Empty true e = refl
-possible_back Empty false e = refl
-possible_back Full true e = refl
-possible_back Full false e = refl
+possible_back k b e = grind arith
 
 -- two lists have other outcomes at this number
 pub record AreOtherAt (j : ℕ) (os ps : List Bool) : Type 0 where
@@ -67,52 +58,31 @@ one_blocks : (a : Access) (as' : List Access) (r : Request) (rs : List Request) 
     → IsOtherOf as' rs
     → IsOtherOf (a ∷ as') (r ∷ rs)
 one_blocks a as' r rs k b rest os [] place c l at q n d = absurd (omega arith)
-one_blocks a as' r rs k b rest os (f ∷ found) zero c l at q n d =
-    let same : is_blocking a.kind ≡ is_blocking c.kind = ap is_blocking (kind_of at) in
-    absurd (both_ways _ q (sym same ∙ b))
-  where
-    kind_of : Some a ≡ Some c → a.kind ≡ c.kind
-    kind_of e = ap (λ (o : Option Access). by o) e
-      where
-        by : Option Access → Kind
-        by (Some z) = z.kind
-        by None = a.kind
+one_blocks a as' r rs k b rest os (f ∷ found) zero c l at q n d = absurd (grind arith)
 one_blocks a as' r rs k b rest os (f ∷ found) (suc place) c l at q n d =
-    let count : queries_in (a ∷ as') ≡ queries_in as' = rw b refl in
     let front : queries_in (take (suc place) (a ∷ as')) ≡ queries_in (take place as') = rw b refl in
-    let flags : flags_by (a ∷ as') os ≡ true ∷ flags_by as' os = rw b refl in
     let asked : outcomes_by (r ∷ rs) (f ∷ found) ≡ outcomes_by rs found = rw (ap is_blocking k ∙ b) refl in
-    subst (λ (j : ℕ). AreOtherAt j os (outcomes_by (r ∷ rs) (f ∷ found))) (sym front)
-    (subst (AreOtherAt (queries_in (take place as')) os) (sym asked)
-    (rest os found place c (omega arith) at q (omega arith) (λ e. d (ap (λ (fs : List Bool). slice_get fs (suc place)) flags ∙ e))))
+    rw (front, asked) (rest os found place c (grind arith) at q (omega arith) (λ e. d (grind arith)))
 
 one_asks : (a : Access) (as' : List Access) (r : Request) (rs : List Request) → r.kind ≡ a.kind → is_blocking a.kind ≡ false
     → IsOtherOf as' rs
     → IsOtherOf (a ∷ as') (r ∷ rs)
 one_asks a as' r rs k b rest os [] place c l at q n d = absurd (omega arith)
-one_asks a as' r rs k b rest [] (f ∷ found) place c l at q n d =
-    let count : queries_in (a ∷ as') ≡ suc (queries_in as') = rw b refl in absurd (omega arith)
+one_asks a as' r rs k b rest [] (f ∷ found) place c l at q n d = absurd (grind arith)
 one_asks a as' r rs k b rest (o ∷ os) (f ∷ found) zero c l at q n d =
-    let flags : flags_by (a ∷ as') (o ∷ os) ≡ possible_by a.kind (Some o) ∷ flags_by as' os = rw b refl in
     let asked : outcomes_by (r ∷ rs) (f ∷ found) ≡ outcome_of r.kind f ∷ outcomes_by rs found = rw (ap is_blocking k ∙ b) refl in
-    subst (AreOtherAt 0 (o ∷ os)) (sym asked) (record {
+    rw asked (record {
       one = o;
       other = outcome_of r.kind f;
       here = refl;
       there = refl;
-      differ = λ e. d (ap (λ (fs : List Bool). slice_get fs 0) flags
-          ∙ ap Some (ap (λ (v : Bool). possible_by a.kind (Some v)) (e ∙ ap (λ (kd : Kind). outcome_of kd f) k)
-          ∙ possible_back a.kind f b));
+      differ = λ e. d (let back = possible_back a.kind f b in grind arith);
     })
 one_asks a as' r rs k b rest (o ∷ os) (f ∷ found) (suc place) c l at q n d =
-    let count : queries_in (a ∷ as') ≡ suc (queries_in as') = rw b refl in
     let front : queries_in (take (suc place) (a ∷ as')) ≡ suc (queries_in (take place as')) = rw b refl in
-    let flags : flags_by (a ∷ as') (o ∷ os) ≡ possible_by a.kind (Some o) ∷ flags_by as' os = rw b refl in
     let asked : outcomes_by (r ∷ rs) (f ∷ found) ≡ outcome_of r.kind f ∷ outcomes_by rs found = rw (ap is_blocking k ∙ b) refl in
-    subst (λ (j : ℕ). AreOtherAt j (o ∷ os) (outcomes_by (r ∷ rs) (f ∷ found))) (sym front)
-    (subst (AreOtherAt (suc (queries_in (take place as'))) (o ∷ os)) (sym asked)
-    (later o (outcome_of r.kind f) (queries_in (take place as')) os (outcomes_by rs found)
-    (rest os found place c (omega arith) at q (omega arith) (λ e. d (ap (λ (fs : List Bool). slice_get fs (suc place)) flags ∙ e)))))
+    rw (front, asked) (later o (outcome_of r.kind f) (queries_in (take place as')) os (outcomes_by rs found)
+    (rest os found place c (grind arith) at q (omega arith) (λ e. d (grind arith))))
 
 none : (rs : List Request) → IsOtherOf [] rs
 none rs os found place a l at q n d = cc
@@ -121,8 +91,8 @@ other_of : (as' : List Access) (rs : List Request) → map bridge.seen rs ≡ ma
 other_of [] rs e = none rs
 other_of (a ∷ as') [] e = cc
 other_of (a ∷ as') (r ∷ rs) e =
-    let kind = same_kind r a (first_same r rs a as' e) in
-    let rest = other_of as' rs (rest_same r rs a as' e) in
+    let kind = same_kind r a cc in
+    let rest = other_of as' rs cc in
     elim (cases_Bool (is_blocking a.kind)) [
       | inl b ↦ one_blocks a as' r rs kind b rest
       | inr b ↦ one_asks a as' r rs kind b rest
@@ -144,11 +114,6 @@ behind_same (x ∷ xs) ys zs j v e =
 flag_count : (know : theory.Access → Known) (c : ℕ) (xs : List theory.Access) → length (flags_at know c xs) ≡ length xs
 flag_count know c [] = refl
 flag_count know c (a ∷ xs) = ap suc (flag_count know c xs)
-
-some_within : (os : List Bool) (j : ℕ) (v : Bool) → slice_get os j ≡ Some v → j < length os
-some_within [] j v e = cc
-some_within (o ∷ os) zero v e = omega arith
-some_within (o ∷ os) (suc j) v e = let l = some_within os j v e in omega arith
 
 module _ (p : Plan) (h : Held) (s : IsSound (design p) h) (g : IsAgreed (design p) (lockstep_run p) p.cycles (core_of (design p) h))
     (m c : ℕ) (inside : m < length h.logs) (q : Query) (found : IsFoundOther (design p) h m c q)
@@ -200,7 +165,7 @@ module _ (p : Plan) (h : Held) (s : IsSound (design p) h) (g : IsAgreed (design 
 
   most : before ≤ length outs
   most =
-      let l = some_within (drop before outs) number other.one other.here in
+      let l = slice_get_within (drop before outs) number other.one other.here in
       let n = length-drop before outs in
       omega arith
 
@@ -232,4 +197,4 @@ module _ (p : Plan) (h : Held) (s : IsSound (design p) h) (g : IsAgreed (design 
       }
 
   pub other_answer : AreOtherAt q.number outs (get_or (report p).answers m [])
-  other_answer = subst (λ (j : ℕ). AreOtherAt j outs (get_or (report p).answers m [])) (sym told_by) other_at
+  other_answer = rw told_by other_at

@@ -1,6 +1,7 @@
 -- Marks that come back, one after the other.
 use Rattle.std.proofs.Common.{◌≡◌, refl, sym, ap, subst, ◌∙◌, ℕ, zero, suc, ◌+◌, ◌*◌, ◌^◌, ◌<◌, ◌≤◌, ◌⊎◌, inl, inr, Bool, true}
-use Rattle.std.proofs.Common.{List, [], ◌∷◌, length, drop, get_or, set, slice_get, Option, Some, arith}
+use Rattle.std.proofs.lemmas.List.{drop_all as all_dropped}
+use Rattle.std.proofs.Common.{List, [], ◌∷◌, length, drop, drop-set-lt, get_or, set, slice_get, Option, Some, arith}
 use Rattle.std.proofs.lemmas.Bool.{cases_Bool}
 use Rattle.flow_word.specs.declared.access.Step.{Step as StepOf}
 use Rattle.flow_design.specs.declared.plan.Plan.{Plan}
@@ -57,7 +58,7 @@ pub acts_in : (p : Plan) (before after there : Held) (m : ℕ) → after ≡ the
     → Acts (design p) p.cycles (core_of (design p) before) (Run m) (core_of (design p) there)
     → Acts (design p) p.cycles (core_of (design p) before) (Run m) (core_of (design p) after)
 acts_in p before after there m e a =
-    subst (λ (h : Held). Acts (design p) p.cycles (core_of (design p) before) (Run m) (core_of (design p) h)) (sym e) a
+    rw e a
 
 -- ---- a burst on its way
 
@@ -210,16 +211,10 @@ drop_here (x ∷ xs) zero v e = cc
 drop_here (x ∷ xs) (suc n) v e = drop_here xs n v e
 
 pub drop_behind : (xs : List Advance) (n : ℕ) (v : Advance) → drop (suc n) (set xs n v) ≡ drop (suc n) xs
-drop_behind [] zero v = refl
-drop_behind [] (suc n) v = refl
-drop_behind (x ∷ xs) zero v = refl
-drop_behind (x ∷ xs) (suc n) v = drop_behind xs n v
+drop_behind xs n v = drop-set-lt (suc n) xs n v (omega arith)
 
 pub drop_all : (xs : List Advance) (n : ℕ) → length xs ≤ n → drop n xs ≡ []
-drop_all [] zero l = refl
-drop_all [] (suc n) l = refl
-drop_all (x ∷ xs) zero l = absurd (omega arith)
-drop_all (x ∷ xs) (suc n) l = drop_all xs n (omega arith)
+drop_all xs n l = all_dropped n xs l
 
 -- where none is left
 pub all_acts : (p : Plan) (s : Stored) (ends : List (Option Advance)) (runs : List (Option ModuleRun)) (credits : List ℕ) (m : ℕ)
@@ -228,8 +223,7 @@ pub all_acts : (p : Plan) (s : Stored) (ends : List (Option Advance)) (runs : Li
     → ActsAll (design p) p.cycles first (actions.runs count m) (core_in p s ends)
 all_acts p s ends runs credits m mail short last left first count none r =
     r.acts (core_in p s ends)
-    (subst (λ (xs : List Advance). ActsAll (design p) p.cycles (core_in p s ends) (actions.runs (length xs) m) (core_in p s ends))
-    (sym none) refl)
+    (rw none refl)
 
 -- ---- the core
 

@@ -1,13 +1,12 @@
 -- The verified outcomes of a module are the first of the report's answers, whether the core is final or not.
-use Rattle.std.proofs.Common.{◌≡◌, refl, sym, ap, ap₂, subst, ◌∙◌, ℕ, zero, suc, ◌+◌, ◌-◌, ◌<◌, ◌≤◌, inl, inr, Bool, true, false, ◌&&◌}
+use Rattle.std.proofs.Common.{◌≡◌, refl, sym, ap, ◌∙◌, ℕ, zero, suc, ◌+◌, ◌-◌, ◌<◌, ◌≤◌, inl, inr, Bool, true, false, ◌&&◌}
 use Rattle.std.proofs.Common.{ltb, List, [], ◌∷◌, ◌++◌, length, map, take, drop, get_or, Some, arith, append-nil, append_assoc}
 use Rattle.std.specs.List.{range_with_len}
 use Rattle.std.proofs.Math.Seq.{take-add}
-use Rattle.std.proofs.lemmas.Bool.{and_cases, and_parts, both_ways, cases_Bool, cases_eq, cases_lt, ltb-true}
+use Rattle.std.proofs.lemmas.Bool.{and_parts, both_ways, cases_Bool, cases_eq, cases_lt, ltb-true}
 use Rattle.flow_word.specs.Kinds.{is_blocking}
 use Rattle.flow_word.specs.declared.access.Access.{Access}
 use Rattle.flow_word.specs.declared.access.Kind.{Kind}
-use Rattle.flow_word.specs.declared.access.Kind.TheVariants.{Read, Write, TryRead, TryWrite, Empty, Full}
 use Rattle.flow_design.specs.declared.plan.Plan.{Plan}
 use Rattle.flow_design.specs.declared.state.ModuleState.{ModuleState}
 use Rattle.flow_design.specs.declared.state.Request.{Request}
@@ -35,61 +34,30 @@ use Rattle.engine_view.specs.Shown.{IsSound, queries_before}
 use Rattle.engine_view.specs.Turns.{first_of}
 use Rattle.engine_view.proofs.Answered.{among_if, queries_step}
 use Rattle.engine_view.proofs.Emitted.{queries_mono}
-use Rattle.engine_report.proofs.Asking.{same_kind, first_same, rest_same}
+use Rattle.engine_report.proofs.Asking.{same_kind}
 use Rattle.sim_core.proofs.Logged.{all_within}
 use Rattle.sim_core.proofs.Reported.{answers_behind, answers_next, next_recorded}
 
 -- ---- the outcomes of a step by the flags of recorded ones
 
 outcome_back : (k : Kind) (o : Bool) → is_blocking k ≡ false → outcome_of k (possible_by k (Some o)) ≡ o
-outcome_back Read o e = cc
-outcome_back Write o e = cc
-outcome_back TryRead true e = refl
-outcome_back TryRead false e = refl
-outcome_back TryWrite true e = refl
-outcome_back TryWrite false e = refl
-outcome_back Empty true e = refl
-outcome_back Empty false e = refl
-outcome_back Full true e = refl
-outcome_back Full false e = refl
+outcome_back k o e = grind arith
 
 abbrev IsToldBy : List Access → List Request → Type 0
 IsToldBy as' rs = (os : List Bool) → queries_in as' ≤ length os → outcomes_by rs (flags_by as' os) ≡ take (queries_in as') os
-
-one_blocks : (a : Access) (as' : List Access) (r : Request) (rs : List Request) → r.kind ≡ a.kind → is_blocking a.kind ≡ true
-    → IsToldBy as' rs → IsToldBy (a ∷ as') (r ∷ rs)
-one_blocks a as' r rs k b rest os l =
-    let count : queries_in (a ∷ as') ≡ queries_in as' = rw b refl in
-    let flags : flags_by (a ∷ as') os ≡ true ∷ flags_by as' os = rw b refl in
-    let asked : outcomes_by (r ∷ rs) (true ∷ flags_by as' os) ≡ outcomes_by rs (flags_by as' os) = rw (ap is_blocking k ∙ b) refl in
-    ap (outcomes_by (r ∷ rs)) flags ∙ (asked ∙ (rest os (omega arith) ∙ sym (ap (λ (n : ℕ). take n os) count)))
-
-one_asks : (a : Access) (as' : List Access) (r : Request) (rs : List Request) → r.kind ≡ a.kind → is_blocking a.kind ≡ false
-    → IsToldBy as' rs → IsToldBy (a ∷ as') (r ∷ rs)
-one_asks a as' r rs k b rest [] l = let count : queries_in (a ∷ as') ≡ suc (queries_in as') = rw b refl in absurd (omega arith)
-one_asks a as' r rs k b rest (o ∷ os) l =
-    let count : queries_in (a ∷ as') ≡ suc (queries_in as') = rw b refl in
-    let here = possible_by a.kind (Some o) in
-    let flags : flags_by (a ∷ as') (o ∷ os) ≡ here ∷ flags_by as' os = rw b refl in
-    let asked : outcomes_by (r ∷ rs) (here ∷ flags_by as' os) ≡ outcome_of r.kind here ∷ outcomes_by rs (flags_by as' os) =
-    rw (ap is_blocking k ∙ b) refl in
-    ap (outcomes_by (r ∷ rs)) flags
-    ∙ (asked
-    ∙ (ap₂ (λ (v : Bool) (vs : List Bool). v ∷ vs) (ap (λ (kd : Kind). outcome_of kd here) k ∙ outcome_back a.kind o b)
-    (rest os (omega arith))
-    ∙ sym (ap (λ (n : ℕ). take n (o ∷ os)) count)))
 
 told_by : (as' : List Access) (rs : List Request) → map bridge.seen rs ≡ map seen as' → IsToldBy as' rs
 told_by [] [] e os l = refl
 told_by [] (r ∷ rs) e os l = cc
 told_by (a ∷ as') [] e os l = cc
 told_by (a ∷ as') (r ∷ rs) e os l =
-    let kind = same_kind r a (first_same r rs a as' e) in
-    let rest = told_by as' rs (rest_same r rs a as' e) in
-    elim (cases_Bool (is_blocking a.kind)) [
-      | inl b ↦ one_blocks a as' r rs kind b rest os l
-      | inr b ↦ one_asks a as' r rs kind b rest os l
-    ]
+    by (is_blocking a.kind) refl (same_kind r a cc) (told_by as' rs cc) os l
+  where
+    by : (b : Bool) → is_blocking a.kind ≡ b → r.kind ≡ a.kind → IsToldBy as' rs → IsToldBy (a ∷ as') (r ∷ rs)
+    by true b kind rest os l = let later = rest os (grind arith) in grind arith
+    by false b kind rest [] l = grind arith
+    by false b kind rest (o ∷ os) l =
+        let later = rest os (grind arith) in let back = outcome_back a.kind o b in grind arith
 
 -- the first few of a list that begins with more of them
 begin_with : (n more : ℕ) (os all rest : List Bool) → n ≤ more → all ≡ take more os ++ rest → IsPrefix (take n os) all
@@ -198,12 +166,7 @@ module _ (p : Plan) (h : Held) (fits : FitsEngine p) (s : IsSound (design p) h)
       plain : (k : ℕ) → first ≤ k → k < emitted_of h m → x.verified m k ≡ true → asks k ≡ false
       plain k l u v =
           elim (cases_eq first k) [
-            | inl e ↦
-                subst (λ (j : ℕ). asks j ≡ false) e
-                (elim (and_cases (x.verified m first) (asks first) few) [
-                  | inl unsure ↦ absurd (both_ways _ unsure (subst (λ (j : ℕ). x.verified m j ≡ true) (sym e) v))
-                  | inr none ↦ none
-                ])
+            | inl e ↦ grind arith
             | inr e ↦ g.time.later_plain m k (omega arith) u v
           ]
 

@@ -40,7 +40,7 @@ use Rattle.engine_report.specs.declared.events.TimedStep.{TimedStep}
 use Rattle.event_graph.specs.Lanes.{lane_at}
 use Rattle.engine_report.specs.Read.{timed_places}
 use Rattle.engine_report.specs.Keys.{place_of, IsTimedKey, AreSortedKeys}
-use Rattle.engine_report.proofs.Asking.{same_kind, same_channel, first_same, rest_same}
+use Rattle.engine_report.proofs.Asking.{same_kind, same_channel}
 use Rattle.engine_report.proofs.Happening.{IsTimed, all_timed}
 use Rattle.sim_core.specs.Found.{replies_now}
 use Rattle.sim_core.specs.AccessLog.{logged, logged_in, log_of, request_of, exchange_of, replies_at, step_with, logged_at}
@@ -61,7 +61,7 @@ requests_are [] [] e = refl
 requests_are [] (a ∷ xs) e = cc
 requests_are (r ∷ rs) [] e = cc
 requests_are (r ∷ rs) (a ∷ xs) e =
-    ap₂ (λ (q : Request) (qs : List Request). q ∷ qs) (request_is r a (first_same r rs a xs e)) (requests_are rs xs (rest_same r rs a xs e))
+    let one = request_is r a cc in let later = requests_are rs xs cc in cc
 
 -- the keys of all steps with a cycle are such keys
 pub keys_timed : (h : Held) (keys : List TimedStep) → AreSortedKeys h.lanes keys → All (IsTimedKey h.lanes) keys

@@ -1,5 +1,5 @@
 -- A single action that is permitted.
-use Rattle.std.proofs.Common.{◌≡◌, refl, sym, subst, ◌∙◌, ℕ, Bool, true, false, Some, None}
+use Rattle.std.proofs.Common.{◌≡◌, refl, subst, ℕ, Bool, true, false, Some}
 use Rattle.std.specs.Prelude.{Result, Ok, Err, IfOk, IfErr, is_ok}
 use Rattle.std.proofs.lemmas.Bool.{both_ways}
 use Rattle.outcome_guard.specs.declared.guard.Guard.{Guard}
@@ -51,9 +51,7 @@ module _ (v w : CoreView) (m : ℕ) where
       → IfErr r (λ a. first_some (cycle_causes (design v.plan) v.plan.cycles (theory_of v) m) ≡ Some a) → is_ok r ≡ true
   cycle_there c may (Ok e) cause = refl
   cycle_there c may (Err a) cause =
-      let none = causing.cycle_found (design v.plan) v.plan.cycles (theory_of v) m c may.open_step.determined in
-      let no : None ≡ Some a = sym none ∙ cause in
-      cc
+      let none = causing.cycle_found (design v.plan) v.plan.cycles (theory_of v) m c may.open_step.determined in absurd cc
 
   pub found_at : (r : Result ℕ Cause) (c : ℕ) → IfOk r (λ n. IsDetermined (design v.plan) v.plan.cycles (theory_of v) m n) → r ≡ Ok c
       → IsDetermined (design v.plan) v.plan.cycles (theory_of v) m c
@@ -62,8 +60,6 @@ module _ (v w : CoreView) (m : ℕ) where
   pub earliest_at : (c e : ℕ) → MayEarliest (design v.plan) v.plan.cycles (theory_of v) m c
       → IsDetermined (design v.plan) v.plan.cycles (theory_of v) m e → MayEarliest (design v.plan) v.plan.cycles (theory_of v) m e
   earliest_at c e may at =
-      subst (λ (n : ℕ). MayEarliest (design v.plan) v.plan.cycles (theory_of v) m n)
-      (same (sym may.open_step.determined.at ∙ at.at)) may
-    where
-      same : Some c ≡ Some e → c ≡ e
-      same q = cc
+      let is = may.open_step.determined.at in
+      let is_too = at.at in
+      let same : e ≡ c = cc in rw same may

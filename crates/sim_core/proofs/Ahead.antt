@@ -146,7 +146,7 @@ module _ (p : Plan) (f : FitsEngine p) (z : Core ModuleState) (b : AreOwnMarks (
 mark_is : (a b : Bool) (n : ℕ) (s : StepOf) → is_step (cond a (Ended n) (cond b (Spent n) (Step s))) ≡ not (a || b)
 mark_is a b n s = grind arith
 
-over_of_mark : (p : Plan) (m : ℕ) (o : Own) → is_step (mark_at p m o) ≡ not (is_over p.ops o.state)
+pub over_of_mark : (p : Plan) (m : ℕ) (o : Own) → is_step (mark_at p m o) ≡ not (is_over p.ops o.state)
 unfolding is_over
 over_of_mark p m o = mark_is o.state.ended (is_spent p.ops o.state) o.since _
 

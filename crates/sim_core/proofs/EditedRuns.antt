@@ -5,7 +5,6 @@ use Rattle.std.proofs.lemmas.Bool.Decides.{eqb_tells}
 use Rattle.std.proofs.lemmas.List.{length-map, length-set, get_or-map, get_or-set_same, get_or-set_other, same_lists}
 use Rattle.std.proofs.lemmas.List.FromFn.{get_or-map-range_with_len, length-map-range_with_len}
 use Rattle.flow_design.specs.declared.design.ChannelKind.{ChannelKind}
-use Rattle.flow_design.specs.declared.design.ChannelKind.TheVariants as plan
 use Rattle.flow_design.specs.declared.plan.Edit.{Edit}
 use Rattle.flow_design.specs.declared.plan.Plan.{Plan}
 use Rattle.flow_design.specs.declared.state.Advance.{Advance}
@@ -103,19 +102,13 @@ module _ (p : Plan) (fits : FitsEngine p) (e : Edit) (fit : EditFits p e) (i : �
 
 deepens : (k : ChannelKind) (inputs : List ℕ) (old depth : ℕ) → is_fifo k ≡ true
     → deepened (kind_by k inputs old) depth ≡ kind_by k inputs depth
-deepens plan.Source inputs old depth f = cc
-deepens plan.Sink inputs old depth f = cc
-deepens (plan.Fifo declared delay) inputs old depth f = refl
+deepens k inputs old depth f = grind arith
 
 is_fifo_kind : (k : ChannelKind) (inputs : List ℕ) (depth : ℕ) → is_fifo k ≡ true → IsFifo (kind_by k inputs depth)
-is_fifo_kind plan.Source inputs depth f = cc
-is_fifo_kind plan.Sink inputs depth f = cc
-is_fifo_kind (plan.Fifo declared delay) inputs depth f = tt
+is_fifo_kind k inputs depth f = grind arith
 
 its_depth : (k : ChannelKind) (inputs : List ℕ) (depth : ℕ) → is_fifo k ≡ true → depth_of (kind_by k inputs depth) ≡ depth
-its_depth plan.Source inputs depth f = cc
-its_depth plan.Sink inputs depth f = cc
-its_depth (plan.Fifo declared delay) inputs depth f = refl
+its_depth k inputs depth f = grind arith
 
 module _ (p : Plan) (fits : FitsEngine p) (e : Edit) (fit : EditFits p e) (channels : List Channel) (t : kinds_in channels ≡ kinds_of p)
   where

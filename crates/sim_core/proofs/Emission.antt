@@ -1,6 +1,6 @@
 -- A mark of a module, emitted by a Run: what it makes of the core.
-use Rattle.std.proofs.Common.{◌≡◌, refl, sym, ap, subst, ◌∙◌, ℕ, zero, suc, ◌+◌, ◌-◌, ◌^◌, ◌<◌, ◌≤◌, inl, inr, Bool, true, false, cond}
-use Rattle.std.proofs.Common.{◌||◌, List, [], ◌∷◌, length, get_or, set, Option, Some, None, is_some, unwrap_or, arith}
+use Rattle.std.proofs.Common.{◌≡◌, refl, sym, ap, subst, ◌∙◌, ℕ, zero, suc, ◌+◌, ◌-◌, ◌^◌, ◌<◌, ◌≤◌, inl, inr, true, false}
+use Rattle.std.proofs.Common.{List, [], ◌∷◌, length, get_or, set, Option, Some, None, is_some, arith}
 use Rattle.std.proofs.lemmas.Bool.{cond-false}
 use Rattle.std.proofs.lemmas.Bool.Decides.{eqb_tells}
 use Rattle.std.proofs.lemmas.List.{length-set, length-map, map-set, get_or-set_same, get_or-set_other}
@@ -8,10 +8,10 @@ use Rattle.flow_word.specs.declared.access.Step.{Step as StepOf}
 use Rattle.flow_design.specs.declared.plan.Plan.{Plan}
 use Rattle.flow_design.specs.declared.state.ModuleState.{ModuleState}
 use Rattle.flow_design.specs.declared.state.Advance.{Advance}
-use Rattle.flow_design.specs.declared.state.Advance.TheVariants.{Step, Ended, Spent}
+use Rattle.flow_design.specs.declared.state.Advance.TheVariants.{Step}
 use Rattle.flow_design.specs.declared.state.Reply.{Reply}
 use Rattle.event_graph.specs.Lanes.{gap_bound}
-use Rattle.lockstep_defs.specs.Machine.{is_over, is_spent}
+use Rattle.lockstep_defs.specs.Machine.{is_over}
 use Rattle.lockstep_defs.specs.OwnRun.{Own}
 use Rattle.module_interp.specs.declared.run.ModuleRun.{ModuleRun}
 use Rattle.module_interp.specs.OwnRests.{next_rest, mark_at}
@@ -40,6 +40,7 @@ use Rattle.engine_view.proofs.Assigned.{IsAlike, alike_queries}
 use Rattle.engine_view.proofs.Roomy.{apart_next, room_for_next, room_emitted, room_same, pending_same}
 use Rattle.sim_core.specs.Marks.{IsRestBehind}
 use Rattle.sim_core.specs.Runs.{IsEndOf, IsCore, rest_behind, lent_of, over_of}
+use Rattle.sim_core.proofs.Ahead.{over_of_mark}
 use Rattle.sim_core.proofs.Resting.{rest_is}
 use Rattle.sim_core.proofs.Marking.{next_step}
 use Rattle.sim_core.proofs.Staying.{fed_is}
@@ -51,17 +52,6 @@ lent_none [] m run e f = cc
 lent_none (None ∷ rs) zero run e f = cc
 lent_none (Some q ∷ rs) zero run e f = cc
 lent_none (q ∷ rs) (suc m) run e f = lent_none rs m run e f
-
--- ---- the mark
-
-over_of_mark : (p : Plan) (i : ℕ) (o : Own) → is_step (mark_at p i o) ≡ false → is_over p.ops o.state ≡ true
-unfolding is_over
-over_of_mark p i o e = go o.state.ended (is_spent p.ops o.state) o.since _ e
-  where
-    go : (a b : Bool) (n : ℕ) (s : StepOf) → is_step (cond a (Ended n) (cond b (Spent n) (Step s))) ≡ false → (a || b) ≡ true
-    go true b n s e = refl
-    go false true n s e = refl
-    go false false n s e = cc
 
 -- a Run of a module whose run is out of the core is permitted
 pub record IsReady (p : Plan) (s : Stored) (ends : List (Option Advance)) (runs : List (Option ModuleRun)) (credits : List ℕ) (m : ℕ)
@@ -127,7 +117,7 @@ module _ (p : Plan) (s : Stored) (ends : List (Option Advance)) (runs : List (Op
         ∙ put_same x.emitted m (suc (x.emitted m))
 
     pub grows : Grows d x (core_of d g)
-    grows = subst (Grows d x) (sym core_is.0) (run_grows d x m)
+    grows = rw core_is.0 (run_grows d x m)
 
     pub step_acts : Acts d p.cycles x (Run m) (core_of d g)
     step_acts = (r.may, core_is.0)
@@ -170,8 +160,10 @@ module _ (p : Plan) (s : Stored) (ends : List (Option Advance)) (runs : List (Op
 
     is_done : d.is_over m (ready d m (newest d x m)) ≡ true
     is_done =
+        let is_mark = over_of_mark p m rest in
+        let over_there : is_over p.ops rest.state ≡ true = grind arith in
         ap (λ (q : ModuleState). is_over p.ops (ready d m q)) (newest_own d x marks m (emitted_of h m) (omega arith))
-        ∙ (ap (is_over p.ops) (sym behind.state) ∙ over_of_mark p m rest (ap is_step (sym mark) ∙ over))
+        ∙ (ap (is_over p.ops) (sym behind.state) ∙ over_there)
 
     over_is : (core_of d (with_over h m) ≡ after_run d x m) × IsSound d (with_over h m)
     over_is = over_core d h m (let n = length_over in let i = r.inside in omega arith) r.core.sound marks r.may is_done
@@ -201,12 +193,8 @@ module _ (p : Plan) (s : Stored) (ends : List (Option Advance)) (runs : List (Op
           | inl e ↦
               let here : get_or ends_now m None ≡ Some end = get_or-set_same ends m (Some end) None
               (let a = length_over in let b = length-map ends is_some in let i = r.inside in omega arith) in
-              let same : end ≡ mark = some_same end mark (sym here ∙ subst (λ (k : ℕ). get_or ends_now k None ≡ Some mark) e.1 there) in
-              inr (subst (λ (q : Advance). IsEndOf p (core_of d (held_in s (over_of ends_now))) n q) same
-              (subst (λ (k : ℕ). IsEndOf p (core_of d (held_in s (over_of ends_now))) k end) (sym e.1)
-              (subst (λ (q : Held). IsEndOf p (core_of d q) m end) (sym held_is) end_of)))
+              let module_is = e.1 in
+              let same : end ≡ mark = cc in
+              inr (rw (module_is, ← same) (subst (λ (q : Held). IsEndOf p (core_of d q) m end) (sym held_is) end_of))
           | inr e ↦ inl (sym (get_or-set_other ends m n (Some end) None e.1) ∙ there)
         ])
-      where
-        some_same : (a b : Advance) → Some a ≡ Some b → a ≡ b
-        some_same a b e = ap (λ (o : Option Advance). unwrap_or o a) e

@@ -1,5 +1,5 @@
 -- The end marks of a core are those of the modules' own runs.
-use Rattle.std.proofs.Common.{◌≡◌, refl, sym, ap, subst, ◌∙◌, ℕ, ◌<◌, Bool, true, false, cond, List, length, get_or, Option, None, Some}
+use Rattle.std.proofs.Common.{◌≡◌, refl, sym, ap, ◌∙◌, ℕ, ◌<◌, Bool, true, false, cond, List, length, get_or, Option, None, Some}
 use Rattle.std.proofs.Common.{is_some, inl, inr, arith}
 use Rattle.flow_word.specs.declared.access.Step.{Step as StepOf}
 use Rattle.flow_design.specs.declared.plan.Plan.{Plan}
@@ -29,11 +29,9 @@ use Rattle.sim_core.proofs.Resting.{rest_is}
 marked : (p : Plan) (x : Core ModuleState) (m : ℕ) (o : Own) → IsRestBehind p x m (x.emitted m) o
     → (mark : Advance) (a b : Bool) (t : StepOf) → a ≡ o.state.ended → b ≡ is_spent p.ops o.state
     → mark ≡ cond a (Ended o.since) (cond b (Spent o.since) (Step t)) → is_step mark ≡ false → IsEndMark p x m mark
-marked p x m o r mark true b t e f is none =
-    subst (IsEndMark p x m) (sym is) (ap (λ (s : ModuleState). s.ended) (sym r.state) ∙ sym e, r.since)
-marked p x m o r mark false true t e f is none =
-    subst (IsEndMark p x m) (sym is) (ap (is_spent p.ops) (sym r.state) ∙ sym f, r.since)
-marked p x m o r mark false false t e f is none = let z = sym (ap is_step is) ∙ none in cc
+marked p x m o r mark true b t e f is none = rw is (ap (λ (s : ModuleState). s.ended) (sym r.state) ∙ sym e, r.since)
+marked p x m o r mark false true t e f is none = rw is (ap (is_spent p.ops) (sym r.state) ∙ sym f, r.since)
+marked p x m o r mark false false t e f is none = cc
 
 -- both crates' words for the gap of a mark
 same_gap : (mark : Advance) → run.gap_of mark < gap_bound → gap_of (Some mark) < gap_bound

@@ -1,6 +1,6 @@
 -- A run that is taken out of the core and put back.
 use Rattle.std.proofs.Common.{◌≡◌, refl, sym, ap, ap₂, subst, ◌∙◌, ℕ, zero, suc, ◌<◌, inl, inr, Bool, true, false, List, [], ◌∷◌, length}
-use Rattle.std.proofs.Common.{drop, get_or, set, Option, Some, None, unwrap_or, arith}
+use Rattle.std.proofs.Common.{get_or, set, Option, Some, None, arith}
 use Rattle.std.specs.Prelude.{Result, Ok, Err, IfOk, IfErr, IfSome, OnErr, is_err}
 use Rattle.std.proofs.lemmas.Bool.Decides.{eqb_tells}
 use Rattle.std.proofs.lemmas.List.{length-set, get_or-set_same, get_or-set_other}
@@ -66,8 +66,7 @@ core_lent p s ends runs credits m o c inside f = record {
       elim (eqb_tells n m) [
         | inl q ↦
             let here : get_or (set runs m o) m None ≡ o = get_or-set_same runs m o None (let k = c.count in omega arith) in
-            subst (λ (k : ℕ). IsRunOf p (core_of (design p) (held_in s (over_of ends))) k run) (sym q.1)
-            (f run (sym here ∙ subst (λ (k : ℕ). get_or (set runs m o) k None ≡ Some run) q.1 e))
+            let same = q.1 in rw same (f run (cc))
         | inr q ↦ c.runs_are n run (sym (get_or-set_other runs m n o None q.1) ∙ e)
       ];
   ends_are = c.ends_are;
@@ -87,13 +86,11 @@ pub lent_back : (runs others : List (Option ModuleRun)) (m : ℕ) (run : ModuleR
 lent_back [] others m run e f = cc
 lent_back (r ∷ rs) [] zero run e f = cc
 lent_back (r ∷ rs) [] (suc m) run e f = cc
-lent_back (r ∷ rs) (q ∷ qs) zero run e f = ap₂ (λ (b : Bool) (bs : List Bool). b ∷ bs) (sym e) (ap (λ (bs : List Bool). drop 1 bs) f)
-lent_back (r ∷ rs) (q ∷ qs) (suc m) run e f =
-    ap₂ (λ (b : Bool) (bs : List Bool). b ∷ bs) (ap (λ (bs : List Bool). get_or bs 0 true) f)
-    (lent_back rs qs m run e (ap (λ (bs : List Bool). drop 1 bs) f))
+lent_back (r ∷ rs) (q ∷ qs) zero run e f = grind arith
+lent_back (r ∷ rs) (q ∷ qs) (suc m) run e f = let later = lent_back rs qs m run e (grind arith) in grind arith
 
 pub same_some : (a b : ModuleRun) → Some a ≡ Some b → a ≡ b
-same_some a b e = ap (λ (o : Option ModuleRun). unwrap_or o a) e
+same_some a b e = cc
 
 -- ---- from view to view
 
@@ -103,8 +100,7 @@ acts_at v w m y e s = subst (λ (u : CoreView). Acts (design u.plan) u.plan.cycl
 
 pub run_at : (p q : Plan) (v w : CoreView) (m : ℕ) (run : ModuleRun) → q ≡ p → w ≡ v → IsRunOf p (theory_of v) m run
     → IsRunOf q (theory_of w) m run
-run_at p q v w m run e f r = subst (λ (z : Plan). IsRunOf z (theory_of w) m run) (sym e)
-    (subst (λ (u : CoreView). IsRunOf p (theory_of u) m run) (sym f) r)
+run_at p q v w m run e f r = rw (e, f) r
 
 -- the view with a run taken out, what a Run makes of it, and that with the run put back
 pub record IsRoundTrip (before taken after back : CoreView) : Type 0 where

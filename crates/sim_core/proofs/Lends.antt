@@ -40,17 +40,13 @@ pub lent_more : (rs : List (Option ModuleRun)) (m : ℕ) → lent_of (set rs m N
 lent_more rs m = map-set is_none rs m None
 
 pub not_lent : (rs : List (Option ModuleRun)) (m : ℕ) (run : ModuleRun) → get_or rs m None ≡ Some run → get_or (lent_of rs) m true ≡ false
-not_lent [] zero run e = cc
-not_lent [] (suc m) run e = cc
-not_lent (None ∷ rs) zero run e = cc
-not_lent (Some r ∷ rs) zero run e = refl
+not_lent [] m run e = cc
+not_lent (r ∷ rs) zero run e = grind arith
 not_lent (r ∷ rs) (suc m) run e = not_lent rs m run e
 
 pub is_lent : (rs : List (Option ModuleRun)) (m : ℕ) → get_or rs m None ≡ None → get_or (lent_of rs) m true ≡ true
-is_lent [] zero e = refl
-is_lent [] (suc m) e = refl
-is_lent (None ∷ rs) zero e = refl
-is_lent (Some r ∷ rs) zero e = cc
+is_lent [] m e = refl
+is_lent (r ∷ rs) zero e = grind arith
 is_lent (r ∷ rs) (suc m) e = is_lent rs m e
 
 -- ---- what was read
@@ -146,8 +142,7 @@ module _ (p : Plan) (s : Stored) (ends : List (Option Advance)) (runs : List (Op
 -- ---- answers
 
 pub same_run : (a b : ModuleRun) (r : Option ModuleRun) → r ≡ Some a → r ≡ Some b → a ≡ b
-same_run a b None e f = cc
-same_run a b (Some c) e f = cc
+same_run a b r e f = cc
 
 -- what a call tells, by its answer
 pub refused : {C D : Type 0} (r : Result C D) {P : Type 0} → is_err r ≡ true → IfErr r (λ cause. P → ⊥) → P → ⊥

@@ -1,16 +1,14 @@
 -- The mark of a run's next rest is the next step of the theory's core, or its end.
 use Rattle.std.proofs.Common.{◌≡◌, refl, sym, ap, ap₂, subst, ◌∙◌, ℕ, zero, suc, ◌+◌, ◌<◌, ◌≤◌, ◌^◌, Bool, true, false, not, cond, ◌||◌}
-use Rattle.std.proofs.Common.{List, [], ◌∷◌, ◌++◌, length, map, get_or, filter, arith, inl, inr, length-append, append-nil, drop}
+use Rattle.std.proofs.Common.{List, [], ◌∷◌, ◌++◌, length, map, get_or, filter, arith, length-append, append-nil, drop}
 use Rattle.std.specs.Prelude.{All}
 use Rattle.std.specs.List.{range_with_len}
-use Rattle.std.proofs.lemmas.Bool.{cases_Bool}
 use Rattle.std.proofs.lemmas.List.{map-append, get_or-map, length-map}
 use Rattle.std.proofs.lemmas.List.FromFn.{get_or-map-range_with_len, length-map-range_with_len}
 use Rattle.std.proofs.lemmas.List.Elements.{All-map, All-weaker, filter-append, All-from_recursion}
 use Rattle.flow_word.specs.declared.access.Access.{Access}
 use Rattle.flow_word.specs.declared.access.Step.{Step as StepOf}
 use Rattle.flow_design.specs.declared.design.ChannelKind.{ChannelKind}
-use Rattle.flow_design.specs.declared.design.ChannelKind.TheVariants as plan
 use Rattle.flow_design.specs.declared.plan.Plan.{Plan}
 use Rattle.flow_design.specs.declared.state.Advance.TheVariants.{Step, Ended, Spent}
 use Rattle.flow_design.specs.declared.state.ModuleState.{ModuleState}
@@ -87,19 +85,11 @@ open_in xs = length (filter (λ (a : theory.Access). not a.blocks) xs)
 
 open_seen : (xs : List Access) → queries_in xs ≡ open_in (map seen xs)
 open_seen [] = refl
-open_seen (a ∷ xs) =
-    elim (cases_Bool (is_blocking a.kind)) [
-      | inl b ↦ rw b (open_seen xs)
-      | inr b ↦ rw b (ap (λ (n : ℕ). suc n) (open_seen xs))
-    ]
+open_seen (a ∷ xs) = let later = open_seen xs in grind arith
 
 open_asked : (rs : List Request) (qs : List Reply) → length (queries (paired rs qs)) ≡ open_in (map bridge.seen rs)
 open_asked [] qs = refl
-open_asked (r ∷ rs) qs =
-    elim (cases_Bool (is_blocking r.kind)) [
-      | inl b ↦ rw b (open_asked rs (drop 1 qs))
-      | inr b ↦ rw b (ap (λ (n : ℕ). suc n) (open_asked rs (drop 1 qs)))
-    ]
+open_asked (r ∷ rs) qs = let later = open_asked rs (drop 1 qs) in grind arith
 
 pub queries_done : (p : Plan) (h : Held) → IsSound (design p) h → (i n : ℕ) → n ≤ emitted_of h i
     → length (queries (exchanges_before p (core_of (design p) h) i n)) ≡ queries_before h i n
@@ -119,21 +109,15 @@ queries_done p h s i (suc n) l =
 -- ---- the step
 
 step_of_mark : (a b : Bool) (n : ℕ) (s t : StepOf) → cond a (Ended n) (cond b (Spent n) (Step s)) ≡ Step t → ((a || b) ≡ false) × (s ≡ t)
-step_of_mark true b n s t e = cc
-step_of_mark false true n s t e = cc
-step_of_mark false false n s t e = (refl, cc)
+step_of_mark a b n s t e = (grind arith, grind arith)
 
 gap_waited : (k q : ℕ) → waited k (clocks_of_steps k + q) ≡ q
 gap_waited zero q = omega arith
 gap_waited (suc k) q = omega arith
 
 has_side : (side : Side) (k : ChannelKind) (inputs : List ℕ) (depth : ℕ) → has_port k side ≡ true → HasSide (kind_by k inputs depth) side
-has_side Pop plan.Source inputs depth e = λ f. f
-has_side Push plan.Source inputs depth e = cc
-has_side Pop plan.Sink inputs depth e = cc
-has_side Push plan.Sink inputs depth e = λ f. f
-has_side Pop (plan.Fifo declared delay) inputs depth e = λ f. f
-has_side Push (plan.Fifo declared delay) inputs depth e = λ f. f
+has_side Pop k inputs depth e = grind arith
+has_side Push k inputs depth e = grind arith
 
 -- a channel of the table is the plan's
 module _ (p : Plan) (channels : List Channel) (t : kinds_in channels ≡ kinds_of p) where

@@ -1,6 +1,6 @@
 -- A mail that was made for a run that may go on is one of a task of the core.
-use Rattle.std.proofs.Common.{◌≡◌, sym, ap, ap₂, ◌∙◌, ℕ, zero, suc, ◌+◌, ◌<◌, ◌≤◌, Bool, true, false, eqb}
-use Rattle.std.proofs.Common.{leb, ltb, ◌&&◌, ◌||◌, inl, inr, List, [], ◌∷◌, length, map, take, drop, slice_index}
+use Rattle.std.proofs.Common.{length-drop, ◌≡◌, sym, ap, ap₂, ◌∙◌, ℕ, suc, ◌+◌, ◌<◌, ◌≤◌, Bool, true, false, eqb}
+use Rattle.std.proofs.Common.{leb, ltb, ◌&&◌, ◌||◌, inl, inr, List, [], length, map, take, drop, slice_index}
 use Rattle.std.proofs.Common.{arith}
 use Rattle.std.proofs.lemmas.Bool.{cond-true, cond-false, lt-ltb, leb-true, le-ltb}
 use Rattle.std.proofs.lemmas.Bool.Decides.{eqb_tells}
@@ -37,20 +37,13 @@ use Rattle.sim_core.proofs.Sending.{outcomes_read, asked_same, queries_are, mine
 -- ---- the outcomes that are needed are there
 
 left_behind : (first q : ℕ) (os : List Bool) → first + q ≤ length os → q ≤ length (drop first os)
-left_behind zero q os l = omega arith
-left_behind (suc first) q [] l = omega arith
-left_behind (suc first) q (o ∷ os) l = left_behind first q os (omega arith)
-
-within : (a b c : Bool) → (a && (b || c)) ≡ true → b ≡ false → c ≡ true
-within true true c e n = cc
-within true false c e n = e
-within false b c e n = cc
+left_behind first q os l = let long = length-drop first os in omega arith
 
 room_left : (e j q f : ℕ) (os : List Bool) → (ltb j e && (eqb q 0 || leb (f + q) (length os))) ≡ true → q ≤ length (drop f os)
 room_left e j q f os t =
     elim (eqb_tells q 0) [
       | inl z ↦ let y = z.1 in omega arith
-      | inr z ↦ left_behind f q os (leb-true (f + q) (length os) (within (ltb j e) (eqb q 0) (leb (f + q) (length os)) t z.0))
+      | inr z ↦ let apart = z.0 in left_behind f q os (leb-true (f + q) (length os) (grind arith))
     ]
 
 -- ---- the task

@@ -5,7 +5,7 @@ use Rattle.event_timing.specs.Views.{Begins}
 use Rattle.sim_core.specs.Lent.{IsReadingOutcomes, IsReadingValues}
 use Rattle.sim_core.proofs.Beginnings.{drop_twice, drop_front}
 
-drop_some : {X : Type 0} → (xs : List X) (n : ℕ) (v : X) → slice_get xs n ≡ Some v → drop n xs ≡ v ∷ drop (suc n) xs
+pub drop_some : {X : Type 0} → (xs : List X) (n : ℕ) (v : X) → slice_get xs n ≡ Some v → drop n xs ≡ v ∷ drop (suc n) xs
 drop_some [] n v e = cc
 drop_some (x ∷ xs) zero v e = cc
 drop_some (x ∷ xs) (suc n) v e = drop_some xs n v e

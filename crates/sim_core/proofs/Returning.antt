@@ -1,5 +1,5 @@
 -- Marks that come back, one after the other.
-use Rattle.std.proofs.Common.{◌≡◌, refl, sym, ap, subst, ◌∙◌, ℕ, zero, suc, ◌+◌, ◌*◌, ◌^◌, ◌<◌, ◌≤◌, ◌⊎◌, inl, inr, Bool, true}
+use Rattle.std.proofs.Common.{◌≡◌, refl, sym, ap, subst, ◌∙◌, ℕ, suc, ◌+◌, ◌*◌, ◌^◌, ◌<◌, ◌≤◌, ◌⊎◌, inl, inr, Bool, true}
 use Rattle.std.proofs.lemmas.List.{drop_all as all_dropped}
 use Rattle.std.proofs.Common.{List, [], ◌∷◌, length, drop, drop-set-lt, get_or, set, slice_get, Option, Some, arith}
 use Rattle.std.proofs.lemmas.Bool.{cases_Bool}
@@ -31,6 +31,7 @@ use Rattle.sim_core.specs.Returned.{core_in, most_queries, HasRoomForMarks, IsNe
 use Rattle.sim_core.specs.Runs.{IsCore, rest_behind, over_of, lent_of}
 use Rattle.sim_core.specs.Tasks.{IsTaskFor, IsTaskLeft, rest_of}
 use Rattle.sim_core.proofs.Ahead.{Goes, Waits, waits_behind, over_behind, goes_on, waiting_stands, going_stands, over_stands}
+use Rattle.sim_core.proofs.Posting.{drop_some}
 use Rattle.sim_core.proofs.Tasks.{waits_first, goes_first}
 use Rattle.sim_core.proofs.Emission.{IsReady}
 use Rattle.module_interp.proofs.Sound.{gap_at}
@@ -206,9 +207,7 @@ module _ (p : Plan) (s : Stored) (ends : List (Option Advance)) (runs : List (Op
   }
 
 pub drop_here : (xs : List Advance) (n : ℕ) (v : Advance) → slice_get xs n ≡ Some v → drop n xs ≡ v ∷ drop (suc n) xs
-drop_here [] n v e = cc
-drop_here (x ∷ xs) zero v e = cc
-drop_here (x ∷ xs) (suc n) v e = drop_here xs n v e
+drop_here xs n v e = drop_some xs n v e
 
 pub drop_behind : (xs : List Advance) (n : ℕ) (v : Advance) → drop (suc n) (set xs n v) ≡ drop (suc n) xs
 drop_behind xs n v = drop-set-lt (suc n) xs n v (omega arith)

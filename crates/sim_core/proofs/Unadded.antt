@@ -1,5 +1,5 @@
 -- Where actions add no outcome, each of them meets recorded ones, and no Run is permitted behind them.
-use Rattle.std.proofs.Common.{◌≡◌, refl, ap, subst, ◌∙◌, ℕ, ◌<◌, ◌⊎◌, inl, inr, true, Some, List, [], ◌∷◌, arith}
+use Rattle.std.proofs.Common.{◌≡◌, refl, ap, subst, ℕ, ◌<◌, ◌⊎◌, inl, inr, true, Some, List, [], ◌∷◌, arith}
 use Rattle.std.proofs.lemmas.Bool.{cases_Bool, both_ways}
 use Rattle.event_timing.specs.Machines.{Design, IsDesign}
 use Rattle.event_timing.specs.Histories.{Trace, IsHistory}
@@ -24,11 +24,9 @@ module _ {S : Type 0} (d : Design S) (h : Trace S) (i : IsDesign d) (y : IsHisto
       → IsSame d x n c × (z ≡ after_answer d x n c) ⊎ (IsSame d x n c → ⊥) × (z ≡ x)
       → ((k : ℕ) → k < z.emitted n → z.answered n k ≡ true → w.answered n k ≡ true) → x.answered n (x.timed n) ≡ true
   answered_before x z w g old n c at (inl (same, is)) stays =
-      let emitted : z.emitted n ≡ x.emitted n = ap (λ (q : Core S). q.emitted n) is in
       let l = first_emitted d x n c at in
-      let now : z.answered n (x.timed n) ≡ true = ap (λ (q : Core S). q.answered n (x.timed n)) is
-      ∙ put_at_same x.answered n (x.timed n) true in
-      old n (x.timed n) l (stays (x.timed n) (omega arith) now)
+      let here = put_at_same x.answered n (x.timed n) true in
+      old n (x.timed n) l (stays (x.timed n) (rw is l) (rw is here))
   answered_before x z w g old n c at (inr (other, is)) stays =
       elim (cases_Bool (x.answered n (x.timed n))) [
         | inl t ↦ t

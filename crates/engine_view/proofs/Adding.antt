@@ -74,12 +74,6 @@ one_kept at channels a b y inside k =
       ) k.side;
     }
 
-pub same_or : (a b : Side) → (a ≡ b) ⊎ (a ≡ b → ⊥)
-same_or Pop Pop = inl refl
-same_or Pop Push = inr (λ e. cc)
-same_or Push Pop = inr (λ e. cc)
-same_or Push Push = inl refl
-
 module _ (at : Place) (late : Bool) (xs : List Access) (outs : List Bool) (first : ℕ) (old now : RoomedChannels) (i n : ℕ) (d : Access)
     (r : TakesOn at late xs outs first old now i n) (l : i < length xs) where
   here : drop i xs ≡ get_or xs i d ∷ drop (i + 1) xs

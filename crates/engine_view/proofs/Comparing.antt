@@ -53,10 +53,6 @@ flags_first : (a : Access) (xs : List Access) (outs : List Bool)
     → flags_by (a ∷ xs) outs ≡ flag_now a.kind (slice_get outs 0) ∷ flags_by xs (cond (is_blocking a.kind) outs (drop 1 outs))
 flags_first a xs outs = grind arith
 
-flags_length : (xs : List Access) (outs : List Bool) → length (flags_by xs outs) ≡ length xs
-flags_length [] outs = refl
-flags_length (a ∷ xs) outs = let here = flags_length xs outs in let later = flags_length xs (drop 1 outs) in grind arith
-
 module _ (lanes : List Lane) (channels : List Channel) (c : ℕ) where
   found_append : (xs ys : List Access)
       → found_flags lanes channels c (xs ++ ys) ≡ found_flags lanes channels c xs ++ found_flags lanes channels c ys

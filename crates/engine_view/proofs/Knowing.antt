@@ -43,12 +43,6 @@ place_none a r side ch n i l = later (place a r side ch n i) (place_says a r sid
     later None g = refl
     later (Some j) (g1, g2, g3) = absurd (omega (arith, tally_mono a r side ch (suc j) n g1))
 
--- what an event tells, where its place is this one or none
-event_known : (lanes : List Lane) (l : ℕ) (o : Option Place) (e : Option ℕ) → ((p : Place) → o ≡ Some p → cycle_of lanes p ≡ e)
-    → (o ≡ None → e ≡ None)
-    → as_known (known_by lanes l (event_at o)) ≡ as_known (from_cycle l e)
-event_known lanes l o e f g = grind arith
-
 from_none : (cycle : ℕ → ℕ) (l : ℕ) (o : Option ℕ) → o ≡ None → from_step cycle l o ≡ Unknown
 from_none cycle l o e = rw e refl
 

@@ -83,11 +83,3 @@ module _ (lanes : List Lane) (channels : List Channel) (c m : ℕ) (xs : List Ac
         own_room = let k = r.own_room in omega arith;
         other_rooms = λ k f. let w = r.other_rooms k f in let v = others k f in omega arith;
       }
-
-pub writes_all : (lanes : List Lane) (channels : List Channel) (c m : ℕ) (xs : List Access) (old now : RoomedLogs) (i : ℕ)
-    → WritesOn lanes channels c m xs old now i → length xs ≤ i
-    → now.logs ≡ with_outcomes old.logs m (outcomes_of xs (found_flags lanes channels c xs))
-writes_all lanes channels c m xs old now i r l =
-    sym (outcomes_none now.logs m r.verified)
-    ∙ (ap (λ (ys : List Access). with_outcomes now.logs m (outcomes_of ys (found_flags lanes channels c ys))) (sym (drop_all i xs l))
-    ∙ r.logs)

@@ -42,16 +42,6 @@ at_end q log l = let e : min q log.verified ≡ log.verified = omega arith in rw
 pub none_assumed : (lanes : List Lane) (old : List Log) → AreAssumed lanes old old 0
 none_assumed lanes old = record { count = refl; done = λ m l. absurd (omega arith); rest = λ m l. refl }
 
--- the next module's outcomes are assumed
-pub more_assumed : (lanes : List Lane) (old now next : List Log) (m : ℕ) → AreAssumed lanes old now m → length next ≡ length now
-    → log_at next m ≡ assumed lanes m (log_at now m) → ((n : ℕ) → (n ≡ m → ⊥) → log_at next n ≡ log_at now n)
-    → AreAssumed lanes old next (m + 1)
-more_assumed lanes old now next m a count here else = record {
-  count = count ∙ a.count;
-  done = λ n l. let other = else n in let before = a.done n in let same = a.rest m (omega arith) in grind arith;
-  rest = λ n l. else n (λ e. omega arith) ∙ a.rest n (omega arith);
-}
-
 -- where each of its steps has a cycle, all outcomes stay verified
 pub all_timed : (lanes : List Lane) (now : List Log) (m : ℕ) → length (lane_at lanes m).cycles ≡ length (lane_at lanes m).steps
     → (log_at now m).verified ≤ queries_before (only_lanes lanes) m (length (lane_at lanes m).steps)

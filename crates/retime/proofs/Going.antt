@@ -192,17 +192,3 @@ still_went now next count idle hints other l f =
   where
     falls : (a b most x y : ℕ) → a + 1 ≤ b → x < most → a * most + x < b * most + y
     falls a b most x y l u = let m : (a + 1) * most ≤ b * most = mul-le-mul_right most l in omega arith
-
-pub still_jumped : (now next : Stored) (count idle hints other : ℕ) → next ≡ now → other < hints
-    → still next count 0 other < still now count idle hints
-still_jumped now next count idle hints other e l = rw e (falls (left now * (2 ^ 64 * (count + 1))))
-  where
-    falls : (a : ℕ) → a + (other * (count + 1) + (count - 0)) < a + (hints * (count + 1) + (count - idle))
-    falls a = let m : (other + 1) * (count + 1) ≤ hints * (count + 1) = mul-le-mul_right (count + 1) (omega arith) in omega arith
-
-pub still_stayed : (now next : Stored) (count idle hints : ℕ) → next ≡ now → idle < count
-    → still next count (idle + 1) hints < still now count idle hints
-still_stayed now next count idle hints e l = rw e (falls (left now * (2 ^ 64 * (count + 1))) (hints * (count + 1)))
-  where
-    falls : (a b : ℕ) → a + (b + (count - (idle + 1))) < a + (b + (count - idle))
-    falls a b = omega arith

@@ -19,9 +19,6 @@ use Rattle.run_ahead.specs.Replies.{reply_now, put_first, put_before, has_value}
 use Rattle.run_ahead.specs.Mails.{values_on, next_value, told_by, replies_in, one_more, taken_after, none_taken, IsLeft}
 use Rattle.run_ahead.proofs.Parts.{first_parts}
 
-pub before_nil : (r : Option (List Reply)) → put_before [] r ≡ r
-before_nil r = grind arith
-
 pub before_more : (qs : List Reply) (q : Reply) (r : Option (List Reply))
     → put_before qs (put_first (Some q) r) ≡ put_before (qs ++ q ∷ []) r
 before_more qs q r = let whole = append_assoc qs (q ∷ []) in grind arith
@@ -35,44 +32,6 @@ drop_next (x ∷ xs) (suc i) l = drop_next xs i (omega arith)
 pub record IsFinding (mail : Mail) (told₀ : ℕ) (taken : List ℕ) (xs : List Access) (replies : List Reply) (told i : ℕ) : Type 0 where
   pub found : replies_in mail told₀ taken xs ≡ put_before replies (replies_in mail told taken (drop i xs))
   pub number : told + queries_in (drop i xs) ≡ told₀ + queries_in xs
-
-pub finding_none : (mail : Mail) (told₀ : ℕ) (taken : List ℕ) (xs : List Access) → IsFinding mail told₀ taken xs [] told₀ 0
-finding_none mail told₀ taken xs = record { found = sym (before_nil (replies_in mail told₀ taken xs)); number = refl }
-
--- one reply more
-pub finding_more : (mail : Mail) (told₀ : ℕ) (taken : List ℕ) (xs : List Access) (replies : List Reply) (told i : ℕ) (a : Access)
-    (q : Reply) → IsFinding mail told₀ taken xs replies told i → drop i xs ≡ a ∷ drop (suc i) xs
-    → reply_now a.kind (slice_get mail.outcomes told) (next_value mail taken a.channel) ≡ Some q
-    → IsFinding mail told₀ taken xs (replies ++ q ∷ []) (told_by a.kind told) (suc i)
-finding_more mail told₀ taken xs replies told i a q f d e = record {
-  found = f.found ∙ rw (d, e) (before_more replies q (replies_in mail (told_by a.kind told) taken (drop (suc i) xs)));
-  number = let before = f.number in grind arith;
-}
-
--- one that is not there
-pub finding_lost : (mail : Mail) (told₀ : ℕ) (taken : List ℕ) (xs : List Access) (replies : List Reply) (told i : ℕ) (a : Access)
-    → IsFinding mail told₀ taken xs replies told i → drop i xs ≡ a ∷ drop (suc i) xs
-    → reply_now a.kind (slice_get mail.outcomes told) (next_value mail taken a.channel) ≡ None → replies_in mail told₀ taken xs ≡ None
-finding_lost mail told₀ taken xs replies told i a f d e = f.found ∙ rw (d, e) refl
-
--- all of them
-pub finding_all : (mail : Mail) (told₀ : ℕ) (taken : List ℕ) (xs : List Access) (replies : List Reply) (told i : ℕ)
-    → IsFinding mail told₀ taken xs replies told i → length xs ≤ i
-    → (replies_in mail told₀ taken xs ≡ Some replies) × (told ≡ told₀ + queries_in xs)
-finding_all mail told₀ taken xs replies told i f l =
-    let d = drop_all i xs l in
-    let before = f.number in
-    (f.found ∙ rw (d, append-nil replies) refl, grind arith)
-
--- an outcome that was read is in the mail
-pub was_there : (mail : Mail) (told : ℕ) (k : Kind) (value : Option ℕ) (q : Reply)
-    → reply_now k (slice_get mail.outcomes told) value ≡ Some q → is_blocking k ≡ false → (o : Bool)
-    × (slice_get mail.outcomes told ≡ Some o)
-was_there mail told k value q e b = there (slice_get mail.outcomes told) refl
-  where
-    there : (o : Option Bool) → slice_get mail.outcomes told ≡ o → (y : Bool) × (slice_get mail.outcomes told ≡ Some y)
-    there (Some y) s = (y, s)
-    there None s = absurd (grind arith)
 
 -- the replies fit
 fits_with : (k : Kind) (o : Option Bool) (v : Option ℕ) (q : Reply) → reply_now k o v ≡ Some q → fits_kind k q ≡ true

@@ -99,10 +99,6 @@ acts_between p before now after there m e f s =
     subst (λ (h : Held). Acts (design p) p.cycles (core_of (design p) before) (Run m) (core_of (design p) h)) (sym f)
     (subst (λ (h : Held). Acts (design p) p.cycles (core_of (design p) h) (Run m) (core_of (design p) after)) e s)
 
-pub run_between : (p : Plan) (after there : Held) (m : ℕ) (run : ModuleRun) → there ≡ after → IsRunOf p (core_of (design p) after) m run
-    → IsRunOf p (core_of (design p) there) m run
-run_between p after there m run e r = subst (λ (h : Held). IsRunOf p (core_of (design p) h) m run) (sym e) r
-
 module _ (p : Plan) (s : Stored) (ends : List (Option Advance)) (runs : List (Option ModuleRun)) (credits : List ℕ) (m : ℕ)
     (run : ModuleRun) (r : IsReadyRun p s ends runs credits m run) where
   abbrev d : Design ModuleState

@@ -1,7 +1,8 @@
 -- The accesses of the step at which a run rests, listed.
 use Rattle.std.specs.Box.{with_value}
 use Rattle.std.specs.Prelude.{All}
-use Rattle.std.proofs.Common.{◌≡◌, ◌⊎◌, inl, inr, true, false, ℕ, ◌^◌, ◌<◌, ◌∙◌, List, map, length, refl, sym, ap, subst, arith, Result, Ok, Err, OnErr}
+use Rattle.std.proofs.Common.{◌≡◌, ◌⊎◌, inl, inr, true, false, ℕ, ◌^◌, ◌<◌, ◌∙◌, List, map, length, refl, sym, ap, subst, arith}
+use Rattle.std.proofs.Common.{Result, Ok, Err, OnErr}
 use Rattle.flow_word.specs.declared.access.Access.{Access}
 use Rattle.flow_design.specs.declared.plan.Plan.{Plan}
 use Rattle.flow_design.specs.declared.state.Advance.TheVariants.{Step, Ended, Spent}
@@ -46,7 +47,8 @@ alive_step x y is h alive = at_step x h (subst (λ (z : Path). is_over z.limit z
 pub rest_unasked : (r : ModuleRun) (y : Path) → y ≡ r.path.value → Rests r.path.value → is_asked y.stage ≡ false
 rest_unasked r y is h = rw is (rw (has_begun r.path.value h) refl)
 
-module _ (p : Plan) (i : ℕ) (o : Own) (r : ModuleRun) (s : StandsAt p i o r) (y : Path) (is : y ≡ r.path.value) (h : Rests r.path.value) where
+module _ (p : Plan) (i : ℕ) (o : Own) (r : ModuleRun) (s : StandsAt p i o r) (y : Path) (is : y ≡ r.path.value)
+    (h : Rests r.path.value) where
   rests_here : Rests y
   rests_here = subst Rests (sym is) h
 

@@ -19,4 +19,5 @@ pub loop-access-preserved : goal.loop-access-preserved
 loop-access-preserved c =
     rw c.in_ok-push.ensures.ok (found_more c.args.fifos.now.channels c.args.accesses.now (log_at c.args.log.now.logs c.args.owner).outcomes
     c.args.first_query c.loop-access.replies c.loop-access.access-index c.loop-access.number no_access
-    c.loop-access.invariant c.loop-access-test.true c.in-Some.reply (sym c.reply_in.ensures ∙ c.in-Some.is) _ (ap (λ (b : Bool). c.loop-access.number + from_bool (not b)) c.is_blocking.ensures))
+    c.loop-access.invariant c.loop-access-test.true c.in-Some.reply (sym c.reply_in.ensures ∙ c.in-Some.is) _
+    (ap (λ (b : Bool). c.loop-access.number + from_bool (not b)) c.is_blocking.ensures))

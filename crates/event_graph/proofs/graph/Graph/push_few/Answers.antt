@@ -19,7 +19,8 @@ pub returns-clause-ok : goal.returns-clause-ok
 returns-clause-ok c =
     let there : c.args.owner < length c.self.inside.lanes.items = rw (← c.self.view_is, length-map) at c.requires.owner in
     rw (← c.self.view_is) (on_ok_weaker c.push_few.result (λ more. shown_set (λ (l : RoomedLane). l.lane)
-    (λ (l : Lane). longer l (whole c.args.step.now)) c.self.inside.lanes.items c.args.owner c.index_mut.result.now c.push_few.new.self no_lane
+    (λ (l : Lane). longer l (whole c.args.step.now)) c.self.inside.lanes.items c.args.owner c.index_mut.result.now c.push_few.new.self
+    no_lane
     there c.index_mut.ensures.value more) c.push_few.ensures.ok)
 
 pub returns-clause-err : goal.returns-clause-err

@@ -6,7 +6,8 @@ use Rattle.event_graph.proofs.lane.RoomyLane.push_few.Goals as goal
 
 pub invariant_of-self-2 : goal.invariant_of-self-2
 invariant_of-self-2 c = (
-  longer_sound _ (whole c.args.step.now) _ _ c.self.invariant.0 c.requires.sound (rw (← c.self.view_is) at c.requires.apart) c.in_ok-push_few.ensures.ok
+  longer_sound _ (whole c.args.step.now) _ _ c.self.invariant.0 c.requires.sound (rw (← c.self.view_is) at c.requires.apart)
+      c.in_ok-push_few.ensures.ok
       c.reserve.ensures.items,
   let count = ap length c.in_ok-push_few.ensures.ok in grind (arith, common_steps, length-append),
   let count = ap length c.in_ok-push_few.ensures.ok in grind (arith, common_steps, length-append),
@@ -14,5 +15,6 @@ invariant_of-self-2 c = (
 
 pub returns-clause-lane_sound : goal.returns-clause-lane_sound
 returns-clause-lane_sound c =
-    longer_sound _ (whole c.args.step.now) _ _ c.self.invariant.0 c.requires.sound (rw (← c.self.view_is) at c.requires.apart) c.in_ok-push_few.ensures.ok
+    longer_sound _ (whole c.args.step.now) _ _ c.self.invariant.0 c.requires.sound (rw (← c.self.view_is) at c.requires.apart)
+    c.in_ok-push_few.ensures.ok
     c.reserve.ensures.items

@@ -16,7 +16,7 @@ use Rattle.flow_check.specs.declared.item.Spot.{Spot}
 use Rattle.flow_check.specs.declared.item.Spot.TheVariants.{Head, Operation, Terminator}
 use Rattle.flow_check.specs.declared.item.Item.{Item}
 use Rattle.flow_check.specs.declared.place.Counts.{Counts}
-use Rattle.flow_check.specs.Places.{counts, counts_more, item_behind, items_behind, items_of}
+use Rattle.flow_check.specs.Places.{counts, item_behind, items_behind, items_of}
 use Rattle.flow_check.specs.Places.{same_item, is_item, place_of}
 use Rattle.flow_check.specs.Rules.{leads_out, breaks_limits, clashes, is_too_late, is_on_wrong_side, broken_by, rules, checking_fault}
 use Rattle.flow_check.specs.Broken.{passes, spot_breaks, channel_breaks, breaks, statement_breaks, TellsFirst}
@@ -178,26 +178,23 @@ module_stands : (names : List Name) (earlier rest : List Statement) (k n c : ℕ
     → There (length own.blocks) blk a → stands earlier rest (item.InModule n (c, a)) ≡ true
 unfolding module_of
 module_stands names earlier [] k n c own blk a is at block_at h = absurd cc
+module_stands names earlier (s.Module x ∷ rest) zero n c own blk a is at block_at h =
+    let body : List Statement = body_of level.Modules rest in
+    let step = counted earlier (s.Module x) in
+    let same : module_of names (s.Module x, body) ≡ own = cc in
+    let blocks : slice_get (map (block (scope_of names body)) (sections level.Blocks body)) c ≡ Some blk
+    = ap (λ (o : Module). slice_get o.blocks c) same ∙ block_at in
+    behind earlier rest (s.Module x) (item.InModule n (c, a))
+    (in_front level.Modules (s.Module x ∷ earlier) rest (item.InModule n (c, a))
+    (block_stands (scope_of names body) n (length own.blocks) (s.Module x ∷ earlier) body c c blk a
+    (plain_body level.Modules rest) (grind arith) (grind arith) blocks h))
+module_stands names earlier (s.Module x ∷ rest) (suc k) n c own blk a is at block_at h =
+    let step = counted earlier (s.Module x) in
+    behind earlier rest (s.Module x) (item.InModule n (c, a))
+    (module_stands names (s.Module x ∷ earlier) rest k n c own blk a (grind arith) at block_at h)
 module_stands names earlier (st ∷ rest) k n c own blk a is at block_at h =
-    by st (counted earlier st) k is (λ j is q. module_stands names (st ∷ earlier) rest j n c own blk a is q block_at h) at
-  where
-    by : (st : Statement) → counts (st ∷ earlier) ≡ counts_more (counts earlier) st → (k : ℕ) → n ≡ (counts earlier).modules + k
-        → ((j : ℕ) → n ≡ (counts (st ∷ earlier)).modules + j
-        → slice_get (map (module_of names) (sections level.Modules rest)) j ≡ Some own
-        → stands (st ∷ earlier) rest (item.InModule n (c, a)) ≡ true)
-        → slice_get (map (module_of names) (sections level.Modules (st ∷ rest))) k ≡ Some own
-        → stands earlier (st ∷ rest) (item.InModule n (c, a)) ≡ true
-    by (s.Module x) e zero is more q =
-        let body : List Statement = body_of level.Modules rest in
-        let same : module_of names (s.Module x, body) ≡ own = cc in
-        let blocks : slice_get (map (block (scope_of names body)) (sections level.Blocks body)) c ≡ Some blk
-        = ap (λ (o : Module). slice_get o.blocks c) same ∙ block_at in
-        behind earlier rest (s.Module x) (item.InModule n (c, a))
-        (in_front level.Modules (s.Module x ∷ earlier) rest (item.InModule n (c, a))
-        (block_stands (scope_of names body) n (length own.blocks) (s.Module x ∷ earlier) body c c blk a
-        (plain_body level.Modules rest) (grind arith) (grind arith) blocks h))
-    by (s.Module x) e (suc k) is more q = behind earlier rest (s.Module x) (item.InModule n (c, a)) (more k (grind arith) q)
-    by st e k is more q = behind earlier rest st (item.InModule n (c, a)) (more k (grind arith) q)
+    let step = counted earlier st in
+    behind earlier rest st (item.InModule n (c, a)) (module_stands names (st ∷ earlier) rest k n c own blk a (grind arith) at block_at h)
 
 -- an item that breaks a rule has its statement
 pub exists : (statements : List Statement) (rule : Code) (i : Item) → breaks (plan_of statements) rule i ≡ true

@@ -14,7 +14,13 @@ use Rattle.flow_word.proofs.Ranges.{range_last}
 pub passed_more : {Y : Type 0} (f : ℕ → Y) (p : ℕ → Bool) (i : ℕ) (out next : List Y) → out ≡ map f (filter p (range_with_len 0 i))
     → next ≡ out ++ map f (filter p (i ∷ [])) → next ≡ map f (filter p (range_with_len 0 (i + 1)))
 passed_more f p i out next so now =
-    rw (now, so, range_last i, filter-append p (range_with_len 0 i) (i ∷ []), map-append f (filter p (range_with_len 0 i)) (filter p (i ∷ []))) refl
+    rw (
+      now,
+      so,
+      range_last i,
+      filter-append p (range_with_len 0 i) (i ∷ []),
+      map-append f (filter p (range_with_len 0 i)) (filter p (i ∷ [])),
+    ) refl
 
 -- a number more
 pub mapped_more : {Y : Type 0} (f : ℕ → Y) (i : ℕ) (out next : List Y) → out ≡ map f (range_with_len 0 i) → next ≡ out ++ f i ∷ []

@@ -63,7 +63,8 @@ takes_init at late xs outs first t inside apart rooms = record {
 one_kept : (at : Place) (channels : List Channel) (a : Access) (b : Bool) (y : Access) → a.channel < length channels → IsAccess channels y
     → IsAccess (cond (is_taking a.kind && b) (taken_by (side_of a.kind) at channels a) channels) y
 one_kept at channels a b y inside k =
-    let inside' : All (λ (q : Access). q.channel < length channels) (a ∷ []) = λ j e l. let first : j ≡ 0 = omega arith in rw first inside in
+    let inside' : All (λ (q : Access). q.channel < length channels) (a ∷ []) = λ j e l.
+    let first : j ≡ 0 = omega arith in rw first inside in
     record {
       channel = let e = all_length at channels (a ∷ []) (b ∷ []) in let l = k.channel in omega arith;
       ordinal = k.ordinal;

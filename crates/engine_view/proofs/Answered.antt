@@ -176,7 +176,7 @@ module _ {S : Type 0} (d : Design S) (i : IsDesign d) (h : Held) (m c : ℕ) (in
       (flags_fit (known_of d (view d x) m) c t.accesses)
 
   flags_before : x.flags m k₀ ≡ done_at_once t.accesses
-  flags_before = let at_first = b.unanswered m k₀ less fresh in let same = no_outcomes_is t.accesses in rw (at_first, s.accesses m k₀ less) same
+  flags_before = rw (b.unanswered m k₀ less fresh, s.accesses m k₀ less) (no_outcomes_is t.accesses)
 
   flags_now : z.flags m k₀ ≡ fs
   flags_now = put_at_same x.flags m k₀ fs
@@ -260,7 +260,8 @@ module _ {S : Type 0} (d : Design S) (i : IsDesign d) (h : Held) (m c : ℕ) (in
       let up = tally_up side ch (suc y.step) in
       record { owner = o.owner; emitted = o.emitted; from = grind arith; to = grind arith }
 
-  new_for : (side : Side) (ch : ℕ) → 0 < late side ch → (j : ℕ) → core_tally d x (d.owner side ch) side ch (emitted_of h (d.owner side ch)) ≤ j
+  new_for : (side : Side) (ch : ℕ) → 0 < late side ch → (j : ℕ)
+      → core_tally d x (d.owner side ch) side ch (emitted_of h (d.owner side ch)) ≤ j
       → j < core_tally d x (d.owner side ch) side ch (emitted_of h (d.owner side ch)) + late side ch → IsTakenAt d z side ch j at
   new_for side ch p j l u =
       let none = none_late side ch in

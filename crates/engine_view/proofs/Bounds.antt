@@ -121,7 +121,8 @@ bound_is lanes channels know (a ∷ xs) all =
         → is_blocking a.kind ≡ false
         → (b : Known) → IsBound lanes channels xs b → IsBound lanes channels (a ∷ xs) b
     bound_query lanes channels know a xs e b (inl (h1, h2)) =
-        inl (position_none (is_waiting lanes channels) a xs (waiting_query lanes channels a e) h1, rw (clocks_query lanes channels a xs e) h2)
+        let waits = waiting_query lanes channels a e in
+        inl (position_none (is_waiting lanes channels) a xs waits h1, rw (clocks_query lanes channels a xs e) h2)
     bound_query lanes channels know a xs e b (inr (h1, h2)) =
         inr (position_some (is_waiting lanes channels) a xs (waiting_query lanes channels a e) h1, h2)
 

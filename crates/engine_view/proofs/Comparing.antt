@@ -84,7 +84,14 @@ module _ (lanes : List Lane) (channels : List Channel) (c : ℕ) where
     found = found_flags lanes channels c (take i xs)
 
     here : i < length xs → flags_by xs (drop first outs) ≡ found ++ flag_now a.kind (slice_get outs n) ∷ rest
-    here l = rw (r.alike, drop_more xs i d l, flags_first a (drop (i + 1) xs) (drop n outs), get_drop n outs, drop_next (is_blocking a.kind) n outs) refl
+    here l =
+        rw (
+          r.alike,
+          drop_more xs i d l,
+          flags_first a (drop (i + 1) xs) (drop n outs),
+          get_drop n outs,
+          drop_next (is_blocking a.kind) n outs,
+        ) refl
 
     there : i < length xs → found_flags lanes channels c xs ≡ found ++ flag_found lanes channels c a ∷ found_flags lanes channels c
         (drop (i + 1) xs)
@@ -98,7 +105,8 @@ module _ (lanes : List Lane) (channels : List Channel) (c : ℕ) where
           let o = queries_one a in
           let w = r.numbered in
           omega arith;
-      alike = rw (s, take_more xs i d l, found_append (take i xs) (a ∷ []), here l, e) (sym (append_assoc found (flag_found lanes channels c a ∷ []) rest));
+      alike = rw (s, take_more xs i d l, found_append (take i xs) (a ∷ []), here l, e)
+          (sym (append_assoc found (flag_found lanes channels c a ∷ []) rest));
       within = let w = r.within in grind arith;
     }
 

@@ -5,7 +5,8 @@ use Rattle.std.proofs.Common.{replicate, length-append, drop_of_length-le}
 use Rattle.std.specs.Prelude.{All}
 use Rattle.std.proofs.lemmas.Bool.{cases_lt, cond-false}
 use Rattle.std.proofs.lemmas.Bool.Decides.{nat_tests}
-use Rattle.std.proofs.lemmas.List.{length-replicate, get_or-replicate, length-set, get_or-set_same, get_or-set_other, get_or_push, get_or_append_left, get_or-append-add}
+use Rattle.std.proofs.lemmas.List.{length-replicate, get_or-replicate, length-set, get_or-set_same, get_or-set_other, get_or_push}
+use Rattle.std.proofs.lemmas.List.{get_or_append_left, get_or-append-add}
 use Rattle.std.proofs.lemmas.List.Elements.{All-head, All-tail, All-set, All-push, All-weaker}
 use Rattle.flow_word.specs.Kinds.{is_blocking, side_of}
 use Rattle.flow_word.specs.declared.access.Side.{Side}
@@ -198,7 +199,7 @@ module _ {S : Type 0} (d : Design S) (i : IsDesign d) (h : Held) (m : ℕ) (t : 
   bs = done_at_once t.accesses
 
   flags_now : z.flags m k₀ ≡ bs
-  flags_now = let at_once = no_outcomes_is t.accesses in rw (put_at_same x.flags m k₀ (no_outcomes (d.accesses m now)), next.accesses) at_once
+  flags_now = rw (put_at_same x.flags m k₀ (no_outcomes (d.accesses m now)), next.accesses) (no_outcomes_is t.accesses)
 
   accesses_now : core_accesses d z m k₀ ≡ map seen t.accesses
   accesses_now = ap (d.accesses m) (put_at_same x.state m k₀ now) ∙ next.accesses
@@ -245,8 +246,8 @@ module _ {S : Type 0} (d : Design S) (i : IsDesign d) (h : Held) (m : ℕ) (t : 
   kind_now c = ap (λ (q : Channel). q.kind) (channel_now c) ∙ kind_after at c (channel_at h.channels c) t.accesses bs
 
   places_now : (side : Side) (c : ℕ)
-      → places_of side (channel_at (with_emitted h m t).channels c) ≡ places_of side (channel_at h.channels c) ++ replicate (new_taken side c)
-      at
+      → places_of side (channel_at (with_emitted h m t).channels c)
+      ≡ places_of side (channel_at h.channels c) ++ replicate (new_taken side c) at
   unfolding new_taken
   places_now side c = ap (places_of side) (channel_now c) ∙ places_after side at c (channel_at h.channels c) t.accesses bs
 
@@ -300,7 +301,13 @@ module _ {S : Type 0} (d : Design S) (i : IsDesign d) (h : Held) (m : ℕ) (t : 
   pushed_new : (c : ℕ) → pushed_in c (core_accesses d z m) (λ j. bare_replies (z.flags m j)) (suc k₀) ≡ pushed_in c (core_accesses d x m)
       (λ j. bare_replies (x.flags m j)) k₀ ++ new_values c
   unfolding new_values
-  pushed_new c = rw (pushed_in_more c (core_accesses d z m) (λ j. bare_replies (z.flags m j)) k₀, pushed_old m c k₀ (omega arith), accesses_now, flags_now) refl
+  pushed_new c =
+      rw (
+        pushed_in_more c (core_accesses d z m) (λ j. bare_replies (z.flags m j)) k₀,
+        pushed_old m c k₀ (omega arith),
+        accesses_now,
+        flags_now,
+      ) refl
 
   abbrev pushed_by : Core S → ℕ → ℕ → ℕ → List ℕ
   pushed_by y c w k = pushed_in c (core_accesses d y w) (λ j. bare_replies (y.flags w j)) k

@@ -46,7 +46,8 @@ pub left_answered : (g h : Held) (m : ℕ) → g.lanes ≡ h.lanes → m < lengt
     → are_among (step_of h m (first_of h m)) (log_at h.logs m).verified ≡ false
     → are_among (step_of h m (first_of h m)) (log_at g.logs m).verified ≡ true → left_in g < left_in h
 unfolding left_of
-left_answered g h m lanes l others was now = left_falls g h m (rw lanes refl) l (λ n f. rw (lanes, others n f) refl) (rw (lanes, was, now) (omega arith))
+left_answered g h m lanes l others was now =
+    left_falls g h m (rw lanes refl) l (λ n f. rw (lanes, others n f) refl) (rw (lanes, was, now) (omega arith))
 
 -- ---- the same of a graph, a table and a log
 

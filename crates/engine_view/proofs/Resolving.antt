@@ -171,7 +171,8 @@ module _ {S : Type 0} (d : Design S) (h : Held) (m c : ℕ) (f : IsFresh d h m) 
 
 pub first_is : (h : Held) (m n : ℕ) (step : Step) → n ≡ length (lane_at h.lanes m).cycles
     → slice_get (lane_at h.lanes m).steps n ≡ Some step → step_of h m (length (lane_at h.lanes m).cycles) ≡ step
-first_is h m n step e there = get_or_from_slice_get (lane_at h.lanes m).steps (length (lane_at h.lanes m).cycles) step no_step (rw e at there)
+first_is h m n step e there =
+    get_or_from_slice_get (lane_at h.lanes m).steps (length (lane_at h.lanes m).cycles) step no_step (rw e at there)
 
 channels_from : {S : Type 0} → (d : Design S) (h : Held) (m c : ℕ) (f : IsFresh d h m) (n : ℕ) (step : Step) (xs : List Access)
     (logs : List Log) (channels : List Channel)

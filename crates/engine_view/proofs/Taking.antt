@@ -106,8 +106,8 @@ places_behind side s t b e at a channel =
 
 -- of all of them: as often as they take at this side, as the theory counts
 pub places_after : (side : Side) (at : Place) (c : ℕ) (channel : Channel) (xs : List Access) (bs : List Bool)
-    → places_of side (channel_after at c channel xs bs) ≡ places_of side channel ++ replicate (takes_in side c (map seen xs) (bare_replies bs))
-    at
+    → places_of side (channel_after at c channel xs bs)
+    ≡ places_of side channel ++ replicate (takes_in side c (map seen xs) (bare_replies bs)) at
 places_after side at c channel [] bs = sym (append-nil (places_of side channel))
 places_after side at c channel (a ∷ xs) [] = sym (append-nil (places_of side channel))
 places_after side at c channel (a ∷ xs) (b ∷ bs) =

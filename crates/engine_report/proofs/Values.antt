@@ -18,5 +18,3 @@ values_more lanes pushes i d out next l here so now =
     rw (so, now, front_more (λ e. is_some (cycle_of lanes e.at)) pushes i d l here)
     (sym (append_assoc out ((get_or pushes i d).value ∷ [])
     (map (λ (e : Pushed). e.value) (take_while (λ e. is_some (cycle_of lanes e.at)) (drop (i + 1) pushes)))))
-unfolding timed_values
-unfolding timed_values

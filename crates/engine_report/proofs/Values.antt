@@ -18,3 +18,15 @@ values_more lanes pushes i d out next l here so now =
     rw (so, now, front_more (λ e. is_some (cycle_of lanes e.at)) pushes i d l here)
     (sym (append_assoc out ((get_or pushes i d).value ∷ [])
     (map (λ (e : Pushed). e.value) (take_while (λ e. is_some (cycle_of lanes e.at)) (drop (i + 1) pushes)))))
+
+pub values_end : (lanes : List Lane) (pushes : List Pushed) (i : ℕ) (out : List ℕ) → length pushes ≤ i
+    → timed_values lanes pushes ≡ out ++ timed_values lanes (drop i pushes) → out ≡ timed_values lanes pushes
+unfolding timed_values
+values_end lanes pushes i out l so = rw (so, drop_all i pushes l) (sym (append-nil out))
+
+pub values_stop : (lanes : List Lane) (pushes : List Pushed) (i : ℕ) (d : Pushed) (out : List ℕ) → i < length pushes
+    → is_some (cycle_of lanes (get_or pushes i d).at) ≡ false
+    → timed_values lanes pushes ≡ out ++ timed_values lanes (drop i pushes) → out ≡ timed_values lanes pushes
+unfolding timed_values
+values_stop lanes pushes i d out l here so =
+    rw (so, front_ends (λ e. is_some (cycle_of lanes e.at)) pushes i d l here) (sym (append-nil out))

@@ -7,8 +7,7 @@ use Rattle.flow_word.specs.Kinds.{is_blocking, side_of}
 use Rattle.flow_word.specs.declared.access.Side.{Side}
 use Rattle.flow_word.specs.declared.access.Side.TheVariants.{Push}
 use Rattle.flow_word.specs.declared.access.Kind.{Kind}
-use Rattle.std.proofs.lemmas.Bool.{and_parts, le-ltb}
-use Rattle.std.proofs.lemmas.Bool.{both_ways}
+use Rattle.std.proofs.lemmas.Bool.{and_parts, le-ltb, both_ways}
 use Rattle.std.proofs.lemmas.Bool.Decides.{nat_tests}
 use Rattle.std.proofs.lemmas.List.{length-set, get_or-set_same, get_or-set_other, get_or_past, drop-append-le, length-drop}
 use Rattle.std.proofs.lemmas.List.Elements.{All-set, All-weaker}
@@ -21,29 +20,25 @@ use Rattle.fifo_table.specs.Channels.{Channel, channel_at, places_of}
 use Rattle.query_log.specs.Logs.{IsSoundLog, Log, all_answered, log_at, no_log}
 use Rattle.time_engine.specs.Conditions.{IsAccess, HasAccesses}
 use Rattle.event_timing.specs.Machines as theory
-use Rattle.event_timing.specs.Machines.{Design, IsDesign, Each, Reply, ready, takes_in, values_in}
+use Rattle.event_timing.specs.Machines.{Design, IsDesign, Each, Reply, ready, takes_in, values_in, Access as Asked, takers, takes_at}
 use Rattle.event_timing.specs.Views.{pushed_in}
-use Rattle.event_timing.specs.Core.{Core, core_accesses, core_tally, core_values, bare_replies}
+use Rattle.event_timing.specs.Core.{Core, core_accesses, core_tally, core_values, bare_replies, view}
 use Rattle.event_timing.specs.Agreement.{AreOwnMarks}
-use Rattle.event_timing.specs.Actions.{put_at}
+use Rattle.event_timing.specs.Actions.{put_at, after_answer, new_flags}
 use Rattle.event_timing.proofs.Assigning.{put_at_same, put_at_other}
 use Rattle.event_timing.proofs.Fronts.{tally_same, pushed_same}
 use Rattle.event_timing.proofs.OwnRuns.{tally_more, tally_mono}
 use Rattle.event_timing.proofs.Values.{pushed_in_more}
 use Rattle.engine_view.specs.Held.{Held, step_of, no_step, emitted_of, seen, queries_in, flags_by, flags_of, are_among, has_all, values_at}
-use Rattle.engine_view.specs.Held.{core_of}
+use Rattle.engine_view.specs.Held.{core_of, possible_by}
 use Rattle.engine_view.specs.Shown.{Shows, IsSound, AreTaken, IsTakenAt, AreWhole, queries_before}
 use Rattle.engine_view.specs.Emitted.{done_at_once, place_of}
 use Rattle.engine_view.proofs.Taking.{channel_after, all_length, all_channel, kind_after, places_after, values_on, values_after}
 use Rattle.engine_view.proofs.Taking.{values_longer}
 use Rattle.engine_view.proofs.Assigned.{put_at_is}
-use Rattle.event_timing.specs.Machines.{Access as Asked, takers, takes_at}
-use Rattle.event_timing.specs.Actions.{after_answer, new_flags}
 use Rattle.event_timing.proofs.Answering.{answer_marks}
 use Rattle.engine_view.specs.Answered.{outcome_by, outcomes_of, done_late, with_answered}
-use Rattle.engine_view.specs.Held.{possible_by}
 use Rattle.engine_view.proofs.Emitted.{no_outcomes_is, not_owner, no_values, source_values, longer_taken, queries_mono}
-use Rattle.event_timing.specs.Core.{view}
 use Rattle.event_timing.specs.Enablers.{Known, known_of, flags_at}
 use Rattle.engine_view.proofs.Knowing.{shown_inside}
 use Rattle.engine_view.proofs.Placing.{places_from}
@@ -189,8 +184,7 @@ module _ {S : Type 0} (d : Design S) (i : IsDesign d) (h : Held) (m c : ℕ) (in
   tally_old : (n : ℕ) (side : Side) (ch k : ℕ) → (n ≡ m → k ≤ k₀) → core_tally d z n side ch k ≡ core_tally d x n side ch k
   tally_old n side ch k l =
       tally_same (core_accesses d z n) (core_accesses d x n) (λ j. bare_replies (z.flags n j)) (λ j. bare_replies (x.flags n j)) side ch k
-      (λ j q. ap (λ (v : List Bool). takes_in side ch (core_accesses d x n j) (bare_replies v))
-      (flags_else n j (λ e f. let w = l e in omega arith)))
+      (λ j q. rw (flags_else n j (λ e f. let w = l e in omega arith)) refl)
 
   late : Side → ℕ → ℕ
   late side ch = takes_in side ch (map seen t.accesses) (bare_replies (done_late t.accesses fs))
@@ -290,8 +284,7 @@ module _ {S : Type 0} (d : Design S) (i : IsDesign d) (h : Held) (m c : ℕ) (in
   pushed_old : (w ch k : ℕ) → (w ≡ m → k ≤ k₀) → pushed_by z ch w k ≡ pushed_by x ch w k
   pushed_old w ch k l =
       pushed_same (core_accesses d z w) (core_accesses d x w) (λ j. bare_replies (z.flags w j)) (λ j. bare_replies (x.flags w j)) ch k
-      (λ j q. ap (λ (v : List Bool). values_in ch (core_accesses d x w j) (bare_replies v))
-      (flags_else w j (λ e f. let r = l e in omega arith)))
+      (λ j q. rw (flags_else w j (λ e f. let r = l e in omega arith)) refl)
 
   single_t : (ch : ℕ) → takers Push ch (map seen t.accesses) ≤ 1
   single_t ch = subst (λ (a : List theory.Access). takers Push ch a ≤ 1) (s.accesses m k₀ less) (i.single Push m (x.state m k₀) ch)

@@ -217,9 +217,8 @@ module _ {S : Type 0} (d : Design S) (i : IsDesign d) (h : Held) (m : ℕ) (t : 
   tally_new : (side : Side) (c : ℕ) → core_tally d z m side c (suc k₀) ≡ core_tally d x m side c k₀ + new_taken side c
   unfolding new_taken
   tally_new side c =
-      tally_more (core_accesses d z m) (λ j. bare_replies (z.flags m j)) side c k₀
-      ∙ ap₂ (λ (a b : ℕ). a + b) (tally_old m side c k₀ (omega arith))
-      (ap₂ (λ (as' : List theory.Access) (fs : List Bool). takes_in side c as' (bare_replies fs)) accesses_now flags_now)
+      rw (tally_more (core_accesses d z m) (λ j. bare_replies (z.flags m j)) side c k₀, tally_old m side c k₀ (omega arith), accesses_now,
+      flags_now) refl
 
   pushed_old : (n c k : ℕ) → k ≤ emitted_of h n
       → pushed_in c (core_accesses d z n) (λ j. bare_replies (z.flags n j)) k ≡ pushed_in c (core_accesses d x n)

@@ -2,6 +2,7 @@
 use Rattle.std.proofs.Common.{◌≡◌, refl, sym, ap, ◌∙◌, ℕ, suc, ◌+◌, ◌-◌, ◌<◌, ◌≤◌, false, List, length, get_or, Option, None, Some, arith}
 use Rattle.std.proofs.Common.{inl, inr, slice_get, slice_index_or}
 use Rattle.std.specs.Prelude.{All}
+use Rattle.std.proofs.lemmas.Bool.Decides.{nat_tests}
 use Rattle.std.proofs.lemmas.Bool.{cases_lt, lt-ltb, le-ltb, le-leb, lt-leb}
 use Rattle.std.proofs.lemmas.Option.{slice_get_cases, slice_get-get_or, slice_get_past}
 use Rattle.flow_word.specs.Kinds.{other_side, side_of}
@@ -13,20 +14,18 @@ use Rattle.event_graph.specs.Lanes.{Lane, IsSoundLane, no_lane, lane_at, cycle_o
 use Rattle.std.proofs.lemmas.List.{get_or_past}
 use Rattle.fifo_table.specs.declared.channel.TableChannel.{TableChannel}
 use Rattle.fifo_table.specs.declared.channel.TableChannel.TheVariants.{Source, Sink, Fifo}
-use Rattle.fifo_table.specs.Channels.{Channel, channel_at, places_of, lag_of}
+use Rattle.fifo_table.specs.Channels.{Channel, channel_at, places_of, lag_of, HasSide}
 use Rattle.fifo_table.specs.Enablers.{event_at, enabler_by}
 use Rattle.time_engine.specs.Possible.{lag, known_by, when_possible, enabler_at, from_cycle}
-use Rattle.fifo_table.specs.Channels.{HasSide}
 use Rattle.time_engine.specs.Conditions.{IsAccess, HasAccesses}
 use Rattle.event_timing.specs.Machines.{Design, IsDesign, Reply}
 use Rattle.event_timing.specs.Machines as theory
-use Rattle.event_timing.specs.Views.{place, tally}
+use Rattle.event_timing.specs.Views.{place, tally, View}
 use Rattle.event_timing.specs.Core.{Core, core_accesses, core_tally, core_reply, view}
 use Rattle.event_timing.specs.Enablers.{known, known_of, from_step}
 use Rattle.event_timing.specs.Enablers.Known.{From, Unknown}
 use Rattle.event_timing.proofs.OwnRuns.{IsPlace, place_says, place_unique, tally_mono}
 use Rattle.event_timing.proofs.Fronts.{core_tally_is}
-use Rattle.event_timing.specs.Views.{View}
 use Rattle.event_timing.proofs.Threshold.{known_free, known_never}
 use Rattle.engine_view.specs.Held.{Held, step_of, no_step, emitted_of, seen, core_of}
 use Rattle.engine_view.specs.Shown.{Shows, IsSound, IsKind, IsTakenAt, AreTaken}
@@ -139,24 +138,19 @@ kind_known : {S : Type 0} → (d : Design S) → IsDesign d → (h : Held) (x : 
     → AreTaken d x (other_side side) ch (places_of (other_side side) channel)
     → as_known (known_by h.lanes (d.lag side ch) (enabler_by kind side channel (suc n))) ≡ known d (view d x) side ch n
 kind_known {S} d i h x t y w (Source inputs) Pop ch n channel (k1, k2) s taken =
-    let u = i.pops_limited ch in
-    elim (cases_lt n (length inputs)) [
-      | inl few ↦ rw (le-leb (suc n) (length inputs) few)
-          (sym (known_free d (view d x) Pop ch n (rw (u, k1) (lt-ltb n (length inputs) few))))
-      | inr many ↦ rw (lt-leb (suc n) (length inputs) (omega arith))
-          (sym (known_never d (view d x) Pop ch n (rw (u, k1) (le-ltb n (length inputs) many)) k2))
-    ]
+    let limited = i.pops_limited ch in
+    let free = known_free d (view d x) Pop ch n in
+    let never = known_never d (view d x) Pop ch n in
+    grind (arith, nat_tests)
 kind_known {S} d i h x t y w (Source inputs) Push ch n channel k s taken = absurd (s tt)
 kind_known {S} d i h x t y w Sink Pop ch n channel k s taken = absurd (s tt)
 kind_known {S} d i h x t y w Sink Push ch n channel k s taken = sym (known_free d (view d x) Push ch n (rw k refl))
 kind_known {S} d i h x t y w (Fifo depth delay) Pop ch n channel (k1, k2, k3, k4) s taken =
-    let u = i.pops_limited ch in
     let e = event_is d h x t y w Push ch (d.lag Pop ch) n (places_of Push channel) taken in
+    let known_is = by_event d (view d x) Pop ch n 0 (i.pops_limited ch) k3 (k4 Pop) (omega arith) in
     let z : suc n - 1 ≡ n = omega arith in
     let z' : n - 0 ≡ n = omega arith in
-    let known_is = by_event d (view d x) Pop ch n 0 u k3 (k4 Pop) (omega arith) in
-    let known_is' = rw z' at known_is in
-    rw z (e ∙ sym known_is')
+    rw z (e ∙ sym (rw z' at known_is))
 kind_known {S} d i h x t y w (Fifo depth delay) Push ch n channel (k1, k2, k3, k4) s taken =
     elim (cases_lt n depth) [
       | inl few ↦ rw (le-leb (suc n) depth few) (sym (known_free d (view d x) Push ch n (rw (k1, k2) (lt-ltb n depth few))))
@@ -181,12 +175,9 @@ side_known : {S : Type 0} → (d : Design S) → IsDesign d → (h : Held) → I
     → as_known (when_possible h.lanes h.channels a) ≡ known d (view d (core_of d h)) (side_of a.kind) a.channel n
 side_known {S} d i h y a g n e =
     let channel = channel_at h.channels a.channel in
-    ap as_known (by_side h.lanes h.channels a (suc n) e
-    ∙ ap (λ (l : ℕ). known_by h.lanes l (enabler_by channel.kind (side_of a.kind) channel (suc n)))
-    (sym (y.lags (side_of a.kind) a.channel g.channel)))
-    ∙ kind_known d i h (core_of d h) (λ m. refl) (λ m k q. refl) (timed_within d h y) channel.kind (side_of a.kind) a.channel n channel
-    (y.kinds a.channel g.channel) g.side
-    (y.taken (other_side (side_of a.kind)) a.channel g.channel)
+    let known_is = kind_known d i h (core_of d h) (λ m. refl) (λ m k q. refl) (timed_within d h y) channel.kind (side_of a.kind) a.channel n
+    channel (y.kinds a.channel g.channel) g.side (y.taken (other_side (side_of a.kind)) a.channel g.channel) in
+    rw (by_side h.lanes h.channels a (suc n) e, ← (y.lags (side_of a.kind) a.channel g.channel)) known_is
 
 -- what the code knows of each access of an emitted step is what the theory knows: by the module's accesses in the steps before it
 pub access_known_in : {S : Type 0} → (d : Design S) → IsDesign d → (h : Held) → IsSound d h → (m k : ℕ) → k < emitted_of h m

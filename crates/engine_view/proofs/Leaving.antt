@@ -1,6 +1,5 @@
 -- What is left to do falls by each cycle and each answer.
-use Rattle.std.proofs.Common.{◌≡◌, refl, ℕ, zero, suc, ◌<◌, ◌≤◌, true, false, []}
-use Rattle.std.proofs.Common.{◌∷◌, length, arith}
+use Rattle.std.proofs.Common.{◌≡◌, refl, ℕ, zero, suc, ◌<◌, ◌≤◌, true, false, [], ◌∷◌, length, arith}
 use Rattle.std.proofs.lemmas.List.{length-set, get_or-set_same, get_or-set_other, length-append}
 use Rattle.event_graph.specs.Lanes.{no_lane, lane_at, timed, with_cycle}
 use Rattle.event_graph.specs.Roomed.{RoomedLanes}

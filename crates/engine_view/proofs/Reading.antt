@@ -7,7 +7,6 @@ use Rattle.std.proofs.lemmas.List.Elements.{All-head, All-tail}
 use Rattle.flow_word.specs.Kinds.{side_of}
 use Rattle.flow_word.specs.declared.access.Side.{Side}
 use Rattle.flow_word.specs.declared.access.Side.TheVariants.{Pop}
-use Rattle.flow_word.specs.declared.access.Side.TheVariants.{Pop}
 use Rattle.flow_word.specs.declared.access.Access.{Access}
 use Rattle.event_graph.specs.Lanes.{lane_at}
 use Rattle.fifo_table.specs.Channels.{Channel}

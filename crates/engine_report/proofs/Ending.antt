@@ -149,39 +149,33 @@ none_determined : (p : Plan) (x : Core ModuleState) (i : ℕ) → x.emitted i �
 unfolding candidate
 none_determined p x i l = rw (le-ltb (x.timed i) (x.emitted i) l) refl
 
+-- the clock of an end mark
+mark_clock : (p : Plan) (h : Held) (i gap : ℕ) → emitted_of h i ≡ length (lane_at h.lanes i).cycles
+    → gap ≡ clocks_of_steps (emitted_of h i) + quiet p i (own (design p) i (core_reply (design p) (core_of (design p) h) i) (emitted_of h i))
+    → unwrap_or (last_cycle (lane_at h.lanes i)) 0 + gap ≡ stop (design p) (core_of (design p) h) i
+mark_clock p h i gap all is =
+    let lane = lane_at h.lanes i in
+    let first = last_from lane.cycles lane refl (length lane.cycles) refl in
+    let last = rw all at is in
+    omega arith
+
 at_mark : (p : Plan) (h : Held) (ends : List (Option Advance)) → IsFinished p h ends → (i : ℕ)
     → emitted_of h i ≡ length (lane_at h.lanes i).cycles
     → (mark : Advance) → IsEndMark p (core_of (design p) h) i mark
     → standing_behind (unwrap_or (last_cycle (lane_at h.lanes i)) 0) (Some mark) ≡ standing_in p (core_of (design p) h) i
 at_mark p h ends f i all (Step step) m = absurd m
 at_mark p h ends f i all (Ended gap) (m1, m2) =
-    let d = design p in
-    let x = core_of d h in
-    let lane = lane_at h.lanes i in
-    let k = length lane.cycles in
-    let state : core_state p x i ≡ ready d i (own d i (core_reply d x i) (x.emitted i)) = ap
-    (λ (n : ℕ). ready d i (own d i (core_reply d x i) n)) (sym all) in
-    let first = last_from lane.cycles lane refl k refl in
-    let last : gap ≡ clocks_of_steps k + quiet p i (own d i (core_reply d x i) k) = m2
-    ∙ ap (λ (n : ℕ). clocks_of_steps n + quiet p i (own d i (core_reply d x i) n)) all in
-    let clock : unwrap_or (last_cycle lane) 0 + gap ≡ stop d x i = omega arith in
-    standings_same clock (sym (ap (λ (s : ModuleState). s.ended) state ∙ m1))
-    (sym (ap (machine.is_spent p.ops) state ∙ ended_not_spent p (ready d i (own d i (core_reply d x i) (x.emitted i))) m1))
-    (none_determined p x i (omega arith))
+    let x = core_of (design p) h in
+    let last = ready (design p) i (own (design p) i (core_reply (design p) x i) (x.emitted i)) in
+    let state : core_state p x i ≡ last = rw all refl in
+    standings_same (mark_clock p h i gap all m2) (sym (ap (λ (s : ModuleState). s.ended) state ∙ m1))
+    (sym (ap (machine.is_spent p.ops) state ∙ ended_not_spent p last m1)) (none_determined p x i (omega arith))
 at_mark p h ends f i all (Spent gap) (m1, m2) =
-    let d = design p in
-    let x = core_of d h in
-    let lane = lane_at h.lanes i in
-    let k = length lane.cycles in
-    let state : core_state p x i ≡ ready d i (own d i (core_reply d x i) (x.emitted i)) = ap
-    (λ (n : ℕ). ready d i (own d i (core_reply d x i) n)) (sym all) in
-    let first = last_from lane.cycles lane refl k refl in
-    let last : gap ≡ clocks_of_steps k + quiet p i (own d i (core_reply d x i) k) = m2
-    ∙ ap (λ (n : ℕ). clocks_of_steps n + quiet p i (own d i (core_reply d x i) n)) all in
-    let clock : unwrap_or (last_cycle lane) 0 + gap ≡ stop d x i = omega arith in
-    standings_same clock (sym (ap (λ (s : ModuleState). s.ended) state
-    ∙ spent_not_ended p (ready d i (own d i (core_reply d x i) (x.emitted i))) m1)) (sym (ap (machine.is_spent p.ops) state ∙ m1))
-    (none_determined p x i (omega arith))
+    let x = core_of (design p) h in
+    let last = ready (design p) i (own (design p) i (core_reply (design p) x i) (x.emitted i)) in
+    let state : core_state p x i ≡ last = rw all refl in
+    standings_same (mark_clock p h i gap all m2) (sym (ap (λ (s : ModuleState). s.ended) state ∙ spent_not_ended p last m1))
+    (sym (ap (machine.is_spent p.ops) state ∙ m1)) (none_determined p x i (omega arith))
 
 standing_is : (p : Plan) (h : Held) (ends : List (Option Advance)) → IsFinished p h ends → (i : ℕ) → i < length h.lanes
     → standing_at h.lanes h.channels ends i ≡ standing_in p (core_of (design p) h) i

@@ -217,8 +217,12 @@ module _ {S : Type 0} (d : Design S) (i : IsDesign d) (h : Held) (m : ℕ) (t : 
   tally_new : (side : Side) (c : ℕ) → core_tally d z m side c (suc k₀) ≡ core_tally d x m side c k₀ + new_taken side c
   unfolding new_taken
   tally_new side c =
-      rw (tally_more (core_accesses d z m) (λ j. bare_replies (z.flags m j)) side c k₀, tally_old m side c k₀ (omega arith), accesses_now,
-      flags_now) refl
+      rw (
+        tally_more (core_accesses d z m) (λ j. bare_replies (z.flags m j)) side c k₀,
+        tally_old m side c k₀ (omega arith),
+        accesses_now,
+        flags_now,
+      ) refl
 
   pushed_old : (n c k : ℕ) → k ≤ emitted_of h n
       → pushed_in c (core_accesses d z n) (λ j. bare_replies (z.flags n j)) k ≡ pushed_in c (core_accesses d x n)

@@ -8,8 +8,7 @@ use Rattle.std.proofs.lemmas.Bool.{cases_lt, cases_Bool, ltb-true, both_ways}
 use Rattle.std.proofs.lemmas.List.{get_or_past}
 use Rattle.std.proofs.lemmas.List.Kept.{AllPairs-from_increasing}
 use Rattle.std.proofs.lemmas.Option.{slice_get_within, slice_get-get_or, get_or_from_slice_get, slice_get_past}
-use Rattle.std.proofs.lemmas.List.Sums.{length-filter}
-use Rattle.std.proofs.lemmas.List.Sums.{count_by-le-length}
+use Rattle.std.proofs.lemmas.List.Sums.{length-filter, count_by-le-length}
 use Rattle.flow_word.specs.declared.access.Place.{Place}
 use Rattle.event_graph.specs.Lanes.{Lane, IsSoundLane, no_lane, lane_at, cycle_of, cycle_bound}
 use Rattle.flow_word.specs.declared.access.Side.TheVariants.{Pop, Push}
@@ -35,8 +34,8 @@ clock_within lanes places i v e = let none = clock_past lanes places i in grind 
 pub rising_of : (lanes : List Lane) → All IsSoundLane lanes → (m : ℕ) → IsStrictlyIncreasing (lane_at lanes m).cycles
 rising_of lanes sound m =
     elim (cases_lt m (length lanes)) [
-      | inl l ↦ let here = sound m no_lane l in here.rising
-      | inr l ↦ subst (λ (q : Lane). IsStrictlyIncreasing q.cycles) (sym (get_or_past lanes m no_lane l)) (λ k u. absurd (omega arith))
+      | inl l ↦ (sound m no_lane l).rising
+      | inr l ↦ rw (get_or_past lanes m no_lane l) (λ k u. absurd (omega arith))
     ]
 
 earlier : (xs : List ℕ) → IsStrictlyIncreasing xs → (i j v : ℕ) → i < j → slice_get xs j ≡ Some v → (u : ℕ) × (slice_get xs i ≡ Some u)
@@ -164,14 +163,8 @@ module _ (lanes : List Lane) (channel : Channel) (pushes : IsRising lanes (place
       → ((w : ℕ) → clock_at lanes (places_of Pop channel) (n - full) ≡ Some w → v < w) → held_at lanes channel (v + 1) ≡ full
   holds n v l inv e later =
       let b = as_many n v (omega arith) e in
-      let most : timed_before lanes (places_of Pop channel) (v + 1) ≤ n - full =
-      elim (cases_lt (n - full) (timed_before lanes (places_of Pop channel) (v + 1))) [
-        | inl u ↦
-            let (w, is, less) = before_less lanes (places_of Pop channel) (v + 1) pops (n - full) u in
-            let x = later w is in
-            absurd (omega arith)
-        | inr u ↦ u
-      ] in
+      let past = before_less lanes (places_of Pop channel) (v + 1) pops (n - full) in
+      let most : timed_before lanes (places_of Pop channel) (v + 1) ≤ n - full = grind arith in
       let least : n - full ≤ timed_before lanes (places_of Pop channel) (v + 1) =
       elim (cases_lt full n) [
         | inl u ↦

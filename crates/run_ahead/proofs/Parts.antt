@@ -1,6 +1,5 @@
 -- Parts of replies, and counts of values.
-use Rattle.std.proofs.Common.{arith, ◌≡◌, refl, ◌∙◌, ℕ, suc, Bool, cond, List, [], ◌∷◌, length, Option, Some, None}
-use Rattle.std.proofs.Common.{slice_index_or}
+use Rattle.std.proofs.Common.{arith, ◌≡◌, refl, ◌∙◌, ℕ, suc, Bool, cond, List, [], ◌∷◌, length, Option, Some, None, slice_index_or}
 use Rattle.std.proofs.lemmas.List.{length-set}
 use Rattle.flow_word.specs.declared.access.Access.{Access}
 use Rattle.flow_design.specs.declared.state.Reply.{Reply}

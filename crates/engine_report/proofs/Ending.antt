@@ -151,7 +151,8 @@ none_determined p x i l = rw (le-ltb (x.timed i) (x.emitted i) l) refl
 
 -- the clock of an end mark
 mark_clock : (p : Plan) (h : Held) (i gap : ℕ) → emitted_of h i ≡ length (lane_at h.lanes i).cycles
-    → gap ≡ clocks_of_steps (emitted_of h i) + quiet p i (own (design p) i (core_reply (design p) (core_of (design p) h) i) (emitted_of h i))
+    → gap ≡ clocks_of_steps (emitted_of h i)
+    + quiet p i (own (design p) i (core_reply (design p) (core_of (design p) h) i) (emitted_of h i))
     → unwrap_or (last_cycle (lane_at h.lanes i)) 0 + gap ≡ stop (design p) (core_of (design p) h) i
 mark_clock p h i gap all is =
     let lane = lane_at h.lanes i in

@@ -1,6 +1,6 @@
 -- How many steps of a module have their replies committed.
-use Rattle.std.proofs.Common.{◌≡◌, ℕ, ◌-◌, ◌≤◌, true, false, inl, inr, arith}
-use Rattle.std.proofs.lemmas.Bool.{cases_Bool, cond-true, cond-false}
+use Rattle.std.proofs.Common.{◌≡◌, ℕ, ◌-◌, ◌≤◌, true, false, arith}
+use Rattle.std.proofs.lemmas.Bool.{cond-true, cond-false}
 use Rattle.flow_design.specs.declared.state.ModuleState.{ModuleState}
 use Rattle.module_interp.specs.declared.run.ModuleRun.{ModuleRun}
 use Rattle.module_interp.specs.Runs.{waits}
@@ -14,8 +14,4 @@ pub committed_goes : (x : Core ModuleState) (m : ℕ) (run : ModuleRun) → wait
 committed_goes x m run e = cond-false (waits run) (x.emitted m - 1) (x.emitted m) e
 
 pub committed_below : (x : Core ModuleState) (m : ℕ) (run : ModuleRun) → committed x m run ≤ x.emitted m
-committed_below x m run =
-    elim (cases_Bool (waits run)) [
-      | inl e ↦ rw (committed_waits x m run e) (omega arith)
-      | inr e ↦ rw (committed_goes x m run e) (omega arith)
-    ]
+committed_below x m run = grind arith

@@ -1,6 +1,7 @@
 -- How many cycles actions give, by the lanes that are held.
 use Rattle.std.proofs.Common.{◌≡◌, refl, ap, ℕ, zero, suc, ◌+◌, ◌<◌, ◌≤◌, cond, eqb, inl, inr, List, [], ◌∷◌, length, arith}
-use Rattle.std.proofs.lemmas.Bool.{cases_lt, cond-true, cond-false, eq-eqb, ne_eqb}
+use Rattle.std.proofs.lemmas.Bool.Decides.{nat_tests}
+use Rattle.std.proofs.lemmas.Bool.{cases_lt, eq-eqb}
 use Rattle.std.proofs.lemmas.List.{get_or_past}
 use Rattle.std.proofs.lemmas.List.Sums.{sum_by-cons}
 use Rattle.event_graph.specs.Lanes.{Lane, lane_at, no_lane}
@@ -38,23 +39,15 @@ none_before : (m n : ℕ) → n ≤ m → sum_to (one_at m) n ≡ 0
 unfolding sum_to
 none_before m zero l = refl
 none_before m (suc n) l =
-    let rest = none_before m n (omega arith) in
-    let here = cond-false {A = ℕ} (eqb n m) 1 0 (ne_eqb n m (λ e. absurd (omega arith))) in
-    omega arith
+    let rest = none_before m n (omega arith) in grind (arith, nat_tests)
 
 sum_one : (m n : ℕ) → m < n → sum_to (one_at m) n ≡ 1
 unfolding sum_to
 sum_one m zero l = absurd (omega arith)
 sum_one m (suc n) l =
     elim (cases_lt m n) [
-      | inl less ↦
-          let rest = sum_one m n less in
-          let here = cond-false {A = ℕ} (eqb n m) 1 0 (ne_eqb n m (λ e. absurd (omega arith))) in
-          omega arith
-      | inr most ↦
-          let rest = none_before m n most in
-          let here = cond-true {A = ℕ} (eqb n m) 1 0 (eq-eqb n m (omega arith)) in
-          omega arith
+      | inl less ↦ let rest = sum_one m n less in grind (arith, nat_tests)
+      | inr most ↦ let rest = none_before m n most in grind (arith, nat_tests)
     ]
 
 -- ---- of the first so many modules, which are all that are given a cycle
@@ -77,8 +70,7 @@ given_is (Assign k ∷ rest) n f =
           | inl l ↦ l
           | inr l ↦
               let none = f k l in
-              let one = cond-true {A = ℕ} (eqb k k) 1 0 (eq-eqb k k refl) in
-              absurd (omega arith)
+              let same = eq-eqb k k refl in absurd (grind arith)
         ]
 
 lanes_led : (f : ℕ → ℕ) (old new : List Lane) → length old ≡ length new

@@ -37,7 +37,7 @@ use Rattle.sim_core.specs.declared.actions.Cause.TheVariants as cause
 use Rattle.sim_core.specs.Causes.{IsPermitted, cause_of, cycle_causes, first_place, first_some}
 use Rattle.sim_core.specs.Causes.{is_undecided, is_unverified, module_of, waiting}
 use Rattle.sim_core.specs.Missing.{asks, first_missing, is_open_query}
-use Rattle.sim_core.specs.Runs.{IsCore, over_of}
+use Rattle.sim_core.specs.Runs.{IsCore, lent_of, over_of}
 use Rattle.sim_core.specs.Views.{CoreView, theory_of}
 use Rattle.sim_core.proofs.Causing as causing
 use Rattle.sim_core.proofs.Looking as looking
@@ -191,9 +191,10 @@ Decides v =
     × ((a : Action) (c : Cause) → cause_of (design v.plan) v.plan.cycles (theory_of v) a ≡ Some c
     → IsPermitted (design v.plan) v.plan.cycles (theory_of v) a → ⊥)
 
-pub decides_all : (p : Plan) (s : Stored) (ends : List (Option Advance)) (runs : List (Option ModuleRun)) (credits : List ℕ)
-    → IsCore p s ends runs credits → (lent : List Bool) → Decides (record { plan = p; held = held_in s (over_of ends); lent = lent })
-decides_all p s ends runs credits k lent = (permitted p s ends runs credits k, refused p s ends runs credits k)
+pub decides_of : {p : Plan} {s : Stored} {ends : List (Option Advance)} {runs : List (Option ModuleRun)} {credits : List ℕ} {v : CoreView}
+    → IsCore p s ends runs credits → record { plan = p; held = held_in s (over_of ends); lent = lent_of runs } ≡ v → Decides v
+decides_of {p} {s} {ends} {runs} {credits} {v} k is =
+    subst Decides is (permitted p s ends runs credits k, refused p s ends runs credits k)
 
 module _ (v : CoreView) (f : Decides v) where
   pub ok_permitted : {A : Type 0} (a b : Action) → a ≡ b → module_of a < length v.plan.design.modules → (r : Result A Cause)

@@ -1,8 +1,7 @@
 -- The replies that the code finds for a step's accesses, by the log and the table, fit them.
-use Rattle.std.proofs.Common.{◌≡◌, refl, ap₂, ℕ, ◌-◌, Bool, true, false, ◌&&◌, List, [], ◌∷◌, get_or}
+use Rattle.std.proofs.Common.{arith, ◌≡◌, refl, ap₂, ℕ, ◌-◌, Bool, true, ◌&&◌, List, [], ◌∷◌, get_or}
 use Rattle.flow_word.specs.declared.access.Access.{Access}
 use Rattle.flow_word.specs.declared.access.Kind.{Kind}
-use Rattle.flow_word.specs.declared.access.Kind.TheVariants.{Read, Write, TryRead, TryWrite, Empty, Full}
 use Rattle.flow_design.specs.declared.state.Reply.{Reply}
 use Rattle.fifo_table.specs.Channels.{Channel}
 use Rattle.lockstep_defs.specs.Channels.{reply_by}
@@ -17,13 +16,7 @@ replies_found channels (a ∷ as') (b ∷ bs) = reply_by a.kind b (get_or (value
     channels as' bs
 
 fits : (k : Kind) (b : Bool) (v : ℕ) → fits_kind k (reply_by k b v) ≡ true
-fits Read b v = refl
-fits Write b v = refl
-fits TryRead true v = refl
-fits TryRead false v = refl
-fits TryWrite b v = refl
-fits Empty b v = refl
-fits Full b v = refl
+fits k b v = grind arith
 
 -- one flag for each access
 abbrev pub AreAsMany : List Access → List Bool → Type 0

@@ -1,8 +1,6 @@
-use Rattle.std.proofs.Common.{sym, subst, ◌∙◌}
+use Rattle.std.proofs.Common.{sym, ◌∙◌}
 use Rattle.event_timing.specs.Permitted.{may_run, may_assign, may_answer}
 use Rattle.timing_bridge.specs.Designs.{design}
-use Rattle.engine_view.specs.Stored.{stored}
-use Rattle.sim_core.specs.Runs.{lent_of}
 use Rattle.sim_core.specs.Views.{theory_of}
 use Rattle.sim_core.proofs.Permitting as permitting
 use Rattle.sim_core.proofs.Permitting.{Decides}
@@ -10,9 +8,7 @@ use Rattle.sim_core.proofs.machine.Core.is_busy.Goals as goal
 
 pub returns-then-is_ok : goal.returns-then-is_ok
 returns-then-is_ok c =
-    let f = subst Decides c.self.view_is (permitting.decides_all c.self.inside.plan
-    (stored c.self.inside.graph c.self.inside.fifos c.self.inside.log) c.self.inside.ends.items c.self.inside.runs.items
-    c.self.inside.credits.items c.self.invariant.core (lent_of c.self.inside.runs.items)) in
+    let f = permitting.decides_of c.self.invariant.core c.self.view_is in
     let run = permitting.run_says c.args.self.now f c.args.owner c.requires c.permits_run.result c.permits_run.ensures.none
     c.permits_run.ensures.cause in
     permitting.first_true (may_run (design c.args.self.now.plan) (theory_of c.args.self.now) c.args.owner)
@@ -22,9 +18,7 @@ returns-then-is_ok c =
 
 pub returns-then-is_ok-2 : goal.returns-then-is_ok-2
 returns-then-is_ok-2 c =
-    let f = subst Decides c.self.view_is (permitting.decides_all c.self.inside.plan
-    (stored c.self.inside.graph c.self.inside.fifos c.self.inside.log) c.self.inside.ends.items c.self.inside.runs.items
-    c.self.inside.credits.items c.self.invariant.core (lent_of c.self.inside.runs.items)) in
+    let f = permitting.decides_of c.self.invariant.core c.self.view_is in
     let run = permitting.run_says c.args.self.now f c.args.owner c.requires c.permits_run.result c.permits_run.ensures.none
     c.permits_run.ensures.cause in
     let assign = permitting.assign_says c.args.self.now f c.args.owner c.requires c.permits_assign.result c.permits_assign.ensures.none
@@ -36,9 +30,7 @@ returns-then-is_ok-2 c =
 
 pub returns : goal.returns
 returns c =
-    let f = subst Decides c.self.view_is (permitting.decides_all c.self.inside.plan
-    (stored c.self.inside.graph c.self.inside.fifos c.self.inside.log) c.self.inside.ends.items c.self.inside.runs.items
-    c.self.inside.credits.items c.self.invariant.core (lent_of c.self.inside.runs.items)) in
+    let f = permitting.decides_of c.self.invariant.core c.self.view_is in
     let run = permitting.run_says c.args.self.now f c.args.owner c.requires c.permits_run.result c.permits_run.ensures.none
     c.permits_run.ensures.cause in
     let assign = permitting.assign_says c.args.self.now f c.args.owner c.requires c.permits_assign.result c.permits_assign.ensures.none

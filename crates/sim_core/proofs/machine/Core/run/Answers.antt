@@ -1,4 +1,4 @@
-use Rattle.std.proofs.Common.{◌≡◌, sym, ap, subst, ◌∙◌, ◌<◌, Some, None, length, slice_index_or, arith}
+use Rattle.std.proofs.Common.{set, ◌≡◌, sym, ap, subst, ◌∙◌, ◌<◌, Some, None, length, slice_index_or, arith}
 use Rattle.std.proofs.lemmas.List.{get_or_read}
 use Rattle.flow_design.specs.declared.plan.Plan.{Plan}
 use Rattle.module_interp.specs.declared.run.ModuleRun.{ModuleRun}
@@ -6,8 +6,10 @@ use Rattle.engine_view.specs.Held.{core_of}
 use Rattle.engine_view.specs.Stored.{stored, held_in}
 use Rattle.timing_bridge.specs.Designs.{design}
 use Rattle.sim_core.specs.Views.{CoreView}
-use Rattle.sim_core.specs.Runs.{over_of, IsRunOf}
+use Rattle.sim_core.specs.Runs.{lent_of, over_of, IsRunOf}
 use Rattle.sim_core.proofs.Lending as lending
+use Rattle.sim_core.proofs.Lending.{IsRoundTrip}
+use Rattle.sim_core.proofs.machine.Core.run.Goals.{Joined-index_mut}
 use Rattle.sim_core.proofs.machine.Core.run.Goals as goal
 
 pub invariant_of-self-2 : goal.invariant_of-self-2
@@ -67,58 +69,49 @@ invariant_of-self-3 c =
       candidate_count = c.self-2.invariant.candidate_count;
     }
 
+-- ---- with the run taken out, and put back
+
+module _ (c : Joined-index_mut) where
+  abbrev taken : CoreView
+  taken = record {
+    plan = c.self.inside.plan;
+    held = held_in (stored c.self.inside.graph c.self.inside.fifos c.self.inside.log) (over_of c.self.inside.ends.items);
+    lent = lent_of (set c.self.inside.runs.items c.args.owner c.take.new.self);
+  }
+
+  abbrev back : CoreView
+  back = record {
+    plan = c.self-2.inside.plan;
+    held = held_in (stored c.self-2.inside.graph c.self-2.inside.fifos c.self-2.inside.log) (over_of c.self-2.inside.ends.items);
+    lent = lent_of (set c.self-2.inside.runs.items c.args.owner (Some c.run_with-ran.new.run));
+  }
+
+  trip : IsRoundTrip c.args.self.now taken c.run_with-ran.new.self back
+  trip = lending.round_trip _ _ _ _ _ _ _ _ _ _ _ c.self.view_is c.self-2.view_is c.take.ensures.after c.run_with-ran.ensures.lent
+      c.requires.here
+
 pub returns-clause-acts : goal.returns-clause-acts
 returns-clause-acts c =
-    let trip = lending.round_trip c.args.self.now c.run_with-ran.new.self c.self.inside.plan c.self-2.inside.plan
-    (held_in (stored c.self.inside.graph c.self.inside.fifos c.self.inside.log) (over_of c.self.inside.ends.items))
-    (held_in (stored c.self-2.inside.graph c.self-2.inside.fifos c.self-2.inside.log) (over_of c.self-2.inside.ends.items))
-    c.self.inside.runs.items c.self-2.inside.runs.items c.args.owner c.take.new.self c.run_with-ran.new.run c.self.view_is
-    c.self-2.view_is c.take.ensures.after c.run_with-ran.ensures.lent c.requires.here in
-    lending.ok_then c.run_with-ran.result _ _ (λ ran f e. lending.acts_back _ _ _ _ trip c.args.owner (f e)) c.run_with-ran.ensures.acts
+    lending.ok_then c.run_with-ran.result _ _ (λ ran f e. lending.acts_back _ _ _ _ (trip c) c.args.owner (f e)) c.run_with-ran.ensures.acts
 
 pub returns-clause-not_permitted : goal.returns-clause-not_permitted
 returns-clause-not_permitted c =
-    let trip = lending.round_trip c.args.self.now c.run_with-ran.new.self c.self.inside.plan c.self-2.inside.plan
-    (held_in (stored c.self.inside.graph c.self.inside.fifos c.self.inside.log) (over_of c.self.inside.ends.items))
-    (held_in (stored c.self-2.inside.graph c.self-2.inside.fifos c.self-2.inside.log) (over_of c.self-2.inside.ends.items))
-    c.self.inside.runs.items c.self-2.inside.runs.items c.args.owner c.take.new.self c.run_with-ran.new.run c.self.view_is
-    c.self-2.view_is c.take.ensures.after c.run_with-ran.ensures.lent c.requires.here in
-    lending.ok_then c.run_with-ran.result _ _ (λ ran f e. lending.may_back _ _ _ _ trip c.args.owner (f e))
+    lending.ok_then c.run_with-ran.result _ _ (λ ran f e. lending.may_back _ _ _ _ (trip c) c.args.owner (f e))
     c.run_with-ran.ensures.not_permitted
 
 pub returns-clause-unchanged : goal.returns-clause-unchanged
 returns-clause-unchanged c =
-    let trip = lending.round_trip c.args.self.now c.run_with-ran.new.self c.self.inside.plan c.self-2.inside.plan
-    (held_in (stored c.self.inside.graph c.self.inside.fifos c.self.inside.log) (over_of c.self.inside.ends.items))
-    (held_in (stored c.self-2.inside.graph c.self-2.inside.fifos c.self-2.inside.log) (over_of c.self-2.inside.ends.items))
-    c.self.inside.runs.items c.self-2.inside.runs.items c.args.owner c.take.new.self c.run_with-ran.new.run c.self.view_is
-    c.self-2.view_is c.take.ensures.after c.run_with-ran.ensures.lent c.requires.here in
-    lending.ok_then c.run_with-ran.result _ _ (λ ran f e. lending.same_back _ _ _ _ trip c.args.owner (f e))
+    lending.ok_then c.run_with-ran.result _ _ (λ ran f e. lending.same_back _ _ _ _ (trip c) c.args.owner (f e))
     c.run_with-ran.ensures.unchanged
 
 pub returns-clause-no_memory : goal.returns-clause-no_memory
 returns-clause-no_memory c =
-    let trip = lending.round_trip c.args.self.now c.run_with-ran.new.self c.self.inside.plan c.self-2.inside.plan
-    (held_in (stored c.self.inside.graph c.self.inside.fifos c.self.inside.log) (over_of c.self.inside.ends.items))
-    (held_in (stored c.self-2.inside.graph c.self-2.inside.fifos c.self-2.inside.log) (over_of c.self-2.inside.ends.items))
-    c.self.inside.runs.items c.self-2.inside.runs.items c.args.owner c.take.new.self c.run_with-ran.new.run c.self.view_is
-    c.self-2.view_is c.take.ensures.after c.run_with-ran.ensures.lent c.requires.here in
-    lending.err_then c.run_with-ran.result _ _ (λ f. lending.same_back _ _ _ _ trip c.args.owner f) c.run_with-ran.ensures.no_memory
+    lending.err_then c.run_with-ran.result _ _ (λ f. lending.same_back _ _ _ _ (trip c) c.args.owner f) c.run_with-ran.ensures.no_memory
 
 pub returns-clause-lent : goal.returns-clause-lent
 returns-clause-lent c =
-    let trip = lending.round_trip c.args.self.now c.run_with-ran.new.self c.self.inside.plan c.self-2.inside.plan
-    (held_in (stored c.self.inside.graph c.self.inside.fifos c.self.inside.log) (over_of c.self.inside.ends.items))
-    (held_in (stored c.self-2.inside.graph c.self-2.inside.fifos c.self-2.inside.log) (over_of c.self-2.inside.ends.items))
-    c.self.inside.runs.items c.self-2.inside.runs.items c.args.owner c.take.new.self c.run_with-ran.new.run c.self.view_is
-    c.self-2.view_is c.take.ensures.after c.run_with-ran.ensures.lent c.requires.here in
-    trip.lent_back
+    (trip c).lent_back
 
 pub returns-clause-permitted : goal.returns-clause-permitted
 returns-clause-permitted c =
-    let trip = lending.round_trip c.args.self.now c.run_with-ran.new.self c.self.inside.plan c.self-2.inside.plan
-    (held_in (stored c.self.inside.graph c.self.inside.fifos c.self.inside.log) (over_of c.self.inside.ends.items))
-    (held_in (stored c.self-2.inside.graph c.self-2.inside.fifos c.self-2.inside.log) (over_of c.self-2.inside.ends.items))
-    c.self.inside.runs.items c.self-2.inside.runs.items c.args.owner c.take.new.self c.run_with-ran.new.run c.self.view_is
-    c.self-2.view_is c.take.ensures.after c.run_with-ran.ensures.lent c.requires.here in
-    lending.err_then c.run_with-ran.result _ _ (λ may. lending.may_out _ _ _ _ trip c.args.owner may) c.run_with-ran.ensures.permitted
+    lending.err_then c.run_with-ran.result _ _ (λ may. lending.may_out _ _ _ _ (trip c) c.args.owner may) c.run_with-ran.ensures.permitted

@@ -2,7 +2,6 @@
 use Rattle.std.proofs.Common.{◌≡◌, refl, subst, ℕ, Bool, true, false, Some}
 use Rattle.std.specs.Prelude.{Result, Ok, Err, IfOk, IfErr, is_ok}
 use Rattle.std.proofs.lemmas.Bool.{both_ways}
-use Rattle.outcome_guard.specs.declared.guard.Guard.{Guard}
 use Rattle.outcome_guard.specs.declared.guard.Guard.TheVariants as guard
 use Rattle.event_timing.specs.Actions.{Acts, MayRun, MayAssign, MayAnswer, MayEarliest, IsDetermined}
 use Rattle.event_timing.specs.Actions as theory
@@ -10,11 +9,11 @@ use Rattle.timing_bridge.specs.Designs.{design}
 use Rattle.engine_view.specs.declared.turn.Timing.{Timing}
 use Rattle.engine_view.specs.declared.turn.Timing.TheVariants as turn
 use Rattle.engine_view.specs.Turns.{ticks_of}
-use Rattle.sim_core.specs.declared.actions.Action.TheVariants.{Run, Assign, Answer, Earliest}
+use Rattle.sim_core.specs.declared.actions.Action.TheVariants.{Run, Assign}
 use Rattle.sim_core.specs.declared.actions.Cause.{Cause}
 use Rattle.sim_core.specs.Acted.{HasActed, guard_of}
 use Rattle.sim_core.specs.Causes.{cycle_causes, first_some}
-use Rattle.sim_core.specs.Turns.{HasTurned, HasAnsweredLeast}
+use Rattle.sim_core.specs.Turns.{HasTurned}
 use Rattle.sim_core.specs.Views.{CoreView, theory_of}
 use Rattle.sim_core.proofs.Causing as causing
 use Rattle.sim_core.proofs.Rounds as rounds
@@ -35,17 +34,6 @@ module _ (v w : CoreView) (m : ℕ) where
   assigned_acted (turn.Answered e) c may ((f, may', is), changed) = absurd (both_ways _ may'.open_query may.verified)
   assigned_acted (turn.Differs q) c may (same, other) = absurd (both_ways _ other.may.open_query may.verified)
   assigned_acted turn.Nothing c may (same, idle) = absurd (idle.no_assign c may)
-
-  pub answered_acted : (r : Timing) (c : ℕ) → MayAnswer (design v.plan) v.plan.cycles (theory_of v) m c → HasTurned r v m w
-      → HasActed (guard_of r) v (Answer m) w × (ticks_of r ≡ 0)
-  answered_acted (turn.Assigned e) c may (f, may', is) = absurd (both_ways _ may.open_query may'.verified)
-  answered_acted (turn.Answered e) c may done = (done, refl)
-  answered_acted (turn.Differs q) c may done = (done, refl)
-  answered_acted turn.Nothing c may (same, idle) = absurd (idle.no_answer c may)
-
-  pub earliest_acted : (g : Guard) → HasAnsweredLeast (Some (m, g)) v w → HasActed g v (Earliest m) w
-  earliest_acted guard.Same done = done
-  earliest_acted (guard.Differs q) done = done
 
   pub cycle_there : (c : ℕ) → MayEarliest (design v.plan) v.plan.cycles (theory_of v) m c → (r : Result ℕ Cause)
       → IfErr r (λ a. first_some (cycle_causes (design v.plan) v.plan.cycles (theory_of v) m) ≡ Some a) → is_ok r ≡ true

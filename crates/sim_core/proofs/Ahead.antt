@@ -180,9 +180,6 @@ module _ (p : Plan) (f : FitsEngine p) (z : Core ModuleState) (b : AreOwnMarks (
       ap (λ (q : Own). q.state) g.stands ∙ (r.state ∙ ap (ready d m) (sym (newest_own d z b m (z.emitted m) (omega arith)))) in
       over_of_mark p m o ∙ ap (λ (s : ModuleState). not (is_over p.ops s)) state
 
-  abbrev is_last : Bool
-  is_last = (design p).is_over m (ready (design p) m (newest (design p) z m))
-
   pub over_behind : is_step (mark_at p m o) ≡ false → after ≡ emit_over z m
   over_behind e = let same = over_is in grind arith
 

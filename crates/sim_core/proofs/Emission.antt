@@ -1,7 +1,7 @@
 -- A mark of a module, emitted by a Run: what it makes of the core.
-use Rattle.std.proofs.Common.{◌≡◌, refl, sym, ap, subst, ◌∙◌, ℕ, zero, suc, ◌+◌, ◌-◌, ◌^◌, ◌<◌, ◌≤◌, inl, inr, true, false}
-use Rattle.std.proofs.Common.{List, [], ◌∷◌, length, get_or, set, Option, Some, None, is_some, arith}
-use Rattle.std.proofs.lemmas.Bool.{cond-false}
+use Rattle.std.proofs.Common.{◌≡◌, refl, sym, ap, subst, ◌∙◌, ℕ, suc, ◌+◌, ◌-◌, ◌^◌, ◌<◌, ◌≤◌, inl, inr, true, false}
+use Rattle.std.proofs.Common.{List, length, get_or, set, Option, Some, None, is_some, arith}
+use Rattle.std.proofs.lemmas.Bool.{both_ways, cond-false}
 use Rattle.std.proofs.lemmas.Bool.Decides.{eqb_tells}
 use Rattle.std.proofs.lemmas.List.{length-set, length-map, map-set, get_or-set_same, get_or-set_other}
 use Rattle.flow_word.specs.declared.access.Step.{Step as StepOf}
@@ -41,17 +41,11 @@ use Rattle.engine_view.proofs.Roomy.{apart_next, room_for_next, room_emitted, ro
 use Rattle.sim_core.specs.Marks.{IsRestBehind}
 use Rattle.sim_core.specs.Runs.{IsEndOf, IsCore, rest_behind, lent_of, over_of}
 use Rattle.sim_core.proofs.Ahead.{over_of_mark}
+use Rattle.sim_core.proofs.Lends.{not_lent}
 use Rattle.sim_core.proofs.Resting.{rest_is}
 use Rattle.sim_core.proofs.Marking.{next_step}
 use Rattle.sim_core.proofs.Staying.{fed_is}
 use Rattle.sim_core.proofs.Keeping.{core_acted}
-
-lent_none : (runs : List (Option ModuleRun)) (m : ℕ) (run : ModuleRun) → get_or (lent_of runs) m true ≡ true → get_or runs m None ≡ Some run
-    → ⊥
-lent_none [] m run e f = cc
-lent_none (None ∷ rs) zero run e f = cc
-lent_none (Some q ∷ rs) zero run e f = cc
-lent_none (q ∷ rs) (suc m) run e f = lent_none rs m run e f
 
 -- a Run of a module whose run is out of the core is permitted
 pub record IsReady (p : Plan) (s : Stored) (ends : List (Option Advance)) (runs : List (Option ModuleRun)) (credits : List ℕ) (m : ℕ)
@@ -85,7 +79,7 @@ module _ (p : Plan) (s : Stored) (ends : List (Option Advance)) (runs : List (Op
   behind = rest_is p r.core.fits x marks m r.may.inside (emitted_of h m) (emitted_of h m) (omega arith) (omega arith)
 
   others_out : (n : ℕ) (other : ModuleRun) → get_or runs n None ≡ Some other → (n ≡ m → ⊥)
-  others_out n other e q = lent_none runs m other r.lent (subst (λ (k : ℕ). get_or runs k None ≡ Some other) q e)
+  others_out n other e q = both_ways _ (not_lent runs m other (rw (← q) e)) r.lent
 
   -- ---- a step
 

@@ -11,7 +11,6 @@ use Rattle.std.proofs.lemmas.Bool.Decides.{eqb_tells}
 use Rattle.std.proofs.lemmas.List.Elements.{All-head, All-tail}
 use Rattle.flow_word.specs.declared.access.Access.{Access}
 use Rattle.flow_word.specs.declared.access.Kind.{Kind}
-use Rattle.flow_word.specs.declared.access.Kind.TheVariants.{Read, Write, TryRead, TryWrite, Empty, Full}
 use Rattle.flow_design.specs.StaticRules.{FitsEngine}
 use Rattle.flow_design.specs.declared.plan.Plan.{Plan}
 use Rattle.flow_design.specs.declared.state.ModuleState.{ModuleState}
@@ -49,19 +48,6 @@ use Rattle.sim_core.proofs.Resting.{rest_is}
 use Rattle.sim_core.proofs.Staying.{tell, fed_is}
 use Rattle.sim_core.proofs.Finding.{values_now, are_found, not_found}
 use Rattle.engine_report.proofs.Asking.{same_kind}
-
--- ---- kinds
-
-abbrev kind_by : Side → Bool → Bool → Kind
-kind_by Pop true t = Read
-kind_by Push true t = Write
-kind_by Pop false true = TryRead
-kind_by Push false true = TryWrite
-kind_by Pop false false = Empty
-kind_by Push false false = Full
-
-pub kind_is : (k : Kind) → kind_by (side_of k) (is_blocking k) (is_taking k) ≡ k
-kind_is k = grind arith
 
 -- ---- replies
 

@@ -152,9 +152,6 @@ module _ (p : Plan) (s : Stored) (ends : List (Option Advance)) (runs : List (Op
 
     -- ---- the replies to its newest step
 
-    pub none_emitted : emitted_of h m ≡ 0 → waiting d x m (emitted_of h m) ≡ None
-    none_emitted e = ap (waiting d x m) e
-
     module _ (last : ℕ) (step : Step) (there : slice_get (lane_at h.lanes m).steps last ≡ Some step) where
       last_is : step_of h m last ≡ step
       last_is = get_or_from_slice_get (lane_at h.lanes m).steps last step empty_step there

@@ -214,20 +214,6 @@ module _ (first now next : CoreView) (before ticks later count at idle : ℕ) (r
     none_left = λ m l visited. absurd (none_visited count to m u l visited);
   }
 
-  -- nothing was done, and another module is next
-  pub jumped : next ≡ now → later ≡ ticks → (to : ℕ) → to < count → IsGoingRound first next before later count to 0
-  jumped same ticked to u =
-      rw same (record {
-        goes = goes_at first now now before ticks later r.goes refl ticked;
-        agreed = r.agreed;
-        fits = r.fits;
-        own = r.own;
-        counted = r.counted;
-        within = omega arith;
-        inside = λ l. u;
-        none_left = λ m i visited. absurd (none_visited count to m (λ l. u) i visited);
-      })
-
   -- nothing was done at the module whose turn it was
   pub stayed : idle < count → next ≡ now → later ≡ ticks → IsStill now at → (to : ℕ) → IsNextOf count at to
       → IsGoingRound first next before later count to (idle + 1)

@@ -1,10 +1,10 @@
 -- The first access of a step whose reply is not there.
-use Rattle.std.proofs.Common.{◌≡◌, refl, sym, ap, ap₂, subst, ◌∙◌, ℕ, ◌+◌, ◌<◌, ◌≤◌, inl, inr, Bool, true, false, cond, not, List, length}
+use Rattle.std.proofs.Common.{◌≡◌, refl, sym, ap, ap₂, subst, ◌∙◌, ℕ, ◌+◌, ◌<◌, inl, inr, Bool, true, false, cond, not, List, length}
 use Rattle.std.proofs.Common.{drop, get_or, Option, None, Some, arith}
 use Rattle.std.specs.Prelude.{slice_get, option_map}
 use Rattle.std.specs.Int.{from_bool}
 use Rattle.std.proofs.lemmas.Bool.{cases_Bool}
-use Rattle.std.proofs.lemmas.List.{drop_more, drop_all}
+use Rattle.std.proofs.lemmas.List.{drop_more}
 use Rattle.flow_word.specs.Kinds.{is_blocking}
 use Rattle.flow_word.specs.declared.access.Access.{Access}
 use Rattle.fifo_table.specs.Channels.{Channel}

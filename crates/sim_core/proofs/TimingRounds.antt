@@ -34,7 +34,7 @@ use Rattle.event_timing.specs.Machines.{Design}
 use Rattle.event_timing.specs.Enablers.{known_of, all_decided}
 use Rattle.event_timing.specs.Views.{first_accesses}
 use Rattle.event_timing.specs.Core.{Core, view}
-use Rattle.event_timing.specs.Actions.{MayRun, IsDetermined, IsQuiet, IsFinal}
+use Rattle.event_timing.specs.Actions.{IsDetermined, IsFinal}
 use Rattle.event_timing.specs.Agreement.{IsAgreed, AllVerified}
 use Rattle.event_timing.specs.Permitted.{IsInside}
 use Rattle.event_timing.specs.Work.{work}
@@ -109,24 +109,6 @@ rested r (inr e) = cc
 -- more than what can still be done
 abbrev pub timings_left : CoreView → ℕ → ℕ → ℕ
 timings_left v count idle = to_do v * (count + 1) + (count - idle)
-
-pub begun : (v : CoreView) (ticks count : ℕ) → IsAgreed (design v.plan) (lockstep_run v.plan) v.plan.cycles (theory_of v)
-    → FitsEngine v.plan → AllVerified (theory_of v) → count ≡ length v.plan.design.modules
-    → IsTimingRound v v ticks ticks count 0 0 0
-begun v ticks count agreed fits verified counted = record {
-  goes = rounds.goes_same v ticks;
-  agreed = agreed;
-  fits = fits;
-  verified = verified;
-  counted = counted;
-  within = omega arith;
-  at_most = omega arith;
-  inside = λ l. l;
-  none_left = λ m l visited. absurd (rounds.none_visited count 0 m (λ l. l) l visited);
-  rounds = λ more. let e : 0 + more ≡ more = omega arith in
-      ap (λ (n : ℕ). timings (design v.plan) v.plan.cycles n 0 (theory_of v)) e;
-  few = omega arith;
-}
 
 module _ (first now next : CoreView) (before ticks later count at idle done : ℕ)
     (r : IsTimingRound first now before ticks count at idle done) where
@@ -270,15 +252,7 @@ module _ (first now next : CoreView) (before ticks later count at idle done : �
       rounds.falls (to_do next) (to_do now) (count + 1) (count - 0) (count - idle)
       (rounds.to_do_less now next ticks later o.goes agreed (subst FitsEngine (sym o.goes.goes.plan) fits_now)) (omega arith)
 
-  pub stayed_on : idle < count → next ≡ now → timings_left next count (idle + 1) < timings_left now count idle
-  stayed_on less same =
-      rw same (let rest : count - (idle + 1) < count - idle = omega arith in omega arith)
-
 -- ---- the Earliest behind them
-
-module _ (v : CoreView) (none_left : NoTiming (design v.plan) v.plan.cycles (theory_of v)) where
-  pub quiet_of : ((m : ℕ) → MayRun (design v.plan) (theory_of v) m → ⊥) → IsQuiet (design v.plan) v.plan.cycles (theory_of v)
-  quiet_of none = record { no_run = none; no_assign = none_left.no_assign; no_answer = none_left.no_answer }
 
 module _ (v w : CoreView) (agreed : IsAgreed (design v.plan) (lockstep_run v.plan) v.plan.cycles (theory_of v)) where
   pub least_is : (m : ℕ) → HasAnsweredLeast (Some (m, guard.Same)) v w → IsFirstEarliest v m

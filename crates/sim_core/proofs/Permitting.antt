@@ -1,7 +1,7 @@
 -- What the calls that ask for a cause find, of a core of a plan.
-use Rattle.std.proofs.Common.{◌≡◌, refl, sym, ap, subst, ◌∙◌, ℕ, suc, ◌+◌, ◌-◌, ◌^◌, ◌<◌, ◌≤◌, inl, inr, Bool, true, false, List}
+use Rattle.std.proofs.Common.{◌≡◌, refl, sym, ap, subst, ◌∙◌, ℕ, suc, ◌+◌, ◌-◌, ◌^◌, ◌<◌, ◌≤◌, inl, inr, Bool, true, List}
 use Rattle.std.proofs.Common.{length, drop, Option, None, Some, is_none, arith}
-use Rattle.std.specs.Prelude.{◌||◌, position, option_map, option_and_then, slice_get, IsSomeAnd, Result, Ok, Err, OnOk, IfErr, is_ok}
+use Rattle.std.specs.Prelude.{position, option_map, option_and_then, slice_get, IsSomeAnd, Result, Ok, Err, OnOk, IfErr, is_ok}
 use Rattle.std.proofs.lemmas.Bool.Decides.{nat_tests}
 use Rattle.std.proofs.lemmas.Bool.{cases_lt}
 use Rattle.std.proofs.lemmas.Option.{slice_get-get_or, slice_get_past, slice_get_within, get_or_from_slice_get}
@@ -235,12 +235,3 @@ module _ (v : CoreView) (f : Decides v) where
     answer_says n e =
         let t = answer_decided (design v.plan) v.plan.cycles (theory_of v) m in
         says (Answer m) l (may_answer (design v.plan) v.plan.cycles (theory_of v) m) t.1 t.0 r n e
-
-pub first_true : (a b c : Bool) → a ≡ true → true ≡ (a || (b || c))
-first_true a b c e = cc
-
-pub second_true : (a b c : Bool) → a ≡ false → b ≡ true → true ≡ (a || (b || c))
-second_true a b c e f = grind arith
-
-pub third_is : (a b c : Bool) → a ≡ false → b ≡ false → c ≡ (a || (b || c))
-third_is a b c e f = grind arith

@@ -61,7 +61,8 @@ requests_are [] [] e = refl
 requests_are [] (a ∷ xs) e = cc
 requests_are (r ∷ rs) [] e = cc
 requests_are (r ∷ rs) (a ∷ xs) e =
-    let one = request_is r a cc in let later = requests_are rs xs cc in cc
+    let one = request_is r a cc in
+    let later = requests_are rs xs cc in cc
 
 -- the keys of all steps with a cycle are such keys
 pub keys_timed : (h : Held) (keys : List TimedStep) → AreSortedKeys h.lanes keys → All (IsTimedKey h.lanes) keys

@@ -104,7 +104,8 @@ left_without runs left next m l e = record {
       let at : get_or (set left m None) n None ≡ Some run = ap (λ (q : List (Option ModuleRun)). get_or q n None) (sym e) ∙ there in
       elim (eqb_tells n m) [
         | inl u ↦
-            let none = gone left m in let same = u.1 in absurd cc
+            let none = gone left m in
+            let same = u.1 in absurd cc
         | inr u ↦ l.each n run (sym (get_or-set_other left m n None None u.1) ∙ at)
       ];
 }

@@ -86,7 +86,9 @@ all_verified false xs e = cc
 
 pub verified_none : (v : Bool) (xs : List Access) → (has_query xs ≡ false → v ≡ true)
     → is_none (position (λ (a : Access). not a.blocks && not v) xs) ≡ v
-verified_none v xs f = let all = all_verified v xs in let none = none_unverified v xs in grind arith
+verified_none v xs f =
+    let all = all_verified v xs in
+    let none = none_unverified v xs in grind arith
 
 -- ---- the first step without a cycle
 
@@ -110,7 +112,8 @@ module _ {S : Type 0} (d : Design S) (limit : ℕ) (x : Core S) (m : ℕ) where
 
   pub cycle_found : (c : ℕ) → IsDetermined d limit x m c → first_some (cycle_causes d limit x m) ≡ None
   cycle_found c n =
-      let there = step_there (first_emitted d x m c n.at) in let held = held_none c n.at in grind (arith, nat_tests)
+      let there = step_there (first_emitted d x m c n.at) in
+      let held = held_none c n.at in grind (arith, nat_tests)
 
   pub cycle_known : first_some (cycle_causes d limit x m) ≡ None → (c : ℕ) × IsDetermined d limit x m c
   unfolding candidate
@@ -130,7 +133,8 @@ module _ {S : Type 0} (d : Design S) (limit : ℕ) (x : Core S) (m : ℕ) where
 
   pub assign_no_cause : (c : ℕ) → MayAssign d limit x m c → cause_of d limit x (Assign m) ≡ None
   assign_no_cause c may =
-      let found = cycle_found c may.determined in let all = all_verified (x.verified m (x.timed m)) xs may.verified in grind arith
+      let found = cycle_found c may.determined in
+      let all = all_verified (x.verified m (x.timed m)) xs may.verified in grind arith
 
   pub answer_permitted : cause_of d limit x (Answer m) ≡ None → (c : ℕ) × MayAnswer d limit x m c
   answer_permitted e =
@@ -138,7 +142,9 @@ module _ {S : Type 0} (d : Design S) (limit : ℕ) (x : Core S) (m : ℕ) where
       let none = undecided_none know xs in (c, record { determined = n; open_query = grind arith; decided = grind arith })
 
   pub answer_no_cause : (c : ℕ) → MayAnswer d limit x m c → cause_of d limit x (Answer m) ≡ None
-  answer_no_cause c may = let found = cycle_found c may.determined in let none = undecided_none know xs in grind arith
+  answer_no_cause c may =
+      let found = cycle_found c may.determined in
+      let none = undecided_none know xs in grind arith
 
   pub open_no_cause : (c : ℕ) → IsOpen d limit x m c → first_some (open_causes d limit x m) ≡ None
   unfolding decides
@@ -171,7 +177,9 @@ module _ {S : Type 0} (d : Design S) (limit : ℕ) (x : Core S) (m : ℕ) where
     pub open_decided_now : x.verified m (x.timed m) ≡ false → None ≡ position (is_undecided know) xs
         → first_some (open_causes d limit x m) ≡ Some (cause.Decided (first_place x m))
     unfolding decides
-    open_decided_now v e = let found = cycle_found c n in let none = undecided_none know xs in grind arith
+    open_decided_now v e =
+        let found = cycle_found c n in
+        let none = undecided_none know xs in grind arith
 
     pub open_now : x.verified m (x.timed m) ≡ false → (i : ℕ) → Some i ≡ position (is_undecided know) xs → IsOpen d limit x m c
     open_now v i e =
@@ -208,7 +216,9 @@ module _ {S : Type 0} (d : Design S) (limit : ℕ) (x : Core S) (m : ℕ) where
       }
 
   pub run_no_cause : MayRun d x m → cause_of d limit x (Run m) ≡ None
-  run_no_cause may = let none = none_waits (x.emitted m) may.answered may.there in let lives = may.lives in grind arith
+  run_no_cause may =
+      let none = none_waits (x.emitted m) may.answered may.there in
+      let lives = may.lives in grind arith
 
 -- ---- an Earliest
 
@@ -244,7 +254,9 @@ module _ {S : Type 0} (d : Design S) (limit : ℕ) (x : Core S) (inside : IsInsi
     -- an open step before it
     pub earlier_is : (n e : ℕ) → IsOpen d limit x n e → e < c → is_earlier d limit x m n ≡ true
     unfolding is_open_before
-    earlier_is n e o l = let opens = (open_decided d limit x n).1 (e, o) in let when = o.determined.at in grind (arith, nat_tests)
+    earlier_is n e o l =
+        let opens = (open_decided d limit x n).1 (e, o) in
+        let when = o.determined.at in grind (arith, nat_tests)
 
     pub not_earlier : (n : ℕ) → ((e : ℕ) → e < c → IsOpen d limit x n e → ⊥) → is_earlier d limit x m n ≡ false
     unfolding is_open_before

@@ -74,7 +74,8 @@ fit_same before [] (a ∷ xs) qs e = cc
 fit_same before (r ∷ rs) [] qs e = cc
 fit_same before (r ∷ rs) (a ∷ xs) [] e = refl
 fit_same before (r ∷ rs) (a ∷ xs) (q ∷ qs) e =
-    let kind = same_kind r a cc in let later = fit_same before rs xs qs cc in cc
+    let kind = same_kind r a cc in
+    let later = fit_same before rs xs qs cc in cc
 
 pub as_many : (xs : List Access) (bs : List Bool) → FlagsFit (map seen xs) bs → AreAsMany xs bs
 as_many [] [] f = tt

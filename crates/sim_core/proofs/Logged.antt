@@ -28,7 +28,8 @@ queries_alike [] [] e = refl
 queries_alike [] (b ∷ bs) e = cc
 queries_alike (a ∷ as') [] e = cc
 queries_alike (a ∷ as') (b ∷ bs) e =
-    let kind = alike_kind a b cc in let rest = queries_alike as' bs cc in grind arith
+    let kind = alike_kind a b cc in
+    let rest = queries_alike as' bs cc in grind arith
 
 flags_alike : (as' bs : List Access) (os : List Bool) → map seen as' ≡ map seen bs → flags_by as' os ≡ flags_by bs os
 flags_alike [] [] os e = refl
@@ -36,7 +37,8 @@ flags_alike [] (b ∷ bs) os e = cc
 flags_alike (a ∷ as') [] os e = cc
 flags_alike (a ∷ as') (b ∷ bs) os e =
     let kind = alike_kind a b cc in
-    let now = flags_alike as' bs os cc in let later = flags_alike as' bs (drop 1 os) cc in grind arith
+    let now = flags_alike as' bs os cc in
+    let later = flags_alike as' bs (drop 1 os) cc in grind arith
 
 -- ---- the log of a core
 

@@ -89,7 +89,9 @@ no_queries (a ∷ xs) e (suc k) f l = let more = queries_first a xs in no_querie
 
 plain_step : (xs : List Access) → has_query (map seen xs) ≡ false → queries_in xs ≡ 0
 plain_step [] e = refl
-plain_step (a ∷ xs) e = let more = queries_first a xs in let later = plain_step xs in grind arith
+plain_step (a ∷ xs) e =
+    let more = queries_first a xs in
+    let later = plain_step xs in grind arith
 
 module _ {S : Type 0} (d : Design S) (h : Held) (s : IsSound d h) where
   -- a step without a query has all its outcomes

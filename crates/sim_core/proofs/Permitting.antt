@@ -81,7 +81,9 @@ module _ (p : Plan) (s : Stored) (ends : List (Option Advance)) (runs : List (Op
     pub next_nothing : open_step (lane_at h.lanes m) ≡ None → first_some (cycle_causes d p.cycles x m) ≡ Some (cause.NoStep m)
     next_nothing e =
         elim (cases_lt (first_of h m) (emitted_of h m)) [
-          | inl l ↦ let some = slice_get-get_or (lane_at h.lanes m).steps (first_of h m) empty_step l in let z = sym some ∙ e in cc
+          | inl l ↦
+              let some = slice_get-get_or (lane_at h.lanes m).steps (first_of h m) empty_step l in
+              let z = sym some ∙ e in cc
           | inr l ↦ grind (arith, nat_tests)
         ]
 

@@ -281,7 +281,8 @@ pub to_do_less : (now next : CoreView) (ticks later : ℕ) → GoesOn now ticks 
 to_do_less now next ticks later o agreed fits =
     let most = most_work (design next.plan) (lockstep_run next.plan) next.plan.cycles (theory_of next) agreed next.plan.ops
     (plan_is_bounded next.plan fits) in
-    let plan = o.goes.plan in let rise = o.risen in grind arith
+    let plan = o.goes.plan in
+    let rise = o.risen in grind arith
 
 module _ (first now next : CoreView) (before ticks later count at idle : ℕ) (r : IsGoingRound first now before ticks count at idle)
     (hints other : ℕ) where

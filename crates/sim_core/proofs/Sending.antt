@@ -46,7 +46,8 @@ asked : (r : Request) (rs : List Request) (a : Access) (xs : List Access) (os : 
     → take (suc (queries_in xs)) os ≡ outcomes_in (r ∷ rs) (flags_by (a ∷ xs) os)
 asked r rs a xs [] e k l more = absurd (omega arith)
 asked r rs a xs (o ∷ os) e k l more =
-    let later = more os (omega arith) in let same = turned (late_outcome a.kind) o in grind arith
+    let later = more os (omega arith) in
+    let same = turned (late_outcome a.kind) o in grind arith
 
 -- the outcomes from a step's first query on are those by its flags, where all are recorded
 pub outcomes_read : (rs : List Request) (xs : List Access) (os : List Bool) → map bridge.seen rs ≡ map seen xs → queries_in xs ≤ length os
@@ -70,7 +71,8 @@ asked_same before [] [] e = refl
 asked_same before [] (a ∷ xs) e = cc
 asked_same before (r ∷ rs) [] e = cc
 asked_same before (r ∷ rs) (a ∷ xs) e =
-    let kind = same_kind r a cc in let more = asked_same before rs xs cc in grind arith
+    let kind = same_kind r a cc in
+    let more = asked_same before rs xs cc in grind arith
 
 eqb_not : (a b : ℕ) → (a ≡ b → ⊥) → eqb a b ≡ false
 eqb_not a b n = grind (arith, nat_tests)

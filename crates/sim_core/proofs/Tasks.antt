@@ -109,7 +109,8 @@ task_stays p x z b m beside task t =
     outcomes_same k =
         elim (cases_lt k (x.emitted m)) [
           | inl l ↦
-              let states = g.state_same m k l in let flags = g.flags_same m k l (answered k l) in grind (arith, nat_tests)
+              let states = g.state_same m k l in
+              let flags = g.flags_same m k l (answered k l) in grind (arith, nat_tests)
           | inr l ↦ grind (arith, nat_tests)
         ]
       where

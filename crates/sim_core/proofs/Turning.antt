@@ -146,7 +146,8 @@ module _ (p : Plan) (s t : Stored) (ends : List (Option Advance)) (runs : List (
 
   emitted_there : (m c : ℕ) → candidate d (view d x) m ≡ Some c → m < length h.lanes
   emitted_there m c e =
-      let inside = determined_inside d p.cycles x k.agreed.marks.inside m c e in let same = k.sound.lanes in omega arith
+      let inside = determined_inside d p.cycles x k.agreed.marks.inside m c e in
+      let same = k.sound.lanes in omega arith
 
   module _ (quiet : IsQuiet d p.cycles x) where
     open_at : (m c : ℕ) → candidate d (view d x) m ≡ Some c → c < p.cycles → IsOpen d p.cycles x m c

@@ -57,7 +57,8 @@ told_by (a ∷ as') (r ∷ rs) e os l =
     by true b kind rest os l = let later = rest os (grind arith) in grind arith
     by false b kind rest [] l = grind arith
     by false b kind rest (o ∷ os) l =
-        let later = rest os (grind arith) in let back = outcome_back a.kind o b in grind arith
+        let later = rest os (grind arith) in
+        let back = outcome_back a.kind o b in grind arith
 
 -- the first few of a list that begins with more of them
 begin_with : (n more : ℕ) (os all rest : List Bool) → n ≤ more → all ≡ take more os ++ rest → IsPrefix (take n os) all

@@ -23,7 +23,9 @@ module _ (c : After-step-step) where
   run_is = rw (← c.self.view_is) at c.requires.run
 
   inside : c.args.owner < length h.lanes
-  inside = let a = rw (← c.self.view_is) at c.requires.owner in let b = c.self.invariant.core.sound.lanes in omega arith
+  inside =
+      let a = rw (← c.self.view_is) at c.requires.owner in
+      let b = c.self.invariant.core.sound.lanes in omega arith
 
   is_waiting : waits c.args.run.now ≡ true
   is_waiting = sym c.is_waiting.ensures ∙ c.if-not-is_waiting.false

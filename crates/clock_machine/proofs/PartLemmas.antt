@@ -1,6 +1,6 @@
 -- When a module has a part in a clock.
 use Rattle.flow_design.specs.declared.state.Element.{Element}
-use Rattle.std.proofs.Common.{◌≡◌, ℕ, ◌<◌, ◌≤◌, List, [], ◌∷◌, map, length, get_or, Bool, true, false, ◌&&◌, not, cond, refl, sym, ◌∙◌, ap}
+use Rattle.std.proofs.Common.{◌≡◌, ℕ, ◌<◌, List, [], ◌∷◌, map, length, get_or, Bool, true, false, ◌&&◌, not, cond, refl, sym, ◌∙◌, ap}
 use Rattle.std.proofs.Common.{◌++◌, subst, arith, zero, suc}
 use Rattle.std.proofs.lemmas.Bool.{lt-ltb}
 use Rattle.std.specs.Prelude.{find, option_map, nat_lt, None}

@@ -8,7 +8,6 @@ use Rattle.std.proofs.lemmas.List.{drop_more, drop_all, drop-drop}
 use Rattle.std.proofs.lemmas.List.Elements.{All-head, All-tail, All-weaker}
 use Rattle.flow_word.specs.Kinds.{is_blocking, is_taking, same_side, side_of}
 use Rattle.flow_word.specs.declared.access.Side.{Side}
-use Rattle.flow_word.specs.declared.access.Side.TheVariants.{Pop, Push}
 use Rattle.flow_word.specs.declared.access.Access.{Access}
 use Rattle.flow_word.specs.declared.access.Place.{Place}
 use Rattle.fifo_table.specs.Channels.{Channel, channel_at}

@@ -9,7 +9,7 @@ use Rattle.time_engine.proofs.Given.{accesses_stay, places_stay, steps_stay}
 use Rattle.event_timing.specs.Machines.{Design}
 use Rattle.event_timing.specs.Core.{Core}
 use Rattle.event_timing.specs.Actions.{put, put_at, after_assign}
-use Rattle.engine_view.specs.Held.{Held, step_of, replies_at, core_of}
+use Rattle.engine_view.specs.Held.{Held, replies_at, core_of}
 use Rattle.engine_view.specs.Shown.{Shows, IsSound, AreWhole, queries_before}
 use Rattle.engine_view.specs.Timed.{with_timed}
 use Rattle.engine_view.proofs.Cores.{same_core}

@@ -16,7 +16,7 @@ use Rattle.fifo_table.specs.declared.channel.TableChannel.{TableChannel}
 use Rattle.fifo_table.specs.declared.channel.TableChannel.TheVariants.{Source, Sink, Fifo}
 use Rattle.fifo_table.specs.Channels.{Channel, channel_at, places_of, lag_of, HasSide}
 use Rattle.fifo_table.specs.Enablers.{event_at, enabler_by}
-use Rattle.time_engine.specs.Possible.{lag, known_by, when_possible, enabler_at, from_cycle}
+use Rattle.time_engine.specs.Possible.{lag, known_by, when_possible, enabler_at}
 use Rattle.time_engine.specs.Conditions.{IsAccess, HasAccesses}
 use Rattle.event_timing.specs.Machines.{Design, IsDesign, Reply}
 use Rattle.event_timing.specs.Machines as theory

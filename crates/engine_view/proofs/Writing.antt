@@ -1,13 +1,13 @@
 -- The loop that adds a step's outcomes.
 use Rattle.std.proofs.Common.{◌≡◌, sym, ap, ◌∙◌, ℕ, ◌+◌, ◌<◌, ◌≤◌, Bool, true, false, cond, ◌||◌, List, [], ◌∷◌, length, drop}
 use Rattle.std.proofs.Common.{get_or, arith, length-append}
-use Rattle.std.proofs.lemmas.List.{drop_more, drop_all, length-set, get_or-set_same}
+use Rattle.std.proofs.lemmas.List.{drop_more, length-set, get_or-set_same}
 use Rattle.flow_word.specs.Kinds.{is_blocking}
 use Rattle.flow_word.specs.declared.access.Access.{Access}
 use Rattle.event_graph.specs.Lanes.{Lane}
 use Rattle.fifo_table.specs.Channels.{Channel}
 use Rattle.query_log.specs.Logs.{RoomedLogs, no_log, log_at, answered, with_outcome, with_outcomes}
-use Rattle.query_log.proofs.Adding.{outcomes_more, outcomes_none}
+use Rattle.query_log.proofs.Adding.{outcomes_more}
 use Rattle.time_engine.specs.Possible.{when_possible}
 use Rattle.event_timing.specs.Enablers.{answer}
 use Rattle.engine_view.specs.Held.{queries_in}

@@ -22,7 +22,7 @@ use Rattle.name_tables.specs.TableTests.{reading_by}
 use Rattle.name_tables.proofs.TableLaws.{form_fault_same, accepted_same}
 use Rattle.flow_text.specs.Lines.{said_by, tokens_reading_by, line_reading_by, accepted_if, lines_left, bytes_left}
 use Rattle.flow_text.specs.declared.progress.Progress.{Progress}
-use Rattle.flow_text.specs.Progress.{IsKept, IsOpening, IsAdded, with_front, IsThrough}
+use Rattle.flow_text.specs.Progress.{IsKept, IsOpening, IsAdded, with_front}
 
 -- ---- a line by the tables
 

@@ -1,5 +1,5 @@
 -- The cut from which a retiming begins is the theory's core behind the edit, with room as before.
-use Rattle.std.proofs.Common.{◌≡◌, refl, sym, ap, subst, ◌∙◌, ℕ, ◌+◌, ◌<◌, ◌≤◌, min, inl, inr, Bool, true, List}
+use Rattle.std.proofs.Common.{◌≡◌, refl, sym, ap, subst, ◌∙◌, ℕ, ◌<◌, ◌≤◌, min, inl, inr, Bool, true, List}
 use Rattle.std.proofs.Common.{[], length, map, get_or, arith}
 use Rattle.std.specs.Prelude.{All}
 use Rattle.std.proofs.lemmas.Bool.{cases_lt}

@@ -1,7 +1,7 @@
 -- Reading a mail, access by access.
 use Rattle.std.proofs.Common.{◌≡◌, refl, sym, ap, ◌∙◌, ℕ, zero, suc, ◌+◌, ◌<◌, ◌≤◌, Bool, true, false, List, [], ◌∷◌, ◌++◌}
 use Rattle.std.proofs.Common.{length, drop, get_or, set, replicate, Option, Some}
-use Rattle.std.proofs.Common.{None, slice_get, inl, inr, arith, append_assoc, append-nil}
+use Rattle.std.proofs.Common.{slice_get, inl, inr, arith, append_assoc}
 use Rattle.std.proofs.lemmas.Bool.{cases_lt}
 use Rattle.std.proofs.lemmas.Bool.Decides.{eqb_tells}
 use Rattle.std.proofs.Math.Seq.{drop-nil}
@@ -11,7 +11,6 @@ use Rattle.std.proofs.lemmas.List.{drop_all, drop-drop, length-replicate, length
 use Rattle.flow_word.specs.declared.access.Access.{Access}
 use Rattle.flow_word.specs.declared.access.Kind.{Kind}
 use Rattle.flow_design.specs.declared.state.Reply.{Reply}
-use Rattle.flow_word.specs.Kinds.{is_blocking}
 use Rattle.module_interp.specs.OwnRests.{fits_kind, all_fit}
 use Rattle.engine_view.specs.Held.{queries_in}
 use Rattle.run_ahead.specs.declared.mail.Mail.{Mail}

@@ -9,10 +9,8 @@ use Rattle.flow_design.specs.declared.design.BlockKind.TheVariants.{Loop}
 use Rattle.flow_design.specs.declared.design.Module.{Module}
 use Rattle.serial_order.specs.declared.order.Order.{Order}
 use Rattle.serial_order.specs.declared.order.Used.{Used}
-use Rattle.serial_order.specs.declared.order.Order.TheVariants.{Query, Late, Wide}
-use Rattle.serial_order.specs.Orders.{head, numbers_where, queries_of, is_late, lates_of, is_wide, things_of, wides_of, faults_by}
-use Rattle.serial_order.specs.Orders.{faults_of}
-use Rattle.serial_order.specs.Orders.{all_faults}
+use Rattle.serial_order.specs.declared.order.Order.TheVariants.{Late, Wide}
+use Rattle.serial_order.specs.Orders.{head, numbers_where, is_late, lates_of, is_wide, things_of, wides_of, faults_by}
 
 -- none passes before number n
 abbrev pub NoneBefore : (Timed → Bool) → List Timed → ℕ → Type 0

@@ -64,6 +64,7 @@ impl<T> RoomyList<T> {
 
 impl<T: Drop> RoomyList<T> {
     /// Adds an item at the end. It succeeds where there is room, of which it uses one place.
+    #[inline(always)]
     pub fn push(&mut self, item: T) -> Result<(), OutOfMemory>
         ensures ok { OnOk result (self.new.items ≡ self.old.items ++ item ∷ []) }
         ensures err { OnErr result (self.new.items ≡ self.old.items) }

@@ -611,3 +611,32 @@ fn words_by_expressions_and_memories(rt: HostRuntime) -> Result<(), Fail> {
     }
     Ok(())
 }
+
+/// The run comes in place to a write of this word, and then to its end, which it gives.
+fn comes_to_a_write<R: Abort>(rt: &R, run: &mut ModuleRun, gap: u64, word: u64) -> Result<(), Fail>
+    requires run { IsRun run.old }
+    requires fed { waits run.old ≡ false }
+{
+    let replies = [Reply::Done];
+    let few = run.advance_few()?;
+    assert!(rt; few);
+    assert_eq!(rt; run.gap(), gap);
+    assert_eq!(rt; run.queries(), 0);
+    assert_eq!(rt; run.listed(), [write(0, 1, word)].as_slice());
+    assert!(rt; all_fit(run.waiting(), &replies));
+    run.feed(&replies);
+    let more = run.advance_few()?;
+    assert!(rt; !more);
+    let end = run.give()?;
+    assert!(rt; matches!(&end, Advance::Ended(1)));
+    Ok(())
+}
+
+#[test]
+fn words_in_place(rt: HostRuntime) -> Result<(), Fail> {
+    for (session, gap, word) in ONE_WORD {
+        let mut run = first_run(&rt, session)?;
+        comes_to_a_write(&rt, &mut run, gap, word)?;
+    }
+    Ok(())
+}

@@ -1,20 +1,19 @@
 -- Giving a cycle keeps agreement.
-use Rattle.std.proofs.Common.{◌≡◌, ℕ, suc, ◌<◌, ◌≤◌, Bool, true, false, not, ◌&&◌, ◌⊎◌, inl, inr, List, [], ◌∷◌, map, length, sym, refl, ap}
-use Rattle.std.proofs.Common.{ap₂, ◌∙◌, subst, arith, eqb}
-use Rattle.std.proofs.lemmas.Bool.{cases_Bool, cond-true, cond-false, and_parts, and_from, both_ways, cases_eq, not-false}
-use Rattle.std.proofs.lemmas.Bool.{false_from_ne_true, eqb-true, ltb-true, or_parts, or_left, eq-eqb, ne_eqb}
+use Rattle.std.proofs.lemmas.Bool.Decides.{nat_tests}
+use Rattle.std.proofs.Common.{◌≡◌, ℕ, suc, ◌<◌, ◌≤◌, Bool, true, false, List, [], ◌∷◌, length, refl, arith}
+use Rattle.std.proofs.lemmas.Bool.{both_ways, ltb-true}
 use Rattle.flow_word.specs.declared.access.Side.TheVariants.{Pop, Push}
-use Rattle.event_timing.specs.Machines.{Design, IsDesign, Access, ready}
-use Rattle.event_timing.specs.Histories.{Trace, IsHistory, replies, reply_to, can_all, can_do}
+use Rattle.event_timing.specs.Machines.{Design, IsDesign, Access}
+use Rattle.event_timing.specs.Histories.{Trace, IsHistory, replies, can_all}
 use Rattle.event_timing.specs.Steps.{steps, done}
-use Rattle.event_timing.specs.Enablers.{Known, known_of, answer, flags_at}
-use Rattle.event_timing.specs.Core.{Core, bare_replies, core_accesses, core_tally, core_values, all_below, replies_of, core_reply}
-use Rattle.event_timing.specs.Core.{values_there, view, has_query}
+use Rattle.event_timing.specs.Enablers.{Known, known_of, flags_at}
+use Rattle.event_timing.specs.Core.{Core, bare_replies, core_accesses, core_tally, core_values, all_below, core_reply, values_there, view}
+use Rattle.event_timing.specs.Core.{has_query}
 use Rattle.event_timing.specs.Agreement.{AreOwnMarks, IsTimed, elements_timed, pops_timed, possible_all, FlagsFit, HappensBefore}
 use Rattle.event_timing.specs.Actions.{after_assign, put, put_at, MayAssign}
 use Rattle.event_timing.proofs.Standing.{step_ready, moves_can, steps_moves}
 use Rattle.event_timing.proofs.OwnRuns.{rest_own, follows, tally_mono}
-use Rattle.event_timing.proofs.Candidate.{can_blocks, candidate_parts, candidate_done, candidate_steps, candidate_ready}
+use Rattle.event_timing.proofs.Candidate.{candidate_parts, candidate_done, candidate_steps, candidate_ready}
 use Rattle.event_timing.proofs.Fronts.{agrees, agrees_done, IsDone}
 use Rattle.event_timing.proofs.Growing.{below_grow}
 use Rattle.event_timing.proofs.Replying.{replies_right, core_fronts}
@@ -23,46 +22,20 @@ use Rattle.event_timing.proofs.Sure.{new_sure, sure_values}
 -- ---- functions with one value changed
 
 pub put_same : {A : Type 0} → (f : ℕ → A) (m : ℕ) (y : A) → put f m y m ≡ y
-put_same f m y = cond-true (eqb m m) y (f m) (eq-eqb m m refl)
+put_same f m y = grind (arith, nat_tests)
 
 pub put_other : {A : Type 0} → (f : ℕ → A) (m : ℕ) (y : A) (n : ℕ) → (n ≡ m → ⊥) → put f m y n ≡ f n
-put_other f m y n e = cond-false (eqb n m) y (f n) (ne_eqb n m e)
+put_other f m y n e = grind (arith, nat_tests)
 
 -- what holds of the new value and of all others holds of each
 pub put_cases : (f : ℕ → ℕ) (m y : ℕ) (P : ℕ → ℕ → Type 0) → ((n : ℕ) → (n ≡ m → ⊥) → P n (f n)) → P m y → (n : ℕ) → P n (put f m y n)
-put_cases f m y P others new n =
-    elim (cases_eq n m) [
-      | inr w ↦ subst (λ (z : ℕ). P n z) (sym (put_other f m y n w)) (others n w)
-      | inl w ↦ subst (λ (z : ℕ). P z (put f m y z)) (sym w) (subst (λ (z : ℕ). P m z) (sym (put_same f m y)) new)
-    ]
+put_cases f m y P others new n = grind (arith, nat_tests, others, new)
 
 pub put_at_same : {A : Type 0} → (f : ℕ → ℕ → A) (m k : ℕ) (y : A) → put_at f m k y m k ≡ y
-put_at_same f m k y =
-    cond-true (eqb m m && eqb k k) y (f m k) (and_from (eqb m m) (eqb k k) (eq-eqb m m refl) (eq-eqb k k refl))
+put_at_same f m k y = grind (arith, nat_tests)
 
 pub put_at_other : {A : Type 0} → (f : ℕ → ℕ → A) (m k : ℕ) (y : A) (n j : ℕ) → (n ≡ m → j ≡ k → ⊥) → put_at f m k y n j ≡ f n j
-put_at_other f m k y n j other =
-    cond-false (eqb n m && eqb j k) y (f n j)
-    (false_from_ne_true (eqb n m && eqb j k) (λ (w : (eqb n m && eqb j k) ≡ true).
-    let (p, q) = and_parts (eqb n m) (eqb j k) w in
-    other (eqb-true n m p) (eqb-true j k q)))
-
-pub at_cases : (m k n j : ℕ) → ((n ≡ m) × (j ≡ k)) ⊎ (n ≡ m → j ≡ k → ⊥)
-at_cases m k n j =
-    elim (cases_eq n m) [
-      | inl e ↦ elim (cases_eq j k) [ inl w ↦ inl (e, w) | inr w ↦ inr (λ p q. w q) ]
-      | inr e ↦ inr (λ p q. e p)
-    ]
-
-pub put_at_both : {A : Type 0} → (f : ℕ → ℕ → A) (m k : ℕ) (y : A) (P : ℕ → ℕ → A → Type 0) → P m k y
-    → ((n j : ℕ) → (n ≡ m → j ≡ k → ⊥) → P n j (f n j)) → (n j : ℕ) → P n j (put_at f m k y n j)
-put_at_both f m k y P new others n j =
-    elim (at_cases m k n j) [
-      | inr w ↦ subst (P n j) (sym (put_at_other f m k y n j w)) (others n j w)
-      | inl w ↦
-          subst (λ (z : ℕ). P z j (put_at f m k y z j)) (sym w.0)
-          (subst (λ (z : ℕ). P m z (put_at f m k y m z)) (sym w.1) (subst (P m k) (sym (put_at_same f m k y)) new))
-    ]
+put_at_other f m k y n j other = grind (arith, nat_tests)
 
 -- ---- steps without a query
 
@@ -72,11 +45,7 @@ pub plain_flags : (know : Access → Known) (c : ℕ) (xs : List Access) (bs : L
 plain_flags know c [] [] e f = refl
 plain_flags know c [] (b ∷ bs) e f = absurd f
 plain_flags know c (a ∷ xs) [] e f = absurd f
-plain_flags know c (a ∷ xs) (b ∷ bs) e (f, fs) =
-    let (first, rest) = or_parts (not a.blocks) (has_query xs) e in
-    let blocks : a.blocks ≡ true = not-false _ first in
-    ap₂ (λ (z : Bool) (zs : List Bool). z ∷ zs) (f blocks ∙ sym (or_left a.blocks (answer (know a) c) blocks))
-    (plain_flags know c xs bs rest fs)
+plain_flags know c (a ∷ xs) (b ∷ bs) e (f, fs) = grind (arith, plain_flags know c xs bs)
 
 -- and where all that block can be done, these are what is possible
 pub plain_possible : {S : Type 0} → (d : Design S) (h : Trace S) (c : ℕ) (xs : List Access) (bs : List Bool) → has_query xs ≡ false
@@ -84,12 +53,7 @@ pub plain_possible : {S : Type 0} → (d : Design S) (h : Trace S) (c : ℕ) (xs
 plain_possible {S} d h c [] [] e g f = refl
 plain_possible {S} d h c [] (b ∷ bs) e g f = absurd f
 plain_possible {S} d h c (a ∷ xs) [] e g f = absurd f
-plain_possible {S} d h c (a ∷ xs) (b ∷ bs) e g (f, fs) =
-    let (first, rest) = or_parts (not a.blocks) (has_query xs) e in
-    let (can_first, can_rest) = and_parts (can_do d h c a) (can_all d h c xs) g in
-    let blocks : a.blocks ≡ true = not-false _ first in
-    ap₂ (λ (z : Bool) (zs : List Bool). z ∷ zs) (f blocks ∙ sym (sym (can_blocks d h c a blocks) ∙ can_first))
-    (plain_possible d h c xs bs rest can_rest fs)
+plain_possible {S} d h c (a ∷ xs) (b ∷ bs) e g (f, fs) = grind (arith, plain_possible d h c xs bs)
 
 -- ---- what agreement says of a verified step, which is the module's first one without a cycle
 
@@ -113,11 +77,8 @@ HappensFirst {S} d h limit x n j =
 pub can_emitted : {S : Type 0} → (d : Design S) (h : Trace S) → IsDesign d → IsHistory d h → (x : Core S) → AreOwnMarks d x → IsDone d h x
     → (m c j : ℕ) → j < x.emitted m → j ≤ x.timed m → steps d h c m ≡ true → done d h m c ≡ j → can_all d h c (core_accesses d x m j) ≡ true
 can_emitted {S} d h i y x b t m c j l q s k =
-    let g = agrees_done d h x b t in
-    let by_steps = rest_own d h i y m (core_reply d x m) c (follows d h (view d x) g m c (omega arith)) in
-    let rested = rw k at by_steps in
-    let here : h.state c m ≡ x.state m j = step_ready d h i y m c s ∙ (ap (ready d m) rested ∙ sym (b.own_step m j l)) in
-    subst (λ (z : S). can_all d h c (d.accesses m z) ≡ true) here (moves_can d h c m (steps_moves d h c m s))
+    let by_steps = rest_own d h i y m (core_reply d x m) c (follows d h (view d x) (agrees_done d h x b t) m c (omega arith)) in
+    grind (arith, step_ready d h i y m c s, b.own_step m j l, moves_can d h c m (steps_moves d h c m s))
 
 -- ---- the step that gets its cycle
 
@@ -141,18 +102,13 @@ module _ {S : Type 0} (d : Design S) (h : Trace S) (i : IsDesign d) (y : IsHisto
   popped ch = core_tally d x m Pop ch (x.timed m)
 
   is_emitted : x.timed m < x.emitted m
-  is_emitted =
-      let (more, bound, known, cycle) = candidate_parts d (view d x) m c may.determined.at in
-      ltb-true (x.timed m) (x.emitted m) more
+  is_emitted = ltb-true (x.timed m) (x.emitted m) (candidate_parts d (view d x) m c may.determined.at).0
 
   pops_sure : pops_timed d x m (x.timed m) found ≡ true
   pops_sure =
-      elim (cases_Bool (has_query asked)) [
-        | inl query ↦ u.first_sure m is_emitted may.verified query
-        | inr plain ↦
-            rw (plain_flags (known_of d (view d x) m) c asked found plain (b.fit m (x.timed m) is_emitted))
-            (new_sure d i x m c may.determined.at)
-      ]
+      let new = new_sure d i x m c may.determined.at in
+      let plain = plain_flags (known_of d (view d x) m) c asked found in
+      grind (arith, u.first_sure m is_emitted may.verified, b.fit m (x.timed m) is_emitted)
 
   is_told : steps d h c m ≡ true → done d h m c ≡ x.timed m → core_reply d x m (x.timed m) ≡ replies d h c m
   unfolding replies
@@ -160,10 +116,9 @@ module _ {S : Type 0} (d : Design S) (h : Trace S) (i : IsDesign d) (y : IsHisto
       let right = u.first_flags m is_emitted may.verified c s k in
       let sure : all_below (elements_timed d x) popped asked (possible_all d h c asked) ≡ true = rw (← right) pops_sure in
       let fronts = core_fronts d h i y limit x b u m c k asked (i.owned m (x.state m (x.timed m))) in
+      let told = replies_right d h c (elements_timed d x) (core_values d x) popped asked fronts sure in
       let now = candidate_ready d h i y (view d x) (agrees d h limit x b u) m c may.determined.at in
-      ap (replies_of (core_values d x) popped asked) right
-      ∙ (replies_right d h c (elements_timed d x) (core_values d x) popped asked fronts sure
-      ∙ ap (λ (z : S). map (reply_to d h c) (d.accesses m z)) (b.own_step m (x.timed m) is_emitted ∙ sym now))
+      grind (arith, b.own_step m (x.timed m) is_emitted)
 
   assigned : Assigned d h limit x m c
   assigned =
@@ -184,54 +139,20 @@ module _ {S : Type 0} (d : Design S) (h : Trace S) (i : IsDesign d) (y : IsHisto
 -- ---- the core behind it
 
 pub assign_marks : {S : Type 0} → (d : Design S) (x : Core S) (m c : ℕ) → AreOwnMarks d x → AreOwnMarks d (after_assign x m c)
-assign_marks {S} d x m c b =
-    record {
-      own_step = b.own_step;
-      own_wait = b.own_wait;
-      lives = b.lives;
-      ended = b.ended;
-      replied = b.replied;
-      there = b.there;
-      ended_replied = b.ended_replied;
-      ended_there = b.ended_there;
-      fit = b.fit;
-      unanswered = b.unanswered;
-      inside = b.inside;
-    }
+assign_marks {S} d x m c b = grind arith
 
 -- what holds of the steps with a cycle, and of the new one, holds of all that have one now
 step_more : {S : Type 0} → (x : Core S) (m c : ℕ) (P : ℕ → ℕ → ℕ → Type 0) → ((n k : ℕ) → k < x.timed n → P n k (x.cycle n k))
     → P m (x.timed m) c → (n k : ℕ) → k < (after_assign x m c).timed n → P n k ((after_assign x m c).cycle n k)
-step_more {S} x m c P old new n k l =
-    elim (cases_eq n m) [
-      | inr e ↦
-          let l' : k < x.timed n = rw (put_other x.timed m (suc (x.timed m)) n e) at l in
-          subst (λ (z : ℕ). P n k z) (sym (put_at_other x.cycle m (x.timed m) c n k (λ w. absurd (e w)))) (old n k l')
-      | inl e ↦
-          let l1 = subst (λ (z : ℕ). k < put x.timed m (suc (x.timed m)) z) e l in
-          let l2 : k < suc (x.timed m) = rw (put_same x.timed m (suc (x.timed m))) at l1 in
-          subst (λ (z : ℕ). P z k (put_at x.cycle m (x.timed m) c z k)) (sym e) (here k l2)
-    ]
-  where
-    newest : P m (x.timed m) (put_at x.cycle m (x.timed m) c m (x.timed m))
-    newest = subst (λ (z : ℕ). P m (x.timed m) z) (sym (put_at_same x.cycle m (x.timed m) c)) new
-
-    here : (j : ℕ) → j < suc (x.timed m) → P m j (put_at x.cycle m (x.timed m) c m j)
-    here j q =
-        elim (cases_eq j (x.timed m)) [
-          | inr w ↦ subst (λ (z : ℕ). P m j z) (sym (put_at_other x.cycle m (x.timed m) c m j (λ p. w))) (old m j (omega arith))
-          | inl w ↦ subst (λ (z : ℕ). P m z (put_at x.cycle m (x.timed m) c m z)) (sym w) newest
-        ]
+step_more {S} x m c P old new n k l = grind (arith, nat_tests, old n k, new)
 
 timed_up : {S : Type 0} → (x : Core S) (m n : ℕ) → x.timed n ≤ put x.timed m (suc (x.timed m)) n
-timed_up {S} x m n = put_cases x.timed m (suc (x.timed m)) (λ (p q : ℕ). x.timed p ≤ q) (λ p e. omega arith) (omega arith) n
+timed_up {S} x m n = grind (arith, nat_tests)
 
 module _ {S : Type 0} (d : Design S) (h : Trace S) (limit : ℕ) (x : Core S) (u : IsTimed d h limit x) (m c : ℕ)
     (w : Assigned d h limit x m c) where
   assign_within : (n : ℕ) → (after_assign x m c).timed n ≤ x.emitted n
-  assign_within =
-      let new : suc (x.timed m) ≤ x.emitted m = omega (arith, w.emitted) in
-      put_cases x.timed m (suc (x.timed m)) (λ (n t : ℕ). t ≤ x.emitted n) (λ n e. u.within n) new
+  assign_within n = grind (arith, nat_tests, w.emitted, u.within n)
 
   assign_done : IsDone d h (after_assign x m c)
   assign_done =
@@ -246,9 +167,11 @@ module _ {S : Type 0} (d : Design S) (h : Trace S) (limit : ℕ) (x : Core S) (u
   elements_up : (ch : ℕ) → elements_timed d x ch ≤ elements_timed d (after_assign x m c) ch
   elements_up ch =
       let o : ℕ = d.owner Push ch in
-      let up = tally_mono (core_accesses d x o) (λ j. bare_replies (x.flags o j)) Push ch (x.timed o)
-      (put x.timed m (suc (x.timed m)) o) (timed_up x m o) in
-      omega arith
+      omega (
+        arith,
+        tally_mono (core_accesses d x o) (λ j. bare_replies (x.flags o j)) Push ch (x.timed o)
+            (put x.timed m (suc (x.timed m)) o) (timed_up x m o),
+      )
 
   -- the step behind the new one, if it counts as verified, has no query
   next_plain : suc (x.timed m) < x.emitted m → x.verified m (suc (x.timed m)) ≡ true
@@ -266,10 +189,7 @@ module _ {S : Type 0} (d : Design S) (h : Trace S) (limit : ℕ) (x : Core S) (u
       (λ l v q. absurd (both_ways _ (next_plain l v) q))
 
   happens_still : (n : ℕ) → HappensFirst d h limit x n ((after_assign x m c).timed n)
-  happens_still =
-      put_cases x.timed m (suc (x.timed m)) (HappensFirst d h limit x)
-      (λ n e. u.first_happens n)
-      (λ l v q. absurd (both_ways _ (next_plain l v) q))
+  happens_still n l v q = grind (arith, nat_tests, u.first_happens n, next_plain)
 
 module _ {S : Type 0} (d : Design S) (h : Trace S) (i : IsDesign d) (y : IsHistory d h) (limit : ℕ) (x : Core S) (b : AreOwnMarks d x)
     (u : IsTimed d h limit x) (m c : ℕ) where

@@ -1,14 +1,14 @@
 -- The determined cycle of a step is the clock in which the history does it.
+use Rattle.std.proofs.lemmas.Bool.Decides.{nat_tests}
 use Rattle.std.proofs.Common.{◌≡◌, ℕ, zero, suc, ◌+◌, ◌-◌, ◌<◌, ◌≤◌, max, Bool, true, false, not, ◌&&◌, ◌||◌, inl, inr, List, [], ◌∷◌, sym}
-use Rattle.std.proofs.Common.{refl, ap, ap₂, ◌∙◌, arith, zero-add, leb, Some, None}
-use Rattle.std.proofs.lemmas.Bool.{cases_Bool, cond-true, cond-false, and_parts, both_ways, cases_lt, false_from_ne_true, le-leb, lt-leb}
-use Rattle.std.proofs.lemmas.Bool.{leb-true}
+use Rattle.std.proofs.Common.{refl, ap, ap₂, ◌∙◌, arith, zero-add, leb, Some}
+use Rattle.std.proofs.lemmas.Bool.{cases_Bool, cond-true, cond-false, and_parts, both_ways, le-leb, leb-true}
 use Rattle.flow_word.specs.declared.access.Side.{Side}
-use Rattle.event_timing.specs.Machines.{Design, IsDesign, Access, Each, ready, is_some_access}
+use Rattle.event_timing.specs.Machines.{Design, IsDesign, Access, Each, ready}
 use Rattle.event_timing.specs.Histories.{Trace, IsHistory, is_possible, can_all, can_do}
 use Rattle.event_timing.specs.Steps.{steps, done, rest, since}
 use Rattle.event_timing.specs.Views.{own, tally, View, Agrees, from, first_accesses, own_state}
-use Rattle.event_timing.specs.Enablers.{Known, known, known_of, both, bound, reach, to_clock, candidate}
+use Rattle.event_timing.specs.Enablers.{Known, known, known_of, both, bound, reach, candidate}
 use Rattle.event_timing.specs.Enablers.Known.{From, Never, Unknown}
 use Rattle.event_timing.proofs.Steps.{done_more, done_same, done_mono, since_more, since_same}
 use Rattle.event_timing.proofs.Standing.{early_no_step, late_ready, moves_can, moves_from, steps_moves, steps_from, since_0}
@@ -23,15 +23,7 @@ both_parts Never b u e = cc
 both_parts Unknown b u e = cc
 
 leb_max : (p q c : ℕ) → (leb p c && leb q c) ≡ leb (max p q) c
-leb_max p q c =
-    elim (cases_lt c p) [
-      | inl a ↦ rw (lt-leb p c a, lt-leb (max p q) c (omega arith)) refl
-      | inr a ↦
-          elim (cases_lt c q) [
-            | inl b ↦ rw (le-leb p c a, lt-leb q c b, lt-leb (max p q) c (omega arith)) refl
-            | inr b ↦ rw (le-leb p c a, le-leb q c b, le-leb (max p q) c (omega arith)) refl
-          ]
-    ]
+leb_max p q c = grind (arith, nat_tests)
 
 -- what is known of each of these accesses is true in clock c
 abbrev pub EachMeans : {S : Type 0} → Design S → Trace S → View → ℕ → (Access → Known) → List Access → Type 0
@@ -40,9 +32,6 @@ EachMeans {S} d h v c know xs = Each (λ a. Means d h v c a.side a.channel (know
 pub can_blocks : {S : Type 0} → (d : Design S) (h : Trace S) (c : ℕ) (a : Access) → a.blocks ≡ true
     → can_do d h c a ≡ is_possible d h c a.side a.channel
 can_blocks {S} d h c a b = ap (λ (z : Bool). not z || is_possible d h c a.side a.channel) b
-
-can_free : {S : Type 0} → (d : Design S) (h : Trace S) (c : ℕ) (a : Access) → a.blocks ≡ false → can_do d h c a ≡ true
-can_free {S} d h c a b = ap (λ (z : Bool). not z || is_possible d h c a.side a.channel) b
 
 pub bound_blocks : (know : Access → Known) (a : Access) (xs : List Access) → a.blocks ≡ true
     → bound know (a ∷ xs) ≡ both (know a) (bound know xs)
@@ -59,8 +48,8 @@ exact_more {S} d h v c know a xs u g e ih =
       | inl b ↦
           let (p, q, k1, k2, k3) = both_parts (know a) (bound know xs) u (sym (bound_blocks know a xs b) ∙ e) in
           let g' : is_possible d h c a.side a.channel ≡ leb p c = rw k1 at g in
-          ap₂ (λ (x y : Bool). x && y) (can_blocks d h c a b ∙ g') (ih q k2) ∙ (leb_max p q c ∙ ap (λ (z : ℕ). leb z c) k3)
-      | inr b ↦ ap₂ (λ (x y : Bool). x && y) (can_free d h c a b) (ih u (sym (bound_free know a xs b) ∙ e))
+          grind (arith, leb_max p q c, ih q k2)
+      | inr b ↦ grind (arith, ih u)
     ]
 
 -- all of them can be done from the bound on
@@ -122,9 +111,7 @@ begin v m = from (v.cycle m) (v.timed m)
 pub done_begin : {S : Type 0} → (d : Design S) (h : Trace S) (v : View) → Agrees d h v → (m n : ℕ) → n ≡ v.timed m
     → done d h m (from (v.cycle m) n) ≡ n
 done_begin {S} d h v g m zero e = done_0 d h m
-done_begin {S} d h v g m (suc k) e =
-    let l : k < v.timed m = omega arith in
-    done_more d h m (v.cycle m k) (g.steps_then m k l) ∙ ap (λ z. suc z) (g.done_then m k l)
+done_begin {S} d h v g m (suc k) e = grind (arith, done_more d h m (v.cycle m k), g.steps_then m k, g.done_then m k)
 
 since_begin : {S : Type 0} → (d : Design S) (h : Trace S) (v : View) → Agrees d h v → (m n : ℕ) → n ≡ v.timed m
     → since d h m (from (v.cycle m) n) ≡ from (v.cycle m) n
@@ -136,22 +123,22 @@ since_stays : {S : Type 0} → (d : Design S) (h : Trace S) (m a n : ℕ) → do
 since_stays {S} d h m a zero e = rw zero-add refl
 since_stays {S} d h m a (suc n) e =
     let q : suc n + a ≡ suc (n + a) = omega arith in
-    let e' = rw q at e in
-    let f : steps d h (n + a) m ≡ false =
-    false_from_ne_true _ (λ (s : steps d h (n + a) m
-    ≡ true). omega (arith, done_more d h m (n + a) s, done_mono d h m a (n + a) (omega arith))) in
-    let p = done_same d h m (n + a) f in
-    rw q (since_same d h m (n + a) f ∙ since_stays d h m a n (sym p ∙ e'))
+    rw q (grind (
+      arith,
+      done_more d h m (n + a),
+      done_same d h m (n + a),
+      since_same d h m (n + a),
+      done_mono d h m a (n + a),
+      since_stays d h m a n,
+    ))
 
 -- from then on, as long as no other step is done, the module stands so many clocks behind that clock
 pub since_first : {S : Type 0} → (d : Design S) (h : Trace S) (v : View) → Agrees d h v → (m c : ℕ) → begin v m ≤ c
     → done d h m c ≡ v.timed m → since d h m c ≡ begin v m
 since_first {S} d h v g m c l k =
-    let b = done_begin d h v g m (v.timed m) refl in
     let q : (c - begin v m) + begin v m ≡ c = omega arith in
-    let s = since_stays d h m (begin v m) (c - begin v m) (rw q (k ∙ sym b)) in
-    let s' = rw q at s in
-    s' ∙ since_begin d h v g m (v.timed m) refl
+    let then = since_begin d h v g m (v.timed m) refl in
+    grind (arith, q, since_stays d h m (begin v m) (c - begin v m), done_begin d h v g m (v.timed m) refl)
 
 pub rest_first : {S : Type 0} → (d : Design S) (h : Trace S) → IsDesign d → IsHistory d h → (v : View) → Agrees d h v → (m c : ℕ)
     → done d h m c ≡ v.timed m → rest d h m c ≡ own d m (v.reply m) (v.timed m)
@@ -163,25 +150,12 @@ rest_first {S} d h i y v g m c k =
 pub candidate_parts : {S : Type 0} → (d : Design S) (v : View) (m c : ℕ) → candidate d v m ≡ Some c
     → (v.more m ≡ true) × (u : ℕ) × (bound (known_of d v m) (first_accesses v m) ≡ From u) × (max (reach v m) u ≡ c)
 unfolding candidate
-candidate_parts {S} d v m c e =
-    elim (cases_Bool (v.more m)) [
-      | inr o ↦ let e' = sym (cond-false (v.more m) (to_clock (reach v m) (bound (known_of d v m) (first_accesses v m))) None o) ∙ e in cc
-      | inl o ↦
-          let e' = sym (cond-true (v.more m) (to_clock (reach v m) (bound (known_of d v m) (first_accesses v m))) None o) ∙ e in
-          let (u, b, k) = parts (bound (known_of d v m) (first_accesses v m)) e' in
-          (o, u, b, k)
-    ]
-  where
-    parts : (k : Known) → to_clock (reach v m) k ≡ Some c → (u : ℕ) × (k ≡ From u) × (max (reach v m) u ≡ c)
-    parts (From u) f = (u, refl, cc)
-    parts Never f = cc
-    parts Unknown f = cc
+candidate_parts {S} d v m c e = grind arith
 
 pub candidate_from : {S : Type 0} → (d : Design S) (v : View) (m u : ℕ) → v.more m ≡ true
     → bound (known_of d v m) (first_accesses v m) ≡ From u → candidate d v m ≡ Some (max (reach v m) u)
 unfolding candidate
-candidate_from {S} d v m u o b = cond-true (v.more m) (to_clock (reach v m) (bound (known_of d v m) (first_accesses v m))) None o
-    ∙ ap (to_clock (reach v m)) b
+candidate_from {S} d v m u o b = grind arith
 
 pub reach_then : {S : Type 0} → (d : Design S) (h : Trace S) → IsDesign d → IsHistory d h → (v : View) → Agrees d h v → (m c : ℕ)
     → v.more m ≡ true → begin v m ≤ c → done d h m c ≡ v.timed m → since d h m c + d.quiet m (rest d h m c) ≡ reach v m
@@ -199,26 +173,19 @@ pub no_step_before : {S : Type 0} → (d : Design S) (h : Trace S) → IsDesign 
     → bound (known_of d v m) (first_accesses v m) ≡ From u → begin v m ≤ c → done d h m c ≡ v.timed m → c < max (reach v m) u
     → steps d h c m ≡ false
 no_step_before {S} d h i y v g m c u o b l k q =
-    elim (cases_lt c (reach v m)) [
-      | inl p ↦ early_no_step d h i y m c (rw (reach_then d h i y v g m c o l k) p)
-      | inr p ↦
-          false_from_ne_true _ (λ (w : steps d h c m ≡ true).
-          let s = first_ready d h i y v g m c o p k in
-          let a = moves_can d h c m (steps_moves d h c m w) in
-          let a' : can_all d h c (first_accesses v m) ≡ true = rw (g.accesses_first m o, ← s) a in
-          let e = bound_exact d h v c (known_of d v m) (first_accesses v m) u (first_means d h i y v g m c o k) b in
-          omega (arith, leb-true u c (sym e ∙ a')))
-    ]
+    let r = reach_then d h i y v g m c o l k in
+    let a = λ (p : reach v m ≤ c). first_ready d h i y v g m c o p k in
+    let e = bound_exact d h v c (known_of d v m) (first_accesses v m) u (first_means d h i y v g m c o k) b in
+    grind (arith, nat_tests, early_no_step d h i y m c, moves_can d h c m, steps_moves d h c m, g.accesses_first m o)
 
 still_first : {S : Type 0} → (d : Design S) (h : Trace S) → IsDesign d → IsHistory d h → (v : View) → Agrees d h v → (m u : ℕ)
     → v.more m ≡ true → bound (known_of d v m) (first_accesses v m) ≡ From u → (n : ℕ) → n + begin v m ≤ max (reach v m) u
     → done d h m (n + begin v m) ≡ v.timed m
 still_first {S} d h i y v g m u o b zero l = rw zero-add (done_begin d h v g m (v.timed m) refl)
 still_first {S} d h i y v g m u o b (suc n) l =
-    let q : suc n + begin v m ≡ suc (n + begin v m) = omega arith in
     let k = still_first d h i y v g m u o b n (omega arith) in
-    let s = no_step_before d h i y v g m (n + begin v m) u o b (omega arith) k (omega arith) in
-    rw q (done_same d h m (n + begin v m) s ∙ k)
+    let q : suc n + begin v m ≡ suc (n + begin v m) = omega arith in
+    rw q (done_same d h m (n + begin v m) (no_step_before d h i y v g m (n + begin v m) u o b (omega arith) k (omega arith)) ∙ k)
 
 -- the determined cycle is the clock of the step in the history
 pub candidate_done : {S : Type 0} → (d : Design S) (h : Trace S) → IsDesign d → IsHistory d h → (v : View) → Agrees d h v → (m c : ℕ)
@@ -226,8 +193,7 @@ pub candidate_done : {S : Type 0} → (d : Design S) (h : Trace S) → IsDesign 
 candidate_done {S} d h i y v g m c e =
     let (o, u, b, k) = candidate_parts d v m c e in
     let q : (c - begin v m) + begin v m ≡ c = omega arith in
-    let s = still_first d h i y v g m u o b (c - begin v m) (omega arith) in
-    rw q at s
+    rw q at (still_first d h i y v g m u o b (c - begin v m) (omega arith))
 
 pub candidate_ready : {S : Type 0} → (d : Design S) (h : Trace S) → IsDesign d → IsHistory d h → (v : View) → Agrees d h v → (m c : ℕ)
     → candidate d v m ≡ Some c → h.state c m ≡ own_state d v m (v.timed m)
@@ -242,10 +208,6 @@ candidate_steps {S} d h i y v g m c e =
     let n = candidate_done d h i y v g m c e in
     let s = candidate_ready d h i y v g m c e in
     let a = bound_exact d h v c (known_of d v m) (first_accesses v m) u (first_means d h i y v g m c o n) b in
-    let a' = a ∙ le-leb u c (omega arith) in
-    let p = g.lives_first m o in
-    let o' : d.is_over m (h.state c m) ≡ false = rw s p in
-    let x : can_all d h c (d.accesses m (h.state c m)) ≡ true = rw (s, ← g.accesses_first m o) a' in
-    let z : is_some_access (d.accesses m (h.state c m)) ≡ true =
-    rw s (i.quiet_ends m (own d m (v.reply m) (v.timed m)) (own_fits d i m (v.reply m) (v.timed m)) p) in
-    steps_from d h c m (moves_from d h c m o' x) z
+    let z = i.quiet_ends m (own d m (v.reply m) (v.timed m)) (own_fits d i m (v.reply m) (v.timed m)) (g.lives_first m o) in
+    let can = a ∙ le-leb u c (omega arith) in
+    steps_from d h c m (moves_from d h c m (rw s (g.lives_first m o)) (rw (s, ← g.accesses_first m o) can)) (rw s z)

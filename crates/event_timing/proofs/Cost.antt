@@ -1,59 +1,37 @@
 -- How many cycles a list of actions gives.
-use Rattle.std.proofs.Common.{◌≡◌, ℕ, suc, ◌+◌, ◌-◌, ◌≤◌, cond, inl, inr, ◌⊎◌, List, [], ◌∷◌, sym, refl, ap, ◌∙◌, arith, eqb}
-use Rattle.std.proofs.lemmas.Bool.{cond_both, cases_eq, cond-true, cond-false, eq-eqb, ne_eqb}
-use Rattle.event_timing.specs.Machines.{Design, IsDesign, ready}
+use Rattle.std.proofs.lemmas.Bool.Decides.{nat_tests}
+use Rattle.std.proofs.Common.{◌≡◌, ℕ, suc, ◌+◌, ◌-◌, ◌≤◌, cond, ◌⊎◌, List, [], ◌∷◌, arith, eqb}
+use Rattle.event_timing.specs.Machines.{Design, IsDesign}
 use Rattle.event_timing.specs.Histories.{Trace, IsHistory}
 use Rattle.event_timing.specs.Core.{Core}
-use Rattle.event_timing.specs.Actions.{Action, ActsAll, IsSame, newest, put, emit_over, after_run, after_answer, assigns}
+use Rattle.event_timing.specs.Actions.{Action, ActsAll, IsSame, put, after_run, after_answer, assigns}
 use Rattle.event_timing.specs.Agreement.{IsAgreed}
 use Rattle.event_timing.specs.Edits.{edited, kept, after_edit}
-use Rattle.event_timing.proofs.Assigning.{put_same, put_other}
-use Rattle.event_timing.proofs.Running.{emit}
 use Rattle.event_timing.proofs.Editing.{kept_le}
 use Rattle.event_timing.proofs.Agreement.{all_agree}
 
 run_timed : {S : Type 0} → (d : Design S) (x : Core S) (n m : ℕ) → (after_run d x n).timed m ≡ x.timed m
-run_timed {S} d x n m = cond_both (d.is_over n (ready d n (newest d x n))) (emit_over x n) (emit d x n)
-    (λ (z : Core S). z.timed m ≡ x.timed m) (λ e. refl) (λ e. refl)
+run_timed {S} d x n m = grind arith
 
 answer_timed : {S : Type 0} → (d : Design S) (x z : Core S) (n c m : ℕ)
     → (IsSame d x n c × (z ≡ after_answer d x n c)) ⊎ ((IsSame d x n c → ⊥) × (z ≡ x)) → z.timed m ≡ x.timed m
-answer_timed {S} d x z n c m (inl (s, e)) = ap (λ (w : Core S). w.timed m) e
-answer_timed {S} d x z n c m (inr (s, e)) = ap (λ (w : Core S). w.timed m) e
+answer_timed {S} d x z n c m e = grind arith
 
 assign_timed : (f : ℕ → ℕ) (n m : ℕ) → put f n (suc (f n)) m ≡ cond (eqb m n) 1 0 + f m
-assign_timed f n m = elim (cases_eq m n) [
-  | inl e ↦
-      let here : put f n (suc (f n)) m ≡ suc (f m) = ap (put f n (suc (f n))) e
-      ∙ (put_same f n (suc (f n)) ∙ ap (λ (k : ℕ). suc (f k)) (sym e)) in
-      let one = cond-true {A = ℕ} (eqb m n) 1 0 (eq-eqb m n e) in
-      omega arith
-  | inr e ↦
-      let other = put_other f n (suc (f n)) m e in
-      let none = cond-false {A = ℕ} (eqb m n) 1 0 (ne_eqb m n e) in
-      omega arith
-]
+assign_timed f n m = grind (arith, nat_tests)
 
 -- each Assign of a module gives one of its steps a cycle, and nothing else does
 pub cycles_given : {S : Type 0} → (d : Design S) (limit : ℕ) (x : Core S) (actions : List Action) (y : Core S)
     → ActsAll d limit x actions y → (m : ℕ) → assigns m actions + x.timed m ≡ y.timed m
-cycles_given {S} d limit x [] y e m = let same = ap (λ (z : Core S). z.timed m) (sym e) in omega arith
+cycles_given {S} d limit x [] y e m = grind arith
 cycles_given {S} d limit x (Action.Run n ∷ more) y (w, (r, e), t) m =
-    let rest = cycles_given d limit w more y t m in
-    let same = ap (λ (z : Core S). z.timed m) e ∙ run_timed d x n m in
-    omega arith
+    grind (arith, cycles_given d limit w more y t m, run_timed d x n m)
 cycles_given {S} d limit x (Action.Assign n ∷ more) y (w, (c, r, e), t) m =
-    let rest = cycles_given d limit w more y t m in
-    let one = ap (λ (z : Core S). z.timed m) e ∙ assign_timed x.timed n m in
-    omega arith
+    grind (arith, cycles_given d limit w more y t m, assign_timed x.timed n m)
 cycles_given {S} d limit x (Action.Answer n ∷ more) y (w, (c, r, e), t) m =
-    let rest = cycles_given d limit w more y t m in
-    let same = answer_timed d x w n c m e in
-    omega arith
+    grind (arith, cycles_given d limit w more y t m, answer_timed d x w n c m e)
 cycles_given {S} d limit x (Action.Earliest n ∷ more) y (w, (c, r, e), t) m =
-    let rest = cycles_given d limit w more y t m in
-    let same = answer_timed d x w n c m e in
-    omega arith
+    grind (arith, cycles_given d limit w more y t m, answer_timed d x w n c m e)
 
 -- after an edit these are no more than the steps that had no cycle, those whose cycle was forgotten, and those emitted meanwhile
 pub edit_cost : {S : Type 0} → (d : Design S) (g : Trace S) (fifo depth t limit : ℕ) (x : Core S) → IsDesign (edited d fifo depth)

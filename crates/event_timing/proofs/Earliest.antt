@@ -1,10 +1,8 @@
 -- Where nothing else can be done, no step without a cycle comes before the least determined one.
-use Rattle.std.proofs.Common.{◌≡◌, ℕ, zero, suc, ◌<◌, ◌≤◌, max, Bool, true, false, not, ◌||◌, ◌⊎◌, inl, inr, List, [], ◌∷◌, sym, refl, ap}
-use Rattle.std.proofs.Common.{ap₂, ◌∙◌, arith, Some}
-use Rattle.std.proofs.lemmas.Bool.{cases_Bool, and_parts, both_ways, cases_eq}
+use Rattle.std.proofs.Common.{◌≡◌, ℕ, zero, suc, ◌<◌, ◌≤◌, max, true, List, [], ◌∷◌, sym, refl, ap, ◌∙◌, arith, Some}
 use Rattle.flow_word.specs.declared.access.Side.{Side}
 use Rattle.event_timing.specs.Machines.{Design, IsDesign, Access, ready}
-use Rattle.event_timing.specs.Histories.{Trace, IsHistory, is_possible, can_all, can_do}
+use Rattle.event_timing.specs.Histories.{Trace, IsHistory, is_possible, can_all}
 use Rattle.event_timing.specs.Steps.{steps, done}
 use Rattle.event_timing.specs.Views.{View, Agrees, from, first_accesses}
 use Rattle.event_timing.specs.Enablers.{Known, known_of, reach, candidate, IsStuck, answer, is_decided, all_decided, flags_at}
@@ -40,31 +38,17 @@ step_determined {S} d h i y v g m c n w k o =
 ahead_never : {S : Type 0} → (d : Design S) (h : Trace S) → IsDesign d → IsHistory d h → (v : View) → Agrees d h v → (t : ℕ)
     → IsStuck d v t → (m c : ℕ) → c < t → ((n : ℕ) → done d h n c ≤ v.timed n) → steps d h c m ≡ true → done d h m c ≡ v.timed m → ⊥
 ahead_never {S} d h i y v g t z m c l n w k =
-    elim (cases_Bool (v.more m)) [
-      | inl o ↦
-          let (e, f, q) = step_determined d h i y v g m c n w k o in
-          let p = z.later m e f in
-          omega arith
-      | inr o ↦
-          let s = step_ready d h i y m c w ∙ ap (ready d m) (rest_first d h i y v g m c k) in
-          let a = moves_lives d h c m (steps_moves d h c m w) in
-          let a' = rw s at a in
-          both_ways _ a' (z.ended m o)
-    ]
+    let s = step_ready d h i y m c w ∙ ap (ready d m) (rest_first d h i y v g m c k) in
+    let a = ap (d.is_over m) (sym s) ∙ moves_lives d h c m (steps_moves d h c m w) in
+    grind (arith, step_determined d h i y v g m c n w k, z.later m, z.ended m)
 
 -- no step without a cycle is done before clock t
 pub nobody_ahead : {S : Type 0} → (d : Design S) (h : Trace S) → IsDesign d → IsHistory d h → (v : View) → Agrees d h v → (t : ℕ)
     → IsStuck d v t → (c : ℕ) → c ≤ t → (m : ℕ) → done d h m c ≤ v.timed m
 nobody_ahead {S} d h i y v g t z zero l m = omega (arith, done_0 d h m)
-nobody_ahead {S} d h i y v g t z (suc c) l m = later (nobody_ahead d h i y v g t z c (omega arith)) (cases_Bool (steps d h c m))
-  where
-    later : ((n : ℕ) → done d h n c ≤ v.timed n) → (steps d h c m ≡ true) ⊎ (steps d h c m ≡ false) → done d h m (suc c) ≤ v.timed m
-    later n (inr w) = omega (arith, done_same d h m c w, n m)
-    later n (inl w) =
-        elim (cases_eq (done d h m c) (v.timed m)) [
-          | inl k ↦ absurd (ahead_never d h i y v g t z m c l n w k)
-          | inr k ↦ omega (arith, done_more d h m c w, n m)
-        ]
+nobody_ahead {S} d h i y v g t z (suc c) l m =
+    let n = λ (m : ℕ). nobody_ahead d h i y v g t z c (omega arith) m in
+    grind (arith, n m, done_same d h m c, done_more d h m c, ahead_never d h i y v g t z m c l n)
 
 answer_known : {S : Type 0} → (d : Design S) (h : Trace S) (v : View) (c : ℕ) (side : Side) (ch : ℕ) (k : Known) → is_decided k ≡ true
     → Means d h v c side ch k → is_possible d h c side ch ≡ answer k c
@@ -78,37 +62,18 @@ answer_late {S} d h v c side ch (From u) n g = g
 answer_late {S} d h v c side ch Never n g = g
 answer_late {S} d h v c side ch Unknown n g = g (n _)
 
--- one access of a step that is done
-flag_one : {S : Type 0} → (d : Design S) (h : Trace S) (c : ℕ) (a : Access) (b : Bool) → can_do d h c a ≡ true
-    → (a.blocks ≡ false → is_possible d h c a.side a.channel ≡ b) → (a.blocks || b) ≡ is_possible d h c a.side a.channel
-flag_one {S} d h c a b e f =
-    elim (cases_Bool a.blocks) [
-      | inl k ↦
-          let e' = sym (ap (λ (z : Bool). not z || is_possible d h c a.side a.channel) k) ∙ e in
-          ap (λ (z : Bool). z || b) k ∙ sym e'
-      | inr k ↦ ap (λ (z : Bool). z || b) k ∙ sym (f k)
-    ]
-
 flags_decided : {S : Type 0} → (d : Design S) (h : Trace S) (v : View) (c : ℕ) (know : Access → Known) (xs : List Access)
     → EachMeans d h v c know xs → can_all d h c xs ≡ true → all_decided know xs ≡ true → flags_at know c xs ≡ possible_all d h c xs
 flags_decided {S} d h v c know [] g e f = refl
 flags_decided {S} d h v c know (a ∷ xs) (g, gs) e f =
-    let (e1, e2) = and_parts (can_do d h c a) (can_all d h c xs) e in
-    let (f1, f2) = and_parts (a.blocks || is_decided (know a)) (all_decided know xs) f in
-    ap₂ (λ (x : Bool) (y : List Bool). x ∷ y)
-    (flag_one d h c a (answer (know a) c) e1
-    (λ b. answer_known d h v c a.side a.channel (know a) (sym (ap (λ (z : Bool). z || is_decided (know a)) b) ∙ f1) g))
-    (flags_decided d h v c know xs gs e2 f2)
+    grind (arith, answer_known d h v c a.side a.channel (know a), g, flags_decided d h v c know xs gs)
 
 pub flags_late : {S : Type 0} → (d : Design S) (h : Trace S) (v : View) (c : ℕ) (know : Access → Known) (xs : List Access)
     → ((m : ℕ) → done d h m c ≤ v.timed m)
     → EachMeans d h v c know xs → can_all d h c xs ≡ true → flags_at know c xs ≡ possible_all d h c xs
 flags_late {S} d h v c know [] n g e = refl
 flags_late {S} d h v c know (a ∷ xs) n (g, gs) e =
-    let (e1, e2) = and_parts (can_do d h c a) (can_all d h c xs) e in
-    ap₂ (λ (x : Bool) (y : List Bool). x ∷ y)
-    (flag_one d h c a (answer (know a) c) e1 (λ b. answer_late d h v c a.side a.channel (know a) n g))
-    (flags_late d h v c know xs n gs e2)
+    grind (arith, answer_late d h v c a.side a.channel (know a) n g, flags_late d h v c know xs n gs)
 
 pub candidate_can : {S : Type 0} → (d : Design S) (h : Trace S) → IsDesign d → IsHistory d h → (v : View) → Agrees d h v → (m c : ℕ)
     → v.more m ≡ true → candidate d v m ≡ Some c → can_all d h c (first_accesses v m) ≡ true

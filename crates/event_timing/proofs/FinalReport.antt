@@ -1,6 +1,6 @@
 -- The report of a final core, read off its cycles.
-use Rattle.std.proofs.Common.{◌≡◌, ℕ, zero, suc, ◌+◌, ◌<◌, ◌≤◌, true, inl, inr, List, [], ◌∷◌, ◌++◌, sym, refl, ◌∙◌, arith}
-use Rattle.std.proofs.lemmas.Bool.{cases_lt, lt-ltb}
+use Rattle.std.proofs.Common.{◌≡◌, ℕ, zero, suc, ◌+◌, ◌<◌, ◌≤◌, true, List, [], ◌∷◌, ◌++◌, sym, refl, ◌∙◌, arith}
+use Rattle.std.proofs.lemmas.Bool.{lt-ltb}
 use Rattle.flow_word.specs.declared.access.Side.TheVariants.{Push}
 use Rattle.event_timing.specs.Machines.{Design, IsDesign, Access, Each}
 use Rattle.event_timing.specs.Histories.{Trace, IsHistory, is_possible}
@@ -69,15 +69,7 @@ event_before {S} d h limit x g m k l = later (x.timed m) refl
     later zero e = absurd (omega arith)
     later (suc n) e =
         let t = g.time.steps_then m n (omega arith) in
-        elim (cases_lt (x.cycle m n) (x.cycle m k)) [
-          | inr q ↦ omega arith
-          | inl q ↦ absurd (omega (
-            arith,
-            done_past d h m (x.cycle m n) (x.cycle m k) t q,
-            g.time.done_then m n (omega arith),
-            g.time.done_then m k l,
-          ))
-        ]
+        grind (arith, done_past d h m (x.cycle m n) (x.cycle m k) t, g.time.done_then m n, g.time.done_then m k l)
 
 each_late : {S : Type 0} → (d : Design S) (h : Trace S) (x : Core S) (m c : ℕ) → ((n : ℕ) → done d h n c ≤ x.timed n)
     → (know : Access → Known) (xs : List Access) → EachMeans d h (view d x) c know xs

@@ -1,6 +1,6 @@
 -- The values that a core hands to a module are those of the history.
-use Rattle.std.proofs.Common.{◌≡◌, ℕ, zero, suc, ◌+◌, ◌-◌, ◌<◌, ◌≤◌, Bool, true, false, inl, inr, List, [], ◌∷◌, ◌++◌, length, get_or, sym}
-use Rattle.std.proofs.Common.{refl, ap, ◌∙◌, subst, arith, append_assoc}
+use Rattle.std.proofs.Common.{ltb, ◌≡◌, ℕ, zero, suc, ◌+◌, ◌-◌, ◌<◌, ◌≤◌, Bool, true, inl, inr, List, [], ◌∷◌, ◌++◌, length, get_or, sym}
+use Rattle.std.proofs.Common.{refl, ap, ◌∙◌, arith, append_assoc}
 use Rattle.std.proofs.lemmas.Bool.{cases_lt, ltb-true}
 use Rattle.flow_word.specs.declared.access.Side.{Side}
 use Rattle.flow_word.specs.declared.access.Side.TheVariants.{Pop, Push}
@@ -24,21 +24,20 @@ pub record IsDone {S : Type 0} (d : Design S) (h : Trace S) (x : Core S) : Type 
 
 pub agrees_done : {S : Type 0} → (d : Design S) (h : Trace S) (x : Core S) → AreOwnMarks d x → IsDone d h x → Agrees d h (view d x)
 agrees_done {S} d h x b t =
+    let more = λ (m : ℕ) (o : ltb (x.timed m) (x.emitted m) ≡ true). ltb-true (x.timed m) (x.emitted m) o in
     record {
       steps_then = t.steps_then;
       done_then = t.done_then;
       reply_then = t.reply_then;
       accesses_then = λ m k l. ap (d.accesses m) (b.own_step m k (omega (arith, t.within m)));
-      accesses_first = λ m o. ap (d.accesses m) (b.own_step m (x.timed m) (ltb-true _ _ o));
-      wait_first = λ m o. b.own_wait m (x.timed m) (ltb-true _ _ o);
-      lives_first = λ m o. subst (λ (s : S). d.is_over m s ≡ false) (b.own_step m (x.timed m) (ltb-true _ _ o))
-          (b.lives m (x.timed m) (ltb-true _ _ o));
+      accesses_first = λ m o. ap (d.accesses m) (b.own_step m (x.timed m) (more m o));
+      wait_first = λ m o. b.own_wait m (x.timed m) (more m o);
+      lives_first = λ m o. rw (← b.own_step m (x.timed m) (more m o)) (b.lives m (x.timed m) (more m o));
     }
 
 pub agrees : {S : Type 0} → (d : Design S) (h : Trace S) (limit : ℕ) (x : Core S) → AreOwnMarks d x → IsTimed d h limit x
     → Agrees d h (view d x)
-agrees {S} d h limit x b t =
-    agrees_done d h x b (record { within = t.within; steps_then = t.steps_then; done_then = t.done_then; reply_then = t.reply_then })
+agrees {S} d h limit x b t = agrees_done d h x b (grind arith)
 
 -- counts do not read the values
 takes_plain : (side : Side) (ch : ℕ) (V : ℕ → List ℕ) (t : ℕ → ℕ) (xs : List Access) (bs : List Bool)

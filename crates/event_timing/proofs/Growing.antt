@@ -1,13 +1,12 @@
 -- What stays as a core grows: the replies to its settled steps.
-use Rattle.std.proofs.Common.{◌≡◌, ℕ, zero, suc, ◌+◌, ◌<◌, ◌≤◌, Bool, true, cond, not, ◌||◌, inl, inr, List, [], ◌∷◌, length, get_or, sym}
-use Rattle.std.proofs.Common.{refl, ap, ap₂, ◌∙◌, arith, ltb}
-use Rattle.std.proofs.lemmas.Bool.{cases_Bool, cond-false, and_parts, and_from, cases_eq, lt-ltb, ltb-true, or_cases, or_left, or_right}
+use Rattle.std.proofs.lemmas.Bool.Decides.{nat_tests}
+use Rattle.std.proofs.Common.{◌≡◌, ℕ, zero, suc, ◌+◌, ◌<◌, ◌≤◌, Bool, true, List, [], ◌∷◌, length, get_or, refl, ap, ap₂, ◌∙◌, arith}
 use Rattle.flow_word.specs.declared.access.Side.{Side}
 use Rattle.flow_word.specs.declared.access.Side.TheVariants.{Pop, Push}
-use Rattle.event_timing.specs.Machines.{Design, Access, Reply, ready, takes_in}
+use Rattle.event_timing.specs.Machines.{Design, Access, takes_in}
 use Rattle.event_timing.specs.Histories.{Trace}
 use Rattle.event_timing.specs.Views.{own, Begins}
-use Rattle.event_timing.specs.Core.{Core, bare_replies, core_accesses, core_tally, core_values, pops_now, replies_of, all_below, core_reply}
+use Rattle.event_timing.specs.Core.{Core, bare_replies, core_accesses, core_tally, core_values, replies_of, all_below, core_reply}
 use Rattle.event_timing.specs.Core.{values_there}
 use Rattle.event_timing.specs.Agreement.{AreOwnMarks, IsTimed, elements_timed, pops_timed}
 use Rattle.event_timing.specs.Growth.{Grows, IsSettled}
@@ -16,13 +15,7 @@ use Rattle.event_timing.proofs.Values.{begins_get, begins_length}
 use Rattle.event_timing.proofs.Fronts.{tally_same}
 
 pub settled_less : {S : Type 0} → (d : Design S) (x : Core S) (m n k : ℕ) → k ≤ n → IsSettled d x m n → IsSettled d x m k
-settled_less {S} d x m n k l s =
-    record {
-      emitted = λ j q. s.emitted j (omega arith);
-      answered = λ j q. s.answered j (omega arith);
-      there = λ j q. s.there j
-          (omega arith);
-    }
+settled_less {S} d x m n k l s = grind (arith, s)
 
 get_grow : (V W : List ℕ) (t u : ℕ) → Begins W V → u ≡ t → t < length V → get_or W u 0 ≡ get_or V t 0
 get_grow V W t u g e l = rw e (begins_get W V t g l)
@@ -32,32 +25,19 @@ replies_grow : (V W : ℕ → List ℕ) (t u : ℕ → ℕ) (xs : List Access) (
 replies_grow V W t u [] bs g e l = refl
 replies_grow V W t u (a ∷ xs) [] g e l = refl
 replies_grow V W t u (a ∷ xs) (b ∷ bs) g e l =
-    let (l1, l2) = and_parts (not (pops_now a b) || ltb (t a.channel) (length (V a.channel))) (all_below (λ ch. length (V ch)) t xs bs) l in
-    let f : cond {A = ℕ} (pops_now a b) (get_or (W a.channel) (u a.channel) 0) 0
-    ≡ cond {A = ℕ} (pops_now a b) (get_or (V a.channel) (t a.channel) 0) 0 =
-    elim (cases_Bool (pops_now a b)) [
-      | inr k ↦ cond-false {A = ℕ} _ _ _ k ∙ sym (cond-false {A = ℕ} _ _ _ k)
-      | inl k ↦
-          let q = sym (ap (λ (z : Bool). not z || ltb (t a.channel) (length (V a.channel))) k) ∙ l1 in
-          ap (λ (z : ℕ). cond {A = ℕ} (pops_now a b) z 0)
-          (get_grow (V a.channel) (W a.channel) (t a.channel) (u a.channel) (g a.channel) (e a.channel)
-          (ltb-true (t a.channel) (length (V a.channel)) q))
-    ] in
-    ap₂ (λ (z : ℕ) (zs : List Reply). record { possible = b; front = z } ∷ zs) f (replies_grow V W t u xs bs g e l2)
+    grind (
+      arith,
+      nat_tests,
+      get_grow (V a.channel) (W a.channel) (t a.channel) (u a.channel) (g a.channel) (e a.channel),
+      replies_grow V W t u xs bs g e,
+    )
 
 pub below_grow : (s s' t u : ℕ → ℕ) (xs : List Access) (bs : List Bool) → ((ch : ℕ) → s ch ≤ s' ch) → ((ch : ℕ) → u ch ≡ t ch)
     → all_below s t xs bs ≡ true → all_below s' u xs bs ≡ true
 below_grow s s' t u [] bs l q e = refl
 below_grow s s' t u (a ∷ xs) [] l q e = refl
 below_grow s s' t u (a ∷ xs) (b ∷ bs) l q e =
-    let (e1, e2) = and_parts (not (pops_now a b) || ltb (t a.channel) (s a.channel)) (all_below s t xs bs) e in
-    and_from (not (pops_now a b) || ltb (u a.channel) (s' a.channel)) (all_below s' u xs bs)
-    (elim (or_cases (not (pops_now a b)) (ltb (t a.channel) (s a.channel)) e1) [
-      | inl p ↦ or_left (not (pops_now a b)) (ltb (u a.channel) (s' a.channel)) p
-      | inr p ↦ or_right (not (pops_now a b)) (ltb (u a.channel) (s' a.channel))
-          (lt-ltb (u a.channel) (s' a.channel) (omega (arith, ltb-true (t a.channel) (s a.channel) p, l a.channel, q a.channel)))
-    ])
-    (below_grow s s' t u xs bs l q e2)
+    grind (arith, nat_tests, below_grow s s' t u xs bs l q, l a.channel, q a.channel)
 
 pub tally_grow : {S : Type 0} → (d : Design S) (x z : Core S) → Grows d x z → (m n : ℕ) → ((k : ℕ) → k < n → k < x.emitted m)
     → ((k : ℕ) → k < n → x.answered m k ≡ true) → (side : Side) (ch : ℕ) → core_tally d z m side ch n ≡ core_tally d x m side ch n
@@ -69,32 +49,34 @@ tally_grow {S} d x z g m n f h side ch =
 pub reply_grow : {S : Type 0} → (d : Design S) (x z : Core S) → Grows d x z → (m n : ℕ) → IsSettled d x m (suc n)
     → core_reply d z m n ≡ core_reply d x m n
 reply_grow {S} d x z g m n s =
+    let now = s.emitted n (omega arith) in
+    let counts = tally_grow d x z g m n (λ k l. s.emitted k (omega arith)) (λ k l. s.answered k (omega arith)) Pop in
     ap₂ (λ (p : S) (b : List Bool). replies_of (core_values d z) (λ ch. core_tally d z m Pop ch n) (d.accesses m p) b)
-    (g.state_same m n (s.emitted n (omega arith))) (g.flags_same m n (s.emitted n (omega arith)) (s.answered n (omega arith)))
+    (g.state_same m n now) (g.flags_same m n now (s.answered n (omega arith)))
     ∙ replies_grow (core_values d x) (core_values d z) (λ ch. core_tally d x m Pop ch n) (λ ch. core_tally d z m Pop ch n)
-    (core_accesses d x m n) (x.flags m n) g.values_up
-    (λ ch. tally_grow d x z g m n (λ k l. s.emitted k (omega arith)) (λ k l. s.answered k (omega arith)) Pop ch)
-    (s.there n (omega arith))
+    (core_accesses d x m n) (x.flags m n) g.values_up counts (s.there n (omega arith))
 
 pub there_grow : {S : Type 0} → (d : Design S) (x z : Core S) → Grows d x z → (m n : ℕ) → IsSettled d x m (suc n)
     → values_there d z m n ≡ true
 there_grow {S} d x z g m n s =
+    let now = s.emitted n (omega arith) in
+    let counts = tally_grow d x z g m n (λ k l. s.emitted k (omega arith)) (λ k l. s.answered k (omega arith)) Pop in
     ap₂ (λ (p : S) (b : List Bool). all_below (λ ch. length (core_values d z ch)) (λ ch. core_tally d z m Pop ch n) (d.accesses m p) b)
-    (g.state_same m n (s.emitted n (omega arith))) (g.flags_same m n (s.emitted n (omega arith)) (s.answered n (omega arith)))
+    (g.state_same m n now) (g.flags_same m n now (s.answered n (omega arith)))
     ∙ below_grow (λ ch. length (core_values d x ch)) (λ ch. length (core_values d z ch)) (λ ch. core_tally d x m Pop ch n)
     (λ ch. core_tally d z m Pop ch n) (core_accesses d x m n) (x.flags m n)
-    (λ ch. begins_length (core_values d z ch) (core_values d x ch) (g.values_up ch))
-    (λ ch. tally_grow d x z g m n (λ k l. s.emitted k (omega arith)) (λ k l. s.answered k (omega arith)) Pop ch)
-    (s.there n (omega arith))
+    (λ ch. begins_length (core_values d z ch) (core_values d x ch) (g.values_up ch)) counts (s.there n (omega arith))
 
 pub own_grow : {S : Type 0} → (d : Design S) (x z : Core S) → Grows d x z → (m n : ℕ) → IsSettled d x m n
     → own d m (core_reply d z m) n ≡ own d m (core_reply d x m) n
-own_grow {S} d x z g m zero s = own_0 d m (core_reply d z m) ∙ sym (own_0 d m (core_reply d x m))
+own_grow {S} d x z g m zero s = rw (own_0 d m (core_reply d z m), own_0 d m (core_reply d x m)) refl
 own_grow {S} d x z g m (suc n) s =
-    own_more d m (core_reply d z m) n
-    ∙ (ap₂ (λ (p : S) (r : List Reply). d.move m (ready d m p) r) (own_grow d x z g m n (settled_less d x m (suc n) n (omega arith) s))
-    (reply_grow d x z g m n s)
-    ∙ sym (own_more d m (core_reply d x m) n))
+    rw (
+      own_more d m (core_reply d z m) n,
+      own_more d m (core_reply d x m) n,
+      own_grow d x z g m n (settled_less d x m (suc n) n (omega arith) s),
+      reply_grow d x z g m n s,
+    ) refl
 
 -- how many elements have a push with a cycle stays, as long as no cycle is given
 pub elements_grow : {S : Type 0} → (d : Design S) (h : Trace S) (limit : ℕ) (x z : Core S) → IsTimed d h limit x → Grows d x z → (ch : ℕ)
@@ -117,29 +99,17 @@ pops_grow {S} d x z g up m k l s flags p =
 
 -- the steps before the newest are settled
 pub settled_old : {S : Type 0} → (d : Design S) (x : Core S) → AreOwnMarks d x → (m n : ℕ) → n < x.emitted m → IsSettled d x m n
-settled_old {S} d x b m n l =
-    record { emitted = λ k q. omega arith; answered = λ k q. b.replied m k (omega arith); there = λ k q. b.there m k (omega arith) }
+settled_old {S} d x b m n l = grind (arith, b)
 
 pub settled_timed : {S : Type 0} → (d : Design S) (h : Trace S) (limit : ℕ) (x : Core S) → IsTimed d h limit x → (m n : ℕ)
     → n ≤ x.timed m → IsSettled d x m n
-settled_timed {S} d h limit x u m n l =
-    record {
-      emitted = λ k q. omega (arith, u.within m);
-      answered = λ k q. u.answered_then m k
-          (omega arith);
-      there = λ k q. u.there_then m k (omega arith);
-    }
+settled_timed {S} d h limit x u m n l = grind (arith, u, u.within m)
 
 -- and so are all, where the newest has its replies
 pub settled_all : {S : Type 0} → (d : Design S) (x : Core S) → AreOwnMarks d x → (m : ℕ)
     → ((k : ℕ) → suc k ≡ x.emitted m → x.answered m k ≡ true)
     → ((k : ℕ) → suc k ≡ x.emitted m → values_there d x m k ≡ true) → IsSettled d x m (x.emitted m)
-settled_all {S} d x b m f g =
-    record {
-      emitted = λ k q. q;
-      answered = λ k q. elim (cases_eq (suc k) (x.emitted m)) [ inl e ↦ f k e | inr e ↦ b.replied m k (omega arith) ];
-      there = λ k q. elim (cases_eq (suc k) (x.emitted m)) [ inl e ↦ g k e | inr e ↦ b.there m k (omega arith) ];
-    }
+settled_all {S} d x b m f g = grind (arith, b.replied m, b.there m, f, g)
 
 -- and of a module whose end is emitted
 pub ended_settled : {S : Type 0} → (d : Design S) (x : Core S) → AreOwnMarks d x → (m : ℕ) → x.over m ≡ true → IsSettled d x m (x.emitted m)

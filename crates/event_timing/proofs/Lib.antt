@@ -17,7 +17,6 @@ pub mod Agreement
 pub mod Verdict
 pub mod Editing
 pub mod Touched
-pub mod Contents
 pub mod RunningAhead
 pub mod Beside
 pub mod Verified

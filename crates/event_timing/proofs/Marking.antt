@@ -1,5 +1,5 @@
 -- The marks of a core stay those of the modules' own runs, whatever is done.
-use Rattle.std.proofs.Common.{◌≡◌, ℕ, ◌⊎◌, inl, inr, List, [], ◌∷◌, sym, subst, Some}
+use Rattle.std.proofs.Common.{arith, ◌≡◌, ℕ, ◌⊎◌, List, [], ◌∷◌, sym, subst, Some}
 use Rattle.event_timing.specs.Machines.{Design, IsDesign}
 use Rattle.event_timing.specs.Enablers.{candidate}
 use Rattle.event_timing.specs.Core.{Core, view}
@@ -12,8 +12,7 @@ use Rattle.event_timing.proofs.Running.{run_marks}
 module _ {S : Type 0} (d : Design S) (i : IsDesign d) (limit : ℕ) where
   found_marks : (x : Core S) → AreOwnMarks d x → (m c : ℕ) → candidate d (view d x) m ≡ Some c → (y : Core S)
       → (IsSame d x m c × (y ≡ after_answer d x m c)) ⊎ ((IsSame d x m c → ⊥) × (y ≡ x)) → AreOwnMarks d y
-  found_marks x b m c at y (inl (same, e)) = subst (AreOwnMarks d) (sym e) (answer_marks d i x b m c (first_emitted d x m c at) same)
-  found_marks x b m c at y (inr (differs, e)) = subst (AreOwnMarks d) (sym e) b
+  found_marks x b m c at y w = grind (arith, answer_marks d i x b m c (first_emitted d x m c at))
 
   pub acts_marks : (x : Core S) → AreOwnMarks d x → (a : Action) (y : Core S) → Acts d limit x a y → AreOwnMarks d y
   acts_marks x b (Action.Run m) y (r, e) = subst (AreOwnMarks d) (sym e) (run_marks d x b m r)

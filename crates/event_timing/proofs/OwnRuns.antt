@@ -1,16 +1,14 @@
 -- A module's steps in a history are its own run on the history's replies.
-use Rattle.std.proofs.Common.{ap, ◌≡◌, ℕ, zero, suc, ◌+◌, ◌-◌, ◌<◌, ◌≤◌, true, false, ◌⊎◌, inl, inr, List, [], ◌∷◌, refl, ◌∙◌, arith}
-use Rattle.std.proofs.Common.{zero-add, add-zero, Option, Some, None}
-use Rattle.std.proofs.lemmas.Bool.{cases_Bool, cond-false, and_parts, both_ways, cases_lt, false_from_ne_true, le-leb, lt-ltb, le-ltb}
-use Rattle.std.proofs.lemmas.Bool.{lt-leb, eqb-true, cases_order}
+use Rattle.std.proofs.lemmas.Bool.Decides.{nat_tests}
+use Rattle.std.proofs.Common.{◌≡◌, ℕ, zero, suc, ◌+◌, ◌<◌, ◌≤◌, true, false, inl, inr, List, [], ◌∷◌, refl, ◌∙◌, arith, Option, Some, None}
+use Rattle.std.proofs.lemmas.Bool.{cases_Bool}
 use Rattle.flow_word.specs.declared.access.Side.{Side}
-use Rattle.flow_word.specs.declared.access.Side.TheVariants.{Pop, Push}
 use Rattle.flow_word.specs.Kinds.{other_side, same_side}
-use Rattle.event_timing.specs.Machines.{Design, IsDesign, Access, Reply, ready, skip, is_some_access, takes_in, took, Each}
-use Rattle.event_timing.specs.Histories.{Trace, IsHistory, moves, replies}
+use Rattle.event_timing.specs.Machines.{Design, IsDesign, Access, Reply, ready, skip, is_some_access, takes_in, Each}
+use Rattle.event_timing.specs.Histories.{Trace, IsHistory, replies}
 use Rattle.event_timing.specs.Steps.{steps, done, rest}
 use Rattle.event_timing.specs.Views.{own, own_accesses, tally, place, View, Agrees}
-use Rattle.event_timing.proofs.Steps.{done_more, done_same, rest_more, rest_same, done_up, done_past, same_clock}
+use Rattle.event_timing.proofs.Steps.{never_falls, done_more, done_same, rest_more, rest_same, done_up, done_past, same_clock}
 use Rattle.event_timing.proofs.Standing.{step_ready, rest_0, steps_moves, steps_from}
 
 pub done_0 : {S : Type 0} → (d : Design S) (h : Trace S) (m : ℕ) → done d h m 0 ≡ 0
@@ -57,16 +55,13 @@ follows_less {S} d h m r c f e l s = f e (omega arith) s
 pub rest_own : {S : Type 0} → (d : Design S) (h : Trace S) → IsDesign d → IsHistory d h → (m : ℕ) (r : ℕ → List Reply) (c : ℕ)
     → Follows d h m r c → rest d h m c ≡ own d m r (done d h m c)
 rest_own {S} d h i y m r zero f = rest_0 d h m ∙ (y.state_0 m ∙ (rw (done_0 d h m, own_0 d m r) refl))
-rest_own {S} d h i y m r (suc c) f = later (cases_Bool (steps d h c m)) (rest_own d h i y m r c (follows_less d h m r c f))
-  where
-    later : (steps d h c m ≡ true) ⊎ (steps d h c m ≡ false) → rest d h m c ≡ own d m r (done d h m c)
-        → rest d h m (suc c) ≡ own d m r (done d h m (suc c))
-    later (inl e) g =
-        let a = y.state_moves c m (steps_moves d h c m e) in
-        let b = step_ready d h i y m c e in
-        let k = f c (omega arith) e in
-        rest_more d h m c e ∙ (a ∙ (rw (done_more d h m c e, own_more d m r (done d h m c), b, g, k) refl))
-    later (inr e) g = rw (rest_same d h m c e, done_same d h m c e) g
+rest_own {S} d h i y m r (suc c) f =
+    let g = rest_own d h i y m r c (follows_less d h m r c f) in
+    elim (cases_Bool (steps d h c m)) [
+      | inl e ↦ rest_more d h m c e ∙ (y.state_moves c m (steps_moves d h c m e)
+          ∙ (rw (done_more d h m c e, own_more d m r (done d h m c), step_ready d h i y m c e, g, f c (omega arith) e) refl))
+      | inr e ↦ rw (rest_same d h m c e, done_same d h m c e) g
+    ]
 
 none_taken : (side : Side) (ch : ℕ) (xs : List Access) (rs : List Reply) → is_some_access xs ≡ false → takes_in side ch xs rs ≡ 0
 none_taken side ch [] rs e = refl
@@ -75,16 +70,9 @@ none_taken side ch (a ∷ xs) rs e = cc
 taken_still : {S : Type 0} → (d : Design S) (h : Trace S) → IsHistory d h → (c : ℕ) (side : Side) (ch : ℕ)
     → steps d h c (d.owner side ch) ≡ false → h.taken (suc c) side ch ≡ h.taken c side ch
 taken_still {S} d h y c side ch e =
-    elim (cases_Bool (moves d h c (d.owner side ch))) [
-      | inl w ↦
-          let s : is_some_access (d.accesses (d.owner side ch) (h.state c (d.owner side ch))) ≡ false =
-          false_from_ne_true _ (λ (t : is_some_access (d.accesses (d.owner side ch) (h.state c (d.owner side ch))) ≡ true). both_ways _
-          e (steps_from d h c (d.owner side ch) w t)) in
-          y.taken_moves c side ch w
-          ∙ (rw (none_taken side ch (d.accesses (d.owner side ch) (h.state c (d.owner side ch)))
-          (replies d h c (d.owner side ch)) s) (add-zero _))
-      | inr w ↦ y.taken_stays c side ch w
-    ]
+    let w : ℕ = d.owner side ch in
+    let none = none_taken side ch (d.accesses w (h.state c w)) (replies d h c w) in
+    grind (arith, y.taken_moves c side ch, y.taken_stays c side ch, steps_from d h c w)
 
 -- the accesses of the first n steps are those of the own run
 abbrev pub OwnAccesses : {S : Type 0} → Design S → ℕ → (ℕ → List Access) → (ℕ → List Reply) → ℕ → Type 0
@@ -96,22 +84,23 @@ pub taken_own : {S : Type 0} → (d : Design S) (h : Trace S) → IsDesign d →
     → h.taken c side ch ≡ tally a r side ch (done d h (d.owner side ch) c)
 taken_own {S} d h i y side ch a r zero f x = y.taken_0 side ch ∙ (rw (done_0 d h (d.owner side ch), tally_0 a r side ch) refl)
 taken_own {S} d h i y side ch a r (suc c) f x =
-    later (cases_Bool (steps d h c (d.owner side ch)))
-    (taken_own d h i y side ch a r c (follows_less d h (d.owner side ch) r c f)
-    (λ k l. x k (omega (arith, done_up d h (d.owner side ch) c))))
-  where
-    later : (steps d h c (d.owner side ch) ≡ true) ⊎ (steps d h c (d.owner side ch) ≡ false)
-        → h.taken c side ch ≡ tally a r side ch (done d h (d.owner side ch) c)
-        → h.taken (suc c) side ch ≡ tally a r side ch (done d h (d.owner side ch) (suc c))
-    later (inl e) g =
-        let p = y.taken_moves c side ch (steps_moves d h c (d.owner side ch) e) in
-        let b = step_ready d h i y (d.owner side ch) c e in
-        let k = f c (omega arith) e in
-        let o = rest_own d h i y (d.owner side ch) r c (follows_less d h (d.owner side ch) r c f) in
-        let n = done_more d h (d.owner side ch) c e in
-        let w = x (done d h (d.owner side ch) c) (omega arith) in
-        p ∙ (rw (n, tally_more a r side ch (done d h (d.owner side ch) c), w, k, b, o, g) refl)
-    later (inr e) g = taken_still d h y c side ch e ∙ (rw (done_same d h (d.owner side ch) c e) g)
+    let w : ℕ = d.owner side ch in
+    let g = taken_own d h i y side ch a r c (follows_less d h w r c f) (λ k l. x k (omega (arith, done_up d h w c))) in
+    elim (cases_Bool (steps d h c w)) [
+      | inl e ↦
+          let n = done_more d h w c e in
+          let o = rest_own d h i y w r c (follows_less d h w r c f) in
+          y.taken_moves c side ch (steps_moves d h c w e) ∙ (rw (
+            n,
+            tally_more a r side ch (done d h w c),
+            x (done d h w c) (omega arith),
+            f c (omega arith) e,
+            step_ready d h i y w c e,
+            o,
+            g,
+          ) refl)
+      | inr e ↦ taken_still d h y c side ch e ∙ (rw (done_same d h w c e) g)
+    ]
 
 -- the replies of a view that agrees are followed as long as no other step is done
 pub follows : {S : Type 0} → (d : Design S) (h : Trace S) (v : View) → Agrees d h v → (m c : ℕ) → done d h m c ≤ v.timed m
@@ -122,108 +111,44 @@ follows {S} d h v g m c l e b s =
     let p = g.reply_then m (done d h m e) k in
     rw t at p
 
-tally_up : (a : ℕ → List Access) (r : ℕ → List Reply) (side : Side) (ch b n : ℕ) → tally a r side ch b ≤ tally a r side ch (n + b)
-tally_up a r side ch b zero = rw zero-add (omega arith)
-tally_up a r side ch b (suc n) =
-    let e : suc n + b ≡ suc (n + b) = omega arith in
-    rw e (omega (arith, tally_up a r side ch b n, tally_more a r side ch (n + b)))
-
 pub tally_mono : (a : ℕ → List Access) (r : ℕ → List Reply) (side : Side) (ch p q : ℕ) → p ≤ q → tally a r side ch p ≤ tally a r side ch q
-tally_mono a r side ch p q l =
-    let e : (q - p) + p ≡ q = omega arith in
-    let g = tally_up a r side ch p (q - p) in
-    rw e at g
-
-taken_up : {S : Type 0} → (d : Design S) (h : Trace S) → IsHistory d h → (side : Side) (ch c : ℕ)
-    → h.taken c side ch ≤ h.taken (suc c) side ch
-taken_up {S} d h y side ch c =
-    elim (cases_Bool (moves d h c (d.owner side ch))) [
-      | inl e ↦ omega (arith, y.taken_moves c side ch e)
-      | inr e ↦ omega (arith, y.taken_stays c side ch e)
-    ]
-
-taken_later : {S : Type 0} → (d : Design S) (h : Trace S) → IsHistory d h → (side : Side) (ch a n : ℕ)
-    → h.taken a side ch ≤ h.taken (n + a) side ch
-taken_later {S} d h y side ch a zero = rw zero-add (omega arith)
-taken_later {S} d h y side ch a (suc n) =
-    let e : suc n + a ≡ suc (n + a) = omega arith in
-    rw e (omega (arith, taken_later d h y side ch a n, taken_up d h y side ch (n + a)))
+tally_mono a r side ch p q l = never_falls (tally a r side ch) (λ n. omega (arith, tally_more a r side ch n)) p q l
 
 pub taken_mono : {S : Type 0} → (d : Design S) (h : Trace S) → IsHistory d h → (side : Side) (ch a b : ℕ) → a ≤ b
     → h.taken a side ch ≤ h.taken b side ch
 taken_mono {S} d h y side ch a b l =
-    let e : (b - a) + a ≡ b = omega arith in
-    let g = taken_later d h y side ch a (b - a) in
-    rw e at g
+    never_falls (λ c. h.taken c side ch) (λ c. grind (arith, y.taken_moves c side ch, y.taken_stays c side ch)) a b l
 
 -- it is the step of the pop (push) with i before it, or none of the first n is
 abbrev pub IsPlace : (ℕ → List Access) → (ℕ → List Reply) → Side → ℕ → ℕ → ℕ → Option ℕ → Type 0
 IsPlace a r side ch n i None = tally a r side ch n ≤ i
 IsPlace a r side ch n i (Some j) = (j < n) × (tally a r side ch j ≤ i) × (i < tally a r side ch (suc j))
 
-place_wider : (a : ℕ → List Access) (r : ℕ → List Reply) (side : Side) (ch n i : ℕ) → (o : Option ℕ)
-    → (i < tally a r side ch n) ⊎ (tally a r side ch (suc n) ≤ i) → IsPlace a r side ch n i o → IsPlace a r side ch (suc n) i o
-place_wider a r side ch n i None (inl l) g = absurd (omega arith)
-place_wider a r side ch n i None (inr l) g = l
-place_wider a r side ch n i (Some j) l (p, q, e) = (omega arith, q, e)
-
 -- what `place` finds
 pub place_says : (a : ℕ → List Access) (r : ℕ → List Reply) (side : Side) (ch n i : ℕ) → IsPlace a r side ch n i (place a r side ch n i)
 unfolding place
 place_says a r side ch zero i = omega (arith, tally_0 a r side ch)
-place_says a r side ch (suc n) i =
-    later (cases_lt i (tally a r side ch n)) (cases_lt i (tally a r side ch (suc n))) (place_says a r side ch n i)
-  where
-    later : (i < tally a r side ch n) ⊎ (tally a r side ch n ≤ i) → (i < tally a r side ch (suc n)) ⊎ (tally a r side ch (suc n) ≤ i)
-        → IsPlace a r side ch n i (place a r side ch n i) → IsPlace a r side ch (suc n) i (place a r side ch (suc n) i)
-    later (inl p) q g = rw (lt-leb (tally a r side ch n) i p) (place_wider a r side ch n i _ (inl p) g)
-    later (inr p) (inl q) g = rw (le-leb (tally a r side ch n) i p, lt-ltb i (tally a r side ch (suc n)) q) (omega arith, p, q)
-    later (inr p) (inr q) g =
-        rw (le-leb (tally a r side ch n) i p, le-ltb i (tally a r side ch (suc n)) q) (place_wider a r side ch n i _ (inr q) g)
+place_says a r side ch (suc n) i = grind (arith, nat_tests, place_says a r side ch n i)
 
 pub same_side_is : (a b : Side) → same_side a b ≡ true → a ≡ b
-same_side_is Pop Pop e = refl
-same_side_is Pop Push e = cc
-same_side_is Push Pop e = cc
-same_side_is Push Push e = refl
+same_side_is a b e = grind arith
 
 -- nobody pushes a source, and nobody pops a sink
 closed_takes : {S : Type 0} → (d : Design S) (o : Side) (ch : ℕ) (xs : List Access) (rs : List Reply) → d.closed (other_side o) ch ≡ true
     → Each (λ a. d.closed (other_side a.side) a.channel ≡ false) xs → takes_in o ch xs rs ≡ 0
 closed_takes {S} d o ch [] rs e g = refl
 closed_takes {S} d o ch (a ∷ xs) [] e g = refl
-closed_takes {S} d o ch (a ∷ xs) (r ∷ rs) e (g, gs) =
-    let t : took o ch a r ≡ false =
-    false_from_ne_true _ (λ (w : took o ch a r ≡ true).
-    let w1 = (and_parts _ _ (and_parts _ _ (and_parts _ _ w).1).1) in
-    let p = same_side_is a.side o w1.0 in
-    let q = eqb-true a.channel ch w1.1 in
-    let g' = rw (p, q) at g in
-    both_ways _ g' e) in
-    rw (cond-false {A = ℕ} (took o ch a r) 1 0 t, closed_takes d o ch xs rs e gs) refl
+closed_takes {S} d o ch (a ∷ xs) (r ∷ rs) e (g, gs) = grind (arith, nat_tests, same_side_is a.side o, closed_takes d o ch xs rs e gs)
 
 pub closed_taken : {S : Type 0} → (d : Design S) (h : Trace S) → IsDesign d → IsHistory d h → (o : Side) (ch c : ℕ)
     → d.closed (other_side o) ch ≡ true → h.taken c o ch ≡ 0
 closed_taken {S} d h i y o ch zero e = y.taken_0 o ch
 closed_taken {S} d h i y o ch (suc c) e =
-    elim (cases_Bool (moves d h c (d.owner o ch))) [
-      | inl w ↦
-          let z = closed_takes d o ch (d.accesses (d.owner o ch) (h.state c (d.owner o ch))) (replies d h c (d.owner o ch)) e
-          (i.open_sides _ _) in
-          omega (arith, y.taken_moves c o ch w, closed_taken d h i y o ch c e, z)
-      | inr w ↦ y.taken_stays c o ch w ∙ closed_taken d h i y o ch c e
-    ]
+    let w : ℕ = d.owner o ch in
+    let z = closed_takes d o ch (d.accesses w (h.state c w)) (replies d h c w) e (i.open_sides _ _) in
+    grind (arith, y.taken_moves c o ch, y.taken_stays c o ch, closed_taken d h i y o ch c e)
 
 -- there is one such step
 pub place_unique : (a : ℕ → List Access) (r : ℕ → List Reply) (side : Side) (ch n i j : ℕ) → j < n → tally a r side ch j ≤ i
     → i < tally a r side ch (suc j) → place a r side ch n i ≡ Some j
-place_unique a r side ch n i j l p q = later (place a r side ch n i) (place_says a r side ch n i)
-  where
-    later : (o : Option ℕ) → IsPlace a r side ch n i o → o ≡ Some j
-    later None g = absurd (omega (arith, tally_mono a r side ch (suc j) n l))
-    later (Some k) (g1, g2, g3) =
-        elim (cases_order k j) [
-          | inl e ↦ ap (λ (z : ℕ). Some z) e
-          | inr (inl e) ↦ absurd (omega (arith, tally_mono a r side ch (suc k) j e))
-          | inr (inr e) ↦ absurd (omega (arith, tally_mono a r side ch (suc j) k e))
-        ]
+place_unique a r side ch n i j l p q = grind (arith, place_says a r side ch n i, tally_mono a r side ch)

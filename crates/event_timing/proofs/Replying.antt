@@ -1,12 +1,10 @@
 -- A module is told what the history tells it: where its flags say what is possible, and each of its pops has its push among the steps
 -- with a cycle.
-use Rattle.std.proofs.Common.{◌≡◌, ℕ, ◌<◌, Bool, true, cond, not, ◌&&◌, ◌||◌, inl, inr, List, [], ◌∷◌, map, get_or, sym, ap, ap₂, ◌∙◌, refl}
-use Rattle.std.proofs.Common.{arith, ltb}
-use Rattle.std.proofs.lemmas.Bool.{cases_Bool, cond-false, and_parts, ltb-true}
+use Rattle.std.proofs.lemmas.Bool.Decides.{nat_tests}
+use Rattle.std.proofs.Common.{◌≡◌, ℕ, ◌<◌, Bool, true, cond, not, ◌||◌, List, [], ◌∷◌, map, get_or, sym, ap, ◌∙◌, refl, arith, ltb}
 use Rattle.flow_word.specs.declared.access.Side.{Side}
 use Rattle.flow_word.specs.declared.access.Side.TheVariants.{Pop}
-use Rattle.flow_word.specs.Kinds.{same_side}
-use Rattle.event_timing.specs.Machines.{Design, IsDesign, Access, Reply, Each}
+use Rattle.event_timing.specs.Machines.{Design, IsDesign, Access, Each}
 use Rattle.event_timing.specs.Histories.{Trace, IsHistory, is_possible, reply_to}
 use Rattle.event_timing.specs.Steps.{done}
 use Rattle.event_timing.specs.Core.{Core, core_tally, core_values, pops_now, replies_of, all_below, view}
@@ -34,31 +32,17 @@ module _ {S : Type 0} (d : Design S) (h : Trace S) (c : ℕ) (within : ℕ → �
 
   pop_front : (a : Access) → HasFront a → is_within a ≡ true → popping a ≡ true
       → get_or (values a.channel) (before a.channel) 0 ≡ get_or (h.pushed c a.channel) (h.taken c Pop a.channel) 0
-  pop_front a front there pops =
-      let (takes, rest) = and_parts a.takes (same_side a.side Pop && is_possible d h c a.side a.channel) pops in
-      let (side, possible) = and_parts (same_side a.side Pop) (is_possible d h c a.side a.channel) rest in
-      let pop = same_side_is a.side Pop side in
-      let possible_pop : is_possible d h c Pop a.channel ≡ true = sym (ap (λ (z : Side). is_possible d h c z a.channel) pop) ∙ possible in
-      let less = sym (ap (λ (z : Bool). not z || ltb (before a.channel) (within a.channel)) pops) ∙ there in
-      front pop possible_pop (ltb-true (before a.channel) (within a.channel) less)
+  pop_front a front there pops = grind (arith, nat_tests, front, same_side_is a.side Pop)
 
   front_same : (a : Access) → HasFront a → is_within a ≡ true
       → cond {A = ℕ} (popping a) (get_or (values a.channel) (before a.channel) 0) 0
       ≡ cond {A = ℕ} (popping a) (get_or (h.pushed c a.channel) (h.taken c Pop a.channel) 0) 0
-  front_same a front there =
-      elim (cases_Bool (popping a)) [
-        | inl pops ↦ ap (λ (z : ℕ). cond {A = ℕ} (popping a) z 0) (pop_front a front there pops)
-        | inr idle ↦ cond-false {A = ℕ} _ _ _ idle ∙ sym (cond-false {A = ℕ} _ _ _ idle)
-      ]
+  front_same a front there = grind (arith, pop_front a front)
 
   pub replies_right : (xs : List Access) → Each HasFront xs → all_below within before xs (possible_all d h c xs) ≡ true
       → replies_of values before xs (possible_all d h c xs) ≡ map (reply_to d h c) xs
   replies_right [] fronts there = refl
-  replies_right (a ∷ xs) (front, fronts) there =
-      let (first, rest) = and_parts (is_within a) (all_below within before xs (possible_all d h c xs)) there in
-      ap₂ (λ (z : ℕ) (zs : List Reply). record { possible = is_possible d h c a.side a.channel; front = z } ∷ zs)
-      (front_same a front first)
-      (replies_right xs fronts rest)
+  replies_right (a ∷ xs) (front, fronts) there = grind (arith, front_same a front, replies_right xs fronts)
 
 -- ---- those of an agreeing core
 

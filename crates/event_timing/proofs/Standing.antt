@@ -1,6 +1,6 @@
 -- Where a module stands in each clock: so many local clocks behind its latest step.
-use Rattle.std.proofs.Common.{◌≡◌, ℕ, zero, suc, ◌+◌, ◌-◌, ◌<◌, ◌≤◌, min, true, false, ◌⊎◌, inl, inr, [], refl, ◌∙◌, arith}
-use Rattle.std.proofs.lemmas.Bool.{cases_Bool, and_parts, and_from, both_ways, cases_lt, not-true, not_from_false, false_from_ne_true}
+use Rattle.std.proofs.Common.{◌≡◌, ℕ, zero, suc, ◌+◌, ◌-◌, ◌<◌, ◌≤◌, min, true, false, inl, inr, [], refl, arith}
+use Rattle.std.proofs.lemmas.Bool.{cases_Bool, and_parts, and_from, cases_lt, not-true, not_from_false}
 use Rattle.event_timing.specs.Machines.{Design, IsDesign, skip, ready, is_some_access}
 use Rattle.event_timing.specs.Histories.{Trace, IsHistory, moves, replies, can_all}
 use Rattle.event_timing.specs.Steps.{steps, rest, since}
@@ -47,11 +47,7 @@ steps_from {S} d h c m e s = and_from _ _ e s
 pub since_le : {S : Type 0} → (d : Design S) (h : Trace S) (m c : ℕ) → since d h m c ≤ c
 unfolding since
 since_le {S} d h m zero = omega arith
-since_le {S} d h m (suc c) =
-    elim (cases_Bool (steps d h c m)) [
-      | inl e ↦ omega (arith, since_more d h m c e)
-      | inr e ↦ omega (arith, since_same d h m c e, since_le d h m c)
-    ]
+since_le {S} d h m (suc c) = grind (arith, since_le d h m c)
 
 -- in clocks with no access it moves on
 young : {S : Type 0} → (d : Design S) (h : Trace S) → IsDesign d → IsHistory d h → (m c t j : ℕ) (s : S) → j < d.quiet m s
@@ -59,22 +55,13 @@ young : {S : Type 0} → (d : Design S) (h : Trace S) → IsDesign d → IsHisto
 young {S} d h i y m c t j s l e =
     let o = i.quiet_lives m s j l in
     let a = i.quiet_idle m s j l in
-    let o' : d.is_over m (h.state c m) ≡ false = rw e o in
-    let a' : d.accesses m (h.state c m) ≡ [] = rw e a in
-    y.state_moves c m (idle_moves d h c m o' a') ∙ (rw (idle_replies d h c m a', e) refl)
+    grind (arith, y.state_moves c m, idle_moves d h c m, idle_replies d h c m)
 
 -- then it stays till it steps
 old : {S : Type 0} → (d : Design S) (h : Trace S) → (i : IsDesign d) → IsHistory d h → (m c : ℕ) (s : S) → i.fits m s ≡ true
     → h.state c m ≡ ready d m s → steps d h c m ≡ false → h.state (suc c) m ≡ ready d m s
 old {S} d h i y m c s f e n =
-    let stays : moves d h c m ≡ false =
-    false_from_ne_true _ (λ (w : moves d h c m ≡ true).
-    let o = moves_lives d h c m w in
-    let o' : d.is_over m (ready d m s) ≡ false = rw (← e) o in
-    let g = i.quiet_ends m s f o' in
-    let g' : is_some_access (d.accesses m (h.state c m)) ≡ true = rw e g in
-    both_ways _ n (steps_from d h c m w g')) in
-    y.state_stays c m stays ∙ e
+    grind (arith, y.state_stays c m, moves_lives d h c m, i.quiet_ends m s f, steps_from d h c m)
 
 -- so many local clocks behind the state s that it had at clock t
 abbrev pub Stands : {S : Type 0} → Design S → Trace S → ℕ → ℕ → ℕ → S → Type 0
@@ -92,13 +79,11 @@ stands_on {S} d h i y m c t s f l n e =
       | inl g ↦
           let a : min (c - t) (d.quiet m s) ≡ c - t = omega arith in
           let b : min (suc c - t) (d.quiet m s) ≡ suc (c - t) = omega arith in
-          let e' = rw a at e in
-          rw b (young d h i y m c t (c - t) s g e')
+          rw b (young d h i y m c t (c - t) s g (rw a at e))
       | inr g ↦
           let a : min (c - t) (d.quiet m s) ≡ d.quiet m s = omega arith in
           let b : min (suc c - t) (d.quiet m s) ≡ d.quiet m s = omega arith in
-          let e' = rw a at e in
-          rw b (old d h i y m c s f e' n)
+          rw b (old d h i y m c s f (rw a at e) n)
     ]
 
 pub rest_0 : {S : Type 0} → (d : Design S) (h : Trace S) (m : ℕ) → rest d h m 0 ≡ h.state 0 m
@@ -110,20 +95,12 @@ pub history_fits : {S : Type 0} → (d : Design S) (h : Trace S) → (i : IsDesi
     → i.fits m (h.state c m) ≡ true
 history_fits {S} d h i y m zero = rw (y.state_0 m) (i.fits_opening m)
 history_fits {S} d h i y m (suc c) =
-    let before = history_fits d h i y m c in
-    elim (cases_Bool (moves d h c m)) [
-      | inl e ↦ rw (y.state_moves c m e) (i.fits_move m (h.state c m) (replies d h c m) before)
-      | inr e ↦ rw (y.state_stays c m e) before
-    ]
+    grind (arith, y.state_moves c m, y.state_stays c m, i.fits_move m (h.state c m) (replies d h c m), history_fits d h i y m c)
 
 pub rest_fits : {S : Type 0} → (d : Design S) (h : Trace S) → (i : IsDesign d) → IsHistory d h → (m c : ℕ) → i.fits m (rest d h m c) ≡ true
 rest_fits {S} d h i y m zero = rw (rest_0 d h m) (history_fits d h i y m 0)
 rest_fits {S} d h i y m (suc c) =
-    let before = rest_fits d h i y m c in
-    elim (cases_Bool (steps d h c m)) [
-      | inl e ↦ rw (rest_more d h m c e) (history_fits d h i y m (suc c))
-      | inr e ↦ rw (rest_same d h m c e) before
-    ]
+    grind (arith, rest_more d h m c, rest_same d h m c, history_fits d h i y m (suc c), rest_fits d h i y m c)
 
 pub since_0 : {S : Type 0} → (d : Design S) (h : Trace S) (m : ℕ) → since d h m 0 ≡ 0
 unfolding since
@@ -132,27 +109,21 @@ since_0 {S} d h m = refl
 pub where_now : {S : Type 0} → (d : Design S) (h : Trace S) → IsDesign d → IsHistory d h → (m c : ℕ)
     → Stands d h m c (since d h m c) (rest d h m c)
 where_now {S} d h i y m zero = rw (rest_0 d h m, since_0 d h m) (stands_fresh d h m 0)
-where_now {S} d h i y m (suc c) = later (cases_Bool (steps d h c m)) (where_now d h i y m c)
-  where
-    later : (steps d h c m ≡ true) ⊎ (steps d h c m ≡ false) → Stands d h m c (since d h m c) (rest d h m c)
-        → Stands d h m (suc c) (since d h m (suc c)) (rest d h m (suc c))
-    later (inl e) g = rw (rest_more d h m c e, since_more d h m c e) (stands_fresh d h m (suc c))
-    later (inr e) g = rw (rest_same d h m c e, since_same d h m c e)
-        (stands_on d h i y m c (since d h m c) (rest d h m c) (rest_fits d h i y m c) (since_le d h m c) e g)
+where_now {S} d h i y m (suc c) =
+    elim (cases_Bool (steps d h c m)) [
+      | inl e ↦ rw (rest_more d h m c e, since_more d h m c e) (stands_fresh d h m (suc c))
+      | inr e ↦ rw (rest_same d h m c e, since_same d h m c e)
+          (stands_on d h i y m c (since d h m c) (rest d h m c) (rest_fits d h i y m c) (since_le d h m c) e (where_now d h i y m c))
+    ]
 
 -- before its next accesses are reached a module does no step
 pub early_no_step : {S : Type 0} → (d : Design S) (h : Trace S) → IsDesign d → IsHistory d h → (m c : ℕ)
     → c < since d h m c + d.quiet m (rest d h m c) → steps d h c m ≡ false
 early_no_step {S} d h i y m c l =
-    false_from_ne_true _ (λ (w : steps d h c m ≡ true).
     let j : min (c - since d h m c) (d.quiet m (rest d h m c)) ≡ c - since d h m c = omega (arith, since_le d h m c) in
     let e = rw j at (where_now d h i y m c) in
     let b : c - since d h m c < d.quiet m (rest d h m c) = omega (arith, since_le d h m c) in
-    let a = i.quiet_idle m (rest d h m c) (c - since d h m c) b in
-    let a' : d.accesses m (h.state c m) ≡ [] = rw e a in
-    let s = steps_some d h c m w in
-    let s' = rw a' at s in
-    cc)
+    grind (arith, i.quiet_idle m (rest d h m c) (c - since d h m c) b, steps_some d h c m)
 
 -- then it stands at them
 pub late_ready : {S : Type 0} → (d : Design S) (h : Trace S) → IsDesign d → IsHistory d h → (m c : ℕ)
@@ -161,19 +132,11 @@ late_ready {S} d h i y m c l =
     let j : min (c - since d h m c) (d.quiet m (rest d h m c)) ≡ d.quiet m (rest d h m c) = omega arith in
     rw j at (where_now d h i y m c)
 
+pub step_reached : {S : Type 0} → (d : Design S) (h : Trace S) → IsDesign d → IsHistory d h → (m c : ℕ) → steps d h c m ≡ true
+    → since d h m c + d.quiet m (rest d h m c) ≤ c
+step_reached {S} d h i y m c w = grind (arith, early_no_step d h i y m c)
+
 -- so a step is done at them
 pub step_ready : {S : Type 0} → (d : Design S) (h : Trace S) → IsDesign d → IsHistory d h → (m c : ℕ) → steps d h c m ≡ true
     → h.state c m ≡ ready d m (rest d h m c)
-step_ready {S} d h i y m c w =
-    elim (cases_lt c (since d h m c + d.quiet m (rest d h m c))) [
-      | inl l ↦ absurd (both_ways _ (early_no_step d h i y m c l) w)
-      | inr l ↦ late_ready d h i y m c l
-    ]
-
-pub step_reached : {S : Type 0} → (d : Design S) (h : Trace S) → IsDesign d → IsHistory d h → (m c : ℕ) → steps d h c m ≡ true
-    → since d h m c + d.quiet m (rest d h m c) ≤ c
-step_reached {S} d h i y m c w =
-    elim (cases_lt c (since d h m c + d.quiet m (rest d h m c))) [
-      | inl l ↦ absurd (both_ways _ (early_no_step d h i y m c l) w)
-      | inr l ↦ l
-    ]
+step_ready {S} d h i y m c w = late_ready d h i y m c (step_reached d h i y m c w)

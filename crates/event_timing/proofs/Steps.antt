@@ -1,9 +1,14 @@
 -- How the steps of a module are counted.
-use Rattle.std.proofs.Common.{◌≡◌, ℕ, zero, suc, ◌+◌, ◌-◌, ◌<◌, ◌≤◌, true, false, inl, inr, arith, zero-add}
-use Rattle.std.proofs.lemmas.Bool.{cases_Bool, cond-true, cond-false, cases_lt, cases_order}
+use Rattle.std.proofs.Common.{◌≡◌, ℕ, zero, suc, ◌<◌, ◌≤◌, true, false, arith}
+use Rattle.std.proofs.lemmas.Bool.{cond-true, cond-false}
 use Rattle.event_timing.specs.Machines.{Design}
 use Rattle.event_timing.specs.Histories.{Trace}
 use Rattle.event_timing.specs.Steps.{steps, done, rest, since}
+
+-- what does not fall in one step never falls
+pub never_falls : (f : ℕ → ℕ) → ((n : ℕ) → f n ≤ f (suc n)) → (a b : ℕ) → a ≤ b → f a ≤ f b
+never_falls f up a zero l = grind arith
+never_falls f up a (suc b) l = grind (arith, up b, λ (q : a ≤ b). never_falls f up a b q)
 
 pub done_more : {S : Type 0} → (d : Design S) (h : Trace S) (m c : ℕ) → steps d h c m ≡ true → done d h m (suc c) ≡ suc (done d h m c)
 unfolding done
@@ -30,24 +35,12 @@ unfolding since
 since_same {S} d h m c e = cond-false _ _ _ e
 
 pub done_up : {S : Type 0} → (d : Design S) (h : Trace S) (m c : ℕ) → done d h m c ≤ done d h m (suc c)
-done_up {S} d h m c =
-    elim (cases_Bool (steps d h c m)) [
-      | inl e ↦ omega (arith, done_more d h m c e)
-      | inr e ↦ omega (arith, done_same d h m c e)
-    ]
-
-done_later : {S : Type 0} → (d : Design S) (h : Trace S) (m a n : ℕ) → done d h m a ≤ done d h m (n + a)
-done_later {S} d h m a zero = rw zero-add (omega arith)
-done_later {S} d h m a (suc n) =
-    let e : suc n + a ≡ suc (n + a) = omega arith in
-    rw e (omega (arith, done_later d h m a n, done_up d h m (n + a)))
+unfolding done
+done_up {S} d h m c = grind arith
 
 -- more time, more steps
 pub done_mono : {S : Type 0} → (d : Design S) (h : Trace S) (m a b : ℕ) → a ≤ b → done d h m a ≤ done d h m b
-done_mono {S} d h m a b l =
-    let e : (b - a) + a ≡ b = omega arith in
-    let g = done_later d h m a (b - a) in
-    rw e at g
+done_mono {S} d h m a b l = never_falls (done d h m) (done_up d h m) a b l
 
 -- a step counts for each later clock
 pub done_past : {S : Type 0} → (d : Design S) (h : Trace S) (m a b : ℕ) → steps d h a m ≡ true → a < b → done d h m a < done d h m b
@@ -55,18 +48,9 @@ done_past {S} d h m a b e l = omega (arith, done_more d h m a e, done_mono d h m
 
 -- where fewer steps were done, it was earlier
 pub done_less : {S : Type 0} → (d : Design S) (h : Trace S) (m a b : ℕ) → done d h m a < done d h m b → a < b
-done_less {S} d h m a b l =
-    elim (cases_lt a b) [
-      | inl g ↦ g
-      | inr g ↦ absurd (omega (arith, done_mono d h m b a g))
-    ]
+done_less {S} d h m a b l = grind (arith, done_mono d h m b a)
 
 -- the step of a number is in one clock
 pub same_clock : {S : Type 0} → (d : Design S) (h : Trace S) (m a b : ℕ) → steps d h a m ≡ true → steps d h b m ≡ true
     → done d h m a ≡ done d h m b → a ≡ b
-same_clock {S} d h m a b s t e =
-    elim (cases_order a b) [
-      | inl g ↦ g
-      | inr (inl g) ↦ absurd (omega (arith, done_past d h m a b s g))
-      | inr (inr g) ↦ absurd (omega (arith, done_past d h m b a t g))
-    ]
+same_clock {S} d h m a b s t e = grind (arith, done_past d h m a b s, done_past d h m b a t)

@@ -1,11 +1,9 @@
 -- Where a step's cycle is determined, each of its known pops has its push among the steps with a cycle.
-use Rattle.std.proofs.Common.{◌≡◌, ℕ, suc, ◌+◌, ◌-◌, ◌<◌, ◌≤◌, Bool, true, false, not, ◌&&◌, ◌||◌, inl, inr, List, [], ◌∷◌, length, sym}
-use Rattle.std.proofs.Common.{refl, ap, ◌∙◌, arith, ltb, Option, Some, None, length-append}
-use Rattle.std.proofs.lemmas.Bool.{cases_Bool, and_parts, and_from, both_ways, not_from_false, lt-ltb, ltb-true, ltb-false, or_cases}
-use Rattle.std.proofs.lemmas.Bool.{or_left, or_right}
+use Rattle.std.proofs.lemmas.Bool.Decides.{nat_tests}
+use Rattle.std.proofs.Common.{◌≡◌, ℕ, suc, ◌+◌, ◌-◌, ◌<◌, ◌≤◌, Bool, true, false, not, ◌||◌, List, [], ◌∷◌, length, sym, refl, ap, ◌∙◌}
+use Rattle.std.proofs.Common.{arith, ltb, Option, Some, None, length-append}
 use Rattle.flow_word.specs.declared.access.Side.{Side}
 use Rattle.flow_word.specs.declared.access.Side.TheVariants.{Pop, Push}
-use Rattle.flow_word.specs.Kinds.{same_side}
 use Rattle.event_timing.specs.Machines.{Design, IsDesign, Access, Each}
 use Rattle.event_timing.specs.Histories.{Trace}
 use Rattle.event_timing.specs.Views.{tally, View}
@@ -17,7 +15,7 @@ use Rattle.event_timing.specs.Agreement.{IsTimed, elements_timed, pops_timed}
 use Rattle.event_timing.specs.Actions.{new_flags}
 use Rattle.event_timing.proofs.OwnRuns.{tally_mono, IsPlace, place_says, same_side_is}
 use Rattle.event_timing.proofs.Threshold.{known_never, known_event, enabler}
-use Rattle.event_timing.proofs.Candidate.{both_parts, bound_blocks, bound_free, candidate_parts}
+use Rattle.event_timing.proofs.Candidate.{both_parts, candidate_parts}
 use Rattle.event_timing.proofs.Values.{length_pushed_in}
 use Rattle.event_timing.proofs.Fronts.{core_tally_is}
 
@@ -40,20 +38,14 @@ module _ {S : Type 0} (d : Design S) (v : View) (ch n p : ℕ) (limited : d.unli
   known_sure : known d v Pop ch n ≡ From p → n < d.start Pop ch + timed_pushes
   unfolding enabler
   known_sure e =
-      elim (cases_Bool (d.unlimited Pop ch || ltb n (d.start Pop ch))) [
-        | inl free ↦
-            let input = rw limited at free in
-            omega (arith, ltb-true n (d.start Pop ch) input)
-        | inr waits ↦
-            let no_input = rw limited at waits in
-            elim (cases_Bool (d.closed Pop ch)) [
-              | inl shut ↦ let never = sym (known_never d v Pop ch n waits shut) ∙ e in cc
-              | inr open_side ↦
-                  behind_event (enabler d v Pop ch n) (sym (known_event d v Pop ch n waits open_side) ∙ e)
-                  (ltb-false n (d.start Pop ch) no_input)
-                  (place_says (v.accesses writer) (v.reply writer) Push ch (v.timed writer) (n - d.start Pop ch))
-            ]
-      ]
+      grind (
+        arith,
+        nat_tests,
+        known_never d v Pop ch n,
+        known_event d v Pop ch n,
+        behind_event (enabler d v Pop ch n),
+        place_says (v.accesses writer) (v.reply writer) Push ch (v.timed writer) (n - d.start Pop ch),
+      )
 
 -- ---- all accesses of a step
 
@@ -77,36 +69,17 @@ module _ (know : Access → Known) (within before : ℕ → ℕ) (c : ℕ) where
   -- a clock is known of each access that blocks
   bound_rest : (a : Access) (xs : List Access) (u : ℕ) → bound know (a ∷ xs) ≡ From u
       → (q : ℕ) × (bound know xs ≡ From q) × (a.blocks ≡ true → (p : ℕ) × (know a ≡ From p))
-  bound_rest a xs u e =
-      elim (cases_Bool a.blocks) [
-        | inl blocks ↦
-            let (p, q, first, rest, greatest) = both_parts (know a) (bound know xs) u (sym (bound_blocks know a xs blocks) ∙ e) in
-            (q, rest, λ w. (p, first))
-        | inr free ↦ (u, sym (bound_free know a xs free) ∙ e, λ w. absurd (both_ways _ free w))
-      ]
+  bound_rest a xs u e = grind (arith, both_parts (know a) (bound know xs) u)
 
   one_within : (a : Access) → KnownWithin know within before a → (a.blocks ≡ true → (p : ℕ) × (know a ≡ From p)) → is_within a ≡ true
-  one_within a sure blocking =
-      elim (cases_Bool (pops_now a (flag_of a))) [
-        | inr idle ↦ or_left (not (pops_now a (flag_of a))) (ltb (before a.channel) (within a.channel)) (not_from_false _ idle)
-        | inl pops ↦
-            let (takes, rest) = and_parts a.takes (same_side a.side Pop && flag_of a) pops in
-            let (side, found) = and_parts (same_side a.side Pop) (flag_of a) rest in
-            let from : (p : ℕ) × (know a ≡ From p) = elim (or_cases a.blocks (answer (know a) c) found) [
-              | inl blocks ↦ blocking blocks
-              | inr answered ↦ answer_from (know a) c answered
-            ] in
-            or_right (not (pops_now a (flag_of a))) (ltb (before a.channel) (within a.channel))
-            (lt-ltb (before a.channel) (within a.channel) (sure (same_side_is a.side Pop side) from.0 from.1))
-      ]
+  one_within a sure blocking = grind (arith, nat_tests, sure, blocking, answer_from (know a) c, same_side_is a.side Pop)
 
   flags_within : (xs : List Access) (u : ℕ) → bound know xs ≡ From u → Each (KnownWithin know within before) xs
       → all_below within before xs (flags_at know c xs) ≡ true
   flags_within [] u e sure = refl
   flags_within (a ∷ xs) u e (first, rest) =
       let (q, further, blocking) = bound_rest a xs u e in
-      and_from (is_within a) (all_below within before xs (flags_at know c xs)) (one_within a first blocking)
-      (flags_within xs q further rest)
+      grind (arith, one_within a first blocking, flags_within xs q further rest)
 
 -- ---- those of a core
 

@@ -1,7 +1,7 @@
 -- When an access of a module's first step without a cycle is possible.
-use Rattle.std.proofs.Common.{◌≡◌, ℕ, suc, ◌+◌, ◌-◌, ◌<◌, ◌≤◌, true, false, ◌||◌, inl, inr, refl, ◌∙◌, arith, ltb, leb, Option, Some, None}
-use Rattle.std.proofs.lemmas.Bool.{cases_Bool, cond-true, cond-false, cases_lt, le-leb, lt-ltb, le-ltb, lt-leb, ltb-true, ltb-false}
-use Rattle.std.proofs.lemmas.Bool.{or_cases, or_parts, or_right}
+use Rattle.std.proofs.lemmas.Bool.Decides.{nat_tests}
+use Rattle.std.proofs.Common.{◌≡◌, ℕ, suc, ◌-◌, ◌<◌, ◌≤◌, true, false, ◌||◌, inl, inr, refl, ◌∙◌, arith, ltb, leb, Option, Some, None}
+use Rattle.std.proofs.lemmas.Bool.{cases_Bool, cond-true, cond-false, ltb-false, or_parts}
 use Rattle.flow_word.specs.declared.access.Side.{Side}
 use Rattle.flow_word.specs.declared.access.Side.TheVariants.{Pop, Push}
 use Rattle.flow_word.specs.Kinds.{other_side}
@@ -30,20 +30,14 @@ pub counted : {S : Type 0} → (d : Design S) (h : Trace S) → IsDesign d → I
 counted {S} d h i y v g o ch j n l a b c =
     let w : ℕ = d.owner o ch in
     let e : ℕ = v.cycle w j in
-    let s = g.steps_then w j l in
     let k = g.done_then w j l in
-    let k' = done_more d h w e s in
-    elim (cases_lt e c) [
-      | inl q ↦
-          let t = taken_view d h i y v g o ch (suc e) (omega arith) in
-          let t' = rw (k', k) at t in
-          rw (lt-ltb e c q) (lt-ltb n (h.taken c o ch) (omega (arith, t', taken_mono d h y o ch (suc e) c q)))
-      | inr q ↦
-          let p = done_mono d h w c e q in
-          let t = taken_view d h i y v g o ch c (omega arith) in
-          rw (le-ltb e c q) (le-ltb n (h.taken c o ch)
-          (omega (arith, t, tally_mono (v.accesses w) (v.reply w) o ch (done d h w c) j (omega arith))))
-    ]
+    let k' = done_more d h w e (g.steps_then w j l) in
+    let t = taken_view d h i y v g o ch (suc e) (omega arith) in
+    let t' = rw (k', k) at t in
+    let later : c ≤ e → h.taken c o ch ≤ n = λ q.
+    let p = done_mono d h w c e q in
+    omega (arith, taken_view d h i y v g o ch c (omega arith), tally_mono (v.accesses w) (v.reply w) o ch (done d h w c) j (omega arith)) in
+    grind (arith, nat_tests, taken_mono d h y o ch (suc e) c)
 
 -- what is known means this in clock c
 abbrev pub Means : {S : Type 0} → Design S → Trace S → View → ℕ → Side → ℕ → Known → Type 0
@@ -84,38 +78,15 @@ event_means {S} d h i y v g side ch c n t u l None p = λ q.
     let q' = done_mono d h w (suc c - d.lag side ch) c (omega arith) in
     let a = taken_view d h i y v g (other_side side) ch (suc c - d.lag side ch) (omega arith) in
     let b = tally_mono (v.accesses w) (v.reply w) (other_side side) ch (done d h w (suc c - d.lag side ch)) (v.timed w) (omega arith) in
-    rw (u, t) (le-ltb n (d.start side ch + h.taken (suc c - d.lag side ch) (other_side side) ch) (omega arith))
+    grind (arith, nat_tests)
 event_means {S} d h i y v g side ch c n t u l (Some j) (p1, p2, p3) =
     let z = i.lag_positive side ch in
-    let e : ℕ = v.cycle (d.owner (other_side side) ch) j in
     let k = counted d h i y v g (other_side side) ch j (n - d.start side ch) p1 p2 p3 (suc c - d.lag side ch) in
-    elim (cases_lt c (e + d.lag side ch)) [
-      | inl q ↦
-          let k' = k ∙ le-ltb e (suc c - d.lag side ch) (omega arith) in
-          let k'' = ltb-false _ _ k' in
-          rw (u, t, lt-leb (e + d.lag side ch) c q)
-          (le-ltb n (d.start side ch + h.taken (suc c - d.lag side ch) (other_side side) ch) (omega arith))
-      | inr q ↦
-          let k' = k ∙ lt-ltb e (suc c - d.lag side ch) (omega arith) in
-          let k'' = ltb-true _ _ k' in
-          rw (u, t, le-leb (e + d.lag side ch) c q)
-          (lt-ltb n (d.start side ch + h.taken (suc c - d.lag side ch) (other_side side) ch) (omega arith))
-    ]
+    grind (arith, nat_tests)
 
 free_possible : {S : Type 0} → (d : Design S) (h : Trace S) (c : ℕ) (side : Side) (ch n : ℕ) → h.taken c side ch ≡ n
     → (d.unlimited side ch || ltb n (d.start side ch)) ≡ true → is_possible d h c side ch ≡ leb 0 c
-free_possible {S} d h c side ch n t e =
-    elim (or_cases (d.unlimited side ch) (ltb n (d.start side ch)) e) [
-      | inl u ↦ rw (u, le-leb 0 c (omega arith)) refl
-      | inr l ↦
-          let l' = ltb-true n (d.start side ch) l in
-          rw (
-            t,
-            le-leb 0 c (omega arith),
-            lt-ltb n (d.start side ch + h.taken (suc c - d.lag side ch) (other_side side) ch)
-                (omega arith),
-          ) (or_right _ _ refl)
-    ]
+free_possible {S} d h c side ch n t e = grind (arith, nat_tests)
 
 other_other : (side : Side) → other_side (other_side side) ≡ side
 other_other Pop = refl
@@ -125,17 +96,17 @@ never_possible : {S : Type 0} → (d : Design S) (h : Trace S) → IsDesign d �
     → h.taken c side ch ≡ n
     → (d.unlimited side ch || ltb n (d.start side ch)) ≡ false → d.closed side ch ≡ true → is_possible d h c side ch ≡ false
 never_possible {S} d h i y c side ch n t e f =
-    let f' : d.closed (other_side (other_side side)) ch ≡ true = rw (other_other side) f in
-    let z = closed_taken d h i y (other_side side) ch (suc c - d.lag side ch) f' in
-    let p = or_parts (d.unlimited side ch) (ltb n (d.start side ch)) e in
-    let p1 = ltb-false n (d.start side ch) p.1 in
-    rw (p.0, t) (le-ltb n (d.start side ch + h.taken (suc c - d.lag side ch) (other_side side) ch) (omega arith))
+    let z = closed_taken d h i y (other_side side) ch (suc c - d.lag side ch) (rw (other_other side) f) in
+    grind (arith, nat_tests)
 
 -- what is known of an access is true in each clock in which n are before it
 pub known_means : {S : Type 0} → (d : Design S) (h : Trace S) → IsDesign d → IsHistory d h → (v : View) → Agrees d h v
     → (side : Side) (ch c n : ℕ) → h.taken c side ch ≡ n → Means d h v c side ch (known d v side ch n)
 unfolding enabler
 known_means {S} d h i y v g side ch c n t =
+    let from = event_means d h i y v g side ch c n t in
+    let place = place_says (v.accesses (d.owner (other_side side) ch)) (v.reply (d.owner (other_side side) ch)) (other_side side) ch
+    (v.timed (d.owner (other_side side) ch)) (n - d.start side ch) in
     elim (cases_Bool (d.unlimited side ch || ltb n (d.start side ch))) [
       | inl e ↦ rw (known_free d v side ch n e) (free_possible d h c side ch n t e)
       | inr e ↦
@@ -143,9 +114,6 @@ known_means {S} d h i y v g side ch c n t =
             | inl f ↦ rw (known_never d v side ch n e f) (never_possible d h i y c side ch n t e f)
             | inr f ↦
                 let p = or_parts (d.unlimited side ch) (ltb n (d.start side ch)) e in
-                rw (known_event d v side ch n e f)
-                (event_means d h i y v g side ch c n t p.0 (ltb-false n (d.start side ch) p.1) (enabler d v side ch n)
-                (place_says (v.accesses (d.owner (other_side side) ch)) (v.reply (d.owner (other_side side) ch))
-                (other_side side) ch (v.timed (d.owner (other_side side) ch)) (n - d.start side ch)))
+                rw (known_event d v side ch n e f) (from p.0 (ltb-false n (d.start side ch) p.1) (enabler d v side ch n) place)
           ]
     ]

@@ -1,6 +1,6 @@
 -- What a final core's cycles say of a channel is true up to the limit.
-use Rattle.std.proofs.Common.{◌≡◌, ℕ, zero, suc, ◌+◌, ◌<◌, ◌≤◌, min, inl, inr, sym, ap, ◌∙◌, arith, ltb}
-use Rattle.std.proofs.lemmas.Bool.{cases_Bool, cases_lt, ltb-false, cond-true, cond-false}
+use Rattle.std.proofs.lemmas.Bool.Decides.{nat_tests}
+use Rattle.std.proofs.Common.{◌≡◌, ℕ, zero, suc, ◌+◌, ◌<◌, ◌≤◌, min, sym, ap, ◌∙◌, arith}
 use Rattle.flow_word.specs.declared.access.Side.{Side}
 use Rattle.flow_word.specs.declared.access.Side.TheVariants.{Pop, Push}
 use Rattle.event_timing.specs.Machines.{Design, IsDesign}
@@ -21,28 +21,16 @@ use Rattle.event_timing.proofs.OwnRuns.{taken_mono}
 pub kept_ge : (cycle : ℕ → ℕ) (t n b : ℕ) → n ≤ b → ((k : ℕ) → k < n → cycle k < t) → n ≤ kept cycle t b
 unfolding kept
 kept_ge cycle t n zero l f = omega arith
-kept_ge cycle t n (suc b) l f =
-    elim (cases_Bool (ltb (cycle b) t)) [
-      | inl e ↦ rw (cond-true {A = ℕ} (ltb (cycle b) t) (suc b) (kept cycle t b) e) l
-      | inr e ↦
-          let e' = ltb-false (cycle b) t e in
-          let l' : n ≤ b = elim (cases_lt b n) [ inl q ↦ let w = f b q in absurd (omega arith) | inr q ↦ q ] in
-          rw (cond-false {A = ℕ} (ltb (cycle b) t) (suc b) (kept cycle t b) e) (kept_ge cycle t n b l' f)
-    ]
+kept_ge cycle t n (suc b) l f = grind (arith, nat_tests, f b, λ (q : n ≤ b). kept_ge cycle t n b q f)
 
 pub kept_done : {S : Type 0} → (d : Design S) (h : Trace S) (limit : ℕ) (x : Core S) → IsTimed d h limit x → (m c : ℕ)
     → done d h m c ≤ x.timed m → kept (x.cycle m) c (x.timed m) ≡ done d h m c
 kept_done {S} d h limit x u m c l =
-    let up = kept_ge (x.cycle m) c (done d h m c) (x.timed m) l
-    (λ k q. done_less d h m (x.cycle m k) c (omega (arith, u.done_then m k (omega arith)))) in
-    elim (cases_lt (done d h m c) (kept (x.cycle m) c (x.timed m))) [
-      | inr q ↦ omega arith
-      | inl q ↦
-          let k : ℕ = done d h m c in
-          let lt : k < x.timed m = omega (arith, kept_le (x.cycle m) c (x.timed m)) in
-          let w = kept_below (x.cycle m) c (x.timed m) (λ i j p r. cycles_rise d h limit x u m i j p r) k q in
-          absurd (omega (arith, done_past d h m (x.cycle m k) c (u.steps_then m k lt) w, u.done_then m k lt))
-    ]
+    let k : ℕ = done d h m c in
+    let less = λ (j : ℕ) (q : j < k). done_less d h m (x.cycle m j) c (omega (arith, u.done_then m j (omega arith))) in
+    let up = kept_ge (x.cycle m) c k (x.timed m) l less in
+    let w = kept_below (x.cycle m) c (x.timed m) (cycles_rise d h limit x u m) k in
+    grind (arith, kept_le (x.cycle m) c (x.timed m), u.steps_then m k, u.done_then m k, done_past d h m (x.cycle m k) c)
 
 pub counts_right : {S : Type 0} → (d : Design S) (h : Trace S) → IsDesign d → IsHistory d h → (limit : ℕ) (x : Core S)
     → IsAgreed d h limit x
@@ -76,14 +64,8 @@ never_reached : {S : Type 0} → (d : Design S) (h : Trace S) → IsDesign d →
 never_reached {S} d h i y limit x g f fifo most t l some never zero q = omega (arith, y.taken_0 Push fifo, y.taken_0 Pop fifo)
 never_reached {S} d h i y limit x g f fifo most t l some never (suc c) q =
     let before = never_reached d h i y limit x g f fifo most t l some never c (omega arith) in
-    let pushes = final_counts d h i y limit x g f Push fifo (suc c) (omega arith) in
-    let pops = final_counts d h i y limit x g f Pop fifo (suc c) (omega arith) in
-    let one = taken_once d h i y c Push fifo in
-    let less = taken_mono d h y Pop fifo c (suc c) (omega arith) in
-    elim (cases_lt (h.taken (suc c) Push fifo) (most + h.taken (suc c) Pop fifo)) [
-      | inl w ↦ w
-      | inr w ↦ absurd (never (suc c) q (omega arith))
-    ]
+    let count = λ (side : Side). final_counts d h i y limit x g f side fifo (suc c) (omega arith) in
+    grind (arith, count Push, count Pop, taken_once d h i y c Push fifo, taken_mono d h y Pop fifo c (suc c), never (suc c) q)
 
 -- a clock up to which the FIFO never holds the lesser of both depths is untouched
 pub before_first : {S : Type 0} → (d : Design S) (h : Trace S) → IsDesign d → IsHistory d h → (limit : ℕ) (x : Core S)

@@ -1,10 +1,9 @@
 -- The verdict of a final core is that of the history.
-use Rattle.std.proofs.Common.{◌≡◌, ℕ, zero, suc, ◌+◌, ◌-◌, ◌<◌, ◌≤◌, min, true, false, inl, inr, sym, refl, ap, ap₂, ◌∙◌, subst, arith}
-use Rattle.std.proofs.Common.{Some}
-use Rattle.std.proofs.lemmas.Bool.{cases_lt, false_from_ne_true}
-use Rattle.event_timing.specs.Machines.{Design, IsDesign, is_some_access}
+use Rattle.std.proofs.Common.{◌≡◌, ℕ, zero, suc, ◌+◌, ◌-◌, ◌<◌, ◌≤◌, min, true, false, inl, inr, refl, ap₂, arith, Some}
+use Rattle.std.proofs.lemmas.Bool.{cases_lt}
+use Rattle.event_timing.specs.Machines.{Design, IsDesign}
 use Rattle.event_timing.specs.Histories.{Trace, IsHistory, moves}
-use Rattle.event_timing.specs.Steps.{steps, done, since, rest}
+use Rattle.event_timing.specs.Steps.{done, since, rest}
 use Rattle.event_timing.specs.Enablers.{candidate, IsStuck}
 use Rattle.event_timing.specs.Views.{from}
 use Rattle.event_timing.specs.Core.{Core, view}
@@ -25,7 +24,7 @@ early_moves {S} d h i y m c l =
     let b : c - since d h m c < d.quiet m (rest d h m c) = omega (arith, since_le d h m c) in
     let a = i.quiet_idle m (rest d h m c) (c - since d h m c) b in
     let o = i.quiet_lives m (rest d h m c) (c - since d h m c) b in
-    idle_moves d h c m (ap (d.is_over m) e ∙ o) (ap (d.accesses m) e ∙ a)
+    idle_moves d h c m (rw e o) (rw e a)
 
 stop_then : {S : Type 0} → (d : Design S) (h : Trace S) → IsDesign d → IsHistory d h → (limit : ℕ) (x : Core S) → IsAgreed d h limit x
     → (m c : ℕ) → begin (view d x) m ≤ c → done d h m c ≡ x.timed m → since d h m c + d.quiet m (rest d h m c) ≡ stop d x m
@@ -36,18 +35,15 @@ stop_then {S} d h i y limit x g m c l k =
 -- before its stop a module moves
 before_stop : {S : Type 0} → (d : Design S) (h : Trace S) → IsDesign d → IsHistory d h → (limit : ℕ) (x : Core S) → IsAgreed d h limit x
     → (m c : ℕ) → begin (view d x) m ≤ c → done d h m c ≡ x.timed m → c < stop d x m → moves d h c m ≡ true
-before_stop {S} d h i y limit x g m c l k q =
-    early_moves d h i y m c (subst (λ (z : ℕ). c < z) (sym (stop_then d h i y limit x g m c l k)) q)
+before_stop {S} d h i y limit x g m c l k q = early_moves d h i y m c (rw (stop_then d h i y limit x g m c l k) q)
 
 -- from then on it keeps still, unless it does its next step
 behind_stop : {S : Type 0} → (d : Design S) (h : Trace S) → IsDesign d → IsHistory d h → (limit : ℕ) (x : Core S) → IsAgreed d h limit x
     → (m c : ℕ) → stop d x m ≤ c → done d h m c ≡ x.timed m → done d h m (suc c) ≤ x.timed m → moves d h c m ≡ false
 behind_stop {S} d h i y limit x g m c l k n =
-    false_from_ne_true _ (λ (w : moves d h c m ≡ true).
-    let e = late_ready d h i y m c (subst (λ (z : ℕ). z ≤ c) (sym (stop_then d h i y limit x g m c (omega arith) k)) l) in
-    let o = sym (ap (d.is_over m) e) ∙ moves_lives d h c m w in
-    let s = ap (λ (p : S). is_some_access (d.accesses m p)) e ∙ i.quiet_ends m (rest d h m c) (rest_fits d h i y m c) o in
-    omega (arith, done_more d h m c (steps_from d h c m w s)))
+    let e = late_ready d h i y m c (rw (stop_then d h i y limit x g m c (omega arith) k) l) in
+    let s = i.quiet_ends m (rest d h m c) (rest_fits d h i y m c) in
+    grind (arith, moves_lives d h c m, done_more d h m c, steps_from d h c m)
 
 undetermined_stuck : {S : Type 0} → (d : Design S) (h : Trace S) → IsDesign d → (limit : ℕ) (x : Core S) → IsAgreed d h limit x
     → IsFinal d limit x → IsUndetermined d x → (t : ℕ) → IsStuck d (view d x) t
@@ -89,9 +85,8 @@ moved {S} d h i y limit x g f u m c e =
     step : (n : ℕ) → n ≡ x.timed m → suc c ≡ from (x.cycle m) n → moves d h c m ≡ true
     step zero q r = absurd (omega arith)
     step (suc n) q r =
-        let s = g.time.steps_then m n (omega arith) in
-        let k : x.cycle m n ≡ c = omega arith in
-        steps_moves d h c m (subst (λ (z : ℕ). steps d h z m ≡ true) k s)
+        let k : c ≡ x.cycle m n = omega arith in
+        rw k (steps_moves d h (x.cycle m n) m (g.time.steps_then m n (omega arith)))
 
 -- a determined step moves at the limit or later
 pub determined_late : {S : Type 0} → (d : Design S) (h : Trace S) → IsDesign d → IsHistory d h → (limit : ℕ) (x : Core S)

@@ -1,8 +1,9 @@
 -- What stays of a core, whatever is done.
 use Rattle.std.specs.Prelude.{true, ℕ, ◌<◌, ◌≤◌, ◌≡◌}
+use Rattle.flow_word.specs.declared.access.Side.{Side}
 use Rattle.event_timing.specs.Machines.{Design}
-use Rattle.event_timing.specs.Views.{Begins}
-use Rattle.event_timing.specs.Core.{Core, core_values, values_there}
+use Rattle.event_timing.specs.Views.{own, Begins}
+use Rattle.event_timing.specs.Core.{Core, core_values, core_reply, core_tally, values_there}
 
 -- z has all that x has: its steps, their recorded outcomes, and the values on each channel
 pub record Grows {S : Type 0} (d : Design S) (x z : Core S) : Type 0 where
@@ -24,3 +25,10 @@ pub record IsSettled {S : Type 0} (d : Design S) (x : Core S) (m n : ℕ) : Type
   pub emitted : (k : ℕ) → k < n → k < x.emitted m
   pub answered : (k : ℕ) → k < n → x.answered m k ≡ true
   pub there : (k : ℕ) → k < n → values_there d x m k ≡ true
+
+-- the module's first n steps have the same replies in both, and bring it as far
+pub record RepliesAlike {S : Type 0} (d : Design S) (x z : Core S) (m n : ℕ) : Type 0 where
+  pub counts : (side : Side) (ch : ℕ) → core_tally d z m side ch n ≡ core_tally d x m side ch n
+  pub replies : (k : ℕ) → k < n → core_reply d z m k ≡ core_reply d x m k
+  pub there : (k : ℕ) → k < n → values_there d z m k ≡ true
+  pub rests : own d m (core_reply d z m) n ≡ own d m (core_reply d x m) n

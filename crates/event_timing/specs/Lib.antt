@@ -9,5 +9,4 @@ pub mod Permitted
 pub mod Growth
 pub mod Agreement
 pub mod Edits
-pub mod Contents
 pub mod Work

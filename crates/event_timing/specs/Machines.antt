@@ -94,11 +94,6 @@ pub record IsDesign {S : Type 0} (d : Design S) : Type 0 where
   -- a number that names no module is over from the start
   pub outside : (m : ℕ) → d.modules ≤ m → d.is_over m (ready d m (d.opening m)) ≡ true
 
--- what a list of elements as a channel's contents needs besides: a FIFO has no inputs, and a pop is seen by a push one clock later
-pub record HoldsLists {S : Type 0} (d : Design S) : Type 0 where
-  pub only_inputs : (ch : ℕ) → d.unlimited Push ch ≡ false → d.start Pop ch ≡ 0
-  pub lag_push : (ch : ℕ) → d.lag Push ch ≡ 1
-
 -- ---- what is taken
 
 -- an access takes at this side of the channel

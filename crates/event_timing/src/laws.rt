@@ -1,29 +1,22 @@
 //! The laws, for any design `d` over states of any type `S`, and any history `h` of it.
-ghost use Rattle.std.specs.Prelude.{◌≡◌, ◌↔◌, ℕ, suc, ◌+◌, ◌-◌, ◌*◌, ◌<◌, ◌≤◌, min, ◌++◌, ◌⊎◌, Bool, true, false, Some, List, length};
+ghost use Rattle.std.specs.Prelude.{◌≡◌, ◌↔◌, ℕ, suc, ◌+◌, ◌-◌, ◌*◌, ◌<◌, ◌≤◌, min, ◌++◌, ◌⊎◌, true, false, Some, List, length};
 ghost use Rattle.flow_word.specs.declared.access.Side.{Side};
-ghost use Rattle.flow_word.specs.declared.access.Side.TheVariants.{Pop, Push};
-ghost use Rattle.event_timing.specs.Machines.{Design, IsDesign, Access, Reply, HoldsLists, Each};
+ghost use Rattle.flow_word.specs.declared.access.Side.TheVariants.{Push};
+ghost use Rattle.event_timing.specs.Machines.{Design, IsDesign, Access, Reply, Each};
 ghost use Rattle.event_timing.specs.Histories.{Trace, IsHistory, moves, is_possible};
-ghost use Rattle.event_timing.specs.Contents.{trace};
 ghost use Rattle.event_timing.specs.Steps.{steps, done};
 ghost use Rattle.event_timing.specs.Views.{own, tally, place};
 ghost use Rattle.event_timing.specs.Enablers.{candidate, known_of, answer};
-ghost use Rattle.event_timing.specs.Core.{Core, opening_core, view, core_accesses, core_reply, core_tally, core_pushed, has_query};
-ghost use Rattle.event_timing.specs.Core.{values_there};
+ghost use Rattle.event_timing.specs.Core.{Core, opening_core, view, core_accesses, core_reply, core_pushed, has_query};
 ghost use Rattle.event_timing.specs.Actions.{Action, Acts, ActsAll, MayRun, MayAssign, MayAnswer, MayEarliest, IsOpen, IsQuiet, IsFinal};
 ghost use Rattle.event_timing.specs.Actions.{IsSame, IsNoRunOf, ActsRecorded, newest, new_flags, assigns, runs, after_run, after_assign};
 ghost use Rattle.event_timing.specs.Actions.{after_answer};
 ghost use Rattle.event_timing.specs.Agreement.{IsAgreed, AreOwnMarks, AllVerified, HappensBefore, IsAtRest, IsStepAt, IsUndetermined};
 ghost use Rattle.event_timing.specs.Agreement.{IsBounded, possible_all, stop};
-ghost use Rattle.event_timing.specs.Growth.{Grows, GrowsBeside, IsSettled};
+ghost use Rattle.event_timing.specs.Growth.{Grows, GrowsBeside, IsSettled, RepliesAlike};
 ghost use Rattle.event_timing.specs.Permitted.{IsInside, may_run, may_assign, may_answer, is_open, is_quiet, may_earliest, is_final};
 ghost use Rattle.event_timing.specs.Work.{work};
 ghost use Rattle.event_timing.specs.Edits.{edited, after_edit, kept, held_by_cycles, IsUntouchedByCycles};
-
-/// The lockstep machine, with lists of elements as contents and any delays of what is pushed, obeys the laws of counting.
-pub fn lists_are_counts<S>()
-    ensures { (d : Design S) → IsDesign d → HoldsLists d → IsHistory d (trace d) }
-{}
 
 /// After every list of permitted actions a core agrees with the history, if it did before. The opening core does.
 pub fn every_order_agrees<S>()
@@ -59,13 +52,7 @@ pub fn cores_grow<S>()
         → (m : ℕ) (actions : List Action) → IsNoRunOf m actions → (y : Core S) → ActsAll d limit x actions y → GrowsBeside d x y m }
     ensures settled { (d : Design S) (x : Core S) → AreOwnMarks d x → (m n : ℕ) → n < x.emitted m → IsSettled d x m n }
     ensures settled_all { (d : Design S) (x : Core S) → AreOwnMarks d x → (m : ℕ) → MayRun d x m → IsSettled d x m (x.emitted m) }
-    ensures counts { (d : Design S) (x y : Core S) → Grows d x y → (m n : ℕ) → IsSettled d x m n → (side : Side) (ch : ℕ)
-        → core_tally d y m side ch n ≡ core_tally d x m side ch n }
-    ensures replies { (d : Design S) (x y : Core S) → Grows d x y → (m n : ℕ) → IsSettled d x m (suc n)
-        → core_reply d y m n ≡ core_reply d x m n }
-    ensures there { (d : Design S) (x y : Core S) → Grows d x y → (m n : ℕ) → IsSettled d x m (suc n) → values_there d y m n ≡ true }
-    ensures rests { (d : Design S) (x y : Core S) → Grows d x y → (m n : ℕ) → IsSettled d x m n
-        → own d m (core_reply d y m) n ≡ own d m (core_reply d x m) n }
+    ensures replies { (d : Design S) (x y : Core S) → Grows d x y → (m n : ℕ) → IsSettled d x m n → RepliesAlike d x y m n }
 {}
 
 /// What is found by counts alone is the history's: the clock of a determined step, and the outcomes that an Answer or an

@@ -6,6 +6,6 @@ mod laws;
 
 pub use laws::{
     action_bound, cores_grow, cycles_given, edited_cores, every_order_agrees, final_cores,
-    final_reports, first_touched, found_by_counts, lists_are_counts, marks_stay, recorded_outcomes,
-    running_ahead, tests_decide, verified_outcomes,
+    final_reports, first_touched, found_by_counts, marks_stay, recorded_outcomes, running_ahead,
+    tests_decide, verified_outcomes,
 };

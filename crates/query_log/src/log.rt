@@ -1,5 +1,5 @@
 //! The log of all modules.
-ghost use Rattle.std.specs.Prelude.{◌≡◌, ◌≢◌, ℕ, ◌+◌, ◌<◌, ◌≤◌, length, min, max, replicate, slice_index, All, IfOk, OnOk, OnErr};
+ghost use Rattle.std.specs.Prelude.{◌≡◌, ◌≢◌, ℕ, ◌+◌, ◌<◌, ◌≤◌, length, min, max, replicate, slice_index, All, IfOk, OnOk};
 ghost use Rattle.query_log.specs.Logs.{no_log, log_at, outcome_of, IsSoundLog, with_outcome, with_verified};
 
 use crate::roomy::RoomyLog;

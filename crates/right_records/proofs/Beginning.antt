@@ -1,11 +1,10 @@
 -- Each step of a final core that agrees is right.
-use Rattle.std.proofs.Common.{◌≡◌, ℕ, ◌<◌, ◌≤◌, sym, subst, arith, true, inl, inr}
-use Rattle.std.proofs.lemmas.Bool.{cases_lt}
+use Rattle.std.proofs.Common.{◌≡◌, ℕ, ◌<◌, ◌≤◌, arith}
 use Rattle.flow_word.specs.declared.access.Side.TheVariants.{Push}
 use Rattle.event_timing.specs.Machines.{Design, IsDesign}
-use Rattle.event_timing.specs.Histories.{Trace, IsHistory, replies}
-use Rattle.event_timing.specs.Steps.{steps, done}
-use Rattle.event_timing.specs.Core.{Core, core_reply}
+use Rattle.event_timing.specs.Histories.{Trace, IsHistory}
+use Rattle.event_timing.specs.Steps.{done}
+use Rattle.event_timing.specs.Core.{Core}
 use Rattle.event_timing.specs.Actions.{IsFinal}
 use Rattle.event_timing.specs.Agreement.{IsAgreed}
 use Rattle.event_timing.specs.Edits.{edited, IsUntouchedByCycles, kept, after_edit}
@@ -26,13 +25,12 @@ module _ {S : Type 0} (d : Design S) (h : Trace S) (i : IsDesign d) (y : IsHisto
 
   whole_done : IsDone d h (after_edit d x limit)
   whole_done =
-      let e = λ (m k : ℕ) (l : k < kept (x.cycle m) limit (x.timed m)). sym (kept_same (x.cycle m) limit (x.timed m) k l) in
+      let same = λ (m k : ℕ) (l : k < kept (x.cycle m) limit (x.timed m)). kept_same (x.cycle m) limit (x.timed m) k l in
       record {
         within = λ m. omega (arith, all_stay m, a.time.within m);
-        steps_then = λ m k l. subst (λ (c : ℕ). steps d h c m ≡ true) (e m k l) (a.time.steps_then m k (omega (arith, all_stay m)));
-        done_then = λ m k l. subst (λ (c : ℕ). done d h m c ≡ k) (e m k l) (a.time.done_then m k (omega (arith, all_stay m)));
-        reply_then = λ m k l. subst (λ (c : ℕ). core_reply d x m k ≡ replies d h c m) (e m k l)
-            (a.time.reply_then m k (omega (arith, all_stay m)));
+        steps_then = λ m k l. rw (same m k l) (a.time.steps_then m k (omega (arith, all_stay m)));
+        done_then = λ m k l. rw (same m k l) (a.time.done_then m k (omega (arith, all_stay m)));
+        reply_then = λ m k l. rw (same m k l) (a.time.reply_then m k (omega (arith, all_stay m)));
       }
 
   pub final_right : (m k : ℕ) → k < x.timed m → IsRight d x m k
@@ -42,24 +40,14 @@ module _ {S : Type 0} (d : Design S) (h : Trace S) (i : IsDesign d) (y : IsHisto
 
   -- a step before clock t stays, where the record is cut there
   stays_before : (t m k : ℕ) → k < x.timed m → x.cycle m k < t → k < kept (x.cycle m) t (x.timed m)
-  stays_before t m k l q =
-      elim (cases_lt k (kept (x.cycle m) t (x.timed m))) [
-        | inl w ↦ w
-        | inr w ↦ let b = kept_beyond (x.cycle m) t (x.timed m) k w l in absurd (omega arith)
-      ]
+  stays_before t m k l q = grind (arith, kept_beyond (x.cycle m) t (x.timed m) k)
 
   -- up to clock t the history has no step but those that stay
   none_more : (t : ℕ) → t ≤ limit → (m : ℕ) → done d h m t ≤ kept (x.cycle m) t (x.timed m)
   none_more t q m =
       let n : ℕ = kept (x.cycle m) t (x.timed m) in
-      let c = final_complete d h i y limit x a f m t q in
-      elim (cases_lt n (done d h m t)) [
-        | inr w ↦ w
-        | inl w ↦
-            let b = kept_beyond (x.cycle m) t (x.timed m) n (omega arith) (omega arith) in
-            let z = done_mono d h m t (x.cycle m n) b in
-            absurd (omega (arith, a.time.done_then m n (omega arith)))
-      ]
+      let far = kept_beyond (x.cycle m) t (x.timed m) n (omega arith) in
+      grind (arith, final_complete d h i y limit x a f m t q, done_mono d h m t (x.cycle m n), a.time.done_then m n)
 
   module _ (one : (ch : ℕ) → d.lag Push ch ≡ 1) (fifo depth t : ℕ) (l : t ≤ limit) (u : IsUntouchedByCycles d x fifo depth t)
       (g : Trace S) (z : IsHistory (edited d fifo depth) g) where

@@ -1,7 +1,7 @@
 -- Before an edit, each step of an agreeing core is right, as far as the core has all that the history did.
-use Rattle.std.proofs.Common.{◌≡◌, ℕ, ◌+◌, ◌<◌, ◌≤◌, max, Bool, true, false, inl, inr, List, [], ◌∷◌, map, sym, refl, ap, ap₂}
-use Rattle.std.proofs.Common.{◌∙◌, subst, arith, Some}
-use Rattle.std.proofs.lemmas.Bool.{cases_lt, lt-ltb}
+use Rattle.std.proofs.Common.{◌≡◌, ℕ, ◌+◌, ◌<◌, ◌≤◌, max, Bool, true, false, List, [], ◌∷◌, map, sym, refl, ap, ap₂, ◌∙◌, subst, arith}
+use Rattle.std.proofs.Common.{Some}
+use Rattle.std.proofs.lemmas.Bool.{lt-ltb}
 use Rattle.flow_word.specs.declared.access.Side.TheVariants.{Pop}
 use Rattle.event_timing.specs.Machines.{Design, IsDesign, Access, Reply}
 use Rattle.event_timing.specs.Histories.{Trace, IsHistory, replies, reply_to}
@@ -12,8 +12,7 @@ use Rattle.event_timing.specs.Core.{Core, core_accesses, core_reply, core_tally,
 use Rattle.event_timing.specs.Agreement.{AreOwnMarks, FlagsFit, possible_all}
 use Rattle.event_timing.specs.Edits.{kept, after_edit}
 use Rattle.event_timing.proofs.Steps.{done_mono, same_clock}
-use Rattle.event_timing.proofs.Candidate.{first_means, candidate_done, candidate_steps}
-use Rattle.event_timing.proofs.Candidate.{candidate_parts, candidate_ready}
+use Rattle.event_timing.proofs.Candidate.{first_means, candidate_done, candidate_steps, candidate_parts, candidate_ready}
 use Rattle.event_timing.proofs.Earliest.{candidate_can, flags_late, step_determined}
 use Rattle.event_timing.proofs.Fronts.{IsDone, agrees_done}
 use Rattle.event_timing.proofs.Editing.{kept_le, kept_below, kept_same}
@@ -63,52 +62,29 @@ module _ {S : Type 0} (d : Design S) (h : Trace S) (i : IsDesign d) (y : IsHisto
 
     cut_done : IsDone d h cut
     cut_done =
+        let same = λ (m k : ℕ) (q : k < stay m). then_cycle m k (stays m k q).0 ∙ sym (kept_same (x.cycle m) c (x.timed m) k q) in
         record {
-          within = λ m. let z = kept_le (x.cycle m) c (x.timed m) in
-              let z' : (n : ℕ) → n < stay m → n < x.emitted m = λ n q.
-              let (p, p') = stays m n q in omega (arith, w.within m) in
-              elim (cases_lt (x.emitted m) (stay m)) [ inl q ↦ absurd (omega (arith, z' (x.emitted m) q)) | inr q ↦ q ];
-          steps_then = λ m k q. let (p, p') = stays m k q in
-              subst (λ (z : ℕ). steps d h z m ≡ true) (then_cycle m k p ∙ sym (kept_same (x.cycle m) c (x.timed m) k q))
-              (w.steps_then m k p);
-          done_then = λ m k q. let (p, p') = stays m k q in
-              subst (λ (z : ℕ). done d h m z ≡ k) (then_cycle m k p ∙ sym (kept_same (x.cycle m) c (x.timed m) k q)) (w.done_then m k p);
-          reply_then = λ m k q. let (p, p') = stays m k q in
-              subst (λ (z : ℕ). core_reply d x m k ≡ replies d h z m)
-              (then_cycle m k p ∙ sym (kept_same (x.cycle m) c (x.timed m) k q)) (w.reply_then m k p);
+          within = λ m. grind (arith, λ (q : x.emitted m < stay m). (stays m (x.emitted m) q).0, w.within m);
+          steps_then = λ m k q. rw (← same m k q) (w.steps_then m k (stays m k q).0);
+          done_then = λ m k q. rw (← same m k q) (w.done_then m k (stays m k q).0);
+          reply_then = λ m k q. rw (← same m k q) (w.reply_then m k (stays m k q).0);
         }
 
     -- nobody is ahead
     none_ahead : (m : ℕ) → done d h m c ≤ stay m
     none_ahead m =
-        elim (cases_lt (stay m) (done d h m c)) [
-          | inr q ↦ q
-          | inl q ↦
-              let up = done_mono d h m c t l in
-              let p : stay m < kept (x.cycle m) t (x.timed m) = omega (arith, all m) in
-              let far = kept_beyond (x.cycle m) c (x.timed m) (stay m) (omega arith)
-              (omega (arith, kept_le (x.cycle m) t (x.timed m))) in
-              let at = subst (λ (z : ℕ). done d h m z ≡ stay m) (then_cycle m (stay m) p) (w.done_then m (stay m) p) in
-              let least = done_mono d h m c (x.cycle m (stay m)) far in
-              absurd (omega arith)
-        ]
+        let k : ℕ = stay m in
+        let up = done_mono d h m c t l in
+        let far = kept_beyond (x.cycle m) c (x.timed m) k (omega arith) in
+        grind (arith, all m, kept_le (x.cycle m) t (x.timed m), then_cycle m k, w.done_then m k, done_mono d h m c (x.cycle m k))
 
   -- a step is the first that does not stay, where the record is cut at its own cycle
   here : (m k : ℕ) → k < x.timed m → kept (x.cycle m) (x.cycle m k) (x.timed m) ≡ k
   here m k q =
       let c : ℕ = x.cycle m k in
       let n : ℕ = kept (x.cycle m) c (x.timed m) in
-      let le = kept_le (x.cycle m) c (x.timed m) in
-      elim (cases_lt n k) [
-        | inl p ↦
-            let far = kept_beyond (x.cycle m) c (x.timed m) n (omega arith) (omega arith) in
-            absurd (omega (arith, rise m n k p q))
-        | inr p ↦
-            elim (cases_lt k n) [
-              | inl z ↦ absurd (omega (arith, kept_below (x.cycle m) c (x.timed m) (rise m) k z))
-              | inr z ↦ omega arith
-            ]
-      ]
+      let far = kept_beyond (x.cycle m) c (x.timed m) n (omega arith) in
+      grind (arith, kept_le (x.cycle m) c (x.timed m), rise m n k, kept_below (x.cycle m) c (x.timed m) (rise m) k)
 
   -- each step is right
   pub begun_right : (m k : ℕ) → k < kept (x.cycle m) t (x.timed m) → IsRight d x m k

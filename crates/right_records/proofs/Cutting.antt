@@ -1,12 +1,12 @@
 -- What a record that is cut at a clock tells of that clock: the same as the whole one.
-use Rattle.std.proofs.Common.{◌≡◌, ℕ, suc, ◌+◌, ◌-◌, ◌<◌, ◌≤◌, Bool, true, false, ◌||◌, ◌⊎◌, inl, inr, List, [], ◌∷◌, sym, refl, ap, ap₂}
-use Rattle.std.proofs.Common.{◌∙◌, subst, arith, ltb, leb, Option, Some, None}
-use Rattle.std.proofs.lemmas.Bool.{cases_Bool, cases_lt, lt-leb, le-leb, both_ways}
+use Rattle.std.proofs.lemmas.Bool.Decides.{nat_tests}
+use Rattle.std.proofs.Common.{◌≡◌, ℕ, suc, ◌-◌, ◌<◌, ◌≤◌, false, ◌||◌, ◌⊎◌, inl, inr, List, [], ◌∷◌, sym, refl, ◌∙◌, arith, ltb, Option}
+use Rattle.std.proofs.Common.{Some, None}
+use Rattle.std.proofs.lemmas.Bool.{cases_Bool}
 use Rattle.flow_word.specs.declared.access.Side.{Side}
 use Rattle.flow_word.specs.Kinds.{other_side}
 use Rattle.event_timing.specs.Machines.{Access, Design, IsDesign, Reply}
-use Rattle.event_timing.specs.Views.{place}
-use Rattle.event_timing.specs.Enablers.{Known, known, from_step, bound, answer, flags_at, both}
+use Rattle.event_timing.specs.Enablers.{Known, known, from_step, bound, answer, flags_at}
 use Rattle.event_timing.specs.Enablers.Known.{From, Unknown}
 use Rattle.event_timing.specs.Core.{Core, core_accesses, core_reply, view}
 use Rattle.event_timing.specs.Edits.{kept, kept_cycle, after_edit}
@@ -27,25 +27,11 @@ cut_place : (cycle : ℕ → ℕ) (lag t n : ℕ) (a : ℕ → List Access) (r :
     → IsCut t (from_step (kept_cycle cycle t n) lag o) (from_step cycle lag w)
 cut_place cycle lag t n a r side ch j l None None p q = inl refl
 cut_place cycle lag t n a r side ch j l None (Some k) p (q1, q2, q3) =
-    elim (cases_lt k (kept cycle t n)) [
-      | inl w ↦ absurd (omega (arith, tally_mono a r side ch (suc k) (kept cycle t n) w))
-      | inr w ↦
-          let b = kept_beyond cycle t n k w q1 in
-          inr (refl, lt-leb (cycle k + lag) t (omega arith))
-    ]
+    grind (arith, nat_tests, tally_mono a r side ch (suc k) (kept cycle t n), kept_beyond cycle t n k)
 cut_place cycle lag t n a r side ch j l (Some k) None (p1, p2, p3) q =
     absurd (omega (arith, kept_le cycle t n, tally_mono a r side ch (suc k) n (omega (arith, kept_le cycle t n))))
 cut_place cycle lag t n a r side ch j l (Some k) (Some e) (p1, p2, p3) (q1, q2, q3) =
-    elim (cases_lt k e) [
-      | inl w ↦ absurd (omega (arith, tally_mono a r side ch (suc k) e w))
-      | inr w ↦
-          elim (cases_lt e k) [
-            | inl z ↦ absurd (omega (arith, tally_mono a r side ch (suc e) k z))
-            | inr z ↦
-                let same : k ≡ e = omega arith in
-                inl (ap (λ (c : ℕ). From (c + lag)) (kept_same cycle t n k p1 ∙ ap cycle same))
-          ]
-    ]
+    grind (arith, tally_mono a r side ch (suc k) e, tally_mono a r side ch (suc e) k, kept_same cycle t n k p1)
 
 module _ {S : Type 0} (d : Design S) (i : IsDesign d) (x : Core S) (t : ℕ) where
   pub cut_known : (side : Side) (ch n : ℕ) → IsCut t (known d (view d (after_edit d x t)) side ch n) (known d (view d x) side ch n)
@@ -62,14 +48,11 @@ module _ {S : Type 0} (d : Design S) (i : IsDesign d) (x : Core S) (t : ℕ) whe
                   let a = core_accesses d x w in
                   let r = core_reply d x w in
                   let j : ℕ = n - d.start side ch in
-                  let c = cut_place (x.cycle w) (d.lag side ch) t (x.timed w) a r (other_side side) ch j (i.lag_positive side ch)
-                  (place a r (other_side side) ch (kept (x.cycle w) t (x.timed w)) j) (place a r (other_side side) ch (x.timed w) j)
+                  rw (known_event d v side ch n waits open_side, known_event d (view d x) side ch n waits open_side)
+                  (cut_place (x.cycle w) (d.lag side ch) t (x.timed w) a r (other_side side) ch j (i.lag_positive side ch)
+                  (enabler d v side ch n) (enabler d (view d x) side ch n)
                   (place_says a r (other_side side) ch (kept (x.cycle w) t (x.timed w)) j)
-                  (place_says a r (other_side side) ch (x.timed w) j) in
-                  subst (λ (z : Known). IsCut t z (known d (view d x) side ch n)) (sym (known_event d v side ch n waits open_side))
-                  (subst (λ (z : Known). IsCut t (from_step (kept_cycle (x.cycle w) t (x.timed w)) (d.lag side ch)
-                  (place a r (other_side side) ch (kept (x.cycle w) t (x.timed w)) j)) z)
-                  (sym (known_event d (view d x) side ch n waits open_side)) c)
+                  (place_says a r (other_side side) ch (x.timed w) j))
             ]
       ]
 
@@ -77,18 +60,13 @@ module _ {S : Type 0} (d : Design S) (i : IsDesign d) (x : Core S) (t : ℕ) whe
 
 module _ (t : ℕ) (cut whole : Access → Known) (each : (a : Access) → IsCut t (cut a) (whole a)) where
   down : (k w : Known) → IsCut t k w → (u : ℕ) → w ≡ From u → u ≤ t → k ≡ From u
-  down k w (inl e) u f l = e ∙ f
-  down k w (inr (e, n)) u f l =
-      let n' = sym (ap (λ (z : Known). answer z t) f) ∙ n in
-      absurd (both_ways _ n' (let q : leb u t ≡ true = le-leb u t l in q))
+  down k w c u f l = grind (arith, nat_tests)
 
   up : (k w : Known) → IsCut t k w → (u : ℕ) → k ≡ From u → w ≡ From u
-  up k w (inl e) u f = sym e ∙ f
-  up k w (inr (e, n)) u f = let z = sym e ∙ f in cc
+  up k w c u f = grind arith
 
   same_answer : (k w : Known) → IsCut t k w → answer k t ≡ answer w t
-  same_answer k w (inl e) = ap (λ (z : Known). answer z t) e
-  same_answer k w (inr (e, n)) = ap (λ (z : Known). answer z t) e ∙ sym n
+  same_answer k w c = grind arith
 
   pub bound_down : (xs : List Access) (u : ℕ) → bound whole xs ≡ From u → u ≤ t → bound cut xs ≡ From u
   bound_down [] u e l = e
@@ -96,9 +74,8 @@ module _ (t : ℕ) (cut whole : Access → Known) (each : (a : Access) → IsCut
       elim (cases_Bool a.blocks) [
         | inl b ↦
             let (p, q, k1, k2, k3) = both_parts (whole a) (bound whole xs) u (sym (bound_blocks whole a xs b) ∙ e) in
-            bound_blocks cut a xs b
-            ∙ (ap₂ both (down (cut a) (whole a) (each a) p k1 (omega arith)) (bound_down xs q k2 (omega arith))
-            ∙ ap (λ (z : ℕ). From z) k3)
+            let first = down (cut a) (whole a) (each a) p k1 (omega arith) in
+            grind (arith, bound_down xs q k2 (omega arith))
         | inr b ↦ bound_free cut a xs b ∙ bound_down xs u (sym (bound_free whole a xs b) ∙ e) l
       ]
 
@@ -108,12 +85,11 @@ module _ (t : ℕ) (cut whole : Access → Known) (each : (a : Access) → IsCut
       elim (cases_Bool a.blocks) [
         | inl b ↦
             let (p, q, k1, k2, k3) = both_parts (cut a) (bound cut xs) u (sym (bound_blocks cut a xs b) ∙ e) in
-            bound_blocks whole a xs b
-            ∙ (ap₂ both (up (cut a) (whole a) (each a) p k1) (bound_up xs q k2) ∙ ap (λ (z : ℕ). From z) k3)
+            let first = up (cut a) (whole a) (each a) p k1 in
+            grind (arith, bound_up xs q k2)
         | inr b ↦ bound_free whole a xs b ∙ bound_up xs u (sym (bound_free cut a xs b) ∙ e)
       ]
 
   pub flags_cut : (xs : List Access) → flags_at cut t xs ≡ flags_at whole t xs
   flags_cut [] = refl
-  flags_cut (a ∷ xs) =
-      ap₂ (λ (z : Bool) (zs : List Bool). (a.blocks || z) ∷ zs) (same_answer (cut a) (whole a) (each a)) (flags_cut xs)
+  flags_cut (a ∷ xs) = rw (same_answer (cut a) (whole a) (each a), flags_cut xs) refl

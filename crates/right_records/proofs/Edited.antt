@@ -1,5 +1,5 @@
 -- New cycles after an edit of a depth.
-use Rattle.std.proofs.Common.{◌≡◌, ℕ, suc, ◌<◌, ◌≤◌, true, false, inl, inr, Some, subst, arith}
+use Rattle.std.proofs.Common.{◌≡◌, ℕ, suc, ◌<◌, ◌≤◌, true, false, inl, inr, Some, arith}
 use Rattle.std.proofs.lemmas.Bool.{cases_Bool, cases_eq}
 use Rattle.flow_word.specs.declared.access.Side.TheVariants.{Push}
 use Rattle.event_timing.specs.Machines.{Design, IsDesign}
@@ -21,20 +21,15 @@ module _ {S : Type 0} (d : Design S) (h : Trace S) (i : IsDesign d) (y : IsHisto
   -- of the steps without a cycle none with a query is verified
   pub final_plain : (m k : ℕ) → x.timed m ≤ k → k < x.emitted m → x.verified m k ≡ true → has_query (core_accesses d x m k) ≡ false
   final_plain m k l q v =
-      elim (cases_eq k (x.timed m)) [
-        | inr w ↦ a.time.later_plain m k (omega arith) q v
-        | inl w ↦
-            elim (cases_Bool (has_query (core_accesses d x m k))) [
-              | inr p ↦ p
-              | inl p ↦
-                  let v' = subst (λ (z : ℕ). x.verified m z ≡ true) w v in
-                  let p' = subst (λ (z : ℕ). has_query (core_accesses d x m z) ≡ true) w p in
-                  let (c, b, e) = a.time.first_happens m (omega arith) v' p' in
-                  let n = done_more d h m c e.0 in
-                  let k = e.1 in
-                  let z = final_complete d h i y limit x a f m (suc c) (omega arith) in
-                  absurd (omega arith)
-            ]
+      elim (cases_Bool (has_query (core_accesses d x m k))) [
+        | inr p ↦ p
+        | inl p ↦ elim (cases_eq k (x.timed m)) [
+          | inr w ↦ a.time.later_plain m k (omega arith) q v
+          | inl w ↦
+              let (c, b, e) = a.time.first_happens m (omega arith) (rw w at v) (rw w at p) in
+              let next = e.1 in
+              absurd (omega (arith, done_more d h m c e.0, final_complete d h i y limit x a f m (suc c) (omega arith)))
+        ]
       ]
 
   module _ (fifo depth : ℕ) (cycles : ℕ → ℕ → ℕ) where
@@ -45,8 +40,7 @@ module _ {S : Type 0} (d : Design S) (h : Trace S) (i : IsDesign d) (y : IsHisto
     design_now = edited d fifo depth
 
     no_run_now : (m : ℕ) → MayRun design_now now m → ⊥
-    no_run_now m r =
-        f.quiet.no_run m (record { inside = r.inside; lives = r.lives; answered = r.answered; there = r.there })
+    no_run_now m r = f.quiet.no_run m (grind arith)
 
     pub edited_record : ((m k : ℕ) → k < x.timed m → IsRight design_now now m k) → ((m k : ℕ) → k < x.timed m → cycles m k < limit)
         → ((m c : ℕ) → candidate design_now (view design_now now) m ≡ Some c → limit ≤ c) → IsRightRecord design_now limit now
@@ -71,13 +65,11 @@ module _ {S : Type 0} (d : Design S) (h : Trace S) (i : IsDesign d) (y : IsHisto
       pub checked_right : ((m k : ℕ) → k < x.timed m → IsChecked d x cycles fifo depth t m k) → (m k : ℕ) → k < x.timed m
           → IsRight design_now now m k
       checked_right checked m k q =
-          elim (checked m k q) [
-            | inr r ↦ r
-            | inl (s, e) ↦
-                still_right design_now x cycles m k s
-                (elim e [
-                  | inl b ↦ beside_right d x fifo depth m k b (final_right d h i y limit x a f m k q)
-                  | inr (inl b) ↦ edited_right d h i y limit x a f one fifo depth t l u g z m k q b
-                  | inr (inr b) ↦ b
-                ])
-          ]
+          grind (
+            arith,
+            checked m k q,
+            still_right design_now x cycles m k,
+            beside_right d x fifo depth m k,
+            final_right d h i y limit x a f m k q,
+            edited_right d h i y limit x a f one fifo depth t l u g z m k q,
+          )

@@ -1,40 +1,31 @@
 -- What a step enables.
-use Rattle.std.proofs.Common.{◌≡◌, ℕ, zero, suc, ◌-◌, ◌<◌, ◌≤◌, ◌⊎◌, inl, inr, Option, Some, None, sym, subst, arith, refl, ap, ◌∙◌}
-use Rattle.std.proofs.Common.{Bool, false, List, [], ◌∷◌}
-use Rattle.std.proofs.lemmas.Bool.{cases_Bool, cases_lt, both_ways}
+use Rattle.std.proofs.Common.{◌≡◌, ℕ, zero, suc, ◌-◌, ◌<◌, ◌≤◌, ◌⊎◌, inl, inr, Option, Some, None, sym, subst, arith, refl, ◌∙◌, Bool}
+use Rattle.std.proofs.Common.{false, List, [], ◌∷◌}
+use Rattle.std.proofs.lemmas.Bool.{cases_Bool}
 use Rattle.flow_word.specs.Kinds.{other_side}
 use Rattle.event_timing.specs.Machines.{Access, Design, Each}
 use Rattle.event_timing.specs.Views.{from}
 use Rattle.event_timing.specs.Core.{Core, core_accesses, core_reply}
-use Rattle.event_timing.proofs.OwnRuns.{IsPlace, place_says, tally_mono}
-use Rattle.right_records.specs.Records.{IsIn, IsBetween, IsSaidAround, IsStill, KeepsEnabler, is_free_at}
-use Rattle.right_records.specs.Records.{IsTaking, count_at, enabler_at, partner}
+use Rattle.event_timing.proofs.OwnRuns.{place_says, tally_mono}
+use Rattle.right_records.specs.Records.{IsIn, IsBetween, IsSaidAround, IsStill, KeepsEnabler, is_free_at, IsTaking, count_at, enabler_at}
+use Rattle.right_records.specs.Records.{partner}
 
 module _ {S : Type 0} (d : Design S) (x : Core S) (m k : ℕ) (a : Access) where
   pub enabled : (e : ℕ) → enabler_at d x m k a ≡ Some e
       → IsTaking d x (partner d a) (other_side a.side) a.channel (count_at d x m k a - d.start a.side a.channel) e
   enabled e f =
       let w : ℕ = partner d a in
-      let i : ℕ = count_at d x m k a - d.start a.side a.channel in
-      let s = place_says (core_accesses d x w) (core_reply d x w) (other_side a.side) a.channel (x.timed w) i in
-      let (p, q, r) = subst (IsPlace (core_accesses d x w) (core_reply d x w) (other_side a.side) a.channel (x.timed w) i) f s in
+      let n : ℕ = count_at d x m k a - d.start a.side a.channel in
+      let (p, q, r) = rw f at (place_says (core_accesses d x w) (core_reply d x w) (other_side a.side) a.channel (x.timed w) n) in
       record { before = q; now = r }
 
   -- the step that takes with as many before it comes not earlier
   pub not_after : (q : ℕ) → IsTaking d x m a.side a.channel (count_at d x m k a) q → k ≤ q
-  not_after q t =
-      elim (cases_lt q k) [
-        | inr l ↦ l
-        | inl l ↦ absurd (omega (arith, t.now, tally_mono (core_accesses d x m) (core_reply d x m) a.side a.channel (suc q) k l))
-      ]
+  not_after q t = grind (arith, t.now, tally_mono (core_accesses d x m) (core_reply d x m) a.side a.channel (suc q) k)
 
   -- and the one that takes next before comes earlier
   pub after_last : (p i : ℕ) → suc i ≡ count_at d x m k a → IsTaking d x m a.side a.channel i p → p < k
-  after_last p i e t =
-      elim (cases_lt p k) [
-        | inl l ↦ l
-        | inr l ↦ absurd (omega (arith, t.before, tally_mono (core_accesses d x m) (core_reply d x m) a.side a.channel k p l))
-      ]
+  after_last p i e t = grind (arith, t.before, tally_mono (core_accesses d x m) (core_reply d x m) a.side a.channel k p)
 
   pub is_between : IsBetween d x m a.side a.channel (count_at d x m k a) k
   is_between = record { last = after_last; next = not_after }
@@ -55,43 +46,19 @@ module _ {S : Type 0} (d : Design S) (x : Core S) (cycles : ℕ → ℕ → ℕ)
         ]
 
     one : (a : Access) → IsIn a (core_accesses d x m k) → KeepsEnabler d x cycles m k a ⊎ P m k
-    one a at =
-        elim (cases_Bool (is_free_at d x m k a)) [
-          | inl free ↦ inl (λ w. absurd (both_ways _ w free))
-          | inr waits ↦ from_enabler a at waits (enabler_at d x m k a) refl
-        ]
+    one a at = grind (arith, from_enabler a at)
 
     each : (xs : List Access) → ((b : Access) → IsIn b xs → IsIn b (core_accesses d x m k))
         → Each (KeepsEnabler d x cycles m k) xs ⊎ P m k
     each [] within = inl tt
-    each (a ∷ xs) within =
-        elim (one a (within a (inl refl))) [
-          | inr p ↦ inr p
-          | inl s ↦ elim (each xs (λ b w. within b (inr w))) [ inr p ↦ inr p | inl ss ↦ inl (s, ss) ]
-        ]
+    each (a ∷ xs) within = grind (arith, one a (within a (inl refl)), each xs (λ b w. within b (inr w)))
 
     still_or : cycles m k ≡ x.cycle m k → from (cycles m) k ≡ from (x.cycle m) k → IsStill d x cycles m k ⊎ P m k
-    still_or e f =
-        elim (each (core_accesses d x m k) (λ b w. w)) [
-          | inr p ↦ inr p
-          | inl s ↦ inl (record { own = e; before = f; enablers = s })
-        ]
+    still_or e f = grind (arith, each (core_accesses d x m k) (λ b w. w))
 
   before : (m k : ℕ) → k < x.timed m → (from (cycles m) k ≡ from (x.cycle m) k) ⊎ P m k
   before m zero l = inl refl
-  before m (suc k) l =
-      elim (cases_Bool (changed m k)) [
-        | inl y ↦ inr (r.following m k y l)
-        | inr n ↦ inl (ap (λ (z : ℕ). suc z) (r.same m k n))
-      ]
+  before m (suc k) l = grind (arith, r.following m k, r.same m k)
 
   pub around : (m k : ℕ) → k < x.timed m → IsStill d x cycles m k ⊎ P m k
-  around m k l =
-      elim (cases_Bool (changed m k)) [
-        | inl y ↦ inr (r.own m k y l)
-        | inr n ↦
-            elim (before m k l) [
-              | inr p ↦ inr p
-              | inl f ↦ still_or m k l (r.same m k n) f
-            ]
-      ]
+  around m k l = grind (arith, r.own m k, r.same m k, before m k l, still_or m k l)

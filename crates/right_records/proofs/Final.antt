@@ -11,11 +11,5 @@ module _ {S : Type 0} (d : Design S) (limit : ℕ) (x : Core S) (r : IsRightReco
 
   pub right_final : IsFinal d limit x
   right_final =
-      record {
-        quiet = record {
-          no_run = r.no_run;
-          no_assign = λ n c e. not_determined n c e.determined;
-          no_answer = λ n c e. not_determined n c e.determined;
-        };
-        no_earliest = λ n c e. not_determined n c e.open_step.determined;
-      }
+      let none = not_determined in
+      grind (arith, r.no_run)

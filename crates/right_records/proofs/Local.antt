@@ -1,21 +1,21 @@
 -- What a step's rightness depends on.
-use Rattle.std.proofs.Common.{◌≡◌, ℕ, ◌+◌, ◌≤◌, max, arith, Bool, ◌||◌, ◌&&◌, inl, inr, List, [], ◌∷◌, sym, refl}
-use Rattle.std.proofs.Common.{ap, ap₂, ◌∙◌, ltb, eqb, Option, Some, None}
-use Rattle.std.proofs.lemmas.Bool.{cases_Bool, and_parts, eqb-true, cond-false, false_from_ne_true, cases_eq, or_left}
+use Rattle.std.proofs.lemmas.Bool.Decides.{nat_tests}
+use Rattle.std.proofs.Common.{◌≡◌, ℕ, ◌+◌, ◌≤◌, max, arith, Bool, ◌||◌, inl, inr, List, [], ◌∷◌, sym, refl, ap, ap₂, ◌∙◌, ltb, Option, Some}
+use Rattle.std.proofs.Common.{None}
+use Rattle.std.proofs.lemmas.Bool.{cases_Bool, cases_eq}
 use Rattle.flow_word.specs.declared.access.Side.{Side}
 use Rattle.flow_word.specs.declared.access.Side.TheVariants.{Push}
-use Rattle.flow_word.specs.Kinds.{same_side}
 use Rattle.event_timing.specs.Machines.{Access, Design, Each}
 use Rattle.event_timing.specs.Views.{from, tally}
-use Rattle.event_timing.specs.Enablers.{Known, known, from_step, bound, answer, flags_at, both, to_clock}
-use Rattle.event_timing.specs.Enablers.Known.{From, Never, Unknown}
+use Rattle.event_timing.specs.Enablers.{Known, known, from_step, bound, flags_at, both, to_clock}
+use Rattle.event_timing.specs.Enablers.Known.{From}
 use Rattle.event_timing.specs.Core.{Core, core_accesses, core_reply, view}
 use Rattle.event_timing.specs.Edits.{edited}
 use Rattle.event_timing.proofs.OwnRuns.{same_side_is}
 use Rattle.event_timing.proofs.Threshold.{known_free, known_never, known_event, enabler}
 use Rattle.event_timing.proofs.Candidate.{bound_blocks, bound_free, both_parts}
-use Rattle.right_records.specs.Records.{KeepsEnabler, IsRight, IsStill, IsBeside, IsSlack, HasSlack}
-use Rattle.right_records.specs.Records.{known_at, with_cycles, enabler_at, partner}
+use Rattle.right_records.specs.Records.{KeepsEnabler, IsRight, IsStill, IsBeside, IsSlack, HasSlack, known_at, with_cycles, enabler_at}
+use Rattle.right_records.specs.Records.{partner}
 
 -- ---- accesses of which the same is known
 
@@ -24,16 +24,11 @@ AreSame one other xs = Each (λ a. one a ≡ other a) xs
 
 bound_same : (one other : Access → Known) (xs : List Access) → AreSame one other xs → bound one xs ≡ bound other xs
 bound_same one other [] e = refl
-bound_same one other (a ∷ xs) (e, es) =
-    elim (cases_Bool a.blocks) [
-      | inl b ↦ bound_blocks one a xs b ∙ (ap₂ both e (bound_same one other xs es) ∙ sym (bound_blocks other a xs b))
-      | inr b ↦ bound_free one a xs b ∙ (bound_same one other xs es ∙ sym (bound_free other a xs b))
-    ]
+bound_same one other (a ∷ xs) (e, es) = grind (arith, bound_same one other xs es)
 
 flags_same : (one other : Access → Known) (c : ℕ) (xs : List Access) → AreSame one other xs → flags_at one c xs ≡ flags_at other c xs
 flags_same one other c [] e = refl
-flags_same one other c (a ∷ xs) (e, es) =
-    ap₂ (λ (k : Known) (zs : List Bool). (a.blocks || answer k c) ∷ zs) e (flags_same one other c xs es)
+flags_same one other c (a ∷ xs) (e, es) = rw (e, flags_same one other c xs es) refl
 
 -- ---- cycles that stay
 
@@ -47,18 +42,19 @@ module _ {S : Type 0} (d : Design S) (x : Core S) (cycles : ℕ → ℕ → ℕ)
       → known_at d (with_cycles x cycles) m k a ≡ known_at d x m k a
   unfolding enabler
   known_still m k a s =
-      let v = view d (with_cycles x cycles) in
       let n : ℕ = tally (core_accesses d x m) (core_reply d x m) a.side a.channel k in
-      elim (cases_Bool (d.unlimited a.side a.channel || ltb n (d.start a.side a.channel))) [
-        | inl free ↦ known_free d v a.side a.channel n free ∙ sym (known_free d (view d x) a.side a.channel n free)
+      let side : Side = a.side in
+      let ch : ℕ = a.channel in
+      let v = view d (with_cycles x cycles) in
+      let same = step_same (cycles (partner d a)) (x.cycle (partner d a)) (d.lag side ch) (enabler_at d x m k a) in
+      elim (cases_Bool (d.unlimited side ch || ltb n (d.start side ch))) [
+        | inl free ↦ rw (known_free d v side ch n free, known_free d (view d x) side ch n free) refl
         | inr waits ↦
-            elim (cases_Bool (d.closed a.side a.channel)) [
-              | inl shut ↦ known_never d v a.side a.channel n waits shut ∙ sym (known_never d (view d x) a.side a.channel n waits shut)
-              | inr open_side ↦
-                  known_event d v a.side a.channel n waits open_side
-                  ∙ (step_same (cycles (partner d a)) (x.cycle (partner d a)) (d.lag a.side a.channel) (enabler_at d x m k a)
-                  (s (ap₂ (λ (p q : Bool). p || q) open_side waits))
-                  ∙ sym (known_event d (view d x) a.side a.channel n waits open_side))
+            elim (cases_Bool (d.closed side ch)) [
+              | inl shut ↦ rw (known_never d v side ch n waits shut, known_never d (view d x) side ch n waits shut) refl
+              | inr flows ↦
+                  rw (known_event d v side ch n waits flows, known_event d (view d x) side ch n waits flows)
+                  (same (s (ap₂ (λ (p q : Bool). p || q) flows waits)))
             ]
       ]
 
@@ -71,23 +67,18 @@ module _ {S : Type 0} (d : Design S) (x : Core S) (cycles : ℕ → ℕ → ℕ)
   still_right m k s r =
       let asked : List Access = core_accesses d x m k in
       let e = each_still m k asked s.enablers in
+      let one = known_at d (with_cycles x cycles) m k in
+      let other = known_at d x m k in
       record {
-        cycle = ap₂ (λ (f : ℕ) (b : Known). to_clock (f + x.wait m k) b) s.before
-            (bound_same (known_at d (with_cycles x cycles) m k) (known_at d x m k) asked e)
-            ∙ (r.cycle ∙ ap (λ (c : ℕ). Some c) (sym s.own));
-        outcomes = ap (λ (c : ℕ). flags_at (known_at d (with_cycles x cycles) m k) c asked) s.own
-            ∙ (flags_same (known_at d (with_cycles x cycles) m k) (known_at d x m k) (x.cycle m k) asked e ∙ r.outcomes);
+        cycle = rw (s.before, bound_same one other asked e, s.own) r.cycle;
+        outcomes = rw (s.own, flags_same one other (x.cycle m k) asked e) r.outcomes;
       }
 
 -- ---- a depth that changes
 
 module _ {S : Type 0} (d : Design S) (x : Core S) (fifo depth : ℕ) where
   start_same : (side : Side) (ch : ℕ) → (side ≡ Push → ch ≡ fifo → ⊥) → (edited d fifo depth).start side ch ≡ d.start side ch
-  start_same side ch n =
-      cond-false {A = ℕ} (same_side side Push && eqb ch fifo) depth (d.start side ch)
-      (false_from_ne_true (same_side side Push && eqb ch fifo) (λ w.
-      let (p, q) = and_parts (same_side side Push) (eqb ch fifo) w in
-      n (same_side_is side Push p) (eqb-true ch fifo q)))
+  start_same side ch n = grind (arith, nat_tests, same_side_is side Push)
 
   known_beside : (m k : ℕ) (a : Access) → (a.side ≡ Push → a.channel ≡ fifo → ⊥)
       → known_at (edited d fifo depth) x m k a ≡ known_at d x m k a
@@ -103,10 +94,11 @@ module _ {S : Type 0} (d : Design S) (x : Core S) (fifo depth : ℕ) where
   beside_right m k s r =
       let asked : List Access = core_accesses d x m k in
       let e = each_beside m k asked s in
+      let one = known_at (edited d fifo depth) x m k in
+      let other = known_at d x m k in
       record {
-        cycle = ap (λ (b : Known). to_clock (from (x.cycle m) k + x.wait m k) b)
-            (bound_same (known_at (edited d fifo depth) x m k) (known_at d x m k) asked e) ∙ r.cycle;
-        outcomes = flags_same (known_at (edited d fifo depth) x m k) (known_at d x m k) (x.cycle m k) asked e ∙ r.outcomes;
+        cycle = rw (bound_same one other asked e) r.cycle;
+        outcomes = rw (flags_same one other (x.cycle m k) asked e) r.outcomes;
       }
 
 -- ---- a depth that is not felt
@@ -139,18 +131,10 @@ module _ (c : ℕ) (old new : Access → Known) where
 
   flags_slack : (xs : List Access) → EachSlack xs → flags_at new c xs ≡ flags_at old c xs
   flags_slack [] s = refl
-  flags_slack (a ∷ xs) (s, ss) =
-      ap₂ (λ (z : Bool) (zs : List Bool). z ∷ zs)
-      (elim (cases_Bool a.blocks) [
-        | inl b ↦ or_left a.blocks (answer (new a) c) b ∙ sym (or_left a.blocks (answer (old a) c) b)
-        | inr b ↦ ap (λ (z : Bool). a.blocks || z) (s.query b)
-      ])
-      (flags_slack xs ss)
+  flags_slack (a ∷ xs) (s, ss) = grind (arith, s.query, flags_slack xs ss)
 
-clock_slack : (k : Known) (r c : ℕ) → to_clock r k ≡ Some c → (u : ℕ) × (k ≡ From u) × (max r u ≡ c)
-clock_slack (From u) r c e = (u, refl, cc)
-clock_slack Never r c e = cc
-clock_slack Unknown r c e = cc
+pub clock_parts : (k : Known) (r c : ℕ) → to_clock r k ≡ Some c → (u : ℕ) × (k ≡ From u) × (max r u ≡ c)
+clock_parts k r c e = grind arith
 
 module _ {S : Type 0} (d : Design S) (x : Core S) (fifo depth m k : ℕ) where
   pub slack_right : HasSlack d x fifo depth m k → IsRight d x m k → IsRight (edited d fifo depth) x m k
@@ -158,12 +142,10 @@ module _ {S : Type 0} (d : Design S) (x : Core S) (fifo depth m k : ℕ) where
       let c : ℕ = x.cycle m k in
       let asked : List Access = core_accesses d x m k in
       let reach : ℕ = from (x.cycle m) k + x.wait m k in
-      let (u, f, e) = clock_slack (bound (known_at d x m k) asked) reach c r.cycle in
+      let (u, f, e) = clock_parts (bound (known_at d x m k) asked) reach c r.cycle in
       let (v, g, l, n) = bound_slack c (known_at d x m k) (known_at (edited d fifo depth) x m k) asked s u f (omega arith) in
+      let still : max reach v ≡ c = grind arith in
       record {
-        cycle = ap (to_clock reach) g ∙ ap (λ (z : ℕ). Some z) (still reach u v c e l n);
+        cycle = ap (to_clock reach) g ∙ ap (λ (z : ℕ). Some z) still;
         outcomes = flags_slack c (known_at d x m k) (known_at (edited d fifo depth) x m k) asked s ∙ r.outcomes;
       }
-    where
-      still : (r u v c : ℕ) → max r u ≡ c → v ≤ c → (u ≡ c → v ≡ c) → max r v ≡ c
-      still r u v c e l n = elim (cases_eq u c) [ inl w ↦ let w' = n w in omega arith | inr w ↦ omega arith ]

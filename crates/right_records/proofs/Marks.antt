@@ -1,5 +1,5 @@
 -- The marks of a core speak of no cycle, of no depth, and not of what is verified.
-use Rattle.std.proofs.Common.{ℕ}
+use Rattle.std.proofs.Common.{arith, ℕ}
 use Rattle.event_timing.specs.Machines.{Design}
 use Rattle.event_timing.specs.Views.{own}
 use Rattle.event_timing.specs.Core.{Core}
@@ -11,35 +11,9 @@ module _ {S : Type 0} (d : Design S) (x : Core S) (b : AreOwnMarks d x) where
   -- under another depth, and with other cycles
   pub marks_on : (fifo depth : ℕ) (cycles : ℕ → ℕ → ℕ) → AreOwnMarks (edited d fifo depth) (with_cycles x cycles)
   unfolding own
-  marks_on fifo depth cycles =
-      record {
-        own_step = b.own_step;
-        own_wait = b.own_wait;
-        lives = b.lives;
-        ended = b.ended;
-        replied = b.replied;
-        there = b.there;
-        ended_replied = b.ended_replied;
-        ended_there = b.ended_there;
-        fit = b.fit;
-        unanswered = b.unanswered;
-        inside = b.inside;
-      }
+  marks_on fifo depth cycles = grind arith
 
   -- and where the core is cut at a clock
   pub marks_cut : (t : ℕ) → AreOwnMarks d (after_edit d x t)
   unfolding own
-  marks_cut t =
-      record {
-        own_step = b.own_step;
-        own_wait = b.own_wait;
-        lives = b.lives;
-        ended = b.ended;
-        replied = b.replied;
-        there = b.there;
-        ended_replied = b.ended_replied;
-        ended_there = b.ended_there;
-        fit = b.fit;
-        unanswered = b.unanswered;
-        inside = b.inside;
-      }
+  marks_cut t = grind arith

@@ -1,5 +1,5 @@
 -- Right records after edits, and final cores as right records.
-use Rattle.std.proofs.Common.{◌≡◌, ℕ, ◌<◌, ◌≤◌, inl, inr, Some, arith}
+use Rattle.std.proofs.Common.{◌≡◌, ℕ, ◌<◌, ◌≤◌, Some, arith}
 use Rattle.event_timing.specs.Machines.{Design, IsDesign}
 use Rattle.event_timing.specs.Histories.{Trace, IsHistory}
 use Rattle.event_timing.specs.Enablers.{candidate}
@@ -40,20 +40,11 @@ module _ {S : Type 0} (d : Design S) (limit : ℕ) (x : Core S) (r : IsRightReco
   design_now = edited d fifo depth
 
   still_no_run : (m : ℕ) → MayRun design_now now m → ⊥
-  still_no_run m z = r.no_run m (record { inside = z.inside; lives = z.lives; answered = z.answered; there = z.there })
+  still_no_run m z = r.no_run m (grind arith)
 
   right_now : ((m k : ℕ) → k < x.timed m → IsChecked d x cycles fifo depth 0 m k) → (m k : ℕ) → k < x.timed m → IsRight design_now now m k
   right_now checked m k q =
-      elim (checked m k q) [
-        | inr w ↦ w
-        | inl (s, e) ↦
-            still_right design_now x cycles m k s
-            (elim e [
-              | inl b ↦ beside_right d x fifo depth m k b (r.right m k q)
-              | inr (inl b) ↦ absurd (omega arith)
-              | inr (inr b) ↦ b
-            ])
-      ]
+      grind (arith, checked m k q, still_right design_now x cycles m k, beside_right d x fifo depth m k, r.right m k q)
 
   pub record_on : ((m k : ℕ) → k < x.timed m → IsChecked d x cycles fifo depth 0 m k) → ((m k : ℕ) → k < x.timed m → cycles m k < limit)
       → ((m c : ℕ) → candidate design_now (view design_now now) m ≡ Some c → limit ≤ c) → IsRightRecord design_now limit now

@@ -11,13 +11,13 @@ use Rattle.event_timing.specs.Agreement.{IsAgreed, elements_timed, possible_all}
 use Rattle.event_timing.specs.Edits.{kept, after_edit}
 use Rattle.event_timing.proofs.Candidate.{candidate_done, candidate_steps, candidate_ready}
 use Rattle.event_timing.proofs.Earliest.{earliest_right}
-use Rattle.event_timing.proofs.Editing.{kept_same}
+use Rattle.event_timing.proofs.Editing.{kept_same, time_from}
 use Rattle.event_timing.proofs.Fronts.{IsDone, agrees_done}
 use Rattle.event_timing.proofs.Replying.{core_fronts, replies_right}
 use Rattle.event_timing.proofs.Sure.{new_sure}
 use Rattle.right_records.specs.Records.{IsRightRecord}
 use Rattle.right_records.proofs.Keeping.{kept_none, kept_all, kept_more}
-use Rattle.right_records.proofs.Standing.{time_from, rise, cut_marks, cut_time, cut_stuck, next_determined, next_flags, stay_le}
+use Rattle.right_records.proofs.Standing.{rise, cut_marks, cut_time, cut_stuck, next_determined, next_flags, stay_le}
 
 module _ {S : Type 0} (d : Design S) (h : Trace S) (i : IsDesign d) (y : IsHistory d h) (limit : ℕ) (x : Core S)
     (r : IsRightRecord d limit x) where
@@ -69,12 +69,12 @@ module _ {S : Type 0} (d : Design S) (h : Trace S) (i : IsDesign d) (y : IsHisto
 
   done_from : (t : ℕ) → AreDone t → IsDone d h (cut t)
   done_from t f =
+      let same = λ (m k : ℕ) (l : k < stay t m). kept_same (x.cycle m) t (x.timed m) k l in
       record {
         within = λ m. omega (arith, stay_le d i limit x r t m, r.within m);
-        steps_then = λ m k l. subst (λ (c : ℕ). steps d h c m ≡ true) (sym (kept_same (x.cycle m) t (x.timed m) k l)) (f m k l).steps_at;
-        done_then = λ m k l. subst (λ (c : ℕ). done d h m c ≡ k) (sym (kept_same (x.cycle m) t (x.timed m) k l)) (f m k l).done_at;
-        reply_then = λ m k l. subst (λ (c : ℕ). core_reply d x m k ≡ replies d h c m) (sym (kept_same (x.cycle m) t (x.timed m) k l))
-            (f m k l).reply_at;
+        steps_then = λ m k l. rw (same m k l) (f m k l).steps_at;
+        done_then = λ m k l. rw (same m k l) (f m k l).done_at;
+        reply_then = λ m k l. rw (same m k l) (f m k l).reply_at;
       }
 
   all_done : (t : ℕ) → t ≤ limit → AreDone t
@@ -92,9 +92,7 @@ module _ {S : Type 0} (d : Design S) (h : Trace S) (i : IsDesign d) (y : IsHisto
 
   -- so are all
   each_done : (m k : ℕ) → k < x.timed m → IsDoneAt m k (x.cycle m k)
-  each_done m k l =
-      all_done limit (omega arith) m k
-      (subst (λ (z : ℕ). k < z) (sym (kept_all (x.cycle m) limit (x.timed m) (λ j p. r.below m j p))) l)
+  each_done m k l = all_done limit (omega arith) m k (rw (kept_all (x.cycle m) limit (x.timed m) (λ j p. r.below m j p)) l)
 
   pub right_agrees : IsAgreed d h limit x
   right_agrees =

@@ -1,5 +1,5 @@
 //! The laws, for any design `d` over states of any type `S`, and any history `h` of it.
-ghost use Rattle.std.specs.Prelude.{Bool, ◌⊎◌, ◌≡◌, ℕ, suc, ◌-◌, ◌<◌, ◌≤◌, Some};
+ghost use Rattle.std.specs.Prelude.{Bool, ◌⊎◌, ◌≡◌, ℕ, ◌-◌, ◌<◌, ◌≤◌, Some};
 ghost use Rattle.flow_word.specs.declared.access.Side.TheVariants.{Push};
 ghost use Rattle.event_timing.specs.Machines.{Access, Design, IsDesign};
 ghost use Rattle.event_timing.specs.Histories.{Trace, IsHistory};

@@ -1,23 +1,22 @@
 -- What is possible by the contents is possible by counts, and what is told and moved is the same.
-use Rattle.std.proofs.Common.{◌≡◌, ℕ, suc, ◌+◌, ◌-◌, ◌<◌, List, [], ◌∷◌, ◌++◌, map, length, get_or, Bool, true, false, ◌||◌, ◌&&◌, not}
-use Rattle.std.proofs.Common.{cond, refl, sym, ◌∙◌, ap, ap₂, arith, inl, inr, ◌==◌, ltb, length-append, add-zero}
+use Rattle.std.proofs.Common.{◌≡◌, ℕ, suc, ◌+◌, ◌-◌, ◌<◌, List, [], ◌∷◌, ◌++◌, map, length, get_or, Bool, false, ◌||◌, ◌&&◌, not}
+use Rattle.std.proofs.Common.{cond, refl, sym, ◌∙◌, ap, ap₂, arith, ◌==◌, ltb, length-append, add-zero}
 use Rattle.std.specs.List.{list_any, AllByRecursion}
-use Rattle.std.proofs.lemmas.Bool.{cases_Bool, or_parts}
+use Rattle.std.proofs.lemmas.Bool.{or_parts}
 use Rattle.std.proofs.lemmas.List.{get_or-drop}
+use Rattle.event_timing.proofs.Values.{length_values}
 use Rattle.flow_word.specs.declared.access.Side.{Side}
 use Rattle.flow_word.specs.declared.access.Side.TheVariants.{Pop, Push}
-use Rattle.flow_word.specs.Kinds.{same_side}
+use Rattle.flow_word.specs.Kinds.{same_side, side_of, is_blocking, is_taking}
 use Rattle.flow_word.specs.declared.access.Kind.{Kind}
-use Rattle.flow_word.specs.declared.access.Kind.TheVariants.{Read, Write, TryRead, TryWrite, Empty, Full}
 use Rattle.flow_design.specs.declared.plan.Plan.{Plan}
 use Rattle.flow_design.specs.declared.state.Element.{Element}
 use Rattle.flow_design.specs.declared.state.ModuleState.{ModuleState}
 use Rattle.flow_design.specs.declared.state.Request.{Request}
 use Rattle.flow_design.specs.declared.state.Reply.{Reply}
-use Rattle.flow_design.specs.Plans.{is_fifo, kind_at, delay_at}
+use Rattle.flow_design.specs.Plans.{delay_at}
 use Rattle.flow_design.specs.StaticRules.{FitsEngine}
 use Rattle.lockstep_defs.specs.Machine.{is_yes, value_in}
-use Rattle.flow_word.specs.Kinds.{side_of, is_blocking, is_taking}
 use Rattle.lockstep_defs.specs.Channels.{front, values, is_possible, stalls, reply, reply_by, popped_value, pushed_value, moved_by, moved}
 use Rattle.lockstep_defs.specs.Channels.{contents_of}
 use Rattle.lockstep_defs.specs.Lockstep.{requests_of, answered, state, history}
@@ -27,11 +26,11 @@ use Rattle.lockstep_defs.proofs.Queue.{contents_are, channel_count}
 use Rattle.lockstep_defs.proofs.Rules.{keeps_ports}
 use Rattle.lockstep_defs.proofs.Counts.{is_counted}
 use Rattle.event_timing.specs.Machines.{takes_in, values_in, took}
-use Rattle.event_timing.specs.Machines as theory
 use Rattle.event_timing.specs.Histories.{can_all, reply_to}
-use Rattle.event_timing.specs.Histories as counted
 use Rattle.timing_bridge.specs.Designs.{design, lockstep_run, seen, told, told_all}
 use Rattle.timing_bridge.proofs.Requests.{stand}
+use Rattle.event_timing.specs.Machines as theory
+use Rattle.event_timing.specs.Histories as counted
 
 -- ---- one channel
 
@@ -43,17 +42,8 @@ possible_same p h c Pop f l =
     ∙ sym (is_counted p h c f l).pops
 possible_same p h c Push f l =
     let now : suc c - 1 ≡ c = omega arith in
-    rw now
-    (elim (cases_Bool (is_fifo (kind_at p f))) [
-      | inl e ↦
-          ap (λ (b : Bool). not b || ltb (length (moved Push f (history p c)))
-          ((design p).start Push f + length (moved Pop f (history p c)))) e
-          ∙ sym ((is_counted p h c f l).pushes e)
-      | inr e ↦
-          ap (λ (b : Bool). not b || ltb (length (moved Push f (history p c)))
-          ((design p).start Push f + length (moved Pop f (history p c)))) e
-          ∙ sym ((is_counted p h c f l).unlimited e)
-    ])
+    let counted = is_counted p h c f l in
+    rw now (grind (arith, counted.pushes, counted.unlimited))
 
 first_value : (held : List Element) → get_or (values held) 0 0 ≡ front held
 first_value [] = refl
@@ -88,9 +78,7 @@ pub alike : (p : Plan) → FitsEngine p → (c i : ℕ) (s : ModuleState) → Al
 alike p h c i s = alike_all p h c i (requests_of p (i, s)) (stand p h i s)
 
 can_both : (b q x : Bool) → ((not b || q) && not x) ≡ not ((b && not q) || x)
-can_both true true x = refl
-can_both true false x = refl
-can_both false q x = refl
+can_both b q x = grind arith
 
 pub can_same : (p : Plan) (c : ℕ) (rs : List Request) → AllByRecursion (Alike p c) rs
     → can_all (design p) (lockstep_run p) c (map seen rs) ≡ not (list_any (stalls p c (state p c).contents) rs)
@@ -104,14 +92,7 @@ can_same p c (r ∷ rs) h =
 
 told_kind : (k : Kind) (q : Bool) (v : ℕ) → (is_blocking k && not q) ≡ false
     → reply_by k q (cond (is_taking k && (same_side (side_of k) Pop && q)) v 0) ≡ reply_by k q v
-told_kind Read true v h = refl
-told_kind Read false v h = cc
-told_kind Write q v h = refl
-told_kind TryRead true v h = refl
-told_kind TryRead false v h = refl
-told_kind TryWrite q v h = refl
-told_kind Empty q v h = refl
-told_kind Full q v h = refl
+told_kind k q v h = grind arith
 
 told_one : (p : Plan) (c : ℕ) (r : Request) → Alike p c r → stalls p c (state p c).contents r ≡ false
     → told r (reply_to (design p) (lockstep_run p) c (seen r)) ≡ reply p c (state p c).contents r
@@ -137,45 +118,11 @@ told_same p c (r ∷ rs) h e =
 pub pop_kind : (k : Kind) (q t : Bool) (v : ℕ) → (is_blocking k && not q) ≡ false
     → cond (is_taking k && (q && (same_side (side_of k) Pop && t))) 1 0
     ≡ length (cond t (popped_value k (is_yes (reply_by k q v)) (value_in (reply_by k q v))) [])
-pop_kind Read true true v h = refl
-pop_kind Read true false v h = refl
-pop_kind Read false t v h = cc
-pop_kind Write true true v h = refl
-pop_kind Write true false v h = refl
-pop_kind Write false t v h = cc
-pop_kind TryRead true true v h = refl
-pop_kind TryRead true false v h = refl
-pop_kind TryRead false true v h = refl
-pop_kind TryRead false false v h = refl
-pop_kind TryWrite true true v h = refl
-pop_kind TryWrite true false v h = refl
-pop_kind TryWrite false true v h = refl
-pop_kind TryWrite false false v h = refl
-pop_kind Empty q true v h = refl
-pop_kind Empty q false v h = refl
-pop_kind Full q true v h = refl
-pop_kind Full q false v h = refl
+pop_kind k q t v h = grind arith
 
 pub push_kind : (k : Kind) (q t : Bool) (v w : ℕ) → (is_blocking k && not q) ≡ false
     → cond (is_taking k && (q && (same_side (side_of k) Push && t))) (w ∷ []) [] ≡ cond t (pushed_value k (is_yes (reply_by k q v)) w) []
-push_kind Read true true v w h = refl
-push_kind Read true false v w h = refl
-push_kind Read false t v w h = cc
-push_kind Write true true v w h = refl
-push_kind Write true false v w h = refl
-push_kind Write false t v w h = cc
-push_kind TryRead true true v w h = refl
-push_kind TryRead true false v w h = refl
-push_kind TryRead false true v w h = refl
-push_kind TryRead false false v w h = refl
-push_kind TryWrite true true v w h = refl
-push_kind TryWrite true false v w h = refl
-push_kind TryWrite false true v w h = refl
-push_kind TryWrite false false v w h = refl
-push_kind Empty q true v w h = refl
-push_kind Empty q false v w h = refl
-push_kind Full q true v w h = refl
-push_kind Full q false v w h = refl
+push_kind k q t v w h = grind arith
 
 pops_same : (p : Plan) (c f : ℕ) (rs : List Request) → AllByRecursion (Alike p c) rs → list_any (stalls p c (state p c).contents) rs ≡ false
     → takes_in Pop f (map seen rs) (counted_replies p c rs) ≡ length (moved_by Pop f (map (answered p c (state p c).contents) rs))
@@ -204,20 +151,9 @@ pushes_same p c f (r ∷ rs) h e =
     (push_kind r.kind (is_possible p c cs (side_of r.kind) r.channel) (r.channel == f)
     (front (contents_of cs r.channel)) r.value parts.0)
 
-pub one_long : (b : Bool) (v : ℕ) → cond b 1 0 ≡ length (cond b (v ∷ []) [])
-one_long true v = refl
-one_long false v = refl
-
--- the pushes are as many as their values
-as_many : (f : ℕ) (xs : List theory.Access) (rs : List theory.Reply) → takes_in Push f xs rs ≡ length (values_in f xs rs)
-as_many f [] rs = refl
-as_many f (a ∷ xs) [] = refl
-as_many f (a ∷ xs) (r ∷ rs) =
-    ap₂ (λ (x y : ℕ). x + y) (one_long (took Push f a r) a.value) (as_many f xs rs) ∙ sym (length-append _ _)
-
 -- what these requests take at a side, by counts, is what they move there
 pub taken_same : (p : Plan) (c : ℕ) (side : Side) (f : ℕ) (rs : List Request) → AllByRecursion (Alike p c) rs
     → list_any (stalls p c (state p c).contents) rs ≡ false
     → takes_in side f (map seen rs) (counted_replies p c rs) ≡ length (moved_by side f (map (answered p c (state p c).contents) rs))
 taken_same p c Pop f rs h e = pops_same p c f rs h e
-taken_same p c Push f rs h e = as_many f (map seen rs) (counted_replies p c rs) ∙ ap length (pushes_same p c f rs h e)
+taken_same p c Push f rs h e = sym (length_values f (map seen rs) (counted_replies p c rs)) ∙ ap length (pushes_same p c f rs h e)

@@ -1,50 +1,39 @@
 -- A module's own run has fewer steps than the operation limit.
-use Rattle.std.proofs.Common.{◌≡◌, ℕ, zero, suc, ◌+◌, ◌≤◌, ◌<◌, List, [], ◌∷◌, map, length, ◌-◌, true, false, ◌&&◌, arith, ◌==◌}
-use Rattle.std.specs.Prelude.{slice_index}
+use Rattle.std.proofs.Common.{◌≡◌, ℕ, zero, suc, ◌+◌, ◌≤◌, ◌<◌, List, [], ◌∷◌, map, length, true, false, arith}
 use Rattle.std.specs.List.{filter_map}
-use Rattle.std.proofs.lemmas.Bool.{cond_both}
 use Rattle.flow_design.specs.declared.design.Block.{Block}
 use Rattle.flow_design.specs.declared.design.Module.{Module}
 use Rattle.flow_design.specs.declared.design.Next.{Next}
-use Rattle.flow_design.specs.declared.design.Next.TheVariants.{Goto, Branch, Stop}
 use Rattle.flow_design.specs.declared.plan.Plan.{Plan}
 use Rattle.flow_design.specs.declared.state.Due.{Due}
 use Rattle.flow_design.specs.declared.state.ModuleState.{ModuleState}
 use Rattle.flow_design.specs.declared.state.Reply.{Reply}
-use Rattle.flow_design.specs.Module.{block_of, interval, due}
+use Rattle.flow_design.specs.Module.{block_of, due}
 use Rattle.flow_design.specs.StaticRules.{FitsEngine}
-use Rattle.lockstep_defs.specs.Machine.{requests, request_for, entered, ticked, started, decided, followed, is_block_over, finished}
-use Rattle.lockstep_defs.specs.Machine.{committed, move, again_of, is_over}
+use Rattle.lockstep_defs.specs.Machine.{requests, request_for, entered, ticked, decided, followed, finished, committed, move, is_over}
 use Rattle.lockstep_defs.specs.Lockstep.{module_at, requests_of}
 use Rattle.event_timing.specs.Machines.{skip, ready, is_some_access}
-use Rattle.event_timing.specs.Machines as theory
 use Rattle.event_timing.specs.Views.{own}
 use Rattle.event_timing.specs.Agreement.{IsBounded}
 use Rattle.event_timing.proofs.OwnRuns.{own_fits}
 use Rattle.timing_bridge.specs.Designs.{design, seen, told_all, accesses_in}
 use Rattle.timing_bridge.proofs.History.{plan_is_design}
 use Rattle.lockstep_defs.proofs.Agrees.{below_limit}
+use Rattle.event_timing.specs.Machines as theory
 
 -- ---- a move adds at least what is due to the count
 
 followed_counts : (m : Module) (x : Next) (n : ℕ) (v : ModuleState) → n ≤ v.count → n ≤ (followed m x v).count
 unfolding entered
-followed_counts m (Goto b) n v h = omega arith
-followed_counts m (Branch r a b) n v h = omega arith
-followed_counts m Stop n v h = h
+followed_counts m x n v h = grind arith
 
 decided_counts : (b : Block) (n : ℕ) (u : ModuleState) → n ≤ u.count → n ≤ (decided b u).count
 unfolding decided
-decided_counts b n u h =
-    cond_both (u.control.looping && (u.control.clock - u.control.newest == interval b)) _ u (λ (v : ModuleState). n ≤ v.count)
-    (λ e. cond_both (slice_index u.registers (again_of b.kind) == 0) _ (started b u) (λ (v : ModuleState). n ≤ v.count) (λ z. h)
-    (λ z. omega arith))
-    (λ e. h)
+decided_counts b n u h = grind arith
 
 finished_counts : (m : Module) (b : Block) (n : ℕ) (v : ModuleState) → n ≤ v.count → n ≤ (finished m b v).count
 unfolding finished
-finished_counts m b n v h =
-    cond_both (is_block_over b v.control) _ v (λ (w : ModuleState). n ≤ w.count) (λ e. followed_counts m b.next n v h) (λ e. h)
+finished_counts m b n v h = grind (arith, followed_counts m b.next n v)
 
 ticked_counts : (b : Block) (n : ℕ) (u : ModuleState) → n ≤ u.count → n ≤ (ticked b u).count
 unfolding ticked

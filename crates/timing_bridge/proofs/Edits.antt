@@ -1,7 +1,8 @@
 -- An edit of the plan is the theory's edit of its design.
-use Rattle.std.proofs.Common.{◌≡◌, ℕ, ◌≤◌, ◌<◌, List, length, true, ◌&&◌, cond, refl, sym, ◌∙◌, ap, subst, inl, inr, eqb}
+use Rattle.std.proofs.lemmas.Bool.Decides.{nat_tests}
+use Rattle.std.proofs.Common.{arith, ◌≡◌, ℕ, ◌≤◌, ◌<◌, List, length, true, ◌&&◌, cond, refl, sym, ◌∙◌, ap, subst, inl, inr, eqb}
 use Rattle.std.specs.Prelude.{slice_index}
-use Rattle.std.proofs.lemmas.Bool.{cases_eq, eq-eqb, ne_eqb}
+use Rattle.std.proofs.lemmas.Bool.{cases_eq}
 use Rattle.std.proofs.lemmas.List.{get_or-set_same, get_or-set_other, length-set, set-get_or}
 use Rattle.flow_word.specs.declared.access.Side.{Side}
 use Rattle.flow_word.specs.Kinds.{same_side}
@@ -79,14 +80,10 @@ same_start : (p : Plan) (f depth : ℕ) → f < length p.depths → (side : Side
     → cond (same_side side Push && eqb g f) depth (start_in p side g) ≡ start_in (with_depth p f depth) side g
 unfolding moment opening
 same_start p f depth h Pop g = refl
-same_start p f depth h Push g = elim (cases_eq g f) [
-  | inl e ↦ rw (eq-eqb g f e, e) (sym (get_or-set_same p.depths f depth 0 h))
-  | inr ne ↦ rw (ne_eqb g f ne) (sym (get_or-set_other p.depths f g depth 0 ne))
-]
+same_start p f depth h Push g = grind (arith, nat_tests, get_or-set_same p.depths f depth 0 h, get_or-set_other p.depths f g depth 0)
 
 same_lag : (p : Plan) (f depth : ℕ) (side : Side) (g : ℕ) → lag_in p side g ≡ lag_in (with_depth p f depth) side g
-same_lag p f depth Pop g = refl
-same_lag p f depth Push g = refl
+same_lag p f depth side g = grind arith
 
 pub same_design : (p : Plan) (f depth : ℕ) → f < length p.depths → edited (design p) f depth ≡ design (with_depth p f depth)
 unfolding moment opening owner quiet quiet_below measure

@@ -1,19 +1,17 @@
 -- The lockstep run of a plan is a history of its design.
 use Rattle.std.proofs.Common.{◌≡◌, ℕ, suc, ◌+◌, List, [], ◌++◌, map, length, Bool, true, false, ◌&&◌, not, ◌<◌, refl, sym, ◌∙◌, ap, arith}
 use Rattle.std.proofs.Common.{inl, inr, length-append, append_assoc}
-use Rattle.std.proofs.lemmas.Bool.{cases_lt, cond-true, cond-false}
+use Rattle.std.proofs.lemmas.Bool.{cases_lt, cond-false}
 use Rattle.std.proofs.lemmas.List.{append-nil, get_or_past}
 use Rattle.flow_word.specs.declared.access.Side.{Side}
 use Rattle.flow_word.specs.declared.access.Side.TheVariants.{Pop, Push}
-use Rattle.flow_design.specs.declared.design.Channel.{Channel}
 use Rattle.flow_design.specs.declared.plan.Plan.{Plan}
 use Rattle.flow_design.specs.declared.state.ModuleState.{ModuleState}
-use Rattle.flow_design.specs.declared.state.Reply.{Reply}
-use Rattle.flow_design.specs.Plans.{no_channel, delay_of, delay_at}
+use Rattle.flow_design.specs.Plans.{no_channel}
 use Rattle.flow_design.specs.StaticRules.{FitsEngine}
-use Rattle.lockstep_defs.specs.Machine.{move, nobody, is_over}
+use Rattle.lockstep_defs.specs.Machine.{nobody, is_over}
 use Rattle.lockstep_defs.specs.Channels.{reply, moved, values, contents_of}
-use Rattle.lockstep_defs.specs.Lockstep.{module_at, requests_of, moves, next_state, opening, moment, state, state_at, history}
+use Rattle.lockstep_defs.specs.Lockstep.{requests_of, moves, next_state, opening, moment, state, state_at, history}
 use Rattle.lockstep_defs.specs.Ports.{owner}
 use Rattle.lockstep_defs.specs.Quiet.{fits}
 use Rattle.lockstep_defs.proofs.Settled.{history-zero}
@@ -22,23 +20,18 @@ use Rattle.lockstep_defs.proofs.Queue.{moved-nil, nothing_stalls}
 use Rattle.lockstep_defs.proofs.Agrees.{all_modules, state_at-suc}
 use Rattle.event_timing.specs.Machines.{IsDesign, takes_in, values_in}
 use Rattle.event_timing.specs.Histories.{IsHistory, replies}
-use Rattle.event_timing.specs.Histories as counted
 use Rattle.timing_bridge.specs.Designs.{design, lag_in, lockstep_run, accesses_in, move_in, told_all}
 use Rattle.timing_bridge.proofs.Requests.{owned_in, open_in, one_taker}
 use Rattle.timing_bridge.proofs.Quiet.{quiet_lives, quiet_idle, quiet_ends, first_fits, next_fits, outside_over}
 use Rattle.timing_bridge.proofs.Alike.{alike, can_same, told_same, taken_same, pushes_same}
 use Rattle.timing_bridge.proofs.Moved.{nobody_moves, share, share_moves, share_stays, moved_more}
+use Rattle.event_timing.specs.Histories as counted
 
 -- ---- the design
 
 some_lag : (p : Plan) → FitsEngine p → (side : Side) (f : ℕ) → 0 < lag_in p side f
 some_lag p h Push f = omega arith
-some_lag p h Pop f = elim (cases_lt f (length p.design.channels)) [
-  | inl l ↦ delay_positive p h f l
-  | inr l ↦
-      let one : delay_at p f ≡ 1 = ap (λ (ch : Channel). delay_of ch.kind) (get_or_past p.design.channels f no_channel l) in
-      omega (arith, one)
-]
+some_lag p h Pop f = grind (arith, delay_positive p h f, get_or_past p.design.channels f no_channel)
 
 pub plan_is_design : (p : Plan) → FitsEngine p → IsDesign (design p)
 plan_is_design p h =
@@ -87,16 +80,11 @@ replies_same p h c i e =
 
 moves_on : (p : Plan) → FitsEngine p → (c i : ℕ) → counted.moves (design p) (lockstep_run p) c i ≡ true
     → state_at p (suc c) i ≡ move_in p i (state_at p c i) (replies (design p) (lockstep_run p) c i)
-moves_on p h c i m =
-    let e = sym (moves_same p h c i) ∙ m in
-    next_at p c i
-    ∙ (cond-true (moves p c (state p c).contents (i, state_at p c i)) _ (state_at p c i) e
-    ∙ ap (λ (rs : List Reply). move (module_at p i) (state_at p c i) rs) (sym (replies_same p h c i e)))
+moves_on p h c i m = grind (arith, moves_same p h c i, next_at p c i, replies_same p h c i)
 
 stays : (p : Plan) → FitsEngine p → (c i : ℕ) → counted.moves (design p) (lockstep_run p) c i ≡ false
     → state_at p (suc c) i ≡ state_at p c i
-stays p h c i m = next_at p c i
-    ∙ cond-false (moves p c (state p c).contents (i, state_at p c i)) _ (state_at p c i) (sym (moves_same p h c i) ∙ m)
+stays p h c i m = grind (arith, moves_same p h c i, next_at p c i)
 
 -- ---- what is moved
 

@@ -5,9 +5,7 @@ use Rattle.std.specs.List.{flat_map, enumerate_from, AllByRecursion}
 use Rattle.std.proofs.lemmas.Bool.{cases_Bool, cases_eq, eqb-true, cond-true, cond-false}
 use Rattle.std.proofs.lemmas.List.{append-nil}
 use Rattle.flow_word.specs.declared.access.Side.{Side}
-use Rattle.flow_word.specs.declared.access.Side.TheVariants.{Pop, Push}
 use Rattle.flow_word.specs.declared.access.Kind.{Kind}
-use Rattle.flow_word.specs.declared.access.Kind.TheVariants.{Read, Write, TryRead, TryWrite, Empty, Full}
 use Rattle.flow_design.specs.declared.plan.Plan.{Plan}
 use Rattle.flow_design.specs.declared.state.Element.{Element}
 use Rattle.flow_design.specs.declared.state.ModuleState.{ModuleState}
@@ -46,18 +44,7 @@ share_stays p c cs side f m e =
 -- an operation moves nothing at the other side of its channel
 moves_nothing : (k : Kind) (channel value : ℕ) (q : Bool) (v : ℕ) (side : Side) → (side_of k ≢ side)
     → moved_value side (record { request = record { kind = k; channel = channel; value = value }; reply = reply_by k q v }) ≡ []
-moves_nothing Read channel value q v Pop h = absurd (h refl)
-moves_nothing Read channel value q v Push h = refl
-moves_nothing Write channel value q v Pop h = refl
-moves_nothing Write channel value q v Push h = absurd (h refl)
-moves_nothing TryRead channel value q v Pop h = absurd (h refl)
-moves_nothing TryRead channel value q v Push h = refl
-moves_nothing TryWrite channel value q v Pop h = refl
-moves_nothing TryWrite channel value q v Push h = absurd (h refl)
-moves_nothing Empty channel value q v Pop h = refl
-moves_nothing Empty channel value q v Push h = refl
-moves_nothing Full channel value q v Pop h = refl
-moves_nothing Full channel value q v Push h = refl
+moves_nothing k channel value q v side h = grind arith
 
 -- none of module i's requests on channel f stands at this side
 abbrev pub StandsElsewhere : Plan → Side → ℕ → ℕ → Type 0
@@ -76,7 +63,7 @@ none_moved : (p : Plan) (c : ℕ) (cs : List (List Element)) (side : Side) (f i 
 unfolding moved_by
 none_moved p c cs side f i never [] h = refl
 none_moved p c cs side f i never (r ∷ rs) h =
-    ap₂ (λ (x y : List ℕ). x ++ y) (none_by p c cs side f i never r h.0 (r.channel == f) refl) (none_moved p c cs side f i never rs h.1)
+    rw (none_by p c cs side f i never r h.0 (r.channel == f) refl) (none_moved p c cs side f i never rs h.1)
 
 pub none_shared : (p : Plan) → FitsEngine p → (c : ℕ) (cs : List (List Element)) (side : Side) (f i : ℕ) → StandsElsewhere p side f i
     → (s : ModuleState) → share p c cs side f (i, s) ≡ []
@@ -87,7 +74,7 @@ none_shared p h c cs side f i never s = elim (cases_Bool (moves p c cs (i, s))) 
 
 -- only its owner stands there
 not_owner : (p : Plan) (side : Side) (f i : ℕ) → (i ≢ owner p (record { side = side; channel = f })) → StandsElsewhere p side f i
-not_owner p side f i ne r h e k = ne (sym h.owned ∙ ap₂ (λ (a : Side) (g : ℕ). owner p (record { side = a; channel = g })) k e)
+not_owner p side f i ne r h e k = grind (arith, h.owned)
 
 -- ---- all modules
 

@@ -4,13 +4,12 @@ use Rattle.std.proofs.Common.{sym, ◌∙◌, ap, ap₂, arith, length-append, �
 use Rattle.std.specs.List.{range_with_len}
 use Rattle.std.proofs.lemmas.List.{append-nil, map-append}
 use Rattle.flow_word.specs.declared.access.Side.{Side}
-use Rattle.flow_word.specs.declared.access.Side.TheVariants.{Pop, Push}
-use Rattle.flow_word.specs.Kinds.{same_side}
+use Rattle.flow_word.specs.declared.access.Side.TheVariants.{Pop}
+use Rattle.flow_word.specs.Kinds.{same_side, side_of, is_blocking, is_taking}
 use Rattle.flow_word.specs.declared.access.Kind.{Kind}
 use Rattle.flow_design.specs.declared.plan.Plan.{Plan}
 use Rattle.flow_design.specs.declared.state.ModuleState.{ModuleState}
 use Rattle.flow_design.specs.declared.state.Request.{Request}
-use Rattle.flow_word.specs.Kinds.{side_of, is_blocking, is_taking}
 use Rattle.lockstep_defs.specs.Channels.{HistoryStep, reply_by, moved_value, moved_by, moved}
 use Rattle.lockstep_defs.specs.Lockstep.{requests_of}
 use Rattle.lockstep_defs.specs.OwnRun.{paired}
@@ -23,23 +22,18 @@ use Rattle.event_timing.proofs.OwnRuns.{tally_0, tally_more}
 use Rattle.event_timing.proofs.Fronts.{core_tally_is}
 use Rattle.timing_bridge.specs.Designs.{design, seen, told_all}
 use Rattle.timing_bridge.specs.CoreReports.{core_step}
-use Rattle.timing_bridge.proofs.Alike.{pop_kind, push_kind, one_long}
 use Rattle.flow_word.proofs.Ranges.{range_more}
 
 -- ---- one step
 
 not_stuck : (blocks possible : Bool) → (blocks ≡ true → possible ≡ true) → (blocks && not possible) ≡ false
-not_stuck true true h = refl
-not_stuck true false h = let e = h refl in cc
-not_stuck false possible h = refl
+not_stuck blocks possible h = grind arith
 
 -- an operation takes at a side, by counts, where it moves something there
 moves_one : (side : Side) (k : Kind) (q t : Bool) (channel v w : ℕ) → (is_blocking k && not q) ≡ false
     → cond (is_taking k && (q && (same_side (side_of k) side && t))) 1 0
     ≡ length (cond t (moved_value side (record { request = record { kind = k; channel = channel; value = w }; reply = reply_by k q v })) [])
-moves_one Pop k q t channel v w h = pop_kind k q t v h
-moves_one Push k q t channel v w h = one_long (is_taking k && (q && (same_side (side_of k) Push && t))) w
-    ∙ ap length (push_kind k q t v w h)
+moves_one side k q t channel v w h = grind arith
 
 moves_all : (values : ℕ → List ℕ) (before : ℕ → ℕ) (side : Side) (f : ℕ) (rs : List Request) (bs : List Bool) → FlagsFit (map seen rs) bs
     → takes_in side f (map seen rs) (replies_of values before (map seen rs) bs)

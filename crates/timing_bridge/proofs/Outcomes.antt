@@ -1,12 +1,10 @@
 -- A module's next step in the history, and the outcomes of its queries there.
-use Rattle.std.proofs.Common.{◌≡◌, ℕ, zero, suc, ◌+◌, ◌-◌, ◌<◌, Bool, true, false, not, cond, inl, inr, List, [], ◌∷◌, ◌++◌, map, length}
-use Rattle.std.proofs.Common.{refl, sym, ◌∙◌, ap, ap₂, arith, append_assoc, Some}
+use Rattle.std.proofs.Common.{◌≡◌, ℕ, zero, suc, ◌+◌, ◌-◌, ◌<◌, Bool, true, false, not, cond, List, [], ◌∷◌, ◌++◌, map, length, refl, sym}
+use Rattle.std.proofs.Common.{◌∙◌, ap, ap₂, arith, append_assoc, Some}
 use Rattle.std.specs.List.{AllByRecursion, range_with_len}
-use Rattle.std.proofs.lemmas.Bool.{cases_lt}
 use Rattle.std.proofs.lemmas.List.{append-nil}
 use Rattle.std.proofs.lemmas.List.Elements.{filter-append}
 use Rattle.flow_word.specs.declared.access.Kind.{Kind}
-use Rattle.flow_word.specs.declared.access.Kind.TheVariants.{Read, Write, TryRead, TryWrite, Empty, Full}
 use Rattle.flow_word.specs.Kinds.{side_of, is_blocking}
 use Rattle.flow_design.specs.declared.plan.Plan.{Plan}
 use Rattle.flow_design.specs.declared.state.Element.{Element}
@@ -41,13 +39,7 @@ use Rattle.timing_bridge.proofs.Steps.{done_at, a_step, steps_are}
 -- ---- outcomes by what is possible
 
 outcome_same : (k : Kind) (q : Bool) (v : ℕ) → is_yes (reply_by k q v) ≡ outcome_of k q
-outcome_same Read q v = refl
-outcome_same Write q v = refl
-outcome_same TryRead true v = refl
-outcome_same TryRead false v = refl
-outcome_same TryWrite q v = refl
-outcome_same Empty q v = refl
-outcome_same Full q v = refl
+outcome_same k q v = grind arith
 
 -- the outcomes in a step of the history are those by what is possible in its clock
 outcomes_same : (p : Plan) (c : ℕ) (rs : List Request) → AllByRecursion (Alike p c) rs
@@ -88,7 +80,7 @@ history_more p c (suc n) =
 module _ (p : Plan) (fits : FitsEngine p) (limit : ℕ) (x : Core ModuleState) (g : IsAgreed (design p) (lockstep_run p) limit x) (i : ℕ)
     (first : x.timed i < x.emitted i) where
   inside : i < length p.design.modules
-  inside = elim (cases_lt i (length p.design.modules)) [ inl l ↦ l | inr l ↦ absurd (omega (arith, g.marks.inside i l)) ]
+  inside = grind (arith, g.marks.inside i)
 
   -- in the clock of that step the module stands where the core has it
   stands : (c : ℕ) → IsStepAt (design p) (lockstep_run p) i (x.timed i) c → state_at p c i ≡ x.state i (x.timed i)

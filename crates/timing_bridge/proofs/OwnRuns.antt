@@ -1,7 +1,7 @@
 -- A module's own run, local clock by local clock, is the theory's own run: its steps come after the quiet clocks.
-use Rattle.std.proofs.Common.{◌≡◌, ℕ, zero, suc, ◌+◌, ◌≤◌, ◌<◌, List, [], ◌∷◌, ◌++◌, length, get_or, Bool, true, false, cond, refl, sym}
-use Rattle.std.proofs.Common.{◌∙◌, ap, ap₂, subst, arith, inl, inr, length-append, zero-add}
-use Rattle.std.proofs.lemmas.Bool.{cases_lt, both_ways, or_from, or_right}
+use Rattle.std.proofs.Common.{◌≡◌, ℕ, zero, suc, ◌+◌, ◌≤◌, ◌<◌, List, [], ◌∷◌, ◌++◌, length, get_or, true, false, refl, sym, ◌∙◌, ap, ap₂}
+use Rattle.std.proofs.Common.{subst, arith, length-append, zero-add}
+use Rattle.std.proofs.lemmas.Bool.{or_from, or_right}
 use Rattle.std.proofs.lemmas.List.{get_or-map}
 use Rattle.std.proofs.lemmas.List.FromFn.{length-map-range_with_len, get_or-map-range_with_len}
 use Rattle.flow_design.specs.declared.plan.Plan.{Plan}
@@ -9,14 +9,12 @@ use Rattle.flow_design.specs.declared.state.ModuleState.{ModuleState}
 use Rattle.flow_design.specs.declared.state.Reply.{Reply}
 use Rattle.flow_design.specs.declared.state.Request.{Request}
 use Rattle.flow_design.specs.StaticRules.{FitsEngine}
-use Rattle.lockstep_defs.specs.Machine.{requests, move, opened, nobody, is_over}
+use Rattle.lockstep_defs.specs.Machine.{move, opened, nobody, is_over}
 use Rattle.lockstep_defs.specs.Lockstep.{no_module, module_at, requests_of}
 use Rattle.lockstep_defs.specs.OwnRun.{Own, OwnStep, own_after, own_next}
-use Rattle.lockstep_defs.specs.OwnRun as real
 use Rattle.lockstep_defs.specs.Quiet.{is_some_request, rests, quiet, fits}
 use Rattle.lockstep_defs.proofs.Agrees.{own_suc, next_grows}
 use Rattle.event_timing.specs.Machines.{skip, ready}
-use Rattle.event_timing.specs.Machines as theory
 use Rattle.event_timing.specs.Views.{own}
 use Rattle.event_timing.specs.Core.{Core, core_reply}
 use Rattle.event_timing.specs.Agreement.{AreOwnMarks}
@@ -24,6 +22,8 @@ use Rattle.event_timing.proofs.OwnRuns.{own_0, own_more}
 use Rattle.timing_bridge.specs.Designs.{design, told_all, move_in}
 use Rattle.timing_bridge.specs.OwnRuns.{AreTold, core_replies, clocks_of_steps, IsOwnStep, AreOwnSteps, HasComeTo}
 use Rattle.timing_bridge.proofs.Quiet.{goes, ready_rests, first_fits, next_fits}
+use Rattle.lockstep_defs.specs.OwnRun as real
+use Rattle.event_timing.specs.Machines as theory
 
 steps_more : (p : Plan) (i : ℕ) (r : ℕ → List theory.Reply) (k n : ℕ) (ss : List OwnStep) (s : OwnStep) → k + length ss ≡ n
     → AreOwnSteps p i r k ss → IsOwnStep p i r n s → AreOwnSteps p i r k (ss ++ s ∷ [])
@@ -36,28 +36,20 @@ skip_fits p h i (suc n) s f = next_fits p h i (skip (design p) i n s) [] (skip_f
 
 -- every state of an own run is one that the module comes to
 own_fits : (p : Plan) → FitsEngine p → (i : ℕ) (r : ℕ → List theory.Reply) (k : ℕ) → fits p i (own (design p) i r k) ≡ true
-own_fits p h i r zero = ap (fits p i) (own_0 (design p) i r) ∙ first_fits p h i
+own_fits p h i r zero = rw (own_0 (design p) i r) (first_fits p h i)
 own_fits p h i r (suc k) =
     let s = own (design p) i r k in
-    ap (fits p i) (own_more (design p) i r k)
-    ∙ next_fits p h i (ready (design p) i s) (r k) (skip_fits p h i (quiet p i s) s (own_fits p h i r k))
+    rw (own_more (design p) i r k)
+    (next_fits p h i (ready (design p) i s) (r k) (skip_fits p h i (quiet p i s) s (own_fits p h i r k)))
 
 -- ---- where it rests, the quiet clocks are over
 
 at_rest : (p : Plan) (i n : ℕ) (s : ModuleState) → n ≤ quiet p i s → rests p i (skip (design p) i n s) ≡ true → n ≡ quiet p i s
-at_rest p i n s l e = elim (cases_lt n (quiet p i s)) [
-  | inl q ↦ absurd (both_ways (rests p i (skip (design p) i n s)) (goes p i s n q) e)
-  | inr q ↦ omega arith
-]
+at_rest p i n s l e = grind (arith, goes p i s n)
 
 not_at_rest : (p : Plan) → FitsEngine p → (i n : ℕ) (s : ModuleState) → fits p i s ≡ true → n ≤ quiet p i s
     → rests p i (skip (design p) i n s) ≡ false → n < quiet p i s
-not_at_rest p h i n s f l e = elim (cases_lt n (quiet p i s)) [
-  | inl q ↦ q
-  | inr q ↦
-      let k : quiet p i s ≡ n = omega arith in
-      absurd (both_ways _ e (subst (λ (c : ℕ). rests p i (skip (design p) i c s) ≡ true) k (ready_rests p h i s f)))
-]
+not_at_rest p h i n s f l e = grind (arith, ready_rests p h i s f)
 
 -- ---- one local clock
 
@@ -109,18 +101,8 @@ next_is : (p : Plan) → FitsEngine p → (i : ℕ) (r : ℕ → List theory.Rep
     → (o : Own) (t : ℕ) → HasComeTo p i r o t
     → length (own_next p i replies o).steps ≤ length replies → (u : ℕ) × HasComeTo p i r (own_next p i replies o) u
 unfolding own_next
-next_is p h i r replies tells o t g = by_test (is_over p.ops o.state) (one_more p h i r replies tells o t g)
-  where
-    goes_on : Own
-    goes_on = own_after (module_at p i) o (requests p.design.channels (module_at p i) o.state) (get_or replies (length o.steps) [])
-
-    by_test : (b : Bool)
-        → (b ≡ false → (rs : List Request) → requests_of p (i, o.state) ≡ rs
-        → length (own_after (module_at p i) o rs (get_or replies (length o.steps) [])).steps ≤ length replies
-        → (u : ℕ) × HasComeTo p i r (own_after (module_at p i) o rs (get_or replies (length o.steps) [])) u)
-        → length (cond b o goes_on).steps ≤ length replies → (u : ℕ) × HasComeTo p i r (cond b o goes_on) u
-    by_test true f l = (t, g)
-    by_test false f l = f refl (requests_of p (i, o.state)) refl l
+next_is p h i r replies tells o t g l =
+    grind (arith, one_more p h i r replies tells o t g, requests_of p (i, o.state))
 
 -- ---- the whole run
 

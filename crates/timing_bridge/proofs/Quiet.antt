@@ -1,7 +1,6 @@
 -- The quiet clocks of a module are those that the theory wants.
-use Rattle.std.proofs.Common.{◌≡◌, ℕ, zero, suc, ◌≤◌, ◌<◌, List, [], ◌∷◌, map, length, Bool, true, false, ◌||◌, refl, ◌∙◌, ap, arith, inl}
-use Rattle.std.proofs.Common.{inr}
-use Rattle.std.proofs.lemmas.Bool.{cases_lt, or_parts, both_ways}
+use Rattle.std.proofs.Common.{◌≡◌, ℕ, zero, suc, ◌≤◌, ◌<◌, List, [], ◌∷◌, map, length, Bool, true, false, ◌||◌, refl, ◌∙◌, ap, arith}
+use Rattle.std.proofs.lemmas.Bool.{or_parts}
 use Rattle.std.proofs.lemmas.List.{get_or-map, get_or_past, length-map}
 use Rattle.flow_design.specs.declared.plan.Plan.{Plan}
 use Rattle.flow_design.specs.declared.state.ModuleState.{ModuleState}
@@ -11,11 +10,11 @@ use Rattle.flow_design.specs.StaticRules.{FitsEngine}
 use Rattle.lockstep_defs.specs.Machine.{opened, move, nobody, is_over}
 use Rattle.lockstep_defs.specs.Lockstep.{no_module, module_at, requests_of}
 use Rattle.lockstep_defs.specs.Quiet.{is_some_request, rests, quiet, fits}
-use Rattle.lockstep_defs.specs.Quiet as real
 use Rattle.lockstep_defs.proofs.Resting.{fits_opened, fits_move, quiet_goes, quiet_rests}
 use Rattle.event_timing.specs.Machines.{skip, ready, is_some_access}
-use Rattle.event_timing.specs.Machines as theory
 use Rattle.timing_bridge.specs.Designs.{design, seen, told_all, accesses_in, move_in}
+use Rattle.lockstep_defs.specs.Quiet as real
+use Rattle.event_timing.specs.Machines as theory
 
 -- ---- quiet clocks
 
@@ -32,12 +31,10 @@ skip_same p i (suc n) s =
 
 -- where a request is, an access is
 pub asks_same : (rs : List Request) → is_some_access (map seen rs) ≡ is_some_request rs
-asks_same [] = refl
-asks_same (r ∷ rs) = refl
+asks_same rs = grind arith
 
 none_asked : (rs : List Request) → is_some_request rs ≡ false → map seen rs ≡ []
-none_asked [] h = refl
-none_asked (r ∷ rs) h = cc
+none_asked rs h = grind arith
 
 pub goes : (p : Plan) (i : ℕ) (s : ModuleState) (n : ℕ) → n < quiet p i s → rests p i (skip (design p) i n s) ≡ false
 goes p i s n l = ap (rests p i) (skip_same p i n s) ∙ quiet_goes p i s n l
@@ -53,8 +50,7 @@ pub ready_rests : (p : Plan) → FitsEngine p → (i : ℕ) (s : ModuleState) �
 ready_rests p h i s f = ap (rests p i) (skip_same p i (quiet p i s) s) ∙ quiet_rests p h i s f
 
 pub second_of : (a b : Bool) → (a || b) ≡ true → a ≡ false → b ≡ true
-second_of true b h e = cc
-second_of false b h e = h
+second_of a b h e = grind arith
 
 pub quiet_ends : (p : Plan) → FitsEngine p → (i : ℕ) (s : ModuleState) → fits p i s ≡ true → is_over p.ops (ready (design p) i s) ≡ false
     → is_some_access (accesses_in p i (ready (design p) i s)) ≡ true
@@ -68,26 +64,18 @@ unfolding is_over
 nobody_over p = refl
 
 pub nobody_quiet : (p : Plan) (i : ℕ) → quiet p i nobody ≡ 0
-nobody_quiet p i = elim (cases_lt 0 (quiet p i nobody)) [
-  | inl l ↦ absurd (both_ways (is_over p.ops nobody) (or_parts (is_over p.ops nobody) _ (quiet_goes p i nobody 0 l)).0 (nobody_over p))
-  | inr l ↦ omega arith
-]
+nobody_quiet p i = grind (arith, quiet_goes p i nobody 0, nobody_over p)
 
 pub opening_past : (p : Plan) (i : ℕ) → length p.design.modules ≤ i → (design p).opening i ≡ nobody
 opening_past p i l = get_or_past (map opened p.design.modules) i nobody (omega (arith, length-map p.design.modules opened))
 
 pub outside_over : (p : Plan) (i : ℕ) → length p.design.modules ≤ i → is_over p.ops (ready (design p) i ((design p).opening i)) ≡ true
-outside_over p i l =
-    ap (λ (s : ModuleState). is_over p.ops (ready (design p) i s)) (opening_past p i l)
-    ∙ (ap (λ (n : ℕ). is_over p.ops (skip (design p) i n nobody)) (nobody_quiet p i) ∙ nobody_over p)
+outside_over p i l = rw (opening_past p i l, nobody_quiet p i) (nobody_over p)
 
 -- ---- the states that a module comes to
 
 pub first_fits : (p : Plan) → FitsEngine p → (i : ℕ) → fits p i ((design p).opening i) ≡ true
-first_fits p h i = elim (cases_lt i (length p.design.modules)) [
-  | inl l ↦ ap (fits p i) (get_or-map opened p.design.modules i no_module nobody l) ∙ fits_opened p h i
-  | inr l ↦ ap (fits p i) (opening_past p i l)
-]
+first_fits p h i = grind (arith, get_or-map opened p.design.modules i no_module nobody, fits_opened p h i, opening_past p i)
 
 pub next_fits : (p : Plan) → FitsEngine p → (i : ℕ) (s : ModuleState) (replies : List theory.Reply) → fits p i s ≡ true
     → fits p i (move_in p i s replies) ≡ true

@@ -1,12 +1,13 @@
 -- The report of a final core is the plan's.
-use Rattle.std.proofs.Common.{◌≡◌, ℕ, zero, suc, ◌+◌, ◌≤◌, ◌<◌, List, [], ◌∷◌, map, length, true, false, ◌||◌, refl, sym, ◌∙◌, ap}
-use Rattle.std.proofs.Common.{ap₂, subst, arith, inl, inr, Some, None, Option}
+use Rattle.std.proofs.lemmas.Bool.Decides.{nat_tests}
+use Rattle.std.proofs.Common.{◌≡◌, ℕ, zero, suc, ◌+◌, ◌≤◌, ◌<◌, List, [], ◌∷◌, map, length, true, false, ◌||◌, refl, sym, ◌∙◌, ap, ap₂}
+use Rattle.std.proofs.Common.{arith, inl, inr, Some, None}
 use Rattle.std.specs.Prelude.{nat_lt, is_some}
 use Rattle.std.specs.List.{filter_map, range_with_len, list_any}
-use Rattle.std.proofs.lemmas.Bool.{cases_lt, cases_eq, cases_Bool, cond-false, cond_both, le-ltb, ltb-true, ltb-false, or_parts, both_ways}
+use Rattle.std.proofs.lemmas.Bool.{cases_lt, cases_Bool, cond_both, ltb-true, ltb-false, or_parts}
 use Rattle.flow_design.specs.declared.plan.Plan.{Plan}
 use Rattle.flow_design.specs.declared.report.Verdict.{Verdict}
-use Rattle.flow_design.specs.declared.report.Verdict.TheVariants.{Done, Deadlock, Cycles, Ops}
+use Rattle.flow_design.specs.declared.report.Verdict.TheVariants.{Cycles}
 use Rattle.flow_design.specs.declared.state.ModuleState.{ModuleState}
 use Rattle.flow_design.specs.StaticRules.{FitsEngine}
 use Rattle.lockstep_defs.specs.Machine.{nobody}
@@ -81,16 +82,8 @@ report_rested p h x g f u last top m e l ss o =
   where
     by_verdict : (v : Verdict) → verdict p ≡ v → clock_of v ≡ last → ((i : ℕ) → done (design p) (lockstep_run p) i last ≡ x.timed i)
         → held_in p last (state p last) ≡ filter_map (core_held_by p x) (modules_of p) → report p ≡ core_report p x ss v
-    by_verdict (Done c) is k all q =
-        report_from p h p.cycles x g ss o (Done c) is (λ i. ap (done (design p) (lockstep_run p) i) k ∙ all i) refl
-    by_verdict (Deadlock c) is k all q =
-        report_from p h p.cycles x g ss o (Deadlock c) is (λ i. ap (done (design p) (lockstep_run p) i) k ∙ all i)
-        (subst (λ (n : ℕ). held_in p n (state p n) ≡ filter_map (core_held_by p x) (modules_of p)) (sym k) q)
-    by_verdict (Cycles c) is k all q =
-        report_from p h p.cycles x g ss o (Cycles c) is (λ i. ap (done (design p) (lockstep_run p) i) k ∙ all i) refl
-    by_verdict (Ops c) is k all q =
-        report_from p h p.cycles x g ss o (Ops c) is (λ i. ap (done (design p) (lockstep_run p) i) k ∙ all i)
-        (subst (λ (n : ℕ). held_in p n (state p n) ≡ filter_map (core_held_by p x) (modules_of p)) (sym k) q)
+    by_verdict v is k all q =
+        report_from p h p.cycles x g ss o v is (λ i. ap (done (design p) (lockstep_run p) i) k ∙ all i) (grind arith)
 
 -- a step is determined, or the last stop is above the limit: the verdict is the limit's
 report_cut : (p : Plan) → FitsEngine p → (x : Core ModuleState) → IsAgreed (design p) (lockstep_run p) p.cycles x
@@ -109,9 +102,7 @@ no_steps_beyond p limit x g i l = let e = g.marks.inside i l in (e, omega (arith
 none_beyond : (p : Plan) (limit : ℕ) (x : Core ModuleState) → IsAgreed (design p) (lockstep_run p) limit x → (i : ℕ)
     → length p.design.modules ≤ i → candidate (design p) (view (design p) x) i ≡ None
 unfolding candidate
-none_beyond p limit x g i l =
-    let (z, y) = no_steps_beyond p limit x g i l in
-    cond-false (nat_lt (x.timed i) (x.emitted i)) _ None (le-ltb (x.timed i) (x.emitted i) (omega arith))
+none_beyond p limit x g i l = grind (arith, nat_tests, no_steps_beyond p limit x g i l)
 
 stop_beyond : (p : Plan) (limit : ℕ) (x : Core ModuleState) → IsAgreed (design p) (lockstep_run p) limit x → (i : ℕ)
     → length p.design.modules ≤ i → stop (design p) x i ≡ 0
@@ -128,52 +119,29 @@ undetermined_by : (p : Plan) (x : Core ModuleState) (a n : ℕ)
     → list_any (λ i. is_some (candidate (design p) (view (design p) x) i)) (range_with_len a n) ≡ false → (i c : ℕ) → a ≤ i → i < a + n
     → candidate (design p) (view (design p) x) i ≡ Some c → ⊥
 undetermined_by p x a zero h i c l m e = omega arith
-undetermined_by p x a (suc n) h i c l m e =
-    let parts = or_parts (is_some (candidate (design p) (view (design p) x) a)) _ h in
-    elim (cases_eq a i) [
-      | inl k ↦ let some = ap is_some (ap (candidate (design p) (view (design p) x)) k ∙ e) in both_ways _ parts.0 some
-      | inr k ↦ undetermined_by p x (a + 1) n parts.1 i c (omega arith) (omega arith) e
-    ]
+undetermined_by p x a (suc n) h i c l m e = grind (arith, undetermined_by p x (a + 1) n)
 
 determined_by : (p : Plan) (x : Core ModuleState) (a n : ℕ)
     → list_any (λ i. is_some (candidate (design p) (view (design p) x) i)) (range_with_len a n) ≡ true
     → (i : ℕ) × (c : ℕ) × (candidate (design p) (view (design p) x) i ≡ Some c)
 determined_by p x a zero h = cc
-determined_by p x a (suc n) h = by_option (candidate (design p) (view (design p) x) a) refl (determined_by p x (a + 1) n) h
-  where
-    by_option : (o : Option ℕ) → candidate (design p) (view (design p) x) a ≡ o
-        → (list_any (λ i. is_some (candidate (design p) (view (design p) x) i)) (range_with_len (a + 1) n) ≡ true
-        → (i : ℕ) × (c : ℕ) × (candidate (design p) (view (design p) x) i ≡ Some c))
-        → (is_some (candidate (design p) (view (design p) x) a) || list_any (λ i. is_some (candidate (design p) (view (design p) x) i))
-        (range_with_len (a + 1) n)) ≡ true
-        → (i : ℕ) × (c : ℕ) × (candidate (design p) (view (design p) x) i ≡ Some c)
-    by_option (Some c) e rest h = (a, c, e)
-    by_option None e rest h =
-        rest (ap (λ (o : Option ℕ). is_some o || list_any (λ i. is_some (candidate (design p) (view (design p) x) i))
-        (range_with_len (a + 1) n)) (sym e) ∙ h)
+determined_by p x a (suc n) h = grind (arith, determined_by p x (a + 1) n)
 
 undetermined : (p : Plan) (x : Core ModuleState) → IsAgreed (design p) (lockstep_run p) p.cycles x → is_determined p x ≡ false
     → IsUndetermined (design p) x
-undetermined p x g t m c k = elim (cases_lt m (length p.design.modules)) [
-  | inl l ↦ undetermined_by p x 0 (length p.design.modules) t m c (omega arith) (omega arith) k
-  | inr l ↦ let z = none_beyond p p.cycles x g m l in cc
-]
+undetermined p x g t m c k =
+    let n : ℕ = length p.design.modules in
+    grind (arith, undetermined_by p x 0 n t m c, none_beyond p p.cycles x g m)
 
 stop_below : (p : Plan) (x : Core ModuleState) (n i : ℕ) → i < n → stop (design p) x i ≤ last_stop p x n
 stop_below p x zero i l = absurd (omega arith)
-stop_below p x (suc n) i l = elim (cases_eq i n) [
-  | inl e ↦ let same = ap (stop (design p) x) e in omega arith
-  | inr ne ↦ let rest = stop_below p x n i (omega arith) in omega arith
-]
+stop_below p x (suc n) i l = grind (arith, stop_below p x n i)
 
 stop_there : (p : Plan) (x : Core ModuleState) (o n : ℕ) → stop (design p) x o ≡ 0 → (m : ℕ) × (stop (design p) x m ≡ last_stop p x n)
 stop_there p x o zero e = (o, e)
 stop_there p x o (suc n) e =
-    let rest = stop_there p x o n e in
-    elim (cases_lt (stop (design p) x n) (last_stop p x n)) [
-      | inl l ↦ let q = rest.1 in (rest.0, omega arith)
-      | inr l ↦ (n, omega arith)
-    ]
+    let (m, q) = stop_there p x o n e in
+    elim (cases_lt (stop (design p) x n) (last_stop p x n)) [ inl l ↦ (m, omega arith) | inr l ↦ (n, omega arith) ]
 
 -- the report of every final core is the plan's
 pub every_report : (p : Plan) → FitsEngine p → (x : Core ModuleState) → IsAgreed (design p) (lockstep_run p) p.cycles x

@@ -9,7 +9,7 @@ use Rattle.flow_word.specs.declared.access.Kind.{Kind}
 use Rattle.flow_word.specs.declared.access.Kind.TheVariants.{Read, Write, TryRead, TryWrite, Empty, Full}
 use Rattle.flow_word.specs.declared.access.Side.{Side}
 use Rattle.flow_word.specs.declared.access.Side.TheVariants.{Pop, Push}
-use Rattle.flow_word.specs.Kinds.{other_side, same_side}
+use Rattle.flow_word.specs.Kinds.{other_side, same_side, side_of, is_taking}
 use Rattle.flow_design.specs.declared.design.ChannelKind.{ChannelKind}
 use Rattle.flow_design.specs.declared.design.ChannelKind.TheVariants.{Source, Sink, Fifo}
 use Rattle.flow_design.specs.declared.design.Module.{Module}
@@ -22,17 +22,16 @@ use Rattle.flow_design.specs.Module.{no_block, block_of, live_count, due}
 use Rattle.flow_design.specs.Plans.{kind_at}
 use Rattle.flow_design.specs.StaticRules.{FitsEngine, same_port, is_port}
 use Rattle.lockstep_defs.specs.Machine.{requests, request_for}
-use Rattle.flow_word.specs.Kinds.{side_of, is_taking}
 use Rattle.lockstep_defs.specs.Lockstep.{no_module, module_at, requests_of}
 use Rattle.lockstep_defs.specs.Ports.{owner, is_taker, has_port, StandsAtPort}
-use Rattle.lockstep_defs.specs.Ports as ports
 use Rattle.lockstep_defs.specs.States.{IsDueIn}
 use Rattle.lockstep_defs.proofs.Once.{takers_once}
 use Rattle.lockstep_defs.proofs.Rules.{keeps_ports}
 use Rattle.lockstep_defs.proofs.Standing.{due_in_range, requests_stand}
 use Rattle.event_timing.specs.Machines.{Each, takes_at, takers}
-use Rattle.event_timing.specs.Machines as theory
 use Rattle.timing_bridge.specs.Designs.{seen, accesses_in, is_source}
+use Rattle.lockstep_defs.specs.Ports as ports
+use Rattle.event_timing.specs.Machines as theory
 
 -- ---- a number that names no module asks nothing
 

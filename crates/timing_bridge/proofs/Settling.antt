@@ -1,15 +1,15 @@
 -- What the lockstep machine shows at a settled clock, read off a final core.
+use Rattle.std.proofs.lemmas.Bool.Decides.{nat_tests}
 use Rattle.std.proofs.Common.{◌≡◌, ℕ, zero, suc, ◌+◌, ◌≤◌, ◌<◌, List, [], ◌∷◌, ◌++◌, map, length, get_or, drop, Bool, true, false, ◌&&◌}
-use Rattle.std.proofs.Common.{not, cond, max, refl, sym, ◌∙◌, ap, ap₂, subst, arith, inl, inr, Some, None, Option, zero-add}
+use Rattle.std.proofs.Common.{not, max, refl, sym, ◌∙◌, ap, ap₂, subst, arith, None, Option, zero-add}
 use Rattle.std.specs.List.{find, filter, filter_map, enumerate_from, cons_option, AllByRecursion, range_with_len}
-use Rattle.std.specs.Prelude.{option_map, nat_lt}
-use Rattle.std.proofs.lemmas.Bool.{cases_lt, cond-true, cond-false, lt-ltb, le-ltb, le-leb}
+use Rattle.std.specs.Prelude.{option_map}
+use Rattle.std.proofs.lemmas.Bool.{cond-false, le-ltb}
 use Rattle.std.proofs.lemmas.List.{same_lists, get_or_default}
 use Rattle.std.proofs.lemmas.List.FromFn.{length-map-range_with_len, get_or-map-range_with_len}
 use Rattle.flow_word.specs.declared.access.Side.{Side}
 use Rattle.flow_word.specs.declared.access.Side.TheVariants.{Pop, Push}
 use Rattle.flow_design.specs.declared.design.ChannelKind.{ChannelKind}
-use Rattle.flow_design.specs.declared.design.ChannelKind.TheVariants.{Source, Sink, Fifo}
 use Rattle.flow_design.specs.declared.plan.Plan.{Plan}
 use Rattle.flow_design.specs.declared.report.Held.{Held}
 use Rattle.flow_design.specs.declared.state.ClockState.{ClockState}
@@ -30,7 +30,6 @@ use Rattle.lockstep_defs.proofs.Queue.{moved-nil, moved-append, contents_are, ch
 use Rattle.lockstep_defs.proofs.Rules.{keeps_ports}
 use Rattle.lockstep_defs.proofs.Agrees.{all_modules}
 use Rattle.event_timing.specs.Machines.{Each, ready}
-use Rattle.event_timing.specs.Histories as counted
 use Rattle.event_timing.specs.Steps.{done}
 use Rattle.event_timing.specs.Enablers.{Known, From, Never, Unknown, answer, known_of}
 use Rattle.event_timing.specs.Core.{Core, view}
@@ -48,6 +47,7 @@ use Rattle.timing_bridge.proofs.Alike.{Alike, alike}
 use Rattle.timing_bridge.proofs.Moved.{StandsElsewhere, none_shared, moved_in}
 use Rattle.timing_bridge.proofs.Verdicts.{settled_from}
 use Rattle.timing_bridge.proofs.History.{plan_is_design, run_is_history}
+use Rattle.event_timing.specs.Histories as counted
 
 -- ---- states
 
@@ -84,7 +84,7 @@ last_states p h limit x g f u c top =
 
 pub find_alike : (f g : Request → Bool) (rs : List Request) → AllByRecursion (λ r. f r ≡ g r) rs → find f rs ≡ find g rs
 find_alike f g [] h = refl
-find_alike f g (r ∷ rs) h = ap₂ (λ (b : Bool) (o : Option Request). cond b (Some r) o) h.0 (find_alike f g rs h.1)
+find_alike f g (r ∷ rs) h = rw (h.0, find_alike f g rs h.1) refl
 
 -- a clock from which on the answer is the same
 abbrev latest_known : Known → ℕ
@@ -97,9 +97,7 @@ latest_asked p x i [] = 0
 latest_asked p x i (r ∷ rs) = max (latest_known (known_of (design p) (view (design p) x) i (seen r))) (latest_asked p x i rs)
 
 late_answer : (k : Known) (c : ℕ) → latest_known k ≤ c → answer k c ≡ is_from k
-late_answer (From u) c l = le-leb u c l
-late_answer Never c l = refl
-late_answer Unknown c l = refl
+late_answer k c l = grind (arith, nat_tests)
 
 -- late enough a request stalls where the core does not know from when on it is possible
 stalls_alike : (p : Plan) (x : Core ModuleState) (c i : ℕ) (rs : List Request) → latest_asked p x i rs ≤ c → AllByRecursion (Alike p c) rs
@@ -156,15 +154,10 @@ held_is p h limit x g f u c top i more =
 held_one : (p : Plan) → FitsEngine p → (limit : ℕ) (x : Core ModuleState) → IsAgreed (design p) (lockstep_run p) limit x
     → IsFinal (design p) limit x → IsUndetermined (design p) x → (c : ℕ) → ((i : ℕ) → stop (design p) x i ≤ c) → (i : ℕ)
     → held_by p c (all_ready (state p c).contents) (i, state_at p c i) ≡ core_held_by p x i
-held_one p h limit x g f u c top i = elim (cases_lt (x.timed i) (x.emitted i)) [
-  | inl m ↦ held_is p h limit x g f u c top i m
-      ∙ sym (cond-true (nat_lt (x.timed i) (x.emitted i)) _ None (lt-ltb (x.timed i) (x.emitted i) m))
-  | inr m ↦
-      let none = le-ltb (x.timed i) (x.emitted i) m in
-      let over = stuck_ended (design p) (lockstep_run p) (plan_is_design p h) limit x g.marks g.time f.quiet i none in
-      let over_here : is_over p.ops (state_at p c i) ≡ true = ap (is_over p.ops) (last_state p h limit x g f u c i (top i)) ∙ over in
-      cond-true (is_over p.ops (state_at p c i)) None _ over_here ∙ sym (cond-false (nat_lt (x.timed i) (x.emitted i)) _ None none)
-]
+held_one p h limit x g f u c top i =
+    let none = le-ltb (x.timed i) (x.emitted i) in
+    let over = stuck_ended (design p) (lockstep_run p) (plan_is_design p h) limit x g.marks g.time f.quiet i in
+    grind (arith, nat_tests, held_is p h limit x g f u c top i, last_state p h limit x g f u c i (top i))
 
 by_number : (F : ℕ × ModuleState → Option Held) (G : ℕ → Option Held) (n : ℕ) (ss : List ModuleState)
     → ((j : ℕ) → j < length ss → F (n + j, get_or ss j nobody) ≡ G (n + j))
@@ -172,9 +165,10 @@ by_number : (F : ℕ × ModuleState → Option Held) (G : ℕ → Option Held) (
 by_number F G n [] h = refl
 by_number F G n (s ∷ ss) h =
     let z : n + 0 ≡ n = omega arith in
-    ap₂ (λ (o : Option Held) (l : List Held). cons_option o l) (ap (λ (i : ℕ). F (i, s)) (sym z) ∙ (h 0 (omega arith) ∙ ap G z))
-    (by_number F G (n + 1) ss (λ j l. let q : (n + 1) + j ≡ n + suc j = omega arith in
-    ap (λ (i : ℕ). F (i, get_or ss j nobody)) q ∙ (h (suc j) (omega arith) ∙ ap G (sym q))))
+    let first : F (n, s) ≡ G n = rw z at (h 0 (omega arith)) in
+    rw first (ap (λ (l : List Held). cons_option (G n) l) (by_number F G (n + 1) ss (λ j l.
+    let q : (n + 1) + j ≡ n + suc j = omega arith in
+    rw q (h (suc j) (omega arith)))))
 
 pub held_all : (p : Plan) → FitsEngine p → (limit : ℕ) (x : Core ModuleState) → IsAgreed (design p) (lockstep_run p) limit x
     → IsFinal (design p) limit x → IsUndetermined (design p) x → (c : ℕ) → ((i : ℕ) → stop (design p) x i ≤ c)
@@ -190,10 +184,7 @@ held_all p h limit x g f u c top =
 -- ---- outputs
 
 sink_port : (k : ChannelKind) (side : Side) → is_sink k ≡ true → has_port k side ≡ true → side ≡ Pop → ⊥
-sink_port Source side s h e = cc
-sink_port Sink Pop s h e = cc
-sink_port Sink Push s h e = cc
-sink_port (Fifo declared delay) side s h e = cc
+sink_port k side s h e = grind arith
 
 -- nobody pops a sink
 no_popper : (p : Plan) (f i : ℕ) → is_sink (kind_at p f) ≡ true → StandsElsewhere p Pop f i
@@ -226,13 +217,7 @@ sink_is p h limit x g c all f l s =
 map_chosen : (F G : ℕ → List ℕ) (t : ℕ → Bool) (n k : ℕ) → ((f : ℕ) → f < n + k → t f ≡ true → F f ≡ G f)
     → map F (filter t (range_with_len n k)) ≡ map G (filter t (range_with_len n k))
 map_chosen F G t n zero h = refl
-map_chosen F G t n (suc k) h = by_test (t n) refl (map_chosen F G t (n + 1) k (λ f l e. h f (omega arith) e))
-  where
-    by_test : (b : Bool) → t n ≡ b → map F (filter t (range_with_len (n + 1) k)) ≡ map G (filter t (range_with_len (n + 1) k))
-        → map F (cond b (n ∷ filter t (range_with_len (n + 1) k)) (filter t (range_with_len (n + 1) k)))
-        ≡ map G (cond b (n ∷ filter t (range_with_len (n + 1) k)) (filter t (range_with_len (n + 1) k)))
-    by_test true e rest = ap₂ (λ (vs : List ℕ) (l : List (List ℕ)). vs ∷ l) (h n (omega arith) e) rest
-    by_test false e rest = rest
+map_chosen F G t n (suc k) h = grind (arith, h n (omega arith), map_chosen F G t (n + 1) k (λ f l e. h f (omega arith) e))
 
 -- in a clock up to which the core has each step
 pub outputs_are : (p : Plan) → FitsEngine p → (limit : ℕ) (x : Core ModuleState) → IsAgreed (design p) (lockstep_run p) limit x → (c : ℕ)

@@ -1,8 +1,9 @@
 -- A module's steps in the history are those that an agreeing core has.
+use Rattle.std.proofs.lemmas.Bool.Decides.{nat_tests}
 use Rattle.std.proofs.Common.{◌≡◌, ℕ, zero, suc, ◌+◌, ◌≤◌, ◌<◌, List, [], ◌∷◌, ◌++◌, map, length, true, false, refl, sym, ◌∙◌, ap, ap₂}
-use Rattle.std.proofs.Common.{arith, ◌⊎◌, inl, inr, ◌==◌}
+use Rattle.std.proofs.Common.{arith, ◌⊎◌, inl, inr}
 use Rattle.std.specs.List.{range_with_len, AllByRecursion}
-use Rattle.std.proofs.lemmas.Bool.{cases_Bool, cases_lt, cond-true, cond-false, and_cases, both_ways, ne_eqb}
+use Rattle.std.proofs.lemmas.Bool.{cases_Bool, cases_lt, cond-true}
 use Rattle.std.proofs.lemmas.List.{append-nil, map-append}
 use Rattle.flow_design.specs.declared.plan.Plan.{Plan}
 use Rattle.flow_design.specs.declared.state.Element.{Element}
@@ -18,7 +19,6 @@ use Rattle.lockstep_defs.proofs.Agrees.{steps_of-suc, paired_answered}
 use Rattle.lockstep_defs.proofs.Order.{only_history, history_numbers}
 use Rattle.event_timing.specs.Machines.{is_some_access, ready}
 use Rattle.event_timing.specs.Histories.{replies}
-use Rattle.event_timing.specs.Histories as counted
 use Rattle.event_timing.specs.Steps.{steps, done}
 use Rattle.event_timing.specs.Views.{own}
 use Rattle.event_timing.specs.Core.{Core, core_reply, view}
@@ -31,6 +31,7 @@ use Rattle.timing_bridge.specs.Designs.{design, lockstep_run, seen, told_all}
 use Rattle.timing_bridge.specs.CoreReports.{core_step, core_steps, AreInOrder}
 use Rattle.timing_bridge.proofs.History.{plan_is_design, run_is_history, moves_same, replies_same}
 use Rattle.flow_word.proofs.Ranges.{range_more}
+use Rattle.event_timing.specs.Histories as counted
 
 -- ---- one clock
 
@@ -51,21 +52,13 @@ step_none c i p cs (r ∷ rs) h = cc
 steps_parts : (p : Plan) (c i : ℕ) → steps (design p) (lockstep_run p) c i ≡ false
     → (counted.moves (design p) (lockstep_run p) c i ≡ false) ⊎ (is_some_access (map seen (requests_of p (i, state_at p c i))) ≡ false)
 unfolding steps
-steps_parts p c i h = and_cases _ _ h
+steps_parts p c i h = grind arith
 
 no_step : (p : Plan) → FitsEngine p → (c i : ℕ) → steps (design p) (lockstep_run p) c i ≡ false
     → step_of p c (state p c).contents (i, state_at p c i) ≡ []
 no_step p h c i s =
-    let cs = (state p c).contents in
-    let xs = map (answered p c cs) (requests_of p (i, state_at p c i)) in
-    elim (cases_Bool (moves p c cs (i, state_at p c i))) [
-      | inr e ↦ cond-false (moves p c cs (i, state_at p c i)) (step_with c i xs) [] e
-      | inl e ↦ elim (steps_parts p c i s) [
-        | inl m ↦ absurd (both_ways _ (sym (moves_same p h c i) ∙ m) e)
-        | inr a ↦ cond-true (moves p c cs (i, state_at p c i)) (step_with c i xs) [] e
-            ∙ step_none c i p cs (requests_of p (i, state_at p c i)) a
-      ]
-    ]
+    let asked = requests_of p (i, state_at p c i) in
+    grind (arith, steps_parts p c i s, moves_same p h c i, step_none c i p (state p c).contents asked)
 
 pub a_step : (p : Plan) → FitsEngine p → (c i : ℕ) → steps (design p) (lockstep_run p) c i ≡ true
     → step_of p c (state p c).contents (i, state_at p c i) ≡ done_at p c i ∷ []
@@ -135,9 +128,7 @@ steps_are p h limit x g i inside (suc c) l =
 
 none_beyond : (i n : ℕ) (ss : List HistoryStep) → n ≤ i → AllByRecursion (λ s. s.«module» < n) ss → steps_of i ss ≡ []
 none_beyond i n [] l h = refl
-none_beyond i n (s ∷ ss) l h =
-    let a = h.0 in
-    cond-false (s.«module» == i) (s ∷ steps_of i ss) (steps_of i ss) (ne_eqb s.«module» i (λ q. omega arith)) ∙ none_beyond i n ss l h.1
+none_beyond i n (s ∷ ss) l (first, h) = grind (arith, nat_tests, none_beyond i n ss l h)
 
 -- where the core has all steps before clock c, all modules', and none beyond
 pub all_steps : (p : Plan) → FitsEngine p → (limit : ℕ) (x : Core ModuleState) → IsAgreed (design p) (lockstep_run p) limit x → (c : ℕ)

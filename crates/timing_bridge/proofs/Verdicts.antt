@@ -1,8 +1,8 @@
 -- Settled clocks in the theory's words, and the verdict of a final core.
 use Rattle.std.proofs.Common.{◌≡◌, ℕ, zero, suc, ◌+◌, ◌-◌, ◌≤◌, ◌<◌, List, [], ◌∷◌, length, get_or, Bool, true, false, refl, sym, ◌∙◌, ap}
-use Rattle.std.proofs.Common.{subst, arith, inl, inr, zero-add, Some}
+use Rattle.std.proofs.Common.{arith, inl, inr, zero-add, Some}
 use Rattle.std.specs.List.{list_any, enumerate_from}
-use Rattle.std.proofs.lemmas.Bool.{cases_Bool, cases_lt, or_parts, or_from, both_ways}
+use Rattle.std.proofs.lemmas.Bool.{cases_lt, or_parts}
 use Rattle.std.proofs.lemmas.List.{get_or_past}
 use Rattle.flow_design.specs.declared.plan.Plan.{Plan}
 use Rattle.flow_design.specs.declared.report.Verdict.TheVariants.{Cycles}
@@ -13,7 +13,6 @@ use Rattle.lockstep_defs.specs.Lockstep.{moves, state}
 use Rattle.lockstep_defs.specs.Verdict.{some_moves, is_settled, settled_verdict, verdict}
 use Rattle.lockstep_defs.proofs.Settled.{still_settled, settled_none, rests_settled}
 use Rattle.lockstep_defs.proofs.Found.{verdict_found, verdict_none}
-use Rattle.event_timing.specs.Histories as counted
 use Rattle.event_timing.specs.Enablers.{candidate}
 use Rattle.event_timing.specs.Core.{Core, view}
 use Rattle.event_timing.specs.Actions.{IsFinal}
@@ -22,27 +21,25 @@ use Rattle.event_timing.proofs.Verdict.{rests, moved, determined_late}
 use Rattle.timing_bridge.specs.Designs.{design, lockstep_run}
 use Rattle.timing_bridge.proofs.Moved.{nobody_moves}
 use Rattle.timing_bridge.proofs.History.{plan_is_design, run_is_history, moves_same}
+use Rattle.event_timing.specs.Histories as counted
 
 any_false : (test : ℕ × ModuleState → Bool) (n : ℕ) (xs : List ModuleState)
     → ((k : ℕ) → k < length xs → test (n + k, get_or xs k nobody) ≡ false) → list_any test (enumerate_from n xs) ≡ false
 any_false test n [] h = refl
 any_false test n (x ∷ xs) h =
     let z : n + 0 ≡ n = omega arith in
-    or_from _ _ (ap (λ (i : ℕ). test (i, x)) (sym z) ∙ h 0 (omega arith))
-    (any_false test (n + 1) xs (λ k l.
+    let rest = any_false test (n + 1) xs (λ k l.
     let e : (n + 1) + k ≡ n + suc k = omega arith in
-    ap (λ (i : ℕ). test (i, get_or xs k nobody)) e ∙ h (suc k) (omega arith)))
+    rw e (h (suc k) (omega arith))) in
+    grind (arith, h 0)
 
 each_false : (test : ℕ × ModuleState → Bool) (n : ℕ) (xs : List ModuleState) → list_any test (enumerate_from n xs) ≡ false → (k : ℕ)
     → k < length xs → test (n + k, get_or xs k nobody) ≡ false
 each_false test n [] h k l = absurd (omega arith)
-each_false test n (x ∷ xs) h zero l =
-    let z : n + 0 ≡ n = omega arith in
-    ap (λ (i : ℕ). test (i, x)) z ∙ (or_parts (test (n, x)) (list_any test (enumerate_from (n + 1) xs)) h).0
+each_false test n (x ∷ xs) h zero l = grind arith
 each_false test n (x ∷ xs) h (suc k) l =
     let e : n + suc k ≡ (n + 1) + k = omega arith in
-    ap (λ (i : ℕ). test (i, get_or xs k nobody)) e
-    ∙ each_false test (n + 1) xs (or_parts (test (n, x)) (list_any test (enumerate_from (n + 1) xs)) h).1 k (omega arith)
+    rw e (each_false test (n + 1) xs (or_parts (test (n, x)) (list_any test (enumerate_from (n + 1) xs)) h).1 k (omega arith))
 
 -- ---- settled clocks
 
@@ -71,13 +68,9 @@ settled_gives p h c s i =
 -- a clock in which a module moves, and all before it, are not settled
 unsettled : (p : Plan) → FitsEngine p → (c i : ℕ) → counted.moves (design p) (lockstep_run p) c i ≡ true → (e : ℕ) → e ≤ c
     → is_settled p e (state p e) ≡ false
-unsettled p h c i m e l = elim (cases_Bool (is_settled p e (state p e))) [
-  | inr f ↦ f
-  | inl t ↦
-      let k : (c - e) + e ≡ c = omega arith in
-      let s : is_settled p c (state p c) ≡ true = subst (λ (n : ℕ). is_settled p n (state p n) ≡ true) k (still_settled p e (c - e) t) in
-      absurd (both_ways _ (settled_gives p h c s i) m)
-]
+unsettled p h c i m e l =
+    let k : (c - e) + e ≡ c = omega arith in
+    grind (arith, k, still_settled p e (c - e), λ (s : is_settled p c (state p c) ≡ true). settled_gives p h c s i)
 
 -- ---- the verdict
 

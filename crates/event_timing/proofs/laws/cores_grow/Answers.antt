@@ -1,6 +1,7 @@
+use Rattle.std.proofs.Common.{suc}
 use Rattle.event_timing.proofs.Answering.{answer_grows}
 use Rattle.event_timing.proofs.Beside.{run_grows, assign_grows, actions_grow, others_grow}
-use Rattle.event_timing.proofs.Growing.{settled_old, settled_all, tally_grow, reply_grow, there_grow, own_grow}
+use Rattle.event_timing.proofs.Growing.{settled_old, settled_all, settled_less, tally_grow, reply_grow, there_grow, own_grow}
 use Rattle.event_timing.proofs.laws.cores_grow.Goals as goal
 
 pub returns-clause-run : goal.returns-clause-run
@@ -24,14 +25,10 @@ returns-clause-settled g c = λ d x b m n l. settled_old d x b m n l
 pub returns-clause-settled_all : goal.returns-clause-settled_all
 returns-clause-settled_all g c = λ d x b m r. settled_all d x b m r.answered r.there
 
-pub returns-clause-counts : goal.returns-clause-counts
-returns-clause-counts g c = λ d x z w m n s side ch. tally_grow d x z w m n s.emitted s.answered side ch
-
 pub returns-clause-replies : goal.returns-clause-replies
-returns-clause-replies g c = λ d x z w m n s. reply_grow d x z w m n s
-
-pub returns-clause-there : goal.returns-clause-there
-returns-clause-there g c = λ d x z w m n s. there_grow d x z w m n s
-
-pub returns-clause-rests : goal.returns-clause-rests
-returns-clause-rests g c = λ d x z w m n s. own_grow d x z w m n s
+returns-clause-replies g c = λ d x z w m n s. record {
+  counts = tally_grow d x z w m n s.emitted s.answered;
+  replies = λ k l. reply_grow d x z w m k (settled_less d x m n (suc k) l s);
+  there = λ k l. there_grow d x z w m k (settled_less d x m n (suc k) l s);
+  rests = own_grow d x z w m n s;
+}

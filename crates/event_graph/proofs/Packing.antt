@@ -55,3 +55,10 @@ pub opened_few : (accesses items : List Access) (others : List Step) (gap first_
 opened_few accesses items others gap first_query (One at) (inside, are) = rw are refl
 opened_few accesses items others gap first_query (Two at) (inside, are) = rw are refl
 opened_few accesses items others gap first_query (Whole at) none = absurd none
+
+-- and stand inside
+pub few_inside : (accesses items : List Access) (others : List Step) (spot : Spot) → IsFew accesses spot items
+    → IsInside accesses others spot
+few_inside accesses items others (One at) (inside, are) = inside
+few_inside accesses items others (Two at) (inside, are) = inside
+few_inside accesses items others (Whole at) none = absurd none

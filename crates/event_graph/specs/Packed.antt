@@ -50,6 +50,13 @@ abbrev pub KeepsInside : List Access → List Step → List Access → List Step
 KeepsInside accesses others accesses' others' = (head : Head) → IsInside accesses others head.spot
     → IsInside accesses' others' head.spot × (opened accesses' others' head ≡ opened accesses others head)
 
+-- the step stands in the lists with this head, beside what stood there
+pub record IsKept (accesses : List Access) (others : List Step) (accesses' : List Access) (others' : List Step) (step : Step) (head : Head)
+    : Type 0 where
+  pub is : opened accesses' others' head ≡ step
+  pub inside : IsInside accesses' others' head.spot
+  pub before : KeepsInside accesses others accesses' others'
+
 -- each step stands in the lists, and there is room for so many more
 pub record IsPacked (heads : Roomed Head) (accesses : Roomed Access) (others : Roomed Step) (room : ℕ) : Type 0 where
   pub inside : All (λ head. IsInside accesses.items others.items head.spot) heads.items

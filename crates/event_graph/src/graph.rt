@@ -1,5 +1,5 @@
 //! The lanes of all modules.
-ghost use Rattle.std.specs.Prelude.{◌≡◌, ◌≢◌, ℕ, ◌+◌, ◌<◌, ◌≤◌, ◌^◌, length, map, replicate, slice_get, slice_index, All, Some, IfSome};
+ghost use Rattle.std.specs.Prelude.{◌≡◌, ℕ, ◌+◌, ◌<◌, ◌≤◌, ◌^◌, length, map, replicate, slice_get, slice_index, All, Some, IfSome};
 ghost use Rattle.std.specs.Prelude.{IsOk};
 ghost use Rattle.std.specs.Prelude.{IfOk, OnOk, OnErr};
 ghost use Rattle.std.specs.Option.{ForSome};
@@ -9,6 +9,7 @@ ghost use Rattle.std.specs.Prelude.{slice_set};
 ghost use Rattle.std.specs.List.Sorted.{IsStrictlyIncreasing};
 ghost use Rattle.event_graph.specs.Lanes.{cycle_of as cycle_at};
 ghost use Rattle.event_graph.specs.Packed.{whole, IsFewStep};
+ghost use Rattle.event_graph.specs.Roomed.{UsesPlace};
 ghost use Rattle.flow_word.specs.declared.access.Place.{Place};
 
 use crate::lane::RoomyLane;
@@ -80,8 +81,7 @@ impl Graph {
         ensures ok { OnOk result (self.new.lanes ≡ with_step self.old.lanes owner step) }
         ensures err { OnErr result (self.new.lanes ≡ self.old.lanes) }
         ensures succeeds { 0 < slice_index self.old.rooms owner → IsOk result }
-        ensures own_room { slice_index self.old.rooms owner ≤ slice_index self.new.rooms owner + 1 }
-        ensures other_rooms { (k : ℕ) → k ≢ owner → slice_index self.old.rooms k ≤ slice_index self.new.rooms k }
+        ensures rooms { UsesPlace owner self.old.rooms self.new.rooms }
         ensures sound { All IsSoundLane self.new.lanes }
     {
         self.lanes[owner as usize].push_step(step)
@@ -97,8 +97,7 @@ impl Graph {
         ensures ok { OnOk result (self.new.lanes ≡ with_step self.old.lanes owner (whole step.now)) }
         ensures err { OnErr result (self.new.lanes ≡ self.old.lanes) }
         ensures succeeds { 0 < slice_index self.old.rooms owner → IsOk result }
-        ensures own_room { slice_index self.old.rooms owner ≤ slice_index self.new.rooms owner + 1 }
-        ensures other_rooms { (k : ℕ) → k ≢ owner → slice_index self.old.rooms k ≤ slice_index self.new.rooms k }
+        ensures rooms { UsesPlace owner self.old.rooms self.new.rooms }
         ensures sound { All IsSoundLane self.new.lanes }
     {
         self.lanes[owner as usize].push_few(step)

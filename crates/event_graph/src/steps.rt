@@ -1,6 +1,6 @@
 //! The steps of a lane, each in as few bytes as it needs.
 ghost use Rattle.std.specs.Prelude.{◌≡◌, ◌+◌, ◌<◌, ◌≤◌, ◌^◌, [], ◌∷◌, ◌++◌, length, slice_get, Some, ◌⊎◌, IsOk, OnOk, OnErr};
-ghost use Rattle.event_graph.specs.Packed.{whole, opened, opened_by, IsFew, IsFewStep, IsInside, KeepsInside};
+ghost use Rattle.event_graph.specs.Packed.{whole, IsFew, IsFewStep, IsKept};
 
 use crate::view::{AccessesView, StepView};
 use flow_word::{Access, OutOfMemory, RoomyList, Step};
@@ -43,7 +43,7 @@ pub struct StepList {
 }
 
 impl Model for StepList {
-    ghost use Rattle.std.specs.Prelude.{◌≤◌, ◌<◌, ◌+◌, ◌*◌, ◌^◌, length, map, All};
+    ghost use Rattle.std.specs.Prelude.{◌≤◌, ◌<◌, ◌+◌, ◌*◌, ◌^◌, length, map};
     ghost use Rattle.flow_word.specs.declared.access.Step.{Step};
     ghost use Rattle.flow_word.specs.Room.{Roomed};
     ghost use Rattle.event_graph.specs.Packed.{opened, IsPacked};
@@ -175,9 +175,7 @@ fn keep(accesses: &mut RoomyList<Access>, others: &mut RoomyList<Step>, step: St
     requires others_room { 1 ≤ others.old.room }
     requires accesses_few { length accesses.old.items < 2 ^ 32 }
     requires others_few { length others.old.items < 2 ^ 32 }
-    ensures step { opened accesses.new.items others.new.items result ≡ step }
-    ensures inside { IsInside accesses.new.items others.new.items result.spot }
-    ensures kept { KeepsInside accesses.old.items others.old.items accesses.new.items others.new.items }
+    ensures kept { IsKept accesses.old.items others.old.items accesses.new.items others.new.items step result }
     ensures accesses_more { length accesses.new.items ≤ length accesses.old.items + 2 }
     ensures others_more { length others.new.items ≤ length others.old.items + 1 }
     ensures accesses_room { accesses.old.room ≤ accesses.new.room + 2 }

@@ -1,6 +1,6 @@
 -- The cycle of a module's first step without one.
-use Rattle.std.specs.Prelude.{ℕ, ◌+◌, ◌<◌, max, Bool, ◌&&◌, if◌then◌else◌, List, [], ◌∷◌, length, filter, position, Option, None, Some}
-use Rattle.std.specs.Prelude.{unwrap_or, is_some, is_none, option_and_then, slice_get}
+use Rattle.std.specs.Prelude.{◌≡◌, ℕ, ◌+◌, ◌<◌, max, not, Bool, ◌&&◌, if◌then◌else◌, List, [], ◌∷◌, length, filter, position}
+use Rattle.std.specs.Prelude.{Option, None, Some, unwrap_or, is_some, is_none, option_and_then, slice_get}
 use Rattle.std.specs.List.{filter_map}
 use Rattle.std.specs.Option.{ForSome}
 use Rattle.flow_word.specs.declared.access.Access.{Access}
@@ -66,3 +66,8 @@ pub record MayTake (lanes : List Lane) (owner cycle : ℕ) : Type 0 where
   pub waiting : length (lane_at lanes owner).cycles < length (lane_at lanes owner).steps
   pub below : cycle < cycle_bound
   pub later : ForSome (last_cycle (lane_at lanes owner)) (λ last. last < cycle)
+
+-- and so many of its accesses are queries
+pub record MayTakeWith (lanes : List Lane) (owner cycle queries : ℕ) : Type 0 where
+  pub may : MayTake lanes owner cycle
+  pub count : ForSome (open_step (lane_at lanes owner)) (λ step. queries ≡ length (filter (λ a. not (is_blocking a.kind)) step.accesses))

@@ -1,13 +1,12 @@
 //! The cycle of a module's first step without one.
-ghost use Rattle.std.specs.Prelude.{◌≡◌, ℕ, List, All, ◌+◌, ◌^◌, ◌<◌, ◌≤◌, ◌↔◌, ◌∷◌, [], length, filter, not, cond, slice_get, slice_index};
+ghost use Rattle.std.specs.Prelude.{◌≡◌, ℕ, List, All, ◌+◌, ◌^◌, ◌<◌, ◌≤◌, ◌↔◌, ◌∷◌, [], length, filter, not, cond, slice_index};
 ghost use Rattle.std.specs.Prelude.{position};
 ghost use Rattle.std.specs.Prelude.{unwrap_or, is_none, None, Some, IfSome, IfOk, OnOk, IfErr, IsSomeAnd};
-ghost use Rattle.std.specs.Option.{ForSome};
 ghost use Rattle.flow_word.specs.Kinds.{is_blocking};
 ghost use Rattle.event_graph.specs.Lanes.{IsSoundLane, lane_at, cycle_bound, with_cycle};
 ghost use Rattle.event_graph.specs.Lanes.{last_cycle as last_of};
 ghost use Rattle.time_engine.specs.Conditions.{IsAccess, HasAccesses, HasPlaces};
-ghost use Rattle.time_engine.specs.Cycles.{is_waiting, clocks_of, open_step, first_waiting, determined, MayTake};
+ghost use Rattle.time_engine.specs.Cycles.{is_waiting, clocks_of, open_step, first_waiting, determined, MayTake, MayTakeWith};
 ghost use Rattle.time_engine.specs.Cycles.{latest as latest_of};
 ghost use Rattle.fifo_table.specs.Channels.{Channel};
 
@@ -54,9 +53,7 @@ pub fn candidate_and_queries(
         ↔ IsSomeAnd (determined graph.now.lanes fifos.now.channels owner) (λ cycle. limit ≤ cycle) }
     ensures at { (cycle : ℕ) → (result.0 ≡ Candidate.At cycle) ↔ ((determined graph.now.lanes fifos.now.channels owner ≡ Some cycle)
         × (cycle < limit)) }
-    ensures may_take { (cycle : ℕ) → result.0 ≡ Candidate.At cycle → MayTake graph.now.lanes owner cycle }
-    ensures queries { (cycle : ℕ) → result.0 ≡ Candidate.At cycle → ForSome (open_step (lane_at graph.now.lanes owner))
-        (λ step. result.1 ≡ length (filter (λ a. not (is_blocking a.kind)) step.accesses)) }
+    ensures may_take { (cycle : ℕ) → result.0 ≡ Candidate.At cycle → MayTakeWith graph.now.lanes owner cycle result.1 }
 {
     let first = graph.frontier(owner);
     if first == graph.len(owner) {

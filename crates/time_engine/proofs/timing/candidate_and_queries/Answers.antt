@@ -18,7 +18,6 @@ returns-then-first-len c =
       beyond = says.beyond;
       at = says.at;
       may_take = λ cycle e. cc;
-      queries = λ cycle e. cc;
     }
 
 pub returns-in-Err : goal.returns-in-Err
@@ -34,7 +33,6 @@ returns-in-Err c =
       beyond = says.beyond;
       at = says.at;
       may_take = λ cycle e. cc;
-      queries = λ cycle e. cc;
     }
 
 pub returns-in-Ok : goal.returns-in-Ok
@@ -54,9 +52,10 @@ returns-in-Ok c =
       waits = says.waits;
       beyond = says.beyond;
       at = says.at;
-      may_take = λ cycle e. let same : c.in-Ok.cycle
-          ≡ cycle = cc in rw (← same) takes;
-      queries = λ cycle e s is. let same : s ≡ step = cc in rw (same, ← c.as_slice.ensures) c.in-Ok.ensures.queries;
+      may_take = λ cycle e. let same : c.in-Ok.cycle ≡ cycle = cc in record {
+        may = rw (← same) takes;
+        count = λ s is. let same : s ≡ step = cc in rw (same, ← c.as_slice.ensures) c.in-Ok.ensures.queries;
+      };
     }
 
 pub returns-in-Ok-2 : goal.returns-in-Ok-2
@@ -74,5 +73,4 @@ returns-in-Ok-2 c =
       beyond = says.beyond;
       at = says.at;
       may_take = λ cycle e. cc;
-      queries = λ cycle e. cc;
     }

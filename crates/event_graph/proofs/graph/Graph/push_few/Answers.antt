@@ -1,12 +1,12 @@
-use Rattle.std.proofs.Common.{◌<◌, length, arith}
+use Rattle.std.proofs.Common.{◌<◌, length}
 use Rattle.std.proofs.Math.Seq.{map-set_same}
 use Rattle.std.proofs.lemmas.List.{length-set, length-map}
 use Rattle.std.proofs.lemmas.Result.{on_ok_weaker, on_err_weaker}
 use Rattle.event_graph.specs.Lanes.{Lane, no_lane, longer}
 use Rattle.event_graph.specs.Packed.{whole}
 use Rattle.event_graph.specs.Roomed.{RoomedLane}
-use Rattle.flow_word.proofs.Changed.{shown_set, shown_old, shown_new, shown_other}
-use Rattle.event_graph.proofs.Growth.{all_sound}
+use Rattle.flow_word.proofs.Changed.{shown_set}
+use Rattle.event_graph.proofs.Growth.{all_sound, used_place}
 use Rattle.event_graph.proofs.graph.Graph.push_few.Goals as goal
 
 pub invariant_of-self : goal.invariant_of-self
@@ -28,24 +28,10 @@ returns-clause-err c =
     rw (← c.self.view_is) (on_err_weaker c.push_few.result (λ same. map-set_same (λ (l : RoomedLane). l.lane) c.self.inside.lanes.items
     c.args.owner c.push_few.new.self c.index_mut.result.now (rw (← c.index_mut.ensures.value) same)) c.push_few.ensures.err)
 
-pub returns-clause-own_room : goal.returns-clause-own_room
-returns-clause-own_room c =
-    let there : c.args.owner < length c.self.inside.lanes.items = rw (← c.self.view_is, length-map) at c.requires.owner in
-    rw (
-      ← c.self.view_is,
-      shown_old (λ (l : RoomedLane). l.room) c.self.inside.lanes.items c.args.owner c.index_mut.result.now there
-          c.index_mut.ensures.value,
-      shown_new (λ (l : RoomedLane). l.room) c.self.inside.lanes.items c.args.owner c.push_few.new.self there,
-    )
-    c.push_few.ensures.room
-
-pub returns-clause-other_rooms : goal.returns-clause-other_rooms
-returns-clause-other_rooms c =
-    rw (← c.self.view_is) (λ k apart. omega (
-      arith,
-      shown_other (λ (l : RoomedLane). l.room) c.self.inside.lanes.items c.args.owner k
-          c.push_few.new.self apart,
-    ))
+pub returns-clause-rooms : goal.returns-clause-rooms
+returns-clause-rooms c =
+    rw (← c.self.view_is) (used_place c.self.inside.lanes.items c.args.owner c.index_mut.result.now c.push_few.new.self
+    (rw (← c.self.view_is, length-map) at c.requires.owner) c.index_mut.ensures.value c.push_few.ensures.room)
 
 pub returns-clause-sound : goal.returns-clause-sound
 returns-clause-sound c = (invariant_of-self c).0

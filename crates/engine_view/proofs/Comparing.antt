@@ -3,7 +3,7 @@ use Rattle.std.proofs.Common.{◌≡◌, refl, sym, ap, ◌∙◌, ℕ, zero, su
 use Rattle.std.proofs.Common.{length, take, drop, get_or, arith, append_assoc, inl, inr, Some}
 use Rattle.std.specs.Prelude.{slice_get}
 use Rattle.std.proofs.lemmas.Bool.{cases_Bool}
-use Rattle.std.proofs.lemmas.List.{drop_more, drop_all, take_more}
+use Rattle.std.proofs.lemmas.List.{drop_more, take_more}
 use Rattle.std.proofs.lemmas.Option.{slice_get-get_or}
 use Rattle.flow_word.specs.Kinds.{is_blocking}
 use Rattle.flow_word.specs.declared.access.Access.{Access}
@@ -70,9 +70,6 @@ module _ (lanes : List Lane) (channels : List Channel) (c : ℕ) where
   found_length [] (suc i) l = absurd (omega arith)
   found_length (a ∷ xs) (suc i) l = ap suc (found_length xs i (omega arith))
 
-  pub compares_init : (xs : List Access) (outs : List Bool) (first : ℕ) → ComparesOn lanes channels c xs outs first 0 first
-  compares_init xs outs first = record { numbered = omega arith; alike = refl; within = omega arith }
-
   module _ (xs : List Access) (outs : List Bool) (first i n : ℕ) (d : Access) (r : ComparesOn lanes channels c xs outs first i n) where
     abbrev a : Access
     a = get_or xs i d
@@ -109,12 +106,6 @@ module _ (lanes : List Lane) (channels : List Channel) (c : ℕ) where
           (sym (append_assoc found (flag_found lanes channels c a ∷ []) rest));
       within = let w = r.within in grind arith;
     }
-
-    pub compares_all : length xs ≤ i → flags_by xs (drop first outs) ≡ found_flags lanes channels c xs
-    compares_all l =
-        r.alike
-        ∙ (ap (λ (ys : List Access). found ++ flags_by ys (drop n outs)) (drop_all i xs l)
-        ∙ sym (found_parts i xs ∙ ap (λ (ys : List Access). found ++ found_flags lanes channels c ys) (drop_all i xs l)))
 
     pub compares_not : (owner : ℕ) (q : Query) → i < length xs → (flag_now a.kind (slice_get outs n) ≡ flag_found lanes channels c a → ⊥)
         → q.module ≡ owner → q.number ≡ n → q.kind ≡ a.kind → q.channel ≡ a.channel → q.ordinal ≡ a.ordinal

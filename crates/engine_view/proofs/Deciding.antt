@@ -1,6 +1,5 @@
 -- What is decided of queries, by the graph and the table, is what the theory answers.
-use Rattle.std.proofs.Common.{arith, ◌≡◌, refl, ap, ◌∙◌, ℕ, ◌<◌, true, false, List, [], ◌∷◌, length, map}
-use Rattle.std.proofs.lemmas.Bool.Decides.{nat_tests}
+use Rattle.std.proofs.Common.{arith, ◌≡◌, refl, ap, ◌∙◌, ℕ, ◌<◌, false, List, [], ◌∷◌, length, map}
 use Rattle.std.specs.Prelude.{◌↔◌, All}
 use Rattle.std.proofs.lemmas.List.Elements.{All-head, All-tail}
 use Rattle.flow_word.specs.declared.access.Access.{Access}
@@ -9,23 +8,16 @@ use Rattle.fifo_table.specs.Channels.{Channel}
 use Rattle.time_engine.specs.declared.known.Known as of_code
 use Rattle.time_engine.specs.declared.known.Known.TheVariants as code
 use Rattle.time_engine.specs.Possible.{when_possible}
-use Rattle.query_resolve.specs.Decisions.{IsPossible, IsImpossible}
 use Rattle.event_timing.specs.Machines as theory
 use Rattle.event_timing.specs.Machines.{Design, IsDesign}
 use Rattle.event_timing.specs.Core.{view}
-use Rattle.event_timing.specs.Enablers.{Known, known_of, answer, is_decided, all_decided, flags_at}
+use Rattle.event_timing.specs.Enablers.{Known, known_of, is_decided, all_decided, flags_at}
 use Rattle.event_timing.specs.Views.{first_accesses}
 use Rattle.event_timing.specs.Actions.{new_flags}
 use Rattle.engine_view.specs.Held.{Held, step_of, emitted_of, seen, core_of}
 use Rattle.engine_view.specs.Shown.{IsSound}
 use Rattle.engine_view.specs.Known.{as_known, found_flags, are_decided}
 use Rattle.engine_view.proofs.Knowing.{access_known}
-
-pub possible_is : (k : of_code.Known) (c : ℕ) → IsPossible k c ↔ (answer (as_known k) c ≡ true)
-possible_is k c = (grind (arith, nat_tests), grind (arith, nat_tests))
-
-pub impossible_is : (k : of_code.Known) (c : ℕ) → IsImpossible k c ↔ ((is_decided (as_known k) ≡ true) × (answer (as_known k) c ≡ false))
-impossible_is k c = (grind (arith, nat_tests), grind (arith, nat_tests))
 
 pub undecided_is : (k : of_code.Known) → (k ≡ code.Unknown) ↔ (is_decided (as_known k) ≡ false)
 undecided_is k = (grind arith, grind arith)

@@ -34,7 +34,7 @@ use Rattle.engine_view.proofs.Ended.{over_core}
 use Rattle.engine_view.proofs.Knowing.{timed_within}
 use Rattle.engine_view.proofs.Opened.{opening_core_is}
 use Rattle.engine_view.proofs.Answered.{steps_only}
-use Rattle.engine_view.proofs.Roomy.{pending_same}
+use Rattle.engine_view.proofs.Roomy.{pending_same, room_on}
 
 -- the steps with a cycle are verified
 abbrev AreVerified : {S : Type 0} → Core S → Type 0
@@ -117,17 +117,10 @@ pub room_cut : {S : Type 0} → (d : Design S) (h : Held) → IsKept d h → (fi
     → HasRoom d h lanes table logs credits → ((k : ℕ) → get_or lanes k 0 ≤ get_or lanes' k 0)
     → ((side : Side) (c : ℕ) → room_of table side c ≤ room_of table' side c)
     → HasRoom (edited d fifo depth) g lanes' table' logs credits
-room_cut {S} d h k fifo depth t inside is_fifo g cut lanes lanes' table table' logs credits r f q = record {
-  ends = λ side c l.
-      let count = ap (λ (cs : List Channel). length cs) cut.channels ∙ length-set h.channels fifo _ in
-      let a = r.ends side c (omega arith) in
-      let b = still (d.owner side c) in
-      let n = q side c in
-      omega arith;
-  steps = λ m. let a = r.steps m in let b = f m in omega arith;
-  outcomes = λ m. let a = r.outcomes m in let b = queries m in let o = ap (λ (os : List Bool). length os) (cut.outcomes m) in omega arith;
-  few = λ m. let a = r.few m in let b = queries m in omega arith;
-}
+room_cut {S} d h k fifo depth t inside is_fifo g cut lanes lanes' table table' logs credits r f q =
+    room_on d (edited d fifo depth) h g lanes lanes' table table' logs credits r (λ side c. refl)
+    (ap (λ (cs : List Channel). length cs) cut.channels ∙ length-set h.channels fifo _) still queries
+    (λ m. ap (λ (os : List Bool). length os) (cut.outcomes m)) f q
   where
     steps_is : (m : ℕ) → (lane_at g.lanes m).steps ≡ (lane_at h.lanes m).steps
     steps_is m = rw (cut.lanes, get_or-map (timed_below t) h.lanes m no_lane) refl

@@ -1,14 +1,14 @@
 -- What is left to do falls by each cycle and each answer.
-use Rattle.std.proofs.Common.{◌≡◌, refl, ℕ, zero, suc, ◌<◌, ◌≤◌, true, false, [], ◌∷◌, length, arith}
+use Rattle.std.proofs.Common.{◌≡◌, refl, ap, ℕ, zero, suc, ◌<◌, ◌≤◌, true, false, [], ◌∷◌, length, arith}
 use Rattle.std.proofs.lemmas.List.{length-set, get_or-set_same, get_or-set_other, length-append}
 use Rattle.event_graph.specs.Lanes.{no_lane, lane_at, timed, with_cycle}
 use Rattle.event_graph.specs.Roomed.{RoomedLanes}
-use Rattle.fifo_table.specs.Roomed.{RoomedChannels}
-use Rattle.query_log.specs.Logs.{RoomedLogs, log_at}
+use Rattle.query_log.specs.Logs.{log_at}
 use Rattle.event_timing.specs.Work.{sum_to}
 use Rattle.engine_view.specs.Held.{Held, step_of, emitted_of, are_among}
 use Rattle.engine_view.specs.Timed.{with_timed}
-use Rattle.engine_view.specs.Stored.{Stored, stored, held_in}
+use Rattle.engine_view.specs.declared.engine.Engine.{Engine}
+use Rattle.engine_view.specs.Engines.{held_in}
 use Rattle.engine_view.specs.Turns.{HasUnsure, first_of, left_of, left}
 use Rattle.event_timing.proofs.ActionBound.{sum_grows}
 
@@ -48,19 +48,19 @@ unfolding left_of
 left_answered g h m lanes l others was now =
     left_falls g h m (rw lanes refl) l (λ n f. rw (lanes, others n f) refl) (rw (lanes, was, now) (omega arith))
 
--- ---- the same of a graph, a table and a log
+-- ---- the same of an engine
 
-pub less_assigned : (s : Stored) (graph : RoomedLanes) (m c : ℕ) → graph.lanes ≡ with_cycle s.graph.lanes m c → m < length s.graph.lanes
+pub less_assigned : (s : Engine) (graph : RoomedLanes) (m c : ℕ) → graph.lanes ≡ with_cycle s.graph.lanes m c → m < length s.graph.lanes
     → first_of (held_in s []) m < emitted_of (held_in s []) m
     → are_among (step_of (held_in s []) m (first_of (held_in s []) m)) (log_at s.log.logs m).verified ≡ true
-    → left (stored graph s.table s.log) < left s
+    → left (record s { graph = graph }) < left s
 unfolding left
 less_assigned s graph m c e inside less among = rw e (left_assigned (held_in s []) m c inside less among)
 
-pub less_answered : (s : Stored) (table : RoomedChannels) (log : RoomedLogs) (m : ℕ) → HasUnsure (held_in s []) m
-    → ((n : ℕ) → (n ≡ m → ⊥) → log_at log.logs n ≡ log_at s.log.logs n)
-    → are_among (step_of (held_in s []) m (first_of (held_in s []) m)) (log_at log.logs m).verified ≡ true
-    → left (stored s.graph table log) < left s
+pub less_answered : (s t : Engine) (m : ℕ) → t.graph ≡ s.graph → HasUnsure (held_in s []) m
+    → ((n : ℕ) → (n ≡ m → ⊥) → log_at t.log.logs n ≡ log_at s.log.logs n)
+    → are_among (step_of (held_in s []) m (first_of (held_in s []) m)) (log_at t.log.logs m).verified ≡ true → left t < left s
 unfolding left
-less_answered s table log m u others now =
-    left_answered (held_in (stored s.graph table log) []) (held_in s []) m refl u.inside others u.unsure now
+less_answered s t m e u others now =
+    let lanes = ap (λ (g : RoomedLanes). g.lanes) e in
+    left_answered (held_in t []) (held_in s []) m lanes u.inside others u.unsure now

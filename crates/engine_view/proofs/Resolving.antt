@@ -24,7 +24,7 @@ use Rattle.engine_view.specs.Known.{found_flags}
 use Rattle.engine_view.specs.Emitted.{place_of}
 use Rattle.engine_view.specs.Taking.{taken_all}
 use Rattle.engine_view.specs.Answered.{outcomes_of, done_late, with_answered}
-use Rattle.engine_view.specs.Rooms.{query_bound, room_of, TakesAt, AreApart, HasRoomFor, done_by, pending, HasRoom}
+use Rattle.engine_view.specs.Rooms.{query_bound, room_of, TakesAt, AreApart, HasRoomFor, CanTake, done_by, pending, HasRoom}
 use Rattle.engine_view.specs.Turns.{first_of}
 use Rattle.engine_view.proofs.Unsure.{IsFresh}
 use Rattle.engine_view.proofs.Taking.{all_length}
@@ -34,7 +34,7 @@ use Rattle.engine_view.proofs.Answered.{flags_here, log_now, log_else}
 use Rattle.engine_view.proofs.Adding.{done_later}
 use Rattle.engine_view.proofs.Roomy.{apart_of, room_for, free_side, pending_same}
 
-module _ {S : Type 0} (d : Design S) (h : Held) (m c : ℕ) (f : IsFresh d h m) where
+module _ {S : Type 0} {d : Design S} {h : Held} {m : ℕ} (f : IsFresh d h m) (c : ℕ) where
   abbrev x : Core S
   x = core_of d h
 
@@ -81,9 +81,12 @@ module _ {S : Type 0} (d : Design S) (h : Held) (m c : ℕ) (f : IsFresh d h m) 
   unfolding pending
   waits_one = let n = newest in let fresh = f.fresh in grind (arith, nat_tests)
 
-  module _ (lanes : List ℕ) (table : RoomedChannels) (logs credits : List ℕ) (r : HasRoom d h lanes table logs credits) where
+  module _ {lanes : List ℕ} {table : RoomedChannels} {logs credits : List ℕ} (r : HasRoom d h lanes table logs credits) where
     pub fresh_room : HasRoomFor table t.accesses
     fresh_room = room_for d h lanes table logs credits r m t.accesses (let n = waits_one in omega arith) fresh_inside owned
+
+    pub fresh_takes : table.channels ≡ h.channels → CanTake table t.accesses
+    fresh_takes e = record { inside = rw e fresh_inside; apart = fresh_apart; room = fresh_room }
 
     queries_are : queries_before h m (emitted_of h m) ≡ queries_before h m k₀ + queries_in t.accesses
     queries_are = rw (sym newest) (queries_step h m k₀)
@@ -122,11 +125,11 @@ module _ {S : Type 0} (d : Design S) (h : Held) (m c : ℕ) (f : IsFresh d h m) 
       ap (λ (b : Bool). cond b 0 1) (or_right (eqb (emitted_of h m) 0) _ (ap (λ (y : Core S). y.answered m (emitted_of h m - 1))
       fresh_core.0 ∙ (ap (λ (k : ℕ). (after_answer d x m c).answered m k) same ∙ put_at_same x.answered m k₀ true)))
 
-  pub room_answered : (lanes : List ℕ) (table table' : RoomedChannels) (logs logs' credits : List ℕ) → HasRoom d h lanes table logs credits
+  pub room_answered : {lanes : List ℕ} {table table' : RoomedChannels} {logs logs' credits : List ℕ} → HasRoom d h lanes table logs credits
       → ((side : Side) (ch : ℕ) → room_of table side ch ≤ room_of table' side ch + 1)
       → ((side : Side) (ch : ℕ) → All (λ (a : Access). TakesAt side ch a → ⊥) t.accesses → room_of table side ch ≤ room_of table' side ch)
       → ((n : ℕ) → (n ≡ m → ⊥) → get_or logs n 0 ≤ get_or logs' n 0) → HasRoom d g lanes table' logs' credits
-  room_answered lanes table table' logs logs' credits r one others other_logs = record {
+  room_answered {lanes} {table} {table'} {logs} {logs'} {credits} r one others other_logs = record {
     ends = λ side ch l. let e = all_length (place_of m k₀) h.channels t.accesses (done_late t.accesses (new_flags d x m c)) in
         ends_now side ch (r.ends side ch (omega arith));
     steps = r.steps;
@@ -169,28 +172,16 @@ module _ {S : Type 0} (d : Design S) (h : Held) (m c : ℕ) (f : IsFresh d h m) 
           let free = free_side d m t.accesses owned side ch in
           grind arith
 
-pub first_is : (h : Held) (m n : ℕ) (step : Step) → n ≡ length (lane_at h.lanes m).cycles
-    → slice_get (lane_at h.lanes m).steps n ≡ Some step → step_of h m (length (lane_at h.lanes m).cycles) ≡ step
-first_is h m n step e there =
-    get_or_from_slice_get (lane_at h.lanes m).steps (length (lane_at h.lanes m).cycles) step no_step (rw e at there)
+pub first_is : (h : Held) (m : ℕ) {n : ℕ} {step : Step} → n ≡ first_of h m → slice_get (lane_at h.lanes m).steps n ≡ Some step
+    → step_of h m (first_of h m) ≡ step
+first_is h m {n} {step} e there = get_or_from_slice_get (lane_at h.lanes m).steps (first_of h m) step no_step (rw e at there)
 
-channels_from : {S : Type 0} → (d : Design S) (h : Held) (m c : ℕ) (f : IsFresh d h m) (n : ℕ) (step : Step) (xs : List Access)
-    (logs : List Log) (channels : List Channel)
-    → n ≡ length (lane_at h.lanes m).cycles → step_of h m (length (lane_at h.lanes m).cycles) ≡ step → xs ≡ step.accesses
-    → logs ≡ (with_answered h m (length (lane_at h.lanes m).cycles) (new_flags d (core_of d h) m c)).logs
-    → channels ≡ taken_all (place_of m n) h.channels xs (done_by true xs (drop step.first_query (log_at logs m).outcomes))
-    → channels ≡ (with_answered h m (length (lane_at h.lanes m).cycles) (new_flags d (core_of d h) m c)).channels
-channels_from {S} d h m c f n step xs logs channels en es ea el e = e ∙ rw (en, ea, sym es, el) (fresh_channels d h m c f)
-
--- what is held behind the loops that add the outcomes and what they decide
-pub behind_is : {S : Type 0} → (d : Design S) (h : Held) (m c : ℕ) (f : IsFresh d h m) (n : ℕ) (step : Step) (xs ys : List Access)
-    (logs : List Log)
-    (channels : List Channel) → n ≡ first_of h m → step_of h m (first_of h m) ≡ step → xs ≡ step.accesses → ys ≡ step.accesses
-    → logs ≡ with_outcomes h.logs m (outcomes_of xs (found_flags h.lanes h.channels c xs))
+-- what is held after the loops that add the outcomes and what they decide
+pub behind_is : {S : Type 0} {d : Design S} {h : Held} {m : ℕ} (f : IsFresh d h m) (c : ℕ) {n : ℕ} {step : Step} {xs ys : List Access}
+    {logs : List Log} {channels : List Channel} → n ≡ first_of h m → step_of h m (first_of h m) ≡ step → xs ≡ step.accesses
+    → ys ≡ step.accesses → logs ≡ with_outcomes h.logs m (outcomes_of xs (found_flags h.lanes h.channels c xs))
     → channels ≡ taken_all (place_of m n) h.channels ys (done_by true ys (drop step.first_query (log_at logs m).outcomes))
     → held h.lanes channels logs h.over ≡ with_answered h m (first_of h m) (new_flags d (core_of d h) m c)
-behind_is {S} d h m c f n step xs ys logs channels en es ex ey el ec =
-    let same : logs ≡ (with_answered h m (first_of h m) (new_flags d (core_of d h) m c)).logs =
-    el ∙ rw (ex, sym es) (fresh_logs d h m c f) in
-    ap₂ (λ (cs : List Channel) (ls : List Log). held h.lanes cs ls h.over) (channels_from d h m c f n step ys logs channels en es ey same
-    ec) same
+behind_is {S} {d} {h} {m} f c {n} {step} {xs} {ys} {logs} {channels} en es ex ey el ec =
+    let same : logs ≡ (with_answered h m (first_of h m) (new_flags d (core_of d h) m c)).logs = el ∙ rw (ex, sym es) (fresh_logs f c) in
+    ap₂ (λ (cs : List Channel) (ls : List Log). held h.lanes cs ls h.over) (ec ∙ rw (en, ey, sym es, same) (fresh_channels f c)) same

@@ -21,7 +21,8 @@ use Rattle.event_timing.proofs.Assigning.{put_same, put_other, put_at_other}
 use Rattle.engine_view.specs.Held.{Held, step_of, emitted_of, seen, queries_in, are_among, core_of, held}
 use Rattle.engine_view.specs.Shown.{IsSound, queries_before}
 use Rattle.engine_view.specs.Emitted.{IsNextStep, with_emitted, place_of, done_at_once}
-use Rattle.engine_view.specs.Stored.{Stored, held_in}
+use Rattle.engine_view.specs.declared.engine.Engine.{Engine}
+use Rattle.engine_view.specs.Engines.{held_in}
 use Rattle.engine_view.specs.Rooms.{query_bound, room_of, TakesAt, AreApart, HasRoomFor, UsesRoom, pending, HasRoom, IsRoomy}
 use Rattle.engine_view.proofs.Taking.{all_length}
 use Rattle.engine_view.proofs.Emitted.{there, queries_same, emitted_core}
@@ -55,7 +56,8 @@ apart_of (a ∷ xs) f = (
   apart_of xs (λ side c. let l = f side c in omega arith),
 )
 
-each_at : (P : theory.Access → Type 0) (xs : List Access) → Each P (map seen xs) → (j : ℕ) (e : Access) → j < length xs
+-- what holds of each access as the theory sees it holds of the one of this number
+pub each_at : (P : theory.Access → Type 0) (xs : List Access) → Each P (map seen xs) → (j : ℕ) (e : Access) → j < length xs
     → P (seen (get_or xs j e))
 each_at P [] p j e l = absurd (omega arith)
 each_at P (a ∷ xs) p zero e l = p.0
@@ -222,19 +224,32 @@ room_lent {S} d h lanes table logs credits m n r inside lane sides = record {
   few = r.few;
 }
 
--- where the same is emitted and recorded
+-- where the same is emitted and recorded, for a design whose channels have the same owners
+pub room_on : {S : Type 0} → (d e : Design S) (h g : Held) (lanes lanes' : List ℕ) (table table' : RoomedChannels) (logs credits : List ℕ)
+    → HasRoom d h lanes table logs credits → ((side : Side) (c : ℕ) → e.owner side c ≡ d.owner side c)
+    → length g.channels ≡ length h.channels → ((m : ℕ) → pending (core_of e g) m ≡ pending (core_of d h) m)
+    → ((m : ℕ) → queries_before g m (emitted_of g m) ≡ queries_before h m (emitted_of h m))
+    → ((m : ℕ) → length (log_at g.logs m).outcomes ≡ length (log_at h.logs m).outcomes) → ((k : ℕ) → get_or lanes k 0 ≤ get_or lanes' k 0)
+    → ((side : Side) (c : ℕ) → room_of table side c ≤ room_of table' side c) → HasRoom e g lanes' table' logs credits
+room_on {S} d e h g lanes lanes' table table' logs credits r own count still same log f q = record {
+  ends = λ side c l.
+      let a = r.ends side c (omega arith) in
+      let b = still (d.owner side c) in
+      let n = q side c in
+      rw (own side c) (omega arith);
+  steps = λ m. let a = r.steps m in let b = f m in omega arith;
+  outcomes = λ m. let a = r.outcomes m in let b = same m in let c = log m in omega arith;
+  few = λ m. let a = r.few m in let b = same m in omega arith;
+}
+
 pub room_same : {S : Type 0} → (d : Design S) (h g : Held) (lanes lanes' : List ℕ) (table : RoomedChannels) (logs credits : List ℕ)
     → HasRoom d h lanes table logs credits
     → length g.channels ≡ length h.channels → ((m : ℕ) → pending (core_of d g) m ≡ pending (core_of d h) m)
     → ((m : ℕ) → queries_before g m (emitted_of g m) ≡ queries_before h m (emitted_of h m))
     → ((m : ℕ) → length (log_at g.logs m).outcomes ≡ length (log_at h.logs m).outcomes) → ((k : ℕ) → get_or lanes k 0 ≤ get_or lanes' k 0)
     → HasRoom d g lanes' table logs credits
-room_same {S} d h g lanes lanes' table logs credits r count still same log f = record {
-  ends = λ side c l. let a = r.ends side c (omega arith) in let b = still (d.owner side c) in omega arith;
-  steps = λ m. let a = r.steps m in let b = f m in omega arith;
-  outcomes = λ m. let a = r.outcomes m in let b = same m in let c = log m in omega arith;
-  few = λ m. let a = r.few m in let b = same m in omega arith;
-}
+room_same {S} d h g lanes lanes' table logs credits r count still same log f =
+    room_on d d h g lanes lanes' table table logs credits r (λ side c. refl) count still same log f (λ side c. omega arith)
 
 -- nothing is emitted, and nothing waits
 pub pending_none : {S : Type 0} → (x : Core S) (m : ℕ) → x.emitted m ≡ 0 → pending x m ≡ 0
@@ -256,15 +271,17 @@ room_opening {S} d h lanes table logs credits none empty = record {
     few : (m : ℕ) → queries_before h m (emitted_of h m) ≡ 0
     few m = ap (queries_before h m) (none m) ∙ queries_zero h m
 
--- ---- room of a graph, a table and a log
+-- ---- room of an engine
 
 -- where only the room is another, and none is less
-pub roomy_kept : {S : Type 0} → (d : Design S) (s t : Stored) (over : List Bool) (credits : List ℕ) → t.graph.lanes ≡ s.graph.lanes
-    → t.table.channels ≡ s.table.channels → t.log.logs ≡ s.log.logs
+pub roomy_kept : {S : Type 0} → (d : Design S) (s t : Engine) (over : List Bool) → t.graph.lanes ≡ s.graph.lanes
+    → t.fifos.channels ≡ s.fifos.channels → t.log.logs ≡ s.log.logs
     → ((k : ℕ) → get_or s.graph.rooms k 0 ≤ get_or t.graph.rooms k 0)
-    → ((side : Side) (c : ℕ) → room_of s.table side c ≤ room_of t.table side c)
-    → ((k : ℕ) → get_or s.log.rooms k 0 ≤ get_or t.log.rooms k 0) → IsRoomy d s over credits → IsRoomy d t over credits
-roomy_kept {S} d s t over credits el ec eo f g q r =
+    → ((side : Side) (c : ℕ) → room_of s.fifos side c ≤ room_of t.fifos side c)
+    → ((k : ℕ) → get_or s.log.rooms k 0 ≤ get_or t.log.rooms k 0) → IsRoomy d s over
+    → HasRoom d (held_in t over) t.graph.rooms t.fifos t.log.rooms s.credits.items
+roomy_kept {S} d s t over el ec eo f g q r =
     rw (el, eo)
-    (subst (λ (cs : List Channel). HasRoom d (held s.graph.lanes cs s.log.logs over) t.graph.rooms t.table t.log.rooms credits) (sym ec)
-    (room_kept d (held_in s over) s.graph.rooms t.graph.rooms s.table t.table s.log.rooms t.log.rooms credits r f g q))
+    (subst (λ (cs : List Channel). HasRoom d (held s.graph.lanes cs s.log.logs over) t.graph.rooms t.fifos t.log.rooms s.credits.items)
+    (sym ec)
+    (room_kept d (held_in s over) s.graph.rooms t.graph.rooms s.fifos t.fifos s.log.rooms t.log.rooms s.credits.items r f g q))

@@ -64,9 +64,6 @@ module _ (lanes : List Lane) (channels : List Channel) (c m : ℕ) (xs : List Ac
         other_rooms = r.other_rooms;
       }
 
-  pub room_for_one : is_blocking a.kind ≡ false → 0 < get_or now.rooms m 0
-  room_for_one e = let q = queries_first false e in let k = r.room in omega arith
-
   pub writes_one : (next : RoomedLogs) (u₀ : Bool) → is_blocking a.kind ≡ false → u₀ ≡ found → next.logs ≡ with_outcome now.logs m u₀
       → get_or now.rooms m 0 ≤ get_or next.rooms m 0 + 1
       → ((k : ℕ) → (k ≡ m → ⊥) → get_or now.rooms k 0 ≤ get_or next.rooms k 0) → WritesOn lanes channels c m xs old next (i + 1)

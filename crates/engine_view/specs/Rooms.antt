@@ -1,18 +1,24 @@
 -- Room for the pushes, pops and outcomes of the steps to come.
 use Rattle.std.specs.Prelude.{◌≡◌, ◌≢◌, ℕ, ◌+◌, ◌-◌, ◌*◌, ◌^◌, ◌<◌, ◌≤◌, Bool, true, cond, not, eqb, ◌&&◌, ◌||◌, List, []}
-use Rattle.std.specs.Prelude.{◌∷◌, length, drop, slice_get, slice_index, All, Some}
+use Rattle.std.specs.Prelude.{◌∷◌, length, drop, slice_get, slice_index, slice_set, All, Some}
 use Rattle.flow_word.specs.Kinds.{side_of, is_blocking, is_taking}
 use Rattle.flow_word.specs.declared.access.Access.{Access}
 use Rattle.flow_word.specs.declared.access.Port.{Port}
 use Rattle.flow_word.specs.declared.access.Side.{Side}
 use Rattle.flow_word.specs.declared.access.Side.TheVariants.{Pop, Push}
+use Rattle.flow_word.specs.declared.access.Step.{Step}
+use Rattle.event_graph.specs.Lanes.{lane_at, with_step, IsSoundStep, IsSoundLane}
 use Rattle.fifo_table.specs.Roomed.{RoomedChannels}
 use Rattle.query_log.specs.Logs.{log_at}
+use Rattle.time_engine.specs.Conditions.{IsAccess}
 use Rattle.event_timing.specs.Machines.{Design}
 use Rattle.event_timing.specs.Core.{Core}
 use Rattle.engine_view.specs.Held.{Held, emitted_of, possible_by, core_of}
 use Rattle.engine_view.specs.Shown.{queries_before}
-use Rattle.engine_view.specs.Stored.{Stored, held_in}
+use Rattle.engine_view.specs.declared.engine.Engine.{Engine}
+use Rattle.engine_view.specs.Engines.{held_in}
+use Rattle.engine_view.specs.Emitted.{done_at_once, place_of}
+use Rattle.engine_view.specs.Taking.{taken_all, kinds_in}
 
 -- ---- the accesses of a step
 
@@ -69,11 +75,54 @@ pub record HasRoom {S : Type 0} (d : Design S) (h : Held) (lanes : List ℕ) (ta
   pub outcomes : (m : ℕ) → queries_before h m (emitted_of h m) ≤ slice_index logs m + length (log_at h.logs m).outcomes
   pub few : (m : ℕ) → queries_before h m (emitted_of h m) < query_bound
 
--- so it is in a graph, a table and a log
-abbrev pub IsRoomy : {S : Type 0} → Design S → Stored → List Bool → List ℕ → Type 0
-IsRoomy {S} d s over credits = HasRoom d (held_in s over) s.graph.rooms s.table s.log.rooms credits
+-- so it is in an engine
+abbrev pub IsRoomy : {S : Type 0} → Design S → Engine → List Bool → Type 0
+IsRoomy {S} d e over = HasRoom d (held_in e over) e.graph.rooms e.fifos e.log.rooms e.credits.items
 
 -- the list has each port of the first so many channels at which the module stands
 abbrev pub AreAllPorts : {S : Type 0} → Design S → ℕ → ℕ → List Port → Type 0
 AreAllPorts {S} d m channels ports = (port : Port) → port.channel < channels → d.owner port.side port.channel ≡ m
     → (i : ℕ) × (slice_get ports i ≡ Some port)
+
+-- ---- an engine that is given room, or a step
+
+-- the engine has a module of this number
+pub record HasModule (e : Engine) (m : ℕ) : Type 0 where
+  pub lane : m < length e.graph.lanes
+  pub log : m < length e.log.logs
+  pub credit : m < length e.credits.items
+
+-- all is as it was, but for the room and the module's credit
+pub record IsSameButRoom (m : ℕ) (e f : Engine) : Type 0 where
+  pub lanes : f.graph.lanes ≡ e.graph.lanes
+  pub channels : f.fifos.channels ≡ e.fifos.channels
+  pub logs : f.log.logs ≡ e.log.logs
+  pub count : length f.credits.items ≡ length e.credits.items
+  pub other_credits : (n : ℕ) → n ≢ m → slice_index f.credits.items n ≡ slice_index e.credits.items n
+
+-- each of the accesses is one of a channel of the table, and there is room for those that take
+pub record CanTake (t : RoomedChannels) (accesses : List Access) : Type 0 where
+  pub inside : All (IsAccess t.channels) accesses
+  pub apart : AreApart accesses
+  pub room : HasRoomFor t accesses
+
+-- the step can stand after the module's others, and there is room for it
+pub record CanEmit (e : Engine) (m : ℕ) (step : Step) : Type 0 where
+  pub owner : HasModule e m
+  pub sound : IsSoundStep step
+  pub after : 0 < length (lane_at e.graph.lanes m).steps → 1 ≤ step.gap
+  pub takes : CanTake e.fifos step.accesses
+  pub lane_room : 0 < slice_index e.graph.rooms m
+  pub credit : 2 ≤ slice_index e.credits.items m
+  pub few : step.first_query < query_bound
+
+-- it is emitted, with the pushes and pops of those of its accesses that block, and uses two of the module's credit
+pub record HasEmitted (e : Engine) (m : ℕ) (step : Step) (f : Engine) : Type 0 where
+  pub lanes : f.graph.lanes ≡ with_step e.graph.lanes m step
+  pub sound : All IsSoundLane f.graph.lanes
+  pub channels : f.fifos.channels
+      ≡ taken_all (place_of m (length (lane_at e.graph.lanes m).steps)) e.fifos.channels step.accesses (done_at_once step.accesses)
+  pub kinds : kinds_in f.fifos.channels ≡ kinds_in e.fifos.channels
+  pub log : f.log ≡ e.log
+  pub credits : f.credits.items ≡ slice_set e.credits.items m (slice_index e.credits.items m - 2)
+  pub room : UsesRoom m step.accesses e.graph.rooms f.graph.rooms e.fifos f.fifos

@@ -1,6 +1,6 @@
 //! The outcomes of a step's queries.
 ghost use Rattle.std.specs.Prelude.{◌≡◌, ◌≢◌, ◌↔◌, ℕ, ◌+◌, ◌<◌, ◌≤◌, ◌^◌, true, length, drop, slice_index, All};
-ghost use Rattle.query_log.specs.Logs.{log_at, outcome_of, with_outcomes};
+ghost use Rattle.query_log.specs.Logs.{log_at, with_outcomes};
 ghost use Rattle.query_log.specs.declared.query.Query.{Query as query_type};
 ghost use Rattle.time_engine.specs.Conditions.{IsAccess, HasPlaces};
 ghost use Rattle.time_engine.specs.Possible.{when_possible};
@@ -11,7 +11,7 @@ ghost use Rattle.engine_view.specs.Answered.{outcome_by, outcomes_of};
 ghost use Rattle.engine_view.specs.Turns.{IsOther};
 
 use crate::take::was_possible;
-use event_graph::{Access, Graph};
+use event_graph::{Access, Graph, StepView};
 use fifo_table::FifoTable;
 use outcome_guard::Guard;
 use query_log::{Query, QueryLog};
@@ -53,23 +53,23 @@ pub fn compare_outcomes(
     log: &QueryLog,
     owner: u32,
     cycle: u64,
-    first_query: u64,
-    accesses: &[Access],
+    step: &StepView<'_>,
 ) -> Guard
     requires owner { owner < length log.now.logs }
-    requires inside { All (IsAccess fifos.now.channels) accesses.now }
+    requires inside { All (IsAccess fifos.now.channels) step.now.accesses }
     requires places { HasPlaces graph.now.lanes fifos.now.channels }
-    requires few { first_query + length accesses.now < 2 ^ 64 }
+    requires few { step.now.first_query + length step.now.accesses < 2 ^ 64 }
     ensures same { result ≡ Guard.Same
-        → flags_by accesses.now (drop first_query (log_at log.now.logs owner).outcomes) ≡ found_flags graph.now.lanes fifos.now.channels
-        cycle accesses.now }
+        → flags_by step.now.accesses (drop step.now.first_query (log_at log.now.logs owner).outcomes)
+        ≡ found_flags graph.now.lanes fifos.now.channels cycle step.now.accesses }
     ensures differs { (q : query_type) → result ≡ Guard.Differs q
-        → IsOther (flags_by accesses.now (drop first_query (log_at log.now.logs owner).outcomes))
-        (found_flags graph.now.lanes fifos.now.channels cycle accesses.now) accesses.now owner first_query q }
+        → IsOther (flags_by step.now.accesses (drop step.now.first_query (log_at log.now.logs owner).outcomes))
+        (found_flags graph.now.lanes fifos.now.channels cycle step.now.accesses) step.now.accesses owner step.now.first_query q }
 {
-    let mut number = first_query;
-    for access in accesses {
-        if !is_alike(graph, fifos, log, owner, number, access, cycle) {
+    let mut number = step.first_query;
+    for access in step.accesses.as_slice() {
+        let outcome = log.outcome(owner, number);
+        if !is_alike(graph, fifos, access, outcome, cycle) {
             return Guard::Differs(Query {
                 module: owner,
                 number,
@@ -83,26 +83,23 @@ pub fn compare_outcomes(
     Guard::Same
 }
 
-/// Whether an access blocks, or its query was possible by its recorded outcome exactly where it is in this clock.
+/// Whether an access blocks, or its query, which has this recorded outcome, was possible exactly where it is in this clock.
 fn is_alike(
     graph: &Graph,
     fifos: &FifoTable,
-    log: &QueryLog,
-    owner: u32,
-    number: u64,
     access: &Access,
+    outcome: Option<bool>,
     cycle: u64,
 ) -> bool
-    requires owner { owner < length log.now.logs }
     requires access { IsAccess fifos.now.channels access.now }
     requires places { HasPlaces graph.now.lanes fifos.now.channels }
-    ensures { (result ≡ true) ↔ (flag_now access.now.kind (outcome_of log.now.logs owner number) ≡ flag_found graph.now.lanes
+    ensures { (result ≡ true) ↔ (flag_now access.now.kind outcome ≡ flag_found graph.now.lanes
         fifos.now.channels cycle access.now) }
 {
     if access.kind.is_blocking() {
         return true;
     }
-    was_possible(log, owner, number, access.kind) == is_possible(graph, fifos, access, cycle)
+    was_possible(access.kind, outcome) == is_possible(graph, fifos, access, cycle)
 }
 
 /// The outcome of a query in this clock, which counts as not possible where it is not decided.

@@ -1,95 +1,70 @@
 //! Room for the steps to come.
-ghost use Rattle.std.specs.Prelude.{◌≡◌, ◌≢◌, ℕ, ◌+◌, ◌^◌, ◌<◌, ◌≤◌, Bool, List, length, slice_index, All, OnOk};
+ghost use Rattle.std.specs.Prelude.{◌≡◌, ℕ, ◌+◌, ◌^◌, ◌<◌, ◌≤◌, Bool, List, length, slice_index, All, OnOk};
 ghost use Rattle.flow_word.specs.declared.access.Side.{Side as side_type};
 ghost use Rattle.flow_design.specs.declared.state.ModuleState.{ModuleState};
 ghost use Rattle.event_timing.specs.Machines.{Design};
-ghost use Rattle.engine_view.specs.Stored.{stored};
-ghost use Rattle.engine_view.specs.Rooms.{room_of, IsRoomy, AreAllPorts};
+ghost use Rattle.engine_view.specs.Rooms.{room_of, HasModule, IsSameButRoom, IsRoomy, AreAllPorts};
 
-use event_graph::Graph;
+use crate::engine::Engine;
 use fifo_table::FifoTable;
 use flow_word::{OutOfMemory, Port, Side};
-use query_log::QueryLog;
 
 /// The places at each end that a module is given at once: those of 256 Runs, of which each takes two at most.
 const CREDIT: u64 = 512;
 
-/// Makes room for a module's next step, and for others beside it, so that this seldom takes time.
-///
-/// `ports` are those at which the module stands, and `queries` is how many queries a step of it may have. All else
-/// stays, also after want of memory.
-#[inline(always)]
-pub fn make_room(
-    graph: &mut Graph,
-    fifos: &mut FifoTable,
-    log: &mut QueryLog,
-    credits: &mut Vec<u64>,
-    owner: u32,
-    ports: &[Port],
-    queries: u64,
-) -> Result<(), OutOfMemory>
-    requires lanes { owner < length graph.old.lanes }
-    requires logs { owner < length log.old.logs }
-    requires credits { owner < length credits.old.items }
-    requires ports { All (λ port. port.channel < length fifos.old.channels) ports.now }
-    ensures lanes { graph.new.lanes ≡ graph.old.lanes }
-    ensures channels { fifos.new.channels ≡ fifos.old.channels }
-    ensures logs { log.new.logs ≡ log.old.logs }
-    ensures credits { length credits.new.items ≡ length credits.old.items }
-    ensures other_credits { (m : ℕ) → m ≢ owner → slice_index credits.new.items m ≡ slice_index credits.old.items m }
-    ensures credit { OnOk result (2 ≤ slice_index credits.new.items owner) }
-    ensures queries { OnOk result (queries ≤ slice_index log.new.rooms owner) }
-    ensures room { (d : Design ModuleState) (over : List Bool) → AreAllPorts d owner (length fifos.old.channels) ports.now
-        → IsRoomy d (stored graph.old fifos.old log.old) over credits.old.items
-        → IsRoomy d (stored graph.new fifos.new log.new) over credits.new.items }
-{
-    let places = if credits[owner as usize] >= 2 {
-        2
-    } else {
-        CREDIT
-    };
-    make_room_for(graph, fifos, log, credits, owner, ports, queries, places)
-}
-
-/// Makes room for so many places that a module's next steps may take at each of its ports: two for each step.
-///
-/// `ports` are those at which the module stands, and `queries` is how many queries the last of the steps may have. All else
-/// stays, also after want of memory.
-#[inline(always)]
-pub fn make_room_for(
-    graph: &mut Graph,
-    fifos: &mut FifoTable,
-    log: &mut QueryLog,
-    credits: &mut Vec<u64>,
-    owner: u32,
-    ports: &[Port],
-    queries: u64,
-    places: u64,
-) -> Result<(), OutOfMemory>
-    requires lanes { owner < length graph.old.lanes }
-    requires logs { owner < length log.old.logs }
-    requires credits { owner < length credits.old.items }
-    requires ports { All (λ port. port.channel < length fifos.old.channels) ports.now }
-    requires places { places + 1 < 2 ^ 64 }
-    ensures lanes { graph.new.lanes ≡ graph.old.lanes }
-    ensures channels { fifos.new.channels ≡ fifos.old.channels }
-    ensures logs { log.new.logs ≡ log.old.logs }
-    ensures credits { length credits.new.items ≡ length credits.old.items }
-    ensures other_credits { (m : ℕ) → m ≢ owner → slice_index credits.new.items m ≡ slice_index credits.old.items m }
-    ensures credit { OnOk result (places ≤ slice_index credits.new.items owner) }
-    ensures queries { OnOk result (queries ≤ slice_index log.new.rooms owner) }
-    ensures room { (d : Design ModuleState) (over : List Bool) → AreAllPorts d owner (length fifos.old.channels) ports.now
-        → IsRoomy d (stored graph.old fifos.old log.old) over credits.old.items
-        → IsRoomy d (stored graph.new fifos.new log.new) over credits.new.items }
-{
-    log.reserve(owner, queries)?;
-    if credits[owner as usize] >= places {
-        return Ok(());
+impl Engine {
+    /// Makes room for a module's next step, and for others beside it, so that this seldom takes time.
+    ///
+    /// `ports` are those at which the module stands, and `queries` is how many queries a step of it may have. All else
+    /// stays, also after want of memory.
+    #[inline(always)]
+    pub fn make_room(&mut self, owner: u32, ports: &[Port], queries: u64) -> Result<(), OutOfMemory>
+        requires owner { HasModule self.old owner }
+        requires ports { All (λ port. port.channel < length self.old.fifos.channels) ports.now }
+        ensures same { IsSameButRoom owner self.old self.new }
+        ensures credit { OnOk result (2 ≤ slice_index self.new.credits.items owner) }
+        ensures queries { OnOk result (queries ≤ slice_index self.new.log.rooms owner) }
+        ensures room { (d : Design ModuleState) (over : List Bool) → AreAllPorts d owner (length self.old.fifos.channels) ports.now
+            → IsRoomy d self.old over → IsRoomy d self.new over }
+    {
+        let places = if self.credits[owner as usize] >= 2 {
+            2
+        } else {
+            CREDIT
+        };
+        self.make_room_for(owner, ports, queries, places)
     }
-    graph.reserve(owner, places / 2 + places % 2)?;
-    reserve_ports(fifos, ports, places)?;
-    credits[owner as usize] = places;
-    Ok(())
+
+    /// Makes room for so many places that a module's next steps may take at each of its ports: two for each step.
+    ///
+    /// `ports` are those at which the module stands, and `queries` is how many queries the last of the steps may have. All else
+    /// stays, also after want of memory.
+    #[inline(always)]
+    pub fn make_room_for(
+        &mut self,
+        owner: u32,
+        ports: &[Port],
+        queries: u64,
+        places: u64,
+    ) -> Result<(), OutOfMemory>
+        requires owner { HasModule self.old owner }
+        requires ports { All (λ port. port.channel < length self.old.fifos.channels) ports.now }
+        requires places { places + 1 < 2 ^ 64 }
+        ensures same { IsSameButRoom owner self.old self.new }
+        ensures credit { OnOk result (places ≤ slice_index self.new.credits.items owner) }
+        ensures queries { OnOk result (queries ≤ slice_index self.new.log.rooms owner) }
+        ensures room { (d : Design ModuleState) (over : List Bool) → AreAllPorts d owner (length self.old.fifos.channels) ports.now
+            → IsRoomy d self.old over → IsRoomy d self.new over }
+    {
+        self.log.reserve(owner, queries)?;
+        if self.credits[owner as usize] >= places {
+            return Ok(());
+        }
+        self.graph.reserve(owner, places / 2 + places % 2)?;
+        reserve_ports(&mut self.fifos, ports, places)?;
+        self.credits[owner as usize] = places;
+        Ok(())
+    }
 }
 
 /// Makes room at each of the ports.

@@ -1,12 +1,12 @@
 //! The pushes and pops of a step's accesses.
-ghost use Rattle.std.specs.Prelude.{◌≡◌, ℕ, ◌+◌, ◌<◌, ◌≤◌, ◌^◌, Bool, true, cond, not, ◌&&◌, length, drop, All};
+ghost use Rattle.std.specs.Prelude.{◌≡◌, ℕ, ◌+◌, ◌<◌, ◌≤◌, ◌^◌, true, cond, not, ◌&&◌, length, drop, All};
 ghost use Rattle.flow_word.specs.Kinds.{side_of, is_blocking, is_taking};
 ghost use Rattle.flow_word.specs.declared.access.Side.{Side as side_type};
 ghost use Rattle.query_log.specs.Logs.{log_at, outcome_of};
 ghost use Rattle.time_engine.specs.Conditions.{IsAccess};
 ghost use Rattle.engine_view.specs.Held.{possible_by};
 ghost use Rattle.engine_view.specs.Taking.{taken_by, taken_all, kinds_in};
-ghost use Rattle.engine_view.specs.Rooms.{room_of, TakesAt, AreApart, HasRoomFor, done_by};
+ghost use Rattle.engine_view.specs.Rooms.{room_of, TakesAt, CanTake, done_by};
 
 use event_graph::{Access, Kind, Place};
 use fifo_table::FifoTable;
@@ -27,9 +27,7 @@ pub fn take_all(
     later: bool,
 )
     requires owner { at.module < length log.now.logs }
-    requires inside { All (IsAccess fifos.old.channels) accesses.now }
-    requires apart { AreApart accesses.now }
-    requires room { HasRoomFor fifos.old accesses.now }
+    requires accesses { CanTake fifos.old accesses.now }
     requires few { first_query + length accesses.now < 2 ^ 64 }
     requires step { at.step < 2 ^ 32 }
     ensures channels { fifos.new.channels ≡ taken_all at fifos.old.channels accesses.now
@@ -56,16 +54,15 @@ fn is_done(log: &QueryLog, owner: u32, number: u64, kind: Kind, later: bool) -> 
     if kind.is_blocking() {
         !later
     } else {
-        later && was_possible(log, owner, number, kind)
+        later && was_possible(kind, log.outcome(owner, number))
     }
 }
 
-/// Whether a query was possible by its recorded outcome. Without one it counts as not possible.
-pub fn was_possible(log: &QueryLog, owner: u32, number: u64, kind: Kind) -> bool
-    requires { owner < length log.now.logs }
-    ensures { result ≡ possible_by kind (outcome_of log.now.logs owner number) }
+/// Whether a query of this kind was possible by its recorded outcome. Without one it counts as not possible.
+pub fn was_possible(kind: Kind, outcome: Option<bool>) -> bool
+    ensures { result ≡ possible_by kind outcome }
 {
-    match log.outcome(owner, number) {
+    match outcome {
         Some(outcome) => outcome != late(kind),
         None => false,
     }

@@ -1,5 +1,5 @@
 //! One turn at a module.
-ghost use Rattle.std.specs.Prelude.{◌≡◌, ℕ, ◌+◌, ◌<◌, ◌≤◌, true, length, All};
+ghost use Rattle.std.specs.Prelude.{◌≡◌, ◌+◌, ◌<◌, ◌≤◌, true, length, All};
 ghost use Rattle.event_graph.specs.Lanes.{cycle_bound};
 ghost use Rattle.event_graph.specs.Packed.{whole};
 ghost use Rattle.time_engine.specs.Conditions.{IsAccess, HasPlaces};
@@ -7,16 +7,15 @@ ghost use Rattle.time_engine.specs.Possible.{when_possible};
 ghost use Rattle.event_timing.specs.Enablers.{is_decided as decided};
 ghost use Rattle.engine_view.specs.Held.{queries_in, are_among};
 ghost use Rattle.engine_view.specs.Known.{as_known, are_decided};
-ghost use Rattle.engine_view.specs.Stored.{stored};
 ghost use Rattle.engine_view.specs.Taking.{kinds_in};
 ghost use Rattle.engine_view.specs.Turns.{IsSomeCore, HasTimed, KeepsRoom, lanes_behind, ticks_of, is_progress, left};
 
-use crate::answer::answer_first;
+use crate::engine::Engine;
 use event_graph::{Access, Candidate, Graph, Place, StepView};
 use fifo_table::FifoTable;
 use flow_word::Steps;
 use outcome_guard::Guard;
-use query_log::{Query, QueryLog};
+use query_log::Query;
 use query_resolve::{Decision, decide};
 use std::sync::ledger::Ledger;
 use time_engine::{assign, candidate_and_queries};
@@ -34,46 +33,41 @@ pub enum Timing {
     Nothing,
 }
 
-/// Gives a module's first step without a cycle its cycle, or answers its queries, where that is permitted.
-///
-/// It takes no memory.
-#[inline(always)]
-pub fn time_first<L: Ledger>(
-    graph: &mut Graph,
-    fifos: &mut FifoTable,
-    log: &mut QueryLog,
-    owner: u32,
-    limit: u64,
-    steps: &mut Steps<L>,
-) -> Timing
-    requires owner { owner < length graph.old.lanes }
-    requires limit { limit ≤ cycle_bound }
-    requires core { IsSomeCore (stored graph.old fifos.old log.old) }
-    ensures done { HasTimed result limit owner (stored graph.old fifos.old log.old) (stored graph.new fifos.new log.new) }
-    ensures room { KeepsRoom (stored graph.old fifos.old log.old) (stored graph.new fifos.new log.new) }
-    ensures lanes { graph.new.lanes ≡ lanes_behind result owner graph.old.lanes }
-    ensures kinds { kinds_in fifos.new.channels ≡ kinds_in fifos.old.channels }
-    ensures less { is_progress result ≡ true → left (stored graph.new fifos.new log.new) < left (stored graph.old fifos.old log.old) }
-    ensures ticks { steps.new ≡ steps.old + ticks_of result }
-{
-    let (found, queries) = candidate_and_queries(graph, fifos, owner, limit);
-    let Candidate::At(cycle) = found else {
-        return Timing::Nothing;
-    };
-    let first = graph.step(Place {
-        module: owner,
-        step: graph.frontier(owner),
-    });
-    if are_first(&first, queries, log.verified(owner)) {
-        assign(graph, owner, cycle, steps);
-        return Timing::Assigned(cycle);
-    }
-    if !all_decided(graph, fifos, first.accesses.as_slice()) {
-        return Timing::Nothing;
-    }
-    match answer_first(graph, fifos, log, owner, cycle) {
-        Guard::Same => Timing::Answered(cycle),
-        Guard::Differs(query) => Timing::Differs(query),
+impl Engine {
+    /// Gives a module's first step without a cycle its cycle, or answers its queries, where that is permitted.
+    ///
+    /// It takes no memory.
+    #[inline(always)]
+    pub fn time_first<L: Ledger>(&mut self, owner: u32, limit: u64, steps: &mut Steps<L>) -> Timing
+        requires owner { owner < length self.old.graph.lanes }
+        requires limit { limit ≤ cycle_bound }
+        requires core { IsSomeCore self.old }
+        ensures done { HasTimed result limit owner self.old self.new }
+        ensures room { KeepsRoom self.old self.new }
+        ensures lanes { self.new.graph.lanes ≡ lanes_behind result owner self.old.graph.lanes }
+        ensures kinds { kinds_in self.new.fifos.channels ≡ kinds_in self.old.fifos.channels }
+        ensures less { is_progress result ≡ true → left self.new < left self.old }
+        ensures ticks { steps.new ≡ steps.old + ticks_of result }
+    {
+        let (found, queries) = candidate_and_queries(&self.graph, &self.fifos, owner, limit);
+        let Candidate::At(cycle) = found else {
+            return Timing::Nothing;
+        };
+        let first = self.graph.step(Place {
+            module: owner,
+            step: self.graph.frontier(owner),
+        });
+        if are_first(&first, queries, self.log.verified(owner)) {
+            assign(&mut self.graph, owner, cycle, steps);
+            return Timing::Assigned(cycle);
+        }
+        if !all_decided(&self.graph, &self.fifos, first.accesses.as_slice()) {
+            return Timing::Nothing;
+        }
+        match self.answer_first(owner, cycle) {
+            Guard::Same => Timing::Answered(cycle),
+            Guard::Differs(query) => Timing::Differs(query),
+        }
     }
 }
 

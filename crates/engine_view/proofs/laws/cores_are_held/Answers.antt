@@ -21,11 +21,11 @@ returns g c = record {
   answered = λ d h k i m c u none.
       let unsure = unsure_of d i h k m u in
       answered_on d h m c (with_answered h m (first_of h m) (new_flags d (core_of d h) m c)) unsure (λ e. absurd (both_ways _ none e))
-      (fresh_core d h m c (record { unsure = unsure; fresh = none }));
+      (fresh_core (record { unsure = unsure; fresh = none }) c);
   confirmed = λ d h k i m c u there same.
       let unsure = unsure_of d i h k m u in
       answered_on d h m c (with_confirmed h m (queries_before h m (suc (first_of h m)))) unsure same
-      (again_core d h m c unsure there (same there));
+      (again_core unsure c there (same there));
   differs = λ d h m c q o same. o.other.differs (ap (λ (flags : List Bool). slice_get flags o.other.place) (same o.recorded));
   cut = cut_now;
 }

@@ -11,7 +11,7 @@ no_access = record { kind = Read; channel = 0; ordinal = 0; value = 0 }
 
 pub returns-then-not-is_alike-clause-differs : goal.returns-then-not-is_alike-clause-differs
 returns-then-not-is_alike-clause-differs c = λ q e.
-    let access = get_or c.args.accesses.now c.loop-access.access-index no_access in
+    let access = get_or c.args.step.now.accesses c.loop-access.access-index no_access in
     let query : Query = record {
       «module» = c.args.owner;
       number = c.loop-access.number;
@@ -19,16 +19,19 @@ returns-then-not-is_alike-clause-differs c = λ q e.
       channel = access.channel;
       ordinal = access.ordinal;
     } in
-    let other = compares_not c.args.graph.now.lanes c.args.fifos.now.channels c.args.cycle c.args.accesses.now
-    (log_at c.args.log.now.logs c.args.owner).outcomes c.args.first_query c.loop-access.access-index c.loop-access.number no_access
-    c.loop-access.invariant c.args.owner query c.loop-access-test.true (λ s. let z = c.if-not-is_alike.ensures.1 s in cc) refl refl refl
+    let other = compares_not c.args.graph.now.lanes c.args.fifos.now.channels c.args.cycle c.args.step.now.accesses
+    (log_at c.args.log.now.logs c.args.owner).outcomes c.args.step.now.first_query c.loop-access.access-index c.loop-access.number no_access
+    c.loop-access.invariant c.args.owner query (rw c.as_slice-access-items.ensures at c.loop-access-test.true)
+    (λ s. let z = rw (c.as_slice-access-items.ensures, c.outcome-outcome.ensures) at c.if-not-is_alike.ensures.1 in let y = z s in
+    cc) refl refl refl
     refl refl in
     let same : query ≡ q = cc in
     rw same at other
 
 pub loop-access-preserved : goal.loop-access-preserved
 loop-access-preserved c =
-    compares_more c.args.graph.now.lanes c.args.fifos.now.channels c.args.cycle c.args.accesses.now
-    (log_at c.args.log.now.logs c.args.owner).outcomes c.args.first_query c.loop-access.access-index c.loop-access.number no_access
-    c.loop-access.invariant c.query_count-number.result c.loop-access-test.true (c.if-not-is_alike.ensures.0 refl)
-    c.query_count-number.ensures.count
+    compares_more c.args.graph.now.lanes c.args.fifos.now.channels c.args.cycle c.args.step.now.accesses
+    (log_at c.args.log.now.logs c.args.owner).outcomes c.args.step.now.first_query c.loop-access.access-index c.loop-access.number no_access
+    c.loop-access.invariant c.query_count-number.result (rw c.as_slice-access-items.ensures at c.loop-access-test.true)
+    (rw (← c.outcome-outcome.ensures) (rw c.as_slice-access-items.ensures at (c.if-not-is_alike.ensures.0 refl)))
+    (rw c.as_slice-access-items.ensures at c.query_count-number.ensures.count)

@@ -3,5 +3,6 @@ use Rattle.engine_view.proofs.Comparing.{ComparesOn}
 use Rattle.engine_view.proofs.outcomes.compare_outcomes.Given as goal
 
 abbrev pub invariant-loop-access : goal.invariant-loop-access
-invariant-loop-access l = ComparesOn l.graph.lanes l.fifos.channels l.cycle l.accesses (log_at l.log.logs l.owner).outcomes l.first_query
+invariant-loop-access l = ComparesOn l.graph.lanes l.fifos.channels l.cycle l.step.accesses (log_at l.log.logs l.owner).outcomes
+    l.step.first_query
     l.access-index l.number

@@ -1,0 +1,29 @@
+use Rattle.std.proofs.Common.{refl, drop, arith, rules}
+use Rattle.std.proofs.lemmas.List.{get_or_read}
+use Rattle.query_log.specs.Logs.{log_at}
+use Rattle.engine_view.proofs.Adding.{done_first}
+use Rattle.engine_view.proofs.engine.Engine.emit_step.Goals as goal
+
+pub returns : goal.returns
+returns c = record {
+  emitted = record {
+    lanes = let there = c.push_step.ensures.succeeds c.requires.step.lane_room in search rules;
+    sound = c.push_step.ensures.sound;
+    channels = rw (
+      ← c.len.ensures.count,
+      ← done_first c.args.step.accesses (drop c.args.step.first_query (log_at c.args.self.now.log.logs c.args.owner).outcomes),
+      ← c.as_slice.ensures,
+    ) c.take_all.ensures.channels;
+    kinds = c.take_all.ensures.kinds;
+    log = refl;
+    credits =
+        let inside = c.requires.step.owner.credit in
+        rw (get_or_read c.args.self.now.credits.items c.args.owner c.index_mut.result.now (omega arith) c.index_mut.ensures.value 0) refl;
+    room = record {
+      lane = c.push_step.ensures.rooms.own;
+      other_lanes = c.push_step.ensures.rooms.others;
+      one = c.take_all.ensures.one;
+      others = rw (← c.as_slice.ensures) c.take_all.ensures.others;
+    };
+  };
+}

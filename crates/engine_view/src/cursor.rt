@@ -1,0 +1,113 @@
+//! Going round the modules.
+ghost use Rattle.std.specs.Prelude.{◌≡◌, ℕ, ◌<◌, ◌≤◌, ◌⊎◌, IfSome, IsNone, false, true};
+ghost use Rattle.engine_view.specs.Cursors.{IsNext, IsPassed, GoesRound, turns_left};
+
+use crate::hints::{next_of, without};
+use std::marker::Model;
+
+/// Goes round the modules, to those that are hinted before the others, until it has passed them all and nothing was done meanwhile.
+///
+/// Contracts see where it stands, and which modules count as idle: those that it passed since something was last done.
+#[derive(Drop)]
+pub struct Cursor {
+    count: u32,
+    at: u32,
+    idle: u32,
+    hints: u64,
+}
+
+impl Model for Cursor {
+    ghost use Rattle.std.specs.Prelude.{◌<◌, ◌≤◌};
+    ghost use Rattle.engine_view.specs.Cursors.{CursorView};
+
+    ghost Value = { CursorView };
+
+    ghost view = { λ c. record { count = c.count; at = c.at; idle = c.idle; hints = c.hints } };
+
+    ghost invariant = { λ c. (c.idle ≤ c.count) × (0 < c.count → c.at < c.count) };
+}
+
+impl Cursor {
+    /// At the first of so many modules. None counts as idle.
+    #[inline(always)]
+    pub fn new(count: u32) -> Cursor
+        ensures count { result.count ≡ count }
+        ensures at { result.at ≡ 0 }
+        ensures unhinted { result.hints ≡ 0 }
+        ensures idle { (m : ℕ) → IsPassed result m → ⊥ }
+    {
+        Cursor {
+            count,
+            at: 0,
+            idle: 0,
+            hints: 0,
+        }
+    }
+
+    /// The module that is next. None where all count as idle.
+    #[inline(always)]
+    pub fn at(&self) -> Option<u32>
+        ensures next { IfSome result (λ m. IsNext self.now m) }
+        ensures all { IsNone result → (m : ℕ) → m < self.now.count → IsPassed self.now m }
+    {
+        if self.idle < self.count {
+            Some(self.at)
+        } else {
+            None
+        }
+    }
+
+    /// Something was done, by which these are hinted: none counts as idle any more. It stays where it stands.
+    #[inline(always)]
+    pub fn acted(&mut self, woken: u64)
+        ensures count { self.new.count ≡ self.old.count }
+        ensures idle { (m : ℕ) → IsPassed self.new m → ⊥ }
+        ensures stays { self.new.at ≡ self.old.at }
+        ensures unhinted { self.old.hints ≡ 0 → woken ≡ 0 → self.new.hints ≡ 0 }
+        ensures less { (before after : ℕ) → after < before → turns_left after self.new < turns_left before self.old }
+    {
+        self.hints |= woken;
+        self.idle = 0;
+    }
+
+    /// Nothing was to be done where it stands: it goes to the next hinted module, and else to the next one.
+    #[inline(always)]
+    pub fn passed(&mut self)
+        requires { self.old.idle < self.old.count }
+        ensures count { self.new.count ≡ self.old.count }
+        ensures idle { (m : ℕ) → IsPassed self.new m → (m ≡ self.old.at) ⊎ IsPassed self.old m }
+        ensures unhinted { self.old.hints ≡ 0 → GoesRound self.old self.new }
+        ensures less { (actions : ℕ) → turns_left actions self.new < turns_left actions self.old }
+    {
+        if !self.jump() {
+            self.idle += 1;
+            self.at = if self.at + 1 < self.count {
+                self.at + 1
+            } else {
+                0
+            };
+        }
+    }
+
+    /// Goes to the next hinted module, where there is one, and tells whether it did. By this none is passed.
+    #[inline(always)]
+    pub fn jump(&mut self) -> bool
+        requires { 0 < self.old.count }
+        ensures count { self.new.count ≡ self.old.count }
+        ensures idle { (m : ℕ) → IsPassed self.new m → IsPassed self.old m }
+        ensures stays { result ≡ false → self.new ≡ self.old }
+        ensures hinted { result ≡ true → 0 < self.old.hints }
+        ensures no_more { (actions : ℕ) → turns_left actions self.new ≤ turns_left actions self.old }
+        ensures less { result ≡ true → (actions : ℕ) → turns_left actions self.new < turns_left actions self.old }
+    {
+        match next_of(self.hints, self.at, self.count) {
+            Some(next) => {
+                self.idle = 0;
+                self.at = next;
+                self.hints = without(self.hints, next);
+                true
+            }
+            None => false,
+        }
+    }
+}

@@ -1,6 +1,6 @@
 -- Lanes with other cycles, as puts leave them.
 use Rattle.std.proofs.Common.{◌≡◌, refl, sym, ap, ap₂, subst, ◌∙◌, ℕ, suc, ◌<◌, ◌≤◌, ◌⊎◌, inl, inr, List, [], ◌∷◌, length}
-use Rattle.std.proofs.Common.{get_or, arith}
+use Rattle.std.proofs.Common.{get_or, Vec, Global, arith}
 use Rattle.std.specs.Prelude.{All, Contains}
 use Rattle.std.proofs.Math.ListN.{set}
 use Rattle.std.proofs.Math.Seq.{map-set_same, drop-length}
@@ -14,28 +14,22 @@ use Rattle.fifo_table.specs.declared.channel.TableChannel.{TableChannel}
 use Rattle.fifo_table.specs.declared.channel.TableChannel.TheVariants.{Source, Sink, Fifo}
 use Rattle.fifo_table.specs.Channels.{Channel, channel_at, deepened, depth_of, unused, with_depth}
 use Rattle.engine_view.specs.Emitted.{place_of}
-use Rattle.engine_view.specs.Held.{Held}
 use Rattle.engine_view.specs.Rooms.{room_of}
-use Rattle.engine_view.specs.Stored.{Stored}
-use Rattle.event_graph.specs.Roomed.{RoomedLanes}
+use Rattle.engine_view.specs.declared.engine.Engine.{Engine}
+use Rattle.engine_view.specs.Engines.{held_in}
 use Rattle.fifo_table.specs.Roomed.{RoomedChannels}
+use Rattle.flow_design.specs.declared.plan.Edit.{Edit}
+use Rattle.query_log.specs.Logs.{RoomedLogs}
 use Rattle.retime.specs.Rounds.{only_steps}
+use Rattle.retime.proofs.Counts.{same_length, same_steps}
 use Rattle.step_looks.specs.OtherCycles.{HasOtherCycles}
 use Rattle.cycle_changes.specs.declared.changes.Put.{Put}
-use Rattle.cycle_changes.specs.Puts.{undone, ArePut}
+use Rattle.cycle_changes.specs.Puts.{undone, ArePut, HasPut}
 use Rattle.cycle_changes.specs.Changed.{LosesNoRoom}
 use Rattle.cycle_changes.specs.Found.{places_in}
-use Rattle.cycle_changes.proofs.Putting.{put_steps, put_count, put_lanes, put_apart}
+use Rattle.cycle_changes.proofs.Putting.{no_puts, put_count, put_apart}
 
 -- ---- what puts leave
-
-undone_lanes : (ps : List Put) (lanes : List Lane) → length (undone ps lanes) ≡ length lanes
-undone_lanes [] lanes = refl
-undone_lanes (p ∷ ps) lanes = put_lanes (undone ps lanes) p.place p.old ∙ undone_lanes ps lanes
-
-undone_steps : (ps : List Put) (lanes : List Lane) (m : ℕ) → (lane_at (undone ps lanes) m).steps ≡ (lane_at lanes m).steps
-undone_steps [] lanes m = refl
-undone_steps (p ∷ ps) lanes m = put_steps (undone ps lanes) p.place p.old m ∙ undone_steps ps lanes m
 
 undone_counts : (ps : List Put) (lanes : List Lane) (m : ℕ)
     → length (lane_at (undone ps lanes) m).cycles ≡ length (lane_at lanes m).cycles
@@ -79,33 +73,18 @@ pub record AreOther (first : List Lane) (puts : List Put) (now : List Lane) : Ty
       ⊎ Contains (places_in puts) (place_of m k)
 
 pub puts_are_other : (first : List Lane) (puts : List Put) (now : List Lane) → ArePut first puts now → AreOther first puts now
-puts_are_other first puts now are = record {
-  lanes = sym (undone_lanes puts now) ∙ ap (λ (ls : List Lane). length ls) are.back;
-  steps = λ m. sym (undone_steps puts now m) ∙ ap (λ (ls : List Lane). (lane_at ls m).steps) are.back;
-  counts = λ m. sym (undone_counts puts now m) ∙ ap (λ (ls : List Lane). length (lane_at ls m).cycles) are.back;
-  only = sym (undone_only puts now) ∙ ap only_steps are.back;
-  sound = subst (λ (ps : List Put). All IsSoundLane (undone ps now)) (drop-length puts) (are.sound (length puts));
-  same = λ m k. elim (undone_cycle puts now m k) [
-    | inl e ↦ inl (sym e ∙ ap (λ (ls : List Lane). get_or (lane_at ls m).cycles k 0) are.back)
-    | inr more ↦ inr more
-  ];
-}
-
--- so what is held has other cycles, with this depth
-pub other_held : (first : List Lane) (puts : List Put) (now : List Lane) → ArePut first puts now → (s t : Held) → s.lanes ≡ first
-    → t.lanes ≡ now → (channel depth : ℕ) → t.channels ≡ with_depth s.channels channel depth → t.logs ≡ s.logs → t.over ≡ s.over
-    → HasOtherCycles s t channel depth
-other_held first puts now are s t e f channel depth channels logs over =
-    let o = puts_are_other first puts now are in
+puts_are_other first puts now are =
+    let only = sym (undone_only puts now) ∙ ap only_steps are.back in
     record {
-      lanes = ap (λ (ls : List Lane). length ls) f ∙ (o.lanes ∙ ap (λ (ls : List Lane). length ls) (sym e));
-      steps = λ m. ap (λ (ls : List Lane). (lane_at ls m).steps) f ∙ (o.steps m ∙ ap (λ (ls : List Lane). (lane_at ls m).steps) (sym e));
-      counts = λ m. ap (λ (ls : List Lane). length (lane_at ls m).cycles) f
-          ∙ (o.counts m ∙ ap (λ (ls : List Lane). length (lane_at ls m).cycles) (sym e));
-      sound = subst (All IsSoundLane) (sym f) o.sound;
-      channels = channels;
-      logs = logs;
-      over = over;
+      lanes = same_length first now only;
+      steps = same_steps first now only;
+      counts = λ m. sym (undone_counts puts now m) ∙ ap (λ (ls : List Lane). length (lane_at ls m).cycles) are.back;
+      only = only;
+      sound = subst (λ (ps : List Put). All IsSoundLane (undone ps now)) (drop-length puts) (are.sound (length puts));
+      same = λ m k. elim (undone_cycle puts now m k) [
+        | inl e ↦ inl (sym e ∙ ap (λ (ls : List Lane). get_or (lane_at ls m).cycles k 0) are.back)
+        | inr more ↦ inr more
+      ];
     }
 
 -- ---- depths
@@ -139,31 +118,80 @@ depth_back channels c depth within =
     ∙ (ap (λ (k : TableChannel). set channels c (record here { kind = k })) (deepened_back here.kind depth)
     ∙ set-get_or channels c (unused Sink)))
 
--- ---- rooms
+-- ---- an engine with another depth, and with puts
 
-pub same_rooms : (s t : Stored) → t.graph.rooms ≡ s.graph.rooms → t.table.push_rooms ≡ s.table.push_rooms
-    → t.table.pop_rooms ≡ s.table.pop_rooms → t.log.rooms ≡ s.log.rooms → LosesNoRoom s t
-same_rooms s t lanes pushes pops logs = record {
-  lanes = λ k. let e = ap (λ (rs : List ℕ). get_or rs k 0) lanes in omega arith;
-  table = at_side;
-  logs = logs;
+-- the depth is the edit's, the puts lead from the lanes of the one to those of the other, and all else is as it was
+pub record IsPutEdited (s : Engine) (edit : Edit) (puts : List Put) (t : Engine) : Type 0 where
+  pub lanes : ArePut s.graph.lanes puts t.graph.lanes
+  pub lane_rooms : t.graph.rooms ≡ s.graph.rooms
+  pub channels : t.fifos.channels ≡ with_depth s.fifos.channels edit.channel edit.depth
+  pub push_rooms : t.fifos.push_rooms ≡ s.fifos.push_rooms
+  pub pop_rooms : t.fifos.pop_rooms ≡ s.fifos.pop_rooms
+  pub log : t.log ≡ s.log
+  pub credits : t.credits ≡ s.credits
+
+-- so it is where puts followed a depth that was set
+pub put_edited : (s t : Engine) (fifos : RoomedChannels) (edit : Edit) (puts : List Put)
+    → fifos.channels ≡ with_depth s.fifos.channels edit.channel edit.depth → fifos.push_rooms ≡ s.fifos.push_rooms
+    → fifos.pop_rooms ≡ s.fifos.pop_rooms → HasPut (record s { fifos = fifos }) puts t → IsPutEdited s edit puts t
+put_edited s t fifos edit puts channels pushes pops put = record {
+  lanes = put.lanes;
+  lane_rooms = put.rooms;
+  channels = ap (λ (q : RoomedChannels). q.channels) put.fifos ∙ channels;
+  push_rooms = ap (λ (q : RoomedChannels). q.push_rooms) put.fifos ∙ pushes;
+  pop_rooms = ap (λ (q : RoomedChannels). q.pop_rooms) put.fifos ∙ pops;
+  log = put.log;
+  credits = put.credits;
 }
-  where
-    at_side : (side : Side) (c : ℕ) → room_of s.table side c ≤ room_of t.table side c
-    at_side Pop c = let e = ap (λ (rs : List ℕ). get_or rs c 0) pops in omega arith
-    at_side Push c = let e = ap (λ (rs : List ℕ). get_or rs c 0) pushes in omega arith
 
--- the same with its rooms
-abbrev table_of : List Channel → List ℕ → List ℕ → RoomedChannels
-table_of channels pushes pops = record { channels = channels; push_rooms = pushes; pop_rooms = pops }
+-- nothing is put yet
+pub none_put : (s : Engine) → All IsSoundLane s.graph.lanes → HasPut s [] s
+none_put s sound = record {
+  lanes = no_puts s.graph.lanes sound;
+  rooms = refl;
+  fifos = refl;
+  log = refl;
+  credits = refl;
+}
 
-pub same_table : (s t : RoomedChannels) → t.channels ≡ s.channels → t.push_rooms ≡ s.push_rooms → t.pop_rooms ≡ s.pop_rooms → t ≡ s
-same_table s t channels pushes pops =
-    ap (λ (cs : List Channel). table_of cs t.push_rooms t.pop_rooms) channels
-    ∙ (ap (λ (ps : List ℕ). table_of s.channels ps t.pop_rooms) pushes ∙ ap (λ (ps : List ℕ). table_of s.channels s.push_rooms ps) pops)
+module _ (s t : Engine) (edit : Edit) (puts : List Put) (put : IsPutEdited s edit puts t) where
+  pub other_cycles : HasOtherCycles (held_in s []) (held_in t []) edit
+  other_cycles =
+      let o = puts_are_other s.graph.lanes puts t.graph.lanes put.lanes in
+      record {
+        lanes = o.lanes;
+        steps = o.steps;
+        counts = o.counts;
+        sound = o.sound;
+        channels = put.channels;
+        logs = ap (λ (l : RoomedLogs). l.logs) put.log;
+        over = refl;
+      }
 
-abbrev graph_of : List Lane → List ℕ → RoomedLanes
-graph_of lanes rooms = record { lanes = lanes; rooms = rooms }
+  pub no_room_lost : LosesNoRoom s t
+  no_room_lost = record {
+    lanes = λ k. let e = ap (λ (rs : List ℕ). get_or rs k 0) put.lane_rooms in omega arith;
+    fifos = at_side;
+    logs = ap (λ (l : RoomedLogs). l.rooms) put.log;
+    credits = put.credits;
+  }
+    where
+      at_side : (side : Side) (c : ℕ) → room_of s.fifos side c ≤ room_of t.fifos side c
+      at_side Pop c = let e = ap (λ (rs : List ℕ). get_or rs c 0) put.pop_rooms in omega arith
+      at_side Push c = let e = ap (λ (rs : List ℕ). get_or rs c 0) put.push_rooms in omega arith
 
-pub same_graph : (s t : RoomedLanes) → t.lanes ≡ s.lanes → t.rooms ≡ s.rooms → t ≡ s
-same_graph s t lanes rooms = ap (λ (ls : List Lane). graph_of ls t.rooms) lanes ∙ ap (λ (rs : List ℕ). graph_of s.lanes rs) rooms
+abbrev engine_of : List Lane → List ℕ → List Channel → List ℕ → List ℕ → RoomedLogs → Vec ℕ Global → Engine
+engine_of lanes rooms channels pushes pops log credits = record {
+  graph = record { lanes = lanes; rooms = rooms };
+  fifos = record { channels = channels; push_rooms = pushes; pop_rooms = pops };
+  log = log;
+  credits = credits;
+}
+
+-- where all is as it was, the engine is
+pub all_same : (s t : Engine) → t.graph.lanes ≡ s.graph.lanes → t.graph.rooms ≡ s.graph.rooms → t.fifos.channels ≡ s.fifos.channels
+    → t.fifos.push_rooms ≡ s.fifos.push_rooms → t.fifos.pop_rooms ≡ s.fifos.pop_rooms → t.log ≡ s.log → t.credits ≡ s.credits → t ≡ s
+all_same s t lanes rooms channels pushes pops log credits =
+    let same : engine_of t.graph.lanes t.graph.rooms t.fifos.channels t.fifos.push_rooms t.fifos.pop_rooms t.log t.credits ≡ s =
+    rw (lanes, rooms, channels, pushes, pops, log, credits) refl in
+    same

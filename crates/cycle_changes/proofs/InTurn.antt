@@ -1,5 +1,5 @@
 -- Where an access stands among the steps that take at its side of its channel.
-use Rattle.std.proofs.Common.{◌≡◌, sym, subst, ◌∙◌, ℕ, zero, suc, ◌<◌, ◌≤◌, List, [], ◌∷◌, length, map, get_or, arith, inl, inr, Some}
+use Rattle.std.proofs.Common.{◌≡◌, sym, subst, ◌∙◌, ℕ, suc, ◌<◌, ◌≤◌, length, get_or, arith, inl, inr, Some}
 use Rattle.std.proofs.Common.{slice_get}
 use Rattle.std.proofs.lemmas.Bool.{cases_lt}
 use Rattle.std.proofs.lemmas.Option.{get_or_from_slice_get, slice_get_within}
@@ -9,20 +9,13 @@ use Rattle.flow_word.specs.declared.access.Place.{Place}
 use Rattle.flow_word.specs.declared.access.Side.{Side}
 use Rattle.fifo_table.specs.Channels.{channel_at, places_of}
 use Rattle.time_engine.specs.Conditions.{IsAccess}
-use Rattle.event_timing.specs.Machines as theory
 use Rattle.event_timing.specs.Machines.{Design, IsDesign, Each}
 use Rattle.event_timing.specs.Core.{Core, core_accesses, core_tally}
 use Rattle.event_timing.proofs.OwnRuns.{tally_mono}
-use Rattle.engine_view.specs.Held.{Held, step_of, emitted_of, seen, core_of}
+use Rattle.engine_view.specs.Held.{Held, step_of, emitted_of, core_of}
 use Rattle.engine_view.specs.Shown.{IsSound, IsTakenAt}
 use Rattle.engine_view.proofs.Knowing.{shown_inside}
-
--- what holds of each access as the theory sees it holds of the one of this number
-pub each_at : (P : theory.Access → Type 0) (xs : List Access) → Each P (map seen xs) → (j : ℕ) (e : Access) → j < length xs
-    → P (seen (get_or xs j e))
-each_at P [] f j e l = absurd (omega arith)
-each_at P (a ∷ xs) (f, fs) zero e l = f
-each_at P (a ∷ xs) (f, fs) (suc j) e l = each_at P xs fs j e (omega arith)
+use Rattle.engine_view.proofs.Roomy.{each_at}
 
 module _ {S : Type 0} (d : Design S) (i : IsDesign d) (h : Held) (y : IsSound d h) where
   abbrev x : Core S

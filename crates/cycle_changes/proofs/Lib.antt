@@ -6,3 +6,4 @@ pub mod Reaching
 pub mod Changing
 pub mod Counting
 pub mod Putting
+mod SoFar

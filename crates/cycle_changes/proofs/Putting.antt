@@ -1,5 +1,5 @@
 -- Cycles that are put into lanes, and taken back.
-use Rattle.std.proofs.Common.{◌≡◌, refl, sym, ap, subst, ◌∙◌, ℕ, suc, ◌+◌, ◌<◌, ◌≤◌, ◌⊎◌, inl, inr, List, [], ◌∷◌, ◌++◌, length}
+use Rattle.std.proofs.Common.{◌≡◌, refl, sym, ap, subst, ◌∙◌, ℕ, ◌+◌, ◌<◌, ◌≤◌, ◌⊎◌, inl, inr, List, [], ◌∷◌, ◌++◌, length}
 use Rattle.std.proofs.Common.{drop, get_or, arith}
 use Rattle.std.specs.Prelude.{All}
 use Rattle.std.specs.List.Sorted.{IsStrictlyIncreasing}
@@ -31,13 +31,6 @@ lane_put lanes p c m =
             let b = get_or_past (with_put lanes p c) m no_lane (omega (arith, at.1, same)) in
             inl (b ∙ sym a)
       ]
-    ]
-
-pub put_steps : (lanes : List Lane) (p : Place) (c m : ℕ) → (lane_at (with_put lanes p c) m).steps ≡ (lane_at lanes m).steps
-put_steps lanes p c m =
-    elim (lane_put lanes p c m) [
-      | inl same ↦ ap (λ (l : Lane). l.steps) same
-      | inr put ↦ ap (λ (l : Lane). l.steps) put.1
     ]
 
 pub put_count : (lanes : List Lane) (p : Place) (c m : ℕ)
@@ -88,22 +81,12 @@ pub fitting_rises : (cycles : List ℕ) (step c : ℕ) → step < length cycles 
 fitting_rises cycles step c within rises fits k less =
     let n = length-set cycles step c in
     let up = rises k (omega arith) in
-    elim (eqb_tells k step) [
-      | inl at ↦
-          let here = get_or-set_same cycles step c 0 within in
-          let next = get_or-set_other cycles step (k + 1) c 0 (λ e. absurd (omega (arith, at.1))) in
-          let l : c < get_or cycles (suc step) 0 = fits.next (omega (arith, at.1)) in
-          let e : suc step ≡ step + 1 = omega arith in
-          rw (next, at.1, here) (subst (λ (i : ℕ). c < get_or cycles i 0) e l)
-      | inr apart ↦ elim (eqb_tells (k + 1) step) [
-        | inl next ↦
-            let there = get_or-set_same cycles step c 0 within in
-            let before = get_or-set_other cycles step k c 0 apart.1 in
-            let l = fits.before k (omega (arith, next.1)) in
-            rw (before, next.1, there) l
-        | inr far ↦ rw (get_or-set_other cycles step k c 0 apart.1, get_or-set_other cycles step (k + 1) c 0 far.1) up
-      ]
-    ]
+    let here = get_or-set_same cycles step c 0 within in
+    let at = get_or-set_other cycles step k c 0 in
+    let after = get_or-set_other cycles step (k + 1) c 0 in
+    let before = fits.before k in
+    let next = fits.next in
+    grind arith
 
 -- ---- puts one after the other
 

@@ -3,6 +3,7 @@ use Rattle.std.proofs.Common.{◌≡◌, refl, sym, ap, ap₂, subst, ◌∙◌,
 use Rattle.std.specs.Prelude.{Contains}
 use Rattle.std.proofs.lemmas.List.{get_or_default}
 use Rattle.std.proofs.lemmas.Option.{get_or_from_slice_get, slice_get_within}
+use Rattle.flow_design.specs.declared.state.ModuleState.{ModuleState}
 use Rattle.flow_word.specs.Kinds.{side_of, other_side}
 use Rattle.flow_word.specs.declared.access.Access.{Access}
 use Rattle.flow_word.specs.declared.access.Place.{Place}
@@ -14,8 +15,10 @@ use Rattle.fifo_table.specs.Channels.{IsFifo, channel_at, places_of, free_of, un
 use Rattle.fifo_table.specs.declared.channel.TableChannel.TheVariants.{Sink}
 use Rattle.event_timing.specs.Machines.{Design, IsDesign}
 use Rattle.engine_view.specs.Held.{Held, step_of, emitted_of}
+use Rattle.engine_view.specs.declared.engine.Engine.{Engine}
+use Rattle.engine_view.specs.Engines.{held_in}
 use Rattle.engine_view.specs.Shown.{IsSound}
-use Rattle.engine_view.specs.Turns.{first_of}
+use Rattle.engine_view.specs.Turns.{IsSomeCore, first_of}
 use Rattle.engine_view.proofs.Knowing.{timed_within}
 use Rattle.step_looks.specs.Looks.{IsLooked}
 use Rattle.cycle_changes.specs.Around.{AreLooked, StandsSomewhere, StandsAs, WaitsAt, WaitsFor}
@@ -27,12 +30,12 @@ other_twice Pop = refl
 other_twice Push = refl
 
 -- a place of the table is of a module with a lane
-pub has_owner : {S : Type 0} → (d : Design S) (h : Held) → IsSound d h → (side : Side) (c : ℕ) → c < length h.channels → (n : ℕ) (p : Place)
-    → slice_get (places_of side (channel_at h.channels c)) n ≡ Some p → p.module < length h.lanes
-has_owner {S} d h y side c l n p e =
-    let places = places_of side (channel_at h.channels c) in
-    let all = y.places.each c (unused Sink) l side in
-    (subst (HasStep h.lanes) (get_or_from_slice_get places n p p e) (all n p (slice_get_within places n p e))).owner
+pub has_owner : (e : Engine) → IsSomeCore e → (side : Side) (c : ℕ) → c < length e.fifos.channels → (n : ℕ) (p : Place)
+    → slice_get (places_of side (channel_at e.fifos.channels c)) n ≡ Some p → p.module < length e.graph.lanes
+has_owner e (d, over, i, k, r) side c l n p at =
+    let places = places_of side (channel_at e.fifos.channels c) in
+    let all = k.sound.places.each c (unused Sink) l side in
+    (subst (HasStep e.graph.lanes) (get_or_from_slice_get places n p p at) (all n p (slice_get_within places n p at))).owner
 
 -- an access of an ordinal is an access
 pub somewhere : (side : Side) (c n : ℕ) (step : Step) → StandsAs side c n step → StandsSomewhere side c step
@@ -49,7 +52,19 @@ looked_between h side c n owner first last f g = λ m k l q.
     (f k low high (subst (λ (v : ℕ). k < first_of h v) (sym is) l)
     (subst (λ (v : ℕ). StandsSomewhere side c (step_of h v k)) (sym is) (somewhere side c n (step_of h m k) q)))
 
-module _ {S : Type 0} (d : Design S) (i : IsDesign d) (h : Held) (y : IsSound d h) where
+module _ (e : Engine) (core : IsSomeCore e) where
+  abbrev d : Design ModuleState
+  d = core.0
+
+  abbrev h : Held
+  h = held_in e core.1
+
+  abbrev i : IsDesign d
+  i = core.2
+
+  abbrev y : IsSound d h
+  y = core.3.sound
+
   module _ (side : Side) (c n m k : ℕ) (l : k < first_of h m) (q : StandsAs side c n (step_of h m k)) where
     emitted : k < emitted_of h m
     emitted = omega (arith, timed_within d h y m)

@@ -4,6 +4,7 @@ use Rattle.std.proofs.Common.{length, map, get_or, arith, inl, inr, Some}
 use Rattle.std.specs.Prelude.{Any, Contains}
 use Rattle.std.proofs.lemmas.Bool.{cases_Bool, and_parts, both_ways, eqb-true, eq-eqb, and_from, not-true}
 use Rattle.std.proofs.lemmas.List.{get_or_default}
+use Rattle.flow_design.specs.declared.plan.Edit.{Edit}
 use Rattle.flow_word.specs.Kinds.{side_of, same_side}
 use Rattle.flow_word.specs.declared.access.Access.{Access}
 use Rattle.flow_word.specs.declared.access.Place.{Place}
@@ -26,7 +27,8 @@ use Rattle.right_records.proofs.Onward.{record_on}
 use Rattle.engine_view.specs.Emitted.{place_of}
 use Rattle.engine_view.specs.Held.{Held, held, step_of, emitted_of, seen, core_of}
 use Rattle.engine_view.specs.Kept.{IsKept, IsNow}
-use Rattle.engine_view.specs.Stored.{Stored, held_in}
+use Rattle.engine_view.specs.declared.engine.Engine.{Engine}
+use Rattle.engine_view.specs.Engines.{held_in}
 use Rattle.engine_view.proofs.Bounds.{candidate_is}
 use Rattle.engine_view.proofs.Knowing.{timed_within}
 use Rattle.step_looks.specs.Looks.{IsLooked, cycle_held}
@@ -66,8 +68,8 @@ beside_or fifo (a ∷ xs) =
           ]
     ]
 
-module _ (s t : Stored) (channel depth limit : ℕ) (seeds puts : List Place) (inside : channel < length s.table.channels)
-    (is_fifo : IsFifo (channel_at s.table.channels channel).kind) (c : AreRightChanges s t channel depth limit seeds puts)
+module _ (s t : Engine) (edit : Edit) (limit : ℕ) (seeds puts : List Place) (inside : edit.channel < length s.fifos.channels)
+    (is_fifo : IsFifo (channel_at s.fifos.channels edit.channel).kind) (c : AreRightChanges s t edit limit seeds puts)
     (d : Design ModuleState) (over : List Bool) (i : IsDesign d) (k : IsKept d (held_in s over)) where
   abbrev h : Held
   h = held_in s over
@@ -82,12 +84,12 @@ module _ (s t : Stored) (channel depth limit : ℕ) (seeds puts : List Place) (i
   y = with_cycles x (cycle_held g)
 
   abbrev e : Design ModuleState
-  e = edited d channel depth
+  e = edited d edit.channel edit.depth
 
   i_edited : IsDesign e
-  i_edited = edit_design d channel depth i
+  i_edited = edit_design d edit.channel edit.depth i
 
-  other : HasOtherCycles h g channel depth
+  other : HasOtherCycles h g edit
   other = record {
     lanes = c.other.lanes;
     steps = c.other.steps;
@@ -99,14 +101,14 @@ module _ (s t : Stored) (channel depth limit : ℕ) (seeds puts : List Place) (i
   }
 
   now : IsNow e g y
-  now = other_now d h g channel depth k inside is_fifo other
+  now = other_now d h g edit k inside is_fifo other
 
   -- the old cycles under the new depth
   abbrev felt : Held
-  felt = held s.graph.lanes (with_depth s.table.channels channel depth) s.log.logs over
+  felt = held s.graph.lanes (with_depth s.fifos.channels edit.channel edit.depth) s.log.logs over
 
   felt_now : IsNow e felt x
-  felt_now = other_now d h felt channel depth k inside is_fifo (record {
+  felt_now = other_now d h felt edit k inside is_fifo (record {
     lanes = refl;
     steps = λ m. refl;
     counts = λ m. refl;
@@ -125,7 +127,7 @@ module _ (s t : Stored) (channel depth limit : ℕ) (seeds puts : List Place) (i
       (record { cycle = looked.cycle; outcomes = looked.outcomes }))
 
   felt_right : (m j : ℕ) → j < x.timed m
-      → IsLooked (held s.graph.lanes (with_depth s.table.channels channel depth) s.log.logs []) m j → IsRight e x m j
+      → IsLooked (held s.graph.lanes (with_depth s.fifos.channels edit.channel edit.depth) s.log.logs []) m j → IsRight e x m j
   felt_right m j l looked =
       subst (λ (z : Core ModuleState). IsRight e z m j) felt_now.core
       ((look_is e i_edited felt felt_now.kept.sound m j l).0 (record { cycle = looked.cycle; outcomes = looked.outcomes }))
@@ -156,7 +158,7 @@ module _ (s t : Stored) (channel depth limit : ℕ) (seeds puts : List Place) (i
   emitted m j l = omega (arith, timed_within d h k.sound m, ap (λ (ss : List _). length ss) (other.steps m))
 
   waits : (m j : ℕ) (a : theory.Access) → j < x.timed m → IsIn a (core_accesses e x m j) → records.is_free_at e x m j a ≡ false → (n : ℕ)
-      → records.enabler_at e x m j a ≡ Some n → WaitsFor t.table.channels (step_of (held_in t []) m j) (place_of (partner e a) n)
+      → records.enabler_at e x m j a ≡ Some n → WaitsFor t.fifos.channels (step_of (held_in t []) m j) (place_of (partner e a) n)
   waits m j a l at free n f =
       let l' = emitted m j l in
       let xs = (step_of g m j).accesses in
@@ -186,11 +188,11 @@ module _ (s t : Stored) (channel depth limit : ℕ) (seeds puts : List Place) (i
 
   -- ---- each step
 
-  stays : (m j : ℕ) → j < x.timed m → IsStill e x (cycle_held g) m j → IsChecked d x (cycle_held g) channel depth 0 m j
+  stays : (m j : ℕ) → j < x.timed m → IsStill e x (cycle_held g) m j → IsChecked d x (cycle_held g) edit.channel edit.depth 0 m j
   stays m j l still =
       let l' : j < emitted_of h m = omega (arith, timed_within d h k.sound m) in
-      elim (beside_or channel (step_of h m j).accesses) [
-        | inl b ↦ inl (still, inl (subst (Each (λ a. a.side ≡ Push → a.channel ≡ channel → ⊥)) (sym (k.sound.accesses m j l')) b))
+      elim (beside_or edit.channel (step_of h m j).accesses) [
+        | inl b ↦ inl (still, inl (subst (Each (λ a. a.side ≡ Push → a.channel ≡ edit.channel → ⊥)) (sym (k.sound.accesses m j l')) b))
         | inr b ↦
             elim (c.felt m j l b) [
               | inl looked ↦ inl (still, inr (inr (felt_right m j l looked)))
@@ -199,7 +201,7 @@ module _ (s t : Stored) (channel depth limit : ℕ) (seeds puts : List Place) (i
             ]
       ]
 
-  checked : (m j : ℕ) → j < x.timed m → IsChecked d x (cycle_held g) channel depth 0 m j
+  checked : (m j : ℕ) → j < x.timed m → IsChecked d x (cycle_held g) edit.channel edit.depth 0 m j
   checked m j l =
       elim (around e x (cycle_held g) changed (λ m j. IsRight e y m j) said m j l) [ inr p ↦ inr p | inl still ↦ stays m j l still ]
 
@@ -208,8 +210,11 @@ module _ (s t : Stored) (channel depth limit : ℕ) (seeds puts : List Place) (i
       c.late m n (candidate_is e i_edited g now.kept.sound m ∙ (ap (λ (z : Core ModuleState). candidate e (view e z) m) now.core ∙ q))
 
   pub right_changes : IsRightRecord d limit x → IsRightRecord e limit (core_of e g) × IsKept e g
-  right_changes r =
-      (subst (IsRightRecord e limit) (sym now.core) (record_on d limit x r channel depth (cycle_held g) checked below beyond), now.kept)
+  right_changes r = (
+    subst (IsRightRecord e limit) (sym now.core)
+        (record_on d limit x r edit.channel edit.depth (cycle_held g) checked below beyond),
+    now.kept,
+  )
     where
       below : (m j : ℕ) → j < x.timed m → cycle_held g m j < limit
       below m j l =

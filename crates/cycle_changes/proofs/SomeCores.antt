@@ -1,22 +1,25 @@
--- In the middle of a change a graph, a table and a log are some core still.
-use Rattle.std.proofs.Common.{refl, sym, subst, ℕ, ◌<◌, Bool, List, [], length}
+-- In the middle of a change an engine is some core still.
+use Rattle.std.proofs.Common.{refl, ◌<◌, Bool, List, [], length}
 use Rattle.flow_design.specs.declared.state.ModuleState.{ModuleState}
+use Rattle.flow_design.specs.declared.plan.Edit.{Edit}
 use Rattle.fifo_table.specs.Channels.{IsFifo, channel_at}
 use Rattle.event_timing.specs.Machines.{Design}
 use Rattle.event_timing.specs.Edits.{edited}
 use Rattle.event_timing.proofs.Editing.{edit_design}
 use Rattle.engine_view.specs.Kept.{IsKept}
-use Rattle.engine_view.specs.Rooms.{HasRoom, IsRoomy}
-use Rattle.engine_view.specs.Stored.{Stored, held_in}
+use Rattle.engine_view.specs.Rooms.{IsRoomy}
+use Rattle.engine_view.specs.declared.engine.Engine.{Engine}
+use Rattle.engine_view.specs.Engines.{held_in}
 use Rattle.engine_view.specs.Turns.{IsSomeCore}
+use Rattle.retime.specs.Cuts.{KeepsRoomEdited}
 use Rattle.step_looks.specs.OtherCycles.{HasOtherCycles}
 use Rattle.step_looks.proofs.OtherHeld.{other_now, other_room}
 use Rattle.cycle_changes.specs.Changed.{LosesNoRoom}
 
-module _ (s t : Stored) (channel depth : ℕ) (inside : channel < length s.table.channels)
-    (is_fifo : IsFifo (channel_at s.table.channels channel).kind) (o : HasOtherCycles (held_in s []) (held_in t []) channel depth)
+module _ (s t : Engine) (edit : Edit) (inside : edit.channel < length s.fifos.channels)
+    (is_fifo : IsFifo (channel_at s.fifos.channels edit.channel).kind) (o : HasOtherCycles (held_in s []) (held_in t []) edit)
     (loses : LosesNoRoom s t) where
-  other : (over : List Bool) → HasOtherCycles (held_in s over) (held_in t over) channel depth
+  other : (over : List Bool) → HasOtherCycles (held_in s over) (held_in t over) edit
   other over = record {
     lanes = o.lanes;
     steps = o.steps;
@@ -27,19 +30,21 @@ module _ (s t : Stored) (channel depth : ℕ) (inside : channel < length s.table
     over = refl;
   }
 
-  pub roomy : (credits : List ℕ) (d : Design ModuleState) (over : List Bool) → IsKept d (held_in s over) → IsRoomy d s over credits
-      → IsRoomy (edited d channel depth) t over credits
-  roomy credits d over k r =
-      subst (λ (rooms : List ℕ). HasRoom (edited d channel depth) (held_in t over) t.graph.rooms t.table rooms credits) (sym loses.logs)
-      (other_room d (held_in s over) (held_in t over) channel depth k inside is_fifo (other over) s.graph.rooms t.graph.rooms s.table
-      t.table s.log.rooms credits r loses.lanes loses.table)
+  roomy : (d : Design ModuleState) (over : List Bool) → IsKept d (held_in s over) → IsRoomy d s over
+      → IsRoomy (edited d edit.channel edit.depth) t over
+  roomy d over k r =
+      rw (loses.logs, loses.credits)
+      (other_room d (held_in s over) (held_in t over) edit k inside is_fifo (other over) s.graph.rooms t.graph.rooms s.fifos t.fifos
+      s.log.rooms s.credits.items r loses.lanes loses.fifos)
 
   pub some_core : IsSomeCore s → IsSomeCore t
-  some_core (d, over, credits, i, k, r) = (
-    edited d channel depth,
+  some_core (d, over, i, k, r) = (
+    edited d edit.channel edit.depth,
     over,
-    credits,
-    edit_design d channel depth i,
-    (other_now d (held_in s over) (held_in t over) channel depth k inside is_fifo (other over)).kept,
-    roomy credits d over k r,
+    edit_design d edit.channel edit.depth i,
+    (other_now d (held_in s over) (held_in t over) edit k inside is_fifo (other over)).kept,
+    roomy d over k r,
   )
+
+  pub keeps_room : KeepsRoomEdited edit s t
+  keeps_room = record { credits = loses.credits; room = λ d over i k r. roomy d over k r }

@@ -1,5 +1,6 @@
 -- A change of a depth that leaves a right record.
 use Rattle.std.specs.Prelude.{◌≡◌, ℕ, ◌≤◌, ◌⊎◌, List, [], slice_index, All, Contains}
+use Rattle.flow_design.specs.declared.plan.Edit.{Edit}
 use Rattle.flow_word.specs.declared.access.Place.{Place}
 use Rattle.flow_word.specs.declared.access.Side.{Side}
 use Rattle.fifo_table.specs.Channels.{with_depth}
@@ -9,32 +10,46 @@ use Rattle.engine_view.specs.Emitted.{place_of}
 use Rattle.engine_view.specs.Held.{held, core_of}
 use Rattle.engine_view.specs.Kept.{IsKept}
 use Rattle.engine_view.specs.Rooms.{room_of}
-use Rattle.engine_view.specs.Stored.{Stored, held_in}
-use Rattle.engine_view.specs.Turns.{OfEach}
+use Rattle.engine_view.specs.declared.engine.Engine.{Engine}
+use Rattle.engine_view.specs.Engines.{held_in}
+use Rattle.engine_view.specs.Taking.{kinds_in}
+use Rattle.engine_view.specs.Turns.{IsSomeCore, OfEach}
+use Rattle.retime.specs.Cuts.{KeepsRoomEdited}
+use Rattle.retime.specs.Rounds.{only_steps}
 use Rattle.step_looks.specs.Looks.{IsLooked, cycle_held}
 use Rattle.step_looks.specs.OtherCycles.{HasOtherCycles}
 use Rattle.cycle_changes.specs.Around.{IsLookedAround, AreLate}
 use Rattle.cycle_changes.specs.Seeds.{AreSeeds}
 
 -- of each design of which the one is a right record, the other is a right record of the design with the new depth
-abbrev pub HasChanged : ℕ → ℕ → ℕ → Stored → Stored → Type 0
-HasChanged channel depth limit s t =
+abbrev pub StaysRight : Edit → ℕ → Engine → Engine → Type 0
+StaysRight edit limit s t =
     OfEach s (λ d over. IsRightRecord d limit (core_of d (held_in s over))
-    → IsRightRecord (edited d channel depth) limit (core_of (edited d channel depth) (held_in t over))
-    × IsKept (edited d channel depth) (held_in t over))
+    → IsRightRecord (edited d edit.channel edit.depth) limit (core_of (edited d edit.channel edit.depth) (held_in t over))
+    × IsKept (edited d edit.channel edit.depth) (held_in t over))
+
+-- so it is, and but for the depth and for cycles all is as it was, with the room that the credits promise
+pub record HasChanged (edit : Edit) (limit : ℕ) (s t : Engine) : Type 0 where
+  pub right : StaysRight edit limit s t
+  pub core : IsSomeCore t
+  pub room : KeepsRoomEdited edit s t
+  pub steps : only_steps t.graph.lanes ≡ only_steps s.graph.lanes
+  pub kinds : kinds_in t.fifos.channels ≡ kinds_in (with_depth s.fifos.channels edit.channel edit.depth)
+  pub log : t.log ≡ s.log
 
 -- what a check of other cycles finds. The steps in which the new depth is felt, by the cycles that stood, are among the seeds, and each of
 -- these is right now; each step with another cycle is among the puts, and what it can reach is right; nothing else is determined
-pub record AreRightChanges (s t : Stored) (channel depth limit : ℕ) (seeds puts : List Place) : Type 0 where
-  pub other : HasOtherCycles (held_in s []) (held_in t []) channel depth
-  pub felt : AreSeeds (held s.graph.lanes (with_depth s.table.channels channel depth) s.log.logs []) channel seeds
+pub record AreRightChanges (s t : Engine) (edit : Edit) (limit : ℕ) (seeds puts : List Place) : Type 0 where
+  pub other : HasOtherCycles (held_in s []) (held_in t []) edit
+  pub felt : AreSeeds (held s.graph.lanes (with_depth s.fifos.channels edit.channel edit.depth) s.log.logs []) edit.channel seeds
   pub looked : All (λ p. IsLooked (held_in t []) p.module p.step) seeds
   pub same : (m k : ℕ) → (cycle_held (held_in t []) m k ≡ cycle_held (held_in s []) m k) ⊎ Contains puts (place_of m k)
   pub around : All (IsLookedAround (held_in t []) limit) puts
   pub late : AreLate (held_in t []) limit
 
--- the other has all the room of the one
-pub record LosesNoRoom (s t : Stored) : Type 0 where
+-- the other has all the room of the one, and its credits
+pub record LosesNoRoom (s t : Engine) : Type 0 where
   pub lanes : (k : ℕ) → slice_index s.graph.rooms k ≤ slice_index t.graph.rooms k
-  pub table : (side : Side) (c : ℕ) → room_of s.table side c ≤ room_of t.table side c
+  pub fifos : (side : Side) (c : ℕ) → room_of s.fifos side c ≤ room_of t.fifos side c
   pub logs : t.log.rooms ≡ s.log.rooms
+  pub credits : t.credits ≡ s.credits

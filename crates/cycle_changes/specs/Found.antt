@@ -3,7 +3,8 @@ use Rattle.std.specs.Prelude.{◌≡◌, ℕ, ◌+◌, ◌⊎◌, List, [], leng
 use Rattle.flow_word.specs.declared.access.Place.{Place}
 use Rattle.event_graph.specs.Lanes.{Lane, lane_at}
 use Rattle.engine_view.specs.Emitted.{place_of}
-use Rattle.engine_view.specs.Stored.{Stored, held_in}
+use Rattle.engine_view.specs.declared.engine.Engine.{Engine}
+use Rattle.engine_view.specs.Engines.{held_in}
 use Rattle.step_looks.specs.Looks.{IsLooked}
 use Rattle.cycle_changes.specs.declared.changes.Put.{Put}
 use Rattle.cycle_changes.specs.Around.{IsLookedAround, AreLate}
@@ -14,13 +15,13 @@ abbrev pub places_in : List Put → List Place
 places_in puts = map (λ p. p.place) puts
 
 -- the seeds are right, and so is what the puts can reach; nothing else is determined
-pub record AreFoundRight (t : Stored) (limit : ℕ) (seeds puts : List Place) : Type 0 where
+pub record AreFoundRight (t : Engine) (limit : ℕ) (seeds puts : List Place) : Type 0 where
   pub looked : All (λ p. IsLooked (held_in t []) p.module p.step) seeds
   pub around : All (IsLookedAround (held_in t []) limit) puts
   pub late : AreLate (held_in t []) limit
 
 -- and the steps that feel the depth that stands, by the cycles of before, are among the seeds
-pub record IsFoundRight (s t : Stored) (channel limit : ℕ) (seeds puts : List Place) : Type 0 where
+pub record IsFoundRight (s t : Engine) (channel limit : ℕ) (seeds puts : List Place) : Type 0 where
   pub felt : AreSeeds (held_in s []) channel seeds
   pub now : AreFoundRight t limit seeds puts
 

@@ -2,6 +2,7 @@
 use Rattle.std.specs.Prelude.{◌≡◌, ℕ, suc, ◌<◌, List, [], ◌∷◌, length, drop, slice_index, All}
 use Rattle.flow_word.specs.declared.access.Place.{Place}
 use Rattle.event_graph.specs.Lanes.{Lane, IsSoundLane, lane_at, with_put}
+use Rattle.engine_view.specs.declared.engine.Engine.{Engine}
 use Rattle.cycle_changes.specs.declared.changes.Put.{Put}
 
 -- a step with a cycle is at the place
@@ -19,6 +20,14 @@ pub record ArePut (first : List Lane) (puts : List Put) (now : List Lane) : Type
   pub back : undone puts now ≡ first
   pub sound : (k : ℕ) → All IsSoundLane (undone (drop k puts) now)
   pub timed : All (λ p. HasCycle now p.place) puts
+
+-- the puts lead from the lanes of the one to those of the other, and all else is as it was
+pub record HasPut (s : Engine) (puts : List Put) (t : Engine) : Type 0 where
+  pub lanes : ArePut s.graph.lanes puts t.graph.lanes
+  pub rooms : t.graph.rooms ≡ s.graph.rooms
+  pub fifos : t.fifos ≡ s.fifos
+  pub log : t.log ≡ s.log
+  pub credits : t.credits ≡ s.credits
 
 -- the cycle is between those of the neighbours of the step of this number
 pub record IsFitting (cycles : List ℕ) (step cycle : ℕ) : Type 0 where

@@ -1,16 +1,15 @@
 //! The check: whether new cycles are right, as seen from the steps that changed.
-ghost use Rattle.std.specs.Prelude.{◌≡◌, ℕ, suc, ◌<◌, ◌≤◌, [], true, length, slice_index_or, All};
+ghost use Rattle.std.specs.Prelude.{◌≡◌, suc, ◌<◌, ◌≤◌, [], true, length, slice_index_or, All};
 ghost use Rattle.event_graph.specs.Lanes.{HasStep, lane_at, cycle_bound};
-ghost use Rattle.engine_view.specs.Stored.{stored, held_in};
+ghost use Rattle.engine_view.specs.Engines.{held_in};
 ghost use Rattle.engine_view.specs.Turns.{IsSomeCore, first_of};
-ghost use Rattle.step_looks.specs.Looks.{IsLooked, cycle_held};
+ghost use Rattle.step_looks.specs.Looks.{IsLooked};
 ghost use Rattle.cycle_changes.specs.Around.{IsLookedAround, AreLate};
 
 use crate::reach::are_waiting_right;
 use crate::timed::has_cycle;
+use engine_view::Engine;
 use event_graph::{Candidate, Graph, Place};
-use fifo_table::FifoTable;
-use query_log::QueryLog;
 use step_looks::look;
 use time_engine::candidate;
 
@@ -19,38 +18,32 @@ use time_engine::candidate;
 ///
 /// False too where there is no such step with a cycle, or where nobody ever took at the other side of a FIFO at which the
 /// step takes. It takes no memory.
-pub fn is_right_around(
-    graph: &Graph,
-    fifos: &FifoTable,
-    log: &QueryLog,
-    at: Place,
-    limit: u64,
-) -> bool
-    requires core { IsSomeCore (stored graph.now fifos.now log.now) }
-    ensures { result ≡ true → IsLookedAround (held_in (stored graph.now fifos.now log.now) []) limit at }
+pub fn is_right_around(engine: &Engine, at: Place, limit: u64) -> bool
+    requires core { IsSomeCore engine.now }
+    ensures { result ≡ true → IsLookedAround (held_in engine.now []) limit at }
 {
-    if !has_cycle(graph, at) {
+    if !has_cycle(&engine.graph, at) {
         return false;
     }
-    if !is_below(graph, at, limit) {
+    if !is_below(&engine.graph, at, limit) {
         return false;
     }
-    if !look(graph, fifos, log, at) {
+    if !look(engine, at) {
         return false;
     }
-    if !is_next_right(graph, fifos, log, at) {
+    if !is_next_right(engine, at) {
         return false;
     }
-    are_waiting_right(graph, fifos, log, at)
+    are_waiting_right(engine, at)
 }
 
 /// Whether each of these is a step with a cycle that is right.
-pub fn are_right(graph: &Graph, fifos: &FifoTable, log: &QueryLog, places: &[Place]) -> bool
-    requires core { IsSomeCore (stored graph.now fifos.now log.now) }
-    ensures { result ≡ true → All (λ p. IsLooked (held_in (stored graph.now fifos.now log.now) []) p.module p.step) places.now }
+pub fn are_right(engine: &Engine, places: &[Place]) -> bool
+    requires core { IsSomeCore engine.now }
+    ensures { result ≡ true → All (λ p. IsLooked (held_in engine.now []) p.module p.step) places.now }
 {
     for place in places {
-        if !is_right(graph, fifos, log, *place) {
+        if !is_right(engine, *place) {
             return false;
         }
     }
@@ -58,24 +51,24 @@ pub fn are_right(graph: &Graph, fifos: &FifoTable, log: &QueryLog, places: &[Pla
 }
 
 /// Whether there is a step with a cycle at the place, which is right.
-fn is_right(graph: &Graph, fifos: &FifoTable, log: &QueryLog, at: Place) -> bool
-    requires core { IsSomeCore (stored graph.now fifos.now log.now) }
-    ensures { result ≡ true → IsLooked (held_in (stored graph.now fifos.now log.now) []) at.module at.step }
+fn is_right(engine: &Engine, at: Place) -> bool
+    requires core { IsSomeCore engine.now }
+    ensures { result ≡ true → IsLooked (held_in engine.now []) at.module at.step }
 {
-    if !has_cycle(graph, at) {
+    if !has_cycle(&engine.graph, at) {
         return false;
     }
-    look(graph, fifos, log, at)
+    look(engine, at)
 }
 
 /// Whether no module's first step without a cycle is determined below the limit. It looks at one step of each module.
-pub fn are_late(graph: &Graph, fifos: &FifoTable, log: &QueryLog, limit: u64) -> bool
+pub fn are_late(engine: &Engine, limit: u64) -> bool
     requires limit { limit ≤ cycle_bound }
-    requires core { IsSomeCore (stored graph.now fifos.now log.now) }
-    ensures { result ≡ true → AreLate (held_in (stored graph.now fifos.now log.now) []) limit }
+    requires core { IsSomeCore engine.now }
+    ensures { result ≡ true → AreLate (held_in engine.now []) limit }
 {
-    for owner in 0..graph.modules() {
-        if let Candidate::At(_) = candidate(graph, fifos, owner, limit) {
+    for owner in 0..engine.graph.modules() {
+        if let Candidate::At(_) = candidate(&engine.graph, &engine.fifos, owner, limit) {
             return false;
         }
     }
@@ -95,22 +88,20 @@ fn is_below(graph: &Graph, at: Place, limit: u64) -> bool
 }
 
 /// Whether the step after this one in its module is right, where it has a cycle.
-fn is_next_right(graph: &Graph, fifos: &FifoTable, log: &QueryLog, at: Place) -> bool
-    requires there { HasStep graph.now.lanes at }
-    requires timed { at.step < length (lane_at graph.now.lanes at.module).cycles }
-    requires core { IsSomeCore (stored graph.now fifos.now log.now) }
-    ensures { result ≡ true → suc at.step < first_of (held_in (stored graph.now fifos.now log.now) []) at.module
-        → IsLooked (held_in (stored graph.now fifos.now log.now) []) at.module (suc at.step) }
+fn is_next_right(engine: &Engine, at: Place) -> bool
+    requires there { HasStep engine.now.graph.lanes at }
+    requires timed { at.step < length (lane_at engine.now.graph.lanes at.module).cycles }
+    requires core { IsSomeCore engine.now }
+    ensures { result ≡ true → suc at.step < first_of (held_in engine.now []) at.module
+        → IsLooked (held_in engine.now []) at.module (suc at.step) }
 {
-    let frontier = graph.frontier(at.module);
+    let frontier = engine.graph.frontier(at.module);
     let step = at.step + 1;
     if step == frontier {
         return true;
     }
     look(
-        graph,
-        fifos,
-        log,
+        engine,
         Place {
             module: at.module,
             step,

@@ -1,5 +1,5 @@
 //! The cycles of all steps, as a search changes them.
-ghost use Rattle.std.specs.Prelude.{◌<◌, length};
+ghost use Rattle.std.specs.Prelude.{◌<◌};
 
 use event_graph::{Graph, Place};
 use flow_word::OutOfMemory;

@@ -1,7 +1,7 @@
 //! Cycles that are put into the graph, and taken back.
-ghost use Rattle.std.specs.Prelude.{◌≡◌, ℕ, ◌<◌, ◌≤◌, List, [], length, slice_index, true};
-ghost use Rattle.event_graph.specs.Lanes.{Lane, lane_at, cycle_bound};
-ghost use Rattle.cycle_changes.specs.Puts.{HasCycle, ArePut, IsFitting};
+ghost use Rattle.std.specs.Prelude.{◌≡◌, ◌<◌, ◌≤◌, List, length, true};
+ghost use Rattle.event_graph.specs.Lanes.{Lane, cycle_bound};
+ghost use Rattle.cycle_changes.specs.Puts.{ArePut, IsFitting};
 
 use crate::changes::Put;
 use crate::draft::Draft;
@@ -25,47 +25,32 @@ pub fn put_moved(
 {
     moved.sort_unstable();
     Ok(
-        put_later(graph, draft, moved, puts, limit)?
-            && put_earlier(graph, draft, moved, puts, limit)?,
+        put_all(graph, draft, moved, puts, limit, true)?
+            && put_all(graph, draft, moved, puts, limit, false)?,
     )
 }
 
-/// Puts the cycles that get later, from the last step to the first.
-fn put_later(
+/// Puts the cycles that get later, from the last step to the first, or those that get earlier, from the first to the last.
+fn put_all(
     graph: &mut Graph,
     draft: &Draft,
     moved: &[(u32, u64)],
     puts: &mut Vec<Put>,
     limit: u64,
+    later: bool,
 ) -> Result<bool, OutOfMemory>
     requires { limit ≤ cycle_bound }
     ensures puts { (first : List Lane) → ArePut first puts.old.items graph.old.lanes → ArePut first puts.new.items graph.new.lanes }
     ensures rooms { graph.new.rooms ≡ graph.old.rooms }
 {
-    for index in (0..moved.len()).rev() {
+    for before in 0..moved.len() {
+        let index = if later {
+            moved.len() - 1 - before
+        } else {
+            before
+        };
         let (module, step) = moved[index];
-        if !put_drafted(graph, draft, Place { module, step }, puts, limit, true)? {
-            return Ok(false);
-        }
-    }
-    Ok(true)
-}
-
-/// Puts the cycles that get earlier, from the first step to the last.
-fn put_earlier(
-    graph: &mut Graph,
-    draft: &Draft,
-    moved: &[(u32, u64)],
-    puts: &mut Vec<Put>,
-    limit: u64,
-) -> Result<bool, OutOfMemory>
-    requires { limit ≤ cycle_bound }
-    ensures puts { (first : List Lane) → ArePut first puts.old.items graph.old.lanes → ArePut first puts.new.items graph.new.lanes }
-    ensures rooms { graph.new.rooms ≡ graph.old.rooms }
-{
-    for index in 0..moved.len() {
-        let (module, step) = moved[index];
-        if !put_drafted(graph, draft, Place { module, step }, puts, limit, false)? {
+        if !put_drafted(graph, draft, Place { module, step }, puts, limit, later)? {
             return Ok(false);
         }
     }

@@ -2,29 +2,27 @@
 ghost use Rattle.std.specs.Prelude.{◌≡◌, ℕ, ◌<◌, ◌≤◌, [], true, false, length, All, Contains, Some};
 ghost use Rattle.flow_word.specs.Kinds.{side_of, other_side};
 ghost use Rattle.event_graph.specs.Lanes.{HasStep};
-ghost use Rattle.time_engine.specs.Conditions.{IsAccess};
 ghost use Rattle.engine_view.specs.Held.{step_of};
-ghost use Rattle.engine_view.specs.Stored.{stored, held_in};
+ghost use Rattle.engine_view.specs.Engines.{held_in};
 ghost use Rattle.engine_view.specs.Turns.{IsSomeCore, first_of};
 ghost use Rattle.step_looks.specs.Looks.{IsLooked};
 ghost use Rattle.cycle_changes.specs.Around.{AreLooked, StandsAt, StandsSomewhere, StandsAs, WaitsFor, WaitsAt};
 
-use event_graph::{Access, Graph, Place};
-use fifo_table::FifoTable;
+use engine_view::Engine;
+use event_graph::{Access, Place};
 use flow_word::Port;
-use query_log::QueryLog;
 use step_looks::look;
 
 /// Whether each step with a cycle that waits for this one is right.
-pub fn are_waiting_right(graph: &Graph, fifos: &FifoTable, log: &QueryLog, at: Place) -> bool
-    requires there { HasStep graph.now.lanes at }
-    requires core { IsSomeCore (stored graph.now fifos.now log.now) }
-    ensures { result ≡ true → AreLooked (held_in (stored graph.now fifos.now log.now) [])
-        (λ step. WaitsFor fifos.now.channels step at) }
+pub fn are_waiting_right(engine: &Engine, at: Place) -> bool
+    requires there { HasStep engine.now.graph.lanes at }
+    requires core { IsSomeCore engine.now }
+    ensures { result ≡ true → AreLooked (held_in engine.now [])
+        (λ step. WaitsFor engine.now.fifos.channels step at) }
 {
-    let step = graph.step(at);
+    let step = engine.graph.step(at);
     for access in step.accesses.as_slice() {
-        if !are_enabled_right(graph, fifos, log, at, access) {
+        if !are_enabled_right(engine, at, access) {
             return false;
         }
     }
@@ -32,24 +30,18 @@ pub fn are_waiting_right(graph: &Graph, fifos: &FifoTable, log: &QueryLog, at: P
 }
 
 /// Whether each step with a cycle is right that waits for this one at the other side of the channel of one of its accesses.
-fn are_enabled_right(
-    graph: &Graph,
-    fifos: &FifoTable,
-    log: &QueryLog,
-    at: Place,
-    access: &Access,
-) -> bool
-    requires there { HasStep graph.now.lanes at }
-    requires access { Contains (step_of (held_in (stored graph.now fifos.now log.now) []) at.module at.step).accesses access.now }
-    requires core { IsSomeCore (stored graph.now fifos.now log.now) }
-    ensures { result ≡ true → AreLooked (held_in (stored graph.now fifos.now log.now) [])
-        (WaitsAt fifos.now.channels (other_side (side_of access.now.kind)) access.now.channel at) }
+fn are_enabled_right(engine: &Engine, at: Place, access: &Access) -> bool
+    requires there { HasStep engine.now.graph.lanes at }
+    requires access { Contains (step_of (held_in engine.now []) at.module at.step).accesses access.now }
+    requires core { IsSomeCore engine.now }
+    ensures { result ≡ true → AreLooked (held_in engine.now [])
+        (WaitsAt engine.now.fifos.channels (other_side (side_of access.now.kind)) access.now.channel at) }
 {
-    if !fifos.is_fifo(access.channel) {
+    if !engine.fifos.is_fifo(access.channel) {
         return true;
     }
     let side = access.kind.side();
-    let taker = fifos.place(access.channel, side, access.ordinal - 1);
+    let taker = engine.fifos.place(access.channel, side, access.ordinal - 1);
     if !is_step(taker, at) {
         return true;
     }
@@ -59,9 +51,9 @@ fn are_enabled_right(
     };
     match access
         .ordinal
-        .checked_add(fifos.free(port.channel, port.side))
+        .checked_add(engine.fifos.free(port.channel, port.side))
     {
-        Some(ordinal) => are_right_at(graph, fifos, log, port, ordinal),
+        Some(ordinal) => are_right_at(engine, port, ordinal),
         None => false,
     }
 }
@@ -78,55 +70,45 @@ fn is_step(place: Option<Place>, at: Place) -> bool
 
 /// Whether each step with a cycle is right that has an access of this ordinal at the port. They stand after the step that
 /// takes there with the ordinal before, and not after the one that takes with this one.
-fn are_right_at(graph: &Graph, fifos: &FifoTable, log: &QueryLog, port: Port, ordinal: u64) -> bool
-    requires channel { port.channel < length fifos.now.channels }
+fn are_right_at(engine: &Engine, port: Port, ordinal: u64) -> bool
+    requires channel { port.channel < length engine.now.fifos.channels }
     requires from_one { 1 ≤ ordinal }
-    requires core { IsSomeCore (stored graph.now fifos.now log.now) }
-    ensures { result ≡ true → AreLooked (held_in (stored graph.now fifos.now log.now) [])
+    requires core { IsSomeCore engine.now }
+    ensures { result ≡ true → AreLooked (held_in engine.now [])
         (StandsAs port.side port.channel ordinal) }
 {
-    let taker = fifos.place(port.channel, port.side, ordinal - 1);
+    let taker = engine.fifos.place(port.channel, port.side, ordinal - 1);
     if ordinal == 1 {
         return match taker {
-            Some(taker) => are_right_in(graph, fifos, log, port, taker.module, 0, taker.step),
+            Some(taker) => are_right_in(engine, port, taker.module, 0, taker.step),
             None => false,
         };
     }
-    match fifos.place(port.channel, port.side, ordinal - 2) {
+    match engine.fifos.place(port.channel, port.side, ordinal - 2) {
         Some(before) => {
             let last = match taker {
                 Some(taker) => taker.step,
-                None => graph.frontier(before.module),
+                None => engine.graph.frontier(before.module),
             };
             let first = before.step.saturating_add(1);
-            are_right_in(graph, fifos, log, port, before.module, first, last)
+            are_right_in(engine, port, before.module, first, last)
         }
         None => true,
     }
 }
 
 /// Whether each of a module's steps with a cycle is right, from one step to another, that has an access at the port.
-fn are_right_in(
-    graph: &Graph,
-    fifos: &FifoTable,
-    log: &QueryLog,
-    port: Port,
-    owner: u32,
-    first: u64,
-    last: u64,
-) -> bool
-    requires owner { owner < length graph.now.lanes }
-    requires core { IsSomeCore (stored graph.now fifos.now log.now) }
-    ensures { result ≡ true → (k : ℕ) → first ≤ k → k ≤ last → k < first_of (held_in (stored graph.now fifos.now log.now) []) owner
-        → StandsSomewhere port.side port.channel (step_of (held_in (stored graph.now fifos.now log.now) []) owner k)
-        → IsLooked (held_in (stored graph.now fifos.now log.now) []) owner k }
+fn are_right_in(engine: &Engine, port: Port, owner: u32, first: u64, last: u64) -> bool
+    requires owner { owner < length engine.now.graph.lanes }
+    requires core { IsSomeCore engine.now }
+    ensures { result ≡ true → (k : ℕ) → first ≤ k → k ≤ last → k < first_of (held_in engine.now []) owner
+        → StandsSomewhere port.side port.channel (step_of (held_in engine.now []) owner k)
+        → IsLooked (held_in engine.now []) owner k }
 {
-    let end = last.saturating_add(1).min(graph.frontier(owner));
+    let end = last.saturating_add(1).min(engine.graph.frontier(owner));
     for step in first..end {
         if !is_right_or_elsewhere(
-            graph,
-            fifos,
-            log,
+            engine,
             port,
             Place {
                 module: owner,
@@ -140,24 +122,18 @@ fn are_right_in(
 }
 
 /// Whether a step with a cycle is right, or has no access at the port.
-pub fn is_right_or_elsewhere(
-    graph: &Graph,
-    fifos: &FifoTable,
-    log: &QueryLog,
-    port: Port,
-    at: Place,
-) -> bool
-    requires there { HasStep graph.now.lanes at }
-    requires timed { at.step < first_of (held_in (stored graph.now fifos.now log.now) []) at.module }
-    requires core { IsSomeCore (stored graph.now fifos.now log.now) }
+pub fn is_right_or_elsewhere(engine: &Engine, port: Port, at: Place) -> bool
+    requires there { HasStep engine.now.graph.lanes at }
+    requires timed { at.step < first_of (held_in engine.now []) at.module }
+    requires core { IsSomeCore engine.now }
     ensures { result ≡ true
-        → StandsSomewhere port.side port.channel (step_of (held_in (stored graph.now fifos.now log.now) []) at.module at.step)
-        → IsLooked (held_in (stored graph.now fifos.now log.now) []) at.module at.step }
+        → StandsSomewhere port.side port.channel (step_of (held_in engine.now []) at.module at.step)
+        → IsLooked (held_in engine.now []) at.module at.step }
 {
-    if !stands_at(graph.step(at).accesses.as_slice(), port) {
+    if !stands_at(engine.graph.step(at).accesses.as_slice(), port) {
         return true;
     }
-    look(graph, fifos, log, at)
+    look(engine, at)
 }
 
 /// Whether one of the accesses stands at the port.

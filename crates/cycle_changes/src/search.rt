@@ -1,5 +1,5 @@
 //! The search for the cycles that change. Nothing is said of what it finds: that is checked later.
-ghost use Rattle.std.specs.Prelude.{◌≡◌, ◌<◌, length, All};
+ghost use Rattle.std.specs.Prelude.{◌<◌};
 ghost use Rattle.time_engine.specs.Conditions.{IsAccess, HasAccesses};
 
 use crate::draft::Draft;

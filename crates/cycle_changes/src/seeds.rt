@@ -3,46 +3,39 @@ ghost use Rattle.std.specs.Prelude.{◌≡◌, ◌<◌, ◌⊎◌, [], true, len
 ghost use Rattle.flow_word.specs.declared.access.Place.{Place as place};
 ghost use Rattle.event_graph.specs.Lanes.{HasStep};
 ghost use Rattle.engine_view.specs.Held.{step_of};
-ghost use Rattle.engine_view.specs.Stored.{stored, held_in};
+ghost use Rattle.engine_view.specs.Engines.{held_in};
 ghost use Rattle.engine_view.specs.Turns.{IsSomeCore, first_of};
 ghost use Rattle.step_looks.specs.Looks.{IsLooked};
 ghost use Rattle.cycle_changes.specs.Around.{StandsSomewhere};
 ghost use Rattle.cycle_changes.specs.Seeds.{AreSeeds};
 
 use crate::reach::is_right_or_elsewhere;
-use event_graph::{Graph, Place};
-use fifo_table::FifoTable;
+use engine_view::Engine;
+use event_graph::Place;
 use flow_word::{Port, Side};
-use query_log::QueryLog;
 
 /// Adds the steps at a FIFO's pushing side in which its depth, which was just set, is felt: by the cycles that stand they are
 /// no longer right. It looks at each step of the module that pushes the FIFO.
 ///
 /// False after want of memory, or where nobody ever pushed the FIFO.
-pub fn find_seeds(
-    graph: &Graph,
-    fifos: &FifoTable,
-    log: &QueryLog,
-    channel: u32,
-    seeds: &mut Vec<Place>,
-) -> bool
-    requires channel { channel < length fifos.now.channels }
-    requires core { IsSomeCore (stored graph.now fifos.now log.now) }
-    ensures { result ≡ true → AreSeeds (held_in (stored graph.now fifos.now log.now) []) channel seeds.new.items }
+pub fn find_seeds(engine: &Engine, channel: u32, seeds: &mut Vec<Place>) -> bool
+    requires channel { channel < length engine.now.fifos.channels }
+    requires core { IsSomeCore engine.now }
+    ensures { result ≡ true → AreSeeds (held_in engine.now []) channel seeds.new.items }
 {
     let port = Port {
         side: Side::Push,
         channel,
     };
-    let Some(owner) = fifos.pusher(channel) else {
+    let Some(owner) = engine.fifos.pusher(channel) else {
         return false;
     };
-    for step in 0..graph.frontier(owner) {
+    for step in 0..engine.graph.frontier(owner) {
         let at = Place {
             module: owner,
             step,
         };
-        if !keep_felt(graph, fifos, log, port, at, seeds) {
+        if !keep_felt(engine, port, at, seeds) {
             return false;
         }
     }
@@ -50,23 +43,16 @@ pub fn find_seeds(
 }
 
 /// Adds a step with an access at the port that is not right. False after want of memory.
-fn keep_felt(
-    graph: &Graph,
-    fifos: &FifoTable,
-    log: &QueryLog,
-    port: Port,
-    at: Place,
-    seeds: &mut Vec<Place>,
-) -> bool
-    requires there { HasStep graph.now.lanes at }
-    requires timed { at.step < first_of (held_in (stored graph.now fifos.now log.now) []) at.module }
-    requires core { IsSomeCore (stored graph.now fifos.now log.now) }
+fn keep_felt(engine: &Engine, port: Port, at: Place, seeds: &mut Vec<Place>) -> bool
+    requires there { HasStep engine.now.graph.lanes at }
+    requires timed { at.step < first_of (held_in engine.now []) at.module }
+    requires core { IsSomeCore engine.now }
     ensures felt { result ≡ true
-        → StandsSomewhere port.side port.channel (step_of (held_in (stored graph.now fifos.now log.now) []) at.module at.step)
-        → IsLooked (held_in (stored graph.now fifos.now log.now) []) at.module at.step ⊎ Contains seeds.new.items at }
+        → StandsSomewhere port.side port.channel (step_of (held_in engine.now []) at.module at.step)
+        → IsLooked (held_in engine.now []) at.module at.step ⊎ Contains seeds.new.items at }
     ensures kept { (p : place) → Contains seeds.old.items p → Contains seeds.new.items p }
 {
-    if is_right_or_elsewhere(graph, fifos, log, port, at) {
+    if is_right_or_elsewhere(engine, port, at) {
         return true;
     }
     seeds.push(at).is_ok()

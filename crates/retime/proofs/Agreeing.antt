@@ -3,6 +3,7 @@ use Rattle.std.proofs.Common.{◌≡◌, sym, ◌∙◌, ℕ, ◌≤◌, inl, in
 use Rattle.std.proofs.lemmas.Option.{slice_get_within, get_or_from_slice_get}
 use Rattle.flow_word.specs.declared.access.Place.{Place}
 use Rattle.flow_word.specs.declared.access.Side.TheVariants.{Push}
+use Rattle.flow_design.specs.declared.plan.Edit.{Edit}
 use Rattle.event_graph.specs.Lanes.{lane_at}
 use Rattle.fifo_table.specs.Channels.{channel_at, depth_of, places_of}
 use Rattle.event_timing.specs.Machines.{Design}
@@ -18,16 +19,16 @@ use Rattle.retime.specs.Edits.{IsFinalOf, IsEditFrom}
 use Rattle.retime.proofs.Filling.{clock_of, clock_within}
 use Rattle.retime.proofs.Tallied.{start_is, never_before, never_at_all}
 
-module _ {S : Type 0} (d : Design S) (y : Trace S) (limit : ℕ) (h : Held) (f : IsFinalOf d y limit h) (fifo depth t : ℕ)
-    (e : IsEditFrom h.lanes h.channels fifo depth limit t) where
+module _ {S : Type 0} (d : Design S) (y : Trace S) (limit : ℕ) (h : Held) (f : IsFinalOf d y limit h) (edit : Edit) (t : ℕ)
+    (e : IsEditFrom h.lanes h.channels edit limit t) where
   abbrev x : Core S
   x = core_of d h
 
   -- the first touched clock is not behind the limit
-  within_limit : IsFirstTouched h.lanes (channel_at h.channels fifo) depth t → t ≤ limit
+  within_limit : IsFirstTouched h.lanes (channel_at h.channels edit.channel) edit.depth t → t ≤ limit
   within_limit touched =
       let (i, u, at, is) = touched.behind in
-      let places = places_of Push (channel_at h.channels fifo) in
+      let places = places_of Push (channel_at h.channels edit.channel) in
       let place = get_or places i first in
       let there = sym (clock_of h.lanes places i first (clock_within h.lanes places i u at)) ∙ at in
       let l = f.agreed.time.below place.module place.step (slice_get_within (lane_at h.lanes place.module).cycles place.step u there) in
@@ -37,30 +38,30 @@ module _ {S : Type 0} (d : Design S) (y : Trace S) (limit : ℕ) (h : Held) (f :
       first : Place
       first = record { «module» = 0; step = 0 }
 
-  start_now : d.start Push fifo ≡ depth_of (channel_at h.channels fifo).kind
-  start_now = start_is d h f.sound fifo e.inside e.is_fifo
+  start_now : d.start Push edit.channel ≡ depth_of (channel_at h.channels edit.channel).kind
+  start_now = start_is d h f.sound edit.channel e.inside e.is_fifo
 
-  -- neither depth was felt
-  pub not_felt : (t ≤ limit) × IsUntouchedByCycles d x fifo depth t
+  -- neither edit.depth was felt
+  pub not_felt : (t ≤ limit) × IsUntouchedByCycles d x edit.channel edit.depth t
   not_felt = elim e.from [
     | inl touched ↦ (
       within_limit touched,
-      before_first d y f.design f.history limit x f.agreed f.final fifo depth t (within_limit touched)
+      before_first d y f.design f.history limit x f.agreed f.final edit.channel edit.depth t (within_limit touched)
           (let s = start_now in let l = e.stood in omega arith) e.least
-          (never_before d h f.sound fifo e.inside depth t e.is_fifo touched),
+          (never_before d h f.sound edit.channel e.inside edit.depth t e.is_fifo touched),
     )
     | inr never ↦
         let le : t ≤ limit = omega (arith, never.1) in (
           le,
-          before_first d y f.design f.history limit x f.agreed f.final fifo depth t le (let s = start_now in let l = e.stood in omega arith)
-              e.least
-              (λ c l. never_at_all d h f.sound fifo e.inside depth e.is_fifo e.changes never.0 c),
+          before_first d y f.design f.history limit x f.agreed f.final edit.channel edit.depth t le
+              (let s = start_now in let l = e.stood in omega arith) e.least
+              (λ c l. never_at_all d h f.sound edit.channel e.inside edit.depth e.is_fifo e.changes never.0 c),
         )
   ]
 
   -- the theory's core behind the edit agrees with the edited design
-  pub cut_agrees : ((c : ℕ) → d.lag Push c ≡ 1) → (z : Trace S) → IsHistory (edited d fifo depth) z
-      → IsAgreed (edited d fifo depth) z limit (after_edit d x t)
+  pub cut_agrees : ((c : ℕ) → d.lag Push c ≡ 1) → (z : Trace S) → IsHistory (edited d edit.channel edit.depth) z
+      → IsAgreed (edited d edit.channel edit.depth) z limit (after_edit d x t)
   cut_agrees one z w =
-      edit_agrees d y z f.design f.history fifo depth t w one
-      (untouched d y f.design f.history limit x f.agreed f.final fifo depth t not_felt.0 not_felt.1) limit x f.agreed
+      edit_agrees d y z f.design f.history edit.channel edit.depth t w one
+      (untouched d y f.design f.history limit x f.agreed f.final edit.channel edit.depth t not_felt.0 not_felt.1) limit x f.agreed

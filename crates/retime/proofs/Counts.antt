@@ -1,9 +1,10 @@
 -- How many cycles and steps there are behind a turn, and behind a cut.
-use Rattle.std.proofs.Common.{◌≡◌, refl, ap, ℕ, suc, ◌+◌, ◌<◌, ◌≤◌, List, [], ◌∷◌, length, map, arith}
+use Rattle.std.proofs.Common.{◌≡◌, refl, sym, ap, ◌∙◌, ℕ, suc, ◌+◌, ◌<◌, ◌≤◌, List, [], ◌∷◌, length, map, get_or, arith}
 use Rattle.std.specs.Prelude.{All}
 use Rattle.std.specs.List.{sum_by}
 use Rattle.std.proofs.Math.Seq.{map-set_same}
-use Rattle.std.proofs.lemmas.List.{length-append}
+use Rattle.std.proofs.Math.ListN.{get_or-map}
+use Rattle.std.proofs.lemmas.List.{length-append, length-map}
 use Rattle.std.proofs.lemmas.List.Sums.{sum_by-set, sum_by-cons}
 use Rattle.flow_word.specs.declared.access.Step.{Step}
 use Rattle.event_graph.specs.Lanes.{Lane, IsSoundLane, no_lane, lane_at, timed, timed_below}
@@ -11,6 +12,17 @@ use Rattle.engine_view.specs.declared.turn.Timing.{Timing}
 use Rattle.engine_view.specs.declared.turn.Timing.TheVariants.{Assigned}
 use Rattle.engine_view.specs.Turns.{lanes_behind, ticks_of}
 use Rattle.retime.specs.Rounds.{only_steps, cycles_in, steps_in}
+
+-- ---- lanes with the same steps
+
+pub same_length : (old new : List Lane) → only_steps new ≡ only_steps old → length new ≡ length old
+same_length old new e = sym (length-map new (λ (l : Lane). l.steps))
+    ∙ (ap (λ q. length q) e ∙ length-map old (λ (l : Lane). l.steps))
+
+pub same_steps : (old new : List Lane) → only_steps new ≡ only_steps old → (m : ℕ) → (lane_at new m).steps ≡ (lane_at old m).steps
+same_steps old new e m =
+    let at = λ (ls : List Lane). get_or-map (λ (l : Lane). l.steps) ls m no_lane in
+    sym (at new) ∙ (ap (λ (q : List (List Step)). get_or q m []) e ∙ at old)
 
 -- ---- behind a turn
 
@@ -43,6 +55,11 @@ steps_below t (l ∷ lanes) = ap (λ (rest : List (List Step)). l.steps ∷ rest
 
 -- ---- no more cycles than steps
 
+pub sum_map : {X Y : Type 0} (f : Y → ℕ) (g : X → Y) (xs : List X) → sum_by f (map g xs) ≡ sum_by (λ x. f (g x)) xs
+sum_map f g [] = refl
+sum_map f g (x ∷ xs) =
+    sum_by-cons f (g x) (map g xs) ∙ (ap (λ (n : ℕ). f (g x) + n) (sum_map f g xs) ∙ sym (sum_by-cons (λ y. f (g y)) x xs))
+
 pub cycles_within : (lanes : List Lane) → All IsSoundLane lanes → cycles_in lanes ≤ steps_in lanes
 cycles_within [] s = omega arith
 cycles_within (l ∷ lanes) s =
@@ -53,17 +70,12 @@ cycles_within (l ∷ lanes) s =
     let rest = cycles_within lanes (λ k d u. s (suc k) d (omega arith)) in
     omega arith
 
-steps_by : (lanes : List Lane) → steps_in lanes ≡ sum_by (λ (q : List Step). length q) (only_steps lanes)
-steps_by [] = refl
-steps_by (l ∷ lanes) =
-    let one = sum_by-cons (λ (q : Lane). length q.steps) l lanes in
-    let same = sum_by-cons (λ (q : List Step). length q) l.steps (only_steps lanes) in
-    let later = steps_by lanes in
-    omega arith
-
+-- where each tick is a cycle more, there are no more ticks than there are steps beside those whose cycles were kept
 pub few_cycles : (old new : List Lane) → All IsSoundLane new → only_steps new ≡ only_steps old → (after before kept : ℕ)
     → after + kept ≡ before + cycles_in new → after + kept ≤ before + steps_in old
 few_cycles old new s e after before kept t =
     let within = cycles_within new s in
-    let same : steps_in new ≡ steps_in old = rw (steps_by new, steps_by old, e) refl in
+    let count = λ (q : List Step). length q in
+    let steps = λ (l : Lane). l.steps in
+    let same = sym (sum_map count steps new) ∙ (ap (sum_by count) e ∙ sum_map count steps old) in
     omega arith

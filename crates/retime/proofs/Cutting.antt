@@ -1,37 +1,37 @@
--- The cut from which a retiming begins is the theory's core behind the edit, with room as before.
-use Rattle.std.proofs.Common.{◌≡◌, refl, sym, ap, subst, ◌∙◌, ℕ, ◌<◌, ◌≤◌, min, inl, inr, Bool, true, List}
+-- The cut from which a retiming begins is the theory's core after the edit, with room as before.
+use Rattle.std.proofs.Common.{◌≡◌, refl, sym, ap, subst, ◌∙◌, ℕ, ◌≤◌, min, inl, inr, Bool, List}
 use Rattle.std.proofs.Common.{[], length, map, get_or, arith}
 use Rattle.std.specs.Prelude.{All}
 use Rattle.std.proofs.lemmas.Bool.{cases_lt}
-use Rattle.std.proofs.lemmas.Bool.Decides.{nat_tests}
-use Rattle.std.proofs.lemmas.List.{get_or_past, get_or_default, length-set, length-map}
+use Rattle.std.proofs.lemmas.List.{get_or_past, get_or_default, length-map}
 use Rattle.std.proofs.Math.ListN.{get_or-map}
 use Rattle.flow_word.specs.declared.access.Step.{Step}
 use Rattle.flow_word.specs.declared.access.Side.{Side}
 use Rattle.flow_word.specs.declared.access.Side.TheVariants.{Pop, Push}
+use Rattle.flow_design.specs.declared.plan.Edit.{Edit}
 use Rattle.flow_design.specs.declared.state.ModuleState.{ModuleState}
 use Rattle.event_graph.specs.Lanes.{Lane, IsSoundLane, no_lane, lane_at, timed_below}
-use Rattle.fifo_table.specs.Channels.{Channel, IsFifo, channel_at, with_depth}
 use Rattle.query_log.specs.Logs.{Log, IsSoundLog, no_log, log_at}
 use Rattle.outcome_guard.specs.declared.guard.Guard.{Guard}
 use Rattle.event_timing.specs.Machines.{Design, IsDesign}
 use Rattle.event_timing.specs.Core.{Core}
 use Rattle.event_timing.specs.Edits.{edited, after_edit, kept}
-use Rattle.event_timing.specs.Agreement.{AreOwnMarks}
-use Rattle.event_timing.proofs.Editing.{edit_design, edit_marks, kept_le}
-use Rattle.engine_view.specs.Held.{Held, no_step, emitted_of, has_all, core_of}
+use Rattle.event_timing.proofs.Editing.{edit_design}
+use Rattle.engine_view.specs.Held.{Held, no_step, emitted_of, core_of}
 use Rattle.engine_view.specs.Shown.{queries_before}
 use Rattle.engine_view.specs.Edited.{IsCut}
 use Rattle.engine_view.specs.Rooms.{IsRoomy, room_of}
-use Rattle.engine_view.specs.Stored.{Stored, held_in}
-use Rattle.engine_view.specs.Kept.{IsKept}
+use Rattle.engine_view.specs.declared.engine.Engine.{Engine}
+use Rattle.engine_view.specs.Engines.{held_in}
+use Rattle.engine_view.specs.Kept.{IsKept, IsNow}
 use Rattle.engine_view.specs.Turns.{IsSomeCore, KeepsRoom}
 use Rattle.engine_view.proofs.Answered.{steps_only}
 use Rattle.engine_view.proofs.Emitted.{queries_mono}
-use Rattle.engine_view.proofs.Edited.{timed_kept, edited_core}
-use Rattle.engine_view.proofs.Roomy.{pending_same}
+use Rattle.engine_view.proofs.Edited.{timed_kept}
+use Rattle.engine_view.proofs.Keeping.{cut_now, room_cut}
 use Rattle.retime.specs.Rounds.{LeadsAll, HasGone, IsAtEnd}
-use Rattle.retime.specs.Cuts.{AreAssumed, AreNumbered, assumed, only_lanes, timed_queries, HasRetimed, KeepsRoomEdited}
+use Rattle.retime.specs.Touched.{IsEditIn}
+use Rattle.retime.specs.Cuts.{AreAssumed, AreNumbered, IsCutBack, assumed, only_lanes, timed_queries, HasRetimed, KeepsRoomEdited}
 use Rattle.retime.proofs.Filling.{rising_of}
 
 -- ---- one module's outcomes after the other
@@ -50,17 +50,7 @@ all_timed lanes now m e l = sym (at_end (timed_queries lanes m) (log_at now m) (
 
 -- ---- what the cut leaves
 
-pub record IsCutBack (s t : Stored) (fifo depth clock : ℕ) : Type 0 where
-  pub lanes : t.graph.lanes ≡ map (timed_below clock) s.graph.lanes
-  pub sound : All IsSoundLane t.graph.lanes
-  pub channels : t.table.channels ≡ with_depth s.table.channels fifo depth
-  pub logs : AreAssumed t.graph.lanes s.log.logs t.log.logs (length s.log.logs)
-  pub lane_rooms : (k : ℕ) → get_or s.graph.rooms k 0 ≤ get_or t.graph.rooms k 0
-  pub push_rooms : t.table.push_rooms ≡ s.table.push_rooms
-  pub pop_rooms : t.table.pop_rooms ≡ s.table.pop_rooms
-  pub log_rooms : t.log.rooms ≡ s.log.rooms
-
-module _ (s t : Stored) (fifo depth clock : ℕ) (cut : IsCutBack s t fifo depth clock) where
+module _ (s t : Engine) (edit : Edit) (clock : ℕ) (cut : IsCutBack s t edit clock) (e : IsEditIn s.fifos.channels edit) where
   abbrev h : Held
   h = held_in s []
 
@@ -72,9 +62,6 @@ module _ (s t : Stored) (fifo depth clock : ℕ) (cut : IsCutBack s t fifo depth
 
   steps_is : (m : ℕ) → (lane_at t.graph.lanes m).steps ≡ (lane_at s.graph.lanes m).steps
   steps_is m = rw (lane_is m) refl
-
-  emitted_same : (m : ℕ) → emitted_of g m ≡ emitted_of h m
-  emitted_same m = rw (steps_is m) refl
 
   outcomes_is : (m : ℕ) → (log_at t.log.logs m).outcomes ≡ (log_at s.log.logs m).outcomes
   outcomes_is m = let done = cut.logs.done m in let rest = cut.logs.rest m in grind arith
@@ -95,10 +82,15 @@ module _ (s t : Stored) (fifo depth clock : ℕ) (cut : IsCutBack s t fifo depth
       let here = sound k no_log (omega arith) in
       subst IsSoundLog (get_or_default t.log.logs k no_log d l) (omega arith)
 
-  module _ (d : Design ModuleState) (over : List Bool) (i : IsDesign d) (k : IsKept d (held_in s over))
-      (inside : fifo < length s.table.channels) (is_fifo : IsFifo (channel_at s.table.channels fifo).kind) where
+  module _ (d : Design ModuleState) (over : List Bool) (i : IsDesign d) (k : IsKept d (held_in s over)) where
     abbrev x : Core ModuleState
     x = core_of d (held_in s over)
+
+    abbrev f : Design ModuleState
+    f = edited d edit.channel edit.depth
+
+    edited_design : IsDesign f
+    edited_design = edit_design d edit.channel edit.depth i
 
     kept_is : (m : ℕ) → length (lane_at t.graph.lanes m).cycles ≡ kept (x.cycle m) clock (x.timed m)
     kept_is m = rw (lane_is m) (timed_kept clock (lane_at s.graph.lanes m).cycles (rising_of s.graph.lanes k.sound.sound_lanes m))
@@ -108,7 +100,7 @@ module _ (s t : Stored) (fifo depth clock : ℕ) (cut : IsCutBack s t fifo depth
         steps_only (only_lanes t.graph.lanes) (held_in s over) steps_is m (length (lane_at t.graph.lanes m).cycles)
         ∙ ap (queries_before (held_in s over) m) (kept_is m)
 
-    is_cut : IsCut d (held_in s over) (held_in t over) fifo depth clock
+    is_cut : IsCut d (held_in s over) (held_in t over) edit.channel edit.depth clock
     is_cut = record {
       lanes = cut.lanes;
       sound = cut.sound;
@@ -120,103 +112,46 @@ module _ (s t : Stored) (fifo depth clock : ℕ) (cut : IsCutBack s t fifo depth
       verified = λ m. verified_is m ∙ ap (λ (n : ℕ). min n (log_at s.log.logs m).verified) (queries_are m);
     }
 
-    still_verified : (m n : ℕ) → n < (after_edit d x clock).timed m → (after_edit d x clock).verified m n ≡ true
-    still_verified m n l =
-        let most = kept_le (x.cycle m) clock (x.timed m) in
-        let earlier = k.earlier m n in
-        grind (arith, nat_tests)
+    -- of each design of which there was a core, there is the theory's core after the edit
+    cut_core : IsNow f (held_in t over) (after_edit d x clock)
+    cut_core = cut_now d (held_in s over) k edit.channel edit.depth clock e.inside e.is_fifo (held_in t over) is_cut
 
-    -- of each design of which there was a core, there is the theory's core behind the edit
-    pub cut_core : (core_of (edited d fifo depth) (held_in t over) ≡ after_edit d x clock) × IsKept (edited d fifo depth) (held_in t over)
-    cut_core =
-        let (same, sound) = edited_core d (held_in s over) (held_in t over) fifo depth clock k.sound k.marks is_cut inside is_fifo in (
-          same,
-          record {
-            sound = sound;
-            marks = subst (AreOwnMarks (edited d fifo depth)) (sym same) (edit_marks d x fifo depth clock k.marks);
-            earlier = subst (λ (z : Core ModuleState). (m n : ℕ) → n < z.timed m → z.verified m n ≡ true) (sym same) still_verified;
-          },
-        )
+    table_room : (side : Side) (c : ℕ) → room_of s.fifos side c ≤ room_of t.fifos side c
+    table_room Pop c = rw cut.pop_rooms (omega arith)
+    table_room Push c = rw cut.push_rooms (omega arith)
 
-    all_same : (m j : ℕ) → has_all (held_in t over) m j (length (log_at t.log.logs m).outcomes)
-        ≡ has_all (held_in s over) m j (length (log_at s.log.logs m).outcomes)
-    all_same m j = rw (steps_is m, outcomes_is m) refl
+    cut_room : IsRoomy d s over → IsRoomy f t over
+    cut_room r =
+        rw (cut.log_rooms, cut.credits)
+        (room_cut d (held_in s over) k edit.channel edit.depth clock e.inside e.is_fifo (held_in t over) is_cut s.graph.rooms
+        t.graph.rooms s.fifos t.fifos s.log.rooms s.credits.items r cut.lane_rooms table_room)
 
-    table_room : (side : Side) (c : ℕ) → room_of t.table side c ≡ room_of s.table side c
-    table_room Pop c = rw cut.pop_rooms refl
-    table_room Push c = rw cut.push_rooms refl
+  pub some_cut : IsSomeCore s → IsSomeCore t
+  some_cut (d, over, i, k, r) =
+      (edited d edit.channel edit.depth, over, edited_design d over i k, (cut_core d over i k).kept, cut_room d over i k r)
 
-    queries_same : (m : ℕ) → queries_before (held_in t over) m (emitted_of g m) ≡ queries_before (held_in s over) m (emitted_of h m)
-    queries_same m = rw (emitted_same m) (steps_only (held_in t over) (held_in s over) steps_is m (emitted_of h m))
+  -- the rounds from there are a retiming
+  pub retimed : (last : Engine) (guard : Guard) (limit : ℕ) → HasGone limit t last → IsAtEnd guard limit last
+      → HasRetimed guard edit clock limit s last
+  retimed last guard limit acts ended d over i k =
+      let now = cut_core d over i k in
+      let leads = acts (edited d edit.channel edit.depth) over (edited_design d over i k) now.kept in (
+        subst (λ (z : Core ModuleState). LeadsAll (edited d edit.channel edit.depth) limit z (held_in last over)) now.core leads,
+        ended (edited d edit.channel edit.depth) over (edited_design d over i k) leads.kept,
+      )
 
-    pub cut_room : (credits : List ℕ) → IsRoomy d s over credits → IsRoomy (edited d fifo depth) t over credits
-    cut_room credits r = record {
-      ends = λ side c l.
-          let e = ap (λ (q : List Channel). length q) cut.channels in
-          let f : length (with_depth s.table.channels fifo depth) ≡ length s.table.channels = length-set s.table.channels fifo _ in
-          let a = r.ends side c (omega arith) in
-          let b = pending_same (core_of (edited d fifo depth) (held_in t over)) x (d.owner side c) (emitted_same (d.owner side c))
-          (all_same (d.owner side c)) in
-          let g = table_room side c in
-          omega arith;
-      steps = λ m. let a = r.steps m in let b = cut.lane_rooms m in omega arith;
-      outcomes = λ m.
-          let a = r.outcomes m in
-          let b = queries_same m in
-          let e = ap (λ (q : List Bool). length q) (outcomes_is m) in
-          let f = ap (λ (q : List ℕ). get_or q m 0) cut.log_rooms in
-          omega arith;
-      few = λ m. let a = r.few m in let b = queries_same m in omega arith;
-    }
-
-  module _ (inside : fifo < length s.table.channels) (is_fifo : IsFifo (channel_at s.table.channels fifo).kind) where
-    pub some_cut : IsSomeCore s → IsSomeCore t
-    some_cut (d, over, credits, i, k, r) = (
-      edited d fifo depth,
-      over,
-      credits,
-      edit_design d fifo depth i,
-      (cut_core d over i k inside is_fifo).1,
-      cut_room d over i k inside is_fifo credits r,
-    )
-
-    -- the rounds from there are a retiming
-    pub retimed : (last : Stored) (guard : Guard) (limit : ℕ)
-        → HasGone limit t last → IsAtEnd guard limit last → HasRetimed guard fifo depth clock limit s last
-    retimed last guard limit acts ended d over i k =
-        let (same, now) = cut_core d over i k inside is_fifo in
-        let e = edit_design d fifo depth i in
-        let leads = acts (edited d fifo depth) over e now in (
-          subst (λ (z : Core ModuleState). LeadsAll (edited d fifo depth) limit z (held_in last over)) same leads,
-          ended (edited d fifo depth) over e leads.kept,
-        )
-
-    pub room_retimed : (last : Stored) → KeepsRoom t last → KeepsRoomEdited fifo depth s last
-    room_retimed last room credits d over i k r =
-        room credits (edited d fifo depth) over (edit_design d fifo depth i) (cut_core d over i k inside is_fifo).1
-        (cut_room d over i k inside is_fifo credits r)
-
-pub cut_back : (s t : Stored) (fifo depth clock u : ℕ) → u ≡ clock → t.graph.lanes ≡ map (timed_below u) s.graph.lanes
-    → All IsSoundLane t.graph.lanes
-    → ((k : ℕ) → get_or s.graph.rooms k 0 ≤ get_or t.graph.rooms k 0) → t.table.channels ≡ with_depth s.table.channels fifo depth
-    → t.table.push_rooms ≡ s.table.push_rooms → t.table.pop_rooms ≡ s.table.pop_rooms
-    → AreAssumed t.graph.lanes s.log.logs t.log.logs (length s.log.logs) → t.log.rooms ≡ s.log.rooms → IsCutBack s t fifo depth clock
-cut_back s t fifo depth clock u e lanes sound lane_rooms channels push_rooms pop_rooms logs log_rooms = record {
-  lanes = lanes ∙ ap (λ (n : ℕ). map (timed_below n) s.graph.lanes) e;
-  sound = sound;
-  channels = channels;
-  logs = logs;
-  lane_rooms = lane_rooms;
-  push_rooms = push_rooms;
-  pop_rooms = pop_rooms;
-  log_rooms = log_rooms;
-}
+  pub room_retimed : (last : Engine) → KeepsRoom t last → KeepsRoomEdited edit s last
+  room_retimed last room = record {
+    credits = room.credits ∙ cut.credits;
+    room = λ d over i k r. room.room (edited d edit.channel edit.depth) over (edited_design d over i k) (cut_core d over i k).kept
+        (cut_room d over i k r);
+  }
 
 -- ---- what the code asks on the way
 
-pub numbered_behind : (s : Stored) (lanes : List Lane) (clock : ℕ) → lanes ≡ map (timed_below clock) s.graph.lanes → IsSomeCore s
+pub numbered_after : (s : Engine) (lanes : List Lane) (clock : ℕ) → lanes ≡ map (timed_below clock) s.graph.lanes → IsSomeCore s
     → AreNumbered lanes s.log.logs
-numbered_behind s lanes clock e (d, over, credits, i, k, r) =
+numbered_after s lanes clock e (d, over, i, k, r) =
     let at = λ (m : ℕ). ap (λ (l : List Lane). lane_at l m) e ∙ get_or-map (timed_below clock) s.graph.lanes m no_lane in
     let steps : (m : ℕ) → (lane_at lanes m).steps ≡ (lane_at s.graph.lanes m).steps = λ m. ap (λ (l : Lane). l.steps) (at m) in
     let same = λ (m j : ℕ). steps_only (only_lanes lanes) (held_in s over) steps m j in
@@ -238,10 +173,10 @@ numbered_behind s lanes clock e (d, over, credits, i, k, r) =
       ];
     }
 
-pub as_many_logs : (s : Stored) (lanes : List Lane) (clock : ℕ) → lanes ≡ map (timed_below clock) s.graph.lanes → IsSomeCore s
+pub as_many_logs : (s : Engine) (lanes : List Lane) (clock : ℕ) → lanes ≡ map (timed_below clock) s.graph.lanes → IsSomeCore s
     → length s.log.logs ≡ length lanes
-as_many_logs s lanes clock e (d, over, credits, i, k, r) =
+as_many_logs s lanes clock e (d, over, i, k, r) =
     k.sound.logs ∙ (sym k.sound.lanes ∙ (sym (length-map s.graph.lanes (timed_below clock)) ∙ ap (λ (l : List Lane). length l) (sym e)))
 
-pub sound_lanes_of : (s : Stored) → IsSomeCore s → All IsSoundLane s.graph.lanes
-sound_lanes_of s (d, over, credits, i, k, r) = k.sound.sound_lanes
+pub sound_lanes_of : (s : Engine) → IsSomeCore s → All IsSoundLane s.graph.lanes
+sound_lanes_of s (d, over, i, k, r) = k.sound.sound_lanes

@@ -11,6 +11,7 @@ use Rattle.std.proofs.lemmas.Option.{slice_get_within, slice_get-get_or, get_or_
 use Rattle.std.proofs.lemmas.List.Sums.{length-filter, count_by-le-length}
 use Rattle.flow_word.specs.declared.access.Place.{Place}
 use Rattle.event_graph.specs.Lanes.{Lane, IsSoundLane, no_lane, lane_at, cycle_of, cycle_bound}
+use Rattle.flow_word.specs.declared.access.Side.{Side}
 use Rattle.flow_word.specs.declared.access.Side.TheVariants.{Pop, Push}
 use Rattle.fifo_table.specs.Channels.{Channel, depth_of, places_of}
 use Rattle.retime.specs.Touched.{is_before, timed_before, held_at, clock_at, AreInOrder, IsFirstTouched, IsNeverTouched}
@@ -113,106 +114,6 @@ before_less lanes (p ∷ places) c r (suc i) l =
     let within : i < timed_before lanes places c = grind arith in
     before_less lanes places c (rising_tail lanes p places r) i within
 
--- ---- the pushes in order of their ordinals
-
--- of each push of an ordinal from `full` on and below n: the pop that keeps the FIFO from holding so many was before it or in its clock
-pub record IsFullBefore (lanes : List Lane) (channel : Channel) (full n : ℕ) : Type 0 where
-  pub push : (o : ℕ) → full ≤ o → o < n → (v : ℕ) × (clock_at lanes (places_of Push channel) (o - 1) ≡ Some v)
-  pub pop : (o v : ℕ) → full ≤ o → o < n → clock_at lanes (places_of Push channel) (o - 1) ≡ Some v → (w : ℕ)
-      × (clock_at lanes (places_of Pop channel) (o - full) ≡ Some w) × (w ≤ v)
-
-same_clock : (o : Option ℕ) (u v : ℕ) → o ≡ Some u → o ≡ Some v → u ≡ v
-same_clock o u v e f = let s : Some u ≡ Some v = sym e ∙ f in cc
-
-module _ (lanes : List Lane) (channel : Channel) (pushes : IsRising lanes (places_of Push channel))
-    (pops : IsRising lanes (places_of Pop channel)) (full : ℕ) (some : 1 ≤ full) where
-  -- with fewer pushes than n it holds fewer
-  pub holds_fewer : (n : ℕ) → IsFullBefore lanes channel full n → (c : ℕ) → timed_before lanes (places_of Push channel) c < n
-      → held_at lanes channel c < full
-  holds_fewer n inv c l =
-      elim (cases_lt (timed_before lanes (places_of Push channel) c) full) [
-        | inl u ↦ omega arith
-        | inr u ↦
-            let b = timed_before lanes (places_of Push channel) c in
-            let (v, is, less) = before_less lanes (places_of Push channel) c pushes (b - 1) (omega arith) in
-            let (w, at, le) = inv.pop b v u l is in
-            let m = before_more lanes (places_of Pop channel) c pops (b - full) w at (omega arith) in
-            omega arith
-      ]
-
-  -- so it does where the push of ordinal n has no cycle
-  pub no_push : (n : ℕ) → 1 ≤ n → IsFullBefore lanes channel full n → clock_at lanes (places_of Push channel) (n - 1) ≡ None → (c : ℕ)
-      → timed_before lanes (places_of Push channel) c < n
-  no_push n l inv none c = let before = before_less lanes (places_of Push channel) c pushes (n - 1) in grind arith
-
-  -- before the clock behind a push there are fewer pushes than its ordinal, and in it as many
-  fewer : (n v c : ℕ) → 1 ≤ n → clock_at lanes (places_of Push channel) (n - 1) ≡ Some v → c ≤ v
-      → timed_before lanes (places_of Push channel) c < n
-  fewer n v c l e le = let before = before_less lanes (places_of Push channel) c pushes (n - 1) in grind arith
-
-  as_many : (n v : ℕ) → 1 ≤ n → clock_at lanes (places_of Push channel) (n - 1) ≡ Some v
-      → timed_before lanes (places_of Push channel) (v + 1) ≡ n
-  as_many n v l e =
-      let m = before_more lanes (places_of Push channel) (v + 1) pushes (n - 1) v e (omega arith) in
-      let past = before_less lanes (places_of Push channel) (v + 1) pushes n in
-      let rises = pushes (n - 1) n in
-      grind arith
-
-  -- where that pop was not before the push nor in its clock, the FIFO holds so many in the clock behind it
-  pub holds : (n v : ℕ) → full ≤ n → IsFullBefore lanes channel full n → clock_at lanes (places_of Push channel) (n - 1) ≡ Some v
-      → ((w : ℕ) → clock_at lanes (places_of Pop channel) (n - full) ≡ Some w → v < w) → held_at lanes channel (v + 1) ≡ full
-  holds n v l inv e later =
-      let b = as_many n v (omega arith) e in
-      let past = before_less lanes (places_of Pop channel) (v + 1) pops (n - full) in
-      let most : timed_before lanes (places_of Pop channel) (v + 1) ≤ n - full = grind arith in
-      let least : n - full ≤ timed_before lanes (places_of Pop channel) (v + 1) =
-      elim (cases_lt full n) [
-        | inl u ↦
-            let (y, was) = inv.push (n - 1) (omega arith) (omega arith) in
-            let (w, at, le) = inv.pop (n - 1) y (omega arith) (omega arith) was in
-            let (z, is, before) = pushes (n - 1 - 1) (n - 1) v (omega arith) e in
-            let s = same_clock _ y z was is in
-            let m = before_more lanes (places_of Pop channel) (v + 1) pops (n - 1 - full) w at (omega arith) in
-            omega arith
-        | inr u ↦ omega arith
-      ] in
-      omega arith
-
-  pub first_of : (depth n v : ℕ) → full ≡ min (depth_of channel.kind) depth → (depth_of channel.kind ≡ depth → ⊥) → full ≤ n
-      → IsFullBefore lanes channel full n → clock_at lanes (places_of Push channel) (n - 1) ≡ Some v
-      → ((w : ℕ) → clock_at lanes (places_of Pop channel) (n - full) ≡ Some w → v < w) → IsFirstTouched lanes channel depth (v + 1)
-  first_of depth n v is apart l inv e later = record {
-    changes = apart;
-    behind = (n - 1, v, e, omega arith);
-    reached = holds n v l inv e later ∙ is;
-    first = λ c u h. let f = holds_fewer n inv c (fewer n v c (omega arith) e (omega arith)) in absurd (omega (arith, h, is, f));
-  }
-
-  pub never_of : (depth n : ℕ) → full ≡ min (depth_of channel.kind) depth → IsFullBefore lanes channel full n
-      → ((c : ℕ) → timed_before lanes (places_of Push channel) c < n) → IsNeverTouched lanes channel depth
-  never_of depth n is inv few = inr (λ c h. let f = holds_fewer n inv c (few c) in absurd (omega (arith, h, is, f)))
-
-  pub none_yet : IsFullBefore lanes channel full full
-  none_yet = record { push = λ o l u. absurd (omega arith); pop = λ o v l u e. absurd (omega arith) }
-
-  pub one_more : (n v w : ℕ) → full ≤ n → IsFullBefore lanes channel full n → clock_at lanes (places_of Push channel) (n - 1) ≡ Some v
-      → clock_at lanes (places_of Pop channel) (n - full) ≡ Some w → w ≤ v → IsFullBefore lanes channel full (n + 1)
-  one_more n v w l inv e f le = record {
-    push = λ o a b. elim (cases_lt o n) [
-      | inl u ↦ inv.push o a u
-      | inr u ↦ (v, ap (λ (k : ℕ). clock_at lanes (places_of Push channel) (k - 1)) (at o u b) ∙ e)
-    ];
-    pop = λ o y a b g. elim (cases_lt o n) [
-      | inl u ↦ inv.pop o y a u g
-      | inr u ↦
-          let s = same_clock _ v y e (ap (λ (k : ℕ). clock_at lanes (places_of Push channel) (k - 1)) (sym (at o u b)) ∙ g) in
-          (w, ap (λ (k : ℕ). clock_at lanes (places_of Pop channel) (k - full)) (at o u b) ∙ f, omega arith)
-    ];
-  }
-    where
-      at : (o : ℕ) → n ≤ o → o < n + 1 → o ≡ n
-      at o a b = omega arith
-
 -- ---- no more pushes have a cycle than there are cycles
 
 step_at_least : (places : List Place) → AreInOrder places → (i : ℕ) (e : Place) → i < length places → i ≤ (get_or places i e).step
@@ -252,6 +153,122 @@ few_clocks lanes places sound order i v e =
   where
     first : Place
     first = record { «module» = 0; step = 0 }
+
+-- ---- the pushes in order of their ordinals
+
+-- the pushes and pops of the channel rise, and of each push of an ordinal from `full` on and below n: the pop that keeps the FIFO from
+-- holding so many was before it or in its clock
+pub record IsFullBefore (lanes : List Lane) (channel : Channel) (full n : ℕ) : Type 0 where
+  pub pushes : IsRising lanes (places_of Push channel)
+  pub pops : IsRising lanes (places_of Pop channel)
+  pub bounded : (i v : ℕ) → clock_at lanes (places_of Push channel) i ≡ Some v → i < cycle_bound
+  pub some : 1 ≤ full
+  pub push : (o : ℕ) → full ≤ o → o < n → (v : ℕ) × (clock_at lanes (places_of Push channel) (o - 1) ≡ Some v)
+  pub pop : (o v : ℕ) → full ≤ o → o < n → clock_at lanes (places_of Push channel) (o - 1) ≡ Some v → (w : ℕ)
+      × (clock_at lanes (places_of Pop channel) (o - full) ≡ Some w) × (w ≤ v)
+
+pub none_yet : (lanes : List Lane) (channel : Channel) (full n : ℕ) → All IsSoundLane lanes
+    → ((side : Side) → AreInOrder (places_of side channel)) → 1 ≤ full → n ≡ full → IsFullBefore lanes channel full n
+none_yet lanes channel full n sound order some e = record {
+  pushes = order_rises lanes (places_of Push channel) sound (order Push);
+  pops = order_rises lanes (places_of Pop channel) sound (order Pop);
+  bounded = λ i v at. few_clocks lanes (places_of Push channel) sound (order Push) i v at;
+  some = some;
+  push = λ o l u. absurd (omega arith);
+  pop = λ o v l u at. absurd (omega arith);
+}
+
+same_clock : (o : Option ℕ) (u v : ℕ) → o ≡ Some u → o ≡ Some v → u ≡ v
+same_clock o u v e f = let s : Some u ≡ Some v = sym e ∙ f in cc
+
+module _ (lanes : List Lane) (channel : Channel) (full n : ℕ) (inv : IsFullBefore lanes channel full n) where
+  -- with fewer pushes than n it holds fewer
+  holds_fewer : (c : ℕ) → timed_before lanes (places_of Push channel) c < n
+      → held_at lanes channel c < full
+  holds_fewer c l =
+      elim (cases_lt (timed_before lanes (places_of Push channel) c) full) [
+        | inl u ↦ omega arith
+        | inr u ↦
+            let b = timed_before lanes (places_of Push channel) c in
+            let (v, is, less) = before_less lanes (places_of Push channel) c inv.pushes (b - 1) (omega arith) in
+            let (w, at, le) = inv.pop b v u l is in
+            let m = before_more lanes (places_of Pop channel) c inv.pops (b - full) w at (omega arith) in
+            omega arith
+      ]
+
+  -- so it does where the push of ordinal n has no cycle
+  pub no_push : 1 ≤ n → clock_at lanes (places_of Push channel) (n - 1) ≡ None → (c : ℕ)
+      → timed_before lanes (places_of Push channel) c < n
+  no_push l none c = let before = before_less lanes (places_of Push channel) c inv.pushes (n - 1) in grind arith
+
+  -- before the clock behind a push there are fewer pushes than its ordinal, and in it as many
+  fewer : (v c : ℕ) → 1 ≤ n → clock_at lanes (places_of Push channel) (n - 1) ≡ Some v → c ≤ v
+      → timed_before lanes (places_of Push channel) c < n
+  fewer v c l e le = let before = before_less lanes (places_of Push channel) c inv.pushes (n - 1) in grind arith
+
+  as_many : (v : ℕ) → 1 ≤ n → clock_at lanes (places_of Push channel) (n - 1) ≡ Some v
+      → timed_before lanes (places_of Push channel) (v + 1) ≡ n
+  as_many v l e =
+      let m = before_more lanes (places_of Push channel) (v + 1) inv.pushes (n - 1) v e (omega arith) in
+      let past = before_less lanes (places_of Push channel) (v + 1) inv.pushes n in
+      let rises = inv.pushes (n - 1) n in
+      grind arith
+
+  -- where that pop was not before the push nor in its clock, the FIFO holds so many in the clock behind it
+  holds : (v : ℕ) → full ≤ n → clock_at lanes (places_of Push channel) (n - 1) ≡ Some v
+      → ((w : ℕ) → clock_at lanes (places_of Pop channel) (n - full) ≡ Some w → v < w) → held_at lanes channel (v + 1) ≡ full
+  holds v l e later =
+      let b = as_many v (omega (arith, inv.some)) e in
+      let past = before_less lanes (places_of Pop channel) (v + 1) inv.pops (n - full) in
+      let most : timed_before lanes (places_of Pop channel) (v + 1) ≤ n - full = grind arith in
+      let least : n - full ≤ timed_before lanes (places_of Pop channel) (v + 1) =
+      elim (cases_lt full n) [
+        | inl u ↦
+            let (y, was) = inv.push (n - 1) (omega arith) (omega arith) in
+            let (w, at, le) = inv.pop (n - 1) y (omega arith) (omega arith) was in
+            let (z, is, before) = inv.pushes (n - 1 - 1) (n - 1) v (omega arith) e in
+            let s = same_clock _ y z was is in
+            let m = before_more lanes (places_of Pop channel) (v + 1) inv.pops (n - 1 - full) w at (omega arith) in
+            omega arith
+        | inr u ↦ omega arith
+      ] in
+      omega arith
+
+  pub first_of : (depth v : ℕ) → full ≡ min (depth_of channel.kind) depth → (depth_of channel.kind ≡ depth → ⊥) → full ≤ n
+      → clock_at lanes (places_of Push channel) (n - 1) ≡ Some v
+      → ((w : ℕ) → clock_at lanes (places_of Pop channel) (n - full) ≡ Some w → v < w) → IsFirstTouched lanes channel depth (v + 1)
+  first_of depth v is apart l e later = record {
+    changes = apart;
+    behind = (n - 1, v, e, omega arith);
+    reached = holds v l e later ∙ is;
+    first = λ c u h. let f = holds_fewer c (fewer v c (omega (arith, inv.some)) e (omega arith)) in absurd (omega (arith, h, is, f));
+  }
+
+  pub never_of : (depth : ℕ) → full ≡ min (depth_of channel.kind) depth
+      → ((c : ℕ) → timed_before lanes (places_of Push channel) c < n) → IsNeverTouched lanes channel depth
+  never_of depth is few = inr (λ c h. let f = holds_fewer c (few c) in absurd (omega (arith, h, is, f)))
+
+  pub one_more : (v w : ℕ) → full ≤ n → clock_at lanes (places_of Push channel) (n - 1) ≡ Some v
+      → clock_at lanes (places_of Pop channel) (n - full) ≡ Some w → w ≤ v → IsFullBefore lanes channel full (n + 1)
+  one_more v w l e f le = record {
+    pushes = inv.pushes;
+    pops = inv.pops;
+    bounded = inv.bounded;
+    some = inv.some;
+    push = λ o a b. elim (cases_lt o n) [
+      | inl u ↦ inv.push o a u
+      | inr u ↦ (v, ap (λ (k : ℕ). clock_at lanes (places_of Push channel) (k - 1)) (at o u b) ∙ e)
+    ];
+    pop = λ o y a b g. elim (cases_lt o n) [
+      | inl u ↦ inv.pop o y a u g
+      | inr u ↦
+          let s = same_clock _ v y e (ap (λ (k : ℕ). clock_at lanes (places_of Push channel) (k - 1)) (sym (at o u b)) ∙ g) in
+          (w, ap (λ (k : ℕ). clock_at lanes (places_of Pop channel) (k - full)) (at o u b) ∙ f, omega arith)
+    ];
+  }
+    where
+      at : (o : ℕ) → n ≤ o → o < n + 1 → o ≡ n
+      at o a b = omega arith
 
 -- ---- the answer of the code
 

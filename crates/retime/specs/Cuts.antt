@@ -1,13 +1,16 @@
 -- The cut from which a retiming begins.
-use Rattle.std.specs.Prelude.{◌≡◌, ℕ, ◌<◌, ◌≤◌, min, List, [], length}
-use Rattle.event_graph.specs.Lanes.{Lane, lane_at}
+use Rattle.std.specs.Prelude.{◌≡◌, ℕ, ◌<◌, ◌≤◌, min, List, [], length, map, slice_index, All}
+use Rattle.flow_design.specs.declared.plan.Edit.{Edit}
+use Rattle.event_graph.specs.Lanes.{Lane, IsSoundLane, lane_at, timed_below}
+use Rattle.fifo_table.specs.Channels.{with_depth}
 use Rattle.query_log.specs.Logs.{Log, log_at}
 use Rattle.outcome_guard.specs.declared.guard.Guard.{Guard}
 use Rattle.event_timing.specs.Edits.{edited, after_edit}
 use Rattle.engine_view.specs.Held.{Held, step_of, emitted_of, core_of}
 use Rattle.engine_view.specs.Shown.{queries_before}
 use Rattle.engine_view.specs.Rooms.{IsRoomy}
-use Rattle.engine_view.specs.Stored.{Stored, held_in}
+use Rattle.engine_view.specs.declared.engine.Engine.{Engine}
+use Rattle.engine_view.specs.Engines.{held_in}
 use Rattle.engine_view.specs.Turns.{OfEach}
 use Rattle.retime.specs.Rounds.{LeadsAll, HasEnded}
 
@@ -35,13 +38,26 @@ pub record AreNumbered (lanes : List Lane) (logs : List Log) : Type 0 where
       → (step_of (only_lanes lanes) m k).first_query ≡ queries_before (only_lanes lanes) m k
   pub most : (m : ℕ) → (log_at logs m).verified ≤ queries_before (only_lanes lanes) m (emitted_of (only_lanes lanes) m)
 
--- for each design of which the one is a core: from the theory's core behind the edit, cut back at clock t, actions lead to the other
-abbrev pub HasRetimed : Guard → ℕ → ℕ → ℕ → ℕ → Stored → Stored → Type 0
-HasRetimed guard channel depth t limit old new =
-    OfEach old (λ d over. LeadsAll (edited d channel depth) limit (after_edit d (core_of d (held_in old over)) t) (held_in new over)
-    × HasEnded guard (edited d channel depth) limit (held_in new over))
+-- the depth is the edit's, the cycles from this clock on are forgotten, and the outcomes of steps without a cycle are assumed
+pub record IsCutBack (old new : Engine) (edit : Edit) (clock : ℕ) : Type 0 where
+  pub lanes : new.graph.lanes ≡ map (timed_below clock) old.graph.lanes
+  pub sound : All IsSoundLane new.graph.lanes
+  pub channels : new.fifos.channels ≡ with_depth old.fifos.channels edit.channel edit.depth
+  pub logs : AreAssumed new.graph.lanes old.log.logs new.log.logs (length old.log.logs)
+  pub lane_rooms : (m : ℕ) → slice_index old.graph.rooms m ≤ slice_index new.graph.rooms m
+  pub push_rooms : new.fifos.push_rooms ≡ old.fifos.push_rooms
+  pub pop_rooms : new.fifos.pop_rooms ≡ old.fifos.pop_rooms
+  pub log_rooms : new.log.rooms ≡ old.log.rooms
+  pub credits : new.credits ≡ old.credits
 
--- the room that a credit promises is left for the edited design
-abbrev pub KeepsRoomEdited : ℕ → ℕ → Stored → Stored → Type 0
-KeepsRoomEdited channel depth old new =
-    (credits : List ℕ) → OfEach old (λ d over. IsRoomy d old over credits → IsRoomy (edited d channel depth) new over credits)
+-- for each design of which the one is a core: from the theory's core after the edit, cut back at clock t, actions lead to the other
+abbrev pub HasRetimed : Guard → Edit → ℕ → ℕ → Engine → Engine → Type 0
+HasRetimed guard edit t limit old new =
+    OfEach old (λ d over.
+    LeadsAll (edited d edit.channel edit.depth) limit (after_edit d (core_of d (held_in old over)) t) (held_in new over)
+    × HasEnded guard (edited d edit.channel edit.depth) limit (held_in new over))
+
+-- the credits stay, and the room that they promise is left for the edited design
+pub record KeepsRoomEdited (edit : Edit) (old new : Engine) : Type 0 where
+  pub credits : new.credits ≡ old.credits
+  pub room : OfEach old (λ d over. IsRoomy d old over → IsRoomy (edited d edit.channel edit.depth) new over)

@@ -2,6 +2,7 @@
 use Rattle.std.specs.Prelude.{Bool, ◌≡◌, ◌≢◌, ℕ, suc, ◌+◌, ◌≤◌, ◌⊎◌, true, false, slice_get, Some, List, length, take, ◌<◌}
 use Rattle.flow_word.specs.Kinds.{is_blocking, side_of}
 use Rattle.flow_word.specs.declared.access.Access.{Access}
+use Rattle.flow_design.specs.declared.plan.Edit.{Edit}
 use Rattle.event_graph.specs.Lanes.{Lane}
 use Rattle.fifo_table.specs.Channels.{Channel, IsFifo, channel_at, depth_of}
 use Rattle.query_log.specs.declared.query.Query.{Query}
@@ -15,7 +16,8 @@ use Rattle.event_timing.specs.Edits.{edited}
 use Rattle.flow_design.specs.declared.state.ModuleState.{ModuleState}
 use Rattle.flow_word.specs.declared.access.Side.TheVariants.{Push}
 use Rattle.outcome_guard.specs.declared.guard.Guard.{Guard}
-use Rattle.engine_view.specs.Stored.{Stored, held_in}
+use Rattle.engine_view.specs.declared.engine.Engine.{Engine}
+use Rattle.engine_view.specs.Engines.{held_in}
 use Rattle.retime.specs.Rounds.{only_steps}
 use Rattle.retime.specs.Cuts.{HasRetimed}
 use Rattle.event_timing.specs.Agreement.{IsAgreed, IsStepAt}
@@ -34,14 +36,14 @@ pub record IsFinalOf {S : Type 0} (d : Design S) (y : Trace S) (limit : ℕ) (h 
 
 -- the depth is another than the one that stands, and cycles are given anew from clock t on: the first touched one, or the limit where
 -- there is none
-pub record IsEditFrom (lanes : List Lane) (channels : List Channel) (fifo depth limit t : ℕ) : Type 0 where
-  pub inside : fifo < length channels
-  pub is_fifo : IsFifo (channel_at channels fifo).kind
-  pub stood : 1 ≤ depth_of (channel_at channels fifo).kind
-  pub least : 1 ≤ depth
-  pub changes : depth_of (channel_at channels fifo).kind ≢ depth
-  pub from : IsFirstTouched lanes (channel_at channels fifo) depth t
-      ⊎ (IsNeverTouched lanes (channel_at channels fifo) depth × (t ≡ limit))
+pub record IsEditFrom (lanes : List Lane) (channels : List Channel) (e : Edit) (limit t : ℕ) : Type 0 where
+  pub inside : e.channel < length channels
+  pub is_fifo : IsFifo (channel_at channels e.channel).kind
+  pub stood : 1 ≤ depth_of (channel_at channels e.channel).kind
+  pub least : 1 ≤ e.depth
+  pub changes : depth_of (channel_at channels e.channel).kind ≢ e.depth
+  pub from : IsFirstTouched lanes (channel_at channels e.channel) e.depth t
+      ⊎ (IsNeverTouched lanes (channel_at channels e.channel) e.depth × (t ≡ limit))
 
 -- the query is that of the access at this place of its module's step k: its number counts the module's queries before it, and its ordinal
 -- is one more than the elements that the module popped, or pushed, on the channel before the step
@@ -86,11 +88,11 @@ pub record OutcomesGrow (old now : Log) : Type 0 where
 
 -- the one is a final core of the design and agrees with its history; from the clock of the edit on cycles were given anew, which led to
 -- the other; `z` is the history of the edited design
-pub record IsEditOf (d : Design ModuleState) (y z : Trace ModuleState) (limit : ℕ) (over : List Bool) (old new : Stored) (guard : Guard)
-    (fifo depth t : ℕ) : Type 0 where
+pub record IsEditOf (d : Design ModuleState) (y z : Trace ModuleState) (limit : ℕ) (over : List Bool) (old new : Engine) (guard : Guard)
+    (e : Edit) (t : ℕ) : Type 0 where
   pub final : IsFinalOf d y limit (held_in old over)
   pub lags : (c : ℕ) → d.lag Push c ≡ 1
-  pub from : IsEditFrom old.graph.lanes old.table.channels fifo depth limit t
-  pub history : IsHistory (edited d fifo depth) z
-  pub retimed : HasRetimed guard fifo depth t limit old new
+  pub from : IsEditFrom old.graph.lanes old.fifos.channels e limit t
+  pub history : IsHistory (edited d e.channel e.depth) z
+  pub retimed : HasRetimed guard e t limit old new
   pub steps : only_steps new.graph.lanes ≡ only_steps old.graph.lanes

@@ -1,5 +1,5 @@
 -- Rounds over the modules, in which steps get their cycles and queries their answers.
-use Rattle.std.specs.Prelude.{◌≡◌, ℕ, ◌+◌, ◌<◌, ◌≤◌, ◌⊎◌, List, [], ◌∷◌, length, map}
+use Rattle.std.specs.Prelude.{ℕ, List, [], ◌∷◌, length, map}
 use Rattle.std.specs.List.{sum_by}
 use Rattle.flow_word.specs.declared.access.Step.{Step}
 use Rattle.event_graph.specs.Lanes.{Lane}
@@ -10,10 +10,10 @@ use Rattle.event_timing.specs.Core.{Core}
 use Rattle.event_timing.specs.Actions.{Action, ActsAll}
 use Rattle.event_timing.specs.Actions.Action.{Run, Assign, Answer, Earliest}
 use Rattle.engine_view.specs.Held.{Held, core_of}
-use Rattle.engine_view.specs.Stored.{Stored, held_in}
-use Rattle.engine_view.specs.Taking.{kinds_in}
+use Rattle.engine_view.specs.declared.engine.Engine.{Engine}
+use Rattle.engine_view.specs.Engines.{held_in}
 use Rattle.engine_view.specs.Kept.{IsKept}
-use Rattle.engine_view.specs.Turns.{IsDifferent, IsIdle, IsSomeCore, KeepsRoom, OfEach}
+use Rattle.engine_view.specs.Turns.{IsDifferent, IsIdle, OfEach}
 
 -- each of them gives a cycle, or answers queries that are all decided
 abbrev pub AreTimings : List Action → Type 0
@@ -36,10 +36,10 @@ HasEnded {S} Same d limit g = (m : ℕ) → IsIdle d limit (core_of d g) m
 HasEnded {S} (Differs q) d limit g = IsDifferent d limit g q.module q
 
 -- of each design of which the one is a core they lead to the other
-abbrev pub HasGone : ℕ → Stored → Stored → Type 0
+abbrev pub HasGone : ℕ → Engine → Engine → Type 0
 HasGone limit s t = OfEach s (λ d over. LeadsAll d limit (core_of d (held_in s over)) (held_in t over))
 
-abbrev pub IsAtEnd : Guard → ℕ → Stored → Type 0
+abbrev pub IsAtEnd : Guard → ℕ → Engine → Type 0
 IsAtEnd guard limit t = OfEach t (λ d over. HasEnded guard d limit (held_in t over))
 
 -- the steps of all modules, without their cycles
@@ -52,23 +52,3 @@ cycles_in lanes = sum_by (λ l. length l.cycles) lanes
 
 abbrev pub steps_in : List Lane → ℕ
 steps_in lanes = sum_by (λ l. length l.steps) lanes
-
--- ---- a round that goes on
-
--- the module is among those so many that were visited last, going round
-abbrev pub IsVisited : ℕ → ℕ → ℕ → ℕ → Type 0
-IsVisited count at idle n = ((n < at) × (at ≤ n + idle)) ⊎ ((at ≤ n) × (at + count ≤ n + idle))
-
--- the rounds have led from `first` to `now`, with so many ticks before and by now; the next turn is that of module `at`, and of the
--- modules that were visited last nothing is permitted
-pub record IsGoingRound (limit : ℕ) (first now : Stored) (before ticks count at idle : ℕ) : Type 0 where
-  pub core : IsSomeCore now
-  pub counted : count ≡ length now.graph.lanes
-  pub steps : only_steps now.graph.lanes ≡ only_steps first.graph.lanes
-  pub kinds : kinds_in now.table.channels ≡ kinds_in first.table.channels
-  pub ticked : ticks + cycles_in first.graph.lanes ≡ before + cycles_in now.graph.lanes
-  pub within : idle ≤ count
-  pub inside : 0 < count → at < count
-  pub acts : HasGone limit first now
-  pub room : KeepsRoom first now
-  pub none_left : (m : ℕ) → m < count → IsVisited count at idle m → OfEach now (λ d over. IsIdle d limit (core_of d (held_in now over)) m)

@@ -1,13 +1,22 @@
 -- The first clock that a change of a FIFO's depth touches.
-use Rattle.std.specs.Prelude.{◌≡◌, ℕ, suc, ◌-◌, ◌<◌, min, ◌⊎◌, Bool, false, List, length, filter, nat_lt, slice_get, Option, None, Some}
-use Rattle.std.specs.Prelude.{option_and_then}
+use Rattle.std.specs.Prelude.{◌≡◌, ℕ, suc, ◌-◌, ◌<◌, ◌≤◌, min, ◌⊎◌, Bool, false, List, length, filter, nat_lt, slice_get, Option, None}
+use Rattle.std.specs.Prelude.{Some, option_and_then}
 use Rattle.std.specs.List.{AllPairs}
+use Rattle.flow_design.specs.declared.limits.TheConstants.{FIFO_DEPTH}
+use Rattle.flow_design.specs.declared.plan.Edit.{Edit}
 use Rattle.flow_word.specs.declared.access.Place.{Place}
 use Rattle.flow_word.specs.declared.access.Side.TheVariants.{Pop, Push}
 use Rattle.event_graph.specs.Lanes.{Lane, cycle_of}
 use Rattle.fifo_table.specs.declared.enabler.Enabler.{Enabler}
 use Rattle.fifo_table.specs.declared.enabler.Enabler.TheVariants as enabler
-use Rattle.fifo_table.specs.Channels.{Channel, depth_of, places_of}
+use Rattle.fifo_table.specs.Channels.{Channel, IsFifo, channel_at, depth_of, places_of}
+
+-- the edit gives one of the channels, a FIFO, a depth that a FIFO may have
+pub record IsEditIn (channels : List Channel) (e : Edit) : Type 0 where
+  pub inside : e.channel < length channels
+  pub is_fifo : IsFifo (channel_at channels e.channel).kind
+  pub least : 1 ≤ e.depth
+  pub most : e.depth ≤ FIFO_DEPTH
 
 -- there is a cycle, and it is before clock c
 abbrev pub is_before : ℕ → Option ℕ → Bool

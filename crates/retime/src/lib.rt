@@ -1,4 +1,4 @@
-//! Cycles anew behind a change of a FIFO's depth, from the first clock on that the change touches.
+//! Cycles anew after a change of a FIFO's depth, from the first clock on that the change touches.
 #![tactic(auto)]
 
 mod laws;
@@ -6,7 +6,7 @@ mod retimed;
 mod rounds;
 mod touched;
 
-pub use laws::{cycles_are_counted, edits_agree, records_grow, retimings_agree};
+pub use laws::retimings_agree;
 pub use retimed::retime;
 pub use rounds::time_all;
 pub use touched::first_touched;

@@ -1,46 +1,45 @@
 //! The first clock that a change of a FIFO's depth touches.
-ghost use Rattle.std.specs.Prelude.{◌≡◌, ℕ, ◌<◌, ◌≤◌, length, IfSome, IsNone};
-ghost use Rattle.flow_design.specs.declared.limits.TheConstants.{FIFO_DEPTH};
+ghost use Rattle.std.specs.Prelude.{◌≡◌, ◌<◌, ◌≤◌, length, IfSome, IsNone};
 ghost use Rattle.event_graph.specs.Lanes.{cycle_bound};
 ghost use Rattle.fifo_table.specs.Channels.{IsFifo, channel_at, places_of};
 ghost use Rattle.fifo_table.specs.Enablers.{enabler_of};
 ghost use Rattle.time_engine.specs.Conditions.{HasPlaces};
-ghost use Rattle.retime.specs.Touched.{AreInOrder, IsFirstTouched, IsNeverTouched, clock_by};
+ghost use Rattle.retime.specs.Touched.{IsEditIn, AreInOrder, IsFirstTouched, IsNeverTouched, clock_by};
 
 use event_graph::Graph;
 use fifo_table::{Enabler, FifoTable};
+use flow_design::Edit;
 use flow_word::Side;
 
 /// The least clock in which the FIFO, by the cycles that were given, holds as many elements as the lesser of its depth and
 /// this one. None where there is no such clock, or the depth is the one that stands.
 ///
 /// It looks at each push and each pop of the channel at most once, and takes no memory.
-pub fn first_touched(graph: &Graph, fifos: &FifoTable, channel: u32, depth: u64) -> Option<u64>
-    requires channel { channel < length fifos.now.channels }
-    requires fifo { IsFifo (channel_at fifos.now.channels channel).kind }
-    requires least { 1 ≤ depth }
-    requires most { depth ≤ FIFO_DEPTH }
+pub fn first_touched(graph: &Graph, fifos: &FifoTable, edit: &Edit) -> Option<u64>
+    requires edit { IsEditIn fifos.now.channels edit.now }
     requires places { HasPlaces graph.now.lanes fifos.now.channels }
-    requires in_order { (side : Side) → AreInOrder (places_of side (channel_at fifos.now.channels channel)) }
-    ensures some { IfSome result (λ t. IsFirstTouched graph.now.lanes (channel_at fifos.now.channels channel) depth t) }
-    ensures none { IsNone result → IsNeverTouched graph.now.lanes (channel_at fifos.now.channels channel) depth }
+    requires in_order { (side : Side) → AreInOrder (places_of side (channel_at fifos.now.channels edit.now.channel)) }
+    ensures some { IfSome result
+        (λ t. IsFirstTouched graph.now.lanes (channel_at fifos.now.channels edit.now.channel) edit.now.depth t) }
+    ensures none { IsNone result
+        → IsNeverTouched graph.now.lanes (channel_at fifos.now.channels edit.now.channel) edit.now.depth }
 {
-    let stands = fifos.depth(channel);
-    if depth == stands {
+    let stands = fifos.depth(edit.channel);
+    if edit.depth == stands {
         return None;
     }
-    let full = depth.min(stands);
+    let full = edit.depth.min(stands);
     // The lanes are sound as ever.
     let _modules = graph.modules();
-    for before in full - 1..fifos.pushes(channel) {
+    for before in full - 1..fifos.pushes(edit.channel) {
         // The cycle of the push with so many pushes before it. The pop that takes its element waits for it.
-        let Some(push) = event_cycle(graph, fifos, channel, Side::Pop, before + 1) else {
+        let Some(push) = event_cycle(graph, fifos, edit.channel, Side::Pop, before + 1) else {
             return None;
         };
         // This push makes the FIFO that full, unless the pop that leaves one place more was before it or in its clock. For
         // that pop a later push waits.
         let waiting = stands + (before + 2 - full);
-        match event_cycle(graph, fifos, channel, Side::Push, waiting) {
+        match event_cycle(graph, fifos, edit.channel, Side::Push, waiting) {
             Some(pop) if pop <= push => {}
             _ => return Some(push + 1),
         }

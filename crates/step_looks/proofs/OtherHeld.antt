@@ -7,6 +7,7 @@ use Rattle.std.proofs.lemmas.Bool.{cases_Bool, le-ltb, ltb-true}
 use Rattle.std.proofs.lemmas.List.{get_or_default, length-map, length-set}
 use Rattle.std.proofs.lemmas.List.Elements.{All-map}
 use Rattle.std.proofs.Math.ListN.{get_or-map}
+use Rattle.flow_design.specs.declared.plan.Edit.{Edit}
 use Rattle.flow_word.specs.Kinds.{side_of}
 use Rattle.flow_word.specs.declared.access.Side.{Side}
 use Rattle.flow_word.specs.declared.access.Access.{Access}
@@ -33,7 +34,7 @@ use Rattle.engine_view.proofs.Answered.{queries_zero, steps_only}
 use Rattle.engine_view.proofs.Keeping.{cut_now, now_kept}
 use Rattle.engine_view.proofs.Placing.{places_from}
 use Rattle.engine_view.proofs.Reading.{IsRead, read_sound}
-use Rattle.engine_view.proofs.Roomy.{pending_same}
+use Rattle.engine_view.proofs.Roomy.{pending_same, room_on}
 use Rattle.step_looks.specs.Looks.{cycle_held}
 use Rattle.step_looks.specs.OtherCycles.{HasOtherCycles}
 
@@ -59,8 +60,8 @@ bare_sound lanes sound =
       below = subst (All (λ (c : ℕ). c < cycle_bound)) none (λ k b u. absurd (omega arith));
     })
 
-module _ {S : Type 0} (d : Design S) (h g : Held) (fifo depth : ℕ) (k : IsKept d h) (inside : fifo < length h.channels)
-    (is_fifo : IsFifo (channel_at h.channels fifo).kind) (o : HasOtherCycles h g fifo depth) where
+module _ {S : Type 0} (d : Design S) (h g : Held) (edit : Edit) (k : IsKept d h) (inside : edit.channel < length h.channels)
+    (is_fifo : IsFifo (channel_at h.channels edit.channel).kind) (o : HasOtherCycles h g edit) where
   abbrev s : Shows d h (core_of d h)
   s = k.sound
 
@@ -71,14 +72,14 @@ module _ {S : Type 0} (d : Design S) (h g : Held) (fifo depth : ℕ) (k : IsKept
   y = with_cycles x (cycle_held g)
 
   abbrev e : Design S
-  e = edited d fifo depth
+  e = edited d edit.channel edit.depth
 
   -- ---- what the cut of all cycles tells of the channels
 
   bare : Held
   bare = record {
     lanes = map (timed_below 0) h.lanes;
-    channels = with_depth h.channels fifo depth;
+    channels = with_depth h.channels edit.channel edit.depth;
     logs = map unsure h.logs;
     over = h.over;
   }
@@ -88,7 +89,7 @@ module _ {S : Type 0} (d : Design S) (h g : Held) (fifo depth : ℕ) (k : IsKept
       let none = ap (queries_before h m) (kept_none (x.cycle m) (x.timed m)) ∙ queries_zero h m in
       omega arith
 
-  bare_cut : IsCut d h bare fifo depth 0
+  bare_cut : IsCut d h bare edit.channel edit.depth 0
   unfolding bare
   bare_cut = record {
     lanes = refl;
@@ -102,7 +103,7 @@ module _ {S : Type 0} (d : Design S) (h g : Held) (fifo depth : ℕ) (k : IsKept
   }
 
   shown : Shows e bare (after_edit d x 0)
-  shown = let n = cut_now d h k fifo depth 0 inside is_fifo bare bare_cut in subst (Shows e bare) n.core n.kept.sound
+  shown = let n = cut_now d h k edit.channel edit.depth 0 inside is_fifo bare bare_cut in subst (Shows e bare) n.core n.kept.sound
 
   channels_are : bare.channels ≡ g.channels
   unfolding bare
@@ -191,24 +192,17 @@ module _ {S : Type 0} (d : Design S) (h g : Held) (fifo depth : ℕ) (k : IsKept
 
   pub other_now : IsNow e g y
   other_now =
-      let marks = marks_on d x k.marks fifo depth (cycle_held g) in
+      let marks = marks_on d x k.marks edit.channel edit.depth (cycle_held g) in
       now_kept e g y (read_sound e g y marks other_shown other_read) marks (λ m j l. k.earlier m j l)
 
   pub other_room : (lanes lanes_left : List ℕ) (table table_left : RoomedChannels) (logs credits : List ℕ)
       → HasRoom d h lanes table logs credits → ((n : ℕ) → get_or lanes n 0 ≤ get_or lanes_left n 0)
       → ((side : Side) (c : ℕ) → room_of table side c ≤ room_of table_left side c)
       → HasRoom e g lanes_left table_left logs credits
-  other_room lanes lanes_left table table_left logs credits r f q = record {
-    ends = λ side c l.
-        let count = ap (λ (cs : List Channel). length cs) o.channels ∙ length-set h.channels fifo _ in
-        let a = r.ends side c (omega arith) in
-        let b = still (d.owner side c) in
-        let n = q side c in
-        omega arith;
-    steps = λ m. let a = r.steps m in let b = f m in omega arith;
-    outcomes = λ m. let a = r.outcomes m in let b = queries m in let w = ap (λ (l : Log). length l.outcomes) (log_is m) in omega arith;
-    few = λ m. let a = r.few m in let b = queries m in omega arith;
-  }
+  other_room lanes lanes_left table table_left logs credits r f q =
+      room_on d e h g lanes lanes_left table table_left logs credits r (λ side c. refl)
+      (ap (λ (cs : List Channel). length cs) o.channels ∙ length-set h.channels edit.channel _) still queries
+      (λ m. ap (λ (l : Log). length l.outcomes) (log_is m)) f q
     where
       queries : (m : ℕ) → queries_before g m (emitted_of g m) ≡ queries_before h m (emitted_of h m)
       queries m = same_queries m (emitted_of g m) ∙ ap (λ (ss : List Step). queries_before h m (length ss)) (o.steps m)

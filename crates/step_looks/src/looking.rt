@@ -4,33 +4,32 @@ ghost use Rattle.event_graph.specs.Lanes.{HasStep, lane_at, cycle_bound};
 ghost use Rattle.time_engine.specs.Conditions.{HasAccesses, HasPlaces};
 ghost use Rattle.engine_view.specs.Held.{held, step_of, flags_of};
 ghost use Rattle.engine_view.specs.Known.{found_flags};
-ghost use Rattle.engine_view.specs.Stored.{stored, held_in};
+ghost use Rattle.engine_view.specs.Engines.{held_in};
 ghost use Rattle.engine_view.specs.Turns.{IsSomeCore};
 ghost use Rattle.step_looks.specs.Looks.{IsLooked, looked};
 ghost use Rattle.step_looks.specs.Looks.{cycle_before as before};
 
-use engine_view::compare_outcomes;
+use engine_view::{Engine, compare_outcomes};
 use event_graph::{Graph, Place};
 use fifo_table::FifoTable;
 use outcome_guard::Guard;
-use query_log::QueryLog;
 use time_engine::latest;
 
 /// Whether a step with a cycle is right: its cycle is the one that its neighbours tell, and in it each query has its
 /// recorded outcome. It takes no memory.
-pub fn look(graph: &Graph, fifos: &FifoTable, log: &QueryLog, at: Place) -> bool
-    requires there { HasStep graph.now.lanes at }
-    requires timed { at.step < length (lane_at graph.now.lanes at.module).cycles }
-    requires core { IsSomeCore (stored graph.now fifos.now log.now) }
-    ensures { (result ≡ true) ↔ IsLooked (held_in (stored graph.now fifos.now log.now) []) at.module at.step }
+pub fn look(engine: &Engine, at: Place) -> bool
+    requires there { HasStep engine.now.graph.lanes at }
+    requires timed { at.step < length (lane_at engine.now.graph.lanes at.module).cycles }
+    requires core { IsSomeCore engine.now }
+    ensures { (result ≡ true) ↔ IsLooked (held_in engine.now []) at.module at.step }
 {
-    let Some(cycle) = due_cycle(graph, fifos, at) else {
+    let Some(cycle) = due_cycle(&engine.graph, &engine.fifos, at) else {
         return false;
     };
-    if !has_cycle(graph, at, cycle) {
+    if !has_cycle(&engine.graph, at, cycle) {
         return false;
     }
-    has_outcomes(graph, fifos, log, at, cycle)
+    has_outcomes(engine, at, cycle)
 }
 
 /// Whether a step with a cycle has this one.
@@ -46,22 +45,21 @@ fn has_cycle(graph: &Graph, at: Place, cycle: u64) -> bool
 }
 
 /// Whether each query of a step has its recorded outcome in this clock.
-fn has_outcomes(graph: &Graph, fifos: &FifoTable, log: &QueryLog, at: Place, cycle: u64) -> bool
-    requires there { HasStep graph.now.lanes at }
-    requires core { IsSomeCore (stored graph.now fifos.now log.now) }
-    ensures { (result ≡ true) ↔ (found_flags graph.now.lanes fifos.now.channels cycle
-        (step_of (held_in (stored graph.now fifos.now log.now) []) at.module at.step).accesses
-        ≡ flags_of (held_in (stored graph.now fifos.now log.now) []) at.module at.step) }
+fn has_outcomes(engine: &Engine, at: Place, cycle: u64) -> bool
+    requires there { HasStep engine.now.graph.lanes at }
+    requires core { IsSomeCore engine.now }
+    ensures { (result ≡ true) ↔ (found_flags engine.now.graph.lanes engine.now.fifos.channels cycle
+        (step_of (held_in engine.now []) at.module at.step).accesses
+        ≡ flags_of (held_in engine.now []) at.module at.step) }
 {
-    let step = graph.step(at);
+    let step = engine.graph.step(at);
     let found = compare_outcomes(
-        graph,
-        fifos,
-        log,
+        &engine.graph,
+        &engine.fifos,
+        &engine.log,
         at.module,
         cycle,
-        step.first_query,
-        step.accesses.as_slice(),
+        &step,
     );
     matches!(found, Guard::Same)
 }

@@ -15,7 +15,7 @@ loop-owner-preserved c = λ m l n q.
             | inr v ↦ v
             | inl v ↦
                 let e : m ≡ c.loop-owner.owner = omega arith in
-                let q' = subst (λ (j : ℕ). determined c.args.graph.now.lanes c.args.fifos.now.channels j ≡ Some n) e q in
+                let q' = subst (λ (j : ℕ). determined c.args.engine.now.graph.lanes c.args.engine.now.fifos.channels j ≡ Some n) e q in
                 absurd (c.in_default.not-At n ((c.candidate.ensures.at n).1 (q', v)))
           ]
     ]
@@ -26,8 +26,8 @@ returns c = λ e m n q.
       | inl w ↦ c.loop-owner.invariant m w n q
       | inr w ↦
           let count = c.modules-owner-end.ensures.count in
-          let none : open_step (lane_at c.args.graph.now.lanes m) ≡ None =
-          ap (λ (l : Lane). open_step l) (get_or_past c.args.graph.now.lanes m no_lane (omega (arith, c.loop-owner-test.false))) in
-          let z = sym (determined_at c.args.graph.now.lanes c.args.fifos.now.channels m None none) ∙ q in
+          let none : open_step (lane_at c.args.engine.now.graph.lanes m) ≡ None =
+          ap (λ (l : Lane). open_step l) (get_or_past c.args.engine.now.graph.lanes m no_lane (omega (arith, c.loop-owner-test.false))) in
+          let z = sym (determined_at c.args.engine.now.graph.lanes c.args.engine.now.fifos.channels m None none) ∙ q in
           cc
     ]

@@ -1,37 +1,32 @@
-use Rattle.std.proofs.Common.{sym, ap, subst, ◌∙◌, ℕ, ◌+◌, ◌-◌, slice_get}
+use Rattle.std.proofs.Common.{[], sym, ap, subst, ◌∙◌, ℕ, ◌+◌, ◌-◌, slice_get}
 use Rattle.std.proofs.lemmas.Bool.{both_ways}
 use Rattle.flow_word.specs.Kinds.{side_of, other_side}
 use Rattle.flow_word.specs.declared.access.Side.{Side}
 use Rattle.fifo_table.specs.Channels.{channel_at, free_of, places_of}
 use Rattle.engine_view.specs.Held.{step_of}
-use Rattle.engine_view.specs.Stored.{stored, held_in}
+use Rattle.engine_view.specs.Engines.{held_in}
 use Rattle.cycle_changes.specs.Around.{StandsAs}
 use Rattle.cycle_changes.proofs.Reaching.{waits_so}
 use Rattle.cycle_changes.proofs.reach.are_enabled_right.Goals as goal
 
 pub returns-then-not-is_fifo : goal.returns-then-not-is_fifo
 returns-then-not-is_fifo c = λ e m n l q.
-    let (d, over, credits, i, k, r) = c.requires.core in
-    let w = waits_so d i (held_in (stored c.args.graph.now c.args.fifos.now c.args.log.now) over) k.sound c.args.at c.args.access.now
-    c.requires.access m n l q in
+    let w = waits_so c.args.engine.now c.requires.core c.args.at c.args.access.now c.requires.access m n l q in
     absurd (both_ways _ c.if-not-is_fifo.true (c.is_fifo.ensures.1 w.fifo))
 
 pub returns-then-not-is_step : goal.returns-then-not-is_step
 returns-then-not-is_step c = λ e m n l q.
-    let (d, over, credits, i, k, r) = c.requires.core in
-    let w = waits_so d i (held_in (stored c.args.graph.now c.args.fifos.now c.args.log.now) over) k.sound c.args.at c.args.access.now
-    c.requires.access m n l q in
-    let channel = channel_at c.args.fifos.now.channels c.args.access.now.channel in
+    let w = waits_so c.args.engine.now c.requires.core c.args.at c.args.access.now c.requires.access m n l q in
+    let channel = channel_at c.args.engine.now.fifos.channels c.args.access.now.channel in
     let is = c.place-taker.ensures ∙ (ap (λ (s : Side). slice_get (places_of s channel) (c.args.access.now.ordinal - 1)) c.side-side.ensures
     ∙ w.taken) in
     absurd (both_ways _ c.if-not-is_step.true (c.is_step.ensures is))
 
 pub returns-in-Some : goal.returns-in-Some
 returns-in-Some c = λ e m n l q.
-    let (d, over, credits, i, k, r) = c.requires.core in
-    let h = held_in (stored c.args.graph.now c.args.fifos.now c.args.log.now) over in
-    let w = waits_so d i h k.sound c.args.at c.args.access.now c.requires.access m n l q in
-    let kind = (channel_at c.args.fifos.now.channels c.args.access.now.channel).kind in
+    let h = held_in c.args.engine.now [] in
+    let w = waits_so c.args.engine.now c.requires.core c.args.at c.args.access.now c.requires.access m n l q in
+    let kind = (channel_at c.args.engine.now.fifos.channels c.args.access.now.channel).kind in
     let side = c.other.ensures ∙ ap other_side c.side-side.ensures in
     let free = c.free.ensures ∙ ap (free_of kind) side in
     let ordinal = c.in-Some.ensures.1 ∙ ap (λ (v : ℕ). c.args.access.now.ordinal + v) free in

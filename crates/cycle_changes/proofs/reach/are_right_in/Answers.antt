@@ -1,14 +1,14 @@
 use Rattle.std.proofs.Common.{sym, subst, ℕ, arith, inl, inr, []}
 use Rattle.std.proofs.lemmas.Bool.{cases_eq}
 use Rattle.engine_view.specs.Held.{step_of}
-use Rattle.engine_view.specs.Stored.{stored, held_in}
+use Rattle.engine_view.specs.Engines.{held_in}
 use Rattle.step_looks.specs.Looks.{IsLooked}
 use Rattle.cycle_changes.specs.Around.{StandsSomewhere}
 use Rattle.cycle_changes.proofs.reach.are_right_in.Goals as goal
 
 pub loop-step-preserved : goal.loop-step-preserved
 loop-step-preserved c = λ k low l s.
-    let h = held_in (stored c.args.graph.now c.args.fifos.now c.args.log.now) [] in
+    let h = held_in c.args.engine.now [] in
     elim (cases_eq k c.loop-step.step) [
       | inl e ↦ subst (IsLooked h c.args.owner) (sym e)
           (c.is_right_or_elsewhere.ensures c.if-not-is_right_or_elsewhere.false

@@ -1,6 +1,6 @@
 use Rattle.std.proofs.Common.{ℕ, ◌<◌, ◌≤◌, []}
 use Rattle.engine_view.specs.Held.{step_of}
-use Rattle.engine_view.specs.Stored.{stored, held_in}
+use Rattle.engine_view.specs.Engines.{held_in}
 use Rattle.step_looks.specs.Looks.{IsLooked}
 use Rattle.cycle_changes.specs.Around.{StandsSomewhere}
 use Rattle.cycle_changes.proofs.reach.are_right_in.Given as goal
@@ -8,5 +8,5 @@ use Rattle.cycle_changes.proofs.reach.are_right_in.Given as goal
 abbrev pub invariant-loop-step : goal.invariant-loop-step
 invariant-loop-step l =
     (k : ℕ) → l.first ≤ k → k < l.step
-    → StandsSomewhere l.port.side l.port.channel (step_of (held_in (stored l.graph l.fifos l.log) []) l.owner k)
-    → IsLooked (held_in (stored l.graph l.fifos l.log) []) l.owner k
+    → StandsSomewhere l.port.side l.port.channel (step_of (held_in l.engine []) l.owner k)
+    → IsLooked (held_in l.engine []) l.owner k

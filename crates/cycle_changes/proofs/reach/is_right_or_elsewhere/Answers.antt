@@ -1,7 +1,7 @@
 use Rattle.std.proofs.Common.{[], sym, ap, ◌∙◌, List, length, ◌<◌, subst, get_or}
 use Rattle.flow_word.specs.declared.access.Access.{Access}
 use Rattle.flow_word.specs.declared.access.Step.{Step}
-use Rattle.engine_view.specs.Stored.{stored, held_in}
+use Rattle.engine_view.specs.Engines.{held_in}
 use Rattle.cycle_changes.specs.Around.{StandsAt}
 use Rattle.step_looks.proofs.HeldSteps.{step_is}
 use Rattle.event_graph.specs.Packed.{whole}
@@ -10,7 +10,7 @@ use Rattle.cycle_changes.proofs.reach.is_right_or_elsewhere.Goals as goal
 pub returns-then-not-stands_at : goal.returns-then-not-stands_at
 returns-then-not-stands_at c = λ e s.
     let (j, a, u, is, st) = s in
-    let h = held_in (stored c.args.graph.now c.args.fifos.now c.args.log.now) [] in
+    let h = held_in c.args.engine.now [] in
     let same = ap (λ (t : Step). t.accesses) (step_is h c.args.at.module c.args.at.step (whole c.step.result) c.step.ensures.step)
     ∙ sym c.as_slice.ensures in
     absurd (c.stands_at.ensures c.if-not-stands_at.true j a (subst (λ (xs : List Access). j < length xs) same u)

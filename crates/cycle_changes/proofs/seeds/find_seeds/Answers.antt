@@ -6,7 +6,7 @@ use Rattle.flow_word.specs.declared.access.Side.TheVariants.{Push}
 use Rattle.fifo_table.specs.Channels.{channel_at, first_module, places_of}
 use Rattle.engine_view.specs.Emitted.{place_of}
 use Rattle.engine_view.specs.Held.{step_of}
-use Rattle.engine_view.specs.Stored.{stored, held_in}
+use Rattle.engine_view.specs.Engines.{held_in}
 use Rattle.engine_view.specs.Turns.{first_of}
 use Rattle.step_looks.specs.Looks.{IsLooked}
 use Rattle.cycle_changes.specs.Around.{StandsSomewhere}
@@ -19,16 +19,14 @@ first_is (p ∷ ps) o e = (p, refl, cc)
 
 pub frontier-step-end-requires : goal.frontier-step-end-requires
 frontier-step-end-requires c =
-    let (d, over, credits, i, kept, r) = c.requires.core in
-    let h = held_in (stored c.args.graph.now c.args.fifos.now c.args.log.now) over in
-    let (p, there, is) = first_is (places_of Push (channel_at h.channels c.args.channel)) c.in-Some.owner
+    let (p, there, is) = first_is (places_of Push (channel_at c.args.engine.now.fifos.channels c.args.channel)) c.in-Some.owner
     (sym c.pusher.ensures ∙ c.in-Some.is) in
-    let own = has_owner d h kept.sound Push c.args.channel c.requires.channel 0 p there in
+    let own = has_owner c.args.engine.now c.requires.core Push c.args.channel c.requires.channel 0 p there in
     omega arith
 
 pub loop-step-preserved : goal.loop-step-preserved
 loop-step-preserved c = λ k l s.
-    let h = held_in (stored c.args.graph.now c.args.fifos.now c.args.log.now) [] in
+    let h = held_in c.args.engine.now [] in
     elim (cases_eq k c.loop-step.step) [
       | inl e ↦
           let s' = subst (λ (n : ℕ). StandsSomewhere Push c.args.channel (step_of h c.in-Some.owner n)) e s in
@@ -43,16 +41,14 @@ loop-step-preserved c = λ k l s.
 
 pub returns : goal.returns
 returns c = λ e m k l s.
-    let (d, over, credits, i, kept, r) = c.requires.core in
-    let h = held_in (stored c.args.graph.now c.args.fifos.now c.args.log.now) over in
+    let h = held_in c.args.engine.now [] in
     let (p, there, is) = first_is (places_of Push (channel_at h.channels c.args.channel)) c.in-Some.owner
     (sym c.pusher.ensures ∙ c.in-Some.is) in
     let (j, a, u, at, st) = s in
     let owner : m ≡ c.in-Some.owner =
-    sym (as_owner d i h kept.sound Push c.args.channel a.ordinal m k l (j, a, u, at, (st, refl)) 0 p there) ∙ is in
+    sym (as_owner c.args.engine.now c.requires.core Push c.args.channel a.ordinal m k l (j, a, u, at, (st, refl)) 0 p there) ∙ is in
     let count = c.frontier-step-end.ensures.count in
     let l' = subst (λ (v : ℕ). k < first_of h v) owner l in
     let s' = subst (λ (v : ℕ). StandsSomewhere Push c.args.channel (step_of h v k)) owner s in
-    subst (λ (v : ℕ). IsLooked (held_in (stored c.args.graph.now c.args.fifos.now c.args.log.now) []) v k
-    ⊎ Contains c.loop-step.seeds.items (place_of v k)) (sym owner)
+    subst (λ (v : ℕ). IsLooked h v k ⊎ Contains c.loop-step.seeds.items (place_of v k)) (sym owner)
     (c.loop-step.invariant k (omega (arith, c.loop-step-test.false)) s')

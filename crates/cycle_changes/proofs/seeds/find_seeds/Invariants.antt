@@ -3,12 +3,12 @@ use Rattle.std.specs.Prelude.{Contains}
 use Rattle.flow_word.specs.declared.access.Side.TheVariants.{Push}
 use Rattle.engine_view.specs.Emitted.{place_of}
 use Rattle.engine_view.specs.Held.{step_of}
-use Rattle.engine_view.specs.Stored.{stored, held_in}
+use Rattle.engine_view.specs.Engines.{held_in}
 use Rattle.step_looks.specs.Looks.{IsLooked}
 use Rattle.cycle_changes.specs.Around.{StandsSomewhere}
 use Rattle.cycle_changes.proofs.seeds.find_seeds.Given as goal
 
 abbrev pub invariant-loop-step : goal.invariant-loop-step
 invariant-loop-step l =
-    (k : ℕ) → k < l.step → StandsSomewhere Push l.channel (step_of (held_in (stored l.graph l.fifos l.log) []) l.owner k)
-    → IsLooked (held_in (stored l.graph l.fifos l.log) []) l.owner k ⊎ Contains l.seeds.items (place_of l.owner k)
+    (k : ℕ) → k < l.step → StandsSomewhere Push l.channel (step_of (held_in l.engine []) l.owner k)
+    → IsLooked (held_in l.engine []) l.owner k ⊎ Contains l.seeds.items (place_of l.owner k)

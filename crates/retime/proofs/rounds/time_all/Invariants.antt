@@ -1,12 +1,15 @@
-use Rattle.engine_view.specs.Stored.{stored}
-use Rattle.retime.specs.Rounds.{IsGoingRound}
-use Rattle.retime.proofs.Going.{still}
+use Rattle.std.proofs.Common.{◌≡◌, length}
+use Rattle.engine_view.specs.Cursors.{AreIdle, turns_left}
+use Rattle.engine_view.specs.Turns.{left}
+use Rattle.retime.proofs.Going.{HasTurned, IsIdleIn}
 use Rattle.retime.proofs.rounds.time_all.Given as goal
 
-abbrev pub invariant-loop-idle : goal.invariant-loop-idle
-invariant-loop-idle g l =
-    IsGoingRound l.limit (stored l.initial.graph l.initial.fifos l.initial.log) (stored l.graph l.fifos l.log) l.initial.steps l.steps
-    l.count l.at l.idle
+abbrev pub invariant-loop-at : goal.invariant-loop-at
+invariant-loop-at g l = record {
+  turned : HasTurned l.limit l.initial.engine l.engine l.initial.steps l.steps;
+  counted : l.cursor.count ≡ length l.initial.engine.graph.lanes;
+  idle : AreIdle (IsIdleIn l.limit l.engine) l.cursor;
+}
 
-abbrev pub decreases-loop-idle : goal.decreases-loop-idle
-decreases-loop-idle g l = still (stored l.graph l.fifos l.log) l.count l.idle l.hints
+abbrev pub decreases-loop-at : goal.decreases-loop-at
+decreases-loop-at g l = turns_left (left l.engine) l.cursor

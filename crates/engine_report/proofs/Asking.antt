@@ -1,5 +1,5 @@
 -- What a module asks is what its step holds.
-use Rattle.std.proofs.Common.{arith, ◌≡◌, ap, Bool, true, false, List, ◌∷◌, map}
+use Rattle.std.proofs.Common.{arith, ◌≡◌, ap, Bool, true, false}
 use Rattle.flow_word.specs.declared.access.Access.{Access}
 use Rattle.flow_word.specs.declared.access.Kind.{Kind}
 use Rattle.flow_word.specs.declared.access.Kind.TheVariants.{Read, Write, TryRead, TryWrite, Empty, Full}
@@ -34,13 +34,3 @@ same_kind r a e = let asked = kind_asked r in let there = kind_seen a in cc
 
 pub same_channel : (r : Request) (a : Access) → bridge.seen r ≡ seen a → r.channel ≡ a.channel
 same_channel r a e = ap (λ (t : theory.Access). t.channel) e
-
--- ---- lists
-
-pub first_same : (r : Request) (rs : List Request) (a : Access) (xs : List Access) → map bridge.seen (r ∷ rs) ≡ map seen (a ∷ xs)
-    → bridge.seen r ≡ seen a
-first_same r rs a xs e = cc
-
-pub rest_same : (r : Request) (rs : List Request) (a : Access) (xs : List Access) → map bridge.seen (r ∷ rs) ≡ map seen (a ∷ xs)
-    → map bridge.seen rs ≡ map seen xs
-rest_same r rs a xs e = cc

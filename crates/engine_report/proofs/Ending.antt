@@ -1,10 +1,10 @@
 -- How the modules stand is how the theory's core tells it, and so is the verdict.
 use Rattle.std.proofs.Common.{◌≡◌, refl, sym, ap, ◌∙◌, ℕ, zero, suc, ◌+◌, ◌-◌, ◌<◌, ◌≤◌, max, Bool, true, false, ◌||◌, cond, List, [], ◌∷◌}
-use Rattle.std.proofs.Common.{◌++◌, map, length, get_or, drop, None, Some, Option, arith, inl, inr}
+use Rattle.std.proofs.Common.{map, length, get_or, drop, None, Some, Option, arith, inl, inr, add-one}
 use Rattle.std.specs.Prelude.{All, is_some, unwrap_or, nat_lt}
 use Rattle.std.specs.List.{range_with_len, list_any}
 use Rattle.std.proofs.lemmas.Bool.{cases_lt, cases_Bool, le-ltb, or_parts}
-use Rattle.std.proofs.lemmas.List.{get_or-map, length-map, map-append}
+use Rattle.std.proofs.lemmas.List.{get_or-map, length-map}
 use Rattle.std.proofs.lemmas.List.Folds.{list_all-map}
 use Rattle.std.proofs.lemmas.List.Sums.{fold-append}
 use Rattle.std.proofs.lemmas.Option.{slice_get-get_or, slice_get_past}
@@ -16,7 +16,6 @@ use Rattle.flow_design.specs.declared.state.Advance.TheVariants.{Step, Ended, Sp
 use Rattle.flow_design.specs.declared.state.ModuleState.{ModuleState}
 use Rattle.flow_word.specs.declared.access.Step.{Step as StepOf}
 use Rattle.lockstep_defs.specs.Machine as machine
-use Rattle.lockstep_defs.specs.Quiet.{quiet}
 use Rattle.event_graph.specs.Lanes.{Lane, no_lane, lane_at, last_cycle}
 use Rattle.time_engine.specs.Cycles.{open_step, determined}
 use Rattle.event_timing.specs.Machines.{ready}
@@ -34,10 +33,9 @@ use Rattle.engine_view.proofs.Bounds.{candidate_is}
 use Rattle.engine_view.proofs.Knowing.{timed_within}
 use Rattle.engine_report.specs.declared.verdict.Standing.{Standing}
 use Rattle.engine_report.specs.Standings.{end_at, standing_behind, standing_at, last_stop, verdict_by}
-use Rattle.engine_report.specs.Finished.{IsEndMark, IsFinished}
-use Rattle.engine_report.proofs.Standing.{stands_behind, stands_before}
+use Rattle.engine_report.specs.Finished.{IsEndMark, IsFinished, emitted_state, end_gap}
 use Rattle.engine_report.proofs.Same.{map_same}
-use Rattle.flow_word.proofs.Ranges.{range_last}
+use Rattle.engine_report.proofs.Loops.{mapped_more}
 
 -- how a module stands, as the theory's core tells it
 abbrev standing_in : Plan → Core ModuleState → ℕ → Standing
@@ -56,16 +54,12 @@ standings_same x y z w = cc
 
 -- ---- the clock in which it stops
 
-last_from : (cycles : List ℕ) (lane : Lane) → lane.cycles ≡ cycles → (n : ℕ) → n ≡ length cycles
-    → unwrap_or (last_cycle lane) 0 + clocks_of_steps n ≡ from (λ k. get_or cycles k 0) n
-last_from cycles lane e zero l =
-    let none : length lane.cycles ≤ length lane.cycles - 1 = omega (arith, ap length e) in
-    rw (slice_get_past lane.cycles (length lane.cycles - 1) none) refl
-last_from cycles lane e (suc k) l =
-    let z : length lane.cycles - 1 ≡ k = omega (arith, ap length e) in
-    let inside : k < length lane.cycles = omega (arith, ap length e) in
-    let same = ap (λ (xs : List ℕ). get_or xs k 0) e in
-    rw (z, slice_get-get_or lane.cycles k 0 inside) (omega (arith, same))
+last_from : (lane : Lane) (n : ℕ) → n ≡ length lane.cycles
+    → unwrap_or (last_cycle lane) 0 + clocks_of_steps n ≡ from (λ k. get_or lane.cycles k 0) n
+last_from lane zero e = rw (slice_get_past lane.cycles (length lane.cycles - 1) (omega arith)) refl
+last_from lane (suc k) e =
+    let last : length lane.cycles - 1 ≡ k = omega arith in
+    rw (last, slice_get-get_or lane.cycles k 0 (omega arith)) (omega arith)
 
 pub waited_is : (n gap : ℕ) → (0 < n → 1 ≤ gap) → clocks_of_steps n + waited n gap ≡ gap
 waited_is n gap g = grind arith
@@ -78,13 +72,10 @@ apart_at (s ∷ steps) all (suc k) e q l = all k e (omega arith)
 
 -- ---- before its first step without a cycle
 
-lives : (p : Plan) (s : ModuleState) → machine.is_over p.ops s ≡ false → (s.ended ≡ false) × (machine.is_spent p.ops s ≡ false)
-unfolding machine.is_over
-lives p s e = or_parts s.ended (machine.is_spent p.ops s) e
-
 before_step : (p : Plan) (h : Held) (ends : List (Option Advance)) → IsFinished p h ends → (i : ℕ) → i < length h.lanes
     → length (lane_at h.lanes i).cycles < emitted_of h i
     → standing_at h.lanes h.channels ends i ≡ standing_in p (core_of (design p) h) i
+unfolding machine.is_over
 before_step p h ends f i inside less =
     let d = design p in
     let x = core_of d h in
@@ -94,16 +85,14 @@ before_step p h ends f i inside less =
     let there : open_step lane ≡ Some step = slice_get-get_or lane.steps k no_step less in
     let b = f.agreed.marks in
     let state : core_state p x i ≡ x.state i k = sym (b.own_step i k less) in
-    let (l1, l2) = lives p (x.state i k) (b.lives i k less) in
+    let (l1, l2) = or_parts (x.state i k).ended (machine.is_spent p.ops (x.state i k)) (b.lives i k less) in
     let apart = λ (q : 0 < k). apart_at lane.steps (f.sound.sound_lanes i no_lane inside).apart k no_step q less in
     let gap = waited_is k step.gap apart in
     let wait : waited k step.gap ≡ d.quiet i (own d i (core_reply d x i) k) = b.own_wait i k less in
-    let first = last_from lane.cycles lane refl k refl in
+    let first = last_from lane k refl in
     let clock : unwrap_or (last_cycle lane) 0 + step.gap ≡ stop d x i = omega arith in
-    sym (stands_before h.lanes h.channels ends i (unwrap_or (last_cycle lane) 0) step
-    (is_some (determined h.lanes h.channels i)) there refl refl)
-    ∙ standings_same clock (sym (ap (λ (s : ModuleState). s.ended) state ∙ l1)) (sym (ap (machine.is_spent p.ops) state ∙ l2))
-    (ap (λ (o : Option ℕ). is_some o) (candidate_is d (plan_is_design p f.fits) h f.sound i))
+    rw there (standings_same clock (sym (ap (λ (s : ModuleState). s.ended) state ∙ l1)) (sym (ap (machine.is_spent p.ops) state ∙ l2))
+    (ap (λ (o : Option ℕ). is_some o) (candidate_is d (plan_is_design p f.fits) h f.sound i)))
 
 -- ---- at its end
 
@@ -138,45 +127,31 @@ end_there p h ends f i inside more =
     (arith, ap length same, length-map ends (λ (o : Option Advance). is_some o)) in
     mark_there (end_at ends i) (rw (same, get_or-map (λ (o : Option Advance). is_some o) ends i None false few) at over)
 
-spent_not_ended : (p : Plan) (s : ModuleState) → machine.is_spent p.ops s ≡ true → s.ended ≡ false
-spent_not_ended p s e = grind arith
-
-ended_not_spent : (p : Plan) (s : ModuleState) → s.ended ≡ true → machine.is_spent p.ops s ≡ false
-ended_not_spent p s e = rw e refl
-
 none_determined : (p : Plan) (x : Core ModuleState) (i : ℕ) → x.emitted i ≤ x.timed i
     → false ≡ is_some (candidate (design p) (view (design p) x) i)
 unfolding candidate
 none_determined p x i l = rw (le-ltb (x.timed i) (x.emitted i) l) refl
 
--- the clock of an end mark
-mark_clock : (p : Plan) (h : Held) (i gap : ℕ) → emitted_of h i ≡ length (lane_at h.lanes i).cycles
-    → gap ≡ clocks_of_steps (emitted_of h i)
-    + quiet p i (own (design p) i (core_reply (design p) (core_of (design p) h) i) (emitted_of h i))
-    → unwrap_or (last_cycle (lane_at h.lanes i)) 0 + gap ≡ stop (design p) (core_of (design p) h) i
-mark_clock p h i gap all is =
+-- with this end mark
+marked : (p : Plan) (h : Held) (i gap : ℕ) → emitted_of h i ≡ length (lane_at h.lanes i).cycles → gap ≡ end_gap p (core_of (design p) h) i
+    → (ended spent : Bool) → (ready (design p) i (emitted_state p (core_of (design p) h) i)).ended ≡ ended
+    → machine.is_spent p.ops (ready (design p) i (emitted_state p (core_of (design p) h) i)) ≡ spent
+    → standing_with (unwrap_or (last_cycle (lane_at h.lanes i)) 0 + gap) ended spent false ≡ standing_in p (core_of (design p) h) i
+marked p h i gap all is ended spent e s =
+    let x = core_of (design p) h in
     let lane = lane_at h.lanes i in
-    let first = last_from lane.cycles lane refl (length lane.cycles) refl in
+    let first = last_from lane (length lane.cycles) refl in
     let last = rw all at is in
-    omega arith
+    let state : core_state p x i ≡ ready (design p) i (emitted_state p x i) = rw all refl in
+    standings_same (omega arith) (sym (ap (λ (s : ModuleState). s.ended) state ∙ e)) (sym (ap (machine.is_spent p.ops) state ∙ s))
+    (none_determined p x i (omega arith))
 
-at_mark : (p : Plan) (h : Held) (ends : List (Option Advance)) → IsFinished p h ends → (i : ℕ)
-    → emitted_of h i ≡ length (lane_at h.lanes i).cycles
+at_mark : (p : Plan) (h : Held) (i : ℕ) → emitted_of h i ≡ length (lane_at h.lanes i).cycles
     → (mark : Advance) → IsEndMark p (core_of (design p) h) i mark
     → standing_behind (unwrap_or (last_cycle (lane_at h.lanes i)) 0) (Some mark) ≡ standing_in p (core_of (design p) h) i
-at_mark p h ends f i all (Step step) m = absurd m
-at_mark p h ends f i all (Ended gap) (m1, m2) =
-    let x = core_of (design p) h in
-    let last = ready (design p) i (own (design p) i (core_reply (design p) x i) (x.emitted i)) in
-    let state : core_state p x i ≡ last = rw all refl in
-    standings_same (mark_clock p h i gap all m2) (sym (ap (λ (s : ModuleState). s.ended) state ∙ m1))
-    (sym (ap (machine.is_spent p.ops) state ∙ ended_not_spent p last m1)) (none_determined p x i (omega arith))
-at_mark p h ends f i all (Spent gap) (m1, m2) =
-    let x = core_of (design p) h in
-    let last = ready (design p) i (own (design p) i (core_reply (design p) x i) (x.emitted i)) in
-    let state : core_state p x i ≡ last = rw all refl in
-    standings_same (mark_clock p h i gap all m2) (sym (ap (λ (s : ModuleState). s.ended) state ∙ spent_not_ended p last m1))
-    (sym (ap (machine.is_spent p.ops) state ∙ m1)) (none_determined p x i (omega arith))
+at_mark p h i all (Step step) m = absurd m
+at_mark p h i all (Ended gap) (m1, m2) = marked p h i gap all m2 true false m1 (grind arith)
+at_mark p h i all (Spent gap) (m1, m2) = marked p h i gap all m2 false true (grind arith) m1
 
 standing_is : (p : Plan) (h : Held) (ends : List (Option Advance)) → IsFinished p h ends → (i : ℕ) → i < length h.lanes
     → standing_at h.lanes h.channels ends i ≡ standing_in p (core_of (design p) h) i
@@ -188,9 +163,7 @@ standing_is p h ends f i inside =
       | inl less ↦ before_step p h ends f i inside less
       | inr more ↦
           let (mark, there) = end_there p h ends f i inside more in
-          sym (stands_behind h.lanes h.channels ends i (unwrap_or (last_cycle lane) 0) (Some mark) (slice_get_past lane.steps k more) refl
-          (sym there))
-          ∙ at_mark p h ends f i (omega arith) mark (f.marks.each i mark there)
+          rw (slice_get_past lane.steps k more, there) (at_mark p h i (omega arith) mark (f.marks.each i mark there))
     ]
 
 -- ---- the verdict
@@ -202,13 +175,11 @@ any_mapped q g (y ∷ ys) = let later = any_mapped q g ys in grind arith
 last_is : (p : Plan) (x : Core ModuleState) (n : ℕ) → last_stop (map (standing_in p x) (range_with_len 0 n)) ≡ theory.last_stop p x n
 last_is p x zero = refl
 last_is p x (suc n) =
-    let next : suc n ≡ n + 1 = omega arith in
-    let range : range_with_len 0 (suc n) ≡ range_with_len 0 n ++ n ∷ [] = ap (range_with_len 0) next ∙ range_last n in
-    let mapped = map-append (standing_in p x) (range_with_len 0 n) (n ∷ []) in
     let folded = fold-append (λ (clock : ℕ) (s : Standing). max clock s.stop) 0 (map (standing_in p x) (range_with_len 0 n))
     (standing_in p x n ∷ []) in
     let later = last_is p x n in
-    ap (λ (ks : List ℕ). last_stop (map (standing_in p x) ks)) range ∙ (ap last_stop mapped ∙ (folded ∙ omega arith))
+    ap (λ (k : ℕ). last_stop (map (standing_in p x) (range_with_len 0 k))) (sym (add-one n))
+    ∙ (ap last_stop (mapped_more (standing_in p x) n) ∙ (folded ∙ omega arith))
 
 abbrev decide : ℕ → Bool → Bool → Bool → ℕ → Verdict
 decide limit determined ended spent last = cond (determined || nat_lt limit last) (Cycles limit)

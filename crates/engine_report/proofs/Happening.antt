@@ -1,9 +1,8 @@
 -- The events are those of the theory's steps.
-use Rattle.std.proofs.Common.{◌≡◌, refl, subst, ◌∙◌, ℕ, zero, suc, ◌+◌, ◌<◌, List, [], ◌∷◌, map, length, drop, arith}
+use Rattle.std.proofs.Common.{◌≡◌, refl, subst, ◌∙◌, ℕ, ◌<◌, List, [], ◌∷◌, map, length, drop, arith}
 use Rattle.std.specs.Prelude.{All, IsPermutation}
 use Rattle.std.specs.List.{range_with_len, flat_map}
-use Rattle.std.proofs.lemmas.List.FromFn.{length-map-range_with_len, get_or-map-range_with_len}
-use Rattle.std.proofs.lemmas.List.Elements.{All-append, All-head, All-tail}
+use Rattle.std.proofs.lemmas.List.Elements.{All-head, All-tail}
 use Rattle.std.proofs.lemmas.List.Sorted.{All-permutation}
 use Rattle.flow_word.specs.declared.access.Access.{Access}
 use Rattle.flow_word.specs.declared.access.Kind.{Kind}
@@ -24,8 +23,9 @@ use Rattle.timing_bridge.specs.CoreReports.{core_step, steps_at, AreSorted}
 use Rattle.engine_view.specs.Held.{Held, step_of, seen, core_of}
 use Rattle.engine_view.specs.Shown.{IsSound}
 use Rattle.engine_view.proofs.Knowing.{timed_within}
-use Rattle.engine_report.specs.Read.{event_of, events_at, timed_places, AreEvents}
-use Rattle.engine_report.proofs.Asking.{same_kind, same_channel, first_same, rest_same}
+use Rattle.engine_report.specs.Read.{event_of, events_at, places_of, timed_places, AreEvents}
+use Rattle.engine_report.proofs.Loops.{all_mapped, all_given}
+use Rattle.engine_report.proofs.Asking.{same_kind, same_channel}
 
 -- ---- one step
 
@@ -36,8 +36,8 @@ told_events : (s : HistoryStep) (rs : List Request) (xs : List Access) (ys : Lis
     → map (machine.event_of s) (paired rs ys) ≡ map (event_of s.module s.clock) xs
 told_events s [] [] ys e = refl
 told_events s (r ∷ rs) (a ∷ xs) ys e =
-    let one = first_same r rs a xs e in
-    rw (same_kind r a one, same_channel r a one, told_events s rs xs (drop 1 ys) (rest_same r rs a xs e)) refl
+    let one : bridge.seen r ≡ seen a = cc in
+    rw (same_kind r a one, same_channel r a one, told_events s rs xs (drop 1 ys) (cc)) refl
 told_events s rs xs ys e = absurd cc
 
 -- a place of a timed step
@@ -47,7 +47,6 @@ pub record IsTimed (h : Held) (place : ℕ × ℕ) : Type 0 where
 step_events : (p : Plan) (h : Held) → IsSound (design p) h → (place : ℕ × ℕ) → IsTimed h place
     → map (machine.event_of (core_step p (core_of (design p) h) place.0 place.1))
     (core_step p (core_of (design p) h) place.0 place.1).exchanges ≡ events_at h.lanes place
-unfolding events_at
 step_events p h s (i, k) t =
     let x = core_of (design p) h in
     let rs = requests_of p (i, x.state i k) in
@@ -63,26 +62,16 @@ all_events p h s (a ∷ places) all =
 
 -- ---- all steps
 
-places_timed : (h : Held) (i : ℕ) → All (IsTimed h) (map (λ k. (i, k)) (range_with_len 0 (length (lane_at h.lanes i).cycles)))
-places_timed h i = λ j d l.
-    let n = length (lane_at h.lanes i).cycles in
-    let less : j < n = omega (arith, length-map-range_with_len {X = ℕ × ℕ} (λ (k : ℕ). (i, k)) 0 n) in
-    let z : 0 + j ≡ j = omega arith in
-    rw (get_or-map-range_with_len {X = ℕ × ℕ} (λ (k : ℕ). (i, k)) 0 n j j d less z) (record { less = less })
-
-pub all_timed : (h : Held) (a n : ℕ) → All (IsTimed h)
-    (flat_map (λ i. map (λ k. (i, k)) (range_with_len 0 (length (lane_at h.lanes i).cycles))) (range_with_len a n))
-all_timed h a zero = λ k d q. absurd (omega arith)
-all_timed h a (suc n) = All-append (IsTimed h) (map (λ k. (a, k)) (range_with_len 0 (length (lane_at h.lanes a).cycles))) _
-    (places_timed h a) (all_timed h (a + 1) n)
+pub all_timed : (h : Held) (a n : ℕ) → All (IsTimed h) (flat_map (places_of h.lanes) (range_with_len a n))
+all_timed h a n = all_given (IsTimed h) (places_of h.lanes) a n (λ i l.
+    all_mapped (IsTimed h) (λ (k : ℕ). (i, k)) (length (lane_at h.lanes i).cycles) (λ k less. record { less = less }))
 
 pub events_are : (p : Plan) (h : Held) → IsSound (design p) h → (events : List EventLine) → AreEvents h.lanes events
     → (places : List (ℕ × ℕ)) × AreSorted p (core_of (design p) h) places × (events ≡ events_of (steps_at p (core_of (design p) h) places))
 events_are p h s events e = (
   e.places,
   record {
-    all = subst (λ (n : ℕ). IsPermutation (flat_map (λ i. map (λ k. (i, k)) (range_with_len 0 (length (lane_at h.lanes i).cycles)))
-        (range_with_len 0 n)) e.places) s.lanes e.all;
+    all = subst (λ (n : ℕ). IsPermutation (flat_map (places_of h.lanes) (range_with_len 0 n)) e.places) s.lanes e.all;
     sorted = e.sorted;
   },
   e.are ∙ all_events p h s e.places (All-permutation (IsTimed h) (timed_places h.lanes) e.places e.all (all_timed h 0 (length h.lanes))),

@@ -1,11 +1,5 @@
 pub mod Loops
-pub mod Standing
-pub mod Outcomes
 pub mod Sorting
-pub mod Values
-pub mod Holding
-pub mod Placed
-pub mod Telling
 pub mod Asking
 pub mod Same
 pub mod Stuck

@@ -1,10 +1,10 @@
 -- The outcomes of timed steps are the theory's.
-use Rattle.std.proofs.Common.{◌≡◌, refl, sym, ap, ap₂, ◌∙◌, ℕ, zero, suc, ◌+◌, ◌<◌, ◌≤◌, Bool, true, false, cond, ltb, List, [], ◌∷◌, ◌++◌}
-use Rattle.std.proofs.Common.{map, length, take, drop, get_or, Some, arith, inl, inr, append-nil}
+use Rattle.std.proofs.Common.{◌≡◌, refl, sym, ap, ap₂, ◌∙◌, ℕ, zero, suc, ◌<◌, ◌≤◌, Bool, true, false, cond, ltb, List, [], ◌∷◌, ◌++◌}
+use Rattle.std.proofs.Common.{map, length, take, drop, get_or, Some, arith, inl, inr, append-nil, add-one}
 use Rattle.std.specs.List.{range_with_len}
 use Rattle.std.proofs.Math.Seq.{take-add}
 use Rattle.std.proofs.lemmas.Bool.{cases_lt, and_parts}
-use Rattle.std.proofs.lemmas.List.{map-append, take_all, length-drop}
+use Rattle.std.proofs.lemmas.List.{take_all, length-drop}
 use Rattle.std.proofs.lemmas.List.Concat.{flat_map-append}
 use Rattle.std.proofs.lemmas.Option.{slice_get-get_or, slice_get_past}
 use Rattle.flow_word.specs.declared.access.Access.{Access}
@@ -20,7 +20,6 @@ use Rattle.lockstep_defs.specs.OwnRun.{paired}
 use Rattle.lockstep_defs.specs.Report.{outcomes, queries}
 use Rattle.event_graph.specs.Lanes.{lane_at}
 use Rattle.query_log.specs.Logs.{no_log, log_at}
-use Rattle.time_engine.specs.Cycles.{open_step}
 use Rattle.event_timing.specs.Core.{core_values, core_tally, replies_of, pops_now}
 use Rattle.event_timing.specs.Machines as theory
 use Rattle.timing_bridge.specs.Designs.{design, told, told_all}
@@ -32,9 +31,8 @@ use Rattle.engine_view.proofs.Knowing.{timed_within}
 use Rattle.engine_view.proofs.Answered.{among_is, queries_step, queries_zero}
 use Rattle.engine_view.proofs.Emitted.{queries_mono}
 use Rattle.engine_report.specs.Read.{timed_outcomes}
-use Rattle.engine_report.proofs.Asking.{same_kind, first_same, rest_same}
-use Rattle.engine_report.proofs.Outcomes.{all_there, front_of}
-use Rattle.flow_word.proofs.Ranges.{range_last}
+use Rattle.engine_report.proofs.Asking.{same_kind}
+use Rattle.engine_report.proofs.Loops.{mapped_more}
 
 -- a query is told its outcome
 told_outcome : (k : Kind) (o : Bool) (front : ℕ) → is_blocking k ≡ false → is_yes (reply_by k (possible_by k (Some o)) front) ≡ o
@@ -52,13 +50,13 @@ step_outcomes : (V : ℕ → List ℕ) (t : ℕ → ℕ) (rs : List Request) (xs
     → queries_in xs ≤ length outs → AreFirst V t rs xs outs
 step_outcomes V t [] [] e outs l = refl
 step_outcomes V t (r ∷ rs) (a ∷ xs) e [] l =
-    let kind = same_kind r a (first_same r rs a xs e) in
-    let here = step_outcomes V t rs xs (rest_same r rs a xs e) [] in
+    let kind = same_kind r a (cc) in
+    let here = step_outcomes V t rs xs (cc) [] in
     grind arith
 step_outcomes V t (r ∷ rs) (a ∷ xs) e (o ∷ outs) l =
-    let kind = same_kind r a (first_same r rs a xs e) in
-    let here = step_outcomes V t rs xs (rest_same r rs a xs e) (o ∷ outs) in
-    let later = step_outcomes V t rs xs (rest_same r rs a xs e) outs in
+    let kind = same_kind r a (cc) in
+    let here = step_outcomes V t rs xs (cc) (o ∷ outs) in
+    let later = step_outcomes V t rs xs (cc) outs in
     let found = cond (pops_now (seen a) (possible_by a.kind (Some o))) (get_or (V a.channel) (t a.channel) 0) 0 in
     let own = told_outcome a.kind o found in
     grind arith
@@ -102,19 +100,17 @@ front p h s verified i (suc k) l inside =
     let x = core_of (design p) h in
     let outs = (log_at h.logs i).outcomes in
     let step = step_of h i k in
-    let z : suc k ≡ k + 1 = omega arith in
     let less : k < emitted_of h i = let w = timed_within (design p) h s i in omega arith in
     let one = step_of_core p h s i k less (recorded p h s verified i k (omega arith) inside) in
     let first = s.first_query i k less in
-    ap (λ (n : ℕ). outcomes (map (core_step p x i) (range_with_len 0 n))) z
-    ∙ (ap (λ (ks : List ℕ). outcomes (map (core_step p x i) ks)) (range_last k)
-    ∙ (ap outcomes (map-append (core_step p x i) (range_with_len 0 k) (k ∷ []))
+    ap (λ (n : ℕ). outcomes (map (core_step p x i) (range_with_len 0 n))) (sym (add-one k))
+    ∙ (ap outcomes (mapped_more (core_step p x i) k)
     ∙ (flat_map-append (λ (e : HistoryStep). outcomes_in e.exchanges) (map (core_step p x i) (range_with_len 0 k)) (core_step p x i k ∷ [])
     ∙ (ap₂ (λ (a b : List Bool). a ++ b) (front p h s verified i k (omega arith) inside)
     (append-nil (outcomes_in (core_step p x i k).exchanges)
     ∙ (one ∙ ap (λ (n : ℕ). take (queries_in step.accesses) (drop n outs)) first))
     ∙ (sym (take-add (queries_before h i k) (queries_in step.accesses) outs)
-    ∙ sym (ap (λ (n : ℕ). take n outs) (queries_step h i k)))))))
+    ∙ sym (ap (λ (n : ℕ). take n outs) (queries_step h i k))))))
 
 pub outcomes_are : (p : Plan) (h : Held) → IsSound (design p) h
     → ((m k : ℕ) → k < (core_of (design p) h).timed m → (core_of (design p) h).verified m k ≡ true)
@@ -126,12 +122,10 @@ outcomes_are p h s verified i inside =
     let all = front p h s verified i k (omega arith) inside in
     elim (cases_lt k (length lane.steps)) [
       | inl less ↦
-          let there : open_step lane ≡ Some (step_of h i k) = slice_get-get_or lane.steps k no_step less in
-          sym (front_of h.lanes h.logs i (step_of h i k) there) ∙ (ap (λ (n : ℕ). take n outs) (s.first_query i k less) ∙ sym all)
+          rw (slice_get-get_or lane.steps k no_step less) (ap (λ (n : ℕ). take n outs) (s.first_query i k less) ∙ sym all)
       | inr more ↦
           let whole = s.recorded i inside in
           let few = queries_mono h i whole.steps k (let w = whole.within in omega arith) in
           let n = whole.all in
-          sym (all_there h.lanes h.logs i (slice_get_past lane.steps k more))
-          ∙ (sym (take_all (queries_before h i k) outs (omega arith)) ∙ sym all)
+          rw (slice_get_past lane.steps k more) (sym (take_all (queries_before h i k) outs (omega arith)) ∙ sym all)
     ]

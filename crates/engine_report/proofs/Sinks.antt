@@ -1,7 +1,9 @@
 -- What the sinks hold is what the theory's core tells.
-use Rattle.std.proofs.Common.{◌≡◌, refl, sym, ap, ◌∙◌, ℕ, zero, suc, ◌<◌, ◌≤◌, Bool, true, false, List, [], ◌∷◌, ◌++◌, map, length}
-use Rattle.std.proofs.Common.{take, get_or, arith, length-append}
-use Rattle.std.specs.Prelude.{is_some}
+use Rattle.std.proofs.Common.{◌≡◌, refl, sym, ap, ◌∙◌, ℕ, zero, suc, ◌<◌, Bool, true, false, List, [], ◌∷◌, ◌++◌, map, length}
+use Rattle.std.proofs.Common.{take, get_or, arith, length-append, inl, inr}
+use Rattle.std.specs.Prelude.{is_some, nat_lt}
+use Rattle.std.proofs.lemmas.Bool.Decides.{nat_tests}
+use Rattle.std.proofs.lemmas.Bool.{cases_lt, lt-ltb, le-ltb}
 use Rattle.std.specs.List.{take_while}
 use Rattle.std.proofs.Math.Seq.{take-append_seam}
 use Rattle.std.proofs.lemmas.List.{length-map, get_or-map, take-map}
@@ -22,7 +24,7 @@ use Rattle.event_timing.specs.Views.{pushed_in}
 use Rattle.event_timing.specs.Core.{core_accesses, core_tally, core_pushed, bare_replies}
 use Rattle.event_timing.proofs.OwnRuns.{tally_mono}
 use Rattle.event_timing.proofs.Values.{length_pushed_in, pushed_in_mono}
-use Rattle.timing_bridge.specs.Designs.{design, is_source}
+use Rattle.timing_bridge.specs.Designs.{design}
 use Rattle.timing_bridge.specs.CoreReports.{pusher, sink_values}
 use Rattle.engine_view.specs.Held.{Held, emitted_of, core_of}
 use Rattle.engine_view.specs.Shown.{IsSound, IsKind, AreTaken, IsTakenAt}
@@ -32,49 +34,37 @@ use Rattle.engine_report.proofs.Same.{kept_same}
 
 -- ---- fronts
 
-front_is : {X : Type 0} (p : X → Bool) (xs : List X) (n : ℕ) → n ≤ length xs → ((i : ℕ) (d : X) → i < n → p (get_or xs i d) ≡ true)
-    → ((i : ℕ) (d : X) → n ≤ i → i < length xs → p (get_or xs i d) ≡ false) → take_while p xs ≡ take n xs
-front_is p [] n l front rest = grind arith
-front_is p (x ∷ xs) zero l front rest = rw (take_while-cons p x xs, rest 0 x (omega arith) (omega arith)) refl
-front_is {X} p (x ∷ xs) (suc n) l front rest =
-    let later = front_is p xs n (omega arith) (λ i d q. front (suc i) d (omega arith))
-    (λ i d q r. rest (suc i) d (omega arith) (omega arith)) in
-    rw (take_while-cons p x xs, front 0 x (omega arith), later) refl
+front_is : {X : Type 0} (p : X → Bool) (xs : List X) (n : ℕ) → ((i : ℕ) (d : X) → i < length xs → p (get_or xs i d) ≡ nat_lt i n)
+    → take_while p xs ≡ take n xs
+front_is p [] zero tells = refl
+front_is p [] (suc n) tells = refl
+front_is p (x ∷ xs) zero tells = rw (take_while-cons p x xs, tells 0 x (omega arith)) refl
+front_is {X} p (x ∷ xs) (suc n) tells =
+    let less : (i : ℕ) → nat_lt (suc i) (suc n) ≡ nat_lt i n = λ i. grind (arith, nat_tests) in
+    let first : nat_lt 0 (suc n) ≡ true = grind (arith, nat_tests) in
+    rw (take_while-cons p x xs, tells 0 x (omega arith), first, front_is p xs n (λ i d l. tells (suc i) d (omega arith) ∙ less i)) refl
 
 -- ---- the pushes of a channel
 
 -- a push has a cycle where it is among the first so many
 push_timed : (p : Plan) (h : Held) (f : ℕ) (pushes : List Pushed)
     → AreTaken (design p) (core_of (design p) h) Push f (map (λ (e : Pushed). e.at) pushes) → (i : ℕ) (d : Pushed) → i < length pushes
-    → i < core_tally (design p) (core_of (design p) h) (pusher p f) Push f (length (lane_at h.lanes (pusher p f)).cycles)
-    → is_some (cycle_of h.lanes (get_or pushes i d).at) ≡ true
-push_timed p h f pushes taken i d l front =
+    → is_some (cycle_of h.lanes (get_or pushes i d).at)
+    ≡ nat_lt i (core_tally (design p) (core_of (design p) h) (pusher p f) Push f (length (lane_at h.lanes (pusher p f)).cycles))
+push_timed p h f pushes taken i d l =
     let x = core_of (design p) h in
     let m = pusher p f in
     let n = length (lane_at h.lanes m).cycles in
     let at = (get_or pushes i d).at in
     let t : IsTakenAt (design p) x Push f i at = rw (get_or-map (λ (e : Pushed). e.at) pushes i d d.at l) at
     (taken.each i d.at (omega (arith, length-map pushes (λ (e : Pushed). e.at)))) in
-    let from = t.from in
-    let mono = tally_mono (core_accesses (design p) x m) (λ j. bare_replies (x.flags m j)) Push f n at.step in
-    let less : at.step < n = grind arith in
-    rw (t.owner, slice_get-get_or (lane_at h.lanes m).cycles at.step 0 less) refl
-
-push_late : (p : Plan) (h : Held) (f : ℕ) (pushes : List Pushed)
-    → AreTaken (design p) (core_of (design p) h) Push f (map (λ (e : Pushed). e.at) pushes) → (i : ℕ) (d : Pushed) → i < length pushes
-    → core_tally (design p) (core_of (design p) h) (pusher p f) Push f (length (lane_at h.lanes (pusher p f)).cycles) ≤ i
-    → is_some (cycle_of h.lanes (get_or pushes i d).at) ≡ false
-push_late p h f pushes taken i d l late =
-    let x = core_of (design p) h in
-    let m = pusher p f in
-    let n = length (lane_at h.lanes m).cycles in
-    let at = (get_or pushes i d).at in
-    let t : IsTakenAt (design p) x Push f i at = rw (get_or-map (λ (e : Pushed). e.at) pushes i d d.at l) at
-    (taken.each i d.at (omega (arith, length-map pushes (λ (e : Pushed). e.at)))) in
-    let to = t.to in
-    let mono = tally_mono (core_accesses (design p) x m) (λ j. bare_replies (x.flags m j)) Push f (suc at.step) n in
-    let more : n ≤ at.step = grind arith in
-    rw (t.owner, slice_get_past (lane_at h.lanes m).cycles at.step more) refl
+    let mono = tally_mono (core_accesses (design p) x m) (λ j. bare_replies (x.flags m j)) Push f in
+    elim (cases_lt at.step n) [
+      | inl less ↦ rw (t.owner, slice_get-get_or (lane_at h.lanes m).cycles at.step 0 less)
+          (sym (lt-ltb _ _ (let after = mono (suc at.step) n less in let to = t.to in omega arith)))
+      | inr more ↦ rw (t.owner, slice_get_past (lane_at h.lanes m).cycles at.step more)
+          (sym (le-ltb _ _ (let before = mono n at.step more in let from = t.from in omega arith)))
+    ]
 
 -- ---- a sink
 
@@ -87,7 +77,6 @@ sink_by : (p : Plan) (h : Held) → IsSound (design p) h → (f : ℕ) (pushes :
     → map (λ (e : Pushed). e.value) pushes ≡ (design p).inputs f ++ core_pushed (design p) (core_of (design p) h) (pusher p f) f
     (emitted_of h (pusher p f))
     → timed_values h.lanes pushes ≡ sink_values p (core_of (design p) h) f
-unfolding timed_values
 sink_by p h s f pushes taken values =
     let d = design p in
     let x = core_of d h in
@@ -103,25 +92,17 @@ sink_by p h s f pushes taken values =
     let l5 = length-map pushes (λ (e : Pushed). e.value) in
     let none : d.inputs f ≡ [] = nothing (d.inputs f) (omega (arith, ap length values)) in
     let (more, begins) = pushed_in_mono f a r n (emitted_of h m) (timed_within d h s m) in
-    let mono = tally_mono a r Push f n (emitted_of h m) (timed_within d h s m) in
     let t = core_tally d x m Push f n in
-    let front = front_is (λ (e : Pushed). is_some (cycle_of h.lanes e.at)) pushes t (omega arith)
-    (λ i e q. push_timed p h f pushes taken i e (omega arith) q) (λ i e q w. push_late p h f pushes taken i e w q) in
-    let all : map (λ (e : Pushed). e.value) pushes ≡ pushed_in f a r n ++ more = values
-    ∙ (ap (λ (xs : List ℕ). xs ++ pushed_in f a r (emitted_of h m)) none ∙ begins) in
-    ap (map (λ (e : Pushed). e.value)) front
-    ∙ (sym (take-map (λ (e : Pushed). e.value) t pushes)
-    ∙ (ap (take t) all
-    ∙ (ap (λ (k : ℕ). take k (pushed_in f a r n ++ more)) (sym l2)
-    ∙ (take-append_seam (pushed_in f a r n) more
-    ∙ ap (λ (xs : List ℕ). xs ++ pushed_in f a r n) (sym none)))))
+    let front = front_is (λ (e : Pushed). is_some (cycle_of h.lanes e.at)) pushes t (push_timed p h f pushes taken) in
+    let all : map (λ (e : Pushed). e.value) pushes ≡ pushed_in f a r n ++ more = rw (none, begins) at values in
+    rw (front, ← take-map (λ (e : Pushed). e.value) t pushes, all, none, ← l2) (take-append_seam (pushed_in f a r n) more)
 
-sink_kind : (k : ChannelKind) → is_sink k ≡ true → (is_fifo k ≡ false) × (is_source k ≡ false)
-sink_kind k e = (grind arith, grind arith)
+sink_kind : (k : ChannelKind) → is_sink k ≡ true → is_fifo k ≡ false
+sink_kind k e = grind arith
 
 sink_pushes : (p : Plan) (f : ℕ) → is_sink (kind_at p f) ≡ true → (k : TableChannel) → IsKind (design p) f k → (pushes : List Pushed)
     → values_of k pushes ≡ map (λ (e : Pushed). e.value) pushes
-sink_pushes p f e (Source inputs) (k1, k2) pushes = let sink = (sink_kind (kind_at p f) e).1 in grind arith
+sink_pushes p f e (Source inputs) (k1, k2) pushes = let sink = sink_kind (kind_at p f) e in grind arith
 sink_pushes p f e kind k pushes = refl
 
 sink_is : (p : Plan) (h : Held) → IsSound (design p) h → (f : ℕ) → f < length h.channels → is_sink (kind_at p f) ≡ true

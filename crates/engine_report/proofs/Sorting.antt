@@ -1,5 +1,5 @@
 -- The steps with a cycle are sorted by their keys.
-use Rattle.std.proofs.Common.{◌≡◌, refl, sym, ap, subst, ◌∙◌, ℕ, zero, suc, ◌+◌, ◌<◌, ◌≤◌, true, false, List, map, length, get_or, arith}
+use Rattle.std.proofs.Common.{◌≡◌, refl, sym, ap, subst, ◌∙◌, ℕ, zero, suc, ◌+◌, ◌<◌, false, List, map, length, get_or, arith}
 use Rattle.std.proofs.lemmas.Bool.Decides.{nat_tests}
 use Rattle.std.specs.Prelude.{All, IsPermutation}
 use Rattle.std.specs.List.Sorted.{IsSorted}
@@ -10,12 +10,11 @@ use Rattle.std.specs.declared.cmp.Ordering.{Ordering}
 use Rattle.std.specs.declared.cmp.Ordering.TheVariants.{Less, Equal}
 use Rattle.std.proofs.lemmas.List.{length-map, get_or-map, map-append}
 use Rattle.std.proofs.lemmas.Simd.{map-map}
-use Rattle.std.proofs.lemmas.List.FromFn.{length-map-range_with_len, get_or-map-range_with_len}
-use Rattle.std.proofs.lemmas.List.Elements.{All-append}
 use Rattle.std.proofs.lemmas.List.Sorted.{IsPermutation-map, All-permutation}
 use Rattle.event_graph.specs.Lanes.{Lane, lane_at, no_lane, IsSoundLane}
 use Rattle.engine_report.specs.declared.events.TimedStep.{TimedStep}
-use Rattle.engine_report.specs.Read.{is_before}
+use Rattle.engine_report.specs.Read.{is_before, owners, places_of}
+use Rattle.engine_report.proofs.Loops.{all_mapped, all_given}
 use Rattle.engine_report.specs.Keys.{key_of, keys_of, place_of, HasKey, AreSortedKeys}
 
 -- by cycle, then by module, then by number
@@ -24,27 +23,16 @@ key_cmp a b = ordering_then (nat_cmp a.cycle b.cycle) (ordering_then (nat_cmp a.
 
 -- ---- each has its key
 
-has_keys : (lanes : List Lane) → All IsSoundLane lanes → (i : ℕ) → i < length lanes → All (HasKey lanes) (keys_of lanes i)
-has_keys lanes sound i inside = λ k d l.
-    let n = length (lane_at lanes i).cycles in
-    let less : k < n = omega (arith, length-map-range_with_len (key_of lanes i) 0 n) in
-    let z : 0 + k ≡ k = omega arith in
-    let is = get_or-map-range_with_len (key_of lanes i) 0 n k k d less z in
-    let prefix = (sound i no_lane inside).prefix in
-    rw is (record { there = record { owner = inside; step = omega arith }; cycle = refl })
-
-all_keys : (lanes : List Lane) → All IsSoundLane lanes → (a n : ℕ) → a + n ≤ length lanes
-    → All (HasKey lanes) (flat_map (keys_of lanes) (range_with_len a n))
-all_keys lanes sound a zero l = λ k d q. absurd (omega arith)
-all_keys lanes sound a (suc n) l =
-    All-append (HasKey lanes) (keys_of lanes a) (flat_map (keys_of lanes) (range_with_len (a + 1) n)) (has_keys lanes sound a (omega arith))
-    (all_keys lanes sound (a + 1) n (omega arith))
+all_keys : (lanes : List Lane) → All IsSoundLane lanes → All (HasKey lanes) (flat_map (keys_of lanes) (owners lanes))
+all_keys lanes sound = all_given (HasKey lanes) (keys_of lanes) 0 (length lanes) (λ i inside.
+    all_mapped (HasKey lanes) (key_of lanes i) (length (lane_at lanes i).cycles) (λ k less.
+    let prefix = (sound i no_lane (omega arith)).prefix in
+    record { there = record { owner = omega arith; step = omega arith }; cycle = refl }))
 
 -- ---- they are the places
 
 places_in : (lanes : List Lane) (a n : ℕ)
-    → map place_of (flat_map (keys_of lanes) (range_with_len a n)) ≡ flat_map
-    (λ i. map (λ k. (i, k)) (range_with_len 0 (length (lane_at lanes i).cycles))) (range_with_len a n)
+    → map place_of (flat_map (keys_of lanes) (range_with_len a n)) ≡ flat_map (places_of lanes) (range_with_len a n)
 places_in lanes a zero = refl
 places_in lanes a (suc n) =
     rw (
@@ -61,9 +49,9 @@ less_is x y l = sym (nat_cmp_is x y Less l)
 equal_is : (x y : ℕ) → x ≡ y → nat_cmp x y ≡ Equal
 equal_is x y e = sym (nat_cmp_is x y Equal e)
 
-before_less : (lanes : List Lane) (a b : TimedStep) → HasKey lanes a → HasKey lanes b → is_before lanes (place_of a) (place_of b) ≡ true
-    → is_lt (key_cmp a b) ≡ true
-before_less lanes a b ka kb e =
+not_before : (lanes : List Lane) (a b : TimedStep) → HasKey lanes a → HasKey lanes b → is_lt (key_cmp a b) ≡ false
+    → is_before lanes (place_of a) (place_of b) ≡ false
+not_before lanes a b ka kb e =
     let at_a = ka.cycle in
     let at_b = kb.cycle in
     let earlier = less_is a.cycle b.cycle in
@@ -71,16 +59,12 @@ before_less lanes a b ka kb e =
     let first = less_is a.module b.module in
     grind (arith, nat_tests)
 
-not_before : (lanes : List Lane) (a b : TimedStep) → HasKey lanes a → HasKey lanes b → is_lt (key_cmp a b) ≡ false
-    → is_before lanes (place_of a) (place_of b) ≡ false
-not_before lanes a b ka kb e = let before = before_less lanes a b ka kb in grind arith
-
 pub sorted_keys : (lanes : List Lane) (old new : List TimedStep) → All IsSoundLane lanes
     → old ≡ flat_map (keys_of lanes) (range_with_len 0 (length lanes)) → IsPermutation old new → IsSorted key_cmp new
     → AreSortedKeys lanes new
 sorted_keys lanes old new sound is moved sorted =
     let each = All-permutation (HasKey lanes) old new moved
-    (subst (All (HasKey lanes)) (sym is) (all_keys lanes sound 0 (length lanes) (omega arith))) in
+    (subst (All (HasKey lanes)) (sym is) (all_keys lanes sound)) in
     let count = length-map new place_of in
     record {
       each = each;

@@ -1,10 +1,10 @@
 -- The held modules are the theory's.
-use Rattle.std.proofs.Common.{arith, ◌≡◌, refl, sym, ap, ◌∙◌, ℕ, not, List, [], ◌∷◌, map, length, None, Some, inl, inr}
-use Rattle.std.specs.Prelude.{All, option_map, is_none, nat_lt}
-use Rattle.std.specs.List.{find, filter_map, range_with_len}
-use Rattle.std.proofs.lemmas.Bool.{cases_lt, lt-ltb, le-ltb, cond-true, cond-false}
+use Rattle.std.proofs.Common.{arith, ◌≡◌, refl, sym, ap, ◌∙◌, ℕ, not, List, [], ◌∷◌, map, length, None, inl, inr}
+use Rattle.std.specs.Prelude.{option_map, is_none, nat_lt}
+use Rattle.std.specs.List.{find, filter_map, range_with_len, AllByRecursion}
+use Rattle.std.proofs.lemmas.Bool.{cases_lt, lt-ltb, le-ltb, cond-true}
 use Rattle.std.proofs.lemmas.Option.{slice_get-get_or, slice_get_past}
-use Rattle.std.proofs.lemmas.List.Elements.{All-head, All-tail}
+use Rattle.std.proofs.lemmas.List.Elements.{recursion_from_All}
 use Rattle.flow_word.specs.declared.access.Access.{Access}
 use Rattle.flow_design.specs.declared.plan.Plan.{Plan}
 use Rattle.flow_design.specs.declared.report.Verdict.{Verdict}
@@ -15,7 +15,7 @@ use Rattle.lockstep_defs.specs.Verdict as machine
 use Rattle.event_graph.specs.Lanes.{lane_at}
 use Rattle.time_engine.specs.declared.known.Known as of_code
 use Rattle.time_engine.specs.Possible.{when_possible}
-use Rattle.time_engine.specs.Cycles.{open_step, is_waiting, known_clock}
+use Rattle.time_engine.specs.Cycles.{is_waiting, known_clock}
 use Rattle.event_timing.specs.Machines.{IsDesign}
 use Rattle.event_timing.specs.Core.{view}
 use Rattle.event_timing.specs.Enablers.{known_of}
@@ -28,8 +28,7 @@ use Rattle.engine_view.specs.Known.{as_known}
 use Rattle.engine_view.specs.Shown.{IsSound}
 use Rattle.engine_view.proofs.Knowing.{access_known}
 use Rattle.engine_report.specs.Read.{held_at, held_by, all_held}
-use Rattle.engine_report.proofs.Asking.{same_kind, same_channel, first_same, rest_same}
-use Rattle.engine_report.proofs.Holding.{none_held, some_held}
+use Rattle.engine_report.proofs.Asking.{same_kind, same_channel}
 use Rattle.engine_report.proofs.Same.{found_same}
 
 no_clock : (k : of_code.Known) → is_none (known_clock k) ≡ not (is_from (as_known k))
@@ -48,17 +47,15 @@ held_same : (i : ℕ) (r : Request) (a : Access) → bridge.seen r ≡ seen a �
 held_same i r a e = rw (same_kind r a e, same_channel r a e) refl
 
 first_held : (p : Plan) (h : view.Held) (i : ℕ) (rs : List Request) (xs : List Access) → map bridge.seen rs ≡ map seen xs
-    → All (λ (a : Access). as_known (when_possible h.lanes h.channels a) ≡ known_of (design p) (view (design p) (core_of (design p) h)) i
-    (seen a)) xs
+    → AllByRecursion (λ (a : Access). as_known (when_possible h.lanes h.channels a)
+    ≡ known_of (design p) (view (design p) (core_of (design p) h)) i (seen a)) xs
     → option_map (held_at i) (find (is_waiting h.lanes h.channels) xs) ≡ option_map (machine.held_at i)
     (find (is_stuck p (core_of (design p) h) i) rs)
 first_held p h i [] [] e all = refl
 first_held p h i (r ∷ rs) (a ∷ xs) e all =
-    let P = λ (a : Access). as_known (when_possible h.lanes h.channels a) ≡ known_of (design p) (view (design p) (core_of (design p) h)) i
-    (seen a) in
-    let one = first_same r rs a xs e in
-    let waits = waits_same p h i r a one (All-head P a xs all) in
-    let rest = first_held p h i rs xs (rest_same r rs a xs e) (All-tail P a xs all) in
+    let one : bridge.seen r ≡ seen a = cc in
+    let waits = waits_same p h i r a one all.0 in
+    let rest = first_held p h i rs xs (cc) all.1 in
     let same = held_same i r a one in
     grind arith
 first_held p h i rs xs e all = absurd cc
@@ -70,15 +67,11 @@ module_held p y h s i =
     let lane = lane_at h.lanes i in
     let k = length lane.cycles in
     elim (cases_lt k (length lane.steps)) [
-      | inl less ↦
-          let there : open_step lane ≡ Some (step_of h i k) = slice_get-get_or lane.steps k no_step less in
-          sym (some_held h.lanes h.channels i (step_of h i k) _ there refl)
-          ∙ (first_held p h i (requests_of p (i, x.state i k)) (step_of h i k).accesses (s.accesses i k less)
-          (access_known (design p) y h s i less)
+      | inl less ↦ rw (slice_get-get_or lane.steps k no_step less)
+          (first_held p h i (requests_of p (i, x.state i k)) (step_of h i k).accesses (s.accesses i k less)
+          (recursion_from_All _ (step_of h i k).accesses (access_known (design p) y h s i less))
           ∙ sym (cond-true (nat_lt k (emitted_of h i)) _ None (lt-ltb k (emitted_of h i) less)))
-      | inr more ↦
-          sym (none_held h.lanes h.channels i (slice_get_past lane.steps k more))
-          ∙ sym (cond-false (nat_lt k (emitted_of h i)) _ None (le-ltb k (emitted_of h i) more))
+      | inr more ↦ rw (slice_get_past lane.steps k more, le-ltb k (emitted_of h i) more) refl
     ]
 
 pub all_held_is : (p : Plan) → IsDesign (design p) → (h : view.Held) → IsSound (design p) h → (v : Verdict)

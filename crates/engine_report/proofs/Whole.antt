@@ -47,35 +47,23 @@ read_is p h ends f r b steps e =
     let answers = b.answers ∙ answers_are p h ends f in
     λ i. record { verdict = verdict i; outputs = outputs i; held = held i; events = e i; answers = answers i }
 
--- the plan's report, from any steps in order
-abbrev pub IsReported : Plan → Held → Type 0
-IsReported p h = (steps : List HistoryStep) → AreInOrder p (core_of (design p) h) steps
-    → report p ≡ core_report p (core_of (design p) h) steps (core_verdict p (core_of (design p) h))
-
-pub with_events : (p : Plan) (h : Held) (ends : List (Option Advance)) → IsFinished p h ends → IsReported p h
-    → ((places : List (ℕ × ℕ)) → AreSorted p (core_of (design p) h) places
-    → AreInOrder p (core_of (design p) h) (steps_at p (core_of (design p) h) places))
-    → (r : Report) → IsRead p h ends r → AreEvents h.lanes r.events → r ≡ report p
-with_events p h ends f law sorting r b events =
-    let x = core_of (design p) h in
-    let (places, sorted, are) = events_are p h f.sound r.events events in
-    read_is p h ends f r b (steps_at p x places) are ∙ sym (law (steps_at p x places) (sorting places sorted))
-
-pub without_events : (p : Plan) (h : Held) (ends : List (Option Advance)) → IsFinished p h ends → IsReported p h
-    → (steps : List HistoryStep) → AreInOrder p (core_of (design p) h) steps
-    → (r : Report) → IsRead p h ends r → r.events ≡ [] → r ≡ record (report p) { events = [] }
-without_events p h ends f law steps order r b none =
-    let same = read_is p h ends f (record r { events = events_of steps })
-    (record { verdict = b.verdict; outputs = b.outputs; held = b.held; answers = b.answers }) steps refl
-    ∙ sym (law steps order) in
-    let kept : r ≡ record r { events = [] } = λ i. record r { events = none i } in
-    kept ∙ ap (λ (s : Report). record s { events = [] }) same
-
-pub report_is : (p : Plan) (h : Held) (ends : List (Option Advance)) → IsFinished p h ends → IsReported p h
+-- the plan's report is that of the core from any steps in order, so it is what was read off, with its events or with none
+pub report_is : (p : Plan) (h : Held) (ends : List (Option Advance)) → IsFinished p h ends
+    → ((steps : List HistoryStep) → AreInOrder p (core_of (design p) h) steps
+    → report p ≡ core_report p (core_of (design p) h) steps (core_verdict p (core_of (design p) h)))
     → ((places : List (ℕ × ℕ)) → AreSorted p (core_of (design p) h) places
     → AreInOrder p (core_of (design p) h) (steps_at p (core_of (design p) h) places))
     → AreInOrder p (core_of (design p) h) (history p p.cycles)
     → (r : Report) → IsRead p h ends r → (asked : Bool) → (asked ≡ true → AreEvents h.lanes r.events) → (asked ≡ false → r.events ≡ [])
     → r ≡ report_with asked p
-report_is p h ends f law sorting order r b true events none = with_events p h ends f law sorting r b (events refl)
-report_is p h ends f law sorting order r b false events none = without_events p h ends f law (history p p.cycles) order r b (none refl)
+report_is p h ends f law sorting order r b true events none =
+    let x = core_of (design p) h in
+    let (places, sorted, are) = events_are p h f.sound r.events (events refl) in
+    read_is p h ends f r b (steps_at p x places) are ∙ sym (law (steps_at p x places) (sorting places sorted))
+report_is p h ends f law sorting order r b false events none =
+    let steps = history p p.cycles in
+    let same = read_is p h ends f (record r { events = events_of steps })
+    (record { verdict = b.verdict; outputs = b.outputs; held = b.held; answers = b.answers }) steps refl
+    ∙ sym (law steps order) in
+    let kept : r ≡ record r { events = [] } = λ i. record r { events = none refl i } in
+    kept ∙ ap (λ (s : Report). record s { events = [] }) same

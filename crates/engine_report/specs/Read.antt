@@ -26,7 +26,7 @@ owners lanes = range_with_len 0 (length lanes)
 -- ---- outputs
 
 -- the values of the first pushes, as far as their steps have a cycle
-unfoldable pub timed_values : List Lane → List Pushed → List ℕ
+abbrev pub timed_values : List Lane → List Pushed → List ℕ
 timed_values lanes pushes = map (λ e. e.value) (take_while (λ e. is_some (cycle_of lanes e.at)) pushes)
 
 abbrev pub outputs_of : Plan → List Lane → List Channel → List (List ℕ)
@@ -39,7 +39,7 @@ abbrev pub held_at : ℕ → Access → Held
 held_at i access = record { «module» = i; full = same_side Push (side_of access.kind); channel = access.channel }
 
 -- a module is held by the first access of its first step without a cycle that blocks it, and of which no clock is known
-unfoldable pub held_by : List Lane → List Channel → ℕ → Option Held
+abbrev pub held_by : List Lane → List Channel → ℕ → Option Held
 held_by lanes channels i =
     option_and_then (λ step. option_map (held_at i) (find (is_waiting lanes channels) step.accesses)) (open_step (lane_at lanes i))
 
@@ -58,14 +58,18 @@ outcomes_before outcomes None = outcomes
 outcomes_before outcomes (Some step) = take step.first_query outcomes
 
 -- the outcomes of a module's queries in steps with a cycle
-unfoldable pub timed_outcomes : List Lane → List Log → ℕ → List Bool
+abbrev pub timed_outcomes : List Lane → List Log → ℕ → List Bool
 timed_outcomes lanes logs i = outcomes_before (log_at logs i).outcomes (open_step (lane_at lanes i))
 
 -- ---- events
 
--- the steps with a cycle, each by its module and its number, module by module
+-- a module's steps with a cycle, each by its module and its number
+abbrev pub places_of : List Lane → ℕ → List (ℕ × ℕ)
+places_of lanes i = map (λ k. (i, k)) (range_with_len 0 (length (lane_at lanes i).cycles))
+
+-- and those of all, module by module
 abbrev pub timed_places : List Lane → List (ℕ × ℕ)
-timed_places lanes = flat_map (λ i. map (λ k. (i, k)) (range_with_len 0 (length (lane_at lanes i).cycles))) (owners lanes)
+timed_places lanes = flat_map (places_of lanes) (owners lanes)
 
 abbrev pub cycle_at : List Lane → ℕ × ℕ → ℕ
 cycle_at lanes place = slice_index_or (lane_at lanes place.0).cycles place.1 0
@@ -81,7 +85,7 @@ abbrev pub step_at : List Lane → ℕ × ℕ → Step
 step_at lanes place = slice_index_or (lane_at lanes place.0).steps place.1 no_step
 
 -- the events of a step
-unfoldable pub events_at : List Lane → ℕ × ℕ → List EventLine
+abbrev pub events_at : List Lane → ℕ × ℕ → List EventLine
 events_at lanes place = map (event_of place.0 (cycle_at lanes place)) (step_at lanes place).accesses
 
 -- these are the events of all steps with a cycle, in order

@@ -53,7 +53,7 @@ standing_by lanes channels end i (Some step) = record {
   determined = is_some (determined lanes channels i);
 }
 
-unfoldable pub standing_at : List Lane → List Channel → List (Option Advance) → ℕ → Standing
+abbrev pub standing_at : List Lane → List Channel → List (Option Advance) → ℕ → Standing
 standing_at lanes channels ends i = standing_by lanes channels (end_at ends i) i (open_step (lane_at lanes i))
 
 -- ---- the verdict

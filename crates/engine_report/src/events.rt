@@ -50,6 +50,7 @@ fn count_accesses(graph: &Graph, keys: &[TimedStep]) -> u64
 /// All steps with a cycle, in order.
 ///
 /// It takes memory for the answer. An error leaves nothing.
+#[tactic(auto, using(crate::proofs::Loops::given_more))]
 pub fn sorted_steps(alloc: Global, graph: &Graph) -> Result<Vec<TimedStep>, OutOfMemory>
     ensures { IfOk result (λ keys. AreSortedKeys graph.now.lanes keys.items) }
 {
@@ -62,6 +63,7 @@ pub fn sorted_steps(alloc: Global, graph: &Graph) -> Result<Vec<TimedStep>, OutO
 }
 
 /// Adds a module's steps with a cycle.
+#[tactic(auto, using(crate::proofs::Loops::added_more))]
 fn add_steps(graph: &Graph, owner: u32, keys: &mut Vec<TimedStep>) -> Result<(), OutOfMemory>
     requires { owner < length graph.now.lanes }
     ensures { OnOk result (keys.new.items ≡ keys.old.items ++ keys_of graph.now.lanes owner) }

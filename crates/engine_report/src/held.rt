@@ -4,8 +4,8 @@ ghost use Rattle.time_engine.specs.Conditions.{IsAccess, HasAccesses, HasPlaces}
 ghost use Rattle.time_engine.specs.Cycles.{is_waiting};
 ghost use Rattle.engine_report.specs.Read.{owners, held_at, held_by, all_held};
 
-use event_graph::{Access, Graph, Place};
-use fifo_table::FifoTable;
+use engine_view::Engine;
+use event_graph::{Access, Place};
 use flow_design::{Held, Verdict};
 use flow_word::{List, OutOfMemory, Side};
 use std::alloc::Global;
@@ -14,32 +14,32 @@ use time_engine::{Known, known_of};
 /// The modules that are held at a verdict, in order: none where all are ended or the cycle limit was reached.
 pub fn held_with(
     alloc: Global,
-    graph: &Graph,
-    fifos: &FifoTable,
+    engine: &Engine,
     verdict: Verdict,
 ) -> Result<List<Held>, OutOfMemory>
-    requires accesses { HasAccesses graph.now.lanes fifos.now.channels }
-    requires places { HasPlaces graph.now.lanes fifos.now.channels }
-    ensures { IfOk result (λ held. held ≡ all_held graph.now.lanes fifos.now.channels verdict) }
+    requires accesses { HasAccesses engine.now.graph.lanes engine.now.fifos.channels }
+    requires places { HasPlaces engine.now.graph.lanes engine.now.fifos.channels }
+    ensures { IfOk result (λ held. held ≡ all_held engine.now.graph.lanes engine.now.fifos.channels verdict) }
 {
     match verdict {
         Verdict::Done(_) | Verdict::Cycles(_) => Ok(List::new(alloc)),
         Verdict::Deadlock(_) | Verdict::Ops(_) => {
-            let held = hold_all(alloc, graph, fifos)?;
+            let held = hold_all(alloc, engine)?;
             Ok(held)
         }
     }
 }
 
 /// The modules that wait, each with the access for which it waits.
-fn hold_all(alloc: Global, graph: &Graph, fifos: &FifoTable) -> Result<List<Held>, OutOfMemory>
-    requires accesses { HasAccesses graph.now.lanes fifos.now.channels }
-    requires places { HasPlaces graph.now.lanes fifos.now.channels }
-    ensures { IfOk result (λ held. held ≡ filter_map (held_by graph.now.lanes fifos.now.channels) (owners graph.now.lanes)) }
+fn hold_all(alloc: Global, engine: &Engine) -> Result<List<Held>, OutOfMemory>
+    requires accesses { HasAccesses engine.now.graph.lanes engine.now.fifos.channels }
+    requires places { HasPlaces engine.now.graph.lanes engine.now.fifos.channels }
+    ensures { IfOk result (λ held. held
+        ≡ filter_map (held_by engine.now.graph.lanes engine.now.fifos.channels) (owners engine.now.graph.lanes)) }
 {
-    let mut all = List::with_room(alloc, graph.modules() as u64)?;
-    for owner in 0..graph.modules() {
-        if let Some(held) = held_by(graph, fifos, owner) {
+    let mut all = List::with_room(alloc, engine.graph.modules() as u64)?;
+    for owner in 0..engine.graph.modules() {
+        if let Some(held) = held_by(engine, owner) {
             all.push(held)?;
         }
     }
@@ -47,31 +47,31 @@ fn hold_all(alloc: Global, graph: &Graph, fifos: &FifoTable) -> Result<List<Held
 }
 
 /// How a module is held, if it waits.
-fn held_by(graph: &Graph, fifos: &FifoTable, owner: u32) -> Option<Held>
-    requires owner { owner < length graph.now.lanes }
-    requires accesses { HasAccesses graph.now.lanes fifos.now.channels }
-    requires places { HasPlaces graph.now.lanes fifos.now.channels }
-    ensures { result ≡ held_by graph.now.lanes fifos.now.channels owner }
+fn held_by(engine: &Engine, owner: u32) -> Option<Held>
+    requires owner { owner < length engine.now.graph.lanes }
+    requires accesses { HasAccesses engine.now.graph.lanes engine.now.fifos.channels }
+    requires places { HasPlaces engine.now.graph.lanes engine.now.fifos.channels }
+    ensures { result ≡ held_by engine.now.graph.lanes engine.now.fifos.channels owner }
 {
-    let first = graph.frontier(owner);
-    if first == graph.len(owner) {
+    let first = engine.graph.frontier(owner);
+    if first == engine.graph.len(owner) {
         return None;
     }
-    let step = graph.step(Place {
+    let step = engine.graph.step(Place {
         module: owner,
         step: first,
     });
-    first_waiting(graph, fifos, owner, step.accesses.as_slice())
+    first_waiting(engine, owner, step.accesses.as_slice())
 }
 
 /// How a module is held by the first of its accesses that waits.
-fn first_waiting(graph: &Graph, fifos: &FifoTable, owner: u32, accesses: &[Access]) -> Option<Held>
-    requires inside { All (IsAccess fifos.now.channels) accesses.now }
-    requires places { HasPlaces graph.now.lanes fifos.now.channels }
-    ensures { result ≡ option_map (held_at owner) (find (is_waiting graph.now.lanes fifos.now.channels) accesses.now) }
+fn first_waiting(engine: &Engine, owner: u32, accesses: &[Access]) -> Option<Held>
+    requires inside { All (IsAccess engine.now.fifos.channels) accesses.now }
+    requires places { HasPlaces engine.now.graph.lanes engine.now.fifos.channels }
+    ensures { result ≡ option_map (held_at owner) (find (is_waiting engine.now.graph.lanes engine.now.fifos.channels) accesses.now) }
 {
     for access in accesses {
-        if is_waiting(graph, fifos, access) {
+        if is_waiting(engine, access) {
             return Some(held_at(owner, access));
         }
     }
@@ -79,15 +79,15 @@ fn first_waiting(graph: &Graph, fifos: &FifoTable, owner: u32, accesses: &[Acces
 }
 
 /// Whether an access blocks its module, and no clock is known from which it is possible.
-fn is_waiting(graph: &Graph, fifos: &FifoTable, access: &Access) -> bool
-    requires access { IsAccess fifos.now.channels access.now }
-    requires places { HasPlaces graph.now.lanes fifos.now.channels }
-    ensures { result ≡ is_waiting graph.now.lanes fifos.now.channels access.now }
+fn is_waiting(engine: &Engine, access: &Access) -> bool
+    requires access { IsAccess engine.now.fifos.channels access.now }
+    requires places { HasPlaces engine.now.graph.lanes engine.now.fifos.channels }
+    ensures { result ≡ is_waiting engine.now.graph.lanes engine.now.fifos.channels access.now }
 {
     if !access.kind.is_blocking() {
         return false;
     }
-    match known_of(graph, fifos, access) {
+    match known_of(&engine.graph, &engine.fifos, access) {
         Known::From(_) => false,
         Known::Never | Known::Unknown => true,
     }

@@ -1,6 +1,6 @@
 //! The report.
 ghost use Rattle.std.specs.Prelude.{◌≡◌, true, false, [], map, is_some, IfOk};
-ghost use Rattle.engine_view.specs.Held.{held};
+ghost use Rattle.engine_view.specs.Engines.{held_in};
 ghost use Rattle.engine_report.specs.Finished.{IsFinished, report_with};
 ghost use Rattle.engine_report.specs.Read.{AreEvents};
 
@@ -9,11 +9,10 @@ use crate::events::events;
 use crate::held::held_with;
 use crate::outputs::outputs;
 use crate::verdict::verdict;
+use engine_view::Engine;
 use event_graph::Graph;
-use fifo_table::FifoTable;
 use flow_design::{Advance, EventLine, Plan, Report};
 use flow_word::{List, OutOfMemory};
-use query_log::QueryLog;
 use std::alloc::Global;
 use timing_bridge::{every_report, steps_in_order};
 
@@ -26,24 +25,22 @@ use timing_bridge::{every_report, steps_in_order};
 pub fn report_of(
     alloc: Global,
     plan: &Plan,
-    graph: &Graph,
-    fifos: &FifoTable,
-    log: &QueryLog,
+    engine: &Engine,
     ends: &[Option<Advance>],
     with_events: bool,
 ) -> Result<Report, OutOfMemory>
-    requires { IsFinished plan.now (held graph.now.lanes fifos.now.channels log.now.logs (map is_some ends.now)) ends.now }
+    requires { IsFinished plan.now (held_in engine.now (map is_some ends.now)) ends.now }
     ensures { IfOk result (λ report. report ≡ report_with with_events plan.now) }
 {
     every_report();
     steps_in_order();
-    let verdict = verdict(alloc, graph, fifos, ends, plan.cycles)?;
+    let verdict = verdict(alloc, engine, ends, plan.cycles)?;
     Ok(Report {
         verdict,
-        outputs: outputs(alloc, plan, graph, fifos)?,
-        held: held_with(alloc, graph, fifos, verdict)?,
-        events: events_if(alloc, graph, with_events)?,
-        answers: answers(alloc, graph, log)?,
+        outputs: outputs(alloc, plan, engine)?,
+        held: held_with(alloc, engine, verdict)?,
+        events: events_if(alloc, &engine.graph, with_events)?,
+        answers: answers(alloc, engine)?,
     })
 }
 

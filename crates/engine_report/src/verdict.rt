@@ -1,15 +1,14 @@
 //! How the modules stand at the end, and the verdict.
-ghost use Rattle.std.specs.Prelude.{◌≡◌, ℕ, ◌<◌, ◌≤◌, ◌||◌, length, map, fold, max, is_some, unwrap_or, IfOk};
+ghost use Rattle.std.specs.Prelude.{◌≡◌, ℕ, ◌<◌, ◌≤◌, ◌||◌, length, map, fold, max, is_some, IfOk};
 ghost use Rattle.std.specs.List.{list_any, list_all};
-ghost use Rattle.event_graph.specs.Lanes.{cycle_bound, gap_bound, lane_at};
-ghost use Rattle.event_graph.specs.Lanes.{last_cycle as last_of};
+ghost use Rattle.event_graph.specs.Lanes.{cycle_bound, gap_bound};
 ghost use Rattle.time_engine.specs.Conditions.{HasAccesses, HasPlaces};
 ghost use Rattle.time_engine.specs.Cycles.{determined};
 ghost use Rattle.engine_report.specs.Read.{owners};
 ghost use Rattle.engine_report.specs.Standings.{end_at, gap_of, standing_behind, standing_at, last_stop, verdict_by};
 
-use event_graph::{Graph, Place};
-use fifo_table::FifoTable;
+use engine_view::Engine;
+use event_graph::Place;
 use flow_design::{Advance, Verdict};
 use flow_word::{List, OutOfMemory};
 use std::alloc::Global;
@@ -30,50 +29,44 @@ pub struct Standing {
 
 /// The verdict: the cycle limit where a step is determined or a module stops above that limit, and else the last stop, by how the
 /// modules ended.
+#[tactic(auto, using(crate::proofs::Loops::mapped_more))]
 pub fn verdict(
     alloc: Global,
-    graph: &Graph,
-    fifos: &FifoTable,
+    engine: &Engine,
     ends: &[Option<Advance>],
     limit: u64,
 ) -> Result<Verdict, OutOfMemory>
-    requires ends { length ends.now ≡ length graph.now.lanes }
+    requires ends { length ends.now ≡ length engine.now.graph.lanes }
     requires gaps { (i : ℕ) → gap_of (end_at ends.now i) < gap_bound }
-    requires accesses { HasAccesses graph.now.lanes fifos.now.channels }
-    requires places { HasPlaces graph.now.lanes fifos.now.channels }
+    requires accesses { HasAccesses engine.now.graph.lanes engine.now.fifos.channels }
+    requires places { HasPlaces engine.now.graph.lanes engine.now.fifos.channels }
     requires limit { limit ≤ cycle_bound }
     ensures { IfOk result (λ verdict. verdict ≡ verdict_by limit
-        (map (standing_at graph.now.lanes fifos.now.channels ends.now) (owners graph.now.lanes))) }
+        (map (standing_at engine.now.graph.lanes engine.now.fifos.channels ends.now) (owners engine.now.graph.lanes))) }
 {
-    let mut standings = List::with_room(alloc, graph.modules() as u64)?;
-    for owner in 0..graph.modules() {
-        standings.push(stand(graph, fifos, ends, owner, limit))?;
+    let mut standings = List::with_room(alloc, engine.graph.modules() as u64)?;
+    for owner in 0..engine.graph.modules() {
+        standings.push(stand(engine, ends, owner, limit))?;
     }
     Ok(verdict_by(limit, standings.as_slice()))
 }
 
 /// How a module stands.
-fn stand(
-    graph: &Graph,
-    fifos: &FifoTable,
-    ends: &[Option<Advance>],
-    owner: u32,
-    limit: u64,
-) -> Standing
-    requires owner { owner < length graph.now.lanes }
-    requires ends { length ends.now ≡ length graph.now.lanes }
+fn stand(engine: &Engine, ends: &[Option<Advance>], owner: u32, limit: u64) -> Standing
+    requires owner { owner < length engine.now.graph.lanes }
+    requires ends { length ends.now ≡ length engine.now.graph.lanes }
     requires gaps { (i : ℕ) → gap_of (end_at ends.now i) < gap_bound }
-    requires accesses { HasAccesses graph.now.lanes fifos.now.channels }
-    requires places { HasPlaces graph.now.lanes fifos.now.channels }
+    requires accesses { HasAccesses engine.now.graph.lanes engine.now.fifos.channels }
+    requires places { HasPlaces engine.now.graph.lanes engine.now.fifos.channels }
     requires limit { limit ≤ cycle_bound }
-    ensures { result ≡ standing_at graph.now.lanes fifos.now.channels ends.now owner }
+    ensures { result ≡ standing_at engine.now.graph.lanes engine.now.fifos.channels ends.now owner }
 {
-    let last = last_cycle(graph, owner);
-    let first = graph.frontier(owner);
-    if first == graph.len(owner) {
+    let last = last_cycle(&engine.graph, owner);
+    let first = engine.graph.frontier(owner);
+    if first == engine.graph.len(owner) {
         return stand_at_end(last, &ends[owner as usize]);
     }
-    let step = graph.step(Place {
+    let step = engine.graph.step(Place {
         module: owner,
         step: first,
     });
@@ -81,7 +74,7 @@ fn stand(
         stop: last + step.gap,
         ended: false,
         spent: false,
-        determined: is_determined(graph, fifos, owner, limit),
+        determined: is_determined(engine, owner, limit),
     }
 }
 
@@ -104,14 +97,15 @@ fn stand_at_end(last: u64, end: &Option<Advance>) -> Standing
 }
 
 /// Whether a module has a first step without a cycle, and its cycle is determined.
-fn is_determined(graph: &Graph, fifos: &FifoTable, owner: u32, limit: u64) -> bool
-    requires owner { owner < length graph.now.lanes }
-    requires accesses { HasAccesses graph.now.lanes fifos.now.channels }
-    requires places { HasPlaces graph.now.lanes fifos.now.channels }
+#[tactic(auto, unfolding(time_engine::specs::Cycles::determined))]
+fn is_determined(engine: &Engine, owner: u32, limit: u64) -> bool
+    requires owner { owner < length engine.now.graph.lanes }
+    requires accesses { HasAccesses engine.now.graph.lanes engine.now.fifos.channels }
+    requires places { HasPlaces engine.now.graph.lanes engine.now.fifos.channels }
     requires limit { limit ≤ cycle_bound }
-    ensures { result ≡ is_some (determined graph.now.lanes fifos.now.channels owner) }
+    ensures { result ≡ is_some (determined engine.now.graph.lanes engine.now.fifos.channels owner) }
 {
-    match candidate(graph, fifos, owner, limit) {
+    match candidate(&engine.graph, &engine.fifos, owner, limit) {
         Candidate::At(_) => true,
         Candidate::Beyond => true,
         Candidate::Waits(_) => false,
@@ -160,9 +154,7 @@ fn any_spent(standings: &[Standing]) -> bool
 fn last_stop(standings: &[Standing]) -> u64
     ensures { result ≡ last_stop standings.now }
 {
-    let mut last = 0u64;
-    for standing in standings {
-        last = last.max(standing.stop);
-    }
-    last
+    standings
+        .iter()
+        .fold(0, |last, standing| last.max(standing.stop))
 }

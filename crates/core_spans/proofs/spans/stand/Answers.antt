@@ -12,15 +12,15 @@ use Rattle.core_spans.proofs.spans.stand.Goals as goal
 pub stand_from-requires-clause-inside : goal.stand_from-requires-clause-inside
 stand_from-requires-clause-inside c =
     let step = whole c.step-step.result in
-    let steps = (lane_at c.args.graph.now.lanes c.args.place.module).steps in
-    subst (All (IsAccess c.args.fifos.now.channels))
+    let steps = (lane_at c.args.engine.now.graph.lanes c.args.place.module).steps in
+    subst (All (IsAccess c.args.engine.now.fifos.channels))
     (ap (λ (s : Step). s.accesses) (get_or_from_slice_get steps c.args.place.step step step c.step-step.ensures.step)
     ∙ sym c.as_slice.ensures)
     (c.requires.accesses c.args.place.module no_lane c.requires.step.owner c.args.place.step step c.requires.step.step)
 
 pub returns-clause-spans : goal.returns-clause-spans
 returns-clause-spans c =
-    let steps = (lane_at c.args.graph.now.lanes c.args.place.module).steps in
-    let is : step_at c.args.graph.now.lanes c.args.place ≡ whole c.step-step.result =
+    let steps = (lane_at c.args.engine.now.graph.lanes c.args.place.module).steps in
+    let is : step_at c.args.engine.now.graph.lanes c.args.place ≡ whole c.step-step.result =
     get_or_from_slice_get steps c.args.place.step (whole c.step-step.result) no_step c.step-step.ensures.step in
     rw (is, ← c.min-arrival.ensures, ← c.as_slice.ensures) c.stand_from.ensures.spans

@@ -4,4 +4,4 @@ use Rattle.engine_report.specs.Read.{timed_outcomes}
 use Rattle.engine_report.proofs.answers.answers.Given as goal
 
 abbrev pub invariant-loop-owner : goal.invariant-loop-owner
-invariant-loop-owner l = l.answers ≡ map (timed_outcomes l.graph.lanes l.log.logs) (range_with_len 0 l.owner)
+invariant-loop-owner l = l.answers ≡ map (timed_outcomes l.engine.graph.lanes l.engine.log.logs) (range_with_len 0 l.owner)

@@ -1,14 +1,8 @@
 use Rattle.std.proofs.Common.{◌≡◌, ap, ◌∙◌, length, arith}
 use Rattle.std.specs.List.{flat_map, range_with_len}
 use Rattle.engine_report.specs.Keys.{keys_of}
-use Rattle.engine_report.proofs.Loops.{given_more}
 use Rattle.engine_report.proofs.Sorting.{sorted_keys}
 use Rattle.engine_report.proofs.events.sorted_steps.Goals as goal
-
-pub loop-owner-preserved : goal.loop-owner-preserved
-loop-owner-preserved c =
-    given_more (keys_of c.args.graph.now.lanes) c.loop-owner.owner c.loop-owner.keys.items c.add_steps.new.keys.items c.loop-owner.invariant
-    c.in_ok-add_steps.ensures
 
 pub returns : goal.returns
 returns c =

@@ -1,9 +1,6 @@
-use Rattle.std.proofs.Common.{sym, ap, ◌∙◌, Some}
-use Rattle.std.specs.Prelude.{option_map}
+use Rattle.std.proofs.Common.{sym}
 use Rattle.flow_word.specs.declared.access.Access.{Access}
 use Rattle.flow_word.specs.declared.access.Kind.TheVariants.{Read}
-use Rattle.time_engine.specs.Cycles.{is_waiting}
-use Rattle.engine_report.specs.Read.{held_at}
 use Rattle.engine_report.proofs.Loops.{first_found, none_found}
 use Rattle.engine_report.proofs.held.first_waiting.Goals as goal
 
@@ -12,13 +9,13 @@ no_access = record { kind = Read; channel = 0; ordinal = 0; value = 0 }
 
 pub returns-then-is_waiting : goal.returns-then-is_waiting
 returns-then-is_waiting c =
-    let found = first_found (is_waiting c.args.graph.now.lanes c.args.fifos.now.channels) c.args.accesses.now c.loop-access.access-index
-    no_access c.loop-access-test.true c.loop-access.invariant
-    (sym c.if-is_waiting.ensures) in
-    ap (λ h. Some h) c.held_at.ensures ∙ sym (ap (option_map (held_at c.args.owner)) found)
+    rw (
+      first_found _ c.args.accesses.now c.loop-access.access-index no_access c.loop-access-test.true c.loop-access.invariant
+          (sym c.if-is_waiting.ensures),
+      c.held_at.ensures,
+    )
 
 pub loop-access-preserved : goal.loop-access-preserved
 loop-access-preserved c =
-    none_found (is_waiting c.args.graph.now.lanes c.args.fifos.now.channels) c.args.accesses.now c.loop-access.access-index no_access
-    c.loop-access-test.true c.loop-access.invariant
+    none_found _ c.args.accesses.now c.loop-access.access-index no_access c.loop-access-test.true c.loop-access.invariant
     (sym c.if-is_waiting.ensures)

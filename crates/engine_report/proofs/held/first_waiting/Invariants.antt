@@ -4,4 +4,4 @@ use Rattle.time_engine.specs.Cycles.{is_waiting}
 use Rattle.engine_report.proofs.held.first_waiting.Given as goal
 
 abbrev pub invariant-loop-access : goal.invariant-loop-access
-invariant-loop-access l = find (is_waiting l.graph.lanes l.fifos.channels) (take l.access-index l.accesses) ≡ None
+invariant-loop-access l = find (is_waiting l.engine.graph.lanes l.engine.fifos.channels) (take l.access-index l.accesses) ≡ None

@@ -4,4 +4,4 @@ use Rattle.engine_report.specs.Read.{held_by}
 use Rattle.engine_report.proofs.held.hold_all.Given as goal
 
 abbrev pub invariant-loop-owner : goal.invariant-loop-owner
-invariant-loop-owner l = l.all ≡ filter_map (held_by l.graph.lanes l.fifos.channels) (range_with_len 0 l.owner)
+invariant-loop-owner l = l.all ≡ filter_map (held_by l.engine.graph.lanes l.engine.fifos.channels) (range_with_len 0 l.owner)

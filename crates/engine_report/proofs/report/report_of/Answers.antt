@@ -1,7 +1,8 @@
 use Rattle.std.proofs.Common.{map}
 use Rattle.std.specs.Prelude.{is_some}
 use Rattle.timing_bridge.specs.Designs.{design}
-use Rattle.engine_view.specs.Held.{held, core_of}
+use Rattle.engine_view.specs.Held.{core_of}
+use Rattle.engine_view.specs.Engines.{held_in}
 use Rattle.engine_report.proofs.Whole.{report_is}
 use Rattle.engine_report.proofs.report.report_of.Goals as goal
 
@@ -9,7 +10,7 @@ pub returns : goal.returns
 returns c =
     let p = c.args.plan.now in
     let f = c.requires in
-    let h = held c.args.graph.now.lanes c.args.fifos.now.channels c.args.log.now.logs (map (λ o. is_some o) c.args.ends.now) in
+    let h = held_in c.args.engine.now (map (λ o. is_some o) c.args.ends.now) in
     let x = core_of (design p) h in
     report_is p h c.args.ends.now f (c.every_report.ensures.agreed p f.fits x f.agreed f.final)
     (c.steps_in_order.ensures.sorted p p.cycles x f.agreed)
